@@ -1,0 +1,32 @@
+-- What sources and sinks say.
+use Rattle.std.specs.Prelude.{◌≡◌, ◌<◌, ◌≤◌, ◌+◌, ◌⊎◌, ◌++◌, ℕ, List, [], Option, option_map, IfSome, Result, Ok, Err}
+use Rattle.cf_base.specs.declared.answers.Failed.{Failed}
+
+-- the last value of a counter of 64 bits
+abbrev pub last_count : ℕ
+last_count = 18446744073709551615
+
+-- the count is greater, or stands at its last value
+abbrev pub Rose : ℕ → ℕ → Type 0
+Rose old new = (old < new) ⊎ (new ≡ last_count)
+
+-- these bytes come first, where any are told
+abbrev pub preceded : List ℕ → Option (List ℕ) → Option (List ℕ)
+preceded piece = option_map (λ rest. piece ++ rest)
+
+-- these bytes come last, where any are told
+abbrev pub appended : Option (List ℕ) → List ℕ → Option (List ℕ)
+appended written piece = option_map (λ all. all ++ piece) written
+
+-- nothing is left, where it is told
+abbrev pub IsSpent : Option (List ℕ) → Type 0
+IsSpent rest = IfSome rest (λ bytes. bytes ≡ [])
+
+-- the bytes were put, or a front of them
+abbrev pub Puts : {T : Type 0} → Option (List ℕ) → List ℕ → Result T Failed → Option (List ℕ) → Type 0
+Puts old bytes (Ok u) new = new ≡ appended old bytes
+Puts old bytes (Err e) new = (front : List ℕ) × (lost : List ℕ) × (bytes ≡ front ++ lost) × (new ≡ appended old front)
+
+-- at least n more were handed out, or the count stands at its last value
+abbrev pub HasGiven : ℕ → ℕ → ℕ → Type 0
+HasGiven old n new = (old + n ≤ new) ⊎ (new ≡ last_count)

@@ -1,0 +1,23 @@
+//! Where bytes go.
+ghost use Rattle.std.specs.Prelude.{◌≡◌, ◌<◌, ◌≤◌, ◌+◌, ℕ, List, Option, length, take, IfOk, OnErr};
+ghost use Rattle.cf_io.specs.Feeds.{Rose, appended};
+
+use cf_base::Failed;
+
+/// Where bytes go, piece by piece.
+pub trait Sink {
+    /// The bytes written, where it tells them.
+    ghost written: { Self → Option (List ℕ) };
+
+    /// How often it has failed; this never falls.
+    ghost faults: { Self → ℕ };
+
+    /// Appends a front of the bytes and answers how many: at least one, where there are any.
+    fn put(&mut self, bytes: &[u8]) -> Result<usize, Failed>
+        ensures grows { faults self.old ≤ faults self.new }
+        ensures within { IfOk result (λ n. n ≤ length bytes.now) }
+        ensures some { 0 < length bytes.now → IfOk result (λ n. 0 < n) }
+        ensures piece { IfOk result (λ n. written self.new ≡ appended (written self.old) (take n bytes.now)) }
+        ensures failed { OnErr result (Rose (faults self.old) (faults self.new)
+            × (written self.new ≡ written self.old)) };
+}

@@ -1,0 +1,28 @@
+//! Where bytes come from.
+ghost use Rattle.std.specs.Prelude.{◌≡◌, ◌<◌, ◌≤◌, ◌+◌, ℕ, List, Option, length, take, min, IfOk, OnErr};
+ghost use Rattle.cf_io.specs.Feeds.{Rose, preceded, IsSpent, last_count};
+
+use cf_base::Failed;
+
+/// Where bytes come from, piece by piece.
+pub trait Source {
+    /// The bytes left, where it tells them.
+    ghost rest: { Self → Option (List ℕ) };
+
+    /// How many bytes it has handed out; this stays at the last value of a u64.
+    ghost given: { Self → ℕ };
+
+    /// How often it has failed; this never falls.
+    ghost faults: { Self → ℕ };
+
+    /// Fills the front of the buffer and answers how many bytes. For a buffer that isn't empty, 0
+    /// means the end of the input.
+    fn take(&mut self, buf: &mut [u8]) -> Result<usize, Failed>
+        ensures grows { faults self.old ≤ faults self.new }
+        ensures within { IfOk result (λ n. n ≤ length buf.new) }
+        ensures piece { IfOk result (λ n. rest self.old ≡ preceded (take n buf.new) (rest self.new)) }
+        ensures counted { IfOk result (λ n. given self.new ≡ min (given self.old + n) last_count) }
+        ensures end { 0 < length buf.old → IfOk result (λ n. n ≡ 0 → IsSpent (rest self.old)) }
+        ensures failed { OnErr result (Rose (faults self.old) (faults self.new)
+            × (rest self.new ≡ rest self.old) × (given self.new ≡ given self.old)) };
+}

@@ -1,0 +1,23 @@
+//! Writing whole pieces.
+ghost use Rattle.std.specs.Prelude.{◌≡◌, ◌≤◌, OnErr};
+ghost use Rattle.cf_io.specs.Feeds.{Rose, Puts};
+
+use crate::sink::Sink;
+use cf_base::Failed;
+
+/// Hands over the whole piece, then what is left, until all is taken. At `Failed` a front of the
+/// piece was appended.
+pub fn put_all<K: Sink>(sink: &mut K, bytes: &[u8]) -> Result<(), Failed>
+    ensures grows { K.faults sink.old ≤ K.faults sink.new }
+    ensures puts { Puts (K.written sink.old) bytes.now result (K.written sink.new) }
+    ensures failed { OnErr result (Rose (K.faults sink.old) (K.faults sink.new)) }
+{
+    let mut at = 0;
+    'rest: while at < bytes.len() {
+        match sink.put(&bytes[at..]) {
+            Ok(n) => at += n,
+            Err(failed) => return Err(failed),
+        }
+    }
+    Ok(())
+}

@@ -1,0 +1,39 @@
+-- Counts over a range, where the test changes at one number.
+use Rattle.std.proofs.Common.{◌≡◌, ◌≢◌, ℕ, zero, suc, Bool, cond, ◌+◌, ◌<◌, ◌≤◌, ◌∷◌, arith, ap, refl, inl, inr}
+use Rattle.std.specs.Prelude.{count_by}
+use Rattle.std.specs.List.{range_with_len}
+use Rattle.std.proofs.lemmas.List.Sums.{sum_by-cons}
+use Rattle.std.proofs.lemmas.Bool.{cases_eq}
+
+-- 1 where the test passes
+abbrev pub one : Bool → ℕ
+one b = cond b 1 0
+
+module _ (f g : ℕ → Bool) where
+  pub count_same : (a n : ℕ) → ((p : ℕ) → a ≤ p → f p ≡ g p) → count_by f (range_with_len a n) ≡ count_by g (range_with_len a n)
+  count_same a zero same = refl
+  count_same a (suc n) same =
+      let r = range_with_len (a + 1) n in
+      let x : count_by f (a ∷ r) ≡ one (f a) + count_by f r = sum_by-cons (λ p. one (f p)) a r in
+      let y : count_by g (a ∷ r) ≡ one (g a) + count_by g r = sum_by-cons (λ p. one (g p)) a r in
+      let e : one (f a) ≡ one (g a) = ap one (same a (omega arith)) in
+      let rest = count_same (a + 1) n (λ p l. same p (omega arith)) in
+      omega arith
+
+  pub count_changed : (a n c : ℕ) → a ≤ c → c < a + n → ((p : ℕ) → p ≢ c → f p ≡ g p) → count_by f (range_with_len a n) + one (g c) ≡ count_by g (range_with_len a n) + one (f c)
+  count_changed a zero c low high same = absurd (omega arith)
+  count_changed a (suc n) c low high same =
+      let r = range_with_len (a + 1) n in
+      let x : count_by f (a ∷ r) ≡ one (f a) + count_by f r = sum_by-cons (λ p. one (f p)) a r in
+      let y : count_by g (a ∷ r) ≡ one (g a) + count_by g r = sum_by-cons (λ p. one (g p)) a r in
+      elim (cases_eq a c) [
+        | inl is ↦ (
+            let rest : count_by f r ≡ count_by g r = count_same (a + 1) n (λ p l. same p (omega arith)) in
+            let u : one (f a) ≡ one (f c) = ap (λ p. one (f p)) is in
+            let v : one (g a) ≡ one (g c) = ap (λ p. one (g p)) is in
+            omega arith)
+        | inr ne ↦ (
+            let rest : count_by f r + one (g c) ≡ count_by g r + one (f c) = count_changed (a + 1) n c (omega arith) (omega arith) same in
+            let e : one (f a) ≡ one (g a) = ap one (same a ne) in
+            omega arith)
+      ]
