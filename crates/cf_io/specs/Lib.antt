@@ -4,3 +4,4 @@ pub mod Numbers
 pub mod Schedules
 pub mod Sinks
 pub mod Sources
+pub mod Devices

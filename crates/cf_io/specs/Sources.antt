@@ -1,6 +1,5 @@
 -- What the sources in memory are, and what a call does to them.
-use Rattle.std.specs.Prelude.{ℕ, Bool, ◌+◌, ◌==◌, ◌++◌, List, length, take, drop, min, max, slice_index, nat_lt, if◌then◌else◌, Option, Some, None}
-use Rattle.std.specs.List.{list_any}
+use Rattle.std.specs.Prelude.{ℕ, ◌+◌, ◌++◌, List, length, take, drop, min, if◌then◌else◌, Option, Some, None}
 use Rattle.cf_io.specs.Feeds.{last_count}
 use Rattle.cf_io.specs.Schedules.{Schedule, is_due, moved, gone_well, gone_wrong}
 

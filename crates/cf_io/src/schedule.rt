@@ -1,5 +1,5 @@
 //! What the calls of a device in memory do.
-ghost use Rattle.std.specs.Prelude.{◌≡◌};
+ghost use Rattle.std.specs.Prelude.{◌≡◌, ◌≤◌};
 ghost use Rattle.cf_io.specs.Schedules.{gone_well, gone_wrong, is_due, moved, planned};
 
 use std::marker::Model;
@@ -53,7 +53,8 @@ impl Schedule {
 
     /// Counts a call that failed.
     pub fn go_wrong(&mut self)
-        ensures { self.new ≡ gone_wrong self.old }
+        ensures grows { self.old.faults ≤ self.new.faults }
+        ensures value { self.new ≡ gone_wrong self.old }
     {
         self.call = self.call.saturating_add(1);
         self.faults = self.faults.saturating_add(1);
