@@ -1,7 +1,7 @@
 -- Pieces that are put or taken one after the other.
-use Rattle.std.proofs.Common.{◌≡◌, ◌++◌, ◌∙◌, List, ℕ, [], Option, None, Some, refl, ap, sym, ◌+◌, append_assoc, append-nil, take, drop, min, arith, length, length-append}
+use Rattle.std.proofs.Common.{◌≡◌, ◌++◌, ◌∙◌, List, ℕ, Option, None, Some, refl, ap, sym, ◌+◌, append_assoc, take, drop}
 use Rattle.std.proofs.Math.Seq.{take-add}
-use Rattle.cf_io.specs.Feeds.{HasGiven, IsSpent, appended, last_count, preceded}
+use Rattle.cf_io.specs.Feeds.{appended}
 
 pub appended_then : (w : Option (List ℕ)) (a b : List ℕ) → appended (appended w a) b ≡ appended w (a ++ b)
 appended_then None a b = refl

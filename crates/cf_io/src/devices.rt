@@ -1,0 +1,120 @@
+//! Sources and sinks over std's readers and writers.
+ghost use Rattle.std.specs.Prelude.{◌≡◌, ◌<◌, ◌≤◌, None, length, take, IfOk, IfSome, OnOk, OnErr};
+ghost use Rattle.std.specs.Io.KnownBytes.{Appends, ReadConsumes};
+ghost use Rattle.cf_io.specs.Devices.{given_by, reader_of, sink_faults, source_faults, writer_of};
+ghost use Rattle.cf_io.specs.Schedules.{one_more};
+ghost use Rattle.cf_io.specs.Sources.{more_given};
+
+use crate::sink::Sink;
+use crate::source::Source;
+use cf_base::Failed;
+use std::io::{Read, Write};
+
+/// Takes from a reader of std. It tells nothing of what is left; each error of the reader counts as
+/// a failure.
+#[derive(Drop)]
+pub struct StdSource<T> {
+    reader: T,
+    given: u64,
+    faults: u64,
+}
+
+impl<T> StdSource<T> {
+    /// A source over this reader.
+    pub fn new(reader: T) -> StdSource<T>
+        ensures reader { reader_of result ≡ reader }
+        ensures given { given_by result ≡ 0 }
+        ensures faults { source_faults result ≡ 0 }
+    {
+        StdSource {
+            reader,
+            given: 0,
+            faults: 0,
+        }
+    }
+}
+
+impl<T: Read> Source for StdSource<T> {
+    ghost rest = { λ _. None };
+
+    ghost given = { given_by };
+
+    ghost faults = { source_faults };
+
+    fn take(&mut self, buf: &mut [u8]) -> Result<usize, Failed>
+        ensures bytes { ReadConsumes (T.remaining (reader_of self.old)) (T.remaining (reader_of self.new)) result buf.new }
+        ensures within { IfOk result (λ n. n ≤ length buf.new) }
+        ensures given { IfOk result (λ n. given_by self.new ≡ more_given (given_by self.old) n) }
+        ensures grows { source_faults self.old ≤ source_faults self.new }
+        ensures ok { OnOk result (source_faults self.new ≡ source_faults self.old) }
+        ensures err { OnErr result (source_faults self.new ≡ one_more (source_faults self.old)) }
+        ensures kept { OnErr result (given_by self.new ≡ given_by self.old) }
+    {
+        match self.reader.read(buf) {
+            Ok(n) => {
+                self.given = self.given.saturating_add(n as u64);
+                Ok(n)
+            }
+            Err(_) => {
+                self.faults = self.faults.saturating_add(1);
+                Err(Failed)
+            }
+        }
+    }
+}
+
+/// Puts to a writer of std, and flushes what it put. It tells nothing of what was written; an error
+/// of the writer or of its flush counts as a failure, and so does a writer that takes nothing.
+#[derive(Drop)]
+pub struct StdSink<T> {
+    writer: T,
+    faults: u64,
+}
+
+impl<T> StdSink<T> {
+    /// A sink over this writer.
+    pub fn new(writer: T) -> StdSink<T>
+        ensures writer { writer_of result ≡ writer }
+        ensures faults { sink_faults result ≡ 0 }
+    {
+        StdSink { writer, faults: 0 }
+    }
+}
+
+/// Writes once, then flushes. None where either fails, or nothing of the bytes was taken.
+fn write_and_flush<T: Write>(writer: &mut T, bytes: &[u8]) -> Option<usize>
+    ensures within { IfSome result (λ n. n ≤ length bytes.now) }
+    ensures some { 0 < length bytes.now → IfSome result (λ n. 0 < n) }
+    ensures bytes { IfSome result (λ n. Appends (T.contents writer.old) (T.contents writer.new) (take n bytes.now)) }
+{
+    match writer.write(bytes) {
+        Ok(n) if n > 0 || bytes.len() == 0 => match writer.flush() {
+            Ok(()) => Some(n),
+            Err(_) => None,
+        },
+        _ => None,
+    }
+}
+
+impl<T: Write> Sink for StdSink<T> {
+    ghost written = { λ _. None };
+
+    ghost faults = { sink_faults };
+
+    fn put(&mut self, bytes: &[u8]) -> Result<usize, Failed>
+        ensures bytes { IfOk result (λ n. Appends (T.contents (writer_of self.old)) (T.contents (writer_of self.new)) (take n bytes.now)) }
+        ensures within { IfOk result (λ n. n ≤ length bytes.now) }
+        ensures some { 0 < length bytes.now → IfOk result (λ n. 0 < n) }
+        ensures grows { sink_faults self.old ≤ sink_faults self.new }
+        ensures ok { OnOk result (sink_faults self.new ≡ sink_faults self.old) }
+        ensures err { OnErr result (sink_faults self.new ≡ one_more (sink_faults self.old)) }
+    {
+        match write_and_flush(&mut self.writer, bytes) {
+            Some(n) => Ok(n),
+            None => {
+                self.faults = self.faults.saturating_add(1);
+                Err(Failed)
+            }
+        }
+    }
+}

@@ -1,0 +1,101 @@
+//! Sinks in memory.
+ghost use Rattle.std.specs.Prelude.{◌≡◌, ◌≤◌, [], None, Ok, Some, length, IfOk};
+ghost use Rattle.std.specs.Result.{result_ok};
+ghost use Rattle.cf_io.specs.Schedules.{planned};
+ghost use Rattle.cf_io.specs.Sinks.{put_after, put_answer};
+
+use crate::schedule::Schedule;
+use crate::sink::Sink;
+use cf_base::{Failed, OutOfMemory};
+use std::alloc::Global;
+use std::marker::Model;
+
+/// Takes everything, and tells nothing of it.
+#[derive(Clone, Copy, Debug)]
+pub struct NullSink;
+
+impl Sink for NullSink {
+    ghost written = { λ _. None };
+
+    ghost faults = { λ _. 0 };
+
+    fn put(&mut self, bytes: &[u8]) -> Result<usize, Failed>
+        ensures { result ≡ Ok (length bytes.now) }
+    {
+        Ok(bytes.len())
+    }
+}
+
+/// Keeps what is put, as far as its room goes, and fails when it is told to.
+///
+/// Its calls are numbered from 0; the number, and the count of the calls that failed, stay at
+/// `2^64 - 1` once they reach it. Call j fails exactly where j is in `fails`, or there is no room
+/// left for any byte of a piece. Else it takes at most its room, and at most `max(1, cuts[j])` bytes
+/// where j is below the length of `cuts`.
+#[derive(Drop)]
+pub struct MemSink {
+    bytes: Vec<u8>,
+    room: usize,
+    schedule: Schedule,
+}
+
+impl Model for MemSink {
+    ghost use Rattle.std.specs.Prelude.{◌+◌, ◌≤◌, vec_capacity, vec_len};
+    ghost use Rattle.cf_io.specs.Sinks.{MemSink as View};
+
+    ghost Value = { View };
+
+    ghost view = { λ s. record { written = s.bytes.items; room = s.room; schedule = s.schedule } };
+
+    ghost invariant = { λ s. vec_len s.bytes + s.room ≤ vec_capacity s.bytes };
+}
+
+impl MemSink {
+    /// An empty sink with room for so many bytes. All its room is taken here.
+    pub fn new(
+        alloc: Global,
+        room: usize,
+        cuts: Vec<usize>,
+        fails: Vec<u64>,
+    ) -> Result<MemSink, OutOfMemory>
+        ensures { IfOk result (λ s. s ≡ record { written = []; room = room; schedule = planned cuts.items fails.items }) }
+    {
+        match Vec::with_capacity(alloc, room) {
+            Ok(bytes) => Ok(MemSink {
+                bytes,
+                room,
+                schedule: Schedule::new(cuts, fails),
+            }),
+            Err(_) => Err(OutOfMemory),
+        }
+    }
+
+    /// What was put.
+    pub fn written(&self) -> &[u8]
+        ensures { result.now ≡ self.now.written }
+    {
+        self.bytes.as_slice()
+    }
+}
+
+impl Sink for MemSink {
+    ghost written = { λ s. Some s.written };
+
+    ghost faults = { λ s. s.schedule.faults };
+
+    fn put(&mut self, bytes: &[u8]) -> Result<usize, Failed>
+        ensures grows { self.old.schedule.faults ≤ self.new.schedule.faults }
+        ensures answer { result_ok result ≡ put_answer self.old bytes.now }
+        ensures sink { self.new ≡ put_after self.old bytes.now }
+    {
+        if self.schedule.is_due() || (self.room == 0 && bytes.len() > 0) {
+            self.schedule.go_wrong();
+            return Err(Failed);
+        }
+        let n = self.schedule.moved(bytes.len().min(self.room));
+        self.bytes.extend_from_slice(&bytes[..n]).unwrap();
+        self.room -= n;
+        self.schedule.go_well();
+        Ok(n)
+    }
+}
