@@ -1,9 +1,8 @@
 -- A piece that is copied over and over.
-use Rattle.std.proofs.Common.{◌≡◌, ◌∙◌, ◌<◌, ◌≤◌, ◌+◌, ◌-◌, ◌%◌, ◌++◌, List, ℕ, ap, sym, take, drop, length, get_or, arith, inl, inr, length-append, length-drop, append_assoc}
+use Rattle.std.proofs.Common.{◌≡◌, ◌∙◌, ◌<◌, ◌≤◌, ◌+◌, ◌-◌, ◌%◌, ◌++◌, List, ℕ, ap, sym, take, drop, length, get_or, arith, inl, inr}
 use Rattle.std.proofs.Math.Nat.{mod-add-mod, mod-eq_of_lt, mod_self}
 use Rattle.std.proofs.lemmas.Bool.{cases_lt}
 use Rattle.std.proofs.lemmas.Grind.{common_steps}
-use Rattle.std.proofs.lemmas.List.{get_or-take, get_or-drop, get_or_append_left, get_or-append_right, length-take-le}
 
 goes_on : (at full n next len : ℕ) → next ≡ (at + full) % len → (next + n) % len ≡ (at + (full + n)) % len
 goes_on at full n next len was =
@@ -38,7 +37,7 @@ pub loops_more : (piece buf new : List ℕ) (at next full n : ℕ) → next ≡ 
     → new ≡ take full buf ++ take n (drop next piece) ++ drop (full + n) buf → LoopsBelow piece at buf full → LoopsBelow piece at new (full + n)
 loops_more piece buf new at next full n was some room is before k below =
     elim (cases_lt k full) [
-      inl h ↦ kept piece buf new next full n some room is k h ∙ before k h
-    | inr h ↦ copied piece buf new next full n some room is k h below
-        ∙ ap (λ i. get_or piece i 0) (sym (place at full next k (length piece) was h (omega arith)))
+      | inl h ↦ kept piece buf new next full n some room is k h ∙ before k h
+      | inr h ↦ copied piece buf new next full n some room is k h below
+          ∙ ap (λ i. get_or piece i 0) (sym (place at full next k (length piece) was h (omega arith)))
     ]

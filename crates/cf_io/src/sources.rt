@@ -118,7 +118,9 @@ impl Source for MemSource {
             self.schedule.go_wrong();
             return Err(Failed);
         }
-        let n = self.schedule.moved(buf.len().min(self.bytes.len() - self.at));
+        let n = self
+            .schedule
+            .moved(buf.len().min(self.bytes.len() - self.at));
         hand(&self.bytes[self.at..], n, buf);
         self.at += n;
         self.given = self.given.saturating_add(n as u64);

@@ -1,4 +1,4 @@
-use Rattle.std.proofs.Common.{arith, length, ◌<◌, ◌≤◌, ◌+◌}
+use Rattle.std.proofs.Common.{arith}
 use Rattle.cf_io.proofs.Looping.{begins_again, goes_on_inside, loops_more}
 use Rattle.cf_io.proofs.sources.fill_over.Goals as goal
 
