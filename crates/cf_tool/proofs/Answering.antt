@@ -1,6 +1,6 @@
 -- How the answers to a script are put together.
-use Rattle.std.proofs.Common.{◌≡◌, ◌∙◌, ℕ, ◌+◌, ◌<◌, ◌≤◌, ◌++◌, List, [], ◌∷◌, Option, Some, None, true, false, refl, ap, sym, subst, inl, inr, append_assoc, append-nil}
-use Rattle.std.specs.Prelude.{Result, Ok, Err, option_map, replicate, codes}
+use Rattle.std.proofs.Common.{◌≡◌, ◌∙◌, ℕ, ◌+◌, ◌<◌, ◌≤◌, ◌++◌, List, [], ◌∷◌, Option, Some, None, false, refl, ap, sym, subst, inl, inr, append_assoc, append-nil}
+use Rattle.std.specs.Prelude.{Result, Ok, Err, codes}
 use Rattle.std.specs.FinMap as map
 use Rattle.std.specs.FinMap.{get-empty}
 use Rattle.std.specs.Ordering.{nat_cmp}
@@ -19,9 +19,9 @@ use Rattle.cf_io.specs.declared.line.Full.{Full}
 use Rattle.cf_io.specs.Feeds.{appended, Puts}
 use Rattle.cf_io.proofs.Feeding.{appended_then}
 use Rattle.cf_model.specs.State.{HeapState}
-use Rattle.cf_model.specs.Steps.{IsMallocStep, AddsObject}
-use Rattle.cf_tool.specs.Script.{Item, start, malloc, bad, is_bad, has_bad, items, items_from, lines, words, heap_words, malloc_words, line_item}
-use Rattle.cf_tool.specs.Run.{RunState, Step, MallocsAt, Run, bad_line, fresh_run, line_of}
+use Rattle.cf_model.specs.Steps.{IsMallocStep}
+use Rattle.cf_tool.specs.Script.{Item, start, malloc, bad, is_bad, items, items_from, lines, words, heap_words, malloc_words}
+use Rattle.cf_tool.specs.Run.{RunState, Step, MallocsAt, bad_line, fresh_run, line_of}
 use Rattle.cf_tool.specs.Outcome.{Answers, AnswersScript, AnswersTo, CutsReplyTo, RepliesBy, RepliesTo, status_of}
 use Rattle.cf_tool.specs.declared.answers.Ending.{Ending}
 use Rattle.cf_tool.specs.declared.answers.Ending.TheVariants.{Whole, AtBad, Cut}
@@ -111,7 +111,6 @@ first_bad s line rest is none = rw (is, none) refl
 pub first_good : (s line rest : List ℕ) (p : Profile) → lines s ≡ line ∷ lines rest → heap_words (words line) ≡ Some p → items s ≡ start p ∷ items_from 2 (lines rest)
 first_good s line rest p is some = rw (is, some) refl
 
-
 -- the status of a script that was answered so far
 pub script_status : (script : List ℕ) (e : Ending) (st : Status) (w y : Told) → st ≡ status_of e → AnswersTo None (items script) w e y → AnswersScript script w st y
 script_status script Whole st w y is a = let P : Status → Type 0 = λ s. AnswersScript script w s y in subst P (sym is) a
@@ -139,7 +138,7 @@ module _ (n : ℕ) (line first second : List ℕ) (r1 r2 : Result (Unit {0}) Ful
 
   pub end_pushed : (third : List ℕ) (r3 : Result (Unit {0}) Full) → Pushes second (10 ∷ []) r3 third → IsOk r3 × (third ≡ bad_line n)
   end_pushed third r3 p3 =
-        let is = number_pushed.1 in
-        let fits : length second + 1 ≤ line_room = (let l : length second ≡ 9 + length (decimal n) = ap length is ∙ length-append (codes "bad line ") (decimal n) in let d = number_short n small in omega arith) in
-        let p = pushed second (10 ∷ []) third r3 p3 fits in
-        (p.0, p.1 ∙ ap (λ (l : List ℕ). l ++ 10 ∷ []) is)
+      let is = number_pushed.1 in
+      let fits : length second + 1 ≤ line_room = (let l : length second ≡ 9 + length (decimal n) = ap length is ∙ length-append (codes "bad line ") (decimal n) in let d = number_short n small in omega arith) in
+      let p = pushed second (10 ∷ []) third r3 p3 fits in
+      (p.0, p.1 ∙ ap (λ (l : List ℕ). l ++ 10 ∷ []) is)

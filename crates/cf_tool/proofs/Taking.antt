@@ -1,5 +1,5 @@
 -- Pieces that are taken one after the other.
-use Rattle.std.proofs.Common.{◌≡◌, ◌++◌, ◌∙◌, ◌+◌, ◌<◌, ◌≤◌, List, ℕ, Option, None, Some, refl, ap, sym, append_assoc, length, length-append, length-take, take, min, arith}
+use Rattle.std.proofs.Common.{◌≡◌, ◌++◌, ◌∙◌, ◌+◌, ◌<◌, ◌≤◌, List, ℕ, Option, None, Some, refl, ap, sym, append_assoc, length, length-append, length-take, take, arith}
 use Rattle.cf_io.specs.Feeds.{preceded}
 
 preceded_then : (a b : List ℕ) (r : Option (List ℕ)) → preceded a (preceded b r) ≡ preceded (a ++ b) r

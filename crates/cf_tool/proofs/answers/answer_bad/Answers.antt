@@ -15,7 +15,9 @@ pub returns-in-Ok-clause-answers : goal.returns-in-Ok-clause-answers
 returns-in-Ok-clause-answers g c = λ s.
     let is = (end_pushed c.args.number _ _ _ _ _ c.ranges.number.fits c.new-line.ensures c.push.ensures c.push_number.ensures _ _ c.push-2.ensures).1 in
     answered_bad s c.args.number _ _ (record {
-      text = bad_line c.args.number; next = s; step = (refl, refl);
+      text = bad_line c.args.number;
+      next = s;
+      step = (refl, refl);
       written = c.in-Ok.ensures.puts ∙ ap (appended (g.K.Sink.written c.args.sink.now)) (c.bytes.ensures.value ∙ is);
     })
 
@@ -24,5 +26,9 @@ returns-in-Err-clause-answers g c = λ s.
     let is = (end_pushed c.args.number _ _ _ _ _ c.ranges.number.fits c.new-line.ensures c.push.ensures c.push_number.ensures _ _ c.push-2.ensures).1 in
     let cut = c.in-Err.ensures.puts in
     answered_cut s (bad c.args.number) _ [] _ _ refl (record {
-      front = cut.0; lost = cut.1; next = s; step = (sym cut.2 ∙ c.bytes.ensures.value ∙ is, refl); written = cut.3;
+      front = cut.0;
+      lost = cut.1;
+      next = s;
+      step = (sym cut.2 ∙ c.bytes.ensures.value ∙ is, refl);
+      written = cut.3;
     })

@@ -12,11 +12,11 @@ returns-in_default-malloc_line-clause-answers g c = over_items _ _ _ _ _ _ (seco
 pub returns-in-Ok-clause-answers : goal.returns-in-Ok-clause-answers
 returns-in-Ok-clause-answers g c =
     answered_next _ (malloc c.in-Some-malloc_line.field-0-0 c.in-Some-malloc_line.bytes) _ _ _ _ _ _
-      (second_good c.args.rest.now c.in-Some.line.now c.in-Some.rest.now c.in-Some-malloc_line.field-0-0 c.in-Some-malloc_line.bytes c.in-Some.ensures c.in-Some-malloc_line.ensures) refl
-      (c.in-Ok.ensures.replies c.in-Some-malloc_line.field-0-0) (c.answer_end.ensures.answers _)
+    (second_good c.args.rest.now c.in-Some.line.now c.in-Some.rest.now c.in-Some-malloc_line.field-0-0 c.in-Some-malloc_line.bytes c.in-Some.ensures c.in-Some-malloc_line.ensures) refl
+    (c.in-Ok.ensures.replies c.in-Some-malloc_line.field-0-0) (c.answer_end.ensures.answers _)
 
 pub returns-in-Err-clause-answers : goal.returns-in-Err-clause-answers
 returns-in-Err-clause-answers g c =
     answered_cut _ (malloc c.in-Some-malloc_line.field-0-0 c.in-Some-malloc_line.bytes) _ _ _ _
-      (second_good c.args.rest.now c.in-Some.line.now c.in-Some.rest.now c.in-Some-malloc_line.field-0-0 c.in-Some-malloc_line.bytes c.in-Some.ensures c.in-Some-malloc_line.ensures)
-      (c.in-Err.ensures.replies c.in-Some-malloc_line.field-0-0)
+    (second_good c.args.rest.now c.in-Some.line.now c.in-Some.rest.now c.in-Some-malloc_line.field-0-0 c.in-Some-malloc_line.bytes c.in-Some.ensures c.in-Some-malloc_line.ensures)
+    (c.in-Err.ensures.replies c.in-Some-malloc_line.field-0-0)
