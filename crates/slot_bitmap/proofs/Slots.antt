@@ -3,29 +3,30 @@ use Rattle.std.proofs.Common.{◌≡◌, ◌≢◌, ℕ, zero, suc, ◌+◌, ◌
 use Rattle.std.specs.Prelude.{slice_get, nat_lt}
 use Rattle.std.specs.Int.{bit_at, div_ceil}
 use Rattle.std.specs.List.{position, position_or_len, count_by, range_with_len}
-use Rattle.std.proofs.lemmas.Bool.{cases_eq, cases_lt, cases_Bool, cond-true, cond-false, lt-ltb, le-ltb, eq-eqb, ne_eqb, true≢false, eqb-true, eqb-false}
+use Rattle.std.proofs.lemmas.Bool.{cases_eq, cases_lt, cases_Bool, cond-true, cond-false, lt-ltb, le-ltb, eq-eqb, ne_eqb, not-true}
 use Rattle.std.proofs.lemmas.Bool.Decides.{nat_tests}
 use Rattle.std.proofs.lemmas.List.{same_lists, length-set, length-replicate, get_or-replicate, get_or_past, get_or-set_same, get_or-set_other}
 use Rattle.std.proofs.lemmas.List.FromFn.{length-map-range_with_len, get_or-map-range_with_len}
 use Rattle.std.proofs.lemmas.List.Sums.{position_or_len_is, sum_by-set, sum_by-cons, count_by-le-length}
 use Rattle.std.proofs.lemmas.Nat.{pow_pos, pow_below}
+use Rattle.std.proofs.lemmas.List.Quantifiers.{position-Some}
 use Rattle.std.proofs.Math.Pow.{pow_mono}
 use Rattle.std.proofs.lemmas.Nat.Bits.{bit_at-zero, bit_at_ones, bit_at_above, bit_at_ones_above, bit_at-lt, same_from_bits_below}
 use Rattle.std.proofs.lemmas.Option.{slice_get_within, get_or_from_slice_get, slice_get-get_or}
+use Rattle.cf_lemmas.proofs.Positions.{position_is, position_none}
+use Rattle.slot_bitmap.proofs.CallerLemmas.{counted_set, count-replicate}
 use Rattle.slot_bitmap.specs.Layout.{WritesBit, slots_in, is_used, slots_of, has_free, has_used, IsTidy}
 
--- ---- the first place where a test passes
+-- what the place of the first one tells
+pub found_free : (xs : List Bool) (i : ℕ) → Some i ≡ position (λ u. not u) xs → slice_get xs i ≡ Some false
+found_free xs i e =
+    let h = position-Some (λ u. not u) xs i true (sym e) in
+    slice_get-get_or xs i true h.0 ∙ ap Some (not-true (get_or xs i true) h.1)
 
-position_is : {X : Type 0} (p : X → Bool) (xs : List X) (i : ℕ) (d : X) → i < length xs → ((k : ℕ) → k < i → p (get_or xs k d) ≡ false) → p (get_or xs i d) ≡ true
-    → position p xs ≡ Some i
-position_is p xs i d lt before here =
-    let e : position_or_len p xs ≡ i = position_or_len_is p xs i d (omega arith) before (λ _. here) in
-    rw e (cond-true (nat_lt i (length xs)) (Some i) None (lt-ltb i (length xs) lt))
-
-position_none : {X : Type 0} (p : X → Bool) (xs : List X) (d : X) → ((k : ℕ) → k < length xs → p (get_or xs k d) ≡ false) → position p xs ≡ None
-position_none p xs d before =
-    let e : position_or_len p xs ≡ length xs = position_or_len_is p xs (length xs) d (omega arith) before (λ lt. absurd (omega arith)) in
-    rw e (cond-false (nat_lt (length xs) (length xs)) (Some (length xs)) None (le-ltb (length xs) (length xs) (omega arith)))
+pub found_used : (xs : List Bool) (i : ℕ) → Some i ≡ position (λ u. u) xs → slice_get xs i ≡ Some true
+found_used xs i e =
+    let h = position-Some (λ u. u) xs i true (sym e) in
+    slice_get-get_or xs i true h.0 ∙ ap Some h.1
 
 -- ---- the slots, one by one
 
@@ -62,22 +63,18 @@ slots_of-cleared n = same_lists _ _ (length-slots_of cleared n ∙ sym (length-r
     let lt : k < n = omega (arith, length-slots_of cleared n) in
     slot-at cleared n k d lt ∙ used_from_bit cleared k false (rw (cleared-at (k / 64), bit_at-zero) refl) ∙ sym (get_or-replicate n k false d lt))
 
-none_counted : (n : ℕ) → count_by (λ u. u) (replicate n false) ≡ 0
-none_counted zero = refl
-none_counted (suc n) = sum_by-cons (λ (u : Bool). cond u 1 0) false (replicate n false) ∙ zero-add _ ∙ none_counted n
-
 -- a summary with a bit for each word that has a slot
 each_word : (n full j : ℕ) → n ≤ 4096 → full + 1 ≡ 2 ^ div_ceil n 64 → bit_at full j ≡ cond (not (1 == 2 ^ slots_in n j)) 1 0
 each_word n full j few is =
     let e : full ≡ 2 ^ div_ceil n 64 - 1 = omega arith in
     elim (cases_lt j (div_ceil n 64)) [
       | inl lt ↦
-        let some : 0 < slots_in n j = omega arith in
-        let large : 1 < 2 ^ slots_in n j = pow_below 0 (slots_in n j) some in
-        rw (e, bit_at_ones (div_ceil n 64) j lt, ne_eqb 1 (2 ^ slots_in n j) (λ one. absurd (omega arith))) refl
+          let some : 0 < slots_in n j = omega arith in
+          let large : 1 < 2 ^ slots_in n j = pow_below 0 (slots_in n j) some in
+          rw (e, bit_at_ones (div_ceil n 64) j lt, ne_eqb 1 (2 ^ slots_in n j) (λ one. absurd (omega arith))) refl
       | inr ge ↦
-        let none : slots_in n j ≡ 0 = omega arith in
-        rw (e, bit_at_ones_above (div_ceil n 64) j ge, none) refl
+          let none : slots_in n j ≡ 0 = omega arith in
+          rw (e, bit_at_ones_above (div_ceil n 64) j ge, none) refl
     ]
 
 pub tidy_new : (n full : ℕ) → n ≤ 4096 → full + 1 ≡ 2 ^ div_ceil n 64 → IsTidy cleared full 0 n 0
@@ -86,13 +83,12 @@ tidy_new n full few is = record {
   clean = λ j _. rw (cleared-at j) (pow_pos (slots_in n j));
   some_free = λ j _. rw (cleared-at j) (each_word n full j few is);
   some_used = λ j _. rw (cleared-at j, bit_at-zero) refl;
-  counted = rw (slots_of-cleared n) (sym (none_counted n));
+  counted = rw (slots_of-cleared n) (sym (count-replicate n));
 }
 
 -- ---- one slot is written
 
 module _ (words : List ℕ) (n i w : ℕ) (b : Bool) (count : length words ≡ 64) (few : n ≤ 4096) (lt : i < n) (wrote : WritesBit (get_or words (i / 64) 0) w (i % 64) b) where
-
   written_here : is_used (set words (i / 64) w) i ≡ b
   written_here = used_from_bit (set words (i / 64) w) i b (rw (get_or-set_same words (i / 64) w 0 (omega arith)) wrote.at)
 
@@ -105,17 +101,11 @@ module _ (words : List ℕ) (n i w : ℕ) (b : Bool) (count : length words ≡ 6
 
   pub written : slots_of (set words (i / 64) w) n ≡ set (slots_of words n) i b
   written = same_lists _ _ (length-slots_of (set words (i / 64) w) n ∙ sym (length-slots_of words n) ∙ sym (length-set (slots_of words n) i b)) (λ k d h.
-    let short : k < n = omega (arith, length-slots_of (set words (i / 64) w) n) in
-    slot-at (set words (i / 64) w) n k d short ∙ elim (cases_eq k i) [
-      | inl e ↦ rw (e, get_or-set_same (slots_of words n) i b d (omega (arith, length-slots_of words n))) written_here
-      | inr ne ↦ rw (get_or-set_other (slots_of words n) i k b d ne) (written_elsewhere k ne ∙ sym (slot-at words n k d short))
-    ])
-
--- the count after a write, and before it
-pub counted_set : (xs : List Bool) (i : ℕ) (old b : Bool) → slice_get xs i ≡ Some old → count_by (λ u. u) (set xs i b) + cond old 1 0 ≡ count_by (λ u. u) xs + cond b 1 0
-counted_set xs i old b h =
-    let e = sum_by-set (λ (u : Bool). cond u 1 0) xs i b old (slice_get_within xs i old h) in
-    rw (get_or_from_slice_get xs i old old h) at e
+      let short : k < n = omega (arith, length-slots_of (set words (i / 64) w) n) in
+      slot-at (set words (i / 64) w) n k d short ∙ elim (cases_eq k i) [
+        | inl e ↦ rw (e, get_or-set_same (slots_of words n) i b d (omega (arith, length-slots_of words n))) written_here
+        | inr ne ↦ rw (get_or-set_other (slots_of words n) i k b d ne) (written_elsewhere k ne ∙ sym (slot-at words n k d short))
+      ])
 
 pub counted_within : (words : List ℕ) (n : ℕ) → count_by (λ u. u) (slots_of words n) ≤ n
 counted_within words n = omega (arith, count_by-le-length (λ u. u) (slots_of words n), length-slots_of words n)
@@ -167,7 +157,6 @@ full_word w full p is = elim (cases_eq w full) [
 
 module _ (words : List ℕ) (n i w f f' u u' c : ℕ) (count : length words ≡ 64) (tidy : IsTidy words f u n c)
     (within : (m : ℕ) → i % 64 < m → get_or words (i / 64) 0 < 2 ^ m → w < 2 ^ m) where
-
   place : (b : Bool) → slice_get (slots_of words n) i ≡ Some b → (i / 64 < 64) × (i % 64 < slots_in n (i / 64))
   place b was = let few : n ≤ 4096 = tidy.few in let lt : i < n = slot_within words n i b was in (omega arith, omega arith)
 
@@ -183,7 +172,7 @@ module _ (words : List ℕ) (n i w f f' u u' c : ℕ) (count : length words ≡ 
       → WritesBit f f' (i / 64) true → WritesBit u u' (i / 64) (not (w == 0)) → IsTidy (set words (i / 64) w) f' u' n (c - 1)
   tidy_unset was wrote wrote_f wrote_u =
       tidy_written words n i w true false f f' u u' c (c - 1) true _ count tidy was wrote (below true was)
-        wrote_f (bit_makes_free w _ (i % 64) (place true was).1 wrote.at) wrote_u refl (omega (arith, tidy.counted, counted_some words n i was))
+      wrote_f (bit_makes_free w _ (i % 64) (place true was).1 wrote.at) wrote_u refl (omega (arith, tidy.counted, counted_some words n i was))
 
 -- ---- the first used slot, and the first free one
 
@@ -194,7 +183,6 @@ on_is : (s a b : ℕ) → s ≡ cond (not (a == b)) 1 0 → s ≡ 1 → a ≢ b
 on_is s a b h one e = let zero : s ≡ 0 = rw (eq-eqb a b e) at h in absurd (omega arith)
 
 module _ (words : List ℕ) (f u n c : ℕ) (tidy : IsTidy words f u n c) where
-
   -- a word whose summary says so has no used slot, or no free one
   none_used : (k : ℕ) → k < n → bit_at u (k / 64) ≡ 0 → bit_at (get_or words (k / 64) 0) (k % 64) ≡ 0
   none_used k lt off =
@@ -210,13 +198,13 @@ module _ (words : List ℕ) (f u n c : ℕ) (tidy : IsTidy words f u n c) where
 
   pub no_used : u ≡ 0 → position (λ u. u) (slots_of words n) ≡ None
   no_used off = position_none (λ u. u) (slots_of words n) true (λ k h.
-    let lt : k < n = omega (arith, length-slots_of words n) in
-    slot-at words n k true lt ∙ used_from_bit words k false (none_used k lt (rw off (bit_at-zero (k / 64)))))
+      let lt : k < n = omega (arith, length-slots_of words n) in
+      slot-at words n k true lt ∙ used_from_bit words k false (none_used k lt (rw off (bit_at-zero (k / 64)))))
 
   pub no_free : f ≡ 0 → position (λ u. not u) (slots_of words n) ≡ None
   no_free off = position_none (λ u. not u) (slots_of words n) true (λ k h.
-    let lt : k < n = omega (arith, length-slots_of words n) in
-    ap not (slot-at words n k true lt ∙ used_from_bit words k true (none_free k lt (rw off (bit_at-zero (k / 64))))))
+      let lt : k < n = omega (arith, length-slots_of words n) in
+      ap not (slot-at words n k true lt ∙ used_from_bit words k true (none_free k lt (rw off (bit_at-zero (k / 64))))))
 
   pub has_room : (j : ℕ) → j < 64 → bit_at f j ≡ 1 → get_or words j 0 + 1 < 2 ^ 64
   has_room j short on =
@@ -225,7 +213,6 @@ module _ (words : List ℕ) (f u n c : ℕ) (tidy : IsTidy words f u n c) where
 
   -- the word that the summary names, and the bit in it
   module _ (j b : ℕ) (short : j < 64) (low : b < 64) where
-
     pub used_at : bit_at u j ≡ 1 → ((k : ℕ) → k < j → bit_at u k ≡ 0) → bit_at (get_or words j 0) b ≡ 1 → ((k : ℕ) → k < b → bit_at (get_or words j 0) k ≡ 0)
         → Some (64 * j + b) ≡ position (λ u. u) (slots_of words n)
     used_at on before here below =
@@ -234,27 +221,27 @@ module _ (words : List ℕ) (f u n c : ℕ) (tidy : IsTidy words f u n c) where
         let row : (64 * j + b) / 64 ≡ j = omega arith in
         let column : (64 * j + b) % 64 ≡ b = omega arith in
         sym (position_is (λ u. u) (slots_of words n) (64 * j + b) true (omega (arith, length-slots_of words n))
-          (λ k h. slot-at words n k true (omega arith) ∙ used_from_bit words k false (elim (cases_lt (k / 64) j) [
-            | inl less ↦ none_used k (omega arith) (before (k / 64) less)
-            | inr ge ↦ let same : k / 64 ≡ j = omega arith in rw same (below (k % 64) (omega arith))
-          ]))
-          (slot-at words n (64 * j + b) true lt ∙ used_from_bit words (64 * j + b) true (rw (row, column) here)))
+        (λ k h. slot-at words n k true (omega arith) ∙ used_from_bit words k false (elim (cases_lt (k / 64) j) [
+          | inl less ↦ none_used k (omega arith) (before (k / 64) less)
+          | inr ge ↦ let same : k / 64 ≡ j = omega arith in rw same (below (k % 64) (omega arith))
+        ]))
+        (slot-at words n (64 * j + b) true lt ∙ used_from_bit words (64 * j + b) true (rw (row, column) here)))
 
     pub free_at : bit_at f j ≡ 1 → ((k : ℕ) → k < j → bit_at f k ≡ 0) → bit_at (get_or words j 0) b ≡ 0 → ((k : ℕ) → k < b → bit_at (get_or words j 0) k ≡ 1)
         → Some (64 * j + b) ≡ position (λ u. not u) (slots_of words n)
     free_at on before here below =
         let ne = on_is _ (get_or words j 0 + 1) (2 ^ slots_in n j) (tidy.some_free j short) on in
         let full : slots_in n j ≤ b → get_or words j 0 ≡ 2 ^ slots_in n j - 1 = λ ge. same_from_bits_below (slots_in n j) (get_or words j 0) (2 ^ slots_in n j - 1) (tidy.clean j short)
-          (omega (arith, pow_pos (slots_in n j))) (λ k h. below k (omega arith) ∙ sym (bit_at_ones (slots_in n j) k h)) in
+        (omega (arith, pow_pos (slots_in n j))) (λ k h. below k (omega arith) ∙ sym (bit_at_ones (slots_in n j) k h)) in
         let inside : b < slots_in n j = elim (cases_lt b (slots_in n j)) [ inl lt ↦ lt | inr ge ↦ absurd (ne (omega (arith, full ge, pow_pos (slots_in n j)))) ] in
         let lt : 64 * j + b < n = omega arith in
         let row : (64 * j + b) / 64 ≡ j = omega arith in
         let column : (64 * j + b) % 64 ≡ b = omega arith in
         sym (position_is (λ u. not u) (slots_of words n) (64 * j + b) true (omega (arith, length-slots_of words n))
-          (λ k h. ap not (slot-at words n k true (omega arith) ∙ used_from_bit words k true (elim (cases_lt (k / 64) j) [
-            | inl less ↦ none_free k (omega arith) (before (k / 64) less)
-            | inr ge ↦ let same : k / 64 ≡ j = omega arith in rw same (below (k % 64) (omega arith))
-          ])))
-          (ap not (slot-at words n (64 * j + b) true lt ∙ used_from_bit words (64 * j + b) false (rw (row, column) here))))
+        (λ k h. ap not (slot-at words n k true (omega arith) ∙ used_from_bit words k true (elim (cases_lt (k / 64) j) [
+          | inl less ↦ none_free k (omega arith) (before (k / 64) less)
+          | inr ge ↦ let same : k / 64 ≡ j = omega arith in rw same (below (k % 64) (omega arith))
+        ])))
+        (ap not (slot-at words n (64 * j + b) true lt ∙ used_from_bit words (64 * j + b) false (rw (row, column) here))))
 
 pub ruleset slot_rules = (length-slots_of, slot_within, counted_within, counted_some)

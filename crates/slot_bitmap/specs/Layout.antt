@@ -23,6 +23,7 @@ slots_in n j = min (n - 64 * j) 64
 -- whether word j, of n slots in all, has a free slot, and whether it has a used one
 abbrev pub has_free : List ℕ → ℕ → ℕ → Bool
 has_free words n j = not (slice_index words j + 1 == 2 ^ slots_in n j)
+
 abbrev pub has_used : List ℕ → ℕ → Bool
 has_used words j = not (slice_index words j == 0)
 

@@ -1,5 +1,5 @@
 //! Which slots of a page are used.
-ghost use Rattle.std.specs.Prelude.{◌≡◌, ℕ, ◌<◌, ◌≤◌, length, replicate, slice_get, slice_set, not, true, false};
+ghost use Rattle.std.specs.Prelude.{◌≡◌, ℕ, ◌<◌, ◌≤◌, length, replicate, slice_get, slice_set, not, true, false, IfSome};
 ghost use Rattle.std.specs.List.{position, count_by};
 ghost use Rattle.step_ledger.specs.Counting.{RoseBy, RoseBetween};
 
@@ -77,6 +77,7 @@ impl SlotMap {
     /// The least free slot; none where all are used.
     pub fn first_free(&self, steps: &mut Steps) -> Option<u32>
         ensures found { result ≡ position (λ used. not used) self.now }
+        ensures free { IfSome result (λ i. slice_get self.now i ≡ Some false) }
         ensures steps { RoseBetween steps.old steps.new 1 8 }
     {
         steps.tick(1);
@@ -91,6 +92,7 @@ impl SlotMap {
     /// The least used slot; none where all are free.
     pub fn first_used(&self, steps: &mut Steps) -> Option<u32>
         ensures found { result ≡ position (λ used. used) self.now }
+        ensures used { IfSome result (λ i. slice_get self.now i ≡ Some true) }
         ensures steps { RoseBetween steps.old steps.new 1 8 }
     {
         steps.tick(1);
@@ -133,5 +135,39 @@ impl SlotMap {
         self.with_free = bits::with_bit(self.with_free, at, true);
         self.with_used = bits::with_bit(self.with_used, at, word != 0);
         self.used -= 1;
+    }
+}
+
+#[cfg(test)]
+mod tests {
+    use super::*;
+    use std::rt::HostRuntime;
+    use step_ledger::Meter;
+
+    #[test]
+    fn slots_are_taken_and_given_back_in_order(rt: HostRuntime) {
+        let mut meter = Meter::new(&rt);
+        let steps = meter.steps();
+        for slots in [1, 63, 64, 65, 130, 4096] {
+            let mut map = SlotMap::new(slots);
+            assert_eq!(rt; map.first_used(steps), None, "of {slots}");
+            for next in 0..slots {
+                if let Some(i) = map.first_free(steps) {
+                    assert_eq!(rt; i, next, "of {slots}");
+                    map.set(i, steps);
+                }
+            }
+            assert_eq!(rt; map.count(steps), slots);
+            assert_eq!(rt; map.first_free(steps), None, "of {slots}");
+            for next in 0..slots {
+                if let Some(i) = map.first_used(steps) {
+                    assert_eq!(rt; i, next, "of {slots}");
+                    map.unset(i, steps);
+                    assert_eq!(rt; map.first_free(steps), Some(0), "of {slots}");
+                }
+            }
+            assert_eq!(rt; map.count(steps), 0);
+            assert_eq!(rt; map.first_used(steps), None, "of {slots}");
+        }
     }
 }

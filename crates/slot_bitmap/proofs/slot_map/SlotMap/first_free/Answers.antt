@@ -1,5 +1,5 @@
 use Rattle.std.proofs.Common.{sym}
-use Rattle.slot_bitmap.proofs.Slots.{no_free, has_room, free_at}
+use Rattle.slot_bitmap.proofs.Slots.{no_free, has_room, free_at, found_free}
 use Rattle.slot_bitmap.proofs.slot_map.SlotMap.first_free.Goals as goal
 
 pub returns-then-self-eq0-clause-found : goal.returns-then-self-eq0-clause-found
@@ -13,3 +13,9 @@ returns-clause-found c = rw (← c.self.view_is) (
     let word = c.lowest_set-at.ensures in
     let bit = c.lowest_clear.ensures in
     free_at _ _ _ _ _ c.self.invariant _ _ word.within bit.within word.at word.below bit.at bit.below)
+
+pub returns-clause-free : goal.returns-clause-free
+returns-clause-free c = rw (← c.self.view_is) (
+    let word = c.lowest_set-at.ensures in
+    let bit = c.lowest_clear.ensures in
+    found_free _ _ (free_at _ _ _ _ _ c.self.invariant _ _ word.within bit.within word.at word.below bit.at bit.below))

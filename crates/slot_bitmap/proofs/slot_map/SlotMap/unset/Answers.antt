@@ -6,7 +6,7 @@ pub invariant_of-self : goal.invariant_of-self
 invariant_of-self c =
     let was = rw (← c.self.view_is) at c.requires in
     tidy_unset _ _ _ _ _ _ _ _ _ c.self.told c.self.invariant c.with_bit-word.ensures.within was c.with_bit-word.ensures.written
-      c.with_bit-self-inside.ensures.written c.with_bit-self-inside-2.ensures.written
+    c.with_bit-self-inside.ensures.written c.with_bit-self-inside-2.ensures.written
 
 pub returns-clause-value : goal.returns-clause-value
 returns-clause-value c = rw (← c.self.view_is) (
