@@ -1,12 +1,15 @@
 -- Lists of words after a loan.
-use Rattle.std.proofs.Common.{◌≡◌, ℕ, zero, suc, ◌+◌, ◌-◌, ◌<◌, ◌≤◌, ◌%◌, ◌^◌, List, [], ◌∷◌, ◌++◌, length, take, drop, map, replicate, get_or, arith, refl, ap, sym, ◌∙◌}
-use Rattle.std.proofs.lemmas.List.{length-append, length-take, length-take-le, length-drop, length-replicate, length-map, take-append-le, take_all, drop_all, drop-drop, append-nil}
+use Rattle.std.proofs.Common.{◌≡◌, ℕ, zero, suc, ◌+◌, ◌<◌, ◌≤◌, ◌%◌, ◌^◌, List, [], ◌∷◌, ◌++◌, length, take, drop, map, replicate, get_or, arith, refl, ap, ◌∙◌}
+use Rattle.std.proofs.lemmas.List.{length-append, length-take, length-drop, length-replicate, length-map, take-append-le, take_all, drop_all, drop-drop, append-nil}
 use Rattle.std.proofs.Math.Nat.{mod-eq_of_lt}
 use Rattle.region.specs.Lending.{fit, with_words, written_over}
 
 pub length-fit : (n : ℕ) (ws : List ℕ) → length (fit n ws) ≡ n
 unfolding fit
 length-fit n ws = simp (length-take, length-append, length-replicate, length-map) (omega arith)
+
+pub length-part : (words : List ℕ) (i n : ℕ) → i + n ≤ length words → length (take n (drop i words)) ≡ n
+length-part words i n le = simp (length-take, length-drop) (omega arith)
 
 -- a word of 64 bits is its own remainder
 words_kept : (ws : List ℕ) → ((i d : ℕ) → i < length ws → get_or ws i d < 2 ^ 64) → map (λ w. w % 2 ^ 64) ws ≡ ws

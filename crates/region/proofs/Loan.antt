@@ -1,6 +1,6 @@
 -- A loan of words is lent on under a new name, so that whatever is left counts as so many words of 64 bits.
 use Prim.Native.Nat.{ℕ}
-use mathlib.Core.Path.{◌≡◌, refl, sym}
+use mathlib.Core.Path.{refl, sym}
 use mathlib.Core.List.{List, [], ◌∷◌}
 use lib.ListN.{length}
 use seplogic.Ra.Ura.{Ura}

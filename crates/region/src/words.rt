@@ -130,3 +130,32 @@ impl Region {
         self.words.slice_mut(start..start + n as usize)
     }
 }
+
+#[cfg(test)]
+mod tests {
+    use super::*;
+    use std::test::Fail;
+    use step_ledger::Meter;
+
+    // Of 8 words, 7 and 9 at 1 and 2 are moved to 5; 4 is written over the first by a loan of both.
+    #[test]
+    fn words_are_moved_lent_and_cleared(rt: HostRuntime) -> Result<(), Fail> {
+        let mut meter = Meter::new(&rt);
+        let mut region = Region::new(rt.alloc(), 8)?;
+        assert_eq!(rt; region.len(), 8);
+        region.write(1, 7, meter.steps());
+        region.write(2, 9, meter.steps());
+        region.move_words(1, 5, 2, meter.steps());
+        assert_eq!(rt; meter.lap(), 4);
+        let lent = region.payload_mut(5, 2, meter.steps());
+        lent[0] = 4;
+        for (at, want) in [(0, 0), (1, 0), (2, 0), (4, 0), (5, 4), (6, 9), (7, 0)] {
+            assert_eq!(rt; region.read(at, meter.steps()), want, "at {at}");
+        }
+        assert_eq!(rt; region.payload(6, 2, meter.steps())[0], 9);
+        region.clear(5, 1, meter.steps());
+        assert_eq!(rt; region.payload(5, 2, meter.steps()), [0, 9].as_slice());
+        assert_eq!(rt; meter.lap(), 2 + 7 + 2 + 1 + 2);
+        Ok(())
+    }
+}

@@ -1,11 +1,9 @@
 -- `fitted` hands on what `part` lends, under a new name: what is left behind it counts as so many words of 64 bits.
-use Rattle.std.proofs.Common.{◌≡◌, ℕ, ◌+◌, ◌≤◌, ◌<◌, List, [], ◌∷◌, length, take, drop, refl, ap, ◌∙◌, MutBor, arith}
-use Rattle.std.proofs.lemmas.List.{length-take-le, length-drop}
+use Rattle.std.proofs.Common.{◌≡◌, ℕ, ◌+◌, ◌≤◌, List, [], ◌∷◌, length, take, drop, refl, ap, ◌∙◌, MutBor}
 use Rattle.std.proofs.raw_atomic.Walks.{proved}
-use base.Logic.{SProp, id⊢, snd∗, ent, sep}
-use base.Fml.{ftrue, flft, GName, Lft}
+use base.Logic.{id⊢, snd∗}
+use base.Fml.{ftrue, flft}
 use mir.Syntax.{named, w32}
-use mir.Val.{Val, vptr, vint}
 use contract.Monad.{fact, fact_use}
 use contract.Running.{tables}
 use types.Kit.{‵, raw, ◌⊛◌, some, later, ◌$◌, ◌∵◌, !, qed, done, move, keep, drop as forget, use1, use2, split, split3, join, fsplit, fjoin, pick, await, rewrite, suffices, frame}
@@ -19,7 +17,7 @@ use denote.Plain.{uint_vals, uint_Tells}
 use denote.Ref.{mut_vals, mut_Tells}
 use denote.Shadow.{pure_l, pure_i}
 use denote.Signature.{plain, mut_ref_to}
-use denote.Slice.{MutSlice, mut_slice_at, mut_slice_vals, slice_val}
+use denote.Slice.{MutSlice, mut_slice_at, slice_val}
 use denote.Steps.{nothing, heard, only}
 use denote.Triple.Call.{calls_at}
 use denote.Triple.Clauses.{lasts}
@@ -34,7 +32,7 @@ use Rattle.region.specs.contracts.words.Region.part as g
 use Rattle.region.proofs.words.Region.part.Met.{met}
 use Rattle.region.proofs.words.Region.fitted.Statement.{statement}
 use Rattle.region.proofs.words.Region.fitted.Code as code
-use Rattle.region.proofs.Lists.{written_over-fit}
+use Rattle.region.proofs.Lists.{length-part, written_over-fit}
 use Rattle.region.proofs.Loan.{fitted, lends_fit}
 
 abbrev stayed : Stays f.ended.signature.params f.ended.kept
@@ -67,7 +65,7 @@ fitted_spec 𝓤 𝓛 𝓜 𝓡 wired =
     move ! (3 ∷ []) $ pick ! (λ ws. split3 ! $ forget ! $ move ! (1 ∷ []) $ heard ! _ (λ is. move ! (1 ∷ 2 ∷ []) $
     use2 𝓛 (later (some (fitted 𝓛 (named 0) κ q r.ref_ptr.0 r.ref_ptr.1 r.ghost_name r.now))) (lends_fit 𝓛 (named 0) κ q r.ref_ptr.0 r.ref_ptr.1 r.ghost_name r.now p.1 (v ∷ [])) $ await ! tt $ pick ! (λ δ. split3 ! $
     -- [the loan under its new name; the token; the two steps of the lender; nothing; the locals]
-    let long : length r.now ≡ n = ap length is ∙ length-take-le n (drop i s) (simp length-drop (omega arith)) in
+    let long : length r.now ≡ n = ap length is ∙ length-part s i n within in
     let same : (ws' : List ℕ) → written_over s i (fit (length r.now) ws') ≡ with_words s i n ws' = λ ws'. ap (λ (m : ℕ). written_over s i (fit m ws')) long ∙ written_over-fit s i n within ws' in
     move ! (3 ∷ 2 ∷ []) $ use2 𝓛 (‵ (follows R (Array u64 0) γ δ (λ ws'. written_over s i (fit (length r.now) ws')))) (follows_then 𝓛 R (Array u64 0) (Array u64 0) (written_over s i) (fit (length r.now)) γ r.ghost_name δ) $
     rewrite ! 0 (λ (F : List ℕ → List ℕ). ‵ (follows R (Array u64 0) γ δ F)) (λ k ws'. same ws' k) refl $
