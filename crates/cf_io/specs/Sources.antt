@@ -1,7 +1,7 @@
 -- What the sources in memory are, and what a call does to them.
 use Rattle.std.specs.Prelude.{ℕ, ◌≡◌, ◌%◌, EachIndex, slice_index, ◌+◌, ◌++◌, List, length, take, drop, min, if◌then◌else◌, Option, Some, None}
 use Rattle.cf_io.specs.Feeds.{last_count}
-use Rattle.cf_io.specs.Schedules.{Schedule, is_due, moved, gone_well, gone_wrong}
+use Rattle.cf_io.specs.Schedules.{Schedule, is_due, moved, gone_well, gone_wrong, planned}
 
 -- a source that never fails: the bytes left, and how many were given
 pub record SureSource : Type 0 where
@@ -19,6 +19,16 @@ pub record LoopSource : Type 0 where
   pub piece : List ℕ
   pub at : ℕ
   pub given : ℕ
+
+-- no call was made yet
+abbrev pub sure_source : List ℕ → SureSource
+sure_source bytes = record { left = bytes; given = 0 }
+
+abbrev pub mem_source : List ℕ → List ℕ → List ℕ → MemSource
+mem_source bytes cuts fails = record { left = bytes; given = 0; schedule = planned cuts fails }
+
+abbrev pub loop_source : List ℕ → LoopSource
+loop_source piece = record { piece = piece; at = 0; given = 0 }
 
 -- n more were given, as far as a counter of 64 bits goes
 abbrev pub more_given : ℕ → ℕ → ℕ

@@ -1,9 +1,9 @@
 //! Sources in memory.
-ghost use Rattle.std.specs.Prelude.{◌≡◌, ◌<◌, ◌≤◌, ◌+◌, ◌-◌, ◌%◌, ◌++◌, Some, None, Ok, length, take, drop, min, IfOk, OnErr};
+ghost use Rattle.std.specs.Prelude.{◌≡◌, ◌<◌, ◌≤◌, ◌+◌, ◌%◌, ◌++◌, Some, None, length, take, drop, IfOk};
 ghost use Rattle.std.specs.Result.{result_ok};
-ghost use Rattle.cf_io.specs.Feeds.{Rose, preceded, IsSpent, last_count};
-ghost use Rattle.cf_io.specs.Schedules.{planned};
-ghost use Rattle.cf_io.specs.Sources.{Loops, filled, loop_after, mem_after, mem_answer, mem_buffer, sure_after, sure_count};
+ghost use Rattle.cf_io.specs.Sources.{Loops, filled, loop_after, loop_source};
+ghost use Rattle.cf_io.specs.Sources.{mem_after, mem_answer, mem_buffer, mem_source};
+ghost use Rattle.cf_io.specs.Sources.{sure_after, sure_count, sure_source};
 
 use crate::schedule::Schedule;
 use crate::source::Source;
@@ -32,7 +32,7 @@ impl Model for SureSource {
 impl SureSource {
     /// A source of these bytes.
     pub fn new(bytes: Vec<u8>) -> SureSource
-        ensures { result ≡ record { left = bytes.items; given = 0 } }
+        ensures { result ≡ sure_source bytes.items }
     {
         SureSource {
             bytes,
@@ -90,7 +90,7 @@ impl Model for MemSource {
 impl MemSource {
     /// A source of these bytes, of which no call was made yet.
     pub fn new(bytes: Vec<u8>, cuts: Vec<usize>, fails: Vec<u64>) -> MemSource
-        ensures { result ≡ record { left = bytes.items; given = 0; schedule = planned cuts.items fails.items } }
+        ensures { result ≡ mem_source bytes.items cuts.items fails.items }
     {
         MemSource {
             bytes,
@@ -153,7 +153,7 @@ impl LoopSource {
     /// A source of this piece, which isn't empty.
     pub fn new(piece: Vec<u8>) -> LoopSource
         requires { 0 < length piece.items }
-        ensures { result ≡ record { piece = piece.items; at = 0; given = 0 } }
+        ensures { result ≡ loop_source piece.items }
     {
         LoopSource {
             piece,
