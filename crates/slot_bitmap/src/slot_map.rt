@@ -111,7 +111,7 @@ impl SlotMap {
         ensures steps { RoseBetween steps.old steps.new 1 8 }
     {
         prove!(i < self.slots);
-        steps.tick(3);
+        steps.tick(3); // the word and both summaries
         let at = i / 64;
         let word = bits::with_bit(self.words[at as usize], i % 64, true);
         let full = bits::ones((self.slots - 64 * at).min(64));

@@ -1,4 +1,4 @@
-use Rattle.std.proofs.Common.{◌≡◌, ◌≢◌, ◌+◌, ◌/◌, ◌<◌, ◌≤◌, slice_index, arith}
+use Rattle.std.proofs.Common.{◌≡◌, ◌≢◌, ◌+◌, ◌/◌, ◌<◌, slice_index, arith}
 use Rattle.step_ledger.specs.Counting.{RoseBy}
 use Rattle.size_classes.proofs.Probes.{halved, below_probe, found_at}
 use Rattle.size_classes.proofs.search.least_at_least.Goals as goal

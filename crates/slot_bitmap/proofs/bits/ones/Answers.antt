@@ -1,4 +1,4 @@
-use Rattle.std.proofs.Common.{arith, ◌-◌, ◌≤◌, ◌^◌, ◌+◌, ◌≡◌, ap, ◌∙◌}
+use Rattle.std.proofs.Common.{arith, ◌-◌, ◌≤◌, ◌^◌, ◌≡◌, ap}
 use Rattle.std.proofs.lemmas.Nat.{pow_pos}
 use Rattle.std.proofs.lemmas.Nat.Bits.{ones_shr}
 use Rattle.slot_bitmap.proofs.bits.ones.Goals as goal

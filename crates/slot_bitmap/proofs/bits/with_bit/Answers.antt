@@ -1,4 +1,4 @@
-use Rattle.std.proofs.Common.{arith, w64, sym, ◌∙◌, ◌<◌, ◌^◌, ◌*◌, ◌%◌, ◌≡◌}
+use Rattle.std.proofs.Common.{arith, w64, sym, ◌∙◌, ◌<◌, ◌^◌, ◌*◌, ◌%◌}
 use Rattle.std.proofs.lemmas.Bool.{cond-true, cond-false}
 use Rattle.std.proofs.lemmas.Nat.{or_lt, one_shl, pow_below}
 use Rattle.std.proofs.lemmas.Nat.Bits.{bit_at_set_same, bit_at_set_other, bit_at_clear_same, bit_at_clear_other}

@@ -1,4 +1,3 @@
-use Rattle.std.proofs.Common.{arith, ◌<◌}
 use Rattle.slot_bitmap.proofs.Slots.{slot_told, length-slots_of}
 use Rattle.slot_bitmap.proofs.slot_map.SlotMap.is_used.Goals as goal
 
