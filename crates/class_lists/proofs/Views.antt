@@ -199,6 +199,9 @@ module _ (next previous lens : List ℕ) (pages : ℕ) (s : IsSound next previou
       pub listed_within : p < length next
       listed_within = (let lt' : p < pages = s.disjoint.within k p at_list in let e = s.nodes in omega arith)
 
+      pub page_within : p < pages
+      page_within = s.disjoint.within k p at_list
+
       pub some_page : 1 ≤ length (pages_in v c w)
       some_page = (let lt' : h.0 < length (pages_in v c w) = h.1 in omega arith)
 

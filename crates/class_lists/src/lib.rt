@@ -127,6 +127,7 @@ impl ClassLists {
         ensures lists { self.new ≡ with_list self.old c which (without page (pages_in self.old c which)) }
         ensures list { pages_in self.new c which ≡ without page (pages_in self.old c which) }
         ensures len { length (pages_in self.new c which) + 1 ≡ length (pages_in self.old c which) }
+        ensures within { page < self.new.pages }
         ensures unlisted { IsUnlisted self.new page }
         ensures others { KeepsOthers self.old self.new c which }
         ensures kept { AreApart self.new }

@@ -1,7 +1,7 @@
 //! Numbers of objects to addresses: the one place where a move is told.
 #![tactic(auto)]
 
-ghost use Rattle.std.specs.Prelude.{◌≡◌, ◌<◌, ◌↔◌, IfNone, IfOk, IfSome, IsNone, IsSome, None};
+ghost use Rattle.std.specs.Prelude.{◌≡◌, ◌<◌, ◌↔◌, IfNone, IfOk, IfSome, IsNone, IsSome, None, Some};
 ghost use Rattle.std.specs.FinMap as map;
 ghost use Rattle.step_ledger.specs.Counting.{RoseBetween, RoseBy};
 ghost use Rattle.proxy_table.specs.Proxies.{AreBelowLimit, no_proxies, with_place, without_place};
@@ -85,6 +85,7 @@ impl ProxyTable {
 
         ensures full { IfNone result (self.new ≡ self.old) }
         ensures places { IfSome result (λ h. self.new ≡ with_place self.old h.0 addr) }
+        ensures live { IfSome result (λ h. map.get self.new.places h.0 ≡ Some addr) }
         ensures kept { AreBelowLimit self.new }
 
         ensures steps { RoseBetween steps.old steps.new 1 2 }

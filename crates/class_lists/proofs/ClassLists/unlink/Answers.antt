@@ -1,5 +1,5 @@
 use Rattle.std.proofs.Common.{sym, subst, ◌+◌, arith, refl, ap, length, ◌∙◌, rules}
-use Rattle.class_lists.proofs.Views.{listed_within, before_inside, after_inside, some_page, shorter, unlisted_now, counted, unlinked}
+use Rattle.class_lists.proofs.Views.{listed_within, page_within, before_inside, after_inside, some_page, shorter, unlisted_now, counted, unlinked}
 use Rattle.class_lists.specs.PageLists.{PageLists, IsUnlisted}
 use Rattle.class_lists.proofs.ClassLists.unlink.Goals as goal
 
@@ -50,6 +50,7 @@ returns c =
       lists = all.lists;
       list = all.list;
       len = ap (λ xs. length xs + 1) all.list ∙ fewer;
+      within = page_within _ _ _ _ c.self.invariant _ c.self.view_is c.args.c c.args.which _ refl c.requires.class c.args.page c.requires.listed;
       unlisted = subst (λ (v : PageLists). IsUnlisted v c.args.page) (sym all.lists) out;
       others = all.others;
       kept = all.kept;
