@@ -1,14 +1,14 @@
 -- What the fields tell of the value, and what the calls do to it.
-use Rattle.std.proofs.Common.{◌≡◌, ℕ, zero, suc, ◌+◌, ◌-◌, ◌*◌, ◌/◌, ◌%◌, ◌<◌, ◌≤◌, List, [], ◌∷◌, Some, None, length, get_or, set, replicate, arith, refl, sym, ◌∙◌, ap, subst, inl, inr}
+use Rattle.std.proofs.Common.{◌≡◌, ◌≢◌, ℕ, zero, suc, ◌+◌, ◌-◌, ◌*◌, ◌/◌, ◌%◌, ◌<◌, ◌≤◌, List, [], ◌∷◌, Some, None, length, get_or, set, replicate, arith, refl, sym, ◌∙◌, ap, subst, inl, inr}
 use Rattle.std.specs.Prelude.{◌^◌, slice_get}
 use Rattle.std.specs.List.{Contains}
-use Rattle.std.proofs.lemmas.Bool.{cases_lt}
+use Rattle.std.proofs.lemmas.Bool.{cases_eq, cases_lt}
 use Rattle.std.proofs.lemmas.List.{get_or_read, get_or-set_same, get_or-set_other, length-set, get_or_past, length-replicate, get_or-replicate}
 use Rattle.class_lists.specs.declared.Which.{Which}
 use Rattle.class_lists.specs.declared.Which.TheVariants.{Full, NotFull}
-use Rattle.class_lists.specs.PageLists.{PageLists, AreApart, IsUnlisted, KeepsOthers, empty_lists, list_number, pages_in, with_list, without}
+use Rattle.class_lists.specs.PageLists.{PageLists, AreApart, AreEmpty, IsUnlisted, KeepsOthers, empty_lists, list_number, pages_in, with_list, without}
 use Rattle.class_lists.specs.Links.{chains, lists_of, list_at, IsLinked, AreLinked, AreDisjoint, AreAlone, IsSound}
-use Rattle.class_lists.proofs.Members.{contains_nil, contains_head, contains_cases, distinct_nil, distinct_cons, length-without, length_within}
+use Rattle.class_lists.proofs.Members.{contains_nil, contains_head, contains_without, contains_cases, distinct_nil, distinct_cons, length-without, length_within}
 use Rattle.class_lists.proofs.Rings.{length-chains, chains_are, first_within, push_linked, push_disjoint, before_within, after_within, unlink_linked, unlink_disjoint}
 
 -- the number tells the class and which list
@@ -36,6 +36,19 @@ module _ (v : PageLists) (c : ℕ) (w : Which) (list : List ℕ) where
   others_kept d u other = get_or-set_other v.lists (list_number c w) (list_number d u) list [] (λ e.
       let is = same_list d c u w e in
       elim other [ inl ne ↦ ne is.0 | inr ne ↦ ne is.1 ])
+
+-- a page that leaves its list is in no other
+pub unlisted_then : (v : PageLists) (c : ℕ) (w : Which) (p : ℕ) → list_number c w < length v.lists → AreApart v → Contains (pages_in v c w) p
+    → IsUnlisted (with_list v c w (without p (pages_in v c w))) p
+unlisted_then v c w p lt a h d u g = elim (cases_eq (list_number d u) (list_number c w)) [
+  | inl is ↦ (
+      let there : Contains (without p (pages_in v c w)) p = rw (is, get_or-set_same v.lists (list_number c w) (without p (pages_in v c w)) [] lt) at g in
+      (contains_without p p (pages_in v c w) there).0 refl)
+  | inr ne ↦ (
+      let there : Contains (pages_in v d u) p = rw (get_or-set_other v.lists (list_number c w) (list_number d u) (without p (pages_in v c w)) [] ne) at g in
+      let is = a.once d c u w p there h in
+      ne (ap (λ e. list_number e u) is.0 ∙ ap (list_number c) is.1))
+]
 
 module _ (next previous lens : List ℕ) (pages : ℕ) (s : IsSound next previous lens pages) where
   abbrev all : List (List ℕ)
@@ -101,7 +114,7 @@ module _ (next previous lens : List ℕ) (pages : ℕ) (s : IsSound next previou
     follower : (first : ℕ) → first ≡ get_or next (pages + k) first → first ≡ get_or next (pages + k) 0
     follower first read = get_or_read next (pages + k) first (let e = s.nodes in let f = within in omega arith) read 0
 
-    -- what follows a list's own node, where it is a page
+    -- what follows a list's own node is its front, where it is a page
     pub front_some : (first : ℕ) → first ≡ get_or next (pages + k) first → first < pages → Some first ≡ slice_get (pages_in v c w) 0
     front_some first read below = rw list_k (go (list_at (chains next pages lens) k) (s.linked.linked k within))
       where
@@ -109,19 +122,26 @@ module _ (next previous lens : List ℕ) (pages : ℕ) (s : IsSound next previou
         go [] l = absurd (let e : first ≡ pages + k = follower first read ∙ l.0 in omega arith)
         go (x ∷ xs) l = ap Some (follower first read ∙ l.0)
 
-    -- and where it is the list's own node
-    pub front_none : (first : ℕ) → first ≡ get_or next (pages + k) first → pages ≤ first → None ≡ slice_get (pages_in v c w) 0
+    -- and where it is the list's own node, the list is empty
+    pub front_none : (first : ℕ) → first ≡ get_or next (pages + k) first → pages ≤ first → pages_in v c w ≡ []
     front_none first read above = rw list_k (go (list_at (chains next pages lens) k) (s.disjoint.within k) (s.linked.linked k within))
       where
-        go : (xs : List ℕ) → ((p : ℕ) → Contains xs p → p < pages) → IsLinked next previous (pages + k) xs (pages + k) → None ≡ slice_get xs 0
-        go [] inside l = refl
-        go (x ∷ xs) inside l = absurd (let e : first ≡ x = follower first read ∙ l.0 in let below : x < pages = inside x (contains_head x xs) in omega arith)
+        go : (xs : List ℕ) → ((p : ℕ) → Contains xs p → p < pages) → IsLinked next previous (pages + k) xs (pages + k) → xs ≡ []
+        go [] ranged l = refl
+        go (x ∷ xs) ranged l = absurd (let e : first ≡ x = follower first read ∙ l.0 in let below : x < pages = ranged x (contains_head x xs) in omega arith)
 
+    -- what the length says
     pub counted : (len : ℕ) → len ≡ get_or lens k len → len ≡ length (pages_in v c w)
     counted len read = get_or_read lens k len within read 0 ∙ s.linked.counted k within ∙ ap length (sym list_k)
 
     pub follower_within : (first : ℕ) → first ≡ get_or next (pages + k) first → first < length next
     follower_within first read = rw (follower first read) (first_within next previous lens pages _ k within s.linked s.disjoint s.nodes s.backed)
+
+    inside : list_number c w < length v.lists
+    inside =
+        let e : length v.lists ≡ length lens = ap (λ (u : PageLists). length u.lists) (sym seen) ∙ length-chains next pages lens in
+        let f : list_number c w < length lens = list_within c w lt in
+        omega arith
 
     -- other arrays that are linked through the lists, one of which is another
     changed : (next' previous' lens' : List ℕ) (list list' : List ℕ) → list ≡ list' → length next' ≡ length next → length previous' ≡ length previous → length lens' ≡ length lens
@@ -132,10 +152,6 @@ module _ (next previous lens : List ℕ) (pages : ℕ) (s : IsSound next previou
         (λ i. record { pages = pages; classes = m i / 2; lists = chains_are next' previous' lens' pages _ l i })
         ∙ ap (λ q. record { pages = pages; classes = length lens / 2; lists = set (chains next pages lens) q list }) at
         ∙ ap (λ (u : PageLists). with_list u c w list) seen ∙ ap (with_list v c w) e in
-        let inside : list_number c w < length v.lists = (
-        let e : length v.lists ≡ length lens = ap (λ (u : PageLists). length u.lists) (sym seen) ∙ length-chains next pages lens in
-        let f : list_number c w < length lens = list_within c w lt in
-        omega arith) in
         let sound = sound_after next previous lens pages s next' previous' lens' _ n p m l d in
         record {
           sound = sound;
@@ -183,8 +199,14 @@ module _ (next previous lens : List ℕ) (pages : ℕ) (s : IsSound next previou
       pub listed_within : p < length next
       listed_within = (let lt' : p < pages = s.disjoint.within k p at_list in let e = s.nodes in omega arith)
 
+      pub page_within : p < pages
+      page_within = s.disjoint.within k p at_list
+
       pub some_page : 1 ≤ length (pages_in v c w)
       some_page = (let lt' : h.0 < length (pages_in v c w) = h.1 in omega arith)
+
+      pub unlisted_now : IsUnlisted (with_list v c w (without p (pages_in v c w))) p
+      unlisted_now = unlisted_then v c w p inside apart h
 
       pub shorter : length (without p (pages_in v c w)) + 1 ≡ length (pages_in v c w)
       shorter = length-without p (pages_in v c w) (apart.distinct c w) h
@@ -219,6 +241,17 @@ no_list : (n k : ℕ) → list_at (replicate n []) k ≡ []
 no_list zero k = refl
 no_list (suc n) zero = refl
 no_list (suc n) (suc k) = no_list n k
+
+pub empty_are_empty : (classes pages : ℕ) → AreEmpty (empty_lists classes pages)
+empty_are_empty classes pages c w = no_list (2 * classes) (list_number c w)
+
+-- a front stands in its list
+pub front_listed : (xs : List ℕ) (p : ℕ) → Some p ≡ slice_get xs 0 → Contains xs p
+front_listed [] p is = absurd (let f : Some p ≡ None = is in cc)
+front_listed (x ∷ xs) p is = (let e : p ≡ x = (let f : Some p ≡ Some x = is in cc) in rw e (contains_head x xs))
+
+pub some_not_empty : (xs : List ℕ) (p : ℕ) → Some p ≡ slice_get xs 0 → xs ≢ []
+some_not_empty xs p is e = (let f : Some p ≡ None = is ∙ ap (λ ys. slice_get ys 0) e in cc)
 
 module _ (next previous lens : List ℕ) (classes pages nodes : ℕ) (is : pages + 2 * classes ≡ nodes) (small : nodes < 2 ^ 32) (n : AreAlone next nodes) (b : AreAlone previous nodes) (m : lens ≡ replicate (2 * classes) 0) where
   long : length lens ≡ 2 * classes

@@ -20,9 +20,13 @@ list_number c NotFull = 2 * c + 1
 abbrev pub pages_in : PageLists → ℕ → Which → List ℕ
 pages_in v c which = slice_index_or v.lists (list_number c which) []
 
--- no page is in a list
+-- the lists of so many classes for so many pages, with no page in them
 abbrev pub empty_lists : ℕ → ℕ → PageLists
 empty_lists classes pages = record { pages = pages; classes = classes; lists = replicate (2 * classes) [] }
+
+-- no list has a page
+abbrev pub AreEmpty : PageLists → Type 0
+AreEmpty v = (c : ℕ) (which : Which) → pages_in v c which ≡ []
 
 -- one list is another one, and all others stay
 abbrev pub with_list : PageLists → ℕ → Which → List ℕ → PageLists

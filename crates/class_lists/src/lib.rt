@@ -1,11 +1,11 @@
 //! The pages of each class, full and not full, in lists that a page joins and leaves at once.
 #![tactic(auto)]
 
-ghost use Rattle.std.specs.Prelude.{◌≡◌, ℕ, ◌+◌, ◌*◌, ◌<◌, ◌^◌, ◌∷◌, IfOk, length, slice_get, slice_set, vec_len};
+ghost use Rattle.std.specs.Prelude.{◌≡◌, ℕ, ◌+◌, ◌*◌, ◌<◌, ◌^◌, ◌↔◌, [], ◌∷◌, IfOk, IfSome, IsNone, length, slice_get, slice_set, vec_len};
 ghost use Rattle.std.specs.List.{Contains};
 ghost use Rattle.step_ledger.specs.Counting.{RoseBetween, RoseBy};
 ghost use Rattle.class_lists.specs.Links.{AreAlone};
-ghost use Rattle.class_lists.specs.PageLists.{AreApart, IsUnlisted, KeepsOthers, empty_lists, list_number, pages_in, with_list, without};
+ghost use Rattle.class_lists.specs.PageLists.{AreApart, AreEmpty, IsUnlisted, KeepsOthers, empty_lists, list_number, pages_in, with_list, without};
 
 use cf_base::OutOfMemory;
 use std::alloc::{AllocError, Global};
@@ -55,7 +55,9 @@ impl ClassLists {
     /// The lists of so many classes for so many pages, all empty. Nodes are numbered in 32 bits, and
     /// more than these number are refused as out of memory.
     pub fn new(alloc: Global, classes: u32, pages: u32) -> Result<ClassLists, OutOfMemory>
-        ensures { IfOk result (λ lists. lists ≡ empty_lists classes pages) }
+        ensures lists { IfOk result (λ lists. lists ≡ empty_lists classes pages) }
+        ensures empty { IfOk result AreEmpty }
+        ensures kept { IfOk result AreApart }
     {
         let lists = 2 * u64::from(classes);
         let Ok(nodes) = u32::try_from(u64::from(pages) + lists) else {
@@ -74,6 +76,8 @@ impl ClassLists {
     pub fn front(&self, c: u32, which: Which, steps: &mut Steps) -> Option<u32>
         requires class { c < self.now.classes }
         ensures front { result ≡ slice_get (pages_in self.now c which) 0 }
+        ensures found { IfSome result (Contains (pages_in self.now c which)) }
+        ensures none { IsNone result ↔ (pages_in self.now c which ≡ []) }
         ensures kept { AreApart self.now }
         ensures steps { RoseBy steps.old steps.new 1 }
     {
@@ -123,6 +127,8 @@ impl ClassLists {
         ensures lists { self.new ≡ with_list self.old c which (without page (pages_in self.old c which)) }
         ensures list { pages_in self.new c which ≡ without page (pages_in self.old c which) }
         ensures len { length (pages_in self.new c which) + 1 ≡ length (pages_in self.old c which) }
+        ensures within { page < self.new.pages }
+        ensures unlisted { IsUnlisted self.new page }
         ensures others { KeepsOthers self.old self.new c which }
         ensures kept { AreApart self.new }
         ensures steps { RoseBetween steps.old steps.new 1 4 }
@@ -154,10 +160,9 @@ impl Links {
         ensures previous { self.new.previous.items ≡ slice_set self.old.previous.items after before }
         ensures steps { RoseBetween steps.old steps.new 1 2 }
     {
+        steps.tick(2);
         self.next[before as usize] = after;
-        steps.tick(1);
         self.previous[after as usize] = before;
-        steps.tick(1);
     }
 }
 

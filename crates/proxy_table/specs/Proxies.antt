@@ -13,6 +13,14 @@ pub record Proxies : Type 0 where
 abbrev pub no_proxies : ℕ → Proxies
 no_proxies limit = record { limit = limit; places = map.empty }
 
+-- a number is live, and this is its address
+abbrev pub with_place : Proxies → ℕ → ℕ → Proxies
+with_place proxies number place = record proxies { places = map.insert proxies.places number place }
+
+-- a number is live no more
+abbrev pub without_place : Proxies → ℕ → Proxies
+without_place proxies number = record proxies { places = map.remove proxies.places number }
+
 -- each live number is below the limit, so there are no more than that
 pub record AreBelowLimit (proxies : Proxies) : Type 0 where
   pub below : (number place : ℕ) → map.get proxies.places number ≡ Some place → number < proxies.limit

@@ -1,10 +1,10 @@
 //! Numbers of objects to addresses: the one place where a move is told.
 #![tactic(auto)]
 
-ghost use Rattle.std.specs.Prelude.{◌≡◌, ◌<◌, ◌↔◌, IfNone, IfOk, IfSome, IsNone, IsSome, None};
+ghost use Rattle.std.specs.Prelude.{◌≡◌, ◌<◌, ◌↔◌, IfNone, IfOk, IfSome, IsNone, IsSome, None, Some};
 ghost use Rattle.std.specs.FinMap as map;
 ghost use Rattle.step_ledger.specs.Counting.{RoseBetween, RoseBy};
-ghost use Rattle.proxy_table.specs.Proxies.{AreBelowLimit, no_proxies};
+ghost use Rattle.proxy_table.specs.Proxies.{AreBelowLimit, no_proxies, with_place, without_place};
 ghost use Rattle.proxy_table.specs.Layout.{IsFalling, vacant};
 
 use cf_base::{Handle, OutOfMemory};
@@ -38,7 +38,8 @@ impl Model for ProxyTable {
 impl ProxyTable {
     /// A table of n numbers, none of them live.
     pub fn new(alloc: Global, n: u32) -> Result<ProxyTable, OutOfMemory>
-        ensures { IfOk result (λ table. table ≡ no_proxies n) }
+        ensures none { IfOk result (λ table. table ≡ no_proxies n) }
+        ensures kept { IfOk result AreBelowLimit }
     {
         let Ok(places) = vacancies(alloc, n) else {
             return Err(OutOfMemory);
@@ -83,7 +84,8 @@ impl ProxyTable {
         ensures within { IfSome result (λ h. h.0 < self.old.limit) }
 
         ensures full { IfNone result (self.new ≡ self.old) }
-        ensures places { IfSome result (λ h. self.new ≡ record self.old { places = map.insert self.old.places h.0 addr }) }
+        ensures places { IfSome result (λ h. self.new ≡ with_place self.old h.0 addr) }
+        ensures live { IfSome result (λ h. map.get self.new.places h.0 ≡ Some addr) }
         ensures kept { AreBelowLimit self.new }
 
         ensures steps { RoseBetween steps.old steps.new 1 2 }
@@ -102,7 +104,7 @@ impl ProxyTable {
     /// Gives a live number another address.
     pub fn rebind(&mut self, h: Handle, addr: u32, steps: &mut Steps)
         requires live { IsSome (map.get self.old.places h.0) }
-        ensures places { self.new ≡ record self.old { places = map.insert self.old.places h.0 addr } }
+        ensures places { self.new ≡ with_place self.old h.0 addr }
         ensures kept { AreBelowLimit self.new }
         ensures steps { RoseBy steps.old steps.new 1 }
     {
@@ -113,7 +115,7 @@ impl ProxyTable {
     /// Takes a live number back; it is the next to be given out.
     pub fn release(&mut self, h: Handle, steps: &mut Steps)
         requires live { IsSome (map.get self.old.places h.0) }
-        ensures places { self.new ≡ record self.old { places = map.remove self.old.places h.0 } }
+        ensures places { self.new ≡ without_place self.old h.0 }
         ensures kept { AreBelowLimit self.new }
         ensures steps { RoseBetween steps.old steps.new 1 2 }
     {

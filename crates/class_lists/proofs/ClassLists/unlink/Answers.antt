@@ -1,5 +1,6 @@
-use Rattle.std.proofs.Common.{◌+◌, arith, refl, ap, length, ◌∙◌, rules}
-use Rattle.class_lists.proofs.Views.{listed_within, before_inside, after_inside, some_page, shorter, counted, unlinked}
+use Rattle.std.proofs.Common.{sym, subst, ◌+◌, arith, refl, ap, length, ◌∙◌, rules}
+use Rattle.class_lists.proofs.Views.{listed_within, page_within, before_inside, after_inside, some_page, shorter, unlisted_now, counted, unlinked}
+use Rattle.class_lists.specs.PageLists.{PageLists, IsUnlisted}
 use Rattle.class_lists.proofs.ClassLists.unlink.Goals as goal
 
 pub index-before-requires : goal.index-before-requires
@@ -44,4 +45,14 @@ returns c =
     c.index-before.result.now c.index-after.result.now c.index-before.ensures c.index-after.ensures
     c.index_mut.result.now _ _ _ c.index_mut.ensures.value c.join.ensures.next c.join.ensures.previous refl in
     let fewer = shorter _ _ _ _ c.self.invariant _ c.self.view_is c.args.c c.args.which _ refl c.requires.class c.args.page c.requires.listed in
-    record { lists = all.lists; list = all.list; len = ap (λ xs. length xs + 1) all.list ∙ fewer; others = all.others; kept = all.kept; steps = search rules }
+    let out = unlisted_now _ _ _ _ c.self.invariant _ c.self.view_is c.args.c c.args.which _ refl c.requires.class c.args.page c.requires.listed in
+    record {
+      lists = all.lists;
+      list = all.list;
+      len = ap (λ xs. length xs + 1) all.list ∙ fewer;
+      within = page_within _ _ _ _ c.self.invariant _ c.self.view_is c.args.c c.args.which _ refl c.requires.class c.args.page c.requires.listed;
+      unlisted = subst (λ (v : PageLists). IsUnlisted v c.args.page) (sym all.lists) out;
+      others = all.others;
+      kept = all.kept;
+      steps = search rules;
+    }
