@@ -1,0 +1,2 @@
+//! Arrangements of objects on pages, and their laws.
+#![tactic(auto)]
