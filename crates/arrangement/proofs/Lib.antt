@@ -1,0 +1,10 @@
+pub mod Counting
+pub mod Placing
+pub mod Freeing
+pub mod Totals
+pub mod PageCounts
+pub mod FreeSteps
+pub mod PageLaws
+pub mod Images
+pub mod ImageSteps
+pub mod Reading
