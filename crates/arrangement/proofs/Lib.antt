@@ -8,3 +8,8 @@ pub mod PageLaws
 pub mod Images
 pub mod ImageSteps
 pub mod Reading
+pub mod Room
+pub mod RoomAtOne
+pub mod Sizes
+pub mod Resizing
+pub mod Parts
