@@ -27,7 +27,7 @@ module _ (extent : ℕ → ℕ) (m : Held) (words : List ℕ) (im : IsImageOver 
   -- a malloc writes the header alone
   pub image_malloc : (a n : ℕ) → get m h ≡ None → a < length words → 0 < extent n → ((q : ℕ) (y : Placed) → get m q ≡ Some y → IsDisjoint a (extent n) y.place (extent (length y.bytes))) → IsImageOver extent (insert m h (record { place = a; bytes = replicate n 0 })) (set words a (header_word h n))
   image_malloc a n none lt some free =
-      let size : length (replicate n 0) ≡ n = length-replicate {A = ℕ} n 0 in
+      let size : length (replicate {A = ℕ} n 0) ≡ n = length-replicate {A = ℕ} n 0 in
       image_added extent m words (set words a (header_word h n)) im h (record { place = a; bytes = replicate n 0 }) none
         (λ q y p ne. rw length-replicate (free q y p))
         (record {
@@ -40,8 +40,8 @@ module _ (extent : ℕ → ℕ) (m : Held) (words : List ℕ) (im : IsImageOver 
       written (suc i) l = get_or-set_other words a (a + suc i) (header_word h n) 0 (omega arith) ∙ free_words a (extent n) free (suc i) l ∙ sym (fresh_word h n i)
 
   module _ (words' : List ℕ) where
-    -- other bytes at the same place, as many
-    pub image_written : (x : Placed) (bytes : List ℕ) → get m h ≡ Some x → IsApartFrom extent m h x → length bytes ≡ length x.bytes → Rewrites words words' (record { from = x.place; count = extent (length x.bytes) }) (object_word h bytes) → IsImageOver extent (insert m h (record { place = x.place; bytes = bytes })) words'
+    -- other bytes at the same place, in as many words
+    pub image_written : (x : Placed) (bytes : List ℕ) → get m h ≡ Some x → IsApartFrom extent m h x → extent (length bytes) ≡ extent (length x.bytes) → Rewrites words words' (record { from = x.place; count = extent (length x.bytes) }) (object_word h bytes) → IsImageOver extent (insert m h (record { place = x.place; bytes = bytes })) words'
     image_written x bytes is-x free len re =
         image_replaced extent m words words' im h x (record { place = x.place; bytes = bytes }) is-x free (λ q y p ne. rw len (free q y p ne))
           (λ i l. re.within i (rw len at l))

@@ -13,3 +13,4 @@ pub mod RoomAtOne
 pub mod Sizes
 pub mod Resizing
 pub mod Parts
+pub mod SlotImages
