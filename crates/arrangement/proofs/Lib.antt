@@ -15,3 +15,5 @@ pub mod Resizing
 pub mod Parts
 pub mod SlotImages
 pub mod Frames
+pub mod Writing
+pub mod Addresses

@@ -19,7 +19,7 @@ use Rattle.cf_lemmas.proofs.MapValues.{get-map_values}
 use Rattle.arrangement.specs.Bytes.{byte_of, bytes_at, held_at, AreBytes}
 
 -- byte j of the word of some bytes
-byte_of_word : (bs : List ℕ) (j : ℕ) → AreBytes bs → byte_of j (word_of_bytes bs) ≡ get_or bs j 0
+pub byte_of_word : (bs : List ℕ) (j : ℕ) → AreBytes bs → byte_of j (word_of_bytes bs) ≡ get_or bs j 0
 byte_of_word [] zero b = refl
 byte_of_word [] (suc j) b = byte_of_word [] j b
 byte_of_word (x ∷ bs) zero b = (let small : x < 256 = b 0 in omega arith)

@@ -25,4 +25,4 @@ AreBytes v = (i : ℕ) → slice_index v i < 256
 
 -- the bytes v with `bytes` written over them from `at` on
 abbrev pub written : List ℕ → ℕ → List ℕ → List ℕ
-written v at bytes = take at v ++ bytes ++ drop (at + length bytes) v
+written v at bytes = take at v ++ (bytes ++ drop (at + length bytes) v)
