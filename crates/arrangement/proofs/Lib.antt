@@ -8,7 +8,7 @@ pub mod PageLaws
 pub mod Images
 pub mod ImageSteps
 pub mod Reading
-pub mod Room
+pub mod Lacking
 pub mod RoomAtOne
 pub mod Sizes
 pub mod Resizing
@@ -17,3 +17,5 @@ pub mod SlotImages
 pub mod Frames
 pub mod Writing
 pub mod Addresses
+pub mod Nothing
+pub mod BlockSteps

@@ -129,15 +129,30 @@ greatest_least test (suc top) p le is = go (test (suc top)) refl (λ le. greates
       | inr ne ↦ omega arith
     ]))
 
-greatest_passes : (test : ℕ → Bool) (top : ℕ) → test 0 ≡ true → test (greatest test top) ≡ true
-greatest_passes test zero z = z
-greatest_passes test (suc top) z = go (test (suc top)) refl (greatest_passes test top z)
-  where
-    go : (b : Bool) → test (suc top) ≡ b → test (greatest test top) ≡ true → test (greatest test (suc top)) ≡ true
-    go true e ih = rw (e, greatest) e
-    go false e ih = rw (e, greatest) ih
-
 -- most_pages is at least each number of pages that the objects can stand on
 pub most_pages_least : (p n m k : ℕ) → 0 < m → CanHold p n m k → p ≤ most_pages n m k
 unfolding most_pages
 most_pages_least p n m k pos can = greatest_least (λ p. can_hold p n m k) (n / m + k) p (can_hold_bound p n m k pos can) (tested p n m k can)
+
+greatest_passes : (test : ℕ → Bool) (top p : ℕ) → p ≤ top → test p ≡ true → test (greatest test top) ≡ true
+greatest_passes test zero p le is = (let e : p ≡ 0 = omega arith in rw e at is)
+greatest_passes test (suc top) p le is = go (test (suc top)) refl (λ le. greatest_passes test top p le is)
+  where
+    go : (b : Bool) → test (suc top) ≡ b → (p ≤ top → test (greatest test top) ≡ true) → test (greatest test (suc top)) ≡ true
+    go true e ih = rw (e, greatest) e
+    go false e ih = rw (e, greatest) (ih (elim (cases_eq p (suc top)) [
+      | inl same ↦ absurd (let t : test (suc top) ≡ true = rw (← same) is in false≢true (sym e ∙ t))
+      | inr ne ↦ omega arith
+    ]))
+
+-- objects can stand on most_pages
+pub most_pages_reached : (n m k : ℕ) → 0 < m → 0 < k → CanHold (most_pages n m k) n m k
+unfolding most_pages
+most_pages_reached n m k pos some =
+    let one = one_can_hold (ceil_div n m) n m pos refl in
+    let wider : CanHold (ceil_div n m) n m k = widen one in
+    test_tells (greatest (λ p. can_hold p n m k) (n / m + k)) n m k
+      (greatest_passes (λ p. can_hold p n m k) (n / m + k) (ceil_div n m) (can_hold_bound (ceil_div n m) n m k pos wider) (tested (ceil_div n m) n m k wider))
+  where
+    widen : CanHold (ceil_div n m) n m 1 → CanHold (ceil_div n m) n m k
+    widen (q, s) = (q, record { few = omega (arith, s.few); within = s.within; least = s.least; most = s.most })

@@ -28,6 +28,10 @@ malloc_objects m h a n = map_values-insert (λ (x : Placed). x.bytes) m h (zeros
 pub malloc_places : (m : Held) (h a n : ℕ) → places (insert m h (zeros_at a n)) ≡ insert (places m) h a
 malloc_places m h a n = map_values-insert (λ (x : Placed). x.place) m h (zeros_at a n)
 
+-- a free that moves nothing changes no other place
+pub still_places : (m : Held) (h a : ℕ) → places (without m h a None) ≡ remove (places m) h
+still_places m h a = map_values-remove (λ (x : Placed). x.place) m h
+
 module _ (p : Paging) (ok : IsPaging p) (m : Held) (s : IsSound p m) (h : ℕ) (x : Placed) (found : get m h ≡ Some x) where
   -- a free takes one object's bytes away, and changes no others
   pub free_objects : (moved : Option ℕ) → Moves p m x moved → objects (without m h x.place moved) ≡ remove (objects m) h
@@ -36,10 +40,6 @@ module _ (p : Paging) (ok : IsPaging p) (m : Held) (s : IsSound p m) (h : ℕ) (
       let ne = mover_is_other p ok m s h x found q y there must may in
       let still : get (remove (objects m) h) q ≡ Some y.bytes = get_remove_other (objects m) h q ne ∙ get-map_values (λ (x : Placed). x.bytes) m q ∙ ap (option_map (λ (x : Placed). x.bytes)) there in
       rw there (map_values-insert (λ (x : Placed). x.bytes) (remove m h) q _ ∙ ap (λ o. insert o q y.bytes) (map_values-remove (λ (x : Placed). x.bytes) m h) ∙ inserted_there (remove (objects m) h) q y.bytes still)
-
-  -- a free that moves nothing changes no other place
-  pub free_places : places (without m h x.place None) ≡ remove (places m) h
-  free_places = map_values-remove (λ (x : Placed). x.place) m h
 
   module _ (q : ℕ) (y : Placed) (there : get m q ≡ Some y) (must : MustMove p m x) (may : MayFill p m x y) where
     -- what moves takes the freed place, and no other place changes

@@ -65,6 +65,16 @@ module _ (p : Paging) (ok : IsPaging p) (old : Held) (s : IsSound p old) (h n a 
   moves_still None never = λ m. never (must_before m)
   moves_still (Some q) (must, (y, there, may)) = (must_still must, (y, (still old spare new unused q y there).1, may_still y may))
 
+  moves_before : (moved : Option ℕ) → Moves p with_both x moved → Moves p old x moved
+  moves_before None never = λ m. never (must_still m)
+  moves_before (Some q) (must, (y, there, may)) =
+      let ne : q ≢ spare = (λ e. other (
+        let there' : get with_both spare ≡ Some y = rw e at there in
+        let z : Some new ≡ Some y = sym (get_inserted old spare new) ∙ there' in
+        let same : ◌≡◌ {A = Placed} new y = cc in
+        sym (class-resized p a n x) ∙ ap (class_at p) same ∙ may.class)) in
+      (must_before must, (y, sym (get_insert_other old spare new q ne) ∙ there, record { class = may.class; not_full = (let e = same_on (page_of p y.place) in rw e at may.not_full) }))
+
   -- what a move leaves of the new object, and of the number that is free
   new_stays : IsFreePlace p old n a → (moved : Option ℕ) → Moves p with_both x moved
     → (get (without with_both h x.place moved) spare ≡ Some new) × (get (without with_both h x.place moved) h ≡ None)
@@ -134,6 +144,20 @@ changes_class p ok old s h n a spare x moved found other unused free moves = rec
   };
   renamed = equal_maps _ _ (λ q. sym (no_trace p ok old s h n a spare x found other unused q moved moves));
 }
+
+-- and every resize to another class is of this kind
+pub change_is : (p : Paging) → IsPaging p → (old : Held) → IsSound p old → (asked : Request) (after : Outcome) (r : ChangesClass p old asked after)
+  → Moves p old r.object after.moved × (after.held ≡ insert (without old asked.number r.object.place after.moved) asked.number (resized_at r.place r.object asked.length))
+change_is p ok old s asked after r =
+    let f = r.freed in
+    let still' = found_still p ok old s asked.number asked.length r.place r.spare r.object r.found r.other r.unused in
+    let same : Some f.freed ≡ Some r.object = sym f.found ∙ still' in
+    let is : f.freed ≡ r.object = cc in
+    let moves : Moves p (insert old r.spare (resized_at r.place r.object asked.length)) r.object after.moved = subst (λ y. Moves p (insert old r.spare (resized_at r.place r.object asked.length)) y after.moved) is f.moves in
+    let left : r.left ≡ without (insert old r.spare (resized_at r.place r.object asked.length)) asked.number r.object.place after.moved = f.left ∙ ap (λ (y : Placed). without (insert old r.spare (resized_at r.place r.object asked.length)) asked.number y.place after.moved) is in
+    let before = moves_before p ok old s asked.number asked.length r.place r.spare r.object r.found r.other r.unused after.moved moves in
+    (before, r.renamed ∙ ap (λ l. insert (remove l r.spare) asked.number (resized_at r.place r.object asked.length)) left
+      ∙ equal_maps _ _ (λ q. no_trace p ok old s asked.number asked.length r.place r.spare r.object r.found r.other r.unused q after.moved before))
 
 -- a resize keeps the arrangement sound
 pub sound_resize : (p : Paging) (old : Held) (asked : Request) (after : Outcome) → IsPaging p → IsSound p old → IsResizeStep p old asked after → IsSound p after.held

@@ -14,7 +14,7 @@ use Rattle.arrangement.proofs.Counting.{eq_yes, eq_no}
 use Rattle.arrangement.proofs.Totals.{sum_same}
 use Rattle.arrangement.proofs.PageCounts.{slots_some, sound_stand, sound_can_hold}
 use Rattle.arrangement.proofs.PageLaws.{between_multiples, can_hold_one}
-use Rattle.arrangement.proofs.Room.{sum_range, sum_changed, used_le, none_free, all_taken}
+use Rattle.arrangement.proofs.Lacking.{sum_range, sum_changed, used_le, none_free, all_taken}
 
 -- one object more takes a page more exactly where all pages are full
 next_page : (h n m q : ℕ) → 0 < m → Stand h n m 1 q → ceil_div (n + 1) m ≡ h + (1 - q)

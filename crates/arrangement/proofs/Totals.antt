@@ -68,7 +68,7 @@ module _ (p : Paging) (c : ℕ) where
   unfolding live
   live_is m = sum-map_values (λ (x : Placed). x.bytes) (λ v. one (nat_eq (class_for p (length v)) c)) m
 
-  on_none : (page : ℕ) → objects_on p empty c page ≡ 0
+  pub on_none : (page : ℕ) → objects_on p empty c page ≡ 0
   unfolding objects_on
   on_none page = ap (count_by (is_on p c page)) no_values
 
