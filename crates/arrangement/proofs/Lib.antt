@@ -19,3 +19,4 @@ pub mod Writing
 pub mod Addresses
 pub mod Nothing
 pub mod BlockSteps
+pub mod Adding

@@ -11,12 +11,12 @@ use Rattle.std.specs.Cmp.{nat_cmp_total}
 use Rattle.std.specs.FinMap.{FinMap, get, entries, entries_sorted, from_sorted, get-from_sorted, get-entries, is_sorted, find, same_map, nat_cmp-IsAntisymmetric}
 use Rattle.std.specs.FinMap.Entries.{below_all}
 use Rattle.cf_base.specs.Classes.{need}
-use Rattle.arrangement.specs.Held.{Held, Placed}
+use Rattle.arrangement.specs.Held.{Held, Placed, places}
 use Rattle.cf_lemmas.specs.Maps.{map_values}
 use Rattle.arrangement.specs.Image.{object_word, word_of_bytes, IsImageOver}
 use Rattle.cf_lemmas.proofs.Maps.{equal_maps}
 use Rattle.cf_lemmas.proofs.MapValues.{get-map_values}
-use Rattle.arrangement.specs.Bytes.{byte_of, bytes_at, held_at, AreBytes}
+use Rattle.arrangement.specs.Bytes.{byte_of, bytes_at, held_at, AreBytes, AreStorable}
 
 -- byte j of the word of some bytes
 pub byte_of_word : (bs : List ℕ) (j : ℕ) → AreBytes bs → byte_of j (word_of_bytes bs) ≡ get_or bs j 0
@@ -54,10 +54,8 @@ bytes_of_held words h a v small bytes held =
       ∙ get_or-take 8 (drop (8 * (k / 8)) v) (k % 8) 0 (omega arith) ∙ get_or-drop (8 * (k / 8)) v (k % 8) 0 ∙ ap (λ x. get_or v x 0) back)
 
 -- what is held is determined by the words and the places
-pub held_from_image : (m : Held) (places : FinMap nat_cmp ℕ) (words : List ℕ) → IsImageOver need m words → places ≡ map_values (λ (x : Placed). x.place) m
-  → ((h : ℕ) (x : Placed) → get m h ≡ Some x → (h < 2 ^ 32) × AreBytes x.bytes)
-  → held_at words places ≡ m
-held_from_image m places words im e good = equal_maps _ _ (λ q. get-map_values (λ a. record { place = a; bytes = bytes_at words a }) places q ∙ ap (λ p. option_map (λ a. record { place = a; bytes = bytes_at words a }) (get p q)) e ∙ ap (option_map (λ a. record { place = a; bytes = bytes_at words a })) (get-map_values (λ (x : Placed). x.place) m q) ∙ go q (get m q) refl)
+pub held_from_image : (m : Held) (at : FinMap nat_cmp ℕ) (words : List ℕ) → IsImageOver need m words → at ≡ places m → AreStorable m → held_at words at ≡ m
+held_from_image m at words im e good = equal_maps _ _ (λ q. get-map_values (λ a. record { place = a; bytes = bytes_at words a }) at q ∙ ap (λ p. option_map (λ a. record { place = a; bytes = bytes_at words a }) (get p q)) e ∙ ap (option_map (λ a. record { place = a; bytes = bytes_at words a })) (get-map_values (λ (x : Placed). x.place) m q) ∙ go q (get m q) refl)
   where
     go : (q : ℕ) (o : Option Placed) → get m q ≡ o → option_map (λ a. record { place = a; bytes = bytes_at words a }) (option_map (λ (x : Placed). x.place) o) ≡ o
     go q None f = refl
@@ -74,3 +72,21 @@ bytes_at-AreBytes words a i = elim (cases_lt i (get_or words a 0 / 2 ^ 32)) [
   | inl lt ↦ rw (get_or-map-range_with_len (λ i. byte_of (i % 8) (get_or words (a + 1 + i / 8) 0)) 0 (get_or words a 0 / 2 ^ 32) i i 0 lt (omega arith)) (below_256 (i % 8) (get_or words (a + 1 + i / 8) 0))
   | inr past ↦ rw (get_or_past (bytes_at words a) i 0 (simp length-map-range_with_len past)) (lit< tt)
 ]
+
+-- what stands at the places has these places, and bytes
+pub places-held_at : (words : List ℕ) (at : FinMap nat_cmp ℕ) → places (held_at words at) ≡ at
+places-held_at words at = equal_maps _ _ (λ q. get-map_values (λ (x : Placed). x.place) (held_at words at) q ∙ ap (option_map (λ (x : Placed). x.place)) (get-map_values (λ a. record { place = a; bytes = bytes_at words a }) at q) ∙ go (get at q))
+  where
+    go : (o : Option ℕ) → option_map (λ (x : Placed). x.place) (option_map (λ a. record { place = a; bytes = bytes_at words a }) o) ≡ o
+    go None = refl
+    go (Some a) = refl
+
+pub held_at_is : (words : List ℕ) (at : FinMap nat_cmp ℕ) (q : ℕ) (y : Placed) → get (held_at words at) q ≡ Some y → (get at q ≡ Some y.place) × (y.bytes ≡ bytes_at words y.place)
+held_at_is words at q y e = go (get at q) refl (sym (get-map_values (λ a. record { place = a; bytes = bytes_at words a }) at q) ∙ e)
+  where
+    go : (o : Option ℕ) → get at q ≡ o → option_map (λ a. record { place = a; bytes = bytes_at words a }) o ≡ Some y → (get at q ≡ Some y.place) × (y.bytes ≡ bytes_at words y.place)
+    go None e f = absurd (let f' : ◌≡◌ {A = Option Placed} None (Some y) = f in cc)
+    go (Some a) e f = (let same : ◌≡◌ {A = Placed} (record { place = a; bytes = bytes_at words a }) y = cc in (rw (← same) e, rw (← same) refl))
+
+pub held_at_bytes : (words : List ℕ) (at : FinMap nat_cmp ℕ) (q : ℕ) (y : Placed) → get (held_at words at) q ≡ Some y → AreBytes y.bytes
+held_at_bytes words at q y e = (let b = (held_at_is words at q y e).1 in rw b (bytes_at-AreBytes words y.place))

@@ -46,7 +46,7 @@ count_at a n c lt =
 
 -- sums over the values of a map with a function of each
 module _ {X Y : Type 0} (g : X → Y) (f : Y → ℕ) where
-  map_values-empty : map_values g (empty {R = nat_cmp}) ≡ empty {R = nat_cmp}
+  pub map_values-empty : map_values g (empty {R = nat_cmp}) ≡ empty {R = nat_cmp}
   map_values-empty = equal_maps _ _ (λ q. get-map_values g (empty {R = nat_cmp}) q ∙ ap (option_map g) (get-empty nat_cmp q) ∙ sym (get-empty nat_cmp q))
 
   pub sum-map_values : (m : FinMap nat_cmp X) → sum_by f (values (map_values g m)) ≡ sum_by (λ x. f (g x)) (values m)

@@ -1,17 +1,18 @@
 -- Bytes in words: reading one, writing some, and the word of eight bytes.
-use Rattle.std.proofs.Common.{◌≡◌, ◌≢◌, ℕ, zero, suc, ◌+◌, ◌-◌, ◌*◌, ◌/◌, ◌%◌, ◌^◌, ◌<◌, ◌≤◌, List, [], ◌∷◌, ◌++◌, Some, length, get_or, replicate, take, drop, min, arith, lit<, sym, ◌∙◌, subst, inl, inr, ap, refl, length-append, length-drop}
+use Rattle.std.proofs.Common.{◌≡◌, ◌≢◌, ℕ, zero, suc, ◌+◌, ◌-◌, ◌*◌, ◌/◌, ◌%◌, ◌^◌, ◌<◌, ◌≤◌, List, [], ◌∷◌, ◌++◌, Option, Some, None, length, get_or, replicate, take, drop, min, arith, lit<, sym, ◌∙◌, subst, inl, inr, ap, refl, length-append, length-drop}
 use Rattle.std.specs.Prelude.{◌⊎◌}
 use Rattle.std.proofs.lemmas.List.{length-take, length-replicate, get_or-take, get_or-drop, get_or_append_left, get_or-append_right, get_or_past, get_or-replicate}
 use Rattle.std.proofs.lemmas.Bool.{cases_lt}
 use Rattle.std.proofs.lemmas.Grind.{same_number_lists}
-use Rattle.std.specs.FinMap.{get, insert}
+use Rattle.std.specs.FinMap.{get, insert, remove}
+use Rattle.cf_lemmas.proofs.Maps.{some_inserted, some_removed}
 use Rattle.cf_base.specs.Classes.{need}
 use Rattle.arrangement.specs.Held.{Held, Placed}
 use Rattle.arrangement.specs.Paging.{Paging, IsPaging, class_for}
 use Rattle.arrangement.specs.Arrangement.{IsSound}
 use Rattle.arrangement.specs.Image.{object_word, header_word, word_of_bytes, IsImage, IsSlotImage, IsOutside, Rewrites}
-use Rattle.arrangement.specs.Bytes.{byte_of, AreBytes, written}
-use Rattle.arrangement.specs.Steps.{resized}
+use Rattle.arrangement.specs.Bytes.{byte_of, AreBytes, AreStorable, written}
+use Rattle.arrangement.specs.Steps.{resized, moved_to, without}
 use Rattle.arrangement.proofs.Reading.{byte_of_word, bytes_part}
 use Rattle.arrangement.proofs.Resizing.{length-resized}
 use Rattle.arrangement.proofs.Sizes.{class_holds}
@@ -168,3 +169,21 @@ image_after_bytes p ok m s words im h x e words' at bytes fits re =
     same zero out = ap (header_word h) (length-written x.bytes at bytes fits)
     same (suc i) (inl l) = words_kept x.bytes at bytes fits h i (inl (omega arith))
     same (suc i) (inr r) = words_kept x.bytes at bytes fits h i (inr (omega arith))
+
+-- what can be stored, after an object comes or goes
+pub storable_added : (m : Held) (h : ℕ) (x : Placed) → AreStorable m → h < 2 ^ 32 → AreBytes x.bytes → AreStorable (insert m h x)
+storable_added m h x good small bytes q y e = elim (some_inserted m h x q y e) [
+  | inl (is, same) ↦ (rw is small, rw (← same) bytes)
+  | inr (_, was) ↦ good q y was
+]
+
+pub storable_taken : (m : Held) (h : ℕ) → AreStorable m → AreStorable (remove m h)
+storable_taken m h good q y e = good q y (some_removed m h q y e).1
+
+pub storable_without : (m : Held) (h a : ℕ) (moved : Option ℕ) → AreStorable m → AreStorable (without m h a moved)
+storable_without m h a None good = storable_taken m h good
+storable_without m h a (Some q) good = go (get m q) refl
+  where
+    go : (o : Option Placed) → get m q ≡ o → AreStorable (moved_to (remove m h) q o a)
+    go None e = storable_taken m h good
+    go (Some y) e = storable_added (remove m h) q (record { place = a; bytes = y.bytes }) (storable_taken m h good) (good q y e).0 (good q y e).1

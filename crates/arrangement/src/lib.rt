@@ -6,6 +6,7 @@
 mod blocks;
 mod classes;
 mod counts;
+mod figures;
 mod room;
 mod soundness;
 mod words;
@@ -19,6 +20,9 @@ pub use counts::{
     can_hold_is_a_test, most_pages_is_the_greatest, one_page_count_at_bound_one,
     pages_are_within_the_bound,
 };
+pub use figures::{
+    figures_where_an_object_comes, figures_where_an_object_goes, pages_and_objects_add_up,
+};
 pub use room::{
     lack_of_room_is_arithmetic_at_bound_one, lack_of_room_is_no_page_left,
     pages_where_room_is_lacking, pages_are_those_needed_at_bound_one,
@@ -30,6 +34,6 @@ pub use soundness::{
     page_counts_of_a_sound_arrangement,
 };
 pub use words::{
-    a_part_is_written, a_word_is_its_bytes, bytes_are_read_back, words_after_a_free,
+    a_part_is_written, a_word_is_its_bytes, bytes_are_read_back, objects_stay_storable, what_stands_at_places, words_after_a_free,
     words_after_a_malloc, words_after_a_write, words_are_one_list, words_tell_what_is_held,
 };

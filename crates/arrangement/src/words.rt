@@ -1,13 +1,13 @@
 //! The words of a region that holds objects, after each step.
-ghost use Rattle.std.specs.Prelude.{ℕ, ◌≡◌, ◌+◌, ◌*◌, ◌/◌, ◌%◌, ◌^◌, ◌<◌, ◌≤◌, List, Some, None, length, replicate, slice_index, slice_set};
+ghost use Rattle.std.specs.Prelude.{ℕ, ◌≡◌, ◌+◌, ◌*◌, ◌/◌, ◌%◌, ◌^◌, ◌<◌, ◌≤◌, List, Option, Some, None, length, replicate, slice_index, slice_set};
 ghost use Rattle.std.specs.FinMap.{FinMap, empty, get, insert, remove};
 ghost use Rattle.std.specs.Ordering.{nat_cmp};
 ghost use Rattle.arrangement.specs.Arrangement.{IsSound, class_at};
-ghost use Rattle.arrangement.specs.Bytes.{AreBytes, byte_of, held_at, written};
+ghost use Rattle.arrangement.specs.Bytes.{AreBytes, AreStorable, byte_of, bytes_at, held_at, written};
 ghost use Rattle.arrangement.specs.Held.{Held, Placed, places};
 ghost use Rattle.arrangement.specs.Image.{Clears, IsImage, IsSlotImage, MovesWords, Rewrites, header_word, object_word, slot_for};
 ghost use Rattle.arrangement.specs.Paging.{IsPaging, Paging, class_for};
-ghost use Rattle.arrangement.specs.Steps.{IsFreePlace, MayFill, MustMove, zeros_at};
+ghost use Rattle.arrangement.specs.Steps.{IsFreePlace, MayFill, MustMove, resized, without, zeros_at};
 
 /// The words of a region are determined by its objects; those of an empty one are zeros. What is
 /// said of whole slots holds of the objects' own words.
@@ -84,8 +84,42 @@ pub fn words_after_a_free()
 pub fn words_tell_what_is_held()
     ensures {
         (m : Held) (at : FinMap nat_cmp ℕ) (words : List ℕ) → IsImage m words → at ≡ places m
-        → ((h : ℕ) (x : Placed) → get m h ≡ Some x → (h < 2 ^ 32) × AreBytes x.bytes)
-        → held_at words at ≡ m
+        → AreStorable m → held_at words at ≡ m
+    }
+{
+}
+
+/// What stands at the places has these places, and the bytes that the words tell.
+pub fn what_stands_at_places()
+    ensures places {
+        (words : List ℕ) (at : FinMap nat_cmp ℕ) → places (held_at words at) ≡ at
+    }
+    ensures found {
+        (words : List ℕ) (at : FinMap nat_cmp ℕ) (h : ℕ) (x : Placed)
+        → get (held_at words at) h ≡ Some x
+        → (get at h ≡ Some x.place) × (x.bytes ≡ bytes_at words x.place)
+    }
+    ensures bytes {
+        (words : List ℕ) (at : FinMap nat_cmp ℕ) (h : ℕ) (x : Placed)
+        → get (held_at words at) h ≡ Some x → AreBytes x.bytes
+    }
+{
+}
+
+/// Objects stay such that words can tell of them.
+pub fn objects_stay_storable()
+    ensures comes {
+        (m : Held) (h : ℕ) (x : Placed) → AreStorable m → h < 2 ^ 32 → AreBytes x.bytes
+        → AreStorable (insert m h x)
+    }
+    ensures goes {
+        (m : Held) (h a : ℕ) (moved : Option ℕ) → AreStorable m → AreStorable (without m h a moved)
+    }
+    ensures zeros { (n : ℕ) → AreBytes (replicate n 0) }
+    ensures resized { (v : List ℕ) (n : ℕ) → AreBytes v → AreBytes (resized v n) }
+    ensures written {
+        (v : List ℕ) (at : ℕ) (bytes : List ℕ) → at + length bytes ≤ length v
+        → AreBytes v → AreBytes bytes → AreBytes (written v at bytes)
     }
 {
 }
