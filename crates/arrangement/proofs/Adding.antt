@@ -1,9 +1,8 @@
 -- How the reports' sums change where an object comes or goes.
-use Rattle.std.proofs.Common.{◌≡◌, ℕ, cond, ◌+◌, ◌*◌, ◌≤◌, List, Some, None, length, arith, sym, ◌∙◌, ap, refl}
+use Rattle.std.proofs.Common.{◌≡◌, ℕ, ◌+◌, ◌*◌, List, Some, None, length, arith, sym, ◌∙◌, ap}
 use Rattle.std.specs.Prelude.{nat_eq, option_map}
 use Rattle.std.specs.Ordering.{nat_cmp}
-use Rattle.std.specs.FinMap.{FinMap, get, insert, remove, empty, len, len-empty, values}
-use Rattle.cf_lemmas.specs.Maps.{map_values}
+use Rattle.std.specs.FinMap.{get, insert, remove, len, len-empty}
 use Rattle.cf_lemmas.proofs.Maps.{len_fresh}
 use Rattle.cf_lemmas.proofs.MapValues.{get-map_values, map_values-insert}
 use Rattle.cf_lemmas.proofs.Sums.{sum_by-inserted, sum_by-removed}
@@ -19,8 +18,8 @@ use Rattle.arrangement.proofs.Lacking.{used_le}
 -- as many objects as are held
 pub len-objects : (m : Held) → len (objects m) ≡ len m
 len-objects = map_induction (λ m. len (objects m) ≡ len m)
-  (ap len (map_values-empty (λ (x : Placed). x.bytes) (λ v. 0)) ∙ len-empty nat_cmp (List ℕ) ∙ sym (len-empty nat_cmp Placed))
-  (λ m h x none ih. (
+    (ap len (map_values-empty (λ (x : Placed). x.bytes) (λ v. 0)) ∙ len-empty nat_cmp (List ℕ) ∙ sym (len-empty nat_cmp Placed))
+    (λ m h x none ih. (
     let n : get (objects m) h ≡ None = get-map_values (λ (x : Placed). x.bytes) m h ∙ ap (option_map (λ (x : Placed). x.bytes)) none in
     let a = len_fresh m h x none in
     let b = len_fresh (objects m) h x.bytes n in

@@ -1,7 +1,7 @@
 -- Slots by page and number, and their addresses.
-use Rattle.std.proofs.Common.{◌≡◌, ℕ, ◌+◌, ◌*◌, ◌/◌, ◌%◌, ◌<◌, ◌≤◌, arith, sym, ◌∙◌, ap, inl, inr}
+use Rattle.std.proofs.Common.{◌≡◌, ℕ, ◌+◌, ◌*◌, ◌/◌, ◌%◌, ◌<◌, ◌≤◌, arith, ap}
 use Rattle.std.proofs.lemmas.Nat.{div-add-mod', mul-le}
-use Rattle.std.proofs.Math.Nat.{mod-lt, mul-mod_left}
+use Rattle.std.proofs.Math.Nat.{mul-mod_left}
 use Rattle.arrangement.specs.Paging.{Paging, IsPaging, classes, slot_words, slots_of, page_of, address_of}
 use Rattle.arrangement.specs.Arrangement.{IsSlotAt}
 use Rattle.arrangement.proofs.PageLaws.{between_multiples}
@@ -23,7 +23,7 @@ slot_ends P size slot lt =
 module _ (p : Paging) (ok : IsPaging p) (c : ℕ) (lt : c < classes p) where
   -- the address of a slot: its page, and its number on the page
   pub address_is_slot : (page slot : ℕ) → page < p.pages → slot < slots_of p c
-    → IsSlotAt p c (address_of p c page slot) × (page_of p (address_of p c page slot) ≡ page) × (address_of p c page slot % p.page_words / slot_words p c ≡ slot)
+      → IsSlotAt p c (address_of p c page slot) × (page_of p (address_of p c page slot) ≡ page) × (address_of p c page slot % p.page_words / slot_words p c ≡ slot)
   address_is_slot page slot page_in slot_in =
       let size : 4 ≤ slot_words p c = ok.sized.least c lt in
       let ends = slot_ends p.page_words (slot_words p c) slot slot_in in

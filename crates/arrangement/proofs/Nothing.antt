@@ -1,17 +1,15 @@
 -- Nothing held is a sound arrangement, on no page, and its words are zeros.
-use Rattle.std.proofs.Common.{◌≡◌, ℕ, cond, ◌<◌, ◌≤◌, List, Some, None, length, get_or, replicate, arith, sym, ◌∙◌, ap, inl, inr, refl}
-use Rattle.std.specs.Prelude.{count_by, sum_by, nat_eq}
+use Rattle.std.proofs.Common.{◌≡◌, ℕ, Some, None, length, replicate, arith, sym, ◌∙◌, inl, inr}
 use Rattle.std.specs.List.{range_with_len}
 use Rattle.std.proofs.lemmas.Bool.{cases_lt}
 use Rattle.std.proofs.lemmas.List.{get_or-replicate, get_or_past, length-replicate}
 use Rattle.std.specs.Ordering.{nat_cmp}
-use Rattle.std.specs.FinMap.{get, empty, get-empty, values}
-use Rattle.cf_lemmas.proofs.Ranges.{one}
-use Rattle.arrangement.specs.Held.{Held, Placed}
-use Rattle.arrangement.specs.Paging.{Paging, IsPaging, classes, slots_of, bound_of, page_of}
-use Rattle.arrangement.specs.Arrangement.{is_on, objects_on, home_pages, not_full_pages, used_pages, IsSound}
+use Rattle.std.specs.FinMap.{get, empty, get-empty}
+use Rattle.arrangement.specs.Held.{Placed}
+use Rattle.arrangement.specs.Paging.{Paging, classes, slots_of}
+use Rattle.arrangement.specs.Arrangement.{objects_on, home_pages, not_full_pages, used_pages, IsSound}
 use Rattle.arrangement.specs.Image.{IsImageOver}
-use Rattle.arrangement.proofs.Counting.{no_values, part_empty, lt_no}
+use Rattle.arrangement.proofs.Counting.{part_empty, lt_no}
 use Rattle.arrangement.proofs.Totals.{sum_zeros, on_none}
 
 no_object : (h : ℕ) (x : Placed) → get {R = nat_cmp} empty h ≡ Some x → ⊥

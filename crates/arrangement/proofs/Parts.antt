@@ -1,5 +1,5 @@
 -- What the steps do to the bytes alone, to the places alone, and to the objects on each page.
-use Rattle.std.proofs.Common.{◌≡◌, ◌≢◌, ℕ, cond, ◌+◌, ◌<◌, List, Option, Some, None, length, replicate, arith, sym, ◌∙◌, inl, inr, ap, refl}
+use Rattle.std.proofs.Common.{◌≡◌, ◌≢◌, ℕ, ◌+◌, List, Option, Some, None, length, replicate, arith, sym, ◌∙◌, inl, inr, ap}
 use Rattle.std.specs.Prelude.{option_map}
 use Rattle.std.proofs.lemmas.Bool.{cases_eq}
 use Rattle.std.specs.Ordering.{nat_cmp}
@@ -7,10 +7,10 @@ use Rattle.std.specs.FinMap.{FinMap, get, insert, remove}
 use Rattle.cf_lemmas.proofs.Maps.{equal_maps, get_inserted, get_insert_other, get_removed, get_remove_other}
 use Rattle.cf_lemmas.proofs.MapValues.{get-map_values, map_values-insert, map_values-remove}
 use Rattle.cf_lemmas.proofs.Ranges.{one}
-use Rattle.arrangement.specs.Held.{Held, Objects, Placed, objects, places}
-use Rattle.arrangement.specs.Paging.{Paging, IsPaging, slots_of, page_of, class_for}
+use Rattle.arrangement.specs.Held.{Held, Placed, objects, places}
+use Rattle.arrangement.specs.Paging.{Paging, IsPaging, class_for}
 use Rattle.arrangement.specs.Arrangement.{class_at, is_on, objects_on, IsSound}
-use Rattle.arrangement.specs.Steps.{Request, Outcome, MustMove, MayFill, Moves, moved_to, without, IsMallocStep, IsFreeStep, resized, resized_at, ResizesInPlace, zeros_at}
+use Rattle.arrangement.specs.Steps.{MustMove, MayFill, Moves, without, zeros_at}
 use Rattle.arrangement.proofs.Freeing.{objects_on-removed, objects_on-exchanged}
 use Rattle.arrangement.proofs.FreeSteps.{removed_twice, mover_is_other}
 
@@ -65,7 +65,7 @@ module _ (p : Paging) (ok : IsPaging p) (m : Held) (s : IsSound p m) (h : ℕ) (
 
 -- a resize within the class changes no count
 pub in_place_counts : (p : Paging) (m : Held) (h n : ℕ) (x : Placed) → get m h ≡ Some x → class_for p n ≡ class_at p x → (v : List ℕ) → length v ≡ n
-  → (c page : ℕ) → objects_on p (insert m h (record { place = x.place; bytes = v })) c page ≡ objects_on p m c page
+    → (c page : ℕ) → objects_on p (insert m h (record { place = x.place; bytes = v })) c page ≡ objects_on p m c page
 in_place_counts p m h n x found same v len c page =
     let class : class_at p (record { place = x.place; bytes = v }) ≡ class_at p x = ap (class_for p) len ∙ same in
     let e = objects_on-exchanged p m h x found h v (get_removed m h) class c page in

@@ -1,18 +1,14 @@
 -- The bytes that stand at a place are those of the object there.
-use Rattle.std.proofs.Common.{◌≡◌, ◌≢◌, ℕ, zero, suc, Bool, true, false, cond, ◌+◌, ◌-◌, ◌*◌, ◌/◌, ◌%◌, ◌^◌, ◌<◌, ◌≤◌, List, [], ◌∷◌, Option, Some, None, length, get_or, map, take, drop, arith, lit<, sym, ◌∙◌, subst, inl, inr, ap, refl}
-use Rattle.std.specs.Prelude.{T, ◌&&◌, option_map}
-use Rattle.std.specs.List.{range_with_len}
-use Rattle.std.proofs.lemmas.List.{get_or-take, get_or-drop, get_or_past, length-drop, length-take}
+use Rattle.std.proofs.Common.{◌≡◌, ℕ, zero, suc, ◌+◌, ◌*◌, ◌/◌, ◌%◌, ◌^◌, ◌<◌, List, [], ◌∷◌, Option, Some, None, length, get_or, take, drop, arith, lit<, sym, ◌∙◌, inl, inr, ap, refl}
+use Rattle.std.specs.Prelude.{option_map}
+use Rattle.std.proofs.lemmas.List.{get_or-take, get_or-drop, get_or_past, length-take}
 use Rattle.std.proofs.lemmas.List.FromFn.{length-map-range_with_len, get_or-map-range_with_len}
 use Rattle.std.proofs.lemmas.Bool.{cases_lt}
 use Rattle.std.proofs.lemmas.Grind.{same_number_lists}
-use Rattle.std.specs.Ordering.{nat_cmp, is_lt, eq_by_cmp}
-use Rattle.std.specs.Cmp.{nat_cmp_total}
-use Rattle.std.specs.FinMap.{FinMap, get, entries, entries_sorted, from_sorted, get-from_sorted, get-entries, is_sorted, find, same_map, nat_cmp-IsAntisymmetric}
-use Rattle.std.specs.FinMap.Entries.{below_all}
+use Rattle.std.specs.Ordering.{nat_cmp}
+use Rattle.std.specs.FinMap.{FinMap, get}
 use Rattle.cf_base.specs.Classes.{need}
 use Rattle.arrangement.specs.Held.{Held, Placed, places}
-use Rattle.cf_lemmas.specs.Maps.{map_values}
 use Rattle.arrangement.specs.Image.{object_word, word_of_bytes, IsImageOver}
 use Rattle.cf_lemmas.proofs.Maps.{equal_maps}
 use Rattle.cf_lemmas.proofs.MapValues.{get-map_values}
@@ -43,15 +39,15 @@ bytes_of_held words h a v small bytes held =
     let len : get_or words a 0 / 2 ^ 32 ≡ length v = rw head (omega arith) in
     let size : length (bytes_at words a) ≡ length v = length-map-range_with_len _ 0 _ ∙ len in
     same_number_lists (bytes_at words a) v size (λ k lt.
-      let inside : k < length v = omega arith in
-      let inside' : k < get_or words a 0 / 2 ^ 32 = omega arith in
-      let word : get_or words (a + suc (k / 8)) 0 ≡ object_word h v (suc (k / 8)) = held (suc (k / 8)) (omega arith) in
-      let place : a + 1 + k / 8 ≡ a + suc (k / 8) = omega arith in
-      let back : 8 * (k / 8) + k % 8 ≡ k = omega arith in
-      get_or-map-range_with_len (λ i. byte_of (i % 8) (get_or words (a + 1 + i / 8) 0)) 0 (get_or words a 0 / 2 ^ 32) k k 0 inside' (omega arith)
-      ∙ ap (λ x. byte_of (k % 8) (get_or words x 0)) place ∙ ap (byte_of (k % 8)) word
-      ∙ byte_of_word (take 8 (drop (8 * (k / 8)) v)) (k % 8) (bytes_part 8 (8 * (k / 8)) v bytes)
-      ∙ get_or-take 8 (drop (8 * (k / 8)) v) (k % 8) 0 (omega arith) ∙ get_or-drop (8 * (k / 8)) v (k % 8) 0 ∙ ap (λ x. get_or v x 0) back)
+    let inside : k < length v = omega arith in
+    let inside' : k < get_or words a 0 / 2 ^ 32 = omega arith in
+    let word : get_or words (a + suc (k / 8)) 0 ≡ object_word h v (suc (k / 8)) = held (suc (k / 8)) (omega arith) in
+    let place : a + 1 + k / 8 ≡ a + suc (k / 8) = omega arith in
+    let back : 8 * (k / 8) + k % 8 ≡ k = omega arith in
+    get_or-map-range_with_len (λ i. byte_of (i % 8) (get_or words (a + 1 + i / 8) 0)) 0 (get_or words a 0 / 2 ^ 32) k k 0 inside' (omega arith)
+    ∙ ap (λ x. byte_of (k % 8) (get_or words x 0)) place ∙ ap (byte_of (k % 8)) word
+    ∙ byte_of_word (take 8 (drop (8 * (k / 8)) v)) (k % 8) (bytes_part 8 (8 * (k / 8)) v bytes)
+    ∙ get_or-take 8 (drop (8 * (k / 8)) v) (k % 8) 0 (omega arith) ∙ get_or-drop (8 * (k / 8)) v (k % 8) 0 ∙ ap (λ x. get_or v x 0) back)
 
 -- what is held is determined by the words and the places
 pub held_from_image : (m : Held) (at : FinMap nat_cmp ℕ) (words : List ℕ) → IsImageOver need m words → at ≡ places m → AreStorable m → held_at words at ≡ m

@@ -1,8 +1,8 @@
 -- The rule of slot sizes gives sizes that rise from 4 words to the page; and the class of a request.
-use Rattle.std.proofs.Common.{◌≡◌, ◌≢◌, ℕ, zero, suc, Bool, true, false, cond, ◌+◌, ◌-◌, ◌*◌, ◌/◌, ◌%◌, ◌<◌, ◌≤◌, List, [], ◌∷◌, Option, Some, None, length, map, get_or, replicate, arith, sym, ◌∙◌, inl, inr, ap, refl, subst}
-use Rattle.std.specs.Prelude.{◌⊎◌, ◌||◌, ◌==◌, ◌↔◌, IsTrue, nat_le, nat_lt}
+use Rattle.std.proofs.Common.{◌≡◌, ℕ, zero, suc, Bool, true, false, ◌+◌, ◌-◌, ◌*◌, ◌/◌, ◌%◌, ◌<◌, ◌≤◌, List, [], ◌∷◌, Some, None, length, map, get_or, arith, sym, ◌∙◌, inl, inr, refl, subst}
+use Rattle.std.specs.Prelude.{IsTrue, nat_le, nat_lt}
 use Rattle.std.specs.List.{position_or_len}
-use Rattle.std.proofs.lemmas.Bool.{cases_eq, cases_lt, false≢true}
+use Rattle.std.proofs.lemmas.Bool.{cases_lt, false≢true}
 use Rattle.std.proofs.lemmas.Bool.Decides.{nat_tests}
 use Rattle.std.proofs.lemmas.List.{get_or-map, length-map, length-replicate, get_or-replicate}
 use Rattle.std.proofs.lemmas.List.Sums.{passes_at_first, fails_before_first}
@@ -11,7 +11,7 @@ use Rattle.cf_base.specs.Settings.{Profile}
 use Rattle.cf_base.specs.Classes.{need, sizes_from, sizes, class_of}
 use Rattle.cf_base.specs.declared.kind.Layout.{Layout}
 use Rattle.cf_base.specs.declared.kind.Layout.TheVariants.{Words, Blocks}
-use Rattle.arrangement.specs.Paging.{Paging, AreSizes, IsPaging, AreOne, classes, slot_words, slots_of, bound_of, class_for, paging_of, first_bounds}
+use Rattle.arrangement.specs.Paging.{Paging, AreSizes, IsPaging, classes, slot_words, class_for, paging_of, first_bounds}
 
 -- sizes that rise up to the page
 record Rising (low page : ℕ) (xs : List ℕ) : Type 0 where
@@ -42,10 +42,12 @@ one_more low next page xs less small r = record {
     least : (c : ℕ) → c < length (low ∷ xs) → low ≤ get_or (low ∷ xs) c 0
     least zero lt = omega arith
     least (suc c) lt = (let l = r.least c (omega arith) in omega arith)
+
     rising : (c d : ℕ) → c < d → d < length (low ∷ xs) → get_or (low ∷ xs) c 0 < get_or (low ∷ xs) d 0
     rising c zero a b = absurd (omega arith)
     rising zero (suc d) a b = (let l = r.least d (omega arith) in omega arith)
     rising (suc c) (suc d) a b = r.rising c d (omega arith) (omega arith)
+
     fits : (c : ℕ) → c < length (low ∷ xs) → get_or (low ∷ xs) c 0 ≤ page
     fits zero lt = omega arith
     fits (suc c) lt = r.fits c (omega arith)

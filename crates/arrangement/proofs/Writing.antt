@@ -1,12 +1,10 @@
 -- Bytes in words: reading one, writing some, and the word of eight bytes.
-use Rattle.std.proofs.Common.{◌≡◌, ◌≢◌, ℕ, zero, suc, ◌+◌, ◌-◌, ◌*◌, ◌/◌, ◌%◌, ◌^◌, ◌<◌, ◌≤◌, List, [], ◌∷◌, ◌++◌, Option, Some, None, length, get_or, replicate, take, drop, min, arith, lit<, sym, ◌∙◌, subst, inl, inr, ap, refl, length-append, length-drop}
-use Rattle.std.specs.Prelude.{◌⊎◌}
+use Rattle.std.proofs.Common.{◌≡◌, ℕ, zero, suc, ◌+◌, ◌-◌, ◌*◌, ◌/◌, ◌%◌, ◌^◌, ◌<◌, ◌≤◌, List, [], ◌∷◌, ◌++◌, Option, Some, None, length, get_or, replicate, take, drop, arith, lit<, sym, ◌∙◌, subst, inl, inr, ap, refl, length-append, length-drop}
 use Rattle.std.proofs.lemmas.List.{length-take, length-replicate, get_or-take, get_or-drop, get_or_append_left, get_or-append_right, get_or_past, get_or-replicate}
 use Rattle.std.proofs.lemmas.Bool.{cases_lt}
 use Rattle.std.proofs.lemmas.Grind.{same_number_lists}
 use Rattle.std.specs.FinMap.{get, insert, remove}
 use Rattle.cf_lemmas.proofs.Maps.{some_inserted, some_removed}
-use Rattle.cf_base.specs.Classes.{need}
 use Rattle.arrangement.specs.Held.{Held, Placed}
 use Rattle.arrangement.specs.Paging.{Paging, IsPaging, class_for}
 use Rattle.arrangement.specs.Arrangement.{IsSound}
@@ -74,8 +72,8 @@ same_words h u v i len same =
     let lu = length-take 8 (drop (8 * i) u) in let lv = length-take 8 (drop (8 * i) v) in
     let du = length-drop (8 * i) u in let dv = length-drop (8 * i) v in
     ap word_of_bytes (same_number_lists (take 8 (drop (8 * i) u)) (take 8 (drop (8 * i) v)) (omega arith) (λ k lt.
-      get_or-take 8 (drop (8 * i) u) k 0 (omega arith) ∙ get_or-drop (8 * i) u k 0 ∙ same (8 * i + k) (omega arith) (omega arith)
-      ∙ sym (get_or-drop (8 * i) v k 0) ∙ sym (get_or-take 8 (drop (8 * i) v) k 0 (omega arith))))
+    get_or-take 8 (drop (8 * i) u) k 0 (omega arith) ∙ get_or-drop (8 * i) u k 0 ∙ same (8 * i + k) (omega arith) (omega arith)
+    ∙ sym (get_or-drop (8 * i) v k 0) ∙ sym (get_or-take 8 (drop (8 * i) v) k 0 (omega arith))))
 
 module _ (v : List ℕ) (at : ℕ) (bytes : List ℕ) (fits : at + length bytes ≤ length v) where
   pub length-written : length (written v at bytes) ≡ length v

@@ -25,15 +25,16 @@ pub use figures::{
 };
 pub use room::{
     lack_of_room_is_arithmetic_at_bound_one, lack_of_room_is_no_page_left,
-    pages_where_room_is_lacking, pages_are_those_needed_at_bound_one,
+    pages_are_those_needed_at_bound_one, pages_where_room_is_lacking,
 };
 pub use soundness::{
-    a_free_keeps_soundness, a_malloc_keeps_soundness, a_resize_keeps_soundness,
-    a_resize_in_two_steps, counts_after_a_free, counts_after_a_malloc,
+    a_free_keeps_soundness, a_malloc_keeps_soundness, a_resize_in_two_steps,
+    a_resize_keeps_soundness, counts_after_a_free, counts_after_a_malloc,
     nothing_is_a_sound_arrangement, objects_after_a_step, page_counts_follow_one_page,
     page_counts_of_a_sound_arrangement,
 };
 pub use words::{
-    a_part_is_written, a_word_is_its_bytes, bytes_are_read_back, objects_stay_storable, what_stands_at_places, words_after_a_free,
-    words_after_a_malloc, words_after_a_write, words_are_one_list, words_tell_what_is_held,
+    a_part_is_written, a_word_is_its_bytes, bytes_are_read_back, objects_stay_storable,
+    what_stands_at_places, words_after_a_free, words_after_a_malloc, words_after_a_write,
+    words_are_one_list, words_tell_what_is_held,
 };
