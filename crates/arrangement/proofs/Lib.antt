@@ -20,3 +20,4 @@ pub mod Addresses
 pub mod Nothing
 pub mod BlockSteps
 pub mod Adding
+pub mod ResizedWords

@@ -12,6 +12,7 @@ use Rattle.arrangement.specs.Paging.{Paging, IsPaging, classes, slot_words, slot
 use Rattle.arrangement.specs.Counts.{Stand, CanHold}
 use Rattle.arrangement.specs.Arrangement.{objects_on, not_full_pages, home_pages, live, IsSound}
 use Rattle.arrangement.proofs.Counting.{part_full, part_yes, part_empty, part_over, lt_yes, lt_no}
+use Rattle.arrangement.proofs.PageLaws.{can_hold_bound}
 use Rattle.arrangement.proofs.Totals.{page_within, live_by_pages, live_is}
 
 -- m objects fit on a page, and on p objects stand on page p
@@ -93,3 +94,7 @@ module _ (p : Paging) (ok : IsPaging p) (c : ℕ) (lt : c < classes p) where
 
     pub sound_can_hold : CanHold (home_pages p m c) (live p (objects m) c) (slots_of p c) (bound_of p c)
     sound_can_hold = (not_full_pages p m c, sound_stand)
+
+    -- the pages of a class are no more than those that its objects fill, and its bound
+    pub sound_few : home_pages p m c ≤ live p (objects m) c / slots_of p c + bound_of p c
+    sound_few = can_hold_bound (home_pages p m c) (live p (objects m) c) (slots_of p c) (bound_of p c) slots_some sound_can_hold

@@ -81,7 +81,7 @@ pub sound_apart_from : (p : Paging) (m : Held) → IsSound p m → (h : ℕ) (x 
 sound_apart_from p m s h x e q y f ne = (sound_apart p m s).pairs h x q y e f ne
 
 -- y goes from its place to that of x, which goes
-image_exchanged : (extent : ℕ → ℕ) (m : Held) (words words' : List ℕ) → IsImageOver extent m words → (h q : ℕ) (x y : Placed) → get m h ≡ Some x → get m q ≡ Some y → q ≢ h
+pub image_exchanged : (extent : ℕ → ℕ) (m : Held) (words words' : List ℕ) → IsImageOver extent m words → (h q : ℕ) (x y : Placed) → get m h ≡ Some x → get m q ≡ Some y → q ≢ h
     → IsApartFrom extent m h x → IsApartFrom extent m q y → extent (length y.bytes) ≡ extent (length x.bytes)
     → MovesWords words words' (record { from = y.place; count = extent (length y.bytes) }) x.place
     → IsImageOver extent (insert (remove m h) q (record { place = x.place; bytes = y.bytes })) words'
@@ -109,20 +109,20 @@ image_exchanged extent m words words' im h q x y is-x is-y ne free_x free_y size
       ];
 }
 
+-- a free place has no word of an object
+pub place_apart : (p : Paging) → IsPaging p → (m : Held) → IsSound p m → (n a : ℕ) → IsFreePlace p m n a → (h : ℕ) → get m h ≡ None
+    → (q : ℕ) (y : Placed) → get m q ≡ Some y → IsDisjoint a (slot_for p n) y.place (slot_for p (length y.bytes))
+place_apart p ok m s n a f h none q y e =
+    let len : length (replicate {A = ℕ} n 0) ≡ n = length-replicate {A = ℕ} n 0 in
+    let sound : IsSound p (insert m h (zeros_at a n)) = sound_placed p m h (zeros_at a n) none ok s (rw len f) in
+    let ne : q ≢ h = (λ is. (let e' : get m h ≡ Some y = rw is at e in absurd (let z : Some y ≡ None = sym e' ∙ none in cc))) in
+    let d = sound_apart_from p (insert m h (zeros_at a n)) sound h (zeros_at a n) (get_inserted m h (zeros_at a n)) q y (get_insert_other m h (zeros_at a n) q ne ∙ e) ne in
+    rw len at d
+
 module _ (p : Paging) (ok : IsPaging p) (m : Held) (s : IsSound p m) (words : List ℕ) (im : IsSlotImage p m words) where
   -- the words of a free place are zeros
   pub place_is_zeros : (n a : ℕ) → IsFreePlace p m n a → (h : ℕ) → get m h ≡ None → (i : ℕ) → i < slot_for p n → get_or words (a + i) 0 ≡ 0
-  place_is_zeros n a f h none =
-      let len : length (replicate {A = ℕ} n 0) ≡ n = length-replicate {A = ℕ} n 0 in
-      let sound : IsSound p (insert m h (zeros_at a n)) = sound_placed p m h (zeros_at a n) none ok s (rw len f) in
-      free_words (slot_for p) m words im h a (slot_for p n) (λ q y e. apart_from sound q y e)
-    where
-      apart_from : IsSound p (insert m h (zeros_at a n)) → (q : ℕ) (y : Placed) → get m q ≡ Some y → IsDisjoint a (slot_for p n) y.place (slot_for p (length y.bytes))
-      apart_from sound q y e =
-          let len : length (replicate {A = ℕ} n 0) ≡ n = length-replicate {A = ℕ} n 0 in
-          let ne : q ≢ h = (λ is. (let e' : get m h ≡ Some y = rw is at e in absurd (let z : Some y ≡ None = sym e' ∙ none in cc))) in
-          let d = sound_apart_from p (insert m h (zeros_at a n)) sound h (zeros_at a n) (get_inserted m h (zeros_at a n)) q y (get_insert_other m h (zeros_at a n) q ne ∙ e) ne in
-          rw len at d
+  place_is_zeros n a f h none = free_words (slot_for p) m words im h a (slot_for p n) (λ q y e. place_apart p ok m s n a f h none q y e)
 
   -- a malloc writes the header, into zeros
   pub image_after_malloc : (h n a : ℕ) → get m h ≡ None → length words ≡ p.pages * p.page_words → IsFreePlace p m n a → IsSlotImage p (insert m h (zeros_at a n)) (set words a (header_word h n))

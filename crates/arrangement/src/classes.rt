@@ -1,10 +1,12 @@
 //! The sizes of slots, the class of a request, and the addresses of slots.
-ghost use Rattle.std.specs.Prelude.{ℕ, ◌≡◌, ◌/◌, ◌%◌, ◌<◌, ◌≤◌, IsTrue, List, None, Some, length, slice_index};
+ghost use Rattle.std.specs.Prelude.{ℕ, ◌≡◌, ◌*◌, ◌/◌, ◌%◌, ◌<◌, ◌≤◌, IsTrue, List, None, Some, length, slice_index};
 ghost use Rattle.cf_base.specs.Classes.{class_of, need, sizes};
 ghost use Rattle.cf_base.specs.Limits.{is_page_size};
 ghost use Rattle.cf_base.specs.Settings.{Profile};
 ghost use Rattle.cf_base.specs.declared.kind.Layout.{Layout};
-ghost use Rattle.arrangement.specs.Paging.{IsPaging, Paging, address_of, class_for, classes, first_bounds, page_of, paging_of, slot_words, slots_of};
+ghost use Rattle.cf_base.specs.declared.kind.Layout.TheVariants.{Blocks};
+ghost use Rattle.arrangement.specs.Frames.{AreBlocks};
+ghost use Rattle.arrangement.specs.Paging.{AreOne, IsPaging, Paging, address_of, class_for, classes, first_bounds, page_of, paging_of, slot_words, slots_of};
 ghost use Rattle.arrangement.specs.Arrangement.{IsSlotAt};
 
 /// The slot sizes of a page rise from 4 words at least to the page, in words and in blocks, and
@@ -16,6 +18,15 @@ pub fn slot_sizes_rise()
         → length bounds ≡ length (sizes s.page_words layout)
         → ((c : ℕ) → c < length bounds → 1 ≤ slice_index bounds c)
         → IsPaging (paging_of s layout bounds) }
+{}
+
+/// With the bound 1 in the settings every class has it; pages of whole blocks have slots of whole
+/// blocks; and a page has at most a slot for every four words.
+pub fn slots_are_few_and_in_blocks()
+    ensures ones { (s : Profile) (layout : Layout) → s.k ≡ 1 → AreOne (paging_of s layout (first_bounds s layout)) }
+    ensures blocks { (s : Profile) (bounds : List ℕ) → IsTrue (is_page_size s.page_words)
+        → AreBlocks (paging_of s Blocks bounds) }
+    ensures few { (p : Paging) (c : ℕ) → IsPaging p → c < classes p → 4 * slots_of p c ≤ p.page_words }
 {}
 
 /// A request that fits a page has a class: the least whose slots hold it. One that doesn't has none.

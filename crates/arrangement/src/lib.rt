@@ -15,7 +15,9 @@ pub use blocks::{
     blocks_of_others_stay, frames_stay_permuted, live_objects_share_no_block,
     slots_stand_in_their_blocks,
 };
-pub use classes::{a_class_holds_its_requests, slot_sizes_rise, slots_have_addresses};
+pub use classes::{
+    a_class_holds_its_requests, slot_sizes_rise, slots_are_few_and_in_blocks, slots_have_addresses,
+};
 pub use counts::{
     can_hold_is_a_test, most_pages_is_the_greatest, one_page_count_at_bound_one,
     pages_are_within_the_bound,
@@ -34,7 +36,7 @@ pub use soundness::{
     page_counts_of_a_sound_arrangement,
 };
 pub use words::{
-    a_part_is_written, a_word_is_its_bytes, bytes_are_read_back, objects_stay_storable,
-    what_stands_at_places, words_after_a_free, words_after_a_malloc, words_after_a_write,
-    words_are_one_list, words_tell_what_is_held,
+    a_part_is_written, a_word_is_its_bytes, bytes_are_read_back, headers_tell,
+    objects_stay_storable, what_stands_at_places, words_after_a_free, words_after_a_malloc,
+    words_after_a_resize, words_after_a_write, words_are_one_list, words_tell_what_is_held,
 };

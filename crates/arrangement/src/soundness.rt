@@ -1,5 +1,5 @@
 //! What a sound arrangement is, and that each step leaves one.
-ghost use Rattle.std.specs.Prelude.{ℕ, ◌≡◌, ◌≢◌, ◌+◌, ◌<◌, ◌≤◌, ◌&&◌, Option, Some, None, cond, length, nat_lt, replicate};
+ghost use Rattle.std.specs.Prelude.{ℕ, ◌≡◌, ◌≢◌, ◌+◌, ◌/◌, ◌<◌, ◌≤◌, ◌&&◌, Option, Some, None, cond, length, nat_lt, replicate};
 ghost use Rattle.std.specs.FinMap.{empty, get, insert, remove};
 ghost use Rattle.arrangement.specs.Arrangement.{IsSound, class_at, home_pages, is_on, live, not_full_pages, objects_on};
 ghost use Rattle.arrangement.specs.Counts.{CanHold, Stand};
@@ -22,6 +22,8 @@ pub fn page_counts_of_a_sound_arrangement()
     ensures not_full { (p : Paging) (m : Held) (c : ℕ) → IsPaging p → IsSound p m → c < classes p
         → Stand (home_pages p m c) (live p (objects m) c) (slots_of p c) (bound_of p c)
         (not_full_pages p m c) }
+    ensures few { (p : Paging) (m : Held) (c : ℕ) → IsPaging p → IsSound p m → c < classes p
+        → home_pages p m c ≤ live p (objects m) c / slots_of p c + bound_of p c }
     ensures slots { (p : Paging) (m : Held) (c page : ℕ) → IsPaging p → IsSound p m → c < classes p
         → objects_on p m c page ≤ slots_of p c }
 {}

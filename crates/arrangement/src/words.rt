@@ -60,6 +60,37 @@ pub fn words_after_a_free()
         → IsSlotImage p (insert (remove m h) q (record { place = x.place; bytes = y.bytes })) new }
 {}
 
+/// A resize to another class writes the new slot, with the old one still there, and then clears the
+/// old slot or moves there the slot of the object that moves. `spare` is any number that isn't in
+/// use.
+pub fn words_after_a_resize()
+    ensures still { (p : Paging) (m : Held) (old mid new : List ℕ) (h a spare : ℕ) (x : Placed) (bytes : List ℕ)
+        → IsPaging p → IsSound p m → IsSlotImage p m old
+        → length old ≡ p.pages * p.page_words → length new ≡ p.pages * p.page_words
+        → get m h ≡ Some x → get m spare ≡ None → IsFreePlace p m (length bytes) a
+        → Rewrites old mid (record { from = a; count = slot_for p (length bytes) }) (object_word h bytes)
+        → Clears mid new (record { from = x.place; count = slot_for p (length x.bytes) })
+        → IsSlotImage p (insert (remove m h) h (record { place = a; bytes = bytes })) new }
+    ensures moved { (p : Paging) (m : Held) (old mid new : List ℕ) (h q a spare : ℕ) (x y : Placed)
+        (bytes : List ℕ) → IsPaging p → IsSound p m → IsSlotImage p m old
+        → length old ≡ p.pages * p.page_words → length new ≡ p.pages * p.page_words
+        → get m h ≡ Some x → get m spare ≡ None → IsFreePlace p m (length bytes) a
+        → Rewrites old mid (record { from = a; count = slot_for p (length bytes) }) (object_word h bytes)
+        → get m q ≡ Some y → MustMove p m x → MayFill p m x y
+        → MovesWords mid new (record { from = y.place; count = slot_for p (length y.bytes) }) x.place
+        → IsSlotImage p
+        (insert (insert (remove m h) q (record { place = x.place; bytes = y.bytes })) h
+        (record { place = a; bytes = bytes }))
+        new }
+{}
+
+/// The header of an object tells its number and its length.
+pub fn headers_tell()
+    ensures { (m : Held) (words : List ℕ) (h : ℕ) (x : Placed) → IsImage m words → get m h ≡ Some x
+        → h < 2 ^ 32
+        → (slice_index words x.place % 2 ^ 32 ≡ h) × (slice_index words x.place / 2 ^ 32 ≡ length x.bytes) }
+{}
+
 /// The objects can be read back from the words and the places.
 pub fn words_tell_what_is_held()
     ensures { (m : Held) (at : FinMap nat_cmp ℕ) (words : List ℕ) → IsImage m words → at ≡ places m
