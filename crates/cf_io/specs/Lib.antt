@@ -1,2 +1,6 @@
 pub mod Feeds
+pub mod Lines
 pub mod Numbers
+pub mod Schedules
+pub mod Sinks
+pub mod Sources

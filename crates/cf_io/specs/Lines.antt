@@ -1,0 +1,18 @@
+-- What a line holds.
+use Rattle.std.specs.Prelude.{◌≡◌, ◌<◌, ◌≤◌, ◌+◌, ◌++◌, ℕ, List, length, Result, Ok, Err}
+use Rattle.std.specs.Int.{w64, to_be_bytes}
+use Rattle.hex.specs.Hex.{encode_lower}
+use Rattle.cf_io.specs.declared.line.Full.{Full}
+
+-- how many bytes a line may hold
+abbrev pub line_room : ℕ
+line_room = 9000
+
+-- a word of 8 bytes in hex: 16 digits in lower case, the most significant first
+abbrev pub word_text : ℕ → List ℕ
+word_text v = encode_lower (to_be_bytes w64 v)
+
+-- the text stands behind what the line held; or there was no room for it, and the line is unchanged
+abbrev pub Pushes : {T : Type 0} → List ℕ → List ℕ → Result T Full → List ℕ → Type 0
+Pushes old text (Ok u) new = (new ≡ old ++ text) × (length old + length text ≤ line_room)
+Pushes old text (Err e) new = (new ≡ old) × (line_room < length old + length text)

@@ -1,0 +1,26 @@
+-- What the sink in memory is, and what a call does to it.
+use Rattle.std.specs.Prelude.{ℕ, Bool, ◌-◌, ◌==◌, ◌++◌, ◌||◌, ◌&&◌, not, List, length, take, min, if◌then◌else◌, Option, Some, None}
+use Rattle.cf_io.specs.Schedules.{Schedule, is_due, moved, gone_well, gone_wrong}
+
+-- a sink in memory: the bytes written, how many more it has room for, and what its calls do
+pub record MemSink : Type 0 where
+  pub written : List ℕ
+  pub room : ℕ
+  pub schedule : Schedule
+
+-- whether the next call fails, with these bytes: by plan, or since there is no room for any of them
+abbrev pub put_fails : MemSink → List ℕ → Bool
+put_fails s bytes = is_due s.schedule || (s.room == 0 && not (length bytes == 0))
+
+-- how many of these bytes the next call would take
+abbrev pub put_count : MemSink → List ℕ → ℕ
+put_count s bytes = moved s.schedule (min (length bytes) s.room)
+
+-- what the next call answers: none where it fails
+abbrev pub put_answer : MemSink → List ℕ → Option ℕ
+put_answer s bytes = if put_fails s bytes then None else Some (put_count s bytes)
+
+-- the sink after the next call
+abbrev pub put_after : MemSink → List ℕ → MemSink
+put_after s bytes = if put_fails s bytes then record s { schedule = gone_wrong s.schedule }
+    else record { written = s.written ++ take (put_count s bytes) bytes; room = s.room - put_count s bytes; schedule = gone_well s.schedule }

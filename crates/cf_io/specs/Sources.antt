@@ -1,0 +1,49 @@
+-- What the sources in memory are, and what a call does to them.
+use Rattle.std.specs.Prelude.{ℕ, Bool, ◌+◌, ◌==◌, ◌++◌, List, length, take, drop, min, max, slice_index, nat_lt, if◌then◌else◌, Option, Some, None}
+use Rattle.std.specs.List.{list_any}
+use Rattle.cf_io.specs.Feeds.{last_count}
+use Rattle.cf_io.specs.Schedules.{Schedule, is_due, moved, gone_well, gone_wrong}
+
+-- a source that never fails: the bytes left, and how many were given
+pub record SureSource : Type 0 where
+  pub left : List ℕ
+  pub given : ℕ
+
+-- a source that fails when it is told to: the bytes left, how many were given, and what its calls do
+pub record MemSource : Type 0 where
+  pub left : List ℕ
+  pub given : ℕ
+  pub schedule : Schedule
+
+-- n more were given, as far as a counter of 64 bits goes
+abbrev pub more_given : ℕ → ℕ → ℕ
+more_given given n = min (given + n) last_count
+
+-- a buffer whose front was filled with the first n of these bytes
+abbrev pub filled : ℕ → List ℕ → List ℕ → List ℕ
+filled n bytes buf = take n bytes ++ drop n buf
+
+-- how many bytes a source that never fails gives into a buffer of so many
+abbrev pub sure_count : SureSource → ℕ → ℕ
+sure_count s room = min room (length s.left)
+
+-- the source after n bytes were given
+abbrev pub sure_after : SureSource → ℕ → SureSource
+sure_after s n = record { left = drop n s.left; given = more_given s.given n }
+
+-- how many bytes the next call would give into a buffer of so many
+abbrev pub mem_count : MemSource → ℕ → ℕ
+mem_count s room = moved s.schedule (min room (length s.left))
+
+-- what the next call answers: none where it fails
+abbrev pub mem_answer : MemSource → ℕ → Option ℕ
+mem_answer s room = if is_due s.schedule then None else Some (mem_count s room)
+
+-- the source after the next call
+abbrev pub mem_after : MemSource → ℕ → MemSource
+mem_after s room = if is_due s.schedule then record s { schedule = gone_wrong s.schedule }
+    else record { left = drop (mem_count s room) s.left; given = more_given s.given (mem_count s room); schedule = gone_well s.schedule }
+
+-- the buffer after the next call
+abbrev pub mem_buffer : MemSource → List ℕ → List ℕ
+mem_buffer s buf = if is_due s.schedule then buf else filled (mem_count s (length buf)) s.left buf

@@ -1,0 +1,99 @@
+//! The buffer of a line.
+ghost use Rattle.std.specs.Prelude.{◌≡◌, ◌≤◌, [], length, decimal};
+ghost use Rattle.hex.specs.Hex.{encode_lower};
+ghost use Rattle.cf_io.specs.Lines.{Pushes, line_room, word_text};
+
+use arrayvec::ArrayVec;
+use itoa::Buffer;
+use std::marker::Model;
+
+/// How many bytes a line may hold.
+pub const LINE_ROOM: usize = 9_000;
+
+/// The line has no room for the text.
+#[derive(Clone, Copy, Debug, PartialEq, Eq)]
+pub struct Full;
+
+/// A line that is being written: at most 9,000 bytes, kept in place, so that no push takes memory.
+#[derive(Drop)]
+pub struct Line {
+    buffer: ArrayVec<u8, LINE_ROOM>,
+}
+
+impl Model for Line {
+    ghost use Rattle.std.specs.Prelude.{List, ℕ};
+
+    ghost Value = { List ℕ };
+
+    ghost view = { λ l. l.buffer.items };
+}
+
+impl Line {
+    /// A line with nothing on it.
+    pub fn new() -> Line
+        ensures { result ≡ [] }
+    {
+        Line {
+            buffer: ArrayVec::new(),
+        }
+    }
+
+    /// What stands on the line.
+    pub fn bytes(&self) -> &[u8]
+        ensures value { result.now ≡ self.now }
+        ensures fits { length self.now ≤ line_room }
+    {
+        self.buffer.as_slice()
+    }
+
+    /// Appends the bytes. `Full` exactly where the line would pass 9,000 bytes.
+    pub fn push(&mut self, bytes: &[u8]) -> Result<(), Full>
+        ensures { Pushes self.old bytes.now result self.new }
+    {
+        match self.buffer.try_extend_from_slice(bytes) {
+            Ok(()) => Ok(()),
+            Err(_) => Err(Full),
+        }
+    }
+
+    /// Appends the number in decimal. `Full` exactly where the line would pass 9,000 bytes.
+    pub fn push_number(&mut self, n: u64) -> Result<(), Full>
+        ensures { Pushes self.old (decimal n) result self.new }
+    {
+        let mut digits = Buffer::new();
+        self.push(digits.format(n).as_bytes())
+    }
+
+    /// Appends the bytes in hex, two lower-case digits each. `Full` exactly where the line would
+    /// pass 9,000 bytes.
+    #[tactic(auto, using(crate::proofs::Hex::length_in_hex))]
+    pub fn push_hex(&mut self, bytes: &[u8]) -> Result<(), Full>
+        ensures { Pushes self.old (encode_lower bytes.now) result self.new }
+    {
+        let start = self.buffer.len();
+        if bytes.len() > (LINE_ROOM - start) / 2 {
+            return Err(Full);
+        }
+        // The bytes, twice, are the room that their digits are written into.
+        self.buffer.try_extend_from_slice(bytes).unwrap();
+        self.buffer.try_extend_from_slice(bytes).unwrap();
+        let room = &mut self.buffer.as_mut_slice()[start..];
+        hex::encode_to_slice(bytes, room).unwrap();
+        Ok(())
+    }
+
+    /// Appends the word in hex, as 16 lower-case digits, the most significant first. `Full` exactly
+    /// where the line would pass 9,000 bytes.
+    pub fn push_word(&mut self, v: u64) -> Result<(), Full>
+        ensures { Pushes self.old (word_text v) result self.new }
+    {
+        self.push_hex(&v.to_be_bytes())
+    }
+
+    /// Takes all off the line.
+    pub fn clear(&mut self)
+        ensures { self.new ≡ [] }
+    {
+        self.buffer.clear();
+    }
+}

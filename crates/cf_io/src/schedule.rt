@@ -1,0 +1,68 @@
+//! What the calls of a device in memory do.
+ghost use Rattle.std.specs.Prelude.{◌≡◌};
+ghost use Rattle.cf_io.specs.Schedules.{gone_well, gone_wrong, is_due, moved, planned};
+
+use std::marker::Model;
+
+/// Which calls of a device fail, and how many bytes each of the others moves at most.
+#[derive(Drop)]
+pub struct Schedule {
+    cuts: Vec<usize>,
+    fails: Vec<u64>,
+    call: u64,
+    faults: u64,
+}
+
+impl Model for Schedule {
+    ghost use Rattle.cf_io.specs.Schedules.{Schedule as View};
+
+    ghost Value = { View };
+
+    ghost view = { λ s. record { cuts = s.cuts.items; fails = s.fails.items; call = s.call; faults = s.faults } };
+}
+
+impl Schedule {
+    /// A schedule of which no call was made yet.
+    pub fn new(cuts: Vec<usize>, fails: Vec<u64>) -> Schedule
+        ensures { result ≡ planned cuts.items fails.items }
+    {
+        Schedule {
+            cuts,
+            fails,
+            call: 0,
+            faults: 0,
+        }
+    }
+
+    /// Whether the next call is one of those that fail.
+    pub fn is_due(&self) -> bool
+        ensures { result ≡ is_due self.now }
+    {
+        self.fails.contains(&self.call)
+    }
+
+    /// How many bytes the next call moves where n could be moved.
+    pub fn moved(&self, n: usize) -> usize
+        ensures { result ≡ moved self.now n }
+    {
+        match self.cuts.get(self.call as usize) {
+            Some(cut) => n.min((*cut).max(1)),
+            None => n,
+        }
+    }
+
+    /// Counts a call that failed.
+    pub fn go_wrong(&mut self)
+        ensures { self.new ≡ gone_wrong self.old }
+    {
+        self.call = self.call.saturating_add(1);
+        self.faults = self.faults.saturating_add(1);
+    }
+
+    /// Counts a call that went well.
+    pub fn go_well(&mut self)
+        ensures { self.new ≡ gone_well self.old }
+    {
+        self.call = self.call.saturating_add(1);
+    }
+}
