@@ -82,3 +82,17 @@ token_of_text t s g m is count size some =
     let none : gaps_in s ≡ 0 = ap gaps_in behind ∙ no_gap_left t in
     sym (past_gaps t) ∙ ap tokens (sym behind) ∙ first_token s none some
     ∙ ap (λ (n : ℕ). take n s ∷ tokens (drop n s)) (sym size)
+
+-- a token has a byte
+pub some_byte : (s : List ℕ) → gaps_in s ≡ 0 → 0 < length s → 1 ≤ length (take (position_or_len is_gap s) s)
+some_byte [] none some = absurd (omega arith)
+some_byte (x ∷ r) none some = go (is_gap x) none
+  where
+    go : (b : Bool) → cond (not (not b)) (1 + gaps_in r) 0 ≡ 0 → 1 ≤ length (take (cond (not b) (1 + position_or_len is_gap r) 0) (x ∷ r))
+    go true none = absurd (omega arith)
+    go false none = let e : 1 + position_or_len is_gap r ≡ suc (position_or_len is_gap r) = omega arith in rw e (omega arith)
+
+pub token_has_byte : (t s : List ℕ) (g m : ℕ) → s ≡ take (length t - g) (drop g t) → g ≡ gaps_in t → m ≡ position_or_len is_gap s
+    → 0 < length s → 1 ≤ length (take m s)
+token_has_byte t s g m is count size some =
+    rw size (some_byte s (ap gaps_in (behind_gaps t s g is count) ∙ no_gap_left t) some)

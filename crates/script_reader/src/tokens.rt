@@ -1,5 +1,5 @@
 //! A line as tokens.
-ghost use Rattle.std.specs.Prelude.{◌≡◌, ◌≤◌, ◌==◌, length, position, not, MatchOption, [], ◌∷◌};
+ghost use Rattle.std.specs.Prelude.{◌≡◌, ◌≤◌, ◌==◌, length, position, not, MatchOption, IfSome, [], ◌∷◌};
 ghost use Rattle.std.specs.List.{position_or_len};
 ghost use Rattle.script_reader.specs.Lines.{without_return as no_return, is_gap as gap, tokens};
 
@@ -62,7 +62,8 @@ fn first_gap(text: &[u8]) -> Option<usize>
 
 /// The first token, and what follows it.
 pub fn split_token(text: &[u8]) -> Option<(&[u8], &[u8])>
-    ensures { MatchOption result (tokens text.now ≡ []) (λ p. tokens text.now ≡ p.0.now ∷ tokens p.1.now) }
+    ensures value { MatchOption result (tokens text.now ≡ []) (λ p. tokens text.now ≡ p.0.now ∷ tokens p.1.now) }
+    ensures some { IfSome result (λ p. 1 ≤ length p.0.now) }
 {
     let text = &text[gaps(text)..];
     if text.len() == 0 {
