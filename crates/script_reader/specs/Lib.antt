@@ -1,3 +1,4 @@
+pub mod Items
 pub mod Commands
 pub mod Lines
 pub mod Said

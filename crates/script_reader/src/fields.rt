@@ -9,7 +9,7 @@ use cf_io::number_of;
 /// A number in its range.
 fn number_from(low: u32, high: u32, text: &[u8]) -> Option<u32>
     ensures value { result ≡ grammar.number_from low high text.now }
-    ensures within { IfSome result (λ n. n ≤ high) }
+    ensures within { IfSome result (λ n. (low ≤ n) × (n ≤ high)) }
 {
     let n = number_of(text)?;
     if low <= n && n <= high { Some(n) } else { None }
@@ -25,7 +25,8 @@ pub fn id_of(text: &[u8]) -> Option<u16>
 
 /// How many bytes are read at once.
 pub fn length_of(text: &[u8]) -> Option<u16>
-    ensures { result ≡ grammar.length_in text.now }
+    ensures value { result ≡ grammar.length_in text.now }
+    ensures within { IfSome result (λ n. n ≤ 4096) }
 {
     let n = number_from(0, 4_096, text)?;
     Some(n as u16)
@@ -33,14 +34,16 @@ pub fn length_of(text: &[u8]) -> Option<u16>
 
 /// The bound of not-full pages of a class.
 pub fn bound_of(text: &[u8]) -> Option<u32>
-    ensures { result ≡ grammar.bound_in text.now }
+    ensures value { result ≡ grammar.bound_in text.now }
+    ensures within { IfSome result (λ k. (1 ≤ k) × (k ≤ 64)) }
 {
     number_from(1, 64, text)
 }
 
 /// A task.
 pub fn task_of(text: &[u8]) -> Option<u32>
-    ensures { result ≡ grammar.task_in text.now }
+    ensures value { result ≡ grammar.task_in text.now }
+    ensures within { IfSome result (λ n. n ≤ 15) }
 {
     number_from(0, 15, text)
 }

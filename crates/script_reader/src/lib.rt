@@ -5,6 +5,7 @@ mod command;
 mod fields;
 mod line;
 mod payload;
+mod stage;
 mod tokens;
 
 pub use command::Command;

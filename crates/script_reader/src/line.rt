@@ -1,9 +1,10 @@
 //! What a line says.
-ghost use Rattle.std.specs.Prelude.{◌≡◌, ◌≤◌, ◌∷◌, length, option_map};
+ghost use Rattle.std.specs.Prelude.{◌≡◌, ◌≤◌, ◌∷◌, length, option_map, IfSome};
 ghost use Rattle.cf_base.specs.Settings.{profile_of};
 ghost use Rattle.script_reader.specs.Commands as grammar;
 ghost use Rattle.script_reader.specs.Lines.{tokens};
-ghost use Rattle.script_reader.specs.Said.{saying_of};
+ghost use Rattle.script_reader.specs.Commands.{IsWellFormed};
+ghost use Rattle.script_reader.specs.Said.{saying_of, IsSaidInRange};
 
 use crate::command::Command;
 use crate::fields::{bound_of, four, id_of, is_done, length_of, one, task_of, three, two};
@@ -17,7 +18,8 @@ pub const LONGEST: usize = 8_999;
 
 /// `m ID BYTES`.
 fn malloc(args: &[u8]) -> Option<Command>
-    ensures { result ≡ grammar.malloc_in (tokens args.now) }
+    ensures value { result ≡ grammar.malloc_in (tokens args.now) }
+    ensures fits { IfSome result IsWellFormed }
 {
     let (id, bytes) = two(args)?;
     let id = id_of(id)?;
@@ -27,7 +29,8 @@ fn malloc(args: &[u8]) -> Option<Command>
 
 /// `f ID`.
 fn free(args: &[u8]) -> Option<Command>
-    ensures { result ≡ grammar.free_in (tokens args.now) }
+    ensures value { result ≡ grammar.free_in (tokens args.now) }
+    ensures fits { IfSome result IsWellFormed }
 {
     let id = id_of(one(args)?)?;
     Some(Command::Free { id })
@@ -35,7 +38,8 @@ fn free(args: &[u8]) -> Option<Command>
 
 /// `w ID AT HEX`.
 fn write(args: &[u8]) -> Option<Command>
-    ensures { result ≡ grammar.write_in (tokens args.now) }
+    ensures value { result ≡ grammar.write_in (tokens args.now) }
+    ensures fits { IfSome result IsWellFormed }
 {
     let (id, at, digits) = three(args)?;
     let id = id_of(id)?;
@@ -46,7 +50,8 @@ fn write(args: &[u8]) -> Option<Command>
 
 /// `r ID AT LEN`.
 fn read(args: &[u8]) -> Option<Command>
-    ensures { result ≡ grammar.read_in (tokens args.now) }
+    ensures value { result ≡ grammar.read_in (tokens args.now) }
+    ensures fits { IfSome result IsWellFormed }
 {
     let (id, at, len) = three(args)?;
     let id = id_of(id)?;
@@ -57,14 +62,17 @@ fn read(args: &[u8]) -> Option<Command>
 
 /// `walk`, `frag`, `steps` and `s`, which stand alone.
 fn alone(command: Command, args: &[u8]) -> Option<Command>
-    ensures { result ≡ grammar.alone_in command (tokens args.now) }
+    requires { IsWellFormed command }
+    ensures value { result ≡ grammar.alone_in command (tokens args.now) }
+    ensures fits { IfSome result IsWellFormed }
 {
     if is_done(args) { Some(command) } else { None }
 }
 
 /// `q ID`.
 fn place(args: &[u8]) -> Option<Command>
-    ensures { result ≡ grammar.place_in (tokens args.now) }
+    ensures value { result ≡ grammar.place_in (tokens args.now) }
+    ensures fits { IfSome result IsWellFormed }
 {
     let id = id_of(one(args)?)?;
     Some(Command::Place { id })
@@ -72,7 +80,8 @@ fn place(args: &[u8]) -> Option<Command>
 
 /// `b ID I`.
 fn block(args: &[u8]) -> Option<Command>
-    ensures { result ≡ grammar.block_in (tokens args.now) }
+    ensures value { result ≡ grammar.block_in (tokens args.now) }
+    ensures fits { IfSome result IsWellFormed }
 {
     let (id, i) = two(args)?;
     let id = id_of(id)?;
@@ -82,7 +91,8 @@ fn block(args: &[u8]) -> Option<Command>
 
 /// `p WORD`.
 fn peek(args: &[u8]) -> Option<Command>
-    ensures { result ≡ grammar.peek_in (tokens args.now) }
+    ensures value { result ≡ grammar.peek_in (tokens args.now) }
+    ensures fits { IfSome result IsWellFormed }
 {
     let word = number_of(one(args)?)?;
     Some(Command::Peek { word })
@@ -90,7 +100,8 @@ fn peek(args: &[u8]) -> Option<Command>
 
 /// `k SLOTWORDS K`.
 fn bound(args: &[u8]) -> Option<Command>
-    ensures { result ≡ grammar.bound_command_in (tokens args.now) }
+    ensures value { result ≡ grammar.bound_command_in (tokens args.now) }
+    ensures fits { IfSome result IsWellFormed }
 {
     let (slot_words, k) = two(args)?;
     let slot_words = number_of(slot_words)?;
@@ -100,7 +111,8 @@ fn bound(args: &[u8]) -> Option<Command>
 
 /// `z ID BYTES`.
 fn resize(args: &[u8]) -> Option<Command>
-    ensures { result ≡ grammar.resize_in (tokens args.now) }
+    ensures value { result ≡ grammar.resize_in (tokens args.now) }
+    ensures fits { IfSome result IsWellFormed }
 {
     let (id, bytes) = two(args)?;
     let id = id_of(id)?;
@@ -110,7 +122,8 @@ fn resize(args: &[u8]) -> Option<Command>
 
 /// `t TASK`.
 fn task(args: &[u8]) -> Option<Command>
-    ensures { result ≡ grammar.task_command_in (tokens args.now) }
+    ensures value { result ≡ grammar.task_command_in (tokens args.now) }
+    ensures fits { IfSome result IsWellFormed }
 {
     let task = task_of(one(args)?)?;
     Some(Command::Task { task })
@@ -118,7 +131,8 @@ fn task(args: &[u8]) -> Option<Command>
 
 /// `quota TASK PAGES`.
 fn quota(args: &[u8]) -> Option<Command>
-    ensures { result ≡ grammar.quota_in (tokens args.now) }
+    ensures value { result ≡ grammar.quota_in (tokens args.now) }
+    ensures fits { IfSome result IsWellFormed }
 {
     let (task, pages) = two(args)?;
     let task = task_of(task)?;
@@ -128,7 +142,8 @@ fn quota(args: &[u8]) -> Option<Command>
 
 /// `need TASK BYTES COUNT`.
 fn need(args: &[u8]) -> Option<Command>
-    ensures { result ≡ grammar.need_in (tokens args.now) }
+    ensures value { result ≡ grammar.need_in (tokens args.now) }
+    ensures fits { IfSome result IsWellFormed }
 {
     let (task, bytes, count) = three(args)?;
     let task = task_of(task)?;
@@ -139,7 +154,8 @@ fn need(args: &[u8]) -> Option<Command>
 
 /// `admit TASK`.
 fn admit(args: &[u8]) -> Option<Command>
-    ensures { result ≡ grammar.admit_in (tokens args.now) }
+    ensures value { result ≡ grammar.admit_in (tokens args.now) }
+    ensures fits { IfSome result IsWellFormed }
 {
     let task = task_of(one(args)?)?;
     Some(Command::Admit { task })
@@ -147,7 +163,8 @@ fn admit(args: &[u8]) -> Option<Command>
 
 /// The commands whose word is a letter.
 fn letter_command(letter: u8, args: &[u8]) -> Option<Command>
-    ensures { result ≡ grammar.letter_command letter (tokens args.now) }
+    ensures value { result ≡ grammar.letter_command letter (tokens args.now) }
+    ensures fits { IfSome result IsWellFormed }
 {
     match letter {
         b'm' => malloc(args),
@@ -167,7 +184,8 @@ fn letter_command(letter: u8, args: &[u8]) -> Option<Command>
 
 /// The commands whose word is longer.
 fn word_command(word: &[u8], args: &[u8]) -> Option<Command>
-    ensures { result ≡ grammar.word_command word.now (tokens args.now) }
+    ensures value { result ≡ grammar.word_command word.now (tokens args.now) }
+    ensures fits { IfSome result IsWellFormed }
 {
     if word == b"walk".as_slice() {
         alone(Command::Walk, args)
@@ -188,7 +206,8 @@ fn word_command(word: &[u8], args: &[u8]) -> Option<Command>
 
 /// The command of a word and what stands behind it.
 fn command_of(word: &[u8], args: &[u8]) -> Option<Command>
-    ensures { result ≡ grammar.command_of word.now (tokens args.now) }
+    ensures value { result ≡ grammar.command_of word.now (tokens args.now) }
+    ensures fits { IfSome result IsWellFormed }
 {
     if word.len() == 1 {
         letter_command(word[0], args)
@@ -227,7 +246,8 @@ pub enum Said {
 
 /// Reads a line without its line feed.
 pub fn read_line(line: &[u8]) -> Said
-    ensures { saying_of result ≡ grammar.line_says line.now }
+    ensures value { saying_of result ≡ grammar.line_says line.now }
+    ensures fits { IsSaidInRange result }
 {
     if line.len() > LONGEST {
         return Said::Wrong;
@@ -241,7 +261,8 @@ pub fn read_line(line: &[u8]) -> Said
 /// Reads a line by its first token, and what follows it.
 fn read_tokens(word: &[u8], args: &[u8]) -> Said
     requires { 1 ≤ length word.now }
-    ensures { saying_of result ≡ grammar.tokens_say (word.now ∷ tokens args.now) }
+    ensures value { saying_of result ≡ grammar.tokens_say (word.now ∷ tokens args.now) }
+    ensures fits { IsSaidInRange result }
 {
     if word[0] == b'#' {
         return Said::Nothing;

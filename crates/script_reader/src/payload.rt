@@ -1,5 +1,5 @@
 //! The bytes of a write command.
-ghost use Rattle.std.specs.Prelude.{◌≡◌, ◌≤◌, ◌<◌, ◌⊎◌, length, MatchOption};
+ghost use Rattle.std.specs.Prelude.{◌≡◌, ◌≤◌, ◌<◌, ◌⊎◌, length, IfSome, MatchOption};
 ghost use Rattle.script_reader.specs.Commands.{bytes_in};
 
 use arrayvec::ArrayVec;
@@ -50,7 +50,8 @@ impl Payload {
 
     /// The bytes that the text spells in hexadecimal.
     pub(crate) fn from_hex(text: &[u8]) -> Option<Payload>
-        ensures { result ≡ bytes_in text.now }
+        ensures value { result ≡ bytes_in text.now }
+        ensures fits { IfSome result (λ p. (1 ≤ length p) × (length p ≤ 4096)) }
     {
         if text.len() < 2 || text.len() > 8_192 {
             return None;
