@@ -1,2 +1,4 @@
 pub mod FieldLemmas
+pub mod FirstLine
+pub mod ItemLemmas
 pub mod Words

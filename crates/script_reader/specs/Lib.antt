@@ -1,4 +1,6 @@
+pub mod Reading
 pub mod Items
 pub mod Commands
 pub mod Lines
 pub mod Said
+pub mod Inside

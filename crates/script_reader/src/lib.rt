@@ -5,8 +5,10 @@ mod command;
 mod fields;
 mod line;
 mod payload;
+mod reader;
 mod stage;
 mod tokens;
 
 pub use command::Command;
 pub use payload::Payload;
+pub use reader::{Next, Reader};
