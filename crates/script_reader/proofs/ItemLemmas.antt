@@ -2,10 +2,10 @@
 use Rattle.std.proofs.Common.{◌≡◌, ◌∙◌, ◌<◌, ◌≤◌, ◌+◌, ◌-◌, ◌==◌, ◌||◌, ◌++◌, ◌⊎◌, inl, inr, ℕ, zero, suc, Bool, true, false, cond, not, List, [], ◌∷◌, Option, Some, None, length, take, drop, refl, sym, ap, subst, arith, append_assoc, append-nil, length-append}
 use Rattle.std.proofs.lemmas.Bool.{false≢true, lt-ltb, ltb-true}
 use Rattle.std.proofs.lemmas.List.{take_all, drop_all}
-use Rattle.script_reader.specs.Commands.{line_says, wrong}
-use Rattle.script_reader.specs.Items.{Item, bad, items_at, items_by, stage_after}
+use Rattle.script_reader.specs.Commands.{Saying, line_says, wrong}
+use Rattle.script_reader.specs.Items.{Item, bad, items_at, items_by, said_items, stage_after}
 use Rattle.script_reader.specs.Lines.{is_last_line, is_too_long, lines, lines_among, onto_first, stretches}
-use Rattle.script_reader.specs.Reading.{HasNoLine, IsFirstLine, holds_line_feed, to_come}
+use Rattle.script_reader.specs.Reading.{HasNoLine, IsFirstLine, Reading, holds_line_feed, items_left, to_come}
 use Rattle.script_reader.specs.declared.stage.Stage.{Stage}
 
 pub some_stretch : (g : List ℕ) → (l : List ℕ) × (ls : List (List ℕ)) × (stretches g ≡ l ∷ ls)
@@ -105,3 +105,23 @@ pub no_items : (kept : List ℕ) (ended : Bool) → HasNoLine kept ended → (n 
 no_items kept ended h n stage =
     let nothing : cond (is_last_line ended kept) (kept ∷ []) [] ≡ [] = rw h.1 refl in
     ap (λ (ls : List (List ℕ)). items_at ls n stage) (lines_alone kept ended h.0 ∙ nothing)
+
+-- the reading behind its first line
+abbrev pub behind_line : Reading → ℕ → Stage → Reading
+behind_line old at next = record old { kept = drop at old.kept; passed = old.passed + 1; stage = next }
+
+-- the items from a line on that is in its place
+pub line_in_place : (old : Reading) (len at : ℕ) (said : Saying) (next : Stage) → old.stopped ≡ None → IsFirstLine old.kept old.ended len at
+    → said ≡ line_says (take len old.kept) → stage_after old.stage said ≡ Some next → (more : List ℕ) (e : Bool)
+    → items_left old more e ≡ said_items said (items_left (behind_line old at next) more e)
+line_in_place old len at said next going first says place more e =
+    let first = first_items old.kept old.ended len at first more e old.passed old.stage in
+    rw going (first ∙ rw (← says, place) refl)
+
+-- the items at a line that isn't
+pub line_out_of_place : (old : Reading) (len at : ℕ) (said : Saying) → old.stopped ≡ None → IsFirstLine old.kept old.ended len at
+    → said ≡ line_says (take len old.kept) → stage_after old.stage said ≡ None → (more : List ℕ) (e : Bool)
+    → items_left old more e ≡ bad (old.passed + 1) ∷ []
+line_out_of_place old len at said going first says place more e =
+    let first = first_items old.kept old.ended len at first more e old.passed old.stage in
+    rw going (first ∙ rw (← says, place) refl)

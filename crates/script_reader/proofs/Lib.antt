@@ -1,3 +1,4 @@
+pub mod AnswerLemmas
 pub mod FieldLemmas
 pub mod FirstLine
 pub mod ItemLemmas

@@ -3,4 +3,5 @@ pub mod Items
 pub mod Commands
 pub mod Lines
 pub mod Said
+pub mod Answering
 pub mod Inside

@@ -1,11 +1,12 @@
 //! The reader of scripts.
-ghost use Rattle.std.specs.Prelude.{◌≡◌, ◌≤◌, ◌<◌, ◌+◌, ◌-◌, ◌==◌, false, length, take, drop, min, position, MatchOption, None, true};
+ghost use Rattle.std.specs.Prelude.{◌≡◌, ◌≤◌, ◌<◌, ◌+◌, ◌-◌, ◌==◌, false, length, take, drop, min, position, MatchOption, None, Some, true};
 ghost use Rattle.script_reader.specs.Lines.{is_last_line};
+ghost use Rattle.script_reader.specs.Answering.{GivesSaid};
 ghost use Rattle.script_reader.specs.Reading.{Answers, HasNoLine, IsFirstLine, Steps, fed_with, fresh, holds_line_feed, taken};
 
 use crate::command::Command;
-use crate::line::LONGEST;
-use crate::stage::Stage;
+use crate::line::{LONGEST, Said, read_line};
+use crate::stage::{Stage, stage_after};
 use crate::tokens::line_feed_at;
 use arrayvec::ArrayVec;
 use cf_base::Settings;
@@ -46,7 +47,8 @@ pub struct Reader {
 }
 
 impl Model for Reader {
-    ghost use Rattle.script_reader.specs.Reading.{Reading};
+    ghost use Rattle.script_reader.specs.Answering.{GivesSaid};
+ghost use Rattle.script_reader.specs.Reading.{Reading};
 
     ghost Value = { Reading };
 
@@ -99,6 +101,64 @@ impl Reader {
     {
         self.ended = true;
     }
+
+    /// What comes next. Blank lines and comments are passed over. `NeedMore` comes exactly where no end
+    /// was told and the bytes kept after such lines are no whole line, `End` exactly where the end was
+    /// told and no line is left, and `Bad` exactly where the next line isn't in the grammar at its
+    /// place; from then on every call answers that same `Bad`.
+    pub fn next_command(&mut self) -> Next
+        ensures { Answers self.old result self.new }
+    {
+        if let Some(line) = self.stopped {
+            return Next::Bad { line };
+        }
+        'lines: loop {
+            if let Some(next) = self.step() {
+                return next;
+            }
+        }
+    }
+
+    /// Goes one line on.
+    fn step(&mut self) -> Option<Next>
+        requires { self.old.stopped ≡ None }
+        ensures { Steps self.old result self.new }
+    {
+        let kept = &self.buffer.as_slice()[self.start..];
+        let Some(cut) = first_line(kept, self.searched, self.ended) else {
+            self.searched = kept.len();
+            if self.ended {
+                return Some(Next::End);
+            }
+            return Some(Next::NeedMore);
+        };
+        let said = read_line(&kept[..cut.len]);
+        self.start += cut.next;
+        self.searched = 0;
+        self.passed += 1;
+        match stage_after(self.stage, &said) {
+            Some(stage) => {
+                self.stage = stage;
+                answer_of(said)
+            }
+            None => {
+                self.stopped = Some(self.passed);
+                Some(Next::Bad { line: self.passed })
+            }
+        }
+    }
+}
+
+/// The answer to a line in its place, where there is one.
+fn answer_of(said: Said) -> Option<Next>
+    ensures { GivesSaid said result }
+{
+    match said {
+        Said::Nothing => None,
+        Said::Opens(settings) => Some(Next::Start(settings)),
+        Said::Asked(command) => Some(Next::Command(command)),
+        Said::Wrong => None,
+    }
 }
 
 /// Drops the front of the buffer.
@@ -112,6 +172,7 @@ fn drop_front(buffer: &mut ArrayVec<u8, ROOM>, start: usize)
 }
 
 /// Where a line ends, and where the next one begins.
+#[derive(Clone, Copy)]
 struct Cut {
     len: usize,
     next: usize,
