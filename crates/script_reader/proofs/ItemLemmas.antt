@@ -59,7 +59,7 @@ lines_long a more e none long = go (some_stretch more)
     go (l, [], is) = (l, [], ap (lines_among e) (stretches_behind a more l [] none is) ∙ rw (long_last e (a ++ l) (too_long_more a l long)) refl)
     go (l, next ∷ ls, is) = (l, lines_among e (next ∷ ls), ap (lines_among e) (stretches_behind a more l (next ∷ ls) none is))
 
-says_wrong : (line : List ℕ) → is_too_long line ≡ true → line_says line ≡ wrong
+pub says_wrong : (line : List ℕ) → is_too_long line ≡ true → line_says line ≡ wrong
 says_wrong line long = rw long refl
 
 pub come_closed : (ended : Bool) (t d more : List ℕ) → to_come ended (t ++ (10 ∷ d)) more ≡ t ++ (10 ∷ to_come ended d more)

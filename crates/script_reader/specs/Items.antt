@@ -1,5 +1,5 @@
 -- A script as items.
-use Rattle.std.specs.Prelude.{ℕ, Bool, true, false, ◌+◌, List, [], ◌∷◌, Option, Some, None, if◌then◌else◌}
+use Rattle.std.specs.Prelude.{◌≡◌, ◌++◌, ℕ, Bool, true, false, ◌+◌, List, [], ◌∷◌, Option, Some, None, if◌then◌else◌}
 use Rattle.cf_base.specs.Settings.{Profile}
 use Rattle.script_reader.specs.Commands.{Saying, nothing, opens, asked, wrong, line_says}
 use Rattle.script_reader.specs.Lines.{lines}
@@ -54,3 +54,7 @@ items_at (line ∷ rest) n stage = items_by (stage_after stage (line_says line))
 -- the items of these bytes, where `ended` says whether the input ends there
 abbrev pub items : List ℕ → Bool → List Item
 items bytes ended = items_at (lines bytes ended) 0 Opening
+
+-- these items are the first of those
+abbrev pub AreFirstOf : List Item → List Item → Type 0
+AreFirstOf front all = (rest : List Item) × (all ≡ front ++ rest)

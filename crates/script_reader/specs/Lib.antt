@@ -2,6 +2,7 @@ pub mod Reading
 pub mod Items
 pub mod Commands
 pub mod Lines
+pub mod Calls
 pub mod Said
 pub mod Answering
 pub mod Inside

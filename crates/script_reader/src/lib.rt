@@ -3,6 +3,7 @@
 
 mod command;
 mod fields;
+mod laws;
 mod line;
 mod payload;
 mod reader;
@@ -10,5 +11,6 @@ mod stage;
 mod tokens;
 
 pub use command::Command;
+pub use laws::{answers_are_items, items_stay};
 pub use payload::Payload;
 pub use reader::{Next, Reader};
