@@ -52,12 +52,19 @@ items_left r more ended = if is_some r.stopped then []
 abbrev pub holds_line_feed : List ℕ → Bool
 holds_line_feed = list_any (λ x. x == 10)
 
--- items were read off, and fewer bytes are kept
+-- a front of the kept bytes was dropped, and its lines were counted
+pub record Drops (old new : Reading) : Type 0 where
+  pub front : List ℕ
+  pub kept : old.kept ≡ front ++ new.kept
+  pub counted : new.passed + length (lines new.kept true) ≡ old.passed + length (lines old.kept true)
+
+-- an item was read off, and fewer bytes are kept
 pub record Advances (old new : Reading) : Type 0 where
   pub going : old.stopped ≡ None
   pub still : new.stopped ≡ None
   pub same_end : new.ended ≡ old.ended
   pub same_fed : new.fed ≡ old.fed
+  pub drops : Drops old new
   pub shorter : length new.kept < length old.kept
 
 -- nothing but blank lines and comments was passed
@@ -66,6 +73,7 @@ pub record PassesOver (old new : Reading) : Type 0 where
   pub still : new.stopped ≡ None
   pub same_end : new.ended ≡ old.ended
   pub same_fed : new.fed ≡ old.fed
+  pub drops : Drops old new
   pub within : length new.kept ≤ length old.kept
   pub left : (more : List ℕ) (ended : Bool) → items_left old more ended ≡ items_left new more ended
 
@@ -73,7 +81,7 @@ pub record PassesOver (old new : Reading) : Type 0 where
 abbrev pub AnswersBad : Reading → Option ℕ → ℕ → Reading → Type 0
 AnswersBad old (Some before) line new = (line ≡ before) × (new ≡ old)
 AnswersBad old None line new = ((more : List ℕ) (ended : Bool) → items_left old more ended ≡ bad line ∷ [])
-    × (new.stopped ≡ Some line) × (new.ended ≡ old.ended) × (new.fed ≡ old.fed) × (length new.kept ≤ length old.kept)
+    × (new.stopped ≡ Some line) × (new.passed ≡ line) × (new.ended ≡ old.ended) × (new.fed ≡ old.fed) × Drops old new
 
 -- what the answer says of the items, whatever comes next
 abbrev pub Answers : Reading → Next → Reading → Type 0

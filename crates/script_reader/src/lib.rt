@@ -14,3 +14,6 @@ pub use command::Command;
 pub use laws::{answers_are_items, items_stay};
 pub use payload::Payload;
 pub use reader::{Next, Reader};
+
+#[cfg(test)]
+mod tests;
