@@ -1,0 +1,98 @@
+-- Tokens from the front on.
+use Rattle.std.proofs.Common.{◌≡◌, ◌∙◌, ◌-◌, subst, ◌<◌, ◌≤◌, ◌+◌, ◌||◌, ◌==◌, ℕ, suc, Bool, true, false, cond, not, List, [], ◌∷◌, length, take, drop, refl, sym, ap, arith}
+use Rattle.std.specs.List.{prefix_len, position_or_len}
+use Rattle.std.proofs.lemmas.List.Sums.{prefix_len-le-length}
+use Rattle.std.proofs.lemmas.List.{take_rest, nil_from_length}
+use Rattle.std.specs.Prelude.{position, unwrap_or, nat_lt, Option, Some, None}
+use Rattle.std.proofs.lemmas.Bool.{ltb-false}
+use Rattle.script_reader.specs.Lines.{is_gap, is_parted, onto_first, tokens}
+
+-- how many gaps stand in front
+abbrev pub gaps_in : List ℕ → ℕ
+gaps_in t = position_or_len (λ x. not (is_gap x)) t
+
+-- gaps in front change no token
+pub past_gaps : (t : List ℕ) → tokens (drop (gaps_in t) t) ≡ tokens t
+past_gaps [] = refl
+past_gaps (x ∷ r) = go (is_gap x) refl (past_gaps r)
+  where
+    go : (b : Bool) → is_gap x ≡ b → tokens (drop (gaps_in r) r) ≡ tokens r
+        → tokens (drop (cond (not (not b)) (1 + gaps_in r) 0) (x ∷ r)) ≡ tokens (x ∷ r)
+    go false isnt rest = refl
+    go true is rest = let e : 1 + gaps_in r ≡ suc (gaps_in r) = omega arith in rw (e, is) rest
+
+-- behind the gaps stands no gap
+pub no_gap_left : (t : List ℕ) → gaps_in (drop (gaps_in t) t) ≡ 0
+no_gap_left [] = refl
+no_gap_left (x ∷ r) = go (is_gap x) refl (no_gap_left r)
+  where
+    go : (b : Bool) → is_gap x ≡ b → gaps_in (drop (gaps_in r) r) ≡ 0
+        → gaps_in (drop (cond (not (not b)) (1 + gaps_in r) 0) (x ∷ r)) ≡ 0
+    go false isnt rest = rw isnt refl
+    go true is rest = let e : 1 + gaps_in r ≡ suc (gaps_in r) = omega arith in rw e rest
+
+-- a token reaches up to the next gap
+pub run : (x : ℕ) (r : List ℕ) → is_gap x ≡ false
+    → tokens (x ∷ r) ≡ (x ∷ take (position_or_len is_gap r) r) ∷ tokens (drop (position_or_len is_gap r) r)
+run x [] isnt = rw isnt refl
+run x (y ∷ s) isnt = go (is_gap y) refl (run y s)
+  where
+    go : (b : Bool) → is_gap y ≡ b
+        → (is_gap y ≡ false → tokens (y ∷ s) ≡ (y ∷ take (position_or_len is_gap s) s) ∷ tokens (drop (position_or_len is_gap s) s))
+        → tokens (x ∷ y ∷ s) ≡ (x ∷ take (cond (not b) (1 + position_or_len is_gap s) 0) (y ∷ s)) ∷ tokens (drop (cond (not b) (1 + position_or_len is_gap s) 0) (y ∷ s))
+    go true is rest = rw (isnt, is) refl
+    go false other rest =
+        let e : 1 + position_or_len is_gap s ≡ suc (position_or_len is_gap s) = omega arith in
+        rw (isnt, other, e) (ap (onto_first x) (rw other at (rest other)))
+
+pub first_token : (t : List ℕ) → gaps_in t ≡ 0 → 0 < length t
+    → tokens t ≡ take (position_or_len is_gap t) t ∷ tokens (drop (position_or_len is_gap t) t)
+first_token [] none some = absurd (omega arith)
+first_token (x ∷ r) none some = go (is_gap x) refl none
+  where
+    go : (b : Bool) → is_gap x ≡ b → cond (not (not b)) (1 + gaps_in r) 0 ≡ 0
+        → tokens (x ∷ r) ≡ take (cond (not b) (1 + position_or_len is_gap r) 0) (x ∷ r) ∷ tokens (drop (cond (not b) (1 + position_or_len is_gap r) 0) (x ∷ r))
+    go true is none = absurd (omega arith)
+    go false isnt none = let e : 1 + position_or_len is_gap r ≡ suc (position_or_len is_gap r) = omega arith in rw e (run x r isnt)
+
+pub place-le-length : (p : ℕ → Bool) (t : List ℕ) → position_or_len p t ≤ length t
+place-le-length p t = prefix_len-le-length (λ x. not (p x)) t
+
+-- the first place that passes, or the length
+pub place_or_end : (p : ℕ → Bool) (t : List ℕ) → unwrap_or (position p t) (length t) ≡ position_or_len p t
+place_or_end p t = go (nat_lt (position_or_len p t) (length t)) refl
+  where
+    go : (b : Bool) → nat_lt (position_or_len p t) (length t) ≡ b → unwrap_or (cond b (Some (position_or_len p t)) None) (length t) ≡ position_or_len p t
+    go true is = refl
+    go false isnt = let above = ltb-false _ _ isnt in let below = place-le-length p t in omega arith
+
+behind_gaps : (t s : List ℕ) (g : ℕ) → s ≡ take (length t - g) (drop g t) → g ≡ gaps_in t → s ≡ drop (gaps_in t) t
+behind_gaps t s g is count = is ∙ take_rest t g ∙ ap (λ (n : ℕ). drop n t) count
+
+-- no token is left where only gaps are
+pub only_gaps : (t s : List ℕ) (g : ℕ) → s ≡ take (length t - g) (drop g t) → g ≡ gaps_in t → length s ≡ 0 → tokens t ≡ []
+only_gaps t s g is count none =
+    sym (past_gaps t) ∙ ap tokens (sym (behind_gaps t s g is count)) ∙ ap tokens (nil_from_length s none)
+
+-- the first token of a text
+pub token_of_text : (t s : List ℕ) (g m : ℕ) → s ≡ take (length t - g) (drop g t) → g ≡ gaps_in t → m ≡ position_or_len is_gap s
+    → 0 < length s → tokens t ≡ take m s ∷ tokens (drop m s)
+token_of_text t s g m is count size some =
+    let behind = behind_gaps t s g is count in
+    let none : gaps_in s ≡ 0 = ap gaps_in behind ∙ no_gap_left t in
+    sym (past_gaps t) ∙ ap tokens (sym behind) ∙ first_token s none some
+    ∙ ap (λ (n : ℕ). take n s ∷ tokens (drop n s)) (sym size)
+
+-- a token has a byte
+pub some_byte : (s : List ℕ) → gaps_in s ≡ 0 → 0 < length s → 1 ≤ length (take (position_or_len is_gap s) s)
+some_byte [] none some = absurd (omega arith)
+some_byte (x ∷ r) none some = go (is_gap x) none
+  where
+    go : (b : Bool) → cond (not (not b)) (1 + gaps_in r) 0 ≡ 0 → 1 ≤ length (take (cond (not b) (1 + position_or_len is_gap r) 0) (x ∷ r))
+    go true none = absurd (omega arith)
+    go false none = let e : 1 + position_or_len is_gap r ≡ suc (position_or_len is_gap r) = omega arith in rw e (omega arith)
+
+pub token_has_byte : (t s : List ℕ) (g m : ℕ) → s ≡ take (length t - g) (drop g t) → g ≡ gaps_in t → m ≡ position_or_len is_gap s
+    → 0 < length s → 1 ≤ length (take m s)
+token_has_byte t s g m is count size some =
+    rw size (some_byte s (ap gaps_in (behind_gaps t s g is count) ∙ no_gap_left t) some)

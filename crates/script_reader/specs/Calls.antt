@@ -1,0 +1,52 @@
+-- Calls of a reader, one after the other, and what they gave.
+use Rattle.std.specs.Prelude.{◌≡◌, ◌++◌, ℕ, Bool, true, false, List, [], ◌∷◌}
+use Rattle.cf_base.specs.Settings.{profile_of}
+use Rattle.script_reader.specs.Items.{Item, asks, bad, starts}
+use Rattle.script_reader.specs.Reading.{Answers, Reading, fed_with}
+use Rattle.script_reader.specs.declared.reader.Next.{Next}
+use Rattle.script_reader.specs.declared.reader.Next.TheVariants.{Start, Command, NeedMore, Bad, End}
+
+-- these bytes were taken, the end was told, or this was answered
+pub data Call : Type 0 where
+  feeds : List ℕ → Call
+  finishes : Call
+  answers : Next → Call
+
+-- the call leads from the one to the other
+abbrev pub IsCall : Reading → Call → Reading → Type 0
+IsCall old (feeds bytes) new = (old.ended ≡ false) × (new ≡ fed_with old bytes)
+IsCall old finishes new = new ≡ record old { ended = true }
+IsCall old (answers next) new = Answers old next new
+
+abbrev pub AreCalls : Reading → List Call → Reading → Type 0
+AreCalls old [] new = new ≡ old
+AreCalls old (call ∷ rest) new = (mid : Reading) × IsCall old call mid × AreCalls mid rest new
+
+-- all bytes that were taken
+abbrev pub bytes_fed : List Call → List ℕ
+bytes_fed [] = []
+bytes_fed (feeds bytes ∷ rest) = bytes ++ bytes_fed rest
+bytes_fed (finishes ∷ rest) = bytes_fed rest
+bytes_fed (answers next ∷ rest) = bytes_fed rest
+
+-- whether the end was told
+abbrev pub is_finished : List Call → Bool
+is_finished [] = false
+is_finished (feeds bytes ∷ rest) = is_finished rest
+is_finished (finishes ∷ rest) = true
+is_finished (answers next ∷ rest) = is_finished rest
+
+-- the answer, where it is an item, in front of the items after it; nothing comes after a bad line
+abbrev pub given_then : Next → List Item → List Item
+given_then (Start settings) after = starts (profile_of settings) ∷ after
+given_then (Command command) after = asks command ∷ after
+given_then NeedMore after = after
+given_then (Bad line) after = bad line ∷ []
+given_then End after = after
+
+-- the items that were answered, up to the first bad line
+abbrev pub items_given : List Call → List Item
+items_given [] = []
+items_given (feeds bytes ∷ rest) = items_given rest
+items_given (finishes ∷ rest) = items_given rest
+items_given (answers next ∷ rest) = given_then next (items_given rest)

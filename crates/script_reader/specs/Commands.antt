@@ -1,0 +1,257 @@
+-- The grammar of one line.
+use Rattle.std.specs.Prelude.{◌≤◌, ℕ, Bool, true, false, ◌==◌, ◌&&◌, List, [], ◌∷◌, length, Option, Some, None, option_map, if◌then◌else◌}
+use Rattle.std.specs.Result.{result_ok}
+use Rattle.std.specs.Str.{bytes_eq, byte}
+use Rattle.std.specs.Prelude.{codes}
+use Rattle.hex.specs.Hex.{decode_of}
+use Rattle.cf_base.specs.Limits.{is_within}
+use Rattle.cf_base.specs.Settings.{Profile, profile_from, setting_fault}
+use Rattle.cf_base.specs.declared.settings.SettingFault.{SettingFault}
+use Rattle.cf_io.specs.Numbers.{number_in}
+use Rattle.script_reader.specs.Lines.{is_too_long, tokens, without_return}
+use Rattle.script_reader.specs.declared.command.Command.{Command}
+use Rattle.script_reader.specs.declared.command.Command.TheVariants.{Malloc, Free, Write, Read, Place, Block, Peek, Walk, Frag, Steps, Bound, Resize, Slice, Task, Quota, Need, Admit}
+
+-- the second step, if the first gave a value
+infixl 10 ◌>>=◌
+abbrev pub ◌>>=◌ : {A B : Type 0} → Option A → (A → Option B) → Option B
+None >>= f = None
+Some x >>= f = f x
+
+-- exactly so many
+abbrev pub none_of : List (List ℕ) → Bool
+none_of [] = true
+none_of (a ∷ rest) = false
+
+abbrev pub one_of : List (List ℕ) → Option (List ℕ)
+one_of (a ∷ []) = Some a
+one_of _ = None
+
+abbrev pub two_of : List (List ℕ) → Option (List ℕ × List ℕ)
+two_of (a ∷ b ∷ []) = Some (a, b)
+two_of _ = None
+
+abbrev pub three_of : List (List ℕ) → Option (List ℕ × List ℕ × List ℕ)
+three_of (a ∷ b ∷ c ∷ []) = Some (a, b, c)
+three_of _ = None
+
+abbrev pub four_of : List (List ℕ) → Option (List ℕ × List ℕ × List ℕ × List ℕ)
+four_of (a ∷ b ∷ c ∷ d ∷ []) = Some (a, b, c, d)
+four_of _ = None
+
+-- a number from low to high
+abbrev pub number_from : ℕ → ℕ → List ℕ → Option ℕ
+number_from low high text = do
+  n ← number_in text
+  (if is_within low high n then Some n else None)
+
+abbrev pub id_in : List ℕ → Option ℕ
+id_in text = number_from 0 65535 text
+
+-- how many bytes are read at once
+abbrev pub length_in : List ℕ → Option ℕ
+length_in text = number_from 0 4096 text
+
+-- the bound of not-full pages of a class
+abbrev pub bound_in : List ℕ → Option ℕ
+bound_in text = number_from 1 64 text
+
+abbrev pub task_in : List ℕ → Option ℕ
+task_in text = number_from 0 15 text
+
+-- the bytes of an even number of hexadecimal digits in either case, from 2 to 8,192 of them
+abbrev pub bytes_in : List ℕ → Option (List ℕ)
+bytes_in text = if is_within 2 8192 (length text) then result_ok (decode_of text) else None
+
+-- m ID BYTES
+abbrev pub malloc_in : List (List ℕ) → Option Command
+malloc_in args = do
+  p ← two_of args
+  id ← id_in p.0
+  bytes ← number_in p.1
+  Some (Malloc id bytes)
+
+-- f ID
+abbrev pub free_in : List (List ℕ) → Option Command
+free_in args = do
+  a ← one_of args
+  id ← id_in a
+  Some (Free id)
+
+-- w ID AT HEX
+abbrev pub write_in : List (List ℕ) → Option Command
+write_in args = do
+  p ← three_of args
+  id ← id_in p.0
+  at ← number_in p.1
+  bytes ← bytes_in p.2
+  Some (Write id at bytes)
+
+-- r ID AT LEN
+abbrev pub read_in : List (List ℕ) → Option Command
+read_in args = do
+  p ← three_of args
+  id ← id_in p.0
+  at ← number_in p.1
+  len ← length_in p.2
+  Some (Read id at len)
+
+-- q ID
+abbrev pub place_in : List (List ℕ) → Option Command
+place_in args = do
+  a ← one_of args
+  id ← id_in a
+  Some (Place id)
+
+-- b ID I
+abbrev pub block_in : List (List ℕ) → Option Command
+block_in args = do
+  p ← two_of args
+  id ← id_in p.0
+  i ← number_in p.1
+  Some (Block id i)
+
+-- p WORD
+abbrev pub peek_in : List (List ℕ) → Option Command
+peek_in args = do
+  a ← one_of args
+  word ← number_in a
+  Some (Peek word)
+
+-- k SLOTWORDS K
+abbrev pub bound_command_in : List (List ℕ) → Option Command
+bound_command_in args = do
+  p ← two_of args
+  slot_words ← number_in p.0
+  k ← bound_in p.1
+  Some (Bound slot_words k)
+
+-- z ID BYTES
+abbrev pub resize_in : List (List ℕ) → Option Command
+resize_in args = do
+  p ← two_of args
+  id ← id_in p.0
+  bytes ← number_in p.1
+  Some (Resize id bytes)
+
+-- t TASK
+abbrev pub task_command_in : List (List ℕ) → Option Command
+task_command_in args = do
+  a ← one_of args
+  task ← task_in a
+  Some (Task task)
+
+-- quota TASK PAGES
+abbrev pub quota_in : List (List ℕ) → Option Command
+quota_in args = do
+  p ← two_of args
+  task ← task_in p.0
+  pages ← number_in p.1
+  Some (Quota task pages)
+
+-- need TASK BYTES COUNT
+abbrev pub need_in : List (List ℕ) → Option Command
+need_in args = do
+  p ← three_of args
+  task ← task_in p.0
+  bytes ← number_in p.1
+  count ← number_in p.2
+  Some (Need task bytes count)
+
+-- admit TASK
+abbrev pub admit_in : List (List ℕ) → Option Command
+admit_in args = do
+  a ← one_of args
+  task ← task_in a
+  Some (Admit task)
+
+-- walk, frag, steps, s
+abbrev pub alone_in : Command → List (List ℕ) → Option Command
+alone_in command args = if none_of args then Some command else None
+
+-- the commands whose word is a letter
+abbrev pub letter_command : ℕ → List (List ℕ) → Option Command
+letter_command letter args =
+    if letter == byte "m" then malloc_in args
+    else (if letter == byte "f" then free_in args
+    else (if letter == byte "w" then write_in args
+    else (if letter == byte "r" then read_in args
+    else (if letter == byte "q" then place_in args
+    else (if letter == byte "b" then block_in args
+    else (if letter == byte "p" then peek_in args
+    else (if letter == byte "k" then bound_command_in args
+    else (if letter == byte "z" then resize_in args
+    else (if letter == byte "s" then alone_in Slice args
+    else (if letter == byte "t" then task_command_in args else None))))))))))
+
+-- the commands whose word is longer
+abbrev pub word_command : List ℕ → List (List ℕ) → Option Command
+word_command word args =
+    if bytes_eq word (codes "walk") then alone_in Walk args
+    else (if bytes_eq word (codes "frag") then alone_in Frag args
+    else (if bytes_eq word (codes "steps") then alone_in Steps args
+    else (if bytes_eq word (codes "quota") then quota_in args
+    else (if bytes_eq word (codes "need") then need_in args
+    else (if bytes_eq word (codes "admit") then admit_in args else None)))))
+
+-- the command of a word and what stands behind it
+abbrev pub command_of : List ℕ → List (List ℕ) → Option Command
+command_of (letter ∷ []) args = letter_command letter args
+command_of word args = word_command word args
+
+-- these settings, where all are in range
+abbrev pub settings_if : Option SettingFault → Profile → Option Profile
+settings_if None settings = Some settings
+settings_if (Some fault) settings = None
+
+-- heap PAGES PAGEBYTES K PROXIES
+abbrev pub settings_in : List (List ℕ) → Option Profile
+settings_in args = do
+  p ← four_of args
+  pages ← number_in p.0
+  page_bytes ← number_in p.1
+  k ← number_in p.2
+  proxies ← number_in p.3
+  settings_if (setting_fault pages page_bytes k proxies) (profile_from pages page_bytes k proxies)
+
+-- what a line says, wherever it stands
+pub data Saying : Type 0 where
+  nothing : Saying
+  opens : Profile → Saying
+  asked : Command → Saying
+  wrong : Saying
+
+abbrev pub opens_or_wrong : Option Profile → Saying
+opens_or_wrong None = wrong
+opens_or_wrong (Some settings) = opens settings
+
+abbrev pub asked_or_wrong : Option Command → Saying
+asked_or_wrong None = wrong
+asked_or_wrong (Some command) = asked command
+
+-- whether the token begins a comment
+abbrev pub is_comment : List ℕ → Bool
+is_comment [] = false
+is_comment (x ∷ rest) = x == byte "#"
+
+-- what a line with these tokens says
+abbrev pub tokens_say : List (List ℕ) → Saying
+tokens_say [] = nothing
+tokens_say (word ∷ args) =
+    if is_comment word then nothing
+    else (if bytes_eq word (codes "heap") then opens_or_wrong (settings_in args)
+    else asked_or_wrong (command_of word args))
+
+abbrev pub line_says : List ℕ → Saying
+line_says line = if is_too_long line then wrong else tokens_say (tokens (without_return line))
+
+-- the numbers of the command are in range: those that their types don't keep
+abbrev pub IsWellFormed : Command → Type 0
+IsWellFormed (Write id at bytes) = (1 ≤ length bytes) × (length bytes ≤ 4096)
+IsWellFormed (Read id at len) = len ≤ 4096
+IsWellFormed (Bound slot_words k) = (1 ≤ k) × (k ≤ 64)
+IsWellFormed (Task task) = task ≤ 15
+IsWellFormed (Quota task pages) = task ≤ 15
+IsWellFormed (Need task bytes count) = task ≤ 15
+IsWellFormed (Admit task) = task ≤ 15
+IsWellFormed _ = Unit {0}

@@ -1,0 +1,19 @@
+-- How a reader keeps a script that is being read. No public clause cites this module.
+use Rattle.std.specs.Prelude.{◌≡◌, ◌≤◌, ◌+◌, false, List, ℕ, length, take, drop}
+use Rattle.script_reader.specs.Reading.{MOST_FED, Reading, holds_line_feed}
+use Rattle.script_reader.specs.declared.reader.Reader.TheInside.{Inside}
+
+abbrev pub kept_in : Inside → List ℕ
+kept_in r = drop r.start r.buffer.items
+
+abbrev pub reading_of : Inside → Reading
+reading_of r = record { kept = kept_in r; passed = r.passed; stage = r.stage; ended = r.ended; stopped = r.stopped; fed = r.fed }
+
+-- the kept bytes are an end of the buffer; a front of them was searched; each line passed had a byte
+pub record IsReader (r : Inside) : Type 0 where
+  pub start : r.start ≤ length r.buffer.items
+  pub few : length r.buffer.items ≤ 9000
+  pub searched : r.searched ≤ length (kept_in r)
+  pub none : holds_line_feed (take r.searched (kept_in r)) ≡ false
+  pub lines : r.passed + length (kept_in r) ≤ r.fed
+  pub fed : r.fed ≤ MOST_FED

@@ -1,0 +1,8 @@
+pub mod Reading
+pub mod Items
+pub mod Commands
+pub mod Lines
+pub mod Calls
+pub mod Said
+pub mod Answering
+pub mod Inside

@@ -1,0 +1,54 @@
+-- A script as lines, and a line as tokens.
+use Rattle.std.specs.Prelude.{ℕ, Bool, true, false, ◌||◌, ◌==◌, ◌-◌, not, List, [], ◌∷◌, length, take, slice_index, nat_lt, if◌then◌else◌}
+
+-- the longest line, without its line feed
+abbrev pub LONGEST : ℕ
+LONGEST = 8999
+
+-- whether a line has more bytes than any line may have
+abbrev pub is_too_long : List ℕ → Bool
+is_too_long line = nat_lt LONGEST (length line)
+
+-- the byte comes in front of the first text
+abbrev pub onto_first : ℕ → List (List ℕ) → List (List ℕ)
+onto_first x [] = (x ∷ []) ∷ []
+onto_first x (text ∷ rest) = (x ∷ text) ∷ rest
+
+-- what stands between the line feeds, before the first one and after the last one: one text or more
+abbrev pub stretches : List ℕ → List (List ℕ)
+stretches [] = [] ∷ []
+stretches (x ∷ rest) = if x == 10 then [] ∷ stretches rest else onto_first x (stretches rest)
+
+-- whether what follows the last line feed is a line
+abbrev pub is_last_line : Bool → List ℕ → Bool
+is_last_line ended [] = false
+is_last_line ended (x ∷ rest) = ended || is_too_long (x ∷ rest)
+
+-- the stretches but for the last one, and the last one where it is a line
+abbrev pub lines_among : Bool → List (List ℕ) → List (List ℕ)
+lines_among ended [] = []
+lines_among ended (last ∷ []) = if is_last_line ended last then last ∷ [] else []
+lines_among ended (line ∷ next ∷ rest) = line ∷ lines_among ended (next ∷ rest)
+
+-- the lines of these bytes, where `ended` says whether the input ends there
+abbrev pub lines : List ℕ → Bool → List (List ℕ)
+lines bytes ended = lines_among ended (stretches bytes)
+
+-- the line without one carriage return at its end
+abbrev pub without_return : List ℕ → List ℕ
+without_return line = if slice_index line (length line - 1) == 13 then take (length line - 1) line else line
+
+-- whether the byte parts tokens: a space or a tab
+abbrev pub is_gap : ℕ → Bool
+is_gap x = x == 32 || x == 9
+
+-- whether no token goes on here
+abbrev pub is_parted : List ℕ → Bool
+is_parted [] = true
+is_parted (x ∷ rest) = is_gap x
+
+-- the longest runs of bytes that are no gaps
+abbrev pub tokens : List ℕ → List (List ℕ)
+tokens [] = []
+tokens (x ∷ rest) = if is_gap x then tokens rest
+    else (if is_parted rest then (x ∷ []) ∷ tokens rest else onto_first x (tokens rest))

@@ -1,0 +1,112 @@
+-- What the reader still has to say.
+use Rattle.std.specs.Prelude.{◌≡◌, ◌<◌, ◌≤◌, ◌+◌, ◌-◌, ◌==◌, ◌||◌, ◌⊎◌, ◌++◌, ℕ, suc, Bool, true, false, List, [], ◌∷◌, Option, Some, None, is_some, length, take, drop, min, if◌then◌else◌}
+use Rattle.std.specs.List.{list_any}
+use Rattle.cf_base.specs.Settings.{profile_of}
+use Rattle.script_reader.specs.Commands.{IsWellFormed, line_says}
+use Rattle.script_reader.specs.Items.{Item, asks, bad, starts, items_at, items_by, stage_after}
+use Rattle.script_reader.specs.Lines.{LONGEST, is_last_line, lines}
+use Rattle.script_reader.specs.declared.reader.Next.{Next}
+use Rattle.script_reader.specs.declared.reader.Next.TheVariants.{Start, Command, NeedMore, Bad, End}
+use Rattle.script_reader.specs.declared.stage.Stage.{Stage}
+use Rattle.script_reader.specs.declared.stage.Stage.TheVariants.{Opening}
+
+-- A script that is being read: the bytes that are kept, the lines passed, the stage that they led to,
+-- whether the end was told, the number of the bad line, where it was answered, and the bytes ever fed.
+pub record Reading : Type 0 where
+  pub kept : List ℕ
+  pub passed : ℕ
+  pub stage : Stage
+  pub ended : Bool
+  pub stopped : Option ℕ
+  pub fed : ℕ
+
+-- nothing was fed
+abbrev pub fresh : Reading
+fresh = record { kept = []; passed = 0; stage = Opening; ended = false; stopped = None; fed = 0 }
+
+-- the most bytes that are kept
+abbrev pub ROOM : ℕ
+ROOM = 9000
+
+-- the most bytes that are ever fed
+abbrev pub MOST_FED : ℕ
+MOST_FED = 4294967295
+
+-- how many bytes of a piece are taken
+abbrev pub taken : Reading → List ℕ → ℕ
+taken r piece = min (length piece) (min (ROOM - length r.kept) (MOST_FED - r.fed))
+
+-- these bytes were fed
+abbrev pub fed_with : Reading → List ℕ → Reading
+fed_with r bytes = record r { kept = r.kept ++ bytes; fed = r.fed + length bytes }
+
+-- the bytes to come; none where the end was told
+abbrev pub to_come : Bool → List ℕ → List ℕ → List ℕ
+to_come ended kept more = if ended then kept else kept ++ more
+
+-- the items still to come, where these bytes come next and the input then ends or doesn't
+abbrev pub items_left : Reading → List ℕ → Bool → List Item
+items_left r more ended = if is_some r.stopped then []
+    else items_at (lines (to_come r.ended r.kept more) (r.ended || ended)) r.passed r.stage
+
+abbrev pub holds_line_feed : List ℕ → Bool
+holds_line_feed = list_any (λ x. x == 10)
+
+-- a front of the kept bytes was dropped, and its lines were counted
+pub record Drops (old new : Reading) : Type 0 where
+  pub front : List ℕ
+  pub kept : old.kept ≡ front ++ new.kept
+  pub counted : new.passed + length (lines new.kept true) ≡ old.passed + length (lines old.kept true)
+
+-- an item was read off, and fewer bytes are kept
+pub record Advances (old new : Reading) : Type 0 where
+  pub going : old.stopped ≡ None
+  pub still : new.stopped ≡ None
+  pub same_end : new.ended ≡ old.ended
+  pub same_fed : new.fed ≡ old.fed
+  pub drops : Drops old new
+  pub shorter : length new.kept < length old.kept
+
+-- nothing but blank lines and comments was passed
+pub record PassesOver (old new : Reading) : Type 0 where
+  pub going : old.stopped ≡ None
+  pub still : new.stopped ≡ None
+  pub same_end : new.ended ≡ old.ended
+  pub same_fed : new.fed ≡ old.fed
+  pub drops : Drops old new
+  pub within : length new.kept ≤ length old.kept
+  pub left : (more : List ℕ) (ended : Bool) → items_left old more ended ≡ items_left new more ended
+
+-- the answer at a bad line, and each one after it
+abbrev pub AnswersBad : Reading → Option ℕ → ℕ → Reading → Type 0
+AnswersBad old (Some before) line new = (line ≡ before) × (new ≡ old)
+AnswersBad old None line new = ((more : List ℕ) (ended : Bool) → items_left old more ended ≡ bad line ∷ [])
+    × (new.stopped ≡ Some line) × (new.passed ≡ line) × (new.ended ≡ old.ended) × (new.fed ≡ old.fed) × Drops old new
+
+-- what the answer says of the items, whatever comes next
+abbrev pub Answers : Reading → Next → Reading → Type 0
+Answers old (Start settings) new = Advances old new
+    × ((more : List ℕ) (ended : Bool) → items_left old more ended ≡ starts (profile_of settings) ∷ items_left new more ended)
+Answers old (Command command) new = Advances old new × IsWellFormed command
+    × ((more : List ℕ) (ended : Bool) → items_left old more ended ≡ asks command ∷ items_left new more ended)
+Answers old NeedMore new = PassesOver old new × (old.ended ≡ false) × (items_left old [] false ≡ [])
+    × (length new.kept ≤ LONGEST) × (holds_line_feed new.kept ≡ false)
+Answers old (Bad line) new = AnswersBad old old.stopped line new
+Answers old End new = PassesOver old new × (old.ended ≡ true) × (items_left old [] true ≡ []) × (new.kept ≡ [])
+
+-- one line on: a blank line or a comment was passed, or the answer was found
+abbrev pub Steps : Reading → Option Next → Reading → Type 0
+Steps old None new = PassesOver old new × (length new.kept < length old.kept)
+Steps old (Some answer) new = Answers old answer new
+
+-- where the first line ends, and where the next one begins: behind the line feed, or at the end where the rest counts as a line
+pub record IsFirstLine (kept : List ℕ) (ended : Bool) (len next : ℕ) : Type 0 where
+  pub some : 1 ≤ next
+  pub within : next ≤ length kept
+  pub inside : len ≤ next
+  pub cut : ((kept ≡ take len kept ++ (10 ∷ drop next kept)) × (holds_line_feed (take len kept) ≡ false))
+      ⊎ ((len ≡ length kept) × (next ≡ length kept) × (holds_line_feed kept ≡ false) × (is_last_line ended kept ≡ true))
+
+-- no line is there yet
+abbrev pub HasNoLine : List ℕ → Bool → Type 0
+HasNoLine kept ended = (holds_line_feed kept ≡ false) × (is_last_line ended kept ≡ false)

@@ -1,0 +1,42 @@
+//! The commands of a script.
+
+use crate::payload::Payload;
+
+/// A command of a script, and the line that says it.
+#[derive(Drop)]
+pub enum Command {
+    /// `m ID BYTES`: makes an object of so many bytes.
+    Malloc { id: u16, bytes: u32 },
+    /// `f ID`: frees the object.
+    Free { id: u16 },
+    /// `w ID AT HEX`: writes bytes into the object.
+    Write { id: u16, at: u32, bytes: Payload },
+    /// `r ID AT LEN`: reads bytes of the object, at most 4,096.
+    Read { id: u16, at: u32, len: u16 },
+    /// `q ID`: where the object is.
+    Place { id: u16 },
+    /// `b ID I`: the physical block behind a block of the object.
+    Block { id: u16, i: u32 },
+    /// `p WORD`: a word of the region.
+    Peek { word: u32 },
+    /// `walk`: the classes in use.
+    Walk,
+    /// `frag`: bytes asked for, taken and held.
+    Frag,
+    /// `steps`: the steps of the last call.
+    Steps,
+    /// `k SLOTWORDS K`: the bound of not-full pages of one class, from 1 to 64.
+    Bound { slot_words: u32, k: u32 },
+    /// `z ID BYTES`: changes the object's length.
+    Resize { id: u16, bytes: u32 },
+    /// `s`: one slice of pending work.
+    Slice,
+    /// `t TASK`: makes a task, from 0 to 15, the present one.
+    Task { task: u32 },
+    /// `quota TASK PAGES`: the pages that a task may use.
+    Quota { task: u32, pages: u32 },
+    /// `need TASK BYTES COUNT`: a task declares objects.
+    Need { task: u32, bytes: u32, count: u32 },
+    /// `admit TASK`: whether the task's declared objects fit its quota.
+    Admit { task: u32 },
+}

@@ -1,0 +1,19 @@
+//! Bytes to commands, by the grammar of scripts, however the bytes are cut into pieces.
+#![tactic(auto)]
+
+mod command;
+mod fields;
+mod laws;
+mod line;
+mod payload;
+mod reader;
+mod stage;
+mod tokens;
+
+pub use command::Command;
+pub use laws::{answers_are_items, items_stay};
+pub use payload::Payload;
+pub use reader::{Next, Reader};
+
+#[cfg(test)]
+mod tests;

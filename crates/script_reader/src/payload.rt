@@ -1,0 +1,66 @@
+//! The bytes of a write command.
+ghost use Rattle.std.specs.Prelude.{◌≡◌, ◌≤◌, ◌<◌, ◌⊎◌, length, IfSome, MatchOption};
+ghost use Rattle.script_reader.specs.Commands.{bytes_in};
+
+use arrayvec::ArrayVec;
+use std::marker::Model;
+
+const MOST: usize = 4_096;
+
+/// From 1 to 4,096 bytes, kept in place.
+#[derive(Drop)]
+pub struct Payload {
+    bytes: ArrayVec<u8, MOST>,
+}
+
+impl Model for Payload {
+    ghost use Rattle.std.specs.Prelude.{ℕ, List, ◌≤◌, length};
+
+    ghost Value = { List ℕ };
+
+    ghost view = { λ p. p.bytes.items };
+
+    ghost invariant = { λ p. (1 ≤ length p.bytes.items) × (length p.bytes.items ≤ 4096) };
+}
+
+impl Payload {
+    /// These bytes. None exactly where there are none, or more than 4,096.
+    pub fn new(bytes: &[u8]) -> Option<Payload>
+        ensures { MatchOption result ((length bytes.now ≡ 0) ⊎ (4096 < length bytes.now))
+            (λ p. (p ≡ bytes.now) × (1 ≤ length bytes.now) × (length bytes.now ≤ 4096)) }
+    {
+        if bytes.len() == 0 {
+            return None;
+        }
+        let mut kept = ArrayVec::new();
+        match kept.try_extend_from_slice(bytes) {
+            Ok(()) => Some(Payload { bytes: kept }),
+            Err(_) => None,
+        }
+    }
+
+    /// The bytes.
+    pub fn bytes(&self) -> &[u8]
+        ensures value { result.now ≡ self.now }
+        ensures some { 1 ≤ length self.now }
+        ensures fits { length self.now ≤ 4096 }
+    {
+        self.bytes.as_slice()
+    }
+
+    /// The bytes that the text spells in hexadecimal.
+    pub(crate) fn from_hex(text: &[u8]) -> Option<Payload>
+        ensures value { result ≡ bytes_in text.now }
+        ensures fits { IfSome result (λ p. (1 ≤ length p) × (length p ≤ 4096)) }
+    {
+        if text.len() < 2 || text.len() > 8_192 {
+            return None;
+        }
+        let mut kept = ArrayVec::from([0; MOST]);
+        kept.truncate(text.len() / 2);
+        match hex::decode_to_slice(text, kept.as_mut_slice()) {
+            Ok(()) => Some(Payload { bytes: kept }),
+            Err(_) => None,
+        }
+    }
+}

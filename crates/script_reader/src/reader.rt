@@ -1,0 +1,212 @@
+//! The reader of scripts.
+ghost use Rattle.std.specs.Prelude.{◌≡◌, ◌≤◌, ◌<◌, ◌+◌, ◌-◌, ◌==◌, false, length, take, drop, min, position, MatchOption, None, Some, true};
+ghost use Rattle.script_reader.specs.Lines.{is_last_line};
+ghost use Rattle.script_reader.specs.Answering.{GivesSaid};
+ghost use Rattle.script_reader.specs.Reading.{Answers, HasNoLine, IsFirstLine, Steps, fed_with, fresh, holds_line_feed, taken};
+
+use crate::command::Command;
+use crate::line::{LONGEST, Said, read_line};
+use crate::stage::{Stage, stage_after};
+use crate::tokens::line_feed_at;
+use arrayvec::ArrayVec;
+use cf_base::Settings;
+use std::marker::Model;
+
+/// What comes next in a script.
+#[derive(Drop)]
+pub enum Next {
+    /// The heap is opened with these settings.
+    Start(Settings),
+    /// A command.
+    Command(Command),
+    /// More bytes must be fed, or the end told.
+    NeedMore,
+    /// The line of this number, counted from 1, isn't in the grammar at its place.
+    Bad { line: u32 },
+    /// The script has ended.
+    End,
+}
+
+/// The most bytes that are kept.
+const ROOM: usize = 9_000;
+
+/// Reads a script from bytes that come in pieces. It keeps at most 9,000 bytes in place, and takes no
+/// memory.
+#[derive(Drop)]
+pub struct Reader {
+    /// The bytes fed that were not dropped; those from `start` on are kept.
+    buffer: ArrayVec<u8, ROOM>,
+    start: usize,
+    /// In how many of the kept bytes no line feed stands, as far as is known.
+    searched: usize,
+    passed: u32,
+    stage: Stage,
+    ended: bool,
+    stopped: Option<u32>,
+    fed: u32,
+}
+
+impl Model for Reader {
+    ghost use Rattle.script_reader.specs.Answering.{GivesSaid};
+ghost use Rattle.script_reader.specs.Reading.{Reading};
+
+    ghost Value = { Reading };
+
+    ghost use Rattle.script_reader.specs.Inside.{IsReader, reading_of};
+
+    ghost view = { reading_of };
+
+    ghost invariant = { IsReader };
+}
+
+impl Reader {
+    /// A reader that was fed nothing.
+    pub fn new() -> Reader
+        ensures { result ≡ fresh }
+    {
+        Reader {
+            buffer: ArrayVec::new(),
+            start: 0,
+            searched: 0,
+            passed: 0,
+            stage: Stage::Opening,
+            ended: false,
+            stopped: None,
+            fed: 0,
+        }
+    }
+
+    /// Takes the front of the piece, and answers how many bytes: the least of the piece's length, the
+    /// room left of 9,000 bytes, and what keeps all bytes ever fed at `2^32 - 1`.
+    pub fn feed(&mut self, piece: &[u8]) -> usize
+        requires { self.old.ended ≡ false }
+        ensures value { result ≡ taken self.old piece.now }
+        ensures fed { self.new ≡ fed_with self.old (take result piece.now) }
+    {
+        let room = ROOM - (self.buffer.len() - self.start);
+        let left = (u32::MAX - self.fed) as usize;
+        let n = piece.len().min(room.min(left));
+        if self.buffer.remaining_capacity() < n {
+            drop_front(&mut self.buffer, self.start);
+            self.start = 0;
+        }
+        let _ = self.buffer.try_extend_from_slice(&piece[..n]);
+        self.fed += n as u32;
+        n
+    }
+
+    /// The end is told: no byte comes any more.
+    pub fn finish(&mut self)
+        ensures { self.new ≡ record self.old { ended = true } }
+    {
+        self.ended = true;
+    }
+
+    /// What comes next. Blank lines and comments are passed over. `NeedMore` comes exactly where no end
+    /// was told and the bytes kept after such lines are no whole line, `End` exactly where the end was
+    /// told and no line is left, and `Bad` exactly where the next line isn't in the grammar at its
+    /// place; from then on every call answers that same `Bad`.
+    pub fn next_command(&mut self) -> Next
+        ensures { Answers self.old result self.new }
+    {
+        if let Some(line) = self.stopped {
+            return Next::Bad { line };
+        }
+        'lines: loop {
+            if let Some(next) = self.step() {
+                return next;
+            }
+        }
+    }
+
+    /// Goes one line on.
+    fn step(&mut self) -> Option<Next>
+        requires { self.old.stopped ≡ None }
+        ensures { Steps self.old result self.new }
+    {
+        let kept = &self.buffer.as_slice()[self.start..];
+        let Some(cut) = first_line(kept, self.searched, self.ended) else {
+            self.searched = kept.len();
+            if self.ended {
+                return Some(Next::End);
+            }
+            return Some(Next::NeedMore);
+        };
+        let said = read_line(&kept[..cut.len]);
+        self.start += cut.next;
+        self.searched = 0;
+        self.passed += 1;
+        match stage_after(self.stage, &said) {
+            Some(stage) => {
+                self.stage = stage;
+                answer_of(said)
+            }
+            None => {
+                self.stopped = Some(self.passed);
+                Some(Next::Bad { line: self.passed })
+            }
+        }
+    }
+}
+
+/// The answer to a line in its place, where there is one.
+fn answer_of(said: Said) -> Option<Next>
+    ensures { GivesSaid said result }
+{
+    match said {
+        Said::Nothing => None,
+        Said::Opens(settings) => Some(Next::Start(settings)),
+        Said::Asked(command) => Some(Next::Command(command)),
+        Said::Wrong => None,
+    }
+}
+
+/// Drops the front of the buffer.
+fn drop_front(buffer: &mut ArrayVec<u8, ROOM>, start: usize)
+    requires { start ≤ length buffer.old.items }
+    ensures { buffer.new.items ≡ drop start buffer.old.items }
+{
+    let left = buffer.len() - start;
+    buffer.as_mut_slice().copy_within(start.., 0);
+    buffer.truncate(left);
+}
+
+/// Where a line ends, and where the next one begins.
+#[derive(Clone, Copy)]
+struct Cut {
+    len: usize,
+    next: usize,
+}
+
+/// Where the first line feed is, where none is in front of `from`.
+fn line_feed_from(kept: &[u8], from: usize) -> Option<usize>
+    requires within { from ≤ length kept.now }
+    requires searched { holds_line_feed (take from kept.now) ≡ false }
+    ensures { result ≡ position (λ x. x == 10) kept.now }
+{
+    let at = line_feed_at(&kept[from..])?;
+    Some(from + at)
+}
+
+/// The first line, where it is there.
+fn first_line(kept: &[u8], searched: usize, ended: bool) -> Option<Cut>
+    requires within { searched ≤ length kept.now }
+    requires searched { holds_line_feed (take searched kept.now) ≡ false }
+    ensures { MatchOption result (HasNoLine kept.now ended) (λ cut. IsFirstLine kept.now ended cut.len cut.next) }
+{
+    match line_feed_from(kept, searched) {
+        Some(len) => Some(Cut { len, next: len + 1 }),
+        None if is_line(kept, ended) => Some(Cut {
+            len: kept.len(),
+            next: kept.len(),
+        }),
+        None => None,
+    }
+}
+
+/// Whether bytes with no line feed are a line.
+fn is_line(rest: &[u8], ended: bool) -> bool
+    ensures { result ≡ is_last_line ended rest.now }
+{
+    rest.len() > 0 && (ended || rest.len() > LONGEST)
+}

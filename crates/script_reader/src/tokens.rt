@@ -1,0 +1,73 @@
+//! A line as tokens.
+ghost use Rattle.std.specs.Prelude.{◌≡◌, ◌≤◌, ◌==◌, length, position, not, MatchOption, IfSome, [], ◌∷◌};
+ghost use Rattle.std.specs.List.{position_or_len};
+ghost use Rattle.script_reader.specs.Lines.{without_return as no_return, is_gap as gap, tokens};
+
+/// Where the first line feed is.
+pub fn line_feed_at(bytes: &[u8]) -> Option<usize>
+    ensures { result ≡ position (λ x. x == 10) bytes.now }
+{
+    bytes.iter().position(|x| *x == b'\n')
+}
+
+/// The line without one carriage return at its end.
+pub fn without_return(line: &[u8]) -> &[u8]
+    ensures { result.now ≡ no_return line.now }
+{
+    if line.len() == 0 {
+        return line;
+    }
+    let last = line.len() - 1;
+    if line[last] == b'\r' {
+        &line[..last]
+    } else {
+        line
+    }
+}
+
+/// Whether the byte parts tokens.
+fn is_gap(x: u8) -> bool
+    ensures { result ≡ gap x }
+{
+    x == b' ' || x == b'\t'
+}
+
+/// How many gaps stand in front.
+fn gaps(text: &[u8]) -> usize
+    ensures value { result ≡ position_or_len (λ x. not (gap x)) text.now }
+    ensures within { result ≤ length text.now }
+{
+    first_other(text).unwrap_or(text.len())
+}
+
+/// How many bytes stand in front of the first gap.
+fn token_length(text: &[u8]) -> usize
+    ensures value { result ≡ position_or_len gap text.now }
+    ensures within { result ≤ length text.now }
+{
+    first_gap(text).unwrap_or(text.len())
+}
+
+fn first_other(text: &[u8]) -> Option<usize>
+    ensures { result ≡ position (λ x. not (gap x)) text.now }
+{
+    text.iter().position(|x| !is_gap(*x))
+}
+
+fn first_gap(text: &[u8]) -> Option<usize>
+    ensures { result ≡ position gap text.now }
+{
+    text.iter().position(|x| is_gap(*x))
+}
+
+/// The first token, and what follows it.
+pub fn split_token(text: &[u8]) -> Option<(&[u8], &[u8])>
+    ensures value { MatchOption result (tokens text.now ≡ []) (λ p. tokens text.now ≡ p.0.now ∷ tokens p.1.now) }
+    ensures some { IfSome result (λ p. 1 ≤ length p.0.now) }
+{
+    let text = &text[gaps(text)..];
+    if text.len() == 0 {
+        return None;
+    }
+    Some(text.split_at(token_length(text)))
+}
