@@ -1,0 +1,16 @@
+pub mod Counting
+pub mod Placing
+pub mod Freeing
+pub mod Totals
+pub mod PageCounts
+pub mod FreeSteps
+pub mod PageLaws
+pub mod Images
+pub mod ImageSteps
+pub mod Reading
+pub mod Room
+pub mod RoomAtOne
+pub mod Sizes
+pub mod Resizing
+pub mod Parts
+pub mod SlotImages
