@@ -14,3 +14,4 @@ pub mod Sizes
 pub mod Resizing
 pub mod Parts
 pub mod SlotImages
+pub mod Frames
