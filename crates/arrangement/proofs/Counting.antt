@@ -1,12 +1,11 @@
 -- Counts over the values of a map, and the pages that they change.
-use Rattle.std.proofs.Common.{◌≡◌, ◌≢◌, ℕ, Bool, true, false, cond, ◌+◌, ◌<◌, ◌≤◌, [], Some, None, length, arith, sym, ◌∙◌, inl, inr, ap, refl, map}
+use Rattle.std.proofs.Common.{◌≡◌, ◌≢◌, ℕ, Bool, true, false, ◌+◌, ◌<◌, ◌≤◌, [], Some, None, arith, sym, ◌∙◌, inl, inr, ap, refl, map}
 use Rattle.std.specs.Prelude.{◌⊎◌, ◌&&◌, nat_lt, nat_eq, count_by}
-use Rattle.std.specs.List.{range_with_len}
 use Rattle.std.proofs.lemmas.List.{nil_from_length}
-use Rattle.std.proofs.lemmas.Bool.{cases_eq, cases_lt, false≢true}
+use Rattle.std.proofs.lemmas.Bool.{cases_eq, false≢true}
 use Rattle.std.proofs.lemmas.Bool.Decides.{nat_tests}
 use Rattle.std.specs.Ordering.{nat_cmp}
-use Rattle.std.specs.FinMap.{FinMap, get, insert, remove, empty, values, len-empty, len-entries}
+use Rattle.std.specs.FinMap.{FinMap, get, insert, empty, values, len-empty, len-entries}
 use Rattle.cf_lemmas.proofs.Maps.{get_inserted, get_insert_other}
 use Rattle.cf_lemmas.proofs.Sums.{sum_by-inserted, sum_by-removed}
 use Rattle.cf_lemmas.proofs.Induction.{map_induction}
@@ -64,13 +63,13 @@ module _ {V : Type 0} where
   -- where values count, there is one that passes
   pub some_counted : (f : V → Bool) (m : FinMap nat_cmp V) → 0 < count_by f (values m) → (q : ℕ) × (y : V) × (get m q ≡ Some y) × (f y ≡ true)
   some_counted f = map_induction (λ m. 0 < count_by f (values m) → (q : ℕ) × (y : V) × (get m q ≡ Some y) × (f y ≡ true))
-    (λ lt. absurd (let e : count_by f (values (empty {X = V} {R = nat_cmp})) ≡ 0 = ap (count_by f) no_values in omega arith))
-    (λ m h x none ih lt. (
+      (λ lt. absurd (let e : count_by f (values (empty {X = V} {R = nat_cmp})) ≡ 0 = ap (count_by f) no_values in omega arith))
+      (λ m h x none ih lt. (
       let e : count_by f (values (insert m h x)) ≡ count_by f (values m) + one (f x) = sum_by-inserted (λ y. one (f y)) m h x none in
       go m h x none ih (f x) refl (omega arith)))
     where
       go : (m : FinMap nat_cmp V) (h : ℕ) (x : V) → get m h ≡ None → (0 < count_by f (values m) → (q : ℕ) × (y : V) × (get m q ≡ Some y) × (f y ≡ true))
-        → (b : Bool) → f x ≡ b → 0 < count_by f (values m) + one b → (q : ℕ) × (y : V) × (get (insert m h x) q ≡ Some y) × (f y ≡ true)
+          → (b : Bool) → f x ≡ b → 0 < count_by f (values m) + one b → (q : ℕ) × (y : V) × (get (insert m h x) q ≡ Some y) × (f y ≡ true)
       go m h x none ih true e lt = (h, x, get_inserted m h x, e)
       go m h x none ih false e lt = (let o = ih (omega arith) in (o.0, o.1, (still m h x none o.0 o.1 o.2).1, o.3))
 
@@ -125,11 +124,15 @@ module _ (p : Paging) where
   pub standing : (m : Held) (page : ℕ) → 0 < standing_on p m page → (q : ℕ) × (y : Placed) × (get m q ≡ Some y) × (page_of p y.place ≡ page)
   unfolding standing_on
   standing m page lt = (
-    let o = some_counted (λ (x : Placed). nat_eq (page_of p x.place) page) m lt in
-    (o.0, o.1, o.2, elim (cases_eq (page_of p (o.1).place) page) [
-      | inl is ↦ is
-      | inr ne ↦ absurd (let f = eq_no _ _ ne in false≢true (rw f at o.3))
-    ]))
+      let o = some_counted (λ (x : Placed). nat_eq (page_of p x.place) page) m lt in (
+        o.0,
+        o.1,
+        o.2,
+        elim (cases_eq (page_of p (o.1).place) page) [
+          | inl is ↦ is
+          | inr ne ↦ absurd (let f = eq_no _ _ ne in false≢true (rw f at o.3))
+        ],
+      ))
 
   -- a page that holds nothing
   pub nothing_on : (m : Held) (page : ℕ) → standing_on p m page ≡ 0 → (q : ℕ) (y : Placed) → get m q ≡ Some y → page_of p y.place ≢ page
@@ -142,14 +145,14 @@ module _ (p : Paging) (m n : Held) (c page : ℕ) (others : (g : ℕ) → g ≢ 
   unfolding not_full_pages
   not_full-changed lt =
       count_changed (λ g. part_full (objects_on p n c g) (slots_of p c)) (λ g. part_full (objects_on p m c g) (slots_of p c)) 0 p.pages page (omega arith) (omega arith)
-        (λ g ne. ap (λ k. part_full k (slots_of p c)) (others g ne))
+      (λ g ne. ap (λ k. part_full k (slots_of p c)) (others g ne))
 
   -- the pages that hold one
   pub home-changed : page < p.pages → home_pages p n c + one (nat_lt 0 (objects_on p m c page)) ≡ home_pages p m c + one (nat_lt 0 (objects_on p n c page))
   unfolding home_pages
   home-changed lt =
       count_changed (λ g. nat_lt 0 (objects_on p n c g)) (λ g. nat_lt 0 (objects_on p m c g)) 0 p.pages page (omega arith) (omega arith)
-        (λ g ne. ap (nat_lt 0) (others g ne))
+      (λ g ne. ap (nat_lt 0) (others g ne))
 
 -- Two arrangements whose objects of the class are the same on all pages.
 module _ (p : Paging) (m n : Held) (c : ℕ) (same : (g : ℕ) → objects_on p n c g ≡ objects_on p m c g) where

@@ -1,5 +1,5 @@
 -- The blocks of the objects that stay are the same after each step, and no two objects share one.
-use Rattle.std.proofs.Common.{◌≡◌, ◌≢◌, ℕ, zero, suc, Bool, true, false, ◌+◌, ◌-◌, ◌*◌, ◌/◌, ◌%◌, ◌<◌, ◌≤◌, List, Option, Some, None, length, get_or, arith, sym, ◌∙◌, subst, inl, inr, ap, refl}
+use Rattle.std.proofs.Common.{◌≡◌, ◌≢◌, ℕ, Bool, true, false, ◌+◌, ◌-◌, ◌*◌, ◌/◌, ◌%◌, ◌<◌, ◌≤◌, List, Option, Some, None, length, get_or, arith, sym, ◌∙◌, subst, inl, inr, ap, refl}
 use Rattle.std.specs.Prelude.{◌⊎◌, ◌&&◌, nat_le, nat_lt}
 use Rattle.std.specs.List.{range_with_len}
 use Rattle.std.proofs.lemmas.List.FromFn.{length-map-range_with_len, get_or-map-range_with_len, get_or-range_with_len, length-range_with_len}
@@ -7,14 +7,14 @@ use Rattle.std.proofs.Math.Nat.{mul-mod_left}
 use Rattle.std.proofs.lemmas.Bool.{cases_eq, cases_lt}
 use Rattle.std.proofs.lemmas.Bool.Decides.{nat_tests}
 use Rattle.std.proofs.lemmas.Nat.{div-add-mod'}
-use Rattle.std.specs.FinMap.{get, insert, remove}
-use Rattle.cf_lemmas.proofs.Maps.{get_inserted, get_insert_other, get_removed, get_remove_other}
+use Rattle.std.specs.FinMap.{get, remove}
+use Rattle.cf_lemmas.proofs.Maps.{get_inserted, get_insert_other, get_remove_other}
 use Rattle.arrangement.specs.Held.{Held, Placed}
-use Rattle.arrangement.specs.Paging.{Paging, IsPaging, slot_words, page_of, class_for}
+use Rattle.arrangement.specs.Paging.{Paging, IsPaging, slot_words, class_for}
 use Rattle.arrangement.specs.Arrangement.{class_at, IsSound}
-use Rattle.arrangement.specs.Steps.{Outcome, MustMove, MayFill, Moves, without, IsFreeStep}
+use Rattle.arrangement.specs.Steps.{Outcome, MustMove, MayFill, Moves, without}
 use Rattle.arrangement.specs.Image.{object_word, slot_for, IsDisjoint, IsSlotImage}
-use Rattle.arrangement.specs.Frames.{first_frames, IsPermuted, is_among, partner, exchanged, frames_moved, found, frames_after, block_of, IsPhysical, AreBlocks}
+use Rattle.arrangement.specs.Frames.{first_frames, IsPermuted, is_among, partner, exchanged, frames_after, block_of, IsPhysical, AreBlocks}
 use Rattle.arrangement.proofs.FreeSteps.{mover_is_other}
 use Rattle.arrangement.proofs.SlotImages.{sound_apart, object_inside}
 
@@ -94,11 +94,11 @@ module _ (frames : List ℕ) (a b n : ℕ) where
       record {
         below = λ v lt. (let lt' : v < length frames = rw len at lt in rw (get_or-exchanged v lt', len) (p.below (partner a b n v) (partner_below a b n apart (length frames) v ea eb lt')));
         once = λ v w lv lw e.
-          let lv' : v < length frames = rw len at lv in
-          let lw' : w < length frames = rw len at lw in
-          let e' : get_or frames (partner a b n v) 0 ≡ get_or frames (partner a b n w) 0 = sym (get_or-exchanged v lv') ∙ e ∙ get_or-exchanged w lw' in
-          let same = p.once (partner a b n v) (partner a b n w) (partner_below a b n apart (length frames) v ea eb lv') (partner_below a b n apart (length frames) w ea eb lw') e' in
-          sym (partner_back a b n apart v) ∙ ap (partner a b n) same ∙ partner_back a b n apart w;
+            let lv' : v < length frames = rw len at lv in
+            let lw' : w < length frames = rw len at lw in
+            let e' : get_or frames (partner a b n v) 0 ≡ get_or frames (partner a b n w) 0 = sym (get_or-exchanged v lv') ∙ e ∙ get_or-exchanged w lw' in
+            let same = p.once (partner a b n v) (partner a b n w) (partner_below a b n apart (length frames) v ea eb lv') (partner_below a b n apart (length frames) w ea eb lw') e' in
+            sym (partner_back a b n apart v) ∙ ap (partner a b n) same ∙ partner_back a b n apart w;
       }
 
 -- the frames of an empty heap
@@ -138,9 +138,9 @@ module _ (p : Paging) (ok : IsPaging p) (b : AreBlocks p) (m : Held) (s : IsSoun
 
   -- the blocks of two objects
   pub blocks_apart : (h : ℕ) (x : Placed) (q : ℕ) (y : Placed) → get m h ≡ Some x → get m q ≡ Some y → q ≢ h
-    → IsDisjoint (x.place / 4) (slot_for p (length x.bytes) / 4) (y.place / 4) (slot_for p (length y.bytes) / 4)
+      → IsDisjoint (x.place / 4) (slot_for p (length x.bytes) / 4) (y.place / 4) (slot_for p (length y.bytes) / 4)
   blocks_apart h x q y e f ne = four_apart x.place (slot_for p (length x.bytes)) y.place (slot_for p (length y.bytes))
-    (place_is_block h x e) (size_is_blocks (length x.bytes)) (place_is_block q y f) (size_is_blocks (length y.bytes)) ((sound_apart p m s).pairs h x q y e f ne)
+      (place_is_block h x e) (size_is_blocks (length x.bytes)) (place_is_block q y f) (size_is_blocks (length y.bytes)) ((sound_apart p m s).pairs h x q y e f ne)
 
   -- the blocks of an object are in the table
   pub blocks_inside : (h : ℕ) (x : Placed) → get m h ≡ Some x → x.place / 4 + slot_for p (length x.bytes) / 4 ≤ p.pages * p.page_words / 4
@@ -156,7 +156,7 @@ module _ (p : Paging) (ok : IsPaging p) (b : AreBlocks p) (m : Held) (s : IsSoun
   module _ (frames : List ℕ) (len : length frames ≡ p.pages * p.page_words / 4) where
     -- two objects share no block
     pub no_block_shared : IsPermuted frames → (h : ℕ) (x : Placed) (q : ℕ) (y : Placed) → get m h ≡ Some x → get m q ≡ Some y → q ≢ h
-      → (i j : ℕ) → i < slot_for p (length x.bytes) / 4 → j < slot_for p (length y.bytes) / 4 → block_of frames x.place i ≢ block_of frames y.place j
+        → (i j : ℕ) → i < slot_for p (length x.bytes) / 4 → j < slot_for p (length y.bytes) / 4 → block_of frames x.place i ≢ block_of frames y.place j
     no_block_shared perm h x q y e f ne i j li lj same =
         let apart = blocks_apart h x q y e f ne in
         let ix = blocks_inside h x e in
@@ -198,29 +198,29 @@ module _ (p : Paging) (ok : IsPaging p) (b : AreBlocks p) (m : Held) (s : IsSoun
     runs_apart = (let e = size_is in subst (λ n. IsDisjoint (y.place / 4) (slot_for p (length y.bytes) / 4) (x.place / 4) n) (sym e) (blocks_apart p ok b m s q y h x there is-x (λ e. other (sym e))))
 
     kept_by_move : (r : ℕ) (z z' : Placed) → r ≢ h → get m r ≡ Some z → get after.held r ≡ Some z' → (i : ℕ) → i < slot_for p (length z.bytes) / 4
-      → block_of (frames_after p m after frames) z'.place i ≡ block_of frames z.place i
+        → block_of (frames_after p m after frames) z'.place i ≡ block_of frames z.place i
     kept_by_move r z z' ne e e' i lt = elim (cases_eq r q) [
       | inl is ↦ (
-        let a : get m q ≡ Some z = rw is at e in
-        let a' : get after.held q ≡ Some z' = rw is at e' in
-        let same : y ≡ z = cc in
-        let there' = arrived in
-        let same' : ◌≡◌ {A = Placed} (record { place = x.place; bytes = y.bytes }) z' = cc in
-        let lt' : i < slot_for p (length y.bytes) / 4 = rw (← same) at lt in
-        let inside = blocks_inside p ok b m s h x is-x in
-        let size = size_is in
-        let f = frames_are in
-        rw (f, ← same, ← same') (moved_kept frames (y.place / 4) (x.place / 4) (slot_for p (length y.bytes) / 4) i runs_apart lt' (omega arith)))
+          let a : get m q ≡ Some z = rw is at e in
+          let a' : get after.held q ≡ Some z' = rw is at e' in
+          let same : y ≡ z = cc in
+          let there' = arrived in
+          let same' : ◌≡◌ {A = Placed} (record { place = x.place; bytes = y.bytes }) z' = cc in
+          let lt' : i < slot_for p (length y.bytes) / 4 = rw (← same) at lt in
+          let inside = blocks_inside p ok b m s h x is-x in
+          let size = size_is in
+          let f = frames_are in
+          rw (f, ← same, ← same') (moved_kept frames (y.place / 4) (x.place / 4) (slot_for p (length y.bytes) / 4) i runs_apart lt' (omega arith)))
       | inr nq ↦ (
-        let at : get (without m h x.place after.moved) r ≡ Some z = rw (moved, there) (get_insert_other (remove m h) q _ r nq ∙ get_remove_other m h r ne ∙ e) in
-        let l = left r ne in
-        let same : z ≡ z' = cc in
-        let f = frames_are in
-        let inside = blocks_inside p ok b m s r z e in
-        let size = size_is in
-        let bx : IsDisjoint (x.place / 4) (slot_for p (length y.bytes) / 4) (z.place / 4) (slot_for p (length z.bytes) / 4) =
+          let at : get (without m h x.place after.moved) r ≡ Some z = rw (moved, there) (get_insert_other (remove m h) q _ r nq ∙ get_remove_other m h r ne ∙ e) in
+          let l = left r ne in
+          let same : z ≡ z' = cc in
+          let f = frames_are in
+          let inside = blocks_inside p ok b m s r z e in
+          let size = size_is in
+          let bx : IsDisjoint (x.place / 4) (slot_for p (length y.bytes) / 4) (z.place / 4) (slot_for p (length z.bytes) / 4) =
           subst (λ n. IsDisjoint (x.place / 4) n (z.place / 4) (slot_for p (length z.bytes) / 4)) (sym size) (blocks_apart p ok b m s h x r z is-x e ne) in
-        rw (f, ← same) (outside_kept frames (y.place / 4) (x.place / 4) (slot_for p (length y.bytes) / 4) (z.place / 4) (slot_for p (length z.bytes) / 4) i runs_apart
+          rw (f, ← same) (outside_kept frames (y.place / 4) (x.place / 4) (slot_for p (length y.bytes) / 4) (z.place / 4) (slot_for p (length z.bytes) / 4) i runs_apart
           (blocks_apart p ok b m s q y r z there e nq) bx lt (omega arith)))
     ]
 
@@ -237,7 +237,7 @@ module _ (p : Paging) (ok : IsPaging p) (b : AreBlocks p) (m : Held) (s : IsSoun
 
   -- each block of another object is the same afterwards
   pub blocks_kept : (moved : Option ℕ) → after.moved ≡ moved → Moves p m x moved → (r : ℕ) (z z' : Placed) → r ≢ h → get m r ≡ Some z → get after.held r ≡ Some z' → (i : ℕ) → i < slot_for p (length z.bytes) / 4
-    → block_of (frames_after p m after frames) z'.place i ≡ block_of frames z.place i
+      → block_of (frames_after p m after frames) z'.place i ≡ block_of frames z.place i
   blocks_kept None is never r z z' ne e e' i lt =
       let l = left r ne in
       let at : get (without m h x.place after.moved) r ≡ Some z = rw is (get_remove_other m h r ne ∙ e) in

@@ -1,13 +1,12 @@
 -- A free step keeps the arrangement sound.
-use Rattle.std.proofs.Common.{◌≡◌, ◌≢◌, ℕ, ◌+◌, ◌<◌, ◌≤◌, Option, Some, None, length, arith, sym, ◌∙◌, inl, inr, ap, refl, subst}
-use Rattle.std.specs.Prelude.{◌⊎◌}
+use Rattle.std.proofs.Common.{◌≡◌, ◌≢◌, ℕ, ◌<◌, Option, Some, None, arith, sym, ◌∙◌, inl, inr, ap, subst}
 use Rattle.std.proofs.lemmas.Bool.{cases_eq, cases_lt}
 use Rattle.std.specs.FinMap.{get, insert, remove}
 use Rattle.cf_lemmas.proofs.Maps.{equal_maps, get_inserted, get_insert_other, get_removed, get_remove_other}
 use Rattle.arrangement.specs.Held.{Held, Placed}
-use Rattle.arrangement.specs.Paging.{Paging, IsPaging, classes, slots_of, bound_of, page_of}
+use Rattle.arrangement.specs.Paging.{Paging, IsPaging, slots_of, bound_of, page_of}
 use Rattle.arrangement.specs.Arrangement.{class_at, objects_on, not_full_pages, IsSound}
-use Rattle.arrangement.specs.Steps.{Outcome, MustMove, MayFill, Moves, moved_to, without, IsFreeStep}
+use Rattle.arrangement.specs.Steps.{Outcome, MustMove, MayFill, Moves, without, IsFreeStep}
 use Rattle.arrangement.proofs.Freeing.{MayLeave, sound_freed, sound_exchanged}
 use Rattle.arrangement.proofs.PageCounts.{within}
 

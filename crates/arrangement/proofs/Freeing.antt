@@ -1,14 +1,14 @@
 -- A free keeps the arrangement sound, with its move or without.
-use Rattle.std.proofs.Common.{◌≡◌, ◌≢◌, ℕ, Bool, true, false, cond, ◌+◌, ◌<◌, ◌≤◌, List, Some, None, length, arith, sym, ◌∙◌, inl, inr, ap, refl}
-use Rattle.std.specs.Prelude.{◌⊎◌, ◌&&◌, nat_eq, count_by}
-use Rattle.std.proofs.lemmas.Bool.{cases_eq, cases_lt}
-use Rattle.std.specs.FinMap.{get, insert, remove, values}
-use Rattle.cf_lemmas.proofs.Maps.{some_inserted, some_removed, get_remove_other}
+use Rattle.std.proofs.Common.{◌≡◌, ◌≢◌, ℕ, ◌+◌, ◌<◌, ◌≤◌, List, Some, None, arith, sym, ◌∙◌, inl, inr, ap, refl}
+use Rattle.std.specs.Prelude.{◌⊎◌, ◌&&◌, nat_eq}
+use Rattle.std.proofs.lemmas.Bool.{cases_eq}
+use Rattle.std.specs.FinMap.{get, insert, remove}
+use Rattle.cf_lemmas.proofs.Maps.{some_inserted, some_removed}
 use Rattle.cf_lemmas.proofs.Sums.{sum_by-removed}
 use Rattle.cf_lemmas.proofs.Ranges.{one}
 use Rattle.arrangement.specs.Held.{Held, Placed}
 use Rattle.arrangement.specs.Paging.{Paging, classes, slots_of, bound_of, page_of}
-use Rattle.arrangement.specs.Arrangement.{class_at, is_on, objects_on, not_full_pages, IsSlotAt, IsSound}
+use Rattle.arrangement.specs.Arrangement.{class_at, is_on, objects_on, not_full_pages, IsSound}
 use Rattle.arrangement.proofs.Counting.{part_full, part_yes, part_empty, part_over, one_le, on_no, on_yes, not_full-changed, not_full-same}
 use Rattle.arrangement.proofs.Placing.{objects_on-inserted}
 
@@ -30,30 +30,30 @@ module _ (p : Paging) (m : Held) (h : ℕ) (x : Placed) (some : get m h ≡ Some
   -- what a free without a move asks: the page wasn't full, or it has one slot, or its class may have one more page that is not full
   unfoldable pub MayLeave : Type 0
   MayLeave = (objects_on p m (class_at p x) (page_of p x.place) < slots_of p (class_at p x))
-    ⊎ ((slots_of p (class_at p x) ≤ 1) ⊎ (not_full_pages p m (class_at p x) < bound_of p (class_at p x)))
+      ⊎ ((slots_of p (class_at p x) ≤ 1) ⊎ (not_full_pages p m (class_at p x) < bound_of p (class_at p x)))
 
   few_after_free : page_of p x.place < p.pages → ((c : ℕ) → c < classes p → not_full_pages p m c ≤ bound_of p c) → MayLeave
-    → (c : ℕ) → c < classes p → not_full_pages p (remove m h) c ≤ bound_of p c
+      → (c : ℕ) → c < classes p → not_full_pages p (remove m h) c ≤ bound_of p c
   unfolding MayLeave
   few_after_free page few may c lt = elim (cases_eq (class_at p x) c) [
     | inl is ↦ (
-      let change = not_full-changed p m (remove m h) c (page_of p x.place) (λ g ne. objects_on-away c g (inl (λ e. ne (sym e)))) page in
-      let l = one_le (part_full (objects_on p (remove m h) c (page_of p x.place)) (slots_of p c)) in
-      let before = few c lt in
-      let here = objects_on-left c is in
-      elim may [
-        | inl less ↦ (
-          let y : one (part_full (objects_on p m c (page_of p x.place)) (slots_of p c)) ≡ 1 = part_yes (objects_on p m c (page_of p x.place)) (slots_of p c) (omega arith) (rw is at less) in
-          omega arith)
-        | inr (inl single) ↦ (
-          let s : slots_of p c ≤ 1 = rw is at single in
-          let z : one (part_full (objects_on p (remove m h) c (page_of p x.place)) (slots_of p c)) ≡ 0 = elim (cases_eq (objects_on p (remove m h) c (page_of p x.place)) 0) [
-            | inl none ↦ part_empty _ _ none
-            | inr ne ↦ part_over (objects_on p (remove m h) c (page_of p x.place)) (slots_of p c) (omega arith)
-          ] in
-          omega arith)
-        | inr (inr room) ↦ (let r : not_full_pages p m c < bound_of p c = rw is at room in omega arith)
-      ])
+        let change = not_full-changed p m (remove m h) c (page_of p x.place) (λ g ne. objects_on-away c g (inl (λ e. ne (sym e)))) page in
+        let l = one_le (part_full (objects_on p (remove m h) c (page_of p x.place)) (slots_of p c)) in
+        let before = few c lt in
+        let here = objects_on-left c is in
+        elim may [
+          | inl less ↦ (
+              let y : one (part_full (objects_on p m c (page_of p x.place)) (slots_of p c)) ≡ 1 = part_yes (objects_on p m c (page_of p x.place)) (slots_of p c) (omega arith) (rw is at less) in
+              omega arith)
+          | inr (inl single) ↦ (
+              let s : slots_of p c ≤ 1 = rw is at single in
+              let z : one (part_full (objects_on p (remove m h) c (page_of p x.place)) (slots_of p c)) ≡ 0 = elim (cases_eq (objects_on p (remove m h) c (page_of p x.place)) 0) [
+                | inl none ↦ part_empty _ _ none
+                | inr ne ↦ part_over (objects_on p (remove m h) c (page_of p x.place)) (slots_of p c) (omega arith)
+              ] in
+              omega arith)
+          | inr (inr room) ↦ (let r : not_full_pages p m c < bound_of p c = rw is at room in omega arith)
+        ])
     | inr ne ↦ (let same = not_full-same p m (remove m h) c (λ g. objects_on-away c g (inr ne)) in rw same (few c lt))
   ]
 

@@ -8,10 +8,16 @@ pub mod PageLaws
 pub mod Images
 pub mod ImageSteps
 pub mod Reading
-pub mod Room
+pub mod Lacking
 pub mod RoomAtOne
 pub mod Sizes
 pub mod Resizing
 pub mod Parts
 pub mod SlotImages
 pub mod Frames
+pub mod Writing
+pub mod Addresses
+pub mod Nothing
+pub mod BlockSteps
+pub mod Adding
+pub mod ResizedWords

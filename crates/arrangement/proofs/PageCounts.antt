@@ -1,18 +1,19 @@
 -- A sound arrangement has as many pages of a class as its objects can stand on.
-use Rattle.std.proofs.Common.{◌≡◌, ℕ, zero, suc, Bool, true, false, cond, ◌+◌, ◌-◌, ◌*◌, ◌/◌, ◌%◌, ◌<◌, ◌≤◌, ◌∷◌, Some, arith, sym, ◌∙◌, inl, inr, ap, refl}
-use Rattle.std.specs.Prelude.{sum_by, count_by, ◌&&◌, nat_lt}
+use Rattle.std.proofs.Common.{◌≡◌, ℕ, zero, suc, ◌+◌, ◌-◌, ◌*◌, ◌/◌, ◌%◌, ◌<◌, ◌≤◌, ◌∷◌, arith, sym, ◌∙◌, inl, inr}
+use Rattle.std.specs.Prelude.{sum_by, count_by, nat_lt}
 use Rattle.std.specs.List.{range_with_len}
 use Rattle.std.proofs.lemmas.List.Sums.{sum_by-cons}
 use Rattle.std.proofs.lemmas.Bool.{cases_eq, cases_lt}
-use Rattle.std.proofs.lemmas.Nat.{div-add-mod', mul-le}
+use Rattle.std.proofs.lemmas.Nat.{div-add-mod'}
 use Rattle.std.proofs.Math.Nat.{mod-lt}
 use Rattle.cf_lemmas.proofs.Ranges.{one}
-use Rattle.arrangement.specs.Held.{Held, Placed, objects}
-use Rattle.arrangement.specs.Paging.{Paging, AreSizes, IsPaging, classes, slot_words, slots_of, bound_of, page_of}
+use Rattle.arrangement.specs.Held.{Held, objects}
+use Rattle.arrangement.specs.Paging.{Paging, IsPaging, classes, slot_words, slots_of, bound_of}
 use Rattle.arrangement.specs.Counts.{Stand, CanHold}
 use Rattle.arrangement.specs.Arrangement.{objects_on, not_full_pages, home_pages, live, IsSound}
 use Rattle.arrangement.proofs.Counting.{part_full, part_yes, part_empty, part_over, lt_yes, lt_no}
-use Rattle.arrangement.proofs.Totals.{page_within, live_by_pages, live_in, live_is}
+use Rattle.arrangement.proofs.PageLaws.{can_hold_bound}
+use Rattle.arrangement.proofs.Totals.{page_within, live_by_pages, live_is}
 
 -- m objects fit on a page, and on p objects stand on page p
 module _ (on : ℕ → ℕ) (m : ℕ) (some : 0 < m) where
@@ -40,18 +41,18 @@ module _ (on : ℕ → ℕ) (m : ℕ) (some : 0 < m) where
       let z : sum_by on (a ∷ r) ≡ on a + sum_by on r = sum_by-cons on a r in
       elim (cases_eq (on a) 0) [
         | inl none ↦ (
-          let u = lt_no 0 (on a) (omega arith) in let v = part_empty (on a) m none in
-          (s.0, record { all = omega arith; least = omega arith; most = (let e : part a (suc n) ≡ part (a + 1) n = omega arith in rw (z, e) (omega arith)) }))
+            let u = lt_no 0 (on a) (omega arith) in let v = part_empty (on a) m none in
+            (s.0, record { all = omega arith; least = omega arith; most = (let e : part a (suc n) ≡ part (a + 1) n = omega arith in rw (z, e) (omega arith)) }))
         | inr ne ↦ elim (cases_lt (on a) m) [
           | inl less ↦ (
-            let u = lt_yes 0 (on a) (omega arith) in let v = part_yes (on a) m (omega arith) less in
-            let e : part a (suc n) ≡ part (a + 1) n + 1 = omega arith in
-            (s.0, record { all = omega arith; least = omega arith; most = rw (z, e) (omega arith) }))
+              let u = lt_yes 0 (on a) (omega arith) in let v = part_yes (on a) m (omega arith) less in
+              let e : part a (suc n) ≡ part (a + 1) n + 1 = omega arith in
+              (s.0, record { all = omega arith; least = omega arith; most = rw (z, e) (omega arith) }))
           | inr full ↦ (
-            let u = lt_yes 0 (on a) (omega arith) in let v = part_over (on a) m full in
-            let e : part a (suc n) ≡ part (a + 1) n = omega arith in
-            let k : on a ≡ m = omega (arith, few a) in
-            (s.0 + 1, record { all = omega arith; least = omega arith; most = rw (z, e) (omega arith) }))
+              let u = lt_yes 0 (on a) (omega arith) in let v = part_over (on a) m full in
+              let e : part a (suc n) ≡ part (a + 1) n = omega arith in
+              let k : on a ≡ m = omega (arith, few a) in
+              (s.0 + 1, record { all = omega arith; least = omega arith; most = rw (z, e) (omega arith) }))
         ]
       ]
 
@@ -65,11 +66,11 @@ pub some_slots : (P size : ℕ) → 0 < size → size ≤ P → 0 < P / size
 some_slots P size pos fits = elim (cases_lt 0 (P / size)) [
   | inl lt ↦ lt
   | inr under ↦ absurd (
-    let e = div-add-mod' P size in
-    let r = mod-lt P pos in
-    let z : P / size ≡ 0 = omega arith in
-    let f : 0 * size + P % size ≡ P = rw z at e in
-    omega arith)
+      let e = div-add-mod' P size in
+      let r = mod-lt P pos in
+      let z : P / size ≡ 0 = omega arith in
+      let f : 0 * size + P % size ≡ P = rw z at e in
+      omega arith)
 ]
 
 module _ (p : Paging) (ok : IsPaging p) (c : ℕ) (lt : c < classes p) where
@@ -93,3 +94,7 @@ module _ (p : Paging) (ok : IsPaging p) (c : ℕ) (lt : c < classes p) where
 
     pub sound_can_hold : CanHold (home_pages p m c) (live p (objects m) c) (slots_of p c) (bound_of p c)
     sound_can_hold = (not_full_pages p m c, sound_stand)
+
+    -- the pages of a class are no more than those that its objects fill, and its bound
+    pub sound_few : home_pages p m c ≤ live p (objects m) c / slots_of p c + bound_of p c
+    sound_few = can_hold_bound (home_pages p m c) (live p (objects m) c) (slots_of p c) (bound_of p c) slots_some sound_can_hold

@@ -1,12 +1,12 @@
 -- Laws of the numbers of pages.
-use Rattle.std.proofs.Common.{◌≡◌, ◌≢◌, ℕ, zero, suc, Bool, true, false, ◌+◌, ◌-◌, ◌*◌, ◌/◌, ◌%◌, ◌<◌, ◌≤◌, List, [], ◌∷◌, arith, sym, ◌∙◌, ap, inl, inr, refl}
-use Rattle.std.specs.Prelude.{◌⊎◌, ◌&&◌, ◌||◌, nat_le}
+use Rattle.std.proofs.Common.{◌≡◌, ℕ, zero, suc, Bool, true, false, ◌+◌, ◌-◌, ◌*◌, ◌/◌, ◌%◌, ◌<◌, ◌≤◌, arith, sym, ◌∙◌, inl, inr, refl}
+use Rattle.std.specs.Prelude.{◌&&◌, ◌||◌, nat_le}
 use Rattle.std.specs.List.{range_with_len, list_any}
 use Rattle.std.proofs.lemmas.Bool.{cases_lt, cases_eq, false≢true}
 use Rattle.std.proofs.lemmas.Bool.Decides.{nat_tests}
 use Rattle.std.proofs.lemmas.Nat.{div-add-mod', mul-le}
 use Rattle.std.proofs.Math.Nat.{mod-lt}
-use Rattle.arrangement.specs.Counts.{Stand, CanHold, can_hold, ceil_div, greatest, most_pages}
+use Rattle.arrangement.specs.Counts.{CanHold, can_hold, ceil_div, greatest, most_pages}
 
 one_less : (p m : ℕ) → 1 ≤ p → (p - 1) * m + m ≡ p * m
 one_less zero m h = absurd (omega arith)
@@ -29,10 +29,10 @@ between_multiples x c m pos low high =
 pub can_hold_bound : (p n m k : ℕ) → 0 < m → CanHold p n m k → p ≤ n / m + k
 can_hold_bound p n m k pos (q, s) = elim (cases_lt (n / m) (p - q)) [
   | inl more ↦ absurd (
-    let e : n / m * m + n % m ≡ n = div-add-mod' n m in
-    let r : n % m < m = mod-lt n pos in
-    let b : (n / m + 1) * m ≤ (p - q) * m = mul-le (n / m + 1) m (p - q) m (omega arith) (omega arith) in
-    omega (arith, s.least))
+      let e : n / m * m + n % m ≡ n = div-add-mod' n m in
+      let r : n % m < m = mod-lt n pos in
+      let b : (n / m + 1) * m ≤ (p - q) * m = mul-le (n / m + 1) m (p - q) m (omega arith) (omega arith) in
+      omega (arith, s.least))
   | inr less ↦ omega (arith, s.few)
 ]
 
@@ -59,15 +59,15 @@ one_can_hold p n m pos is =
     let e' : p * m + (n + (m - 1)) % m ≡ n + (m - 1) = rw is e in
     elim (cases_eq ((n + (m - 1)) % m) (m - 1)) [
       | inl full ↦ (
-        let p-0 : p - 0 ≡ p = omega arith in
-        (0, record { few = omega arith; within = omega arith; least = rw p-0 (omega arith); most = rw p-0 (omega arith) }))
+          let p-0 : p - 0 ≡ p = omega arith in
+          (0, record { few = omega arith; within = omega arith; least = rw p-0 (omega arith); most = rw p-0 (omega arith) }))
       | inr part ↦ (
-        let some : 1 ≤ p = elim (cases_eq p 0) [
-          | inl none ↦ absurd (let z : 0 * m + (n + (m - 1)) % m ≡ n + (m - 1) = rw none at e' in omega arith)
-          | inr ne ↦ omega arith
-        ] in
-        let o = one_less p m some in
-        (1, record { few = omega arith; within = some; least = omega arith; most = omega arith }))
+          let some : 1 ≤ p = elim (cases_eq p 0) [
+            | inl none ↦ absurd (let z : 0 * m + (n + (m - 1)) % m ≡ n + (m - 1) = rw none at e' in omega arith)
+            | inr ne ↦ omega arith
+          ] in
+          let o = one_less p m some in
+          (1, record { few = omega arith; within = some; least = omega arith; most = omega arith }))
     ]
 
 -- what passes at a place of a range passes somewhere
@@ -88,7 +88,7 @@ in_any f a zero is = absurd (false≢true is)
 in_any f a (suc n) is = go (f a) refl is (λ e. in_any f (a + 1) n e)
   where
     go : (b : Bool) → f a ≡ b → (b || list_any f (range_with_len (a + 1) n)) ≡ true
-      → (list_any f (range_with_len (a + 1) n) ≡ true → (q : ℕ) × (a + 1 ≤ q) × (q < a + 1 + n) × (f q ≡ true)) → (q : ℕ) × (a ≤ q) × (q < a + suc n) × (f q ≡ true)
+        → (list_any f (range_with_len (a + 1) n) ≡ true → (q : ℕ) × (a + 1 ≤ q) × (q < a + 1 + n) × (f q ≡ true)) → (q : ℕ) × (a ≤ q) × (q < a + suc n) × (f q ≡ true)
     go true e is ih = (a, omega arith, omega arith, e)
     go false e is ih = (let o = ih is in (o.0, omega (arith, o.1), omega (arith, o.2), o.3))
 
@@ -100,9 +100,9 @@ both false b e = absurd (false≢true e)
 pub tested : (p n m k : ℕ) → CanHold p n m k → can_hold p n m k ≡ true
 tested p n m k (q, s) = any_in (λ q. nat_le q p && nat_le ((p - q) * m + q) n && nat_le n ((p - q) * m + q * (m - 1))) 0 (k + 1) q (omega arith) (omega (arith, s.few))
     (let a : nat_le q p ≡ true = grind (arith, nat_tests, s.within) in
-     let b : nat_le ((p - q) * m + q) n ≡ true = grind (arith, nat_tests, s.least) in
-     let c : nat_le n ((p - q) * m + q * (m - 1)) ≡ true = grind (arith, nat_tests, s.most) in
-     rw (a, b, c) refl)
+    let b : nat_le ((p - q) * m + q) n ≡ true = grind (arith, nat_tests, s.least) in
+    let c : nat_le n ((p - q) * m + q * (m - 1)) ≡ true = grind (arith, nat_tests, s.most) in
+    rw (a, b, c) refl)
 
 pub test_tells : (p n m k : ℕ) → can_hold p n m k ≡ true → CanHold p n m k
 test_tells p n m k e =
@@ -129,15 +129,30 @@ greatest_least test (suc top) p le is = go (test (suc top)) refl (λ le. greates
       | inr ne ↦ omega arith
     ]))
 
-greatest_passes : (test : ℕ → Bool) (top : ℕ) → test 0 ≡ true → test (greatest test top) ≡ true
-greatest_passes test zero z = z
-greatest_passes test (suc top) z = go (test (suc top)) refl (greatest_passes test top z)
-  where
-    go : (b : Bool) → test (suc top) ≡ b → test (greatest test top) ≡ true → test (greatest test (suc top)) ≡ true
-    go true e ih = rw (e, greatest) e
-    go false e ih = rw (e, greatest) ih
-
 -- most_pages is at least each number of pages that the objects can stand on
 pub most_pages_least : (p n m k : ℕ) → 0 < m → CanHold p n m k → p ≤ most_pages n m k
 unfolding most_pages
 most_pages_least p n m k pos can = greatest_least (λ p. can_hold p n m k) (n / m + k) p (can_hold_bound p n m k pos can) (tested p n m k can)
+
+greatest_passes : (test : ℕ → Bool) (top p : ℕ) → p ≤ top → test p ≡ true → test (greatest test top) ≡ true
+greatest_passes test zero p le is = (let e : p ≡ 0 = omega arith in rw e at is)
+greatest_passes test (suc top) p le is = go (test (suc top)) refl (λ le. greatest_passes test top p le is)
+  where
+    go : (b : Bool) → test (suc top) ≡ b → (p ≤ top → test (greatest test top) ≡ true) → test (greatest test (suc top)) ≡ true
+    go true e ih = rw (e, greatest) e
+    go false e ih = rw (e, greatest) (ih (elim (cases_eq p (suc top)) [
+      | inl same ↦ absurd (let t : test (suc top) ≡ true = rw (← same) is in false≢true (sym e ∙ t))
+      | inr ne ↦ omega arith
+    ]))
+
+-- objects can stand on most_pages
+pub most_pages_reached : (n m k : ℕ) → 0 < m → 0 < k → CanHold (most_pages n m k) n m k
+unfolding most_pages
+most_pages_reached n m k pos some =
+    let one = one_can_hold (ceil_div n m) n m pos refl in
+    let wider : CanHold (ceil_div n m) n m k = widen one in
+    test_tells (greatest (λ p. can_hold p n m k) (n / m + k)) n m k
+    (greatest_passes (λ p. can_hold p n m k) (n / m + k) (ceil_div n m) (can_hold_bound (ceil_div n m) n m k pos wider) (tested (ceil_div n m) n m k wider))
+  where
+    widen : CanHold (ceil_div n m) n m 1 → CanHold (ceil_div n m) n m k
+    widen (q, s) = (q, record { few = omega (arith, s.few); within = s.within; least = s.least; most = s.most })

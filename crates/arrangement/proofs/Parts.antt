@@ -1,5 +1,5 @@
 -- What the steps do to the bytes alone, to the places alone, and to the objects on each page.
-use Rattle.std.proofs.Common.{◌≡◌, ◌≢◌, ℕ, cond, ◌+◌, ◌<◌, List, Option, Some, None, length, replicate, arith, sym, ◌∙◌, inl, inr, ap, refl}
+use Rattle.std.proofs.Common.{◌≡◌, ◌≢◌, ℕ, ◌+◌, List, Option, Some, None, length, replicate, arith, sym, ◌∙◌, inl, inr, ap}
 use Rattle.std.specs.Prelude.{option_map}
 use Rattle.std.proofs.lemmas.Bool.{cases_eq}
 use Rattle.std.specs.Ordering.{nat_cmp}
@@ -7,10 +7,10 @@ use Rattle.std.specs.FinMap.{FinMap, get, insert, remove}
 use Rattle.cf_lemmas.proofs.Maps.{equal_maps, get_inserted, get_insert_other, get_removed, get_remove_other}
 use Rattle.cf_lemmas.proofs.MapValues.{get-map_values, map_values-insert, map_values-remove}
 use Rattle.cf_lemmas.proofs.Ranges.{one}
-use Rattle.arrangement.specs.Held.{Held, Objects, Placed, objects, places}
-use Rattle.arrangement.specs.Paging.{Paging, IsPaging, slots_of, page_of, class_for}
+use Rattle.arrangement.specs.Held.{Held, Placed, objects, places}
+use Rattle.arrangement.specs.Paging.{Paging, IsPaging, class_for}
 use Rattle.arrangement.specs.Arrangement.{class_at, is_on, objects_on, IsSound}
-use Rattle.arrangement.specs.Steps.{Request, Outcome, MustMove, MayFill, Moves, moved_to, without, IsMallocStep, IsFreeStep, resized, resized_at, ResizesInPlace, zeros_at}
+use Rattle.arrangement.specs.Steps.{MustMove, MayFill, Moves, without, zeros_at}
 use Rattle.arrangement.proofs.Freeing.{objects_on-removed, objects_on-exchanged}
 use Rattle.arrangement.proofs.FreeSteps.{removed_twice, mover_is_other}
 
@@ -28,6 +28,10 @@ malloc_objects m h a n = map_values-insert (λ (x : Placed). x.bytes) m h (zeros
 pub malloc_places : (m : Held) (h a n : ℕ) → places (insert m h (zeros_at a n)) ≡ insert (places m) h a
 malloc_places m h a n = map_values-insert (λ (x : Placed). x.place) m h (zeros_at a n)
 
+-- a free that moves nothing changes no other place
+pub still_places : (m : Held) (h a : ℕ) → places (without m h a None) ≡ remove (places m) h
+still_places m h a = map_values-remove (λ (x : Placed). x.place) m h
+
 module _ (p : Paging) (ok : IsPaging p) (m : Held) (s : IsSound p m) (h : ℕ) (x : Placed) (found : get m h ≡ Some x) where
   -- a free takes one object's bytes away, and changes no others
   pub free_objects : (moved : Option ℕ) → Moves p m x moved → objects (without m h x.place moved) ≡ remove (objects m) h
@@ -36,10 +40,6 @@ module _ (p : Paging) (ok : IsPaging p) (m : Held) (s : IsSound p m) (h : ℕ) (
       let ne = mover_is_other p ok m s h x found q y there must may in
       let still : get (remove (objects m) h) q ≡ Some y.bytes = get_remove_other (objects m) h q ne ∙ get-map_values (λ (x : Placed). x.bytes) m q ∙ ap (option_map (λ (x : Placed). x.bytes)) there in
       rw there (map_values-insert (λ (x : Placed). x.bytes) (remove m h) q _ ∙ ap (λ o. insert o q y.bytes) (map_values-remove (λ (x : Placed). x.bytes) m h) ∙ inserted_there (remove (objects m) h) q y.bytes still)
-
-  -- a free that moves nothing changes no other place
-  pub free_places : places (without m h x.place None) ≡ remove (places m) h
-  free_places = map_values-remove (λ (x : Placed). x.place) m h
 
   module _ (q : ℕ) (y : Placed) (there : get m q ≡ Some y) (must : MustMove p m x) (may : MayFill p m x y) where
     -- what moves takes the freed place, and no other place changes
@@ -65,7 +65,7 @@ module _ (p : Paging) (ok : IsPaging p) (m : Held) (s : IsSound p m) (h : ℕ) (
 
 -- a resize within the class changes no count
 pub in_place_counts : (p : Paging) (m : Held) (h n : ℕ) (x : Placed) → get m h ≡ Some x → class_for p n ≡ class_at p x → (v : List ℕ) → length v ≡ n
-  → (c page : ℕ) → objects_on p (insert m h (record { place = x.place; bytes = v })) c page ≡ objects_on p m c page
+    → (c page : ℕ) → objects_on p (insert m h (record { place = x.place; bytes = v })) c page ≡ objects_on p m c page
 in_place_counts p m h n x found same v len c page =
     let class : class_at p (record { place = x.place; bytes = v }) ≡ class_at p x = ap (class_for p) len ∙ same in
     let e = objects_on-exchanged p m h x found h v (get_removed m h) class c page in

@@ -1,15 +1,15 @@
 -- An object that comes to a free place keeps the arrangement sound.
-use Rattle.std.proofs.Common.{◌≡◌, ◌≢◌, ℕ, Bool, true, false, cond, ◌+◌, ◌<◌, ◌≤◌, Some, None, length, replicate, arith, sym, ◌∙◌, inl, inr, ap, refl}
-use Rattle.std.specs.Prelude.{◌⊎◌, ◌&&◌, count_by}
+use Rattle.std.proofs.Common.{◌≡◌, ◌≢◌, ℕ, ◌+◌, ◌<◌, ◌≤◌, Some, None, length, replicate, arith, sym, ◌∙◌, inl, inr}
+use Rattle.std.specs.Prelude.{◌⊎◌}
 use Rattle.std.proofs.lemmas.List.{length-replicate}
 use Rattle.std.proofs.lemmas.Bool.{cases_eq}
-use Rattle.std.specs.FinMap.{get, insert, values}
+use Rattle.std.specs.FinMap.{get, insert}
 use Rattle.cf_lemmas.proofs.Maps.{some_inserted}
 use Rattle.cf_lemmas.proofs.Sums.{sum_by-inserted}
 use Rattle.cf_lemmas.proofs.Ranges.{one}
 use Rattle.arrangement.specs.Held.{Held, Placed}
-use Rattle.arrangement.specs.Paging.{Paging, IsPaging, classes, slots_of, bound_of, page_of, class_for}
-use Rattle.arrangement.specs.Arrangement.{class_at, is_on, objects_on, standing_on, not_full_pages, IsSlotAt, IsSound}
+use Rattle.arrangement.specs.Paging.{Paging, IsPaging, classes, slots_of, bound_of, page_of}
+use Rattle.arrangement.specs.Arrangement.{class_at, is_on, objects_on, not_full_pages, IsSound}
 use Rattle.arrangement.specs.Steps.{Request, IsFreePlace, IsMallocStep, zeros_at}
 use Rattle.arrangement.proofs.Counting.{part_full, part_yes, one_le, on_no, on_page, nothing_on, not_full-changed, not_full-same}
 
@@ -32,19 +32,19 @@ module _ (p : Paging) (m : Held) (h : ℕ) (x : Placed) (none : get m h ≡ None
 
   -- the pages that are not full, after one object more
   few_after : IsPaging p → IsFreePlace p m (length x.bytes) x.place → ((c : ℕ) → c < classes p → not_full_pages p m c ≤ bound_of p c)
-    → (c : ℕ) → c < classes p → not_full_pages p (insert m h x) c ≤ bound_of p c
+      → (c : ℕ) → c < classes p → not_full_pages p (insert m h x) c ≤ bound_of p c
   few_after ok f few c lt = elim (cases_eq (class_at p x) c) [
     | inl is ↦ (
-      let change = not_full-changed p m (insert m h x) c (page_of p x.place) (λ g ne. objects_on-elsewhere c g (inl (λ e. ne (sym e)))) f.slot.page in
-      let l = one_le (part_full (objects_on p (insert m h x) c (page_of p x.place)) (slots_of p c)) in
-      let before = few c lt in
-      let some = ok.some c lt in
-      elim f.choice [
-        | inl there ↦ (
-          let y : one (part_full (objects_on p m c (page_of p x.place)) (slots_of p c)) ≡ 1 = part_yes _ _ (rw is at there.0) (rw is at there.1) in
-          omega arith)
-        | inr bare ↦ (let e : not_full_pages p m c ≡ 0 = rw is at bare.0 in omega arith)
-      ])
+        let change = not_full-changed p m (insert m h x) c (page_of p x.place) (λ g ne. objects_on-elsewhere c g (inl (λ e. ne (sym e)))) f.slot.page in
+        let l = one_le (part_full (objects_on p (insert m h x) c (page_of p x.place)) (slots_of p c)) in
+        let before = few c lt in
+        let some = ok.some c lt in
+        elim f.choice [
+          | inl there ↦ (
+              let y : one (part_full (objects_on p m c (page_of p x.place)) (slots_of p c)) ≡ 1 = part_yes _ _ (rw is at there.0) (rw is at there.1) in
+              omega arith)
+          | inr bare ↦ (let e : not_full_pages p m c ≡ 0 = rw is at bare.0 in omega arith)
+        ])
     | inr ne ↦ (let same = not_full-same p m (insert m h x) c (λ g. objects_on-elsewhere c g (inr ne)) in rw same (few c lt))
   ]
 

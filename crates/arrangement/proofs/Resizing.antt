@@ -1,15 +1,14 @@
 -- A resize keeps the arrangement sound, within its class and to another one.
-use Rattle.std.proofs.Common.{◌≡◌, ◌≢◌, ℕ, cond, ◌+◌, ◌-◌, ◌<◌, ◌≤◌, List, ◌++◌, Option, Some, None, length, take, replicate, min, arith, sym, ◌∙◌, inl, inr, ap, refl, subst, length-append}
-use Rattle.std.specs.Prelude.{◌⊎◌}
+use Rattle.std.proofs.Common.{◌≡◌, ◌≢◌, ℕ, ◌-◌, List, Option, Some, None, length, take, replicate, arith, sym, ◌∙◌, inl, inr, ap, refl, subst, length-append}
 use Rattle.std.proofs.lemmas.List.{length-replicate, length-take}
 use Rattle.std.proofs.lemmas.Bool.{cases_eq}
 use Rattle.std.specs.FinMap.{get, insert, remove}
 use Rattle.cf_lemmas.proofs.Maps.{equal_maps, get_inserted, get_insert_other, get_removed, get_remove_other}
 use Rattle.cf_lemmas.proofs.Sums.{insert_again}
 use Rattle.arrangement.specs.Held.{Held, Placed}
-use Rattle.arrangement.specs.Paging.{Paging, IsPaging, slots_of, bound_of, page_of, class_for}
+use Rattle.arrangement.specs.Paging.{Paging, IsPaging, page_of, class_for}
 use Rattle.arrangement.specs.Arrangement.{class_at, objects_on, not_full_pages, IsSound}
-use Rattle.arrangement.specs.Steps.{Request, Outcome, IsFreePlace, MustMove, MayFill, Moves, moved_to, without, IsFreeStep, resized, resized_at, ResizesInPlace, ChangesClass, IsResizeStep}
+use Rattle.arrangement.specs.Steps.{Request, Outcome, IsFreePlace, MustMove, MayFill, Moves, without, resized, resized_at, ResizesInPlace, ChangesClass, IsResizeStep}
 use Rattle.arrangement.proofs.Counting.{still, not_full-same}
 use Rattle.arrangement.proofs.Placing.{sound_placed, objects_on-elsewhere}
 use Rattle.arrangement.proofs.Freeing.{sound_exchanged}
@@ -65,20 +64,32 @@ module _ (p : Paging) (ok : IsPaging p) (old : Held) (s : IsSound p old) (h n a 
   moves_still None never = λ m. never (must_before m)
   moves_still (Some q) (must, (y, there, may)) = (must_still must, (y, (still old spare new unused q y there).1, may_still y may))
 
+  moves_before : (moved : Option ℕ) → Moves p with_both x moved → Moves p old x moved
+  moves_before None never = λ m. never (must_still m)
+  moves_before (Some q) (must, (y, there, may)) =
+      let ne : q ≢ spare = (λ e. other (
+      let there' : get with_both spare ≡ Some y = rw e at there in
+      let z : Some new ≡ Some y = sym (get_inserted old spare new) ∙ there' in
+      let same : ◌≡◌ {A = Placed} new y = cc in
+      sym (class-resized p a n x) ∙ ap (class_at p) same ∙ may.class)) in
+      (must_before must, (y, sym (get_insert_other old spare new q ne) ∙ there, record { class = may.class; not_full = (let e = same_on (page_of p y.place) in rw e at may.not_full) }))
+
   -- what a move leaves of the new object, and of the number that is free
   new_stays : IsFreePlace p old n a → (moved : Option ℕ) → Moves p with_both x moved
-    → (get (without with_both h x.place moved) spare ≡ Some new) × (get (without with_both h x.place moved) h ≡ None)
+      → (get (without with_both h x.place moved) spare ≡ Some new) × (get (without with_both h x.place moved) h ≡ None)
   new_stays free None never = (get_remove_other with_both h spare spare_is_other ∙ get_inserted old spare new, get_removed with_both h)
   new_stays free (Some q) (must, (y, there, may)) =
       let sound : IsSound p with_both = sound_placed p old spare new unused ok s (let e = length-resized x.bytes n in rw e free) in
       let q_is_other : q ≢ h = mover_is_other p ok with_both sound h x found_still q y there must may in
       let ne : q ≢ spare = (λ e. other (
-        let there' : get with_both spare ≡ Some y = rw e at there in
-        let z : Some new ≡ Some y = sym (get_inserted old spare new) ∙ there' in
-        let same : ◌≡◌ {A = Placed} new y = cc in
-        sym (class-resized p a n x) ∙ ap (class_at p) same ∙ may.class)) in
-      rw there (get_insert_other (remove with_both h) q _ spare (λ e. ne (sym e)) ∙ get_remove_other with_both h spare spare_is_other ∙ get_inserted old spare new,
-        get_insert_other (remove with_both h) q _ h (λ e. q_is_other (sym e)) ∙ get_removed with_both h)
+      let there' : get with_both spare ≡ Some y = rw e at there in
+      let z : Some new ≡ Some y = sym (get_inserted old spare new) ∙ there' in
+      let same : ◌≡◌ {A = Placed} new y = cc in
+      sym (class-resized p a n x) ∙ ap (class_at p) same ∙ may.class)) in
+      rw there (
+        get_insert_other (remove with_both h) q _ spare (λ e. ne (sym e)) ∙ get_remove_other with_both h spare spare_is_other ∙ get_inserted old spare new,
+        get_insert_other (remove with_both h) q _ h (λ e. q_is_other (sym e)) ∙ get_removed with_both h,
+      )
 
   sound_changed : IsFreePlace p old n a → (moved : Option ℕ) → Moves p with_both x moved → IsSound p (insert (remove (without with_both h x.place moved) spare) h new)
   sound_changed free moved moves =
@@ -104,6 +115,7 @@ module _ (p : Paging) (ok : IsPaging p) (old : Held) (s : IsSound p old) (h n a 
         nothing (Some r) (must, (y, there, may)) = (
             let ne : spare ≢ r = λ e. (let there' : get old spare ≡ Some y = rw (← e) at there in absurd (let z : Some y ≡ None = sym there' ∙ unused in cc)) in
             rw there (get_insert_other (remove old h) r _ spare ne ∙ get_remove_other old h spare spare_is_other ∙ unused))
+
         same : (moved : Option ℕ) → Moves p old x moved → q ≢ h → q ≢ spare → get (without with_both h x.place moved) q ≡ get (without old h x.place moved) q
         same None never ne ne' = get_remove_other with_both h q ne ∙ get_insert_other old spare new q ne' ∙ sym (get_remove_other old h q ne)
         same (Some r) (must, (y, there, may)) ne ne' =
@@ -115,8 +127,8 @@ module _ (p : Paging) (ok : IsPaging p) (old : Held) (s : IsSound p old) (h n a 
 
 -- In the terms of a manager: the object at a free place, and what a free of its old place leaves.
 pub changes_class : (p : Paging) → IsPaging p → (old : Held) → IsSound p old → (h n a spare : ℕ) (x : Placed) (moved : Option ℕ) → get old h ≡ Some x → class_for p n ≢ class_at p x → get old spare ≡ None
-  → IsFreePlace p old n a → Moves p old x moved
-  → ChangesClass p old (record { number = h; length = n }) (record { held = insert (without old h x.place moved) h (resized_at a x n); moved = moved })
+    → IsFreePlace p old n a → Moves p old x moved
+    → ChangesClass p old (record { number = h; length = n }) (record { held = insert (without old h x.place moved) h (resized_at a x n); moved = moved })
 changes_class p ok old s h n a spare x moved found other unused free moves = record {
   object = x;
   found = found;
@@ -134,6 +146,22 @@ changes_class p ok old s h n a spare x moved found other unused free moves = rec
   };
   renamed = equal_maps _ _ (λ q. sym (no_trace p ok old s h n a spare x found other unused q moved moves));
 }
+
+-- and every resize to another class is of this kind
+pub change_is : (p : Paging) → IsPaging p → (old : Held) → IsSound p old → (asked : Request) (after : Outcome) (r : ChangesClass p old asked after)
+    → Moves p old r.object after.moved × (after.held ≡ insert (without old asked.number r.object.place after.moved) asked.number (resized_at r.place r.object asked.length))
+change_is p ok old s asked after r =
+    let f = r.freed in
+    let still' = found_still p ok old s asked.number asked.length r.place r.spare r.object r.found r.other r.unused in
+    let same : Some f.freed ≡ Some r.object = sym f.found ∙ still' in
+    let is : f.freed ≡ r.object = cc in
+    let moves : Moves p (insert old r.spare (resized_at r.place r.object asked.length)) r.object after.moved = subst (λ y. Moves p (insert old r.spare (resized_at r.place r.object asked.length)) y after.moved) is f.moves in
+    let left : r.left ≡ without (insert old r.spare (resized_at r.place r.object asked.length)) asked.number r.object.place after.moved = f.left ∙ ap (λ (y : Placed). without (insert old r.spare (resized_at r.place r.object asked.length)) asked.number y.place after.moved) is in
+    let before = moves_before p ok old s asked.number asked.length r.place r.spare r.object r.found r.other r.unused after.moved moves in (
+      before,
+      r.renamed ∙ ap (λ l. insert (remove l r.spare) asked.number (resized_at r.place r.object asked.length)) left
+          ∙ equal_maps _ _ (λ q. no_trace p ok old s asked.number asked.length r.place r.spare r.object r.found r.other r.unused q after.moved before),
+    )
 
 -- a resize keeps the arrangement sound
 pub sound_resize : (p : Paging) (old : Held) (asked : Request) (after : Outcome) → IsPaging p → IsSound p old → IsResizeStep p old asked after → IsSound p after.held

@@ -1,17 +1,20 @@
 -- The rule of slot sizes gives sizes that rise from 4 words to the page; and the class of a request.
-use Rattle.std.proofs.Common.{◌≡◌, ◌≢◌, ℕ, zero, suc, Bool, true, false, cond, ◌+◌, ◌-◌, ◌*◌, ◌/◌, ◌%◌, ◌<◌, ◌≤◌, List, [], ◌∷◌, Option, Some, None, length, map, get_or, replicate, arith, sym, ◌∙◌, inl, inr, ap, refl, subst}
-use Rattle.std.specs.Prelude.{◌⊎◌, ◌||◌, ◌==◌, ◌↔◌, IsTrue, nat_le, nat_lt}
+use Rattle.std.proofs.Common.{◌≡◌, ℕ, zero, suc, Bool, true, false, ◌+◌, ◌-◌, ◌*◌, ◌/◌, ◌%◌, ◌<◌, ◌≤◌, List, [], ◌∷◌, Some, None, length, map, get_or, arith, sym, ◌∙◌, inl, inr, refl, subst}
+use Rattle.std.specs.Prelude.{IsTrue, nat_le, nat_lt}
 use Rattle.std.specs.List.{position_or_len}
-use Rattle.std.proofs.lemmas.Bool.{cases_eq, cases_lt, false≢true}
+use Rattle.std.proofs.lemmas.Bool.{cases_lt, false≢true}
 use Rattle.std.proofs.lemmas.Bool.Decides.{nat_tests}
-use Rattle.std.proofs.lemmas.List.{get_or-map, length-map, length-replicate, get_or-replicate}
+use Rattle.std.proofs.lemmas.List.{get_or-map, length-map, length-replicate, get_or-replicate, get_or_past}
 use Rattle.std.proofs.lemmas.List.Sums.{passes_at_first, fails_before_first}
 use Rattle.cf_base.specs.Limits.{is_page_size}
 use Rattle.cf_base.specs.Settings.{Profile}
 use Rattle.cf_base.specs.Classes.{need, sizes_from, sizes, class_of}
 use Rattle.cf_base.specs.declared.kind.Layout.{Layout}
 use Rattle.cf_base.specs.declared.kind.Layout.TheVariants.{Words, Blocks}
-use Rattle.arrangement.specs.Paging.{Paging, AreSizes, IsPaging, AreOne, classes, slot_words, slots_of, bound_of, class_for, paging_of, first_bounds}
+use Rattle.std.proofs.lemmas.Nat.{div-add-mod'}
+use Rattle.std.proofs.Math.Nat.{mul-le-mul_left}
+use Rattle.arrangement.specs.Frames.{AreBlocks}
+use Rattle.arrangement.specs.Paging.{Paging, AreSizes, IsPaging, AreOne, classes, slot_words, slots_of, class_for, paging_of, first_bounds}
 
 -- sizes that rise up to the page
 record Rising (low page : ℕ) (xs : List ℕ) : Type 0 where
@@ -42,10 +45,12 @@ one_more low next page xs less small r = record {
     least : (c : ℕ) → c < length (low ∷ xs) → low ≤ get_or (low ∷ xs) c 0
     least zero lt = omega arith
     least (suc c) lt = (let l = r.least c (omega arith) in omega arith)
+
     rising : (c d : ℕ) → c < d → d < length (low ∷ xs) → get_or (low ∷ xs) c 0 < get_or (low ∷ xs) d 0
     rising c zero a b = absurd (omega arith)
     rising zero (suc d) a b = (let l = r.least d (omega arith) in omega arith)
     rising (suc c) (suc d) a b = r.rising c d (omega arith) (omega arith)
+
     fits : (c : ℕ) → c < length (low ∷ xs) → get_or (low ∷ xs) c 0 ≤ page
     fits zero lt = omega arith
     fits (suc c) lt = r.fits c (omega arith)
@@ -133,3 +138,31 @@ module _ (p : Paging) (ok : IsPaging p) (n : ℕ) where
     | inl lt ↦ absurd (let h = class_holds lt in let f = ok.sized.fits (position_or_len (λ s. nat_le (need n) s) p.sizes) lt in omega arith)
     | inr past ↦ (let e : nat_lt (position_or_len (λ s. nat_le (need n) s) p.sizes) (length p.sizes) ≡ false = grind (arith, nat_tests) in rw e refl)
   ]
+
+-- sizes in blocks are whole blocks
+pub in_blocks : (s : Profile) (bounds : List ℕ) → IsTrue (is_page_size s.page_words) → AreBlocks (paging_of s Blocks bounds)
+in_blocks s bounds h = record {
+  page = (page_facts s.page_words h).1;
+  slot = λ c. (
+      elim (cases_lt c (length (sizes_from (s.page_words / 4) 1 (s.page_words / 4)))) [
+        | inl lt ↦ (let e = get_or-map (λ s. 4 * s) (sizes_from (s.page_words / 4) 1 (s.page_words / 4)) c 0 0 lt in omega arith)
+        | inr past ↦ (
+            let len : length (map (λ s. 4 * s) (sizes_from (s.page_words / 4) 1 (s.page_words / 4))) ≡ length (sizes_from (s.page_words / 4) 1 (s.page_words / 4)) = length-map (sizes_from (s.page_words / 4) 1 (s.page_words / 4)) (λ s. 4 * s) in
+            let e : get_or (map (λ s. 4 * s) (sizes_from (s.page_words / 4) 1 (s.page_words / 4))) c 0 ≡ 0 = get_or_past (map (λ s. 4 * s) (sizes_from (s.page_words / 4) 1 (s.page_words / 4))) c 0 (omega arith) in
+            omega arith)
+      ]);
+}
+
+-- with the bound 1 in the settings every class has it
+pub first_ones : (s : Profile) (layout : Layout) → s.k ≡ 1 → AreOne (paging_of s layout (first_bounds s layout))
+first_ones s layout one c lt = get_or-replicate {A = ℕ} (length (sizes s.page_words layout)) c s.k 0 lt ∙ one
+
+-- no more slots on a page than blocks
+pub few_slots : (p : Paging) → IsPaging p → (c : ℕ) → c < classes p → 4 * slots_of p c ≤ p.page_words
+few_slots p ok c lt = fewer p.page_words (slot_words p c) (ok.sized.least c lt)
+  where
+    fewer : (P size : ℕ) → 4 ≤ size → 4 * (P / size) ≤ P
+    fewer P size le =
+        let e = div-add-mod' P size in
+        let f : P / size * 4 ≤ P / size * size = mul-le-mul_left (P / size) le in
+        omega arith

@@ -1,5 +1,5 @@
 -- The objects of a class are those of its pages, and a page holds no more than its slots.
-use Rattle.std.proofs.Common.{◌≡◌, ◌≢◌, ℕ, zero, suc, Bool, true, false, cond, ◌+◌, ◌-◌, ◌*◌, ◌/◌, ◌%◌, ◌<◌, ◌≤◌, List, [], ◌∷◌, Option, Some, None, length, arith, sym, ◌∙◌, inl, inr, ap, refl}
+use Rattle.std.proofs.Common.{◌≡◌, ◌≢◌, ℕ, Bool, true, false, ◌+◌, ◌*◌, ◌/◌, ◌%◌, ◌<◌, ◌≤◌, List, [], ◌∷◌, Some, None, length, arith, sym, ◌∙◌, inl, inr, ap, refl}
 use Rattle.std.specs.Prelude.{sum_by, count_by, ◌&&◌, nat_eq, option_map}
 use Rattle.std.specs.List.{range_with_len, list_any, IsDistinct, AllByRecursion}
 use Rattle.std.proofs.lemmas.List.Sums.{sum_by-cons}
@@ -11,15 +11,15 @@ use Rattle.std.proofs.lemmas.Map.Steps.{length-le_from_distinct_below}
 use Rattle.std.specs.Ordering.{nat_cmp}
 use Rattle.std.specs.FinMap.{FinMap, get, insert, empty, values, get-empty}
 use Rattle.cf_lemmas.specs.Maps.{map_values}
-use Rattle.cf_lemmas.proofs.Maps.{get_inserted, get_insert_other, equal_maps}
+use Rattle.cf_lemmas.proofs.Maps.{get_inserted, equal_maps}
 use Rattle.cf_lemmas.proofs.MapValues.{get-map_values, map_values-insert}
 use Rattle.cf_lemmas.proofs.Sums.{sum_by-inserted}
 use Rattle.cf_lemmas.proofs.Ranges.{one, count_changed}
 use Rattle.cf_lemmas.proofs.Induction.{map_induction}
-use Rattle.arrangement.specs.Held.{Held, Objects, Placed, objects}
-use Rattle.arrangement.specs.Paging.{Paging, IsPaging, classes, slot_words, slots_of, page_of, class_for}
-use Rattle.arrangement.specs.Arrangement.{class_at, is_on, objects_on, standing_on, live, IsSlotAt, IsSound}
-use Rattle.arrangement.proofs.Counting.{no_values, still, on_parts, eq_yes, eq_no, here, on_page}
+use Rattle.arrangement.specs.Held.{Held, Placed, objects}
+use Rattle.arrangement.specs.Paging.{Paging, slot_words, slots_of, page_of, class_for}
+use Rattle.arrangement.specs.Arrangement.{class_at, is_on, objects_on, live, IsSound}
+use Rattle.arrangement.proofs.Counting.{no_values, still, on_parts, eq_no}
 use Rattle.arrangement.proofs.Placing.{objects_on-inserted}
 
 pub sum_same : {X : Type 0} (f g : X → ℕ) (xs : List X) → ((x : X) → f x ≡ g x) → sum_by f xs ≡ sum_by g xs
@@ -46,13 +46,13 @@ count_at a n c lt =
 
 -- sums over the values of a map with a function of each
 module _ {X Y : Type 0} (g : X → Y) (f : Y → ℕ) where
-  map_values-empty : map_values g (empty {R = nat_cmp}) ≡ empty {R = nat_cmp}
+  pub map_values-empty : map_values g (empty {R = nat_cmp}) ≡ empty {R = nat_cmp}
   map_values-empty = equal_maps _ _ (λ q. get-map_values g (empty {R = nat_cmp}) q ∙ ap (option_map g) (get-empty nat_cmp q) ∙ sym (get-empty nat_cmp q))
 
   pub sum-map_values : (m : FinMap nat_cmp X) → sum_by f (values (map_values g m)) ≡ sum_by (λ x. f (g x)) (values m)
   sum-map_values = map_induction (λ m. sum_by f (values (map_values g m)) ≡ sum_by (λ x. f (g x)) (values m))
-    (ap (λ m. sum_by f (values m)) map_values-empty ∙ ap (sum_by f) no_values ∙ sym (ap (sum_by (λ x. f (g x))) no_values))
-    (λ m h x none ih. (
+      (ap (λ m. sum_by f (values m)) map_values-empty ∙ ap (sum_by f) no_values ∙ sym (ap (sum_by (λ x. f (g x))) no_values))
+      (λ m h x none ih. (
       let a = sum_by-inserted (λ x. f (g x)) m h x none in
       let n : get (map_values g m) h ≡ None = get-map_values g m h ∙ rw none refl in
       let b = sum_by-inserted f (map_values g m) h (g x) n in
@@ -68,7 +68,7 @@ module _ (p : Paging) (c : ℕ) where
   unfolding live
   live_is m = sum-map_values (λ (x : Placed). x.bytes) (λ v. one (nat_eq (class_for p (length v)) c)) m
 
-  on_none : (page : ℕ) → objects_on p empty c page ≡ 0
+  pub on_none : (page : ℕ) → objects_on p empty c page ≡ 0
   unfolding objects_on
   on_none page = ap (count_by (is_on p c page)) no_values
 
@@ -78,8 +78,8 @@ module _ (p : Paging) (c : ℕ) where
   -- page by page
   pub live_by_pages : (m : Held) → ((q : ℕ) (x : Placed) → get m q ≡ Some x → page_of p x.place < p.pages) → sum_by (objects_on p m c) (range_with_len 0 p.pages) ≡ live_in p m c
   live_by_pages = map_induction (λ m. ((q : ℕ) (x : Placed) → get m q ≡ Some x → page_of p x.place < p.pages) → sum_by (objects_on p m c) (range_with_len 0 p.pages) ≡ live_in p m c)
-    (λ _. sum_zeros (objects_on p empty c) (range_with_len 0 p.pages) on_none ∙ sym live_none)
-    (λ m h x none ih inside.
+      (λ _. sum_zeros (objects_on p empty c) (range_with_len 0 p.pages) on_none ∙ sym live_none)
+      (λ m h x none ih inside.
       let before = ih (λ q y f. inside q y (still m h x none q y f).1) in
       let split = sum_same (objects_on p (insert m h x) c) (λ g. objects_on p m c g + one (is_on p c g x)) (range_with_len 0 p.pages) (λ g. objects_on-inserted p m h x none c g) in
       let plus = sum_plus (objects_on p m c) (λ g. one (is_on p c g x)) (range_with_len 0 p.pages) in
@@ -143,33 +143,42 @@ module _ (p : Paging) (c page : ℕ) where
 
   one_more : (m : Held) (h : ℕ) (x : Placed) (b : Bool) → is_on p c page x ≡ b → get m h ≡ None → HasSlots p c (insert m h x) → (js : List ℕ) → SlotsOf p c m page js → (ks : List ℕ) × SlotsOf p c (insert m h x) page ks
   unfolding IsDistinct
-  one_more m h x false e none s js o = (js, record {
-    count = (let i = objects_on-inserted p m h x none c page in let z : one (is_on p c page x) ≡ 0 = rw e in omega (arith, o.count));
-    distinct = o.distinct;
-    taken = λ j a. (let t = o.taken j a in (t.0, t.1, (still m h x none t.0 t.1 t.2).1, t.3, t.4));
-  })
-  one_more m h x true e none s js o = (x.place % p.page_words / slot_words p c ∷ js, record {
-    count = (let i = objects_on-inserted p m h x none c page in let z : one (is_on p c page x) ≡ 1 = rw e in omega (arith, o.count));
-    distinct = (absent (x.place % p.page_words / slot_words p c) js (λ a. (
-      let t = o.taken (x.place % p.page_words / slot_words p c) a in
-      let was = still m h x none t.0 t.1 t.2 in
-      s.own h x t.0 t.1 (get_inserted m h x) was.1 was.0 (one_place p.page_words (slot_words p c) x.place t.1.place
-        ((on_parts p c page x e).0 ∙ sym (on_parts p c page t.1 t.3).0)
-        (s.aligned h x page (get_inserted m h x) e) (s.aligned t.0 t.1 page was.1 t.3) (sym t.4)))), o.distinct);
-    taken = λ j a. elim (cases_eq j (x.place % p.page_words / slot_words p c)) [
-      | inl is ↦ (h, x, get_inserted m h x, e, sym is)
-      | inr ne ↦ (
-        let f : nat_eq j (x.place % p.page_words / slot_words p c) ≡ false = eq_no _ _ ne in
-        let a' : list_any (nat_eq j) js ≡ true = rw f at a in
-        let t = o.taken j a' in (t.0, t.1, (still m h x none t.0 t.1 t.2).1, t.3, t.4))
-    ];
-  })
+  one_more m h x false e none s js o = (
+    js,
+    record {
+      count = (let i = objects_on-inserted p m h x none c page in let z : one (is_on p c page x) ≡ 0 = rw e in omega (arith, o.count));
+      distinct = o.distinct;
+      taken = λ j a. (let t = o.taken j a in (t.0, t.1, (still m h x none t.0 t.1 t.2).1, t.3, t.4));
+    },
+  )
+  one_more m h x true e none s js o = (
+    x.place % p.page_words / slot_words p c ∷ js,
+    record {
+      count = (let i = objects_on-inserted p m h x none c page in let z : one (is_on p c page x) ≡ 1 = rw e in omega (arith, o.count));
+      distinct = (
+        absent (x.place % p.page_words / slot_words p c) js (λ a. (
+            let t = o.taken (x.place % p.page_words / slot_words p c) a in
+            let was = still m h x none t.0 t.1 t.2 in
+            s.own h x t.0 t.1 (get_inserted m h x) was.1 was.0 (one_place p.page_words (slot_words p c) x.place t.1.place
+            ((on_parts p c page x e).0 ∙ sym (on_parts p c page t.1 t.3).0)
+            (s.aligned h x page (get_inserted m h x) e) (s.aligned t.0 t.1 page was.1 t.3) (sym t.4)))),
+        o.distinct,
+      );
+      taken = λ j a. elim (cases_eq j (x.place % p.page_words / slot_words p c)) [
+        | inl is ↦ (h, x, get_inserted m h x, e, sym is)
+        | inr ne ↦ (
+            let f : nat_eq j (x.place % p.page_words / slot_words p c) ≡ false = eq_no _ _ ne in
+            let a' : list_any (nat_eq j) js ≡ true = rw f at a in
+            let t = o.taken j a' in (t.0, t.1, (still m h x none t.0 t.1 t.2).1, t.3, t.4))
+      ];
+    },
+  )
 
   slots_taken : (m : Held) → HasSlots p c m → (js : List ℕ) × SlotsOf p c m page js
   unfolding IsDistinct
   slots_taken = map_induction (λ m. HasSlots p c m → (js : List ℕ) × SlotsOf p c m page js)
-    (λ _. ([], record { count = sym (on_none p c page); distinct = tt; taken = λ j a. absurd (false≢true a) }))
-    (λ m h x none ih s. (let o = ih (had_slots m h x none s) in one_more m h x (is_on p c page x) refl none s o.0 o.1))
+      (λ _. ([], record { count = sym (on_none p c page); distinct = tt; taken = λ j a. absurd (false≢true a) }))
+      (λ m h x none ih s. (let o = ih (had_slots m h x none s) in one_more m h x (is_on p c page x) refl none s o.0 o.1))
 
   -- a page holds no more than its slots
   pub page_within : (m : Held) → 0 < slot_words p c → IsSound p m → objects_on p m c page ≤ slots_of p c
@@ -177,7 +186,7 @@ module _ (p : Paging) (c page : ℕ) where
       let has = sound_slots p m c s in
       let o = slots_taken m has in
       let n = length-le_from_distinct_below o.0 (slots_of p c) o.1.distinct (λ j a. (
-        let t = o.1.taken j a in
-        let b = slot_below p.page_words (slot_words p c) t.1.place pos (has.aligned t.0 t.1 page t.2 t.3) (has.fits t.0 t.1 page t.2 t.3) in
-        rw (← t.4) b)) in
+      let t = o.1.taken j a in
+      let b = slot_below p.page_words (slot_words p c) t.1.place pos (has.aligned t.0 t.1 page t.2 t.3) (has.fits t.0 t.1 page t.2 t.3) in
+      rw (← t.4) b)) in
       omega (arith, o.1.count)

@@ -1,8 +1,8 @@
 -- The objects that the words of a region tell of.
-use Rattle.std.specs.Prelude.{ℕ, zero, suc, ◌+◌, ◌/◌, ◌%◌, ◌^◌, ◌<◌, List, ◌++◌, map, take, drop, length, slice_index}
+use Rattle.std.specs.Prelude.{ℕ, ◌≡◌, Some, zero, suc, ◌+◌, ◌/◌, ◌%◌, ◌^◌, ◌<◌, List, ◌++◌, map, take, drop, length, slice_index}
 use Rattle.std.specs.List.{range_with_len}
 use Rattle.std.specs.Ordering.{nat_cmp}
-use Rattle.std.specs.FinMap.{FinMap}
+use Rattle.std.specs.FinMap.{FinMap, get}
 use Rattle.cf_lemmas.specs.Maps.{map_values}
 use Rattle.arrangement.specs.Held.{Held, Placed}
 
@@ -25,4 +25,8 @@ AreBytes v = (i : ℕ) → slice_index v i < 256
 
 -- the bytes v with `bytes` written over them from `at` on
 abbrev pub written : List ℕ → ℕ → List ℕ → List ℕ
-written v at bytes = take at v ++ bytes ++ drop (at + length bytes) v
+written v at bytes = take at v ++ (bytes ++ drop (at + length bytes) v)
+
+-- numbers of 32 bits, and bytes: what words can tell of
+abbrev pub AreStorable : Held → Type 0
+AreStorable m = (h : ℕ) (x : Placed) → get m h ≡ Some x → (h < 2 ^ 32) × AreBytes x.bytes

@@ -3,8 +3,8 @@ use Rattle.std.specs.Prelude.{◌≡◌, ℕ, Bool, ◌+◌, ◌-◌, ◌*◌, �
 use Rattle.std.specs.List.{range_with_len}
 use Rattle.std.specs.FinMap.{get}
 use Rattle.arrangement.specs.Held.{Held, Placed}
-use Rattle.arrangement.specs.Paging.{Paging, slot_words}
-use Rattle.arrangement.specs.Arrangement.{class_at}
+use Rattle.arrangement.specs.Paging.{IsPaging, Paging, slot_words}
+use Rattle.arrangement.specs.Arrangement.{IsSound, class_at}
 use Rattle.arrangement.specs.Steps.{Outcome}
 
 -- the numbers below n, each at its own place
@@ -56,3 +56,11 @@ pub record IsPhysical (frames words physical : List ℕ) : Type 0 where
 pub record AreBlocks (p : Paging) : Type 0 where
   pub page : p.page_words % 4 ≡ 0
   pub slot : (c : ℕ) → slot_words p c % 4 ≡ 0
+
+-- A sound arrangement in whole blocks, and as many frames as the region has blocks, each number once.
+pub record AreFramed (p : Paging) (m : Held) (frames : List ℕ) : Type 0 where
+  pub paged : IsPaging p
+  pub blocks : AreBlocks p
+  pub sound : IsSound p m
+  pub count : length frames ≡ p.pages * p.page_words / 4
+  pub permuted : IsPermuted frames

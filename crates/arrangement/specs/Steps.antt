@@ -1,5 +1,5 @@
 -- The steps of an arrangement: malloc, free and resize.
-use Rattle.std.specs.Prelude.{◌≡◌, ◌≢◌, ℕ, ◌⊎◌, ◌+◌, ◌-◌, ◌≤◌, ◌<◌, List, ◌++◌, Option, Some, None, length, take, replicate}
+use Rattle.std.specs.Prelude.{◌≡◌, ◌≢◌, ℕ, ◌⊎◌, ◌-◌, ◌<◌, List, ◌++◌, Option, Some, None, length, take, replicate}
 use Rattle.std.specs.FinMap.{get, insert, remove}
 use Rattle.arrangement.specs.Held.{Held, Placed}
 use Rattle.arrangement.specs.Paging.{Paging, slots_of, bound_of, class_for, page_of}

@@ -1,11 +1,42 @@
-//! Arrangements of objects on pages, and their laws. It has no code that does anything.
+//! Arrangements of objects on pages, as Compact-fit (2008) has them: what a sound one is, what a
+//! malloc, a free and a resize do to it, and to the words and blocks of the region. The public
+//! functions do nothing: each one's contract is a law of these definitions.
 #![tactic(auto)]
 
-ghost use Rattle.std.specs.Prelude.{◌≡◌};
-ghost use Rattle.cf_base.specs.Classes.{need};
+mod blocks;
+mod classes;
+mod counts;
+mod figures;
+mod room;
+mod soundness;
+mod words;
 
-pub fn t(bytes: u32) -> u32
-    ensures { result ≡ need bytes }
-{
-    1 + bytes.div_ceil(8)
-}
+pub use blocks::{
+    blocks_of_others_stay, frames_stay_permuted, live_objects_share_no_block,
+    slots_stand_in_their_blocks,
+};
+pub use classes::{
+    a_class_holds_its_requests, slot_sizes_rise, slots_are_few_and_in_blocks, slots_have_addresses,
+};
+pub use counts::{
+    can_hold_is_a_test, most_pages_is_the_greatest, one_page_count_at_bound_one,
+    pages_are_within_the_bound,
+};
+pub use figures::{
+    figures_where_an_object_comes, figures_where_an_object_goes, pages_and_objects_add_up,
+};
+pub use room::{
+    lack_of_room_is_arithmetic_at_bound_one, lack_of_room_is_no_page_left,
+    pages_are_those_needed_at_bound_one, pages_where_room_is_lacking,
+};
+pub use soundness::{
+    a_free_keeps_soundness, a_malloc_keeps_soundness, a_resize_in_two_steps,
+    a_resize_keeps_soundness, counts_after_a_free, counts_after_a_malloc,
+    nothing_is_a_sound_arrangement, objects_after_a_step, page_counts_follow_one_page,
+    page_counts_of_a_sound_arrangement,
+};
+pub use words::{
+    a_part_is_written, a_word_is_its_bytes, bytes_are_read_back, headers_tell,
+    objects_stay_storable, what_stands_at_places, words_after_a_free, words_after_a_malloc,
+    words_after_a_resize, words_after_a_write, words_are_one_list, words_tell_what_is_held,
+};

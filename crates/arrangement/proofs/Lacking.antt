@@ -1,22 +1,20 @@
 -- When a sound arrangement lacks room for a class.
-use Rattle.std.proofs.Common.{◌≡◌, ◌≢◌, ℕ, zero, suc, Bool, true, false, cond, ◌+◌, ◌-◌, ◌*◌, ◌/◌, ◌%◌, ◌<◌, ◌≤◌, List, [], ◌∷◌, Some, None, length, arith, sym, ◌∙◌, inl, inr, ap, refl}
+use Rattle.std.proofs.Common.{◌≡◌, ◌≢◌, ℕ, zero, suc, Bool, true, false, ◌+◌, ◌-◌, ◌*◌, ◌/◌, ◌%◌, ◌<◌, ◌≤◌, List, [], ◌∷◌, Some, arith, sym, ◌∙◌, inl, inr, ap, refl}
 use Rattle.std.specs.Prelude.{sum_by, count_by, ◌&&◌, ◌↔◌, nat_eq, nat_lt, filter, not}
 use Rattle.std.specs.List.{range_with_len}
 use Rattle.std.proofs.lemmas.List.Sums.{sum_by-cons}
 use Rattle.std.proofs.lemmas.Bool.{cases_eq, cases_lt}
-use Rattle.std.proofs.lemmas.Bool.Decides.{nat_tests}
 use Rattle.std.proofs.lemmas.Nat.{div-add-mod'}
-use Rattle.std.specs.FinMap.{get, insert}
-use Rattle.cf_lemmas.proofs.Sums.{sum_by-inserted}
-use Rattle.cf_lemmas.proofs.Ranges.{one, count_same}
-use Rattle.arrangement.specs.Held.{Held, Objects, Placed, objects}
-use Rattle.arrangement.specs.Paging.{Paging, IsPaging, AreOne, classes, slots_of, bound_of, page_of, class_for}
-use Rattle.arrangement.specs.Counts.{Stand, CanHold, ceil_div, most_pages}
-use Rattle.arrangement.specs.Arrangement.{class_at, live, objects_on, standing_on, home_pages, not_full_pages, used_pages, free_pages, pages_needed, pages_needed_with, most_pages_besides, IsSound, LacksRoom}
+use Rattle.std.specs.FinMap.{get}
+use Rattle.cf_lemmas.proofs.Ranges.{one}
+use Rattle.arrangement.specs.Held.{Held, Placed, objects}
+use Rattle.arrangement.specs.Paging.{Paging, IsPaging, classes, slots_of, bound_of, page_of}
+use Rattle.arrangement.specs.Counts.{Stand, most_pages}
+use Rattle.arrangement.specs.Arrangement.{class_at, live, objects_on, standing_on, home_pages, not_full_pages, used_pages, free_pages, most_pages_besides, IsSound, LacksRoom}
 use Rattle.arrangement.proofs.Counting.{lt_yes, lt_no, eq_yes, eq_no, here, stands_here, on_page, standing}
 use Rattle.arrangement.proofs.Totals.{sum_same, sum_plus, sum_zeros, count_at}
 use Rattle.arrangement.proofs.PageCounts.{slots_some, sound_stand, sound_can_hold}
-use Rattle.arrangement.proofs.PageLaws.{between_multiples, can_hold_one, most_pages_least}
+use Rattle.arrangement.proofs.PageLaws.{between_multiples, most_pages_least}
 
 -- the order of two sums doesn't matter
 swap_sums : {X Y : Type 0} (f : X → Y → ℕ) (xs : List X) (ys : List Y) → sum_by (λ x. sum_by (f x) ys) xs ≡ sum_by (λ y. sum_by (λ x. f x y) xs) ys
@@ -46,11 +44,11 @@ module _ (f g : ℕ → ℕ) where
       let y = sum_by-cons g a (range_with_len (a + 1) n) in
       elim (cases_eq a c) [
         | inl is ↦ (
-          let rest = sum_range (a + 1) n (λ d l h. same d (omega arith) (omega arith) (omega arith)) in
-          let u : f a ≡ f c = ap f is in let v : g a ≡ g c = ap g is in omega arith)
+            let rest = sum_range (a + 1) n (λ d l h. same d (omega arith) (omega arith) (omega arith)) in
+            let u : f a ≡ f c = ap f is in let v : g a ≡ g c = ap g is in omega arith)
         | inr ne ↦ (
-          let rest = sum_changed (a + 1) n c (omega arith) (omega arith) (λ d l h ne. same d (omega arith) (omega arith) ne) in
-          let e = same a (omega arith) (omega arith) ne in omega arith)
+            let rest = sum_changed (a + 1) n c (omega arith) (omega arith) (λ d l h ne. same d (omega arith) (omega arith) ne) in
+            let e = same a (omega arith) (omega arith) ne in omega arith)
       ]
 
   sum_kept : (keep : ℕ → Bool) (a n : ℕ) → ((d : ℕ) → a ≤ d → d < a + n → f d ≤ g d) → sum_by f (filter keep (range_with_len a n)) ≤ sum_by g (filter keep (range_with_len a n))
@@ -58,7 +56,7 @@ module _ (f g : ℕ → ℕ) where
   sum_kept keep a (suc n) le = go (keep a) refl (sum_kept keep (a + 1) n (λ d l h. le d (omega arith) (omega arith))) (le a (omega arith) (omega arith))
     where
       go : (b : Bool) → keep a ≡ b → sum_by f (filter keep (range_with_len (a + 1) n)) ≤ sum_by g (filter keep (range_with_len (a + 1) n)) → f a ≤ g a
-        → sum_by f (filter keep (range_with_len a (suc n))) ≤ sum_by g (filter keep (range_with_len a (suc n)))
+          → sum_by f (filter keep (range_with_len a (suc n))) ≤ sum_by g (filter keep (range_with_len a (suc n)))
       go true e rest first = (
           let x = sum_by-cons f a (filter keep (range_with_len (a + 1) n)) in
           let y = sum_by-cons g a (filter keep (range_with_len (a + 1) n)) in
@@ -85,15 +83,15 @@ module _ (f : ℕ → ℕ) (c : ℕ) where
       let x = sum_by-cons f a (range_with_len (a + 1) n) in
       elim (cases_eq a c) [
         | inl is ↦ (
-          let e : nat_eq a c ≡ true = eq_yes a c is in
-          let rest = past (a + 1) n (omega arith) in
-          let u : f a ≡ f c = ap f is in
-          rw e (omega arith))
+            let e : nat_eq a c ≡ true = eq_yes a c is in
+            let rest = past (a + 1) n (omega arith) in
+            let u : f a ≡ f c = ap f is in
+            rw e (omega arith))
         | inr ne ↦ (
-          let e : nat_eq a c ≡ false = eq_no a c ne in
-          let y = sum_by-cons f a (others (a + 1) n) in
-          let rest = sum_others (a + 1) n (omega arith) (omega arith) in
-          rw e (omega arith))
+            let e : nat_eq a c ≡ false = eq_no a c ne in
+            let y = sum_by-cons f a (others (a + 1) n) in
+            let rest = sum_others (a + 1) n (omega arith) (omega arith) in
+            rw e (omega arith))
       ]
 
 -- counts over a range
@@ -141,19 +139,19 @@ module _ (p : Paging) (m : Held) (s : IsSound p m) where
   one_home : (g : ℕ) → one (nat_lt 0 (standing_on p m g)) ≡ sum_by (λ c. one (nat_lt 0 (objects_on p m c g))) (range_with_len 0 (classes p))
   one_home g = elim (cases_lt 0 (standing_on p m g)) [
     | inl some ↦ (
-      let o = standing p m g some in
-      of_class o.0 o.1 o.2 o.3 some)
+        let o = standing p m g some in
+        of_class o.0 o.1 o.2 o.3 some)
     | inr none ↦ (
-      let e = lt_no 0 (standing_on p m g) none in
-      let z = sum_zeros (λ c. one (nat_lt 0 (objects_on p m c g))) (range_with_len 0 (classes p)) (λ c. lt_no 0 (objects_on p m c g) (elim (cases_lt 0 (objects_on p m c g)) [
-        | inl some ↦ absurd (let o = on_page p m c g some in let t = stands_here p m o.0 o.1 o.2 in let t' : 0 < standing_on p m g = rw (← o.3) t in omega arith)
-        | inr le ↦ le
-      ])) in
-      omega arith)
+        let e = lt_no 0 (standing_on p m g) none in
+        let z = sum_zeros (λ c. one (nat_lt 0 (objects_on p m c g))) (range_with_len 0 (classes p)) (λ c. lt_no 0 (objects_on p m c g) (elim (cases_lt 0 (objects_on p m c g)) [
+          | inl some ↦ absurd (let o = on_page p m c g some in let t = stands_here p m o.0 o.1 o.2 in let t' : 0 < standing_on p m g = rw (← o.3) t in omega arith)
+          | inr le ↦ le
+        ])) in
+        omega arith)
   ]
     where
       of_class : (q : ℕ) (y : Placed) → get m q ≡ Some y → page_of p y.place ≡ g → 0 < standing_on p m g
-        → one (nat_lt 0 (standing_on p m g)) ≡ sum_by (λ c. one (nat_lt 0 (objects_on p m c g))) (range_with_len 0 (classes p))
+          → one (nat_lt 0 (standing_on p m g)) ≡ sum_by (λ c. one (nat_lt 0 (objects_on p m c g))) (range_with_len 0 (classes p))
       of_class q y f is some =
           let e = lt_yes 0 (standing_on p m g) some in
           let h : 0 < objects_on p m (class_at p y) g = rw is at (here p m q y f) in
@@ -171,7 +169,7 @@ module _ (p : Paging) (m : Held) (s : IsSound p m) where
   pub used_is : used_pages p m ≡ standing_pages
   unfolding used_pages home_pages
   used_is = sym (sum_same (λ g. one (nat_lt 0 (standing_on p m g))) (λ g. sum_by (λ c. one (nat_lt 0 (objects_on p m c g))) (range_with_len 0 (classes p))) (range_with_len 0 p.pages) one_home
-    ∙ swap_sums (λ g c. one (nat_lt 0 (objects_on p m c g))) (range_with_len 0 p.pages) (range_with_len 0 (classes p)))
+      ∙ swap_sums (λ g c. one (nat_lt 0 (objects_on p m c g))) (range_with_len 0 p.pages) (range_with_len 0 (classes p)))
 
   pub used_le : used_pages p m ≤ p.pages
   used_le = (let e = used_is in let l = count_le (λ g. nat_lt 0 (standing_on p m g)) 0 p.pages in omega arith)
@@ -189,13 +187,14 @@ module _ (p : Paging) (m : Held) (s : IsSound p m) where
   -- a class lacks room exactly where none of its pages is not full and no page is free
   pub lacks_room_is : (c : ℕ) → LacksRoom p m c ↔ ((not_full_pages p m c ≡ 0) × (free_pages p m ≡ 0))
   lacks_room_is c = (
-      (λ l. (l.full, (let e = none_free l.taken in omega arith))),
-      (λ e. record { full = e.0; taken = all_taken (let z = e.1 in let l = used_le in omega arith) }))
+    (λ l. (l.full, (let e = none_free l.taken in omega arith))),
+    (λ e. record { full = e.0; taken = all_taken (let z = e.1 in let l = used_le in omega arith) }),
+  )
 
   module _ (ok : IsPaging p) where
     -- where a class lacks room, its objects fill its pages, and those of the others stand on the rest
     pub lacking : (c : ℕ) → c < classes p → LacksRoom p m c
-      → (live p (objects m) c % slots_of p c ≡ 0) × (p.pages ≤ live p (objects m) c / slots_of p c + most_pages_besides p (objects m) c)
+        → (live p (objects m) c % slots_of p c ≡ 0) × (p.pages ≤ live p (objects m) c / slots_of p c + most_pages_besides p (objects m) c)
     unfolding used_pages most_pages_besides
     lacking c lt l =
         let some = slots_some p ok c lt in
@@ -206,7 +205,7 @@ module _ (p : Paging) (m : Held) (s : IsSound p m) where
         let used = none_free l.taken in
         let sum = sum_others (home_pages p m) c 0 (classes p) (omega arith) (omega arith) in
         let le = sum_kept (home_pages p m) (λ d. most_pages (live p (objects m) d) (slots_of p d) (bound_of p d)) (λ d. not (nat_eq d c)) 0 (classes p)
-          (λ d _ h. most_pages_least (home_pages p m d) (live p (objects m) d) (slots_of p d) (bound_of p d) (slots_some p ok d (omega arith)) (sound_can_hold p ok d (omega arith) m s)) in
+        (λ d _ h. most_pages_least (home_pages p m d) (live p (objects m) d) (slots_of p d) (bound_of p d) (slots_some p ok d (omega arith)) (sound_can_hold p ok d (omega arith) m s)) in
         (omega arith, omega arith)
       where
         from_stand : (h n k q b : ℕ) → Stand h n k b q → q ≡ 0 → n ≡ h * k
