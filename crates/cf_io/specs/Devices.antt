@@ -1,5 +1,7 @@
 -- What stands in a source or a sink over a reader or a writer.
-use Rattle.std.specs.Prelude.{ℕ}
+use Rattle.std.specs.Prelude.{ℕ, List, Option, Result}
+use Rattle.std.specs.Io.KnownBytes.{Appends, ReadConsumes}
+use Rattle.cf_base.specs.declared.answers.Failed.{Failed}
 use Rattle.cf_io.specs.declared.devices.StdSource.{StdSource}
 use Rattle.cf_io.specs.declared.devices.StdSink.{StdSink}
 
@@ -22,3 +24,11 @@ writer_of s = s.writer
 -- how many of its calls failed
 abbrev pub sink_faults : {T : Type 0} → StdSink T → ℕ
 sink_faults s = s.faults
+
+-- what the reader has left, where it is known, lost just what was given
+abbrev pub Reads : {T : Type 0} → (T → Option (List ℕ)) → StdSource T → Result ℕ Failed → StdSource T → List ℕ → Type 0
+Reads remaining old answer new buf = ReadConsumes (remaining (reader_of old)) (remaining (reader_of new)) answer buf
+
+-- what the writer holds, where it is known, grew by this piece
+abbrev pub Writes : {T : Type 0} → (T → Option (List ℕ)) → StdSink T → List ℕ → StdSink T → Type 0
+Writes contents old piece new = Appends (contents (writer_of old)) (contents (writer_of new)) piece

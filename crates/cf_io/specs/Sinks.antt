@@ -1,12 +1,16 @@
 -- What the sink in memory is, and what a call does to it.
-use Rattle.std.specs.Prelude.{ℕ, Bool, ◌-◌, ◌==◌, ◌++◌, ◌||◌, ◌&&◌, not, List, length, take, min, if◌then◌else◌, Option, Some, None}
-use Rattle.cf_io.specs.Schedules.{Schedule, is_due, moved, gone_well, gone_wrong}
+use Rattle.std.specs.Prelude.{ℕ, Bool, ◌-◌, ◌==◌, ◌++◌, ◌||◌, ◌&&◌, not, List, [], length, take, min, if◌then◌else◌, Option, Some, None}
+use Rattle.cf_io.specs.Schedules.{Schedule, is_due, moved, gone_well, gone_wrong, planned}
 
 -- a sink in memory: the bytes written, how many more it has room for, and what its calls do
 pub record MemSink : Type 0 where
   pub written : List ℕ
   pub room : ℕ
   pub schedule : Schedule
+
+-- no call was made yet
+abbrev pub mem_sink : ℕ → List ℕ → List ℕ → MemSink
+mem_sink room cuts fails = record { written = []; room = room; schedule = planned cuts fails }
 
 -- whether the next call fails, with these bytes: by plan, or since there is no room for any of them
 abbrev pub put_fails : MemSink → List ℕ → Bool

@@ -1,7 +1,7 @@
 -- What the sources in memory are, and what a call does to them.
-use Rattle.std.specs.Prelude.{ℕ, ◌+◌, ◌++◌, List, length, take, drop, min, if◌then◌else◌, Option, Some, None}
+use Rattle.std.specs.Prelude.{ℕ, ◌≡◌, ◌%◌, EachIndex, slice_index, ◌+◌, ◌++◌, List, length, take, drop, min, if◌then◌else◌, Option, Some, None}
 use Rattle.cf_io.specs.Feeds.{last_count}
-use Rattle.cf_io.specs.Schedules.{Schedule, is_due, moved, gone_well, gone_wrong}
+use Rattle.cf_io.specs.Schedules.{Schedule, is_due, moved, gone_well, gone_wrong, planned}
 
 -- a source that never fails: the bytes left, and how many were given
 pub record SureSource : Type 0 where
@@ -13,6 +13,22 @@ pub record MemSource : Type 0 where
   pub left : List ℕ
   pub given : ℕ
   pub schedule : Schedule
+
+-- a source that gives its piece over and over: the piece, where it goes on, and how many bytes were given
+pub record LoopSource : Type 0 where
+  pub piece : List ℕ
+  pub at : ℕ
+  pub given : ℕ
+
+-- no call was made yet
+abbrev pub sure_source : List ℕ → SureSource
+sure_source bytes = record { left = bytes; given = 0 }
+
+abbrev pub mem_source : List ℕ → List ℕ → List ℕ → MemSource
+mem_source bytes cuts fails = record { left = bytes; given = 0; schedule = planned cuts fails }
+
+abbrev pub loop_source : List ℕ → LoopSource
+loop_source piece = record { piece = piece; at = 0; given = 0 }
 
 -- n more were given, as far as a counter of 64 bits goes
 abbrev pub more_given : ℕ → ℕ → ℕ
@@ -46,3 +62,11 @@ mem_after s room = if is_due s.schedule then record s { schedule = gone_wrong s.
 -- the buffer after the next call
 abbrev pub mem_buffer : MemSource → List ℕ → List ℕ
 mem_buffer s buf = if is_due s.schedule then buf else filled (mem_count s (length buf)) s.left buf
+
+-- the buffer holds the piece over and over, from its byte `at` on
+abbrev pub Loops : List ℕ → ℕ → List ℕ → Type 0
+Loops piece at buf = EachIndex buf (λ k. slice_index buf k ≡ slice_index piece ((at + k) % length piece))
+
+-- the source after n bytes were given
+abbrev pub loop_after : LoopSource → ℕ → LoopSource
+loop_after s n = record s { at = (s.at + n) % length s.piece; given = more_given s.given n }

@@ -1,7 +1,8 @@
 //! Sources and sinks over std's readers and writers.
 ghost use Rattle.std.specs.Prelude.{◌≡◌, ◌<◌, ◌≤◌, None, length, take, IfOk, IfSome, OnOk, OnErr};
-ghost use Rattle.std.specs.Io.KnownBytes.{Appends, ReadConsumes};
-ghost use Rattle.cf_io.specs.Devices.{given_by, reader_of, sink_faults, source_faults, writer_of};
+ghost use Rattle.std.specs.Io.KnownBytes.{Appends};
+ghost use Rattle.cf_io.specs.Devices.{Reads, given_by, reader_of, source_faults};
+ghost use Rattle.cf_io.specs.Devices.{Writes, sink_faults, writer_of};
 ghost use Rattle.cf_io.specs.Schedules.{one_more};
 ghost use Rattle.cf_io.specs.Sources.{more_given};
 
@@ -42,7 +43,7 @@ impl<T: Read> Source for StdSource<T> {
     ghost faults = { source_faults };
 
     fn take(&mut self, buf: &mut [u8]) -> Result<usize, Failed>
-        ensures bytes { ReadConsumes (T.remaining (reader_of self.old)) (T.remaining (reader_of self.new)) result buf.new }
+        ensures bytes { Reads T.remaining self.old result self.new buf.new }
         ensures within { IfOk result (λ n. n ≤ length buf.new) }
         ensures given { IfOk result (λ n. given_by self.new ≡ more_given (given_by self.old) n) }
         ensures grows { source_faults self.old ≤ source_faults self.new }
@@ -102,7 +103,7 @@ impl<T: Write> Sink for StdSink<T> {
     ghost faults = { sink_faults };
 
     fn put(&mut self, bytes: &[u8]) -> Result<usize, Failed>
-        ensures bytes { IfOk result (λ n. Appends (T.contents (writer_of self.old)) (T.contents (writer_of self.new)) (take n bytes.now)) }
+        ensures bytes { IfOk result (λ n. Writes T.contents self.old (take n bytes.now) self.new) }
         ensures within { IfOk result (λ n. n ≤ length bytes.now) }
         ensures some { 0 < length bytes.now → IfOk result (λ n. 0 < n) }
         ensures grows { sink_faults self.old ≤ sink_faults self.new }

@@ -17,7 +17,7 @@ pub use numbers::number_of;
 pub use sink::Sink;
 pub use sinks::{MemSink, NullSink};
 pub use source::Source;
-pub use sources::SureSource;
+pub use sources::{LoopSource, MemSource, SureSource};
 pub use writing::put_all;
 
 #[cfg(test)]

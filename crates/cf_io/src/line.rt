@@ -66,7 +66,7 @@ impl Line {
 
     /// Appends the bytes in hex, two lower-case digits each. `Full` exactly where the line would
     /// pass 9,000 bytes.
-    #[tactic(auto, using(crate::proofs::Hex::length_in_hex))]
+    #[tactic(auto, using(crate::proofs::CallerLemmas::length_in_hex))]
     pub fn push_hex(&mut self, bytes: &[u8]) -> Result<(), Full>
         ensures { Pushes self.old (encode_lower bytes.now) result self.new }
     {

@@ -1,8 +1,7 @@
 //! Sinks in memory.
-ghost use Rattle.std.specs.Prelude.{◌≡◌, ◌≤◌, [], None, Ok, Some, length, IfOk};
+ghost use Rattle.std.specs.Prelude.{◌≡◌, ◌≤◌, None, Ok, Some, length, IfOk};
 ghost use Rattle.std.specs.Result.{result_ok};
-ghost use Rattle.cf_io.specs.Schedules.{planned};
-ghost use Rattle.cf_io.specs.Sinks.{put_after, put_answer};
+ghost use Rattle.cf_io.specs.Sinks.{mem_sink, put_after, put_answer};
 
 use crate::schedule::Schedule;
 use crate::sink::Sink;
@@ -58,7 +57,7 @@ impl MemSink {
         cuts: Vec<usize>,
         fails: Vec<u64>,
     ) -> Result<MemSink, OutOfMemory>
-        ensures { IfOk result (λ s. s ≡ record { written = []; room = room; schedule = planned cuts.items fails.items }) }
+        ensures { IfOk result (λ s. s ≡ mem_sink room cuts.items fails.items) }
     {
         match Vec::with_capacity(alloc, room) {
             Ok(bytes) => Ok(MemSink {

@@ -4,3 +4,4 @@ pub mod Induction
 pub mod Ranges
 pub mod Numbered
 pub mod MapValues
+pub mod Positions

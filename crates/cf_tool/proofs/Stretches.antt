@@ -1,9 +1,8 @@
 -- The first of the stretches between separators.
-use Rattle.std.proofs.Common.{◌≡◌, ℕ, suc, ◌+◌, ◌-◌, ◌<◌, ◌≤◌, Bool, true, false, cond, List, [], ◌∷◌, length, take, drop, arith, refl, ap, sym, ◌∙◌, Some, None}
+use Rattle.std.proofs.Common.{◌≡◌, ℕ, suc, ◌+◌, ◌<◌, ◌≤◌, Bool, true, false, cond, List, [], ◌∷◌, length, take, drop, arith, refl, ap, Some, None}
 use Rattle.std.specs.Prelude.{◌==◌, not, nat_lt}
 use Rattle.std.proofs.lemmas.Bool.Decides.{nat_tests}
 use Rattle.std.specs.List.{position, position_or_len}
-use Rattle.std.proofs.lemmas.List.{drop_all, take_rest}
 use Rattle.cf_tool.specs.Script.{heap_words, malloc_words, onto, stretches, lines, words}
 
 -- how many bytes stand before the separator
@@ -16,14 +15,14 @@ module _ (separator : ℕ) (last : List (List ℕ)) where
   stretches_cut [] lt = absurd (omega arith)
   stretches_cut (b ∷ bs) lt = elim (b == separator) as (λ t. cond (not t) (1 + before separator bs) 0 < length (b ∷ bs)
       → cond t ([] ∷ stretches separator last bs) (onto b (stretches separator last bs)) ≡ take (cond (not t) (1 + before separator bs) 0) (b ∷ bs) ∷ stretches separator last (drop (cond (not t) (1 + before separator bs) 0 + 1) (b ∷ bs))) [
-    | true ↦ (λ _. let e : 0 + 1 ≡ suc 0 = refl in refl)
-    | false ↦ (λ l.
-      let n = before separator bs in
-      let e : 1 + n ≡ suc n = omega arith in
-      let f : 1 + n + 1 ≡ suc (n + 1) = omega arith in
-      let shorter : n < length bs = omega arith in
-      rw (e) (let g : suc n + 1 ≡ suc (n + 1) = omega arith in rw g (ap (onto b) (stretches_cut bs shorter))))
-  ] lt
+        | true ↦ (λ _. let e : 0 + 1 ≡ suc 0 = refl in refl)
+        | false ↦ (λ l.
+            let n = before separator bs in
+            let e : 1 + n ≡ suc n = omega arith in
+            let f : 1 + n + 1 ≡ suc (n + 1) = omega arith in
+            let shorter : n < length bs = omega arith in
+            rw (e) (let g : suc n + 1 ≡ suc (n + 1) = omega arith in rw g (ap (onto b) (stretches_cut bs shorter))))
+      ] lt
 
 -- no separator: the bytes are one word
 pub words_whole : (s : List ℕ) → length s ≤ before 32 s → words s ≡ s ∷ []

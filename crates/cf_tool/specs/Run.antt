@@ -1,5 +1,5 @@
 -- A run over the items of a script: what it replies, and its state.
-use Rattle.std.specs.Prelude.{◌≡◌, ◌⊎◌, ℕ, ◌+◌, ◌<◌, ◌≤◌, ◌++◌, List, [], ◌∷◌, Option, Some, None, replicate, codes, decimal}
+use Rattle.std.specs.Prelude.{◌≡◌, ◌⊎◌, ℕ, ◌<◌, ◌≤◌, ◌++◌, List, [], ◌∷◌, Option, Some, None, replicate, codes, decimal}
 use Rattle.std.specs.Ordering.{nat_cmp}
 use Rattle.std.specs.FinMap as map
 use Rattle.cf_base.specs.Classes.{need}
@@ -29,7 +29,7 @@ abbrev pub Mallocs : RunState → ℕ → ℕ → List ℕ → RunState → Type
 Mallocs old id bytes text new =
     ((old.profile.page_words < need bytes) × (text ≡ line_of (codes "refused size")) × (new ≡ old))
     ⊎ ((h : ℕ) × (need bytes ≤ old.profile.page_words) × (h < old.profile.proxies) × (map.get old.objects h ≡ None) × (text ≡ line_of (codes "ok"))
-      × (new ≡ record old { ids = map.insert old.ids id h; objects = map.insert old.objects h (replicate bytes 0) }))
+    × (new ≡ record old { ids = map.insert old.ids id h; objects = map.insert old.objects h (replicate bytes 0) }))
 
 -- by what the id names before
 abbrev pub MallocsAt : Option ℕ → RunState → ℕ → ℕ → List ℕ → RunState → Type 0

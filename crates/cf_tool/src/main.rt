@@ -1,6 +1,56 @@
 //! The tool: reads a script from standard input and answers each command.
 #![tactic(auto)]
 
+mod answers;
 mod script;
+mod top;
 
-fn main(rt: HostRuntime) {}
+use cf_base::Status;
+use cf_io::{StdSink, StdSource};
+use std::env;
+use std::io::ErrorKind;
+use std::process::ExitCode;
+use top::cf_main;
+
+/// The line on standard error that goes with a status; none at 0.
+fn complaint(status: Status) -> Option<&'static str> {
+    match status {
+        Status::Done => None,
+        Status::Words => Some("cf_tool: bad words"),
+        Status::BadScript => Some("cf_tool: bad script"),
+        Status::ReadFault => Some("cf_tool: read fault"),
+        Status::WriteFault => Some("cf_tool: write fault"),
+        Status::OutOfMemory => Some("cf_tool: out of memory"),
+        Status::TooLong => Some("cf_tool: script too long"),
+        Status::BadImage => Some("cf_tool: bad image"),
+    }
+}
+
+/// The words of the command line, the program's name first.
+fn command_words(rt: &HostRuntime) -> Result<Vec<String>, Status> {
+    match env::args(rt) {
+        Ok(args) => args.collect(rt.alloc()).map_err(|_| Status::OutOfMemory),
+        Err(error) => match error.kind() {
+            ErrorKind::OutOfMemory => Err(Status::OutOfMemory),
+            _ => Err(Status::Words),
+        },
+    }
+}
+
+fn main(rt: HostRuntime) -> ExitCode {
+    let status = match command_words(&rt) {
+        Ok(words) => {
+            let mut source = StdSource::new(rt.stdin());
+            let mut sink = StdSink::new(rt.stdout());
+            cf_main(&rt, rt.alloc(), words.as_slice(), &mut source, &mut sink)
+        }
+        Err(status) => status,
+    };
+    if let Some(text) = complaint(status) {
+        let _ = rt.eprintln(text);
+    }
+    ExitCode::from(status.code())
+}
+
+#[cfg(test)]
+mod tests;

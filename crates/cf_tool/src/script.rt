@@ -8,7 +8,6 @@ ghost use Rattle.cf_tool.specs.Script.{heap_words, lines, malloc_words, request_
 use cf_base::Settings;
 use cf_io::number_of;
 
-
 /// Where the first separator stands.
 fn separator_at(bytes: &[u8], separator: u8) -> Option<usize>
     ensures { result ≡ position (λ b. b == separator) bytes.now }
@@ -42,7 +41,13 @@ fn next_word(line: &[u8]) -> (&[u8], Option<&[u8]>)
 fn settings_of(pages: &[u8], page_bytes: &[u8], k: &[u8], proxies: &[u8]) -> Option<Settings>
     ensures { option_map profile_of result ≡ settings_in (number_in pages.now) (number_in page_bytes.now) (number_in k.now) (number_in proxies.now) }
 {
-    Settings::check(number_of(pages)?, number_of(page_bytes)?, number_of(k)?, number_of(proxies)?).ok()
+    Settings::check(
+        number_of(pages)?,
+        number_of(page_bytes)?,
+        number_of(k)?,
+        number_of(proxies)?,
+    )
+    .ok()
 }
 
 fn request_of(id: &[u8], bytes: &[u8]) -> Option<(u32, u32)>
@@ -50,7 +55,11 @@ fn request_of(id: &[u8], bytes: &[u8]) -> Option<(u32, u32)>
 {
     let id = number_of(id)?;
     let bytes = number_of(bytes)?;
-    if id <= 65_535 { Some((id, bytes)) } else { None }
+    if id <= 65_535 {
+        Some((id, bytes))
+    } else {
+        None
+    }
 }
 
 /// The settings of a `heap` line. None where it isn't one.

@@ -1,6 +1,6 @@
 -- The first object of an open heap.
-use Rattle.std.proofs.Common.{◌≡◌, ℕ, ◌≤◌, ◌<◌, Option, Some, None, false, true, sym, ap, ◌∙◌, arith, subst, refl}
-use Rattle.std.specs.Prelude.{IsTrue, replicate, is_some}
+use Rattle.std.proofs.Common.{◌≡◌, ℕ, ◌≤◌, Option, Some, None, sym, ap, ◌∙◌, arith}
+use Rattle.std.specs.Prelude.{IsTrue, replicate}
 use Rattle.std.specs.FinMap as map
 use Rattle.std.specs.FinMap.{get-empty}
 use Rattle.std.proofs.lemmas.Bool.{false≢true}

@@ -1,5 +1,5 @@
 -- What contracts see of the moving manager's fields.
-use Rattle.std.specs.Prelude.{ℕ, Bool, List, Option, Some, None, replicate, is_some}
+use Rattle.std.specs.Prelude.{ℕ, Option, Some, None, replicate, is_some}
 use Rattle.std.specs.FinMap as map
 use Rattle.cf_base.specs.Settings.{Profile, profile_of}
 use Rattle.cf_base.specs.declared.settings.Settings.{Settings}

@@ -1,4 +1,4 @@
-use Rattle.std.proofs.Common.{◌≡◌, ◌∙◌, arith, length, sym, [], ◌+◌}
+use Rattle.std.proofs.Common.{◌∙◌, arith, length, sym, [], ◌+◌}
 use Rattle.std.proofs.lemmas.List.{take_rest, drop_all}
 use Rattle.cf_tool.proofs.Stretches.{cut_found, line_not_found}
 use Rattle.cf_tool.proofs.script.next_line.Goals as goal

@@ -1,4 +1,4 @@
-use Rattle.std.proofs.Common.{◌≡◌, sym, [], ◌∷◌, ◌+◌}
+use Rattle.std.proofs.Common.{sym, [], ◌∷◌, ◌+◌}
 use Rattle.std.proofs.lemmas.List.{take_rest}
 use Rattle.cf_tool.proofs.Stretches.{cut_found, word_not_found}
 use Rattle.cf_tool.proofs.script.next_word.Goals as goal

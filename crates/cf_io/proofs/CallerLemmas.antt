@@ -1,0 +1,45 @@
+-- For the layers above: numbers in text, and how long the texts on a line are.
+use Rattle.std.proofs.Common.{◌≡◌, ◌∙◌, ◌<◌, ◌≤◌, ◌*◌, ◌&&◌, List, [], ◌∷◌, ℕ, Some, true, refl, ap, sym, length, arith}
+use Rattle.std.specs.List.{list_all}
+use Rattle.std.specs.Fmt.{decimal}
+use Rattle.std.specs.Int.{w64, to_be_bytes}
+use Rattle.std.specs.Str.Parse.{digits_value, AllDigits}
+use Rattle.hex.specs.Hex.{encode_lower, lower_digits}
+use Rattle.hex.proofs.HexLemmas.{length-encode_with}
+use Rattle.std.proofs.lemmas.Fmt.{decimal_is_IsNumeral}
+use Rattle.std.proofs.lemmas.Str.Parse.{digit_from_value}
+use Rattle.cf_io.specs.Lines.{word_text}
+use Rattle.cf_io.specs.Numbers.{is_digit, number_in}
+
+pub length_in_hex : (bytes : List ℕ) → length (encode_lower bytes) ≡ 2 * length bytes
+length_in_hex bytes = length-encode_with lower_digits bytes
+
+pub length_of_word : (v : ℕ) → length (word_text v) ≡ 16
+length_of_word v = length_in_hex (to_be_bytes w64 v)
+
+-- what a text that spells a number tells
+pub record Spells (text : List ℕ) (n : ℕ) : Type 0 where
+  pub some : 0 < length text
+  pub digits : list_all is_digit text ≡ true
+  pub value : n ≡ digits_value 10 text
+  pub bound : n ≤ 4294967295
+
+pub spells : (text : List ℕ) (n : ℕ) → number_in text ≡ Some n → Spells text n
+spells text n h = grind (arith, h)
+
+pub number_spelled : (text : List ℕ) (n : ℕ) → Spells text n → number_in text ≡ Some n
+number_spelled text n h = grind (arith, h)
+
+-- a zero in front changes nothing
+pub number_behind_zero : (text : List ℕ) → 0 < length text → number_in (48 ∷ text) ≡ number_in text
+number_behind_zero text some = grind (arith, some)
+
+digits_pass : (text : List ℕ) → AllDigits 10 text → list_all is_digit text ≡ true
+digits_pass [] h = refl
+digits_pass (c ∷ cs) h = let e : is_digit c ≡ true = grind (arith, digit_from_value c h.0) in ap (λ b. b && list_all is_digit cs) e ∙ digits_pass cs h.1
+
+-- a number that was written is read again
+pub number_of_decimal : (n : ℕ) → n ≤ 4294967295 → number_in (decimal n) ≡ Some n
+number_of_decimal n fits =
+    let h = decimal_is_IsNumeral n (omega arith) in
+    number_spelled _ _ (record { some = h.0.0; digits = digits_pass _ h.0.1; value = sym h.1; bound = fits })

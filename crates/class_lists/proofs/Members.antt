@@ -1,0 +1,123 @@
+-- Which numbers stand in a list, that none stands twice, and the list without one of them.
+use Rattle.std.proofs.Common.{◌≡◌, ◌≢◌, ℕ, zero, suc, true, false, ◌+◌, ◌<◌, ◌≤◌, List, [], ◌∷◌, length, get_or, cond, eqb, arith, refl, sym, ◌∙◌, ap, inl, inr}
+use Rattle.std.specs.Prelude.{◌⊎◌, not, nat_eq, ◌||◌}
+use Rattle.std.specs.List.{Contains, IsDistinct, AllByRecursion, list_any}
+use Rattle.std.proofs.lemmas.Bool.{cases_eq, eq-eqb, true≢false}
+use Rattle.std.proofs.lemmas.Bool.Decides.{nat_tests}
+use Rattle.std.proofs.lemmas.List.Elements.{All-from_recursion, All-contains}
+use Rattle.std.proofs.lemmas.Map.Keys.{IsDistinct-head, IsDistinct-tail, IsDistinct-cons}
+use Rattle.std.proofs.lemmas.Map.Steps.{length-le_from_distinct_below}
+use Rattle.class_lists.specs.PageLists.{without}
+
+pub distinct_nil : IsDistinct nat_eq []
+unfolding IsDistinct
+distinct_nil = tt
+
+module _ (p : ℕ) where
+  pub contains_nil : ¬ Contains [] p
+  contains_nil h = absurd (let lt : h.0 < 0 = h.1 in omega arith)
+
+  pub contains_head : (xs : List ℕ) → Contains (p ∷ xs) p
+  contains_head xs = (0, omega arith, refl)
+
+  pub contains_tail : (q : ℕ) (xs : List ℕ) → Contains xs p → Contains (q ∷ xs) p
+  contains_tail q xs h = (suc h.0, (let lt : h.0 < length xs = h.1 in omega arith), h.2)
+
+  contains_at : (q : ℕ) (xs : List ℕ) (k : ℕ) → k < length (q ∷ xs) → get_or (q ∷ xs) k p ≡ p → (p ≡ q) ⊎ Contains xs p
+  contains_at q xs zero lt is = inl (sym is)
+  contains_at q xs (suc k) lt is = inr (k, omega arith, is)
+
+  pub contains_cases : (q : ℕ) (xs : List ℕ) → Contains (q ∷ xs) p → (p ≡ q) ⊎ Contains xs p
+  contains_cases q xs h = contains_at q xs h.0 h.1 h.2
+
+  pub differs : (q : ℕ) → p ≢ q → eqb p q ≡ false
+  differs q ne = grind (arith, nat_tests)
+
+  pub distinct_head : (xs : List ℕ) → IsDistinct nat_eq (p ∷ xs) → ¬ Contains xs p
+  distinct_head xs d h = (
+      let out : eqb p p ≡ false = All-contains (λ q. eqb p q ≡ false) xs p (All-from_recursion (λ q. eqb p q ≡ false) xs (IsDistinct-head eqb p xs d)) h in
+      true≢false (sym (eq-eqb p p refl) ∙ out))
+
+  pub distinct_tail : (xs : List ℕ) → IsDistinct nat_eq (p ∷ xs) → IsDistinct nat_eq xs
+  distinct_tail xs d = IsDistinct-tail eqb p xs d
+
+  apart_from_all : (xs : List ℕ) → ¬ Contains xs p → AllByRecursion (λ q. eqb p q ≡ false) xs
+  apart_from_all [] out = tt
+  apart_from_all (x ∷ xs) out =
+      (differs x (λ e. out (rw (← e) (contains_head xs))), apart_from_all xs (λ h. out (contains_tail x xs h)))
+
+  pub distinct_cons : (xs : List ℕ) → ¬ Contains xs p → IsDistinct nat_eq xs → IsDistinct nat_eq (p ∷ xs)
+  distinct_cons xs out d = IsDistinct-cons eqb p xs (apart_from_all xs out) d
+
+  -- the list without p
+  pub without_same : (xs : List ℕ) → without p (p ∷ xs) ≡ without p xs
+  without_same xs = ap (λ b. cond (not b) (p ∷ without p xs) (without p xs)) (eq-eqb p p refl)
+
+pub without_other : (p x : ℕ) (xs : List ℕ) → x ≢ p → without p (x ∷ xs) ≡ x ∷ without p xs
+without_other p x xs ne = ap (λ b. cond (not b) (x ∷ without p xs) (without p xs)) (differs x p ne)
+
+pub without_absent : (p : ℕ) (xs : List ℕ) → ¬ Contains xs p → without p xs ≡ xs
+without_absent p [] out = refl
+without_absent p (x ∷ xs) out =
+    without_other p x xs (λ e. out (rw e (contains_head p xs)))
+    ∙ ap (λ ys. x ∷ ys) (without_absent p xs (λ h. out (contains_tail p x xs h)))
+
+pub without_first : (p : ℕ) (xs : List ℕ) → ¬ Contains xs p → without p (p ∷ xs) ≡ xs
+without_first p xs out = without_same p xs ∙ without_absent p xs out
+
+-- what stands in the list without p
+pub contains_without : (p q : ℕ) (xs : List ℕ) → Contains (without p xs) q → (q ≢ p) × Contains xs q
+contains_without p q [] h = absurd (contains_nil q h)
+contains_without p q (x ∷ xs) h = elim (cases_eq x p) [
+  | inl is ↦ (
+      let e : without p (x ∷ xs) ≡ without p xs = rw is (without_same p xs) in
+      let rest = contains_without p q xs (rw e at h) in
+      (rest.0, contains_tail q x xs rest.1))
+  | inr ne ↦ elim (contains_cases q x (without p xs) (rw (without_other p x xs ne) at h)) [
+    | inl at ↦ ((λ e. ne (sym at ∙ e)), rw at (contains_head x xs))
+    | inr in' ↦ (let rest = contains_without p q xs in' in (rest.0, contains_tail q x xs rest.1))
+  ]
+]
+
+-- all others still stand there
+pub without_contains : (p q : ℕ) (xs : List ℕ) → q ≢ p → Contains xs q → Contains (without p xs) q
+without_contains p q [] ne h = absurd (contains_nil q h)
+without_contains p q (x ∷ xs) ne h = elim (contains_cases q x xs h) [
+  | inl at ↦ rw (without_other p x xs (λ e. ne (at ∙ e)), at) (contains_head x (without p xs))
+  | inr in' ↦ elim (cases_eq x p) [
+    | inl is ↦ (let e : without p (x ∷ xs) ≡ without p xs = rw is (without_same p xs) in rw e (without_contains p q xs ne in'))
+    | inr other ↦ rw (without_other p x xs other) (contains_tail q x (without p xs) (without_contains p q xs ne in'))
+  ]
+]
+
+pub distinct_without : (p : ℕ) (xs : List ℕ) → IsDistinct nat_eq xs → IsDistinct nat_eq (without p xs)
+distinct_without p [] d = d
+distinct_without p (x ∷ xs) d = elim (cases_eq x p) [
+  | inl is ↦ (let e : without p (x ∷ xs) ≡ without p xs = rw is (without_same p xs) in rw e (distinct_without p xs (distinct_tail x xs d)))
+  | inr ne ↦ rw (without_other p x xs ne) (
+      distinct_cons x (without p xs) (λ h. distinct_head x xs d (contains_without p x xs h).1) (distinct_without p xs (distinct_tail x xs d)))
+]
+
+pub length-without : (p : ℕ) (xs : List ℕ) → IsDistinct nat_eq xs → Contains xs p → length (without p xs) + 1 ≡ length xs
+length-without p [] d h = absurd (contains_nil p h)
+length-without p (x ∷ xs) d h = elim (cases_eq x p) [
+  | inl is ↦ (
+      let out : ¬ Contains xs p = rw is at (distinct_head x xs d) in
+      let e : without p (x ∷ xs) ≡ xs = rw is (without_first p xs out) in
+      rw e (omega arith))
+  | inr ne ↦ elim (contains_cases p x xs h) [
+    | inl at ↦ absurd (ne (sym at))
+    | inr in' ↦ rw (without_other p x xs ne) (let rest = length-without p xs (distinct_tail x xs d) in' in omega arith)
+  ]
+]
+
+contains_from_any : (q : ℕ) (xs : List ℕ) → list_any (eqb q) xs ≡ true → Contains xs q
+contains_from_any q [] is = absurd (true≢false (sym is))
+contains_from_any q (x ∷ xs) is = elim (cases_eq q x) [
+  | inl at ↦ rw at (contains_head x xs)
+  | inr ne ↦ contains_tail q x xs (contains_from_any q xs (sym (ap (λ b. b || list_any (eqb q) xs) (differs q x ne)) ∙ is))
+]
+
+-- numbers below n, none of them twice, are at most n
+pub length_within : (n : ℕ) (xs : List ℕ) → IsDistinct nat_eq xs → ((q : ℕ) → Contains xs q → q < n) → length xs ≤ n
+length_within n xs d below = length-le_from_distinct_below xs n d (λ q is. below q (contains_from_any q xs is))

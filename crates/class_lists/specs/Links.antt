@@ -1,0 +1,53 @@
+-- How the lists are linked: rings of nodes, each through a node of its own behind those of the pages. No public clause cites this module.
+use Rattle.std.specs.Prelude.{◌≡◌, ℕ, zero, suc, ◌+◌, ◌*◌, ◌/◌, ◌^◌, ◌<◌, List, [], ◌∷◌, length, slice_index, slice_index_or, nat_eq}
+use Rattle.std.specs.List.{Contains, IsDistinct}
+use Rattle.class_lists.specs.PageLists.{PageLists}
+
+-- so many nodes, each the next of the one before
+abbrev pub chain : List ℕ → ℕ → ℕ → List ℕ
+chain next zero node = []
+chain next (suc count) node = node ∷ chain next count (slice_index next node)
+
+-- the lists of these lengths whose rings go through the nodes from `node` on
+abbrev pub chains : List ℕ → ℕ → List ℕ → List (List ℕ)
+chains next node [] = []
+chains next node (len ∷ lens) = chain next len (slice_index next node) ∷ chains next (node + 1) lens
+
+abbrev pub lists_of : List ℕ → List ℕ → ℕ → PageLists
+lists_of next lens pages = record { pages = pages; classes = length lens / 2; lists = chains next pages lens }
+
+-- the way from one node through the list to the other goes by `next`, and back by `previous`
+abbrev pub IsLinked : List ℕ → List ℕ → ℕ → List ℕ → ℕ → Type 0
+IsLinked next previous start [] end =
+    (slice_index next start ≡ end) × (slice_index previous end ≡ start)
+IsLinked next previous start (node ∷ nodes) end =
+    (slice_index next start ≡ node) × (slice_index previous node ≡ start) × IsLinked next previous node nodes end
+
+-- each node is a ring of its own
+pub record AreAlone (links : List ℕ) (nodes : ℕ) : Type 0 where
+  pub long : length links ≡ nodes
+  pub alone : (node : ℕ) → node < nodes → slice_index links node ≡ node
+
+-- list k of all lists
+abbrev pub list_at : List (List ℕ) → ℕ → List ℕ
+list_at lists k = slice_index_or lists k []
+
+-- each list's ring starts and ends at the list's own node
+pub record AreLinked (next previous lens : List ℕ) (pages : ℕ) (lists : List (List ℕ)) : Type 0 where
+  pub as_many : length lists ≡ length lens
+  pub linked : (k : ℕ) → k < length lens → IsLinked next previous (pages + k) (list_at lists k) (pages + k)
+  pub counted : (k : ℕ) → k < length lens → slice_index lens k ≡ length (list_at lists k)
+
+-- the lists' pages are in range, and none stands in two lists, or twice in one
+pub record AreDisjoint (pages : ℕ) (lists : List (List ℕ)) : Type 0 where
+  pub within : (k page : ℕ) → Contains (list_at lists k) page → page < pages
+  pub distinct : (k : ℕ) → IsDistinct nat_eq (list_at lists k)
+  pub once : (j k page : ℕ) → Contains (list_at lists j) page → Contains (list_at lists k) page → j ≡ k
+
+pub record IsSound (next previous lens : List ℕ) (pages : ℕ) : Type 0 where
+  pub nodes : pages + length lens ≡ length next
+  pub backed : length previous ≡ length next
+  pub few : length next < 2 ^ 32
+  pub paired : 2 * (length lens / 2) ≡ length lens
+  pub linked : AreLinked next previous lens pages (chains next pages lens)
+  pub disjoint : AreDisjoint pages (chains next pages lens)

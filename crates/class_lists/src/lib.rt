@@ -1,0 +1,214 @@
+//! The pages of each class, full and not full, in lists that a page joins and leaves at once.
+#![tactic(auto)]
+
+ghost use Rattle.std.specs.Prelude.{◌≡◌, ℕ, ◌+◌, ◌*◌, ◌<◌, ◌^◌, ◌↔◌, [], ◌∷◌, IfOk, IfSome, IsNone, length, slice_get, slice_set, vec_len};
+ghost use Rattle.std.specs.List.{Contains};
+ghost use Rattle.step_ledger.specs.Counting.{RoseBetween, RoseBy};
+ghost use Rattle.class_lists.specs.Links.{AreAlone};
+ghost use Rattle.class_lists.specs.PageLists.{AreApart, AreEmpty, IsUnlisted, KeepsOthers, empty_lists, list_number, pages_in, with_list, without};
+
+use cf_base::OutOfMemory;
+use std::alloc::{AllocError, Global};
+use std::marker::Model;
+use step_ledger::Steps;
+
+/// Which pages of a class a list has.
+#[derive(Clone, Copy, Debug, PartialEq, Eq)]
+pub enum Which {
+    /// Each slot is used.
+    Full,
+    /// Some slot is used, and some is free.
+    NotFull,
+}
+
+/// One list of pages for each class and `Which`. No page stands in two lists, or twice in one.
+#[derive(Drop)]
+pub struct ClassLists {
+    // Each list is a ring through a node of its own, behind those of the pages.
+    links: Links,
+    lens: Vec<u32>,
+    pages: u32,
+}
+
+/// For each node the next and the previous one on its ring.
+#[derive(Drop)]
+struct Links {
+    next: Vec<u32>,
+    previous: Vec<u32>,
+}
+
+impl Model for ClassLists {
+    ghost use Rattle.class_lists.specs.PageLists.{PageLists, lists_code};
+
+    ghost Value = { PageLists };
+
+    ghost coded = { lists_code };
+
+    ghost use Rattle.class_lists.specs.Links.{lists_of, IsSound};
+
+    ghost view = { λ l. lists_of l.links.next.items l.lens.items l.pages };
+
+    ghost invariant = { λ l. IsSound l.links.next.items l.links.previous.items l.lens.items l.pages };
+}
+
+impl ClassLists {
+    /// The lists of so many classes for so many pages, all empty. Nodes are numbered in 32 bits, and
+    /// more than these number are refused as out of memory.
+    pub fn new(alloc: Global, classes: u32, pages: u32) -> Result<ClassLists, OutOfMemory>
+        ensures lists { IfOk result (λ lists. lists ≡ empty_lists classes pages) }
+        ensures empty { IfOk result AreEmpty }
+        ensures kept { IfOk result AreApart }
+    {
+        let lists = 2 * u64::from(classes);
+        let Ok(nodes) = u32::try_from(u64::from(pages) + lists) else {
+            return Err(OutOfMemory);
+        };
+        let Ok(links) = Links::new(alloc, nodes) else {
+            return Err(OutOfMemory);
+        };
+        let Ok(lens) = vec![in alloc; 0; lists as usize] else {
+            return Err(OutOfMemory);
+        };
+        Ok(ClassLists { links, lens, pages })
+    }
+
+    /// The front of a list; none where the list is empty.
+    pub fn front(&self, c: u32, which: Which, steps: &mut Steps) -> Option<u32>
+        requires class { c < self.now.classes }
+        ensures front { result ≡ slice_get (pages_in self.now c which) 0 }
+        ensures found { IfSome result (Contains (pages_in self.now c which)) }
+        ensures none { IsNone result ↔ (pages_in self.now c which ≡ []) }
+        ensures kept { AreApart self.now }
+        ensures steps { RoseBy steps.old steps.new 1 }
+    {
+        steps.tick(1);
+        let node = self.pages + number_of(c, which);
+        let first = self.links.next[node as usize];
+        if first < self.pages {
+            Some(first)
+        } else {
+            None
+        }
+    }
+
+    /// How many pages a list has.
+    pub fn len(&self, c: u32, which: Which) -> u32
+        requires class { c < self.now.classes }
+        ensures len { result ≡ length (pages_in self.now c which) }
+        ensures kept { AreApart self.now }
+    {
+        self.lens[number_of(c, which) as usize]
+    }
+
+    /// Makes a page that is in no list the front of this one.
+    pub fn push(&mut self, c: u32, which: Which, page: u32, steps: &mut Steps)
+        requires class { c < self.old.classes }
+        requires page { page < self.old.pages }
+        requires unlisted { IsUnlisted self.old page }
+        ensures lists { self.new ≡ with_list self.old c which (page ∷ pages_in self.old c which) }
+        ensures list { pages_in self.new c which ≡ page ∷ pages_in self.old c which }
+        ensures others { KeepsOthers self.old self.new c which }
+        ensures kept { AreApart self.new }
+        ensures steps { RoseBetween steps.old steps.new 1 4 }
+    {
+        let pages = self.pages;
+        let list = number_of(c, which);
+        let node = pages + list;
+        let first = self.links.next[node as usize];
+        self.links.join(node, page, steps);
+        self.links.join(page, first, steps);
+        self.lens[list as usize] += 1;
+    }
+
+    /// Takes a page out of its list, wherever it stands there.
+    pub fn unlink(&mut self, c: u32, which: Which, page: u32, steps: &mut Steps)
+        requires class { c < self.old.classes }
+        requires listed { Contains (pages_in self.old c which) page }
+        ensures lists { self.new ≡ with_list self.old c which (without page (pages_in self.old c which)) }
+        ensures list { pages_in self.new c which ≡ without page (pages_in self.old c which) }
+        ensures len { length (pages_in self.new c which) + 1 ≡ length (pages_in self.old c which) }
+        ensures within { page < self.new.pages }
+        ensures unlisted { IsUnlisted self.new page }
+        ensures others { KeepsOthers self.old self.new c which }
+        ensures kept { AreApart self.new }
+        ensures steps { RoseBetween steps.old steps.new 1 4 }
+    {
+        let before = self.links.previous[page as usize];
+        let after = self.links.next[page as usize];
+        self.links.join(before, after, steps);
+        self.lens[number_of(c, which) as usize] -= 1;
+    }
+}
+
+impl Links {
+    /// Nodes that each are a ring of their own.
+    fn new(alloc: Global, nodes: u32) -> Result<Links, AllocError>
+        ensures next { IfOk result (λ links. AreAlone links.next.items nodes) }
+        ensures previous { IfOk result (λ links. AreAlone links.previous.items nodes) }
+    {
+        Ok(Links {
+            next: (0..nodes).collect(alloc)?,
+            previous: (0..nodes).collect(alloc)?,
+        })
+    }
+
+    /// Lets one node be followed by another.
+    fn join(&mut self, before: u32, after: u32, steps: &mut Steps)
+        requires before { before < vec_len self.old.next }
+        requires after { after < vec_len self.old.previous }
+        ensures next { self.new.next.items ≡ slice_set self.old.next.items before after }
+        ensures previous { self.new.previous.items ≡ slice_set self.old.previous.items after before }
+        ensures steps { RoseBetween steps.old steps.new 1 2 }
+    {
+        steps.tick(2);
+        self.next[before as usize] = after;
+        self.previous[after as usize] = before;
+    }
+}
+
+/// Where a list of a class stands among all lists.
+fn number_of(c: u32, which: Which) -> u32
+    requires { 2 * c + 1 < 2 ^ 32 }
+    ensures { result ≡ list_number c which }
+{
+    match which {
+        Which::Full => 2 * c,
+        Which::NotFull => 2 * c + 1,
+    }
+}
+
+#[cfg(test)]
+mod tests {
+    use super::*;
+    use std::test::Fail;
+    use step_ledger::Meter;
+
+    #[test]
+    fn a_page_that_joins_becomes_the_front(rt: HostRuntime) -> Result<(), Fail> {
+        let mut meter = Meter::new(&rt);
+        let Ok(mut lists) = ClassLists::new(rt.alloc(), 3, 8) else {
+            panic!(rt; "no memory");
+        };
+        lists.push(1, Which::NotFull, 7, meter.steps());
+        lists.push(1, Which::NotFull, 0, meter.steps());
+        lists.push(1, Which::NotFull, 4, meter.steps());
+        lists.push(1, Which::Full, 2, meter.steps());
+        assert_eq!(rt; lists.front(1, Which::NotFull, meter.steps()), Some(4));
+        lists.unlink(1, Which::NotFull, 0, meter.steps());
+        assert_eq!(rt; lists.front(1, Which::NotFull, meter.steps()), Some(4));
+        lists.unlink(1, Which::NotFull, 4, meter.steps());
+        assert_eq!(rt; lists.front(1, Which::NotFull, meter.steps()), Some(7));
+        assert_eq!(rt; lists.len(1, Which::NotFull), 1);
+        lists.unlink(1, Which::NotFull, 7, meter.steps());
+        for (c, which, front, len) in [
+            (1, Which::NotFull, None, 0),
+            (1, Which::Full, Some(2), 1),
+            (0, Which::Full, None, 0),
+            (2, Which::NotFull, None, 0),
+        ] {
+            assert_eq!(rt; lists.front(c, which, meter.steps()), front);
+            assert_eq!(rt; lists.len(c, which), len);
+        }
+        Ok(())
+    }
+}

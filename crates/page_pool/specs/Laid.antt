@@ -1,0 +1,12 @@
+-- How a page pool lies in memory. No public clause cites this module.
+use Rattle.std.specs.Prelude.{ℕ, ◌^◌, ◌<◌, ◌≤◌, List, length, drop}
+use Rattle.page_pool.specs.Pool.{Pool, IsPool}
+
+-- the free pages stand from index `first` on, and before it what was taken
+abbrev pub pool_of : List ℕ → ℕ → Pool
+pool_of stack first = record { pages = length stack; free = drop first stack }
+
+pub record IsLaid (stack : List ℕ) (first : ℕ) : Type 0 where
+  pub within : first ≤ length stack
+  pub small : length stack < 2 ^ 32
+  pub pool : IsPool (pool_of stack first)

@@ -1,0 +1,107 @@
+ghost use Rattle.std.specs.Prelude.{◌≡◌, ◌<◌, ◌∷◌, false, length, IfOk};
+ghost use Rattle.std.specs.List.{range_with_len};
+ghost use Rattle.step_ledger.specs.Counting.{RoseBy};
+ghost use Rattle.page_pool.specs.Pool.{is_free, IsPool, TakesFront};
+
+use cf_base::OutOfMemory;
+use std::alloc::{AllocError, Global};
+use std::marker::Model;
+use step_ledger::Steps;
+
+/// The free ones of so many pages. The page that was given last is taken first.
+#[derive(Drop)]
+pub struct PagePool {
+    stack: Vec<u32>,
+    first: usize,
+}
+
+impl Model for PagePool {
+    ghost use Rattle.page_pool.specs.Pool.{Pool, pool_code};
+    ghost use Rattle.page_pool.specs.Laid.{pool_of, IsLaid};
+
+    ghost Value = { Pool };
+
+    ghost coded = { pool_code };
+
+    ghost view = { λ p. pool_of p.stack.items p.first };
+
+    ghost invariant = { λ p. IsLaid p.stack.items p.first };
+}
+
+impl PagePool {
+    /// The pages 0 to n - 1, all free, with 0 in front. It alone takes memory.
+    pub fn new(alloc: Global, n: u32) -> Result<PagePool, OutOfMemory>
+        ensures pool { IfOk result (λ p. p ≡ record { pages = n; free = range_with_len 0 n }) }
+        ensures kept { IfOk result (λ p. IsPool p) }
+    {
+        match numbers(alloc, n) {
+            Ok(stack) => Ok(PagePool { stack, first: 0 }),
+            Err(_) => Err(OutOfMemory),
+        }
+    }
+
+    /// How many pages are free.
+    pub fn left(&self) -> u32
+        ensures len { result ≡ length self.now.free }
+        ensures kept { IsPool self.now }
+    {
+        (self.stack.len() - self.first) as u32
+    }
+
+    /// Takes the front page, for one step. There is none where no page is free.
+    pub fn take(&mut self, steps: &mut Steps) -> Option<u32>
+        ensures taken { TakesFront self.old result self.new }
+        ensures steps { RoseBy steps.old steps.new 1 }
+        ensures kept { IsPool self.new }
+    {
+        steps.tick(1);
+        if self.first == self.stack.len() {
+            return None;
+        }
+        let page = self.stack[self.first];
+        self.first += 1;
+        Some(page)
+    }
+
+    /// Puts a page that isn't free in front, for one step.
+    pub fn give(&mut self, page: u32, steps: &mut Steps)
+        requires within { page < self.old.pages }
+        requires taken { is_free self.old.free page ≡ false }
+        ensures pool { self.new ≡ record self.old { free = page ∷ self.old.free } }
+        ensures steps { RoseBy steps.old steps.new 1 }
+        ensures kept { IsPool self.new }
+    {
+        steps.tick(1);
+        self.first -= 1;
+        self.stack[self.first] = page;
+    }
+}
+
+/// The numbers below n, in rising order.
+fn numbers(alloc: Global, n: u32) -> Result<Vec<u32>, AllocError>
+    ensures { IfOk result (λ v. v.items ≡ range_with_len 0 n) }
+{
+    (0..n).collect(alloc)
+}
+
+#[cfg(test)]
+mod tests {
+    use super::*;
+    use std::test::Fail;
+    use step_ledger::Meter;
+
+    #[test]
+    fn the_page_that_was_given_last_is_taken_first(rt: HostRuntime) -> Result<(), Fail> {
+        let mut meter = Meter::new(&rt);
+        let mut pool = PagePool::new(rt.alloc(), 2)?;
+        assert_eq!(rt; pool.take(meter.steps()), Some(0));
+        assert_eq!(rt; pool.take(meter.steps()), Some(1));
+        assert_eq!(rt; pool.take(meter.steps()), None);
+        pool.give(0, meter.steps());
+        pool.give(1, meter.steps());
+        assert_eq!(rt; pool.left(), 2);
+        assert_eq!(rt; pool.take(meter.steps()), Some(1));
+        assert_eq!(rt; meter.lap(), 6);
+        Ok(())
+    }
+}

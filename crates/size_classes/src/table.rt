@@ -1,0 +1,145 @@
+//! The table of size classes.
+ghost use Rattle.std.specs.Prelude.{◌≡◌, ◌↔◌, ◌<◌, ◌≤◌, IsTrue, IsNone, IfOk, IfSome, length, slice_index};
+ghost use Rattle.step_ledger.specs.Counting.{RoseBetween};
+ghost use Rattle.cf_base.specs.Classes.{need, slots, class_of};
+ghost use Rattle.cf_base.specs.Limits.{is_page_size};
+ghost use Rattle.size_classes.specs.Table.{table_of};
+
+use crate::search::least_at_least;
+use cf_base::{Layout, OutOfMemory, need_of, slot_sizes};
+use std::alloc::Global;
+use std::marker::Model;
+use step_ledger::Steps;
+
+/// The size classes of pages with so many words: the words of a slot of each class, in rising order,
+/// by the rule of Compact-fit (2008).
+#[derive(Drop)]
+pub struct Classes {
+    sizes: Vec<u32>,
+    page_words: u32,
+}
+
+impl Model for Classes {
+    ghost use Rattle.std.specs.Prelude.{◌≤◌};
+    ghost use Rattle.cf_base.specs.Rising.{AreSizes};
+    ghost use Rattle.size_classes.specs.Table.{ClassTable, IsTable};
+
+    ghost Value = { ClassTable };
+
+    ghost view = { λ c. record { page_words = c.page_words; sizes = c.sizes.items } };
+
+    ghost invariant = { λ c. IsTable c.page_words c.sizes.items };
+}
+
+impl Classes {
+    /// The classes of pages with so many words, by one of the two sequences.
+    pub fn new(alloc: Global, page_words: u32, layout: Layout) -> Result<Classes, OutOfMemory>
+        requires { IsTrue (is_page_size page_words) }
+        ensures { IfOk result (λ t. t ≡ table_of page_words layout) }
+    {
+        match slot_sizes(alloc, page_words, layout) {
+            Ok(sizes) => Ok(Classes { sizes, page_words }),
+            Err(_) => Err(OutOfMemory),
+        }
+    }
+
+    /// The number of classes, at most 67.
+    pub fn len(&self) -> u32
+        ensures { result ≡ length self.now.sizes }
+    {
+        self.sizes.len() as u32
+    }
+
+    /// The words of a slot of class c.
+    pub fn slot_words(&self, c: u32) -> u32
+        requires { c < length self.now.sizes }
+        ensures value { result ≡ slice_index self.now.sizes c }
+        ensures least { 4 ≤ result }
+        ensures within { result ≤ self.now.page_words }
+    {
+        self.sizes[c as usize]
+    }
+
+    /// The slots of class c on a page.
+    pub fn slots(&self, c: u32) -> u32
+        requires { c < length self.now.sizes }
+        ensures value { result ≡ slots self.now.page_words self.now.sizes c }
+        ensures some { 1 ≤ result }
+        ensures few { result ≤ 4096 }
+    {
+        self.page_words / self.slot_words(c)
+    }
+
+    /// The least class that holds an object of so many bytes; none where it needs more than a page.
+    pub fn class_of(&self, bytes: u32, steps: &mut Steps) -> Option<u32>
+        ensures found { result ≡ class_of self.now.sizes bytes }
+        ensures none { IsNone result ↔ (self.now.page_words < need bytes) }
+        ensures within { IfSome result (λ c. c < length self.now.sizes) }
+        ensures steps { RoseBetween steps.old steps.new 1 8 }
+    {
+        let words = need_of(bytes);
+        steps.tick(1);
+        if words > self.page_words {
+            return None;
+        }
+        Some(least_at_least(&self.sizes, words, steps))
+    }
+}
+
+#[cfg(test)]
+mod tests {
+    use super::*;
+    use std::process::Abort;
+    use std::test::Fail;
+    use step_ledger::Meter;
+
+    const SLOTS_BY_WORDS: [u32; 20] = [
+        16, 12, 10, 9, 8, 7, 5, 4, 4, 3, 3, 2, 2, 2, 1, 1, 1, 1, 1, 1,
+    ];
+
+    const SLOTS_BY_BLOCKS: [u32; 13] = [16, 8, 5, 4, 3, 2, 2, 2, 1, 1, 1, 1, 1];
+
+    /// Asserts the slots of each class.
+    fn assert_slots(rt: &impl Abort, classes: &Classes, want: &[u32]) {
+        assert_eq!(rt; classes.len() as usize, want.len());
+        for c in 0..classes.len() {
+            assert_eq!(rt;
+                Some(&classes.slots(c)),
+                want.get(c as usize),
+                "of class {c}"
+            );
+        }
+    }
+
+    #[test]
+    fn requests_find_the_classes_of_the_tables(rt: HostRuntime) -> Result<(), Fail> {
+        let alloc = rt.alloc();
+        let mut meter = Meter::new(&rt);
+        let steps = meter.steps();
+        let words = Classes::new(alloc, 64, Layout::Words)?;
+        let blocks = Classes::new(alloc, 64, Layout::Blocks)?;
+        assert_slots(&rt, &words, &SLOTS_BY_WORDS);
+        assert_slots(&rt, &blocks, &SLOTS_BY_BLOCKS);
+        // bytes, and the words of the class in either sequence
+        for (bytes, in_words, in_blocks) in [
+            (0, Some(4), Some(4)),
+            (24, Some(4), Some(4)),
+            (25, Some(5), Some(8)),
+            (176, Some(23), Some(24)),
+            (504, Some(64), Some(64)),
+            (505, None, None),
+            (u32::MAX, None, None),
+        ] {
+            let class = words.class_of(bytes, steps).map(|c| words.slot_words(c));
+            assert_eq!(rt; class, in_words, "for {bytes} bytes");
+            let class = blocks.class_of(bytes, steps).map(|c| blocks.slot_words(c));
+            assert_eq!(rt; class, in_blocks, "for {bytes} bytes");
+        }
+        let large = Classes::new(alloc, 16384, Layout::Words)?;
+        assert_eq!(rt; large.len(), 67);
+        assert_eq!(rt; Classes::new(alloc, 16384, Layout::Blocks)?.len(), 58);
+        assert_eq!(rt; large.class_of(131_064, steps), Some(66));
+        assert_eq!(rt; large.class_of(131_065, steps), None);
+        Ok(())
+    }
+}

@@ -1,0 +1,54 @@
+//! Words of 64 bits, bit by bit.
+ghost use Rattle.std.specs.Prelude.{◌≡◌, ◌≢◌, ℕ, ◌+◌, ◌^◌, ◌<◌, ◌≤◌, cond};
+ghost use Rattle.std.specs.Int.{bit_at};
+ghost use Rattle.slot_bitmap.specs.Layout.{WritesBit};
+
+/// The word with that bit set, or cleared where it is off.
+pub(crate) fn with_bit(word: u64, bit: u32, on: bool) -> u64
+    requires { bit < 64 }
+    ensures written { WritesBit word result bit on }
+    ensures within { (n : ℕ) → bit < n → word < 2 ^ n → result < 2 ^ n }
+{
+    if on {
+        word | (1 << bit)
+    } else {
+        word & !(1 << bit)
+    }
+}
+
+/// Whether that bit is set.
+pub(crate) fn has_bit(word: u64, bit: u32) -> bool
+    requires { bit < 64 }
+    ensures { bit_at word bit ≡ cond result 1 0 }
+{
+    (word >> bit) & 1 == 1
+}
+
+/// The place of the lowest bit that is set.
+pub(crate) fn lowest_set(word: u64) -> u32
+    requires { word ≢ 0 }
+    ensures within { result < 64 }
+    ensures at { bit_at word result ≡ 1 }
+    ensures below { (k : ℕ) → k < result → bit_at word k ≡ 0 }
+{
+    word.trailing_zeros()
+}
+
+/// The place of the lowest bit that is clear.
+pub(crate) fn lowest_clear(word: u64) -> u32
+    requires { word + 1 < 2 ^ 64 }
+    ensures within { result < 64 }
+    ensures at { bit_at word result ≡ 0 }
+    ensures below { (k : ℕ) → k < result → bit_at word k ≡ 1 }
+{
+    word.trailing_ones()
+}
+
+/// The word whose lowest so many bits are set.
+pub(crate) fn ones(count: u32) -> u64
+    requires some { 1 ≤ count }
+    requires few { count ≤ 64 }
+    ensures { result + 1 ≡ 2 ^ count }
+{
+    u64::MAX >> (64 - count)
+}
