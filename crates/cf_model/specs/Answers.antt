@@ -6,7 +6,7 @@ use Rattle.cf_base.specs.declared.answers.Figures.{Figures}
 use Rattle.cf_base.specs.declared.answers.Totals.{Totals}
 use Rattle.cf_base.specs.declared.kind.Kind.{Kind}
 use Rattle.cf_base.specs.declared.kind.Kind.TheVariants.{Moving, NonMoving, Tlsf, HalfFit}
-use Rattle.arrangement.specs.Held.{Placed}
+use Rattle.arrangement.specs.Held.{Placed, objects}
 use Rattle.arrangement.specs.Figures.{figures_of, totals_of, asked_bytes}
 use Rattle.arrangement.specs.Frames.{block_of}
 use Rattle.arrangement.specs.Image.{slot_for}
@@ -45,7 +45,7 @@ figures_in s c = if nat_lt c (classes_in s.kind s) then Some (figures_of (paging
 abbrev pub block_totals : HeapState → Totals
 block_totals s = record {
   live = len s.held;
-  asked = asked_bytes s.held;
+  asked = asked_bytes (objects s.held);
   taken = 8 * used_words s.tiling;
   held = 8 * region_words s.profile;
   used = used_blocks s.tiling;

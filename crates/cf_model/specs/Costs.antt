@@ -1,5 +1,5 @@
 -- How many steps the calls may take. With blocks no bound is claimed.
-use Rattle.std.specs.Prelude.{◌≡◌, ℕ, ◌+◌, ◌-◌, ◌*◌, ◌/◌, ◌≤◌, Result, Ok, Err, if◌then◌else◌, nat_eq, max}
+use Rattle.std.specs.Prelude.{◌≡◌, ℕ, ◌+◌, ◌*◌, ◌/◌, ◌%◌, ◌≤◌, Result, Ok, Err, if◌then◌else◌, nat_eq, max}
 use Rattle.step_ledger.specs.Counting.{RoseAtMost}
 use Rattle.cf_base.specs.declared.answers.Freed.{Freed}
 use Rattle.cf_base.specs.declared.answers.NotLive.{NotLive}
@@ -27,7 +27,7 @@ resize_bound (Err e) = 160
 
 -- how many words of an object hold one of the bytes from `from` on
 abbrev pub words_touched : ℕ → ℕ → ℕ
-words_touched from count = if nat_eq count 0 then 0 else (from + count + 7) / 8 - from / 8
+words_touched from count = if nat_eq count 0 then 0 else (from % 8 + count + 7) / 8
 
 -- a read or a write: three times the words that it touches
 abbrev pub access_bound : ℕ → ℕ → ℕ

@@ -9,7 +9,7 @@ use Rattle.arrangement.specs.Held.{Held, Placed}
 use Rattle.arrangement.specs.Paging.{IsPaging}
 use Rattle.arrangement.specs.Arrangement.{IsSound}
 use Rattle.arrangement.specs.Bytes.{AreBytes}
-use Rattle.arrangement.specs.Image.{IsImage, object_word}
+use Rattle.arrangement.specs.Image.{IsImage, IsSlotImage, object_word}
 use Rattle.arrangement.specs.Frames.{IsPermuted}
 use Rattle.tiling.specs.Tiling.{Block, IsTiling, block_at, block_need}
 use Rattle.tiling.specs.Words.{AreTilingWords}
@@ -46,11 +46,12 @@ pub record AreObjects (s : HeapState) : Type 0 where
   pub bytes : (h : ℕ) (x : Placed) → get s.held h ≡ Some x → AreBytes x.bytes
   pub few : len s.held ≤ s.profile.proxies
 
--- With pages: the classes have bounds, the arrangement is sound with them, and the words are the image of the objects. So no class has more pages that are not full than its bound, and no page of a class is empty.
+-- With pages: the classes have bounds, the arrangement is sound with them, and the words are the image of the objects, where zeros follow in each slot. So no class has more pages that are not full than its bound, and no page of a class is empty.
 pub record KeepsPages (s : HeapState) : Type 0 where
   pub paging : IsPaging (paging_in s)
   pub sound : IsSound (paging_in s) s.held
   pub image : IsImage s.held s.words
+  pub slots : IsSlotImage (paging_in s) s.held s.words
   pub no_tiling : s.tiling ≡ []
 
 -- without a block table

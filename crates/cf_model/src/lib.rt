@@ -2,6 +2,7 @@
 //! many managers.
 #![tactic(auto)]
 
+pub mod laws;
 mod manager;
 mod opening;
 
