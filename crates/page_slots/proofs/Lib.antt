@@ -1,0 +1,4 @@
+pub mod Listing
+pub mod Pages
+pub mod Taken
+pub mod Vacated
