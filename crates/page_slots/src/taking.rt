@@ -1,5 +1,5 @@
 //! A free slot is taken.
-ghost use Rattle.std.specs.Prelude.{◌≡◌, ◌≢◌, ℕ, ◌+◌, ◌*◌, ◌^◌, ◌<◌, ◌≤◌, ◌∷◌, [], length, not, false, true, replicate, slice_set};
+ghost use Rattle.std.specs.Prelude.{◌≡◌, ◌≢◌, ℕ, ◌+◌, ◌*◌, ◌^◌, ◌<◌, ◌≤◌, ◌∷◌, [], length, not, false, true, replicate, slice_get, slice_set};
 ghost use Rattle.std.specs.List.{Contains, position};
 ghost use Rattle.step_ledger.specs.Counting.{RoseAtMost};
 ghost use Rattle.class_lists.specs.PageLists.{AreApart, IsUnlisted, pages_in};
@@ -48,8 +48,8 @@ pub fn take_slot(
 fn take_least(map: &mut SlotMap, steps: &mut Steps) -> u32
     requires { used_in map.old < length map.old }
     ensures least { position (λ used. not used) map.old ≡ Some result }
+    ensures free { slice_get map.old result ≡ Some false }
     ensures map { map.new ≡ slice_set map.old result true }
-    ensures within { result < length map.old }
     ensures steps { RoseAtMost steps.old steps.new 16 }
 {
     let Some(slot) = map.first_free(steps) else {
