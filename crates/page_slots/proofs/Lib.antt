@@ -10,3 +10,4 @@ pub mod Lost
 pub mod Counted
 pub mod PageNumbers
 pub mod Start
+pub mod CallerLemmas
