@@ -1,29 +1,29 @@
 -- What a heap may cite: objects at the used slots, before and after each call.
-use Rattle.std.proofs.Common.{◌≡◌, ◌≢◌, ℕ, ◌+◌, ◌<◌, ◌≤◌, List, [], length, Option, Some, None, arith, refl, sym, ◌∙◌, ap, subst, inl, inr}
+use Rattle.std.proofs.Common.{◌≡◌, ℕ, ◌<◌, ◌≤◌, length, Some, None, arith, sym, ◌∙◌, ap, subst, inl, inr}
 use Rattle.std.specs.Prelude.{◌⊎◌, ◌↔◌}
 use Rattle.std.specs.List.{Contains}
 use Rattle.std.proofs.lemmas.Bool.{cases_eq}
 use Rattle.std.specs.FinMap.{get, insert, remove}
 use Rattle.cf_lemmas.proofs.Maps.{get_removed, get_remove_other}
 use Rattle.class_lists.specs.declared.Which.{Which}
-use Rattle.class_lists.specs.declared.Which.TheVariants.{Full, NotFull}
+use Rattle.class_lists.specs.declared.Which.TheVariants.{NotFull}
 use Rattle.class_lists.specs.PageLists.{pages_in}
 use Rattle.arrangement.specs.Held.{Held, Placed}
 use Rattle.arrangement.specs.Paging.{Paging, IsPaging, bound_of, class_for, classes, page_of, slots_of}
 use Rattle.arrangement.specs.Arrangement.{class_at, objects_on, not_full_pages, standing_on, IsSlotAt, IsSound, LacksRoom}
 use Rattle.arrangement.specs.Steps.{IsFreePlace, MayFill, MustMove, moved_to, without}
 use Rattle.arrangement.proofs.FreeSteps.{mover_is_other, removed_twice}
-use Rattle.page_slots.specs.Tables.{Tables, AreTables, IsOf, IsPageOf, IsUsed, slot_at, slots_on, used_in}
+use Rattle.page_slots.specs.Tables.{Tables, AreTables, IsPageOf, IsUsed, slot_at, slots_on}
 use Rattle.page_slots.specs.Taking.{TakesAt, TakesSlot}
 use Rattle.page_slots.specs.Freeing.{FillsFrom, MovesObject, Vacates}
 use Rattle.page_slots.specs.Occupying.{Occupies, Tell, class_table}
 use Rattle.page_slots.proofs.Pages.{listed_page, of_list, placed_in}
 use Rattle.page_slots.proofs.Taken.{Gains, front_listed, gains_free, gains_open}
 use Rattle.page_slots.proofs.Vacated.{Loses, loses}
-use Rattle.page_slots.proofs.Occupied.{free_bare, occupied_renamed, stands_at, used_address, used_along}
+use Rattle.page_slots.proofs.Occupied.{free_bare, occupied_renamed, stands_at}
 use Rattle.page_slots.proofs.Gained.{gained_address, gained_unused, occupied_gained}
 use Rattle.page_slots.proofs.Lost.{occupied_lost}
-use Rattle.page_slots.proofs.PageNumbers.{lacks_room, not_full_pages_are, taken_stands}
+use Rattle.page_slots.proofs.PageNumbers.{lacks_room, not_full_pages_are}
 
 module _ (p : Paging) (ok : IsPaging p) (m : Held) (old new : Tables) (tell : Tell p old) (o : Occupies p m old) (kept : AreTables (class_table p) new) where
   -- a slot of class c was taken
@@ -45,19 +45,19 @@ module _ (p : Paging) (ok : IsPaging p) (m : Held) (old new : Tables) (tell : Te
     taken_is_free n is =
         let g = gains in
         let at = (gained_address p ok m old new tell o c t.page t.slot g).0 in record {
-      slot = subst (λ d. IsSlotAt p d a) (sym is) (subst (IsSlotAt p c) (sym t.address) at);
-      unused = λ q y f e. gained_unused p ok m old new tell o c t.page t.slot g q y f (e ∙ t.address);
-      choice = subst (λ d. ((0 < objects_on p m d (page_of p a)) × (objects_on p m d (page_of p a) < slots_of p d)) ⊎ ((not_full_pages p m d ≡ 0) × (standing_on p m (page_of p a) ≡ 0))) (sym is)
-        (subst (λ page. ((0 < objects_on p m c page) × (objects_on p m c page < slots_of p c)) ⊎ ((not_full_pages p m c ≡ 0) × (standing_on p m page ≡ 0))) (sym on_page_of)
-          (elim g.was [
-            | inl (there, _) ↦ inl (
-                let q = placed_in (class_table p) old tell.tables c t.page NotFull there in
-                let e = o.counted c t.page (inr there) in
-                let f = q.fills in let some = f.0 in let few = f.1 in
-                (omega arith, omega arith))
-            | inr (f, none, _) ↦ inr (not_full_pages_are p ok m old tell o c ∙ ap length none, free_bare p ok old tell m o t.page f)
-          ]));
-    }
+          slot = subst (λ d. IsSlotAt p d a) (sym is) (subst (IsSlotAt p c) (sym t.address) at);
+          unused = λ q y f e. gained_unused p ok m old new tell o c t.page t.slot g q y f (e ∙ t.address);
+          choice = subst (λ d. ((0 < objects_on p m d (page_of p a)) × (objects_on p m d (page_of p a) < slots_of p d)) ⊎ ((not_full_pages p m d ≡ 0) × (standing_on p m (page_of p a) ≡ 0))) (sym is)
+              (subst (λ page. ((0 < objects_on p m c page) × (objects_on p m c page < slots_of p c)) ⊎ ((not_full_pages p m c ≡ 0) × (standing_on p m page ≡ 0))) (sym on_page_of)
+              (elim g.was [
+                | inl (there, _) ↦ inl (
+                    let q = placed_in (class_table p) old tell.tables c t.page NotFull there in
+                    let e = o.counted c t.page (inr there) in
+                    let f = q.fills in let some = f.0 in let few = f.1 in
+                    (omega arith, omega arith))
+                | inr (f, none, _) ↦ inr (not_full_pages_are p ok m old tell o c ∙ ap length none, free_bare p ok old tell m o t.page f)
+              ]));
+        }
 
     -- so the class had room
     pub taken_has_room : LacksRoom p m c → ⊥
@@ -161,9 +161,10 @@ module _ (p : Paging) (ok : IsPaging p) (m : Held) (t : Tables) (tell : Tell p t
     moves_is =
         let long = page.1.slots in
         let used = o.counted (class_at p x) (page_of p x.place) at.of in
-        let part = not_full_pages_are p ok m t tell o (class_at p x) in
-        ((λ v. (let full = v.full in let several = v.several in let many = v.many in record { full = omega arith; several = omega arith; many = omega arith })),
-         (λ v. (let full = v.full in let several = v.several in let many = v.many in record { full = omega arith; several = omega arith; many = omega arith })))
+        let part = not_full_pages_are p ok m t tell o (class_at p x) in (
+          (λ v. (let full = v.full in let several = v.several in let many = v.many in record { full = omega arith; several = omega arith; many = omega arith })),
+          (λ v. (let full = v.full in let several = v.several in let many = v.many in record { full = omega arith; several = omega arith; many = omega arith })),
+        )
 
     -- a move finds an object that fills the slot
     pub moves_some : MustMove p m x → class_at p x < classes p → 1 ≤ length (pages_in t.lists (class_at p x) NotFull)

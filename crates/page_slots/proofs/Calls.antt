@@ -1,6 +1,6 @@
 -- What the bodies of the calls need to know of the tables.
-use Rattle.std.proofs.Common.{◌≡◌, ◌≢◌, ℕ, Bool, true, false, not, ◌+◌, ◌*◌, ◌^◌, ◌<◌, ◌≤◌, List, [], ◌∷◌, length, get_or, set, replicate, Option, Some, None, arith, refl, sym, ◌∙◌, ap, subst, inl, inr}
-use Rattle.std.specs.Prelude.{slice_get, IsSome, is_some}
+use Rattle.std.proofs.Common.{◌≡◌, ◌≢◌, ℕ, Bool, true, false, not, ◌+◌, ◌*◌, ◌^◌, ◌<◌, ◌≤◌, List, [], ◌∷◌, length, get_or, set, replicate, Some, None, arith, refl, sym, ◌∙◌, ap, subst}
+use Rattle.std.specs.Prelude.{slice_get, is_some}
 use Rattle.std.specs.List.{Contains, position}
 use Rattle.std.proofs.lemmas.Bool.{false≢true}
 use Rattle.std.proofs.lemmas.List.{get_or_default, get_or-set_same}
@@ -10,9 +10,9 @@ use Rattle.slot_bitmap.proofs.CallerLemmas.{some_free, some_used}
 use Rattle.size_classes.specs.Table.{ClassTable}
 use Rattle.class_lists.specs.declared.Which.{Which}
 use Rattle.class_lists.specs.declared.Which.TheVariants.{Full, NotFull}
-use Rattle.class_lists.specs.PageLists.{PageLists, AreApart, IsUnlisted, pages_in}
+use Rattle.class_lists.specs.PageLists.{PageLists, IsUnlisted, pages_in}
 use Rattle.page_pool.specs.Pool.{Pool, TakesFront, is_free}
-use Rattle.page_slots.specs.Tables.{Tables, AreTables, IsOf, IsUsed, IsPageOf, Joins, slots_in, slots_on, tables, used_in}
+use Rattle.page_slots.specs.Tables.{Tables, AreTables, IsOf, IsPageOf, Joins, slots_in, slots_on, tables, used_in}
 use Rattle.page_slots.specs.Taking.{FillsPage, TakesOnOpenPage, TakesOnFreePage}
 use Rattle.page_slots.proofs.Pages.{placed_in, listed_page, listed_class, of_list}
 use Rattle.page_slots.proofs.Taken.{front_listed, pool_front}
@@ -87,14 +87,14 @@ module _ (k : ClassTable) (t : Tables) (a : AreTables k t) where
           → TakesOnOpenPage t c page slot (tables (set t.maps page map) lists t.pool)
       took_open slot map lists least free is filled not_filled =
           let here : get_or (set t.maps page map) page [] ≡ map = get_or-set_same t.maps page map [] front_inside in record {
-        front = sym front;
-        least = sym (ap (position (λ used. not used)) same_map) ∙ least;
-        free = front_reads slot false free;
-        maps = ap (set t.maps page) (is ∙ ap (λ xs. set xs slot true) same_map);
-        pool = refl;
-        filled = λ e. filled (sym (ap used_in here) ∙ e ∙ ap length here);
-        not_filled = λ ne. not_filled (λ e. ne (ap used_in here ∙ e ∙ sym (ap length here)));
-      }
+            front = sym front;
+            least = sym (ap (position (λ used. not used)) same_map) ∙ least;
+            free = front_reads slot false free;
+            maps = ap (set t.maps page) (is ∙ ap (λ xs. set xs slot true) same_map);
+            pool = refl;
+            filled = λ e. filled (sym (ap used_in here) ∙ e ∙ ap length here);
+            not_filled = λ ne. not_filled (λ e. ne (ap used_in here ∙ e ∙ sym (ap length here)));
+          }
 
   -- the front page of the pool
   module _ (page : ℕ) (pool : Pool) (f : TakesFront t.pool (Some page) pool) where
@@ -149,5 +149,5 @@ module _ (k : ClassTable) (t : Tables) (a : AreTables k t) where
             subst (λ v. Contains (pages_in t.lists c v) page) (sym (full e)) p.listed)
         go NotFull p = (
             let ne : used_in (get_or t.maps page d) ≢ length (get_or t.maps page d) = (λ e. (
-              let u = ap used_in same in let l = ap length same in let s = p.slots in let f = p.fills in let few = f.1 in omega arith)) in
+            let u = ap used_in same in let l = ap length same in let s = p.slots in let f = p.fills in let few = f.1 in omega arith)) in
             subst (λ v. Contains (pages_in t.lists c v) page) (sym (not_full ne)) p.listed)

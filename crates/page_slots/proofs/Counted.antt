@@ -1,8 +1,8 @@
 -- How many pages a list has, counted over all pages.
-use Rattle.std.proofs.Common.{◌≡◌, ◌≢◌, ℕ, zero, suc, Bool, true, false, cond, ◌+◌, ◌<◌, ◌≤◌, List, [], ◌∷◌, length, arith, refl, sym, ◌∙◌, ap, inl, inr, eqb, ◌||◌}
-use Rattle.std.specs.Prelude.{◌⊎◌, nat_eq, count_by}
+use Rattle.std.proofs.Common.{◌≡◌, ℕ, zero, suc, Bool, true, false, ◌+◌, ◌<◌, ◌≤◌, List, [], ◌∷◌, length, arith, refl, sym, ◌∙◌, ap, inl, inr}
+use Rattle.std.specs.Prelude.{nat_eq, count_by}
 use Rattle.std.specs.List.{Contains, IsDistinct, range_with_len}
-use Rattle.std.proofs.lemmas.Bool.{cases_eq, true≢false, eq-eqb, ne_eqb}
+use Rattle.std.proofs.lemmas.Bool.{cases_eq, true≢false}
 use Rattle.std.proofs.lemmas.List.Sums.{sum_by-cons}
 use Rattle.cf_lemmas.proofs.Ranges.{one, count_changed}
 use Rattle.class_lists.proofs.Members.{contains_nil, contains_head, contains_tail, contains_cases, distinct_head, distinct_tail}

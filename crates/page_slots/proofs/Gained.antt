@@ -1,25 +1,22 @@
 -- The objects after a slot was taken for one more.
-use Rattle.std.proofs.Common.{◌≡◌, ◌≢◌, ℕ, Bool, true, false, ◌+◌, ◌<◌, ◌≤◌, List, [], ◌∷◌, length, get_or, set, replicate, Some, None, arith, refl, sym, ◌∙◌, ap, subst, inl, inr}
+use Rattle.std.proofs.Common.{◌≡◌, ◌≢◌, ℕ, true, false, ◌<◌, length, Some, None, arith, refl, sym, ◌∙◌, ap, subst, inl, inr}
 use Rattle.std.specs.Prelude.{◌⊎◌, slice_get}
-use Rattle.std.specs.List.{Contains}
-use Rattle.std.proofs.lemmas.Bool.{cases_eq, cases_lt}
+use Rattle.std.proofs.lemmas.Bool.{cases_eq}
 use Rattle.std.proofs.lemmas.Option.{slice_get_within}
 use Rattle.std.specs.FinMap.{get, insert}
 use Rattle.cf_lemmas.proofs.Maps.{get_inserted, some_inserted}
 use Rattle.cf_lemmas.proofs.Ranges.{one}
 use Rattle.slot_bitmap.proofs.CallerLemmas.{count-set, count-replicate}
-use Rattle.class_lists.specs.declared.Which.TheVariants.{Full, NotFull}
-use Rattle.class_lists.specs.PageLists.{pages_in}
 use Rattle.arrangement.specs.Held.{Held, Placed}
-use Rattle.arrangement.specs.Paging.{Paging, IsPaging, classes, slots_of, page_of, address_of}
+use Rattle.arrangement.specs.Paging.{Paging, IsPaging, page_of, address_of}
 use Rattle.arrangement.specs.Arrangement.{class_at, is_on, objects_on, IsSlotAt}
 use Rattle.arrangement.proofs.Addresses.{address_is_slot}
 use Rattle.arrangement.proofs.Counting.{still, on_yes}
 use Rattle.arrangement.proofs.Placing.{objects_on-inserted, objects_on-elsewhere}
-use Rattle.page_slots.specs.Tables.{Tables, AreTables, IsOf, IsUsed, IsFreePage, slot_at, slots_in, slots_on, used_in}
+use Rattle.page_slots.specs.Tables.{Tables, IsOf, IsUsed, slot_at, slots_in, slots_on, used_in}
 use Rattle.page_slots.specs.Occupying.{Occupies, Tell, class_table}
 use Rattle.page_slots.proofs.Bits.{set_here, set_there, none_used, not_both}
-use Rattle.page_slots.proofs.Pages.{IsSame, same_of, was_of, one_class, list_of}
+use Rattle.page_slots.proofs.Pages.{same_of, was_of, one_class}
 use Rattle.page_slots.proofs.Taken.{Gains}
 use Rattle.page_slots.proofs.Occupied.{used_along, free_of_none, none_counts}
 

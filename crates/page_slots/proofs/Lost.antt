@@ -1,19 +1,19 @@
 -- The objects after a slot became free, without the one that stood there.
-use Rattle.std.proofs.Common.{◌≡◌, ◌≢◌, ℕ, Bool, true, false, ◌+◌, ◌<◌, ◌≤◌, List, [], ◌∷◌, length, get_or, set, Some, None, arith, refl, sym, ◌∙◌, ap, subst, inl, inr}
-use Rattle.std.specs.Prelude.{◌⊎◌, slice_get}
+use Rattle.std.proofs.Common.{◌≡◌, ◌≢◌, ℕ, true, false, ◌+◌, ◌<◌, length, Some, arith, refl, sym, ◌∙◌, ap, subst, inl, inr}
+use Rattle.std.specs.Prelude.{slice_get}
 use Rattle.std.proofs.lemmas.Bool.{cases_eq}
 use Rattle.std.proofs.lemmas.Option.{slice_get_within}
 use Rattle.std.specs.FinMap.{get, remove}
 use Rattle.cf_lemmas.proofs.Maps.{some_removed, get_remove_other}
 use Rattle.slot_bitmap.proofs.CallerLemmas.{count-unset}
 use Rattle.arrangement.specs.Held.{Held, Placed}
-use Rattle.arrangement.specs.Paging.{Paging, IsPaging, page_of, address_of}
+use Rattle.arrangement.specs.Paging.{Paging, IsPaging, page_of}
 use Rattle.arrangement.specs.Arrangement.{class_at, objects_on, IsSound}
 use Rattle.arrangement.proofs.Freeing.{objects_on-away, objects_on-left}
-use Rattle.page_slots.specs.Tables.{Tables, AreTables, IsOf, IsUsed, IsFreePage, slot_at, slots_on, used_in}
+use Rattle.page_slots.specs.Tables.{Tables, IsOf, IsUsed, slot_at, slots_on, used_in}
 use Rattle.page_slots.specs.Occupying.{Occupies, Tell, class_table}
 use Rattle.page_slots.proofs.Bits.{set_here, set_there, used_some, not_both}
-use Rattle.page_slots.proofs.Pages.{IsSame, same_of, was_of, one_class}
+use Rattle.page_slots.proofs.Pages.{same_of, was_of, one_class}
 use Rattle.page_slots.proofs.Vacated.{Loses}
 use Rattle.page_slots.proofs.Occupied.{used_along, free_of_none, stands_at, place_is}
 
@@ -78,18 +78,18 @@ module _ (p : Paging) (ok : IsPaging p) (m : Held) (s : IsSound p m) (old new : 
   pub occupied_lost : Occupies p (remove m h) new
   occupied_lost = record {
     stands = λ q y e.
-      let w = some_removed m h q y e in
-      stays_used _ _ _ (o.stands q y w.1) (λ on_y. apart q y w.1 w.0 on_y);
+        let w = some_removed m h q y e in
+        stays_used _ _ _ (o.stands q y w.1) (λ on_y. apart q y w.1 w.0 on_y);
     filled = λ d k i u.
-      let f = stands_at p ok old tell m o d k i (was_used d k i u) in
-      let ne : f.0 ≢ h = (λ e. (
+        let f = stands_at p ok old tell m o d k i (was_used d k i u) in
+        let ne : f.0 ≢ h = (λ e. (
         let same : Some f.1 ≡ Some x = sym f.2 ∙ ap (get m) e ∙ some in
         let y_is : f.1 ≡ x = cc in
         let is : k ≡ page = sym f.5 ∙ ap (λ (y : Placed). page_of p y.place) y_is ∙ on in
         let is_d : d ≡ c = sym f.3 ∙ ap (class_at p) y_is ∙ is_c in
         let i_is : i ≡ slot = sym f.6 ∙ ap (λ (y : Placed). slot_at (class_table p) d y.place) y_is ∙ ap (λ d. slot_at (class_table p) d x.place) is_d ∙ at in
         not_freed i d (used_along new d d k page i i refl is refl u) i_is)) in
-      (f.0, f.1, get_remove_other m h f.0 ne ∙ f.2, f.3, f.4);
+        (f.0, f.1, get_remove_other m h f.0 ne ∙ f.2, f.3, f.4);
     counted = λ d k of. elim (cases_eq k page) [
       | inl is ↦ (
           let of' : IsOf new d page = subst (λ k. IsOf new d k) is of in

@@ -1,22 +1,19 @@
 -- What it tells that objects occupy the used slots.
-use Rattle.std.proofs.Common.{◌≡◌, ◌≢◌, ℕ, Bool, true, false, ◌+◌, ◌*◌, ◌%◌, ◌/◌, ◌<◌, ◌≤◌, List, [], ◌∷◌, length, get_or, set, replicate, Some, None, arith, refl, sym, ◌∙◌, ap, subst, inl, inr}
-use Rattle.std.specs.Prelude.{◌⊎◌, slice_get}
-use Rattle.std.specs.List.{Contains}
+use Rattle.std.proofs.Common.{◌≡◌, ℕ, true, ◌<◌, List, Some, None, arith, refl, sym, ◌∙◌, ap, subst, inl, inr}
 use Rattle.std.proofs.lemmas.Bool.{cases_eq, cases_lt}
 use Rattle.std.proofs.lemmas.Option.{slice_get_within}
 use Rattle.std.specs.FinMap.{get, insert, remove}
 use Rattle.cf_lemmas.proofs.Maps.{get_inserted, some_inserted, get_remove_other, some_removed}
-use Rattle.class_lists.specs.declared.Which.{Which}
 use Rattle.class_lists.specs.declared.Which.TheVariants.{Full, NotFull}
 use Rattle.arrangement.specs.Held.{Held, Placed}
-use Rattle.arrangement.specs.Paging.{Paging, IsPaging, classes, slots_of, slot_words, page_of, address_of}
+use Rattle.arrangement.specs.Paging.{Paging, IsPaging, classes, page_of, address_of}
 use Rattle.arrangement.specs.Arrangement.{class_at, objects_on, standing_on, IsSlotAt, IsSound}
 use Rattle.arrangement.proofs.Addresses.{address_is_slot, slot_is_address}
 use Rattle.arrangement.proofs.Counting.{still, on_page, standing}
 use Rattle.arrangement.proofs.Freeing.{objects_on-exchanged}
-use Rattle.page_slots.specs.Tables.{Tables, AreTables, IsOf, IsUsed, IsPageOf, IsFreePage, slot_at, slots_in, slots_on, used_in}
+use Rattle.page_slots.specs.Tables.{Tables, IsOf, IsUsed, IsFreePage, slot_at, slots_on}
 use Rattle.page_slots.specs.Occupying.{Occupies, Tell, class_table}
-use Rattle.page_slots.proofs.Pages.{placed_in, listed_page, listed_class, of_list}
+use Rattle.page_slots.proofs.Pages.{listed_page, listed_class, of_list}
 
 pub used_along : (t : Tables) (c d g page s slot : ℕ) → c ≡ d → g ≡ page → s ≡ slot → IsUsed t c g s → IsUsed t d page slot
 used_along t c d g page s slot a b e u =
@@ -97,13 +94,13 @@ module _ (p : Paging) (m : Held) (t : Tables) (o : Occupies p m t) (h : ℕ) (x 
       | inr (_, was) ↦ o.stands r y (some_removed m h r y was).1
     ];
     filled = λ d g s u.
-      let f = o.filled d g s u in
-      elim (cases_eq f.0 h) [
-        | inl is ↦ (
-            let e : Some f.1 ≡ Some x = sym f.2 ∙ ap (get m) is ∙ some in
-            let y_is : f.1 ≡ x = cc in
-            (q, record { place = x.place; bytes = bytes }, get_inserted (remove m h) q (record { place = x.place; bytes = bytes }), same ∙ sym (ap (class_at p) y_is) ∙ f.3, sym (ap (λ (y : Placed). y.place) y_is) ∙ f.4))
-        | inr ne ↦ (f.0, f.1, (still (remove m h) q (record { place = x.place; bytes = bytes }) none f.0 f.1 (get_remove_other m h f.0 ne ∙ f.2)).1, f.3, f.4)
-      ];
+        let f = o.filled d g s u in
+        elim (cases_eq f.0 h) [
+          | inl is ↦ (
+              let e : Some f.1 ≡ Some x = sym f.2 ∙ ap (get m) is ∙ some in
+              let y_is : f.1 ≡ x = cc in
+              (q, record { place = x.place; bytes = bytes }, get_inserted (remove m h) q (record { place = x.place; bytes = bytes }), same ∙ sym (ap (class_at p) y_is) ∙ f.3, sym (ap (λ (y : Placed). y.place) y_is) ∙ f.4))
+          | inr ne ↦ (f.0, f.1, (still (remove m h) q (record { place = x.place; bytes = bytes }) none f.0 f.1 (get_remove_other m h f.0 ne ∙ f.2)).1, f.3, f.4)
+        ];
     counted = λ d g of. objects_on-exchanged p m h x some q bytes none same d g ∙ o.counted d g of;
   }

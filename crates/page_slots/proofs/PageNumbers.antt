@@ -1,6 +1,6 @@
 -- The numbers of pages, by the lengths of the lists and of the pool.
-use Rattle.std.proofs.Common.{◌≡◌, ◌≢◌, ℕ, Bool, true, false, ◌+◌, ◌-◌, ◌<◌, ◌≤◌, List, [], length, arith, refl, sym, ◌∙◌, ap, subst, inl, inr}
-use Rattle.std.specs.Prelude.{◌⊎◌, ◌&&◌, nat_lt, count_by, sum_by}
+use Rattle.std.proofs.Common.{◌≡◌, ℕ, Bool, true, false, ◌+◌, ◌<◌, ◌≤◌, [], length, arith, refl, sym, ◌∙◌, ap, subst, inl, inr}
+use Rattle.std.specs.Prelude.{◌&&◌, nat_lt, count_by}
 use Rattle.std.specs.List.{Contains, range_with_len}
 use Rattle.std.proofs.lemmas.Bool.{true≢false}
 use Rattle.std.proofs.lemmas.Bool.Decides.{nat_tests}
@@ -10,8 +10,8 @@ use Rattle.class_lists.specs.declared.Which.TheVariants.{Full, NotFull}
 use Rattle.class_lists.specs.PageLists.{pages_in}
 use Rattle.page_pool.specs.Pool.{is_free}
 use Rattle.arrangement.specs.Held.{Held}
-use Rattle.arrangement.specs.Paging.{Paging, IsPaging, slots_of, page_of}
-use Rattle.arrangement.specs.Arrangement.{class_at, objects_on, standing_on, home_pages, not_full_pages, used_pages, free_pages, IsSound, LacksRoom}
+use Rattle.arrangement.specs.Paging.{Paging, IsPaging, slots_of}
+use Rattle.arrangement.specs.Arrangement.{objects_on, standing_on, home_pages, not_full_pages, used_pages, free_pages, IsSound, LacksRoom}
 use Rattle.arrangement.proofs.Counting.{part_full, lt_yes, lt_no, on_page, stands_here}
 use Rattle.arrangement.proofs.Totals.{sum_same, sum_plus}
 use Rattle.arrangement.proofs.Lacking.{used_is}

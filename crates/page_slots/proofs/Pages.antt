@@ -1,16 +1,15 @@
 -- What the tables say of one page, and what a change of another page leaves of it.
-use Rattle.std.proofs.Common.{◌≡◌, ◌≢◌, ℕ, Bool, true, false, ◌+◌, ◌*◌, ◌^◌, ◌<◌, ◌≤◌, List, [], ◌∷◌, length, get_or, set, Some, arith, refl, sym, ◌∙◌, ap, subst, inl, inr, eqb, ◌||◌}
-use Rattle.std.specs.Prelude.{◌⊎◌}
+use Rattle.std.proofs.Common.{◌≡◌, ◌≢◌, ℕ, Bool, true, false, ◌<◌, ◌≤◌, List, [], ◌∷◌, length, get_or, set, arith, sym, ◌∙◌, ap, subst, inl, inr, eqb}
 use Rattle.std.specs.List.{Contains}
 use Rattle.std.proofs.lemmas.Bool.{cases_eq, true≢false, ne_eqb}
 use Rattle.std.proofs.lemmas.List.{get_or-set_same, get_or-set_other, length-set}
 use Rattle.cf_base.proofs.Rising.{slots_within}
-use Rattle.size_classes.specs.Table.{ClassTable, IsTable}
+use Rattle.size_classes.specs.Table.{ClassTable}
 use Rattle.class_lists.specs.declared.Which.{Which}
 use Rattle.class_lists.specs.declared.Which.TheVariants.{Full, NotFull}
-use Rattle.class_lists.specs.PageLists.{PageLists, AreApart, IsUnlisted, pages_in}
-use Rattle.page_pool.specs.Pool.{Pool, IsPool, is_free}
-use Rattle.page_slots.specs.Tables.{Tables, AreTables, IsOf, IsUsed, IsPlaced, IsPageOf, IsFreePage, slots_in, slots_on, used_in}
+use Rattle.class_lists.specs.PageLists.{AreApart, pages_in}
+use Rattle.page_pool.specs.Pool.{IsPool, is_free}
+use Rattle.page_slots.specs.Tables.{Tables, AreTables, IsOf, IsPlaced, IsPageOf, IsFreePage, slots_in, slots_on}
 
 -- a page is as it was
 pub record IsSame (old new : Tables) (g : ℕ) : Type 0 where

@@ -1,21 +1,21 @@
 -- The tables of a heap without objects: all pages are free.
-use Rattle.std.proofs.Common.{◌≡◌, ℕ, zero, suc, Bool, true, false, ◌+◌, ◌*◌, ◌^◌, ◌<◌, ◌≤◌, List, [], ◌∷◌, length, get_or, replicate, Some, None, arith, refl, sym, ◌∙◌, ap, subst, inl, inr}
+use Rattle.std.proofs.Common.{◌≡◌, ℕ, zero, suc, Bool, true, ◌+◌, ◌*◌, ◌^◌, ◌<◌, ◌≤◌, List, [], ◌∷◌, length, replicate, Some, None, arith, refl, sym, ◌∙◌, ap, subst, inl, inr}
 use Rattle.std.specs.Prelude.{nat_eq}
 use Rattle.std.specs.List.{Contains, IsDistinct, range_with_len}
 use Rattle.std.proofs.lemmas.Bool.{cases_eq, cases_lt}
 use Rattle.std.proofs.lemmas.List.{get_or-replicate, get_or_past, length-replicate}
 use Rattle.std.specs.Ordering.{nat_cmp}
-use Rattle.std.specs.FinMap.{FinMap, get, empty, get-empty}
+use Rattle.std.specs.FinMap.{get, empty, get-empty}
 use Rattle.size_classes.specs.Table.{ClassTable, IsTable}
 use Rattle.class_lists.specs.declared.Which.{Which}
 use Rattle.class_lists.specs.declared.Which.TheVariants.{Full, NotFull}
 use Rattle.class_lists.specs.PageLists.{AreApart, empty_lists, list_number, pages_in}
 use Rattle.class_lists.proofs.Members.{contains_nil, distinct_nil}
-use Rattle.page_pool.specs.Pool.{Pool, IsPool, is_free}
+use Rattle.page_pool.specs.Pool.{Pool, is_free}
 use Rattle.page_pool.proofs.CallerLemmas.{pooled_range}
-use Rattle.arrangement.specs.Held.{Held, Placed}
+use Rattle.arrangement.specs.Held.{Placed}
 use Rattle.arrangement.specs.Paging.{Paging}
-use Rattle.page_slots.specs.Tables.{Tables, AreTables, IsOf, tables}
+use Rattle.page_slots.specs.Tables.{AreTables, IsOf, tables}
 use Rattle.page_slots.specs.Occupying.{Occupies}
 use Rattle.page_slots.proofs.Listing.{along}
 use Rattle.page_slots.proofs.Pages.{other_free}

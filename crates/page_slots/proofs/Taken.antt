@@ -1,5 +1,5 @@
 -- The tables after a slot was taken.
-use Rattle.std.proofs.Common.{◌≡◌, ◌≢◌, ℕ, zero, suc, Bool, true, false, not, ◌+◌, ◌*◌, ◌^◌, ◌<◌, ◌≤◌, List, [], ◌∷◌, length, get_or, set, replicate, Some, None, arith, refl, sym, ◌∙◌, ap, subst, inl, inr}
+use Rattle.std.proofs.Common.{◌≡◌, ◌≢◌, ℕ, zero, suc, Bool, true, false, ◌+◌, ◌<◌, ◌≤◌, List, [], ◌∷◌, length, set, replicate, Some, arith, refl, sym, ◌∙◌, ap, subst, inl, inr}
 use Rattle.std.specs.Prelude.{◌⊎◌, slice_get}
 use Rattle.std.specs.List.{Contains}
 use Rattle.std.proofs.lemmas.Bool.{cases_eq, eq-eqb}
@@ -9,13 +9,13 @@ use Rattle.slot_bitmap.proofs.CallerLemmas.{count-set, count-replicate}
 use Rattle.size_classes.specs.Table.{ClassTable}
 use Rattle.class_lists.specs.declared.Which.{Which}
 use Rattle.class_lists.specs.declared.Which.TheVariants.{Full, NotFull}
-use Rattle.class_lists.specs.PageLists.{PageLists, AreApart, IsUnlisted, pages_in}
+use Rattle.class_lists.specs.PageLists.{PageLists, AreApart, pages_in}
 use Rattle.class_lists.proofs.Members.{contains_head}
 use Rattle.page_pool.specs.Pool.{Pool, IsPool, TakesFront, is_free}
 use Rattle.page_pool.proofs.CallerLemmas.{front_gone, front_below}
-use Rattle.page_slots.specs.Tables.{Tables, AreTables, IsOf, IsPlaced, IsPageOf, IsFreePage, Joins, slots_in, slots_on, used_in}
+use Rattle.page_slots.specs.Tables.{Tables, AreTables, IsOf, IsPageOf, IsFreePage, Joins, slots_in, slots_on, used_in}
 use Rattle.page_slots.specs.Taking.{FillsPage, TakesOnOpenPage, TakesOnFreePage}
-use Rattle.page_slots.proofs.Listing.{along, joined_here, joined_comes, joined_stays, joined_pages, joined_classes, left_comes, left_stays, left_pages, left_classes, left_unlisted}
+use Rattle.page_slots.proofs.Listing.{along, joined_here, joined_comes, joined_stays, joined_pages, joined_classes, left_comes, left_stays, left_pages, left_classes}
 use Rattle.page_slots.proofs.Pages.{IsSame, other_free, map_here, map_there, maps_long, placed_in, listed_page, list_of, free_page, some_slots, tables_after}
 
 -- the front of a list stands in it
@@ -101,8 +101,13 @@ module _ (k : ClassTable) (old : Tables) (a : AreTables k old) (c page : ℕ) (n
       pages = ap (λ (l : PageLists). l.pages) e;
       classes = ap (λ (l : PageLists). l.classes) e;
       which = NotFull;
-      here = record { taken = pool_same page ∙ was.taken; listed = along page _ _ (ap (λ l. pages_in l c NotFull) (sym e)) there; slots = long; some = was.some;
-        fills = (let u = used in let l = long in let f = was.fills in let some = f.0 in let few = f.1 in (omega arith, omega arith)) };
+      here = record {
+        taken = pool_same page ∙ was.taken;
+        listed = along page _ _ (ap (λ l. pages_in l c NotFull) (sym e)) there;
+        slots = long;
+        some = was.some;
+        fills = (let u = used in let l = long in let f = was.fills in let some = f.0 in let few = f.1 in (omega arith, omega arith));
+      };
     }
 
     listed : Listed
@@ -186,8 +191,17 @@ module _ (k : ClassTable) (old : Tables) (a : AreTables k old) (c page : ℕ) (n
     joined_free : Joined
     joined_free = elim (cases_eq (slots_in k c) 1) [
       | inl is ↦ record { which = Full; joins = t.filled is; here = record { taken = gone; listed = joined_here _ c Full page _ (t.filled is); slots = long_free; some = some; fills = used_one ∙ sym is } }
-      | inr ne ↦ record { which = NotFull; joins = t.not_filled ne; here = record { taken = gone; listed = joined_here _ c NotFull page _ (t.not_filled ne); slots = long_free; some = some;
-        fills = (let u = used_one in let s = some in (omega arith, omega arith)) } }
+      | inr ne ↦ record {
+        which = NotFull;
+        joins = t.not_filled ne;
+        here = record {
+          taken = gone;
+          listed = joined_here _ c NotFull page _ (t.not_filled ne);
+          slots = long_free;
+          some = some;
+          fills = (let u = used_one in let s = some in (omega arith, omega arith));
+        };
+      }
     ]
 
     same_free : (g : ℕ) → g ≢ page → IsSame old new g

@@ -1,5 +1,5 @@
 -- The tables after a slot became free.
-use Rattle.std.proofs.Common.{◌≡◌, ◌≢◌, ℕ, Bool, true, false, ◌+◌, ◌<◌, ◌≤◌, List, ◌∷◌, length, get_or, set, Some, arith, refl, sym, ◌∙◌, ap, subst, inl, inr}
+use Rattle.std.proofs.Common.{◌≡◌, ◌≢◌, ℕ, true, false, ◌+◌, ◌<◌, length, set, Some, arith, refl, sym, ◌∙◌, ap, subst, inl, inr}
 use Rattle.std.specs.Prelude.{◌⊎◌, slice_get}
 use Rattle.std.specs.List.{Contains}
 use Rattle.std.proofs.lemmas.Bool.{cases_eq}
@@ -11,7 +11,7 @@ use Rattle.class_lists.specs.declared.Which.TheVariants.{Full, NotFull}
 use Rattle.class_lists.specs.PageLists.{PageLists, AreApart, pages_in}
 use Rattle.page_pool.specs.Pool.{Pool, IsPool, is_free}
 use Rattle.page_slots.specs.Tables.{Tables, AreTables, IsOf, IsPlaced, IsPageOf, IsFreePage, slots_in, slots_on, used_in}
-use Rattle.page_slots.specs.Freeing.{OpensPage, Vacates}
+use Rattle.page_slots.specs.Freeing.{Vacates}
 use Rattle.page_slots.proofs.Listing.{along, joined_here, joined_comes, joined_stays, joined_pages, joined_classes, left_comes, left_stays, left_pages, left_classes, left_unlisted}
 use Rattle.page_slots.proofs.Pages.{IsSame, other_free, map_here, map_there, maps_long, placed_in, listed_page, list_of, tables_after}
 use Rattle.page_slots.proofs.Taken.{free_head}
@@ -60,10 +60,13 @@ module _ (k : ClassTable) (old : Tables) (a : AreTables k old) (c page slot : �
     pages = left_pages _ c v.which page _ (v.emptied is);
     classes = left_classes _ c v.which page _ (v.emptied is);
     pool_pages = ap (λ (p : Pool). p.pages) (v.returned is);
-    here = inl (record {
-      free = ap (λ (p : Pool). is_free p.free page) (v.returned is) ∙ free_head page old.pool.free;
-      unlisted = left_unlisted _ c v.which page _ (v.emptied is) a.lists v.listed;
-    }, is);
+    here = inl (
+      record {
+        free = ap (λ (p : Pool). is_free p.free page) (v.returned is) ∙ free_head page old.pool.free;
+        unlisted = left_unlisted _ c v.which page _ (v.emptied is) a.lists v.listed;
+      },
+      is,
+    );
   }
 
   pool_same : used_in (slots_on new page) ≢ 0 → (g : ℕ) → is_free new.pool.free g ≡ is_free old.pool.free g
@@ -73,29 +76,45 @@ module _ (k : ClassTable) (old : Tables) (a : AreTables k old) (c page slot : �
   opened ne is =
       let o = v.opened ne is in
       let full : IsPageOf k old page c Full = subst (λ w. IsPageOf k old page c w) is was in record {
-    free = λ g _. pool_same ne g;
-    comes = λ g d w other h. joined_comes _ c NotFull page _ o.joins g d w (left_comes _ c Full page _ o.leaves g d w other h);
-    stays = λ g d w other h. left_stays _ c Full page _ o.leaves g d w (joined_stays _ c NotFull page _ o.joins g d w other h);
-    pages = joined_pages _ c NotFull page _ o.joins ∙ left_pages _ c Full page _ o.leaves;
-    classes = joined_classes _ c NotFull page _ o.joins ∙ left_classes _ c Full page _ o.leaves;
-    pool_pages = ap (λ (p : Pool). p.pages) (v.kept ne);
-    here = inr (NotFull, record { taken = pool_same ne page ∙ was.taken; listed = joined_here _ c NotFull page _ o.joins; slots = long; some = was.some;
-      fills = (let u = used in let f = full.fills in (omega arith, omega arith)) });
-  }
+        free = λ g _. pool_same ne g;
+        comes = λ g d w other h. joined_comes _ c NotFull page _ o.joins g d w (left_comes _ c Full page _ o.leaves g d w other h);
+        stays = λ g d w other h. left_stays _ c Full page _ o.leaves g d w (joined_stays _ c NotFull page _ o.joins g d w other h);
+        pages = joined_pages _ c NotFull page _ o.joins ∙ left_pages _ c Full page _ o.leaves;
+        classes = joined_classes _ c NotFull page _ o.joins ∙ left_classes _ c Full page _ o.leaves;
+        pool_pages = ap (λ (p : Pool). p.pages) (v.kept ne);
+        here = inr (
+          NotFull,
+          record {
+            taken = pool_same ne page ∙ was.taken;
+            listed = joined_here _ c NotFull page _ o.joins;
+            slots = long;
+            some = was.some;
+            fills = (let u = used in let f = full.fills in (omega arith, omega arith));
+          },
+        );
+      }
 
   still : used_in (slots_on new page) ≢ 0 → v.which ≡ NotFull → Left
   still ne is =
       let e = v.still ne is in
       let part : IsPageOf k old page c NotFull = subst (λ w. IsPageOf k old page c w) is was in record {
-    free = λ g _. pool_same ne g;
-    comes = λ g d w _ h. along g _ _ (ap (λ l. pages_in l d w) (sym e)) h;
-    stays = λ g d w _ h. along g _ _ (ap (λ l. pages_in l d w) e) h;
-    pages = ap (λ (l : PageLists). l.pages) e;
-    classes = ap (λ (l : PageLists). l.classes) e;
-    pool_pages = ap (λ (p : Pool). p.pages) (v.kept ne);
-    here = inr (NotFull, record { taken = pool_same ne page ∙ was.taken; listed = along page _ _ (ap (λ l. pages_in l c NotFull) (sym e)) part.listed; slots = long; some = was.some;
-      fills = (let u = used in let f = part.fills in let few = f.1 in (omega arith, omega arith)) });
-  }
+        free = λ g _. pool_same ne g;
+        comes = λ g d w _ h. along g _ _ (ap (λ l. pages_in l d w) (sym e)) h;
+        stays = λ g d w _ h. along g _ _ (ap (λ l. pages_in l d w) e) h;
+        pages = ap (λ (l : PageLists). l.pages) e;
+        classes = ap (λ (l : PageLists). l.classes) e;
+        pool_pages = ap (λ (p : Pool). p.pages) (v.kept ne);
+        here = inr (
+          NotFull,
+          record {
+            taken = pool_same ne page ∙ was.taken;
+            listed = along page _ _ (ap (λ l. pages_in l c NotFull) (sym e)) part.listed;
+            slots = long;
+            some = was.some;
+            fills = (let u = used in let f = part.fills in let few = f.1 in (omega arith, omega arith));
+          },
+        );
+      }
 
   by_list : (w : Which) → v.which ≡ w → used_in (slots_on new page) ≢ 0 → Left
   by_list Full is ne = opened ne is

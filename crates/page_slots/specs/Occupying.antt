@@ -5,7 +5,7 @@ use Rattle.size_classes.specs.Table.{ClassTable}
 use Rattle.arrangement.specs.Held.{Held, Placed}
 use Rattle.arrangement.specs.Paging.{Paging, page_of, address_of}
 use Rattle.arrangement.specs.Arrangement.{class_at, objects_on}
-use Rattle.page_slots.specs.Tables.{Tables, AreTables, IsOf, IsUsed, page_at, slot_at, slots_on, used_in}
+use Rattle.page_slots.specs.Tables.{Tables, AreTables, IsOf, IsUsed, slot_at, slots_on, used_in}
 
 -- the classes of a paging
 abbrev pub class_table : Paging → ClassTable

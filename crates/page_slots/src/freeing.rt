@@ -29,10 +29,8 @@ pub fn must_move(
     requires table { IsTable classes.now.page_words classes.now.sizes }
     requires page { page_at classes.now at < length maps.now }
     requires class { c < lists.now.classes }
-    ensures value {
-        IsTrue result ↔ MovesObject (slice_index_or maps.now (page_at classes.now at) [])
-            (length (pages_in lists.now c Which.NotFull)) bound
-    }
+    ensures value { IsTrue result ↔ MovesObject (slice_index_or maps.now (page_at classes.now at) [])
+        (length (pages_in lists.now c Which.NotFull)) bound }
     ensures steps { RoseBy steps.old steps.new 1 }
 {
     let map = &maps[page_of(classes, at) as usize];
@@ -52,14 +50,10 @@ pub fn drop_slot(
     steps: &mut Steps,
 )
     requires tables { AreTables classes.now (tables maps.old lists.old pool.old) }
-    requires used {
-        IsUsed (tables maps.old lists.old pool.old) c (page_at classes.now at)
-            (slot_at classes.now c at)
-    }
-    ensures freed {
-        Vacates (tables maps.old lists.old pool.old) c (page_at classes.now at)
-            (slot_at classes.now c at) (tables maps.new lists.new pool.new)
-    }
+    requires used { IsUsed (tables maps.old lists.old pool.old) c (page_at classes.now at)
+        (slot_at classes.now c at) }
+    ensures freed { Vacates (tables maps.old lists.old pool.old) c (page_at classes.now at)
+        (slot_at classes.now c at) (tables maps.new lists.new pool.new) }
     ensures kept { AreTables classes.now (tables maps.new lists.new pool.new) }
     ensures steps { RoseAtMost steps.old steps.new 18 }
 {
@@ -83,10 +77,8 @@ pub fn fill_slot(
     requires tables { AreTables classes.now (tables maps.old lists.old pool.old) }
     requires class { c < length classes.now.sizes }
     requires some { 1 ≤ length (pages_in lists.old c Which.NotFull) }
-    ensures filled {
-        FillsFrom classes.now (tables maps.old lists.old pool.old) c result
-            (tables maps.new lists.new pool.new)
-    }
+    ensures filled { FillsFrom classes.now (tables maps.old lists.old pool.old) c result
+        (tables maps.new lists.new pool.new) }
     ensures kept { AreTables classes.now (tables maps.new lists.new pool.new) }
     ensures steps { RoseAtMost steps.old steps.new 26 }
 {
@@ -132,9 +124,7 @@ fn vacate(
     requires taken { is_free pool.old.free page ≡ false }
     requires listed { Contains (pages_in lists.old c which) page }
     requires used { slice_get (slice_index_or maps.old page []) slot ≡ Some true }
-    ensures freed {
-        Vacates (tables maps.old lists.old pool.old) c page slot (tables maps.new lists.new pool.new)
-    }
+    ensures freed { Vacates (tables maps.old lists.old pool.old) c page slot (tables maps.new lists.new pool.new) }
     ensures lists { AreApart lists.new }
     ensures pool { IsPool pool.new }
     ensures steps { RoseAtMost steps.old steps.new 17 }

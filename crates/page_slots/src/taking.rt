@@ -26,10 +26,8 @@ pub fn take_slot(
 ) -> Option<u32>
     requires tables { AreTables classes.now (tables maps.old lists.old pool.old) }
     requires class { c < length classes.now.sizes }
-    ensures taken {
-        TakesSlot classes.now (tables maps.old lists.old pool.old) c result
-            (tables maps.new lists.new pool.new)
-    }
+    ensures taken { TakesSlot classes.now (tables maps.old lists.old pool.old) c result
+        (tables maps.new lists.new pool.new) }
     ensures kept { AreTables classes.now (tables maps.new lists.new pool.new) }
     ensures steps { RoseAtMost steps.old steps.new 26 }
 {
@@ -87,10 +85,8 @@ fn take_on_free_page(
     requires tables { AreTables classes.now (tables maps.old lists.old pool.old) }
     requires class { c < length classes.now.sizes }
     requires none { pages_in lists.old c Which.NotFull ≡ [] }
-    ensures taken {
-        TakesSlot classes.now (tables maps.old lists.old pool.old) c result
-            (tables maps.new lists.new pool.new)
-    }
+    ensures taken { TakesSlot classes.now (tables maps.old lists.old pool.old) c result
+        (tables maps.new lists.new pool.new) }
     ensures kept { AreTables classes.now (tables maps.new lists.new pool.new) }
     ensures steps { RoseAtMost steps.old steps.new 13 }
 {

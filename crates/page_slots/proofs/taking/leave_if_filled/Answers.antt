@@ -1,5 +1,5 @@
 -- A page that is filled left its list, and is in none.
-use Rattle.std.proofs.Common.{◌<◌, arith, refl}
+use Rattle.std.proofs.Common.{◌<◌, arith}
 use Rattle.class_lists.specs.declared.Which.TheVariants.{NotFull}
 use Rattle.page_slots.proofs.Listing.{left_unlisted, left_pages}
 use Rattle.page_slots.proofs.taking.leave_if_filled.Goals as goal

@@ -1,5 +1,5 @@
 -- The front page of those that are not full has a free slot.
-use Rattle.std.proofs.Common.{sym, inl}
+use Rattle.std.proofs.Common.{inl}
 use Rattle.class_lists.specs.PageLists.{pages_in}
 use Rattle.class_lists.specs.declared.Which.TheVariants.{NotFull}
 use Rattle.page_slots.proofs.Calls.{front_none, front_there, front_inside, front_small, front_room, front_slot, took_open}
@@ -30,7 +30,7 @@ returns-in-Some-clause-taken c = record {
   slot = c.take_least-slot.result;
   address = c.address_of.ensures;
   taken = inl (took_open _ _ c.requires.tables c.args.c c.in-Some.page c.in-Some.ensures.front c.index-maps-page.result c.take_least-slot.result c.take_least-slot.new.map c.leave_if_filled.new.lists
-    c.take_least-slot.ensures.least c.take_least-slot.ensures.free c.take_least-slot.ensures.map c.leave_if_filled.ensures.filled c.leave_if_filled.ensures.not_filled);
+      c.take_least-slot.ensures.least c.take_least-slot.ensures.free c.take_least-slot.ensures.map c.leave_if_filled.ensures.filled c.leave_if_filled.ensures.not_filled);
 }
 
 pub returns-in-Some-clause-kept : goal.returns-in-Some-clause-kept
