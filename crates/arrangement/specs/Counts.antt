@@ -1,0 +1,31 @@
+-- How many pages the objects of one class may stand on, by arithmetic.
+use Rattle.std.specs.Prelude.{ℕ, zero, suc, Bool, true, false, ◌&&◌, ◌+◌, ◌-◌, ◌*◌, ◌/◌, ◌≤◌, nat_le}
+use Rattle.std.specs.List.{range_with_len, list_any}
+
+-- n objects stand on p pages of m slots, q of them not full, and no page is empty
+pub record Stand (p n m k q : ℕ) : Type 0 where
+  pub few : q ≤ k
+  pub within : q ≤ p
+  pub least : (p - q) * m + q ≤ n
+  pub most : n ≤ (p - q) * m + q * (m - 1)
+
+-- n objects can stand on p pages of m slots, none empty and at most k not full
+abbrev pub CanHold : ℕ → ℕ → ℕ → ℕ → Type 0
+CanHold p n m k = (q : ℕ) × Stand p n m k q
+
+-- the same as a test
+abbrev pub can_hold : ℕ → ℕ → ℕ → ℕ → Bool
+can_hold p n m k = list_any (λ q. nat_le q p && nat_le ((p - q) * m + q) n && nat_le n ((p - q) * m + q * (m - 1))) (range_with_len 0 (k + 1))
+
+-- the least number of pages of m slots on which n objects fit
+abbrev pub ceil_div : ℕ → ℕ → ℕ
+ceil_div n m = (n + (m - 1)) / m
+
+-- the greatest number from p down at which the test passes, else 0
+abbrev pub greatest : (ℕ → Bool) → ℕ → ℕ
+greatest test zero = 0
+greatest test (suc p) = elim (test (suc p)) [ true ↦ suc p | false ↦ greatest test p ]
+
+-- the most pages of m slots on which n objects can stand, at most k of them not full
+unfoldable pub most_pages : ℕ → ℕ → ℕ → ℕ
+most_pages n m k = greatest (λ p. can_hold p n m k) (n / m + k)

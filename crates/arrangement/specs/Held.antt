@@ -1,0 +1,30 @@
+-- What a manager holds: its objects by number, each with its place.
+use Rattle.std.specs.Prelude.{ℕ, List, refl}
+use Rattle.std.specs.Ordering.{nat_cmp}
+use Rattle.std.specs.FinMap.{FinMap}
+use Rattle.std.specs.Coded.{Coded, code_by, coded×, coded_ℕ, coded_list}
+use Rattle.cf_lemmas.specs.Maps.{map_values}
+
+-- an object: the word where its slot begins, and its bytes
+pub record Placed : Type 0 where
+  pub place : ℕ
+  pub bytes : List ℕ
+
+-- the objects by number
+abbrev pub Held : Type 0
+Held = FinMap nat_cmp Placed
+
+-- the bytes by number, without the places
+abbrev pub Objects : Type 0
+Objects = FinMap nat_cmp (List ℕ)
+
+abbrev pub objects : Held → Objects
+objects m = map_values (λ (x : Placed). x.bytes) m
+
+-- the places by number, in words
+abbrev pub places : Held → FinMap nat_cmp ℕ
+places m = map_values (λ (x : Placed). x.place) m
+
+-- an object as a pair
+abbrev pub placed_code : Coded Placed
+placed_code = code_by (ℕ × List ℕ) (coded× coded_ℕ (coded_list coded_ℕ)) (λ x. (x.place, x.bytes)) (λ p. record { place = p.0; bytes = p.1 }) (λ _. refl)

@@ -1,0 +1,9 @@
+pub mod Held
+pub mod Paging
+pub mod Counts
+pub mod Arrangement
+pub mod Steps
+pub mod Image
+pub mod Bytes
+pub mod Figures
+pub mod Frames

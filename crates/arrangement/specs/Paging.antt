@@ -1,0 +1,67 @@
+-- Pages and size classes, in numbers. A class is its index in the list of slot sizes.
+use Rattle.std.specs.Prelude.{ℕ, ◌≡◌, ◌+◌, ◌-◌, ◌*◌, ◌/◌, ◌≤◌, ◌<◌, List, length, slice_index, replicate, nat_le}
+use Rattle.std.specs.List.{position_or_len}
+use Rattle.cf_base.specs.Settings.{Profile}
+use Rattle.cf_base.specs.Classes.{need, sizes, slots}
+use Rattle.cf_base.specs.declared.kind.Layout.{Layout}
+
+-- how many pages, the words of a page, the words of a slot by class, and by class how many pages may be not full
+pub record Paging : Type 0 where
+  pub pages : ℕ
+  pub page_words : ℕ
+  pub sizes : List ℕ
+  pub bounds : List ℕ
+
+-- the pages of a heap with these settings and bounds
+abbrev pub paging_of : Profile → Layout → List ℕ → Paging
+paging_of s layout bounds = record { pages = s.pages; page_words = s.page_words; sizes = sizes s.page_words layout; bounds = bounds }
+
+-- every class has the bound of the settings
+abbrev pub first_bounds : Profile → Layout → List ℕ
+first_bounds s layout = replicate (length (sizes s.page_words layout)) s.k
+
+-- the number of classes
+abbrev pub classes : Paging → ℕ
+classes p = length p.sizes
+
+-- the words of a slot of class c
+abbrev pub slot_words : Paging → ℕ → ℕ
+slot_words p c = slice_index p.sizes c
+
+-- the slots of class c on a page
+abbrev pub slots_of : Paging → ℕ → ℕ
+slots_of p c = slots p.page_words p.sizes c
+
+-- how many pages of class c may be not full
+abbrev pub bound_of : Paging → ℕ → ℕ
+bound_of p c = slice_index p.bounds c
+
+-- the class of an object of n bytes; the number of classes where none holds it
+unfoldable pub class_for : Paging → ℕ → ℕ
+class_for p n = position_or_len (λ s. nat_le (need n) s) p.sizes
+
+-- the page of an address
+abbrev pub page_of : Paging → ℕ → ℕ
+page_of p a = a / p.page_words
+
+-- the address of a slot of class c
+abbrev pub address_of : Paging → ℕ → ℕ → ℕ → ℕ
+address_of p c page slot = page * p.page_words + slot * slot_words p c
+
+-- slot sizes rise, from 4 words at least up to a page
+pub record AreSizes (page_words : ℕ) (sizes : List ℕ) : Type 0 where
+  pub some : 1 ≤ length sizes
+  pub least : (c : ℕ) → c < length sizes → 4 ≤ slice_index sizes c
+  pub rising : (c d : ℕ) → c < d → d < length sizes → slice_index sizes c < slice_index sizes d
+  pub fits : (c : ℕ) → c < length sizes → slice_index sizes c ≤ page_words
+  pub last : slice_index sizes (length sizes - 1) ≡ page_words
+
+-- the slot sizes are as they must be, and each class has a bound of at least 1
+pub record IsPaging (p : Paging) : Type 0 where
+  pub sized : AreSizes p.page_words p.sizes
+  pub bounded : length p.bounds ≡ length p.sizes
+  pub some : (c : ℕ) → c < classes p → 1 ≤ bound_of p c
+
+-- in each class one page at most may be not full
+abbrev pub AreOne : Paging → Type 0
+AreOne p = (c : ℕ) → c < classes p → bound_of p c ≡ 1

@@ -1,0 +1,35 @@
+//! Arrangements of objects on pages, as Compact-fit (2008) has them: what a sound one is, what a
+//! malloc, a free and a resize do to it, and to the words and blocks of the region. The public
+//! functions do nothing: each one's contract is a law of these definitions.
+#![tactic(auto)]
+
+mod blocks;
+mod classes;
+mod counts;
+mod room;
+mod soundness;
+mod words;
+
+pub use blocks::{
+    blocks_of_others_stay, frames_stay_permuted, live_objects_share_no_block,
+    slots_stand_in_their_blocks,
+};
+pub use classes::{a_class_holds_its_requests, slot_sizes_rise, slots_have_addresses};
+pub use counts::{
+    can_hold_is_a_test, most_pages_is_the_greatest, one_page_count_at_bound_one,
+    pages_are_within_the_bound,
+};
+pub use room::{
+    lack_of_room_is_arithmetic_at_bound_one, lack_of_room_is_no_page_left,
+    pages_where_room_is_lacking, pages_are_those_needed_at_bound_one,
+};
+pub use soundness::{
+    a_free_keeps_soundness, a_malloc_keeps_soundness, a_resize_keeps_soundness,
+    a_resize_in_two_steps, counts_after_a_free, counts_after_a_malloc,
+    nothing_is_a_sound_arrangement, objects_after_a_step, page_counts_follow_one_page,
+    page_counts_of_a_sound_arrangement,
+};
+pub use words::{
+    a_part_is_written, a_word_is_its_bytes, bytes_are_read_back, words_after_a_free,
+    words_after_a_malloc, words_after_a_write, words_are_one_list, words_tell_what_is_held,
+};
