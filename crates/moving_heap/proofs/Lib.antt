@@ -1,1 +1,5 @@
 pub mod First
+pub mod Values
+pub mod Facts
+pub mod Opening
+pub mod Figures

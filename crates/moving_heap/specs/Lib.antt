@@ -1,3 +1,4 @@
 pub mod State
 pub mod Steps
 pub mod View
+pub mod Kept

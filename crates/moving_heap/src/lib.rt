@@ -1,6 +1,9 @@
-//! The moving manager of Compact-fit (2008), so far with room for one object.
+//! The moving manager of Compact-fit (2008).
 #![tactic(auto)]
 
+mod header;
 mod heap;
+mod inner;
+mod reports;
 
 pub use heap::MovingHeap;
