@@ -1,6 +1,7 @@
 -- What an open heap's invariant tells: its paging, its tables, and the rules that it keeps.
-use Rattle.std.proofs.Common.{◌≡◌, ℕ, ◌+◌, ◌*◌, ◌<◌, ◌≤◌, length, take, get_or, Some, arith, refl, sym, ◌∙◌, ap, subst}
-use Rattle.std.specs.Prelude.{IsTrue}
+use Rattle.std.proofs.Common.{◌≡◌, ℕ, ◌+◌, ◌*◌, ◌<◌, ◌≤◌, length, take, get_or, Option, Some, None, arith, refl, sym, ◌∙◌, ap, subst}
+use Rattle.std.specs.Prelude.{IsTrue, is_some}
+use Rattle.std.proofs.lemmas.Bool.{false≢true}
 use Rattle.std.proofs.lemmas.List.{get_or-take, length-take-le}
 use Rattle.std.specs.FinMap.{get, len}
 use Rattle.cf_base.specs.Classes.{sizes}
@@ -17,7 +18,7 @@ use Rattle.page_slots.specs.Tables.{AreTables}
 use Rattle.page_slots.specs.Occupying.{class_table}
 use Rattle.cf_model.specs.Rules.{AreInRange, AreObjects, KeepsPages, KeepsRules}
 use Rattle.moving_heap.specs.declared.inner.OpenHeap.{OpenHeap}
-use Rattle.moving_heap.specs.Kept.{IsKept, held_in, paging_at, state_of, tables_in}
+use Rattle.moving_heap.specs.Kept.{IsKept, IsKeptIn, held_in, paging_at, state_in, state_of, tables_in}
 use Rattle.moving_heap.proofs.Values.{len-map_values}
 
 module _ (h : OpenHeap) (k : IsKept h) where
@@ -93,3 +94,8 @@ module _ (h : OpenHeap) (k : IsKept h) where
       no_tiling = refl;
     }, refl);
   }
+
+-- an open heap keeps its rules
+pub rules_in : (o : Option OpenHeap) → IsKeptIn o → IsTrue (is_some o) → KeepsRules (state_in o)
+rules_in None k open_now = absurd (false≢true open_now)
+rules_in (Some h) k open_now = rules h k

@@ -3,3 +3,4 @@ pub mod Values
 pub mod Facts
 pub mod Opening
 pub mod Figures
+pub mod Rebound

@@ -1,9 +1,12 @@
 //! The moving manager of Compact-fit (2008).
 #![tactic(auto)]
 
+mod bounds;
+mod compact;
 mod header;
 mod heap;
 mod inner;
 mod reports;
 
+pub use compact::Heap;
 pub use heap::MovingHeap;
