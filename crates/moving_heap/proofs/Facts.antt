@@ -16,6 +16,7 @@ use Rattle.arrangement.proofs.Sizes.{paged}
 use Rattle.size_classes.specs.Table.{ClassTable, IsTable, table_of}
 use Rattle.page_slots.specs.Tables.{AreTables}
 use Rattle.page_slots.specs.Occupying.{class_table}
+use Rattle.cf_model.specs.State.{HeapState}
 use Rattle.cf_model.specs.Rules.{AreInRange, AreObjects, KeepsPages, KeepsRules}
 use Rattle.moving_heap.specs.declared.inner.OpenHeap.{OpenHeap}
 use Rattle.moving_heap.specs.Kept.{IsKept, IsKeptIn, held_in, paging_at, state_in, state_of, tables_in}
@@ -99,3 +100,8 @@ module _ (h : OpenHeap) (k : IsKept h) where
 pub rules_in : (o : Option OpenHeap) → IsKeptIn o → IsTrue (is_some o) → KeepsRules (state_in o)
 rules_in None k open_now = absurd (false≢true open_now)
 rules_in (Some h) k open_now = rules h k
+
+-- the same in the terms of the value
+pub rules_of : (o : Option OpenHeap) → IsKeptIn o → (s : HeapState) → state_in o ≡ s → IsTrue s.is_open → KeepsRules s
+rules_of None k s is open_now = absurd (false≢true (ap (λ (t : HeapState). t.is_open) is ∙ open_now))
+rules_of (Some h) k s is open_now = subst KeepsRules is (rules h k)

@@ -2,3 +2,5 @@ pub mod State
 pub mod Steps
 pub mod View
 pub mod Kept
+pub mod Access
+pub mod Freeing
