@@ -1,11 +1,15 @@
 -- The tables of a heap without objects: all pages are free.
 use Rattle.std.proofs.Common.{◌≡◌, ℕ, zero, suc, Bool, true, ◌+◌, ◌*◌, ◌^◌, ◌<◌, ◌≤◌, List, [], ◌∷◌, length, replicate, Some, None, arith, refl, sym, ◌∙◌, ap, subst, inl, inr}
-use Rattle.std.specs.Prelude.{nat_eq}
+use Rattle.std.specs.Prelude.{IsTrue, nat_eq}
 use Rattle.std.specs.List.{Contains, IsDistinct, range_with_len}
 use Rattle.std.proofs.lemmas.Bool.{cases_eq, cases_lt}
 use Rattle.std.proofs.lemmas.List.{get_or-replicate, get_or_past, length-replicate}
 use Rattle.std.specs.Ordering.{nat_cmp}
 use Rattle.std.specs.FinMap.{get, empty, get-empty}
+use Rattle.cf_base.specs.Classes.{sizes}
+use Rattle.cf_base.specs.Limits.{is_page_size}
+use Rattle.cf_base.specs.declared.kind.Layout.{Layout}
+use Rattle.cf_base.proofs.Rising.{are_sizes, page_size}
 use Rattle.size_classes.specs.Table.{ClassTable, IsTable}
 use Rattle.class_lists.specs.declared.Which.{Which}
 use Rattle.class_lists.specs.declared.Which.TheVariants.{Full, NotFull}
@@ -28,6 +32,10 @@ range_has a (suc n) q low high = elim (cases_eq q a) [
   | inl is ↦ ap (λ y. is_free (y ∷ range_with_len (a + 1) n) q) (sym is) ∙ free_head q (range_with_len (a + 1) n)
   | inr ne ↦ other_free (range_with_len (a + 1) n) a q ne ∙ range_has (a + 1) n q (omega arith) (omega arith)
 ]
+
+-- the classes of a heap's pages are a table
+pub first_table : (page_words : ℕ) (layout : Layout) → IsTrue (is_page_size page_words) → IsTable page_words (sizes page_words layout)
+first_table page_words layout ok = record { are_sizes = are_sizes page_words layout ok; small = (page_size page_words ok).small }
 
 module _ (classes pages : ℕ) where
   -- no list has a page

@@ -1,11 +1,11 @@
 //! A used slot becomes free.
-ghost use Rattle.std.specs.Prelude.{◌≡◌, ◌≢◌, ℕ, ◌+◌, ◌*◌, ◌^◌, ◌<◌, ◌≤◌, [], ◌∷◌, ◌↔◌, IsTrue, length, false, true, slice_get, slice_index_or, slice_set};
-ghost use Rattle.std.specs.List.{Contains, position};
+ghost use Rattle.std.specs.Prelude.{◌≡◌, ◌≢◌, ◌<◌, ◌≤◌, [], ◌↔◌, IsTrue, length, false, true, slice_get, slice_index_or};
+ghost use Rattle.std.specs.List.{Contains};
 ghost use Rattle.step_ledger.specs.Counting.{RoseAtMost, RoseBy};
 ghost use Rattle.class_lists.specs.PageLists.{AreApart, pages_in};
 ghost use Rattle.page_pool.specs.Pool.{IsPool, is_free};
 ghost use Rattle.size_classes.specs.Table.{IsTable};
-ghost use Rattle.page_slots.specs.Tables.{AreTables, IsUsed, Leaves, page_at, slot_at, tables, used_in};
+ghost use Rattle.page_slots.specs.Tables.{AreTables, IsUsed, page_at, slot_at, tables, used_in};
 ghost use Rattle.page_slots.specs.Freeing.{FillsFrom, MovesObject, OpensPage, Vacates};
 
 use crate::place::{address_of, page_of, slot_of};

@@ -1,10 +1,10 @@
 //! A free slot is taken.
-ghost use Rattle.std.specs.Prelude.{◌≡◌, ◌≢◌, ℕ, ◌+◌, ◌*◌, ◌^◌, ◌<◌, ◌≤◌, ◌∷◌, [], length, not, false, true, replicate, slice_get, slice_set};
+ghost use Rattle.std.specs.Prelude.{◌≡◌, ◌≢◌, ◌<◌, [], length, not, false, true, slice_get, slice_set};
 ghost use Rattle.std.specs.List.{Contains, position};
 ghost use Rattle.step_ledger.specs.Counting.{RoseAtMost};
 ghost use Rattle.class_lists.specs.PageLists.{AreApart, IsUnlisted, pages_in};
-ghost use Rattle.page_slots.specs.Tables.{AreTables, Joins, slots_in, tables, used_in};
-ghost use Rattle.page_slots.specs.Taking.{FillsPage, TakesOnFreePage, TakesSlot};
+ghost use Rattle.page_slots.specs.Tables.{AreTables, Joins, tables, used_in};
+ghost use Rattle.page_slots.specs.Taking.{FillsPage, TakesSlot};
 
 use crate::place::address_of;
 use class_lists::{ClassLists, Which};
