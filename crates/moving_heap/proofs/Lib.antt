@@ -13,3 +13,4 @@ pub mod Going
 pub mod Alone
 pub mod Filling
 pub mod Knowing
+pub mod Writing

@@ -6,7 +6,7 @@ ghost use Rattle.cf_model.specs.Answers.{place_of};
 ghost use Rattle.cf_model.specs.Costs.{access_bound, words_touched};
 ghost use Rattle.cf_model.specs.Steps.{IsReadAnswer, IsWriteStep};
 ghost use Rattle.word_bytes.specs.Cells.{overwritten};
-ghost use Rattle.moving_heap.specs.Access.{IsFound};
+ghost use Rattle.moving_heap.specs.Access.{IsFound, Overwrites};
 ghost use Rattle.moving_heap.specs.Kept.{IsKept, state_of};
 
 use crate::header::Header;
@@ -57,6 +57,41 @@ impl OpenHeap {
         let words = self.region.payload(first, touched(at, len), steps);
         read_bytes(words, (at % 8) as usize, out);
         Ok(())
+    }
+
+    /// Writes bytes into an object from byte `at` on.
+    pub(crate) fn write(
+        &mut self,
+        h: Handle,
+        at: u32,
+        bytes: &[u8],
+        steps: &mut Steps,
+    ) -> Result<(), AccessFault>
+        requires { IsKept self.old }
+        ensures step { IsWriteStep (state_of self.old) (record { number = h.0; from = at }) bytes.now result (state_of self.new) }
+        ensures kept { IsKept self.new }
+        ensures bound { RoseAtMost steps.old steps.new (access_bound at (length bytes.now)) }
+    {
+        let len = bytes.len();
+        let place = self.find(h, at, len, steps)?;
+        if len == 0 {
+            return Ok(());
+        }
+        let first = place + 1 + at / 8;
+        self.overwrite(first, touched(at, len), (at % 8) as usize, bytes, steps);
+        Ok(())
+    }
+
+    /// Writes bytes over those from byte `from` of n words on, of which the first is given.
+    fn overwrite(&mut self, first: u32, n: u32, from: usize, bytes: &[u8], steps: &mut Steps)
+        requires within { first + n ≤ length self.old.region }
+        requires fits { from + length bytes.now ≤ 8 * n }
+        ensures rest { self.new ≡ record self.old { region = self.new.region } }
+        ensures words { Overwrites self.old.region self.new.region (record { from = first; count = n }) from bytes.now }
+        ensures bound { RoseAtMost steps.old steps.new n }
+    {
+        let words = self.region.payload_mut(first, n, steps);
+        write_bytes(words, from, bytes);
     }
 
     /// The place of the object, of which so many bytes from `at` on are asked for.

@@ -7,7 +7,7 @@ ghost use Rattle.cf_model.specs.Answers.{block_in, classes_in, figures_in, place
 ghost use Rattle.cf_model.specs.Rules.{KeepsRules};
 ghost use Rattle.cf_model.specs.State.{closed_state, paging_in};
 ghost use Rattle.cf_model.specs.Costs.{TakesAtMost, access_bound, free_bound};
-ghost use Rattle.cf_model.specs.Steps.{BlocksStayIn, IsEmptyHeap, IsClosed, IsFreeStep, IsMallocStep, IsReadAnswer, StaysOpen};
+ghost use Rattle.cf_model.specs.Steps.{BlocksStayIn, IsEmptyHeap, IsClosed, IsFreeStep, IsMallocStep, IsReadAnswer, IsWriteStep, StaysOpen};
 ghost use Rattle.moving_heap.specs.Kept.{IsKept, state_of};
 
 use crate::inner::OpenHeap;
@@ -107,6 +107,28 @@ impl Heap {
     {
         match &mut self.inner {
             Some(open) => open.free(h, steps),
+            None => unreachable!(),
+        }
+    }
+
+    /// Writes bytes into an object from byte `at` on, and changes nothing else; nor does a refusal.
+    /// At most 16 steps, and three times the words that hold one of the bytes.
+    pub fn write(
+        &mut self,
+        h: Handle,
+        at: u32,
+        bytes: &[u8],
+        steps: &mut Steps,
+    ) -> Result<(), AccessFault>
+        requires open { IsTrue self.old.is_open }
+        requires room { steps.old ≤ 2 ^ 63 }
+        ensures same { StaysOpen self.old self.new }
+        ensures step { IsWriteStep self.old (record { number = h.0; from = at }) bytes.now result self.new }
+        ensures rules { KeepsRules self.new }
+        ensures bound { TakesAtMost self.old.kind steps.old steps.new (access_bound at (length bytes.now)) }
+    {
+        match &mut self.inner {
+            Some(open) => open.write(h, at, bytes, steps),
             None => unreachable!(),
         }
     }
