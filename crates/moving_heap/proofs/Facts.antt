@@ -87,13 +87,16 @@ module _ (h : OpenHeap) (k : IsKept h) where
       bytes = held_at_bytes h.region h.proxies.places;
       few = (let e = held_len in let f = k.handles.few in let s = k.numbers in omega arith);
     };
-    of_kind = (record {
-      paging = paging_ok;
-      sound = k.sound;
-      image = own_words (paging_at h) paging_ok (held_in h) k.sound h.region k.image;
-      slots = k.image;
-      no_tiling = refl;
-    }, refl);
+    of_kind = (
+      record {
+        paging = paging_ok;
+        sound = k.sound;
+        image = own_words (paging_at h) paging_ok (held_in h) k.sound h.region k.image;
+        slots = k.image;
+        no_tiling = refl;
+      },
+      refl,
+    );
   }
 
 -- an open heap keeps its rules

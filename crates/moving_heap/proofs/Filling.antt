@@ -136,8 +136,16 @@ module _ (h : OpenHeap) (k : IsKept h) (q a size c : ℕ) (o : IsObjectAt h q a 
 
   -- all but the tables is as it was, with what the free does to it
   module _ (t n : OpenHeap)
-      (whole : n ≡ record h { maps = t.maps; lists = t.lists; pool = t.pool; proxies = with_place (without_place h.proxies q) r a; region = left_words;
-        live = set h.live c (get_or h.live c 0 - 1); asked = h.asked - size; taken = h.taken - 8 * words })
+      (whole : n ≡ record h {
+        maps = t.maps;
+        lists = t.lists;
+        pool = t.pool;
+        proxies = with_place (without_place h.proxies q) r a;
+        region = left_words;
+        live = set h.live c (get_or h.live c 0 - 1);
+        asked = h.asked - size;
+        taken = h.taken - 8 * words;
+      })
       (same : tables_in t ≡ new) (handles : AreBelowLimit n.proxies) where
     on : tables_in n ≡ new
     on = ap tables_in whole ∙ same
@@ -163,8 +171,8 @@ module _ (h : OpenHeap) (k : IsKept h) (q a size c : ℕ) (o : IsObjectAt h q a 
     counted_is : g ≡ record h { maps = t.maps; lists = t.lists; pool = t.pool; proxies = without_place h.proxies q; region = cleared h.region a words; live = set h.live c (get_or h.live c 0 - 1); asked = h.asked - size; taken = h.taken - 8 * words }
     counted_is = counted
         ∙ ap (λ (x : OpenHeap). record x { live = set x.live c (get_or x.live c 0 - 1); asked = x.asked - size; taken = x.taken - 8 * get_or x.classes.sizes c 0 })
-            (erased ∙ ap (λ (x : OpenHeap). record x { proxies = without_place x.proxies q; region = cleared x.region a w }) et
-            ∙ ap (λ w. record h { maps = t.maps; lists = t.lists; pool = t.pool; proxies = without_place h.proxies q; region = cleared h.region a w }) size_w)
+        (erased ∙ ap (λ (x : OpenHeap). record x { proxies = without_place x.proxies q; region = cleared x.region a w }) et
+        ∙ ap (λ w. record h { maps = t.maps; lists = t.lists; pool = t.pool; proxies = without_place h.proxies q; region = cleared h.region a w }) size_w)
 
     pub live_there : IsSome (get g.proxies.places i)
     live_there = ap (λ (x : OpenHeap). is_some (get x.proxies.places i)) counted_is ∙ ap (λ j. is_some (get (remove h.proxies.places q) j)) is ∙ ap is_some live_still
@@ -176,11 +184,35 @@ module _ (h : OpenHeap) (k : IsKept h) (q a size c : ℕ) (o : IsObjectAt h q a 
     apart_there = subst (λ w. (b + w ≤ a) ⊎ (a + w ≤ b)) (sym size_w) slots_apart
 
     pub whole_is : (n : OpenHeap) → n ≡ record g { proxies = with_place g.proxies i a; region = moved g.region b a w }
-        → n ≡ record h { maps = t.maps; lists = t.lists; pool = t.pool; proxies = with_place (without_place h.proxies q) r a; region = left_words;
-          live = set h.live c (get_or h.live c 0 - 1); asked = h.asked - size; taken = h.taken - 8 * words }
+        → n ≡ record h {
+          maps = t.maps;
+          lists = t.lists;
+          pool = t.pool;
+          proxies = with_place (without_place h.proxies q) r a;
+          region = left_words;
+          live = set h.live c (get_or h.live c 0 - 1);
+          asked = h.asked - size;
+          taken = h.taken - 8 * words;
+        }
     whole_is n en = en
         ∙ ap (λ (x : OpenHeap). record x { proxies = with_place x.proxies i a; region = moved x.region b a w }) counted_is
-        ∙ ap (λ j. record h { maps = t.maps; lists = t.lists; pool = t.pool; proxies = with_place (without_place h.proxies q) j a; region = moved (cleared h.region a words) b a w;
-          live = set h.live c (get_or h.live c 0 - 1); asked = h.asked - size; taken = h.taken - 8 * words }) is
-        ∙ ap (λ w. record h { maps = t.maps; lists = t.lists; pool = t.pool; proxies = with_place (without_place h.proxies q) r a; region = moved (cleared h.region a words) b a w;
-          live = set h.live c (get_or h.live c 0 - 1); asked = h.asked - size; taken = h.taken - 8 * words }) size_w
+        ∙ ap (λ j. record h {
+          maps = t.maps;
+          lists = t.lists;
+          pool = t.pool;
+          proxies = with_place (without_place h.proxies q) j a;
+          region = moved (cleared h.region a words) b a w;
+          live = set h.live c (get_or h.live c 0 - 1);
+          asked = h.asked - size;
+          taken = h.taken - 8 * words;
+        }) is
+        ∙ ap (λ w. record h {
+          maps = t.maps;
+          lists = t.lists;
+          pool = t.pool;
+          proxies = with_place (without_place h.proxies q) r a;
+          region = moved (cleared h.region a words) b a w;
+          live = set h.live c (get_or h.live c 0 - 1);
+          asked = h.asked - size;
+          taken = h.taken - 8 * words;
+        }) size_w

@@ -11,7 +11,9 @@ ghost use Rattle.cf_model.specs.Steps.{BlocksStayIn, IsEmptyHeap, IsClosed, IsFr
 ghost use Rattle.moving_heap.specs.Kept.{IsKept, state_of};
 
 use crate::inner::OpenHeap;
-use cf_base::{AccessFault, Figures, Freed, Handle, Kind, NotLive, OutOfMemory, Refusal, Settings, Totals};
+use cf_base::{
+    AccessFault, Figures, Freed, Handle, Kind, NotLive, OutOfMemory, Refusal, Settings, Totals,
+};
 use std::alloc::Global;
 use std::marker::Model;
 use step_ledger::Steps;

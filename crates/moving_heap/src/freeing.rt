@@ -51,7 +51,15 @@ impl OpenHeap {
             unreachable!();
         };
         let bound = self.bounds[c as usize];
-        if must_move(&self.classes, &self.maps, &self.lists, c, place, bound, steps) {
+        if must_move(
+            &self.classes,
+            &self.maps,
+            &self.lists,
+            c,
+            place,
+            bound,
+            steps,
+        ) {
             Ok(self.free_and_fill(h, place, length, c, steps))
         } else {
             Ok(self.free_alone(h, place, length, c, steps))
@@ -59,14 +67,7 @@ impl OpenHeap {
     }
 
     /// Takes an object away, and moves no other.
-    fn free_alone(
-        &mut self,
-        h: Handle,
-        place: u32,
-        length: u32,
-        c: u32,
-        steps: &mut Steps,
-    ) -> Freed
+    fn free_alone(&mut self, h: Handle, place: u32, length: u32, c: u32, steps: &mut Steps) -> Freed
         requires kept { IsKept self.old }
         requires object { IsObjectAt self.old h.0 place length c }
         requires stays { IsMoving self.old place c → ⊥ }
@@ -117,8 +118,9 @@ impl OpenHeap {
         requires live { IsSome (map.get self.old.proxies.places h.0) }
         requires within { place + slot_words ≤ length self.old.region }
         ensures whole { self.new ≡ record self.old {
-            proxies = without_place self.old.proxies h.0;
-            region = cleared self.old.region place slot_words } }
+          proxies = without_place self.old.proxies h.0;
+          region = cleared self.old.region place slot_words;
+        } }
         ensures handles { AreBelowLimit self.new.proxies }
         ensures bound { RoseAtMost steps.old steps.new (2 + slot_words) }
     {
@@ -133,8 +135,9 @@ impl OpenHeap {
         requires target { to + slot_words ≤ length self.old.region }
         requires apart { (from + slot_words ≤ to) ⊎ (to + slot_words ≤ from) }
         ensures whole { self.new ≡ record self.old {
-            proxies = with_place self.old.proxies h.0 to;
-            region = moved self.old.region from to slot_words } }
+          proxies = with_place self.old.proxies h.0 to;
+          region = moved self.old.region from to slot_words;
+        } }
         ensures handles { AreBelowLimit self.new.proxies }
         ensures bound { RoseAtMost steps.old steps.new (1 + slot_words) }
     {
@@ -150,9 +153,10 @@ impl OpenHeap {
         requires asked { bytes ≤ self.old.asked }
         requires taken { 8 * slice_index self.old.classes.sizes c ≤ self.old.taken }
         ensures { self.new ≡ record self.old {
-            live = slice_set self.old.live c (slice_index self.old.live c - 1);
-            asked = self.old.asked - bytes;
-            taken = self.old.taken - 8 * slice_index self.old.classes.sizes c } }
+          live = slice_set self.old.live c (slice_index self.old.live c - 1);
+          asked = self.old.asked - bytes;
+          taken = self.old.taken - 8 * slice_index self.old.classes.sizes c;
+        } }
     {
         self.live[c as usize] -= 1;
         self.asked -= u64::from(bytes);

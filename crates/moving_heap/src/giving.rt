@@ -78,8 +78,9 @@ impl OpenHeap {
         ensures unused { map.get self.old.proxies.places result.0 ≡ None }
         ensures below { result.0 < self.old.proxies.limit }
         ensures whole { self.new ≡ record self.old {
-            proxies = with_place self.old.proxies result.0 place;
-            region = slice_set self.old.region place (header_word result.0 bytes) } }
+          proxies = with_place self.old.proxies result.0 place;
+          region = slice_set self.old.region place (header_word result.0 bytes);
+        } }
         ensures handles { AreBelowLimit self.new.proxies }
         ensures bound { RoseAtMost steps.old steps.new 3 }
     {
@@ -102,9 +103,10 @@ impl OpenHeap {
         requires asked { self.old.asked ≤ 131072 * 65536 }
         requires taken { self.old.taken ≤ 131072 * 65536 }
         ensures { self.new ≡ record self.old {
-            live = slice_set self.old.live c (slice_index self.old.live c + 1);
-            asked = self.old.asked + bytes;
-            taken = self.old.taken + 8 * slice_index self.old.classes.sizes c } }
+          live = slice_set self.old.live c (slice_index self.old.live c + 1);
+          asked = self.old.asked + bytes;
+          taken = self.old.taken + 8 * slice_index self.old.classes.sizes c;
+        } }
     {
         self.live[c as usize] += 1;
         self.asked += u64::from(bytes);

@@ -57,9 +57,7 @@ impl OpenHeap {
         let lists = ClassLists::new(alloc, classes.len(), s.pages)?;
         let pool = PagePool::new(alloc, s.pages)?;
         let proxies = ProxyTable::new(alloc, s.proxies)?;
-        Ok(OpenHeap::empty(
-            s, classes, region, maps, lists, pool, proxies,
-        ))
+        Ok(OpenHeap::empty(s, classes, region, maps, lists, pool, proxies))
     }
 
     /// A heap without objects, of these parts.
@@ -102,8 +100,7 @@ impl OpenHeap {
     pub(crate) fn keeps_rules(&self)
         requires { IsKept self.now }
         ensures { KeepsRules (state_of self.now) }
-    {
-    }
+    {}
 }
 
 /// So many maps, for pages that are free.

@@ -12,7 +12,8 @@ returns-then-live-self-clause-step c = (wants_proxy c.args.self.now c.requires c
 pub returns-in_default-take-clause-step : goal.returns-in_default-take-clause-step
 returns-in_default-take-clause-step c = (
   wants_space c.args.self.now c.requires c.args.bytes c.in-Some.c c.in-Some.ensures.found _ (λ e. c.if-live-self.false (c.live.ensures.count ∙ e)) c.in_default-take.ensures.taken,
-  same_state c.args.self.now c.take.new.self c.take.ensures.rest)
+  same_state c.args.self.now c.take.new.self c.take.ensures.rest,
+)
 
 pub bind-handle-requires-clause-within : goal.bind-handle-requires-clause-within
 bind-handle-requires-clause-within c =
