@@ -4,3 +4,4 @@ pub mod View
 pub mod Kept
 pub mod Access
 pub mod Freeing
+pub mod Cutting

@@ -10,6 +10,7 @@ mod header;
 mod heap;
 mod inner;
 mod reports;
+mod resizing;
 
 pub use compact::Heap;
 pub use heap::MovingHeap;
