@@ -7,7 +7,7 @@ use Rattle.std.specs.FinMap.{get, insert}
 use Rattle.cf_base.specs.Classes.{need}
 use Rattle.cf_base.specs.declared.answers.Resized.{Resized}
 use Rattle.cf_lemmas.proofs.MapValues.{map_values-insert}
-use Rattle.arrangement.specs.Held.{Placed}
+use Rattle.arrangement.specs.Held.{Placed, objects}
 use Rattle.arrangement.specs.Bytes.{AreBytes, byte_of, bytes_at}
 use Rattle.arrangement.specs.Image.{IsOutside, IsSlotImage, Rewrites, header_word, object_word, slot_for}
 use Rattle.arrangement.specs.Paging.{class_for, classes, slot_words}
@@ -20,7 +20,7 @@ use Rattle.arrangement.proofs.Sizes.{class_holds}
 use Rattle.region.specs.Words.{cleared}
 use Rattle.region.proofs.CallerLemmas.{cleared_others, cleared_within, length-cleared}
 use Rattle.word_bytes.proofs.Overwriting.{overwritten_before, overwritten_inside}
-use Rattle.cf_model.specs.Steps.{ResizesObject}
+use Rattle.cf_model.specs.Steps.{ResizesObject, number_of}
 use Rattle.moving_heap.specs.declared.inner.OpenHeap.{OpenHeap}
 use Rattle.moving_heap.specs.Kept.{IsKept, held_in, paging_at, state_of}
 use Rattle.moving_heap.specs.Access.{Overwrites}
@@ -28,8 +28,8 @@ use Rattle.moving_heap.specs.Cutting.{Cuts}
 use Rattle.moving_heap.specs.Freeing.{IsObjectAt}
 use Rattle.moving_heap.proofs.Facts.{paging_ok}
 use Rattle.moving_heap.proofs.Becoming.{Becomes, becomes_kept, becomes_state, held_is, stored}
-use Rattle.moving_heap.proofs.Going.{it_class, it_found, it_inside, it_slot}
-use Rattle.moving_heap.proofs.Reading.{bytes_few, slot_small}
+use Rattle.moving_heap.proofs.Going.{asked_some, it_class, it_found, it_inside, it_slot}
+use Rattle.moving_heap.proofs.Reading.{bytes_few, holds, slot_small}
 use Rattle.moving_heap.proofs.Writing.{changes}
 
 -- the first word is cut, and those behind it are cleared
@@ -205,3 +205,90 @@ module _ (h t n : OpenHeap) (k : IsKept h) (q a m c : ℕ) (o : IsObjectAt h q a
 
       by_bytes : ((j : ℕ) → j < 8 → byte_of j (get_or t.region (a + suc i) 0) ≡ get_or new (8 * i + j) 0) × (get_or t.region (a + suc i) 0 < 2 ^ 64) → get_or t.region (a + suc i) 0 ≡ object_word q new (suc i)
       by_bytes (each, small) = word_by_bytes (get_or t.region (a + suc i) 0) (object_word q new (suc i)) small (object_word_small q new (suc i) few new_small are) (λ j l. each j l ∙ sym (word_byte new i j l are))
+
+  long_t : length t.region ≡ length h.region
+  long_t = elim (cases_lt size m) [
+    | inl less ↦ (cut less).long
+    | inr le ↦ ap (λ (x : OpenHeap). length x.region) (kept le)
+  ]
+
+  others_t : (w : ℕ) → IsOutside a (slot_for (paging_at h) (length old)) w → get_or t.region w 0 ≡ get_or h.region w 0
+  others_t w out =
+      let r = old_holds in
+      elim (cases_lt size m) [
+        | inl less ↦ (cut less).others w (elim out [ inl l ↦ inl (omega arith) | inr l ↦ inr (omega arith) ])
+        | inr le ↦ ap (λ (x : OpenHeap). get_or x.region w 0) (kept le)
+      ]
+
+  region_is : n.region ≡ set t.region a (header_word q size)
+  region_is = ap (λ (x : OpenHeap). x.region) en
+
+  place_in_t : a < length t.region
+  place_in_t = (let l = long_t in let i = in_slot in let r = old_holds in omega arith)
+
+  rewrites : Rewrites h.region n.region (record { from = a; count = slot_for (paging_at h) (length old) }) (object_word q new)
+  rewrites = record {
+    within = λ i lt. in_word i lt;
+    others = λ w out.
+        let r = old_holds in
+        let ne : w ≢ a = elim out [ inl l ↦ omega arith | inr l ↦ omega arith ] in
+        ap (λ ws. get_or ws w 0) region_is ∙ get_or-set_other t.region a w (header_word q size) 0 ne ∙ others_t w out;
+  }
+    where
+      in_word : (i : ℕ) → i < slot_for (paging_at h) (length old) → get_or n.region (a + i) 0 ≡ object_word q new i
+      in_word zero lt =
+          let at : a + 0 ≡ a = omega arith in
+          ap (λ w. get_or n.region w 0) at ∙ ap (λ ws. get_or ws a 0) region_is ∙ get_or-set_same t.region a (header_word q size) 0 place_in_t ∙ ap (header_word q) (sym new_long)
+      in_word (suc i) lt = ap (λ ws. get_or ws (a + suc i) 0) region_is ∙ get_or-set_other t.region a (a + suc i) (header_word q size) 0 (omega arith) ∙ any_word i lt
+
+  class_new : class_for (paging_at h) (length new) ≡ class_for (paging_at h) (length old)
+  class_new = ap (class_for (paging_at h)) new_long ∙ same ∙ sym (it_class h k q a m c o)
+
+  image : IsSlotImage (paging_at h) (insert (held_in h) q (record { place = a; bytes = new })) n.region
+  image = image_after_write (paging_at h) (paging_ok h k) (held_in h) k.sound h.region k.image q (record { place = a; bytes = old }) (it_found h k q a m c o) n.region new class_new rewrites
+
+  asked_t : t.asked ≡ h.asked
+  asked_t = ap (λ (x : OpenHeap). x.asked) et
+
+  becomes : Becomes h n (insert (held_in h) q (record { place = a; bytes = new }))
+  becomes = changes h n k q a (it_found h k q a m c o) new class_new are
+      (en ∙ ap (λ (x : OpenHeap). record x { region = set t.region a (header_word q size); asked = t.asked - m + size }) et
+      ∙ ap (λ ws. record h { region = ws; asked = t.asked - m + size }) (sym region_is) ∙ ap (λ x. record h { region = n.region; asked = x }) (sym (ap (λ (x : OpenHeap). x.asked) en)))
+      (ap length region_is ∙ length-set t.region a (header_word q size) ∙ long_t)
+      image
+      (let e = ap (λ (x : OpenHeap). x.asked) en in let f = asked_t in let s = asked_some h k q a m c o in let l = o.long in let l' = new_long in omega arith)
+
+  pub fits_kept : IsKept n
+  fits_kept = becomes_kept h n k (insert (held_in h) q (record { place = a; bytes = new })) becomes
+
+  pub fits_resized : (done : Resized) → done.old_slot_words ≡ get_or h.classes.sizes c 0 → done.slot_words ≡ get_or h.classes.sizes c 0 → done.moved ≡ None → need size ≤ h.settings.page_words
+      → ResizesObject (state_of h) (record { number = q; length = size }) done (state_of n)
+  fits_resized done was_words words none fits = record {
+    pages = tt;
+    fits = fits;
+    object = record { place = a; bytes = old };
+    found = it_found h k q a m c o;
+    old_slot = was_words ∙ it_slot h k q a m c o;
+    slot = words ∙ it_slot h k q a m c o ∙ sym same_slot;
+    step = inl (record {
+      object = record { place = a; bytes = old };
+      found = it_found h k q a m c o;
+      same = same ∙ sym (it_class h k q a m c o);
+      placed = held_is h n k (insert (held_in h) q (record { place = a; bytes = new })) becomes;
+      still = ap number_of none;
+    });
+    left = ap objects (held_is h n k (insert (held_in h) q (record { place = a; bytes = new })) becomes) ∙ map_values-insert (λ (x : Placed). x.bytes) (held_in h) q (record { place = a; bytes = new });
+    whole = becomes_state h n k (insert (held_in h) q (record { place = a; bytes = new })) becomes
+        ∙ ap (λ m. record (state_of h) { held = m; words = n.region; cost = n.cost }) (sym (held_is h n k (insert (held_in h) q (record { place = a; bytes = new })) becomes));
+  }
+
+-- its slot has the words of its bytes
+module _ (h : OpenHeap) (k : IsKept h) (q a m c : ℕ) (o : IsObjectAt h q a m c) where
+  pub holds_bytes : 1 + (m + 7) / 8 ≤ get_or h.classes.sizes c 0
+  holds_bytes = (let r = holds h k q a o.known in let e = it_slot h k q a m c o in let l = o.long in omega arith)
+
+  pub bytes_in : a + 1 + (m + 7) / 8 ≤ length h.region
+  bytes_in = (let i = it_inside h k q a m c o in let r = holds_bytes in omega arith)
+
+  pub bytes_low : a + 1 + (m + 7) / 8 ≤ 2 ^ 23
+  bytes_low = (let i = bytes_in in let l = k.words_long in let s = h.settings.small_region in omega arith)
