@@ -1,6 +1,6 @@
 -- A free that moves no other object.
-use Rattle.std.proofs.Common.{◌≡◌, ◌≢◌, ℕ, ◌+◌, ◌-◌, ◌*◌, ◌<◌, ◌≤◌, length, get_or, set, Some, None, arith, refl, sym, ◌∙◌, ap, subst}
-use Rattle.std.specs.FinMap.{get, remove}
+use Rattle.std.proofs.Common.{◌≡◌, ℕ, ◌-◌, ◌*◌, length, get_or, set, None, sym, ◌∙◌, ap, subst}
+use Rattle.std.specs.FinMap.{remove}
 use Rattle.arrangement.specs.Bytes.{bytes_at}
 use Rattle.arrangement.specs.Image.{Clears, slot_for}
 use Rattle.arrangement.proofs.Parts.{still_places}
@@ -18,7 +18,7 @@ use Rattle.moving_heap.specs.Kept.{IsKept, held_in, paging_at, tables_in}
 use Rattle.moving_heap.specs.Freeing.{IsMoving, IsObjectAt}
 use Rattle.moving_heap.proofs.Facts.{paging_ok, table_is}
 use Rattle.moving_heap.proofs.Becoming.{Becomes, places_are, rest_from}
-use Rattle.moving_heap.proofs.Going.{Counts, goes, it, it_class, it_found, it_inside, it_slot, moving, page_same, rest_held, slot_same}
+use Rattle.moving_heap.proofs.Going.{goes, it, it_class, it_found, it_inside, it_slot, moving, page_same, rest_held, slot_same}
 
 module _ (h : OpenHeap) (k : IsKept h) (q a size c : ℕ) (o : IsObjectAt h q a size c) (still : IsMoving h a c → ⊥) (e g n : OpenHeap)
     (erased : e ≡ record h { proxies = without_place h.proxies q; region = cleared h.region a (get_or h.classes.sizes c 0) }) (handles : AreBelowLimit e.proxies)

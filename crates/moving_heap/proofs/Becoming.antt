@@ -1,11 +1,10 @@
 -- An open heap whose objects, words, tables, proxies and counts changed together keeps what it keeps.
-use Rattle.std.proofs.Common.{◌≡◌, ℕ, ◌+◌, ◌*◌, ◌^◌, ◌<◌, ◌≤◌, length, get_or, Some, None, arith, refl, sym, ◌∙◌, ap, subst}
-use Rattle.std.specs.FinMap.{get, len}
+use Rattle.std.proofs.Common.{◌≡◌, ℕ, ◌<◌, length, get_or, Some, None, arith, sym, ◌∙◌, ap, subst}
+use Rattle.std.specs.FinMap.{get}
 use Rattle.std.specs.Prelude.{option_map}
-use Rattle.cf_base.specs.Classes.{need}
-use Rattle.arrangement.specs.Held.{Held, Placed, objects, places}
-use Rattle.arrangement.specs.Bytes.{AreStorable, bytes_at, held_at}
-use Rattle.arrangement.specs.Paging.{Paging, IsPaging, classes}
+use Rattle.arrangement.specs.Held.{Held, objects, places}
+use Rattle.arrangement.specs.Bytes.{AreStorable, bytes_at}
+use Rattle.arrangement.specs.Paging.{classes}
 use Rattle.arrangement.specs.Arrangement.{IsSound, live}
 use Rattle.arrangement.specs.Image.{IsSlotImage}
 use Rattle.arrangement.specs.Figures.{asked_bytes, taken_bytes}

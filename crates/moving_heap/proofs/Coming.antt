@@ -1,5 +1,5 @@
 -- An object comes to a free slot: a malloc.
-use Rattle.std.proofs.Common.{◌≡◌, ◌≢◌, ℕ, ◌+◌, ◌*◌, ◌^◌, ◌<◌, ◌≤◌, length, get_or, set, replicate, Some, None, arith, refl, sym, ◌∙◌, ap, subst, inl, inr}
+use Rattle.std.proofs.Common.{◌≡◌, ℕ, ◌+◌, ◌*◌, ◌^◌, ◌<◌, ◌≤◌, length, get_or, set, replicate, None, arith, refl, sym, ◌∙◌, ap, subst, inl, inr}
 use Rattle.std.specs.Prelude.{nat_eq, option_map}
 use Rattle.std.proofs.lemmas.Bool.{cases_eq}
 use Rattle.std.proofs.lemmas.List.{length-set, length-replicate, get_or-set_same, get_or-set_other}
@@ -7,12 +7,12 @@ use Rattle.std.specs.FinMap.{get, insert, len}
 use Rattle.cf_base.specs.Classes.{need}
 use Rattle.cf_lemmas.proofs.MapValues.{get-map_values}
 use Rattle.cf_lemmas.proofs.Ranges.{one}
-use Rattle.arrangement.specs.Held.{Held, Placed, objects, places}
-use Rattle.arrangement.specs.Paging.{Paging, class_for, classes, slot_words}
+use Rattle.arrangement.specs.Held.{Held, Placed, objects}
+use Rattle.arrangement.specs.Paging.{class_for, classes, slot_words}
 use Rattle.arrangement.specs.Arrangement.{class_at, live}
 use Rattle.arrangement.specs.Image.{header_word, IsSlotImage}
 use Rattle.arrangement.specs.Figures.{asked_bytes, taken_bytes}
-use Rattle.arrangement.specs.Steps.{IsFreePlace, Request, zeros_at}
+use Rattle.arrangement.specs.Steps.{IsFreePlace, zeros_at}
 use Rattle.arrangement.proofs.Adding.{live_added, asked_added, taken_added}
 use Rattle.arrangement.proofs.Counting.{eq_no, eq_yes}
 use Rattle.arrangement.proofs.Parts.{malloc_objects, malloc_places}

@@ -1,9 +1,9 @@
 -- An object that gets another length in its slot.
-use Rattle.std.proofs.Common.{◌≡◌, ◌≢◌, ℕ, zero, suc, ◌+◌, ◌-◌, ◌*◌, ◌/◌, ◌%◌, ◌^◌, ◌<◌, ◌≤◌, List, length, get_or, set, take, drop, replicate, Some, None, arith, refl, sym, ◌∙◌, ap, subst, inl, inr}
+use Rattle.std.proofs.Common.{◌≡◌, ◌≢◌, ℕ, zero, suc, ◌+◌, ◌-◌, ◌*◌, ◌/◌, ◌%◌, ◌^◌, ◌<◌, ◌≤◌, List, length, get_or, set, take, drop, replicate, None, arith, refl, sym, ◌∙◌, ap, subst, inl, inr}
 use Rattle.std.proofs.lemmas.Bool.{cases_eq, cases_lt}
-use Rattle.std.proofs.lemmas.List.{get_or-drop, get_or-take, length-take, get_or-replicate, get_or_past, get_or-set_same, get_or-set_other, length-replicate, length-set}
+use Rattle.std.proofs.lemmas.List.{get_or-drop, get_or-take, length-take, get_or-replicate, get_or_past, get_or-set_same, get_or-set_other, length-set}
 use Rattle.std.proofs.Common.{length-drop}
-use Rattle.std.specs.FinMap.{get, insert}
+use Rattle.std.specs.FinMap.{insert}
 use Rattle.cf_base.specs.Classes.{need}
 use Rattle.cf_base.specs.declared.answers.Resized.{Resized}
 use Rattle.cf_lemmas.proofs.MapValues.{map_values-insert}
@@ -171,11 +171,13 @@ module _ (h t n : OpenHeap) (k : IsKept h) (q a m c : ℕ) (o : IsObjectAt h q a
           | inl is ↦ (
               let at : a + suc i ≡ a + 1 + size / 8 = omega arith in
               let e = ap (λ w. get_or t.region w 0) at in
-              let f = ap (λ w. get_or h.region w 0) at in
-              ((λ j l. ap (byte_of j) e ∙ elim (cases_lt j (size % 8)) [
-                | inl first ↦ k'.low j first ∙ sym (ap (byte_of j) f) ∙ was_byte i j lt l ∙ before (8 * i + j) (omega arith)
-                | inr rest ↦ k'.high j rest l ∙ sym (past_new (8 * i + j) (omega arith))
-              ]), (let s = k'.small in omega arith)))
+              let f = ap (λ w. get_or h.region w 0) at in (
+                (λ j l. ap (byte_of j) e ∙ elim (cases_lt j (size % 8)) [
+                  | inl first ↦ k'.low j first ∙ sym (ap (byte_of j) f) ∙ was_byte i j lt l ∙ before (8 * i + j) (omega arith)
+                  | inr rest ↦ k'.high j rest l ∙ sym (past_new (8 * i + j) (omega arith))
+                ]),
+                (let s = k'.small in omega arith),
+              ))
           | inr ne ↦ elim (cases_lt i ((m + 7) / 8)) [
             | inl inside ↦ (
                 let at : a + 1 + i ≡ a + suc i = omega arith in
@@ -193,11 +195,13 @@ module _ (h t n : OpenHeap) (k : IsKept h) (q a m c : ℕ) (o : IsObjectAt h q a
   any_word i lt = by_bytes (elim (cases_lt size m) [
     | inl less ↦ cut_word less i lt
     | inr le ↦ (
-        let e : get_or t.region (a + suc i) 0 ≡ get_or h.region (a + suc i) 0 = ap (λ (x : OpenHeap). get_or x.region (a + suc i) 0) (kept le) in
-        ((λ j l. ap (byte_of j) e ∙ was_byte i j lt l ∙ elim (cases_lt (8 * i + j) size) [
-          | inl inside ↦ before (8 * i + j) inside
-          | inr past ↦ past_old (8 * i + j) (omega arith) ∙ sym (past_new (8 * i + j) past)
-        ]), (let s = was_small i lt in omega arith)))
+        let e : get_or t.region (a + suc i) 0 ≡ get_or h.region (a + suc i) 0 = ap (λ (x : OpenHeap). get_or x.region (a + suc i) 0) (kept le) in (
+          (λ j l. ap (byte_of j) e ∙ was_byte i j lt l ∙ elim (cases_lt (8 * i + j) size) [
+            | inl inside ↦ before (8 * i + j) inside
+            | inr past ↦ past_old (8 * i + j) (omega arith) ∙ sym (past_new (8 * i + j) past)
+          ]),
+          (let s = was_small i lt in omega arith),
+        ))
   ])
     where
       new_small : length new < 2 ^ 32

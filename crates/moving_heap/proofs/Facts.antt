@@ -1,5 +1,5 @@
 -- What an open heap's invariant tells: its paging, its tables, and the rules that it keeps.
-use Rattle.std.proofs.Common.{◌≡◌, ℕ, ◌+◌, ◌*◌, ◌<◌, ◌≤◌, length, take, get_or, Option, Some, None, arith, refl, sym, ◌∙◌, ap, subst}
+use Rattle.std.proofs.Common.{◌≡◌, ℕ, ◌<◌, ◌≤◌, length, take, get_or, Option, Some, None, arith, refl, sym, ◌∙◌, ap, subst}
 use Rattle.std.specs.Prelude.{IsTrue, is_some}
 use Rattle.std.proofs.lemmas.Bool.{false≢true}
 use Rattle.std.proofs.lemmas.List.{get_or-take, length-take-le}
@@ -9,15 +9,15 @@ use Rattle.cf_base.specs.Settings.{profile_of}
 use Rattle.cf_base.specs.declared.kind.Layout.TheVariants.{Words}
 use Rattle.arrangement.specs.Held.{Placed}
 use Rattle.arrangement.specs.Bytes.{bytes_at}
-use Rattle.arrangement.specs.Paging.{Paging, IsPaging, classes}
+use Rattle.arrangement.specs.Paging.{IsPaging, classes}
 use Rattle.arrangement.proofs.Reading.{held_at_is, held_at_bytes}
 use Rattle.arrangement.proofs.SlotImages.{own_words}
 use Rattle.arrangement.proofs.Sizes.{paged}
-use Rattle.size_classes.specs.Table.{ClassTable, IsTable, table_of}
+use Rattle.size_classes.specs.Table.{ClassTable, IsTable}
 use Rattle.page_slots.specs.Tables.{AreTables}
 use Rattle.page_slots.specs.Occupying.{class_table}
 use Rattle.cf_model.specs.State.{HeapState}
-use Rattle.cf_model.specs.Rules.{AreInRange, AreObjects, KeepsPages, KeepsRules}
+use Rattle.cf_model.specs.Rules.{KeepsRules}
 use Rattle.moving_heap.specs.declared.inner.OpenHeap.{OpenHeap}
 use Rattle.moving_heap.specs.Kept.{IsKept, IsKeptIn, held_in, paging_at, state_in, state_of, tables_in}
 use Rattle.moving_heap.proofs.Values.{len-map_values}

@@ -1,11 +1,10 @@
 -- A free that moves another object to the freed slot.
-use Rattle.std.proofs.Common.{◌≡◌, ◌≢◌, ℕ, ◌+◌, ◌-◌, ◌*◌, ◌%◌, ◌^◌, ◌<◌, ◌≤◌, List, length, get_or, set, Some, None, arith, refl, sym, ◌∙◌, ap, subst, inl, inr}
+use Rattle.std.proofs.Common.{◌≡◌, ◌≢◌, ℕ, ◌+◌, ◌-◌, ◌*◌, ◌%◌, ◌^◌, ◌<◌, ◌≤◌, List, length, get_or, set, Some, arith, sym, ◌∙◌, ap, subst, inl, inr}
 use Rattle.std.specs.Prelude.{◌⊎◌, IsSome, is_some}
 use Rattle.std.specs.FinMap.{get, insert, remove}
 use Rattle.cf_lemmas.proofs.Maps.{get_remove_other}
-use Rattle.arrangement.specs.Held.{Held, Placed}
-use Rattle.arrangement.specs.Bytes.{bytes_at}
-use Rattle.arrangement.specs.Image.{IsDisjoint, IsSlotImage, MovesWords, slot_for}
+use Rattle.arrangement.specs.Held.{Placed}
+use Rattle.arrangement.specs.Image.{IsSlotImage, MovesWords, slot_for}
 use Rattle.arrangement.specs.Paging.{slot_words}
 use Rattle.arrangement.specs.Arrangement.{class_at}
 use Rattle.arrangement.specs.Steps.{MayFill, MustMove, Moves, moved_to}
@@ -14,8 +13,8 @@ use Rattle.arrangement.proofs.Parts.{moved_places}
 use Rattle.arrangement.proofs.SlotImages.{image_after_move, object_inside, own_words, sound_apart_from}
 use Rattle.arrangement.proofs.Writing.{header_told}
 use Rattle.region.specs.Words.{cleared, moved}
-use Rattle.region.proofs.CallerLemmas.{cleared_others, cleared_within, length-cleared, length-moved, moved_left, moved_others, moved_arrived}
-use Rattle.proxy_table.specs.Proxies.{Proxies, AreBelowLimit, with_place, without_place}
+use Rattle.region.proofs.CallerLemmas.{cleared_others, length-cleared, length-moved, moved_left, moved_others, moved_arrived}
+use Rattle.proxy_table.specs.Proxies.{AreBelowLimit, with_place, without_place}
 use Rattle.page_slots.specs.Freeing.{FillsFrom}
 use Rattle.page_slots.specs.Tables.{AreTables, Tables}
 use Rattle.page_slots.specs.Occupying.{Occupies, Tell, class_table}
@@ -25,7 +24,7 @@ use Rattle.moving_heap.specs.Kept.{IsKept, held_in, paging_at, tables_in}
 use Rattle.moving_heap.specs.Freeing.{IsMoving, IsObjectAt}
 use Rattle.moving_heap.proofs.Facts.{number_small, paging_ok, place_known, table_is}
 use Rattle.moving_heap.proofs.Becoming.{Becomes, places_are, rest_from}
-use Rattle.moving_heap.proofs.Going.{Counts, goes, it, it_class, it_found, it_inside, it_slot, must, rest_held}
+use Rattle.moving_heap.proofs.Going.{goes, it, it_class, it_found, it_inside, it_slot, must, rest_held}
 
 module _ (h : OpenHeap) (k : IsKept h) (q a size c : ℕ) (o : IsObjectAt h q a size c) (moves : IsMoving h a c) (b : ℕ) (new : Tables) (filled : FillsFrom h.classes (tables_in h) c b new) (tables : AreTables h.classes new) where
   abbrev pub words : ℕ

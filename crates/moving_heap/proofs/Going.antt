@@ -1,15 +1,15 @@
 -- An object goes: what is known of it, and what a free leaves.
-use Rattle.std.proofs.Common.{◌≡◌, ◌≢◌, ℕ, ◌+◌, ◌-◌, ◌*◌, ◌/◌, ◌^◌, ◌<◌, ◌≤◌, List, length, get_or, set, Option, Some, None, arith, refl, sym, ◌∙◌, ap, subst, inl, inr}
+use Rattle.std.proofs.Common.{◌≡◌, ℕ, ◌+◌, ◌-◌, ◌*◌, ◌<◌, ◌≤◌, length, get_or, set, Option, Some, arith, sym, ◌∙◌, ap, subst, inl, inr}
 use Rattle.std.specs.Prelude.{nat_eq, option_map}
 use Rattle.std.proofs.lemmas.Bool.{cases_eq}
 use Rattle.std.proofs.lemmas.List.{length-set, get_or-set_same, get_or-set_other}
-use Rattle.std.specs.FinMap.{get, insert, remove, len}
+use Rattle.std.specs.FinMap.{get, remove}
 use Rattle.cf_base.specs.declared.answers.Freed.{Freed}
 use Rattle.cf_lemmas.proofs.MapValues.{get-map_values}
 use Rattle.cf_lemmas.proofs.Ranges.{one}
 use Rattle.arrangement.specs.Held.{Held, Placed, objects, places}
 use Rattle.arrangement.specs.Bytes.{bytes_at}
-use Rattle.arrangement.specs.Paging.{Paging, bound_of, class_for, classes, page_of, slot_words}
+use Rattle.arrangement.specs.Paging.{bound_of, class_for, classes, page_of, slot_words}
 use Rattle.arrangement.specs.Arrangement.{class_at, live}
 use Rattle.arrangement.specs.Image.{IsSlotImage, slot_for}
 use Rattle.arrangement.specs.Figures.{asked_bytes, taken_bytes}

@@ -1,5 +1,5 @@
 -- The object at a live number's place, by its header.
-use Rattle.std.proofs.Common.{◌≡◌, ℕ, ◌/◌, ◌^◌, ◌<◌, ◌≤◌, length, get_or, Some, None, Result, Ok, Err, arith, refl, sym, ◌∙◌, ap, subst}
+use Rattle.std.proofs.Common.{◌≡◌, ℕ, ◌/◌, ◌^◌, ◌<◌, length, get_or, Some, None, Result, Ok, Err, sym, ◌∙◌, ap, subst}
 use Rattle.std.specs.FinMap.{get}
 use Rattle.cf_base.specs.Classes.{class_of}
 use Rattle.cf_base.specs.declared.answers.Freed.{Freed}

@@ -1,12 +1,12 @@
 -- How large the counts of an open heap may be, and the class of a request.
-use Rattle.std.proofs.Common.{◌≡◌, ℕ, ◌+◌, ◌*◌, ◌^◌, ◌<◌, ◌≤◌, length, get_or, Option, Some, None, arith, refl, sym, ◌∙◌, ap, subst, inl, inr}
+use Rattle.std.proofs.Common.{◌≡◌, ℕ, ◌*◌, ◌<◌, ◌≤◌, length, get_or, Option, Some, None, arith, refl, sym, ◌∙◌, ap, subst, inl, inr}
 use Rattle.std.specs.Prelude.{nat_eq, option_map}
 use Rattle.std.proofs.lemmas.Bool.{cases_lt}
 use Rattle.std.specs.FinMap.{get, len}
 use Rattle.cf_base.specs.Classes.{need, class_of}
 use Rattle.cf_lemmas.proofs.MapValues.{get-map_values}
 use Rattle.cf_lemmas.proofs.Ranges.{one}
-use Rattle.arrangement.specs.Held.{Held, Objects, Placed, objects}
+use Rattle.arrangement.specs.Held.{Held, Placed, objects}
 use Rattle.arrangement.specs.Paging.{Paging, IsPaging, class_for, classes, slot_words}
 use Rattle.arrangement.specs.Arrangement.{class_at, live, IsSound}
 use Rattle.arrangement.specs.Figures.{asked_bytes, taken_bytes}

@@ -1,21 +1,20 @@
 -- The parts of a malloc, put together.
-use Rattle.std.proofs.Common.{◌≡◌, ◌≢◌, ℕ, ◌+◌, ◌*◌, ◌<◌, ◌≤◌, List, Bool, length, get_or, set, Option, Some, None, Result, Ok, Err, arith, refl, sym, ◌∙◌, ap, subst}
+use Rattle.std.proofs.Common.{◌≡◌, ◌≢◌, ℕ, ◌+◌, ◌*◌, ◌<◌, length, get_or, set, Some, None, Result, Ok, Err, arith, sym, ◌∙◌, ap, subst}
 use Rattle.std.specs.FinMap.{get, len}
-use Rattle.cf_base.specs.Classes.{class_of, need}
+use Rattle.cf_base.specs.Classes.{class_of}
 use Rattle.cf_base.specs.declared.answers.Handle.{Handle}
 use Rattle.cf_base.specs.declared.answers.Refusal.{Refusal}
 use Rattle.arrangement.specs.Arrangement.{LacksRoom}
 use Rattle.arrangement.specs.Image.{header_word}
-use Rattle.arrangement.specs.Paging.{class_for, classes, slot_words}
+use Rattle.arrangement.specs.Paging.{class_for}
 use Rattle.arrangement.proofs.SlotImages.{slot_inside}
-use Rattle.size_classes.specs.Table.{ClassTable}
 use Rattle.proxy_table.specs.Proxies.{Proxies, AreBelowLimit, with_place}
 use Rattle.page_slots.specs.Tables.{AreTables, Tables}
 use Rattle.page_slots.specs.Taking.{TakesAt, TakesSlot}
 use Rattle.page_slots.specs.Occupying.{class_table}
 use Rattle.page_slots.proofs.CallerLemmas.{refused_lacks_room, taken_is_free}
 use Rattle.cf_model.specs.State.{HeapState}
-use Rattle.cf_model.specs.Steps.{ChangesCost, GivesObject, IsMallocStep, WantsProxy, WantsSpace}
+use Rattle.cf_model.specs.Steps.{ChangesCost, IsMallocStep, WantsProxy, WantsSpace}
 use Rattle.moving_heap.specs.declared.inner.OpenHeap.{OpenHeap}
 use Rattle.moving_heap.specs.Kept.{IsKept, held_in, paging_at, state_of, tables_in}
 use Rattle.moving_heap.proofs.Facts.{held_len, paging_ok, sizes_are, table_is}

@@ -1,18 +1,16 @@
 -- An open heap without objects.
-use Rattle.std.proofs.Common.{◌≡◌, ℕ, ◌+◌, ◌*◌, ◌^◌, ◌<◌, ◌≤◌, List, length, take, replicate, get_or, Some, None, arith, refl, sym, ◌∙◌, ap, subst}
-use Rattle.std.specs.Prelude.{sum_by, option_map}
+use Rattle.std.proofs.Common.{◌≡◌, ℕ, ◌*◌, ◌<◌, ◌≤◌, List, length, take, replicate, get_or, arith, refl, sym, ◌∙◌, ap, subst}
+use Rattle.std.specs.Prelude.{sum_by}
 use Rattle.std.specs.List.{range_with_len}
 use Rattle.std.proofs.lemmas.List.{get_or-replicate, length-replicate, take-replicate}
-use Rattle.std.specs.Ordering.{nat_cmp}
-use Rattle.std.specs.FinMap.{empty, values, len-empty, get-empty}
-use Rattle.cf_base.specs.Classes.{sizes, need}
-use Rattle.cf_base.specs.Settings.{profile_of}
+use Rattle.std.specs.FinMap.{empty}
+use Rattle.cf_base.specs.Classes.{sizes}
 use Rattle.cf_base.specs.declared.kind.Kind.TheVariants.{Moving}
 use Rattle.cf_base.specs.declared.kind.Layout.TheVariants.{Words}
 use Rattle.cf_base.proofs.Rising.{are_sizes, page_size}
-use Rattle.arrangement.specs.Held.{Held, Objects, Placed, objects}
+use Rattle.arrangement.specs.Held.{Placed, objects}
 use Rattle.arrangement.specs.Bytes.{bytes_at, held_at}
-use Rattle.arrangement.specs.Paging.{Paging, classes, class_for, slot_words}
+use Rattle.arrangement.specs.Paging.{Paging, class_for, slot_words}
 use Rattle.arrangement.specs.Arrangement.{IsSound, live}
 use Rattle.arrangement.specs.Image.{IsSlotImage, slot_for}
 use Rattle.arrangement.specs.Figures.{asked_bytes, taken_bytes}

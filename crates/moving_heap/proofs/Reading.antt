@@ -1,5 +1,5 @@
 -- What stands at a place, and the parts of objects that are read.
-use Rattle.std.proofs.Common.{◌≡◌, ℕ, ◌+◌, ◌-◌, ◌*◌, ◌/◌, ◌%◌, ◌^◌, ◌<◌, ◌≤◌, List, length, get_or, take, drop, Option, Some, None, arith, refl, sym, ◌∙◌, ap, subst}
+use Rattle.std.proofs.Common.{◌≡◌, ℕ, ◌+◌, ◌/◌, ◌%◌, ◌^◌, ◌<◌, ◌≤◌, List, length, get_or, take, drop, Some, arith, sym, ◌∙◌, ap}
 use Rattle.std.specs.Prelude.{option_map}
 use Rattle.std.proofs.lemmas.Grind.{same_number_lists}
 use Rattle.std.proofs.lemmas.List.{get_or-take, get_or-drop, length-take, length-drop}
@@ -15,7 +15,7 @@ use Rattle.arrangement.proofs.SlotImages.{object_inside}
 use Rattle.arrangement.proofs.Sizes.{class_holds}
 use Rattle.word_bytes.specs.Cells.{byte_in}
 use Rattle.cf_model.specs.Answers.{place_of}
-use Rattle.cf_model.specs.Steps.{Part, PassesEnd, ReadsBytes}
+use Rattle.cf_model.specs.Steps.{PassesEnd, ReadsBytes}
 use Rattle.moving_heap.specs.declared.inner.OpenHeap.{OpenHeap}
 use Rattle.moving_heap.specs.Kept.{IsKept, held_in, paging_at, state_of}
 use Rattle.moving_heap.specs.Access.{Lies}

@@ -1,5 +1,5 @@
 -- Another bound for a class, where no object is live.
-use Rattle.std.proofs.Common.{◌≡◌, ◌≢◌, ℕ, Bool, true, false, ◌+◌, ◌<◌, ◌≤◌, length, take, set, get_or, Option, Some, None, arith, refl, sym, ◌∙◌, ap, subst, inl, inr}
+use Rattle.std.proofs.Common.{◌≡◌, ◌≢◌, ℕ, ◌<◌, ◌≤◌, length, set, get_or, Some, None, arith, sym, ◌∙◌, ap, subst, inl, inr}
 use Rattle.std.specs.Prelude.{◌⊎◌, nat_eq, position}
 use Rattle.std.proofs.lemmas.Bool.{cases_eq}
 use Rattle.std.proofs.lemmas.List.{length-set, get_or-set_same, get_or-set_other}
@@ -7,19 +7,16 @@ use Rattle.std.proofs.Math.Seq.{take-set-lt}
 use Rattle.std.specs.Ordering.{nat_cmp}
 use Rattle.std.specs.FinMap.{get, empty, get-empty}
 use Rattle.arrangement.specs.Held.{Placed, objects}
-use Rattle.arrangement.specs.Paging.{Paging, classes}
 use Rattle.arrangement.specs.Arrangement.{IsSound, live, objects_on}
-use Rattle.arrangement.specs.Image.{IsSlotImage}
-use Rattle.arrangement.specs.Figures.{asked_bytes, taken_bytes}
+use Rattle.arrangement.specs.Figures.{taken_bytes}
 use Rattle.arrangement.proofs.Totals.{on_none}
 use Rattle.arrangement.proofs.Nothing.{sound_empty}
-use Rattle.page_slots.specs.Occupying.{Occupies}
 use Rattle.cf_base.specs.declared.kind.Kind.TheVariants.{Moving}
 use Rattle.cf_lemmas.proofs.Positions.{position_is, position_none}
 use Rattle.arrangement.proofs.Counting.{eq_no, eq_yes}
 use Rattle.cf_model.specs.Answers.{bound_put, class_with}
 use Rattle.moving_heap.specs.declared.inner.OpenHeap.{OpenHeap}
-use Rattle.moving_heap.specs.Kept.{IsKept, held_in, paging_at, state_of, tables_in}
+use Rattle.moving_heap.specs.Kept.{IsKept, held_in, paging_at, state_of}
 use Rattle.moving_heap.proofs.Facts.{as_many, few_classes, sizes_are}
 use Rattle.moving_heap.proofs.Opening.{no_objects, none_live, none_taken}
 

@@ -1,6 +1,6 @@
 -- Bytes that are written into an object.
-use Rattle.std.proofs.Common.{◌≡◌, ◌≢◌, ℕ, zero, suc, Bool, true, false, ◌+◌, ◌-◌, ◌*◌, ◌/◌, ◌%◌, ◌^◌, ◌<◌, ◌≤◌, List, [], ◌∷◌, length, get_or, take, drop, Some, None, arith, refl, sym, ◌∙◌, ap, subst, inl, inr}
-use Rattle.std.specs.Prelude.{◌⊎◌, ◌&&◌, nat_eq, nat_le, nat_lt, if◌then◌else◌}
+use Rattle.std.proofs.Common.{◌≡◌, ℕ, zero, suc, ◌+◌, ◌-◌, ◌*◌, ◌/◌, ◌%◌, ◌^◌, ◌<◌, ◌≤◌, List, [], ◌∷◌, length, get_or, take, drop, Some, arith, refl, sym, ◌∙◌, ap, subst, inl, inr}
+use Rattle.std.specs.Prelude.{◌&&◌, nat_eq, nat_le, nat_lt, if◌then◌else◌}
 use Rattle.std.proofs.lemmas.Bool.{cases_lt}
 use Rattle.std.proofs.lemmas.List.{get_or-take, get_or-drop}
 use Rattle.std.specs.FinMap.{get, insert, remove}
@@ -10,17 +10,16 @@ use Rattle.cf_lemmas.proofs.Sums.{insert_again}
 use Rattle.cf_lemmas.proofs.Ranges.{one}
 use Rattle.arrangement.specs.Held.{Held, Objects, Placed, objects, places}
 use Rattle.arrangement.specs.Bytes.{AreBytes, byte_of, bytes_at, written}
-use Rattle.arrangement.specs.Paging.{Paging, class_for, classes, slot_words}
-use Rattle.arrangement.specs.Arrangement.{IsSound, class_at, live}
+use Rattle.arrangement.specs.Paging.{Paging, class_for, slot_words}
+use Rattle.arrangement.specs.Arrangement.{IsSound, live}
 use Rattle.arrangement.specs.Figures.{asked_bytes, taken_bytes}
-use Rattle.arrangement.specs.Image.{IsOutside, IsSlotImage, Rewrites, object_word, slot_for}
+use Rattle.arrangement.specs.Image.{IsSlotImage, Rewrites, object_word, slot_for}
 use Rattle.arrangement.proofs.Adding.{asked_added, asked_taken, live_added, live_taken, taken_added, taken_taken}
 use Rattle.arrangement.proofs.Freeing.{sound_exchanged}
 use Rattle.arrangement.proofs.Parts.{inserted_there}
 use Rattle.arrangement.proofs.Reading.{bytes_at-AreBytes}
-use Rattle.arrangement.proofs.SlotImages.{own_words}
 use Rattle.arrangement.proofs.Writing.{byte_of_object, image_after_bytes, length-written, object_word_small, storable_added, word_by_bytes, written_are_bytes, written_before, written_behind, written_inside, written_nothing}
-use Rattle.region.specs.Lending.{fit, with_words}
+use Rattle.region.specs.Lending.{with_words}
 use Rattle.region.proofs.CallerLemmas.{fit_below, fit_within, length-with_words, with_words_others, with_words_within}
 use Rattle.word_bytes.specs.Cells.{byte_in, overwritten}
 use Rattle.word_bytes.proofs.Overwriting.{overwritten_before, overwritten_behind, overwritten_inside}
@@ -31,7 +30,7 @@ use Rattle.cf_model.specs.Steps.{WritesBytes}
 use Rattle.moving_heap.specs.declared.inner.OpenHeap.{OpenHeap}
 use Rattle.moving_heap.specs.Kept.{IsKept, held_in, paging_at, state_of, tables_in}
 use Rattle.moving_heap.specs.Access.{Lies, Overwrites}
-use Rattle.moving_heap.proofs.Facts.{number_small, paging_ok}
+use Rattle.moving_heap.proofs.Facts.{paging_ok}
 use Rattle.moving_heap.proofs.Becoming.{Becomes, becomes_kept, becomes_state, places_are, rest_from, stored}
 use Rattle.moving_heap.proofs.Reading.{bytes_few, holds, lies_place}
 

@@ -1,7 +1,6 @@
 -- What contracts see of an open heap, and what it keeps. No public clause cites this module.
 use Rattle.std.specs.Prelude.{◌≡◌, ℕ, ◌*◌, ◌≤◌, ◌<◌, [], true, Option, Some, None, length, take, slice_index}
-use Rattle.std.specs.Ordering.{nat_cmp}
-use Rattle.cf_base.specs.Settings.{Profile, profile_of}
+use Rattle.cf_base.specs.Settings.{profile_of}
 use Rattle.cf_base.specs.declared.kind.Kind.TheVariants.{Moving}
 use Rattle.cf_base.specs.declared.kind.Layout.TheVariants.{Words}
 use Rattle.arrangement.specs.Held.{Held, objects}

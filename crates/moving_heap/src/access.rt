@@ -83,7 +83,14 @@ impl OpenHeap {
     }
 
     /// Writes bytes over those from byte `from` of n words on, of which the first is given.
-    pub(crate) fn overwrite(&mut self, first: u32, n: u32, from: usize, bytes: &[u8], steps: &mut Steps)
+    pub(crate) fn overwrite(
+        &mut self,
+        first: u32,
+        n: u32,
+        from: usize,
+        bytes: &[u8],
+        steps: &mut Steps,
+    )
         requires within { first + n ≤ length self.old.region }
         requires fits { from + length bytes.now ≤ 8 * n }
         ensures rest { self.new ≡ record self.old { region = self.new.region } }

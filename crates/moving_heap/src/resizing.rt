@@ -61,7 +61,8 @@ impl OpenHeap {
             let first = place + 1 + keep / 8;
             let whole = (keep % 8) as usize;
             self.overwrite(first, 1, whole, &[0; 8][whole..], steps);
-            self.region.clear(first + 1, bytes.div_ceil(8) - keep / 8 - 1, steps);
+            self.region
+                .clear(first + 1, bytes.div_ceil(8) - keep / 8 - 1, steps);
         }
     }
 }

@@ -1,4 +1,4 @@
-use Rattle.std.proofs.Common.{◌≡◌, ◌+◌, ◌-◌, ◌/◌, length, arith, ◌∙◌, ap}
+use Rattle.std.proofs.Common.{◌≡◌, ◌+◌, ◌-◌, ◌/◌, arith, ◌∙◌, ap}
 use Rattle.region.specs.Words.{cleared}
 use Rattle.moving_heap.proofs.Cutting.{cut_is}
 use Rattle.moving_heap.proofs.inner.OpenHeap.cut.Goals as goal

@@ -1,5 +1,5 @@
 use Rattle.std.proofs.Common.{refl}
-use Rattle.moving_heap.proofs.Opening.{IsFirst, first_kept, first_empty}
+use Rattle.moving_heap.proofs.Opening.{first_kept, first_empty}
 use Rattle.moving_heap.proofs.inner.OpenHeap.empty.Goals as goal
 
 pub returns-clause-kept : goal.returns-clause-kept

@@ -1,4 +1,4 @@
-use Rattle.std.proofs.Common.{◌≡◌, Some, arith, sym, ◌∙◌}
+use Rattle.std.proofs.Common.{arith, sym}
 use Rattle.moving_heap.proofs.Becoming.{no_place}
 use Rattle.moving_heap.proofs.Reading.{bytes_long, lies, passes, place_in}
 use Rattle.moving_heap.proofs.inner.OpenHeap.find.Goals as goal

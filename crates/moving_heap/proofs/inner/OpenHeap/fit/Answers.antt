@@ -1,5 +1,5 @@
 -- The bytes are cut, and the header tells the new length.
-use Rattle.std.proofs.Common.{◌≡◌, ◌+◌, ◌-◌, length, set, arith, refl, sym, ◌∙◌, ap}
+use Rattle.std.proofs.Common.{◌+◌, ◌-◌, set, arith, refl, ◌∙◌, ap}
 use Rattle.arrangement.specs.Image.{header_word}
 use Rattle.moving_heap.specs.declared.inner.OpenHeap.{OpenHeap}
 use Rattle.moving_heap.proofs.Going.{asked_some}

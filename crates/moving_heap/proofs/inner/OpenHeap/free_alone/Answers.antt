@@ -1,6 +1,6 @@
 -- The slot is cleared, the number given back, and the slot freed.
-use Rattle.std.proofs.Common.{◌≡◌, ◌≤◌, ◌*◌, length, get_or, None, arith, refl, sym, ◌∙◌, ap, subst}
-use Rattle.page_slots.specs.Tables.{AreTables, IsUsed, page_at, slot_at}
+use Rattle.std.proofs.Common.{◌≡◌, get_or, None, arith, refl, sym, ap, subst}
+use Rattle.page_slots.specs.Tables.{IsUsed, page_at, slot_at}
 use Rattle.region.specs.Words.{cleared}
 use Rattle.proxy_table.specs.Proxies.{without_place}
 use Rattle.moving_heap.specs.declared.inner.OpenHeap.{OpenHeap}

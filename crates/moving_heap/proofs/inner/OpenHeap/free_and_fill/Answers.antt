@@ -1,14 +1,8 @@
 -- The other object's number is read from its header before the slot is cleared.
-use Rattle.std.proofs.Common.{◌≡◌, ◌≢◌, ◌+◌, ◌-◌, ◌*◌, ◌%◌, ◌^◌, ◌≤◌, ℕ, length, get_or, set, Some, arith, refl, sym, ◌∙◌, ap, subst, inl, inr}
-use Rattle.std.specs.Prelude.{IsSome, is_some}
-use Rattle.std.specs.FinMap.{get, remove}
-use Rattle.region.specs.Words.{cleared, moved}
-use Rattle.region.proofs.CallerLemmas.{length-cleared}
-use Rattle.proxy_table.specs.Proxies.{with_place, without_place}
+use Rattle.std.proofs.Common.{◌%◌, ◌^◌, length, get_or, Some, arith, refl, ◌∙◌, ap}
 use Rattle.moving_heap.specs.declared.inner.OpenHeap.{OpenHeap}
-use Rattle.moving_heap.specs.Kept.{IsKept, tables_in}
-use Rattle.moving_heap.specs.Freeing.{IsMoving, IsObjectAt}
-use Rattle.moving_heap.proofs.Going.{asked_some, goes_freed, goes_kept, it_inside, live_some, some_not_full, taken_some}
+use Rattle.moving_heap.specs.Kept.{tables_in}
+use Rattle.moving_heap.proofs.Going.{asked_some, goes_freed, goes_kept, it_inside, live_some, taken_some}
 use Rattle.moving_heap.proofs.Filling.{apart_there, live_there, mover, number_told, place_in, r, refilled, source_there, whole_is}
 use Rattle.moving_heap.proofs.inner.OpenHeap.free_and_fill.Goals as goal
 

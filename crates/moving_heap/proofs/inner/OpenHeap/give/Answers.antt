@@ -1,8 +1,8 @@
 -- The class, the proxy and the slot are found; the object comes.
-use Rattle.std.proofs.Common.{◌≡◌, ◌≤◌, ◌<◌, length, get_or, arith, refl, sym, ◌∙◌, ap}
+use Rattle.std.proofs.Common.{length, get_or, arith, refl, sym, ◌∙◌, ap}
 use Rattle.moving_heap.specs.declared.inner.OpenHeap.{OpenHeap}
 use Rattle.moving_heap.proofs.Limits.{asked_room, class_is, live_room, taken_room}
-use Rattle.moving_heap.proofs.Coming.{Comes, comes_given, comes_kept}
+use Rattle.moving_heap.proofs.Coming.{comes_given, comes_kept}
 use Rattle.moving_heap.proofs.Mallocs.{comes, place_inside, same_state, wants_proxy, wants_space}
 use Rattle.moving_heap.proofs.inner.OpenHeap.give.Goals as goal
 

@@ -1,4 +1,4 @@
-use Rattle.std.proofs.Common.{◌≡◌, ◌+◌, ◌%◌, length, get_or, take, drop, arith, refl, sym, ◌∙◌, ap}
+use Rattle.std.proofs.Common.{◌+◌, ◌%◌, length, arith, ◌∙◌, ap}
 use Rattle.word_bytes.specs.Cells.{byte_in}
 use Rattle.moving_heap.proofs.Reading.{count_few, place_small, read_is, words_in}
 use Rattle.moving_heap.proofs.inner.OpenHeap.read.Goals as goal

@@ -1,6 +1,5 @@
 -- What the header tells is the object's length.
-use Rattle.std.proofs.Common.{◌≡◌, ◌<◌, ◌≤◌, Some, None, length, arith, refl, sym, ◌∙◌, ap, subst}
-use Rattle.moving_heap.specs.Freeing.{IsObjectAt}
+use Rattle.std.proofs.Common.{refl, sym}
 use Rattle.moving_heap.proofs.Becoming.{no_place}
 use Rattle.moving_heap.proofs.Reading.{place_in}
 use Rattle.moving_heap.proofs.Knowing.{has_class, object_at, page_there}

@@ -1,4 +1,4 @@
-use Rattle.std.proofs.Common.{◌≡◌, ◌%◌, ◌/◌, ◌+◌, length, arith, sym, ap, subst}
+use Rattle.std.proofs.Common.{◌%◌, ◌/◌, ◌+◌, arith, subst}
 use Rattle.moving_heap.specs.Access.{Overwrites}
 use Rattle.moving_heap.proofs.Reading.{count_few, place_small, words_in}
 use Rattle.moving_heap.proofs.Writing.{wrote, wrote_kept, wrote_nothing}
