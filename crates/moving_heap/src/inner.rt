@@ -1,28 +1,22 @@
 //! An open heap: its tables, and the words of its region.
 ghost use Rattle.std.specs.Prelude.{◌≡◌, ℕ, ◌+◌, ◌*◌, ◌^◌, ◌<◌, ◌≤◌, length, slice_index, slice_set, is_some, replicate, IfOk, IfSome};
 ghost use Rattle.std.specs.List.{range_with_len};
-ghost use Rattle.std.specs.FinMap as map;
-ghost use Rattle.arrangement.specs.Arrangement.{home_pages, not_full_pages, free_pages};
-ghost use Rattle.arrangement.specs.Paging.{classes};
 ghost use Rattle.cf_base.specs.declared.kind.Kind.TheVariants.{Moving};
 ghost use Rattle.cf_base.specs.declared.kind.Layout.TheVariants.{Words};
 ghost use Rattle.class_lists.specs.PageLists.{empty_lists};
 ghost use Rattle.proxy_table.specs.Proxies.{AreBelowLimit, no_proxies};
 ghost use Rattle.size_classes.specs.Table.{table_of};
-ghost use Rattle.cf_model.specs.Answers.{classes_in, figures_in, totals_in, class_with, bound_put};
-ghost use Rattle.cf_model.specs.Rules.{KeepsRules};
 ghost use Rattle.cf_model.specs.Steps.{IsEmptyHeap};
-ghost use Rattle.moving_heap.specs.Kept.{IsKept, state_of, paging_at, held_in};
+ghost use Rattle.moving_heap.specs.Kept.{IsKept, state_of};
 
-use cf_base::{Figures, Layout, OutOfMemory, Settings, Totals};
-use class_lists::{ClassLists, Which};
+use cf_base::{Layout, OutOfMemory, Settings};
+use class_lists::ClassLists;
 use page_pool::PagePool;
 use proxy_table::ProxyTable;
 use region::Region;
 use size_classes::Classes;
 use slot_bitmap::SlotMap;
 use std::alloc::{AllocError, Global};
-use step_ledger::Steps;
 
 /// No heap has more size classes.
 const CLASSES: usize = 128;
@@ -95,12 +89,6 @@ impl OpenHeap {
             proxies,
         }
     }
-
-    /// What every open heap keeps.
-    pub(crate) fn keeps_rules(&self)
-        requires { IsKept self.now }
-        ensures { KeepsRules (state_of self.now) }
-    {}
 }
 
 /// So many maps, for pages that are free.
