@@ -1,0 +1,13 @@
+use Rattle.std.proofs.Common.{◌≡◌, ◌≤◌, ◌<◌, ◌+◌, ◌-◌, ℕ, length}
+use Rattle.std.specs.Prelude.{slice_index}
+use Rattle.word_bytes.specs.Cells.{byte_in}
+use Rattle.word_bytes.proofs.cells.read_bytes.Given as goal
+
+abbrev pub invariant-cells : goal.invariant-cells
+invariant-cells l = record {
+  within : l.done ≤ length l.out;
+  so_far : (k : ℕ) → k < l.done → slice_index l.out k ≡ byte_in l.words (l.at + k);
+}
+
+abbrev pub decreases-cells : goal.decreases-cells
+decreases-cells l = length l.out - l.done

@@ -1,0 +1,63 @@
+//! Bytes of words.
+ghost use Rattle.std.specs.Prelude.{◌≡◌, ℕ, ◌+◌, ◌*◌, ◌<◌, ◌≤◌, length, slice_index};
+ghost use Rattle.arrangement.specs.Bytes.{byte_of, written};
+ghost use Rattle.word_bytes.specs.Cells.{byte_in, overwritten};
+
+/// The bytes of a word.
+const CELL: usize = 8;
+
+/// Writes `part` over the bytes of a cell from byte `from` on.
+fn overwrite(cell: &mut [u8], from: usize, part: &[u8])
+    requires { from + length part.now ≤ length cell.old }
+    ensures { cell.new ≡ written cell.old from part.now }
+{
+    cell[from..from + part.len()].copy_from_slice(part);
+}
+
+/// The word with `part` over its bytes from byte `from` on.
+fn patched(word: u64, from: usize, part: &[u8]) -> u64
+    requires { from + length part.now ≤ 8 }
+    ensures { (j : ℕ) → j < 8 → byte_of j result ≡ overwritten (λ k. byte_of k word) from part.now j }
+{
+    let mut cell = word.to_le_bytes();
+    overwrite(&mut cell, from, part);
+    u64::from_le_bytes(cell)
+}
+
+/// Copies the bytes of a word from byte `from` on.
+fn copy_cell(word: u64, from: usize, out: &mut [u8])
+    requires { from + length out.old ≤ 8 }
+    ensures { (j : ℕ) → j < length out.new → slice_index out.new j ≡ byte_of (from + j) word }
+{
+    let cell = word.to_le_bytes();
+    out.copy_from_slice(&cell[from..from + out.len()]);
+}
+
+/// Copies the bytes from byte `at` of the words on.
+pub fn read_bytes(words: &[u64], at: usize, out: &mut [u8])
+    requires { at + length out.old ≤ 8 * length words.now }
+    ensures { (k : ℕ) → k < length out.new → slice_index out.new k ≡ byte_in words.now (at + k) }
+{
+    let mut done = 0;
+    'cells: while done < out.len() {
+        let from = (at + done) % CELL;
+        let n = (CELL - from).min(out.len() - done);
+        copy_cell(words[(at + done) / CELL], from, &mut out[done..done + n]);
+        done += n;
+    }
+}
+
+/// Writes the bytes over those from byte `at` of the words on.
+pub fn write_bytes(words: &mut [u64], at: usize, bytes: &[u8])
+    requires { at + length bytes.now ≤ 8 * length words.old }
+    ensures { (k : ℕ) → byte_in words.new k ≡ overwritten (byte_in words.old) at bytes.now k }
+{
+    let mut done = 0;
+    'cells: while done < bytes.len() {
+        let cell = (at + done) / CELL;
+        let from = (at + done) % CELL;
+        let n = (CELL - from).min(bytes.len() - done);
+        words[cell] = patched(words[cell], from, &bytes[done..done + n]);
+        done += n;
+    }
+}
