@@ -13,7 +13,7 @@ use cf_base::Settings;
 use std::marker::Model;
 
 /// What comes next in a script.
-#[derive(Drop)]
+#[derive(Debug, PartialEq, Eq, Drop)]
 pub enum Next {
     /// The heap is opened with these settings.
     Start(Settings),

@@ -1,19 +1,23 @@
--- What a reader gave over many calls.
+-- What a reader gives over calls of feed, finish and next_command.
 use Rattle.std.proofs.Common.{◌≡◌, ◌∙◌, ◌++◌, ◌||◌, ℕ, Bool, true, false, List, [], ◌∷◌, Option, Some, None, refl, sym, ap, subst, append-nil, append_assoc}
 use Rattle.std.proofs.lemmas.Bool.{true≢false}
 use Rattle.script_reader.specs.Calls.{AreCalls, Call, IsCall, answers, bytes_fed, feeds, finishes, given_then, is_finished, items_given}
-use Rattle.script_reader.specs.Items.{AreFirstOf, Item, bad, items_at}
+use Rattle.script_reader.specs.Items.{AreFirstOf, Item, bad, items, items_at}
 use Rattle.script_reader.specs.Lines.{lines}
-use Rattle.script_reader.specs.Reading.{Answers, AnswersBad, Reading, fed_with, items_left}
+use Rattle.script_reader.specs.Reading.{Answers, AnswersBad, Reading, fed_with, fresh, items_left}
 use Rattle.script_reader.specs.declared.reader.Next.{Next}
 use Rattle.script_reader.specs.declared.reader.Next.TheVariants.{Start, Command, NeedMore, Bad, End}
+
+-- a fresh reader has all items to give
+pub fresh_left : (more : List ℕ) (ended : Bool) → items_left fresh more ended ≡ items more ended
+fresh_left more ended = refl
 
 bad_same_end : (old : Reading) (before : Option ℕ) (line : ℕ) (new : Reading) → AnswersBad old before line new → new.ended ≡ old.ended
 bad_same_end old None line new (first, stopped, number, same_end, same_fed, drops) = same_end
 bad_same_end old (Some before) line new (same, is) = ap (λ (r : Reading). r.ended) is
 
 -- an answer tells no end
-answer_same_end : (old : Reading) (next : Next) (new : Reading) → Answers old next new → new.ended ≡ old.ended
+pub answer_same_end : (old : Reading) (next : Next) (new : Reading) → Answers old next new → new.ended ≡ old.ended
 answer_same_end old (Start settings) new (advances, first) = advances.same_end
 answer_same_end old (Command command) new (advances, fits, first) = advances.same_end
 answer_same_end old NeedMore new (passes, open_end, none, few, no_feed) = passes.same_end
@@ -27,10 +31,12 @@ fed_nothing (feeds bytes ∷ rest) old now told (mid, (open_end, is), are) = abs
 fed_nothing (finishes ∷ rest) old now told (mid, is, are) = fed_nothing rest mid now (ap (λ (r : Reading). r.ended) is) are
 fed_nothing (answers next ∷ rest) old now told (mid, is, are) = fed_nothing rest mid now (answer_same_end old next mid is ∙ told) are
 
-fed_left : (old : Reading) (bytes more : List ℕ) (e : Bool) → old.ended ≡ false → items_left old (bytes ++ more) e ≡ items_left (fed_with old bytes) more e
+-- bytes that were fed come in front of those to come
+pub fed_left : (old : Reading) (bytes more : List ℕ) (e : Bool) → old.ended ≡ false → items_left old (bytes ++ more) e ≡ items_left (fed_with old bytes) more e
 fed_left old bytes more e open_end = rw (open_end, append_assoc) refl
 
-finished_left : (old : Reading) (e : Bool) → items_left old [] true ≡ items_left (record old { ended = true }) [] e
+-- where the end was told, nothing is to come
+pub finished_left : (old : Reading) (e : Bool) → items_left old [] true ≡ items_left (record old { ended = true }) [] e
 finished_left old e = go old.ended refl
   where
     go : (b : Bool) → old.ended ≡ b → items_left old [] true ≡ items_left (record old { ended = true }) [] e
