@@ -1,0 +1,153 @@
+-- What the bodies of the calls need to know of the tables.
+use Rattle.std.proofs.Common.{◌≡◌, ◌≢◌, ℕ, Bool, true, false, not, ◌+◌, ◌*◌, ◌^◌, ◌<◌, ◌≤◌, List, [], ◌∷◌, length, get_or, set, replicate, Some, None, arith, refl, sym, ◌∙◌, ap, subst}
+use Rattle.std.specs.Prelude.{slice_get, is_some}
+use Rattle.std.specs.List.{Contains, position}
+use Rattle.std.proofs.lemmas.Bool.{false≢true}
+use Rattle.std.proofs.lemmas.List.{get_or_default, get_or-set_same}
+use Rattle.std.proofs.lemmas.Nat.{mul-le}
+use Rattle.std.proofs.lemmas.Option.{slice_get_within}
+use Rattle.slot_bitmap.proofs.CallerLemmas.{some_free, some_used}
+use Rattle.size_classes.specs.Table.{ClassTable}
+use Rattle.class_lists.specs.declared.Which.{Which}
+use Rattle.class_lists.specs.declared.Which.TheVariants.{Full, NotFull}
+use Rattle.class_lists.specs.PageLists.{PageLists, IsUnlisted, pages_in}
+use Rattle.page_pool.specs.Pool.{Pool, TakesFront, is_free}
+use Rattle.page_slots.specs.Tables.{Tables, AreTables, IsOf, IsPageOf, Joins, slots_in, slots_on, tables, used_in}
+use Rattle.page_slots.specs.Taking.{FillsPage, TakesOnOpenPage, TakesOnFreePage}
+use Rattle.page_slots.proofs.Pages.{placed_in, listed_page, listed_class, of_list}
+use Rattle.page_slots.proofs.Taken.{front_listed, pool_front}
+
+-- where there is a free slot the search for one doesn't fail, nor where there is a used one
+pub finds_free : (xs : List Bool) → used_in xs < length xs → None ≡ position (λ used. not used) xs → ⊥
+finds_free xs some none = false≢true (ap is_some none ∙ some_free xs some)
+
+pub finds_used : (xs : List Bool) → 0 < used_in xs → None ≡ position (λ used. used) xs → ⊥
+finds_used xs some none = false≢true (ap is_some none ∙ some_used xs some)
+
+-- a list with a front isn't empty, and one without is
+pub front_none : (xs : List ℕ) → None ≡ slice_get xs 0 → xs ≡ []
+front_none [] e = refl
+front_none (x ∷ xs) e = absurd (let none : is_some (slice_get (x ∷ xs) 0) ≡ false = ap is_some (sym e) in false≢true (sym none))
+
+pub front_some : (xs : List ℕ) → 1 ≤ length xs → None ≡ slice_get xs 0 → ⊥
+front_some xs some none = (let e = ap (λ (ys : List ℕ). length ys) (front_none xs none) in omega arith)
+
+module _ (k : ClassTable) (t : Tables) (a : AreTables k t) where
+  pub page_small : (page : ℕ) → page < t.pool.pages → page * k.page_words + k.page_words < 2 ^ 32
+  page_small page lt =
+      let m : (page + 1) * k.page_words ≤ t.pool.pages * k.page_words = mul-le (page + 1) k.page_words t.pool.pages k.page_words (omega arith) (omega arith) in
+      let s = a.small in
+      omega arith
+
+  pub page_inside : (page : ℕ) → page < t.pool.pages → page < length t.maps
+  page_inside page lt = (let e = a.maps in omega arith)
+
+  -- the front page of those that are not full
+  module _ (c page : ℕ) (front : Some page ≡ slice_get (pages_in t.lists c NotFull) 0) where
+    pub front_there : Contains (pages_in t.lists c NotFull) page
+    front_there = front_listed (pages_in t.lists c NotFull) page (sym front)
+
+    pub front_page : page < t.pool.pages
+    front_page = listed_page k t a c page NotFull front_there
+
+    pub front_inside : page < length t.maps
+    front_inside = page_inside page front_page
+
+    pub front_small : page * k.page_words + k.page_words < 2 ^ 32
+    front_small = page_small page front_page
+
+    front_placed : IsPageOf k t page c NotFull
+    front_placed = placed_in k t a c page NotFull front_there
+
+    pub front_taken : is_free t.pool.free page ≡ false
+    front_taken = front_placed.taken
+
+    module _ (d : List Bool) where
+      same_map : get_or t.maps page d ≡ get_or t.maps page []
+      same_map = get_or_default t.maps page d [] front_inside
+
+      pub front_long : length (get_or t.maps page d) ≡ slots_in k c
+      front_long = ap length same_map ∙ front_placed.slots
+
+      pub front_room : used_in (get_or t.maps page d) < length (get_or t.maps page d)
+      front_room = (let e = ap used_in same_map in let l = front_long in let f = front_placed.fills in let few = f.1 in omega arith)
+
+      pub front_some_used : 0 < used_in (get_or t.maps page d)
+      front_some_used = (let e = ap used_in same_map in let f = front_placed.fills in let some = f.0 in omega arith)
+
+      pub front_slot : (slot : ℕ) (b : Bool) → slice_get (get_or t.maps page d) slot ≡ Some b → slot < slots_in k c
+      front_slot slot b is = (let lt = slice_get_within (get_or t.maps page d) slot b is in let l = front_long in omega arith)
+
+      pub front_reads : (slot : ℕ) (b : Bool) → slice_get (get_or t.maps page d) slot ≡ Some b → slice_get (slots_on t page) slot ≡ Some b
+      front_reads slot b is = sym (ap (λ xs. slice_get xs slot) same_map) ∙ is
+
+      -- its least free slot was taken
+      pub took_open : (slot : ℕ) (map : List Bool) (lists : PageLists) → position (λ used. not used) (get_or t.maps page d) ≡ Some slot → slice_get (get_or t.maps page d) slot ≡ Some false
+          → map ≡ set (get_or t.maps page d) slot true → (used_in map ≡ length map → FillsPage t.lists c page lists) → (used_in map ≢ length map → lists ≡ t.lists)
+          → TakesOnOpenPage t c page slot (tables (set t.maps page map) lists t.pool)
+      took_open slot map lists least free is filled not_filled =
+          let here : get_or (set t.maps page map) page [] ≡ map = get_or-set_same t.maps page map [] front_inside in record {
+            front = sym front;
+            least = sym (ap (position (λ used. not used)) same_map) ∙ least;
+            free = front_reads slot false free;
+            maps = ap (set t.maps page) (is ∙ ap (λ xs. set xs slot true) same_map);
+            pool = refl;
+            filled = λ e. filled (sym (ap used_in here) ∙ e ∙ ap length here);
+            not_filled = λ ne. not_filled (λ e. ne (ap used_in here ∙ e ∙ sym (ap length here)));
+          }
+
+  -- the front page of the pool
+  module _ (page : ℕ) (pool : Pool) (f : TakesFront t.pool (Some page) pool) where
+    pub pool_inside : page < length t.maps
+    pool_inside = page_inside page (pool_front k t a page pool f).0
+
+    pub pool_small : page * k.page_words + k.page_words < 2 ^ 32
+    pool_small = page_small page (pool_front k t a page pool f).0
+
+    pub pool_listable : page < t.lists.pages
+    pool_listable = (let lt = (pool_front k t a page pool f).0 in let e = a.pages in omega arith)
+
+    pub pool_unlisted : IsUnlisted t.lists page
+    pool_unlisted = ((pool_front k t a page pool f).1).unlisted
+
+    -- its first slot was taken
+    pub took_free : (c n : ℕ) (map fresh : List Bool) (lists : PageLists) → pages_in t.lists c NotFull ≡ [] → n ≡ slots_in k c → fresh ≡ replicate n false → map ≡ set fresh 0 true
+        → (n ≡ 1 → Joins t.lists c Full page lists) → (n ≢ 1 → Joins t.lists c NotFull page lists) → TakesOnFreePage k t c page (tables (set t.maps page map) lists pool)
+    took_free c n map fresh lists none slots is_fresh is filled not_filled = record {
+      none = none;
+      front = f;
+      maps = ap (set t.maps page) (is ∙ ap (λ xs. set xs 0 true) (is_fresh ∙ ap (λ n. replicate n false) slots));
+      filled = λ e. filled (slots ∙ e);
+      not_filled = λ ne. not_filled (λ e. ne (sym slots ∙ e));
+    }
+
+  -- a page of class c
+  module _ (c page : ℕ) (of : IsOf t c page) where
+    pub of_class : c < length k.sizes
+    of_class = (let p = of_list k t a c page of in listed_class k t a c page p.0 p.1.listed)
+
+    pub of_lists_class : c < t.lists.classes
+    of_lists_class = (let lt = of_class in let e = a.classes in omega arith)
+
+    pub of_page : page < t.pool.pages
+    of_page = (let p = of_list k t a c page of in listed_page k t a c page p.0 p.1.listed)
+
+    pub of_taken : is_free t.pool.free page ≡ false
+    of_taken = (of_list k t a c page of).1.taken
+
+    -- its list is that which its slots tell
+    pub of_listed : (w : Which) (d : List Bool) → (used_in (get_or t.maps page d) ≡ length (get_or t.maps page d) → w ≡ Full) → (used_in (get_or t.maps page d) ≢ length (get_or t.maps page d) → w ≡ NotFull)
+        → Contains (pages_in t.lists c w) page
+    of_listed w d full not_full = go (of_list k t a c page of).0 (of_list k t a c page of).1
+      where
+        same : get_or t.maps page d ≡ get_or t.maps page []
+        same = get_or_default t.maps page d [] (page_inside page of_page)
+
+        go : (v : Which) → IsPageOf k t page c v → Contains (pages_in t.lists c w) page
+        go Full p = (
+            let e : used_in (get_or t.maps page d) ≡ length (get_or t.maps page d) = ap used_in same ∙ p.fills ∙ sym p.slots ∙ sym (ap length same) in
+            subst (λ v. Contains (pages_in t.lists c v) page) (sym (full e)) p.listed)
+        go NotFull p = (
+            let ne : used_in (get_or t.maps page d) ≢ length (get_or t.maps page d) = (λ e. (
+            let u = ap used_in same in let l = ap length same in let s = p.slots in let f = p.fills in let few = f.1 in omega arith)) in
+            subst (λ v. Contains (pages_in t.lists c v) page) (sym (not_full ne)) p.listed)

@@ -1,0 +1,13 @@
+pub mod Bits
+pub mod Listing
+pub mod Pages
+pub mod Taken
+pub mod Vacated
+pub mod Calls
+pub mod Occupied
+pub mod Gained
+pub mod Lost
+pub mod Counted
+pub mod PageNumbers
+pub mod Start
+pub mod CallerLemmas

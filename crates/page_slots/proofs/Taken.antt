@@ -1,0 +1,231 @@
+-- The tables after a slot was taken.
+use Rattle.std.proofs.Common.{◌≡◌, ◌≢◌, ℕ, zero, suc, Bool, true, false, ◌+◌, ◌<◌, ◌≤◌, List, [], ◌∷◌, length, set, replicate, Some, arith, refl, sym, ◌∙◌, ap, subst, inl, inr}
+use Rattle.std.specs.Prelude.{◌⊎◌, slice_get}
+use Rattle.std.specs.List.{Contains}
+use Rattle.std.proofs.lemmas.Bool.{cases_eq, eq-eqb}
+use Rattle.std.proofs.lemmas.List.{length-set, length-replicate}
+use Rattle.std.proofs.lemmas.Option.{slice_get_within}
+use Rattle.slot_bitmap.proofs.CallerLemmas.{count-set, count-replicate}
+use Rattle.size_classes.specs.Table.{ClassTable}
+use Rattle.class_lists.specs.declared.Which.{Which}
+use Rattle.class_lists.specs.declared.Which.TheVariants.{Full, NotFull}
+use Rattle.class_lists.specs.PageLists.{PageLists, AreApart, pages_in}
+use Rattle.class_lists.proofs.Members.{contains_head}
+use Rattle.page_pool.specs.Pool.{Pool, IsPool, TakesFront, is_free}
+use Rattle.page_pool.proofs.CallerLemmas.{front_gone, front_below}
+use Rattle.page_slots.specs.Tables.{Tables, AreTables, IsOf, IsPageOf, IsFreePage, Joins, slots_in, slots_on, used_in}
+use Rattle.page_slots.specs.Taking.{FillsPage, TakesOnOpenPage, TakesOnFreePage}
+use Rattle.page_slots.proofs.Listing.{along, joined_here, joined_comes, joined_stays, joined_pages, joined_classes, left_comes, left_stays, left_pages, left_classes}
+use Rattle.page_slots.proofs.Pages.{IsSame, other_free, map_here, map_there, maps_long, placed_in, listed_page, list_of, free_page, some_slots, tables_after}
+
+-- the front of a list stands in it
+pub front_listed : (xs : List ℕ) (page : ℕ) → slice_get xs 0 ≡ Some page → Contains xs page
+front_listed [] page e = absurd (let lt = slice_get_within [] 0 page e in omega arith)
+front_listed (x ∷ xs) page e = (let same : Some x ≡ Some page = e in let is : x ≡ page = cc in along page _ _ (ap (λ y. y ∷ xs) (sym is)) (contains_head page xs))
+
+pub free_head : (page : ℕ) (free : List ℕ) → is_free (page ∷ free) page ≡ true
+free_head page free = (let e = eq-eqb page page refl in rw e)
+
+first_of : (n : ℕ) → 1 ≤ n → slice_get (replicate n false) 0 ≡ Some false
+first_of zero h = absurd (omega arith)
+first_of (suc n) h = refl
+
+-- the front page of the pool is one of the pages, and of no class
+pub pool_front : (k : ClassTable) (t : Tables) → AreTables k t → (page : ℕ) (pool : Pool) → TakesFront t.pool (Some page) pool → (page < t.pool.pages) × IsFreePage t page
+pool_front k t a page pool f =
+    let P : List ℕ → Type 0 = λ free. IsPool (record { pages = t.pool.pages; free = free }) in
+    let inside = front_below t.pool.pages page pool.free (subst P f.0 a.pool) in
+    (inside, free_page k t a page inside (ap (λ free. is_free free page) f.0 ∙ free_head page pool.free))
+
+-- What a slot that becomes used changes: its page, on which the other slots stay, and which was not full, or free where the class had no such page.
+pub record Gains (k : ClassTable) (old new : Tables) (c page slot : ℕ) : Type 0 where
+  pub others : (g : ℕ) → g ≢ page → IsSame old new g
+  pub before : List Bool
+  pub was : (Contains (pages_in old.lists c NotFull) page × (before ≡ slots_on old page)) ⊎ (IsFreePage old page × (pages_in old.lists c NotFull ≡ []) × (before ≡ replicate (slots_in k c) false))
+  pub free : slice_get before slot ≡ Some false
+  pub after : slots_on new page ≡ set before slot true
+  pub of : IsOf new c page
+  pub within : page < old.pool.pages
+  pub few : slot < slots_in k c
+  pub class : c < length k.sizes
+  pub pages : new.pool.pages ≡ old.pool.pages
+  pub kept : AreTables k new
+
+module _ (k : ClassTable) (old : Tables) (a : AreTables k old) (c page : ℕ) (new : Tables) (apart : AreApart new.lists) where
+  -- on a page that is not full
+  module _ (slot : ℕ) (t : TakesOnOpenPage old c page slot new) where
+    there : Contains (pages_in old.lists c NotFull) page
+    there = front_listed (pages_in old.lists c NotFull) page t.front
+
+    was : IsPageOf k old page c NotFull
+    was = placed_in k old a c page NotFull there
+
+    lt : page < length old.maps
+    lt = (let l = listed_page k old a c page NotFull there in let e = a.maps in omega arith)
+
+    now : slots_on new page ≡ set (slots_on old page) slot true
+    now = map_here old.maps new.maps page _ t.maps lt
+
+    used : used_in (slots_on new page) ≡ used_in (slots_on old page) + 1
+    used = ap used_in now ∙ count-set (slots_on old page) slot t.free
+
+    long : length (slots_on new page) ≡ slots_in k c
+    long = ap length now ∙ length-set (slots_on old page) slot true ∙ was.slots
+
+    pool_same : (g : ℕ) → is_free new.pool.free g ≡ is_free old.pool.free g
+    pool_same g = ap (λ (p : Pool). is_free p.free g) t.pool
+
+    -- by its lists, filled or not
+    record Listed : Type 0 where
+      comes : (g d : ℕ) (v : Which) → g ≢ page → Contains (pages_in old.lists d v) g → Contains (pages_in new.lists d v) g
+      stays : (g d : ℕ) (v : Which) → g ≢ page → Contains (pages_in new.lists d v) g → Contains (pages_in old.lists d v) g
+      pages : new.lists.pages ≡ old.lists.pages
+      classes : new.lists.classes ≡ old.lists.classes
+      which : Which
+      here : IsPageOf k new page c which
+
+    listed_full : FillsPage old.lists c page new.lists → used_in (slots_on new page) ≡ length (slots_on new page) → Listed
+    listed_full f is = record {
+      comes = λ g d v ne h. joined_comes _ c Full page _ f.joins g d v (left_comes _ c NotFull page _ f.leaves g d v ne h);
+      stays = λ g d v ne h. left_stays _ c NotFull page _ f.leaves g d v (joined_stays _ c Full page _ f.joins g d v ne h);
+      pages = joined_pages _ c Full page _ f.joins ∙ left_pages _ c NotFull page _ f.leaves;
+      classes = joined_classes _ c Full page _ f.joins ∙ left_classes _ c NotFull page _ f.leaves;
+      which = Full;
+      here = record { taken = pool_same page ∙ was.taken; listed = joined_here _ c Full page _ f.joins; slots = long; some = was.some; fills = is ∙ long };
+    }
+
+    listed_open : new.lists ≡ old.lists → used_in (slots_on new page) ≢ length (slots_on new page) → Listed
+    listed_open e ne = record {
+      comes = λ g d v _ h. along g _ _ (ap (λ l. pages_in l d v) (sym e)) h;
+      stays = λ g d v _ h. along g _ _ (ap (λ l. pages_in l d v) e) h;
+      pages = ap (λ (l : PageLists). l.pages) e;
+      classes = ap (λ (l : PageLists). l.classes) e;
+      which = NotFull;
+      here = record {
+        taken = pool_same page ∙ was.taken;
+        listed = along page _ _ (ap (λ l. pages_in l c NotFull) (sym e)) there;
+        slots = long;
+        some = was.some;
+        fills = (let u = used in let l = long in let f = was.fills in let some = f.0 in let few = f.1 in (omega arith, omega arith));
+      };
+    }
+
+    listed : Listed
+    listed = elim (cases_eq (used_in (slots_on new page)) (length (slots_on new page))) [
+      | inl is ↦ listed_full (t.filled is) is
+      | inr ne ↦ listed_open (t.not_filled ne) ne
+    ]
+
+    same : (g : ℕ) → g ≢ page → IsSame old new g
+    same g ne = record {
+      free = pool_same g;
+      comes = λ d v h. listed.comes g d v ne h;
+      stays = λ d v h. listed.stays g d v ne h;
+      slots = map_there old.maps new.maps page _ t.maps g ne;
+    }
+
+    pub gains_open : IsPool new.pool → Gains k old new c page slot
+    gains_open pool = record {
+      others = same;
+      before = slots_on old page;
+      was = inl (there, refl);
+      free = t.free;
+      after = now;
+      of = list_of k new kept c page listed.which listed.here.listed;
+      within = listed_page k old a c page NotFull there;
+      few = (let l = slice_get_within (slots_on old page) slot false t.free in let e = was.slots in omega arith);
+      class = (let l = a.lists.class c NotFull page there in let e = a.classes in omega arith);
+      pages = ap (λ (p : Pool). p.pages) t.pool;
+      kept = kept;
+    }
+      where
+        kept : AreTables k new
+        kept = tables_after k old new page a (maps_long old.maps new.maps page _ t.maps) listed.pages listed.classes (ap (λ (p : Pool). p.pages) t.pool) pool apart same (inr (c, listed.which, listed.here))
+
+  -- on a page of the pool
+  module _ (class : c < length k.sizes) (t : TakesOnFreePage k old c page new) where
+    front : old.pool.free ≡ page ∷ new.pool.free
+    front = t.front.0
+
+    pooled : IsPool (record { pages = old.pool.pages; free = page ∷ new.pool.free })
+    pooled = let P : List ℕ → Type 0 = λ free. IsPool (record { pages = old.pool.pages; free = free }) in subst P front a.pool
+
+    inside : page < old.pool.pages
+    inside = (pool_front k old a page new.pool t.front).0
+
+    was_free : IsFreePage old page
+    was_free = (pool_front k old a page new.pool t.front).1
+
+    some : 1 ≤ slots_in k c
+    some = (some_slots k old a c class).0
+
+    abbrev fresh : List Bool
+    fresh = replicate (slots_in k c) false
+
+    fresh_long : length fresh ≡ slots_in k c
+    fresh_long = length-replicate (slots_in k c) false
+
+    first_free : slice_get fresh 0 ≡ Some false
+    first_free = first_of (slots_in k c) some
+
+    now_free : slots_on new page ≡ set fresh 0 true
+    now_free = map_here old.maps new.maps page _ t.maps (let e = a.maps in let l = inside in omega arith)
+
+    used_one : used_in (slots_on new page) ≡ 1
+    used_one = (let e = ap used_in now_free in let f = count-set fresh 0 first_free in let g = count-replicate (slots_in k c) in omega arith)
+
+    long_free : length (slots_on new page) ≡ slots_in k c
+    long_free = ap length now_free ∙ length-set fresh 0 true ∙ fresh_long
+
+    gone : is_free new.pool.free page ≡ false
+    gone = front_gone old.pool.pages page new.pool.free pooled
+
+    free_same : (g : ℕ) → g ≢ page → is_free new.pool.free g ≡ is_free old.pool.free g
+    free_same g ne = sym (ap (λ free. is_free free g) front ∙ other_free new.pool.free page g ne)
+
+    record Joined : Type 0 where
+      which : Which
+      joins : Joins old.lists c which page new.lists
+      here : IsPageOf k new page c which
+
+    joined_free : Joined
+    joined_free = elim (cases_eq (slots_in k c) 1) [
+      | inl is ↦ record { which = Full; joins = t.filled is; here = record { taken = gone; listed = joined_here _ c Full page _ (t.filled is); slots = long_free; some = some; fills = used_one ∙ sym is } }
+      | inr ne ↦ record {
+        which = NotFull;
+        joins = t.not_filled ne;
+        here = record {
+          taken = gone;
+          listed = joined_here _ c NotFull page _ (t.not_filled ne);
+          slots = long_free;
+          some = some;
+          fills = (let u = used_one in let s = some in (omega arith, omega arith));
+        };
+      }
+    ]
+
+    same_free : (g : ℕ) → g ≢ page → IsSame old new g
+    same_free g ne = record {
+      free = free_same g ne;
+      comes = λ d v h. joined_comes _ c joined_free.which page _ joined_free.joins g d v h;
+      stays = λ d v h. joined_stays _ c joined_free.which page _ joined_free.joins g d v ne h;
+      slots = map_there old.maps new.maps page _ t.maps g ne;
+    }
+
+    pub gains_free : IsPool new.pool → Gains k old new c page 0
+    gains_free pool = record {
+      others = same_free;
+      before = fresh;
+      was = inr (was_free, t.none, refl);
+      free = first_free;
+      after = now_free;
+      of = list_of k new kept c page joined_free.which joined_free.here.listed;
+      within = inside;
+      few = (let s = some in omega arith);
+      class = class;
+      pages = t.front.1;
+      kept = kept;
+    }
+      where
+        kept : AreTables k new
+        kept = tables_after k old new page a (maps_long old.maps new.maps page _ t.maps) (joined_pages _ c joined_free.which page _ joined_free.joins) (joined_classes _ c joined_free.which page _ joined_free.joins) t.front.1 pool apart same_free (inr (c, joined_free.which, joined_free.here))

@@ -1,0 +1,23 @@
+-- A page with a used slot is in the list that its slots tell.
+use Rattle.std.proofs.Common.{subst, sym}
+use Rattle.page_slots.specs.Tables.{IsOf, tables}
+use Rattle.page_slots.proofs.Calls.{of_class, of_lists_class, of_taken, of_listed}
+use Rattle.page_slots.proofs.Vacated.{loses}
+use Rattle.page_slots.proofs.freeing.drop_slot.Goals as goal
+
+pub slot_of-slot-requires-clause-class : goal.slot_of-slot-requires-clause-class
+slot_of-slot-requires-clause-class c = of_class _ _ c.requires.tables _ _ c.requires.used.of
+
+pub vacate-requires-clause-class : goal.vacate-requires-clause-class
+vacate-requires-clause-class c = of_lists_class _ _ c.requires.tables _ _ c.requires.used.of
+
+pub vacate-requires-clause-taken : goal.vacate-requires-clause-taken
+vacate-requires-clause-taken c = rw c.page_of-page.ensures (of_taken _ _ c.requires.tables _ _ c.requires.used.of)
+
+pub vacate-requires-clause-listed : goal.vacate-requires-clause-listed
+vacate-requires-clause-listed c =
+    let there = subst (λ g. IsOf (tables c.args.maps.now c.args.lists.now c.args.pool.now) c.args.c g) (sym c.page_of-page.ensures) c.requires.used.of in
+    of_listed _ _ c.requires.tables c.args.c c.page_of-page.result there c.list_of-which.result c.index-maps-page.result c.list_of-which.ensures.full c.list_of-which.ensures.not_full
+
+pub returns-clause-kept : goal.returns-clause-kept
+returns-clause-kept c = (loses _ _ c.requires.tables c.args.c c.page_of-page.result c.slot_of-slot.result _ c.vacate.ensures.freed c.vacate.ensures.lists c.vacate.ensures.pool).kept

@@ -1,0 +1,22 @@
+-- The front page of the pool is in no list.
+use Rattle.page_slots.proofs.Calls.{pool_inside, pool_small, pool_listable, pool_unlisted, took_free}
+use Rattle.page_slots.proofs.Taken.{gains_free}
+use Rattle.page_slots.proofs.taking.take_on_free_page.Goals as goal
+
+pub bounds-maps-page : goal.bounds-maps-page
+bounds-maps-page c = pool_inside _ _ c.requires.tables _ _ c.in_ok-page.ensures.taken
+
+pub join_with_one-requires-clause-page : goal.join_with_one-requires-clause-page
+join_with_one-requires-clause-page c = pool_listable _ _ c.requires.tables _ _ c.in_ok-page.ensures.taken
+
+pub join_with_one-requires-clause-unlisted : goal.join_with_one-requires-clause-unlisted
+join_with_one-requires-clause-unlisted c = pool_unlisted _ _ c.requires.tables _ _ c.in_ok-page.ensures.taken
+
+pub address_of-requires-clause-small : goal.address_of-requires-clause-small
+address_of-requires-clause-small c = pool_small _ _ c.requires.tables _ _ c.in_ok-page.ensures.taken
+
+pub returns-clause-kept : goal.returns-clause-kept
+returns-clause-kept c =
+    let t = took_free _ _ c.requires.tables c.in_ok-page.page c.take.new.self c.in_ok-page.ensures.taken c.args.c c.slots-slots.result c.set.new.self c.new-map.result c.join_with_one.new.lists
+    c.requires.none c.slots-slots.ensures.value c.new-map.ensures c.set.ensures.value c.join_with_one.ensures.filled c.join_with_one.ensures.not_filled in
+    (gains_free _ _ c.requires.tables c.args.c c.in_ok-page.page _ c.join_with_one.ensures.kept c.requires.class t c.take.ensures.kept).kept

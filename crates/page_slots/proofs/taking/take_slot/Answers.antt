@@ -1,0 +1,40 @@
+-- The front page of those that are not full has a free slot.
+use Rattle.std.proofs.Common.{inl}
+use Rattle.class_lists.specs.PageLists.{pages_in}
+use Rattle.class_lists.specs.declared.Which.TheVariants.{NotFull}
+use Rattle.page_slots.proofs.Calls.{front_none, front_there, front_inside, front_small, front_room, front_slot, took_open}
+use Rattle.page_slots.proofs.Taken.{gains_open}
+use Rattle.page_slots.proofs.taking.take_slot.Goals as goal
+
+pub bounds-maps-page : goal.bounds-maps-page
+bounds-maps-page c = front_inside _ _ c.requires.tables c.args.c c.in-Some.page c.in-Some.ensures.front
+
+pub take_least-slot-requires : goal.take_least-slot-requires
+take_least-slot-requires c = front_room _ _ c.requires.tables c.args.c c.in-Some.page c.in-Some.ensures.front c.index-maps-page.result
+
+pub leave_if_filled-requires-clause-listed : goal.leave_if_filled-requires-clause-listed
+leave_if_filled-requires-clause-listed c = front_there _ _ c.requires.tables c.args.c c.in-Some.page c.in-Some.ensures.front
+
+pub address_of-requires-clause-slot : goal.address_of-requires-clause-slot
+address_of-requires-clause-slot c = front_slot _ _ c.requires.tables c.args.c c.in-Some.page c.in-Some.ensures.front c.index-maps-page.result c.take_least-slot.result _ c.take_least-slot.ensures.free
+
+pub address_of-requires-clause-small : goal.address_of-requires-clause-small
+address_of-requires-clause-small c = front_small _ _ c.requires.tables c.args.c c.in-Some.page c.in-Some.ensures.front
+
+pub take_on_free_page-requires-clause-none : goal.take_on_free_page-requires-clause-none
+take_on_free_page-requires-clause-none c = front_none (pages_in c.args.lists.now c.args.c NotFull) c.in-None.ensures.front
+
+pub returns-in-Some-clause-taken : goal.returns-in-Some-clause-taken
+returns-in-Some-clause-taken c = record {
+  page = c.in-Some.page;
+  slot = c.take_least-slot.result;
+  address = c.address_of.ensures;
+  taken = inl (took_open _ _ c.requires.tables c.args.c c.in-Some.page c.in-Some.ensures.front c.index-maps-page.result c.take_least-slot.result c.take_least-slot.new.map c.leave_if_filled.new.lists
+      c.take_least-slot.ensures.least c.take_least-slot.ensures.free c.take_least-slot.ensures.map c.leave_if_filled.ensures.filled c.leave_if_filled.ensures.not_filled);
+}
+
+pub returns-in-Some-clause-kept : goal.returns-in-Some-clause-kept
+returns-in-Some-clause-kept c =
+    let t = took_open _ _ c.requires.tables c.args.c c.in-Some.page c.in-Some.ensures.front c.index-maps-page.result c.take_least-slot.result c.take_least-slot.new.map c.leave_if_filled.new.lists
+    c.take_least-slot.ensures.least c.take_least-slot.ensures.free c.take_least-slot.ensures.map c.leave_if_filled.ensures.filled c.leave_if_filled.ensures.not_filled in
+    (gains_open _ _ c.requires.tables c.args.c c.in-Some.page _ c.leave_if_filled.ensures.kept c.take_least-slot.result t c.requires.tables.pool).kept

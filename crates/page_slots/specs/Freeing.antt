@@ -1,0 +1,41 @@
+-- What it is to free a used slot.
+use Rattle.std.specs.Prelude.{◌≡◌, ◌≢◌, ℕ, Bool, true, false, ◌<◌, List, ◌∷◌, length, Some, slice_get, slice_set}
+use Rattle.std.specs.List.{Contains, position}
+use Rattle.size_classes.specs.Table.{ClassTable}
+use Rattle.class_lists.specs.declared.Which.{Which}
+use Rattle.class_lists.specs.declared.Which.TheVariants.{Full, NotFull}
+use Rattle.class_lists.specs.PageLists.{PageLists, pages_in}
+use Rattle.page_slots.specs.Tables.{Tables, Joins, Leaves, address_in, slots_on, used_in}
+
+-- a page of which a slot becomes free goes to the list of the pages that are not full
+pub record OpensPage (old : PageLists) (c page : ℕ) (new : PageLists) : Type 0 where
+  pub between : PageLists
+  pub leaves : Leaves old c Full page between
+  pub joins : Joins between c NotFull page new
+
+-- A used slot of a page of class c becomes free. A page that it leaves empty leaves its list and is the front page of the pool; one that was full becomes the front page of those that are not.
+pub record Vacates (old : Tables) (c page slot : ℕ) (new : Tables) : Type 0 where
+  pub which : Which
+  pub listed : Contains (pages_in old.lists c which) page
+  pub used : slice_get (slots_on old page) slot ≡ Some true
+  pub maps : new.maps ≡ slice_set old.maps page (slice_set (slots_on old page) slot false)
+  pub emptied : used_in (slots_on new page) ≡ 0 → Leaves old.lists c which page new.lists
+  pub returned : used_in (slots_on new page) ≡ 0 → new.pool ≡ record old.pool { free = page ∷ old.pool.free }
+  pub opened : used_in (slots_on new page) ≢ 0 → which ≡ Full → OpensPage old.lists c page new.lists
+  pub still : used_in (slots_on new page) ≢ 0 → which ≡ NotFull → new.lists ≡ old.lists
+  pub kept : used_in (slots_on new page) ≢ 0 → new.pool ≡ old.pool
+
+-- the object that fills a freed slot: the one at the least used slot of the front page of class c that is not full; its slot becomes free
+pub record FillsFrom (k : ClassTable) (old : Tables) (c a : ℕ) (new : Tables) : Type 0 where
+  pub page : ℕ
+  pub slot : ℕ
+  pub address : a ≡ address_in k c page slot
+  pub front : slice_get (pages_in old.lists c NotFull) 0 ≡ Some page
+  pub least : position (λ used. used) (slots_on old page) ≡ Some slot
+  pub vacates : Vacates old c page slot new
+
+-- a free on a page with these slots moves an object: the page is full and has more than one slot, and the class has as many pages that are not full as it may
+pub record MovesObject (slots : List Bool) (not_full bound : ℕ) : Type 0 where
+  pub full : used_in slots ≡ length slots
+  pub several : 1 < length slots
+  pub many : not_full ≡ bound

@@ -1,0 +1,4 @@
+pub mod Tables
+pub mod Taking
+pub mod Freeing
+pub mod Occupying

@@ -1,0 +1,95 @@
+-- The tables of pages: which slots of which pages are used.
+use Rattle.std.specs.Prelude.{◌≡◌, ℕ, Bool, true, false, ◌+◌, ◌*◌, ◌/◌, ◌%◌, ◌^◌, ◌<◌, ◌⊎◌, List, [], ◌∷◌, length, Some, count_by, slice_get, slice_index, slice_index_or}
+use Rattle.std.specs.List.{Contains}
+use Rattle.cf_base.specs.Classes.{slots}
+use Rattle.size_classes.specs.Table.{ClassTable, IsTable}
+use Rattle.class_lists.specs.declared.Which.{Which}
+use Rattle.class_lists.specs.declared.Which.TheVariants.{Full, NotFull}
+use Rattle.class_lists.specs.PageLists.{PageLists, AreApart, IsUnlisted, KeepsOthers, pages_in, with_list, without}
+use Rattle.page_pool.specs.Pool.{Pool, IsPool, is_free}
+
+-- the slots of each page, true for used; the pages of each class; and the free pages
+pub record Tables : Type 0 where
+  pub maps : List (List Bool)
+  pub lists : PageLists
+  pub pool : Pool
+
+abbrev pub tables : List (List Bool) → PageLists → Pool → Tables
+tables maps lists pool = record { maps = maps; lists = lists; pool = pool }
+
+-- the slots of a page
+abbrev pub slots_on : Tables → ℕ → List Bool
+slots_on t page = slice_index_or t.maps page []
+
+-- how many slots are used
+abbrev pub used_in : List Bool → ℕ
+used_in all = count_by (λ used. used) all
+
+-- the slots of class c on a page
+abbrev pub slots_in : ClassTable → ℕ → ℕ
+slots_in k c = slots k.page_words k.sizes c
+
+-- the address of a slot of class c
+abbrev pub address_in : ClassTable → ℕ → ℕ → ℕ → ℕ
+address_in k c page slot = page * k.page_words + slot * slice_index k.sizes c
+
+-- the page of an address, and the slot of class c there
+abbrev pub page_at : ClassTable → ℕ → ℕ
+page_at k a = a / k.page_words
+
+abbrev pub slot_at : ClassTable → ℕ → ℕ → ℕ
+slot_at k c a = a % k.page_words / slice_index k.sizes c
+
+-- the page is one of class c
+abbrev pub IsOf : Tables → ℕ → ℕ → Type 0
+IsOf t c page = Contains (pages_in t.lists c Full) page ⊎ Contains (pages_in t.lists c NotFull) page
+
+-- a slot of a page of class c is used
+pub record IsUsed (t : Tables) (c page slot : ℕ) : Type 0 where
+  pub of : IsOf t c page
+  pub used : slice_get (slots_on t page) slot ≡ Some true
+
+-- of n slots so many are used on a page of the list
+abbrev pub HasUsed : Which → ℕ → ℕ → Type 0
+HasUsed Full used n = used ≡ n
+HasUsed NotFull used n = (0 < used) × (used < n)
+
+-- the page is free, and of no class
+pub record IsFreePage (t : Tables) (page : ℕ) : Type 0 where
+  pub free : is_free t.pool.free page ≡ true
+  pub unlisted : IsUnlisted t.lists page
+
+-- the page stands in that list of class c, with its slots, and as many of them are used as the list says
+pub record IsPageOf (k : ClassTable) (t : Tables) (page c : ℕ) (which : Which) : Type 0 where
+  pub taken : is_free t.pool.free page ≡ false
+  pub listed : Contains (pages_in t.lists c which) page
+  pub slots : length (slots_on t page) ≡ slots_in k c
+  pub some : 0 < slots_in k c
+  pub fills : HasUsed which (used_in (slots_on t page)) (slots_in k c)
+
+-- the page is free, or one of a class
+abbrev pub IsPlaced : ClassTable → Tables → ℕ → Type 0
+IsPlaced k t page = IsFreePage t page ⊎ ((c : ℕ) × (which : Which) × IsPageOf k t page c which)
+
+-- Each page has its slots and is in one place: free, or in one list of one class, full or neither full nor empty.
+pub record AreTables (k : ClassTable) (t : Tables) : Type 0 where
+  pub table : IsTable k.page_words k.sizes
+  pub small : t.pool.pages * k.page_words < 2 ^ 32
+  pub maps : length t.maps ≡ t.pool.pages
+  pub pages : t.lists.pages ≡ t.pool.pages
+  pub classes : t.lists.classes ≡ length k.sizes
+  pub pool : IsPool t.pool
+  pub lists : AreApart t.lists
+  pub placed : (page : ℕ) → page < t.pool.pages → IsPlaced k t page
+
+-- a page joins a list in front
+pub record Joins (old : PageLists) (c : ℕ) (which : Which) (page : ℕ) (new : PageLists) : Type 0 where
+  pub value : new ≡ with_list old c which (page ∷ pages_in old c which)
+  pub list : pages_in new c which ≡ page ∷ pages_in old c which
+  pub others : KeepsOthers old new c which
+
+-- a page leaves a list
+pub record Leaves (old : PageLists) (c : ℕ) (which : Which) (page : ℕ) (new : PageLists) : Type 0 where
+  pub value : new ≡ with_list old c which (without page (pages_in old c which))
+  pub list : pages_in new c which ≡ without page (pages_in old c which)
+  pub others : KeepsOthers old new c which

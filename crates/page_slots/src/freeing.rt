@@ -1,0 +1,159 @@
+//! A used slot becomes free.
+ghost use Rattle.std.specs.Prelude.{◌≡◌, ◌≢◌, ◌<◌, ◌≤◌, [], ◌↔◌, IsTrue, length, false, true, slice_get, slice_index_or};
+ghost use Rattle.std.specs.List.{Contains};
+ghost use Rattle.step_ledger.specs.Counting.{RoseAtMost, RoseBy};
+ghost use Rattle.class_lists.specs.PageLists.{AreApart, pages_in};
+ghost use Rattle.page_pool.specs.Pool.{IsPool, is_free};
+ghost use Rattle.size_classes.specs.Table.{IsTable};
+ghost use Rattle.page_slots.specs.Tables.{AreTables, IsUsed, page_at, slot_at, tables, used_in};
+ghost use Rattle.page_slots.specs.Freeing.{FillsFrom, MovesObject, OpensPage, Vacates};
+
+use crate::place::{address_of, page_of, slot_of};
+use class_lists::{ClassLists, Which};
+use page_pool::PagePool;
+use size_classes::Classes;
+use slot_bitmap::SlotMap;
+use step_ledger::Steps;
+
+/// Whether a free at this address moves an object: the page is full and has more than one slot, and
+/// its class has as many pages that are not full as it may.
+pub fn must_move(
+    classes: &Classes,
+    maps: &[SlotMap],
+    lists: &ClassLists,
+    c: u32,
+    at: u32,
+    bound: u32,
+    steps: &mut Steps,
+) -> bool
+    requires table { IsTable classes.now.page_words classes.now.sizes }
+    requires page { page_at classes.now at < length maps.now }
+    requires class { c < lists.now.classes }
+    ensures value { IsTrue result ↔ MovesObject (slice_index_or maps.now (page_at classes.now at) [])
+        (length (pages_in lists.now c Which.NotFull)) bound }
+    ensures steps { RoseBy steps.old steps.new 1 }
+{
+    let map = &maps[page_of(classes, at) as usize];
+    let used = map.count(steps);
+    used == map.len() && used > 1 && lists.len(c, Which::NotFull) == bound
+}
+
+/// The used slot of class c at this address becomes free, and no object moves. A page that it leaves
+/// empty returns to the pool; one that was full becomes the front page of those that are not.
+pub fn drop_slot(
+    classes: &Classes,
+    maps: &mut [SlotMap],
+    lists: &mut ClassLists,
+    pool: &mut PagePool,
+    c: u32,
+    at: u32,
+    steps: &mut Steps,
+)
+    requires tables { AreTables classes.now (tables maps.old lists.old pool.old) }
+    requires used { IsUsed (tables maps.old lists.old pool.old) c (page_at classes.now at)
+        (slot_at classes.now c at) }
+    ensures freed { Vacates (tables maps.old lists.old pool.old) c (page_at classes.now at)
+        (slot_at classes.now c at) (tables maps.new lists.new pool.new) }
+    ensures kept { AreTables classes.now (tables maps.new lists.new pool.new) }
+    ensures steps { RoseAtMost steps.old steps.new 18 }
+{
+    let page = page_of(classes, at);
+    let slot = slot_of(classes, c, at);
+    let which = list_of(&maps[page as usize], steps);
+    vacate(maps, lists, pool, c, which, page, slot, steps);
+}
+
+/// Answers the address of the object that fills a freed slot of class c, the one at the least used
+/// slot of the front page of the class that is not full. That slot becomes free, and the freed one
+/// stays used. A page that is left empty returns to the pool.
+pub fn fill_slot(
+    classes: &Classes,
+    maps: &mut [SlotMap],
+    lists: &mut ClassLists,
+    pool: &mut PagePool,
+    c: u32,
+    steps: &mut Steps,
+) -> u32
+    requires tables { AreTables classes.now (tables maps.old lists.old pool.old) }
+    requires class { c < length classes.now.sizes }
+    requires some { 1 ≤ length (pages_in lists.old c Which.NotFull) }
+    ensures filled { FillsFrom classes.now (tables maps.old lists.old pool.old) c result
+        (tables maps.new lists.new pool.new) }
+    ensures kept { AreTables classes.now (tables maps.new lists.new pool.new) }
+    ensures steps { RoseAtMost steps.old steps.new 26 }
+{
+    let Some(page) = lists.front(c, Which::NotFull, steps) else {
+        unreachable!();
+    };
+    let Some(slot) = maps[page as usize].first_used(steps) else {
+        unreachable!();
+    };
+    vacate(maps, lists, pool, c, Which::NotFull, page, slot, steps);
+    address_of(classes, c, page, slot)
+}
+
+/// The list that a page with these slots is in.
+fn list_of(map: &SlotMap, steps: &mut Steps) -> Which
+    ensures full { used_in map.now ≡ length map.now → result ≡ Which.Full }
+    ensures not_full { used_in map.now ≢ length map.now → result ≡ Which.NotFull }
+    ensures steps { RoseBy steps.old steps.new 1 }
+{
+    if map.count(steps) == map.len() {
+        Which::Full
+    } else {
+        Which::NotFull
+    }
+}
+
+/// A used slot of a page in that list of class c becomes free.
+fn vacate(
+    maps: &mut [SlotMap],
+    lists: &mut ClassLists,
+    pool: &mut PagePool,
+    c: u32,
+    which: Which,
+    page: u32,
+    slot: u32,
+    steps: &mut Steps,
+)
+    requires class { c < lists.old.classes }
+    requires apart { AreApart lists.old }
+    requires pool { IsPool pool.old }
+    requires page { page < length maps.old }
+    requires within { page < pool.old.pages }
+    requires taken { is_free pool.old.free page ≡ false }
+    requires listed { Contains (pages_in lists.old c which) page }
+    requires used { slice_get (slice_index_or maps.old page []) slot ≡ Some true }
+    ensures freed { Vacates (tables maps.old lists.old pool.old) c page slot (tables maps.new lists.new pool.new) }
+    ensures lists { AreApart lists.new }
+    ensures pool { IsPool pool.new }
+    ensures steps { RoseAtMost steps.old steps.new 17 }
+{
+    let map = &mut maps[page as usize];
+    map.unset(slot, steps);
+    if map.count(steps) == 0 {
+        lists.unlink(c, which, page, steps);
+        pool.give(page, steps);
+    } else {
+        open_if_full(lists, c, which, page, steps);
+    }
+}
+
+/// A page of which a slot became free goes to the pages that are not full.
+fn open_if_full(lists: &mut ClassLists, c: u32, which: Which, page: u32, steps: &mut Steps)
+    requires class { c < lists.old.classes }
+    requires apart { AreApart lists.old }
+    requires listed { Contains (pages_in lists.old c which) page }
+    ensures opened { which ≡ Which.Full → OpensPage lists.old c page lists.new }
+    ensures still { which ≡ Which.NotFull → lists.new ≡ lists.old }
+    ensures kept { AreApart lists.new }
+    ensures steps { RoseAtMost steps.old steps.new 8 }
+{
+    match which {
+        Which::Full => {
+            lists.unlink(c, Which::Full, page, steps);
+            lists.push(c, Which::NotFull, page, steps);
+        }
+        Which::NotFull => {}
+    }
+}

@@ -1,0 +1,11 @@
+//! Which slots of which pages are used, in the tables that the two heaps with pages share: a map of
+//! the slots of each page, lists of the pages of each class, and a pool of free pages. The rules are
+//! those of Compact-fit (2008), for slots alone: this crate knows nothing of objects.
+#![tactic(auto)]
+
+mod freeing;
+mod place;
+mod taking;
+
+pub use freeing::{drop_slot, fill_slot, must_move};
+pub use taking::take_slot;

@@ -1,0 +1,117 @@
+//! A free slot is taken.
+ghost use Rattle.std.specs.Prelude.{◌≡◌, ◌≢◌, ◌<◌, [], length, not, false, true, slice_get, slice_set};
+ghost use Rattle.std.specs.List.{Contains, position};
+ghost use Rattle.step_ledger.specs.Counting.{RoseAtMost};
+ghost use Rattle.class_lists.specs.PageLists.{AreApart, IsUnlisted, pages_in};
+ghost use Rattle.page_slots.specs.Tables.{AreTables, Joins, tables, used_in};
+ghost use Rattle.page_slots.specs.Taking.{FillsPage, TakesSlot};
+
+use crate::place::address_of;
+use class_lists::{ClassLists, Which};
+use page_pool::PagePool;
+use size_classes::Classes;
+use slot_bitmap::SlotMap;
+use step_ledger::Steps;
+
+/// Takes a free slot of class c, and answers its address: the least free slot of the front page of
+/// the class that is not full, else the first slot of the front page of the pool. There is none
+/// where the class has no page that is not full and no page is free, and then nothing changes.
+pub fn take_slot(
+    classes: &Classes,
+    maps: &mut [SlotMap],
+    lists: &mut ClassLists,
+    pool: &mut PagePool,
+    c: u32,
+    steps: &mut Steps,
+) -> Option<u32>
+    requires tables { AreTables classes.now (tables maps.old lists.old pool.old) }
+    requires class { c < length classes.now.sizes }
+    ensures taken { TakesSlot classes.now (tables maps.old lists.old pool.old) c result
+        (tables maps.new lists.new pool.new) }
+    ensures kept { AreTables classes.now (tables maps.new lists.new pool.new) }
+    ensures steps { RoseAtMost steps.old steps.new 26 }
+{
+    match lists.front(c, Which::NotFull, steps) {
+        Some(page) => {
+            let map = &mut maps[page as usize];
+            let slot = take_least(map, steps);
+            leave_if_filled(map, lists, c, page, steps);
+            Some(address_of(classes, c, page, slot))
+        }
+        None => take_on_free_page(classes, maps, lists, pool, c, steps),
+    }
+}
+
+/// Takes the least free slot of a page.
+fn take_least(map: &mut SlotMap, steps: &mut Steps) -> u32
+    requires { used_in map.old < length map.old }
+    ensures least { position (λ used. not used) map.old ≡ Some result }
+    ensures free { slice_get map.old result ≡ Some false }
+    ensures map { map.new ≡ slice_set map.old result true }
+    ensures steps { RoseAtMost steps.old steps.new 16 }
+{
+    let Some(slot) = map.first_free(steps) else {
+        unreachable!();
+    };
+    map.set(slot, steps);
+    slot
+}
+
+/// A page of class c with these slots goes to the full ones where it is full now.
+fn leave_if_filled(map: &SlotMap, lists: &mut ClassLists, c: u32, page: u32, steps: &mut Steps)
+    requires class { c < lists.old.classes }
+    requires apart { AreApart lists.old }
+    requires listed { Contains (pages_in lists.old c Which.NotFull) page }
+    ensures filled { used_in map.now ≡ length map.now → FillsPage lists.old c page lists.new }
+    ensures not_filled { used_in map.now ≢ length map.now → lists.new ≡ lists.old }
+    ensures kept { AreApart lists.new }
+    ensures steps { RoseAtMost steps.old steps.new 9 }
+{
+    if map.count(steps) == map.len() {
+        lists.unlink(c, Which::NotFull, page, steps);
+        lists.push(c, Which::Full, page, steps);
+    }
+}
+
+/// Takes the first slot of the front page of the pool, which becomes a page of class c.
+fn take_on_free_page(
+    classes: &Classes,
+    maps: &mut [SlotMap],
+    lists: &mut ClassLists,
+    pool: &mut PagePool,
+    c: u32,
+    steps: &mut Steps,
+) -> Option<u32>
+    requires tables { AreTables classes.now (tables maps.old lists.old pool.old) }
+    requires class { c < length classes.now.sizes }
+    requires none { pages_in lists.old c Which.NotFull ≡ [] }
+    ensures taken { TakesSlot classes.now (tables maps.old lists.old pool.old) c result
+        (tables maps.new lists.new pool.new) }
+    ensures kept { AreTables classes.now (tables maps.new lists.new pool.new) }
+    ensures steps { RoseAtMost steps.old steps.new 13 }
+{
+    let page = pool.take(steps)?;
+    let slots = classes.slots(c);
+    let mut map = SlotMap::new(slots);
+    map.set(0, steps);
+    maps[page as usize] = map;
+    join_with_one(lists, c, page, slots, steps);
+    Some(address_of(classes, c, page, 0))
+}
+
+/// A page of class c with so many slots, of which one is used, joins its list.
+fn join_with_one(lists: &mut ClassLists, c: u32, page: u32, slots: u32, steps: &mut Steps)
+    requires class { c < lists.old.classes }
+    requires page { page < lists.old.pages }
+    requires unlisted { IsUnlisted lists.old page }
+    ensures filled { slots ≡ 1 → Joins lists.old c Which.Full page lists.new }
+    ensures not_filled { slots ≢ 1 → Joins lists.old c Which.NotFull page lists.new }
+    ensures kept { AreApart lists.new }
+    ensures steps { RoseAtMost steps.old steps.new 4 }
+{
+    if slots == 1 {
+        lists.push(c, Which::Full, page, steps);
+    } else {
+        lists.push(c, Which::NotFull, page, steps);
+    }
+}
