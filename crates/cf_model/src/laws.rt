@@ -2,13 +2,16 @@
 //! law.
 ghost use Rattle.std.specs.Prelude.{◌≡◌, ◌≢◌, ℕ, List, None, length};
 ghost use Rattle.std.specs.FinMap.{get};
+ghost use Rattle.cf_base.specs.declared.answers.AccessFault.{AccessFault};
 ghost use Rattle.cf_base.specs.declared.answers.Freed.{Freed};
+ghost use Rattle.cf_base.specs.declared.answers.Refusal.{Refusal};
+ghost use Rattle.cf_base.specs.declared.answers.ResizeFault.{ResizeFault};
 ghost use Rattle.cf_base.specs.declared.answers.Resized.{Resized};
 ghost use Rattle.cf_base.specs.declared.kind.Kind.TheVariants.{NonMoving};
 ghost use Rattle.arrangement.specs.Steps.{Request};
 ghost use Rattle.cf_model.specs.Rules.{KeepsRules};
 ghost use Rattle.cf_model.specs.State.{HeapState};
-ghost use Rattle.cf_model.specs.Steps.{BlocksStay, ChangesCost, FreesObject, Part, ReadsBytes, ResizesObject, WritesBytes};
+ghost use Rattle.cf_model.specs.Steps.{BlocksStay, ChangesCost, FreesObject, GivesObject, IsFault, IsRefusedBy, IsResizeFault, Part, ReadsBytes, ResizesObject, WritesBytes};
 
 /// The bytes that were written are read again, and no other object changes.
 pub fn what_is_written_is_read()
@@ -36,5 +39,23 @@ pub fn blocks_of_others_stay()
         → KeepsRules old → KeepsRules new → ResizesObject old asked done new → BlocksStay old asked.number new }
     ensures refusal { (old new : HeapState) (h : ℕ) → old.kind ≡ NonMoving
         → KeepsRules old → KeepsRules new → ChangesCost old new → BlocksStay old h new }
+{
+}
+
+/// A call that does its work has no cause for a refusal, so that each refusal comes exactly where
+/// its cause holds; and a malloc has one cause at most.
+pub fn refusals_come_exactly_by_their_causes()
+    ensures malloc { (old new : HeapState) (asked : Request) (e : Refusal)
+        → GivesObject old asked new → ¬ IsRefusedBy old asked.length e }
+    ensures one_cause { (s : HeapState) (bytes : ℕ) (e f : Refusal)
+        → IsRefusedBy s bytes e → IsRefusedBy s bytes f → e ≡ f }
+    ensures free { (old new : HeapState) (h : ℕ) (freed : Freed)
+        → FreesObject old h freed new → ¬ (get old.held h ≡ None) }
+    ensures write { (old new : HeapState) (part : Part) (bytes : List ℕ) (e : AccessFault)
+        → WritesBytes old part bytes new → ¬ IsFault old part (length bytes) e }
+    ensures read { (s : HeapState) (part : Part) (count : ℕ) (out : List ℕ) (e : AccessFault)
+        → ReadsBytes s part count out → ¬ IsFault s part count e }
+    ensures resize { (old new : HeapState) (asked : Request) (done : Resized) (e : ResizeFault)
+        → ResizesObject old asked done new → ¬ IsResizeFault old asked e }
 {
 }
