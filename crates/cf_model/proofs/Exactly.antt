@@ -1,6 +1,6 @@
 -- Each answer excludes every other one.
-use Rattle.std.proofs.Common.{◌≡◌, ◌≢◌, ℕ, zero, suc, Bool, true, ◌+◌, ◌<◌, ◌≤◌, List, ◌∷◌, Option, Some, None, Result, Ok, Err, length, arith, sym, ◌∙◌, subst, inl, inr, ap, refl, cond}
-use Rattle.std.specs.Prelude.{◌⊎◌, count_by, nat_lt, ◌&&◌}
+use Rattle.std.proofs.Common.{◌≡◌, ℕ, zero, suc, Bool, ◌+◌, ◌<◌, ◌≤◌, ◌∷◌, Some, None, length, arith, sym, ◌∙◌, subst, inl, inr, ap, refl}
+use Rattle.std.specs.Prelude.{count_by, nat_lt, ◌&&◌}
 use Rattle.std.specs.List.{range_with_len}
 use Rattle.std.proofs.lemmas.List.Sums.{sum_by-cons}
 use Rattle.std.proofs.lemmas.Bool.{cases_eq}
@@ -22,7 +22,7 @@ use Rattle.arrangement.specs.Steps.{Request, IsFreePlace}
 use Rattle.arrangement.proofs.Counting.{part_yes}
 use Rattle.cf_model.specs.State.{HeapState, paging_in}
 use Rattle.cf_model.specs.Rules.{IsPaged, IsTiled}
-use Rattle.cf_model.specs.Steps.{GivesObject, IsPlacedBy, IsRefusedBy, LacksRoomIn, Part, PassesEnd, IsFault, ResizesObject, IsResizeFault}
+use Rattle.cf_model.specs.Steps.{GivesObject, IsPlacedBy, IsRefusedBy, LacksRoomIn, Part, IsFault, ResizesObject, IsResizeFault}
 
 counted : (f : ℕ → Bool) (a n c : ℕ) → a ≤ c → c < a + n → one (f c) ≡ 1 → 0 < count_by f (range_with_len a n)
 counted f a zero c low high holds = absurd (omega arith)
@@ -37,7 +37,7 @@ module _ (p : Paging) (m : Held) (n a : ℕ) (free : IsFreePlace p m n a) (lacki
   not_none : 0 < objects_on p m (class_for p n) (page_of p a) → objects_on p m (class_for p n) (page_of p a) < slots_of p (class_for p n) → 0 < not_full_pages p m (class_for p n)
   unfolding not_full_pages
   not_none some less = counted (λ page. nat_lt 0 (objects_on p m (class_for p n) page) && nat_lt (objects_on p m (class_for p n) page) (slots_of p (class_for p n))) 0 p.pages (page_of p a) (omega arith) (let h = free.slot.page in omega arith)
-    (part_yes (objects_on p m (class_for p n) (page_of p a)) (slots_of p (class_for p n)) some less)
+      (part_yes (objects_on p m (class_for p n) (page_of p a)) (slots_of p (class_for p n)) some less)
 
   -- where an object may be placed there is room
   place_is_room : ⊥

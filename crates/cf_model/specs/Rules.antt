@@ -1,5 +1,5 @@
 -- What holds at every state in which the calls leave an open manager.
-use Rattle.std.specs.Prelude.{◌≡◌, ◌≢◌, ℕ, IsTrue, ◌+◌, ◌*◌, ◌^◌, ◌≤◌, ◌<◌, List, [], Option, Some, None, length}
+use Rattle.std.specs.Prelude.{◌≡◌, ℕ, IsTrue, ◌+◌, ◌*◌, ◌^◌, ◌≤◌, ◌<◌, List, [], Option, Some, None, length}
 use Rattle.std.specs.FinMap.{get, len}
 use Rattle.cf_base.specs.Settings.{Profile}
 use Rattle.cf_base.specs.Limits.{is_page_size}

@@ -1,6 +1,3 @@
-use Rattle.std.proofs.Common.{◌≡◌, None, Some, sym, ◌∙◌, ℕ}
-use Rattle.std.specs.FinMap.{get}
-use Rattle.arrangement.specs.Held.{Held, Placed}
 use Rattle.cf_model.proofs.Exactly.{given_is_not_refused, one_cause, not_none_found, part_is_not_refused, resized_is_not_refused}
 use Rattle.cf_model.proofs.laws.refusals_come_exactly_by_their_causes.Goals as goal
 
