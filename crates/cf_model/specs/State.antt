@@ -1,31 +1,70 @@
 -- All that contracts see of a manager, in one record.
-use Rattle.std.specs.Prelude.{ℕ, Bool, List, refl}
-use Rattle.std.specs.Ordering.{nat_cmp}
+use Rattle.std.specs.Prelude.{ℕ, Bool, false, List, [], Option, ◌*◌, refl}
 use Rattle.std.specs.FinMap as map
-use Rattle.std.specs.Coded.{Coded, code_by, coded×, coded_ℕ, coded_list, coded_bool}
+use Rattle.std.specs.Coded.{Coded, code_by, coded×, coded_ℕ, coded_list, coded_bool, coded_option}
 use Rattle.cf_base.specs.Settings.{Profile}
 use Rattle.cf_base.specs.contracts.Kind as kind
 use Rattle.cf_base.specs.declared.kind.Kind.{Kind}
+use Rattle.cf_base.specs.declared.kind.Kind.TheVariants.{Moving, NonMoving, Tlsf, HalfFit}
+use Rattle.cf_base.specs.declared.kind.Layout.{Layout}
+use Rattle.cf_base.specs.declared.kind.Layout.TheVariants.{Words, Blocks}
+use Rattle.arrangement.specs.Held.{Held, placed_code}
+use Rattle.arrangement.specs.Paging.{Paging, paging_of}
+use Rattle.tiling.specs.Tiling.{Block}
 
--- the bytes of each live object, by its number
-abbrev pub Objects : Type 0
-Objects = map.FinMap nat_cmp (List ℕ)
-
+-- The kind, whether it is open, the settings; by class how many pages may be not full; the objects by number, each with its place and its bytes; the words of the region; by virtual block its physical block; the blocks that tile the region; and the cost of the last call. What doesn't apply to a kind is the empty list.
 pub record HeapState : Type 0 where
   pub kind : Kind
   pub is_open : Bool
   pub profile : Profile
-  pub objects : Objects
+  pub bounds : List ℕ
+  pub held : Held
+  pub words : List ℕ
+  pub frames : List ℕ
+  pub tiling : List Block
+  pub cost : ℕ
 
 -- the settings of a manager that was never open
 abbrev pub no_profile : Profile
 no_profile = record { pages = 0; page_words = 0; k = 0; proxies = 0 }
+
+-- a manager that was never open
+abbrev pub closed_state : Kind → HeapState
+closed_state kind = record { kind = kind; is_open = false; profile = no_profile; bounds = []; held = map.empty; words = []; frames = []; tiling = []; cost = 0 }
+
+-- which slot sizes a kind uses
+abbrev pub layout_of : Kind → Layout
+layout_of Moving = Words
+layout_of NonMoving = Blocks
+layout_of Tlsf = Words
+layout_of HalfFit = Words
+
+-- the pages and size classes of a manager of a kind with pages
+abbrev pub paging_in : HeapState → Paging
+paging_in s = paging_of s.profile (layout_of s.kind) s.bounds
+
+-- the words of the region
+abbrev pub region_words : Profile → ℕ
+region_words p = p.pages * p.page_words
 
 -- the parts of a state, as nested pairs
 abbrev pub profile_code : Coded Profile
 profile_code = code_by (ℕ × (ℕ × (ℕ × ℕ))) (coded× coded_ℕ (coded× coded_ℕ (coded× coded_ℕ coded_ℕ)))
     (λ p. (p.pages, (p.page_words, (p.k, p.proxies)))) (λ q. record { pages = q.0; page_words = q.1.0; k = q.1.1.0; proxies = q.1.1.1 }) (λ _. refl)
 
+abbrev pub block_code : Coded Block
+block_code = code_by (ℕ × (ℕ × Option ℕ)) (coded× coded_ℕ (coded× coded_ℕ (coded_option coded_ℕ)))
+    (λ b. (b.address, (b.size, b.owner))) (λ q. record { address = q.0; size = q.1.0; owner = q.1.1 }) (λ _. refl)
+
+abbrev pub Parts : Type 0
+Parts = Kind × (Bool × (Profile × (List ℕ × (Held × (List ℕ × (List ℕ × (List Block × ℕ)))))))
+
+abbrev pub parts_code : Coded Parts
+parts_code = coded× kind.the_row.coded (coded× coded_bool (coded× profile_code (coded× (coded_list coded_ℕ) (coded× (map.code coded_ℕ placed_code)
+    (coded× (coded_list coded_ℕ) (coded× (coded_list coded_ℕ) (coded× (coded_list block_code) coded_ℕ)))))))
+
 abbrev pub state_code : Coded HeapState
-state_code = code_by (Kind × (Bool × (Profile × Objects))) (coded× kind.the_row.coded (coded× coded_bool (coded× profile_code (map.code coded_ℕ (coded_list coded_ℕ)))))
-    (λ s. (s.kind, (s.is_open, (s.profile, s.objects)))) (λ q. record { kind = q.0; is_open = q.1.0; profile = q.1.1.0; objects = q.1.1.1 }) (λ _. refl)
+state_code = code_by Parts parts_code
+    (λ s. (s.kind, (s.is_open, (s.profile, (s.bounds, (s.held, (s.words, (s.frames, (s.tiling, s.cost)))))))))
+    (λ q. record { kind = q.0; is_open = q.1.0; profile = q.1.1.0; bounds = q.1.1.1.0; held = q.1.1.1.1.0; words = q.1.1.1.1.1.0; frames = q.1.1.1.1.1.1.0; tiling = q.1.1.1.1.1.1.1.0; cost = q.1.1.1.1.1.1.1.1 })
+    (λ _. refl)

@@ -1,19 +1,32 @@
 -- The steps of a manager, from its state before to its state after.
-use Rattle.std.specs.Prelude.{◌≡◌, ℕ, true, ◌≤◌, ◌<◌, None, Result, Ok, Err, replicate}
-use Rattle.std.specs.FinMap as map
+use Rattle.std.specs.Prelude.{◌≡◌, ◌≢◌, ℕ, ◌+◌, ◌*◌, ◌/◌, ◌≤◌, ◌<◌, List, [], Option, Some, None, Result, Ok, Err, true, false, length, take, drop, replicate, slice_index, option_map}
+use Rattle.std.specs.FinMap.{get, insert, remove, len, empty}
 use Rattle.cf_base.specs.Classes.{need}
-use Rattle.cf_base.specs.Settings.{profile_of}
+use Rattle.cf_base.specs.Settings.{Profile, profile_of}
+use Rattle.cf_base.specs.declared.answers.AccessFault.{AccessFault}
+use Rattle.cf_base.specs.declared.answers.AccessFault.TheVariants as access
+use Rattle.cf_base.specs.declared.answers.Freed.{Freed}
 use Rattle.cf_base.specs.declared.answers.Handle.{Handle}
+use Rattle.cf_base.specs.declared.answers.NotLive.{NotLive}
 use Rattle.cf_base.specs.declared.answers.Refusal.{Refusal}
-use Rattle.cf_base.specs.declared.answers.Refusal.TheVariants.{Size, Proxy, Space}
+use Rattle.cf_base.specs.declared.answers.Refusal.TheVariants as refusal
+use Rattle.cf_base.specs.declared.answers.Resized.{Resized}
+use Rattle.cf_base.specs.declared.answers.ResizeFault.{ResizeFault}
+use Rattle.cf_base.specs.declared.answers.ResizeFault.TheVariants as resize
+use Rattle.cf_base.specs.declared.kind.Kind.{Kind}
+use Rattle.cf_base.specs.declared.kind.Kind.TheVariants.{Moving, NonMoving, Tlsf, HalfFit}
 use Rattle.cf_base.specs.declared.settings.Settings.{Settings}
-use Rattle.cf_model.specs.State.{HeapState}
-
--- an open heap without objects, under these settings
-pub record IsEmptyHeap (s : Settings) (new : HeapState) : Type 0 where
-  pub open_now : new.is_open ≡ true
-  pub profile : new.profile ≡ profile_of s
-  pub objects : new.objects ≡ map.empty
+use Rattle.arrangement.specs.Held.{Placed, objects}
+use Rattle.arrangement.specs.Paging.{class_for, first_bounds}
+use Rattle.arrangement.specs.Arrangement.{class_at, LacksRoom}
+use Rattle.arrangement.specs.Bytes.{written}
+use Rattle.arrangement.specs.Frames.{first_frames, frames_after, block_of, IsPhysical}
+use Rattle.arrangement.specs.Image.{IsOutside, slot_for}
+use Rattle.arrangement.specs.Steps.{Request, Outcome, IsFreePlace, zeros_at, Moves, without, resized, IsResizeStep as IsResizedBy}
+use Rattle.tiling.specs.Buckets.{tlsf, half_fit}
+use Rattle.tiling.specs.Tiling.{Block, LacksBlock, Carves, released, one_free_block, block_need, size_at}
+use Rattle.cf_model.specs.State.{HeapState, paging_in, layout_of, region_words}
+use Rattle.cf_model.specs.Rules.{IsPaged, IsTiled}
 
 -- the same manager, open under the same settings
 pub record StaysOpen (old new : HeapState) : Type 0 where
@@ -21,20 +34,263 @@ pub record StaysOpen (old new : HeapState) : Type 0 where
   pub open_now : new.is_open ≡ true
   pub profile : new.profile ≡ old.profile
 
--- a number that wasn't live is given to so many zeros
-pub record AddsObject (old new : HeapState) (bytes h : ℕ) : Type 0 where
-  pub fits : need bytes ≤ old.profile.page_words
-  pub in_range : h < old.profile.proxies
-  pub fresh : map.get old.objects h ≡ None
-  pub added : new.objects ≡ map.insert old.objects h (replicate bytes 0)
+-- nothing changes but the cost
+abbrev pub ChangesCost : HeapState → HeapState → Type 0
+ChangesCost old new = new ≡ record old { cost = new.cost }
 
--- the cause of each refusal; no proxy and no space are wanting to the first object
+-- the same manager, closed
+pub record IsClosed (old new : HeapState) : Type 0 where
+  pub kind : new.kind ≡ old.kind
+  pub closed : new.is_open ≡ false
+
+-- the bounds that the classes begin with
+abbrev pub opening_bounds : Kind → Profile → List ℕ
+opening_bounds Moving p = first_bounds p (layout_of Moving)
+opening_bounds NonMoving p = first_bounds p (layout_of NonMoving)
+opening_bounds Tlsf p = []
+opening_bounds HalfFit p = []
+
+-- each block at its own place, where there is a block table
+abbrev pub opening_frames : Kind → Profile → List ℕ
+opening_frames Moving p = []
+opening_frames NonMoving p = first_frames (region_words p / 4)
+opening_frames Tlsf p = []
+opening_frames HalfFit p = []
+
+-- one free block, where there are blocks
+abbrev pub opening_tiling : Kind → Profile → List Block
+opening_tiling Moving p = []
+opening_tiling NonMoving p = []
+opening_tiling Tlsf p = one_free_block (region_words p)
+opening_tiling HalfFit p = one_free_block (region_words p)
+
+-- the words of an empty heap with pages are zeros; those of one free block are told by the rules
+abbrev pub IsOpeningWords : Kind → Profile → List ℕ → Type 0
+IsOpeningWords Moving p words = words ≡ replicate (region_words p) 0
+IsOpeningWords NonMoving p words = words ≡ replicate (region_words p) 0
+IsOpeningWords Tlsf p words = Unit {0}
+IsOpeningWords HalfFit p words = Unit {0}
+
+-- an open heap without objects, under these settings
+abbrev pub empty_heap : Kind → Profile → List ℕ → HeapState
+empty_heap kind p words = record { kind = kind; is_open = true; profile = p; bounds = opening_bounds kind p; held = empty; words = words; frames = opening_frames kind p; tiling = opening_tiling kind p; cost = 0 }
+
+-- An open heap without objects. Each class has the bound of the settings.
+pub record IsEmptyHeap (kind : Kind) (s : Settings) (new : HeapState) : Type 0 where
+  pub words : IsOpeningWords kind (profile_of s) new.words
+  pub whole : new ≡ empty_heap kind (profile_of s) new.words
+
+-- There is no room for an object of so many bytes: no page of its class is not full and none is free, or no free block serves.
+abbrev pub LacksRoomIn : Kind → HeapState → ℕ → Type 0
+LacksRoomIn Moving s bytes = LacksRoom (paging_in s) s.held (class_for (paging_in s) bytes)
+LacksRoomIn NonMoving s bytes = LacksRoom (paging_in s) s.held (class_for (paging_in s) bytes)
+LacksRoomIn Tlsf s bytes = LacksBlock tlsf s.tiling (block_need bytes)
+LacksRoomIn HalfFit s bytes = LacksBlock half_fit s.tiling (block_need bytes)
+
+abbrev pub lacks_room : HeapState → ℕ → Type 0
+lacks_room s bytes = LacksRoomIn s.kind s bytes
+
+-- where an object that is asked for may be placed
+abbrev pub IsPlacedBy : Kind → HeapState → Request → ℕ → HeapState → Type 0
+IsPlacedBy Moving old asked place new = IsFreePlace (paging_in old) old.held asked.length place
+IsPlacedBy NonMoving old asked place new = IsFreePlace (paging_in old) old.held asked.length place
+IsPlacedBy Tlsf old asked place new = Carves tlsf old.tiling (record { need = block_need asked.length; owner = asked.number }) place new.tiling
+IsPlacedBy HalfFit old asked place new = Carves half_fit old.tiling (record { need = block_need asked.length; owner = asked.number }) place new.tiling
+
+-- A number that wasn't live is given to so many zeros.
+pub record GivesObject (old : HeapState) (asked : Request) (new : HeapState) : Type 0 where
+  pub fits : need asked.length ≤ old.profile.page_words
+  pub few : len old.held < old.profile.proxies
+  pub in_range : asked.number < old.profile.proxies
+  pub unused : get old.held asked.number ≡ None
+  pub place : ℕ
+  pub placed : IsPlacedBy old.kind old asked place new
+  pub whole : new ≡ record old { held = insert old.held asked.number (zeros_at place asked.length); words = new.words; tiling = new.tiling; cost = new.cost }
+
+-- all proxies are in use, and the object would fit a page
+pub record WantsProxy (s : HeapState) (bytes : ℕ) : Type 0 where
+  pub fits : need bytes ≤ s.profile.page_words
+  pub all : len s.held ≡ s.profile.proxies
+
+-- there is no room, and neither the size nor the proxies are the cause
+pub record WantsSpace (s : HeapState) (bytes : ℕ) : Type 0 where
+  pub fits : need bytes ≤ s.profile.page_words
+  pub few : len s.held < s.profile.proxies
+  pub lacking : lacks_room s bytes
+
+-- the cause of each refusal of a malloc
 abbrev pub IsRefusedBy : HeapState → ℕ → Refusal → Type 0
-IsRefusedBy s bytes Size = s.profile.page_words < need bytes
-IsRefusedBy s bytes Proxy = ⊥
-IsRefusedBy s bytes Space = ⊥
+IsRefusedBy s bytes refusal.Size = s.profile.page_words < need bytes
+IsRefusedBy s bytes refusal.Proxy = WantsProxy s bytes
+IsRefusedBy s bytes refusal.Space = WantsSpace s bytes
 
--- a malloc adds an object, or is refused and changes nothing
+-- a malloc adds an object, or is refused and changes the cost alone
 abbrev pub IsMallocStep : HeapState → ℕ → Result Handle Refusal → HeapState → Type 0
-IsMallocStep old bytes (Ok h) new = AddsObject old new bytes h.0
-IsMallocStep old bytes (Err e) new = IsRefusedBy old bytes e × (new ≡ old)
+IsMallocStep old bytes (Ok h) new = GivesObject old (record { number = h.0; length = bytes }) new
+IsMallocStep old bytes (Err e) new = IsRefusedBy old bytes e × ChangesCost old new
+
+-- the words of the slot or block of an object
+abbrev pub slot_in : Kind → HeapState → Placed → ℕ
+slot_in Moving s x = slot_for (paging_in s) (length x.bytes)
+slot_in NonMoving s x = slot_for (paging_in s) (length x.bytes)
+slot_in Tlsf s x = size_at s.tiling x.place
+slot_in HalfFit s x = size_at s.tiling x.place
+
+-- which object a free of x moves: with pages one where it must, with blocks never one
+abbrev pub MovesIn : Kind → HeapState → Placed → Option ℕ → Type 0
+MovesIn Moving s x moved = Moves (paging_in s) s.held x moved
+MovesIn NonMoving s x moved = Moves (paging_in s) s.held x moved
+MovesIn Tlsf s x moved = moved ≡ None
+MovesIn HalfFit s x moved = moved ≡ None
+
+-- the block table after a step; only an object that moves exchanges blocks
+abbrev pub frames_left : Kind → HeapState → Outcome → List ℕ
+frames_left Moving s after = s.frames
+frames_left NonMoving s after = frames_after (paging_in s) s.held after s.frames
+frames_left Tlsf s after = s.frames
+frames_left HalfFit s after = s.frames
+
+-- the blocks after the one at the place is released
+abbrev pub tiling_left : Kind → HeapState → ℕ → List Block
+tiling_left Moving s place = s.tiling
+tiling_left NonMoving s place = s.tiling
+tiling_left Tlsf s place = released s.tiling place
+tiling_left HalfFit s place = released s.tiling place
+
+-- the number of a handle, where there is one
+abbrev pub number_of : Option Handle → Option ℕ
+number_of moved = option_map (λ (h : Handle). h.0) moved
+
+-- what a free of the object leaves
+abbrev pub outcome_of : HeapState → ℕ → Placed → Option ℕ → Outcome
+outcome_of old h x moved = record { held = without old.held h x.place moved; moved = moved }
+
+-- An object goes, and the one that moved has its place. All others keep their bytes.
+pub record FreesObject (old : HeapState) (h : ℕ) (freed : Freed) (new : HeapState) : Type 0 where
+  pub object : Placed
+  pub found : get old.held h ≡ Some object
+  pub slot : freed.slot_words ≡ slot_in old.kind old object
+  pub moves : MovesIn old.kind old object (number_of freed.moved)
+  pub left : objects new.held ≡ remove (objects old.held) h
+  pub whole : new ≡ record old { held = without old.held h object.place (number_of freed.moved); words = new.words; frames = frames_left old.kind old (outcome_of old h object (number_of freed.moved)); tiling = tiling_left old.kind old object.place; cost = new.cost }
+
+-- a free takes an object away, or is refused and changes the cost alone
+abbrev pub IsFreeStep : HeapState → ℕ → Result Freed NotLive → HeapState → Type 0
+IsFreeStep old h (Ok freed) new = FreesObject old h freed new
+IsFreeStep old h (Err e) new = (get old.held h ≡ None) × ChangesCost old new
+
+-- a part of an object that is read or written: its number, and the byte where it begins
+pub record Part : Type 0 where
+  pub number : ℕ
+  pub from : ℕ
+
+-- the part of so many bytes passes the end of the object
+pub record PassesEnd (s : HeapState) (part : Part) (count : ℕ) : Type 0 where
+  pub object : Placed
+  pub found : get s.held part.number ≡ Some object
+  pub past : length object.bytes < part.from + count
+
+-- the cause of each refusal of a read or a write of so many bytes
+abbrev pub IsFault : HeapState → Part → ℕ → AccessFault → Type 0
+IsFault s part count access.Unknown = get s.held part.number ≡ None
+IsFault s part count access.Range = PassesEnd s part count
+
+-- with blocks, no word outside the object's block changes
+abbrev pub StaysOutside : Kind → HeapState → Placed → HeapState → Type 0
+StaysOutside Moving old x new = Unit {0}
+StaysOutside NonMoving old x new = Unit {0}
+StaysOutside Tlsf old x new = (w : ℕ) → IsOutside x.place (size_at old.tiling x.place) w → slice_index new.words w ≡ slice_index old.words w
+StaysOutside HalfFit old x new = (w : ℕ) → IsOutside x.place (size_at old.tiling x.place) w → slice_index new.words w ≡ slice_index old.words w
+
+-- The bytes stand in the object from `from` on, and nothing else changes.
+pub record WritesBytes (old : HeapState) (part : Part) (bytes : List ℕ) (new : HeapState) : Type 0 where
+  pub object : Placed
+  pub found : get old.held part.number ≡ Some object
+  pub within : part.from + length bytes ≤ length object.bytes
+  pub outside : StaysOutside old.kind old object new
+  pub whole : new ≡ record old { held = insert old.held part.number (record object { bytes = written object.bytes part.from bytes }); words = new.words }
+
+-- a write replaces bytes, or is refused and changes nothing
+abbrev pub IsWriteStep : HeapState → Part → List ℕ → Result Unit AccessFault → HeapState → Type 0
+IsWriteStep old part bytes (Ok u) new = WritesBytes old part bytes new
+IsWriteStep old part bytes (Err e) new = IsFault old part (length bytes) e × (new ≡ old)
+
+-- The bytes of a part, as many as there was room for.
+pub record ReadsBytes (s : HeapState) (part : Part) (count : ℕ) (bytes : List ℕ) : Type 0 where
+  pub object : Placed
+  pub found : get s.held part.number ≡ Some object
+  pub within : part.from + count ≤ length object.bytes
+  pub value : bytes ≡ take count (drop part.from object.bytes)
+
+-- a read gives the bytes, or is refused and leaves the room as it was
+abbrev pub IsReadAnswer : HeapState → Part → List ℕ → Result Unit AccessFault → List ℕ → Type 0
+IsReadAnswer s part room (Ok u) out = ReadsBytes s part (length room) out
+IsReadAnswer s part room (Err e) out = IsFault s part (length room) e × (out ≡ room)
+
+-- An object has another length: its first bytes stay, and zeros are added. In another class it goes to a new place, as a malloc and a free do.
+pub record ResizesObject (old : HeapState) (asked : Request) (done : Resized) (new : HeapState) : Type 0 where
+  pub pages : IsPaged old.kind
+  pub fits : need asked.length ≤ old.profile.page_words
+  pub object : Placed
+  pub found : get old.held asked.number ≡ Some object
+  pub old_slot : done.old_slot_words ≡ slot_for (paging_in old) (length object.bytes)
+  pub slot : done.slot_words ≡ slot_for (paging_in old) asked.length
+  pub step : IsResizedBy (paging_in old) old.held asked (record { held = new.held; moved = number_of done.moved })
+  pub left : objects new.held ≡ insert (objects old.held) asked.number (resized object.bytes asked.length)
+  pub whole : new ≡ record old { held = new.held; words = new.words; frames = frames_left old.kind old (record { held = new.held; moved = number_of done.moved }); cost = new.cost }
+
+-- the number is live, and the kind has no resize
+pub record HasNoResize (s : HeapState) (h : ℕ) : Type 0 where
+  pub object : Placed
+  pub found : get s.held h ≡ Some object
+  pub blocks : IsTiled s.kind
+
+-- the number is live, and its object would need more than a page
+pub record PassesPage (s : HeapState) (asked : Request) : Type 0 where
+  pub object : Placed
+  pub found : get s.held asked.number ≡ Some object
+  pub pages : IsPaged s.kind
+  pub large : s.profile.page_words < need asked.length
+
+-- the number is live, and there is no room for its object in another class
+pub record WantsSlot (s : HeapState) (asked : Request) : Type 0 where
+  pub object : Placed
+  pub found : get s.held asked.number ≡ Some object
+  pub pages : IsPaged s.kind
+  pub fits : need asked.length ≤ s.profile.page_words
+  pub other : class_for (paging_in s) asked.length ≢ class_at (paging_in s) object
+  pub lacking : LacksRoom (paging_in s) s.held (class_for (paging_in s) asked.length)
+
+-- the cause of each refusal of a resize
+abbrev pub IsResizeFault : HeapState → Request → ResizeFault → Type 0
+IsResizeFault s asked resize.Unknown = get s.held asked.number ≡ None
+IsResizeFault s asked resize.Kind = HasNoResize s asked.number
+IsResizeFault s asked resize.Size = PassesPage s asked
+IsResizeFault s asked resize.Space = WantsSlot s asked
+
+-- a refused resize changes the cost alone, and with blocks nothing at all
+abbrev pub IsUnmoved : Kind → HeapState → HeapState → Type 0
+IsUnmoved Moving old new = ChangesCost old new
+IsUnmoved NonMoving old new = ChangesCost old new
+IsUnmoved Tlsf old new = new ≡ old
+IsUnmoved HalfFit old new = new ≡ old
+
+-- a resize gives an object another length, or is refused
+abbrev pub IsResizeStep : HeapState → Request → Result Resized ResizeFault → HeapState → Type 0
+IsResizeStep old asked (Ok done) new = ResizesObject old asked done new
+IsResizeStep old asked (Err e) new = IsResizeFault old asked e × IsUnmoved old.kind old new
+
+-- Block i of each object but h is the same, and so are the physical words of its slot.
+pub record BlocksStay (old : HeapState) (h : ℕ) (new : HeapState) : Type 0 where
+  pub blocks : (q : ℕ) (x y : Placed) → q ≢ h → get old.held q ≡ Some x → get new.held q ≡ Some y → (i : ℕ) → i < slot_for (paging_in old) (length x.bytes) / 4
+      → block_of new.frames y.place i ≡ block_of old.frames x.place i
+  pub words : (before after : List ℕ) → IsPhysical old.frames old.words before → IsPhysical new.frames new.words after
+      → (q : ℕ) (x y : Placed) → q ≢ h → get old.held q ≡ Some x → get new.held q ≡ Some y → (i j : ℕ) → i < slot_for (paging_in old) (length x.bytes) / 4 → j < 4
+      → slice_index after (4 * block_of old.frames x.place i + j) ≡ slice_index before (4 * block_of old.frames x.place i + j)
+
+-- what a free or a resize of h leaves of the other objects' blocks
+abbrev pub BlocksStayIn : Kind → HeapState → ℕ → HeapState → Type 0
+BlocksStayIn Moving old h new = Unit {0}
+BlocksStayIn NonMoving old h new = BlocksStay old h new
+BlocksStayIn Tlsf old h new = Unit {0}
+BlocksStayIn HalfFit old h new = Unit {0}

@@ -1,6 +1,10 @@
-//! What every memory manager is: what contracts see of it, and the trait `Manager`.
+//! What every memory manager is: what contracts see of it, the trait `Manager`, and the opening of
+//! many managers.
 #![tactic(auto)]
 
+pub mod laws;
 mod manager;
+mod opening;
 
 pub use manager::Manager;
+pub use opening::open_all;

@@ -18,8 +18,8 @@ use Rattle.cf_io.specs.Lines.{Pushes, line_room}
 use Rattle.cf_io.specs.declared.line.Full.{Full}
 use Rattle.cf_io.specs.Feeds.{appended, Puts}
 use Rattle.cf_io.proofs.Feeding.{appended_then}
-use Rattle.cf_model.specs.State.{HeapState}
-use Rattle.cf_model.specs.Steps.{IsMallocStep}
+use Rattle.moving_heap.specs.State.{HeapState}
+use Rattle.moving_heap.specs.Steps.{IsMallocStep}
 use Rattle.cf_tool.specs.Script.{Item, start, malloc, bad, is_bad, items, items_from, lines, words, heap_words, malloc_words}
 use Rattle.cf_tool.specs.Run.{RunState, Step, MallocsAt, bad_line, fresh_run, line_of}
 use Rattle.cf_tool.specs.Outcome.{Answers, AnswersScript, AnswersTo, CutsReplyTo, RepliesBy, RepliesTo, status_of}

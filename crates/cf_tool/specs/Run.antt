@@ -4,7 +4,7 @@ use Rattle.std.specs.Ordering.{nat_cmp}
 use Rattle.std.specs.FinMap as map
 use Rattle.cf_base.specs.Classes.{need}
 use Rattle.cf_base.specs.Settings.{Profile}
-use Rattle.cf_model.specs.State.{Objects}
+use Rattle.arrangement.specs.Held.{Objects}
 use Rattle.cf_tool.specs.Script.{Item, start, malloc, bad}
 
 -- the settings, the handle of each live id, and the bytes of each live handle

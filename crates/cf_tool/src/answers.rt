@@ -9,7 +9,7 @@ ghost use Rattle.cf_tool.specs.Script.{bad, items_from, lines, malloc};
 use crate::script::{malloc_line, next_line};
 use cf_base::Failed;
 use cf_io::{Line, Sink, put_all};
-use cf_model::Manager;
+use moving_heap::MovingHeap;
 use step_ledger::Steps;
 
 /// How far the answers came.
@@ -52,16 +52,16 @@ fn answer_end<K: Sink>(rest: &[u8], sink: &mut K) -> Ending
 }
 
 /// Answers an `m` line on a heap without objects.
-fn answer_malloc<H: Manager, K: Sink>(
-    heap: &mut H,
+fn answer_malloc<K: Sink>(
+    heap: &mut MovingHeap,
     bytes: u32,
     steps: &mut Steps,
     sink: &mut K,
 ) -> Result<(), Failed>
-    requires open { IsTrue (H.state heap.old).is_open }
-    requires fresh { (H.state heap.old).objects ≡ map.empty }
+    requires open { IsTrue heap.old.is_open }
+    requires fresh { heap.old.objects ≡ map.empty }
     requires room { steps.old ≤ 2 ^ 63 }
-    ensures replies { (id : ℕ) → RepliesBy (Some (fresh_run (H.state heap.old).profile)) (malloc id bytes) (K.written sink.old) result (K.written sink.new) }
+    ensures replies { (id : ℕ) → RepliesBy (Some (fresh_run heap.old.profile)) (malloc id bytes) (K.written sink.old) result (K.written sink.new) }
     ensures grows { K.faults sink.old ≤ K.faults sink.new }
     ensures failed { OnErr result (Rose (K.faults sink.old) (K.faults sink.new)) }
 {
@@ -72,16 +72,16 @@ fn answer_malloc<H: Manager, K: Sink>(
 }
 
 /// Answers what follows the `heap` line, on a heap that was just opened.
-pub fn answer_requests<H: Manager, K: Sink>(
-    heap: &mut H,
+pub fn answer_requests<K: Sink>(
+    heap: &mut MovingHeap,
     rest: &[u8],
     steps: &mut Steps,
     sink: &mut K,
 ) -> Ending
-    requires open { IsTrue (H.state heap.old).is_open }
-    requires fresh { (H.state heap.old).objects ≡ map.empty }
+    requires open { IsTrue heap.old.is_open }
+    requires fresh { heap.old.objects ≡ map.empty }
     requires room { steps.old ≤ 2 ^ 63 }
-    ensures answers { AnswersTo (Some (fresh_run (H.state heap.old).profile)) (items_from 2 (lines rest.now)) (K.written sink.old) result (K.written sink.new) }
+    ensures answers { AnswersTo (Some (fresh_run heap.old.profile)) (items_from 2 (lines rest.now)) (K.written sink.old) result (K.written sink.new) }
     ensures grows { K.faults sink.old ≤ K.faults sink.new }
     ensures failed { result ≡ Ending.Cut → Rose (K.faults sink.old) (K.faults sink.new) }
 {

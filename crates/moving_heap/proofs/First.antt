@@ -7,8 +7,8 @@ use Rattle.std.proofs.lemmas.Bool.{false≢true}
 use Rattle.std.specs.Ordering.{nat_cmp}
 use Rattle.cf_base.specs.Classes.{need}
 use Rattle.cf_base.specs.declared.settings.Settings.{Settings}
-use Rattle.cf_model.specs.State.{HeapState}
-use Rattle.cf_model.specs.Steps.{AddsObject}
+use Rattle.moving_heap.specs.State.{HeapState}
+use Rattle.moving_heap.specs.Steps.{AddsObject}
 use Rattle.moving_heap.specs.View.{state_in}
 
 pub first_object : (settings : Option Settings) (object : Option ℕ) (s : HeapState) (bytes : ℕ) → state_in settings object ≡ s

@@ -4,7 +4,8 @@ use Rattle.std.specs.FinMap as map
 use Rattle.cf_base.specs.Settings.{Profile, profile_of}
 use Rattle.cf_base.specs.declared.settings.Settings.{Settings}
 use Rattle.cf_base.specs.declared.kind.Kind.TheVariants.{Moving}
-use Rattle.cf_model.specs.State.{HeapState, Objects, no_profile}
+use Rattle.arrangement.specs.Held.{Objects}
+use Rattle.moving_heap.specs.State.{HeapState, no_profile}
 
 abbrev pub profile_in : Option Settings → Profile
 profile_in None = no_profile

@@ -1,9 +1,11 @@
 //! The heap.
-ghost use Rattle.std.specs.Prelude.{◌≡◌, false};
+ghost use Rattle.std.specs.Prelude.{◌≡◌, false, ◌^◌, ◌≤◌, IsTrue, OnOk, OnErr};
+ghost use Rattle.std.specs.FinMap as map;
+ghost use Rattle.step_ledger.specs.Counting.{RoseAtMost};
+ghost use Rattle.moving_heap.specs.Steps.{IsEmptyHeap, IsMallocStep, StaysOpen};
 ghost use Rattle.moving_heap.specs.View.{profile_in};
 
 use cf_base::{Handle, Kind, OutOfMemory, Refusal, Settings, need_of};
-use cf_model::Manager;
 use std::alloc::Global;
 use std::marker::Model;
 use step_ledger::Steps;
@@ -16,7 +18,7 @@ pub struct MovingHeap {
 }
 
 impl Model for MovingHeap {
-    ghost use Rattle.cf_model.specs.State.{HeapState, state_code};
+    ghost use Rattle.moving_heap.specs.State.{HeapState, state_code};
 
     ghost Value = { HeapState };
 
@@ -37,27 +39,44 @@ impl MovingHeap {
             object: None,
         }
     }
-}
 
-impl Manager for MovingHeap {
-    ghost state = { λ s. s };
-
-    fn kind(&self) -> Kind {
+    /// The kind.
+    pub fn kind(&self) -> Kind
+        ensures { result ≡ self.now.kind }
+    {
         let _settings = &self.settings;
         Kind::Moving
     }
 
-    fn is_open(&self) -> bool {
+    /// Whether the heap is open.
+    pub fn is_open(&self) -> bool
+        ensures { result ≡ self.now.is_open }
+    {
         self.settings.is_some()
     }
 
-    fn open_heap(&mut self, s: &Settings) -> Result<(), OutOfMemory> {
+    /// Opens an empty heap with these settings, whatever stood before.
+    pub fn open_heap(&mut self, s: &Settings) -> Result<(), OutOfMemory>
+        ensures kind { self.new.kind ≡ self.old.kind }
+        ensures ok { OnOk result (IsEmptyHeap s.now self.new) }
+        ensures err { OnErr result (self.new.is_open ≡ false) }
+    {
         self.settings = Some(*s);
         self.object = None;
         Ok(())
     }
 
-    fn malloc(&mut self, bytes: u32, steps: &mut Steps) -> Result<Handle, Refusal> {
+    /// Adds an object of so many bytes, all zero, under a handle that wasn't live. A refusal changes
+    /// nothing.
+    pub fn malloc(&mut self, bytes: u32, steps: &mut Steps) -> Result<Handle, Refusal>
+        requires open { IsTrue self.old.is_open }
+        requires room { steps.old ≤ 2 ^ 63 }
+        // So far a heap holds one object.
+        requires fresh { self.old.objects ≡ map.empty }
+        ensures same { StaysOpen self.old self.new }
+        ensures step { IsMallocStep self.old bytes result self.new }
+        ensures bound { RoseAtMost steps.old steps.new 64 }
+    {
         if need_of(bytes) > page_words(&self.settings) {
             return Err(Refusal::Size);
         }

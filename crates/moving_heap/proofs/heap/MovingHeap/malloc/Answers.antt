@@ -1,7 +1,7 @@
 use Rattle.std.proofs.Common.{◌≡◌, arith, ap, ◌∙◌}
-use Rattle.cf_model.specs.State.{HeapState}
+use Rattle.moving_heap.specs.State.{HeapState}
 use Rattle.moving_heap.proofs.First.{first_object}
-use Rattle.moving_heap.proofs.heap.MovingHeapManager.malloc.Goals as goal
+use Rattle.moving_heap.proofs.heap.MovingHeap.malloc.Goals as goal
 
 pub returns-clause-step : goal.returns-clause-step
 returns-clause-step c =

@@ -1,0 +1,123 @@
+-- The blocks of the objects that a free or a resize leaves.
+use Rattle.std.proofs.Common.{◌≡◌, ◌≢◌, ℕ, ◌+◌, ◌*◌, ◌/◌, ◌%◌, ◌<◌, List, Some, length, get_or, arith, sym, ◌∙◌, subst, ap, refl}
+use Rattle.std.specs.Prelude.{option_map}
+use Rattle.std.specs.FinMap.{get}
+use Rattle.cf_lemmas.proofs.Maps.{get_insert_other, get_remove_other}
+use Rattle.cf_lemmas.proofs.MapValues.{get-map_values}
+use Rattle.cf_base.specs.declared.answers.Freed.{Freed}
+use Rattle.cf_base.specs.declared.answers.Resized.{Resized}
+use Rattle.cf_base.specs.declared.kind.Kind.TheVariants.{NonMoving}
+use Rattle.arrangement.specs.Held.{Held, Placed, objects}
+use Rattle.arrangement.specs.Paging.{IsPaging, paging_of}
+use Rattle.arrangement.specs.Arrangement.{IsSound}
+use Rattle.arrangement.specs.Frames.{AreBlocks, IsPhysical, block_of, frames_after}
+use Rattle.arrangement.specs.Image.{IsSlotImage, object_word, slot_for}
+use Rattle.arrangement.specs.Steps.{Request, Outcome, Moves, IsFreeStep as IsFreedBy}
+use Rattle.arrangement.proofs.BlockSteps.{free_blocks, resize_blocks}
+use Rattle.arrangement.proofs.Frames.{physical_word}
+use Rattle.arrangement.proofs.Sizes.{in_blocks}
+use Rattle.cf_model.specs.State.{HeapState, paging_in, layout_of}
+use Rattle.cf_model.specs.Rules.{KeepsRules, KeepsRulesOf}
+use Rattle.cf_model.specs.Steps.{FreesObject, ResizesObject, BlocksStay, MovesIn, frames_left, outcome_of, number_of}
+
+-- what the non-moving manager keeps
+record Framed (s : HeapState) : Type 0 where
+  paging : IsPaging (paging_in s)
+  blocks : AreBlocks (paging_in s)
+  sound : IsSound (paging_in s) s.held
+  slots : IsSlotImage (paging_in s) s.held s.words
+  count : length s.frames ≡ (paging_in s).pages * (paging_in s).page_words / 4
+
+framed : (s : HeapState) → s.kind ≡ NonMoving → KeepsRules s → Framed s
+framed s is keeps =
+    let own : KeepsRulesOf NonMoving s = subst (λ k. KeepsRulesOf k s) is keeps.of_kind in
+    let pages = own.0 in
+    let frames = own.1.count in
+    record {
+      paging = pages.paging;
+      blocks = subst (λ k. AreBlocks (paging_of s.profile (layout_of k) s.bounds)) (sym is) (in_blocks s.profile s.bounds keeps.settings.page_size);
+      sound = pages.sound;
+      slots = pages.slots;
+      count = omega arith;
+    }
+
+-- equal bytes in equal blocks are equal physical words
+module _ (old new : HeapState) (o : Framed old) (n : Framed new) (same : paging_in new ≡ paging_in old)
+    (q : ℕ) (x y : Placed) (e : get old.held q ≡ Some x) (f : get new.held q ≡ Some y) (bytes : y.bytes ≡ x.bytes) where
+  words_stay : (before after : List ℕ) → IsPhysical old.frames old.words before → IsPhysical new.frames new.words after
+      → (i j : ℕ) → i < slot_for (paging_in old) (length x.bytes) / 4 → j < 4 → block_of new.frames y.place i ≡ block_of old.frames x.place i
+      → get_or after (4 * block_of old.frames x.place i + j) 0 ≡ get_or before (4 * block_of old.frames x.place i + j) 0
+  words_stay before after is is' i j lt low stay =
+      let at : (4 * i + j) / 4 ≡ i = omega arith in
+      let rest : (4 * i + j) % 4 ≡ j = omega arith in
+      let inside : 4 * i + j < slot_for (paging_in old) (length x.bytes) = omega arith in
+      let inside' : 4 * i + j < slot_for (paging_in new) (length y.bytes) = subst (λ p. 4 * i + j < slot_for p (length y.bytes)) (sym same) (subst (λ v. 4 * i + j < slot_for (paging_in old) (length v)) (sym bytes) inside) in
+      let a = physical_word (paging_in old) o.paging o.blocks old.held o.sound old.frames old.words before o.count o.slots is q x e (4 * i + j) inside in
+      let b = physical_word (paging_in new) n.paging n.blocks new.held n.sound new.frames new.words after n.count n.slots is' q y f (4 * i + j) inside' in
+      let a' : get_or before (4 * block_of old.frames x.place i + j) 0 ≡ object_word q x.bytes (4 * i + j) = rw (at, rest) at a in
+      let b' : get_or after (4 * block_of new.frames y.place i + j) 0 ≡ object_word q y.bytes (4 * i + j) = rw (at, rest) at b in
+      let b'' : get_or after (4 * block_of old.frames x.place i + j) 0 ≡ object_word q y.bytes (4 * i + j) = rw stay at b' in
+      b'' ∙ ap (λ v. object_word q v (4 * i + j)) bytes ∙ sym a'
+
+-- objects that are the same in both have the same bytes
+bytes_of : (m : Held) (q : ℕ) (x : Placed) → get m q ≡ Some x → get (objects m) q ≡ Some x.bytes
+bytes_of m q x e = get-map_values (λ (z : Placed). z.bytes) m q ∙ ap (option_map (λ (z : Placed). z.bytes)) e
+
+some_equal : (u v : List ℕ) → Some u ≡ Some v → u ≡ v
+some_equal u v e = cc
+
+pub blocks_after_free : (old : HeapState) (h : ℕ) (freed : Freed) (new : HeapState) → old.kind ≡ NonMoving → KeepsRules old → KeepsRules new → FreesObject old h freed new → BlocksStay old h new
+blocks_after_free old h freed new is before after f =
+    let moved = number_of freed.moved in
+    let o = framed old is before in
+    let n = framed new (ap (λ (s : HeapState). s.kind) f.whole ∙ is) after in
+    let same : paging_in new ≡ paging_in old = ap paging_in f.whole in
+    let out : Outcome = outcome_of old h f.object moved in
+    let moves : Moves (paging_in old) old.held f.object moved = subst (λ k. MovesIn k old f.object moved) is f.moves in
+    let step : IsFreedBy (paging_in old) old.held h out = record { freed = f.object; found = f.found; moves = moves; left = refl } in
+    let frames : new.frames ≡ frames_after (paging_in old) old.held out old.frames = ap (λ (s : HeapState). s.frames) f.whole ∙ ap (λ k. frames_left k old out) is in
+    let held : new.held ≡ out.held = ap (λ (s : HeapState). s.held) f.whole in
+    let stay : (q : ℕ) (x y : Placed) → q ≢ h → get old.held q ≡ Some x → get new.held q ≡ Some y → (i : ℕ) → i < slot_for (paging_in old) (length x.bytes) / 4 → block_of new.frames y.place i ≡ block_of old.frames x.place i
+    = λ q x y ne e g i lt. rw frames (free_blocks (paging_in old) old.held old.frames o.paging o.blocks o.sound o.count h out step q x y ne e (ap (λ m. get m q) (sym held) ∙ g) i lt) in
+    record {
+      blocks = stay;
+      words = λ before after ph ph' q x y ne e g i j lt low.
+          let bytes = some_equal y.bytes x.bytes (sym (bytes_of new.held q y g) ∙ ap (λ m. get m q) f.left ∙ get_remove_other (objects old.held) h q ne ∙ bytes_of old.held q x e) in
+          words_stay old new o n same q x y e g bytes before after ph ph' i j lt low (stay q x y ne e g i lt);
+    }
+
+pub blocks_after_resize : (old : HeapState) (asked : Request) (done : Resized) (new : HeapState) → old.kind ≡ NonMoving → KeepsRules old → KeepsRules new → ResizesObject old asked done new → BlocksStay old asked.number new
+blocks_after_resize old asked done new is before after f =
+    let o = framed old is before in
+    let n = framed new (ap (λ (s : HeapState). s.kind) f.whole ∙ is) after in
+    let same : paging_in new ≡ paging_in old = ap paging_in f.whole in
+    let out : Outcome = record { held = new.held; moved = number_of done.moved } in
+    let frames : new.frames ≡ frames_after (paging_in old) old.held out old.frames = ap (λ (s : HeapState). s.frames) f.whole ∙ ap (λ k. frames_left k old out) is in
+    let stay : (q : ℕ) (x y : Placed) → q ≢ asked.number → get old.held q ≡ Some x → get new.held q ≡ Some y → (i : ℕ) → i < slot_for (paging_in old) (length x.bytes) / 4 → block_of new.frames y.place i ≡ block_of old.frames x.place i
+    = λ q x y ne e g i lt. rw frames (resize_blocks (paging_in old) old.held old.frames o.paging o.blocks o.sound o.count asked out f.step q x y ne e g i lt) in
+    record {
+      blocks = stay;
+      words = λ before after ph ph' q x y ne e g i j lt low.
+          let bytes = some_equal y.bytes x.bytes (sym (bytes_of new.held q y g) ∙ ap (λ m. get m q) f.left ∙ get_insert_other (objects old.held) asked.number _ q ne ∙ bytes_of old.held q x e) in
+          words_stay old new o n same q x y e g bytes before after ph ph' i j lt low (stay q x y ne e g i lt);
+    }
+
+-- where nothing but the cost changes, no block does
+pub blocks_after_refusal : (old : HeapState) (h : ℕ) (new : HeapState) → new ≡ record old { cost = new.cost } → old.kind ≡ NonMoving → KeepsRules old → KeepsRules new → BlocksStay old h new
+blocks_after_refusal old h new whole is before after =
+    let o = framed old is before in
+    let n = framed new (ap (λ (s : HeapState). s.kind) whole ∙ is) after in
+    let same : paging_in new ≡ paging_in old = ap paging_in whole in
+    let held : new.held ≡ old.held = ap (λ (s : HeapState). s.held) whole in
+    let frames : new.frames ≡ old.frames = ap (λ (s : HeapState). s.frames) whole in
+    let equal : (q : ℕ) (x y : Placed) → get old.held q ≡ Some x → get new.held q ≡ Some y → y ≡ x = λ q x y e g. placed_equal y x (sym g ∙ ap (λ m. get m q) held ∙ e) in
+    let stay : (q : ℕ) (x y : Placed) → get old.held q ≡ Some x → get new.held q ≡ Some y → (i : ℕ) → block_of new.frames y.place i ≡ block_of old.frames x.place i
+    = λ q x y e g i. (let s = equal q x y e g in rw (frames, s) refl) in
+    record {
+      blocks = λ q x y ne e g i lt. stay q x y e g i;
+      words = λ before after ph ph' q x y ne e g i j lt low.
+          words_stay old new o n same q x y e g (ap (λ (z : Placed). z.bytes) (equal q x y e g)) before after ph ph' i j lt low (stay q x y e g i);
+    }
+  where
+    placed_equal : (u v : Placed) → Some u ≡ Some v → u ≡ v
+    placed_equal u v e = cc

@@ -1,0 +1,5 @@
+use Rattle.cf_model.specs.Loops.{Opens, Sweep}
+use Rattle.cf_model.proofs.opening.open_all.Given as goal
+
+abbrev pub invariant-loop-i : goal.invariant-loop-i
+invariant-loop-i g l = Sweep (λ old new. Opens l.s (g.H.Manager.state old) (g.H.Manager.state new)) l.initial.managers.items l.managers.items l.i

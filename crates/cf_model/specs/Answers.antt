@@ -1,0 +1,72 @@
+-- What the calls that only look answer, and the bounds of the classes.
+use Rattle.std.specs.Prelude.{ℕ, ◌*◌, ◌/◌, Option, Some, None, if◌then◌else◌, length, nat_eq, nat_lt, position, option_map, slice_set}
+use Rattle.std.specs.FinMap.{get, len}
+use Rattle.cf_base.specs.declared.answers.Figures.{Figures}
+use Rattle.cf_base.specs.declared.answers.Totals.{Totals}
+use Rattle.cf_base.specs.declared.kind.Kind.{Kind}
+use Rattle.cf_base.specs.declared.kind.Kind.TheVariants.{Moving, NonMoving, Tlsf, HalfFit}
+use Rattle.arrangement.specs.Held.{Placed, objects}
+use Rattle.arrangement.specs.Figures.{figures_of, totals_of, asked_bytes}
+use Rattle.arrangement.specs.Frames.{block_of}
+use Rattle.arrangement.specs.Image.{slot_for}
+use Rattle.arrangement.specs.Paging.{classes}
+use Rattle.tiling.specs.Tiling.{used_words, used_blocks, free_blocks, largest_free}
+use Rattle.cf_model.specs.State.{HeapState, paging_in, region_words}
+
+-- the first word of an object's slot or block
+abbrev pub place_of : HeapState → ℕ → Option ℕ
+place_of s h = option_map (λ (x : Placed). x.place) (get s.held h)
+
+-- the physical block of block i of an object, where the object is live and has that block
+abbrev pub block_of_object : HeapState → Option Placed → ℕ → Option ℕ
+block_of_object s None i = None
+block_of_object s (Some x) i = if nat_lt i (slot_for (paging_in s) (length x.bytes) / 4) then Some (block_of s.frames x.place i) else None
+
+-- the same by kind: only one kind has physical blocks
+abbrev pub block_in : Kind → HeapState → ℕ → ℕ → Option ℕ
+block_in Moving s h i = None
+block_in NonMoving s h i = block_of_object s (get s.held h) i
+block_in Tlsf s h i = None
+block_in HalfFit s h i = None
+
+-- the number of classes; there are none with blocks
+abbrev pub classes_in : Kind → HeapState → ℕ
+classes_in Moving s = classes (paging_in s)
+classes_in NonMoving s = classes (paging_in s)
+classes_in Tlsf s = 0
+classes_in HalfFit s = 0
+
+-- the figures of a class
+abbrev pub figures_in : HeapState → ℕ → Option Figures
+figures_in s c = if nat_lt c (classes_in s.kind s) then Some (figures_of (paging_in s) s.held c) else None
+
+-- the figures of a heap with blocks
+abbrev pub block_totals : HeapState → Totals
+block_totals s = record {
+  live = len s.held;
+  asked = asked_bytes (objects s.held);
+  taken = 8 * used_words s.tiling;
+  held = 8 * region_words s.profile;
+  used = used_blocks s.tiling;
+  free = free_blocks s.tiling;
+  largest = largest_free s.tiling;
+}
+
+-- the figures of the whole heap
+abbrev pub totals_in : Kind → HeapState → Totals
+totals_in Moving s = totals_of (paging_in s) s.held
+totals_in NonMoving s = totals_of (paging_in s) s.held
+totals_in Tlsf s = block_totals s
+totals_in HalfFit s = block_totals s
+
+-- the class whose slots have so many words
+abbrev pub class_with : Kind → HeapState → ℕ → Option ℕ
+class_with Moving s words = position (λ w. nat_eq w words) (paging_in s).sizes
+class_with NonMoving s words = position (λ w. nat_eq w words) (paging_in s).sizes
+class_with Tlsf s words = None
+class_with HalfFit s words = None
+
+-- the class, where there is one, has this bound
+abbrev pub bound_put : HeapState → Option ℕ → ℕ → HeapState
+bound_put s None k = s
+bound_put s (Some c) k = record s { bounds = slice_set s.bounds c k }

@@ -1,0 +1,41 @@
+-- How many steps the calls may take. With blocks no bound is claimed.
+use Rattle.std.specs.Prelude.{◌≡◌, ℕ, ◌+◌, ◌*◌, ◌/◌, ◌%◌, ◌≤◌, Result, Ok, Err, if◌then◌else◌, nat_eq, max}
+use Rattle.step_ledger.specs.Counting.{RoseAtMost}
+use Rattle.cf_base.specs.declared.answers.Freed.{Freed}
+use Rattle.cf_base.specs.declared.answers.NotLive.{NotLive}
+use Rattle.cf_base.specs.declared.answers.Resized.{Resized}
+use Rattle.cf_base.specs.declared.answers.ResizeFault.{ResizeFault}
+use Rattle.cf_base.specs.declared.kind.Kind.{Kind}
+use Rattle.cf_base.specs.declared.kind.Kind.TheVariants.{Moving, NonMoving, Tlsf, HalfFit}
+
+-- the count of steps rose by at most n, where the kind has pages
+abbrev pub TakesAtMost : Kind → ℕ → ℕ → ℕ → Type 0
+TakesAtMost Moving old new n = RoseAtMost old new n
+TakesAtMost NonMoving old new n = RoseAtMost old new n
+TakesAtMost Tlsf old new n = old ≤ new
+TakesAtMost HalfFit old new n = old ≤ new
+
+-- a free: twice the words of the slot
+abbrev pub free_bound : Result Freed NotLive → ℕ
+free_bound (Ok freed) = 96 + 2 * freed.slot_words
+free_bound (Err e) = 96
+
+-- a resize: three times the words of the larger slot
+abbrev pub resize_bound : Result Resized ResizeFault → ℕ
+resize_bound (Ok done) = 160 + 3 * max done.old_slot_words done.slot_words
+resize_bound (Err e) = 160
+
+-- how many words of an object hold one of the bytes from `from` on
+abbrev pub words_touched : ℕ → ℕ → ℕ
+words_touched from count = if nat_eq count 0 then 0 else (from % 8 + count + 7) / 8
+
+-- a read or a write: three times the words that it touches
+abbrev pub access_bound : ℕ → ℕ → ℕ
+access_bound from count = 16 + 3 * words_touched from count
+
+-- with pages the cost is that of a resize too
+abbrev pub TellsCost : Kind → ℕ → ℕ → ℕ → Type 0
+TellsCost Moving old new cost = new ≡ old + cost
+TellsCost NonMoving old new cost = new ≡ old + cost
+TellsCost Tlsf old new cost = Unit {0}
+TellsCost HalfFit old new cost = Unit {0}

@@ -1,0 +1,105 @@
+-- What holds at every state in which the calls leave an open manager.
+use Rattle.std.specs.Prelude.{◌≡◌, ℕ, IsTrue, ◌+◌, ◌*◌, ◌^◌, ◌≤◌, ◌<◌, List, [], Option, Some, None, length}
+use Rattle.std.specs.FinMap.{get, len}
+use Rattle.cf_base.specs.Settings.{Profile}
+use Rattle.cf_base.specs.Limits.{is_page_size}
+use Rattle.cf_base.specs.declared.kind.Kind.{Kind}
+use Rattle.cf_base.specs.declared.kind.Kind.TheVariants.{Moving, NonMoving, Tlsf, HalfFit}
+use Rattle.arrangement.specs.Held.{Held, Placed}
+use Rattle.arrangement.specs.Paging.{IsPaging}
+use Rattle.arrangement.specs.Arrangement.{IsSound}
+use Rattle.arrangement.specs.Bytes.{AreBytes}
+use Rattle.arrangement.specs.Image.{IsImage, IsSlotImage, object_word}
+use Rattle.arrangement.specs.Frames.{IsPermuted}
+use Rattle.tiling.specs.Tiling.{Block, IsTiling, block_at, block_need}
+use Rattle.tiling.specs.Words.{AreTilingWords}
+use Rattle.cf_model.specs.State.{HeapState, paging_in, region_words}
+
+-- whether the kind cuts its memory into pages
+abbrev pub IsPaged : Kind → Type 0
+IsPaged Moving = Unit {0}
+IsPaged NonMoving = Unit {0}
+IsPaged Tlsf = ⊥
+IsPaged HalfFit = ⊥
+
+-- whether the kind cuts its memory into blocks
+abbrev pub IsTiled : Kind → Type 0
+IsTiled Moving = ⊥
+IsTiled NonMoving = ⊥
+IsTiled Tlsf = Unit {0}
+IsTiled HalfFit = Unit {0}
+
+-- the settings are in their ranges
+pub record AreInRange (p : Profile) : Type 0 where
+  pub some_pages : 1 ≤ p.pages
+  pub few_pages : p.pages ≤ 4096
+  pub page_size : IsTrue (is_page_size p.page_words)
+  pub some_bound : 1 ≤ p.k
+  pub low_bound : p.k ≤ 64
+  pub some_proxies : 1 ≤ p.proxies
+  pub few_proxies : p.proxies ≤ 65536
+  pub small_region : p.pages * p.page_words ≤ 2 ^ 23
+
+-- the objects have numbers that there are proxies for, and bytes
+pub record AreObjects (s : HeapState) : Type 0 where
+  pub handles : (h : ℕ) (x : Placed) → get s.held h ≡ Some x → h < s.profile.proxies
+  pub bytes : (h : ℕ) (x : Placed) → get s.held h ≡ Some x → AreBytes x.bytes
+  pub few : len s.held ≤ s.profile.proxies
+
+-- With pages: the classes have bounds, the arrangement is sound with them, and the words are the image of the objects, where zeros follow in each slot. So no class has more pages that are not full than its bound, and no page of a class is empty.
+pub record KeepsPages (s : HeapState) : Type 0 where
+  pub paging : IsPaging (paging_in s)
+  pub sound : IsSound (paging_in s) s.held
+  pub image : IsImage s.held s.words
+  pub slots : IsSlotImage (paging_in s) s.held s.words
+  pub no_tiling : s.tiling ≡ []
+
+-- without a block table
+abbrev pub HasNoFrames : HeapState → Type 0
+HasNoFrames s = s.frames ≡ []
+
+-- with a block table: it is a permutation of the blocks of four words
+pub record KeepsFrames (s : HeapState) : Type 0 where
+  pub count : 4 * length s.frames ≡ region_words s.profile
+  pub permuted : IsPermuted s.frames
+
+-- The block of an object: as many words as are needed, or one more.
+pub record IsBlockOf (b : Block) (h : ℕ) (x : Placed) : Type 0 where
+  pub owner : b.owner ≡ Some h
+  pub least : block_need (length x.bytes) ≤ b.size
+  pub most : b.size ≤ block_need (length x.bytes) + 1
+
+-- each object has the block at its place, and each used block has its object
+pub record AreOwned (m : Held) (blocks : List Block) : Type 0 where
+  pub placed : (h : ℕ) (x : Placed) → get m h ≡ Some x → (b : Block) × (block_at blocks x.place ≡ Some b) × IsBlockOf b h x
+  pub live : (a : ℕ) (b : Block) (h : ℕ) → block_at blocks a ≡ Some b → b.owner ≡ Some h → (x : Placed) × (get m h ≡ Some x) × (x.place ≡ a)
+
+-- word i of what number h has: its header, its bytes, then zeros
+abbrev pub content_word : Held → ℕ → ℕ → ℕ
+content_word m h i = content (get m h) h i
+  where
+    content : Option Placed → ℕ → ℕ → ℕ
+    content None h i = 0
+    content (Some x) h i = object_word h x.bytes i
+
+-- With blocks: they tile the region, those in use are the objects', and the words are theirs.
+pub record KeepsTiling (s : HeapState) : Type 0 where
+  pub tiling : IsTiling (region_words s.profile) s.tiling
+  pub owned : AreOwned s.held s.tiling
+  pub words : AreTilingWords (content_word s.held) s.tiling s.words
+  pub no_frames : s.frames ≡ []
+  pub no_bounds : s.bounds ≡ []
+
+-- what each kind keeps besides
+abbrev pub KeepsRulesOf : Kind → HeapState → Type 0
+KeepsRulesOf Moving s = KeepsPages s × HasNoFrames s
+KeepsRulesOf NonMoving s = KeepsPages s × KeepsFrames s
+KeepsRulesOf Tlsf s = KeepsTiling s
+KeepsRulesOf HalfFit s = KeepsTiling s
+
+-- The rules of an open manager.
+pub record KeepsRules (s : HeapState) : Type 0 where
+  pub settings : AreInRange s.profile
+  pub region : length s.words ≡ region_words s.profile
+  pub numbers : AreObjects s
+  pub of_kind : KeepsRulesOf s.kind s

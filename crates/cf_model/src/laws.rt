@@ -1,0 +1,71 @@
+//! What the clauses of `Manager` say together. The functions do nothing: what each ensures is the
+//! law.
+ghost use Rattle.std.specs.Prelude.{◌≡◌, ◌≢◌, ℕ, ◌≤◌, List, None, length, replicate, slice_index};
+ghost use Rattle.std.specs.FinMap.{get};
+ghost use Rattle.cf_base.specs.declared.answers.AccessFault.{AccessFault};
+ghost use Rattle.cf_base.specs.declared.answers.Freed.{Freed};
+ghost use Rattle.cf_base.specs.declared.answers.Refusal.{Refusal};
+ghost use Rattle.cf_base.specs.declared.answers.ResizeFault.{ResizeFault};
+ghost use Rattle.cf_base.specs.declared.answers.Resized.{Resized};
+ghost use Rattle.cf_base.specs.declared.kind.Kind.TheVariants.{Moving, NonMoving, Tlsf, HalfFit};
+ghost use Rattle.cf_base.specs.Settings.{Profile};
+ghost use Rattle.arrangement.specs.Steps.{Request};
+ghost use Rattle.cf_model.specs.Rules.{AreInRange, KeepsRules};
+ghost use Rattle.cf_model.specs.State.{HeapState, region_words};
+ghost use Rattle.cf_model.specs.Steps.{BlocksStay, ChangesCost, FreesObject, GivesObject, IsFault, IsRefusedBy, IsResizeFault, Part, ReadsBytes, ResizesObject, WritesBytes, empty_heap};
+
+/// An empty heap of each kind keeps the rules. With blocks, its words are the size of the one free
+/// block, an open word, and zeros.
+pub fn an_empty_heap_keeps_the_rules()
+    ensures moving { (p : Profile) → AreInRange p → KeepsRules (empty_heap Moving p (replicate (region_words p) 0)) }
+    ensures nonmoving { (p : Profile) → AreInRange p → KeepsRules (empty_heap NonMoving p (replicate (region_words p) 0)) }
+    ensures tlsf { (p : Profile) (words : List ℕ) → AreInRange p → length words ≡ region_words p
+        → slice_index words 0 ≡ region_words p → ((w : ℕ) → 2 ≤ w → slice_index words w ≡ 0)
+        → KeepsRules (empty_heap Tlsf p words) }
+    ensures half_fit { (p : Profile) (words : List ℕ) → AreInRange p → length words ≡ region_words p
+        → slice_index words 0 ≡ region_words p → ((w : ℕ) → 2 ≤ w → slice_index words w ≡ 0)
+        → KeepsRules (empty_heap HalfFit p words) }
+{}
+
+/// The bytes that were written are read again, and no other object changes.
+pub fn what_is_written_is_read()
+    ensures same { (old new : HeapState) (part : Part) (bytes out : List ℕ)
+        → WritesBytes old part bytes new → ReadsBytes new part (length bytes) out → out ≡ bytes }
+    ensures others { (old new : HeapState) (part : Part) (bytes : List ℕ)
+        → WritesBytes old part bytes new
+        → (q : ℕ) → q ≢ part.number → get new.held q ≡ get old.held q }
+{}
+
+/// An object that was freed isn't live.
+pub fn what_is_freed_is_gone()
+    ensures { (old new : HeapState) (h : ℕ) (freed : Freed)
+        → FreesObject old h freed new → get new.held h ≡ None }
+{}
+
+/// Where blocks are mapped, a free and a resize leave each block of every other object, and its
+/// physical words: this follows from their other clauses.
+pub fn blocks_of_others_stay()
+    ensures free { (old new : HeapState) (h : ℕ) (freed : Freed) → old.kind ≡ NonMoving
+        → KeepsRules old → KeepsRules new → FreesObject old h freed new → BlocksStay old h new }
+    ensures resize { (old new : HeapState) (asked : Request) (done : Resized) → old.kind ≡ NonMoving
+        → KeepsRules old → KeepsRules new → ResizesObject old asked done new → BlocksStay old asked.number new }
+    ensures refusal { (old new : HeapState) (h : ℕ) → old.kind ≡ NonMoving
+        → KeepsRules old → KeepsRules new → ChangesCost old new → BlocksStay old h new }
+{}
+
+/// A call that does its work has no cause for a refusal, so that each refusal comes exactly where
+/// its cause holds; and a malloc has one cause at most.
+pub fn refusals_come_exactly_by_their_causes()
+    ensures malloc { (old new : HeapState) (asked : Request) (e : Refusal)
+        → GivesObject old asked new → ¬ IsRefusedBy old asked.length e }
+    ensures one_cause { (s : HeapState) (bytes : ℕ) (e f : Refusal)
+        → IsRefusedBy s bytes e → IsRefusedBy s bytes f → e ≡ f }
+    ensures free { (old new : HeapState) (h : ℕ) (freed : Freed)
+        → FreesObject old h freed new → ¬ (get old.held h ≡ None) }
+    ensures write { (old new : HeapState) (part : Part) (bytes : List ℕ) (e : AccessFault)
+        → WritesBytes old part bytes new → ¬ IsFault old part (length bytes) e }
+    ensures read { (s : HeapState) (part : Part) (count : ℕ) (out : List ℕ) (e : AccessFault)
+        → ReadsBytes s part count out → ¬ IsFault s part count e }
+    ensures resize { (old new : HeapState) (asked : Request) (done : Resized) (e : ResizeFault)
+        → ResizesObject old asked done new → ¬ IsResizeFault old asked e }
+{}

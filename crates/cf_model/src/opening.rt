@@ -1,0 +1,27 @@
+//! Opening many managers.
+ghost use Rattle.std.specs.Prelude.{OnOk, OnErr};
+ghost use Rattle.cf_model.specs.Loops.{Opens, Pairwise, Stops};
+ghost use Rattle.cf_model.specs.Steps.{IsClosed};
+
+use crate::manager::Manager;
+use cf_base::{OutOfMemory, Settings};
+
+/// Opens each manager, in order, with these settings. At `OutOfMemory` those before one of them are
+/// open and empty, that one is closed, and those behind it are as they were.
+pub fn open_all<H: Manager>(managers: &mut Vec<H>, s: &Settings) -> Result<(), OutOfMemory>
+    ensures ok { OnOk result (Pairwise (λ old new. Opens s.now (H.state old) (H.state new)) managers.old.items managers.new.items) }
+    ensures err { OnErr result (Stops (λ old new. Opens s.now (H.state old) (H.state new)) (λ old new. IsClosed (H.state old) (H.state new)) managers.old.items managers.new.items) }
+{
+    for i in 0..managers.len() {
+        open_one(&mut managers[i], s)?;
+    }
+    Ok(())
+}
+
+/// Opens one manager.
+fn open_one<H: Manager>(manager: &mut H, s: &Settings) -> Result<(), OutOfMemory>
+    ensures ok { OnOk result (Opens s.now (H.state manager.old) (H.state manager.new)) }
+    ensures err { OnErr result (IsClosed (H.state manager.old) (H.state manager.new)) }
+{
+    manager.open_heap(s)
+}

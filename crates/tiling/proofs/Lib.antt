@@ -1,0 +1,5 @@
+pub mod Logs
+pub mod BucketLaws
+pub mod Steps
+pub mod Releases
+pub mod Others
