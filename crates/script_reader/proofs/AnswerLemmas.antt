@@ -63,7 +63,7 @@ answers_then a b c NeedMore p (passes, open_end, none, few, no_feed) =
 answers_then a b c (Bad line) p h =
     let (first, stopped, number, same_end, same_fed, drops) = subst (λ (o : Option ℕ). AnswersBad b o line c) p.still h in
     subst (λ (o : Option ℕ). AnswersBad a o line c) (sym p.going)
-        ((λ more ended. p.left more ended ∙ first more ended), stopped, number, same_end ∙ p.same_end, same_fed ∙ p.same_fed, drops_then a b c p.drops drops)
+    ((λ more ended. p.left more ended ∙ first more ended), stopped, number, same_end ∙ p.same_end, same_fed ∙ p.same_fed, drops_then a b c p.drops drops)
 answers_then a b c End p (passes, told, none, empty) = (passes_then a b c p passes, sym p.same_end ∙ told, p.left [] true ∙ none, empty)
 
 behind_shorter : (old : Reading) (len at : ℕ) (next : Stage) → IsFirstLine old.kept old.ended len at → length (behind_line old at next).kept < length old.kept
@@ -109,7 +109,7 @@ step_in_place old kept len at said next answer going same first says fits place 
     let first2 = subst (λ (k : List ℕ). IsFirstLine k old.ended len at) same first in
     let says2 = subst (λ (k : List ℕ). saying_of said ≡ line_says (take len k)) same says in
     go said answer gives fits (λ more e. line_in_place old len at (saying_of said) next going first2 says2 (sym place) more e)
-        place (advances_behind old len at next going first2)
+    place (advances_behind old len at next going first2)
   where
     go : (s : Said) (a : Option Next) → GivesSaid s a → IsSaidInRange s
         → ((more : List ℕ) (e : Bool) → items_left old more e ≡ said_items (saying_of s) (items_left (behind_line old at next) more e))
@@ -131,7 +131,7 @@ step_out_of_place old kept len at said going same first says place =
     let says2 = subst (λ (k : List ℕ). saying_of said ≡ line_says (take len k)) same says in
     let drops = drops_line old len at old.stage first2 in
     subst (λ (o : Option ℕ). AnswersBad old o (old.passed + 1) (record (behind_line old at old.stage) { stopped = Some (old.passed + 1) })) (sym going)
-        ((λ more e. line_out_of_place old len at (saying_of said) going first2 says2 (sym place) more e), refl, refl, refl, refl, record { front = drops.front; kept = drops.kept; counted = drops.counted })
+    ((λ more e. line_out_of_place old len at (saying_of said) going first2 says2 (sym place) more e), refl, refl, refl, refl, record { front = drops.front; kept = drops.kept; counted = drops.counted })
 
 few_kept : (kept : List ℕ) → is_last_line false kept ≡ false → length kept ≤ 8999
 few_kept [] none = omega arith

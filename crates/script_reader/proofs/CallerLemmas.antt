@@ -62,7 +62,7 @@ given_first (finishes ∷ rest) old now going (mid, is, are) =
     let first = given_first rest (record old { ended = true }) now going are2 in
     let first2 = subst (λ (more : List ℕ). AreFirstOf (items_given rest) (items_left (record old { ended = true }) more (is_finished rest))) nothing first in
     subst (λ (more : List ℕ). AreFirstOf (items_given rest) (items_left old more true)) (sym nothing)
-        (first_of_same _ _ _ (finished_left old (is_finished rest)) first2)
+    (first_of_same _ _ _ (finished_left old (is_finished rest)) first2)
 given_first (answers (Start settings) ∷ rest) old now going (mid, (advances, first), are) =
     after_item _ _ _ _ (first (bytes_fed rest) (is_finished rest)) (given_first rest mid now advances.still are)
 given_first (answers (Command command) ∷ rest) old now going (mid, (advances, fits, first), are) =

@@ -34,4 +34,4 @@ decoded r u text old slice out low high half lent same is value =
     go (Err e) gives value = let bad : Ok u ≡ Err e = sym is ∙ value in absurd cc
     go (Ok bytes) gives value =
         rw (le-leb 2 (length text) low, le-leb (length text) 8192 high, gives)
-            (ap Some (take_at out (drop (length out) old) (length old) (same ∙ ap length lent) ∙ value.1))
+        (ap Some (take_at out (drop (length out) old) (length old) (same ∙ ap length lent) ∙ value.1))

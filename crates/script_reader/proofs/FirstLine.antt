@@ -20,7 +20,7 @@ feed_found (x ∷ r) h = go (x == 10) refl h (feed_found r)
     go : (b : Bool) → (x == 10) ≡ b → cond (not b) (1 + feed_place r) 0 < suc (length r)
         → (feed_place r < length r → (r ≡ take (feed_place r) r ++ (10 ∷ drop (suc (feed_place r)) r)) × (holds_line_feed (take (feed_place r) r) ≡ false))
         → (x ∷ r ≡ take (cond (not b) (1 + feed_place r) 0) (x ∷ r) ++ (10 ∷ drop (suc (cond (not b) (1 + feed_place r) 0)) (x ∷ r)))
-            × (holds_line_feed (take (cond (not b) (1 + feed_place r) 0) (x ∷ r)) ≡ false)
+        × (holds_line_feed (take (cond (not b) (1 + feed_place r) 0) (x ∷ r)) ≡ false)
     go true is h rest = (ap (λ (y : ℕ). y ∷ r) (eqb-true x 10 is), refl)
     go false isnt h rest =
         let e : 1 + feed_place r ≡ suc (feed_place r) = omega arith in

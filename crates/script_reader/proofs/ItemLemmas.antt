@@ -90,7 +90,7 @@ open_items (x ∷ r) false none last more e n stage =
 -- the items from the first line on
 pub first_items : (kept : List ℕ) (ended : Bool) (len next : ℕ) → IsFirstLine kept ended len next → (more : List ℕ) (e : Bool) (n : ℕ) (stage : Stage)
     → items_come kept ended more e n stage
-        ≡ items_by (stage_after stage (line_says (take len kept))) (line_says (take len kept)) n (items_come (drop next kept) ended more e (n + 1))
+    ≡ items_by (stage_after stage (line_says (take len kept))) (line_says (take len kept)) n (items_come (drop next kept) ended more e (n + 1))
 first_items kept ended len next h more e n stage = go h.cut
   where
     go : ((kept ≡ take len kept ++ (10 ∷ drop next kept)) × (holds_line_feed (take len kept) ≡ false))

@@ -48,7 +48,7 @@ pub struct Reader {
 
 impl Model for Reader {
     ghost use Rattle.script_reader.specs.Answering.{GivesSaid};
-ghost use Rattle.script_reader.specs.Reading.{Reading};
+    ghost use Rattle.script_reader.specs.Reading.{Reading};
 
     ghost Value = { Reading };
 

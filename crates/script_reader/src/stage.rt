@@ -43,13 +43,7 @@ fn stage_behind(stage: Stage, bounds: bool) -> Option<Stage>
         } else {
             Stage::Running
         }),
-        Stage::Running => {
-            if bounds {
-                None
-            } else {
-                Some(Stage::Running)
-            }
-        }
+        Stage::Running => { if bounds { None } else { Some(Stage::Running) } }
     }
 }
 

@@ -16,8 +16,8 @@ returns-in-Some-stage_after c =
     let going = rw (← c.self.view_is) at c.requires in
     let same = take_rest c.as_slice.result.now c.self.inside.start ∙ ap (drop c.self.inside.start) c.as_slice.ensures.value in
     rw (← c.self.view_is, ← drop-drop c.in-Some.cut.next c.self.inside.start c.self.inside.buffer.items)
-        (step_in_place (reading_of c.self.inside) _ _ _ _ _ _ going same c.in-Some.ensures c.read_line-said.ensures.value c.read_line-said.ensures.fits
-            c.in-Some-stage_after.ensures c.answer_of.ensures)
+    (step_in_place (reading_of c.self.inside) _ _ _ _ _ _ going same c.in-Some.ensures c.read_line-said.ensures.value c.read_line-said.ensures.fits
+    c.in-Some-stage_after.ensures c.answer_of.ensures)
 
 pub returns-in-None : goal.returns-in-None
 returns-in-None c =
@@ -30,5 +30,5 @@ returns-in-None c =
       stopped = Some number;
     } in
     let answer : AnswersBad (reading_of c.self.inside) c.self.inside.stopped number later = rw (← drop-drop c.in-Some.cut.next c.self.inside.start c.self.inside.buffer.items)
-        (step_out_of_place (reading_of c.self.inside) _ _ _ _ going same c.in-Some.ensures c.read_line-said.ensures.value c.in-None.ensures) in
+    (step_out_of_place (reading_of c.self.inside) _ _ _ _ going same c.in-Some.ensures c.read_line-said.ensures.value c.in-None.ensures) in
     subst (λ (r : Reading). AnswersBad r r.stopped number later) c.self.view_is answer
