@@ -1,8 +1,9 @@
 -- The state in which opening leaves a manager keeps the rules.
 use Rattle.std.proofs.Common.{◌≡◌, ℕ, true, false, ◌+◌, ◌*◌, ◌/◌, ◌≤◌, List, [], Option, Some, None, length, get_or, replicate, arith, sym, ◌∙◌, inl, inr, ap, refl}
 use Rattle.std.specs.Prelude.{nat_eq}
-use Rattle.std.proofs.lemmas.List.{length-replicate}
-use Rattle.std.proofs.lemmas.Bool.{cases_eq}
+use Rattle.std.proofs.lemmas.List.{get_or-replicate, get_or_past, length-replicate}
+use Rattle.cf_base.specs.Classes.{sizes}
+use Rattle.std.proofs.lemmas.Bool.{cases_eq, cases_lt}
 use Rattle.std.proofs.lemmas.Bool.Decides.{nat_tests}
 use Rattle.std.specs.Ordering.{nat_cmp}
 use Rattle.std.specs.FinMap.{get, len, empty, get-empty, len-empty}
@@ -40,11 +41,18 @@ module _ (p : Profile) (ok : AreInRange p) where
   pages_kept : (k : Kind) (s : HeapState) → s ≡ record (empty_heap k p (replicate (region_words p) 0)) { bounds = first_bounds p (layout_of k); tiling = [] } → KeepsPages s
   pages_kept k s is = rw is (record {
     paging = first_paged p (layout_of k) ok.page_size ok.some_bound;
+    low_bounds = λ c. few (length (sizes p.page_words (layout_of k))) c;
     sound = sound_empty _;
     image = image_empty _ (region_words p);
     slots = image_empty _ (region_words p);
     no_tiling = refl;
   })
+    where
+      few : (n c : ℕ) → get_or (replicate n p.k) c 0 ≤ 64
+      few n c = (let low = ok.low_bound in elim (cases_lt c n) [
+        | inl lt ↦ rw (get_or-replicate {A = ℕ} n c p.k 0 lt) low
+        | inr past ↦ (let len : length (replicate {A = ℕ} n p.k) ≡ n = length-replicate n p.k in rw (get_or_past {X = ℕ} (replicate n p.k) c 0 (omega arith)) (omega arith))
+      ])
 
   -- the moving manager
   pub moving_empty : KeepsRules (empty_heap Moving p (replicate (region_words p) 0))

@@ -1,7 +1,7 @@
 //! What the clauses of `Manager` say together. The functions do nothing: what each ensures is the
 //! law.
-ghost use Rattle.std.specs.Prelude.{◌≡◌, ◌≢◌, ℕ, ◌≤◌, List, None, length, replicate, slice_index};
-ghost use Rattle.std.specs.FinMap.{get};
+ghost use Rattle.std.specs.Prelude.{◌≡◌, ◌≢◌, ℕ, ◌≤◌, List, None, Some, length, replicate, slice_index};
+ghost use Rattle.std.specs.FinMap.{get, insert, remove};
 ghost use Rattle.cf_base.specs.declared.answers.AccessFault.{AccessFault};
 ghost use Rattle.cf_base.specs.declared.answers.Freed.{Freed};
 ghost use Rattle.cf_base.specs.declared.answers.Refusal.{Refusal};
@@ -9,8 +9,11 @@ ghost use Rattle.cf_base.specs.declared.answers.ResizeFault.{ResizeFault};
 ghost use Rattle.cf_base.specs.declared.answers.Resized.{Resized};
 ghost use Rattle.cf_base.specs.declared.kind.Kind.TheVariants.{Moving, NonMoving, Tlsf, HalfFit};
 ghost use Rattle.cf_base.specs.Settings.{Profile};
-ghost use Rattle.arrangement.specs.Steps.{Request};
-ghost use Rattle.cf_model.specs.Rules.{AreInRange, KeepsRules};
+ghost use Rattle.arrangement.specs.Held.{Held, Placed};
+ghost use Rattle.tiling.specs.Buckets.{FreeLists};
+ghost use Rattle.tiling.specs.Tiling.{Block, Carves, IsCarvedTo, IsTiling, block_need, released};
+ghost use Rattle.arrangement.specs.Steps.{Request, zeros_at};
+ghost use Rattle.cf_model.specs.Rules.{AreInRange, AreOwned, KeepsRules};
 ghost use Rattle.cf_model.specs.State.{HeapState, region_words};
 ghost use Rattle.cf_model.specs.Steps.{BlocksStay, ChangesCost, FreesObject, GivesObject, IsFault, IsRefusedBy, IsResizeFault, Part, ReadsBytes, ResizesObject, WritesBytes, empty_heap};
 
@@ -68,4 +71,17 @@ pub fn refusals_come_exactly_by_their_causes()
         → ReadsBytes s part count out → ¬ IsFault s part count e }
     ensures resize { (old new : HeapState) (asked : Request) (done : Resized) (e : ResizeFault)
         → ResizesObject old asked done new → ¬ IsResizeFault old asked e }
+{}
+
+/// With blocks, a malloc and a free keep each object in a block of its own, and each used block is
+/// an object's.
+pub fn blocks_stay_owned()
+    ensures malloc { (rule : FreeLists) (words : ℕ) (m : Held) (old new : List Block) (h n place : ℕ)
+        → IsTiling words old → AreOwned m old → get m h ≡ None
+        → Carves rule old (record { need = block_need n; owner = h }) place new
+        → IsCarvedTo new place (record { need = block_need n; owner = h })
+        → AreOwned (insert m h (zeros_at place n)) new }
+    ensures free { (words : ℕ) (m : Held) (old : List Block) (h : ℕ) (x : Placed)
+        → IsTiling words old → AreOwned m old → get m h ≡ Some x
+        → AreOwned (remove m h) (released old x.place) }
 {}

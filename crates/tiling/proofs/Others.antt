@@ -158,7 +158,7 @@ module _ (d : Demand) (place a : ℕ) (b : Block) (h : ℕ) (away : a ≢ place)
     | inr not ↦ skip x (merged xs) a not ∙ merged_kept xs (sym (skip x xs a not) ∙ there)
   ])
 
-  merged_no_other : (bs : List Block) (from to : ℕ) → Fill bs from to → block_at (merged bs) a ≡ Some b → block_at bs a ≡ Some b
+  pub merged_no_other : (bs : List Block) (from to : ℕ) → Fill bs from to → block_at (merged bs) a ≡ Some b → block_at bs a ≡ Some b
   merged_no_other [] from to f there = there
   merged_no_other (x ∷ xs) from to f there =
       let t = joined_no_other x (merged xs) from to (f.0, f.1, merged_fill xs (from + x.size) to f.2) there in
@@ -214,3 +214,21 @@ malloc_gives rule count words old new d place lawful small some few t step =
     let enough = lawful.large_enough step.found.size d.need size (omega arith) some few step.serves.reached in
     let e = step.carved in
     rw e (given_block d place old step.found step.there enough)
+
+-- no used block begins where one was released
+pub released_is_free : (words : ℕ) (old : List Block) (place : ℕ) (b : Block) (h : ℕ) → IsTiling words old → block_at (released old place) place ≡ Some b → b.owner ≡ Some h → ⊥
+released_is_free words old place b h t there used =
+    let before = merged_no_other (record { need = 0; owner = 0 }) (place + 1) place b h (omega arith) used (freed_at old place) 0 words (freed_fill old place 0 words t.fill) there in
+    used_is_not_free b h used (freed_owner old before)
+  where
+    freed_owner : (bs : List Block) → block_at (freed_at bs place) place ≡ Some b → b.owner ≡ None
+    freed_owner [] e = cc
+    freed_owner (x ∷ xs) e = elim (cases_eq x.address place) [
+      | inl is ↦ (
+          let one : Block = record { address = x.address; size = x.size; owner = None } in
+          let e' : block_at (one ∷ xs) place ≡ Some b = rw (eq_yes x.address place is) at e in
+          ap (λ (y : Block). y.owner) (sym (some_injective one b (sym (take_first one xs place is) ∙ e'))))
+      | inr other ↦ (
+          let e' : block_at (x ∷ freed_at xs place) place ≡ Some b = rw (eq_no x.address place other) at e in
+          freed_owner xs (sym (skip x (freed_at xs place) place other) ∙ e'))
+    ]
