@@ -1,10 +1,11 @@
 -- What a heap may cite: objects at the used slots, before and after each call.
-use Rattle.std.proofs.Common.{◌≡◌, ℕ, ◌<◌, ◌≤◌, length, Some, None, arith, sym, ◌∙◌, ap, subst, inl, inr}
+use Rattle.std.proofs.Common.{◌≡◌, ℕ, ◌<◌, ◌≤◌, List, length, Some, None, arith, refl, sym, ◌∙◌, ap, subst, inl, inr}
 use Rattle.std.specs.Prelude.{◌⊎◌, ◌↔◌}
 use Rattle.std.specs.List.{Contains}
 use Rattle.std.proofs.lemmas.Bool.{cases_eq}
 use Rattle.std.specs.FinMap.{get, insert, remove}
 use Rattle.cf_lemmas.proofs.Maps.{get_removed, get_remove_other}
+use Rattle.cf_lemmas.proofs.Sums.{insert_again}
 use Rattle.class_lists.specs.declared.Which.{Which}
 use Rattle.class_lists.specs.declared.Which.TheVariants.{NotFull}
 use Rattle.class_lists.specs.PageLists.{pages_in}
@@ -173,3 +174,13 @@ module _ (p : Paging) (ok : IsPaging p) (m : Held) (t : Tables) (tell : Tell p t
         let many = must.many in
         let some = ok.some (class_at p x) lt in
         omega arith
+
+module _ (p : Paging) (m : Held) (t : Tables) (o : Occupies p m t) (h : ℕ) (x : Placed) (some : get m h ≡ Some x) where
+  -- other bytes at the same place, in the same class
+  pub rewritten_occupied : (bytes : List ℕ) → class_at p (record { place = x.place; bytes = bytes }) ≡ class_at p x → Occupies p (insert m h (record { place = x.place; bytes = bytes })) t
+  rewritten_occupied bytes same =
+      subst (λ n. Occupies p n t) (insert_again m h (record { place = x.place; bytes = bytes })) (occupied_renamed p m t o h x some h bytes (get_removed m h) same)
+
+  -- the same object under another number
+  pub renumbered_occupied : (q : ℕ) → get (remove m h) q ≡ None → Occupies p (insert (remove m h) q x) t
+  renumbered_occupied q none = occupied_renamed p m t o h x some q x.bytes none refl
