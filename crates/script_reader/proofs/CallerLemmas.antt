@@ -5,8 +5,8 @@ use Rattle.script_reader.specs.Calls.{AreCalls, Call, IsCall, answers, bytes_fed
 use Rattle.script_reader.specs.Items.{AreFirstOf, Item, bad, items, items_at}
 use Rattle.script_reader.specs.Lines.{lines}
 use Rattle.script_reader.specs.Reading.{Answers, AnswersBad, Reading, fed_with, fresh, items_left}
-use Rattle.script_reader.specs.declared.reader.Next.{Next}
-use Rattle.script_reader.specs.declared.reader.Next.TheVariants.{Start, Command, NeedMore, Bad, End}
+use Rattle.script_reader.specs.declared.next.Next.{Next}
+use Rattle.script_reader.specs.declared.next.Next.TheVariants.{Start, Command, NeedMore, Bad, End}
 
 -- a fresh reader has all items to give
 pub fresh_left : (more : List ℕ) (ended : Bool) → items_left fresh more ended ≡ items more ended
