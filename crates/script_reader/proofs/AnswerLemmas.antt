@@ -1,8 +1,8 @@
 -- Answers, one line after the other.
-use Rattle.std.proofs.Common.{◌≡◌, ◌∙◌, ◌<◌, ◌≤◌, ◌+◌, ◌||◌, ℕ, Bool, true, false, List, [], ◌∷◌, Option, Some, None, length, take, drop, refl, sym, ap, arith, length-drop, subst, append-nil, append_assoc, ◌++◌, ◌⊎◌, inl, inr, cond, suc, take-append-drop}
+use Rattle.std.proofs.Common.{◌≡◌, ◌∙◌, ◌<◌, ◌≤◌, ◌+◌, ℕ, Bool, true, false, List, [], ◌∷◌, Option, Some, None, length, take, drop, refl, sym, ap, arith, length-drop, subst, append-nil, append_assoc, ◌++◌, ◌⊎◌, inl, inr, cond, suc, take-append-drop}
 use Rattle.std.proofs.lemmas.Bool.{false≢true, ltb-false}
-use Rattle.script_reader.specs.Commands.{Saying, IsWellFormed, are_idle, asked, asked_or_wrong, command_of, is_comment, is_idle, line_says, nothing, opens, opens_or_wrong, settings_in, tokens_say, wrong}
-use Rattle.script_reader.specs.Items.{Item, bad, said_items, stage_after}
+use Rattle.script_reader.specs.Commands.{are_idle, asked_or_wrong, command_of, is_comment, is_idle, line_says, nothing, opens_or_wrong, settings_in, tokens_say}
+use Rattle.script_reader.specs.Items.{said_items, stage_after}
 use Rattle.std.proofs.lemmas.List.{drop_all}
 use Rattle.std.specs.Prelude.{codes}
 use Rattle.std.specs.Str.{bytes_eq}

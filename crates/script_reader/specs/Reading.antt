@@ -1,9 +1,9 @@
 -- What the reader still has to say.
-use Rattle.std.specs.Prelude.{◌≡◌, ◌<◌, ◌≤◌, ◌+◌, ◌-◌, ◌==◌, ◌||◌, ◌⊎◌, ◌++◌, ℕ, suc, Bool, true, false, List, [], ◌∷◌, Option, Some, None, is_some, length, take, drop, min, if◌then◌else◌}
+use Rattle.std.specs.Prelude.{◌≡◌, ◌<◌, ◌≤◌, ◌+◌, ◌-◌, ◌==◌, ◌||◌, ◌⊎◌, ◌++◌, ℕ, Bool, true, false, List, [], ◌∷◌, Option, Some, None, is_some, length, take, drop, min, if◌then◌else◌}
 use Rattle.std.specs.List.{list_any}
 use Rattle.cf_base.specs.Settings.{profile_of}
-use Rattle.script_reader.specs.Commands.{IsWellFormed, line_says}
-use Rattle.script_reader.specs.Items.{Item, asks, bad, starts, items_at, items_by, stage_after}
+use Rattle.script_reader.specs.Commands.{IsWellFormed}
+use Rattle.script_reader.specs.Items.{Item, asks, bad, starts, items_at}
 use Rattle.script_reader.specs.Lines.{LONGEST, is_last_line, lines}
 use Rattle.script_reader.specs.declared.next.Next.{Next}
 use Rattle.script_reader.specs.declared.next.Next.TheVariants.{Start, Command, NeedMore, Bad, End}

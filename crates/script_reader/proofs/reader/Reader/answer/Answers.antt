@@ -1,4 +1,4 @@
-use Rattle.std.proofs.Common.{◌≡◌, ◌∙◌, ◌+◌, Some, ap, drop, drop-drop, subst}
+use Rattle.std.proofs.Common.{◌∙◌, ◌+◌, Some, ap, drop, drop-drop, subst}
 use Rattle.std.proofs.lemmas.List.{take_rest}
 use Rattle.script_reader.specs.Inside.{reading_of}
 use Rattle.script_reader.specs.Reading.{AnswersBad, Reading}
