@@ -1,12 +1,11 @@
 -- What a reader gives over calls of feed, finish and next_command.
-use Rattle.std.proofs.Common.{◌≡◌, ◌∙◌, ◌++◌, ◌||◌, ℕ, Bool, true, false, List, [], ◌∷◌, Option, Some, None, refl, sym, ap, subst, append-nil, append_assoc}
+use Rattle.std.proofs.Common.{◌≡◌, ◌∙◌, ◌++◌, ℕ, Bool, true, false, List, [], ◌∷◌, Option, Some, None, refl, sym, ap, subst, append-nil, append_assoc}
 use Rattle.std.proofs.lemmas.Bool.{true≢false}
-use Rattle.script_reader.specs.Calls.{AreCalls, Call, IsCall, answers, bytes_fed, feeds, finishes, given_then, is_finished, items_given}
-use Rattle.script_reader.specs.Items.{AreFirstOf, Item, bad, items, items_at}
-use Rattle.script_reader.specs.Lines.{lines}
+use Rattle.script_reader.specs.Calls.{AreCalls, Call, answers, bytes_fed, feeds, finishes, is_finished, items_given}
+use Rattle.script_reader.specs.Items.{AreFirstOf, Item, items}
 use Rattle.script_reader.specs.Reading.{Answers, AnswersBad, Reading, fed_with, fresh, items_left}
-use Rattle.script_reader.specs.declared.reader.Next.{Next}
-use Rattle.script_reader.specs.declared.reader.Next.TheVariants.{Start, Command, NeedMore, Bad, End}
+use Rattle.script_reader.specs.declared.next.Next.{Next}
+use Rattle.script_reader.specs.declared.next.Next.TheVariants.{Start, Command, NeedMore, Bad, End}
 
 -- a fresh reader has all items to give
 pub fresh_left : (more : List ℕ) (ended : Bool) → items_left fresh more ended ≡ items more ended

@@ -2,7 +2,7 @@
 use Rattle.std.proofs.Common.{◌≡◌, ◌∙◌, ◌+◌, ◌==◌, ◌++◌, ℕ, Bool, true, false, cond, List, [], ◌∷◌, Option, Some, None, refl, sym, ap}
 use Rattle.script_reader.specs.Commands.{Saying, nothing, opens, asked, wrong, line_says}
 use Rattle.script_reader.specs.Items.{AreFirstOf, Item, asks, bad, items, items_at, items_by, said_items, stage_after, starts}
-use Rattle.script_reader.specs.Lines.{is_last_line, is_too_long, lines, lines_among, onto_first, stretches}
+use Rattle.script_reader.specs.Lines.{is_last_line, is_too_long, lines_among, onto_first, stretches}
 use Rattle.script_reader.specs.declared.stage.Stage.{Stage}
 use Rattle.script_reader.specs.declared.stage.Stage.TheVariants.{Opening}
 use Rattle.script_reader.proofs.ItemLemmas.{long_last, says_wrong, some_stretch, too_long_more}

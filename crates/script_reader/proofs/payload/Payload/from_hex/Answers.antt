@@ -1,4 +1,4 @@
-use Rattle.std.proofs.Common.{◌≡◌, ◌/◌, ◌∙◌, ap, length, arith}
+use Rattle.std.proofs.Common.{◌≡◌, ◌/◌, length, arith}
 use Rattle.script_reader.proofs.FieldLemmas.{decoded}
 use Rattle.script_reader.proofs.payload.Payload.from_hex.Goals as goal
 
