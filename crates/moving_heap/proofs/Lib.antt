@@ -1,1 +1,17 @@
 pub mod First
+pub mod Values
+pub mod Facts
+pub mod Opening
+pub mod Figures
+pub mod Rebound
+pub mod Becoming
+pub mod Limits
+pub mod Coming
+pub mod Mallocs
+pub mod Reading
+pub mod Going
+pub mod Alone
+pub mod Filling
+pub mod Knowing
+pub mod Writing
+pub mod Cutting

@@ -1,6 +1,16 @@
-//! The moving manager of Compact-fit (2008), so far with room for one object.
+//! The moving manager of Compact-fit (2008).
 #![tactic(auto)]
 
+mod access;
+mod bounds;
+mod compact;
+mod freeing;
+mod giving;
+mod header;
 mod heap;
+mod inner;
+mod reports;
+mod resizing;
 
+pub use compact::Heap;
 pub use heap::MovingHeap;

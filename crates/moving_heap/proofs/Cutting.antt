@@ -1,0 +1,298 @@
+-- An object that gets another length in its slot.
+use Rattle.std.proofs.Common.{◌≡◌, ◌≢◌, ℕ, zero, suc, ◌+◌, ◌-◌, ◌*◌, ◌/◌, ◌%◌, ◌^◌, ◌<◌, ◌≤◌, List, length, get_or, set, take, drop, replicate, None, arith, refl, sym, ◌∙◌, ap, subst, inl, inr}
+use Rattle.std.proofs.lemmas.Bool.{cases_eq, cases_lt}
+use Rattle.std.proofs.lemmas.List.{get_or-drop, get_or-take, length-take, get_or-replicate, get_or_past, get_or-set_same, get_or-set_other, length-set}
+use Rattle.std.proofs.Common.{length-drop}
+use Rattle.std.specs.FinMap.{insert}
+use Rattle.cf_base.specs.Classes.{need}
+use Rattle.cf_base.specs.declared.answers.Resized.{Resized}
+use Rattle.cf_lemmas.proofs.MapValues.{map_values-insert}
+use Rattle.arrangement.specs.Held.{Placed, objects}
+use Rattle.arrangement.specs.Bytes.{AreBytes, byte_of, bytes_at}
+use Rattle.arrangement.specs.Image.{IsOutside, IsSlotImage, Rewrites, header_word, object_word, slot_for}
+use Rattle.arrangement.specs.Paging.{class_for, classes, slot_words}
+use Rattle.arrangement.specs.Steps.{resized}
+use Rattle.arrangement.proofs.Reading.{bytes_at-AreBytes}
+use Rattle.arrangement.proofs.Resizing.{length-resized}
+use Rattle.arrangement.proofs.SlotImages.{image_after_write}
+use Rattle.arrangement.proofs.Writing.{byte_of_object, object_word_small, resized_are_bytes, resized_before, resized_behind, word_by_bytes}
+use Rattle.arrangement.proofs.Sizes.{class_holds}
+use Rattle.region.specs.Words.{cleared}
+use Rattle.region.proofs.CallerLemmas.{cleared_others, cleared_within, length-cleared}
+use Rattle.word_bytes.proofs.Overwriting.{overwritten_before, overwritten_inside}
+use Rattle.cf_model.specs.Steps.{ResizesObject, number_of}
+use Rattle.moving_heap.specs.declared.inner.OpenHeap.{OpenHeap}
+use Rattle.moving_heap.specs.Kept.{IsKept, held_in, paging_at, state_of}
+use Rattle.moving_heap.specs.Access.{Overwrites}
+use Rattle.moving_heap.specs.Cutting.{Cuts}
+use Rattle.moving_heap.specs.Freeing.{IsObjectAt}
+use Rattle.moving_heap.proofs.Facts.{paging_ok}
+use Rattle.moving_heap.proofs.Becoming.{Becomes, becomes_kept, becomes_state, held_is, stored}
+use Rattle.moving_heap.proofs.Going.{asked_some, it_class, it_found, it_inside, it_slot}
+use Rattle.moving_heap.proofs.Reading.{bytes_few, holds, slot_small}
+use Rattle.moving_heap.proofs.Writing.{changes}
+
+-- the first word is cut, and those behind it are cleared
+module _ (old mid new : List ℕ) (a n m : ℕ) (less : n < m) (inside : a + 1 + (m + 7) / 8 ≤ length old)
+    (w : Overwrites old mid (record { from = a + 1 + n / 8; count = 1 }) (n % 8) (take (8 - n % 8) (drop (n % 8) (replicate 8 0))))
+    (clear : new ≡ cleared mid (a + 1 + n / 8 + 1) ((m + 7) / 8 - n / 8 - 1)) where
+  within : a + 1 + n / 8 + 1 + ((m + 7) / 8 - n / 8 - 1) ≤ length mid
+  within = (let l = w.long in omega arith)
+
+  zeros_long : length (take (8 - n % 8) (drop (n % 8) (replicate {A = ℕ} 8 0))) ≡ 8 - n % 8
+  zeros_long =
+      let t = length-take (8 - n % 8) (drop (n % 8) (replicate {A = ℕ} 8 0)) in
+      let d : length (drop (n % 8) (replicate {A = ℕ} 8 0)) ≡ 8 - n % 8 = length-drop (n % 8) (replicate {A = ℕ} 8 0) in
+      omega arith
+
+  first : get_or new (a + 1 + n / 8) 0 ≡ get_or mid (a + 1 + n / 8) 0
+  first = ap (λ ws. get_or ws (a + 1 + n / 8) 0) clear ∙ cleared_others mid (a + 1 + n / 8 + 1) ((m + 7) / 8 - n / 8 - 1) within (a + 1 + n / 8) (inl (omega arith))
+
+  byte : (j : ℕ) → j < 8 → byte_of j (get_or mid (a + 1 + n / 8) 0) ≡ byte_of (j % 8) (get_or mid (a + 1 + n / 8 + j / 8) 0)
+  byte j lt =
+      let r : j ≡ j % 8 = omega arith in
+      let d : a + 1 + n / 8 ≡ a + 1 + n / 8 + j / 8 = omega arith in
+      ap (λ i. byte_of i (get_or mid (a + 1 + n / 8) 0)) r ∙ ap (λ i. byte_of (j % 8) (get_or mid i 0)) d
+
+  was : (j : ℕ) → j < 8 → byte_of (j % 8) (get_or old (a + 1 + n / 8 + j / 8) 0) ≡ byte_of j (get_or old (a + 1 + n / 8) 0)
+  was j lt =
+      let r : j % 8 ≡ j = omega arith in
+      let d : a + 1 + n / 8 + j / 8 ≡ a + 1 + n / 8 = omega arith in
+      ap (λ i. byte_of i (get_or old (a + 1 + n / 8 + j / 8) 0)) r ∙ ap (λ i. byte_of j (get_or old i 0)) d
+
+  pub cut_is : Cuts old new a n m
+  cut_is = record {
+    long = ap length clear ∙ length-cleared mid (a + 1 + n / 8 + 1) ((m + 7) / 8 - n / 8 - 1) within ∙ w.long;
+    others = λ v out.
+        let out' : IsOutside (a + 1 + n / 8 + 1) ((m + 7) / 8 - n / 8 - 1) v = elim out [ inl l ↦ inl (omega arith) | inr r ↦ inr (omega arith) ] in
+        let out'' : IsOutside (a + 1 + n / 8) 1 v = elim out [ inl l ↦ inl l | inr r ↦ inr (omega arith) ] in
+        ap (λ ws. get_or ws v 0) clear ∙ cleared_others mid (a + 1 + n / 8 + 1) ((m + 7) / 8 - n / 8 - 1) within v out' ∙ w.others v out'';
+    small = (
+        let s = w.small 0 (omega arith) in
+        let z : a + 1 + n / 8 + 0 ≡ a + 1 + n / 8 = omega arith in
+        let e = ap (λ i. get_or mid i 0) z in
+        let f = first in
+        omega arith);
+    low = λ j lt.
+        ap (byte_of j) first ∙ byte j (omega arith) ∙ w.value j (omega arith)
+        ∙ overwritten_before (λ b. byte_of (b % 8) (get_or old (a + 1 + n / 8 + b / 8) 0)) (n % 8) (take (8 - n % 8) (drop (n % 8) (replicate 8 0))) j lt ∙ was j (omega arith);
+    high = λ j le lt.
+        let len = zeros_long in
+        ap (byte_of j) first ∙ byte j lt ∙ w.value j (omega arith)
+        ∙ overwritten_inside (λ b. byte_of (b % 8) (get_or old (a + 1 + n / 8 + b / 8) 0)) (n % 8) (take (8 - n % 8) (drop (n % 8) (replicate 8 0))) j le (omega arith)
+        ∙ get_or-take (8 - n % 8) (drop (n % 8) (replicate {A = ℕ} 8 0)) (j - n % 8) 0 (omega arith) ∙ get_or-drop (n % 8) (replicate {A = ℕ} 8 0) (j - n % 8) 0 ∙ get_or-replicate {A = ℕ} 8 (n % 8 + (j - n % 8)) 0 0 (omega arith);
+    zeros = λ i low high.
+        let at : a + 1 + i ≡ a + 1 + n / 8 + 1 + (i - n / 8 - 1) = omega arith in
+        ap (λ ws. get_or ws (a + 1 + i) 0) clear ∙ ap (λ v. get_or (cleared mid (a + 1 + n / 8 + 1) ((m + 7) / 8 - n / 8 - 1)) v 0) at
+        ∙ cleared_within mid (a + 1 + n / 8 + 1) ((m + 7) / 8 - n / 8 - 1) within (i - n / 8 - 1) (omega arith);
+  }
+
+-- The object gets another length in its slot: what is known of the words.
+module _ (h t n : OpenHeap) (k : IsKept h) (q a m c : ℕ) (o : IsObjectAt h q a m c) (size : ℕ) (same : class_for (paging_at h) size ≡ c)
+    (et : t ≡ record h { region = t.region }) (cut : size < m → Cuts h.region t.region a size m) (kept : m ≤ size → t ≡ h)
+    (en : n ≡ record t { region = set t.region a (header_word q size); asked = t.asked - m + size }) where
+  abbrev old : List ℕ
+  old = bytes_at h.region a
+
+  abbrev new : List ℕ
+  new = resized old size
+
+  new_long : length new ≡ size
+  new_long = length-resized old size
+
+  are : AreBytes new
+  are = resized_are_bytes old size (bytes_at-AreBytes h.region a)
+
+  few : q < 2 ^ 32
+  few = (stored h k q _ (it_found h k q a m c o)).0
+
+  slot : ℕ
+  slot = slot_for (paging_at h) (length old)
+
+  old_holds : need m ≤ slot_for (paging_at h) (length old)
+  old_holds = (let l = o.long in let r = class_holds (paging_at h) (paging_ok h k) (length old) (k.sound.slots q _ (it_found h k q a m c o)).class in omega arith)
+
+  same_slot : slot_words (paging_at h) (class_for (paging_at h) size) ≡ slot_for (paging_at h) (length old)
+  same_slot = ap (slot_words (paging_at h)) (same ∙ sym (it_class h k q a m c o))
+
+  new_holds : need size ≤ slot_for (paging_at h) (length old)
+  new_holds = (let r = class_holds (paging_at h) (paging_ok h k) size (subst (λ d. d < classes (paging_at h)) (sym same) o.in_range) in let e = same_slot in omega arith)
+
+  pub size_few : size ≤ 131072
+  size_few = (let r = new_holds in let s = slot_small h k q a o.known in omega arith)
+
+  in_slot : a + slot_for (paging_at h) (length old) ≤ length h.region
+  in_slot = (let i = it_inside h k q a m c o in let e = it_slot h k q a m c o in omega arith)
+
+  stood : (i : ℕ) → suc i < slot_for (paging_at h) (length old) → get_or h.region (a + suc i) 0 ≡ object_word q old (suc i)
+  stood i lt = k.image.held q (record { place = a; bytes = old }) (it_found h k q a m c o) (suc i) lt
+
+  old_small : length old < 2 ^ 32
+  old_small = (let f = bytes_few h k q a o.known in omega arith)
+
+  was_small : (i : ℕ) → suc i < slot_for (paging_at h) (length old) → get_or h.region (a + suc i) 0 < 2 ^ 64
+  was_small i lt = (let e = stood i lt in let s = object_word_small q old (suc i) few old_small (bytes_at-AreBytes h.region a) in omega arith)
+
+  -- byte j of word i
+  word_byte : (v : List ℕ) (i j : ℕ) → j < 8 → AreBytes v → byte_of j (object_word q v (suc i)) ≡ get_or v (8 * i + j) 0
+  word_byte v i j lt all =
+      let r : (8 * i + j) % 8 ≡ j = omega arith in
+      let d : (8 * i + j) / 8 ≡ i = omega arith in
+      sym (ap (λ b. byte_of b (object_word q v (suc ((8 * i + j) / 8)))) r ∙ ap (λ e. byte_of j (object_word q v (suc e))) d) ∙ byte_of_object q v (8 * i + j) all
+
+  was_byte : (i j : ℕ) → suc i < slot_for (paging_at h) (length old) → j < 8 → byte_of j (get_or h.region (a + suc i) 0) ≡ get_or old (8 * i + j) 0
+  was_byte i j lt less = ap (byte_of j) (stood i lt) ∙ word_byte old i j less (bytes_at-AreBytes h.region a)
+
+  past_new : (b : ℕ) → size ≤ b → get_or new b 0 ≡ 0
+  past_new b le = get_or_past new b 0 (let l = new_long in omega arith)
+
+  past_old : (b : ℕ) → m ≤ b → get_or old b 0 ≡ 0
+  past_old b le = get_or_past old b 0 (let l = o.long in omega arith)
+
+  before : (b : ℕ) → b < size → get_or old b 0 ≡ get_or new b 0
+  before b lt = elim (cases_lt b (length old)) [
+    | inl inside ↦ sym (resized_before old size b lt inside)
+    | inr past ↦ get_or_past old b 0 past ∙ sym (resized_behind old size b past)
+  ]
+
+  zero_byte : (j : ℕ) → byte_of j 0 ≡ 0
+  zero_byte zero = refl
+  zero_byte (suc j) = zero_byte j
+
+  -- each word behind the header after the cut, as bytes and as a number of 64 bits
+  cut_word : size < m → (i : ℕ) → suc i < slot_for (paging_at h) (length old) → ((j : ℕ) → j < 8 → byte_of j (get_or t.region (a + suc i) 0) ≡ get_or new (8 * i + j) 0) × (get_or t.region (a + suc i) 0 < 2 ^ 64)
+  cut_word less i lt =
+      let k' = cut less in
+      elim (cases_lt i (size / 8)) [
+        | inl low ↦ (
+            let e : get_or t.region (a + suc i) 0 ≡ get_or h.region (a + suc i) 0 = k'.others (a + suc i) (inl (omega arith)) in
+            ((λ j l. ap (byte_of j) e ∙ was_byte i j lt l ∙ before (8 * i + j) (omega arith)), (let s = was_small i lt in omega arith)))
+        | inr high ↦ elim (cases_eq i (size / 8)) [
+          | inl is ↦ (
+              let at : a + suc i ≡ a + 1 + size / 8 = omega arith in
+              let e = ap (λ w. get_or t.region w 0) at in
+              let f = ap (λ w. get_or h.region w 0) at in (
+                (λ j l. ap (byte_of j) e ∙ elim (cases_lt j (size % 8)) [
+                  | inl first ↦ k'.low j first ∙ sym (ap (byte_of j) f) ∙ was_byte i j lt l ∙ before (8 * i + j) (omega arith)
+                  | inr rest ↦ k'.high j rest l ∙ sym (past_new (8 * i + j) (omega arith))
+                ]),
+                (let s = k'.small in omega arith),
+              ))
+          | inr ne ↦ elim (cases_lt i ((m + 7) / 8)) [
+            | inl inside ↦ (
+                let at : a + 1 + i ≡ a + suc i = omega arith in
+                let z = k'.zeros i (omega arith) inside in
+                let e : get_or t.region (a + suc i) 0 ≡ 0 = ap (λ w. get_or t.region w 0) (sym at) ∙ z in
+                ((λ j l. ap (byte_of j) e ∙ zero_byte j ∙ sym (past_new (8 * i + j) (omega arith))), omega arith))
+            | inr behind ↦ (
+                let e : get_or t.region (a + suc i) 0 ≡ get_or h.region (a + suc i) 0 = k'.others (a + suc i) (inr (omega arith)) in
+                ((λ j l. ap (byte_of j) e ∙ was_byte i j lt l ∙ past_old (8 * i + j) (omega arith) ∙ sym (past_new (8 * i + j) (omega arith))), (let s = was_small i lt in omega arith)))
+          ]
+        ]
+      ]
+
+  any_word : (i : ℕ) → suc i < slot_for (paging_at h) (length old) → get_or t.region (a + suc i) 0 ≡ object_word q new (suc i)
+  any_word i lt = by_bytes (elim (cases_lt size m) [
+    | inl less ↦ cut_word less i lt
+    | inr le ↦ (
+        let e : get_or t.region (a + suc i) 0 ≡ get_or h.region (a + suc i) 0 = ap (λ (x : OpenHeap). get_or x.region (a + suc i) 0) (kept le) in (
+          (λ j l. ap (byte_of j) e ∙ was_byte i j lt l ∙ elim (cases_lt (8 * i + j) size) [
+            | inl inside ↦ before (8 * i + j) inside
+            | inr past ↦ past_old (8 * i + j) (omega arith) ∙ sym (past_new (8 * i + j) past)
+          ]),
+          (let s = was_small i lt in omega arith),
+        ))
+  ])
+    where
+      new_small : length new < 2 ^ 32
+      new_small = (let l = new_long in let r = size_few in omega arith)
+
+      by_bytes : ((j : ℕ) → j < 8 → byte_of j (get_or t.region (a + suc i) 0) ≡ get_or new (8 * i + j) 0) × (get_or t.region (a + suc i) 0 < 2 ^ 64) → get_or t.region (a + suc i) 0 ≡ object_word q new (suc i)
+      by_bytes (each, small) = word_by_bytes (get_or t.region (a + suc i) 0) (object_word q new (suc i)) small (object_word_small q new (suc i) few new_small are) (λ j l. each j l ∙ sym (word_byte new i j l are))
+
+  long_t : length t.region ≡ length h.region
+  long_t = elim (cases_lt size m) [
+    | inl less ↦ (cut less).long
+    | inr le ↦ ap (λ (x : OpenHeap). length x.region) (kept le)
+  ]
+
+  others_t : (w : ℕ) → IsOutside a (slot_for (paging_at h) (length old)) w → get_or t.region w 0 ≡ get_or h.region w 0
+  others_t w out =
+      let r = old_holds in
+      elim (cases_lt size m) [
+        | inl less ↦ (cut less).others w (elim out [ inl l ↦ inl (omega arith) | inr l ↦ inr (omega arith) ])
+        | inr le ↦ ap (λ (x : OpenHeap). get_or x.region w 0) (kept le)
+      ]
+
+  region_is : n.region ≡ set t.region a (header_word q size)
+  region_is = ap (λ (x : OpenHeap). x.region) en
+
+  place_in_t : a < length t.region
+  place_in_t = (let l = long_t in let i = in_slot in let r = old_holds in omega arith)
+
+  rewrites : Rewrites h.region n.region (record { from = a; count = slot_for (paging_at h) (length old) }) (object_word q new)
+  rewrites = record {
+    within = λ i lt. in_word i lt;
+    others = λ w out.
+        let r = old_holds in
+        let ne : w ≢ a = elim out [ inl l ↦ omega arith | inr l ↦ omega arith ] in
+        ap (λ ws. get_or ws w 0) region_is ∙ get_or-set_other t.region a w (header_word q size) 0 ne ∙ others_t w out;
+  }
+    where
+      in_word : (i : ℕ) → i < slot_for (paging_at h) (length old) → get_or n.region (a + i) 0 ≡ object_word q new i
+      in_word zero lt =
+          let at : a + 0 ≡ a = omega arith in
+          ap (λ w. get_or n.region w 0) at ∙ ap (λ ws. get_or ws a 0) region_is ∙ get_or-set_same t.region a (header_word q size) 0 place_in_t ∙ ap (header_word q) (sym new_long)
+      in_word (suc i) lt = ap (λ ws. get_or ws (a + suc i) 0) region_is ∙ get_or-set_other t.region a (a + suc i) (header_word q size) 0 (omega arith) ∙ any_word i lt
+
+  class_new : class_for (paging_at h) (length new) ≡ class_for (paging_at h) (length old)
+  class_new = ap (class_for (paging_at h)) new_long ∙ same ∙ sym (it_class h k q a m c o)
+
+  image : IsSlotImage (paging_at h) (insert (held_in h) q (record { place = a; bytes = new })) n.region
+  image = image_after_write (paging_at h) (paging_ok h k) (held_in h) k.sound h.region k.image q (record { place = a; bytes = old }) (it_found h k q a m c o) n.region new class_new rewrites
+
+  asked_t : t.asked ≡ h.asked
+  asked_t = ap (λ (x : OpenHeap). x.asked) et
+
+  becomes : Becomes h n (insert (held_in h) q (record { place = a; bytes = new }))
+  becomes = changes h n k q a (it_found h k q a m c o) new class_new are
+      (en ∙ ap (λ (x : OpenHeap). record x { region = set t.region a (header_word q size); asked = t.asked - m + size }) et
+      ∙ ap (λ ws. record h { region = ws; asked = t.asked - m + size }) (sym region_is) ∙ ap (λ x. record h { region = n.region; asked = x }) (sym (ap (λ (x : OpenHeap). x.asked) en)))
+      (ap length region_is ∙ length-set t.region a (header_word q size) ∙ long_t)
+      image
+      (let e = ap (λ (x : OpenHeap). x.asked) en in let f = asked_t in let s = asked_some h k q a m c o in let l = o.long in let l' = new_long in omega arith)
+
+  pub fits_kept : IsKept n
+  fits_kept = becomes_kept h n k (insert (held_in h) q (record { place = a; bytes = new })) becomes
+
+  pub fits_resized : (done : Resized) → done.old_slot_words ≡ get_or h.classes.sizes c 0 → done.slot_words ≡ get_or h.classes.sizes c 0 → done.moved ≡ None → need size ≤ h.settings.page_words
+      → ResizesObject (state_of h) (record { number = q; length = size }) done (state_of n)
+  fits_resized done was_words words none fits = record {
+    pages = tt;
+    fits = fits;
+    object = record { place = a; bytes = old };
+    found = it_found h k q a m c o;
+    old_slot = was_words ∙ it_slot h k q a m c o;
+    slot = words ∙ it_slot h k q a m c o ∙ sym same_slot;
+    step = inl (record {
+      object = record { place = a; bytes = old };
+      found = it_found h k q a m c o;
+      same = same ∙ sym (it_class h k q a m c o);
+      placed = held_is h n k (insert (held_in h) q (record { place = a; bytes = new })) becomes;
+      still = ap number_of none;
+    });
+    left = ap objects (held_is h n k (insert (held_in h) q (record { place = a; bytes = new })) becomes) ∙ map_values-insert (λ (x : Placed). x.bytes) (held_in h) q (record { place = a; bytes = new });
+    whole = becomes_state h n k (insert (held_in h) q (record { place = a; bytes = new })) becomes
+        ∙ ap (λ m. record (state_of h) { held = m; words = n.region; cost = n.cost }) (sym (held_is h n k (insert (held_in h) q (record { place = a; bytes = new })) becomes));
+  }
+
+-- its slot has the words of its bytes
+module _ (h : OpenHeap) (k : IsKept h) (q a m c : ℕ) (o : IsObjectAt h q a m c) where
+  pub holds_bytes : 1 + (m + 7) / 8 ≤ get_or h.classes.sizes c 0
+  holds_bytes = (let r = holds h k q a o.known in let e = it_slot h k q a m c o in let l = o.long in omega arith)
+
+  pub bytes_in : a + 1 + (m + 7) / 8 ≤ length h.region
+  bytes_in = (let i = it_inside h k q a m c o in let r = holds_bytes in omega arith)
+
+  pub bytes_low : a + 1 + (m + 7) / 8 ≤ 2 ^ 23
+  bytes_low = (let i = bytes_in in let l = k.words_long in let s = h.settings.small_region in omega arith)
