@@ -1,0 +1,4 @@
+pub mod Classes
+pub mod Totals
+pub mod Tables
+pub mod Ranges
