@@ -6,6 +6,7 @@
 mod object;
 mod pages;
 mod plain;
+mod words;
 
 pub use plain::Plain;
 

@@ -1,17 +1,21 @@
 //! Pages with objects on them.
 ghost use Rattle.std.specs.Prelude.{◌≡◌, ◌↔◌, ◌+◌, ◌*◌, ◌^◌, ◌&&◌, ◌<◌, ◌≤◌, IfOk, IsTrue, OnOk, OnErr, length, slice_set, nat_lt, cond};
 ghost use Rattle.std.specs.FinMap as map;
+ghost use Rattle.cf_base.specs.Classes.{need};
 ghost use Rattle.cf_base.specs.Settings.{profile_of};
 ghost use Rattle.arrangement.specs.Held.{objects};
 ghost use Rattle.arrangement.specs.Paging.{classes, slot_words, slots_of, class_for, paging_of, first_bounds};
 ghost use Rattle.arrangement.specs.Counts.{ceil_div};
 ghost use Rattle.arrangement.specs.Arrangement.{live, objects_on, standing_on, home_pages, not_full_pages, used_pages, free_pages, pages_needed, pages_needed_with, LacksRoom};
 ghost use Rattle.arrangement.specs.Figures.{asked_bytes, taken_bytes, figures_of, totals_of};
+ghost use Rattle.arrangement.specs.Image.{IsApart, IsImage};
 ghost use Rattle.arrangement.specs.Steps.{resized};
 ghost use Rattle.plain_model.specs.Amounts.{held_in, AreTaken};
+ghost use Rattle.plain_model.specs.Words.{AreInside, IsWordAt};
 
 use crate::object::{Amount, Object};
 use crate::pages::Pages;
+use crate::words::word_at;
 use cf_base::{Figures, Layout, OutOfMemory, Settings, Totals};
 use std::alloc::{AllocError, Global};
 use std::marker::Model;
@@ -262,6 +266,27 @@ impl Plain {
             }
         }
         true
+    }
+
+    /// The words of the region.
+    pub fn image(&self, alloc: Global) -> Result<Vec<u64>, AllocError>
+        ensures len { IfOk result (λ v. length v.items ≡ self.now.paging.pages * self.now.paging.page_words) }
+        // Objects that share a word, or pass the end of the region, have no image.
+        ensures image { IfOk result (λ v. IsApart need self.now.held → AreInside self.now.paging self.now.held → IsImage self.now.held v.items) }
+    {
+        let count = self.pages() * self.page_words();
+        let mut words = Vec::new(alloc);
+        for w in 0..count {
+            words.push(self.word_at(w))?;
+        }
+        Ok(words)
+    }
+
+    /// Word w of the region.
+    fn word_at(&self, w: u32) -> u64
+        ensures { IsApart need self.now.held → IsWordAt self.now.held w result }
+    {
+        word_at(&self.objects, w)
     }
 
     /// The figures of class c.
