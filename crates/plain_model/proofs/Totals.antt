@@ -35,7 +35,7 @@ module _ (f : ℕ → ℕ → ℕ) where
       let rest : List (Option Placed) = map (option_map placed) os in
       let a : total_of f (Some o ∷ os) ≡ f o.place o.length + total_of f os = sum_by-cons (amount_in f) (Some o) os in
       let b : sum_by of_placed (values (insert (numbered (k + 1) rest) k (placed o))) ≡ sum_by of_placed (values (numbered (k + 1) rest)) + of_placed (placed o) =
-          sum_by-inserted of_placed (numbered (k + 1) rest) k (placed o) (numbered_below (k + 1) rest k (omega arith)) in
+      sum_by-inserted of_placed (numbered (k + 1) rest) k (placed o) (numbered_below (k + 1) rest k (omega arith)) in
       let l : of_placed (placed o) ≡ f o.place o.length = ap (f o.place) (length-resized o.bytes.items o.length) in
       let ih = total_from (k + 1) os in
       omega arith

@@ -10,4 +10,5 @@ mod words;
 
 pub use plain::Plain;
 
-
+#[cfg(test)]
+mod tests;

@@ -57,7 +57,14 @@ impl Plain {
 
     /// An object of `length` bytes stands at word `place` under this number. It begins with `bytes`,
     /// as far as they go, and is zero after them.
-    pub fn put(&mut self, alloc: Global, number: u16, place: u32, length: u32, bytes: &[u8]) -> Result<(), OutOfMemory>
+    pub fn put(
+        &mut self,
+        alloc: Global,
+        number: u16,
+        place: u32,
+        length: u32,
+        bytes: &[u8],
+    ) -> Result<(), OutOfMemory>
         ensures paging { self.new.paging ≡ self.old.paging }
         ensures ok { OnOk result (self.new.held ≡ map.insert self.old.held number (record { place = place; bytes = resized bytes.now length })) }
         ensures err { OnErr result (self.new.held ≡ self.old.held) }
@@ -154,7 +161,8 @@ impl Plain {
     pub fn objects_on(&self, c: u32, page: u32) -> u32
         ensures { result ≡ objects_on self.now.paging self.now.held c page }
     {
-        self.pages.total(Amount::OfClassOnPage(c, page), &self.objects) as u32
+        self.pages
+            .total(Amount::OfClassOnPage(c, page), &self.objects) as u32
     }
 
     /// How many objects stand on the page, of whatever class.
