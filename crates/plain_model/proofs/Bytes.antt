@@ -1,9 +1,9 @@
 -- The bytes of an object, and eight of them as a word.
-use Rattle.std.proofs.Common.{◌≡◌, ℕ, zero, suc, ◌+◌, ◌-◌, ◌*◌, ◌^◌, ◌<◌, ◌≤◌, List, [], ◌∷◌, ◌++◌, length, get_or, take, drop, arith, sym, ◌∙◌, ap, refl, inl, inr}
+use Rattle.std.proofs.Common.{◌≡◌, ℕ, zero, suc, ◌+◌, ◌-◌, ◌*◌, ◌^◌, ◌<◌, ◌≤◌, List, [], length, get_or, take, drop, arith, sym, ◌∙◌, ap, refl, inl, inr}
 use Rattle.std.specs.Prelude.{replicate}
 use Rattle.std.proofs.lemmas.Bool.{cases_lt}
-use Rattle.std.proofs.lemmas.List.{drop_more, drop_all, get_or_past, get_or_append_left, get_or-append_right, get_or-take, get_or-replicate, length-take, length-replicate, length-append}
-use Rattle.arrangement.specs.Image.{word_of_bytes, object_word, header_word}
+use Rattle.std.proofs.lemmas.List.{drop_more, drop_all, get_or_past, get_or_append_left, get_or-append_right, get_or-take, get_or-replicate, length-take}
+use Rattle.arrangement.specs.Image.{word_of_bytes, object_word}
 use Rattle.arrangement.specs.Steps.{resized}
 use Rattle.arrangement.proofs.Resizing.{length-resized}
 

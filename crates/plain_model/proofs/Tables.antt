@@ -1,15 +1,15 @@
 -- Changes of a table of objects, and of the map that it stands for.
-use Rattle.std.proofs.Common.{◌≡◌, ℕ, zero, suc, ◌+◌, ◌<◌, ◌≤◌, List, [], ◌∷◌, ◌++◌, Option, Some, None, length, get_or, set, map, arith, sym, ◌∙◌, ap, refl, inl, inr}
+use Rattle.std.proofs.Common.{◌≡◌, ℕ, ◌+◌, ◌<◌, ◌≤◌, List, [], ◌∷◌, ◌++◌, Option, Some, None, length, get_or, set, map, sym, ◌∙◌, ap, refl, inl, inr}
 use Rattle.std.specs.Prelude.{option_map}
-use Rattle.std.proofs.lemmas.List.{map-set, length-map, get_or_past}
+use Rattle.std.proofs.lemmas.List.{map-set, length-map, get_or_past, get_or-map, set-get_or}
 use Rattle.std.proofs.lemmas.Bool.{cases_eq}
 use Rattle.std.specs.FinMap.{get, insert, remove}
 use Rattle.cf_lemmas.specs.Maps.{numbered}
 use Rattle.cf_lemmas.proofs.Maps.{equal_maps, get_removed, get_remove_other}
 use Rattle.cf_lemmas.proofs.Numbered.{get-numbered, numbered-set, numbered-clear}
-use Rattle.arrangement.specs.Held.{Placed}
+use Rattle.arrangement.specs.Steps.{moved_to}
 use Rattle.plain_model.specs.declared.object.Object.{Object}
-use Rattle.plain_model.specs.Amounts.{placed, held_in}
+use Rattle.plain_model.specs.Amounts.{placed, at_place, held_in}
 
 push_from : (k : ℕ) (os : List (Option Object)) → numbered k (map (option_map placed) (os ++ None ∷ [])) ≡ numbered k (map (option_map placed) os)
 push_from k [] = refl
@@ -41,3 +41,20 @@ module _ (os : List (Option Object)) where
           | inl is ↦ rw is (none ∙ sym (get_removed (held_in os) h))
           | inr ne ↦ sym (get_remove_other (held_in os) h q ne)
         ])
+
+-- an object of the table moves
+pub held-moved : (os : List (Option Object)) (h a : ℕ) (d e : Option Object) → h < length os → get_or os h d ≡ e → held_in (set os h (option_map (at_place a) e)) ≡ moved_to (held_in os) h (get (held_in os) h) a
+held-moved os h a d None lt is =
+    let none : get (held_in os) h ≡ None = get_held os h ∙ get_or-map (option_map placed) os h d None lt ∙ ap (option_map placed) is in
+    let same : set os h None ≡ os = ap (set os h) (sym is) ∙ set-get_or os h d in
+    rw none (ap held_in same)
+held-moved os h a d (Some o) lt is =
+    let some : get (held_in os) h ≡ Some (placed o) = get_held os h ∙ get_or-map (option_map placed) os h d None lt ∙ ap (option_map placed) is in
+    rw some (held-set os h (at_place a o) lt)
+
+-- behind the table nothing moves
+pub held-unmoved : (os : List (Option Object)) (h a : ℕ) → length os ≤ h → held_in os ≡ moved_to (held_in os) h (get (held_in os) h) a
+held-unmoved os h a past =
+    let past' : length (map (option_map placed) os) ≤ h = rw (length-map os (option_map placed)) past in
+    let none : get (held_in os) h ≡ None = get_held os h ∙ get_or_past (map (option_map placed) os) h None past' in
+    rw none refl

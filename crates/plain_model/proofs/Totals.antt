@@ -1,7 +1,6 @@
 -- Sums over a table of objects are sums over the values of the map that it stands for.
-use Rattle.std.proofs.Common.{◌≡◌, ℕ, zero, suc, ◌+◌, ◌<◌, ◌≤◌, ◌&&◌, Bool, List, [], ◌∷◌, Option, Some, None, length, map, arith, sym, ◌∙◌, ap, cond}
-use Rattle.std.specs.Prelude.{option_map, sum_by, count_by, nat_eq, position, nat_le}
-use Rattle.std.specs.List.{range_with_len, position_or_len}
+use Rattle.std.proofs.Common.{◌≡◌, ℕ, ◌+◌, List, [], ◌∷◌, Option, Some, None, length, map, arith, sym, ◌∙◌, ap}
+use Rattle.std.specs.Prelude.{option_map, sum_by}
 use Rattle.std.proofs.lemmas.List.Sums.{sum_by-cons}
 use Rattle.std.specs.FinMap.{values, insert, len, len-empty}
 use Rattle.std.specs.Ordering.{nat_cmp}
@@ -11,13 +10,12 @@ use Rattle.arrangement.proofs.Adding.{len-objects}
 use Rattle.cf_lemmas.specs.Maps.{numbered}
 use Rattle.cf_lemmas.proofs.Sums.{sum_by-inserted}
 use Rattle.cf_lemmas.proofs.Numbered.{numbered_below}
-use Rattle.cf_base.specs.Classes.{need, class_of}
 use Rattle.arrangement.specs.Held.{Held, Placed, objects}
 use Rattle.arrangement.specs.Paging.{Paging, class_for, slot_words}
 use Rattle.arrangement.specs.Arrangement.{live, objects_on, standing_on}
-use Rattle.arrangement.specs.Figures.{asked_bytes, taken_bytes}
+use Rattle.arrangement.specs.Figures.{asked_bytes}
 use Rattle.arrangement.proofs.Counting.{no_values}
-use Rattle.arrangement.proofs.Totals.{live_is, sum-map_values, sum_same}
+use Rattle.arrangement.proofs.Totals.{live_is, sum-map_values}
 use Rattle.arrangement.proofs.Resizing.{length-resized}
 use Rattle.plain_model.specs.declared.object.Object.{Object}
 use Rattle.plain_model.specs.declared.object.Amount.TheVariants.{One, OfClass, OnPage, OfClassOnPage, Length, SlotWords}

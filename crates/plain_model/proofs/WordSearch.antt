@@ -1,13 +1,13 @@
 -- The word of a region, found object by object.
-use Rattle.std.proofs.Common.{◌≡◌, ◌≢◌, ℕ, ◌+◌, ◌*◌, ◌<◌, ◌≤◌, List, [], ◌∷◌, ◌++◌, Option, Some, None, length, get_or, map, arith, sym, ◌∙◌, ap, refl, inl, inr, subst}
+use Rattle.std.proofs.Common.{◌≡◌, ℕ, ◌+◌, ◌*◌, ◌<◌, ◌≤◌, List, [], ◌∷◌, ◌++◌, Option, Some, None, length, get_or, map, arith, sym, ◌∙◌, ap, refl, inl, inr, subst}
 use Rattle.std.specs.Prelude.{option_map}
 use Rattle.std.proofs.lemmas.Bool.{cases_eq, cases_lt}
 use Rattle.std.proofs.lemmas.List.{get_or_past, get_or-map, length-map, get_or_append_left, get_or_push, length_push}
 use Rattle.std.specs.FinMap.{get}
 use Rattle.cf_base.specs.Classes.{need}
-use Rattle.arrangement.specs.Held.{Held, Placed}
+use Rattle.arrangement.specs.Held.{Held}
 use Rattle.arrangement.specs.Paging.{Paging}
-use Rattle.arrangement.specs.Image.{object_word, IsOutside, IsOutsideOf, IsDisjoint, AreDisjoint, IsApart, IsImage}
+use Rattle.arrangement.specs.Image.{IsOutside, IsDisjoint, IsApart, IsImage}
 use Rattle.plain_model.specs.declared.object.Object.{Object}
 use Rattle.plain_model.specs.Amounts.{placed, held_in}
 use Rattle.plain_model.specs.Words.{IsWordAt, HasWord, Misses, AreInside}

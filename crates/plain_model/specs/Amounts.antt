@@ -13,6 +13,10 @@ use Rattle.plain_model.specs.declared.object.Amount.TheVariants.{One, OfClass, O
 abbrev pub placed : Object → Placed
 placed o = record { place = o.place; bytes = resized o.bytes.items o.length }
 
+-- the same object at another place
+abbrev pub at_place : ℕ → Object → Object
+at_place a o = record o { place = a }
+
 -- the objects of a table, each under its index
 abbrev pub held_in : List (Option Object) → Held
 held_in os = numbered 0 (map (option_map placed) os)

@@ -1,9 +1,9 @@
 -- What the plain program stands for: pages, and the objects on them.
-use Rattle.std.specs.Prelude.{◌≡◌, ℕ, ◌<◌, ◌≤◌, List, length, refl}
+use Rattle.std.specs.Prelude.{◌≡◌, ℕ, ◌≤◌, List, length, refl}
 use Rattle.std.specs.FinMap as map
 use Rattle.std.specs.Coded.{Coded, code_by, coded×, coded_ℕ, coded_list}
 use Rattle.cf_base.specs.Rising.{AreSizes}
-use Rattle.arrangement.specs.Held.{Held, Placed, placed_code}
+use Rattle.arrangement.specs.Held.{Held, placed_code}
 use Rattle.arrangement.specs.Paging.{Paging}
 
 pub record Arranged : Type 0 where

@@ -1,5 +1,5 @@
 //! Pages with objects on them.
-ghost use Rattle.std.specs.Prelude.{◌≡◌, ◌↔◌, ◌+◌, ◌*◌, ◌^◌, ◌&&◌, ◌<◌, ◌≤◌, IfOk, IsTrue, OnOk, OnErr, length, slice_set, nat_lt, cond};
+ghost use Rattle.std.specs.Prelude.{◌≡◌, ◌↔◌, ◌+◌, ◌*◌, ◌^◌, ◌&&◌, ◌<◌, ◌≤◌, IfOk, IsTrue, OnOk, OnErr, length, option_map, slice_set, nat_lt, cond};
 ghost use Rattle.std.specs.FinMap as map;
 ghost use Rattle.cf_base.specs.Classes.{need};
 ghost use Rattle.cf_base.specs.Settings.{profile_of};
@@ -9,8 +9,8 @@ ghost use Rattle.arrangement.specs.Counts.{ceil_div};
 ghost use Rattle.arrangement.specs.Arrangement.{live, objects_on, standing_on, home_pages, not_full_pages, used_pages, free_pages, pages_needed, pages_needed_with, LacksRoom};
 ghost use Rattle.arrangement.specs.Figures.{asked_bytes, taken_bytes, figures_of, totals_of};
 ghost use Rattle.arrangement.specs.Image.{IsApart, IsImage};
-ghost use Rattle.arrangement.specs.Steps.{resized};
-ghost use Rattle.plain_model.specs.Amounts.{held_in, AreTaken};
+ghost use Rattle.arrangement.specs.Steps.{resized, moved_to};
+ghost use Rattle.plain_model.specs.Amounts.{at_place, held_in, AreTaken};
 ghost use Rattle.plain_model.specs.Words.{AreInside, IsWordAt};
 
 use crate::object::{Amount, Object};
@@ -91,6 +91,16 @@ impl Plain {
     {
         if (number as usize) < self.objects.len() {
             put_entry(&mut self.objects, number as usize, None);
+        }
+    }
+
+    /// The object under this number, where there is one, stands at another place.
+    pub fn move_to(&mut self, number: u16, place: u32)
+        ensures paging { self.new.paging ≡ self.old.paging }
+        ensures held { self.new.held ≡ moved_to self.old.held number (map.get self.old.held number) place }
+    {
+        if (number as usize) < self.objects.len() {
+            move_entry(&mut self.objects[number as usize], place);
         }
     }
 
@@ -374,4 +384,13 @@ fn pages_for(objects: u32, slots: u32) -> u32
     ensures few { result ≤ 70000 }
 {
     (objects + (slots - 1)) / slots
+}
+
+/// The object of the entry, where there is one, stands at another place.
+fn move_entry(entry: &mut Option<Object>, place: u32)
+    ensures { entry.new ≡ option_map (at_place place) entry.old }
+{
+    if let Some(object) = entry {
+        object.place = place;
+    }
 }

@@ -223,6 +223,20 @@ fn what_was_put_and_removed_again_is_as_nothing(rt: HostRuntime) -> Result<(), F
 }
 
 #[test]
+fn an_object_that_moves_leaves_its_page(rt: HostRuntime) -> Result<(), Fail> {
+    let alloc = rt.alloc();
+    let mut plain = laid(&rt, alloc, 3, &[(1, 23, 176), (3, 87, 176), (5, 151, 176)])?;
+    for number in [3, 4, 7] {
+        plain.move_to(number, 128);
+    }
+    assert_eq!(rt; plain.count(), 3);
+    for (page, standing) in [(0, 1), (1, 0), (2, 2)] {
+        assert_eq!(rt; plain.standing_on(page), standing, "page {page}");
+    }
+    Ok(())
+}
+
+#[test]
 fn words_are_headers_and_bytes_and_zeros(rt: HostRuntime) -> Result<(), Fail> {
     let alloc = rt.alloc();
     let mut plain = laid(&rt, alloc, 2, &[(3, 87, 176)])?;

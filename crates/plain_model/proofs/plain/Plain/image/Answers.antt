@@ -1,4 +1,4 @@
-use Rattle.std.proofs.Common.{◌∙◌, ap, arith, length, sym, subst, ℕ, List, ◌<◌, get_or}
+use Rattle.std.proofs.Common.{ap, arith, length, sym, subst, ℕ, List, ◌<◌, get_or}
 use Rattle.std.proofs.lemmas.List.{length_push}
 use Rattle.plain_model.specs.Words.{IsWordAt}
 use Rattle.plain_model.proofs.WordSearch.{right_push}

@@ -1,4 +1,4 @@
-use Rattle.std.proofs.Common.{arith, ap, ◌&&◌, ◌∙◌}
+use Rattle.std.proofs.Common.{arith, ◌&&◌, ◌∙◌}
 use Rattle.std.specs.Prelude.{nat_lt, cond}
 use Rattle.arrangement.specs.Paging.{slots_of}
 use Rattle.arrangement.specs.Arrangement.{objects_on, not_full_pages}

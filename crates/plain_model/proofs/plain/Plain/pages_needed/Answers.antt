@@ -1,4 +1,4 @@
-use Rattle.std.proofs.Common.{arith, length, ◌∙◌, ap}
+use Rattle.std.proofs.Common.{arith, length, ◌∙◌}
 use Rattle.arrangement.specs.Held.{objects}
 use Rattle.arrangement.specs.Paging.{slots_of}
 use Rattle.arrangement.specs.Counts.{ceil_div}
