@@ -32,10 +32,12 @@ pub fn blocks_of_others_stay()
         → get old q ≡ Some y → get after.held q ≡ Some z
         → (i : ℕ) → i < slot_for p (length y.bytes) / 4
         → block_of (frames_after p old after frames) z.place i ≡ block_of frames y.place i }
-    ensures same_class { (p : Paging) (old : Held) (frames : List ℕ) (asked : Request) (after : Outcome)
+    ensures same_class { (p : Paging) (old : Held) (frames : List ℕ) (asked : Request)
+        (after : Outcome)
         → ResizesInPlace p old asked after
         → (y z : Placed) → get old asked.number ≡ Some y → get after.held asked.number ≡ Some z
-        → (i : ℕ) → block_of (frames_after p old after frames) z.place i ≡ block_of frames y.place i }
+        → (i : ℕ) → block_of (frames_after p old after frames) z.place i
+        ≡ block_of frames y.place i }
 {}
 
 /// No block is one of two live objects.

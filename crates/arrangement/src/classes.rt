@@ -14,7 +14,8 @@ ghost use Rattle.arrangement.specs.Arrangement.{IsSlotAt};
 pub fn slot_sizes_rise()
     ensures first { (s : Profile) (layout : Layout) → IsTrue (is_page_size s.page_words) → 1 ≤ s.k
         → IsPaging (paging_of s layout (first_bounds s layout)) }
-    ensures bounded { (s : Profile) (layout : Layout) (bounds : List ℕ) → IsTrue (is_page_size s.page_words)
+    ensures bounded { (s : Profile) (layout : Layout) (bounds : List ℕ)
+        → IsTrue (is_page_size s.page_words)
         → length bounds ≡ length (sizes s.page_words layout)
         → ((c : ℕ) → c < length bounds → 1 ≤ slice_index bounds c)
         → IsPaging (paging_of s layout bounds) }
@@ -23,21 +24,27 @@ pub fn slot_sizes_rise()
 /// With the bound 1 in the settings every class has it; pages of whole blocks have slots of whole
 /// blocks; and a page has at most a slot for every four words.
 pub fn slots_are_few_and_in_blocks()
-    ensures ones { (s : Profile) (layout : Layout) → s.k ≡ 1 → AreOne (paging_of s layout (first_bounds s layout)) }
+    ensures ones { (s : Profile) (layout : Layout) → s.k ≡ 1
+        → AreOne (paging_of s layout (first_bounds s layout)) }
     ensures blocks { (s : Profile) (bounds : List ℕ) → IsTrue (is_page_size s.page_words)
         → AreBlocks (paging_of s Blocks bounds) }
-    ensures few { (p : Paging) (c : ℕ) → IsPaging p → c < classes p → 4 * slots_of p c ≤ p.page_words }
+    ensures few { (p : Paging) (c : ℕ) → IsPaging p → c < classes p
+        → 4 * slots_of p c ≤ p.page_words }
 {}
 
-/// A request that fits a page has a class: the least whose slots hold it. One that doesn't has none.
+/// A request that fits a page has a class: the least whose slots hold it. One that doesn't fit has
+/// none.
 pub fn a_class_holds_its_requests()
-    ensures fits { (p : Paging) (n : ℕ) → IsPaging p → need n ≤ p.page_words → class_for p n < classes p }
+    ensures fits { (p : Paging) (n : ℕ) → IsPaging p → need n ≤ p.page_words
+        → class_for p n < classes p }
     ensures holds { (p : Paging) (n : ℕ) → IsPaging p → class_for p n < classes p
         → need n ≤ slot_words p (class_for p n) }
-    ensures least { (p : Paging) (n c : ℕ) → IsPaging p → c < class_for p n → slot_words p c < need n }
+    ensures least { (p : Paging) (n c : ℕ) → IsPaging p → c < class_for p n
+        → slot_words p c < need n }
     ensures known { (p : Paging) (n : ℕ) → IsPaging p → class_for p n < classes p
         → class_of p.sizes n ≡ Some (class_for p n) }
-    ensures none { (p : Paging) (n : ℕ) → IsPaging p → p.page_words < need n → class_of p.sizes n ≡ None }
+    ensures none { (p : Paging) (n : ℕ) → IsPaging p → p.page_words < need n
+        → class_of p.sizes n ≡ None }
 {}
 
 /// The slots of a class are those of the pages, counted on each page from 0.

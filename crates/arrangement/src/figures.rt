@@ -8,7 +8,8 @@ ghost use Rattle.arrangement.specs.Paging.{Paging, class_for, slot_words};
 
 /// The pages in use and the free ones are all there are, and each object held counts once.
 pub fn pages_and_objects_add_up()
-    ensures pages { (p : Paging) (m : Held) → IsSound p m → used_pages p m + free_pages p m ≡ p.pages }
+    ensures pages { (p : Paging) (m : Held) → IsSound p m
+        → used_pages p m + free_pages p m ≡ p.pages }
     ensures len { (m : Held) → len (objects m) ≡ len m }
 {}
 

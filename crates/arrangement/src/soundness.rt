@@ -42,7 +42,8 @@ pub fn a_free_keeps_soundness()
 
 /// A resize keeps an arrangement sound, within its class and to another one.
 pub fn a_resize_keeps_soundness()
-    ensures { (p : Paging) (old : Held) (asked : Request) (after : Outcome) → IsPaging p → IsSound p old
+    ensures { (p : Paging) (old : Held) (asked : Request) (after : Outcome) → IsPaging p
+        → IsSound p old
         → IsResizeStep p old asked after → IsSound p after.held }
 {}
 
@@ -54,7 +55,8 @@ pub fn a_resize_in_two_steps()
         → get m spare ≡ None → IsFreePlace p m n a → Moves p m x moved
         → ChangesClass p m (record { number = h; length = n })
         (record { held = insert (without m h x.place moved) h (resized_at a x n); moved = moved }) }
-    ensures taken { (p : Paging) (old : Held) (asked : Request) (after : Outcome) → IsPaging p → IsSound p old
+    ensures taken { (p : Paging) (old : Held) (asked : Request) (after : Outcome) → IsPaging p
+        → IsSound p old
         → (r : ChangesClass p old asked after)
         → Moves p old r.object after.moved
         × (after.held ≡ insert (without old asked.number r.object.place after.moved) asked.number
@@ -88,7 +90,8 @@ pub fn counts_after_a_free()
     ensures still { (p : Paging) (m : Held) (h a c page : ℕ) (x : Placed) → get m h ≡ Some x
         → objects_on p (without m h a None) c page + cond (is_on p c page x) 1 0
         ≡ objects_on p m c page }
-    ensures moved { (p : Paging) (m : Held) (h q c page : ℕ) (x y : Placed) → IsPaging p → IsSound p m
+    ensures moved { (p : Paging) (m : Held) (h q c page : ℕ) (x y : Placed) → IsPaging p
+        → IsSound p m
         → get m h ≡ Some x → get m q ≡ Some y → MustMove p m x → MayFill p m x y
         → objects_on p (without m h x.place (Some q)) c page + cond (is_on p c page y) 1 0
         ≡ objects_on p m c page }
@@ -104,7 +107,9 @@ pub fn page_counts_follow_one_page()
     ensures not_full { (p : Paging) (old new : Held) (c page : ℕ) → page < p.pages
         → ((g : ℕ) → g ≢ page → objects_on p new c g ≡ objects_on p old c g)
         → not_full_pages p new c
-        + cond (nat_lt 0 (objects_on p old c page) && nat_lt (objects_on p old c page) (slots_of p c)) 1 0
+        + cond (nat_lt 0 (objects_on p old c page) && nat_lt (objects_on p old c page)
+        (slots_of p c)) 1 0
         ≡ not_full_pages p old c
-        + cond (nat_lt 0 (objects_on p new c page) && nat_lt (objects_on p new c page) (slots_of p c)) 1 0 }
+        + cond (nat_lt 0 (objects_on p new c page) && nat_lt (objects_on p new c page)
+        (slots_of p c)) 1 0 }
 {}

@@ -12,7 +12,8 @@ ghost use Rattle.arrangement.specs.Steps.{IsFreePlace, MayFill, MustMove, resize
 /// The words of a region are determined by its objects; those of an empty one are zeros. What is
 /// said of whole slots holds of the objects' own words.
 pub fn words_are_one_list()
-    ensures one { (m : Held) (u v : List ℕ) → length u ≡ length v → IsImage m u → IsImage m v → u ≡ v }
+    ensures one { (m : Held) (u v : List ℕ) → length u ≡ length v → IsImage m u → IsImage m v
+        → u ≡ v }
     ensures empty { (p : Paging) (n : ℕ) → IsSlotImage p empty (replicate n 0) }
     ensures own { (p : Paging) (m : Held) (words : List ℕ) → IsPaging p → IsSound p m
         → IsSlotImage p m words → IsImage m words }
@@ -31,13 +32,15 @@ pub fn words_after_a_malloc()
 
 /// A write rewrites those words of the object that hold one of its bytes.
 pub fn words_after_a_write()
-    ensures bytes { (p : Paging) (m : Held) (old new : List ℕ) (h at : ℕ) (x : Placed) (bytes : List ℕ)
+    ensures bytes { (p : Paging) (m : Held) (old new : List ℕ) (h at : ℕ) (x : Placed)
+        (bytes : List ℕ)
         → IsPaging p → IsSound p m → IsSlotImage p m old → get m h ≡ Some x
         → at + length bytes ≤ length x.bytes
         → Rewrites old new
         (record { from = x.place + (1 + at / 8); count = (at % 8 + length bytes + 7) / 8 })
         (λ i. object_word h (written x.bytes at bytes) (1 + at / 8 + i))
-        → IsSlotImage p (insert m h (record { place = x.place; bytes = written x.bytes at bytes })) new }
+        → IsSlotImage p (insert m h
+        (record { place = x.place; bytes = written x.bytes at bytes })) new }
     ensures slot { (p : Paging) (m : Held) (old new : List ℕ) (h : ℕ) (x : Placed) (bytes : List ℕ)
         → IsPaging p → IsSound p m → IsSlotImage p m old → get m h ≡ Some x
         → class_for p (length bytes) ≡ class_at p x
@@ -56,7 +59,11 @@ pub fn words_after_a_free()
     ensures moved { (p : Paging) (m : Held) (old new : List ℕ) (h q : ℕ) (x y : Placed)
         → IsPaging p → IsSound p m → IsSlotImage p m old
         → get m h ≡ Some x → get m q ≡ Some y → MustMove p m x → MayFill p m x y
-        → MovesWords old new (record { from = y.place; count = slot_for p (length y.bytes) }) x.place
+        → MovesWords old new (record {
+          from = y.place;
+          count = slot_for p
+              (length y.bytes);
+        }) x.place
         → IsSlotImage p (insert (remove m h) q (record { place = x.place; bytes = y.bytes })) new }
 {}
 
@@ -64,20 +71,27 @@ pub fn words_after_a_free()
 /// old slot or moves there the slot of the object that moves. `spare` is any number that isn't in
 /// use.
 pub fn words_after_a_resize()
-    ensures still { (p : Paging) (m : Held) (old mid new : List ℕ) (h a spare : ℕ) (x : Placed) (bytes : List ℕ)
+    ensures still { (p : Paging) (m : Held) (old mid new : List ℕ) (h a spare : ℕ) (x : Placed)
+        (bytes : List ℕ)
         → IsPaging p → IsSound p m → IsSlotImage p m old
         → length old ≡ p.pages * p.page_words → length new ≡ p.pages * p.page_words
         → get m h ≡ Some x → get m spare ≡ None → IsFreePlace p m (length bytes) a
-        → Rewrites old mid (record { from = a; count = slot_for p (length bytes) }) (object_word h bytes)
+        → Rewrites old mid (record { from = a; count = slot_for p (length bytes) })
+        (object_word h bytes)
         → Clears mid new (record { from = x.place; count = slot_for p (length x.bytes) })
         → IsSlotImage p (insert (remove m h) h (record { place = a; bytes = bytes })) new }
     ensures moved { (p : Paging) (m : Held) (old mid new : List ℕ) (h q a spare : ℕ) (x y : Placed)
         (bytes : List ℕ) → IsPaging p → IsSound p m → IsSlotImage p m old
         → length old ≡ p.pages * p.page_words → length new ≡ p.pages * p.page_words
         → get m h ≡ Some x → get m spare ≡ None → IsFreePlace p m (length bytes) a
-        → Rewrites old mid (record { from = a; count = slot_for p (length bytes) }) (object_word h bytes)
+        → Rewrites old mid (record { from = a; count = slot_for p (length bytes) })
+        (object_word h bytes)
         → get m q ≡ Some y → MustMove p m x → MayFill p m x y
-        → MovesWords mid new (record { from = y.place; count = slot_for p (length y.bytes) }) x.place
+        → MovesWords mid new (record {
+          from = y.place;
+          count = slot_for p
+              (length y.bytes);
+        }) x.place
         → IsSlotImage p
         (insert (insert (remove m h) q (record { place = x.place; bytes = y.bytes })) h
         (record { place = a; bytes = bytes }))
@@ -88,7 +102,8 @@ pub fn words_after_a_resize()
 pub fn headers_tell()
     ensures { (m : Held) (words : List ℕ) (h : ℕ) (x : Placed) → IsImage m words → get m h ≡ Some x
         → h < 2 ^ 32
-        → (slice_index words x.place % 2 ^ 32 ≡ h) × (slice_index words x.place / 2 ^ 32 ≡ length x.bytes) }
+        → (slice_index words x.place % 2 ^ 32 ≡ h) × (slice_index words x.place / 2 ^ 32
+        ≡ length x.bytes) }
 {}
 
 /// The objects can be read back from the words and the places.
@@ -111,7 +126,8 @@ pub fn what_stands_at_places()
 pub fn objects_stay_storable()
     ensures comes { (m : Held) (h : ℕ) (x : Placed) → AreStorable m → h < 2 ^ 32 → AreBytes x.bytes
         → AreStorable (insert m h x) }
-    ensures goes { (m : Held) (h a : ℕ) (moved : Option ℕ) → AreStorable m → AreStorable (without m h a moved) }
+    ensures goes { (m : Held) (h a : ℕ) (moved : Option ℕ) → AreStorable m
+        → AreStorable (without m h a moved) }
     ensures zeros { (n : ℕ) → AreBytes (replicate n 0) }
     ensures resized { (v : List ℕ) (n : ℕ) → AreBytes v → AreBytes (resized v n) }
     ensures written { (v : List ℕ) (at : ℕ) (bytes : List ℕ) → at + length bytes ≤ length v
@@ -120,14 +136,16 @@ pub fn objects_stay_storable()
 
 /// Byte k of an object stands in byte k modulo 8 of the word k / 8 after its header.
 pub fn bytes_are_read_back()
-    ensures { (m : Held) (words : List ℕ) (h k : ℕ) (x : Placed) → IsImage m words → get m h ≡ Some x
+    ensures { (m : Held) (words : List ℕ) (h k : ℕ) (x : Placed) → IsImage m words
+        → get m h ≡ Some x
         → AreBytes x.bytes → k < length x.bytes
         → byte_of (k % 8) (slice_index words (x.place + 1 + k / 8)) ≡ slice_index x.bytes k }
 {}
 
 /// A word of 64 bits is its eight bytes, and those of an object are such words.
 pub fn a_word_is_its_bytes()
-    ensures same { (u v : ℕ) → u < 2 ^ 64 → v < 2 ^ 64 → ((j : ℕ) → j < 8 → byte_of j u ≡ byte_of j v) → u ≡ v }
+    ensures same { (u v : ℕ) → u < 2 ^ 64 → v < 2 ^ 64 → ((j : ℕ) → j < 8
+        → byte_of j u ≡ byte_of j v) → u ≡ v }
     ensures fits { (h : ℕ) (v : List ℕ) (i : ℕ) → h < 2 ^ 32 → length v < 2 ^ 32 → AreBytes v
         → object_word h v i < 2 ^ 64 }
 {}
@@ -139,7 +157,8 @@ pub fn a_part_is_written()
     ensures before { (v : List ℕ) (at : ℕ) (bytes : List ℕ) → at + length bytes ≤ length v
         → (k : ℕ) → k < at → slice_index (written v at bytes) k ≡ slice_index v k }
     ensures inside { (v : List ℕ) (at : ℕ) (bytes : List ℕ) → at + length bytes ≤ length v
-        → (k : ℕ) → k < length bytes → slice_index (written v at bytes) (at + k) ≡ slice_index bytes k }
+        → (k : ℕ) → k < length bytes
+        → slice_index (written v at bytes) (at + k) ≡ slice_index bytes k }
     ensures behind { (v : List ℕ) (at : ℕ) (bytes : List ℕ) → at + length bytes ≤ length v
         → (k : ℕ) → at + length bytes ≤ k → slice_index (written v at bytes) k ≡ slice_index v k }
 {}

@@ -1,14 +1,14 @@
 -- The blocks of the objects that a free or a resize leaves.
-use Rattle.std.proofs.Common.{◌≡◌, ◌≢◌, ℕ, ◌+◌, ◌*◌, ◌/◌, ◌%◌, ◌<◌, ◌≤◌, List, Option, Some, None, length, get_or, arith, sym, ◌∙◌, subst, ap, refl}
+use Rattle.std.proofs.Common.{◌≡◌, ◌≢◌, ℕ, ◌+◌, ◌*◌, ◌/◌, ◌%◌, ◌<◌, List, Some, length, get_or, arith, sym, ◌∙◌, subst, ap, refl}
 use Rattle.std.specs.Prelude.{option_map}
-use Rattle.std.specs.FinMap.{get, insert, remove}
+use Rattle.std.specs.FinMap.{get}
 use Rattle.cf_lemmas.proofs.Maps.{get_insert_other, get_remove_other}
 use Rattle.cf_lemmas.proofs.MapValues.{get-map_values}
 use Rattle.cf_base.specs.declared.answers.Freed.{Freed}
 use Rattle.cf_base.specs.declared.answers.Resized.{Resized}
 use Rattle.cf_base.specs.declared.kind.Kind.TheVariants.{NonMoving}
 use Rattle.arrangement.specs.Held.{Held, Placed, objects}
-use Rattle.arrangement.specs.Paging.{IsPaging, Paging, paging_of}
+use Rattle.arrangement.specs.Paging.{IsPaging, paging_of}
 use Rattle.arrangement.specs.Arrangement.{IsSound}
 use Rattle.arrangement.specs.Frames.{AreBlocks, IsPhysical, block_of, frames_after}
 use Rattle.arrangement.specs.Image.{IsSlotImage, object_word, slot_for}
@@ -78,12 +78,12 @@ blocks_after_free old h freed new is before after f =
     let frames : new.frames ≡ frames_after (paging_in old) old.held out old.frames = ap (λ (s : HeapState). s.frames) f.whole ∙ ap (λ k. frames_left k old out) is in
     let held : new.held ≡ out.held = ap (λ (s : HeapState). s.held) f.whole in
     let stay : (q : ℕ) (x y : Placed) → q ≢ h → get old.held q ≡ Some x → get new.held q ≡ Some y → (i : ℕ) → i < slot_for (paging_in old) (length x.bytes) / 4 → block_of new.frames y.place i ≡ block_of old.frames x.place i
-        = λ q x y ne e g i lt. rw frames (free_blocks (paging_in old) old.held old.frames o.paging o.blocks o.sound o.count h out step q x y ne e (ap (λ m. get m q) (sym held) ∙ g) i lt) in
+    = λ q x y ne e g i lt. rw frames (free_blocks (paging_in old) old.held old.frames o.paging o.blocks o.sound o.count h out step q x y ne e (ap (λ m. get m q) (sym held) ∙ g) i lt) in
     record {
       blocks = stay;
       words = λ before after ph ph' q x y ne e g i j lt low.
-        let bytes = some_equal y.bytes x.bytes (sym (bytes_of new.held q y g) ∙ ap (λ m. get m q) f.left ∙ get_remove_other (objects old.held) h q ne ∙ bytes_of old.held q x e) in
-        words_stay old new o n same q x y e g bytes before after ph ph' i j lt low (stay q x y ne e g i lt);
+          let bytes = some_equal y.bytes x.bytes (sym (bytes_of new.held q y g) ∙ ap (λ m. get m q) f.left ∙ get_remove_other (objects old.held) h q ne ∙ bytes_of old.held q x e) in
+          words_stay old new o n same q x y e g bytes before after ph ph' i j lt low (stay q x y ne e g i lt);
     }
 
 pub blocks_after_resize : (old : HeapState) (asked : Request) (done : Resized) (new : HeapState) → old.kind ≡ NonMoving → KeepsRules old → KeepsRules new → ResizesObject old asked done new → BlocksStay old asked.number new
@@ -94,12 +94,12 @@ blocks_after_resize old asked done new is before after f =
     let out : Outcome = record { held = new.held; moved = number_of done.moved } in
     let frames : new.frames ≡ frames_after (paging_in old) old.held out old.frames = ap (λ (s : HeapState). s.frames) f.whole ∙ ap (λ k. frames_left k old out) is in
     let stay : (q : ℕ) (x y : Placed) → q ≢ asked.number → get old.held q ≡ Some x → get new.held q ≡ Some y → (i : ℕ) → i < slot_for (paging_in old) (length x.bytes) / 4 → block_of new.frames y.place i ≡ block_of old.frames x.place i
-        = λ q x y ne e g i lt. rw frames (resize_blocks (paging_in old) old.held old.frames o.paging o.blocks o.sound o.count asked out f.step q x y ne e g i lt) in
+    = λ q x y ne e g i lt. rw frames (resize_blocks (paging_in old) old.held old.frames o.paging o.blocks o.sound o.count asked out f.step q x y ne e g i lt) in
     record {
       blocks = stay;
       words = λ before after ph ph' q x y ne e g i j lt low.
-        let bytes = some_equal y.bytes x.bytes (sym (bytes_of new.held q y g) ∙ ap (λ m. get m q) f.left ∙ get_insert_other (objects old.held) asked.number _ q ne ∙ bytes_of old.held q x e) in
-        words_stay old new o n same q x y e g bytes before after ph ph' i j lt low (stay q x y ne e g i lt);
+          let bytes = some_equal y.bytes x.bytes (sym (bytes_of new.held q y g) ∙ ap (λ m. get m q) f.left ∙ get_insert_other (objects old.held) asked.number _ q ne ∙ bytes_of old.held q x e) in
+          words_stay old new o n same q x y e g bytes before after ph ph' i j lt low (stay q x y ne e g i lt);
     }
 
 -- where nothing but the cost changes, no block does
@@ -112,11 +112,11 @@ blocks_after_refusal old h new whole is before after =
     let frames : new.frames ≡ old.frames = ap (λ (s : HeapState). s.frames) whole in
     let equal : (q : ℕ) (x y : Placed) → get old.held q ≡ Some x → get new.held q ≡ Some y → y ≡ x = λ q x y e g. placed_equal y x (sym g ∙ ap (λ m. get m q) held ∙ e) in
     let stay : (q : ℕ) (x y : Placed) → get old.held q ≡ Some x → get new.held q ≡ Some y → (i : ℕ) → block_of new.frames y.place i ≡ block_of old.frames x.place i
-        = λ q x y e g i. (let s = equal q x y e g in rw (frames, s) refl) in
+    = λ q x y e g i. (let s = equal q x y e g in rw (frames, s) refl) in
     record {
       blocks = λ q x y ne e g i lt. stay q x y e g i;
       words = λ before after ph ph' q x y ne e g i j lt low.
-        words_stay old new o n same q x y e g (ap (λ (z : Placed). z.bytes) (equal q x y e g)) before after ph ph' i j lt low (stay q x y e g i);
+          words_stay old new o n same q x y e g (ap (λ (z : Placed). z.bytes) (equal q x y e g)) before after ph ph' i j lt low (stay q x y e g i);
     }
   where
     placed_equal : (u v : Placed) → Some u ≡ Some v → u ≡ v

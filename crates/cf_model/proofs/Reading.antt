@@ -1,13 +1,13 @@
 -- What callers learn of the objects.
-use Rattle.std.proofs.Common.{◌≡◌, ◌≢◌, ℕ, ◌+◌, ◌<◌, ◌≤◌, List, ◌++◌, Option, Some, None, length, take, drop, arith, sym, ◌∙◌, subst, ap, refl}
+use Rattle.std.proofs.Common.{◌≡◌, ◌≢◌, ℕ, ◌+◌, ◌≤◌, List, ◌++◌, Option, Some, None, length, take, drop, arith, sym, ◌∙◌, subst, ap, refl}
 use Rattle.std.specs.Prelude.{option_map}
 use Rattle.std.proofs.Math.Seq.{drop-append_seam, take-append_seam}
 use Rattle.std.proofs.lemmas.Grind.{common_steps}
-use Rattle.std.specs.FinMap.{get, insert, remove}
+use Rattle.std.specs.FinMap.{get}
 use Rattle.cf_lemmas.proofs.Maps.{get_inserted, get_insert_other, get_removed}
 use Rattle.cf_lemmas.proofs.MapValues.{get-map_values}
 use Rattle.cf_base.specs.declared.answers.Freed.{Freed}
-use Rattle.arrangement.specs.Held.{Held, Placed, objects}
+use Rattle.arrangement.specs.Held.{Placed, objects}
 use Rattle.arrangement.specs.Bytes.{written}
 use Rattle.cf_model.specs.State.{HeapState}
 use Rattle.cf_model.specs.Steps.{Part, WritesBytes, ReadsBytes, FreesObject}
@@ -25,7 +25,7 @@ part_written v at bytes within =
     let rest = drop (at + length bytes) v in
     let len : length (take at v) ≡ at = length_front v at (omega arith) in
     let behind : drop at (take at v ++ (bytes ++ drop (at + length bytes) v)) ≡ bytes ++ drop (at + length bytes) v =
-      subst (λ n. drop n (take at v ++ (bytes ++ drop (at + length bytes) v)) ≡ bytes ++ drop (at + length bytes) v) len (drop-append_seam (take at v) (bytes ++ drop (at + length bytes) v)) in
+    subst (λ n. drop n (take at v ++ (bytes ++ drop (at + length bytes) v)) ≡ bytes ++ drop (at + length bytes) v) len (drop-append_seam (take at v) (bytes ++ drop (at + length bytes) v)) in
     ap (take (length bytes)) behind ∙ take-append_seam bytes (drop (at + length bytes) v)
   where
     length_front : (v : List ℕ) (n : ℕ) → n ≤ length v → length (take n v) ≡ n

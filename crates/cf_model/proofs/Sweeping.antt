@@ -1,9 +1,9 @@
 -- The steps of a loop over a list.
-use Rattle.std.proofs.Common.{◌≡◌, ◌≢◌, ℕ, ◌+◌, ◌<◌, ◌≤◌, List, length, get_or, set, arith, sym, ◌∙◌, subst, inl, inr, ap, refl}
+use Rattle.std.proofs.Common.{◌≡◌, ◌≢◌, ℕ, ◌+◌, ◌<◌, List, length, get_or, set, arith, sym, ◌∙◌, inl, inr}
 use Rattle.std.proofs.lemmas.List.{get_or-set_same, get_or-set_other, length-set, get_or_default}
 use Rattle.std.proofs.lemmas.Bool.{cases_lt}
 use Rattle.std.specs.Prelude.{Result, Ok, Err, OnErr}
-use Rattle.cf_model.specs.Loops.{Pairwise, Sweep, Stops}
+use Rattle.cf_model.specs.Loops.{Sweep, Stops}
 
 module _ {X : Type 0} (R : X → X → Type 0) (xs ys : List X) (i : ℕ) (x y : X) (s : Sweep R xs ys i) (lt : i < length xs) (read : x ≡ get_or ys i x) where
   was : (d : X) → get_or xs i d ≡ x
@@ -18,10 +18,10 @@ module _ {X : Type 0} (R : X → X → Type 0) (xs ys : List X) (i : ℕ) (x y :
     done = λ k d e h. elim (cases_lt k i) [
       | inl l ↦ (let ne : k ≢ i = omega arith in rw (get_or-set_other ys i k y e ne) (s.done k d e l))
       | inr g ↦ (
-        let is : k ≡ i = omega arith in
-        let inside : i < length ys = omega (arith, s.count) in
-        let w = was d in
-        rw (is, get_or-set_same ys i y e inside, w) here)
+          let is : k ≡ i = omega arith in
+          let inside : i < length ys = omega (arith, s.count) in
+          let w = was d in
+          rw (is, get_or-set_same ys i y e inside, w) here)
     ];
     rest = λ k d h. get_or-set_other ys i k y d (omega arith) ∙ s.rest k d (omega arith);
   }
@@ -34,9 +34,9 @@ module _ {X : Type 0} (R : X → X → Type 0) (xs ys : List X) (i : ℕ) (x y :
     within = lt;
     before = λ k d e h. (let ne : k ≢ i = omega arith in rw (get_or-set_other ys i k y e ne) (s.done k d e h));
     here = λ d e. (
-      let inside : i < length ys = omega (arith, s.count) in
-      let w = was d in
-      rw (get_or-set_same ys i y e inside, w) here);
+        let inside : i < length ys = omega (arith, s.count) in
+        let w = was d in
+        rw (get_or-set_same ys i y e inside, w) here);
     behind = λ k d h. get_or-set_other ys i k y d (omega arith) ∙ s.rest k d (omega arith);
   }
 

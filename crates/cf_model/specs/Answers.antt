@@ -1,7 +1,6 @@
 -- What the calls that only look answer, and the bounds of the classes.
-use Rattle.std.specs.Prelude.{ℕ, Bool, ◌*◌, ◌/◌, List, Option, Some, None, if◌then◌else◌, length, nat_eq, nat_lt, position, option_map, is_some, slice_set}
+use Rattle.std.specs.Prelude.{ℕ, ◌*◌, ◌/◌, Option, Some, None, if◌then◌else◌, length, nat_eq, nat_lt, position, option_map, slice_set}
 use Rattle.std.specs.FinMap.{get, len}
-use Rattle.cf_base.specs.Classes.{sizes}
 use Rattle.cf_base.specs.declared.answers.Figures.{Figures}
 use Rattle.cf_base.specs.declared.answers.Totals.{Totals}
 use Rattle.cf_base.specs.declared.kind.Kind.{Kind}

@@ -1,5 +1,5 @@
 -- What holds at every state in which the calls leave an open manager.
-use Rattle.std.specs.Prelude.{◌≡◌, ◌≢◌, ℕ, IsTrue, ◌+◌, ◌*◌, ◌^◌, ◌≤◌, ◌<◌, List, [], Option, Some, None, length}
+use Rattle.std.specs.Prelude.{◌≡◌, ℕ, IsTrue, ◌+◌, ◌*◌, ◌^◌, ◌≤◌, ◌<◌, List, [], Option, Some, None, length, slice_index}
 use Rattle.std.specs.FinMap.{get, len}
 use Rattle.cf_base.specs.Settings.{Profile}
 use Rattle.cf_base.specs.Limits.{is_page_size}
@@ -46,9 +46,10 @@ pub record AreObjects (s : HeapState) : Type 0 where
   pub bytes : (h : ℕ) (x : Placed) → get s.held h ≡ Some x → AreBytes x.bytes
   pub few : len s.held ≤ s.profile.proxies
 
--- With pages: the classes have bounds, the arrangement is sound with them, and the words are the image of the objects, where zeros follow in each slot. So no class has more pages that are not full than its bound, and no page of a class is empty.
+-- With pages: each class has a bound from 1 to 64, the arrangement is sound with them, and the words are the image of the objects, where zeros follow in each slot. So no class has more pages that are not full than its bound, and no page of a class is empty.
 pub record KeepsPages (s : HeapState) : Type 0 where
   pub paging : IsPaging (paging_in s)
+  pub low_bounds : (c : ℕ) → slice_index s.bounds c ≤ 64
   pub sound : IsSound (paging_in s) s.held
   pub image : IsImage s.held s.words
   pub slots : IsSlotImage (paging_in s) s.held s.words

@@ -8,7 +8,7 @@ use Rattle.cf_base.specs.declared.kind.Kind.{Kind}
 use Rattle.cf_base.specs.declared.kind.Kind.TheVariants.{Moving, NonMoving, Tlsf, HalfFit}
 use Rattle.cf_base.specs.declared.kind.Layout.{Layout}
 use Rattle.cf_base.specs.declared.kind.Layout.TheVariants.{Words, Blocks}
-use Rattle.arrangement.specs.Held.{Held, Placed, placed_code}
+use Rattle.arrangement.specs.Held.{Held, placed_code}
 use Rattle.arrangement.specs.Paging.{Paging, paging_of}
 use Rattle.tiling.specs.Tiling.{Block}
 

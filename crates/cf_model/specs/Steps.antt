@@ -16,7 +16,7 @@ use Rattle.cf_base.specs.declared.answers.ResizeFault.TheVariants as resize
 use Rattle.cf_base.specs.declared.kind.Kind.{Kind}
 use Rattle.cf_base.specs.declared.kind.Kind.TheVariants.{Moving, NonMoving, Tlsf, HalfFit}
 use Rattle.cf_base.specs.declared.settings.Settings.{Settings}
-use Rattle.arrangement.specs.Held.{Held, Placed, objects}
+use Rattle.arrangement.specs.Held.{Placed, objects}
 use Rattle.arrangement.specs.Paging.{class_for, first_bounds}
 use Rattle.arrangement.specs.Arrangement.{class_at, LacksRoom}
 use Rattle.arrangement.specs.Bytes.{written}

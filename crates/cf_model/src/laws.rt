@@ -1,14 +1,34 @@
 //! What the clauses of `Manager` say together. The functions do nothing: what each ensures is the
 //! law.
-ghost use Rattle.std.specs.Prelude.{◌≡◌, ◌≢◌, ℕ, List, None, length};
-ghost use Rattle.std.specs.FinMap.{get};
+ghost use Rattle.std.specs.Prelude.{◌≡◌, ◌≢◌, ℕ, ◌≤◌, List, None, Some, length, replicate, slice_index};
+ghost use Rattle.std.specs.FinMap.{get, insert, remove};
+ghost use Rattle.cf_base.specs.declared.answers.AccessFault.{AccessFault};
 ghost use Rattle.cf_base.specs.declared.answers.Freed.{Freed};
+ghost use Rattle.cf_base.specs.declared.answers.Refusal.{Refusal};
+ghost use Rattle.cf_base.specs.declared.answers.ResizeFault.{ResizeFault};
 ghost use Rattle.cf_base.specs.declared.answers.Resized.{Resized};
-ghost use Rattle.cf_base.specs.declared.kind.Kind.TheVariants.{NonMoving};
-ghost use Rattle.arrangement.specs.Steps.{Request};
-ghost use Rattle.cf_model.specs.Rules.{KeepsRules};
-ghost use Rattle.cf_model.specs.State.{HeapState};
-ghost use Rattle.cf_model.specs.Steps.{BlocksStay, ChangesCost, FreesObject, Part, ReadsBytes, ResizesObject, WritesBytes};
+ghost use Rattle.cf_base.specs.declared.kind.Kind.TheVariants.{Moving, NonMoving, Tlsf, HalfFit};
+ghost use Rattle.cf_base.specs.Settings.{Profile};
+ghost use Rattle.arrangement.specs.Held.{Held, Placed};
+ghost use Rattle.tiling.specs.Buckets.{FreeLists};
+ghost use Rattle.tiling.specs.Tiling.{Block, Carves, IsCarvedTo, IsTiling, block_need, released};
+ghost use Rattle.arrangement.specs.Steps.{Request, zeros_at};
+ghost use Rattle.cf_model.specs.Rules.{AreInRange, AreOwned, KeepsRules};
+ghost use Rattle.cf_model.specs.State.{HeapState, region_words};
+ghost use Rattle.cf_model.specs.Steps.{BlocksStay, ChangesCost, FreesObject, GivesObject, IsFault, IsRefusedBy, IsResizeFault, Part, ReadsBytes, ResizesObject, WritesBytes, empty_heap};
+
+/// An empty heap of each kind keeps the rules. With blocks, its words are the size of the one free
+/// block, an open word, and zeros.
+pub fn an_empty_heap_keeps_the_rules()
+    ensures moving { (p : Profile) → AreInRange p → KeepsRules (empty_heap Moving p (replicate (region_words p) 0)) }
+    ensures nonmoving { (p : Profile) → AreInRange p → KeepsRules (empty_heap NonMoving p (replicate (region_words p) 0)) }
+    ensures tlsf { (p : Profile) (words : List ℕ) → AreInRange p → length words ≡ region_words p
+        → slice_index words 0 ≡ region_words p → ((w : ℕ) → 2 ≤ w → slice_index words w ≡ 0)
+        → KeepsRules (empty_heap Tlsf p words) }
+    ensures half_fit { (p : Profile) (words : List ℕ) → AreInRange p → length words ≡ region_words p
+        → slice_index words 0 ≡ region_words p → ((w : ℕ) → 2 ≤ w → slice_index words w ≡ 0)
+        → KeepsRules (empty_heap HalfFit p words) }
+{}
 
 /// The bytes that were written are read again, and no other object changes.
 pub fn what_is_written_is_read()
@@ -17,15 +37,13 @@ pub fn what_is_written_is_read()
     ensures others { (old new : HeapState) (part : Part) (bytes : List ℕ)
         → WritesBytes old part bytes new
         → (q : ℕ) → q ≢ part.number → get new.held q ≡ get old.held q }
-{
-}
+{}
 
 /// An object that was freed isn't live.
 pub fn what_is_freed_is_gone()
     ensures { (old new : HeapState) (h : ℕ) (freed : Freed)
         → FreesObject old h freed new → get new.held h ≡ None }
-{
-}
+{}
 
 /// Where blocks are mapped, a free and a resize leave each block of every other object, and its
 /// physical words: this follows from their other clauses.
@@ -36,5 +54,34 @@ pub fn blocks_of_others_stay()
         → KeepsRules old → KeepsRules new → ResizesObject old asked done new → BlocksStay old asked.number new }
     ensures refusal { (old new : HeapState) (h : ℕ) → old.kind ≡ NonMoving
         → KeepsRules old → KeepsRules new → ChangesCost old new → BlocksStay old h new }
-{
-}
+{}
+
+/// A call that does its work has no cause for a refusal, so that each refusal comes exactly where
+/// its cause holds; and a malloc has one cause at most.
+pub fn refusals_come_exactly_by_their_causes()
+    ensures malloc { (old new : HeapState) (asked : Request) (e : Refusal)
+        → GivesObject old asked new → ¬ IsRefusedBy old asked.length e }
+    ensures one_cause { (s : HeapState) (bytes : ℕ) (e f : Refusal)
+        → IsRefusedBy s bytes e → IsRefusedBy s bytes f → e ≡ f }
+    ensures free { (old new : HeapState) (h : ℕ) (freed : Freed)
+        → FreesObject old h freed new → ¬ (get old.held h ≡ None) }
+    ensures write { (old new : HeapState) (part : Part) (bytes : List ℕ) (e : AccessFault)
+        → WritesBytes old part bytes new → ¬ IsFault old part (length bytes) e }
+    ensures read { (s : HeapState) (part : Part) (count : ℕ) (out : List ℕ) (e : AccessFault)
+        → ReadsBytes s part count out → ¬ IsFault s part count e }
+    ensures resize { (old new : HeapState) (asked : Request) (done : Resized) (e : ResizeFault)
+        → ResizesObject old asked done new → ¬ IsResizeFault old asked e }
+{}
+
+/// With blocks, a malloc and a free keep each object in a block of its own, and each used block is
+/// an object's.
+pub fn blocks_stay_owned()
+    ensures malloc { (rule : FreeLists) (words : ℕ) (m : Held) (old new : List Block) (h n place : ℕ)
+        → IsTiling words old → AreOwned m old → get m h ≡ None
+        → Carves rule old (record { need = block_need n; owner = h }) place new
+        → IsCarvedTo new place (record { need = block_need n; owner = h })
+        → AreOwned (insert m h (zeros_at place n)) new }
+    ensures free { (words : ℕ) (m : Held) (old : List Block) (h : ℕ) (x : Placed)
+        → IsTiling words old → AreOwned m old → get m h ≡ Some x
+        → AreOwned (remove m h) (released old x.place) }
+{}

@@ -6,15 +6,15 @@ ghost use Rattle.cf_model.specs.Costs.{TakesAtMost, free_bound, resize_bound, ac
 ghost use Rattle.cf_model.specs.Rules.{KeepsRules};
 ghost use Rattle.cf_model.specs.State.{HeapState};
 ghost use Rattle.cf_model.specs.Steps.{
-    IsEmptyHeap,
-    IsClosed,
-    StaysOpen,
-    IsMallocStep,
-    IsFreeStep,
-    IsWriteStep,
-    IsReadAnswer,
-    IsResizeStep,
-    BlocksStayIn,
+  IsEmptyHeap,
+  IsClosed,
+  StaysOpen,
+  IsMallocStep,
+  IsFreeStep,
+  IsWriteStep,
+  IsReadAnswer,
+  IsResizeStep,
+  BlocksStayIn,
 };
 
 use cf_base::{
@@ -76,7 +76,13 @@ pub trait Manager: Drop {
 
     /// Writes bytes into an object from byte `at` on, and changes nothing else; nor does a refusal.
     /// At most 16 steps with pages, and three times the words that hold one of the bytes.
-    fn write(&mut self, h: Handle, at: u32, bytes: &[u8], steps: &mut Steps) -> Result<(), AccessFault>
+    fn write(
+        &mut self,
+        h: Handle,
+        at: u32,
+        bytes: &[u8],
+        steps: &mut Steps,
+    ) -> Result<(), AccessFault>
         requires open { IsTrue (state self.old).is_open }
         requires room { steps.old ≤ 2 ^ 63 }
         ensures same { StaysOpen (state self.old) (state self.new) }

@@ -1,17 +1,18 @@
 -- Answers, one line after the other.
-use Rattle.std.proofs.Common.{◌≡◌, ◌∙◌, ◌<◌, ◌≤◌, ◌+◌, ◌||◌, ℕ, Bool, true, false, List, [], ◌∷◌, Option, Some, None, length, take, drop, refl, sym, ap, arith, length-drop, subst, append-nil, append_assoc, ◌++◌, ◌⊎◌, inl, inr, cond, suc, take-append-drop}
+use Rattle.std.proofs.Common.{◌≡◌, ◌∙◌, ◌<◌, ◌≤◌, ◌+◌, ℕ, Bool, true, false, List, [], ◌∷◌, Option, Some, None, length, take, drop, refl, sym, ap, arith, length-drop, subst, append-nil, append_assoc, ◌++◌, ◌⊎◌, inl, inr, cond, suc, take-append-drop}
 use Rattle.std.proofs.lemmas.Bool.{false≢true, ltb-false}
-use Rattle.script_reader.specs.Answering.{GivesSaid}
-use Rattle.script_reader.specs.Commands.{Saying, IsWellFormed, line_says}
-use Rattle.script_reader.specs.Items.{Item, bad, said_items, stage_after}
+use Rattle.script_reader.specs.Commands.{are_idle, asked_or_wrong, command_of, is_comment, is_idle, line_says, nothing, opens_or_wrong, settings_in, tokens_say}
+use Rattle.script_reader.specs.Items.{said_items, stage_after}
 use Rattle.std.proofs.lemmas.List.{drop_all}
-use Rattle.script_reader.specs.Lines.{is_last_line, is_too_long, lines}
-use Rattle.script_reader.specs.Reading.{Advances, Answers, AnswersBad, Drops, HasNoLine, IsFirstLine, PassesOver, Reading, Steps, holds_line_feed, items_left}
-use Rattle.script_reader.specs.Said.{IsSaidInRange, saying_of}
-use Rattle.script_reader.specs.declared.line.Said.{Said}
-use Rattle.script_reader.specs.declared.line.Said.TheVariants.{Nothing, Opens, Asked, Wrong}
-use Rattle.script_reader.specs.declared.reader.Next.{Next}
-use Rattle.script_reader.specs.declared.reader.Next.TheVariants.{Start, Command, NeedMore, Bad, End}
+use Rattle.std.specs.Prelude.{codes}
+use Rattle.std.specs.Str.{bytes_eq}
+use Rattle.cf_base.specs.Settings.{Profile}
+use Rattle.script_reader.specs.declared.command.Command.{Command as CommandType}
+use Rattle.script_reader.specs.Lines.{is_last_line, is_too_long, lines, tokens, without_return}
+use Rattle.script_reader.specs.Reading.{Advances, Answers, AnswersBad, Drops, HasNoLine, IsFirstLine, PassesOver, Reading, holds_line_feed, items_left}
+use Rattle.script_reader.specs.Said.{IsInRange, next_of, or_wrong, saying_of}
+use Rattle.script_reader.specs.declared.next.Next.{Next}
+use Rattle.script_reader.specs.declared.next.Next.TheVariants.{Start, Command, NeedMore, Bad, End}
 use Rattle.script_reader.specs.declared.stage.Stage.{Stage}
 use Rattle.script_reader.proofs.ItemLemmas.{behind_line, line_in_place, line_out_of_place, lines_alone, lines_closed, no_items}
 
@@ -63,7 +64,7 @@ answers_then a b c NeedMore p (passes, open_end, none, few, no_feed) =
 answers_then a b c (Bad line) p h =
     let (first, stopped, number, same_end, same_fed, drops) = subst (λ (o : Option ℕ). AnswersBad b o line c) p.still h in
     subst (λ (o : Option ℕ). AnswersBad a o line c) (sym p.going)
-        ((λ more ended. p.left more ended ∙ first more ended), stopped, number, same_end ∙ p.same_end, same_fed ∙ p.same_fed, drops_then a b c p.drops drops)
+    ((λ more ended. p.left more ended ∙ first more ended), stopped, number, same_end ∙ p.same_end, same_fed ∙ p.same_fed, drops_then a b c p.drops drops)
 answers_then a b c End p (passes, told, none, empty) = (passes_then a b c p passes, sym p.same_end ∙ told, p.left [] true ∙ none, empty)
 
 behind_shorter : (old : Reading) (len at : ℕ) (next : Stage) → IsFirstLine old.kept old.ended len at → length (behind_line old at next).kept < length old.kept
@@ -101,37 +102,105 @@ advances_behind old len at next going first = record {
   shorter = behind_shorter old len at next first;
 }
 
--- the answer to a line that is in its place
-pub step_in_place : (old : Reading) (kept : List ℕ) (len at : ℕ) (said : Said) (next : Stage) (answer : Option Next) → old.stopped ≡ None → kept ≡ old.kept
-    → IsFirstLine kept old.ended len at → saying_of said ≡ line_says (take len kept) → IsSaidInRange said
-    → Some next ≡ stage_after old.stage (saying_of said) → GivesSaid said answer → Steps old answer (behind_line old at next)
-step_in_place old kept len at said next answer going same first says fits place gives =
-    let first2 = subst (λ (k : List ℕ). IsFirstLine k old.ended len at) same first in
-    let says2 = subst (λ (k : List ℕ). saying_of said ≡ line_says (take len k)) same says in
-    go said answer gives fits (λ more e. line_in_place old len at (saying_of said) next going first2 says2 (sym place) more e)
-        place (advances_behind old len at next going first2)
+-- an idle line says nothing
+tokens_idle : (ts : List (List ℕ)) → are_idle ts ≡ true → tokens_say ts ≡ nothing
+tokens_idle [] idle = refl
+tokens_idle (word ∷ args) idle = rw idle refl
+
+pub idle_says_nothing : (line : List ℕ) → is_idle line ≡ true → line_says line ≡ nothing
+idle_says_nothing line idle = go (is_too_long line) refl idle
   where
-    go : (s : Said) (a : Option Next) → GivesSaid s a → IsSaidInRange s
-        → ((more : List ℕ) (e : Bool) → items_left old more e ≡ said_items (saying_of s) (items_left (behind_line old at next) more e))
-        → Some next ≡ stage_after old.stage (saying_of s) → Advances old (behind_line old at next) → Steps old a (behind_line old at next)
-    go Nothing a gives fits left place advances = subst (λ (o : Option Next). Steps old o (behind_line old at next)) (sym gives)
-        (record { going = going; still = going; same_end = refl; same_fed = refl; drops = advances.drops; within = omega (arith, advances.shorter); left = left }, advances.shorter)
-    go (Opens settings) a gives fits left place advances =
-        subst (λ (o : Option Next). Steps old o (behind_line old at next)) (sym gives) (advances, left)
-    go (Asked command) a gives fits left place advances =
-        subst (λ (o : Option Next). Steps old o (behind_line old at next)) (sym gives) (advances, fits, left)
-    go Wrong a gives fits left place advances = absurd cc
+    go : (b : Bool) → is_too_long line ≡ b → cond b false (are_idle (tokens (without_return line))) ≡ true → line_says line ≡ nothing
+    go true long idle = absurd (false≢true idle)
+    go false short idle = rw short (tokens_idle (tokens (without_return line)) idle)
+
+-- a line that isn't idle says something
+settings_say : (o : Option Profile) → or_wrong (opens_or_wrong o) ≡ opens_or_wrong o
+settings_say None = refl
+settings_say (Some settings) = refl
+
+command_says : (o : Option CommandType) → or_wrong (asked_or_wrong o) ≡ asked_or_wrong o
+command_says None = refl
+command_says (Some command) = refl
+
+heap_or_command : (b : Bool) (word : List ℕ) (args : List (List ℕ))
+    → or_wrong (cond b (opens_or_wrong (settings_in args)) (asked_or_wrong (command_of word args))) ≡ cond b (opens_or_wrong (settings_in args)) (asked_or_wrong (command_of word args))
+heap_or_command true word args = settings_say (settings_in args)
+heap_or_command false word args = command_says (command_of word args)
+
+tokens_told : (ts : List (List ℕ)) → are_idle ts ≡ false → or_wrong (tokens_say ts) ≡ tokens_say ts
+tokens_told [] told = absurd (false≢true (sym told))
+tokens_told (word ∷ args) told = rw told (heap_or_command (bytes_eq word (codes "heap")) word args)
+
+pub told_is_said : (line : List ℕ) → is_idle line ≡ false → or_wrong (line_says line) ≡ line_says line
+told_is_said line told = go (is_too_long line) refl told
+  where
+    go : (b : Bool) → is_too_long line ≡ b → cond b false (are_idle (tokens (without_return line))) ≡ false → or_wrong (line_says line) ≡ line_says line
+    go true long told = rw long refl
+    go false short told = rw short (tokens_told (tokens (without_return line)) told)
+
+asked_or_bad : (o : Option CommandType) (line : ℕ) → saying_of (next_of o line) ≡ or_wrong (asked_or_wrong o)
+asked_or_bad None line = refl
+asked_or_bad (Some command) line = refl
+
+-- what a command says
+pub command_said : (word : List ℕ) (args : List (List ℕ)) (line : ℕ) (answer : Next) → is_comment word ≡ false → bytes_eq word (codes "heap") ≡ false
+    → answer ≡ next_of (command_of word args) line → saying_of answer ≡ or_wrong (tokens_say (word ∷ args))
+command_said word args line answer told other is = rw (told, other) (ap saying_of is ∙ asked_or_bad (command_of word args) line)
+
+-- an idle line is passed
+pub step_idle : (old : Reading) (kept : List ℕ) (len at : ℕ) → old.stopped ≡ None → kept ≡ old.kept → IsFirstLine kept old.ended len at
+    → is_idle (take len kept) ≡ true → PassesOver old (behind_line old at old.stage) × (length (behind_line old at old.stage).kept < length old.kept)
+step_idle old kept len at going same first idle =
+    let first2 = subst (λ (k : List ℕ). IsFirstLine k old.ended len at) same first in
+    let idle2 = subst (λ (k : List ℕ). is_idle (take len k) ≡ true) same idle in
+    let advances = advances_behind old len at old.stage going first2 in (
+      record {
+        going = going;
+        still = going;
+        same_end = refl;
+        same_fed = refl;
+        drops = advances.drops;
+        within = omega (arith, advances.shorter);
+        left = λ more e. line_in_place old len at nothing old.stage going first2 (sym (idle_says_nothing (take len old.kept) idle2)) refl more e;
+      },
+      advances.shorter,
+    )
+
+-- the answer to a line that is in its place
+pub step_in_place : (old : Reading) (kept : List ℕ) (len at : ℕ) (answer : Next) (stage : Stage) → old.stopped ≡ None → kept ≡ old.kept
+    → IsFirstLine old.kept old.ended len at → is_idle (take len old.kept) ≡ false → saying_of answer ≡ or_wrong (line_says (take len kept)) → IsInRange answer
+    → Some stage ≡ stage_after old.stage (saying_of answer) → Answers old answer (behind_line old at stage)
+step_in_place old kept len at answer stage going same first told says fits place =
+    let says2 = subst (λ (k : List ℕ). saying_of answer ≡ or_wrong (line_says (take len k))) same says ∙ told_is_said (take len old.kept) told in
+    go answer fits (λ more e. line_in_place old len at (saying_of answer) stage going first says2 (sym place) more e)
+    place (advances_behind old len at stage going first)
+  where
+    go : (n : Next) → IsInRange n
+        → ((more : List ℕ) (e : Bool) → items_left old more e ≡ said_items (saying_of n) (items_left (behind_line old at stage) more e))
+        → Some stage ≡ stage_after old.stage (saying_of n) → Advances old (behind_line old at stage) → Answers old n (behind_line old at stage)
+    go (Start settings) fits left place advances = (advances, left)
+    go (Command command) fits left place advances = (advances, fits, left)
+    go NeedMore fits left place advances = absurd cc
+    go (Bad line) fits left place advances = absurd cc
+    go End fits left place advances = absurd cc
 
 -- the answer to a line that isn't
-pub step_out_of_place : (old : Reading) (kept : List ℕ) (len at : ℕ) (said : Said) → old.stopped ≡ None → kept ≡ old.kept
-    → IsFirstLine kept old.ended len at → saying_of said ≡ line_says (take len kept) → None ≡ stage_after old.stage (saying_of said)
+pub step_out_of_place : (old : Reading) (kept : List ℕ) (len at : ℕ) (answer : Next) → old.stopped ≡ None → kept ≡ old.kept
+    → IsFirstLine old.kept old.ended len at → is_idle (take len old.kept) ≡ false → saying_of answer ≡ or_wrong (line_says (take len kept))
+    → None ≡ stage_after old.stage (saying_of answer)
     → AnswersBad old old.stopped (old.passed + 1) (record (behind_line old at old.stage) { stopped = Some (old.passed + 1) })
-step_out_of_place old kept len at said going same first says place =
-    let first2 = subst (λ (k : List ℕ). IsFirstLine k old.ended len at) same first in
-    let says2 = subst (λ (k : List ℕ). saying_of said ≡ line_says (take len k)) same says in
-    let drops = drops_line old len at old.stage first2 in
-    subst (λ (o : Option ℕ). AnswersBad old o (old.passed + 1) (record (behind_line old at old.stage) { stopped = Some (old.passed + 1) })) (sym going)
-        ((λ more e. line_out_of_place old len at (saying_of said) going first2 says2 (sym place) more e), refl, refl, refl, refl, record { front = drops.front; kept = drops.kept; counted = drops.counted })
+step_out_of_place old kept len at answer going same first told says place =
+    let says2 = subst (λ (k : List ℕ). saying_of answer ≡ or_wrong (line_says (take len k))) same says ∙ told_is_said (take len old.kept) told in
+    let drops = drops_line old len at old.stage first in
+    subst (λ (o : Option ℕ). AnswersBad old o (old.passed + 1) (record (behind_line old at old.stage) { stopped = Some (old.passed + 1) })) (sym going) (
+      (λ more e. line_out_of_place old len at (saying_of answer) going first says2 (sym place) more e),
+      refl,
+      refl,
+      refl,
+      refl,
+      record { front = drops.front; kept = drops.kept; counted = drops.counted },
+    )
 
 few_kept : (kept : List ℕ) → is_last_line false kept ≡ false → length kept ≤ 8999
 few_kept [] none = omega arith

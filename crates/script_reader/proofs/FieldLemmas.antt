@@ -1,8 +1,7 @@
 -- Fields of a line.
-use Rattle.std.proofs.Common.{◌≡◌, ◌∙◌, ◌≤◌, ◌/◌, ◌==◌, ◌++◌, ◌&&◌, ℕ, Bool, true, false, cond, List, [], ◌∷◌, Option, Some, None, Result, Ok, Err, MatchResult, option_map, length, take, drop, refl, sym, ap, arith}
+use Rattle.std.proofs.Common.{◌≡◌, ◌∙◌, ◌≤◌, ◌/◌, ◌++◌, ℕ, List, [], ◌∷◌, Some, Result, Ok, Err, MatchResult, option_map, length, take, drop, refl, sym, ap}
 use Rattle.std.proofs.lemmas.Bool.{eq-eqb, le-leb}
 use Rattle.std.proofs.lemmas.List.{take_at}
-use Rattle.std.specs.Result.{result_ok}
 use Rattle.hex.specs.Hex.{decode_of, decode_sized}
 use Rattle.hex.specs.declared.error.FromHexError.{FromHexError}
 use Rattle.script_reader.specs.Commands.{bytes_in, four_of, three_of}
@@ -34,4 +33,4 @@ decoded r u text old slice out low high half lent same is value =
     go (Err e) gives value = let bad : Ok u ≡ Err e = sym is ∙ value in absurd cc
     go (Ok bytes) gives value =
         rw (le-leb 2 (length text) low, le-leb (length text) 8192 high, gives)
-            (ap Some (take_at out (drop (length out) old) (length old) (same ∙ ap length lent) ∙ value.1))
+        (ap Some (take_at out (drop (length out) old) (length old) (same ∙ ap length lent) ∙ value.1))

@@ -1,8 +1,8 @@
 -- The first line of the bytes that are kept.
-use Rattle.std.proofs.Common.{◌≡◌, ◌∙◌, ◌<◌, ◌≤◌, ◌+◌, ◌-◌, ◌==◌, ◌||◌, ◌++◌, ℕ, suc, Bool, true, false, cond, not, List, [], ◌∷◌, Option, Some, None, length, take, drop, refl, sym, ap, subst, arith, zero, inl, inr, option_map, ◌&&◌}
+use Rattle.std.proofs.Common.{◌≡◌, ◌∙◌, ◌<◌, ◌≤◌, ◌+◌, ◌-◌, ◌==◌, ◌||◌, ◌++◌, ℕ, suc, Bool, true, false, cond, not, List, [], ◌∷◌, Some, None, length, take, drop, refl, sym, ap, arith, zero, inl, inr, option_map}
 use Rattle.std.proofs.lemmas.Bool.{eqb-true, ltb-true, ltb-false, lt-ltb, le-ltb, false≢true}
 use Rattle.std.proofs.lemmas.List.{take_rest, length-drop}
-use Rattle.std.specs.List.{list_any, position_or_len}
+use Rattle.std.specs.List.{position_or_len}
 use Rattle.std.specs.Prelude.{position, nat_lt}
 use Rattle.script_reader.specs.Lines.{is_last_line}
 use Rattle.script_reader.specs.Reading.{IsFirstLine, holds_line_feed}
@@ -20,7 +20,7 @@ feed_found (x ∷ r) h = go (x == 10) refl h (feed_found r)
     go : (b : Bool) → (x == 10) ≡ b → cond (not b) (1 + feed_place r) 0 < suc (length r)
         → (feed_place r < length r → (r ≡ take (feed_place r) r ++ (10 ∷ drop (suc (feed_place r)) r)) × (holds_line_feed (take (feed_place r) r) ≡ false))
         → (x ∷ r ≡ take (cond (not b) (1 + feed_place r) 0) (x ∷ r) ++ (10 ∷ drop (suc (cond (not b) (1 + feed_place r) 0)) (x ∷ r)))
-            × (holds_line_feed (take (cond (not b) (1 + feed_place r) 0) (x ∷ r)) ≡ false)
+        × (holds_line_feed (take (cond (not b) (1 + feed_place r) 0) (x ∷ r)) ≡ false)
     go true is h rest = (ap (λ (y : ℕ). y ∷ r) (eqb-true x 10 is), refl)
     go false isnt h rest =
         let e : 1 + feed_place r ≡ suc (feed_place r) = omega arith in

@@ -1,5 +1,5 @@
 -- Items from the first line on, whatever comes next.
-use Rattle.std.proofs.Common.{◌≡◌, ◌∙◌, ◌<◌, ◌≤◌, ◌+◌, ◌-◌, ◌==◌, ◌||◌, ◌++◌, ◌⊎◌, inl, inr, ℕ, zero, suc, Bool, true, false, cond, not, List, [], ◌∷◌, Option, Some, None, length, take, drop, refl, sym, ap, subst, arith, append_assoc, append-nil, length-append}
+use Rattle.std.proofs.Common.{◌≡◌, ◌∙◌, ◌+◌, ◌==◌, ◌||◌, ◌++◌, ◌⊎◌, inl, inr, ℕ, Bool, true, false, cond, List, [], ◌∷◌, Some, None, length, take, drop, refl, sym, ap, arith, append_assoc, append-nil, length-append}
 use Rattle.std.proofs.lemmas.Bool.{false≢true, lt-ltb, ltb-true}
 use Rattle.std.proofs.lemmas.List.{take_all, drop_all}
 use Rattle.script_reader.specs.Commands.{Saying, line_says, wrong}
@@ -90,7 +90,7 @@ open_items (x ∷ r) false none last more e n stage =
 -- the items from the first line on
 pub first_items : (kept : List ℕ) (ended : Bool) (len next : ℕ) → IsFirstLine kept ended len next → (more : List ℕ) (e : Bool) (n : ℕ) (stage : Stage)
     → items_come kept ended more e n stage
-        ≡ items_by (stage_after stage (line_says (take len kept))) (line_says (take len kept)) n (items_come (drop next kept) ended more e (n + 1))
+    ≡ items_by (stage_after stage (line_says (take len kept))) (line_says (take len kept)) n (items_come (drop next kept) ended more e (n + 1))
 first_items kept ended len next h more e n stage = go h.cut
   where
     go : ((kept ≡ take len kept ++ (10 ∷ drop next kept)) × (holds_line_feed (take len kept) ≡ false))

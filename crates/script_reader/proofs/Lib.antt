@@ -1,5 +1,5 @@
 pub mod AnswerLemmas
-pub mod CallLemmas
+pub mod CallerLemmas
 pub mod FieldLemmas
 pub mod FirstLine
 pub mod ItemLemmas

@@ -2,7 +2,7 @@
 use Rattle.std.proofs.Common.{◌≡◌, ◌∙◌, ◌+◌, ◌==◌, ◌++◌, ℕ, Bool, true, false, cond, List, [], ◌∷◌, Option, Some, None, refl, sym, ap}
 use Rattle.script_reader.specs.Commands.{Saying, nothing, opens, asked, wrong, line_says}
 use Rattle.script_reader.specs.Items.{AreFirstOf, Item, asks, bad, items, items_at, items_by, said_items, stage_after, starts}
-use Rattle.script_reader.specs.Lines.{is_last_line, is_too_long, lines, lines_among, onto_first, stretches}
+use Rattle.script_reader.specs.Lines.{is_last_line, is_too_long, lines_among, onto_first, stretches}
 use Rattle.script_reader.specs.declared.stage.Stage.{Stage}
 use Rattle.script_reader.specs.declared.stage.Stage.TheVariants.{Opening}
 use Rattle.script_reader.proofs.ItemLemmas.{long_last, says_wrong, some_stretch, too_long_more}
@@ -80,7 +80,7 @@ among_first (l ∷ []) t e n stage = go (is_last_line false l) refl
         ([], long_goes_on l t e n stage long ∙ sym (ap (λ (i : List Item). i ++ []) (long_is_bad l [] n stage long)))
 among_first (l ∷ k ∷ ls) t e n stage =
     let first = by_first (stage_after stage (line_says l)) (line_says l) n (items_at (lines_among false (k ∷ ls)) (n + 1)) (items_at (lines_among e (glued (k ∷ ls) t)) (n + 1))
-        (λ next. among_first (k ∷ ls) t e (n + 1) next) in
+    (λ next. among_first (k ∷ ls) t e (n + 1) next) in
     (first.0, ap (λ (s : List (List ℕ)). items_at s n stage) (among_more e l (glued (k ∷ ls) t) (some_glued k ls t)) ∙ first.1)
 
 pub items_prefix : (g h : List ℕ) (e : Bool) → AreFirstOf (items g false) (items (g ++ h) e)

@@ -1,11 +1,11 @@
 -- Tokens from the front on.
-use Rattle.std.proofs.Common.{◌≡◌, ◌∙◌, ◌-◌, subst, ◌<◌, ◌≤◌, ◌+◌, ◌||◌, ◌==◌, ℕ, suc, Bool, true, false, cond, not, List, [], ◌∷◌, length, take, drop, refl, sym, ap, arith}
-use Rattle.std.specs.List.{prefix_len, position_or_len}
+use Rattle.std.proofs.Common.{◌≡◌, ◌∙◌, ◌-◌, ◌<◌, ◌≤◌, ◌+◌, ℕ, suc, Bool, true, false, cond, not, List, [], ◌∷◌, length, take, drop, refl, sym, ap, arith}
+use Rattle.std.specs.List.{position_or_len}
 use Rattle.std.proofs.lemmas.List.Sums.{prefix_len-le-length}
 use Rattle.std.proofs.lemmas.List.{take_rest, nil_from_length}
-use Rattle.std.specs.Prelude.{position, unwrap_or, nat_lt, Option, Some, None}
+use Rattle.std.specs.Prelude.{position, unwrap_or, nat_lt, Some, None}
 use Rattle.std.proofs.lemmas.Bool.{ltb-false}
-use Rattle.script_reader.specs.Lines.{is_gap, is_parted, onto_first, tokens}
+use Rattle.script_reader.specs.Lines.{is_gap, onto_first, tokens}
 
 -- how many gaps stand in front
 abbrev pub gaps_in : List ℕ → ℕ

@@ -1,5 +1,5 @@
 -- The grammar of one line.
-use Rattle.std.specs.Prelude.{◌≤◌, ℕ, Bool, true, false, ◌==◌, ◌&&◌, List, [], ◌∷◌, length, Option, Some, None, option_map, if◌then◌else◌}
+use Rattle.std.specs.Prelude.{◌≤◌, ℕ, Bool, true, false, ◌==◌, List, [], ◌∷◌, length, Option, Some, None, option_map, if◌then◌else◌}
 use Rattle.std.specs.Result.{result_ok}
 use Rattle.std.specs.Str.{bytes_eq, byte}
 use Rattle.std.specs.Prelude.{codes}
@@ -63,107 +63,120 @@ task_in text = number_from 0 15 text
 abbrev pub bytes_in : List ℕ → Option (List ℕ)
 bytes_in text = if is_within 2 8192 (length text) then result_ok (decode_of text) else None
 
--- m ID BYTES
-abbrev pub malloc_in : List (List ℕ) → Option Command
-malloc_in args = do
+-- the fields of the commands
+abbrev pub one_id : List (List ℕ) → Option ℕ
+one_id args = do
+  a ← one_of args
+  id_in a
+
+abbrev pub one_number : List (List ℕ) → Option ℕ
+one_number args = do
+  a ← one_of args
+  number_in a
+
+abbrev pub one_task : List (List ℕ) → Option ℕ
+one_task args = do
+  a ← one_of args
+  task_in a
+
+abbrev pub id_and_number : List (List ℕ) → Option (ℕ × ℕ)
+id_and_number args = do
   p ← two_of args
   id ← id_in p.0
-  bytes ← number_in p.1
-  Some (Malloc id bytes)
+  n ← number_in p.1
+  Some (id, n)
+
+abbrev pub number_and_bound : List (List ℕ) → Option (ℕ × ℕ)
+number_and_bound args = do
+  p ← two_of args
+  n ← number_in p.0
+  k ← bound_in p.1
+  Some (n, k)
+
+abbrev pub task_and_number : List (List ℕ) → Option (ℕ × ℕ)
+task_and_number args = do
+  p ← two_of args
+  task ← task_in p.0
+  n ← number_in p.1
+  Some (task, n)
+
+abbrev pub task_and_numbers : List (List ℕ) → Option (ℕ × ℕ × ℕ)
+task_and_numbers args = do
+  p ← three_of args
+  task ← task_in p.0
+  m ← number_in p.1
+  n ← number_in p.2
+  Some (task, m, n)
+
+abbrev pub id_number_and_length : List (List ℕ) → Option (ℕ × ℕ × ℕ)
+id_number_and_length args = do
+  p ← three_of args
+  id ← id_in p.0
+  n ← number_in p.1
+  len ← length_in p.2
+  Some (id, n, len)
+
+abbrev pub id_number_and_text : List (List ℕ) → Option (ℕ × ℕ × List ℕ)
+id_number_and_text args = do
+  p ← three_of args
+  id ← id_in p.0
+  n ← number_in p.1
+  Some (id, n, p.2)
+
+-- m ID BYTES
+abbrev pub malloc_in : List (List ℕ) → Option Command
+malloc_in args = option_map (λ p. Malloc p.0 p.1) (id_and_number args)
 
 -- f ID
 abbrev pub free_in : List (List ℕ) → Option Command
-free_in args = do
-  a ← one_of args
-  id ← id_in a
-  Some (Free id)
+free_in args = option_map (λ id. Free id) (one_id args)
 
 -- w ID AT HEX
 abbrev pub write_in : List (List ℕ) → Option Command
 write_in args = do
-  p ← three_of args
-  id ← id_in p.0
-  at ← number_in p.1
+  p ← id_number_and_text args
   bytes ← bytes_in p.2
-  Some (Write id at bytes)
+  Some (Write p.0 p.1 bytes)
 
 -- r ID AT LEN
 abbrev pub read_in : List (List ℕ) → Option Command
-read_in args = do
-  p ← three_of args
-  id ← id_in p.0
-  at ← number_in p.1
-  len ← length_in p.2
-  Some (Read id at len)
+read_in args = option_map (λ p. Read p.0 p.1 p.2) (id_number_and_length args)
 
 -- q ID
 abbrev pub place_in : List (List ℕ) → Option Command
-place_in args = do
-  a ← one_of args
-  id ← id_in a
-  Some (Place id)
+place_in args = option_map (λ id. Place id) (one_id args)
 
 -- b ID I
 abbrev pub block_in : List (List ℕ) → Option Command
-block_in args = do
-  p ← two_of args
-  id ← id_in p.0
-  i ← number_in p.1
-  Some (Block id i)
+block_in args = option_map (λ p. Block p.0 p.1) (id_and_number args)
 
 -- p WORD
 abbrev pub peek_in : List (List ℕ) → Option Command
-peek_in args = do
-  a ← one_of args
-  word ← number_in a
-  Some (Peek word)
+peek_in args = option_map (λ word. Peek word) (one_number args)
 
 -- k SLOTWORDS K
 abbrev pub bound_command_in : List (List ℕ) → Option Command
-bound_command_in args = do
-  p ← two_of args
-  slot_words ← number_in p.0
-  k ← bound_in p.1
-  Some (Bound slot_words k)
+bound_command_in args = option_map (λ p. Bound p.0 p.1) (number_and_bound args)
 
 -- z ID BYTES
 abbrev pub resize_in : List (List ℕ) → Option Command
-resize_in args = do
-  p ← two_of args
-  id ← id_in p.0
-  bytes ← number_in p.1
-  Some (Resize id bytes)
+resize_in args = option_map (λ p. Resize p.0 p.1) (id_and_number args)
 
 -- t TASK
 abbrev pub task_command_in : List (List ℕ) → Option Command
-task_command_in args = do
-  a ← one_of args
-  task ← task_in a
-  Some (Task task)
+task_command_in args = option_map (λ task. Task task) (one_task args)
 
 -- quota TASK PAGES
 abbrev pub quota_in : List (List ℕ) → Option Command
-quota_in args = do
-  p ← two_of args
-  task ← task_in p.0
-  pages ← number_in p.1
-  Some (Quota task pages)
+quota_in args = option_map (λ p. Quota p.0 p.1) (task_and_number args)
 
 -- need TASK BYTES COUNT
 abbrev pub need_in : List (List ℕ) → Option Command
-need_in args = do
-  p ← three_of args
-  task ← task_in p.0
-  bytes ← number_in p.1
-  count ← number_in p.2
-  Some (Need task bytes count)
+need_in args = option_map (λ p. Need p.0 p.1 p.2) (task_and_numbers args)
 
 -- admit TASK
 abbrev pub admit_in : List (List ℕ) → Option Command
-admit_in args = do
-  a ← one_of args
-  task ← task_in a
-  Some (Admit task)
+admit_in args = option_map (λ task. Admit task) (one_task args)
 
 -- walk, frag, steps, s
 abbrev pub alone_in : Command → List (List ℕ) → Option Command
@@ -244,6 +257,14 @@ tokens_say (word ∷ args) =
 
 abbrev pub line_says : List ℕ → Saying
 line_says line = if is_too_long line then wrong else tokens_say (tokens (without_return line))
+
+-- whether the line is blank or a comment
+abbrev pub are_idle : List (List ℕ) → Bool
+are_idle [] = true
+are_idle (word ∷ args) = is_comment word
+
+abbrev pub is_idle : List ℕ → Bool
+is_idle line = if is_too_long line then false else are_idle (tokens (without_return line))
 
 -- the numbers of the command are in range: those that their types don't keep
 abbrev pub IsWellFormed : Command → Type 0

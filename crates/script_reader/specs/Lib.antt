@@ -4,5 +4,5 @@ pub mod Commands
 pub mod Lines
 pub mod Calls
 pub mod Said
-pub mod Answering
+pub mod Looking
 pub mod Inside

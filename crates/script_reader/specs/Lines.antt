@@ -1,5 +1,5 @@
 -- A script as lines, and a line as tokens.
-use Rattle.std.specs.Prelude.{ℕ, Bool, true, false, ◌||◌, ◌==◌, ◌-◌, not, List, [], ◌∷◌, length, take, slice_index, nat_lt, if◌then◌else◌}
+use Rattle.std.specs.Prelude.{ℕ, Bool, true, false, ◌||◌, ◌==◌, ◌-◌, List, [], ◌∷◌, length, take, slice_index, nat_lt, if◌then◌else◌}
 
 -- the longest line, without its line feed
 abbrev pub LONGEST : ℕ

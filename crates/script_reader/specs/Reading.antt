@@ -1,12 +1,12 @@
 -- What the reader still has to say.
-use Rattle.std.specs.Prelude.{◌≡◌, ◌<◌, ◌≤◌, ◌+◌, ◌-◌, ◌==◌, ◌||◌, ◌⊎◌, ◌++◌, ℕ, suc, Bool, true, false, List, [], ◌∷◌, Option, Some, None, is_some, length, take, drop, min, if◌then◌else◌}
+use Rattle.std.specs.Prelude.{◌≡◌, ◌<◌, ◌≤◌, ◌+◌, ◌-◌, ◌==◌, ◌||◌, ◌⊎◌, ◌++◌, ℕ, Bool, true, false, List, [], ◌∷◌, Option, Some, None, is_some, length, take, drop, min, if◌then◌else◌}
 use Rattle.std.specs.List.{list_any}
 use Rattle.cf_base.specs.Settings.{profile_of}
-use Rattle.script_reader.specs.Commands.{IsWellFormed, line_says}
-use Rattle.script_reader.specs.Items.{Item, asks, bad, starts, items_at, items_by, stage_after}
+use Rattle.script_reader.specs.Commands.{IsWellFormed}
+use Rattle.script_reader.specs.Items.{Item, asks, bad, starts, items_at}
 use Rattle.script_reader.specs.Lines.{LONGEST, is_last_line, lines}
-use Rattle.script_reader.specs.declared.reader.Next.{Next}
-use Rattle.script_reader.specs.declared.reader.Next.TheVariants.{Start, Command, NeedMore, Bad, End}
+use Rattle.script_reader.specs.declared.next.Next.{Next}
+use Rattle.script_reader.specs.declared.next.Next.TheVariants.{Start, Command, NeedMore, Bad, End}
 use Rattle.script_reader.specs.declared.stage.Stage.{Stage}
 use Rattle.script_reader.specs.declared.stage.Stage.TheVariants.{Opening}
 
@@ -93,11 +93,6 @@ Answers old NeedMore new = PassesOver old new × (old.ended ≡ false) × (items
     × (length new.kept ≤ LONGEST) × (holds_line_feed new.kept ≡ false)
 Answers old (Bad line) new = AnswersBad old old.stopped line new
 Answers old End new = PassesOver old new × (old.ended ≡ true) × (items_left old [] true ≡ []) × (new.kept ≡ [])
-
--- one line on: a blank line or a comment was passed, or the answer was found
-abbrev pub Steps : Reading → Option Next → Reading → Type 0
-Steps old None new = PassesOver old new × (length new.kept < length old.kept)
-Steps old (Some answer) new = Answers old answer new
 
 -- where the first line ends, and where the next one begins: behind the line feed, or at the end where the rest counts as a line
 pub record IsFirstLine (kept : List ℕ) (ended : Bool) (len next : ℕ) : Type 0 where

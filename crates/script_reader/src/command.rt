@@ -3,7 +3,7 @@
 use crate::payload::Payload;
 
 /// A command of a script, and the line that says it.
-#[derive(Drop)]
+#[derive(Debug, PartialEq, Eq, Drop)]
 pub enum Command {
     /// `m ID BYTES`: makes an object of so many bytes.
     Malloc { id: u16, bytes: u32 },

@@ -90,3 +90,91 @@ pub fn four(text: &[u8]) -> Option<(&[u8], &[u8], &[u8], &[u8])>
     let (second, third, fourth) = three(rest)?;
     Some((first, second, third, fourth))
 }
+
+/// An id alone.
+pub fn one_id(args: &[u8]) -> Option<u16>
+    ensures { result ≡ grammar.one_id (tokens args.now) }
+{
+    id_of(one(args)?)
+}
+
+/// A number alone.
+pub fn one_number(args: &[u8]) -> Option<u32>
+    ensures { result ≡ grammar.one_number (tokens args.now) }
+{
+    number_of(one(args)?)
+}
+
+/// A task alone.
+pub fn one_task(args: &[u8]) -> Option<u32>
+    ensures value { result ≡ grammar.one_task (tokens args.now) }
+    ensures within { IfSome result (λ n. n ≤ 15) }
+{
+    task_of(one(args)?)
+}
+
+/// An id and a number.
+pub fn id_and_number(args: &[u8]) -> Option<(u16, u32)>
+    ensures { result ≡ grammar.id_and_number (tokens args.now) }
+{
+    let (id, n) = two(args)?;
+    let id = id_of(id)?;
+    let n = number_of(n)?;
+    Some((id, n))
+}
+
+/// A number and the bound of a class.
+pub fn number_and_bound(args: &[u8]) -> Option<(u32, u32)>
+    ensures value { result ≡ grammar.number_and_bound (tokens args.now) }
+    ensures within { IfSome result (λ p. (1 ≤ p.1) × (p.1 ≤ 64)) }
+{
+    let (n, k) = two(args)?;
+    let n = number_of(n)?;
+    let k = bound_of(k)?;
+    Some((n, k))
+}
+
+/// A task and a number.
+pub fn task_and_number(args: &[u8]) -> Option<(u32, u32)>
+    ensures value { result ≡ grammar.task_and_number (tokens args.now) }
+    ensures within { IfSome result (λ p. p.0 ≤ 15) }
+{
+    let (task, n) = two(args)?;
+    let task = task_of(task)?;
+    let n = number_of(n)?;
+    Some((task, n))
+}
+
+/// A task and two numbers.
+pub fn task_and_numbers(args: &[u8]) -> Option<(u32, u32, u32)>
+    ensures value { result ≡ grammar.task_and_numbers (tokens args.now) }
+    ensures within { IfSome result (λ p. p.0 ≤ 15) }
+{
+    let (task, m, n) = three(args)?;
+    let task = task_of(task)?;
+    let m = number_of(m)?;
+    let n = number_of(n)?;
+    Some((task, m, n))
+}
+
+/// An id, a number, and how many bytes are read.
+pub fn id_number_and_length(args: &[u8]) -> Option<(u16, u32, u16)>
+    ensures value { result ≡ grammar.id_number_and_length (tokens args.now) }
+    ensures within { IfSome result (λ p. p.2 ≤ 4096) }
+{
+    let (id, n, len) = three(args)?;
+    let id = id_of(id)?;
+    let n = number_of(n)?;
+    let len = length_of(len)?;
+    Some((id, n, len))
+}
+
+/// An id, a number, and another token.
+pub fn id_number_and_text(args: &[u8]) -> Option<(u16, u32, &[u8])>
+    ensures { grammar.id_number_and_text (tokens args.now) ≡ option_map (λ p. (p.0, p.1, p.2.now)) result }
+{
+    let (id, n, text) = three(args)?;
+    let id = id_of(id)?;
+    let n = number_of(n)?;
+    Some((id, n, text))
+}

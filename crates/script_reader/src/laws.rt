@@ -7,13 +7,11 @@ ghost use Rattle.script_reader.specs.Reading.{Reading, fresh};
 /// Items once read stay, whatever bytes come next.
 pub fn items_stay()
     ensures { (bytes more : List ℕ) (ended : Bool) → AreFirstOf (items bytes false) (items (bytes ++ more) ended) }
-{
-}
+{}
 
 /// However a script is cut into pieces, and whenever the reader is asked, its answers up to the first
 /// bad line are the first items of the bytes fed so far.
 pub fn answers_are_items()
     ensures { (calls : List Call) (now : Reading) → AreCalls fresh calls now
         → AreFirstOf (items_given calls) (items (bytes_fed calls) (is_finished calls)) }
-{
-}
+{}

@@ -5,6 +5,7 @@ mod command;
 mod fields;
 mod laws;
 mod line;
+mod next;
 mod payload;
 mod reader;
 mod stage;
@@ -12,8 +13,9 @@ mod tokens;
 
 pub use command::Command;
 pub use laws::{answers_are_items, items_stay};
+pub use next::Next;
 pub use payload::Payload;
-pub use reader::{Next, Reader};
+pub use reader::Reader;
 
 #[cfg(test)]
 mod tests;

@@ -1,13 +1,18 @@
-//! What a line says.
-ghost use Rattle.std.specs.Prelude.{◌≡◌, ◌≤◌, ◌∷◌, length, option_map, IfSome};
+//! What a line says. Each command is made where its line is read: a command holds the bytes of a
+//! write, so that it is dear to move.
+ghost use Rattle.std.specs.Prelude.{◌≡◌, ◌≤◌, ◌∷◌, codes, length, option_map};
+ghost use Rattle.std.specs.Str.{bytes_eq};
 ghost use Rattle.cf_base.specs.Settings.{profile_of};
 ghost use Rattle.script_reader.specs.Commands as grammar;
-ghost use Rattle.script_reader.specs.Lines.{tokens};
-ghost use Rattle.script_reader.specs.Commands.{IsWellFormed};
-ghost use Rattle.script_reader.specs.Said.{saying_of, IsSaidInRange};
+ghost use Rattle.script_reader.specs.Lines.{is_too_long as too_long, tokens};
+ghost use Rattle.script_reader.specs.Said.{IsInRange, next_of, or_wrong, saying_of};
 
 use crate::command::Command;
-use crate::fields::{bound_of, four, id_of, is_done, length_of, one, task_of, three, two};
+use crate::fields::{
+    four, id_and_number, id_number_and_length, id_number_and_text, is_done, number_and_bound,
+    one_id, one_number, one_task, task_and_number, task_and_numbers,
+};
+use crate::next::Next;
 use crate::payload::Payload;
 use crate::tokens::{split_token, without_return};
 use cf_base::Settings;
@@ -17,202 +22,251 @@ use cf_io::number_of;
 pub const LONGEST: usize = 8_999;
 
 /// `m ID BYTES`.
-fn malloc(args: &[u8]) -> Option<Command>
-    ensures value { result ≡ grammar.malloc_in (tokens args.now) }
-    ensures fits { IfSome result IsWellFormed }
+fn malloc(args: &[u8], line: u32) -> Next
+    ensures value { result ≡ next_of (grammar.malloc_in (tokens args.now)) line }
+    ensures fits { IsInRange result }
 {
-    let (id, bytes) = two(args)?;
-    let id = id_of(id)?;
-    let bytes = number_of(bytes)?;
-    Some(Command::Malloc { id, bytes })
+    match id_and_number(args) {
+        Some((id, bytes)) => Next::Command(Command::Malloc { id, bytes }),
+        None => Next::Bad { line },
+    }
 }
 
 /// `f ID`.
-fn free(args: &[u8]) -> Option<Command>
-    ensures value { result ≡ grammar.free_in (tokens args.now) }
-    ensures fits { IfSome result IsWellFormed }
+fn free(args: &[u8], line: u32) -> Next
+    ensures value { result ≡ next_of (grammar.free_in (tokens args.now)) line }
+    ensures fits { IsInRange result }
 {
-    let id = id_of(one(args)?)?;
-    Some(Command::Free { id })
+    match one_id(args) {
+        Some(id) => Next::Command(Command::Free { id }),
+        None => Next::Bad { line },
+    }
 }
 
 /// `w ID AT HEX`.
-fn write(args: &[u8]) -> Option<Command>
-    ensures value { result ≡ grammar.write_in (tokens args.now) }
-    ensures fits { IfSome result IsWellFormed }
+fn write(args: &[u8], line: u32) -> Next
+    ensures value { result ≡ next_of (grammar.write_in (tokens args.now)) line }
+    ensures fits { IsInRange result }
 {
-    let (id, at, digits) = three(args)?;
-    let id = id_of(id)?;
-    let at = number_of(at)?;
-    let bytes = Payload::from_hex(digits)?;
-    Some(Command::Write { id, at, bytes })
+    let Some((id, at, digits)) = id_number_and_text(args) else {
+        return Next::Bad { line };
+    };
+    match Payload::from_hex(digits) {
+        Some(bytes) => Next::Command(Command::Write { id, at, bytes }),
+        None => Next::Bad { line },
+    }
 }
 
 /// `r ID AT LEN`.
-fn read(args: &[u8]) -> Option<Command>
-    ensures value { result ≡ grammar.read_in (tokens args.now) }
-    ensures fits { IfSome result IsWellFormed }
+fn read(args: &[u8], line: u32) -> Next
+    ensures value { result ≡ next_of (grammar.read_in (tokens args.now)) line }
+    ensures fits { IsInRange result }
 {
-    let (id, at, len) = three(args)?;
-    let id = id_of(id)?;
-    let at = number_of(at)?;
-    let len = length_of(len)?;
-    Some(Command::Read { id, at, len })
-}
-
-/// `walk`, `frag`, `steps` and `s`, which stand alone.
-fn alone(command: Command, args: &[u8]) -> Option<Command>
-    requires { IsWellFormed command }
-    ensures value { result ≡ grammar.alone_in command (tokens args.now) }
-    ensures fits { IfSome result IsWellFormed }
-{
-    if is_done(args) { Some(command) } else { None }
+    match id_number_and_length(args) {
+        Some((id, at, len)) => Next::Command(Command::Read { id, at, len }),
+        None => Next::Bad { line },
+    }
 }
 
 /// `q ID`.
-fn place(args: &[u8]) -> Option<Command>
-    ensures value { result ≡ grammar.place_in (tokens args.now) }
-    ensures fits { IfSome result IsWellFormed }
+fn place(args: &[u8], line: u32) -> Next
+    ensures value { result ≡ next_of (grammar.place_in (tokens args.now)) line }
+    ensures fits { IsInRange result }
 {
-    let id = id_of(one(args)?)?;
-    Some(Command::Place { id })
+    match one_id(args) {
+        Some(id) => Next::Command(Command::Place { id }),
+        None => Next::Bad { line },
+    }
 }
 
 /// `b ID I`.
-fn block(args: &[u8]) -> Option<Command>
-    ensures value { result ≡ grammar.block_in (tokens args.now) }
-    ensures fits { IfSome result IsWellFormed }
+fn block(args: &[u8], line: u32) -> Next
+    ensures value { result ≡ next_of (grammar.block_in (tokens args.now)) line }
+    ensures fits { IsInRange result }
 {
-    let (id, i) = two(args)?;
-    let id = id_of(id)?;
-    let i = number_of(i)?;
-    Some(Command::Block { id, i })
+    match id_and_number(args) {
+        Some((id, i)) => Next::Command(Command::Block { id, i }),
+        None => Next::Bad { line },
+    }
 }
 
 /// `p WORD`.
-fn peek(args: &[u8]) -> Option<Command>
-    ensures value { result ≡ grammar.peek_in (tokens args.now) }
-    ensures fits { IfSome result IsWellFormed }
+fn peek(args: &[u8], line: u32) -> Next
+    ensures value { result ≡ next_of (grammar.peek_in (tokens args.now)) line }
+    ensures fits { IsInRange result }
 {
-    let word = number_of(one(args)?)?;
-    Some(Command::Peek { word })
+    match one_number(args) {
+        Some(word) => Next::Command(Command::Peek { word }),
+        None => Next::Bad { line },
+    }
 }
 
 /// `k SLOTWORDS K`.
-fn bound(args: &[u8]) -> Option<Command>
-    ensures value { result ≡ grammar.bound_command_in (tokens args.now) }
-    ensures fits { IfSome result IsWellFormed }
+fn bound(args: &[u8], line: u32) -> Next
+    ensures value { result ≡ next_of (grammar.bound_command_in (tokens args.now)) line }
+    ensures fits { IsInRange result }
 {
-    let (slot_words, k) = two(args)?;
-    let slot_words = number_of(slot_words)?;
-    let k = bound_of(k)?;
-    Some(Command::Bound { slot_words, k })
+    match number_and_bound(args) {
+        Some((slot_words, k)) => Next::Command(Command::Bound { slot_words, k }),
+        None => Next::Bad { line },
+    }
 }
 
 /// `z ID BYTES`.
-fn resize(args: &[u8]) -> Option<Command>
-    ensures value { result ≡ grammar.resize_in (tokens args.now) }
-    ensures fits { IfSome result IsWellFormed }
+fn resize(args: &[u8], line: u32) -> Next
+    ensures value { result ≡ next_of (grammar.resize_in (tokens args.now)) line }
+    ensures fits { IsInRange result }
 {
-    let (id, bytes) = two(args)?;
-    let id = id_of(id)?;
-    let bytes = number_of(bytes)?;
-    Some(Command::Resize { id, bytes })
+    match id_and_number(args) {
+        Some((id, bytes)) => Next::Command(Command::Resize { id, bytes }),
+        None => Next::Bad { line },
+    }
 }
 
 /// `t TASK`.
-fn task(args: &[u8]) -> Option<Command>
-    ensures value { result ≡ grammar.task_command_in (tokens args.now) }
-    ensures fits { IfSome result IsWellFormed }
+fn task(args: &[u8], line: u32) -> Next
+    ensures value { result ≡ next_of (grammar.task_command_in (tokens args.now)) line }
+    ensures fits { IsInRange result }
 {
-    let task = task_of(one(args)?)?;
-    Some(Command::Task { task })
+    match one_task(args) {
+        Some(task) => Next::Command(Command::Task { task }),
+        None => Next::Bad { line },
+    }
 }
 
 /// `quota TASK PAGES`.
-fn quota(args: &[u8]) -> Option<Command>
-    ensures value { result ≡ grammar.quota_in (tokens args.now) }
-    ensures fits { IfSome result IsWellFormed }
+fn quota(args: &[u8], line: u32) -> Next
+    ensures value { result ≡ next_of (grammar.quota_in (tokens args.now)) line }
+    ensures fits { IsInRange result }
 {
-    let (task, pages) = two(args)?;
-    let task = task_of(task)?;
-    let pages = number_of(pages)?;
-    Some(Command::Quota { task, pages })
+    match task_and_number(args) {
+        Some((task, pages)) => Next::Command(Command::Quota { task, pages }),
+        None => Next::Bad { line },
+    }
 }
 
 /// `need TASK BYTES COUNT`.
-fn need(args: &[u8]) -> Option<Command>
-    ensures value { result ≡ grammar.need_in (tokens args.now) }
-    ensures fits { IfSome result IsWellFormed }
+fn need(args: &[u8], line: u32) -> Next
+    ensures value { result ≡ next_of (grammar.need_in (tokens args.now)) line }
+    ensures fits { IsInRange result }
 {
-    let (task, bytes, count) = three(args)?;
-    let task = task_of(task)?;
-    let bytes = number_of(bytes)?;
-    let count = number_of(count)?;
-    Some(Command::Need { task, bytes, count })
+    match task_and_numbers(args) {
+        Some((task, bytes, count)) => Next::Command(Command::Need { task, bytes, count }),
+        None => Next::Bad { line },
+    }
 }
 
 /// `admit TASK`.
-fn admit(args: &[u8]) -> Option<Command>
-    ensures value { result ≡ grammar.admit_in (tokens args.now) }
-    ensures fits { IfSome result IsWellFormed }
+fn admit(args: &[u8], line: u32) -> Next
+    ensures value { result ≡ next_of (grammar.admit_in (tokens args.now)) line }
+    ensures fits { IsInRange result }
 {
-    let task = task_of(one(args)?)?;
-    Some(Command::Admit { task })
+    match one_task(args) {
+        Some(task) => Next::Command(Command::Admit { task }),
+        None => Next::Bad { line },
+    }
+}
+
+/// `s`.
+fn slice(args: &[u8], line: u32) -> Next
+    ensures value { result ≡ next_of (grammar.alone_in Command.Slice (tokens args.now)) line }
+    ensures fits { IsInRange result }
+{
+    if is_done(args) {
+        Next::Command(Command::Slice)
+    } else {
+        Next::Bad { line }
+    }
+}
+
+/// `walk`.
+fn walk(args: &[u8], line: u32) -> Next
+    ensures value { result ≡ next_of (grammar.alone_in Command.Walk (tokens args.now)) line }
+    ensures fits { IsInRange result }
+{
+    if is_done(args) {
+        Next::Command(Command::Walk)
+    } else {
+        Next::Bad { line }
+    }
+}
+
+/// `frag`.
+fn frag(args: &[u8], line: u32) -> Next
+    ensures value { result ≡ next_of (grammar.alone_in Command.Frag (tokens args.now)) line }
+    ensures fits { IsInRange result }
+{
+    if is_done(args) {
+        Next::Command(Command::Frag)
+    } else {
+        Next::Bad { line }
+    }
+}
+
+/// `steps`.
+fn steps(args: &[u8], line: u32) -> Next
+    ensures value { result ≡ next_of (grammar.alone_in Command.Steps (tokens args.now)) line }
+    ensures fits { IsInRange result }
+{
+    if is_done(args) {
+        Next::Command(Command::Steps)
+    } else {
+        Next::Bad { line }
+    }
 }
 
 /// The commands whose word is a letter.
-fn letter_command(letter: u8, args: &[u8]) -> Option<Command>
-    ensures value { result ≡ grammar.letter_command letter (tokens args.now) }
-    ensures fits { IfSome result IsWellFormed }
+fn letter_command(letter: u8, args: &[u8], line: u32) -> Next
+    ensures value { result ≡ next_of (grammar.letter_command letter (tokens args.now)) line }
+    ensures fits { IsInRange result }
 {
     match letter {
-        b'm' => malloc(args),
-        b'f' => free(args),
-        b'w' => write(args),
-        b'r' => read(args),
-        b'q' => place(args),
-        b'b' => block(args),
-        b'p' => peek(args),
-        b'k' => bound(args),
-        b'z' => resize(args),
-        b's' => alone(Command::Slice, args),
-        b't' => task(args),
-        _ => None,
+        b'm' => malloc(args, line),
+        b'f' => free(args, line),
+        b'w' => write(args, line),
+        b'r' => read(args, line),
+        b'q' => place(args, line),
+        b'b' => block(args, line),
+        b'p' => peek(args, line),
+        b'k' => bound(args, line),
+        b'z' => resize(args, line),
+        b's' => slice(args, line),
+        b't' => task(args, line),
+        _ => Next::Bad { line },
     }
 }
 
 /// The commands whose word is longer.
-fn word_command(word: &[u8], args: &[u8]) -> Option<Command>
-    ensures value { result ≡ grammar.word_command word.now (tokens args.now) }
-    ensures fits { IfSome result IsWellFormed }
+fn word_command(word: &[u8], args: &[u8], line: u32) -> Next
+    ensures value { result ≡ next_of (grammar.word_command word.now (tokens args.now)) line }
+    ensures fits { IsInRange result }
 {
     if word == b"walk".as_slice() {
-        alone(Command::Walk, args)
+        walk(args, line)
     } else if word == b"frag".as_slice() {
-        alone(Command::Frag, args)
+        frag(args, line)
     } else if word == b"steps".as_slice() {
-        alone(Command::Steps, args)
+        steps(args, line)
     } else if word == b"quota".as_slice() {
-        quota(args)
+        quota(args, line)
     } else if word == b"need".as_slice() {
-        need(args)
+        need(args, line)
     } else if word == b"admit".as_slice() {
-        admit(args)
+        admit(args, line)
     } else {
-        None
+        Next::Bad { line }
     }
 }
 
 /// The command of a word and what stands behind it.
-fn command_of(word: &[u8], args: &[u8]) -> Option<Command>
-    ensures value { result ≡ grammar.command_of word.now (tokens args.now) }
-    ensures fits { IfSome result IsWellFormed }
+fn command_of(word: &[u8], args: &[u8], line: u32) -> Next
+    ensures value { result ≡ next_of (grammar.command_of word.now (tokens args.now)) line }
+    ensures fits { IsInRange result }
 {
     if word.len() == 1 {
-        letter_command(word[0], args)
+        letter_command(word[0], args, line)
     } else {
-        word_command(word, args)
+        word_command(word, args, line)
     }
 }
 
@@ -231,50 +285,69 @@ fn settings(args: &[u8]) -> Option<Settings>
     }
 }
 
-/// What a line says, wherever it stands.
-#[derive(Drop)]
-pub enum Said {
-    /// The line is blank or a comment.
-    Nothing,
-    /// It opens the heap.
-    Opens(Settings),
-    /// It is a command.
-    Asked(Command),
-    /// It is nothing of these.
-    Wrong,
+/// Whether the line has more bytes than any line may have.
+fn is_too_long(text: &[u8]) -> bool
+    ensures { result ≡ too_long text.now }
+{
+    text.len() > LONGEST
 }
 
-/// Reads a line without its line feed.
-pub fn read_line(line: &[u8]) -> Said
-    ensures value { saying_of result ≡ grammar.line_says line.now }
-    ensures fits { IsSaidInRange result }
+/// Whether the token begins a comment.
+fn is_comment(word: &[u8]) -> bool
+    requires { 1 ≤ length word.now }
+    ensures { result ≡ grammar.is_comment word.now }
 {
-    if line.len() > LONGEST {
-        return Said::Wrong;
+    word[0] == b'#'
+}
+
+/// Whether the token opens the heap.
+fn is_heap(word: &[u8]) -> bool
+    ensures { result ≡ bytes_eq word.now (codes "heap") }
+{
+    word == b"heap".as_slice()
+}
+
+/// Whether a line without its line feed is blank or a comment.
+pub fn is_idle(text: &[u8]) -> bool
+    ensures { result ≡ grammar.is_idle text.now }
+{
+    if is_too_long(text) {
+        return false;
     }
-    match split_token(without_return(line)) {
-        Some((word, args)) => read_tokens(word, args),
-        None => Said::Nothing,
+    match split_token(without_return(text)) {
+        Some((word, _)) => is_comment(word),
+        None => true,
+    }
+}
+
+/// Reads the line of this number, without its line feed, where it is neither blank nor a comment.
+pub fn read_line(text: &[u8], line: u32) -> Next
+    ensures value { saying_of result ≡ or_wrong (grammar.line_says text.now) }
+    ensures fits { IsInRange result }
+{
+    if is_too_long(text) {
+        return Next::Bad { line };
+    }
+    match split_token(without_return(text)) {
+        Some((word, args)) => read_tokens(word, args, line),
+        None => Next::Bad { line },
     }
 }
 
 /// Reads a line by its first token, and what follows it.
-fn read_tokens(word: &[u8], args: &[u8]) -> Said
+fn read_tokens(word: &[u8], args: &[u8], line: u32) -> Next
     requires { 1 ≤ length word.now }
-    ensures value { saying_of result ≡ grammar.tokens_say (word.now ∷ tokens args.now) }
-    ensures fits { IsSaidInRange result }
+    ensures value { saying_of result ≡ or_wrong (grammar.tokens_say (word.now ∷ tokens args.now)) }
+    ensures fits { IsInRange result }
 {
-    if word[0] == b'#' {
-        return Said::Nothing;
+    if is_comment(word) {
+        return Next::Bad { line };
     }
-    if word == b"heap".as_slice() {
+    if is_heap(word) {
         return match settings(args) {
-            Some(settings) => Said::Opens(settings),
-            None => Said::Wrong,
+            Some(settings) => Next::Start(settings),
+            None => Next::Bad { line },
         };
     }
-    match command_of(word, args) {
-        Some(command) => Said::Asked(command),
-        None => Said::Wrong,
-    }
+    command_of(word, args, line)
 }

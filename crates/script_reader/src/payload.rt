@@ -8,7 +8,7 @@ use std::marker::Model;
 const MOST: usize = 4_096;
 
 /// From 1 to 4,096 bytes, kept in place.
-#[derive(Drop)]
+#[derive(Debug, PartialEq, Eq, Drop)]
 pub struct Payload {
     bytes: ArrayVec<u8, MOST>,
 }
@@ -19,6 +19,8 @@ impl Model for Payload {
     ghost Value = { List ℕ };
 
     ghost view = { λ p. p.bytes.items };
+
+    ghost inverse = { λ bytes. record { bytes = record { items = bytes } } };
 
     ghost invariant = { λ p. (1 ≤ length p.bytes.items) × (length p.bytes.items ≤ 4096) };
 }

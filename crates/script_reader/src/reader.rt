@@ -1,31 +1,16 @@
 //! The reader of scripts.
-ghost use Rattle.std.specs.Prelude.{◌≡◌, ◌≤◌, ◌<◌, ◌+◌, ◌-◌, ◌==◌, false, length, take, drop, min, position, MatchOption, None, Some, true};
+ghost use Rattle.std.specs.Prelude.{◌≡◌, ◌≤◌, ◌==◌, false, length, take, drop, position, MatchOption, None, true};
+ghost use Rattle.script_reader.specs.Commands.{is_idle};
 ghost use Rattle.script_reader.specs.Lines.{is_last_line};
-ghost use Rattle.script_reader.specs.Answering.{GivesSaid};
-ghost use Rattle.script_reader.specs.Reading.{Answers, HasNoLine, IsFirstLine, Steps, fed_with, fresh, holds_line_feed, taken};
+ghost use Rattle.script_reader.specs.Looking.{Looks};
+ghost use Rattle.script_reader.specs.Reading.{Answers, HasNoLine, IsFirstLine, fed_with, fresh, holds_line_feed, taken};
 
-use crate::command::Command;
-use crate::line::{LONGEST, Said, read_line};
+use crate::line::{LONGEST, is_idle as is_idle_line, read_line};
+use crate::next::Next;
 use crate::stage::{Stage, stage_after};
 use crate::tokens::line_feed_at;
 use arrayvec::ArrayVec;
-use cf_base::Settings;
 use std::marker::Model;
-
-/// What comes next in a script.
-#[derive(Drop)]
-pub enum Next {
-    /// The heap is opened with these settings.
-    Start(Settings),
-    /// A command.
-    Command(Command),
-    /// More bytes must be fed, or the end told.
-    NeedMore,
-    /// The line of this number, counted from 1, isn't in the grammar at its place.
-    Bad { line: u32 },
-    /// The script has ended.
-    End,
-}
 
 /// The most bytes that are kept.
 const ROOM: usize = 9_000;
@@ -47,8 +32,7 @@ pub struct Reader {
 }
 
 impl Model for Reader {
-    ghost use Rattle.script_reader.specs.Answering.{GivesSaid};
-ghost use Rattle.script_reader.specs.Reading.{Reading};
+    ghost use Rattle.script_reader.specs.Reading.{Reading};
 
     ghost Value = { Reading };
 
@@ -113,51 +97,60 @@ impl Reader {
             return Next::Bad { line };
         }
         'lines: loop {
-            if let Some(next) = self.step() {
-                return next;
+            match self.look() {
+                Look::Idle => {}
+                Look::Line(cut) => return self.answer(cut),
+                Look::Waiting => return Next::NeedMore,
+                Look::Ended => return Next::End,
             }
         }
     }
 
-    /// Goes one line on.
-    fn step(&mut self) -> Option<Next>
+    /// Looks at the first line, and passes it where it is blank or a comment.
+    fn look(&mut self) -> Look
         requires { self.old.stopped ≡ None }
-        ensures { Steps self.old result self.new }
+        ensures { Looks self.old result self.new }
     {
         let kept = &self.buffer.as_slice()[self.start..];
         let Some(cut) = first_line(kept, self.searched, self.ended) else {
             self.searched = kept.len();
             if self.ended {
-                return Some(Next::End);
+                return Look::Ended;
             }
-            return Some(Next::NeedMore);
+            return Look::Waiting;
         };
-        let said = read_line(&kept[..cut.len]);
+        if is_idle_line(&kept[..cut.len]) {
+            self.start += cut.next;
+            self.searched = 0;
+            self.passed += 1;
+            return Look::Idle;
+        }
+        Look::Line(cut)
+    }
+
+    /// Answers the first line.
+    fn answer(&mut self, cut: Cut) -> Next
+        requires going { self.old.stopped ≡ None }
+        requires first { IsFirstLine self.old.kept self.old.ended cut.len cut.next }
+        requires told { is_idle (take cut.len self.old.kept) ≡ false }
+        ensures { Answers self.old result self.new }
+    {
+        let kept = &self.buffer.as_slice()[self.start..];
+        let line = self.passed + 1;
+        let next = read_line(&kept[..cut.len], line);
         self.start += cut.next;
         self.searched = 0;
-        self.passed += 1;
-        match stage_after(self.stage, &said) {
+        self.passed = line;
+        match stage_after(self.stage, &next) {
             Some(stage) => {
                 self.stage = stage;
-                answer_of(said)
+                next
             }
             None => {
-                self.stopped = Some(self.passed);
-                Some(Next::Bad { line: self.passed })
+                self.stopped = Some(line);
+                Next::Bad { line }
             }
         }
-    }
-}
-
-/// The answer to a line in its place, where there is one.
-fn answer_of(said: Said) -> Option<Next>
-    ensures { GivesSaid said result }
-{
-    match said {
-        Said::Nothing => None,
-        Said::Opens(settings) => Some(Next::Start(settings)),
-        Said::Asked(command) => Some(Next::Command(command)),
-        Said::Wrong => None,
     }
 }
 
@@ -176,6 +169,19 @@ fn drop_front(buffer: &mut ArrayVec<u8, ROOM>, start: usize)
 struct Cut {
     len: usize,
     next: usize,
+}
+
+/// What a look at the first line finds.
+#[derive(Clone, Copy)]
+enum Look {
+    /// It was blank or a comment, and is passed.
+    Idle,
+    /// It says something.
+    Line(Cut),
+    /// No line is there yet.
+    Waiting,
+    /// No line is there, and the end was told.
+    Ended,
 }
 
 /// Where the first line feed is, where none is in front of `from`.

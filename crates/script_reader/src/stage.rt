@@ -4,7 +4,7 @@ ghost use Rattle.script_reader.specs.Items as place;
 ghost use Rattle.script_reader.specs.Said.{saying_of};
 
 use crate::command::Command;
-use crate::line::Said;
+use crate::next::Next;
 
 /// How far a script has come.
 #[derive(Clone, Copy, Debug, PartialEq, Eq)]
@@ -17,18 +17,17 @@ pub enum Stage {
     Running,
 }
 
-/// The stage after a line; None where the line breaks a rule at its place.
-pub fn stage_after(stage: Stage, said: &Said) -> Option<Stage>
-    ensures { result ≡ place.stage_after stage (saying_of said.now) }
+/// The stage after an answer to a line; None where the line breaks a rule at its place.
+pub fn stage_after(stage: Stage, next: &Next) -> Option<Stage>
+    ensures { result ≡ place.stage_after stage (saying_of next.now) }
 {
-    match said {
-        Said::Nothing => Some(stage),
-        Said::Opens(_) => match stage {
+    match next {
+        Next::Start(_) => match stage {
             Stage::Opening => Some(Stage::Bounding),
             _ => None,
         },
-        Said::Asked(command) => stage_behind(stage, is_bound(command)),
-        Said::Wrong => None,
+        Next::Command(command) => stage_behind(stage, is_bound(command)),
+        _ => None,
     }
 }
 
@@ -43,13 +42,7 @@ fn stage_behind(stage: Stage, bounds: bool) -> Option<Stage>
         } else {
             Stage::Running
         }),
-        Stage::Running => {
-            if bounds {
-                None
-            } else {
-                Some(Stage::Running)
-            }
-        }
+        Stage::Running => { if bounds { None } else { Some(Stage::Running) } }
     }
 }
 

@@ -1,11 +1,11 @@
 -- The free lists of TLSF and of Half-Fit are lawful.
-use Rattle.std.proofs.Common.{◌≡◌, ℕ, zero, suc, Bool, true, false, ◌+◌, ◌-◌, ◌*◌, ◌/◌, ◌^◌, ◌<◌, ◌≤◌, arith, sym, ◌∙◌, inl, inr, ap, refl, subst}
+use Rattle.std.proofs.Common.{◌≡◌, ℕ, true, false, ◌+◌, ◌-◌, ◌*◌, ◌/◌, ◌^◌, ◌<◌, ◌≤◌, arith, sym, ◌∙◌, inl, inr, ap, refl, subst}
 use Rattle.std.specs.Prelude.{nat_le, nat_lt}
-use Rattle.std.proofs.lemmas.Bool.{cases_lt, cases_eq}
+use Rattle.std.proofs.lemmas.Bool.{cases_lt}
 use Rattle.std.proofs.lemmas.Bool.Decides.{nat_tests}
 use Rattle.std.proofs.lemmas.Nat.{pow_pos, pow-add, le-div, div_below}
 use Rattle.std.proofs.Math.Nat.{div-mul-le_self}
-use Rattle.tiling.specs.Buckets.{log, tlsf_bucket, tlsf_rounded, tlsf_search, half_fit_search, tlsf, half_fit, AreLawful}
+use Rattle.tiling.specs.Buckets.{log, tlsf_bucket, tlsf_rounded, tlsf_search, tlsf, half_fit, AreLawful}
 use Rattle.tiling.proofs.Logs.{power_le, power_more, log_is, log_found, log_rises}
 
 pub small_bucket : (s : ℕ) → s < 16 → tlsf_bucket s ≡ s
@@ -63,11 +63,11 @@ not_below s f t is le within =
     elim (cases_lt f (log t)) [
       | inl less ↦ omega arith
       | inr same ↦ (
-        let is' : log t ≡ f = omega arith in
-        let b' : tlsf_bucket t ≡ 16 + 16 * (f - 4) + (t - 2 ^ f) / 2 ^ (f - 4) = subst (λ n. tlsf_bucket t ≡ 16 + 16 * (n - 4) + (t - 2 ^ n) / 2 ^ (n - 4)) is' b in
-        let down = div-mul-le_self (s - 2 ^ f) (2 ^ (f - 4)) in
-        let up = le-div ((s - 2 ^ f) / 2 ^ (f - 4)) (t - 2 ^ f) (2 ^ (f - 4)) (pow_pos (f - 4)) (omega arith) in
-        omega arith)
+          let is' : log t ≡ f = omega arith in
+          let b' : tlsf_bucket t ≡ 16 + 16 * (f - 4) + (t - 2 ^ f) / 2 ^ (f - 4) = subst (λ n. tlsf_bucket t ≡ 16 + 16 * (n - 4) + (t - 2 ^ n) / 2 ^ (n - 4)) is' b in
+          let down = div-mul-le_self (s - 2 ^ f) (2 ^ (f - 4)) in
+          let up = le-div ((s - 2 ^ f) / 2 ^ (f - 4)) (t - 2 ^ f) (2 ^ (f - 4)) (pow_pos (f - 4)) (omega arith) in
+          omega arith)
     ]
 
 pub bucket_rises : (s t : ℕ) → s ≤ t → t < 2 ^ 32 → tlsf_bucket s ≤ tlsf_bucket t
@@ -90,58 +90,58 @@ next_list s f t is le within =
     let l = four s f is in
     elim (cases_lt (s + 2 ^ (f - 4)) (2 * 2 ^ f)) [
       | inl same ↦ (
-        let it : IsPower (s + 2 ^ (f - 4)) f = record { large = omega arith; low = omega arith; high = same; top = top } in
-        let b = large_bucket (s + 2 ^ (f - 4)) f it in
-        let down = div-mul-le_self (s - 2 ^ f) (2 ^ (f - 4)) in
-        let up = le-div ((s - 2 ^ f) / 2 ^ (f - 4) + 1) (s + 2 ^ (f - 4) - 2 ^ f) (2 ^ (f - 4)) (pow_pos (f - 4)) (omega arith) in
-        omega arith)
+          let it : IsPower (s + 2 ^ (f - 4)) f = record { large = omega arith; low = omega arith; high = same; top = top } in
+          let b = large_bucket (s + 2 ^ (f - 4)) f it in
+          let down = div-mul-le_self (s - 2 ^ f) (2 ^ (f - 4)) in
+          let up = le-div ((s - 2 ^ f) / 2 ^ (f - 4) + 1) (s + 2 ^ (f - 4) - 2 ^ f) (2 ^ (f - 4)) (pow_pos (f - 4)) (omega arith) in
+          omega arith)
       | inr above ↦ (
-        let it = power_of (s + 2 ^ (f - 4)) (omega arith) (omega arith) in
-        let b = large_bucket (s + 2 ^ (f - 4)) (log (s + 2 ^ (f - 4))) it in
-        let more : f + 1 ≤ log (s + 2 ^ (f - 4)) = elim (cases_lt f (log (s + 2 ^ (f - 4)))) [
-          | inl less ↦ omega arith
-          | inr le' ↦ (let p = power_le (log (s + 2 ^ (f - 4))) f le' in let h = it.high in absurd (omega arith))
-        ] in
-        omega arith)
+          let it = power_of (s + 2 ^ (f - 4)) (omega arith) (omega arith) in
+          let b = large_bucket (s + 2 ^ (f - 4)) (log (s + 2 ^ (f - 4))) it in
+          let more : f + 1 ≤ log (s + 2 ^ (f - 4)) = elim (cases_lt f (log (s + 2 ^ (f - 4)))) [
+            | inl less ↦ omega arith
+            | inr le' ↦ (let p = power_le (log (s + 2 ^ (f - 4))) f le' in let h = it.high in absurd (omega arith))
+          ] in
+          omega arith)
     ]
 
 tlsf_large_enough : (size need : ℕ) → size ≤ 2 ^ 23 → need ≤ 2 ^ 23 → size < need → tlsf_bucket size < tlsf_search need
 tlsf_large_enough size need ls ln less = elim (cases_lt need 16) [
   | inl small ↦ rw (small_rounded need small, small_bucket need small, small_bucket size (omega arith)) less
   | inr large ↦ (
-    let f = log need in
-    let it = power_of need large (omega arith) in
-    let e = large_rounded need (log need) it in
-    let sixteenth' = sixteenth need (log need) it in
-    let low = it.low in
-    let some = pow_pos (log need - 4) in
-    let bound : need + 2 ^ (log need - 4) - 1 < 2 ^ 32 = omega arith in
-    rw e (elim (cases_lt size 16) [
-      | inl small ↦ (
-        let b = power_of (need + 2 ^ (log need - 4) - 1) (omega arith) bound in
-        let c = large_bucket (need + 2 ^ (log need - 4) - 1) (log (need + 2 ^ (log need - 4) - 1)) b in
-        rw (small_bucket size small) (omega arith))
-      | inr large' ↦ (
-        let is = power_of size large' (omega arith) in
-        let rises = log_rises size need (omega arith) (omega arith) (omega arith) in
-        let four' = four size (log size) is in
-        let p = power_le (log size - 4) (log need - 4) (omega arith) in
-        next_list size (log size) (need + 2 ^ (log need - 4) - 1) is (omega arith) bound)
-    ]))
+      let f = log need in
+      let it = power_of need large (omega arith) in
+      let e = large_rounded need (log need) it in
+      let sixteenth' = sixteenth need (log need) it in
+      let low = it.low in
+      let some = pow_pos (log need - 4) in
+      let bound : need + 2 ^ (log need - 4) - 1 < 2 ^ 32 = omega arith in
+      rw e (elim (cases_lt size 16) [
+        | inl small ↦ (
+            let b = power_of (need + 2 ^ (log need - 4) - 1) (omega arith) bound in
+            let c = large_bucket (need + 2 ^ (log need - 4) - 1) (log (need + 2 ^ (log need - 4) - 1)) b in
+            rw (small_bucket size small) (omega arith))
+        | inr large' ↦ (
+            let is = power_of size large' (omega arith) in
+            let rises = log_rises size need (omega arith) (omega arith) (omega arith) in
+            let four' = four size (log size) is in
+            let p = power_le (log size - 4) (log need - 4) (omega arith) in
+            next_list size (log size) (need + 2 ^ (log need - 4) - 1) is (omega arith) bound)
+      ]))
 ]
 
 tlsf_below : (size : ℕ) → size ≤ 2 ^ 23 → tlsf_bucket size < 336
 tlsf_below size le = elim (cases_lt size 16) [
   | inl small ↦ rw (small_bucket size small) (omega arith)
   | inr large ↦ (
-    let is = power_of size large (omega arith) in
-    let b = large_bucket size (log size) is in
-    let few = few_lists size (log size) is in
-    let top : log size ≤ 23 = elim (cases_lt 23 (log size)) [
-      | inl more ↦ (let p = power_le 24 (log size) (omega arith) in let low = is.low in absurd (omega arith))
-      | inr l ↦ l
-    ] in
-    omega arith)
+      let is = power_of size large (omega arith) in
+      let b = large_bucket size (log size) is in
+      let few = few_lists size (log size) is in
+      let top : log size ≤ 23 = elim (cases_lt 23 (log size)) [
+        | inl more ↦ (let p = power_le 24 (log size) (omega arith) in let low = is.low in absurd (omega arith))
+        | inr l ↦ l
+      ] in
+      omega arith)
 ]
 
 pub tlsf_lawful : AreLawful tlsf 336
@@ -163,10 +163,10 @@ half_fit_lawful = record {
   rising = λ size larger some le top. log_rises size larger (omega arith) le (omega arith);
   large_enough = λ size need some le some' le' reached. elim (cases_lt size need) [
     | inl less ↦ (
-      let no : nat_le need 1 ≡ false = grind (arith, nat_tests) in
-      let reached' : log (need - 1) + 1 ≤ log size = rw no at reached in
-      let r = log_rises size (need - 1) (omega arith) (omega arith) (omega arith) in
-      absurd (omega arith))
+        let no : nat_le need 1 ≡ false = grind (arith, nat_tests) in
+        let reached' : log (need - 1) + 1 ≤ log size = rw no at reached in
+        let r = log_rises size (need - 1) (omega arith) (omega arith) (omega arith) in
+        absurd (omega arith))
     | inr l ↦ l
   ];
 }

@@ -1,9 +1,9 @@
 -- The binary logarithm, rounded down.
-use Rattle.std.proofs.Common.{◌≡◌, ℕ, zero, suc, Bool, true, false, ◌+◌, ◌-◌, ◌*◌, ◌/◌, ◌^◌, ◌<◌, ◌≤◌, arith, sym, ◌∙◌, inl, inr, ap, refl, subst}
-use Rattle.std.specs.Prelude.{nat_le, nat_lt}
-use Rattle.std.proofs.lemmas.Bool.{cases_lt, cases_eq}
+use Rattle.std.proofs.Common.{◌≡◌, ℕ, zero, suc, true, false, ◌+◌, ◌*◌, ◌^◌, ◌<◌, ◌≤◌, arith, sym, ◌∙◌, inl, inr}
+use Rattle.std.specs.Prelude.{nat_le}
+use Rattle.std.proofs.lemmas.Bool.{cases_lt}
 use Rattle.std.proofs.lemmas.Bool.Decides.{nat_tests}
-use Rattle.std.proofs.lemmas.Nat.{pow_pos, pow-add}
+use Rattle.std.proofs.lemmas.Nat.{pow-add}
 use Rattle.std.proofs.Math.Nat.{pow-le-pow_right, pow-suc}
 use Rattle.tiling.specs.Buckets.{log_up_to, log}
 
@@ -19,15 +19,15 @@ unfolding log_up_to
 log_is zero n f le low high = omega arith
 log_is (suc top) n f le low high = elim (cases_lt top f) [
   | inl last ↦ (
-    let is : f ≡ suc top = omega arith in
-    let yes : nat_le (2 ^ suc top) n ≡ true = (let low' : 2 ^ suc top ≤ n = rw (← is) low in grind (arith, nat_tests)) in
-    rw (yes, log_up_to) (sym is))
+      let is : f ≡ suc top = omega arith in
+      let yes : nat_le (2 ^ suc top) n ≡ true = (let low' : 2 ^ suc top ≤ n = rw (← is) low in grind (arith, nat_tests)) in
+      rw (yes, log_up_to) (sym is))
   | inr less ↦ (
-    let p = power_le (f + 1) (suc top) (omega arith) in
-    let q = power_more f in
-    let above : n < 2 ^ suc top = omega arith in
-    let no : nat_le (2 ^ suc top) n ≡ false = grind (arith, nat_tests) in
-    rw (no, log_up_to) (log_is top n f less low high))
+      let p = power_le (f + 1) (suc top) (omega arith) in
+      let q = power_more f in
+      let above : n < 2 ^ suc top = omega arith in
+      let no : nat_le (2 ^ suc top) n ≡ false = grind (arith, nat_tests) in
+      rw (no, log_up_to) (log_is top n f less low high))
 ]
 
 -- every positive number below the next power has a logarithm
@@ -36,23 +36,23 @@ unfolding log_up_to
 log_found zero n some high = (some, high, omega arith)
 log_found (suc top) n some high = elim (cases_lt n (2 ^ suc top)) [
   | inl below ↦ (
-    let no : nat_le (2 ^ suc top) n ≡ false = grind (arith, nat_tests) in
-    let q : 2 ^ suc top ≡ 2 * 2 ^ top = pow-suc 2 top ∙ omega arith in
-    let r = log_found top n some (omega arith) in
-    rw (no, log_up_to) (r.0, r.1, omega (arith, r.2)))
+      let no : nat_le (2 ^ suc top) n ≡ false = grind (arith, nat_tests) in
+      let q : 2 ^ suc top ≡ 2 * 2 ^ top = pow-suc 2 top ∙ omega arith in
+      let r = log_found top n some (omega arith) in
+      rw (no, log_up_to) (r.0, r.1, omega (arith, r.2)))
   | inr above ↦ (
-    let yes : nat_le (2 ^ suc top) n ≡ true = grind (arith, nat_tests) in
-    rw (yes, log_up_to) (above, high, omega arith))
+      let yes : nat_le (2 ^ suc top) n ≡ true = grind (arith, nat_tests) in
+      rw (yes, log_up_to) (above, high, omega arith))
 ]
 
 -- a greater number has no lesser logarithm
 pub log_rises : (m n : ℕ) → 1 ≤ m → m ≤ n → n < 2 ^ 32 → log m ≤ log n
 log_rises m n some le high = elim (cases_lt (log n) (log m)) [
   | inl less ↦ (
-    let a = log_found 31 m some (omega arith) in
-    let b = log_found 31 n (omega arith) (omega arith) in
-    let p = power_le (log n + 1) (log m) (omega arith) in
-    let q = power_more (log n) in
-    absurd (omega (arith, a.0, b.1)))
+      let a = log_found 31 m some (omega arith) in
+      let b = log_found 31 n (omega arith) (omega arith) in
+      let p = power_le (log n + 1) (log m) (omega arith) in
+      let q = power_more (log n) in
+      absurd (omega (arith, a.0, b.1)))
   | inr l ↦ l
 ]

@@ -1,11 +1,10 @@
 -- What mallocs and frees do to the block at an address.
-use Rattle.std.proofs.Common.{◌≡◌, ◌≢◌, ℕ, zero, suc, Bool, true, false, ◌+◌, ◌-◌, ◌^◌, ◌<◌, ◌≤◌, List, [], ◌∷◌, ◌++◌, Option, Some, None, arith, sym, ◌∙◌, inl, inr, ap, refl, subst, cond}
-use Rattle.std.specs.Prelude.{◌⊎◌, ◌&&◌, nat_le, nat_eq, is_none, is_some}
+use Rattle.std.proofs.Common.{◌≡◌, ◌≢◌, ℕ, Bool, true, false, ◌+◌, ◌-◌, ◌^◌, ◌≤◌, List, [], ◌∷◌, ◌++◌, Some, None, arith, sym, ◌∙◌, inl, inr, ap, refl, subst}
+use Rattle.std.specs.Prelude.{◌&&◌, is_none}
 use Rattle.std.proofs.lemmas.Bool.{cases_lt, cases_eq}
-use Rattle.std.proofs.lemmas.Bool.Decides.{nat_tests}
 use Rattle.tiling.specs.Buckets.{FreeLists, AreLawful}
 use Rattle.tiling.specs.Tiling.{Block, is_free, Fill, IsTiling, block_at, Demand, carved, carved_at, Carves, joined, merged, freed_at, released, IsCarvedTo, StaysUsed}
-use Rattle.tiling.proofs.Steps.{eq_yes, eq_no, le_yes, le_no, fill_carved}
+use Rattle.tiling.proofs.Steps.{eq_yes, eq_no, le_yes, le_no}
 use Rattle.tiling.proofs.Releases.{freed_fill, merged_fill}
 
 pub fill_le : (bs : List Block) (from to : ℕ) → Fill bs from to → from ≤ to
@@ -23,15 +22,15 @@ pub lies : (bs : List Block) (from to a : ℕ) (b : Block) → Fill bs from to �
 lies [] from to a b f there = cc
 lies (x ∷ xs) from to a b f there = elim (cases_eq x.address a) [
   | inl is ↦ (
-    let there' : Some x ≡ Some b = rw (eq_yes x.address a is) at there in
-    let same : x ≡ b = cc in
-    let e = f.0 in let size = f.1 in
-    let r = fill_le xs (from + x.size) to f.2 in
-    subst (λ y. Lies y a from to) same (record { address = is; size = size; low = omega arith; high = omega arith }))
+      let there' : Some x ≡ Some b = rw (eq_yes x.address a is) at there in
+      let same : x ≡ b = cc in
+      let e = f.0 in let size = f.1 in
+      let r = fill_le xs (from + x.size) to f.2 in
+      subst (λ y. Lies y a from to) same (record { address = is; size = size; low = omega arith; high = omega arith }))
   | inr other ↦ (
-    let there' : block_at xs a ≡ Some b = rw (eq_no x.address a other) at there in
-    let r = lies xs (from + x.size) to a b f.2 there' in
-    record { address = r.address; size = r.size; low = omega (arith, r.low); high = r.high })
+      let there' : block_at xs a ≡ Some b = rw (eq_no x.address a other) at there in
+      let r = lies xs (from + x.size) to a b f.2 there' in
+      record { address = r.address; size = r.size; low = omega (arith, r.low); high = r.high })
 ]
 
 some_injective : (x y : Block) → Some x ≡ Some y → x ≡ y
@@ -48,37 +47,37 @@ take_first x xs a is = rw (eq_yes x.address a is) refl
 
 module _ (d : Demand) (place a : ℕ) (b : Block) (h : ℕ) (away : a ≢ place) (used : b.owner ≡ Some h) where
   carved_kept : (x : Block) (xs : List Block) → x.address ≡ place → ((x.address + d.need ≡ a) → d.need + 2 ≤ x.size → block_at xs a ≡ Some b → ⊥)
-    → block_at xs a ≡ Some b → block_at (carved x d ++ xs) a ≡ Some b
+      → block_at xs a ≡ Some b → block_at (carved x d ++ xs) a ≡ Some b
   carved_kept x xs is clear there = elim (cases_lt x.size (d.need + 2)) [
     | inl small ↦ rw (le_no (d.need + 2) x.size small) (skip (record { address = x.address; size = x.size; owner = Some d.owner }) xs a (λ e. away (sym e ∙ is)) ∙ there)
     | inr large ↦ rw (le_yes (d.need + 2) x.size large) (
-      skip (record { address = x.address; size = d.need; owner = Some d.owner }) (record { address = x.address + d.need; size = x.size - d.need; owner = None } ∷ xs) a (λ e. away (sym e ∙ is))
-      ∙ skip (record { address = x.address + d.need; size = x.size - d.need; owner = None }) xs a (λ e. clear e large there) ∙ there)
+        skip (record { address = x.address; size = d.need; owner = Some d.owner }) (record { address = x.address + d.need; size = x.size - d.need; owner = None } ∷ xs) a (λ e. away (sym e ∙ is))
+        ∙ skip (record { address = x.address + d.need; size = x.size - d.need; owner = None }) xs a (λ e. clear e large there) ∙ there)
   ]
 
   carved_no_other : (x : Block) (xs : List Block) → x.address ≡ place → block_at (carved x d ++ xs) a ≡ Some b → block_at xs a ≡ Some b
   carved_no_other x xs is there = elim (cases_lt x.size (d.need + 2)) [
     | inl small ↦ (
-      let t : block_at (record { address = x.address; size = x.size; owner = Some d.owner } ∷ xs) a ≡ Some b = rw (le_no (d.need + 2) x.size small) at there in
-      sym (skip (record { address = x.address; size = x.size; owner = Some d.owner }) xs a (λ e. away (sym e ∙ is))) ∙ t)
+        let t : block_at (record { address = x.address; size = x.size; owner = Some d.owner } ∷ xs) a ≡ Some b = rw (le_no (d.need + 2) x.size small) at there in
+        sym (skip (record { address = x.address; size = x.size; owner = Some d.owner }) xs a (λ e. away (sym e ∙ is))) ∙ t)
     | inr large ↦ (
-      let t : block_at (record { address = x.address; size = d.need; owner = Some d.owner } ∷ record { address = x.address + d.need; size = x.size - d.need; owner = None } ∷ xs) a ≡ Some b = rw (le_yes (d.need + 2) x.size large) at there in
-      let rest : Block = record { address = x.address + d.need; size = x.size - d.need; owner = None } in
-      let u : block_at (rest ∷ xs) a ≡ Some b = sym (skip (record { address = x.address; size = d.need; owner = Some d.owner }) (rest ∷ xs) a (λ e. away (sym e ∙ is))) ∙ t in
-      elim (cases_eq rest.address a) [
-        | inl same ↦ absurd (used_is_not_free b h used (sym (ap (λ (y : Block). y.owner) (some_injective rest b (sym (take_first rest xs a same) ∙ u)))))
-        | inr other ↦ sym (skip rest xs a other) ∙ u
-      ])
+        let t : block_at (record { address = x.address; size = d.need; owner = Some d.owner } ∷ record { address = x.address + d.need; size = x.size - d.need; owner = None } ∷ xs) a ≡ Some b = rw (le_yes (d.need + 2) x.size large) at there in
+        let rest : Block = record { address = x.address + d.need; size = x.size - d.need; owner = None } in
+        let u : block_at (rest ∷ xs) a ≡ Some b = sym (skip (record { address = x.address; size = d.need; owner = Some d.owner }) (rest ∷ xs) a (λ e. away (sym e ∙ is))) ∙ t in
+        elim (cases_eq rest.address a) [
+          | inl same ↦ absurd (used_is_not_free b h used (sym (ap (λ (y : Block). y.owner) (some_injective rest b (sym (take_first rest xs a same) ∙ u)))))
+          | inr other ↦ sym (skip rest xs a other) ∙ u
+        ])
   ]
 
   pub malloc_kept : (bs : List Block) (from to : ℕ) → Fill bs from to → block_at bs a ≡ Some b → block_at (carved_at bs place d) a ≡ Some b
   malloc_kept [] from to f there = there
   malloc_kept (x ∷ xs) from to f there = elim (cases_eq x.address place) [
     | inl is ↦ (
-      let rest : block_at xs a ≡ Some b = sym (skip x xs a (λ e. away (sym e ∙ is))) ∙ there in
-      let l = lies xs (from + x.size) to a b f.2 rest in
-      let begins = f.0 in
-      rw (eq_yes x.address place is) (carved_kept x xs is (λ e large _. (let low = l.low in omega arith)) rest))
+        let rest : block_at xs a ≡ Some b = sym (skip x xs a (λ e. away (sym e ∙ is))) ∙ there in
+        let l = lies xs (from + x.size) to a b f.2 rest in
+        let begins = f.0 in
+        rw (eq_yes x.address place is) (carved_kept x xs is (λ e large _. (let low = l.low in omega arith)) rest))
     | inr other ↦ rw (eq_no x.address place other) (elim (cases_eq x.address a) [
       | inl same ↦ take_first x (carved_at xs place d) a same ∙ sym (take_first x xs a same) ∙ there
       | inr not ↦ skip x (carved_at xs place d) a not ∙ malloc_kept xs (from + x.size) to f.2 (sym (skip x xs a not) ∙ there)
@@ -89,14 +88,14 @@ module _ (d : Demand) (place a : ℕ) (b : Block) (h : ℕ) (away : a ≢ place)
   malloc_no_other [] there = there
   malloc_no_other (x ∷ xs) there = elim (cases_eq x.address place) [
     | inl is ↦ (
-      let t : block_at (carved x d ++ xs) a ≡ Some b = rw (eq_yes x.address place is) at there in
-      skip x xs a (λ e. away (sym e ∙ is)) ∙ carved_no_other x xs is t)
+        let t : block_at (carved x d ++ xs) a ≡ Some b = rw (eq_yes x.address place is) at there in
+        skip x xs a (λ e. away (sym e ∙ is)) ∙ carved_no_other x xs is t)
     | inr other ↦ (
-      let t : block_at (x ∷ carved_at xs place d) a ≡ Some b = rw (eq_no x.address place other) at there in
-      elim (cases_eq x.address a) [
-        | inl same ↦ take_first x xs a same ∙ sym (take_first x (carved_at xs place d) a same) ∙ t
-        | inr not ↦ skip x xs a not ∙ malloc_no_other xs (sym (skip x (carved_at xs place d) a not) ∙ t)
-      ])
+        let t : block_at (x ∷ carved_at xs place d) a ≡ Some b = rw (eq_no x.address place other) at there in
+        elim (cases_eq x.address a) [
+          | inl same ↦ take_first x xs a same ∙ sym (take_first x (carved_at xs place d) a same) ∙ t
+          | inr not ↦ skip x xs a not ∙ malloc_no_other xs (sym (skip x (carved_at xs place d) a not) ∙ t)
+        ])
   ]
 
   -- a free changes no other block
@@ -104,7 +103,7 @@ module _ (d : Demand) (place a : ℕ) (b : Block) (h : ℕ) (away : a ≢ place)
   freed_other [] = refl
   freed_other (x ∷ xs) = elim (cases_eq x.address place) [
     | inl is ↦ rw (eq_yes x.address place is) (
-      skip (record { address = x.address; size = x.size; owner = None }) xs a (λ e. away (sym e ∙ is)) ∙ sym (skip x xs a (λ e. away (sym e ∙ is))))
+        skip (record { address = x.address; size = x.size; owner = None }) xs a (λ e. away (sym e ∙ is)) ∙ sym (skip x xs a (λ e. away (sym e ∙ is))))
     | inr other ↦ rw (eq_no x.address place other) (elim (cases_eq x.address a) [
       | inl same ↦ take_first x (freed_at xs place) a same ∙ sym (take_first x xs a same)
       | inr not ↦ skip x (freed_at xs place) a not ∙ freed_other xs ∙ sym (skip x xs a not)
@@ -159,7 +158,7 @@ module _ (d : Demand) (place a : ℕ) (b : Block) (h : ℕ) (away : a ≢ place)
     | inr not ↦ skip x (merged xs) a not ∙ merged_kept xs (sym (skip x xs a not) ∙ there)
   ])
 
-  merged_no_other : (bs : List Block) (from to : ℕ) → Fill bs from to → block_at (merged bs) a ≡ Some b → block_at bs a ≡ Some b
+  pub merged_no_other : (bs : List Block) (from to : ℕ) → Fill bs from to → block_at (merged bs) a ≡ Some b → block_at bs a ≡ Some b
   merged_no_other [] from to f there = there
   merged_no_other (x ∷ xs) from to f there =
       let t = joined_no_other x (merged xs) from to (f.0, f.1, merged_fill xs (from + x.size) to f.2) there in
@@ -199,11 +198,11 @@ module _ (d : Demand) (place : ℕ) where
   given_block [] found there enough = cc
   given_block (x ∷ xs) found there enough = elim (cases_eq x.address place) [
     | inl is ↦ (
-      let same = some_injective x found (sym (take_first x xs place is) ∙ there) in
-      rw (eq_yes x.address place is) (carved_to x xs is (rw same enough)))
+        let same = some_injective x found (sym (take_first x xs place is) ∙ there) in
+        rw (eq_yes x.address place is) (carved_to x xs is (rw same enough)))
     | inr other ↦ (
-      let r = given_block xs found (sym (skip x xs place other) ∙ there) enough in
-      rw (eq_no x.address place other) (record { block = r.block; there = skip x (carved_at xs place d) place other ∙ r.there; owner = r.owner; least = r.least; most = r.most }))
+        let r = given_block xs found (sym (skip x xs place other) ∙ there) enough in
+        rw (eq_no x.address place other) (record { block = r.block; there = skip x (carved_at xs place d) place other ∙ r.there; owner = r.owner; least = r.least; most = r.most }))
   ]
 
 -- a malloc gives the words that are needed
@@ -215,3 +214,21 @@ malloc_gives rule count words old new d place lawful small some few t step =
     let enough = lawful.large_enough step.found.size d.need size (omega arith) some few step.serves.reached in
     let e = step.carved in
     rw e (given_block d place old step.found step.there enough)
+
+-- no used block begins where one was released
+pub released_is_free : (words : ℕ) (old : List Block) (place : ℕ) (b : Block) (h : ℕ) → IsTiling words old → block_at (released old place) place ≡ Some b → b.owner ≡ Some h → ⊥
+released_is_free words old place b h t there used =
+    let before = merged_no_other (record { need = 0; owner = 0 }) (place + 1) place b h (omega arith) used (freed_at old place) 0 words (freed_fill old place 0 words t.fill) there in
+    used_is_not_free b h used (freed_owner old before)
+  where
+    freed_owner : (bs : List Block) → block_at (freed_at bs place) place ≡ Some b → b.owner ≡ None
+    freed_owner [] e = cc
+    freed_owner (x ∷ xs) e = elim (cases_eq x.address place) [
+      | inl is ↦ (
+          let one : Block = record { address = x.address; size = x.size; owner = None } in
+          let e' : block_at (one ∷ xs) place ≡ Some b = rw (eq_yes x.address place is) at e in
+          ap (λ (y : Block). y.owner) (sym (some_injective one b (sym (take_first one xs place is) ∙ e'))))
+      | inr other ↦ (
+          let e' : block_at (x ∷ freed_at xs place) place ≡ Some b = rw (eq_no x.address place other) at e in
+          freed_owner xs (sym (skip x (freed_at xs place) place other) ∙ e'))
+    ]

@@ -1,11 +1,9 @@
 -- A free keeps a tiling.
-use Rattle.std.proofs.Common.{◌≡◌, ◌≢◌, ℕ, zero, suc, Bool, true, false, ◌+◌, ◌-◌, ◌*◌, ◌<◌, ◌≤◌, List, [], ◌∷◌, ◌++◌, Option, Some, None, arith, sym, ◌∙◌, inl, inr, ap, refl, subst, cond}
-use Rattle.std.specs.Prelude.{◌⊎◌, ◌&&◌, nat_le, nat_eq, is_none, is_some, if◌then◌else◌}
-use Rattle.std.proofs.lemmas.Bool.{cases_lt, cases_eq}
-use Rattle.std.proofs.lemmas.Bool.Decides.{nat_tests}
-use Rattle.tiling.specs.Buckets.{FreeLists, AreLawful}
+use Rattle.std.proofs.Common.{◌≡◌, ℕ, Bool, true, false, ◌+◌, List, [], ◌∷◌, arith, inl, inr, refl, subst}
+use Rattle.std.specs.Prelude.{◌&&◌}
+use Rattle.std.proofs.lemmas.Bool.{cases_eq}
 use Rattle.tiling.proofs.Steps.{eq_yes, eq_no}
-use Rattle.tiling.specs.Tiling.{Block, is_free, Fill, starts_free, AreMerged, IsTiling, one_free_block, block_at, Demand, Serves, carved, carved_at, Carves, joined, merged, freed_at, released}
+use Rattle.tiling.specs.Tiling.{Block, is_free, Fill, starts_free, AreMerged, IsTiling, joined, merged, freed_at, released}
 
 and_false : (b : Bool) → (b && false) ≡ false
 and_false true = refl

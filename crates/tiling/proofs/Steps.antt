@@ -1,10 +1,10 @@
 -- Mallocs and frees keep a tiling, and leave the other used blocks.
-use Rattle.std.proofs.Common.{◌≡◌, ◌≢◌, ℕ, zero, suc, Bool, true, false, ◌+◌, ◌-◌, ◌*◌, ◌<◌, ◌≤◌, List, [], ◌∷◌, ◌++◌, Option, Some, None, arith, sym, ◌∙◌, inl, inr, ap, refl, subst, cond}
-use Rattle.std.specs.Prelude.{◌⊎◌, ◌&&◌, nat_le, nat_eq, is_none, is_some, if◌then◌else◌}
+use Rattle.std.proofs.Common.{◌≡◌, ◌≢◌, ℕ, Bool, true, false, ◌+◌, ◌<◌, ◌≤◌, List, [], ◌∷◌, ◌++◌, Some, None, arith, ◌∙◌, inl, inr, ap, refl, subst}
+use Rattle.std.specs.Prelude.{◌&&◌, nat_le, nat_eq, is_none}
 use Rattle.std.proofs.lemmas.Bool.{cases_lt, cases_eq}
 use Rattle.std.proofs.lemmas.Bool.Decides.{nat_tests}
-use Rattle.tiling.specs.Buckets.{FreeLists, AreLawful}
-use Rattle.tiling.specs.Tiling.{Block, is_free, Fill, starts_free, AreMerged, IsTiling, one_free_block, block_at, Demand, Serves, carved, carved_at, Carves, joined, merged, freed_at, released}
+use Rattle.tiling.specs.Buckets.{FreeLists}
+use Rattle.tiling.specs.Tiling.{Block, is_free, Fill, starts_free, AreMerged, IsTiling, block_at, Demand, carved, carved_at, Carves}
 
 pub eq_yes : (a b : ℕ) → a ≡ b → nat_eq a b ≡ true
 eq_yes a b e = grind (arith, nat_tests)
@@ -70,11 +70,11 @@ pub merged_carved : (blocks : List Block) (a : ℕ) (d : Demand) (b : Block) →
 merged_carved [] a d b there free m = m
 merged_carved (x ∷ xs) a d b there free m = elim (cases_eq x.address a) [
   | inl is ↦ (
-    let same : x ≡ b = (let t : Some x ≡ Some b = rw (eq_yes x.address a is) at there in cc) in
-    rw (eq_yes x.address a is) (carved_merged x xs d (ap (λ (y : Block). y.owner) same ∙ free) m))
+      let same : x ≡ b = (let t : Some x ≡ Some b = rw (eq_yes x.address a is) at there in cc) in
+      rw (eq_yes x.address a is) (carved_merged x xs d (ap (λ (y : Block). y.owner) same ∙ free) m))
   | inr other ↦ (
-    let t : block_at xs a ≡ Some b = rw (eq_no x.address a other) at there in
-    rw (eq_no x.address a other) (both (is_free x) (starts_free xs) (starts_free (carved_at xs a d)) m.0 (starts_carved xs a d), merged_carved xs a d b t free m.1))
+      let t : block_at xs a ≡ Some b = rw (eq_no x.address a other) at there in
+      rw (eq_no x.address a other) (both (is_free x) (starts_free xs) (starts_free (carved_at xs a d)) m.0 (starts_carved xs a d), merged_carved xs a d b t free m.1))
 ]
 
 -- a malloc keeps the tiling

@@ -1,5 +1,5 @@
 -- The free lists of TLSF (2004) and of Half-Fit (1995). A bucket is the number of a free list.
-use Rattle.std.specs.Prelude.{ℕ, zero, suc, true, false, ◌+◌, ◌-◌, ◌*◌, ◌/◌, ◌^◌, ◌<◌, ◌≤◌, if◌then◌else◌, nat_le, nat_lt}
+use Rattle.std.specs.Prelude.{ℕ, zero, suc, ◌+◌, ◌-◌, ◌*◌, ◌/◌, ◌^◌, ◌<◌, ◌≤◌, if◌then◌else◌, nat_le, nat_lt}
 
 -- the greatest f up to `top` with 2^f at most n, else 0
 unfoldable pub log_up_to : ℕ → ℕ → ℕ

@@ -1,6 +1,5 @@
 -- A region cut into blocks, used and free ones, without a gap. Addresses and sizes are in words.
-use Rattle.std.specs.Prelude.{◌≡◌, ◌≢◌, ℕ, Bool, true, false, ◌&&◌, ◌+◌, ◌-◌, ◌/◌, ◌≤◌, List, [], ◌∷◌, ◌++◌, Option, Some, None, if◌then◌else◌, is_none, is_some, nat_eq, nat_le, max, count_by, sum_by, cond, refl}
-use Rattle.std.specs.Coded.{Coded, code_by, coded×, coded_ℕ}
+use Rattle.std.specs.Prelude.{◌≡◌, ◌≢◌, ℕ, Bool, false, ◌&&◌, ◌+◌, ◌-◌, ◌/◌, ◌≤◌, List, [], ◌∷◌, ◌++◌, Option, Some, None, if◌then◌else◌, is_none, is_some, nat_eq, nat_le, max, count_by, sum_by, cond}
 use Rattle.tiling.specs.Buckets.{FreeLists}
 
 -- a block: where it begins, how many words it has, and the number that owns it; none owns a free one

@@ -27,10 +27,19 @@ mod tests {
             (64, 48, 48, 6, 6),
             (65, 48, 49, 6, 7),
         ] {
+            assert!(rt; 2 <= words && words <= 65, "size {words}");
             assert_eq!(rt; tlsf::bucket_of(words), tlsf_list, "TLSF, size {words}");
             assert_eq!(rt; tlsf::search_for(words), tlsf_first, "TLSF, need {words}");
-            assert_eq!(rt; half_fit::bucket_of(words), half_list, "Half-Fit, size {words}");
-            assert_eq!(rt; half_fit::search_for(words), half_first, "Half-Fit, need {words}");
+            assert_eq!(rt;
+                half_fit::bucket_of(words),
+                half_list,
+                "Half-Fit, size {words}"
+            );
+            assert_eq!(rt;
+                half_fit::search_for(words),
+                half_first,
+                "Half-Fit, need {words}"
+            );
         }
         Ok(())
     }

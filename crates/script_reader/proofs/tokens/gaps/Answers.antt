@@ -1,4 +1,4 @@
-use Rattle.std.proofs.Common.{◌∙◌, not}
+use Rattle.std.proofs.Common.{not}
 use Rattle.script_reader.specs.Lines.{is_gap}
 use Rattle.script_reader.proofs.Words.{place_or_end, place-le-length}
 use Rattle.script_reader.proofs.tokens.gaps.Goals as goal

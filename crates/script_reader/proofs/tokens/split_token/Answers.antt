@@ -1,4 +1,4 @@
-use Rattle.std.proofs.Common.{◌∙◌, ◌<◌, refl, arith}
+use Rattle.std.proofs.Common.{refl, arith}
 use Rattle.script_reader.proofs.Words.{only_gaps, token_has_byte, token_of_text}
 use Rattle.script_reader.proofs.tokens.split_token.Goals as goal
 

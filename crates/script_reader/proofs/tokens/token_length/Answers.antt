@@ -1,4 +1,3 @@
-use Rattle.std.proofs.Common.{◌∙◌}
 use Rattle.script_reader.specs.Lines.{is_gap}
 use Rattle.script_reader.proofs.Words.{place_or_end, place-le-length}
 use Rattle.script_reader.proofs.tokens.token_length.Goals as goal

@@ -1,4 +1,4 @@
-use Rattle.std.proofs.Common.{sym, arith, refl}
+use Rattle.std.proofs.Common.{sym, arith}
 use Rattle.std.proofs.lemmas.Nat.{one_shl}
 use Rattle.tiling.proofs.BucketLaws.{IsPower, four, small_bucket, large_bucket}
 use Rattle.tiling.proofs.tlsf.bucket_of.Goals as goal

@@ -1,4 +1,4 @@
-use Rattle.std.proofs.Common.{◌≡◌, ◌+◌, ◌-◌, ◌≤◌, ◌^◌, sym, arith, refl}
+use Rattle.std.proofs.Common.{◌-◌, sym, arith}
 use Rattle.std.proofs.lemmas.Nat.{one_shl}
 use Rattle.tiling.proofs.BucketLaws.{IsPower, four, sixteenth, small_rounded, large_rounded}
 use Rattle.tiling.proofs.tlsf.rounded_up.Goals as goal

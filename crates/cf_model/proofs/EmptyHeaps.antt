@@ -1,0 +1,130 @@
+-- The state in which opening leaves a manager keeps the rules.
+use Rattle.std.proofs.Common.{◌≡◌, ℕ, true, false, ◌+◌, ◌*◌, ◌/◌, ◌≤◌, List, [], Option, Some, None, length, get_or, replicate, arith, sym, ◌∙◌, inl, inr, ap, refl}
+use Rattle.std.specs.Prelude.{nat_eq}
+use Rattle.std.proofs.lemmas.List.{get_or-replicate, get_or_past, length-replicate}
+use Rattle.cf_base.specs.Classes.{sizes}
+use Rattle.std.proofs.lemmas.Bool.{cases_eq, cases_lt}
+use Rattle.std.proofs.lemmas.Bool.Decides.{nat_tests}
+use Rattle.std.specs.Ordering.{nat_cmp}
+use Rattle.std.specs.FinMap.{get, len, empty, get-empty, len-empty}
+use Rattle.cf_base.specs.Settings.{Profile}
+use Rattle.cf_base.specs.declared.kind.Kind.{Kind}
+use Rattle.cf_base.specs.declared.kind.Kind.TheVariants.{Moving, NonMoving, Tlsf, HalfFit}
+use Rattle.arrangement.specs.Held.{Placed}
+use Rattle.arrangement.specs.Paging.{first_bounds}
+use Rattle.arrangement.proofs.Nothing.{sound_empty, image_empty}
+use Rattle.arrangement.proofs.Frames.{first_permuted}
+use Rattle.arrangement.proofs.Sizes.{first_paged}
+use Rattle.arrangement.proofs.Sizes.{sized, in_blocks}
+use Rattle.cf_base.specs.declared.kind.Layout.TheVariants.{Words}
+use Rattle.std.proofs.lemmas.Nat.{mul-le}
+use Rattle.std.proofs.lemmas.List.FromFn.{length-range_with_len}
+use Rattle.tiling.specs.Tiling.{Block, block_at, one_free_block}
+use Rattle.cf_model.specs.State.{HeapState, layout_of, region_words}
+use Rattle.cf_model.specs.Rules.{AreInRange, AreObjects, KeepsPages, KeepsRules, KeepsTiling}
+use Rattle.cf_model.specs.Steps.{empty_heap}
+
+no_object : (h : ℕ) (x : Placed) → get (empty {X = Placed} {R = nat_cmp}) h ≡ Some x → ⊥
+no_object h x e = (let g : Some x ≡ None = sym e ∙ get-empty nat_cmp h in cc)
+
+no_objects : (s : HeapState) → s.held ≡ empty → AreObjects s
+no_objects s none = record {
+  handles = λ h x e. absurd (no_object h x (ap (λ m. get m h) (sym none) ∙ e));
+  bytes = λ h x e. absurd (no_object h x (ap (λ m. get m h) (sym none) ∙ e));
+  few = (let e : len s.held ≡ 0 = ap (λ m. len m) none ∙ len-empty nat_cmp Placed in omega arith);
+}
+
+module _ (p : Profile) (ok : AreInRange p) where
+  zeros_are_many : length (replicate {A = ℕ} (region_words p) 0) ≡ region_words p
+  zeros_are_many = length-replicate (region_words p) 0
+
+  pages_kept : (k : Kind) (s : HeapState) → s ≡ record (empty_heap k p (replicate (region_words p) 0)) { bounds = first_bounds p (layout_of k); tiling = [] } → KeepsPages s
+  pages_kept k s is = rw is (record {
+    paging = first_paged p (layout_of k) ok.page_size ok.some_bound;
+    low_bounds = λ c. few (length (sizes p.page_words (layout_of k))) c;
+    sound = sound_empty _;
+    image = image_empty _ (region_words p);
+    slots = image_empty _ (region_words p);
+    no_tiling = refl;
+  })
+    where
+      few : (n c : ℕ) → get_or (replicate n p.k) c 0 ≤ 64
+      few n c = (let low = ok.low_bound in elim (cases_lt c n) [
+        | inl lt ↦ rw (get_or-replicate {A = ℕ} n c p.k 0 lt) low
+        | inr past ↦ (let len : length (replicate {A = ℕ} n p.k) ≡ n = length-replicate n p.k in rw (get_or_past {X = ℕ} (replicate n p.k) c 0 (omega arith)) (omega arith))
+      ])
+
+  -- the moving manager
+  pub moving_empty : KeepsRules (empty_heap Moving p (replicate (region_words p) 0))
+  moving_empty = record { settings = ok; region = zeros_are_many; numbers = no_objects (empty_heap Moving p (replicate (region_words p) 0)) refl; of_kind = (pages_kept Moving (empty_heap Moving p (replicate (region_words p) 0)) refl, refl) }
+
+  quarters : 4 * (region_words p / 4) ≡ region_words p
+  quarters =
+      let whole = (in_blocks p [] ok.page_size).page in
+      let f : p.page_words ≡ 4 * (p.page_words / 4) = omega arith in
+      let g : p.pages * p.page_words ≡ p.pages * (4 * (p.page_words / 4)) = ap (λ n. p.pages * n) f in
+      let h : p.pages * p.page_words ≡ 4 * (p.pages * (p.page_words / 4)) = omega arith in
+      omega arith
+
+  -- the non-moving manager
+  pub nonmoving_empty : KeepsRules (empty_heap NonMoving p (replicate (region_words p) 0))
+  nonmoving_empty = record {
+    settings = ok;
+    region = zeros_are_many;
+    numbers = no_objects (empty_heap NonMoving p (replicate (region_words p) 0)) refl;
+    of_kind = (
+      pages_kept NonMoving (empty_heap NonMoving p (replicate (region_words p) 0)) refl,
+      record {
+        count = ap (λ n. 4 * n) (length-range_with_len 0 (region_words p / 4)) ∙ quarters;
+        permuted = first_permuted (region_words p / 4);
+      },
+    );
+  }
+
+  large : 2 ≤ region_words p
+  large =
+      let sizes = sized p.page_words Words ok.page_size in
+      let a = sizes.least 0 sizes.some in
+      let b = sizes.fits 0 sizes.some in
+      let some = ok.some_pages in
+      let c = mul-le 1 4 p.pages p.page_words some (omega arith) in
+      omega arith
+
+  -- one free block: its header, an open word, and zeros
+  module _ (words : List ℕ) (count : length words ≡ region_words p) (header : get_or words 0 0 ≡ region_words p) (zeros : (w : ℕ) → 2 ≤ w → get_or words w 0 ≡ 0) where
+    only_block : (a : ℕ) (b : Block) → block_at (one_free_block (region_words p)) a ≡ Some b → (a ≡ 0) × (b.owner ≡ None)
+    only_block a b there = elim (cases_eq 0 a) [
+      | inl is ↦ (
+          let e : nat_eq 0 a ≡ true = grind (arith, nat_tests) in
+          let t : ◌≡◌ {A = Option Block} (Some (record { address = 0; size = region_words p; owner = None })) (Some b) = rw e at there in
+          let same : ◌≡◌ {A = Block} (record { address = 0; size = region_words p; owner = None }) b = cc in
+          (sym is, ap (λ (x : Block). x.owner) (sym same)))
+      | inr other ↦ (
+          let e : nat_eq 0 a ≡ false = grind (arith, nat_tests) in
+          let t : ◌≡◌ {A = Option Block} None (Some b) = rw e at there in
+          absurd (let z : ⊥ = cc in z))
+    ]
+
+    tiling_kept : (s : HeapState) → s.profile ≡ p → s.tiling ≡ one_free_block (region_words p) → s.held ≡ empty → s.words ≡ words → s.frames ≡ [] → s.bounds ≡ [] → KeepsTiling s
+    tiling_kept s is tiles none w frames bounds =
+        let l = large in
+        record {
+          tiling = rw (is, tiles) (record { fill = (refl, l, omega arith); merged = (refl, tt) });
+          owned = rw (none, tiles) (record {
+            placed = λ h x e. absurd (no_object h x e);
+            live = λ a b h there owned. absurd (let o = (only_block a b there).1 in let z : Some h ≡ None = sym owned ∙ o in cc);
+          });
+          words = rw (tiles, w) (record {
+            headers = (header ∙ omega arith, tt);
+            cleared = λ a b there free i low high. (let o = (only_block a b there).0 in zeros (a + i) (omega arith));
+            contents = λ a b h there owned i lt. absurd (let o = (only_block a b there).1 in let z : Some h ≡ None = sym owned ∙ o in cc);
+          });
+          no_frames = frames;
+          no_bounds = bounds;
+        }
+
+    pub tlsf_empty : KeepsRules (empty_heap Tlsf p words)
+    tlsf_empty = record { settings = ok; region = count; numbers = no_objects (empty_heap Tlsf p words) refl; of_kind = tiling_kept (empty_heap Tlsf p words) refl refl refl refl refl refl }
+
+    pub half_fit_empty : KeepsRules (empty_heap HalfFit p words)
+    half_fit_empty = record { settings = ok; region = count; numbers = no_objects (empty_heap HalfFit p words) refl; of_kind = tiling_kept (empty_heap HalfFit p words) refl refl refl refl refl refl }

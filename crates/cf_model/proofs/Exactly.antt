@@ -1,0 +1,101 @@
+-- Each answer excludes every other one.
+use Rattle.std.proofs.Common.{◌≡◌, ℕ, zero, suc, Bool, ◌+◌, ◌<◌, ◌≤◌, ◌∷◌, Some, None, length, arith, sym, ◌∙◌, subst, inl, inr, ap, refl}
+use Rattle.std.specs.Prelude.{count_by, nat_lt, ◌&&◌}
+use Rattle.std.specs.List.{range_with_len}
+use Rattle.std.proofs.lemmas.List.Sums.{sum_by-cons}
+use Rattle.std.proofs.lemmas.Bool.{cases_eq}
+use Rattle.std.specs.FinMap.{get}
+use Rattle.cf_lemmas.proofs.Ranges.{one}
+use Rattle.cf_base.specs.declared.answers.AccessFault.{AccessFault}
+use Rattle.cf_base.specs.declared.answers.AccessFault.TheVariants as access
+use Rattle.cf_base.specs.declared.answers.Refusal.{Refusal}
+use Rattle.cf_base.specs.declared.answers.Refusal.TheVariants as refusal
+use Rattle.cf_base.specs.declared.answers.Resized.{Resized}
+use Rattle.cf_base.specs.declared.answers.ResizeFault.{ResizeFault}
+use Rattle.cf_base.specs.declared.answers.ResizeFault.TheVariants as resize
+use Rattle.cf_base.specs.declared.kind.Kind.{Kind}
+use Rattle.cf_base.specs.declared.kind.Kind.TheVariants.{Moving, NonMoving, Tlsf, HalfFit}
+use Rattle.arrangement.specs.Held.{Held, Placed}
+use Rattle.arrangement.specs.Paging.{Paging, class_for, page_of, slots_of}
+use Rattle.arrangement.specs.Arrangement.{class_at, objects_on, not_full_pages, LacksRoom}
+use Rattle.arrangement.specs.Steps.{Request, IsFreePlace}
+use Rattle.arrangement.proofs.Counting.{part_yes}
+use Rattle.cf_model.specs.State.{HeapState, paging_in}
+use Rattle.cf_model.specs.Rules.{IsPaged, IsTiled}
+use Rattle.cf_model.specs.Steps.{GivesObject, IsPlacedBy, IsRefusedBy, LacksRoomIn, Part, IsFault, ResizesObject, IsResizeFault}
+
+counted : (f : ℕ → Bool) (a n c : ℕ) → a ≤ c → c < a + n → one (f c) ≡ 1 → 0 < count_by f (range_with_len a n)
+counted f a zero c low high holds = absurd (omega arith)
+counted f a (suc n) c low high holds =
+    let e : count_by f (a ∷ range_with_len (a + 1) n) ≡ one (f a) + count_by f (range_with_len (a + 1) n) = sum_by-cons (λ p. one (f p)) a (range_with_len (a + 1) n) in
+    elim (cases_eq c a) [
+      | inl is ↦ (let first : one (f a) ≡ 1 = ap (λ p. one (f p)) (sym is) ∙ holds in omega arith)
+      | inr other ↦ (let rest = counted f (a + 1) n c (omega arith) (omega arith) holds in omega arith)
+    ]
+
+module _ (p : Paging) (m : Held) (n a : ℕ) (free : IsFreePlace p m n a) (lacking : LacksRoom p m (class_for p n)) where
+  not_none : 0 < objects_on p m (class_for p n) (page_of p a) → objects_on p m (class_for p n) (page_of p a) < slots_of p (class_for p n) → 0 < not_full_pages p m (class_for p n)
+  unfolding not_full_pages
+  not_none some less = counted (λ page. nat_lt 0 (objects_on p m (class_for p n) page) && nat_lt (objects_on p m (class_for p n) page) (slots_of p (class_for p n))) 0 p.pages (page_of p a) (omega arith) (let h = free.slot.page in omega arith)
+      (part_yes (objects_on p m (class_for p n) (page_of p a)) (slots_of p (class_for p n)) some less)
+
+  -- where an object may be placed there is room
+  place_is_room : ⊥
+  place_is_room = elim free.choice [
+    | inl (some, less) ↦ (let q = not_none some less in let full = lacking.full in omega arith)
+    | inr (full, none) ↦ (let q = lacking.taken (page_of p a) free.slot.page in omega arith)
+  ]
+
+placed_is_room : (k : Kind) (old new : HeapState) (asked : Request) (place : ℕ) → IsPlacedBy k old asked place new → LacksRoomIn k old asked.length → ⊥
+placed_is_room Moving old new asked place free lacking = place_is_room (paging_in old) old.held asked.length place free lacking
+placed_is_room NonMoving old new asked place free lacking = place_is_room (paging_in old) old.held asked.length place free lacking
+placed_is_room Tlsf old new asked place carves lacking = lacking place carves.found carves.there carves.serves
+placed_is_room HalfFit old new asked place carves lacking = lacking place carves.found carves.there carves.serves
+
+-- a malloc that gives an object has no cause for a refusal
+pub given_is_not_refused : (old new : HeapState) (asked : Request) → GivesObject old asked new → (e : Refusal) → IsRefusedBy old asked.length e → ⊥
+given_is_not_refused old new asked given refusal.Size cause = (let fits = given.fits in omega arith)
+given_is_not_refused old new asked given refusal.Proxy cause = (let few = given.few in let all = cause.all in omega arith)
+given_is_not_refused old new asked given refusal.Space cause = placed_is_room old.kind old new asked given.place given.placed cause.lacking
+
+-- a malloc has one cause of refusal at most
+pub one_cause : (s : HeapState) (bytes : ℕ) (e f : Refusal) → IsRefusedBy s bytes e → IsRefusedBy s bytes f → e ≡ f
+one_cause s bytes refusal.Size refusal.Size x y = refl
+one_cause s bytes refusal.Size refusal.Proxy x y = (let fits = y.fits in absurd (omega arith))
+one_cause s bytes refusal.Size refusal.Space x y = (let fits = y.fits in absurd (omega arith))
+one_cause s bytes refusal.Proxy refusal.Size x y = (let fits = x.fits in absurd (omega arith))
+one_cause s bytes refusal.Proxy refusal.Proxy x y = refl
+one_cause s bytes refusal.Proxy refusal.Space x y = (let all = x.all in let few = y.few in absurd (omega arith))
+one_cause s bytes refusal.Space refusal.Size x y = (let fits = x.fits in absurd (omega arith))
+one_cause s bytes refusal.Space refusal.Proxy x y = (let few = x.few in let all = y.all in absurd (omega arith))
+one_cause s bytes refusal.Space refusal.Space x y = refl
+
+pub not_none_found : (m : Held) (h : ℕ) (x : Placed) → get m h ≡ Some x → get m h ≡ None → ⊥
+not_none_found m h x e f = (let g : Some x ≡ None = sym e ∙ f in cc)
+
+same_found : (m : Held) (h : ℕ) (x y : Placed) → get m h ≡ Some x → get m h ≡ Some y → x ≡ y
+same_found m h x y e f = (let g : Some x ≡ Some y = sym e ∙ f in cc)
+
+-- a part of an object has no cause for a refusal
+pub part_is_not_refused : (s : HeapState) (part : Part) (count : ℕ) (x : Placed) → get s.held part.number ≡ Some x → part.from + count ≤ length x.bytes → (e : AccessFault) → IsFault s part count e → ⊥
+part_is_not_refused s part count x found within access.Unknown cause = not_none_found s.held part.number x found cause
+part_is_not_refused s part count x found within access.Range cause =
+    let same = same_found s.held part.number cause.object x cause.found found in
+    let past : length x.bytes < part.from + count = subst (λ (z : Placed). length z.bytes < part.from + count) same cause.past in
+    omega arith
+
+both_kinds : (k : Kind) → IsPaged k → IsTiled k → ⊥
+both_kinds Moving p t = t
+both_kinds NonMoving p t = t
+both_kinds Tlsf p t = p
+both_kinds HalfFit p t = p
+
+-- a resize that is done has no cause for a refusal
+pub resized_is_not_refused : (old new : HeapState) (asked : Request) (done : Resized) → ResizesObject old asked done new → (e : ResizeFault) → IsResizeFault old asked e → ⊥
+resized_is_not_refused old new asked done r resize.Unknown cause = not_none_found old.held asked.number r.object r.found cause
+resized_is_not_refused old new asked done r resize.Kind cause = both_kinds old.kind r.pages cause.blocks
+resized_is_not_refused old new asked done r resize.Size cause = (let fits = r.fits in let large = cause.large in omega arith)
+resized_is_not_refused old new asked done r resize.Space cause = elim r.step [
+  | inl within ↦ cause.other (within.same ∙ ap (class_at (paging_in old)) (same_found old.held asked.number within.object cause.object within.found cause.found))
+  | inr other ↦ place_is_room (paging_in old) old.held asked.length other.place other.free cause.lacking
+]

@@ -1,0 +1,6 @@
+pub mod Classes
+pub mod Totals
+pub mod Tables
+pub mod Ranges
+pub mod Bytes
+pub mod WordSearch
