@@ -1,8 +1,8 @@
 -- What an open heap's invariant tells: its paging, its tables, and the rules that it keeps.
-use Rattle.std.proofs.Common.{◌≡◌, ℕ, ◌<◌, ◌≤◌, length, take, get_or, Option, Some, None, arith, refl, sym, ◌∙◌, ap, subst}
+use Rattle.std.proofs.Common.{◌≡◌, ℕ, ◌<◌, ◌≤◌, length, take, get_or, Option, Some, None, arith, refl, sym, ◌∙◌, ap, subst, inl, inr}
 use Rattle.std.specs.Prelude.{IsTrue, is_some}
-use Rattle.std.proofs.lemmas.Bool.{false≢true}
-use Rattle.std.proofs.lemmas.List.{get_or-take, length-take-le}
+use Rattle.std.proofs.lemmas.Bool.{cases_lt, false≢true}
+use Rattle.std.proofs.lemmas.List.{get_or-take, get_or_past, length-take-le}
 use Rattle.std.specs.FinMap.{get, len}
 use Rattle.cf_base.specs.Classes.{sizes}
 use Rattle.cf_base.specs.Settings.{profile_of}
@@ -59,6 +59,16 @@ module _ (h : OpenHeap) (k : IsKept h) where
   pub table_ok : IsTable h.classes.page_words h.classes.sizes
   table_ok = subst (λ (t : ClassTable). IsTable t.page_words t.sizes) table_is k.tell.tables.table
 
+  pub bounds_low : (c : ℕ) → get_or (take (length h.classes.sizes) h.bounds) c 0 ≤ 64
+  bounds_low c = elim (cases_lt c (length h.classes.sizes)) [
+    | inl lt ↦ (
+        let few = few_classes in let e = as_many in
+        let low = k.low_bound c (omega arith) in
+        let is = bound_is c lt in
+        omega arith)
+    | inr past ↦ (let l = bounds_many in let e = get_or_past (take (length h.classes.sizes) h.bounds) c 0 (omega arith) in omega arith)
+  ]
+
   -- a number that is held has its place in the proxies
   pub place_known : (q : ℕ) (x : Placed) → get (held_in h) q ≡ Some x → get h.proxies.places q ≡ Some x.place
   place_known q x e = (held_at_is h.region h.proxies.places q x e).0
@@ -90,6 +100,7 @@ module _ (h : OpenHeap) (k : IsKept h) where
     of_kind = (
       record {
         paging = paging_ok;
+        low_bounds = bounds_low;
         sound = k.sound;
         image = own_words (paging_at h) paging_ok (held_in h) k.sound h.region k.image;
         slots = k.image;
