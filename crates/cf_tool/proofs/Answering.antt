@@ -4,7 +4,8 @@ use Rattle.std.specs.Prelude.{Result, Ok, Err, codes}
 use Rattle.std.specs.FinMap as map
 use Rattle.std.specs.FinMap.{get-empty}
 use Rattle.std.specs.Ordering.{nat_cmp}
-use Rattle.cf_base.specs.Settings.{Profile}
+use Rattle.cf_base.specs.Settings.{Profile, profile_of}
+use Rattle.cf_base.specs.declared.settings.Settings.{Settings}
 use Rattle.cf_base.specs.declared.answers.Failed.{Failed}
 use Rattle.cf_base.specs.declared.answers.Handle.{Handle}
 use Rattle.cf_base.specs.declared.status.Status.{Status}
@@ -18,8 +19,16 @@ use Rattle.cf_io.specs.Lines.{Pushes, line_room}
 use Rattle.cf_io.specs.declared.line.Full.{Full}
 use Rattle.cf_io.specs.Feeds.{appended, Puts}
 use Rattle.cf_io.proofs.Feeding.{appended_then}
-use Rattle.moving_heap.specs.State.{HeapState}
-use Rattle.moving_heap.specs.Steps.{IsMallocStep}
+use Rattle.std.specs.FinMap.{len-empty}
+use Rattle.arrangement.specs.Held.{Held, Placed}
+use Rattle.arrangement.specs.Paging.{Paging}
+use Rattle.arrangement.specs.Arrangement.{standing_on}
+use Rattle.arrangement.proofs.Counting.{standing}
+use Rattle.cf_base.specs.declared.kind.Kind.{Kind}
+use Rattle.cf_base.specs.declared.kind.Kind.TheVariants.{Moving}
+use Rattle.cf_model.specs.Rules.{KeepsRules}
+use Rattle.cf_model.specs.State.{HeapState, paging_in}
+use Rattle.cf_model.specs.Steps.{IsEmptyHeap, IsMallocStep, LacksRoomIn, WantsProxy, WantsSpace}
 use Rattle.cf_tool.specs.Script.{Item, start, malloc, bad, is_bad, items, items_from, lines, words, heap_words, malloc_words}
 use Rattle.cf_tool.specs.Run.{RunState, Step, MallocsAt, bad_line, fresh_run, line_of}
 use Rattle.cf_tool.specs.Outcome.{Answers, AnswersScript, AnswersTo, CutsReplyTo, RepliesBy, RepliesTo, status_of}
@@ -82,18 +91,44 @@ replied from next item text (Ok u) w y step put = record { text = text; next = n
 replied from next item text (Err e) w y step (front, lost, parts, put) =
     record { front = front; lost = lost; next = next; step = (let P : List ℕ → Type 0 = λ t. Step from item t next in subst P parts step); written = put }
 
+-- a heap that was opened has the settings
+pub opens_with : (kind : Kind) (s : Settings) (h : HeapState) → IsEmptyHeap kind s h → h.profile ≡ profile_of s
+opens_with kind s h empty = ap (λ (x : HeapState). x.profile) empty.whole
+
+-- where there are no objects none stands on a page
+none_stands : (p : Paging) (m : Held) (page : ℕ) → m ≡ map.empty → 0 < standing_on p m page → ⊥
+none_stands p m page none some =
+    let there = standing p m page some in
+    let gone : map.get m there.0 ≡ None = ap (λ (n : Held). map.get n there.0) none ∙ get-empty nat_cmp there.0 in
+    let is = there.2 in
+    cc
+
 -- what a malloc on a heap without objects replies
-module _ (old new : HeapState) (bytes : ℕ) (none : old.objects ≡ map.empty) (id : ℕ) where
+module _ (old new : HeapState) (bytes : ℕ) (moving : old.kind ≡ Moving) (none : old.held ≡ map.empty) (rules : KeepsRules old) (id : ℕ) where
   at : (text : List ℕ) (s : RunState) → MallocsAt None (fresh_run old.profile) id bytes text s → Step (Some (fresh_run old.profile)) (malloc id bytes) text (Some s)
   at text s step = (s, (let P : Option ℕ → Type 0 = λ o. MallocsAt o (fresh_run old.profile) id bytes text s in subst P (sym (get-empty nat_cmp id)) step), refl)
 
   pub malloc_ok : (h : Handle) → IsMallocStep old bytes (Ok h) new → (mid : Option RunState) × Step (Some (fresh_run old.profile)) (malloc id bytes) (line_of (codes "ok")) mid
   malloc_ok h step = (Some _, at _ _ (inr (h.0, step.fits, step.in_range, get-empty nat_cmp h.0, refl, refl)))
 
+  -- no proxy is in use
+  proxies_left : WantsProxy old bytes → ⊥
+  proxies_left wants =
+      let live : map.len old.held ≡ 0 = ap (λ (m : Held). map.len m) none ∙ len-empty nat_cmp Placed in
+      let all = wants.all in let some = rules.settings.some_proxies in
+      omega arith
+
+  -- every page is free
+  room_left : WantsSpace old bytes → ⊥
+  room_left wants =
+      let P : Kind → Type 0 = λ k. LacksRoomIn k old bytes in
+      let lacking = subst P moving wants.lacking in
+      none_stands (paging_in old) old.held 0 none (lacking.taken 0 (let some = rules.settings.some_pages in omega arith))
+
   pub malloc_refused : (e : Refusal) → IsMallocStep old bytes (Err e) new → (mid : Option RunState) × Step (Some (fresh_run old.profile)) (malloc id bytes) (line_of (codes "refused size")) mid
   malloc_refused Size step = (Some _, at _ _ (inl (step.0, refl, refl)))
-  malloc_refused Proxy step = absurd step.0
-  malloc_refused Space step = absurd step.0
+  malloc_refused Proxy step = absurd (proxies_left step.0)
+  malloc_refused Space step = absurd (room_left step.0)
 
 -- the items of the lines from the second on
 pub second_bad : (s line rest : List ℕ) → lines s ≡ line ∷ lines rest → None ≡ malloc_words (words line) → items_from 2 (lines s) ≡ bad 2 ∷ []

@@ -2,12 +2,13 @@
 ghost use Rattle.std.specs.Prelude.{◌≡◌, ◌≤◌, ◌^◌, ℕ, ◌∷◌, [], IsTrue, OnErr, Option, Some, None};
 ghost use Rattle.std.specs.FinMap as map;
 ghost use Rattle.cf_io.specs.Feeds.{Rose};
+ghost use Rattle.cf_model.specs.Rules.{KeepsRules};
 ghost use Rattle.cf_tool.specs.Outcome.{AnswersTo, RepliesBy};
 ghost use Rattle.cf_tool.specs.Run.{RunState, fresh_run};
 ghost use Rattle.cf_tool.specs.Script.{bad, items_from, lines, malloc};
 
 use crate::script::{malloc_line, next_line};
-use cf_base::Failed;
+use cf_base::{Failed, Kind};
 use cf_io::{Line, Sink, put_all};
 use moving_heap::MovingHeap;
 use step_ledger::Steps;
@@ -59,7 +60,9 @@ fn answer_malloc<K: Sink>(
     sink: &mut K,
 ) -> Result<(), Failed>
     requires open { IsTrue heap.old.is_open }
-    requires fresh { heap.old.objects ≡ map.empty }
+    requires kind { heap.old.kind ≡ Kind.Moving }
+    requires rules { KeepsRules heap.old }
+    requires fresh { heap.old.held ≡ map.empty }
     requires room { steps.old ≤ 2 ^ 63 }
     ensures replies { (id : ℕ) → RepliesBy (Some (fresh_run heap.old.profile)) (malloc id bytes) (K.written sink.old) result (K.written sink.new) }
     ensures grows { K.faults sink.old ≤ K.faults sink.new }
@@ -79,7 +82,9 @@ pub fn answer_requests<K: Sink>(
     sink: &mut K,
 ) -> Ending
     requires open { IsTrue heap.old.is_open }
-    requires fresh { heap.old.objects ≡ map.empty }
+    requires kind { heap.old.kind ≡ Kind.Moving }
+    requires rules { KeepsRules heap.old }
+    requires fresh { heap.old.held ≡ map.empty }
     requires room { steps.old ≤ 2 ^ 63 }
     ensures answers { AnswersTo (Some (fresh_run heap.old.profile)) (items_from 2 (lines rest.now)) (K.written sink.old) result (K.written sink.new) }
     ensures grows { K.faults sink.old ≤ K.faults sink.new }

@@ -1,4 +1,3 @@
-pub mod First
 pub mod Values
 pub mod Facts
 pub mod Opening

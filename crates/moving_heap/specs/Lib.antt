@@ -1,6 +1,3 @@
-pub mod State
-pub mod Steps
-pub mod View
 pub mod Kept
 pub mod Access
 pub mod Freeing

@@ -3,7 +3,6 @@
 
 mod access;
 mod bounds;
-mod compact;
 mod freeing;
 mod giving;
 mod header;
@@ -12,5 +11,4 @@ mod inner;
 mod reports;
 mod resizing;
 
-pub use compact::Heap;
 pub use heap::MovingHeap;

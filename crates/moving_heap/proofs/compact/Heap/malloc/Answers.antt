@@ -1,5 +1,0 @@
-use Rattle.moving_heap.proofs.Facts.{rules}
-use Rattle.moving_heap.proofs.compact.Heap.malloc.Goals as goal
-
-pub returns-clause-rules : goal.returns-clause-rules
-returns-clause-rules c = rules _ c.malloc.ensures.kept
