@@ -4,3 +4,4 @@ pub mod Tables
 pub mod Ranges
 pub mod Bytes
 pub mod WordSearch
+pub mod SoundWords

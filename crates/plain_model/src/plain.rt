@@ -6,7 +6,7 @@ ghost use Rattle.cf_base.specs.Settings.{profile_of};
 ghost use Rattle.arrangement.specs.Held.{objects};
 ghost use Rattle.arrangement.specs.Paging.{classes, slot_words, slots_of, class_for, paging_of, first_bounds};
 ghost use Rattle.arrangement.specs.Counts.{ceil_div};
-ghost use Rattle.arrangement.specs.Arrangement.{live, objects_on, standing_on, home_pages, not_full_pages, used_pages, free_pages, pages_needed, pages_needed_with, LacksRoom};
+ghost use Rattle.arrangement.specs.Arrangement.{live, objects_on, standing_on, home_pages, not_full_pages, used_pages, free_pages, pages_needed, pages_needed_with, IsSound, LacksRoom};
 ghost use Rattle.arrangement.specs.Figures.{asked_bytes, taken_bytes, figures_of, totals_of};
 ghost use Rattle.arrangement.specs.Image.{IsApart, IsImage};
 ghost use Rattle.arrangement.specs.Steps.{resized, moved_to};
@@ -291,6 +291,7 @@ impl Plain {
         ensures len { IfOk result (λ v. length v.items ≡ self.now.paging.pages * self.now.paging.page_words) }
         // Objects that share a word, or pass the end of the region, have no image.
         ensures image { IfOk result (λ v. IsApart need self.now.held → AreInside self.now.paging self.now.held → IsImage self.now.held v.items) }
+        ensures sound { IfOk result (λ v. IsSound self.now.paging self.now.held → IsImage self.now.held v.items) }
     {
         let count = self.pages() * self.page_words();
         let mut words = Vec::new(alloc);
