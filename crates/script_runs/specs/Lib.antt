@@ -1,0 +1,7 @@
+pub mod Texts
+pub mod Reports
+pub mod Sessions
+pub mod Replies
+pub mod Steps
+pub mod Bounds
+pub mod Runs
