@@ -5,3 +5,4 @@ pub mod Replies
 pub mod Steps
 pub mod Bounds
 pub mod Runs
+pub mod Answering
