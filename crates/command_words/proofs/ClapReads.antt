@@ -4,28 +4,23 @@ use Rattle.std.specs.Prelude.{Result, Ok, Err, unwrap_or}
 use Rattle.std.specs.Str.Parse.{ParsesUnsigned, digits_value, without_leading_plus}
 use Rattle.clap.specs.Words.{Text, ReadsOne, is_simple, is_simple_and_free}
 use Rattle.clap.specs.ValueTests.{accepts}
-use Rattle.clap.specs.declared.builder.value_parser.ValueParser.{ValueParser}
-use Rattle.clap.specs.declared.builder.value_parser.ValueParser.TheVariants.{Unsigned}
 use Rattle.clap.proofs.OnLiterals.{clap_on_literals}
 use Rattle.clap.proofs.ValueTestLemmas.{accepts-Accepts, Accepts-accepts}
 use Rattle.command_words.specs.Choices.{number_in}
-use Rattle.command_words.specs.Command.{IsCfApp, NameList, cf_app}
-
-abbrev any_word : ValueParser
-any_word = Unsigned 0 18446744073709551615
+use Rattle.command_words.specs.Command.{IsCfApp, NameList, any_u64, cf_app}
 
 text_number : {E : Type 0} (G : List ℕ → Result ℕ E → Type 0) → ((u : List ℕ) (x : Result ℕ E) → G u x → ParsesUnsigned 64 10 u x)
     → (t : Text) (r : Option ℕ) → ReadsOne G t r → unwrap_or r 0 ≡ number_in (Some t)
 text_number G only t (Some v) read =
     let parsed = only t (Ok v) read in
     let most : digits_value 10 (without_leading_plus t) ≤ 18446744073709551615 = omega (arith, parsed.0.1) in
-    let passes = Accepts-accepts false any_word t (parsed.0.0, parsed.0.1, omega arith, most) in
+    let passes = Accepts-accepts false any_u64 t (parsed.0.0, parsed.0.1, omega arith, most) in
     rw passes parsed.1
-text_number G only t None read = go (accepts false any_word t) refl
+text_number G only t None read = go (accepts false any_u64 t) refl
   where
-    go : (b : Bool) → accepts false any_word t ≡ b → 0 ≡ number_in (Some t)
+    go : (b : Bool) → accepts false any_u64 t ≡ b → 0 ≡ number_in (Some t)
     go true e =
-        let passes = accepts-Accepts false any_word t e in
+        let passes = accepts-Accepts false any_u64 t e in
         absurd (only t (Err read.0) read.1 (passes.0, passes.1))
     go false e = rw e refl
 

@@ -5,26 +5,25 @@ use Rattle.cf_base.specs.declared.kind.Kind.{Kind}
 use Rattle.cf_base.specs.declared.kind.Kind.TheVariants.{Moving}
 use Rattle.clap.specs.Words.{App, Row, Text, first_of, one_of, fault_of, matches_of}
 use Rattle.clap.specs.ValueTests.{accepts}
-use Rattle.clap.specs.declared.builder.value_parser.ValueParser.TheVariants.{Unsigned}
-use Rattle.command_words.specs.Command.{IsCfApp}
+use Rattle.command_words.specs.Command.{IsCfApp, any_u64}
 use Rattle.command_words.specs.declared.choice.Choice.{Choice}
 use Rattle.command_words.specs.declared.choice.Mode.{Mode}
 use Rattle.command_words.specs.declared.choice.Mode.TheVariants.{Run}
 use Rattle.command_words.specs.declared.choice.WordsFault.{WordsFault}
 use Rattle.command_words.specs.declared.choice.WordsFault.TheVariants.{Refused, OutOfMemory}
 
--- the mode of a name; `clap` lets no other name through
+-- the mode of a name; the command lets no other name through
 abbrev pub mode_named : Option Text → Mode
 mode_named name = Run
 
--- the kind of a name; `clap` lets no other name through
+-- the kind of a name; the command lets no other name through
 abbrev pub kind_named : Option Text → Kind
 kind_named name = Moving
 
--- the number that a text says, as `clap` reads a u64; it lets no other text through
+-- the number that a text says, as `clap` reads a u64; the command lets no other text through
 abbrev pub number_in : Option Text → ℕ
 number_in None = 0
-number_in (Some text) = if accepts false (Unsigned 0 18446744073709551615) text then digits_value 10 (without_leading_plus text) else 0
+number_in (Some text) = if accepts false any_u64 text then digits_value 10 (without_leading_plus text) else 0
 
 -- what the rows of the matches choose
 abbrev pub choice_of : List Row → Choice
@@ -35,13 +34,18 @@ choice_of rows = record {
   count = number_in (one_of (codes "count") rows);
 }
 
--- `clap` finds no fault in the words, and they choose this
-abbrev pub Chooses : List Text → Choice → Type 0
-Chooses words choice = (app : App) × IsCfApp app × (fault_of app words ≡ []) × (choice ≡ choice_of (matches_of app words))
+-- the command finds no fault in the words, and they choose this
+pub record Chooses (words : List Text) (choice : Choice) : Type 0 where
+  pub app : App
+  pub is_app : IsCfApp app
+  pub taken : fault_of app words ≡ []
+  pub chosen : choice ≡ choice_of (matches_of app words)
 
--- `clap` finds a fault in the words
-abbrev pub AreRefused : List Text → Type 0
-AreRefused words = (app : App) × IsCfApp app × (fault_of app words ≢ [])
+-- the command finds a fault in the words
+pub record AreRefused (words : List Text) : Type 0 where
+  pub app : App
+  pub is_app : IsCfApp app
+  pub refused : fault_of app words ≢ []
 
 -- the words choose this, or are refused; want of memory may always come
 abbrev pub ReadsAs : List Text → Result Choice WordsFault → Type 0

@@ -32,8 +32,11 @@ abbrev pub manager_rule : NameList → Rule
 manager_rule names = option_rule (codes "manager") (Names names) (codes "cf")
 
 -- a whole number up to 2^64 - 1
+abbrev pub any_u64 : ValueParser
+any_u64 = Unsigned 0 18446744073709551615
+
 abbrev pub seed_rule : Rule
-seed_rule = option_rule (codes "seed") (Unsigned 0 18446744073709551615) (codes "0")
+seed_rule = option_rule (codes "seed") any_u64 (codes "0")
 
 -- a whole number up to 1,000,000
 abbrev pub count_rule : Rule
@@ -44,7 +47,7 @@ abbrev pub cf_app : NameList → NameList → App
 cf_app modes managers =
     with_rule (with_rule (with_rule (with_rule (new_app (codes "cf_tool")) (mode_rule modes)) (manager_rule managers)) seed_rule) count_rule
 
--- The command, with some references to its names. Where the references lie makes no difference to what is read.
+-- The command, with some references to its names: a rule holds the references themselves, and where those of a static point is known to nobody.
 pub record IsCfApp (app : App) : Type 0 where
   pub modes : NameList
   pub managers : NameList

@@ -15,4 +15,9 @@ returns-in-Ok-try_get_matches_from c =
     let kind = c.kind_named.ensures ∙ ap kind_named (c.get_str-in-Ok-try_get_matches_from.ensures ∙ (first_value-rows f (codes "manager") ∙ ap (first_of (codes "manager")) rows)) in
     let seed = c.number_in.ensures ∙ ap number_in (one_text-rows f (codes "seed") ∙ ap (one_of (codes "seed")) rows) in
     let count = c.number_in-in-Ok-try_get_matches_from.ensures ∙ ap number_in (one_text-rows f (codes "count") ∙ ap (one_of (codes "count")) rows) in
-    (app, c.in-Ok.ensures, got.ensures.kinds (cf_is_free app c.in-Ok.ensures), rw (mode, kind, seed, count) refl)
+    record {
+      app = app;
+      is_app = c.in-Ok.ensures;
+      taken = got.ensures.kinds (cf_is_free app c.in-Ok.ensures);
+      chosen = rw (mode, kind, seed, count) refl;
+    }
