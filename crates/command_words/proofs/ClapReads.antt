@@ -1,8 +1,12 @@
 -- What the reading of words rests on.
-use Rattle.std.proofs.Common.{◌≡◌, ◌≤◌, ℕ, Bool, true, false, List, refl, arith, Option, Some, None}
+use Rattle.std.proofs.Common.{◌≡◌, ◌≤◌, ℕ, Bool, true, false, List, refl, arith, Option, Some, None, ◌≢◌, [], ◌∷◌, inl, inr}
 use Rattle.std.specs.Prelude.{Result, Ok, Err, unwrap_or}
 use Rattle.std.specs.Str.Parse.{ParsesUnsigned, digits_value, without_leading_plus}
 use Rattle.clap.specs.Words.{Text, ReadsOne, is_simple, is_simple_and_free}
+use Rattle.clap.specs.Kinds.{HasKind, Kinds}
+use Rattle.clap.specs.Values.{kind_of}
+use Rattle.clap.specs.declared.error.Error.{Error}
+use Rattle.clap.specs.declared.error.kind.ErrorKind.TheVariants as kind
 use Rattle.clap.specs.ValueTests.{accepts}
 use Rattle.clap.proofs.OnLiterals.{clap_on_literals}
 use Rattle.clap.proofs.ValueTestLemmas.{accepts-Accepts, Accepts-accepts}
@@ -43,3 +47,9 @@ cf_is_simple app h = rw h.app_is (simple_shape h.modes h.managers)
 
 pub cf_is_free : (app : _) → IsCfApp app → is_simple_and_free app ≡ true
 cf_is_free app h = rw h.app_is (free_shape h.modes h.managers)
+
+-- an error of another kind than want of memory comes only where a fault is found
+pub another_kind_is_found : (kinds : Kinds) (e : Error) → HasKind kinds e → (kind_of e ≡ kind.OutOfMemory → ⊥) → kinds ≢ []
+another_kind_is_found [] e (inl wanting) other none = other wanting
+another_kind_is_found [] e (inr among) other none = among
+another_kind_is_found (k ∷ ks) e has other none = cc

@@ -2,7 +2,7 @@ use Rattle.std.proofs.Common.{◌∙◌, ap, refl, codes}
 use Rattle.clap.specs.Words.{app_of, first_of, found_of, one_of}
 use Rattle.clap.proofs.WalkLemmas.{first_value-rows, one_text-rows}
 use Rattle.command_words.specs.Choices.{kind_named, mode_named, number_in}
-use Rattle.command_words.proofs.ClapReads.{cf_is_free, cf_is_simple}
+use Rattle.command_words.proofs.ClapReads.{another_kind_is_found, cf_is_free, cf_is_simple}
 use Rattle.command_words.proofs.reading.read_words.Goals as goal
 
 pub returns-in-Ok-try_get_matches_from : goal.returns-in-Ok-try_get_matches_from
@@ -20,4 +20,15 @@ returns-in-Ok-try_get_matches_from c =
       is_app = c.in-Ok.ensures;
       taken = got.ensures.kinds (cf_is_free app c.in-Ok.ensures);
       chosen = rw (mode, kind, seed, count) refl;
+    }
+
+-- another kind than want of memory is among those that `clap` finds
+pub returns : goal.returns
+returns c =
+    let app = app_of c.in-Ok.command in
+    let found = c.in-Err.ensures.kinds (cf_is_free app c.in-Ok.ensures) in
+    record {
+      app = app;
+      is_app = c.in-Ok.ensures;
+      refused = another_kind_is_found _ c.in-Err.error found (λ wanting. c.in_default-kind.not-OutOfMemory (c.kind.ensures ∙ wanting));
     }
