@@ -1,1 +1,3 @@
 pub mod Renaming
+pub mod ByIds
+pub mod PagesAtOne
