@@ -1,3 +1,5 @@
 pub mod Renaming
 pub mod ByIds
 pub mod PagesAtOne
+pub mod Faults
+
