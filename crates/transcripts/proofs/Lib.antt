@@ -5,3 +5,4 @@ pub mod Faults
 pub mod Reports
 pub mod Following
 pub mod Telling
+pub mod Further
