@@ -1,0 +1,5 @@
+pub mod ById
+pub mod AtOne
+pub mod Replies
+pub mod Transcripts
+pub mod Histories
