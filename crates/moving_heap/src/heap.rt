@@ -6,13 +6,14 @@ ghost use Rattle.cf_base.specs.declared.kind.Kind.TheVariants.{Moving};
 ghost use Rattle.cf_model.specs.Answers.{block_in, classes_in, figures_in, place_of, totals_in, class_with, bound_put};
 ghost use Rattle.cf_model.specs.Rules.{KeepsRules};
 ghost use Rattle.cf_model.specs.State.{closed_state, paging_in};
-ghost use Rattle.cf_model.specs.Costs.{TakesAtMost, access_bound, free_bound};
-ghost use Rattle.cf_model.specs.Steps.{BlocksStayIn, IsEmptyHeap, IsClosed, IsFreeStep, IsMallocStep, IsReadAnswer, IsWriteStep, StaysOpen};
+ghost use Rattle.cf_model.specs.Costs.{TakesAtMost, TellsCost, access_bound, free_bound, resize_bound};
+ghost use Rattle.cf_model.specs.Steps.{BlocksStayIn, IsEmptyHeap, IsClosed, IsFreeStep, IsMallocStep, IsReadAnswer, IsResizeStep, IsWriteStep, StaysOpen};
 ghost use Rattle.moving_heap.specs.Kept.{IsKept, state_of};
 
 use crate::inner::OpenHeap;
 use cf_base::{
-    AccessFault, Figures, Freed, Handle, Kind, NotLive, OutOfMemory, Refusal, Settings, Totals,
+    AccessFault, Figures, Freed, Handle, Kind, NotLive, OutOfMemory, Refusal, ResizeFault, Resized,
+    Settings, Totals,
 };
 use std::alloc::Global;
 use std::marker::Model;
@@ -109,6 +110,33 @@ impl MovingHeap {
     {
         match &mut self.inner {
             Some(open) => open.free(h, steps),
+            None => unreachable!(),
+        }
+    }
+
+    /// Gives an object another length: its first bytes stay, and zeros are added. It stays in its slot
+    /// where the class is the same; else it takes a slot of the new class, and its old one is freed,
+    /// where another object may move to; `moved` is that object. It is refused as `Unknown`; for `Size`
+    /// where it needs more than a page; then for `Space` where the class is another one and there is no
+    /// room for it. A refusal changes the cost alone. At most 160 steps, and three times the words of
+    /// the larger slot; a refusal 160.
+    pub fn resize(
+        &mut self,
+        h: Handle,
+        bytes: u32,
+        steps: &mut Steps,
+    ) -> Result<Resized, ResizeFault>
+        requires open { IsTrue self.old.is_open }
+        requires room { steps.old ≤ 2 ^ 63 }
+        ensures same { StaysOpen self.old self.new }
+        ensures step { IsResizeStep self.old (record { number = h.0; length = bytes }) result self.new }
+        ensures rules { KeepsRules self.new }
+        ensures bound { TakesAtMost self.old.kind steps.old steps.new (resize_bound result) }
+        ensures told { TellsCost self.old.kind steps.old steps.new self.new.cost }
+        ensures blocks { BlocksStayIn self.old.kind self.old h.0 self.new }
+    {
+        match &mut self.inner {
+            Some(open) => open.resize(h, bytes, steps),
             None => unreachable!(),
         }
     }
