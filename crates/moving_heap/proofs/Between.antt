@@ -4,15 +4,12 @@ use Rattle.std.proofs.lemmas.List.{get_or-drop, get_or-take, length-take}
 use Rattle.std.proofs.Common.{length-drop}
 use Rattle.arrangement.specs.Bytes.{written}
 use Rattle.arrangement.specs.Image.{Clears, IsDisjoint, IsOutside, MovesWords, Rewrites}
-use Rattle.arrangement.proofs.Images.{disjoint_outside, turned, within_or}
+use Rattle.arrangement.proofs.Images.{disjoint_outside, within_or}
 use Rattle.arrangement.proofs.Writing.{written_before, written_behind, written_inside}
 
 module _ (old new : List ℕ) (b z a s : ℕ) (inside : b + z ≤ length old) (inside' : b + z ≤ length new) (f : ℕ → ℕ) (apart : IsDisjoint b z a s)
     (there : (i : ℕ) → i < z → get_or new (b + i) 0 ≡ f i) (zeros : (i : ℕ) → i < s → get_or new (a + i) 0 ≡ 0)
     (others : (v : ℕ) → IsOutside a s v → IsOutside b z v → get_or new v 0 ≡ get_or old v 0) where
-  part : List ℕ
-  part = take z (drop b new)
-
   part_long : length (take z (drop b new)) ≡ z
   part_long = (let t = length-take z (drop b new) in let d = length-drop b new in omega arith)
 

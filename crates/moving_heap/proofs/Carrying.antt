@@ -1,18 +1,16 @@
 -- The words after an object was brought to a slot of another class.
-use Rattle.std.proofs.Common.{◌≡◌, ◌≢◌, ℕ, zero, suc, ◌+◌, ◌-◌, ◌*◌, ◌/◌, ◌%◌, ◌^◌, ◌<◌, ◌≤◌, List, length, get_or, set, take, drop, arith, sym, ◌∙◌, ap, subst, inl, inr}
-use Rattle.std.specs.Prelude.{◌⊎◌, min}
-use Rattle.std.proofs.lemmas.Bool.{cases_eq, cases_lt}
-use Rattle.std.proofs.lemmas.List.{get_or-set_same, get_or-set_other, length-set, length-take}
-use Rattle.std.proofs.Common.{length-drop}
+use Rattle.std.proofs.Common.{◌≡◌, ◌≢◌, ℕ, zero, suc, ◌+◌, ◌*◌, ◌/◌, ◌%◌, ◌^◌, ◌<◌, ◌≤◌, List, length, get_or, set, arith, sym, ◌∙◌, ap, inl, inr}
+use Rattle.std.specs.Prelude.{◌⊎◌}
+use Rattle.std.proofs.lemmas.Bool.{cases_lt}
+use Rattle.std.proofs.lemmas.List.{get_or-set_same, get_or-set_other, length-set}
 use Rattle.arrangement.specs.Bytes.{AreBytes, byte_of, bytes_at}
-use Rattle.arrangement.specs.Image.{IsOutside, MovesWords, Clears, Rewrites, header_word, object_word, slot_for}
+use Rattle.arrangement.specs.Image.{IsOutside, header_word, object_word, slot_for}
 use Rattle.arrangement.specs.Steps.{IsFreePlace, resized}
-use Rattle.arrangement.proofs.Images.{disjoint_outside, turned, within_or}
 use Rattle.arrangement.proofs.Reading.{bytes_at-AreBytes}
 use Rattle.arrangement.proofs.Resizing.{length-resized}
 use Rattle.arrangement.proofs.SlotImages.{place_is_zeros}
 use Rattle.arrangement.proofs.Writing.{resized_are_bytes}
-use Rattle.region.specs.Words.{cleared, moved}
+use Rattle.region.specs.Words.{moved}
 use Rattle.region.proofs.CallerLemmas.{cleared_others, cleared_within, length-cleared, length-moved, moved_arrived, moved_others}
 use Rattle.moving_heap.specs.declared.inner.OpenHeap.{OpenHeap}
 use Rattle.moving_heap.specs.declared.changing.Change.{Change}
@@ -22,7 +20,6 @@ use Rattle.moving_heap.proofs.Cutting.{holds_bytes}
 use Rattle.moving_heap.proofs.Entering.{new_holds, new_inside, none_spare, slots_apart}
 use Rattle.moving_heap.proofs.Facts.{paging_ok}
 use Rattle.moving_heap.proofs.Going.{it_inside, it_slot}
-use Rattle.moving_heap.proofs.Reading.{slot_small}
 use Rattle.moving_heap.proofs.Standing.{before, few, past_new, past_old, was_byte, was_small, word_is, zero_byte}
 
 module _ (h : OpenHeap) (k : IsKept h) (x : Change) (is : IsChange h x) (b : ℕ) (free : IsFreePlace (paging_at h) (held_in h) x.bytes b) (new : List ℕ) (ca : Carries h.region new x b (old_words h x)) where

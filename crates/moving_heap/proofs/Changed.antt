@@ -1,5 +1,5 @@
 -- An object with its new length in another class: what is known of the heap where its old slot isn't free yet, and of the one that a change leaves.
-use Rattle.std.proofs.Common.{◌≡◌, ◌≢◌, ℕ, ◌+◌, ◌-◌, ◌*◌, ◌^◌, ◌<◌, ◌≤◌, List, length, get_or, set, Option, Some, None, arith, refl, sym, ◌∙◌, ap, subst, inl, inr}
+use Rattle.std.proofs.Common.{◌≡◌, ◌≢◌, ℕ, ◌+◌, ◌-◌, ◌<◌, ◌≤◌, List, length, get_or, set, Option, Some, None, arith, refl, sym, ◌∙◌, ap, subst, inl, inr}
 use Rattle.std.specs.Prelude.{nat_eq, option_map}
 use Rattle.std.proofs.lemmas.Bool.{cases_eq}
 use Rattle.std.proofs.lemmas.List.{get_or-set_same, get_or-set_other, length-set}
@@ -9,12 +9,12 @@ use Rattle.cf_lemmas.proofs.MapValues.{get-map_values, map_values-insert}
 use Rattle.cf_lemmas.proofs.Ranges.{one}
 use Rattle.cf_lemmas.proofs.Sums.{insert_again}
 use Rattle.arrangement.specs.Held.{Held, Placed, objects, places}
-use Rattle.arrangement.specs.Bytes.{AreStorable, bytes_at}
+use Rattle.arrangement.specs.Bytes.{AreStorable}
 use Rattle.arrangement.specs.Paging.{class_for, classes, page_of, slot_words}
 use Rattle.arrangement.specs.Arrangement.{class_at, IsSound, live, not_full_pages, objects_on}
 use Rattle.arrangement.specs.Image.{Clears, IsDisjoint, IsSlotImage, MovesWords, Rewrites, object_word, slot_for}
 use Rattle.arrangement.specs.Figures.{asked_bytes, taken_bytes}
-use Rattle.arrangement.specs.Steps.{ChangesClass, IsFreePlace, IsResizeStep as IsResizedBy, Moves, MustMove, Outcome, Request, resized, resized_at, without}
+use Rattle.arrangement.specs.Steps.{ChangesClass, IsFreePlace, IsResizeStep as IsResizedBy, Moves, MustMove, Request, resized_at, without}
 use Rattle.arrangement.proofs.Counting.{eq_no, eq_yes, not_full-same, still}
 use Rattle.arrangement.proofs.Parts.{free_objects}
 use Rattle.arrangement.proofs.Placing.{objects_on-elsewhere, sound_placed}
@@ -35,7 +35,7 @@ use Rattle.moving_heap.proofs.Becoming.{Becomes, becomes_kept, becomes_state, he
 use Rattle.moving_heap.proofs.Between.{between, cleared_then, moved_then, written_first}
 use Rattle.moving_heap.proofs.Carrying.{are_now, arrived, carried_long, left_zeros, untouched}
 use Rattle.moving_heap.proofs.Entering.{at_table, is_free, new_inside, none_spare, of_table, slots_apart}
-use Rattle.moving_heap.proofs.Going.{asked_some, it, it_class, it_found, it_slot, live_some, page_same, slot_same, taken_some}
+use Rattle.moving_heap.proofs.Going.{asked_some, it, it_class, it_found, it_slot, taken_some}
 use Rattle.moving_heap.proofs.Standing.{few}
 use Rattle.moving_heap.proofs.Writing.{asked_changed, live_changed, taken_changed}
 

@@ -1,6 +1,6 @@
 -- A change of class that moves no other object.
-use Rattle.std.proofs.Common.{◌≡◌, ℕ, length, None, Some, sym, ◌∙◌, ap, subst}
-use Rattle.std.specs.FinMap.{get, insert, remove}
+use Rattle.std.proofs.Common.{◌≡◌, ℕ, length, None, sym, ◌∙◌, ap, subst}
+use Rattle.std.specs.FinMap.{insert, remove}
 use Rattle.cf_lemmas.proofs.Maps.{get_inserted, get_remove_other, get_removed}
 use Rattle.cf_lemmas.proofs.MapValues.{map_values-insert}
 use Rattle.cf_lemmas.proofs.Sums.{insert_again}

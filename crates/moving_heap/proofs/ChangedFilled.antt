@@ -13,7 +13,6 @@ use Rattle.arrangement.specs.Arrangement.{class_at}
 use Rattle.arrangement.specs.Steps.{MayFill, Moves, MustMove, without}
 use Rattle.arrangement.proofs.Counting.{still}
 use Rattle.arrangement.proofs.FreeSteps.{mover_is_other}
-use Rattle.arrangement.proofs.Images.{disjoint_outside}
 use Rattle.arrangement.proofs.Parts.{moved_places}
 use Rattle.arrangement.proofs.ResizedWords.{image_after_change_and_move}
 use Rattle.arrangement.proofs.SlotImages.{object_inside, own_words, place_apart, sound_apart_from}

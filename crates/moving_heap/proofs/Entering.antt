@@ -1,13 +1,12 @@
 -- The slot of its new class that an object takes.
-use Rattle.std.proofs.Common.{◌≡◌, ℕ, suc, ◌+◌, ◌*◌, ◌/◌, ◌<◌, ◌≤◌, length, get_or, Option, Some, None, Err, arith, refl, sym, ◌∙◌, ap, subst, inl, inr}
+use Rattle.std.proofs.Common.{◌≡◌, ℕ, ◌+◌, ◌/◌, ◌≤◌, length, Option, Some, None, Err, arith, refl, sym, ◌∙◌, subst, inl, inr}
 use Rattle.std.specs.FinMap.{get}
 use Rattle.cf_base.specs.declared.answers.ResizeFault.TheVariants as resize
 use Rattle.cf_model.specs.Steps.{IsResizeStep}
 use Rattle.arrangement.specs.Held.{Placed}
 use Rattle.arrangement.specs.Arrangement.{LacksRoom}
-use Rattle.arrangement.specs.Bytes.{bytes_at}
 use Rattle.arrangement.specs.Image.{IsDisjoint, slot_for}
-use Rattle.arrangement.specs.Paging.{class_for, classes, slot_words}
+use Rattle.arrangement.specs.Paging.{class_for}
 use Rattle.arrangement.specs.Steps.{IsFreePlace}
 use Rattle.arrangement.proofs.Sizes.{class_holds}
 use Rattle.arrangement.proofs.SlotImages.{place_apart, slot_inside}
@@ -19,7 +18,7 @@ use Rattle.moving_heap.specs.declared.inner.OpenHeap.{OpenHeap}
 use Rattle.moving_heap.specs.declared.changing.Change.{Change}
 use Rattle.moving_heap.specs.Changing.{FindsNoRoom, IsChange, old_words}
 use Rattle.moving_heap.specs.Kept.{IsKept, held_in, paging_at, state_of, tables_in}
-use Rattle.moving_heap.proofs.Facts.{number_small, paging_ok, sizes_are, table_is}
+use Rattle.moving_heap.proofs.Facts.{number_small, paging_ok, table_is}
 use Rattle.moving_heap.proofs.Going.{it, it_class, it_found, it_slot}
 use Rattle.moving_heap.proofs.Mallocs.{same_state}
 

@@ -1,5 +1,5 @@
 -- The parts of a resize, put together.
-use Rattle.std.proofs.Common.{◌≡◌, ◌≢◌, ℕ, ◌+◌, ◌<◌, ◌≤◌, Some, None, Result, Ok, Err, arith, ◌∙◌, ap, inl, inr}
+use Rattle.std.proofs.Common.{◌≡◌, ◌≢◌, ℕ, Some, None, Result, Ok, Err, ◌∙◌, ap, inl, inr}
 use Rattle.std.proofs.lemmas.Bool.{cases_lt}
 use Rattle.std.specs.FinMap.{get}
 use Rattle.cf_base.specs.Classes.{class_of, need}
@@ -12,7 +12,6 @@ use Rattle.arrangement.proofs.Sizes.{class_fits, class_known}
 use Rattle.cf_model.specs.State.{HeapState}
 use Rattle.cf_model.specs.Steps.{IsResizeStep, PassesPage}
 use Rattle.moving_heap.specs.declared.inner.OpenHeap.{OpenHeap}
-use Rattle.moving_heap.specs.declared.changing.Change.{Change}
 use Rattle.moving_heap.specs.Changing.{IsChange}
 use Rattle.moving_heap.specs.Freeing.{IsObjectAt}
 use Rattle.moving_heap.specs.Kept.{IsKept, paging_at, state_of}

@@ -1,5 +1,5 @@
 -- A slot is taken, and the object comes there.
-use Rattle.std.proofs.Common.{◌≡◌, ◌*◌, ◌-◌, length, get_or, arith, sym, ◌∙◌, ap}
+use Rattle.std.proofs.Common.{◌-◌, length, get_or, arith, ap}
 use Rattle.std.proofs.lemmas.List.{get_or-set_other}
 use Rattle.moving_heap.specs.declared.inner.OpenHeap.{OpenHeap}
 use Rattle.moving_heap.specs.Kept.{tables_in}
