@@ -1,7 +1,8 @@
 //! The block table of a manager that exchanges blocks, as a plain list: entry v is the physical
 //! block of virtual block v. A block is four words.
 ghost use Rattle.std.specs.Prelude.{◌≡◌, ◌+◌, ◌/◌, ◌^◌, ◌<◌, ◌≤◌, IfOk, length};
-ghost use Rattle.arrangement.specs.Frames.{block_of as physical_block, exchanged, first_frames, partner};
+ghost use Rattle.arrangement.specs.Frames.{block_of as physical_block, first_frames};
+ghost use Rattle.cf_lemmas.specs.Exchanges.{exchanged, partner};
 
 use std::alloc::{AllocError, Global};
 

@@ -1,7 +1,7 @@
 -- Each entry is that of its partner.
 use Rattle.std.proofs.Common.{arith, rules, slice_index, ap, length}
 use Rattle.std.proofs.lemmas.List.FromFn.{map-range_with_len_more, length-map-range_with_len}
-use Rattle.arrangement.specs.Frames.{exchanged, partner}
+use Rattle.cf_lemmas.specs.Exchanges.{exchanged, partner}
 use Rattle.plain_model.proofs.frames.exchange.Goals as goal
 
 pub loop-v-preserved : goal.loop-v-preserved

@@ -1,6 +1,6 @@
 use Rattle.std.proofs.Common.{◌≡◌, map, slice_index}
 use Rattle.std.specs.List.{range_with_len}
-use Rattle.arrangement.specs.Frames.{partner}
+use Rattle.cf_lemmas.specs.Exchanges.{partner}
 use Rattle.plain_model.proofs.frames.exchange.Given as goal
 
 -- the entries so far
