@@ -7,24 +7,16 @@ use Rattle.cf_lemmas.proofs.Maps.{len_fresh}
 use Rattle.cf_lemmas.proofs.MapValues.{get-map_values, map_values-insert}
 use Rattle.cf_lemmas.proofs.Sums.{sum_by-inserted, sum_by-removed}
 use Rattle.cf_lemmas.proofs.Ranges.{one}
-use Rattle.cf_lemmas.proofs.Induction.{map_induction}
+use Rattle.cf_lemmas.proofs.Values.{len-map_values}
 use Rattle.arrangement.specs.Held.{Held, Objects, Placed, objects}
 use Rattle.arrangement.specs.Paging.{Paging, slot_words, class_for}
 use Rattle.arrangement.specs.Arrangement.{live, used_pages, free_pages, IsSound}
 use Rattle.arrangement.specs.Figures.{asked_bytes, taken_bytes}
-use Rattle.arrangement.proofs.Totals.{map_values-empty}
 use Rattle.arrangement.proofs.Lacking.{used_le}
 
 -- as many objects as are held
 pub len-objects : (m : Held) → len (objects m) ≡ len m
-len-objects = map_induction (λ m. len (objects m) ≡ len m)
-    (ap len (map_values-empty (λ (x : Placed). x.bytes) (λ v. 0)) ∙ len-empty nat_cmp (List ℕ) ∙ sym (len-empty nat_cmp Placed))
-    (λ m h x none ih. (
-    let n : get (objects m) h ≡ None = get-map_values (λ (x : Placed). x.bytes) m h ∙ ap (option_map (λ (x : Placed). x.bytes)) none in
-    let a = len_fresh m h x none in
-    let b = len_fresh (objects m) h x.bytes n in
-    let c : len (objects (insert m h x)) ≡ len (insert (objects m) h x.bytes) = ap len (map_values-insert (λ (x : Placed). x.bytes) m h x) in
-    omega arith))
+len-objects = len-map_values (λ (x : Placed). x.bytes)
 
 module _ (p : Paging) (o : Objects) (h : ℕ) (v : List ℕ) where
   pub live_added : (c : ℕ) → get o h ≡ None → live p (insert o h v) c ≡ live p o c + one (nat_eq (class_for p (length v)) c)

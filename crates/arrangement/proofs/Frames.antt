@@ -9,94 +9,28 @@ use Rattle.std.proofs.lemmas.Bool.Decides.{nat_tests}
 use Rattle.std.proofs.lemmas.Nat.{div-add-mod'}
 use Rattle.std.specs.FinMap.{get, remove}
 use Rattle.cf_lemmas.proofs.Maps.{get_inserted, get_insert_other, get_remove_other}
+use Rattle.cf_lemmas.specs.Exchanges.{partner, exchanged}
+use Rattle.cf_lemmas.proofs.Exchanges.{partner_second, partner_else, partner_back, partner_below, length-exchanged, get_or-exchanged}
 use Rattle.arrangement.specs.Held.{Held, Placed}
 use Rattle.arrangement.specs.Paging.{Paging, IsPaging, slot_words, class_for}
 use Rattle.arrangement.specs.Arrangement.{class_at, IsSound}
 use Rattle.arrangement.specs.Steps.{Outcome, MustMove, MayFill, Moves, without}
 use Rattle.arrangement.specs.Image.{object_word, slot_for, IsDisjoint, IsSlotImage}
-use Rattle.arrangement.specs.Frames.{first_frames, IsPermuted, is_among, partner, exchanged, frames_after, block_of, IsPhysical, AreBlocks}
+use Rattle.arrangement.specs.Frames.{first_frames, IsPermuted, frames_after, block_of, IsPhysical, AreBlocks}
 use Rattle.arrangement.proofs.FreeSteps.{mover_is_other}
 use Rattle.arrangement.proofs.SlotImages.{sound_apart, object_inside}
 
-among_yes : (a n v : ℕ) → a ≤ v → v < a + n → is_among a n v ≡ true
-among_yes a n v l h = (let x : nat_le a v ≡ true = grind (arith, nat_tests) in let y : nat_lt v (a + n) ≡ true = grind (arith, nat_tests) in rw (x, y) refl)
-
-among_no : (a n v : ℕ) → ((v < a) ⊎ (a + n ≤ v)) → is_among a n v ≡ false
-among_no a n v (inl l) = (let x : nat_le a v ≡ false = grind (arith, nat_tests) in rw x refl)
-among_no a n v (inr h) = (let y : nat_lt v (a + n) ≡ false = grind (arith, nat_tests) in rw y (no_two (nat_le a v)))
-  where
-    no_two : (b : Bool) → (b && false) ≡ false
-    no_two true = refl
-    no_two false = refl
-
--- two runs of n numbers that have none in common
-module _ (a b n : ℕ) (apart : IsDisjoint a n b n) where
-  partner_first : (v : ℕ) → a ≤ v → v < a + n → partner a b n v ≡ b + (v - a)
-  partner_first v l h = (let x = among_yes a n v l h in rw x refl)
-
-  partner_second : (v : ℕ) → b ≤ v → v < b + n → partner a b n v ≡ a + (v - b)
-  partner_second v l h =
-      let x : is_among a n v ≡ false = among_no a n v (elim apart [ inl e ↦ inr (omega arith) | inr e ↦ inl (omega arith) ]) in
-      let y = among_yes b n v l h in
-      rw (x, y) refl
-
-  partner_else : (v : ℕ) → ((v < a) ⊎ (a + n ≤ v)) → ((v < b) ⊎ (b + n ≤ v)) → partner a b n v ≡ v
-  partner_else v p q = (let x = among_no a n v p in let y = among_no b n v q in rw (x, y) refl)
-
-  -- where a number stands
-  data Where (v : ℕ) : Type 0 where
-    first : a ≤ v → v < a + n → partner a b n v ≡ b + (v - a) → Where v
-    second : b ≤ v → v < b + n → partner a b n v ≡ a + (v - b) → Where v
-    neither : ((v < a) ⊎ (a + n ≤ v)) → ((v < b) ⊎ (b + n ≤ v)) → partner a b n v ≡ v → Where v
-
-  cases_range : (c v : ℕ) → ((c ≤ v) × (v < c + n)) ⊎ ((v < c) ⊎ (c + n ≤ v))
-  cases_range c v = elim (cases_lt v c) [
-    | inl below ↦ inr (inl below)
-    | inr above ↦ elim (cases_lt v (c + n)) [ inl inside ↦ inl (above, inside) | inr past ↦ inr (inr past) ]
-  ]
-
-  where_is : (v : ℕ) → Where v
-  where_is v = elim (cases_range a v) [
-    | inl (l, h) ↦ first l h (partner_first v l h)
-    | inr out_a ↦ elim (cases_range b v) [
-      | inl (l, h) ↦ second l h (partner_second v l h)
-      | inr out_b ↦ neither out_a out_b (partner_else v out_a out_b)
-    ]
-  ]
-
-  partner_back : (v : ℕ) → partner a b n (partner a b n v) ≡ v
-  partner_back v = elim (where_is v) [
-    | first l h e ↦ ap (partner a b n) e ∙ partner_second (b + (v - a)) (omega arith) (omega arith) ∙ omega arith
-    | second l h e ↦ ap (partner a b n) e ∙ partner_first (a + (v - b)) (omega arith) (omega arith) ∙ omega arith
-    | neither p q e ↦ ap (partner a b n) e ∙ e
-  ]
-
-  partner_below : (top v : ℕ) → a + n ≤ top → b + n ≤ top → v < top → partner a b n v < top
-  partner_below top v ea eb lt = elim (where_is v) [
-    | first l h e ↦ rw e (omega arith)
-    | second l h e ↦ rw e (omega arith)
-    | neither p q e ↦ rw e lt
-  ]
-
 module _ (frames : List ℕ) (a b n : ℕ) where
-  pub length-exchanged : length (exchanged frames a b n) ≡ length frames
-  unfolding exchanged
-  length-exchanged = length-map-range_with_len _ 0 _
-
-  pub get_or-exchanged : (v : ℕ) → v < length frames → get_or (exchanged frames a b n) v 0 ≡ get_or frames (partner a b n v) 0
-  unfolding exchanged
-  get_or-exchanged v lt = get_or-map-range_with_len (λ v. get_or frames (partner a b n v) 0) 0 (length frames) v v 0 lt (omega arith)
-
   -- an exchange keeps the permutation one
   pub permuted_exchanged : IsPermuted frames → IsDisjoint a n b n → a + n ≤ length frames → b + n ≤ length frames → IsPermuted (exchanged frames a b n)
   permuted_exchanged p apart ea eb =
-      let len = length-exchanged in
+      let len = length-exchanged frames a b n in
       record {
-        below = λ v lt. (let lt' : v < length frames = rw len at lt in rw (get_or-exchanged v lt', len) (p.below (partner a b n v) (partner_below a b n apart (length frames) v ea eb lt')));
+        below = λ v lt. (let lt' : v < length frames = rw len at lt in rw (get_or-exchanged frames a b n v lt', len) (p.below (partner a b n v) (partner_below a b n apart (length frames) v ea eb lt')));
         once = λ v w lv lw e.
             let lv' : v < length frames = rw len at lv in
             let lw' : w < length frames = rw len at lw in
-            let e' : get_or frames (partner a b n v) 0 ≡ get_or frames (partner a b n w) 0 = sym (get_or-exchanged v lv') ∙ e ∙ get_or-exchanged w lw' in
+            let e' : get_or frames (partner a b n v) 0 ≡ get_or frames (partner a b n w) 0 = sym (get_or-exchanged frames a b n v lv') ∙ e ∙ get_or-exchanged frames a b n w lw' in
             let same = p.once (partner a b n v) (partner a b n w) (partner_below a b n apart (length frames) v ea eb lv') (partner_below a b n apart (length frames) w ea eb lw') e' in
             sym (partner_back a b n apart v) ∙ ap (partner a b n) same ∙ partner_back a b n apart w;
       }

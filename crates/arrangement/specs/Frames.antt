@@ -1,7 +1,8 @@
 -- The block permutation of the non-moving manager. A block is four words; virtual block v stands at physical block `frames[v]`.
-use Rattle.std.specs.Prelude.{◌≡◌, ℕ, Bool, ◌+◌, ◌-◌, ◌*◌, ◌/◌, ◌%◌, ◌<◌, List, Option, Some, None, length, map, slice_index, if◌then◌else◌, nat_le, nat_lt, ◌&&◌}
+use Rattle.std.specs.Prelude.{◌≡◌, ℕ, ◌+◌, ◌*◌, ◌/◌, ◌%◌, ◌<◌, List, Option, Some, None, length, slice_index}
 use Rattle.std.specs.List.{range_with_len}
 use Rattle.std.specs.FinMap.{get}
+use Rattle.cf_lemmas.specs.Exchanges.{exchanged}
 use Rattle.arrangement.specs.Held.{Held, Placed}
 use Rattle.arrangement.specs.Paging.{IsPaging, Paging, slot_words}
 use Rattle.arrangement.specs.Arrangement.{IsSound, class_at}
@@ -15,18 +16,6 @@ first_frames n = range_with_len 0 n
 pub record IsPermuted (frames : List ℕ) : Type 0 where
   pub below : (v : ℕ) → v < length frames → slice_index frames v < length frames
   pub once : (v w : ℕ) → v < length frames → w < length frames → slice_index frames v ≡ slice_index frames w → v ≡ w
-
--- whether v is one of the n numbers from a on
-abbrev pub is_among : ℕ → ℕ → ℕ → Bool
-is_among a n v = nat_le a v && nat_lt v (a + n)
-
--- where v goes where the n numbers from a on change places with those from b on, pair by pair
-abbrev pub partner : ℕ → ℕ → ℕ → ℕ → ℕ
-partner a b n v = if is_among a n v then b + (v - a) else (if is_among b n v then a + (v - b) else v)
-
--- the n entries from a on have changed places with those from b on, pair by pair
-unfoldable pub exchanged : List ℕ → ℕ → ℕ → ℕ → List ℕ
-exchanged frames a b n = map (λ v. slice_index frames (partner a b n v)) (range_with_len 0 (length frames))
 
 -- an object was at y and is at z: the blocks of its slot have changed places with those where it now stands
 abbrev pub frames_moved : Paging → Option Placed → Option Placed → List ℕ → List ℕ

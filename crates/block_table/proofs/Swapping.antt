@@ -5,8 +5,11 @@ use Rattle.std.proofs.lemmas.List.FromFn.{length-range_with_len}
 use Rattle.std.proofs.lemmas.List.Sorted.{IsPermutation-refl, IsPermutation-trans, IsPermutation-append_comm, IsPermutation-append_left, IsPermutation-append_right, length_permutation}
 use Rattle.std.specs.List.{range_with_len}
 use Rattle.std.specs.List.Sorted.{IsPermutation}
-use Rattle.block_table.specs.Laid.{IsLaid}
-use Rattle.block_table.specs.Table.{swapped, exchanged}
+
+-- the n entries from `low` on and the n from `high` on have changed places
+abbrev pub swapped : List ℕ → ℕ → ℕ → ℕ → List ℕ
+swapped frames low high n =
+    take low frames ++ (take n (drop high frames) ++ (take (high - (low + n)) (drop (low + n) frames) ++ (take n (drop low frames) ++ drop (high + n) frames)))
 
 -- the five pieces of a list, of which the second and the fourth are the runs
 module _ (s : List ℕ) (i j n : ℕ) (low : i + n ≤ j) where
@@ -64,27 +67,7 @@ ends_exchanged x m y z =
     let right : ((y ++ m) ++ x) ++ z ≡ y ++ (m ++ (x ++ z)) = append_assoc (y ++ m) x z ∙ append_assoc y m (x ++ z) in
     subst (λ (l : List ℕ). IsPermutation l (y ++ (m ++ (x ++ z)))) left (subst (λ (l : List ℕ). IsPermutation ((x ++ (m ++ y)) ++ z) l) right c)
 
-swapped_permutation : (s : List ℕ) (i j n : ℕ) → i + n ≤ j → IsPermutation s (swapped s i j n)
+pub swapped_permutation : (s : List ℕ) (i j n : ℕ) → i + n ≤ j → IsPermutation s (swapped s i j n)
 swapped_permutation s i j n low =
     subst (λ (l : List ℕ). IsPermutation l (swapped s i j n)) (sym (pieces s i j n low))
     (IsPermutation-append_right (before s i j n low) _ _ (ends_exchanged (first s i j n low) (between s i j n low) (second s i j n low) (behind s i j n low)))
-
-pub exchanged_permutation : (s : List ℕ) (a b n : ℕ) → (a + n ≤ b) ⊎ (b + n ≤ a) → IsPermutation s (exchanged s a b n)
-exchanged_permutation s a b n apart = swapped_permutation s (min a b) (max a b) n (elim apart [ inl l ↦ omega arith | inr l ↦ omega arith ])
-
--- the entries as a `Vec` holds them after a loan of them all
-pub laid_swapped : (pages blocks : ℕ) (s new : List ℕ) (len : ℕ) → len ≡ length s → IsLaid pages blocks s → (a b n : ℕ) → (a + n ≤ b) ⊎ (b + n ≤ a)
-    → new ≡ exchanged s a b n → IsLaid pages blocks (take len (new ++ drop (length new) s))
-laid_swapped pages blocks s new len ok h a b n apart e =
-    let p = exchanged_permutation s a b n apart in
-    let long : length (exchanged s a b n) ≡ length s = length_permutation _ _ p in
-    let as_long : length new ≡ length s = ap length e ∙ long in
-    let same : take len (new ++ drop (length new) s) ≡ new = take-append-le len new (drop (length new) s) (omega arith) ∙ take_all len new (omega arith) in
-    let small = h.small in
-    rw (same, e) (record { small = omega arith; table = record { full = long ∙ h.table.full; permutation = IsPermutation-trans _ _ _ h.table.permutation p } })
-
--- the numbers are a permutation of themselves
-pub laid_fresh : (pages blocks : ℕ) (s : List ℕ) → s ≡ range_with_len 0 (pages * blocks) → pages * blocks < 2 ^ 32 → IsLaid pages blocks s
-laid_fresh pages blocks s e fits =
-    let long = length-range_with_len 0 (pages * blocks) in
-    rw e (record { small = omega arith; table = record { full = long; permutation = IsPermutation-refl _ } })

@@ -1,7 +1,8 @@
 ghost use Rattle.std.specs.Prelude.{◌≡◌, ◌+◌, ◌*◌, ◌^◌, ◌<◌, ◌≤◌, ◌⊎◌, length, slice_index, IfOk};
 ghost use Rattle.std.specs.List.{range_with_len};
 ghost use Rattle.step_ledger.specs.Counting.{RoseBy};
-ghost use Rattle.block_table.specs.Table.{exchanged, IsTable};
+ghost use Rattle.cf_lemmas.specs.Exchanges.{exchanged};
+ghost use Rattle.block_table.specs.Table.{IsTable};
 
 use crate::runs::exchange;
 use cf_base::OutOfMemory;

@@ -5,3 +5,5 @@ pub mod Ranges
 pub mod Numbered
 pub mod MapValues
 pub mod Positions
+pub mod Values
+pub mod Exchanges

@@ -2,7 +2,8 @@
 use Rattle.std.proofs.Common.{◌≡◌, ◌≢◌, ℕ, zero, suc, Bool, cond, ◌+◌, ◌<◌, ◌≤◌, ◌∷◌, arith, ap, refl, inl, inr}
 use Rattle.std.specs.Prelude.{count_by}
 use Rattle.std.specs.List.{range_with_len}
-use Rattle.std.proofs.lemmas.List.Sums.{sum_by-cons}
+use Rattle.std.proofs.lemmas.List.FromFn.{length-range_with_len}
+use Rattle.std.proofs.lemmas.List.Sums.{count_by-le-length, sum_by-cons}
 use Rattle.std.proofs.lemmas.Bool.{cases_eq}
 
 -- 1 where the test passes
@@ -37,3 +38,7 @@ module _ (f g : ℕ → Bool) where
             let e : one (f a) ≡ one (g a) = ap one (same a ne) in
             omega arith)
       ]
+
+-- no more of n numbers pass a test than there are
+pub count_at_most : (f : ℕ → Bool) (a n : ℕ) → count_by f (range_with_len a n) ≤ n
+count_at_most f a n = rw (length-range_with_len a n) at (count_by-le-length f (range_with_len a n))

@@ -42,19 +42,23 @@ module _ (os : List (Option Object)) where
           | inr ne ↦ sym (get_remove_other (held_in os) h q ne)
         ])
 
+-- what the map has under the number of an entry
+pub get_there : (os : List (Option Object)) (h : ℕ) (d e : Option Object) → h < length os → get_or os h d ≡ e → get (held_in os) h ≡ option_map placed e
+get_there os h d e lt is = get_held os h ∙ get_or-map (option_map placed) os h d None lt ∙ ap (option_map placed) is
+
+-- behind the table there is nothing
+pub get_past : (os : List (Option Object)) (h : ℕ) → length os ≤ h → get (held_in os) h ≡ None
+get_past os h past = (
+    let past' : length (map (option_map placed) os) ≤ h = rw (length-map os (option_map placed)) past in
+    get_held os h ∙ get_or_past (map (option_map placed) os) h None past')
+
 -- an object of the table moves
 pub held-moved : (os : List (Option Object)) (h a : ℕ) (d e : Option Object) → h < length os → get_or os h d ≡ e → held_in (set os h (option_map (at_place a) e)) ≡ moved_to (held_in os) h (get (held_in os) h) a
 held-moved os h a d None lt is =
-    let none : get (held_in os) h ≡ None = get_held os h ∙ get_or-map (option_map placed) os h d None lt ∙ ap (option_map placed) is in
     let same : set os h None ≡ os = ap (set os h) (sym is) ∙ set-get_or os h d in
-    rw none (ap held_in same)
-held-moved os h a d (Some o) lt is =
-    let some : get (held_in os) h ≡ Some (placed o) = get_held os h ∙ get_or-map (option_map placed) os h d None lt ∙ ap (option_map placed) is in
-    rw some (held-set os h (at_place a o) lt)
+    rw (get_there os h d None lt is) (ap held_in same)
+held-moved os h a d (Some o) lt is = rw (get_there os h d (Some o) lt is) (held-set os h (at_place a o) lt)
 
 -- behind the table nothing moves
 pub held-unmoved : (os : List (Option Object)) (h a : ℕ) → length os ≤ h → held_in os ≡ moved_to (held_in os) h (get (held_in os) h) a
-held-unmoved os h a past =
-    let past' : length (map (option_map placed) os) ≤ h = rw (length-map os (option_map placed)) past in
-    let none : get (held_in os) h ≡ None = get_held os h ∙ get_or_past (map (option_map placed) os) h None past' in
-    rw none refl
+held-unmoved os h a past = rw (get_past os h past) refl

@@ -4,7 +4,7 @@ use Rattle.cf_lemmas.specs.Maps.{numbered}
 use Rattle.arrangement.specs.Held.{Held, Placed}
 use Rattle.arrangement.specs.Paging.{Paging, slot_words, class_for, page_of}
 use Rattle.arrangement.specs.Arrangement.{standing_on}
-use Rattle.arrangement.specs.Steps.{resized}
+use Rattle.arrangement.specs.Steps.{MustMove, resized}
 use Rattle.plain_model.specs.declared.object.Object.{Object}
 use Rattle.plain_model.specs.declared.object.Amount.{Amount}
 use Rattle.plain_model.specs.declared.object.Amount.TheVariants.{One, OfClass, OnPage, OfClassOnPage, Length, SlotWords}
@@ -51,3 +51,8 @@ total_of f os = sum_by (amount_in f) os
 -- every page holds an object
 abbrev pub AreTaken : Paging → Held → Type 0
 AreTaken p m = (page : ℕ) → page < p.pages → 0 < standing_on p m page
+
+-- an object is there, and a free of it moves another one
+abbrev pub MovesOne : Paging → Held → Option Placed → Type 0
+MovesOne p m None = ⊥
+MovesOne p m (Some x) = MustMove p m x

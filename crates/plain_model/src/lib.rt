@@ -3,6 +3,7 @@
 //! against it in tests.
 #![tactic(auto)]
 
+pub mod frames;
 mod object;
 mod pages;
 mod plain;

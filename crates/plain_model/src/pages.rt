@@ -97,6 +97,14 @@ impl Pages {
         self.page_words / self.sizes[c as usize]
     }
 
+    /// How many pages of a class may be not full.
+    pub fn bound(&self, c: u32) -> u32
+        requires { c < classes self.now }
+        ensures { result ≡ bound_of self.now c }
+    {
+        self.bounds[c as usize]
+    }
+
     /// The class of an object of so many bytes; the number of classes where none holds it.
     pub fn class_for(&self, bytes: u32) -> u32
         ensures value { result ≡ class_for self.now bytes }

@@ -4,13 +4,13 @@ ghost use Rattle.std.specs.FinMap as map;
 ghost use Rattle.cf_base.specs.Classes.{need};
 ghost use Rattle.cf_base.specs.Settings.{profile_of};
 ghost use Rattle.arrangement.specs.Held.{objects};
-ghost use Rattle.arrangement.specs.Paging.{classes, slot_words, slots_of, class_for, paging_of, first_bounds};
+ghost use Rattle.arrangement.specs.Paging.{bound_of, classes, slot_words, slots_of, class_for, paging_of, first_bounds};
 ghost use Rattle.arrangement.specs.Counts.{ceil_div};
 ghost use Rattle.arrangement.specs.Arrangement.{live, objects_on, standing_on, home_pages, not_full_pages, used_pages, free_pages, pages_needed, pages_needed_with, IsSound, LacksRoom};
 ghost use Rattle.arrangement.specs.Figures.{asked_bytes, taken_bytes, figures_of, totals_of};
 ghost use Rattle.arrangement.specs.Image.{IsApart, IsImage};
-ghost use Rattle.arrangement.specs.Steps.{resized, moved_to};
-ghost use Rattle.plain_model.specs.Amounts.{at_place, held_in, AreTaken};
+ghost use Rattle.arrangement.specs.Steps.{MustMove, moved_to, resized};
+ghost use Rattle.plain_model.specs.Amounts.{AreTaken, MovesOne, at_place, held_in, placed};
 ghost use Rattle.plain_model.specs.Words.{AreInside, IsWordAt};
 
 use crate::object::{Amount, Object};
@@ -265,6 +265,48 @@ impl Plain {
         pages
     }
 
+    /// Whether a free of the object under this number, where there is one, moves another: its page is
+    /// full and has more than one slot, and its class has as many pages that are not full as it may.
+    pub fn must_move(&self, number: u16) -> bool
+        ensures { IsTrue result ↔ MovesOne self.now.paging self.now.held (map.get self.now.held number) }
+    {
+        if (number as usize) < self.objects.len() {
+            self.must_move_from(&self.objects[number as usize])
+        } else {
+            false
+        }
+    }
+
+    /// Whether a free of the object of this entry, where there is one, moves another.
+    fn must_move_from(&self, entry: &Option<Object>) -> bool
+        ensures { IsTrue result ↔ MovesOne self.now.paging self.now.held (option_map placed entry.now) }
+    {
+        match entry {
+            Some(object) => self.leaves_a_hole(object),
+            None => false,
+        }
+    }
+
+    /// Whether an object must take the place of this one.
+    fn leaves_a_hole(&self, object: &Object) -> bool
+        ensures { IsTrue result ↔ MustMove self.now.paging self.now.held (placed object.now) }
+    {
+        let class = self.class_for(object.length);
+        if class >= self.classes() {
+            return false;
+        }
+        let on_page = self.objects_on(class, self.pages.page_of(object.place));
+        is_closed(on_page, self.slots(class)) && self.is_at_bound(class)
+    }
+
+    /// Whether class c has as many pages that are not full as it may.
+    fn is_at_bound(&self, c: u32) -> bool
+        requires { c < classes self.now.paging }
+        ensures { IsTrue result ↔ (not_full_pages self.now.paging self.now.held c ≡ bound_of self.now.paging c) }
+    {
+        self.not_full_pages(c) == self.pages.bound(c)
+    }
+
     /// Whether there is no room for class c: none of its pages is not full, and every page holds an
     /// object.
     pub fn lacks_room(&self, c: u32) -> bool
@@ -374,6 +416,13 @@ fn is_part_full(objects: u32, slots: u32) -> bool
     ensures { result ≡ (nat_lt 0 objects && nat_lt objects slots) }
 {
     0 < objects && objects < slots
+}
+
+/// Whether so many objects fill more than one slot each.
+fn is_closed(objects: u32, slots: u32) -> bool
+    ensures { IsTrue result ↔ ((objects ≡ slots) × (1 < slots)) }
+{
+    objects == slots && 1 < slots
 }
 
 /// How many pages of so many slots that many objects need: the quotient, rounded up.

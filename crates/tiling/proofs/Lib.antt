@@ -3,3 +3,4 @@ pub mod BucketLaws
 pub mod Steps
 pub mod Releases
 pub mod Others
+pub mod BlockTests

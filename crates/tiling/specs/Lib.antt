@@ -1,3 +1,4 @@
 pub mod Tiling
 pub mod Words
 pub mod Buckets
+pub mod Worked

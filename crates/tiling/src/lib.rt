@@ -5,6 +5,7 @@
 pub mod half_fit;
 pub mod laws;
 pub mod tlsf;
+pub mod worked;
 
 #[cfg(test)]
 mod tests {
