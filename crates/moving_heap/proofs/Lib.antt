@@ -14,3 +14,4 @@ pub mod Filling
 pub mod Knowing
 pub mod Writing
 pub mod Cutting
+pub mod Loans

@@ -1,5 +1,5 @@
 //! The heap that a caller holds: closed, or open.
-ghost use Rattle.std.specs.Prelude.{◌≡◌, ℕ, ◌+◌, ◌^◌, ◌<◌, ◌≤◌, IsTrue, OnOk, OnErr, is_some, length, slice_get};
+ghost use Rattle.std.specs.Prelude.{◌≡◌, ℕ, ◌+◌, ◌^◌, ◌<◌, ◌≤◌, IsTrue, OnOk, OnErr, is_some, length, option_copied, slice_get};
 ghost use Rattle.std.specs.FinMap as map;
 ghost use Rattle.arrangement.specs.Arrangement.{home_pages, not_full_pages, free_pages};
 ghost use Rattle.cf_base.specs.declared.kind.Kind.TheVariants.{Moving};
@@ -8,7 +8,9 @@ ghost use Rattle.cf_model.specs.Rules.{KeepsRules};
 ghost use Rattle.cf_model.specs.State.{closed_state, paging_in};
 ghost use Rattle.cf_model.specs.Costs.{TakesAtMost, access_bound, free_bound};
 ghost use Rattle.cf_model.specs.Steps.{BlocksStayIn, IsEmptyHeap, IsClosed, IsFreeStep, IsMallocStep, IsReadAnswer, IsWriteStep, StaysOpen};
+ghost use Rattle.step_ledger.specs.Counting.{RoseAtMost};
 ghost use Rattle.moving_heap.specs.Kept.{IsKept, state_of};
+ghost use Rattle.moving_heap.specs.Payload.{payload_bound, payload_of};
 
 use crate::inner::OpenHeap;
 use cf_base::{
@@ -274,5 +276,16 @@ impl MovingHeap {
             Some(open) => open,
             None => unreachable!(),
         }
+    }
+
+    /// Lends the whole words of an object, eight bytes to a word, the least first, without a copy; none
+    /// where the handle isn't live. Bytes behind the last whole word are reached by `read`. At most a
+    /// step for each word, and two.
+    pub fn payload(&self, h: Handle, steps: &mut Steps) -> Option<&[u64]>
+        requires { IsTrue self.now.is_open }
+        ensures value { option_copied result ≡ payload_of self.now h.0 }
+        ensures bound { RoseAtMost steps.old steps.new (payload_bound (payload_of self.now h.0)) }
+    {
+        self.open().payload(h, steps)
     }
 }

@@ -8,6 +8,7 @@ mod giving;
 mod header;
 mod heap;
 mod inner;
+mod lending;
 mod reports;
 mod resizing;
 
