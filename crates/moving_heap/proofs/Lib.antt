@@ -22,3 +22,4 @@ pub mod Changed
 pub mod ChangedAlone
 pub mod ChangedFilled
 pub mod Lengths
+pub mod Loans

@@ -3,3 +3,4 @@ pub mod Access
 pub mod Freeing
 pub mod Cutting
 pub mod Changing
+pub mod Payload

@@ -1,10 +1,12 @@
 //! The heap that a caller holds: closed, or open.
-ghost use Rattle.std.specs.Prelude.{◌≡◌, ◌<◌, IsTrue};
+ghost use Rattle.std.specs.Prelude.{◌≡◌, ◌<◌, IsTrue, option_copied};
 ghost use Rattle.arrangement.specs.Arrangement.{home_pages, not_full_pages, free_pages};
 ghost use Rattle.cf_base.specs.declared.kind.Kind.TheVariants.{Moving};
 ghost use Rattle.cf_model.specs.Answers.{classes_in};
 ghost use Rattle.cf_model.specs.State.{closed_state, paging_in};
+ghost use Rattle.step_ledger.specs.Counting.{RoseAtMost};
 ghost use Rattle.moving_heap.specs.Kept.{IsKept, state_of};
+ghost use Rattle.moving_heap.specs.Payload.{payload_bound, payload_of};
 
 use crate::inner::OpenHeap;
 use cf_base::{
@@ -176,6 +178,17 @@ impl MovingHeap {
         ensures { result ≡ free_pages (paging_in self.now) self.now.held }
     {
         self.open().free_pages()
+    }
+
+    /// Lends the whole words of an object, eight bytes to a word, the least first, without a copy; none
+    /// where the handle isn't live. Bytes behind the last whole word are reached by `read`. At most a
+    /// step for each word, and two.
+    pub fn payload(&self, h: Handle, steps: &mut Steps) -> Option<&[u64]>
+        requires { IsTrue self.now.is_open }
+        ensures value { option_copied result ≡ payload_of self.now h.0 }
+        ensures bound { RoseAtMost steps.old steps.new (payload_bound (payload_of self.now h.0)) }
+    {
+        self.open().payload(h, steps)
     }
 
     /// What is open.

@@ -9,6 +9,7 @@ mod giving;
 mod header;
 mod heap;
 mod inner;
+mod lending;
 mod reports;
 mod resizing;
 
