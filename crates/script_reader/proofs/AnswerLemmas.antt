@@ -67,9 +67,9 @@ answers_then a b c (Command command) p (advances, fits, first, leads) =
 answers_then a b c NeedMore p (passes, open_end, none, few, no_feed) =
     (passes_then a b c p passes, sym p.same_end ∙ open_end, p.left [] false ∙ none, few, no_feed)
 answers_then a b c (Bad line) p h =
-    let (first, stopped, number, same_end, same_fed, drops) = subst (λ (o : Option ℕ). AnswersBad b o line c) p.still h in
+    let (first, stopped, number, same_end, same_fed, drops, same_stage) = subst (λ (o : Option ℕ). AnswersBad b o line c) p.still h in
     subst (λ (o : Option ℕ). AnswersBad a o line c) (sym p.going)
-    ((λ more ended. p.left more ended ∙ first more ended), stopped, number, same_end ∙ p.same_end, same_fed ∙ p.same_fed, drops_then a b c p.drops drops)
+    ((λ more ended. p.left more ended ∙ first more ended), stopped, number, same_end ∙ p.same_end, same_fed ∙ p.same_fed, drops_then a b c p.drops drops, same_stage ∙ p.same_stage)
 answers_then a b c End p (passes, told, none, empty) = (passes_then a b c p passes, sym p.same_end ∙ told, p.left [] true ∙ none, empty)
 
 behind_shorter : (old : Reading) (len at : ℕ) (next : Stage) → IsFirstLine old.kept old.ended len at → length (behind_line old at next).kept < length old.kept
@@ -217,6 +217,7 @@ step_out_of_place old kept len at answer going same first told says place =
       refl,
       refl,
       record { front = drops.front; kept = drops.kept; counted = drops.counted },
+      refl,
     )
 
 few_kept : (kept : List ℕ) → is_last_line false kept ≡ false → length kept ≤ 8999

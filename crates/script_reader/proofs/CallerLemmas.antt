@@ -12,7 +12,7 @@ pub fresh_left : (more : List ℕ) (ended : Bool) → items_left fresh more ende
 fresh_left more ended = refl
 
 bad_same_end : (old : Reading) (before : Option ℕ) (line : ℕ) (new : Reading) → AnswersBad old before line new → new.ended ≡ old.ended
-bad_same_end old None line new (first, stopped, number, same_end, same_fed, drops) = same_end
+bad_same_end old None line new (first, stopped, number, same_end, same_fed, drops, same_stage) = same_end
 bad_same_end old (Some before) line new (same, is) = ap (λ (r : Reading). r.ended) is
 
 -- an answer tells no end
@@ -69,7 +69,7 @@ given_first (answers (Command command) ∷ rest) old now going (mid, (advances, 
 given_first (answers NeedMore ∷ rest) old now going (mid, (passes, open_end, none, few, no_feed), are) =
     first_of_same _ _ _ (passes.left (bytes_fed rest) (is_finished rest)) (given_first rest mid now passes.still are)
 given_first (answers (Bad line) ∷ rest) old now going (mid, h, are) =
-    let (first, stopped, number, same_end, same_fed, drops) = subst (λ (o : Option ℕ). AnswersBad old o line mid) going h in
+    let (first, stopped, number, same_end, same_fed, drops, same_stage) = subst (λ (o : Option ℕ). AnswersBad old o line mid) going h in
     ([], first (bytes_fed rest) (is_finished rest))
 given_first (answers End ∷ rest) old now going (mid, (passes, told, none, empty), are) =
     first_of_same _ _ _ (passes.left (bytes_fed rest) (is_finished rest)) (given_first rest mid now passes.still are)

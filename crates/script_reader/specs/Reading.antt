@@ -82,7 +82,7 @@ pub record PassesOver (old new : Reading) : Type 0 where
 abbrev pub AnswersBad : Reading → Option ℕ → ℕ → Reading → Type 0
 AnswersBad old (Some before) line new = (line ≡ before) × (new ≡ old)
 AnswersBad old None line new = ((more : List ℕ) (ended : Bool) → items_left old more ended ≡ bad line ∷ [])
-    × (new.stopped ≡ Some line) × (new.passed ≡ line) × (new.ended ≡ old.ended) × (new.fed ≡ old.fed) × Drops old new
+    × (new.stopped ≡ Some line) × (new.passed ≡ line) × (new.ended ≡ old.ended) × (new.fed ≡ old.fed) × Drops old new × (new.stage ≡ old.stage)
 
 -- what the answer says of the items, whatever comes next
 abbrev pub Answers : Reading → Next → Reading → Type 0
