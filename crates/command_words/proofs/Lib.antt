@@ -1,0 +1,2 @@
+pub mod ClapReads
+pub mod KnownWords

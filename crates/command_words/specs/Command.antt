@@ -1,0 +1,56 @@
+-- The command line of the tool, as `clap` reads it.
+use Rattle.std.specs.Prelude.{◌≡◌, List, [], ◌∷◌, Some, map, codes}
+use Rattle.std.specs.Borrow.{Bor}
+use Rattle.cf_base.specs.Kind.{kind_name}
+use Rattle.cf_base.specs.declared.kind.Kind.TheVariants.{Moving}
+use Rattle.clap.specs.Words.{App, Rule, Text, new_app, new_rule, with_rule}
+use Rattle.clap.specs.declared.builder.value_parser.ValueParser.{ValueParser}
+use Rattle.clap.specs.declared.builder.value_parser.ValueParser.TheVariants.{Names, Unsigned}
+
+-- a borrowed list of borrowed names, as `clap` keeps it
+abbrev pub NameList : Type 0
+NameList = Bor (List (Bor Text))
+
+abbrev pub texts_of : NameList → List Text
+texts_of names = map (λ name. name.now) names.now
+
+abbrev pub mode_names : List Text
+mode_names = codes "run" ∷ []
+
+abbrev pub manager_names : List Text
+manager_names = kind_name Moving ∷ []
+
+-- the positional MODE
+abbrev pub mode_rule : NameList → Rule
+mode_rule names = record (new_rule (codes "mode")) { parser = Some (Names names); defaults = codes "run" ∷ [] }
+
+-- an option of this name, with the parser of its value and its default
+abbrev pub option_rule : Text → ValueParser → Text → Rule
+option_rule name parser given = record (new_rule name) { long = Some name; parser = Some parser; defaults = given ∷ [] }
+
+abbrev pub manager_rule : NameList → Rule
+manager_rule names = option_rule (codes "manager") (Names names) (codes "cf")
+
+-- a whole number up to 2^64 - 1
+abbrev pub any_u64 : ValueParser
+any_u64 = Unsigned 0 18446744073709551615
+
+abbrev pub seed_rule : Rule
+seed_rule = option_rule (codes "seed") any_u64 (codes "0")
+
+-- a whole number up to 1,000,000
+abbrev pub count_rule : Rule
+count_rule = option_rule (codes "count") (Unsigned 0 1000000) (codes "1000")
+
+-- the command, with these references to the names
+abbrev pub cf_app : NameList → NameList → App
+cf_app modes managers =
+    with_rule (with_rule (with_rule (with_rule (new_app (codes "cf_tool")) (mode_rule modes)) (manager_rule managers)) seed_rule) count_rule
+
+-- The command, with some references to its names: a rule holds the references themselves, and where those of a static point is known to nobody.
+pub record IsCfApp (app : App) : Type 0 where
+  pub modes : NameList
+  pub managers : NameList
+  pub mode_texts : texts_of modes ≡ mode_names
+  pub manager_texts : texts_of managers ≡ manager_names
+  pub app_is : app ≡ cf_app modes managers

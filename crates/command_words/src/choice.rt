@@ -1,0 +1,29 @@
+//! What the words choose.
+
+use cf_base::Kind;
+
+/// What the program is to do.
+#[derive(Clone, Copy, Debug, PartialEq, Eq)]
+pub enum Mode {
+    /// Answer a script with one manager.
+    Run,
+}
+
+/// What the words chose: the mode, the manager's kind, and the seed and the number of commands of a
+/// generated script.
+#[derive(Clone, Copy, Debug, PartialEq, Eq)]
+pub struct Choice {
+    pub mode: Mode,
+    pub kind: Kind,
+    pub seed: u64,
+    pub count: u64,
+}
+
+/// Why there is no choice.
+#[derive(Clone, Copy, Debug, PartialEq, Eq)]
+pub enum WordsFault {
+    /// `clap` refuses the words; a request for help is refused too.
+    Refused,
+    /// Memory was wanting.
+    OutOfMemory,
+}

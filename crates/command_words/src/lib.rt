@@ -1,0 +1,18 @@
+//! The words of the command line, read by `clap`: what the program is to do, as a plain value.
+#![tactic(auto)]
+
+mod choice;
+mod command;
+mod laws;
+mod reading;
+
+pub use choice::{Choice, Mode, WordsFault};
+pub use command::cf_command;
+pub use laws::{
+    a_count_too_far_is_refused, help_is_refused, known_words_are_read, known_words_are_refused,
+    no_words_are_taken, words_choose_what_they_say,
+};
+pub use reading::read_words;
+
+#[cfg(test)]
+mod tests;

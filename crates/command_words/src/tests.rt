@@ -1,0 +1,88 @@
+//! Words that are taken, with what they choose, and words that are refused.
+use crate::{Choice, Mode, WordsFault, read_words};
+use cf_base::Kind;
+use std::alloc::{AllocError, Global};
+use std::test::Fail;
+
+/// The program's name and these words.
+fn texts(alloc: Global, words: &[&str]) -> Result<Vec<String>, AllocError> {
+    let mut all = Vec::new(alloc);
+    all.push(String::from_str(alloc, "cf_tool")?)?;
+    for word in words {
+        all.push(String::from_str(alloc, word)?)?;
+    }
+    Ok(all)
+}
+
+#[test]
+fn words_are_taken(rt: HostRuntime) -> Result<(), Fail> {
+    for (words, seed, count) in [
+        ([].as_slice(), 0, 1_000),
+        (["run"].as_slice(), 0, 1_000),
+        (["--", "run"].as_slice(), 0, 1_000),
+        (["--manager", "cf"].as_slice(), 0, 1_000),
+        (["--manager=cf", "run"].as_slice(), 0, 1_000),
+        (["--count", "0"].as_slice(), 0, 0),
+        (["--count=+7"].as_slice(), 0, 7),
+        (["--count=007"].as_slice(), 0, 7),
+        (["--count=1000000"].as_slice(), 0, 1_000_000),
+        (["--seed", "5", "run", "--count", "4"].as_slice(), 5, 4),
+        (["--seed=18446744073709551615"].as_slice(), u64::MAX, 1_000),
+    ] {
+        let all = texts(rt.alloc(), words)?;
+        let wanted = Choice {
+            mode: Mode::Run,
+            kind: Kind::Moving,
+            seed,
+            count,
+        };
+        assert_eq!(rt;
+            read_words(rt.alloc(), all.as_slice()),
+            Ok(wanted),
+            "{words:?}"
+        );
+    }
+    Ok(())
+}
+
+#[test]
+fn words_are_refused(rt: HostRuntime) -> Result<(), Fail> {
+    for words in [
+        ["--help"].as_slice(),
+        ["-h"].as_slice(),
+        ["help"].as_slice(),
+        ["--version"].as_slice(),
+        ["-V"].as_slice(),
+        ["compare"].as_slice(),
+        ["bench"].as_slice(),
+        ["slice"].as_slice(),
+        ["Run"].as_slice(),
+        [""].as_slice(),
+        ["run", "run"].as_slice(),
+        ["run", "extra"].as_slice(),
+        ["run", "--help"].as_slice(),
+        ["--other"].as_slice(),
+        ["--quantum=1"].as_slice(),
+        ["--manager"].as_slice(),
+        ["--manager", "other"].as_slice(),
+        ["--manager=nm"].as_slice(),
+        ["--manager=CF"].as_slice(),
+        ["--manager=cf", "--manager=cf"].as_slice(),
+        ["--seed"].as_slice(),
+        ["--seed="].as_slice(),
+        ["--seed", "x"].as_slice(),
+        ["--seed", "-1"].as_slice(),
+        ["--seed", "18446744073709551616"].as_slice(),
+        ["--seed=1", "--seed=1"].as_slice(),
+        ["--count="].as_slice(),
+        ["--count=-0"].as_slice(),
+        ["--count=1.0"].as_slice(),
+        ["--count=1000001"].as_slice(),
+        ["--count", "1", "--count", "2"].as_slice(),
+    ] {
+        let all = texts(rt.alloc(), words)?;
+        let read = read_words(rt.alloc(), all.as_slice());
+        assert_eq!(rt; read, Err(WordsFault::Refused), "{words:?}");
+    }
+    Ok(())
+}
