@@ -14,3 +14,11 @@ pub mod Filling
 pub mod Knowing
 pub mod Writing
 pub mod Cutting
+pub mod Standing
+pub mod Entering
+pub mod Carrying
+pub mod Between
+pub mod Changed
+pub mod ChangedAlone
+pub mod ChangedFilled
+pub mod Lengths
