@@ -1,12 +1,12 @@
 -- Answers, one line after the other.
 use Rattle.std.proofs.Common.{◌≡◌, ◌∙◌, ◌<◌, ◌≤◌, ◌+◌, ℕ, Bool, true, false, List, [], ◌∷◌, Option, Some, None, length, take, drop, refl, sym, ap, arith, length-drop, subst, append-nil, append_assoc, ◌++◌, ◌⊎◌, inl, inr, cond, suc, take-append-drop}
 use Rattle.std.proofs.lemmas.Bool.{false≢true, ltb-false}
-use Rattle.script_reader.specs.Commands.{are_idle, asked_or_wrong, command_of, is_comment, is_idle, line_says, nothing, opens_or_wrong, settings_in, tokens_say}
-use Rattle.script_reader.specs.Items.{said_items, stage_after}
+use Rattle.script_reader.specs.Commands.{are_idle, asked_or_wrong, asked, command_of, is_comment, is_idle, line_says, nothing, opens, opens_or_wrong, settings_in, tokens_say}
+use Rattle.script_reader.specs.Items.{is_bound, said_items, stage_after, stage_behind}
 use Rattle.std.proofs.lemmas.List.{drop_all}
 use Rattle.std.specs.Prelude.{codes}
 use Rattle.std.specs.Str.{bytes_eq}
-use Rattle.cf_base.specs.Settings.{Profile}
+use Rattle.cf_base.specs.Settings.{Profile, profile_of}
 use Rattle.script_reader.specs.declared.command.Command.{Command as CommandType}
 use Rattle.script_reader.specs.Lines.{is_last_line, is_too_long, lines, tokens, without_return}
 use Rattle.script_reader.specs.Reading.{Advances, Answers, AnswersBad, Drops, HasNoLine, IsFirstLine, PassesOver, Reading, holds_line_feed, items_left}
@@ -14,6 +14,7 @@ use Rattle.script_reader.specs.Said.{IsInRange, next_of, or_wrong, saying_of}
 use Rattle.script_reader.specs.declared.next.Next.{Next}
 use Rattle.script_reader.specs.declared.next.Next.TheVariants.{Start, Command, NeedMore, Bad, End}
 use Rattle.script_reader.specs.declared.stage.Stage.{Stage}
+use Rattle.script_reader.specs.declared.stage.Stage.TheVariants.{Opening, Bounding, Running}
 use Rattle.script_reader.proofs.ItemLemmas.{behind_line, line_in_place, line_out_of_place, lines_alone, lines_closed, no_items}
 
 pub passes_none : (a : Reading) → a.stopped ≡ None → PassesOver a a
@@ -24,6 +25,7 @@ passes_none a going = record {
   same_fed = refl;
   drops = record { front = []; kept = refl; counted = refl };
   within = omega arith;
+  same_stage = refl;
   left = λ more ended. refl;
 }
 
@@ -42,6 +44,7 @@ passes_then a b c p q = record {
   same_fed = q.same_fed ∙ p.same_fed;
   drops = drops_then a b c p.drops q.drops;
   within = omega arith;
+  same_stage = q.same_stage ∙ p.same_stage;
   left = λ more ended. p.left more ended ∙ q.left more ended;
 }
 
@@ -56,15 +59,17 @@ advances_then a b c p q = record {
 }
 
 pub answers_then : (a b c : Reading) (n : Next) → PassesOver a b → Answers b n c → Answers a n c
-answers_then a b c (Start settings) p (advances, first) = (advances_then a b c p advances, λ more ended. p.left more ended ∙ first more ended)
-answers_then a b c (Command command) p (advances, fits, first) =
-    (advances_then a b c p advances, fits, λ more ended. p.left more ended ∙ first more ended)
+answers_then a b c (Start settings) p (advances, first, opening, bounding) =
+    (advances_then a b c p advances, (λ more ended. p.left more ended ∙ first more ended), sym p.same_stage ∙ opening, bounding)
+answers_then a b c (Command command) p (advances, fits, first, leads) =
+    (advances_then a b c p advances, fits, (λ more ended. p.left more ended ∙ first more ended),
+    ap (λ stage. stage_behind stage (is_bound command)) (sym p.same_stage) ∙ leads)
 answers_then a b c NeedMore p (passes, open_end, none, few, no_feed) =
     (passes_then a b c p passes, sym p.same_end ∙ open_end, p.left [] false ∙ none, few, no_feed)
 answers_then a b c (Bad line) p h =
-    let (first, stopped, number, same_end, same_fed, drops) = subst (λ (o : Option ℕ). AnswersBad b o line c) p.still h in
+    let (first, stopped, number, same_end, same_fed, drops, same_stage) = subst (λ (o : Option ℕ). AnswersBad b o line c) p.still h in
     subst (λ (o : Option ℕ). AnswersBad a o line c) (sym p.going)
-    ((λ more ended. p.left more ended ∙ first more ended), stopped, number, same_end ∙ p.same_end, same_fed ∙ p.same_fed, drops_then a b c p.drops drops)
+    ((λ more ended. p.left more ended ∙ first more ended), stopped, number, same_end ∙ p.same_end, same_fed ∙ p.same_fed, drops_then a b c p.drops drops, same_stage ∙ p.same_stage)
 answers_then a b c End p (passes, told, none, empty) = (passes_then a b c p passes, sym p.same_end ∙ told, p.left [] true ∙ none, empty)
 
 behind_shorter : (old : Reading) (len at : ℕ) (next : Stage) → IsFirstLine old.kept old.ended len at → length (behind_line old at next).kept < length old.kept
@@ -162,10 +167,22 @@ step_idle old kept len at going same first idle =
         same_fed = refl;
         drops = advances.drops;
         within = omega (arith, advances.shorter);
+        same_stage = refl;
         left = λ more e. line_in_place old len at nothing old.stage going first2 (sym (idle_says_nothing (take len old.kept) idle2)) refl more e;
       },
       advances.shorter,
     )
+
+-- a heap is opened first, and bounds may follow
+opens_first : (settings : Profile) (old new : Stage) → stage_after old (opens settings) ≡ Some new → (old ≡ Opening) × (new ≡ Bounding)
+opens_first settings Opening new leads = (refl, cc)
+opens_first settings Bounding new leads = absurd cc
+opens_first settings Running new leads = absurd cc
+
+command_leads : (command : CommandType) (old new : Stage) → stage_after old (asked command) ≡ Some new → stage_behind old (is_bound command) ≡ Some new
+command_leads command Opening new leads = leads
+command_leads command Bounding new leads = leads
+command_leads command Running new leads = leads
 
 -- the answer to a line that is in its place
 pub step_in_place : (old : Reading) (kept : List ℕ) (len at : ℕ) (answer : Next) (stage : Stage) → old.stopped ≡ None → kept ≡ old.kept
@@ -179,8 +196,8 @@ step_in_place old kept len at answer stage going same first told says fits place
     go : (n : Next) → IsInRange n
         → ((more : List ℕ) (e : Bool) → items_left old more e ≡ said_items (saying_of n) (items_left (behind_line old at stage) more e))
         → Some stage ≡ stage_after old.stage (saying_of n) → Advances old (behind_line old at stage) → Answers old n (behind_line old at stage)
-    go (Start settings) fits left place advances = (advances, left)
-    go (Command command) fits left place advances = (advances, fits, left)
+    go (Start settings) fits left place advances = let at = opens_first (profile_of settings) old.stage stage (sym place) in (advances, left, at.0, at.1)
+    go (Command command) fits left place advances = (advances, fits, left, command_leads command old.stage stage (sym place))
     go NeedMore fits left place advances = absurd cc
     go (Bad line) fits left place advances = absurd cc
     go End fits left place advances = absurd cc
@@ -200,6 +217,7 @@ step_out_of_place old kept len at answer going same first told says place =
       refl,
       refl,
       record { front = drops.front; kept = drops.kept; counted = drops.counted },
+      refl,
     )
 
 few_kept : (kept : List ℕ) → is_last_line false kept ≡ false → length kept ≤ 8999

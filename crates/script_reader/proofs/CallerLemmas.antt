@@ -12,13 +12,13 @@ pub fresh_left : (more : List ℕ) (ended : Bool) → items_left fresh more ende
 fresh_left more ended = refl
 
 bad_same_end : (old : Reading) (before : Option ℕ) (line : ℕ) (new : Reading) → AnswersBad old before line new → new.ended ≡ old.ended
-bad_same_end old None line new (first, stopped, number, same_end, same_fed, drops) = same_end
+bad_same_end old None line new (first, stopped, number, same_end, same_fed, drops, same_stage) = same_end
 bad_same_end old (Some before) line new (same, is) = ap (λ (r : Reading). r.ended) is
 
 -- an answer tells no end
 pub answer_same_end : (old : Reading) (next : Next) (new : Reading) → Answers old next new → new.ended ≡ old.ended
-answer_same_end old (Start settings) new (advances, first) = advances.same_end
-answer_same_end old (Command command) new (advances, fits, first) = advances.same_end
+answer_same_end old (Start settings) new (advances, first, opening, bounding) = advances.same_end
+answer_same_end old (Command command) new (advances, fits, first, leads) = advances.same_end
 answer_same_end old NeedMore new (passes, open_end, none, few, no_feed) = passes.same_end
 answer_same_end old (Bad line) new h = bad_same_end old old.stopped line new h
 answer_same_end old End new (passes, told, none, empty) = passes.same_end
@@ -62,14 +62,14 @@ given_first (finishes ∷ rest) old now going (mid, is, are) =
     let first2 = subst (λ (more : List ℕ). AreFirstOf (items_given rest) (items_left (record old { ended = true }) more (is_finished rest))) nothing first in
     subst (λ (more : List ℕ). AreFirstOf (items_given rest) (items_left old more true)) (sym nothing)
     (first_of_same _ _ _ (finished_left old (is_finished rest)) first2)
-given_first (answers (Start settings) ∷ rest) old now going (mid, (advances, first), are) =
+given_first (answers (Start settings) ∷ rest) old now going (mid, (advances, first, opening, bounding), are) =
     after_item _ _ _ _ (first (bytes_fed rest) (is_finished rest)) (given_first rest mid now advances.still are)
-given_first (answers (Command command) ∷ rest) old now going (mid, (advances, fits, first), are) =
+given_first (answers (Command command) ∷ rest) old now going (mid, (advances, fits, first, leads), are) =
     after_item _ _ _ _ (first (bytes_fed rest) (is_finished rest)) (given_first rest mid now advances.still are)
 given_first (answers NeedMore ∷ rest) old now going (mid, (passes, open_end, none, few, no_feed), are) =
     first_of_same _ _ _ (passes.left (bytes_fed rest) (is_finished rest)) (given_first rest mid now passes.still are)
 given_first (answers (Bad line) ∷ rest) old now going (mid, h, are) =
-    let (first, stopped, number, same_end, same_fed, drops) = subst (λ (o : Option ℕ). AnswersBad old o line mid) going h in
+    let (first, stopped, number, same_end, same_fed, drops, same_stage) = subst (λ (o : Option ℕ). AnswersBad old o line mid) going h in
     ([], first (bytes_fed rest) (is_finished rest))
 given_first (answers End ∷ rest) old now going (mid, (passes, told, none, empty), are) =
     first_of_same _ _ _ (passes.left (bytes_fed rest) (is_finished rest)) (given_first rest mid now passes.still are)

@@ -3,12 +3,12 @@ use Rattle.std.specs.Prelude.{◌≡◌, ◌<◌, ◌≤◌, ◌+◌, ◌-◌, �
 use Rattle.std.specs.List.{list_any}
 use Rattle.cf_base.specs.Settings.{profile_of}
 use Rattle.script_reader.specs.Commands.{IsWellFormed}
-use Rattle.script_reader.specs.Items.{Item, asks, bad, starts, items_at}
+use Rattle.script_reader.specs.Items.{Item, asks, bad, starts, items_at, is_bound, stage_behind}
 use Rattle.script_reader.specs.Lines.{LONGEST, is_last_line, lines}
 use Rattle.script_reader.specs.declared.next.Next.{Next}
 use Rattle.script_reader.specs.declared.next.Next.TheVariants.{Start, Command, NeedMore, Bad, End}
 use Rattle.script_reader.specs.declared.stage.Stage.{Stage}
-use Rattle.script_reader.specs.declared.stage.Stage.TheVariants.{Opening}
+use Rattle.script_reader.specs.declared.stage.Stage.TheVariants.{Opening, Bounding}
 
 -- A script that is being read: the bytes that are kept, the lines passed, the stage that they led to,
 -- whether the end was told, the number of the bad line, where it was answered, and the bytes ever fed.
@@ -75,20 +75,23 @@ pub record PassesOver (old new : Reading) : Type 0 where
   pub same_fed : new.fed ≡ old.fed
   pub drops : Drops old new
   pub within : length new.kept ≤ length old.kept
+  pub same_stage : new.stage ≡ old.stage
   pub left : (more : List ℕ) (ended : Bool) → items_left old more ended ≡ items_left new more ended
 
 -- the answer at a bad line, and each one after it
 abbrev pub AnswersBad : Reading → Option ℕ → ℕ → Reading → Type 0
 AnswersBad old (Some before) line new = (line ≡ before) × (new ≡ old)
 AnswersBad old None line new = ((more : List ℕ) (ended : Bool) → items_left old more ended ≡ bad line ∷ [])
-    × (new.stopped ≡ Some line) × (new.passed ≡ line) × (new.ended ≡ old.ended) × (new.fed ≡ old.fed) × Drops old new
+    × (new.stopped ≡ Some line) × (new.passed ≡ line) × (new.ended ≡ old.ended) × (new.fed ≡ old.fed) × Drops old new × (new.stage ≡ old.stage)
 
 -- what the answer says of the items, whatever comes next
 abbrev pub Answers : Reading → Next → Reading → Type 0
 Answers old (Start settings) new = Advances old new
     × ((more : List ℕ) (ended : Bool) → items_left old more ended ≡ starts (profile_of settings) ∷ items_left new more ended)
+    × (old.stage ≡ Opening) × (new.stage ≡ Bounding)
 Answers old (Command command) new = Advances old new × IsWellFormed command
     × ((more : List ℕ) (ended : Bool) → items_left old more ended ≡ asks command ∷ items_left new more ended)
+    × (stage_behind old.stage (is_bound command) ≡ Some new.stage)
 Answers old NeedMore new = PassesOver old new × (old.ended ≡ false) × (items_left old [] false ≡ [])
     × (length new.kept ≤ LONGEST) × (holds_line_feed new.kept ≡ false)
 Answers old (Bad line) new = AnswersBad old old.stopped line new
