@@ -1,5 +1,5 @@
 -- A run goes on to the end of its items.
-use Rattle.std.proofs.Common.{◌≡◌, List, [], ◌∷◌, ◌++◌, Option, Some, None, sym, ◌∙◌, ap, refl, subst}
+use Rattle.std.proofs.Common.{◌≡◌, ℕ, append_assoc, List, [], ◌∷◌, ◌++◌, Option, Some, None, sym, ◌∙◌, ap, refl, subst}
 use Rattle.std.specs.Prelude.{codes}
 use Rattle.cf_base.specs.declared.kind.Kind.{Kind}
 use Rattle.cf_model.specs.Rules.{IsPaged}
@@ -7,7 +7,7 @@ use Rattle.cf_model.specs.State.{HeapState}
 use Rattle.script_reader.specs.Items.{Item, asks, bad, starts}
 use Rattle.script_runs.specs.Runs.{ItemStep, Run}
 use Rattle.script_runs.specs.Sessions.{RunState}
-use Rattle.script_runs.specs.Texts.{Reply, bad_line, said}
+use Rattle.script_runs.specs.Texts.{Reply, bad_line, led, said, text_of}
 use Rattle.script_runs.proofs.Going.{begins_going, step_going, step_same}
 use Rattle.run_laws.specs.Sayable.{AreSayable, IsSayableItem, IsUnderWay}
 use Rattle.run_laws.proofs.Turns.{begins_there, turn_there}
@@ -60,3 +60,15 @@ pub run_goes_on : (kind : Kind) (items done after : List Item) (replies : List R
 run_goes_on kind items done after replies mid paged can is run =
     let rest = run_there kind mid after paged (run_keeps kind None done replies mid tt run) (sayable_behind done after (subst AreSayable is can)) in
     (rest.0, rest.1, subst (λ i. Run kind None i (replies ++ rest.0) rest.1) (sym is) (run_joined kind None done after replies rest.0 mid rest.1 run rest.2))
+
+-- the text of replies, one after the other
+pub text_joined : (lead : List ℕ) (replies more : List Reply) → text_of lead (replies ++ more) ≡ text_of lead replies ++ text_of lead more
+text_joined lead [] more = refl
+text_joined lead (reply ∷ rest) more = ap (λ t. led lead reply ++ t) (text_joined lead rest more) ∙ sym (append_assoc (led lead reply) (text_of lead rest) (text_of lead more))
+
+-- a front of the text of a front is a front of the text of all
+pub front_written : (kind : Kind) (items done after : List Item) (replies : List Reply) (mid : Option RunState) (lead written lost : List ℕ) → IsPaged kind → AreSayable items → items ≡ done ++ after → Run kind None done replies mid
+    → text_of lead replies ≡ written ++ lost → (all : List Reply) × (end : Option RunState) × (rest : List ℕ) × Run kind None items all end × (text_of lead all ≡ written ++ rest)
+front_written kind items done after replies mid lead written lost paged can is run cut =
+    let on = run_goes_on kind items done after replies mid paged can is run in
+    (replies ++ on.0, on.1, lost ++ text_of lead on.0, on.2, text_joined lead replies on.0 ∙ ap (λ t. t ++ text_of lead on.0) cut ∙ append_assoc written lost (text_of lead on.0))

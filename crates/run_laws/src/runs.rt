@@ -7,7 +7,7 @@ ghost use Rattle.script_reader.specs.Items.{Item, items};
 ghost use Rattle.script_reader.specs.declared.command.Command.{Command};
 ghost use Rattle.script_runs.specs.Runs.{Begins, Run, Turn};
 ghost use Rattle.script_runs.specs.Sessions.{IsGoing, RunState};
-ghost use Rattle.script_runs.specs.Texts.{Reply};
+ghost use Rattle.script_runs.specs.Texts.{Reply, text_of};
 ghost use Rattle.run_laws.specs.Sayable.{AreSayable, IsSayable, IsUnderWay};
 
 /// With pages a run begins under any settings in their ranges, and from each state of a run that
@@ -51,4 +51,17 @@ pub fn a_run_can_always_go_on()
         → IsPaged kind → items given ended ≡ done ++ after → Run kind None done replies mid
         → (more : List Reply) × (new : Option RunState)
         × Run kind None (items given ended) (replies ++ more) new }
+{}
+
+/// With pages, a front of the text of a run over a front of a script's items is a front of the text
+/// of a run over all of them, wherever the text was cut.
+pub fn what_was_written_is_a_front()
+    ensures joined { (lead : List ℕ) (replies more : List Reply)
+        → text_of lead (replies ++ more) ≡ text_of lead replies ++ text_of lead more }
+    ensures front { (kind : Kind) (given : List ℕ) (ended : Bool) (done after : List Item)
+        (replies : List Reply) (mid : Option RunState) (lead written lost : List ℕ)
+        → IsPaged kind → items given ended ≡ done ++ after → Run kind None done replies mid
+        → text_of lead replies ≡ written ++ lost
+        → (all : List Reply) × (new : Option RunState) × (rest : List ℕ)
+        × Run kind None (items given ended) all new × (text_of lead all ≡ written ++ rest) }
 {}
