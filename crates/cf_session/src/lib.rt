@@ -1,0 +1,2 @@
+//! A session.
+#![tactic(auto)]
