@@ -1,7 +1,6 @@
 //! The commands that change objects: each does its call, and answers the text of its reply.
 ghost use Rattle.std.specs.Prelude.{◌≡◌, ◌^◌, ◌≤◌, IsTrue, Err, codes, length};
 ghost use Rattle.std.specs.FinMap as map;
-ghost use Rattle.cf_model.specs.Steps.{StaysOpen};
 ghost use Rattle.cf_session.specs.Applying.{run_at};
 ghost use Rattle.script_reader.specs.declared.command.Command.TheVariants.{Malloc, Free, Write, Resize, Bound};
 ghost use Rattle.script_runs.specs.Replies.{malloc_text, resize_text, write_text};
@@ -10,7 +9,7 @@ ghost use Rattle.script_runs.specs.Steps.{Step};
 ghost use Rattle.script_runs.specs.Texts.{said};
 
 use crate::records::Records;
-use cf_base::{AccessFault, Handle, Refusal, ResizeFault, Resized};
+use cf_base::{AccessFault, Refusal, ResizeFault};
 use cf_model::Manager;
 use step_ledger::Steps;
 
