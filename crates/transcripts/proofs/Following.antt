@@ -127,14 +127,16 @@ module _ (old : RunState) (going : IsGoing old) where
           let whole = step.whole in
           let unused : get m h.0 ≡ None = get-map_values (λ (x : Placed). x.bytes) old.heap.held h.0 ∙ ap (option_map (λ (x : Placed). x.bytes)) step.unused in
           let left : objects new.heap.held ≡ insert m h.0 (replicate bytes 0) = ap (λ (s : HeapState). objects s.held) whole ∙ malloc_objects old.heap.held h.0 step.place bytes in
-          let o : objects_by_id new.session.ids (objects new.heap.held) ≡ insert t.objects id (replicate bytes 0) = (λ i. objects_by_id (e i) (left i)) ∙ by_id_given ids m names id h.0 (replicate bytes 0) unused in
-          (r ∙ ap (λ f. said (ok_or (λ e. malloc_text (Err e)) f)) (sym fault),
-              becomes t.bounds _ k p (ap (λ (s : HeapState). s.bounds) whole) (o ∙ ap (λ f. put_unless f t.objects id (replicate bytes 0)) (sym fault)))
+          let o : objects_by_id new.session.ids (objects new.heap.held) ≡ insert t.objects id (replicate bytes 0) = (λ i. objects_by_id (e i) (left i)) ∙ by_id_given ids m names id h.0 (replicate bytes 0) unused in (
+            r ∙ ap (λ f. said (ok_or (λ e. malloc_text (Err e)) f)) (sym fault),
+            becomes t.bounds _ k p (ap (λ (s : HeapState). s.bounds) whole) (o ∙ ap (λ f. put_unless f t.objects id (replicate bytes 0)) (sym fault)),
+          )
       malloc_answer id bytes reply (Err f) none k p step e r =
           let fault = malloc_refused old going paged ones bytes f step.0 in
-          let o : objects_by_id new.session.ids (objects new.heap.held) ≡ t.objects = λ i. objects_by_id (e i) (objects (step.1 i).held) in
-          (r ∙ ap (λ f. said (ok_or (λ e. malloc_text (Err e)) f)) (sym fault),
-              becomes t.bounds _ k p (ap (λ (s : HeapState). s.bounds) step.1) (o ∙ ap (λ f. put_unless f t.objects id (replicate bytes 0)) (sym fault)))
+          let o : objects_by_id new.session.ids (objects new.heap.held) ≡ t.objects = λ i. objects_by_id (e i) (objects (step.1 i).held) in (
+            r ∙ ap (λ f. said (ok_or (λ e. malloc_text (Err e)) f)) (sym fault),
+            becomes t.bounds _ k p (ap (λ (s : HeapState). s.bounds) step.1) (o ∙ ap (λ f. put_unless f t.objects id (replicate bytes 0)) (sym fault)),
+          )
 
       malloc_at : (o : Option ℕ) (id bytes : ℕ) (reply : Reply) → get ids id ≡ o → new.heap.kind ≡ old.heap.kind → new.heap.profile ≡ old.heap.profile → MallocsAt o old (record { number = id; length = bytes }) reply new → Follows old (Malloc id bytes) reply new
       malloc_at (Some h) id bytes reply named k p step =
@@ -156,15 +158,17 @@ module _ (old : RunState) (going : IsGoing old) where
           let same : Some step.object ≡ Some x = sym step.found ∙ found in
           let is : step.object ≡ x = cc in
           let left : objects new.heap.held ≡ insert m h (resized x.bytes bytes) = step.left ∙ ap (λ (y : Placed). insert m h (resized y.bytes bytes)) is in
-          let o : objects_by_id new.session.ids (objects new.heap.held) ≡ insert t.objects id (resized x.bytes bytes) = (λ i. objects_by_id (e i) (left i)) ∙ by_id_changed ids m names id h named (resized x.bytes bytes) in
-          (r ∙ ap (λ f. said (ok_or (λ e. resize_text (Err e)) f)) (sym fault),
-              becomes t.bounds _ k p (ap (λ (s : HeapState). s.bounds) step.whole) (o ∙ ap (λ f. put_unless f t.objects id (resized x.bytes bytes)) (sym fault)))
+          let o : objects_by_id new.session.ids (objects new.heap.held) ≡ insert t.objects id (resized x.bytes bytes) = (λ i. objects_by_id (e i) (left i)) ∙ by_id_changed ids m names id h named (resized x.bytes bytes) in (
+            r ∙ ap (λ f. said (ok_or (λ e. resize_text (Err e)) f)) (sym fault),
+            becomes t.bounds _ k p (ap (λ (s : HeapState). s.bounds) step.whole) (o ∙ ap (λ f. put_unless f t.objects id (resized x.bytes bytes)) (sym fault)),
+          )
       resize_answer id h bytes x reply (Err f) named found k p step e r =
           let fault = resize_refused old going paged ones (record { number = h; length = bytes }) x found f step.0 in
           let left : objects new.heap.held ≡ m = ap objects (unmoved_held old.heap.kind old.heap new.heap step.1) in
-          let o : objects_by_id new.session.ids (objects new.heap.held) ≡ t.objects = λ i. objects_by_id (e i) (left i) in
-          (r ∙ ap (λ f. said (ok_or (λ e. resize_text (Err e)) f)) (sym fault),
-              becomes t.bounds _ k p (unmoved_bounds old.heap.kind old.heap new.heap step.1) (o ∙ ap (λ f. put_unless f t.objects id (resized x.bytes bytes)) (sym fault)))
+          let o : objects_by_id new.session.ids (objects new.heap.held) ≡ t.objects = λ i. objects_by_id (e i) (left i) in (
+            r ∙ ap (λ f. said (ok_or (λ e. resize_text (Err e)) f)) (sym fault),
+            becomes t.bounds _ k p (unmoved_bounds old.heap.kind old.heap new.heap step.1) (o ∙ ap (λ f. put_unless f t.objects id (resized x.bytes bytes)) (sym fault)),
+          )
 
       resize_at : (o : Option ℕ) (id bytes : ℕ) (reply : Reply) → get ids id ≡ o → new.heap.kind ≡ old.heap.kind → new.heap.profile ≡ old.heap.profile → ResizesAt o old bytes reply new → Follows old (Resize id bytes) reply new
       resize_at None id bytes reply none k p step =
@@ -201,14 +205,16 @@ module _ (old : RunState) (going : IsGoing old) where
         let is : step.object ≡ x = cc in
         let fault : write_fault x.bytes at (length bytes) ≡ None = subst (λ (y : Placed). write_fault y.bytes at (length bytes) ≡ None) is (write_within step.object.bytes at (length bytes) step.within) in
         let left : objects new.heap.held ≡ insert m h (written x.bytes at bytes) = ap (λ (s : HeapState). objects s.held) step.whole ∙ map_values-insert (λ (x : Placed). x.bytes) old.heap.held h _ ∙ ap (λ (y : Placed). insert m h (written y.bytes at bytes)) is in
-        let o : objects_by_id new.session.ids (objects new.heap.held) ≡ insert t.objects id (written x.bytes at bytes) = (λ i. objects_by_id (e i) (left i)) ∙ by_id_changed ids m names id h named (written x.bytes at bytes) in
-        (r ∙ ap (λ f. said (ok_or (λ e. write_text (Err e)) f)) (sym fault),
-            becomes t.bounds _ k p (ap (λ (s : HeapState). s.bounds) step.whole) (o ∙ ap (λ f. put_unless f t.objects id (written x.bytes at bytes)) (sym fault)))
+        let o : objects_by_id new.session.ids (objects new.heap.held) ≡ insert t.objects id (written x.bytes at bytes) = (λ i. objects_by_id (e i) (left i)) ∙ by_id_changed ids m names id h named (written x.bytes at bytes) in (
+          r ∙ ap (λ f. said (ok_or (λ e. write_text (Err e)) f)) (sym fault),
+          becomes t.bounds _ k p (ap (λ (s : HeapState). s.bounds) step.whole) (o ∙ ap (λ f. put_unless f t.objects id (written x.bytes at bytes)) (sym fault)),
+        )
     write_answer id h at bytes x reply (Err f) named found k p step e r =
         let fault = write_past old.heap (record { number = h; from = at }) (length bytes) x f found step.0 in
-        let o : objects_by_id new.session.ids (objects new.heap.held) ≡ t.objects = λ i. objects_by_id (e i) (objects (step.1 i).held) in
-        (r ∙ ap (λ f. said (ok_or (λ e. write_text (Err e)) f)) (sym fault),
-            becomes t.bounds _ k p (ap (λ (s : HeapState). s.bounds) step.1) (o ∙ ap (λ f. put_unless f t.objects id (written x.bytes at bytes)) (sym fault)))
+        let o : objects_by_id new.session.ids (objects new.heap.held) ≡ t.objects = λ i. objects_by_id (e i) (objects (step.1 i).held) in (
+          r ∙ ap (λ f. said (ok_or (λ e. write_text (Err e)) f)) (sym fault),
+          becomes t.bounds _ k p (ap (λ (s : HeapState). s.bounds) step.1) (o ∙ ap (λ f. put_unless f t.objects id (written x.bytes at bytes)) (sym fault)),
+        )
 
     write_at : (o : Option ℕ) (id at : ℕ) (bytes : List ℕ) (reply : Reply) → get ids id ≡ o → new.heap.kind ≡ old.heap.kind → new.heap.profile ≡ old.heap.profile → WritesAt o old at bytes reply new → Follows old (Write id at bytes) reply new
     write_at None id at bytes reply none k p step =

@@ -6,3 +6,4 @@ pub mod Reports
 pub mod Following
 pub mod Telling
 pub mod Further
+pub mod Worked

@@ -53,18 +53,18 @@ module _ {V : Type 0} where
   counted_alike = map_induction (λ n. (ids : FinMap nat_cmp ℕ) (m : FinMap nat_cmp V) → AreRenamed ids m n → CountAlike m n)
       (λ ids m r. subst (λ x. CountAlike x empty) (sym (only_empty ids m r)) (record { count = refl; sums = λ f. refl }))
       (λ n id v none before ids m r. (
-          let h = number ids m n id v none r in
-          let rest = before (remove ids id) (remove m h.0) (fewer ids m n id v none r) in
-          record {
-            count = (
-                let a = len_fresh n id v none in
-                let b : len (insert (remove m h.0) h.0 v) ≡ len (remove m h.0) + 1 = len_fresh (remove m h.0) h.0 v (get_removed m h.0) in
-                let c : len (insert (remove m h.0) h.0 v) ≡ len m = ap len (put_back m h.0 v h.2) in
-                let d = rest.count in
-                omega arith);
-            sums = λ f. (
-                let a = sum_by-inserted f n id v none in
-                let b = sum_by-removed f m h.0 v h.2 in
-                let d = rest.sums f in
-                omega arith);
-          }))
+      let h = number ids m n id v none r in
+      let rest = before (remove ids id) (remove m h.0) (fewer ids m n id v none r) in
+      record {
+        count = (
+            let a = len_fresh n id v none in
+            let b : len (insert (remove m h.0) h.0 v) ≡ len (remove m h.0) + 1 = len_fresh (remove m h.0) h.0 v (get_removed m h.0) in
+            let c : len (insert (remove m h.0) h.0 v) ≡ len m = ap len (put_back m h.0 v h.2) in
+            let d = rest.count in
+            omega arith);
+        sums = λ f. (
+            let a = sum_by-inserted f n id v none in
+            let b = sum_by-removed f m h.0 v h.2 in
+            let d = rest.sums f in
+            omega arith);
+      }))

@@ -3,3 +3,4 @@ pub mod AtOne
 pub mod Replies
 pub mod Transcripts
 pub mod Histories
+pub mod Small

@@ -1,16 +1,19 @@
 //! Where every bound is 1 the replies to a script are a function of the kind and the script alone.
 //! The public functions do nothing: each one's contract is a law of runs.
 #![tactic(auto)]
-ghost use Rattle.std.specs.Prelude.{◌≡◌, List, None, Option, Some};
+
+ghost use Rattle.std.specs.Prelude.{◌≡◌, [], List, None, Option, Some, true};
 ghost use Rattle.cf_base.specs.declared.kind.Kind.{Kind};
+ghost use Rattle.cf_base.specs.declared.kind.Kind.TheVariants.{Moving};
 ghost use Rattle.cf_model.specs.Rules.{IsPaged};
 ghost use Rattle.cf_model.specs.State.{paging_in};
 ghost use Rattle.arrangement.specs.Paging.{AreOne};
-ghost use Rattle.script_reader.specs.Items.{Item};
+ghost use Rattle.script_reader.specs.Items.{Item, items};
 ghost use Rattle.script_runs.specs.Runs.{Run};
 ghost use Rattle.script_runs.specs.Sessions.{IsGoing, RunState};
-ghost use Rattle.script_runs.specs.Texts.{Reply};
+ghost use Rattle.script_runs.specs.Texts.{Reply, text_of};
 ghost use Rattle.transcripts.specs.Histories.{AreAlike, AreFurther};
+ghost use Rattle.transcripts.specs.Small.{small_replies, small_script};
 ghost use Rattle.transcripts.specs.Transcripts.{ArePlaceless, AskForOne, StaysAtOne, transcript};
 
 /// Of a kind with pages, all runs over these items have one list of replies, where every bound is 1
@@ -37,4 +40,10 @@ pub fn equal_objects_get_equal_replies()
         → Run one.heap.kind (Some one) items replies last
         → Run one.heap.kind (Some other) items told end
         → told ≡ replies }
+{}
+
+/// The transcript of a small script, from its bytes to the bytes of its replies: of two full pages
+/// each loses an object, the two that are left need one page, and the other one is free again.
+pub fn a_small_transcript()
+    ensures { text_of [] (transcript Moving (items small_script true)) ≡ small_replies }
 {}
