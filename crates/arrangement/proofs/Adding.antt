@@ -1,10 +1,7 @@
 -- How the reports' sums change where an object comes or goes.
-use Rattle.std.proofs.Common.{◌≡◌, ℕ, ◌+◌, ◌*◌, List, Some, None, length, arith, sym, ◌∙◌, ap}
-use Rattle.std.specs.Prelude.{nat_eq, option_map}
-use Rattle.std.specs.Ordering.{nat_cmp}
-use Rattle.std.specs.FinMap.{get, insert, remove, len, len-empty}
-use Rattle.cf_lemmas.proofs.Maps.{len_fresh}
-use Rattle.cf_lemmas.proofs.MapValues.{get-map_values, map_values-insert}
+use Rattle.std.proofs.Common.{◌≡◌, ℕ, ◌+◌, ◌*◌, List, Some, None, length, arith}
+use Rattle.std.specs.Prelude.{nat_eq}
+use Rattle.std.specs.FinMap.{get, insert, remove, len}
 use Rattle.cf_lemmas.proofs.Sums.{sum_by-inserted, sum_by-removed}
 use Rattle.cf_lemmas.proofs.Ranges.{one}
 use Rattle.cf_lemmas.proofs.Values.{len-map_values}

@@ -1,11 +1,10 @@
 -- The blocks of the objects that stay are the same after each step, and no two objects share one.
-use Rattle.std.proofs.Common.{◌≡◌, ◌≢◌, ℕ, Bool, true, false, ◌+◌, ◌-◌, ◌*◌, ◌/◌, ◌%◌, ◌<◌, ◌≤◌, List, Option, Some, None, length, get_or, arith, sym, ◌∙◌, subst, inl, inr, ap, refl}
-use Rattle.std.specs.Prelude.{◌⊎◌, ◌&&◌, nat_le, nat_lt}
+use Rattle.std.proofs.Common.{◌≡◌, ◌≢◌, ℕ, ◌+◌, ◌*◌, ◌/◌, ◌%◌, ◌<◌, ◌≤◌, List, Option, Some, None, length, get_or, arith, sym, ◌∙◌, subst, inl, inr, ap, refl}
+use Rattle.std.specs.Prelude.{◌⊎◌}
 use Rattle.std.specs.List.{range_with_len}
-use Rattle.std.proofs.lemmas.List.FromFn.{length-map-range_with_len, get_or-map-range_with_len, get_or-range_with_len, length-range_with_len}
+use Rattle.std.proofs.lemmas.List.FromFn.{get_or-range_with_len, length-range_with_len}
 use Rattle.std.proofs.Math.Nat.{mul-mod_left}
-use Rattle.std.proofs.lemmas.Bool.{cases_eq, cases_lt}
-use Rattle.std.proofs.lemmas.Bool.Decides.{nat_tests}
+use Rattle.std.proofs.lemmas.Bool.{cases_eq}
 use Rattle.std.proofs.lemmas.Nat.{div-add-mod'}
 use Rattle.std.specs.FinMap.{get, remove}
 use Rattle.cf_lemmas.proofs.Maps.{get_inserted, get_insert_other, get_remove_other}
