@@ -296,7 +296,7 @@ impl Plain {
             return false;
         }
         let on_page = self.objects_on(class, self.pages.page_of(object.place));
-        is_closed(on_page, self.slots(class)) && self.is_at_bound(class)
+        fills_several(on_page, self.slots(class)) && self.is_at_bound(class)
     }
 
     /// Whether class c has as many pages that are not full as it may.
@@ -418,8 +418,8 @@ fn is_part_full(objects: u32, slots: u32) -> bool
     0 < objects && objects < slots
 }
 
-/// Whether so many objects fill more than one slot each.
-fn is_closed(objects: u32, slots: u32) -> bool
+/// Whether so many objects fill all slots of a page, which has more than one.
+fn fills_several(objects: u32, slots: u32) -> bool
     ensures { IsTrue result ↔ ((objects ≡ slots) × (1 < slots)) }
 {
     objects == slots && 1 < slots
