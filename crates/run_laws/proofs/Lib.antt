@@ -7,3 +7,4 @@ pub mod Turns
 pub mod Items
 pub mod GoingOn
 pub mod ReadBack
+pub mod Bytewise

@@ -77,7 +77,7 @@ module _ (ids : Ids) (o : Objects) (m : Told) (names : AreNames ids o) (told : I
     told_here : (v : List ℕ) → get o h ≡ Some v → get m id ≡ Some v
     told_here v there = told id ∙ ap (through o) some ∙ there
 
-changed_is : (m : Told) (id : ℕ) (f : List ℕ → List ℕ) (v : List ℕ) → get m id ≡ Some v → changed m id f ≡ insert m id (f v)
+pub changed_is : (m : Told) (id : ℕ) (f : List ℕ → List ℕ) (v : List ℕ) → get m id ≡ Some v → changed m id f ≡ insert m id (f v)
 changed_is m id f v here = ap (λ (o : Option (List ℕ)). elim o as (λ _. Told) [ None ↦ m | Some u ↦ insert m id (f u) ]) here
 
 -- what is told after a reply

@@ -1,11 +1,14 @@
 //! What reads give.
-ghost use Rattle.std.specs.Prelude.{List, Option, None};
+ghost use Rattle.std.specs.Prelude.{ℕ, ◌≡◌, ◌≢◌, ◌+◌, ◌<◌, ◌≤◌, List, Option, Some, None, length, replicate, slice_index};
+ghost use Rattle.std.specs.FinMap.{get};
+ghost use Rattle.arrangement.specs.Image.{IsOutside};
 ghost use Rattle.cf_base.specs.declared.kind.Kind.{Kind};
 ghost use Rattle.script_reader.specs.Items.{Item};
+ghost use Rattle.script_reader.specs.declared.command.Command.TheVariants.{Malloc, Free, Write, Resize};
 ghost use Rattle.script_runs.specs.Runs.{Run};
 ghost use Rattle.script_runs.specs.Sessions.{RunState};
 ghost use Rattle.script_runs.specs.Texts.{Reply};
-ghost use Rattle.run_laws.specs.Told.{AreReadsOf};
+ghost use Rattle.run_laws.specs.Told.{AreReadsOf, Told, done_by};
 
 /// Over a run of any kind, each read of an id gives the bytes last written through it, and zeros
 /// where nothing was written since its malloc or since a resize added the byte. What was written is
@@ -13,4 +16,27 @@ ghost use Rattle.run_laws.specs.Told.{AreReadsOf};
 pub fn reads_give_what_was_written()
     ensures { (kind : Kind) (items : List Item) (replies : List Reply) (new : Option RunState)
         → Run kind None items replies new → AreReadsOf None items replies }
+{}
+
+/// What the lines tell of an id, byte by byte: after a malloc all its bytes are 0, after a free it
+/// has none, a write changes those that it names, a resize cuts bytes or adds zeros; and the bytes
+/// of every other id stay.
+pub fn bytes_are_told_one_by_one()
+    ensures malloc { (m : Told) (id n : ℕ) → get (done_by (Malloc id n) m) id ≡ Some (replicate n 0) }
+    ensures free { (m : Told) (id : ℕ) → get (done_by (Free id) m) id ≡ None }
+    ensures write { (m : Told) (id at : ℕ) (bytes old : List ℕ) → get m id ≡ Some old
+        → at + length bytes ≤ length old
+        → (new : List ℕ) × (get (done_by (Write id at bytes) m) id ≡ Some new)
+        × (length new ≡ length old)
+        × ((k : ℕ) → k < length bytes → slice_index new (at + k) ≡ slice_index bytes k)
+        × ((k : ℕ) → IsOutside at (length bytes) k → slice_index new k ≡ slice_index old k) }
+    ensures resize { (m : Told) (id n : ℕ) (old : List ℕ) → get m id ≡ Some old
+        → (new : List ℕ) × (get (done_by (Resize id n) m) id ≡ Some new) × (length new ≡ n)
+        × ((k : ℕ) → k < n → k < length old → slice_index new k ≡ slice_index old k)
+        × ((k : ℕ) → length old ≤ k → slice_index new k ≡ 0) }
+    ensures others { (m : Told) (id other at n : ℕ) (bytes : List ℕ) → other ≢ id
+        → (get (done_by (Malloc id n) m) other ≡ get m other)
+        × (get (done_by (Free id) m) other ≡ get m other)
+        × (get (done_by (Write id at bytes) m) other ≡ get m other)
+        × (get (done_by (Resize id n) m) other ≡ get m other) }
 {}
