@@ -1,6 +1,6 @@
 -- Where every bound is 1, the cause of each refusal is told by the objects by id.
-use Rattle.std.proofs.Common.{◌≡◌, ◌≢◌, ℕ, Bool, true, false, ◌+◌, ◌<◌, ◌≤◌, List, Some, None, length, arith, sym, ◌∙◌, ap, refl, inl, inr, subst}
-use Rattle.std.specs.Prelude.{◌↔◌, ◌⊎◌, ◌&&◌, cond, nat_eq, nat_le, nat_lt, not}
+use Rattle.std.proofs.Common.{◌≡◌, ◌≢◌, ℕ, Bool, true, false, ◌+◌, ◌<◌, ◌≤◌, List, Some, None, length, arith, sym, ◌∙◌, refl, inl, inr, subst}
+use Rattle.std.specs.Prelude.{◌↔◌, ◌⊎◌, ◌&&◌, nat_le, nat_lt}
 use Rattle.std.proofs.lemmas.Bool.{cases_lt}
 use Rattle.std.proofs.lemmas.Bool.Decides.{nat_tests}
 use Rattle.std.specs.FinMap.{get, len}
@@ -14,8 +14,8 @@ use Rattle.cf_base.specs.declared.answers.ResizeFault.{ResizeFault}
 use Rattle.cf_base.specs.declared.answers.ResizeFault.TheVariants as resize
 use Rattle.cf_base.specs.declared.kind.Kind.{Kind}
 use Rattle.cf_base.specs.declared.kind.Kind.TheVariants.{Moving, NonMoving, Tlsf, HalfFit}
-use Rattle.arrangement.specs.Held.{Held, Placed, objects}
-use Rattle.arrangement.specs.Paging.{AreOne, class_for, classes}
+use Rattle.arrangement.specs.Held.{Placed, objects}
+use Rattle.arrangement.specs.Paging.{AreOne, class_for}
 use Rattle.arrangement.specs.Arrangement.{LacksRoom, class_at, pages_needed_with}
 use Rattle.arrangement.specs.Steps.{Request}
 use Rattle.arrangement.proofs.Adding.{len-objects}
@@ -28,8 +28,7 @@ use Rattle.cf_model.specs.Steps.{GivesObject, IsFault, IsRefusedBy, IsResizeFaul
 use Rattle.cf_model.proofs.Exactly.{given_is_not_refused, not_none_found, resized_is_not_refused}
 use Rattle.script_runs.specs.Sessions.{IsGoing, RunState}
 use Rattle.script_runs.proofs.Bounded.{pages_kept}
-use Rattle.script_runs.proofs.Tied.{AreNames, names_in, names_of_objects}
-use Rattle.transcripts.specs.ById.{ById, paging_by_id}
+use Rattle.script_runs.proofs.Tied.{names_in, names_of_objects}
 use Rattle.transcripts.specs.Histories.{by_id}
 use Rattle.transcripts.specs.Replies.{is_in_class, malloc_fault, passes_pages, resize_fault, write_fault}
 use Rattle.transcripts.proofs.ByIds.{by_id_counts}

@@ -1,7 +1,7 @@
 -- Each step of a run has the reply that the objects by id tell, and leaves the objects by id that they tell.
-use Rattle.std.proofs.Common.{◌≡◌, ℕ, List, [], Option, Some, None, Result, Ok, Err, length, sym, ◌∙◌, ap, refl, subst, cond}
-use Rattle.std.specs.Prelude.{option_map, codes, nat_eq, position, replicate}
-use Rattle.std.specs.FinMap.{get, insert, len, remove}
+use Rattle.std.proofs.Common.{◌≡◌, ℕ, List, Option, Some, None, Result, Ok, Err, length, sym, ◌∙◌, ap, refl, subst, cond}
+use Rattle.std.specs.Prelude.{option_map, nat_eq, position, replicate}
+use Rattle.std.specs.FinMap.{get, insert, remove}
 use Rattle.cf_lemmas.proofs.Maps.{equal_maps, get_remove_other, get_removed}
 use Rattle.cf_lemmas.proofs.MapValues.{get-map_values, map_values-insert}
 use Rattle.std.proofs.lemmas.Bool.{cases_eq}
@@ -13,26 +13,26 @@ use Rattle.cf_base.specs.declared.answers.Resized.{Resized}
 use Rattle.cf_base.specs.declared.answers.ResizeFault.{ResizeFault}
 use Rattle.cf_base.specs.declared.kind.Kind.{Kind}
 use Rattle.cf_base.specs.declared.kind.Kind.TheVariants.{Moving, NonMoving, Tlsf, HalfFit}
-use Rattle.arrangement.specs.Held.{Held, Objects, Placed, objects}
+use Rattle.arrangement.specs.Held.{Objects, Placed, objects}
 use Rattle.arrangement.specs.Paging.{AreOne}
-use Rattle.arrangement.specs.Steps.{Request, resized, zeros_at}
+use Rattle.arrangement.specs.Steps.{resized}
 use Rattle.arrangement.specs.Bytes.{written}
 use Rattle.arrangement.proofs.Parts.{malloc_objects}
 use Rattle.cf_model.specs.Answers.{bound_put, class_with}
 use Rattle.cf_model.specs.Rules.{IsPaged}
 use Rattle.cf_model.specs.State.{HeapState, paging_in}
-use Rattle.cf_model.specs.Steps.{FreesObject, IsMallocStep, IsResizeStep, IsUnmoved, IsWriteStep, Part}
+use Rattle.cf_model.specs.Steps.{IsMallocStep, IsResizeStep, IsUnmoved, IsWriteStep}
 use Rattle.script_reader.specs.declared.command.Command.{Command}
 use Rattle.script_reader.specs.declared.command.Command.TheVariants.{Malloc, Free, Write, Read, Place, Block, Peek, Walk, Frag, Steps, Bound, Resize, Slice, Task, Quota, Need, Admit}
 use Rattle.script_runs.specs.Replies.{malloc_text, read_text, resize_text, write_text}
 use Rattle.script_runs.specs.Sessions.{Ids, IsGoing, RunState, SessionState, counted}
-use Rattle.script_runs.specs.Steps.{Bounds, Frees, FreesAt, Mallocs, MallocsAt, Resizes, ResizesAt, Step, Writes, WritesAt, bound_text, class_to_bound, ids_given, session_resized}
+use Rattle.script_runs.specs.Steps.{Bounds, FreesAt, MallocsAt, ResizesAt, Step, WritesAt, bound_text, class_to_bound, ids_given, session_resized}
 use Rattle.script_runs.specs.Texts.{Reply, said}
 use Rattle.script_runs.proofs.Going.{step_same}
 use Rattle.script_runs.proofs.Tied.{AreNames, names_in, names_of_objects}
-use Rattle.transcripts.specs.ById.{ById, paging_by_id}
+use Rattle.transcripts.specs.ById.{ById}
 use Rattle.transcripts.specs.Histories.{by_id, objects_by_id}
-use Rattle.transcripts.specs.Replies.{Writing, after_by_id, bounds_with, class_bounded, free_said, malloc_fault, malloc_leaves, malloc_said, ok_or, put_unless, read_said, reply_by_id, resize_fault, resize_leaves, resize_said, write_fault, write_leaves, write_said}
+use Rattle.transcripts.specs.Replies.{after_by_id, bounds_with, class_bounded, free_said, malloc_leaves, malloc_said, ok_or, put_unless, read_said, reply_by_id, resize_leaves, resize_said, write_fault, write_leaves, write_said}
 use Rattle.transcripts.specs.Transcripts.{IsAtOne, TellsNoPlace}
 use Rattle.transcripts.proofs.ByIds.{by_id_changed, by_id_given, by_id_gone, gone_by_id, live_by_id}
 use Rattle.transcripts.proofs.Faults.{as_many, malloc_given, malloc_refused, resize_done, resize_refused, write_past, write_within}

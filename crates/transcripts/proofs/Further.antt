@@ -1,5 +1,5 @@
 -- Bounds that stay 1, and what may follow two histories that leave equal objects.
-use Rattle.std.proofs.Common.{◌≡◌, ℕ, ◌<◌, ◌≤◌, List, [], ◌∷◌, Option, Some, None, length, get_or, set, sym, ◌∙◌, ap, refl, inl, inr, subst}
+use Rattle.std.proofs.Common.{◌≡◌, ℕ, ◌<◌, List, [], ◌∷◌, Option, Some, None, length, get_or, set, sym, ◌∙◌, ap, refl, inl, inr, subst}
 use Rattle.std.specs.Prelude.{option_map, ⊤}
 use Rattle.std.proofs.lemmas.Bool.{cases_eq, cases_lt}
 use Rattle.std.proofs.lemmas.List.{get_or-set_same, get_or-set_other, set_past}
@@ -12,14 +12,13 @@ use Rattle.cf_base.specs.Settings.{Profile}
 use Rattle.cf_base.specs.declared.kind.Kind.{Kind}
 use Rattle.cf_base.specs.declared.kind.Kind.TheVariants.{Moving, NonMoving, Tlsf, HalfFit}
 use Rattle.arrangement.specs.Held.{Placed, objects}
-use Rattle.arrangement.specs.Paging.{AreOne, IsPaging}
+use Rattle.arrangement.specs.Paging.{AreOne}
 use Rattle.arrangement.proofs.Sizes.{first_ones}
 use Rattle.cf_model.specs.Rules.{IsPaged}
 use Rattle.cf_model.specs.State.{layout_of, paging_in}
 use Rattle.script_reader.specs.Items.{Item, asks, bad, starts}
 use Rattle.script_reader.specs.declared.command.Command.{Command}
 use Rattle.script_reader.specs.declared.command.Command.TheVariants.{Place, Block, Peek, Steps, Bound}
-use Rattle.script_runs.specs.Replies.{object_of}
 use Rattle.script_runs.specs.Runs.{Run}
 use Rattle.script_runs.specs.Sessions.{IsGoing, RunState}
 use Rattle.script_runs.specs.Texts.{Reply}

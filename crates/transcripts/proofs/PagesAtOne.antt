@@ -1,24 +1,21 @@
 -- The figures where every bound is 1.
-use Rattle.std.proofs.Common.{◌≡◌, ℕ, zero, suc, ◌+◌, ◌-◌, ◌*◌, ◌%◌, ◌<◌, ◌≤◌, Bool, List, [], ◌∷◌, length, map, arith, sym, ◌∙◌, ap, refl, subst, cond}
-use Rattle.std.specs.Prelude.{◌++◌, nat_eq, not, filter}
+use Rattle.std.proofs.Common.{◌≡◌, ℕ, zero, suc, ◌+◌, ◌-◌, ◌*◌, ◌%◌, ◌<◌, ◌≤◌, length, arith, sym, ◌∙◌, ap, subst, cond}
+use Rattle.std.specs.Prelude.{nat_eq}
 use Rattle.std.specs.List.{range_with_len}
-use Rattle.std.proofs.lemmas.Bool.Decides.{nat_tests}
 use Rattle.std.proofs.lemmas.Nat.{mod-mul-add}
 use Rattle.std.proofs.Math.Nat.{mul-mod_left}
 use Rattle.cf_lemmas.proofs.Ranges.{one}
 use Rattle.arrangement.specs.Held.{Held, Objects, objects}
 use Rattle.arrangement.specs.Paging.{Paging, IsPaging, AreOne, classes, slot_words, slots_of, class_for}
-use Rattle.arrangement.specs.Counts.{Stand, CanHold, ceil_div}
+use Rattle.arrangement.specs.Counts.{Stand, ceil_div}
 use Rattle.arrangement.specs.Figures.{asked_bytes, figures_of, taken_bytes, totals_of}
-use Rattle.arrangement.specs.Arrangement.{live, home_pages, not_full_pages, pages_needed, pages_needed_with, used_pages, IsSound}
+use Rattle.arrangement.specs.Arrangement.{live, home_pages, not_full_pages, pages_needed, pages_needed_with, IsSound}
 use Rattle.arrangement.proofs.Counting.{eq_no, eq_yes}
 use Rattle.arrangement.proofs.PageCounts.{slots_some, sound_stand}
 use Rattle.arrangement.proofs.PageLaws.{can_hold_one}
 use Rattle.arrangement.proofs.RoomAtOne.{used_at_one}
 use Rattle.arrangement.proofs.Totals.{sum_same}
-use Rattle.script_runs.specs.Reports.{class_line, frag_line, total_line}
-use Rattle.script_runs.specs.Texts.{said}
-use Rattle.transcripts.specs.AtOne.{classes_in_use, figures_at_one, part_pages, totals_at_one, walk_at_one}
+use Rattle.transcripts.specs.AtOne.{figures_at_one, part_pages, totals_at_one}
 use Rattle.transcripts.proofs.Renaming.{CountAlike}
 
 divides : (n m : ℕ) → n % m ≡ 0 → part_pages n m ≡ 0

@@ -1,8 +1,7 @@
 -- Where every bound is 1, the reports are told by the objects by id.
-use Rattle.std.proofs.Common.{◌≡◌, ℕ, zero, suc, ◌+◌, ◌<◌, ◌≤◌, Bool, true, false, cond, List, [], ◌∷◌, map, arith, sym, ◌∙◌, ap, refl}
-use Rattle.std.specs.Prelude.{◌++◌, filter, nat_eq, not, Option, Some, None}
+use Rattle.std.proofs.Common.{◌≡◌, ℕ, zero, suc, ◌+◌, ◌<◌, Bool, true, false, cond, ◌∷◌, map, arith, sym, ◌∙◌, ap, refl}
+use Rattle.std.specs.Prelude.{◌++◌, filter, nat_eq, not}
 use Rattle.std.specs.List.{range_with_len}
-use Rattle.cf_base.specs.declared.answers.Figures.{Figures}
 use Rattle.cf_base.specs.declared.kind.Kind.{Kind}
 use Rattle.cf_base.specs.declared.kind.Kind.TheVariants.{Moving, NonMoving, Tlsf, HalfFit}
 use Rattle.arrangement.specs.Held.{objects}

@@ -1,20 +1,17 @@
 -- A run has the replies of its transcript.
-use Rattle.std.proofs.Common.{◌≡◌, ℕ, ◌<◌, List, [], ◌∷◌, Option, Some, None, length, arith, sym, ◌∙◌, ap, refl, subst}
-use Rattle.std.specs.Prelude.{option_map, slice_index, slice_set, ⊤}
-use Rattle.std.specs.FinMap.{empty, get, get-empty}
+use Rattle.std.proofs.Common.{◌≡◌, List, [], ◌∷◌, Option, Some, None, sym, ◌∙◌, ap, subst}
+use Rattle.std.specs.Prelude.{option_map, ⊤}
+use Rattle.std.specs.FinMap.{empty, get-empty}
 use Rattle.std.specs.Ordering.{nat_cmp}
 use Rattle.cf_lemmas.proofs.Maps.{equal_maps}
 use Rattle.cf_base.specs.Settings.{Profile}
 use Rattle.cf_base.specs.declared.kind.Kind.{Kind}
-use Rattle.arrangement.specs.Held.{Held, Objects, Placed, objects}
-use Rattle.arrangement.specs.Paging.{AreOne, bound_of, classes}
+use Rattle.arrangement.specs.Held.{Objects, objects}
 use Rattle.cf_model.specs.Rules.{IsPaged}
 use Rattle.cf_model.specs.State.{HeapState}
 use Rattle.script_reader.specs.Items.{Item, asks, bad, starts}
-use Rattle.script_reader.specs.declared.command.Command.{Command}
-use Rattle.script_reader.specs.declared.command.Command.TheVariants.{Malloc, Free, Write, Read, Place, Block, Peek, Walk, Frag, Steps, Bound, Resize, Slice, Task, Quota, Need, Admit}
 use Rattle.script_runs.specs.Runs.{Begins, ItemStep, Run}
-use Rattle.script_runs.specs.Sessions.{Ids, IsGoing, RunState, SessionState}
+use Rattle.script_runs.specs.Sessions.{IsGoing, RunState, SessionState}
 use Rattle.script_runs.specs.Texts.{Reply}
 use Rattle.script_runs.proofs.Going.{begins_going, step_going, step_same}
 use Rattle.transcripts.specs.ById.{ById, begun}

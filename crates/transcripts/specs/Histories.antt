@@ -5,7 +5,6 @@ use Rattle.std.specs.FinMap.{get}
 use Rattle.cf_lemmas.specs.Maps.{map_values}
 use Rattle.arrangement.specs.Held.{Objects, Placed, objects}
 use Rattle.script_reader.specs.Items.{Item, asks, starts}
-use Rattle.script_reader.specs.declared.command.Command.{Command}
 use Rattle.script_reader.specs.declared.command.Command.TheVariants.{Bound}
 use Rattle.script_runs.specs.Replies.{object_of}
 use Rattle.script_runs.specs.Sessions.{Ids, RunState}

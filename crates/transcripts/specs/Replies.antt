@@ -10,7 +10,7 @@ use Rattle.cf_base.specs.declared.answers.ResizeFault.{ResizeFault}
 use Rattle.cf_base.specs.declared.answers.ResizeFault.TheVariants as resize
 use Rattle.arrangement.specs.Arrangement.{pages_needed_with}
 use Rattle.arrangement.specs.Bytes.{written}
-use Rattle.arrangement.specs.Held.{Objects, Placed}
+use Rattle.arrangement.specs.Held.{Objects}
 use Rattle.arrangement.specs.Paging.{class_for}
 use Rattle.arrangement.specs.Steps.{Request, resized}
 use Rattle.script_reader.specs.declared.command.Command.{Command}
