@@ -1,0 +1,4 @@
+mod churn;
+mod desk;
+mod rows;
+mod words;
