@@ -106,7 +106,8 @@ step_going old new c reply going step = record {
   tied = step_tied old new c reply going.tied step;
 }
 
-costs_nothing : (k : Kind) (cost bound : ℕ) → cost ≡ 0 → CostsAtMost k cost bound
+-- a call that cost nothing is within every bound
+pub costs_nothing : (k : Kind) (cost bound : ℕ) → cost ≡ 0 → CostsAtMost k cost bound
 costs_nothing Moving cost bound none = omega arith
 costs_nothing NonMoving cost bound none = omega arith
 costs_nothing Tlsf cost bound none = tt

@@ -123,7 +123,7 @@ pub names_in : (session : SessionState) (heap : HeapState) → AreTied session h
 names_in session heap tied = record { named = tied.named; once = tied.once; all = tied.all }
 
 -- a session whose counters alone differ
-counted_ids : {T : Type 0} (s : SessionState) (o : Option T) (n : ℕ) → (counted s o n).ids ≡ s.ids
+pub counted_ids : {T : Type 0} (s : SessionState) (o : Option T) (n : ℕ) → (counted s o n).ids ≡ s.ids
 counted_ids s None n = refl
 counted_ids s (Some h) n = refl
 
@@ -131,13 +131,20 @@ counted_bound : {T : Type 0} (s : SessionState) (o : Option T) (n : ℕ) → (co
 counted_bound s None n = refl
 counted_bound s (Some h) n = refl
 
-resized_ids : (s : SessionState) (answer : Result Resized ResizeFault) → (session_resized s answer).ids ≡ s.ids
+pub resized_ids : (s : SessionState) (answer : Result Resized ResizeFault) → (session_resized s answer).ids ≡ s.ids
 resized_ids s (Ok done) = counted_ids s done.moved done.old_slot_words
 resized_ids s (Err e) = refl
 
 resized_bound : (s : SessionState) (answer : Result Resized ResizeFault) → (session_resized s answer).bound ≡ s.bound
 resized_bound s (Ok done) = counted_bound s done.moved done.old_slot_words
 resized_bound s (Err e) = refl
+
+-- a refused resize leaves the objects
+pub unmoved_held : (k : Kind) (old new : HeapState) → IsUnmoved k old new → new.held ≡ old.held
+unmoved_held Moving old new is = ap (λ (s : HeapState). s.held) is
+unmoved_held NonMoving old new is = ap (λ (s : HeapState). s.held) is
+unmoved_held Tlsf old new is = ap (λ (s : HeapState). s.held) is
+unmoved_held HalfFit old new is = ap (λ (s : HeapState). s.held) is
 
 module _ (old new : RunState) (tied : AreTied old.session old.heap) where
   abbrev names : AreNames old.session.ids old.heap.held
@@ -171,18 +178,12 @@ module _ (old new : RunState) (tied : AreTied old.session old.heap) where
       tied_with _ _ _ _ e refl refl (ap (λ (s : HeapState). s.held) whole) kept (subst (λ (s : HeapState). CostsAtMost s.kind s.cost old.session.bound) (sym whole) tied.cost)
   write_tied part bytes (Err f) e step = subst (λ (s : SessionState). AreTied s new.heap) (sym e) (subst (λ (s : HeapState). AreTied old.session s) (sym step.1) tied)
 
-  unmoved_held : (k : Kind) → IsUnmoved k old.heap new.heap → new.heap.held ≡ old.heap.held
-  unmoved_held Moving is = ap (λ (s : HeapState). s.held) is
-  unmoved_held NonMoving is = ap (λ (s : HeapState). s.held) is
-  unmoved_held Tlsf is = ap (λ (s : HeapState). s.held) is
-  unmoved_held HalfFit is = ap (λ (s : HeapState). s.held) is
-
   resize_names : (asked : Request) (answer : Result Resized ResizeFault) → IsResizeStep old.heap asked answer new.heap → AreNames old.session.ids new.heap.held
   resize_names asked (Ok done) step =
       let x : get (objects old.heap.held) asked.number ≡ Some step.object.bytes = get-map_values (λ (x : Placed). x.bytes) old.heap.held asked.number ∙ ap (option_map (λ (x : Placed). x.bytes)) step.found in
       let kept = names_replaced old.session.ids (objects old.heap.held) (names_of_objects old.session.ids old.heap.held names) asked.number step.object.bytes _ x in
       names_of_held old.session.ids new.heap.held (subst (λ m. AreNames old.session.ids m) (sym step.left) kept)
-  resize_names asked (Err e) step = subst (λ m. AreNames old.session.ids m) (sym (unmoved_held old.heap.kind step.1)) names
+  resize_names asked (Err e) step = subst (λ m. AreNames old.session.ids m) (sym (unmoved_held old.heap.kind old.heap new.heap step.1)) names
 
   resize_tied : (asked : Request) (reply : Reply) → Resizes old asked reply new → AreTied new.session new.heap
   resize_tied asked reply step = tied_with _ _ _ _ step.session (resized_ids _ step.answer) (resized_bound _ step.answer) refl (resize_names asked step.answer step.step) step.cost

@@ -1,0 +1,66 @@
+-- Searches below a bound, and maps that have no more keys than there are numbers.
+use Rattle.std.proofs.Common.{◌≡◌, ℕ, zero, suc, true, false, Bool, ◌+◌, ◌<◌, ◌≤◌, Option, Some, None, arith, sym, ◌∙◌, ap, refl, inl, inr}
+use Rattle.std.specs.Prelude.{◌⊎◌, count_by}
+use Rattle.std.specs.List.{range_with_len}
+use Rattle.std.proofs.lemmas.List.Sums.{sum_by-cons}
+use Rattle.std.proofs.lemmas.Bool.{cases_eq}
+use Rattle.std.specs.Ordering.{nat_cmp}
+use Rattle.std.specs.FinMap.{FinMap, get, len, remove}
+use Rattle.cf_lemmas.proofs.Maps.{get_removed, get_remove_other, len_fresh}
+use Rattle.cf_lemmas.proofs.Ranges.{one}
+use Rattle.cf_lemmas.proofs.Sums.{put_back}
+
+-- either all numbers below n are of the one sort, or one is of the other
+pub search_below : (A B : ℕ → Type 0) → ((k : ℕ) → A k ⊎ B k) → (n : ℕ) → ((k : ℕ) → k < n → A k) ⊎ ((k : ℕ) × (k < n) × B k)
+search_below A B test zero = inl (λ k lt. absurd (omega arith))
+search_below A B test (suc n) = elim (search_below A B test n) [
+  | inr found ↦ inr (found.0, omega (arith, found.1), found.2)
+  | inl all ↦ elim (test n) [
+    | inr here ↦ inr (n, omega arith, here)
+    | inl last ↦ inl (λ k lt. elim (cases_eq k n) [
+      | inl is ↦ rw is last
+      | inr ne ↦ all k (omega arith)
+    ])
+  ]
+]
+
+-- where a test counts in a range, it passes somewhere
+pub counted_in_range : (f : ℕ → Bool) (a n : ℕ) → 0 < count_by f (range_with_len a n) → (d : ℕ) × (a ≤ d) × (d < a + n) × (f d ≡ true)
+counted_in_range f a zero some = absurd (omega arith)
+counted_in_range f a (suc n) some = (
+    let x : count_by f (range_with_len a (suc n)) ≡ one (f a) + count_by f (range_with_len (a + 1) n) = sum_by-cons (λ p. one (f p)) a (range_with_len (a + 1) n) in
+    go (f a) refl (λ more. counted_in_range f (a + 1) n more) (omega arith))
+  where
+    go : (b : Bool) → f a ≡ b → (0 < count_by f (range_with_len (a + 1) n) → (d : ℕ) × (a + 1 ≤ d) × (d < a + 1 + n) × (f d ≡ true)) → 0 < one b + count_by f (range_with_len (a + 1) n)
+        → (d : ℕ) × (a ≤ d) × (d < a + suc n) × (f d ≡ true)
+    go true e rest some = (a, omega arith, omega arith, e)
+    go false e rest some = (let r = rest (omega arith) in (r.0, omega (arith, r.1), omega (arith, r.2), r.3))
+
+module _ {V : Type 0} where
+  -- a key is there or not
+  pub there_or_not : (m : FinMap nat_cmp V) (h : ℕ) → ((x : V) × (get m h ≡ Some x)) ⊎ (get m h ≡ None)
+  there_or_not m h = go (get m h)
+    where
+      go : (o : Option V) → ((x : V) × (o ≡ Some x)) ⊎ (o ≡ None)
+      go None = inr refl
+      go (Some x) = inl (x, refl)
+
+  -- one key less
+  pub len_without : (m : FinMap nat_cmp V) (h : ℕ) (x : V) → get m h ≡ Some x → len m ≡ len (remove m h) + 1
+  len_without m h x some = ap len (sym (put_back m h x some)) ∙ len_fresh (remove m h) h x (get_removed m h)
+
+  -- where all numbers below n are keys, there are as many keys
+  pub keys_below : (n : ℕ) (m : FinMap nat_cmp V) → ((h : ℕ) → h < n → (x : V) × (get m h ≡ Some x)) → n ≤ len m
+  keys_below zero m all = omega arith
+  keys_below (suc n) m all =
+      let last = all n (omega arith) in
+      let less = len_without m n last.0 last.1 in
+      let rest = keys_below n (remove m n) (λ h lt. ((all h (omega arith)).0, get_remove_other m n h (omega arith) ∙ (all h (omega arith)).1)) in
+      omega arith
+
+  -- a number that isn't in use
+  pub fresh_key : (n : ℕ) (m : FinMap nat_cmp V) → len m < n → (h : ℕ) × (h < n) × (get m h ≡ None)
+  fresh_key n m few = elim (search_below (λ h. (x : V) × (get m h ≡ Some x)) (λ h. get m h ≡ None) (there_or_not m) n) [
+    | inl all ↦ absurd (let l = keys_below n m all in omega arith)
+    | inr found ↦ found
+  ]

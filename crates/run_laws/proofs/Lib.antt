@@ -1,0 +1,9 @@
+pub mod Counting
+pub mod Images
+pub mod Room
+pub mod ByKind
+pub mod Heaps
+pub mod Turns
+pub mod Items
+pub mod GoingOn
+pub mod ReadBack

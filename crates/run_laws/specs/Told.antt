@@ -1,0 +1,56 @@
+-- What the lines of a script and their replies tell of the bytes of each id, with no word of handles.
+use Rattle.std.specs.Prelude.{◌≡◌, ℕ, ⊤, Bool, false, ◌+◌, List, [], ◌∷◌, ◌++◌, Option, Some, None, codes, drop, if◌then◌else◌, length, nat_le, replicate, take}
+use Rattle.std.specs.FinMap.{FinMap, empty, get, insert, remove}
+use Rattle.std.specs.Ordering.{nat_cmp}
+use Rattle.std.specs.Str.{bytes_eq}
+use Rattle.hex.specs.Hex.{encode_lower}
+use Rattle.arrangement.specs.Bytes.{written}
+use Rattle.arrangement.specs.Steps.{resized}
+use Rattle.script_reader.specs.Items.{Item, asks, bad, starts}
+use Rattle.script_reader.specs.declared.command.Command.{Command}
+use Rattle.script_reader.specs.declared.command.Command.TheVariants.{Malloc, Free, Write, Read, Resize}
+use Rattle.script_runs.specs.Texts.{Reply, said}
+
+-- the bytes of each id
+abbrev pub Told : Type 0
+Told = FinMap nat_cmp (List ℕ)
+
+-- whether the reply is `ok`
+abbrev pub is_ok : Reply → Bool
+is_ok [] = false
+is_ok (text ∷ rest) = bytes_eq text (codes "ok")
+
+-- f of the id's bytes, where it has some
+abbrev pub changed : Told → ℕ → (List ℕ → List ℕ) → Told
+changed m id f = elim (get m id) [ None ↦ m | Some v ↦ insert m id (f v) ]
+
+-- what a command that was answered by `ok` does: a malloc gives zeros, a write replaces bytes, a resize cuts them or adds zeros
+abbrev pub done_by : Command → Told → Told
+done_by (Malloc id bytes) m = insert m id (replicate bytes 0)
+done_by (Free id) m = remove m id
+done_by (Write id at bytes) m = changed m id (λ v. written v at bytes)
+done_by (Resize id bytes) m = changed m id (λ v. resized v bytes)
+done_by command m = m
+
+-- the bytes after an item and its reply; none before the `heap` line
+abbrev pub told_after : Option Told → Item → Reply → Option Told
+told_after told (starts p) reply = Some empty
+told_after None (asks command) reply = None
+told_after (Some m) (asks command) reply = Some (if is_ok reply then done_by command m else m)
+told_after told (bad n) reply = told
+
+-- the reply to a read: `=` and the id's bytes in hexadecimal
+abbrev pub read_told : Option (List ℕ) → ℕ → ℕ → List ℕ
+read_told None at count = codes "unknown"
+read_told (Some v) at count = if nat_le (at + count) (length v) then codes "=" ++ encode_lower (take count (drop at v)) else codes "range"
+
+-- the item is a read, and its reply gives the id's bytes; or it is no read
+abbrev pub IsReadOf : Option Told → Item → Reply → Type 0
+IsReadOf (Some m) (asks (Read id at count)) reply = reply ≡ said (read_told (get m id) at count)
+IsReadOf told item reply = ⊤
+
+-- every read is answered by the bytes that the lines before it and their replies tell of
+abbrev pub AreReadsOf : Option Told → List Item → List Reply → Type 0
+AreReadsOf told [] replies = ⊤
+AreReadsOf told (item ∷ rest) [] = ⊥
+AreReadsOf told (item ∷ rest) (reply ∷ more) = IsReadOf told item reply × AreReadsOf (told_after told item reply) rest more

@@ -1,0 +1,13 @@
+//! Laws of runs over scripts: a run can always go on to the end of its script, and reads give what
+//! was written. The public functions do nothing: each one's contract is a law of the definitions
+//! of runs.
+#![tactic(auto)]
+
+mod reads;
+mod runs;
+
+pub use reads::reads_give_what_was_written;
+pub use runs::{
+    a_command_is_always_answered, a_run_can_always_go_on, a_run_stays_under_way, items_can_be_said,
+    runs_are_joined,
+};
