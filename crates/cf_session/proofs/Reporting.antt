@@ -1,0 +1,107 @@
+-- What was done and told, put together.
+use Rattle.std.proofs.Common.{◌≡◌, ◌∙◌, ℕ, ◌+◌, ◌-◌, ◌≤◌, ◌<◌, ◌++◌, List, [], ◌∷◌, Option, Some, None, Result, Ok, Err, length, take, drop, map, refl, ap, sym, subst, arith}
+use Rattle.std.specs.Prelude.{IsTrue}
+use Rattle.std.proofs.Math.Seq.{drop-append_seam}
+use Rattle.std.proofs.lemmas.List.{take_rest}
+use Rattle.cf_base.specs.declared.answers.Failed.{Failed}
+use Rattle.cf_base.specs.declared.answers.Totals.{Totals}
+use Rattle.cf_base.specs.declared.answers.Figures.{Figures}
+use Rattle.cf_base.specs.declared.kind.Kind.{Kind}
+use Rattle.cf_base.specs.declared.kind.Kind.TheVariants.{Moving, NonMoving, Tlsf, HalfFit}
+use Rattle.cf_io.specs.Feeds.{appended, Puts}
+use Rattle.cf_model.specs.Rules.{KeepsRules}
+use Rattle.cf_model.specs.State.{HeapState, paging_in}
+use Rattle.cf_model.specs.Answers.{totals_in}
+use Rattle.arrangement.specs.Figures.{figures_of}
+use Rattle.frag_report.proofs.Putting.{puts_line}
+use Rattle.script_reader.specs.declared.command.Command.{Command}
+use Rattle.script_reader.specs.declared.command.Command.TheVariants.{Walk, Frag}
+use Rattle.script_runs.specs.Answering.{IsAnswered, IsCutShort, Moment}
+use Rattle.script_runs.specs.Replies.{told}
+use Rattle.script_runs.specs.Reports.{class_line, total_line, frag_of, walk_of, live_classes}
+use Rattle.script_runs.specs.Runs.{Turn}
+use Rattle.script_runs.specs.Sessions.{AreTied, IsGoing, RunState, SessionState}
+use Rattle.script_runs.specs.Steps.{Step}
+use Rattle.script_runs.specs.Texts.{Reply, led, said}
+use Rattle.script_runs.proofs.Bounded.{step_meets_bounds}
+use Rattle.script_runs.proofs.Going.{step_going}
+use Rattle.cf_session.specs.Applying.{Applies, outcome_in, outcome_of, run_at}
+use Rattle.cf_session.specs.Speaking.{IsReported, Says, lines_at}
+use Rattle.cf_session.specs.declared.outcome.Outcome.{Outcome}
+use Rattle.cf_session.specs.declared.outcome.Outcome.TheVariants.{Good, Refused, Other}
+
+-- a step of a run that goes on is a turn
+turn : (old new : RunState) (c : Command) (reply : Reply) → IsGoing old → Step old c reply new → Turn old c reply new
+turn old new c reply going step = record { step = step; bounds = step_meets_bounds old new c reply going step }
+
+abbrev Told : Type 0
+Told = Option (List ℕ)
+
+abbrev at : RunState → Told → Moment
+at run written = record { run = run; written = written }
+
+-- the reply of a step was put, and its outcome told
+module _ (old new : RunState) (c : Command) (lead : List ℕ) (reply : Reply) (w y : Told) (going : IsGoing old) (step : Step old c reply new) where
+  pub applied : (outcome : Outcome) → outcome ≡ outcome_of reply → y ≡ appended w (led lead reply) → Applies (at old w) (record { command = c; lead = lead }) (Ok outcome) (at new y)
+  applied outcome is put = (record { reply = reply; turn = turn old new c reply going step; written = put }, is)
+
+  pub applied_cut : (e : Failed) → Puts {T = Unit {0}} w (led lead reply) (Err e) y → Applies (at old w) (record { command = c; lead = lead }) (Err e) (at new y)
+  applied_cut e (front, lost, parts, put) = record { reply = reply; front = front; lost = lost; turn = turn old new c reply going step; cut = parts; written = put }
+
+-- a report's outcome is neither good nor a refusal
+pages_other : (f : ℕ → Figures) (t : Totals) (cs : List ℕ) → Other ≡ outcome_of (map (λ c. class_line (f c)) cs ++ said (total_line t))
+pages_other f t [] = refl
+pages_other f t (c ∷ cs) = refl
+
+walk_other : (k : Kind) (s : HeapState) → Other ≡ outcome_of (walk_of k s)
+walk_other Moving s = pages_other (λ c. figures_of (paging_in s) s.held c) (totals_in s.kind s) (live_classes s)
+walk_other NonMoving s = pages_other (λ c. figures_of (paging_in s) s.held c) (totals_in s.kind s) (live_classes s)
+walk_other Tlsf s = refl
+walk_other HalfFit s = refl
+
+frag_other : (s : HeapState) → Other ≡ outcome_of (frag_of s)
+frag_other s = refl
+
+reported : (old : RunState) (c : Command) (lead : List ℕ) (reply : Reply) (w y : Told) (r : Result Unit Failed) (answer : Result Outcome Failed) → IsGoing old → Step old c reply old → Other ≡ outcome_of reply
+    → Puts w (led lead reply) r y → IsReported r answer → Applies (at old w) (record { command = c; lead = lead }) answer (at old y)
+reported old c lead reply w y (Ok u) answer going step other put is =
+    let P : Result Outcome Failed → Type 0 = λ a. Applies (at old w) (record { command = c; lead = lead }) a (at old y) in
+    subst P (sym is) (applied old old c lead reply w y going step Other other put)
+reported old c lead reply w y (Err e) answer going step other put is =
+    let P : Result Outcome Failed → Type 0 = λ a. Applies (at old w) (record { command = c; lead = lead }) a (at old y) in
+    subst P (sym is) (applied_cut old old c lead reply w y going step e put)
+
+pub reported_walk : (old : RunState) (lead : List ℕ) (w y : Told) (c : Command) (r : Result Unit Failed) (answer : Result Outcome Failed) → c ≡ Walk → IsGoing old
+    → Puts w (led lead (walk_of old.heap.kind old.heap)) r y → IsReported r answer → Applies (at old w) (record { command = c; lead = lead }) answer (at old y)
+reported_walk old lead w y c r answer is going put told =
+    let P : Command → Type 0 = λ k. Applies (at old w) (record { command = k; lead = lead }) answer (at old y) in
+    subst P (sym is) (reported old Walk lead (walk_of old.heap.kind old.heap) w y r answer going (refl, refl) (walk_other old.heap.kind old.heap) put told)
+
+pub reported_frag : (old : RunState) (lead : List ℕ) (w y : Told) (c : Command) (r : Result Unit Failed) (answer : Result Outcome Failed) → c ≡ Frag → IsGoing old
+    → Puts w (led lead (frag_of old.heap)) r y → IsReported r answer → Applies (at old w) (record { command = c; lead = lead }) answer (at old y)
+reported_frag old lead w y c r answer is going put told =
+    let P : Command → Type 0 = λ k. Applies (at old w) (record { command = k; lead = lead }) answer (at old y) in
+    subst P (sym is) (reported old Frag lead (frag_of old.heap) w y r answer going (refl, refl) (frag_other old.heap) put told)
+
+-- a line that was begun with its lead, and put
+module _ (old new : RunState) (c : Command) (lead begun line : List ℕ) (w y : Told) (going : IsGoing old) (begins : begun ≡ lead) (says : Says old c new (lines_at begun line)) where
+  line_is : line ≡ lead ++ says.text
+  line_is = says.pushed ∙ ap (λ (b : List ℕ). b ++ says.text) begins
+
+  pub spoken : (outcome : Outcome) (seen : List ℕ) → seen ≡ line → outcome ≡ outcome_in (take (length seen - length lead) (drop (length lead) seen)) → Puts {T = Unit {0}} w (line ++ 10 ∷ []) (Ok tt) y
+      → Applies (at old w) (record { command = c; lead = lead }) (Ok outcome) (at new y)
+  spoken outcome seen read is put =
+      let text : take (length seen - length lead) (drop (length lead) seen) ≡ says.text = take_rest seen (length lead) ∙ ap (drop (length lead)) (read ∙ line_is) ∙ drop-append_seam lead says.text in
+      applied old new c lead (said says.text) w y going says.step outcome (is ∙ ap outcome_in text) (puts_line {T = Unit {0}} w y lead says.text line (Ok tt) line_is put)
+
+  pub spoken_cut : (e : Failed) → Puts {T = Unit {0}} w (line ++ 10 ∷ []) (Err e) y → Applies (at old w) (record { command = c; lead = lead }) (Err e) (at new y)
+  spoken_cut e put = applied_cut old new c lead (said says.text) w y going says.step e (puts_line {T = Unit {0}} w y lead says.text line (Err e) line_is put)
+
+-- a run that goes on does so after an answer
+pub applied_going : (old new : RunState) (c : Command) (lead : List ℕ) (w y : Told) (answer : Result Outcome Failed) → IsGoing old → Applies (at old w) (record { command = c; lead = lead }) answer (at new y) → IsGoing new
+applied_going old new c lead w y (Ok outcome) going a = step_going old new c a.0.reply going a.0.turn.step
+applied_going old new c lead w y (Err e) going a = step_going old new c a.reply going a.turn.step
+
+-- a run goes on where its session is tied to a heap that is open and keeps its rules
+pub going_before : (inside session : SessionState) (heap : HeapState) → IsTrue heap.is_open → KeepsRules heap → inside ≡ session → AreTied session heap → IsGoing (run_at inside heap)
+going_before inside session heap opened rules same tied = record { opened = opened; rules = rules; tied = subst (λ (s : SessionState). AreTied s heap) (sym same) tied }

@@ -1,0 +1,3 @@
+pub mod Applying
+pub mod Table
+pub mod Speaking

@@ -1,0 +1,12 @@
+//! A session: the ids of one manager's objects, and the replies to the commands of a script.
+#![tactic(auto)]
+
+mod answering;
+mod changes;
+mod looks;
+mod outcome;
+mod records;
+mod session;
+
+pub use outcome::Outcome;
+pub use session::Session;

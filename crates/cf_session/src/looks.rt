@@ -1,0 +1,147 @@
+//! The commands that only look: each writes the text of its reply on the line.
+ghost use Rattle.std.specs.Prelude.{◌≡◌, ◌^◌, ◌<◌, ◌≤◌, ◌++◌, IsTrue, length, slice_get};
+ghost use Rattle.std.specs.FinMap as map;
+ghost use Rattle.cf_io.specs.Lines.{line_room};
+ghost use Rattle.cf_session.specs.Applying.{run_at};
+ghost use Rattle.script_runs.specs.Replies.{block_text_at, object_of, peek_text, place_text, read_text, steps_text};
+ghost use Rattle.script_runs.specs.Sessions.{AreTied};
+
+use crate::changes::fault_text;
+use crate::records::Records;
+use cf_base::{Handle, Kind};
+use cf_io::Line;
+use cf_model::Manager;
+use frag_report::{push_field, push_text};
+use step_ledger::Steps;
+
+/// The most bytes that are read at once.
+const MOST: usize = 4_096;
+
+/// `r`: the bytes of a live id's object from `at` on, in hexadecimal.
+pub(crate) fn read<H: Manager>(
+    records: &Records,
+    heap: &H,
+    id: u16,
+    at: u32,
+    len: u16,
+    line: &mut Line,
+    steps: &mut Steps,
+)
+    requires open { IsTrue (H.state heap.now).is_open }
+    requires room { steps.old ≤ 2 ^ 63 }
+    requires few { len ≤ 4096 }
+    requires begun { length line.old ≤ 8 }
+    ensures text { line.new ≡ line.old ++ read_text (object_of (run_at records.now (H.state heap.now)) id) at len }
+    ensures short { length line.new < line_room }
+{
+    let Some(h) = records.handle(id) else {
+        return push_text(line, b"unknown");
+    };
+    let mut room = [0; MOST];
+    read_part(heap, h, at, &mut room[..len as usize], line, steps);
+}
+
+/// The bytes of an object from `at` on, as many as there is room for.
+fn read_part<H: Manager>(
+    heap: &H,
+    h: Handle,
+    at: u32,
+    room: &mut [u8],
+    line: &mut Line,
+    steps: &mut Steps,
+)
+    requires open { IsTrue (H.state heap.now).is_open }
+    requires room { steps.old ≤ 2 ^ 63 }
+    requires few { length room.old ≤ 4096 }
+    requires begun { length line.old ≤ 8 }
+    ensures text { line.new ≡ line.old ++ read_text (map.get (H.state heap.now).held h.0) at (length room.old) }
+    ensures short { length line.new < line_room }
+{
+    match heap.read(h, at, room, steps) {
+        Ok(()) => {
+            push_text(line, b"=");
+            line.push_hex(room).unwrap();
+        }
+        Err(fault) => push_text(line, fault_text(fault)),
+    }
+}
+
+/// `q`: the first word of a live id's slot or block.
+pub(crate) fn place<H: Manager>(
+    records: &Records,
+    heap: &H,
+    id: u16,
+    line: &mut Line,
+    steps: &mut Steps,
+)
+    requires open { IsTrue (H.state heap.now).is_open }
+    requires begun { length line.old ≤ 8 }
+    ensures text { line.new ≡ line.old ++ place_text (object_of (run_at records.now (H.state heap.now)) id) }
+    ensures short { length line.new < line_room }
+{
+    let Some(h) = records.handle(id) else {
+        return push_text(line, b"unknown");
+    };
+    match heap.place(h, steps) {
+        Some(word) => push_field(line, b"at ", word as u64),
+        None => push_text(line, b"unknown"),
+    }
+}
+
+/// `b`: the physical block behind block i of a live id's object.
+pub(crate) fn block<H: Manager>(
+    records: &Records,
+    heap: &H,
+    id: u16,
+    i: u32,
+    line: &mut Line,
+    steps: &mut Steps,
+)
+    requires open { IsTrue (H.state heap.now).is_open }
+    requires tied { AreTied records.now (H.state heap.now) }
+    requires begun { length line.old ≤ 8 }
+    ensures text { line.new ≡ line.old ++ block_text_at (H.state heap.now) (object_of (run_at records.now (H.state heap.now)) id) i }
+    ensures short { length line.new < line_room }
+{
+    let Some(h) = records.handle(id) else {
+        return push_text(line, b"unknown");
+    };
+    match heap.kind() {
+        Kind::NonMoving => match heap.block(h, i, steps) {
+            Some(frame) => push_field(line, b"block ", frame as u64),
+            None => push_text(line, b"range"),
+        },
+        Kind::Moving | Kind::Tlsf | Kind::HalfFit => push_text(line, b"none"),
+    }
+}
+
+/// `p`: a word of the region.
+pub(crate) fn peek<H: Manager>(heap: &H, word: u32, line: &mut Line, steps: &mut Steps)
+    requires open { IsTrue (H.state heap.now).is_open }
+    requires begun { length line.old ≤ 8 }
+    ensures text { line.new ≡ line.old ++ peek_text (slice_get (H.state heap.now).words word) }
+    ensures short { length line.new < line_room }
+{
+    match heap.peek(word, steps) {
+        Some(v) => line.push_word(v).unwrap(),
+        None => push_text(line, b"range"),
+    }
+}
+
+/// `steps`: the cost of the last call; with pages also its bound, and what moved.
+pub(crate) fn tell_steps<H: Manager>(records: &Records, heap: &H, line: &mut Line)
+    requires open { IsTrue (H.state heap.now).is_open }
+    requires begun { length line.old ≤ 8 }
+    ensures text { line.new ≡ line.old ++ steps_text (H.state heap.now).kind records.now (H.state heap.now).cost }
+    ensures short { length line.new < line_room }
+{
+    push_field(line, b"steps last ", heap.cost());
+    match heap.kind() {
+        Kind::Moving | Kind::NonMoving => {
+            push_field(line, b" bound ", records.bound());
+            push_field(line, b" moves ", records.moves());
+            push_field(line, b" words ", records.words());
+        }
+        Kind::Tlsf | Kind::HalfFit => {}
+    }
+}

@@ -1,0 +1,109 @@
+//! A session over one manager.
+ghost use Rattle.std.specs.Prelude.{◌≡◌, ◌≤◌, IsTrue, OnErr, IfOk, length};
+ghost use Rattle.std.specs.FinMap as map;
+ghost use Rattle.cf_io.specs.Feeds.{Rose};
+ghost use Rattle.cf_model.specs.Rules.{KeepsRules};
+ghost use Rattle.cf_model.specs.Steps.{number_of};
+ghost use Rattle.cf_session.specs.Applying.{Applies, MayBound, moment_at};
+ghost use Rattle.script_reader.specs.Commands.{IsWellFormed};
+ghost use Rattle.script_runs.specs.Sessions.{AreTied, fresh_session};
+
+use crate::answering::answer;
+use crate::outcome::Outcome;
+use crate::records::Records;
+use cf_base::{Failed, Handle, OutOfMemory};
+use cf_io::{Line, Sink};
+use cf_model::Manager;
+use script_reader::Command;
+use std::alloc::Global;
+use std::marker::Model;
+use std::rt::Runtime;
+use step_ledger::Meter;
+
+/// The ids of one manager's objects, and what is told of its calls.
+#[derive(Drop)]
+pub struct Session {
+    meter: Meter,
+    records: Records,
+    line: Line,
+}
+
+impl Model for Session {
+    ghost use Rattle.script_runs.specs.Sessions.{SessionState, session_code};
+
+    ghost Value = { SessionState };
+
+    ghost coded = { session_code };
+
+    ghost view = { λ s. s.records };
+}
+
+impl Session {
+    /// A session in which no id is live. The table of all 65,536 ids is taken here.
+    pub fn start<R: Runtime>(rt: &R, alloc: Global) -> Result<Session, OutOfMemory>
+        ensures { IfOk result (λ s. s ≡ fresh_session) }
+    {
+        Ok(Session {
+            meter: Meter::new(rt),
+            records: Records::new(alloc)?,
+            line: Line::new(),
+        })
+    }
+
+    /// Does the command on the heap, and writes its reply: each line after the lead, in one piece.
+    /// `Failed` only where the sink failed; the command has taken effect then, and a front of its
+    /// reply was written.
+    pub fn apply<H: Manager, K: Sink>(
+        &mut self,
+        heap: &mut H,
+        c: &Command,
+        lead: &[u8],
+        out: &mut K,
+    ) -> Result<Outcome, Failed>
+        requires open { IsTrue (H.state heap.old).is_open }
+        requires tied { AreTied self.old (H.state heap.old) }
+        requires formed { IsWellFormed c.now }
+        requires bound { MayBound self.old c.now }
+        requires lead { length lead.now ≤ 8 }
+        ensures answers { Applies (moment_at self.old (H.state heap.old) (K.written out.old)) (record { command = c.now; lead = lead.now }) result (moment_at self.new (H.state heap.new) (K.written out.new)) }
+        ensures tied { AreTied self.new (H.state heap.new) }
+        ensures open { IsTrue (H.state heap.new).is_open }
+        ensures rules { KeepsRules (H.state heap.new) }
+        ensures grows { K.faults out.old ≤ K.faults out.new }
+        ensures failed { OnErr result (Rose (K.faults out.old) (K.faults out.new)) }
+    {
+        // An open heap keeps its rules.
+        let _open = heap.is_open();
+        self.meter.lap();
+        answer(
+            &mut self.records,
+            heap,
+            c,
+            lead,
+            &mut self.line,
+            out,
+            self.meter.steps(),
+        )
+    }
+
+    /// How many objects changed their place since the start; at most `2^64 - 1`.
+    pub fn moves(&self) -> u64
+        ensures { result ≡ self.now.moves }
+    {
+        self.records.moves()
+    }
+
+    /// The words of the slots of the objects that changed their place; at most `2^64 - 1`.
+    pub fn words(&self) -> u64
+        ensures { result ≡ self.now.words }
+    {
+        self.records.words()
+    }
+
+    /// The handle of an id; none where the id isn't live.
+    pub fn handle(&self, id: u16) -> Option<Handle>
+        ensures { number_of result ≡ map.get self.now.ids id }
+    {
+        self.records.handle(id)
+    }
+}

@@ -1,0 +1,55 @@
+-- Lines of replies, and what is put piece by piece.
+use Rattle.std.proofs.Common.{◌≡◌, ◌∙◌, ℕ, ◌+◌, ◌<◌, ◌≤◌, ◌^◌, ◌++◌, List, [], ◌∷◌, Option, refl, ap, sym, append_assoc, append-nil, subst, arith, length, lit<}
+use Rattle.std.specs.Prelude.{Result, Ok, Err, decimal}
+use Rattle.std.specs.Result.{IsOk}
+use Rattle.cf_io.specs.Lines.{Pushes, line_room}
+use Rattle.cf_io.specs.declared.line.Full.{Full}
+use Rattle.std.proofs.lemmas.Fmt.{length-decimal-le}
+use Rattle.cf_base.specs.declared.answers.Failed.{Failed}
+use Rattle.cf_io.specs.Feeds.{appended, Puts}
+use Rattle.cf_io.proofs.Feeding.{appended_then}
+use Rattle.script_runs.specs.Texts.{Reply, led, said}
+
+-- a number of 64 bits has at most 20 digits
+pub digits : (n : ℕ) → n < 2 ^ 64 → length (decimal n) ≤ 20
+digits n fits = length-decimal-le 20 n (lit< tt) (omega (arith, fits)) fits
+
+-- a reply of one line
+pub led_said : (lead text : List ℕ) → led lead (said text) ≡ (lead ++ text) ++ 10 ∷ []
+led_said lead text = append-nil (lead ++ (text ++ 10 ∷ [])) ∙ sym (append_assoc lead text (10 ∷ []))
+
+pub led-append : (lead : List ℕ) (some more : Reply) → led lead (some ++ more) ≡ led lead some ++ led lead more
+led-append lead [] more = refl
+led-append lead (text ∷ rest) more = ap (λ xs. (lead ++ (text ++ 10 ∷ [])) ++ xs) (led-append lead rest more) ∙ sym (append_assoc (lead ++ (text ++ 10 ∷ [])) (led lead rest) (led lead more))
+
+abbrev Told : Type 0
+Told = Option (List ℕ)
+
+-- the first piece is whole, and then the second one is put
+pub puts_then : {T : Type 0} (w x y : Told) (a b : List ℕ) (r : Result T Failed) → x ≡ appended w a → Puts x b r y → Puts w (a ++ b) r y
+puts_then w x y a b (Ok u) first next = next ∙ ap (λ (o : Told). appended o b) first ∙ appended_then w a b
+puts_then w x y a b (Err e) first (front, lost, parts, is) =
+    (a ++ front, lost, ap (λ xs. a ++ xs) parts ∙ sym (append_assoc a front lost), is ∙ ap (λ (o : Told). appended o front) first ∙ appended_then w a front)
+
+-- the first piece is cut
+pub puts_cut : (w y : Told) (a b : List ℕ) (e : Failed) → Puts {T = Unit {0}} w a (Err e) y → Puts {T = Unit {0}} w (a ++ b) (Err e) y
+puts_cut w y a b e (front, lost, parts, is) = (front, lost ++ b, ap (λ xs. xs ++ b) parts ∙ append_assoc front lost b, is)
+
+-- a line that was built behind its lead
+pub puts_line : {T : Type 0} (w y : Told) (lead text line : List ℕ) (r : Result T Failed) → line ≡ lead ++ text → Puts w (line ++ 10 ∷ []) r y → Puts w (led lead (said text)) r y
+puts_line {T = T} w y lead text line r is put =
+    let P : List ℕ → Type 0 = λ bytes. Puts {T = T} w bytes r y in
+    subst P (ap (λ (l : List ℕ). l ++ 10 ∷ []) is ∙ sym (led_said lead text)) put
+
+-- three texts behind a lead
+pub three : (lead l m n o a b c : List ℕ) → l ≡ lead → m ≡ l ++ a → n ≡ m ++ b → o ≡ n ++ c → o ≡ lead ++ (a ++ (b ++ c))
+three lead l m n o a b c first second third fourth = rw (fourth, third, second, first) (simp append_assoc)
+
+-- five texts behind a lead
+pub five : (lead l m n o p q a b c d e : List ℕ) → l ≡ lead → m ≡ l ++ a → n ≡ m ++ b → o ≡ n ++ c → p ≡ o ++ d → q ≡ p ++ e → q ≡ lead ++ (a ++ (b ++ (c ++ (d ++ e))))
+five lead l m n o p q a b c d e first second third fourth fifth sixth = rw (sixth, fifth, fourth, third, second, first) (simp append_assoc)
+
+-- a text stands on the line where there was room for it
+pub pushed : {T : Type 0} (old text new : List ℕ) (r : Result T Full) → Pushes old text r new → length old + length text ≤ line_room → IsOk r × (new ≡ old ++ text)
+pushed old text new (Ok u) p room = (refl, p.0)
+pushed old text new (Err e) p room = absurd (omega arith)

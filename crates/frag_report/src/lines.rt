@@ -1,0 +1,49 @@
+//! One line of a reply: it is built whole, and then put in one piece.
+ghost use Rattle.std.specs.Prelude.{◌≡◌, ◌+◌, ◌<◌, ◌≤◌, ◌++◌, ◌∷◌, [], OnErr, length};
+ghost use Rattle.cf_io.specs.Feeds.{Rose, Puts};
+ghost use Rattle.cf_io.specs.Lines.{line_room};
+ghost use Rattle.script_runs.specs.Texts.{with_number};
+
+use cf_base::Failed;
+use cf_io::{Line, Sink, put_all};
+
+/// The most bytes that lead a line.
+pub const MOST_LEAD: usize = 8;
+
+/// Begins a line with its lead.
+pub fn begin_line(line: &mut Line, lead: &[u8])
+    requires { length lead.now ≤ 8 }
+    ensures { line.new ≡ lead.now }
+{
+    line.clear();
+    line.push(lead).unwrap();
+}
+
+/// Appends a text that the line has room for.
+pub fn push_text(line: &mut Line, text: &[u8])
+    requires { length line.old + length text.now ≤ line_room }
+    ensures { line.new ≡ line.old ++ text.now }
+{
+    line.push(text).unwrap();
+}
+
+/// Appends a text and a number in decimal, which has at most 20 digits.
+pub fn push_field(line: &mut Line, text: &[u8], n: u64)
+    requires { length line.old + (length text.now + 20) ≤ line_room }
+    ensures text { line.new ≡ line.old ++ with_number text.now n }
+    ensures short { length line.new ≤ length line.old + (length text.now + 20) }
+{
+    line.push(text).unwrap();
+    line.push_number(n).unwrap();
+}
+
+/// Ends the line with a line feed, and puts it. At `Failed` a front of it was put.
+pub fn put_line<K: Sink>(line: &mut Line, out: &mut K) -> Result<(), Failed>
+    requires { length line.old < line_room }
+    ensures puts { Puts (K.written out.old) (line.old ++ 10 ∷ []) result (K.written out.new) }
+    ensures grows { K.faults out.old ≤ K.faults out.new }
+    ensures failed { OnErr result (Rose (K.faults out.old) (K.faults out.new)) }
+{
+    line.push(b"\n").unwrap();
+    put_all(out, line.bytes())
+}

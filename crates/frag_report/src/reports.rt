@@ -1,0 +1,200 @@
+//! The reports on a heap.
+ghost use Rattle.std.specs.Prelude.{◌≡◌, ◌<◌, ◌≤◌, ◌++◌, IsTrue, OnErr, length};
+ghost use Rattle.cf_io.specs.Feeds.{Rose, Puts};
+ghost use Rattle.cf_io.specs.Lines.{line_room};
+ghost use Rattle.cf_model.specs.Answers.{classes_in, totals_in};
+ghost use Rattle.frag_report.specs.Classes.{classes_below, class_if_live};
+ghost use Rattle.script_runs.specs.Reports.{blocks_line, class_line, frag_line as frag_text, frag_of, pages_report, total_line, walk_of};
+ghost use Rattle.script_runs.specs.Texts.{led, said};
+
+use crate::lines::{begin_line, push_field, put_line};
+use cf_base::{Failed, Figures, Kind, Totals};
+use cf_io::{Line, Sink};
+use cf_model::Manager;
+use step_ledger::Steps;
+
+/// Writes the report on classes and pages, or on blocks: each of its lines after the lead, built in
+/// `line` and put in one piece. `Failed` only where the sink failed; then a front of the report was
+/// put.
+pub fn walk_lines<H: Manager, K: Sink>(
+    heap: &H,
+    lead: &[u8],
+    line: &mut Line,
+    out: &mut K,
+    steps: &mut Steps,
+) -> Result<(), Failed>
+    requires open { IsTrue (H.state heap.now).is_open }
+    requires lead { length lead.now ≤ 8 }
+    ensures puts { Puts (K.written out.old) (led lead.now (walk_of (H.state heap.now).kind (H.state heap.now))) result (K.written out.new) }
+    ensures grows { K.faults out.old ≤ K.faults out.new }
+    ensures failed { OnErr result (Rose (K.faults out.old) (K.faults out.new)) }
+    ensures rises { steps.old ≤ steps.new }
+{
+    let totals = heap.totals(steps);
+    match heap.kind() {
+        Kind::Moving | Kind::NonMoving => put_pages(heap, &totals, lead, line, out),
+        Kind::Tlsf | Kind::HalfFit => put_blocks(&totals, lead, line, out),
+    }
+}
+
+/// Writes the report on the bytes asked for, taken and held: one line after the lead, built in `line`
+/// and put in one piece. `Failed` only where the sink failed; then a front of the line was put.
+pub fn frag_line<H: Manager, K: Sink>(
+    heap: &H,
+    lead: &[u8],
+    line: &mut Line,
+    out: &mut K,
+    steps: &mut Steps,
+) -> Result<(), Failed>
+    requires open { IsTrue (H.state heap.now).is_open }
+    requires lead { length lead.now ≤ 8 }
+    ensures puts { Puts (K.written out.old) (led lead.now (frag_of (H.state heap.now))) result (K.written out.new) }
+    ensures grows { K.faults out.old ≤ K.faults out.new }
+    ensures failed { OnErr result (Rose (K.faults out.old) (K.faults out.new)) }
+    ensures rises { steps.old ≤ steps.new }
+{
+    let totals = heap.totals(steps);
+    put_frag(&totals, lead, line, out)
+}
+
+/// Puts the report on classes and pages.
+fn put_pages<H: Manager, K: Sink>(
+    heap: &H,
+    totals: &Totals,
+    lead: &[u8],
+    line: &mut Line,
+    out: &mut K,
+) -> Result<(), Failed>
+    requires open { IsTrue (H.state heap.now).is_open }
+    requires totals { totals.now ≡ totals_in (H.state heap.now).kind (H.state heap.now) }
+    requires lead { length lead.now ≤ 8 }
+    ensures puts { Puts (K.written out.old) (led lead.now (pages_report (H.state heap.now))) result (K.written out.new) }
+    ensures grows { K.faults out.old ≤ K.faults out.new }
+    ensures failed { OnErr result (Rose (K.faults out.old) (K.faults out.new)) }
+{
+    match put_classes(heap, lead, line, out) {
+        Ok(()) => put_total(totals, lead, line, out),
+        Err(failed) => Err(failed),
+    }
+}
+
+/// Puts a line for each class with live objects, in rising order.
+fn put_classes<H: Manager, K: Sink>(
+    heap: &H,
+    lead: &[u8],
+    line: &mut Line,
+    out: &mut K,
+) -> Result<(), Failed>
+    requires open { IsTrue (H.state heap.now).is_open }
+    requires lead { length lead.now ≤ 8 }
+    ensures puts { Puts (K.written out.old) (led lead.now (classes_below (H.state heap.now) (classes_in (H.state heap.now).kind (H.state heap.now)))) result (K.written out.new) }
+    ensures grows { K.faults out.old ≤ K.faults out.new }
+    ensures failed { OnErr result (Rose (K.faults out.old) (K.faults out.new)) }
+{
+    for c in 0..heap.classes() {
+        match put_if_live(heap, c, lead, line, out) {
+            Ok(()) => {}
+            Err(failed) => return Err(failed),
+        }
+    }
+    Ok(())
+}
+
+/// Puts the line of class c where the class has live objects.
+fn put_if_live<H: Manager, K: Sink>(
+    heap: &H,
+    c: u32,
+    lead: &[u8],
+    line: &mut Line,
+    out: &mut K,
+) -> Result<(), Failed>
+    requires open { IsTrue (H.state heap.now).is_open }
+    requires class { c < classes_in (H.state heap.now).kind (H.state heap.now) }
+    requires lead { length lead.now ≤ 8 }
+    ensures puts { Puts (K.written out.old) (led lead.now (class_if_live (H.state heap.now) c)) result (K.written out.new) }
+    ensures grows { K.faults out.old ≤ K.faults out.new }
+    ensures failed { OnErr result (Rose (K.faults out.old) (K.faults out.new)) }
+{
+    match heap.figures(c) {
+        Some(figures) if figures.live > 0 => put_class(&figures, lead, line, out),
+        _ => Ok(()),
+    }
+}
+
+/// Puts the line of a class.
+fn put_class<K: Sink>(
+    figures: &Figures,
+    lead: &[u8],
+    line: &mut Line,
+    out: &mut K,
+) -> Result<(), Failed>
+    requires { length lead.now ≤ 8 }
+    ensures puts { Puts (K.written out.old) (led lead.now (said (class_line figures.now))) result (K.written out.new) }
+    ensures grows { K.faults out.old ≤ K.faults out.new }
+    ensures failed { OnErr result (Rose (K.faults out.old) (K.faults out.new)) }
+{
+    begin_line(line, lead);
+    push_field(line, b"class ", figures.slot_words as u64);
+    push_field(line, b" slots ", figures.slots as u64);
+    push_field(line, b" live ", figures.live as u64);
+    push_field(line, b" pages ", figures.pages as u64);
+    push_field(line, b" notfull ", figures.not_full as u64);
+    put_line(line, out)
+}
+
+/// Puts the last line of a report on pages.
+fn put_total<K: Sink>(
+    totals: &Totals,
+    lead: &[u8],
+    line: &mut Line,
+    out: &mut K,
+) -> Result<(), Failed>
+    requires { length lead.now ≤ 8 }
+    ensures puts { Puts (K.written out.old) (led lead.now (said (total_line totals.now))) result (K.written out.new) }
+    ensures grows { K.faults out.old ≤ K.faults out.new }
+    ensures failed { OnErr result (Rose (K.faults out.old) (K.faults out.new)) }
+{
+    begin_line(line, lead);
+    push_field(line, b"total live ", totals.live as u64);
+    push_field(line, b" pages ", totals.used as u64);
+    push_field(line, b" free ", totals.free as u64);
+    put_line(line, out)
+}
+
+/// Puts the report on blocks.
+fn put_blocks<K: Sink>(
+    totals: &Totals,
+    lead: &[u8],
+    line: &mut Line,
+    out: &mut K,
+) -> Result<(), Failed>
+    requires { length lead.now ≤ 8 }
+    ensures puts { Puts (K.written out.old) (led lead.now (said (blocks_line totals.now))) result (K.written out.new) }
+    ensures grows { K.faults out.old ≤ K.faults out.new }
+    ensures failed { OnErr result (Rose (K.faults out.old) (K.faults out.new)) }
+{
+    begin_line(line, lead);
+    push_field(line, b"blocks used ", totals.used as u64);
+    push_field(line, b" free ", totals.free as u64);
+    push_field(line, b" largest ", totals.largest as u64);
+    put_line(line, out)
+}
+
+/// Puts the report on the bytes asked for, taken and held.
+fn put_frag<K: Sink>(
+    totals: &Totals,
+    lead: &[u8],
+    line: &mut Line,
+    out: &mut K,
+) -> Result<(), Failed>
+    requires { length lead.now ≤ 8 }
+    ensures puts { Puts (K.written out.old) (led lead.now (said (frag_text totals.now))) result (K.written out.new) }
+    ensures grows { K.faults out.old ≤ K.faults out.new }
+    ensures failed { OnErr result (Rose (K.faults out.old) (K.faults out.new)) }
+{
+    begin_line(line, lead);
+    push_field(line, b"frag asked ", totals.asked);
+    push_field(line, b" taken ", totals.taken);
+    push_field(line, b" held ", totals.held);
+    put_line(line, out)
+}
