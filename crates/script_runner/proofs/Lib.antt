@@ -1,0 +1,5 @@
+pub mod Ending
+pub mod Feeding
+pub mod Going
+pub mod Naming
+pub mod Stages
