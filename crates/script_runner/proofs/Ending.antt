@@ -19,6 +19,8 @@ use Rattle.script_runs.specs.Sessions.{RunState}
 use Rattle.script_runs.specs.Texts.{Reply, led, text_of}
 use Rattle.run_laws.proofs.GoingOn.{front_written, run_joined, text_joined}
 use Rattle.run_laws.proofs.Items.{items_sayable}
+use Rattle.run_laws.proofs.ReadBack.{reads_are_told}
+use Rattle.transcripts.proofs.Telling.{run_tells}
 use Rattle.script_runner.specs.Going.{Answered, CutOff, IsWaiting, WasWanting}
 use Rattle.script_runner.specs.Outcome.{Call, HasOutcome, HasOutcomeOf, IsFrontOfWhole, MOST_BYTES, Printed, Prints, PrintsFront, has_bad, items_within}
 use Rattle.script_runner.specs.Players.{Player, progress, run_of}
@@ -41,13 +43,21 @@ printed_by {s} {new} {t} {text} {stop} a = record { text = text; end = run_of ne
 abbrev pub printed_cut : {s : RunState} {new : Player} {t out : List ℕ} → CutOff (starting s) t new out → Printed
 printed_cut {s} {new} {t} {out} c = record { text = out; end = run_of new }
 
+-- what a run prints, with what the laws of runs say of it
+printing : (kind : Kind) (wanted : List Item) (replies : List Reply) (end : Option RunState) (text : List ℕ) → Run kind None wanted replies end → text ≡ text_of [] replies
+    → Prints kind wanted (record { text = text; end = end })
+printing kind wanted replies end text run same = record {
+  replies = replies;
+  run = run;
+  text_is = same;
+  reads = reads_are_told kind wanted replies end run;
+  transcript = λ paged ones less. run_tells kind paged wanted None end replies tt ones less run;
+}
+
 pub prints : {s : RunState} {new : Player} {t text : List ℕ} {stop : Bool} (a : Answered (starting s) t new text stop) (wanted : List Item) → wanted ≡ a.done
     → Prints s.heap.kind wanted (record { text = text; end = run_of new })
-prints {s} {new} {t} {text} {stop} a wanted same = record {
-  replies = a.replies;
-  run = subst (λ (xs : List Item). Run s.heap.kind None xs a.replies (run_of new)) (sym same) a.run;
-  text_is = a.text_is;
-}
+prints {s} {new} {t} {text} {stop} a wanted same =
+    printing s.heap.kind wanted a.replies (run_of new) text (subst (λ (xs : List Item). Run s.heap.kind None xs a.replies (run_of new)) (sym same) a.run) a.text_is
 
 pub bads : {s : RunState} {new : Player} {t text : List ℕ} {stop : Bool} (a : Answered (starting s) t new text stop) (wanted : List Item) → wanted ≡ a.done → has_bad wanted ≡ stop
 bads {s} {new} {t} {text} {stop} a wanted same = ap has_bad same ∙ a.stops
@@ -63,7 +73,7 @@ front_of_whole kind all before after item replies reply mid end front lost parts
     text_joined [] replies (reply ∷ []) ∙ ap (λ (l : List ℕ). text_of [] replies ++ l) (append-nil (led [] reply) ∙ cut) ∙ sym (append_assoc (text_of [] replies) front lost) in
     let whole = front_written kind (items_within all) (before ++ item ∷ []) after (replies ++ reply ∷ []) end [] (text_of [] replies ++ front) lost paged
     (items_sayable (take MOST_BYTES all) (nat_le (length all) MOST_BYTES)) parts2 run2 cut2 in
-    record { whole = record { text = text_of [] whole.0; end = whole.1 }; prints = record { replies = whole.0; run = whole.3; text_is = refl }; missing = whole.2; front = whole.4 }
+    record { whole = record { text = text_of [] whole.0; end = whole.1 }; prints = printing kind (items_within all) whole.0 whole.1 (text_of [] whole.0) whole.3 refl; missing = whole.2; front = whole.4 }
 
 pub prints_front : {s : RunState} {new : Player} {t out : List ℕ} (c : CutOff (starting s) t new out) (all : List ℕ) (after : List Item) → items_within all ≡ c.done ++ c.item ∷ after
     → PrintsFront s.heap.kind (items_within all) (record { text = out; end = run_of new })
@@ -73,7 +83,7 @@ prints_front {s} {new} {t} {out} c all after parts = record {
   after = after;
   parts = parts;
   so_far = record { text = text_of [] c.replies; end = c.mid };
-  answered = record { replies = c.replies; run = c.run; text_is = refl };
+  answered = printing s.heap.kind c.done c.replies c.mid (text_of [] c.replies) c.run refl;
   reply = c.reply;
   step = c.step;
   front = c.front;
@@ -149,12 +159,10 @@ printed_cut_then {s} {mid} {new} {t} {text} {out} a c = record { text = text ++ 
 
 pub prints_then : {s : RunState} {mid new : Player} {t text u : List ℕ} {stop : Bool} (a : Answered (starting s) t mid text false) (b : Answered (ending mid) [] new u stop)
     (wanted : List Item) → wanted ≡ a.done ++ b.done → Prints s.heap.kind wanted (record { text = text ++ u; end = run_of new })
-prints_then {s} {mid} {new} {t} {text} {u} {stop} a b wanted same = record {
-  replies = a.replies ++ b.replies;
-  run = subst (λ (xs : List Item). Run s.heap.kind None xs (a.replies ++ b.replies) (run_of new)) (sym same)
-      (run_joined s.heap.kind None a.done b.done a.replies b.replies (run_of mid) (run_of new) a.run (subst (λ (k : Kind). Run k (run_of mid) b.done b.replies (run_of new)) a.kind b.run));
-  text_is = ap₂ (λ (x y : List ℕ). x ++ y) a.text_is b.text_is ∙ sym (text_joined [] a.replies b.replies);
-}
+prints_then {s} {mid} {new} {t} {text} {u} {stop} a b wanted same =
+    let run = subst (λ (xs : List Item). Run s.heap.kind None xs (a.replies ++ b.replies) (run_of new)) (sym same)
+    (run_joined s.heap.kind None a.done b.done a.replies b.replies (run_of mid) (run_of new) a.run (subst (λ (k : Kind). Run k (run_of mid) b.done b.replies (run_of new)) a.kind b.run)) in
+    printing s.heap.kind wanted (a.replies ++ b.replies) (run_of new) (text ++ u) run (ap₂ (λ (x y : List ℕ). x ++ y) a.text_is b.text_is ∙ sym (text_joined [] a.replies b.replies))
 
 pub bads_then : {s : RunState} {mid new : Player} {t text u : List ℕ} {stop : Bool} (a : Answered (starting s) t mid text false) (b : Answered (ending mid) [] new u stop)
     (wanted : List Item) → wanted ≡ a.done ++ b.done → has_bad wanted ≡ stop
@@ -193,7 +201,7 @@ prints_front_then {s} {mid} {new} {t} {text} {out} all a c same fits =
       after = after.0;
       parts = parts;
       so_far = record { text = text_of [] (a.replies ++ c.replies); end = c.mid };
-      answered = record { replies = a.replies ++ c.replies; run = run; text_is = refl };
+      answered = printing s.heap.kind (a.done ++ c.done) (a.replies ++ c.replies) c.mid (text_of [] (a.replies ++ c.replies)) run refl;
       reply = c.reply;
       step = step;
       front = c.front;
