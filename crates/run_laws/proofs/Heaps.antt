@@ -42,6 +42,7 @@ use Rattle.cf_model.specs.State.{HeapState, paging_in, region_words}
 use Rattle.cf_model.specs.Steps.{FreesObject, IsMallocStep, IsResizeStep, IsWriteStep, Part, frames_left, number_of, outcome_of, slot_in}
 use Rattle.script_runs.specs.Steps.{class_to_bound}
 use Rattle.script_runs.proofs.Bounded.{pages_kept}
+use Rattle.script_runs.proofs.Tied.{bytes_held, bytes_missing}
 use Rattle.run_laws.proofs.Counting.{fresh_key, len_without, there_or_not}
 use Rattle.run_laws.proofs.Images.{sound_image}
 use Rattle.run_laws.proofs.ByKind.{FramesKept, frames_by, frames_stepped, handle_of, lacking_by, moves_by, number_of_handle, outside_by, place_by, rules_by, tiling_by, unmoved_by}
@@ -52,10 +53,6 @@ record AreFew (n : ℕ) (o : Objects) : Type 0 where
   handles : (h : ℕ) (v : List ℕ) → get o h ≡ Some v → h < n
   bytes : (h : ℕ) (v : List ℕ) → get o h ≡ Some v → AreBytes v
   few : len o ≤ n
-
--- the bytes of an object
-bytes_of : (m : Held) (h : ℕ) (x : Placed) → get m h ≡ Some x → get (objects m) h ≡ Some x.bytes
-bytes_of m h x there = get-map_values (λ (z : Placed). z.bytes) m h ∙ ap (option_map (λ (z : Placed). z.bytes)) there
 
 object_behind : (o : Option Placed) (v : List ℕ) → option_map (λ (z : Placed). z.bytes) o ≡ Some v → (x : Placed) × (o ≡ Some x) × (x.bytes ≡ v)
 object_behind None v is = absurd (let e : ◌≡◌ {A = Option (List ℕ)} None (Some v) = is in cc)
@@ -73,8 +70,8 @@ few_in s are = record {
 
 objects_in : (s : HeapState) → AreFew s.profile.proxies (objects s.held) → AreObjects s
 objects_in s few = record {
-  handles = λ h x e. few.handles h x.bytes (bytes_of s.held h x e);
-  bytes = λ h x e. few.bytes h x.bytes (bytes_of s.held h x e);
+  handles = λ h x e. few.handles h x.bytes (bytes_held s.held h x e);
+  bytes = λ h x e. few.bytes h x.bytes (bytes_held s.held h x e);
   few = (let same = len-objects s.held in let l = few.few in omega arith);
 }
 
@@ -165,7 +162,7 @@ module _ (old : HeapState) (rules : KeepsRules old) (paged : IsPaged old.kind) w
   malloc_given n a fits few free =
       let key = fresh_key old.profile.proxies old.held few in
       let h = key.0 in
-      let none : get (objects old.held) h ≡ None = get-map_values (λ (z : Placed). z.bytes) old.held h ∙ ap (option_map (λ (z : Placed). z.bytes)) key.2 in
+      let none : get (objects old.held) h ≡ None = bytes_missing old.held h key.2 in
       let room : len (objects old.held) < old.profile.proxies = (let same = len-objects old.held in omega arith) in
       let m : Held = insert old.held h (zeros_at a n) in
       let sound = sound_malloc p old.held (record { number = h; length = n }) m pages.paging pages.sound (record { place = a; unused = key.2; free = free; placed = refl }) in
@@ -227,7 +224,7 @@ module _ (old : HeapState) (rules : KeepsRules old) (paged : IsPaged old.kind) w
       let gone = free_objects p pages.paging old.held pages.sound h x there (number_of moved) moves in
       let frames = frames_left old.kind old after in
       let kept : FramesKept old.kind old.profile frames = frames_stepped old.kind old after refl paged rules frames_old (λ blocks count permuted. free_frames p old.held old.frames pages.paging blocks pages.sound count h after step permuted) in
-      let few : AreFew old.profile.proxies (objects left) = subst (AreFew old.profile.proxies) (sym gone) (few_left old.profile.proxies (objects old.held) few_old h x.bytes (bytes_of old.held h x there)) in
+      let few : AreFew old.profile.proxies (objects left) = subst (AreFew old.profile.proxies) (sym gone) (few_left old.profile.proxies (objects old.held) few_old h x.bytes (bytes_held old.held h x there)) in
       let next = becomes left frames 0 (sound_free p old.held h after pages.paging pages.sound step) few kept in
       record {
         freed = record { slot_words = slot_in old.kind old x; moved = moved };
@@ -261,7 +258,7 @@ module _ (old : HeapState) (rules : KeepsRules old) (paged : IsPaged old.kind) w
   sound_written h x v there same = subst (IsSound p) (insert_again old.held h (record x { bytes = v })) (sound_exchanged p old.held h x there h v (get_removed old.held h) (ap (class_for p) same) pages.sound)
 
   few_replaced : (h : ℕ) (x y : Placed) → get old.held h ≡ Some x → AreBytes y.bytes → AreFew old.profile.proxies (objects (insert old.held h y))
-  few_replaced h x y there bytes = subst (AreFew old.profile.proxies) (sym (map_values-insert (λ (z : Placed). z.bytes) old.held h y)) (few_changed old.profile.proxies (objects old.held) few_old h x.bytes y.bytes (bytes_of old.held h x there) bytes)
+  few_replaced h x y there bytes = subst (AreFew old.profile.proxies) (sym (map_values-insert (λ (z : Placed). z.bytes) old.held h y)) (few_changed old.profile.proxies (objects old.held) few_old h x.bytes y.bytes (bytes_held old.held h x there) bytes)
 
   -- every write into a live object is answered
   pub write_done : (part : Part) (bytes : List ℕ) (x : Placed) → AreBytes bytes → get old.held part.number ≡ Some x → HasWrite part bytes
@@ -300,7 +297,7 @@ module _ (old : HeapState) (rules : KeepsRules old) (paged : IsPaged old.kind) w
       let frames = frames_left old.kind old after in
       let kept : FramesKept old.kind old.profile frames = frames_stepped old.kind old after refl paged rules frames_old (λ blocks count permuted. resize_frames p old.held old.frames pages.paging blocks pages.sound count asked after step permuted) in
       let few : AreFew old.profile.proxies (objects m) = subst (AreFew old.profile.proxies) (sym left)
-      (few_changed old.profile.proxies (objects old.held) few_old asked.number x.bytes (resized x.bytes asked.length) (bytes_of old.held asked.number x there) (resized_are_bytes x.bytes asked.length (rules.numbers.bytes asked.number x there))) in
+      (few_changed old.profile.proxies (objects old.held) few_old asked.number x.bytes (resized x.bytes asked.length) (bytes_held old.held asked.number x there) (resized_are_bytes x.bytes asked.length (rules.numbers.bytes asked.number x there))) in
       let next = becomes m frames 0 (sound_resize p old.held asked after pages.paging pages.sound step) few kept in
       record {
         answer = Ok (record { old_slot_words = slot_for p (length x.bytes); slot_words = slot_for p asked.length; moved = moved });

@@ -1,9 +1,8 @@
 -- What the items of a script can say.
 use Rattle.std.proofs.Common.{◌≡◌, ℕ, Bool, true, false, cond, ◌+◌, ◌*◌, ◌/◌, ◌%◌, ◌≤◌, List, [], ◌∷◌, Option, Some, None, Result, Ok, Err, length, arith, sym, ap, refl, subst}
-use Rattle.std.specs.Prelude.{⊤, ◌&&◌, ◌==◌, codes, nat_le, option_map}
+use Rattle.std.specs.Prelude.{⊤, ◌==◌, codes, nat_le, option_map}
 use Rattle.std.specs.Result.{result_ok}
 use Rattle.std.specs.Str.{bytes_eq, byte}
-use Rattle.std.proofs.lemmas.Bool.{false≢true}
 use Rattle.std.proofs.lemmas.Bool.Decides.{nat_tests}
 use Rattle.hex.specs.Hex.{decode_of}
 use Rattle.hex.specs.declared.error.FromHexError.{FromHexError}
@@ -22,6 +21,7 @@ use Rattle.script_reader.specs.declared.command.Command.{Command}
 use Rattle.script_reader.specs.declared.command.Command.TheVariants.{Malloc, Free, Write, Read, Place, Block, Peek, Walk, Frag, Steps, Bound, Resize, Slice, Task, Quota, Need, Admit}
 use Rattle.script_reader.specs.declared.stage.Stage.{Stage}
 use Rattle.script_reader.specs.declared.stage.Stage.TheVariants.{Opening}
+use Rattle.run_laws.proofs.Counting.{both}
 use Rattle.run_laws.specs.Sayable.{AreSayable, HasBytes, IsSayable}
 
 -- what is there, if something is, is of the sort
@@ -66,10 +66,6 @@ module _ {A B : Type 0} (Q : B → Type 0) where
   bound_any : (f : A → Option B) (o : Option A) → ((x : A) → OfSort Q (f x)) → OfSort Q (o >>= f)
   bound_any f None all = sort_none Q
   bound_any f (Some x) all = all x
-
-both : (a b : Bool) → (a && b) ≡ true → (a ≡ true) × (b ≡ true)
-both true b e = (refl, e)
-both false b e = absurd (false≢true e)
 
 within_range : (low high n : ℕ) → is_within low high n ≡ true → (low ≤ n) × (n ≤ high)
 within_range low high n is =

@@ -32,7 +32,7 @@ use Rattle.script_runs.specs.Sessions.{Ids, IsGoing, RunState, SessionState}
 use Rattle.script_runs.specs.Steps.{FreesAt, MallocsAt, ResizesAt, Step, WritesAt, class_to_bound, ids_given}
 use Rattle.script_runs.specs.Texts.{Reply, said}
 use Rattle.script_runs.proofs.Going.{begins_going, step_going}
-use Rattle.script_runs.proofs.Tied.{AreNames, counted_ids, names_in, names_of_objects, resized_ids, unmoved_held}
+use Rattle.script_runs.proofs.Tied.{AreNames, bytes_held, bytes_missing, counted_ids, names_in, names_of_objects, resized_ids, unmoved_held}
 use Rattle.run_laws.specs.Told.{AreReadsOf, IsReadOf, Told, changed, done_by, is_ok, read_told, told_after}
 
 -- the bytes under the number that an id names
@@ -107,7 +107,7 @@ module _ (old new : RunState) (m : Told) (going : IsGoing old) (told : IsTold ol
 
   malloc_told : (id n : ℕ) (answer : Result Handle Refusal) (reply : Reply) → IsMallocStep old.heap n answer new.heap → new.session.ids ≡ ids_given old.session.ids id answer → reply ≡ said (malloc_text answer) → IsTold new.session.ids (objects new.heap.held) (next (Malloc id n) m reply)
   malloc_told id n (Ok h) reply step e is =
-      let unused : get (objects old.heap.held) h.0 ≡ None = get-map_values (λ (x : Placed). x.bytes) old.heap.held h.0 ∙ ap (option_map (λ (x : Placed). x.bytes)) step.unused in
+      let unused : get (objects old.heap.held) h.0 ≡ None = bytes_missing old.heap.held h.0 step.unused in
       moved (Malloc id n) (codes "ok") reply refl is
       (told_with (insert old.session.ids id h.0) (insert (objects old.heap.held) h.0 (replicate n 0)) (insert m id (replicate n 0)) e
       (ap (λ (s : HeapState). objects s.held) step.whole ∙ malloc_objects old.heap.held h.0 step.place n)
@@ -134,13 +134,10 @@ module _ (old new : RunState) (m : Told) (going : IsGoing old) (told : IsTold ol
       subst (λ t. IsTold new.session.ids (objects new.heap.held) t) (sym (changed_is m id f v here))
       (told_with old.session.ids (insert (objects old.heap.held) h (f v)) (insert m id (f v)) e left (told_changed old.session.ids (objects old.heap.held) m names told id h some (f v)))
 
-  bytes_there : (h : ℕ) (x : Placed) → get old.heap.held h ≡ Some x → get (objects old.heap.held) h ≡ Some x.bytes
-  bytes_there h x there = get-map_values (λ (x : Placed). x.bytes) old.heap.held h ∙ ap (option_map (λ (x : Placed). x.bytes)) there
-
   write_told : (id h at : ℕ) (bytes : List ℕ) (answer : Result Unit AccessFault) (reply : Reply) → get old.session.ids id ≡ Some h → IsWriteStep old.heap (record { number = h; from = at }) bytes answer new.heap → new.session ≡ old.session → reply ≡ said (write_text answer)
       → IsTold new.session.ids (objects new.heap.held) (next (Write id at bytes) m reply)
   write_told id h at bytes (Ok u) reply some step e is = moved (Write id at bytes) (codes "ok") reply refl is
-      (change_told id h step.object.bytes (λ v. written v at bytes) some (bytes_there h step.object step.found) (ap (λ (s : SessionState). s.ids) e)
+      (change_told id h step.object.bytes (λ v. written v at bytes) some (bytes_held old.heap.held h step.object step.found) (ap (λ (s : SessionState). s.ids) e)
       (ap (λ (s : HeapState). objects s.held) step.whole ∙ map_values-insert (λ (x : Placed). x.bytes) old.heap.held h _))
   write_told id h at bytes (Err access.Unknown) reply some step e is = refused (Write id at bytes) (codes "unknown") reply refl is (ap (λ (s : SessionState). s.ids) e) (ap (λ (s : HeapState). s.held) step.1)
   write_told id h at bytes (Err access.Range) reply some step e is = refused (Write id at bytes) (codes "range") reply refl is (ap (λ (s : SessionState). s.ids) e) (ap (λ (s : HeapState). s.held) step.1)
@@ -152,7 +149,7 @@ module _ (old new : RunState) (m : Told) (going : IsGoing old) (told : IsTold ol
   resize_told : (id h n : ℕ) (answer : Result Resized ResizeFault) (reply : Reply) → get old.session.ids id ≡ Some h → IsResizeStep old.heap (record { number = h; length = n }) answer new.heap → new.session.ids ≡ old.session.ids → reply ≡ said (resize_text answer)
       → IsTold new.session.ids (objects new.heap.held) (next (Resize id n) m reply)
   resize_told id h n (Ok done) reply some step e is = moved (Resize id n) (codes "ok") reply refl is
-      (change_told id h step.object.bytes (λ v. resized v n) some (bytes_there h step.object step.found) e step.left)
+      (change_told id h step.object.bytes (λ v. resized v n) some (bytes_held old.heap.held h step.object step.found) e step.left)
   resize_told id h n (Err resize.Unknown) reply some step e is = refused (Resize id n) (codes "unknown") reply refl is e (unmoved_held old.heap.kind old.heap new.heap step.1)
   resize_told id h n (Err resize.Kind) reply some step e is = refused (Resize id n) (codes "none") reply refl is e (unmoved_held old.heap.kind old.heap new.heap step.1)
   resize_told id h n (Err resize.Size) reply some step e is = refused (Resize id n) (codes "refused size") reply refl is e (unmoved_held old.heap.kind old.heap new.heap step.1)

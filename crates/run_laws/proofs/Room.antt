@@ -1,5 +1,5 @@
 -- Where a sound arrangement has room there is a free place, and a free that must move an object can.
-use Rattle.std.proofs.Common.{◌≡◌, ◌≢◌, ℕ, zero, suc, Bool, true, false, ◌+◌, ◌/◌, ◌%◌, ◌<◌, ◌≤◌, Option, Some, None, arith, sym, ◌∙◌, ap, refl, inl, inr}
+use Rattle.std.proofs.Common.{◌≡◌, ◌≢◌, ℕ, zero, suc, true, ◌+◌, ◌/◌, ◌%◌, ◌<◌, ◌≤◌, Option, Some, None, arith, sym, ◌∙◌, ap, inl, inr}
 use Rattle.std.specs.Prelude.{◌⊎◌, ◌&&◌, count_by, nat_eq, nat_lt}
 use Rattle.std.proofs.lemmas.Bool.{cases_eq, cases_lt, false≢true}
 use Rattle.std.proofs.lemmas.Bool.Decides.{nat_tests}
@@ -13,17 +13,13 @@ use Rattle.arrangement.proofs.Addresses.{address_is_slot}
 use Rattle.arrangement.proofs.Counting.{none_counted, nothing_on, on_page, eq_yes, some_counted}
 use Rattle.arrangement.proofs.Freeing.{objects_on-left}
 use Rattle.arrangement.proofs.PageCounts.{slots_some}
-use Rattle.run_laws.proofs.Counting.{counted_in_range, search_below}
+use Rattle.run_laws.proofs.Counting.{both, counted_in_range, search_below}
 
 -- a page of the class that is neither empty nor full
 record IsOpen (p : Paging) (m : Held) (c page : ℕ) : Type 0 where
   within : page < p.pages
   some : 0 < objects_on p m c page
   less : objects_on p m c page < slots_of p c
-
-both : (a b : Bool) → (a && b) ≡ true → (a ≡ true) × (b ≡ true)
-both true b e = (refl, e)
-both false b e = absurd (false≢true e)
 
 -- where pages are not full there is one
 open_page : (p : Paging) (m : Held) (c : ℕ) → 0 < not_full_pages p m c → (page : ℕ) × IsOpen p m c page

@@ -101,11 +101,18 @@ mapped : {X Y : Type 0} (f : X → Y) (o : Option X) (y : Y) → option_map f o 
 mapped f None y is = absurd (let e : None ≡ Some y = is in cc)
 mapped f (Some x) y is = (x, refl)
 
+-- the bytes of an object that is held, and of one that is not
+pub bytes_held : (m : Held) (h : ℕ) (x : Placed) → get m h ≡ Some x → get (objects m) h ≡ Some x.bytes
+bytes_held m h x there = get-map_values (λ (y : Placed). y.bytes) m h ∙ ap (option_map (λ (y : Placed). y.bytes)) there
+
+pub bytes_missing : (m : Held) (h : ℕ) → get m h ≡ None → get (objects m) h ≡ None
+bytes_missing m h none = get-map_values (λ (y : Placed). y.bytes) m h ∙ ap (option_map (λ (y : Placed). y.bytes)) none
+
 -- the same of the objects without their places
 module _ (ids : Ids) (m : Held) where
   pub names_of_objects : AreNames ids m → AreNames ids (objects m)
   names_of_objects names = record {
-    named = λ i q is. ((names.named i q is).0.bytes, get-map_values (λ (x : Placed). x.bytes) m q ∙ ap (option_map (λ (x : Placed). x.bytes)) (names.named i q is).1);
+    named = λ i q is. ((names.named i q is).0.bytes, bytes_held m q (names.named i q is).0 (names.named i q is).1);
     once = names.once;
     all = λ q v is.
         let x = mapped (λ (x : Placed). x.bytes) (get m q) v (sym (get-map_values (λ (x : Placed). x.bytes) m q) ∙ is) in
@@ -116,7 +123,7 @@ module _ (ids : Ids) (m : Held) where
   names_of_held names = record {
     named = λ i q is. mapped (λ (x : Placed). x.bytes) (get m q) (names.named i q is).0 (sym (get-map_values (λ (x : Placed). x.bytes) m q) ∙ (names.named i q is).1);
     once = names.once;
-    all = λ q x is. names.all q x.bytes (get-map_values (λ (x : Placed). x.bytes) m q ∙ ap (option_map (λ (x : Placed). x.bytes)) is);
+    all = λ q x is. names.all q x.bytes (bytes_held m q x is);
   }
 
 pub names_in : (session : SessionState) (heap : HeapState) → AreTied session heap → AreNames session.ids heap.held
@@ -180,7 +187,7 @@ module _ (old new : RunState) (tied : AreTied old.session old.heap) where
 
   resize_names : (asked : Request) (answer : Result Resized ResizeFault) → IsResizeStep old.heap asked answer new.heap → AreNames old.session.ids new.heap.held
   resize_names asked (Ok done) step =
-      let x : get (objects old.heap.held) asked.number ≡ Some step.object.bytes = get-map_values (λ (x : Placed). x.bytes) old.heap.held asked.number ∙ ap (option_map (λ (x : Placed). x.bytes)) step.found in
+      let x : get (objects old.heap.held) asked.number ≡ Some step.object.bytes = bytes_held old.heap.held asked.number step.object step.found in
       let kept = names_replaced old.session.ids (objects old.heap.held) (names_of_objects old.session.ids old.heap.held names) asked.number step.object.bytes _ x in
       names_of_held old.session.ids new.heap.held (subst (λ m. AreNames old.session.ids m) (sym step.left) kept)
   resize_names asked (Err e) step = subst (λ m. AreNames old.session.ids m) (sym (unmoved_held old.heap.kind old.heap new.heap step.1)) names
