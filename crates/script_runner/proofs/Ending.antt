@@ -20,7 +20,6 @@ use Rattle.script_runs.specs.Texts.{Reply, led, text_of}
 use Rattle.run_laws.proofs.GoingOn.{front_written, run_joined, text_joined}
 use Rattle.run_laws.proofs.Items.{items_sayable}
 use Rattle.run_laws.proofs.ReadBack.{reads_are_told}
-use Rattle.transcripts.proofs.Telling.{run_tells}
 use Rattle.script_runner.specs.Going.{Answered, CutOff, IsWaiting, WasWanting}
 use Rattle.script_runner.specs.Outcome.{Call, HasOutcome, HasOutcomeOf, IsFrontOfWhole, MOST_BYTES, Printed, Prints, PrintsFront, has_bad, items_within}
 use Rattle.script_runner.specs.Players.{Player, progress, run_of}
@@ -43,7 +42,7 @@ printed_by {s} {new} {t} {text} {stop} a = record { text = text; end = run_of ne
 abbrev pub printed_cut : {s : RunState} {new : Player} {t out : List ℕ} → CutOff (starting s) t new out → Printed
 printed_cut {s} {new} {t} {out} c = record { text = out; end = run_of new }
 
--- what a run prints, with what the laws of runs say of it
+-- what a run prints, with what its reads give
 printing : (kind : Kind) (wanted : List Item) (replies : List Reply) (end : Option RunState) (text : List ℕ) → Run kind None wanted replies end → text ≡ text_of [] replies
     → Prints kind wanted (record { text = text; end = end })
 printing kind wanted replies end text run same = record {
@@ -51,7 +50,6 @@ printing kind wanted replies end text run same = record {
   run = run;
   text_is = same;
   reads = reads_are_told kind wanted replies end run;
-  transcript = λ paged ones less. run_tells kind paged wanted None end replies tt ones less run;
 }
 
 pub prints : {s : RunState} {new : Player} {t text : List ℕ} {stop : Bool} (a : Answered (starting s) t new text stop) (wanted : List Item) → wanted ≡ a.done

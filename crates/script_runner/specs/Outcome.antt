@@ -13,7 +13,6 @@ use Rattle.script_runs.specs.Runs.{ItemStep, Run}
 use Rattle.script_runs.specs.Sessions.{RunState}
 use Rattle.script_runs.specs.Texts.{Reply, led, text_of}
 use Rattle.run_laws.specs.Told.{AreReadsOf}
-use Rattle.transcripts.specs.Transcripts.{ArePlaceless, StaysAtOne, transcript}
 
 -- the most bytes of a script that are answered
 abbrev pub MOST_BYTES : ℕ
@@ -37,13 +36,12 @@ pub record Printed : Type 0 where
   pub text : List ℕ
   pub end : Option RunState
 
--- A run of the kind over these items prints this. Every read gives what was last written; and with pages, where every bound is 1 and no place is asked for, the replies are those of the script's transcript.
+-- a run of the kind over these items prints this, and each of its reads gives what was last written
 pub record Prints (kind : Kind) (wanted : List Item) (printed : Printed) : Type 0 where
   pub replies : List Reply
   pub run : Run kind None wanted replies printed.end
   pub text_is : printed.text ≡ text_of [] replies
   pub reads : AreReadsOf None wanted replies
-  pub transcript : IsPaged kind → StaysAtOne kind None wanted → ArePlaceless wanted → replies ≡ transcript kind wanted
 
 -- the text is a front of what a run over all the items prints
 pub record IsFrontOfWhole (kind : Kind) (wanted : List Item) (text : List ℕ) : Type 0 where
