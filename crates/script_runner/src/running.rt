@@ -24,8 +24,13 @@ pub fn run_script<H: Manager, S: Source, K: Sink>(
     sink: &mut K,
 ) -> Status
     requires { session ≡ fresh_session }
-    ensures outcome { MeetsOutcome (H.state heap.old) (record { had = S.rest source.old; left = S.rest source.new;
-        before = K.written sink.old; after = K.written sink.new; status = result }) (H.state heap.new) }
+    ensures outcome { MeetsOutcome (H.state heap.old) (record {
+      had = S.rest source.old;
+      left = S.rest source.new;
+      before = K.written sink.old;
+      after = K.written sink.new;
+      status = result;
+    }) (H.state heap.new) }
     // The causes, also where the source tells nothing of its bytes.
     ensures ends { IsEnding result }
     ensures silent { result ≡ Status.OutOfMemory → K.written sink.new ≡ K.written sink.old }
