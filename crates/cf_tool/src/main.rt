@@ -1,8 +1,6 @@
 //! The tool: reads a script from standard input and answers each command.
 #![tactic(auto)]
 
-mod answers;
-mod script;
 mod top;
 
 use cf_base::Status;

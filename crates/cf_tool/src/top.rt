@@ -1,100 +1,26 @@
 //! The top call.
-ghost use Rattle.std.specs.Prelude.{◌≡◌, ◌<◌, ◌≤◌, ◌+◌, ◌⊎◌, ◌↔◌, length};
+ghost use Rattle.std.specs.Prelude.{◌≡◌, ◌<◌, ◌+◌, ◌⊎◌, map, string_bytes};
 ghost use Rattle.cf_io.specs.Feeds.{Rose, last_count};
-ghost use Rattle.cf_tool.specs.Outcome.{AnswersScript, IsSilent, MeetsOutcome, Takes, status_of};
+ghost use Rattle.script_runner.specs.Outcome.{IsClean, MOST_BYTES};
+ghost use Rattle.cf_tool.specs.Outcome.{AreTaken, EndsWell, IsWhole};
 
-use crate::answers::{Ending, answer_bad, answer_requests};
-use crate::script::{heap_line, next_line};
 use cf_base::Status;
-use cf_io::{Sink, Source, put_all};
-use cf_model::Manager;
+use cf_io::{Sink, Source};
+use cf_session::Session;
+use command_words::{Mode, WordsFault, read_words};
 use moving_heap::MovingHeap;
+use script_runner::run_script;
 use std::alloc::Global;
 use std::rt::Runtime;
-use step_ledger::Meter;
 
-/// The largest script, in bytes.
-pub const LIMIT: usize = 65_535;
-
-/// What was taken of a source.
-#[derive(Drop)]
-pub enum Input {
-    /// All of it.
-    Script(Vec<u8>),
-    /// More bytes than the largest script has.
-    Passing,
-    /// The source failed.
-    Failing,
-    /// Memory was wanting.
-    Wanting,
-}
-
-/// Takes the whole script.
-fn take_script<S: Source>(alloc: Global, source: &mut S) -> Input
-    ensures takes { Takes LIMIT (S.rest source.old) result (S.rest source.new) }
-    ensures grows { S.faults source.old ≤ S.faults source.new }
-    ensures failed { result ≡ Input.Failing → Rose (S.faults source.old) (S.faults source.new) }
-    ensures passed { result ≡ Input.Passing → (S.given source.old + LIMIT < S.given source.new) ⊎ (S.given source.new ≡ last_count) }
-{
-    let Ok(mut script) = Vec::with_capacity(alloc, LIMIT) else {
-        return Input::Wanting;
-    };
-    let mut piece = [0; 4096];
-    let mut room = LIMIT;
-    'pieces: loop {
-        let n = match source.take(&mut piece) {
-            Ok(n) => n,
-            Err(_) => return Input::Failing,
-        };
-        if n == 0 {
-            return Input::Script(script);
-        }
-        if n > room {
-            return Input::Passing;
-        }
-        if script.extend_from_slice(&piece[..n]).is_err() {
-            return Input::Wanting;
-        }
-        room -= n;
-    }
-}
-
-/// Answers a script: its `heap` line opens a heap, on which the rest is answered.
-fn answer_script<R: Runtime, K: Sink>(rt: &R, alloc: Global, script: &[u8], sink: &mut K) -> Status
-    ensures answers { AnswersScript script.now (K.written sink.old) result (K.written sink.new) }
-    ensures grows { K.faults sink.old ≤ K.faults sink.new }
-    ensures failed { result ≡ Status.WriteFault → Rose (K.faults sink.old) (K.faults sink.new) }
-{
-    let Some((line, rest)) = next_line(script) else {
-        return Status::Done;
-    };
-    let Some(settings) = heap_line(line) else {
-        return status_of(answer_bad(1, sink));
-    };
-    let mut heap = MovingHeap::closed(alloc);
-    let Ok(()) = heap.open_heap(&settings) else {
-        return Status::OutOfMemory;
-    };
-    let mut meter = Meter::new(rt);
-    match put_all(sink, b"ok\n") {
-        Ok(()) => status_of(answer_requests(&mut heap, rest, meter.steps(), sink)),
-        Err(_) => Status::WriteFault,
-    }
-}
-
-/// The status of a script that was answered so far.
-fn status_of(ending: Ending) -> Status
-    ensures { result ≡ status_of ending }
-{
-    match ending {
-        Ending::Whole => Status::Done,
-        Ending::AtBad => Status::BadScript,
-        Ending::Cut => Status::WriteFault,
-    }
-}
-
-/// Reads a script of at most 65,535 bytes, all of it before the first reply, and answers each line.
-/// The first of the words is the program's name, and no other is taken.
+/// Reads the words, of which the first is the program's name, and does what they choose.
+///
+/// In mode `run` a manager of the chosen kind answers a script of at most 268,435,455 bytes: its
+/// `heap` line opens the manager, and each command is answered before the next piece is taken from
+/// the source. The call ends at the end of the script with `Done`; at a line that isn't in the
+/// grammar at its place with `BadScript`; where more bytes come with `TooLong`; at a fault with
+/// `ReadFault` or `WriteFault`; and where memory is wanting with `OutOfMemory`, before any reply. It
+/// answers `Words` exactly where `clap` refuses the words for another cause than memory.
 pub fn cf_main<R: Runtime, S: Source, K: Sink>(
     rt: &R,
     alloc: Global,
@@ -102,22 +28,35 @@ pub fn cf_main<R: Runtime, S: Source, K: Sink>(
     source: &mut S,
     sink: &mut K,
 ) -> Status
-    ensures words { (result ≡ Status.Words) ↔ (1 < length words.now) }
-    ensures outcome { MeetsOutcome LIMIT (S.rest source.old) (S.rest source.new) (K.written sink.old) result (K.written sink.new) }
-    // A source that tells nothing of its bytes has these causes too.
+    ensures outcome { EndsWell (map (λ word. string_bytes word) words.now) (record {
+      had = S.rest source.old;
+      left = S.rest source.new;
+      before = K.written sink.old;
+      after = K.written sink.new;
+      status = result;
+    }) }
+    ensures complete { AreTaken (map (λ word. string_bytes word) words.now) → IsClean (S.rest source.old)
+        → ¬ Rose (S.faults source.old) (S.faults source.new) → ¬ Rose (K.faults sink.old) (K.faults sink.new) → IsWhole result }
+    // The causes, over every source and sink.
     ensures read_fault { result ≡ Status.ReadFault → Rose (S.faults source.old) (S.faults source.new) }
     ensures write_fault { result ≡ Status.WriteFault → Rose (K.faults sink.old) (K.faults sink.new) }
     ensures too_long { result ≡ Status.TooLong
-        → (S.given source.old + LIMIT < S.given source.new) ⊎ (S.given source.new ≡ last_count) }
-    ensures silent { IsSilent result → K.written sink.new ≡ K.written sink.old }
+        → (S.given source.old + MOST_BYTES < S.given source.new) ⊎ (S.given source.new ≡ last_count) }
 {
-    if words.len() > 1 {
-        return Status::Words;
-    }
-    match take_script(alloc, source) {
-        Input::Script(script) => answer_script(rt, alloc, script.as_slice(), sink),
-        Input::Passing => Status::TooLong,
-        Input::Failing => Status::ReadFault,
-        Input::Wanting => Status::OutOfMemory,
+    let choice = match read_words(alloc, words) {
+        Ok(choice) => choice,
+        Err(fault) => match fault {
+            WordsFault::Refused => return Status::Words,
+            WordsFault::OutOfMemory => return Status::OutOfMemory,
+        },
+    };
+    let Ok(session) = Session::start(rt, alloc) else {
+        return Status::OutOfMemory;
+    };
+    match choice.mode {
+        Mode::Run => {
+            let mut heap = MovingHeap::closed(alloc);
+            run_script(session, &mut heap, source, sink)
+        }
     }
 }
