@@ -1,5 +1,5 @@
 -- What was done and told, put together.
-use Rattle.std.proofs.Common.{◌≡◌, ◌∙◌, ℕ, ◌+◌, ◌-◌, ◌≤◌, ◌<◌, ◌++◌, List, [], ◌∷◌, Option, Some, None, Result, Ok, Err, length, take, drop, map, refl, ap, sym, subst, arith}
+use Rattle.std.proofs.Common.{◌≡◌, ◌∙◌, ℕ, ◌-◌, ◌++◌, List, [], ◌∷◌, Option, Result, Ok, Err, length, take, drop, map, refl, ap, sym, subst}
 use Rattle.std.specs.Prelude.{IsTrue}
 use Rattle.std.proofs.Math.Seq.{drop-append_seam}
 use Rattle.std.proofs.lemmas.List.{take_rest}
@@ -16,7 +16,7 @@ use Rattle.arrangement.specs.Figures.{figures_of}
 use Rattle.frag_report.proofs.Putting.{puts_line}
 use Rattle.script_reader.specs.declared.command.Command.{Command}
 use Rattle.script_reader.specs.declared.command.Command.TheVariants.{Walk, Frag}
-use Rattle.script_runs.specs.Answering.{IsAnswered, IsCutShort, Moment}
+use Rattle.script_runs.specs.Answering.{Moment}
 use Rattle.script_runs.specs.Replies.{told}
 use Rattle.script_runs.specs.Reports.{class_line, total_line, frag_of, walk_of, live_classes}
 use Rattle.script_runs.specs.Runs.{Turn}
@@ -28,7 +28,7 @@ use Rattle.script_runs.proofs.Going.{step_going}
 use Rattle.cf_session.specs.Applying.{Applies, outcome_in, outcome_of, run_at}
 use Rattle.cf_session.specs.Speaking.{IsReported, Says, lines_at}
 use Rattle.cf_session.specs.declared.outcome.Outcome.{Outcome}
-use Rattle.cf_session.specs.declared.outcome.Outcome.TheVariants.{Good, Refused, Other}
+use Rattle.cf_session.specs.declared.outcome.Outcome.TheVariants.{Other}
 
 -- a step of a run that goes on is a turn
 turn : (old new : RunState) (c : Command) (reply : Reply) → IsGoing old → Step old c reply new → Turn old c reply new

@@ -34,7 +34,9 @@ pub(crate) fn answer<H: Manager, K: Sink>(
     requires bound { MayBound records.old c.now }
     requires lead { length lead.now ≤ 8 }
     requires room { steps.old ≤ 2 ^ 63 }
-    ensures answers { Applies (moment_at records.old (H.state heap.old) (K.written out.old)) (record { command = c.now; lead = lead.now }) result (moment_at records.new (H.state heap.new) (K.written out.new)) }
+    ensures answers { Applies (moment_at records.old (H.state heap.old) (K.written out.old))
+        (record { command = c.now; lead = lead.now })
+        result (moment_at records.new (H.state heap.new) (K.written out.new)) }
     ensures grows { K.faults out.old ≤ K.faults out.new }
     ensures failed { OnErr result (Rose (K.faults out.old) (K.faults out.new)) }
 {
@@ -77,7 +79,9 @@ fn speak<H: Manager>(
     requires one { IsOneLine c.now }
     requires room { steps.old ≤ 2 ^ 63 }
     requires begun { length line.old ≤ 8 }
-    ensures said { Says (run_at records.old (H.state heap.old)) c.now (run_at records.new (H.state heap.new)) (lines_at line.old line.new) }
+    ensures said { Says (run_at records.old (H.state heap.old))
+        c.now (run_at records.new (H.state heap.new))
+        (lines_at line.old line.new) }
     ensures short { length line.new < line_room }
 {
     match c {
@@ -105,7 +109,9 @@ fn look<H: Manager>(records: &Records, heap: &H, c: &Command, line: &mut Line, s
     requires looks { Looks c.now }
     requires room { steps.old ≤ 2 ^ 63 }
     requires begun { length line.old ≤ 8 }
-    ensures said { Says (run_at records.now (H.state heap.now)) c.now (run_at records.now (H.state heap.now)) (lines_at line.old line.new) }
+    ensures said { Says (run_at records.now (H.state heap.now))
+        c.now (run_at records.now (H.state heap.now))
+        (lines_at line.old line.new) }
     ensures short { length line.new < line_room }
 {
     match c {

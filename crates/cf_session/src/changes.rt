@@ -23,7 +23,8 @@ pub(crate) fn malloc<H: Manager>(
 ) -> &'static [u8]
     requires open { IsTrue (H.state heap.old).is_open }
     requires room { steps.old ≤ 2 ^ 63 }
-    ensures step { Step (run_at records.old (H.state heap.old)) (Malloc id bytes) (said result.now) (run_at records.new (H.state heap.new)) }
+    ensures step { Step (run_at records.old (H.state heap.old)) (Malloc id bytes)
+        (said result.now) (run_at records.new (H.state heap.new)) }
     ensures short { length result.now ≤ 20 }
 {
     if records.handle(id).is_some() {
@@ -61,7 +62,8 @@ pub(crate) fn free<H: Manager>(
     requires open { IsTrue (H.state heap.old).is_open }
     requires tied { AreTied records.old (H.state heap.old) }
     requires room { steps.old ≤ 2 ^ 63 }
-    ensures step { Step (run_at records.old (H.state heap.old)) (Free id) (said result.now) (run_at records.new (H.state heap.new)) }
+    ensures step { Step (run_at records.old (H.state heap.old)) (Free id)
+        (said result.now) (run_at records.new (H.state heap.new)) }
     ensures short { length result.now ≤ 20 }
 {
     let Some(h) = records.handle(id) else {
@@ -87,7 +89,8 @@ pub(crate) fn write<H: Manager>(
 ) -> &'static [u8]
     requires open { IsTrue (H.state heap.old).is_open }
     requires room { steps.old ≤ 2 ^ 63 }
-    ensures step { Step (run_at records.now (H.state heap.old)) (Write id at bytes.now) (said result.now) (run_at records.now (H.state heap.new)) }
+    ensures step { Step (run_at records.now (H.state heap.old)) (Write id at bytes.now)
+        (said result.now) (run_at records.now (H.state heap.new)) }
     ensures short { length result.now ≤ 20 }
 {
     let Some(h) = records.handle(id) else {
@@ -120,7 +123,8 @@ pub(crate) fn resize<H: Manager>(
 ) -> &'static [u8]
     requires open { IsTrue (H.state heap.old).is_open }
     requires room { steps.old ≤ 2 ^ 63 }
-    ensures step { Step (run_at records.old (H.state heap.old)) (Resize id bytes) (said result.now) (run_at records.new (H.state heap.new)) }
+    ensures step { Step (run_at records.old (H.state heap.old)) (Resize id bytes)
+        (said result.now) (run_at records.new (H.state heap.new)) }
     ensures short { length result.now ≤ 20 }
 {
     let Some(h) = records.handle(id) else {
@@ -164,7 +168,8 @@ pub(crate) fn set_bound<H: Manager>(
     requires empty { records.now.ids ≡ map.empty }
     requires least { 1 ≤ k }
     requires most { k ≤ 64 }
-    ensures step { Step (run_at records.now (H.state heap.old)) (Bound slot_words k) (said result.now) (run_at records.now (H.state heap.new)) }
+    ensures step { Step (run_at records.now (H.state heap.old)) (Bound slot_words k)
+        (said result.now) (run_at records.now (H.state heap.new)) }
     ensures short { length result.now ≤ 20 }
 {
     if heap.set_bound(slot_words, k) {

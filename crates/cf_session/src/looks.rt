@@ -31,7 +31,8 @@ pub(crate) fn read<H: Manager>(
     requires room { steps.old ≤ 2 ^ 63 }
     requires few { len ≤ 4096 }
     requires begun { length line.old ≤ 8 }
-    ensures text { line.new ≡ line.old ++ read_text (object_of (run_at records.now (H.state heap.now)) id) at len }
+    ensures text { line.new
+        ≡ line.old ++ read_text (object_of (run_at records.now (H.state heap.now)) id) at len }
     ensures short { length line.new < line_room }
 {
     let Some(h) = records.handle(id) else {
@@ -54,7 +55,8 @@ fn read_part<H: Manager>(
     requires room { steps.old ≤ 2 ^ 63 }
     requires few { length room.old ≤ 4096 }
     requires begun { length line.old ≤ 8 }
-    ensures text { line.new ≡ line.old ++ read_text (map.get (H.state heap.now).held h.0) at (length room.old) }
+    ensures text { line.new
+        ≡ line.old ++ read_text (map.get (H.state heap.now).held h.0) at (length room.old) }
     ensures short { length line.new < line_room }
 {
     match heap.read(h, at, room, steps) {
@@ -76,7 +78,8 @@ pub(crate) fn place<H: Manager>(
 )
     requires open { IsTrue (H.state heap.now).is_open }
     requires begun { length line.old ≤ 8 }
-    ensures text { line.new ≡ line.old ++ place_text (object_of (run_at records.now (H.state heap.now)) id) }
+    ensures text { line.new
+        ≡ line.old ++ place_text (object_of (run_at records.now (H.state heap.now)) id) }
     ensures short { length line.new < line_room }
 {
     let Some(h) = records.handle(id) else {
@@ -100,7 +103,8 @@ pub(crate) fn block<H: Manager>(
     requires open { IsTrue (H.state heap.now).is_open }
     requires tied { AreTied records.now (H.state heap.now) }
     requires begun { length line.old ≤ 8 }
-    ensures text { line.new ≡ line.old ++ block_text_at (H.state heap.now) (object_of (run_at records.now (H.state heap.now)) id) i }
+    ensures text { line.new
+        ≡ line.old ++ block_text_at (H.state heap.now) (object_of (run_at records.now (H.state heap.now)) id) i }
     ensures short { length line.new < line_room }
 {
     let Some(h) = records.handle(id) else {
@@ -132,7 +136,8 @@ pub(crate) fn peek<H: Manager>(heap: &H, word: u32, line: &mut Line, steps: &mut
 pub(crate) fn tell_steps<H: Manager>(records: &Records, heap: &H, line: &mut Line)
     requires open { IsTrue (H.state heap.now).is_open }
     requires begun { length line.old ≤ 8 }
-    ensures text { line.new ≡ line.old ++ steps_text (H.state heap.now).kind records.now (H.state heap.now).cost }
+    ensures text { line.new
+        ≡ line.old ++ steps_text (H.state heap.now).kind records.now (H.state heap.now).cost }
     ensures short { length line.new < line_room }
 {
     push_field(line, b"steps last ", heap.cost());

@@ -65,7 +65,9 @@ impl Session {
         requires formed { IsWellFormed c.now }
         requires bound { MayBound self.old c.now }
         requires lead { length lead.now ≤ 8 }
-        ensures answers { Applies (moment_at self.old (H.state heap.old) (K.written out.old)) (record { command = c.now; lead = lead.now }) result (moment_at self.new (H.state heap.new) (K.written out.new)) }
+        ensures answers { Applies (moment_at self.old (H.state heap.old) (K.written out.old))
+            (record { command = c.now; lead = lead.now })
+            result (moment_at self.new (H.state heap.new) (K.written out.new)) }
         ensures tied { AreTied self.new (H.state heap.new) }
         ensures open { IsTrue (H.state heap.new).is_open }
         ensures rules { KeepsRules (H.state heap.new) }

@@ -25,7 +25,9 @@ pub fn walk_lines<H: Manager, K: Sink>(
 ) -> Result<(), Failed>
     requires open { IsTrue (H.state heap.now).is_open }
     requires lead { length lead.now ≤ 8 }
-    ensures puts { Puts (K.written out.old) (led lead.now (walk_of (H.state heap.now).kind (H.state heap.now))) result (K.written out.new) }
+    ensures puts { Puts (K.written out.old)
+        (led lead.now (walk_of (H.state heap.now).kind (H.state heap.now)))
+        result (K.written out.new) }
     ensures grows { K.faults out.old ≤ K.faults out.new }
     ensures failed { OnErr result (Rose (K.faults out.old) (K.faults out.new)) }
     ensures rises { steps.old ≤ steps.new }
@@ -48,7 +50,8 @@ pub fn frag_line<H: Manager, K: Sink>(
 ) -> Result<(), Failed>
     requires open { IsTrue (H.state heap.now).is_open }
     requires lead { length lead.now ≤ 8 }
-    ensures puts { Puts (K.written out.old) (led lead.now (frag_of (H.state heap.now))) result (K.written out.new) }
+    ensures puts { Puts (K.written out.old) (led lead.now (frag_of (H.state heap.now)))
+        result (K.written out.new) }
     ensures grows { K.faults out.old ≤ K.faults out.new }
     ensures failed { OnErr result (Rose (K.faults out.old) (K.faults out.new)) }
     ensures rises { steps.old ≤ steps.new }
@@ -68,7 +71,8 @@ fn put_pages<H: Manager, K: Sink>(
     requires open { IsTrue (H.state heap.now).is_open }
     requires totals { totals.now ≡ totals_in (H.state heap.now).kind (H.state heap.now) }
     requires lead { length lead.now ≤ 8 }
-    ensures puts { Puts (K.written out.old) (led lead.now (pages_report (H.state heap.now))) result (K.written out.new) }
+    ensures puts { Puts (K.written out.old) (led lead.now (pages_report (H.state heap.now)))
+        result (K.written out.new) }
     ensures grows { K.faults out.old ≤ K.faults out.new }
     ensures failed { OnErr result (Rose (K.faults out.old) (K.faults out.new)) }
 {
@@ -87,7 +91,9 @@ fn put_classes<H: Manager, K: Sink>(
 ) -> Result<(), Failed>
     requires open { IsTrue (H.state heap.now).is_open }
     requires lead { length lead.now ≤ 8 }
-    ensures puts { Puts (K.written out.old) (led lead.now (classes_below (H.state heap.now) (classes_in (H.state heap.now).kind (H.state heap.now)))) result (K.written out.new) }
+    ensures puts { Puts (K.written out.old)
+        (led lead.now (classes_below (H.state heap.now) (classes_in (H.state heap.now).kind (H.state heap.now))))
+        result (K.written out.new) }
     ensures grows { K.faults out.old ≤ K.faults out.new }
     ensures failed { OnErr result (Rose (K.faults out.old) (K.faults out.new)) }
 {
@@ -111,7 +117,8 @@ fn put_if_live<H: Manager, K: Sink>(
     requires open { IsTrue (H.state heap.now).is_open }
     requires class { c < classes_in (H.state heap.now).kind (H.state heap.now) }
     requires lead { length lead.now ≤ 8 }
-    ensures puts { Puts (K.written out.old) (led lead.now (class_if_live (H.state heap.now) c)) result (K.written out.new) }
+    ensures puts { Puts (K.written out.old) (led lead.now (class_if_live (H.state heap.now) c))
+        result (K.written out.new) }
     ensures grows { K.faults out.old ≤ K.faults out.new }
     ensures failed { OnErr result (Rose (K.faults out.old) (K.faults out.new)) }
 {
@@ -129,7 +136,8 @@ fn put_class<K: Sink>(
     out: &mut K,
 ) -> Result<(), Failed>
     requires { length lead.now ≤ 8 }
-    ensures puts { Puts (K.written out.old) (led lead.now (said (class_line figures.now))) result (K.written out.new) }
+    ensures puts { Puts (K.written out.old) (led lead.now (said (class_line figures.now)))
+        result (K.written out.new) }
     ensures grows { K.faults out.old ≤ K.faults out.new }
     ensures failed { OnErr result (Rose (K.faults out.old) (K.faults out.new)) }
 {
@@ -150,7 +158,8 @@ fn put_total<K: Sink>(
     out: &mut K,
 ) -> Result<(), Failed>
     requires { length lead.now ≤ 8 }
-    ensures puts { Puts (K.written out.old) (led lead.now (said (total_line totals.now))) result (K.written out.new) }
+    ensures puts { Puts (K.written out.old) (led lead.now (said (total_line totals.now)))
+        result (K.written out.new) }
     ensures grows { K.faults out.old ≤ K.faults out.new }
     ensures failed { OnErr result (Rose (K.faults out.old) (K.faults out.new)) }
 {
@@ -169,7 +178,8 @@ fn put_blocks<K: Sink>(
     out: &mut K,
 ) -> Result<(), Failed>
     requires { length lead.now ≤ 8 }
-    ensures puts { Puts (K.written out.old) (led lead.now (said (blocks_line totals.now))) result (K.written out.new) }
+    ensures puts { Puts (K.written out.old) (led lead.now (said (blocks_line totals.now)))
+        result (K.written out.new) }
     ensures grows { K.faults out.old ≤ K.faults out.new }
     ensures failed { OnErr result (Rose (K.faults out.old) (K.faults out.new)) }
 {
@@ -188,7 +198,8 @@ fn put_frag<K: Sink>(
     out: &mut K,
 ) -> Result<(), Failed>
     requires { length lead.now ≤ 8 }
-    ensures puts { Puts (K.written out.old) (led lead.now (said (frag_text totals.now))) result (K.written out.new) }
+    ensures puts { Puts (K.written out.old) (led lead.now (said (frag_text totals.now)))
+        result (K.written out.new) }
     ensures grows { K.faults out.old ≤ K.faults out.new }
     ensures failed { OnErr result (Rose (K.faults out.old) (K.faults out.new)) }
 {

@@ -1,4 +1,4 @@
-use Rattle.std.proofs.Common.{◌∙◌, sym}
+use Rattle.std.proofs.Common.{sym}
 use Rattle.cf_session.proofs.Calling.{bound_step, bound_ok, bound_none, none_held}
 use Rattle.cf_session.proofs.changes.set_bound.Goals as goal
 

@@ -1,4 +1,4 @@
-use Rattle.std.proofs.Common.{arith, length, length-append}
+use Rattle.std.proofs.Common.{arith, length-append}
 use Rattle.frag_report.proofs.Putting.{pushed}
 use Rattle.cf_io.proofs.CallerLemmas.{length_of_word}
 use Rattle.cf_io.specs.Lines.{word_text}

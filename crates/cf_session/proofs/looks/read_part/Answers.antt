@@ -1,4 +1,4 @@
-use Rattle.std.proofs.Common.{◌≡◌, ◌≤◌, arith, length, length-append}
+use Rattle.std.proofs.Common.{◌≤◌, arith, length, length-append}
 use Rattle.hex.specs.Hex.{encode_lower}
 use Rattle.cf_io.proofs.CallerLemmas.{length_in_hex}
 use Rattle.frag_report.proofs.Putting.{pushed}

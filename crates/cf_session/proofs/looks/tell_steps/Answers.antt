@@ -1,5 +1,4 @@
 use Rattle.std.proofs.Common.{◌∙◌, inl, inr, sym}
-use Rattle.std.specs.Prelude.{◌⊎◌}
 use Rattle.cf_session.proofs.Calling.{steps_line}
 use Rattle.cf_session.proofs.looks.tell_steps.Goals as goal
 
