@@ -15,3 +15,4 @@ pub mod Knowing
 pub mod Writing
 pub mod Cutting
 pub mod Loans
+pub mod Loaned

@@ -3,3 +3,5 @@ pub mod Access
 pub mod Freeing
 pub mod Cutting
 pub mod Payload
+pub mod Lending
+pub mod HeapLending
