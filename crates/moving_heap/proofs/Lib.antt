@@ -23,3 +23,4 @@ pub mod ChangedAlone
 pub mod ChangedFilled
 pub mod Lengths
 pub mod Loans
+pub mod Loaned

@@ -4,3 +4,5 @@ pub mod Freeing
 pub mod Cutting
 pub mod Changing
 pub mod Payload
+pub mod Lending
+pub mod HeapLending

@@ -1,14 +1,18 @@
 //! The heap that a caller holds: closed, or open.
-ghost use Rattle.std.specs.Prelude.{◌≡◌, ◌<◌, IsTrue, option_copied};
+ghost use Rattle.std.specs.Prelude.{◌≡◌, ℕ, ◌+◌, ◌<◌, List, IsSome, IsTrue, Some, length, option_copied};
 ghost use Rattle.arrangement.specs.Arrangement.{home_pages, not_full_pages, free_pages};
 ghost use Rattle.cf_base.specs.declared.kind.Kind.TheVariants.{Moving};
-ghost use Rattle.cf_model.specs.Answers.{classes_in};
+ghost use Rattle.cf_model.specs.Answers.{classes_in, place_of};
+ghost use Rattle.cf_model.specs.Rules.{KeepsRules};
 ghost use Rattle.cf_model.specs.State.{closed_state, paging_in};
+ghost use Rattle.std.specs.Borrow.{sem};
 ghost use Rattle.step_ledger.specs.Counting.{RoseAtMost};
 ghost use Rattle.moving_heap.specs.Kept.{IsKept, state_of};
-ghost use Rattle.moving_heap.specs.Payload.{payload_bound, payload_of};
+ghost use Rattle.moving_heap.specs.Payload.{lent_back, payload_bound, payload_of};
+ghost use Rattle.moving_heap.specs.HeapLending.{LendsPayload};
 
 use crate::inner::OpenHeap;
+use crate::lending::words_in;
 use cf_base::{
     AccessFault, Figures, Freed, Handle, Kind, NotLive, OutOfMemory, Refusal, ResizeFault, Resized,
     Settings, Totals,
@@ -189,6 +193,19 @@ impl MovingHeap {
         ensures bound { RoseAtMost steps.old steps.new (payload_bound (payload_of self.now h.0)) }
     {
         self.open().payload(h, steps)
+    }
+
+    /// Lends the whole words of a live object, eight bytes to a word, the least first, to be written
+    /// without a copy. What is left there are the object's bytes afterwards, and all else stays.
+    pub fn payload_mut(&mut self, h: Handle, steps: &mut Steps) -> &mut [u64]
+        requires open { IsTrue self.old.is_open }
+        requires live { IsSome (place_of self.old h.0) }
+        ensures* writes_back { sem 𝓛 (LendsPayload self.entry h.0 result) }
+        ensures value { Some result.now ≡ payload_of self.old h.0 }
+        ensures rules { (ws : List ℕ) → KeepsRules (lent_back self.old h.0 ws) }
+        ensures bound { RoseAtMost steps.old steps.new (2 + length result.now) }
+    {
+        words_in(&mut self.inner, h, steps)
     }
 
     /// What is open.

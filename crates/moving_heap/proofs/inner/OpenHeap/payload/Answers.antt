@@ -1,4 +1,4 @@
-use Rattle.std.proofs.Common.{◌/◌, length, sym, arith, subst, rules}
+use Rattle.std.proofs.Common.{sym, arith, subst, rules}
 use Rattle.step_ledger.specs.Counting.{RoseAtMost}
 use Rattle.moving_heap.specs.Payload.{payload_bound}
 use Rattle.moving_heap.proofs.Loans.{count_is, lent_is, none_lent, run_inside, run_small}
