@@ -1,5 +1,5 @@
 -- Answers that follow one another.
-use Rattle.std.proofs.Common.{◌≡◌, ◌++◌, ◌∙◌, ◌+◌, Bool, true, false, List, [], ◌∷◌, ℕ, Option, Some, None, refl, ap, ap₂, sym, subst, append_assoc, append-nil, take, drop, take-append-drop, arith, length}
+use Rattle.std.proofs.Common.{◌≡◌, ◌++◌, ◌∙◌, ◌+◌, Bool, true, false, List, [], ◌∷◌, ℕ, Option, Some, None, refl, ap, ap₂, sym, subst, append_assoc, append-nil, take, drop, take-append-drop}
 use Rattle.std.proofs.Math.Seq.{take-add}
 use Rattle.std.proofs.lemmas.Bool.{true≢false}
 use Rattle.std.specs.Prelude.{codes}
@@ -7,7 +7,6 @@ use Rattle.cf_base.specs.Settings.{Profile, profile_of}
 use Rattle.cf_base.specs.declared.kind.Kind.{Kind}
 use Rattle.cf_base.specs.declared.settings.Settings.{Settings}
 use Rattle.cf_io.specs.Feeds.{appended}
-use Rattle.cf_model.specs.Rules.{KeepsRules}
 use Rattle.cf_model.specs.State.{HeapState}
 use Rattle.cf_model.specs.Steps.{IsEmptyHeap}
 use Rattle.script_reader.proofs.CallerLemmas.{fed_left}
@@ -20,7 +19,7 @@ use Rattle.script_reader.specs.declared.stage.Stage.TheVariants.{Opening, Boundi
 use Rattle.run_laws.proofs.GoingOn.{run_joined, text_joined}
 use Rattle.script_runs.proofs.Going.{begins_going, step_same}
 use Rattle.script_runs.specs.Runs.{Begins, ItemStep, Run, Turn}
-use Rattle.script_runs.specs.Sessions.{IsGoing, RunState, fresh_session}
+use Rattle.script_runs.specs.Sessions.{RunState, fresh_session}
 use Rattle.script_runs.specs.Texts.{Reply, bad_line, led, said, text_of}
 use Rattle.script_runner.specs.Going.{Answered, CutOff, Goes, IsWaiting, NamesBad, WasOpened}
 use Rattle.script_runner.specs.declared.answering.Ready.{Ready}

@@ -1,5 +1,5 @@
 -- What the stage of a script tells of its run.
-use Rattle.std.proofs.Common.{◌≡◌, ◌∙◌, Bool, true, false, List, ℕ, Option, Some, None, refl, ap, sym, subst}
+use Rattle.std.proofs.Common.{◌≡◌, ◌∙◌, Bool, true, false, Some, refl, ap, subst}
 use Rattle.std.proofs.lemmas.Bool.{false≢true}
 use Rattle.cf_session.specs.Applying.{MayBound}
 use Rattle.script_reader.specs.Items.{is_bound, stage_behind}

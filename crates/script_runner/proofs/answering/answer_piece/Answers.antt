@@ -1,4 +1,4 @@
-use Rattle.std.proofs.Common.{◌≡◌, ◌≤◌, ◌+◌, ◌∙◌, ◌++◌, [], arith, ap, drop, length, length-drop, take, ℕ}
+use Rattle.std.proofs.Common.{◌≤◌, ◌∙◌, ◌++◌, [], arith, ap, drop, length, length-drop}
 use Rattle.std.proofs.lemmas.List.{length-take-le, take_rest}
 use Rattle.script_runner.proofs.Feeding.{appended_after, appended_none}
 use Rattle.script_runner.proofs.Going.{answered_fed, answered_next, answered_none, answered_over, cut_next, cut_over}

@@ -1,6 +1,6 @@
-use Rattle.std.proofs.Common.{◌∙◌, ◌≡◌, ◌≤◌, ◌++◌, ◌<◌, ◌+◌, [], false, arith, take, drop, length, refl, sym, ap, subst, inl, append-nil, rules, List, ℕ}
+use Rattle.std.proofs.Common.{◌∙◌, ◌≡◌, ◌≤◌, ◌++◌, ◌<◌, [], false, arith, take, drop, length, refl, sym, ap, subst, inl, append-nil, rules, List, ℕ}
 use Rattle.std.proofs.lemmas.List.{length-take-le}
-use Rattle.cf_io.specs.Feeds.{appended, preceded}
+use Rattle.cf_io.specs.Feeds.{preceded}
 use Rattle.script_reader.specs.Reading.{Reading, fresh}
 use Rattle.script_reader.specs.Items.{items}
 use Rattle.script_runner.proofs.Ending.{bad_end_items, bad_items, bads, bads_then, cut_items, cut_untouched_then, full_items, length_read, longer, printed_by, printed_cut, printed_cut_then, printed_then, prints, prints_front, prints_front_then, prints_then, quiet_items, silent_before, split_at, told, unread_left, untouched_then, wants_at_end, wants_memory, whole_items}
