@@ -1,25 +1,53 @@
 -- How the top call may end.
-use Rattle.std.specs.Prelude.{◌≡◌, ◌⊎◌, List, []}
+use Rattle.std.specs.Prelude.{◌≡◌, ◌⊎◌, ⊤, ℕ, List, [], Option, Some, None}
 use Rattle.cf_base.specs.declared.kind.Kind.{Kind}
 use Rattle.cf_base.specs.declared.status.Status.{Status}
 use Rattle.cf_base.specs.declared.status.Status.TheVariants.{Done, Words, BadScript, ReadFault, WriteFault, OutOfMemory, TooLong, BadImage}
 use Rattle.clap.specs.Words.{App, Text, fault_of}
+use Rattle.cf_io.specs.Feeds.{appended}
+use Rattle.cf_model.specs.Rules.{IsPaged}
 use Rattle.cf_model.specs.State.{HeapState, closed_state}
 use Rattle.command_words.specs.Choices.{AreRefused, Chooses}
 use Rattle.command_words.specs.Command.{IsCfApp}
 use Rattle.command_words.specs.declared.choice.Choice.{Choice}
 use Rattle.command_words.specs.declared.choice.Mode.{Mode}
 use Rattle.command_words.specs.declared.choice.Mode.TheVariants.{Run}
-use Rattle.script_runner.specs.Outcome.{Call, MeetsOutcome}
+use Rattle.script_reader.specs.Items.{Item}
+use Rattle.script_runs.specs.Texts.{text_of}
+use Rattle.script_runner.specs.Outcome.{Call, MeetsOutcome, items_within}
+use Rattle.transcripts.specs.Transcripts.{ArePlaceless, AskForOne, transcript}
 
 -- nothing was read or written
 pub record IsUntouched (call : Call) : Type 0 where
   pub unread : call.left ≡ call.had
   pub unwritten : call.after ≡ call.before
 
--- by the mode: a manager of the kind that was never open answers the script
+-- the items ask for no other bound than 1, and for no place and no cost
+pub record ArePlain (wanted : List Item) : Type 0 where
+  pub ones : AskForOne wanted
+  pub placeless : ArePlaceless wanted
+
+-- the statuses at which every item within the limit was answered
+abbrev pub IsAnswered : Status → Type 0
+IsAnswered Done = ⊤
+IsAnswered BadScript = ⊤
+IsAnswered TooLong = ⊤
+IsAnswered status = ⊥
+
+-- the output over plain items is their transcript, whatever was chosen and however the source was cut
+abbrev pub TellsTranscript : Kind → Option (List ℕ) → Call → Type 0
+TellsTranscript kind None call = ⊤
+TellsTranscript kind (Some all) call = IsAnswered call.status → ArePlain (items_within all) → call.after ≡ appended call.before (text_of [] (transcript kind (items_within all)))
+
+-- a manager of the kind that was never open answers the script
+pub record AnswersScript (kind : Kind) (call : Call) : Type 0 where
+  pub end : HeapState
+  pub outcome : MeetsOutcome (closed_state kind) call end
+  pub transcript : IsPaged kind → TellsTranscript kind call.had call
+
+-- by the mode
 abbrev pub InMode : Mode → Kind → Call → Type 0
-InMode Run kind call = (end : HeapState) × MeetsOutcome (closed_state kind) call end
+InMode Run kind call = AnswersScript kind call
 
 -- the words choose a mode and a kind, and the call did what they ask
 pub record DoesChosen (words : List Text) (call : Call) : Type 0 where
