@@ -1,80 +1,149 @@
+mod faults;
+mod rows;
+
 use crate::top::cf_main;
 use cf_base::Status;
-use cf_io::{MemSink, SureSource};
+use cf_io::{Line, LoopSource, MemSink, MemSource, Source, SureSource, number_of};
+use rows::{MOVE, MOVED, ROWS, STEPS};
+use std::alloc::AllocError;
 use std::test::Fail;
 
-/// Scripts, and what they print with their status.
-const RUNS: [(&[u8], Status, &[u8]); 12] = [
-    (b"", Status::Done, b""),
-    (b"\n", Status::Done, b""),
-    (b"heap 1 512 1 4\nm 1 24\n", Status::Done, b"ok\nok\n"),
-    (b"heap 1 512 1 4\nm 1 8", Status::Done, b"ok\nok\n"),
-    (
-        b"heap 1 512 1 4\nm 1 505\n",
-        Status::Done,
-        b"ok\nrefused size\n",
-    ),
-    (
-        b"heap 1 512 1 4\nm 1 8\n\n \nm 1 8\n",
-        Status::Done,
-        b"ok\nok\nlive\n",
-    ),
-    (
-        b"heap 1 512 1 4\nk 4 2\nm 1 8\nk 4 2\n",
-        Status::BadScript,
-        b"ok\nok\nok\nbad line 4\n",
-    ),
-    (b"m 1 8", Status::BadScript, b"bad line 1\n"),
-    (b"heap 0 512 1 4", Status::BadScript, b"bad line 1\n"),
-    (
-        b"heap 1 512 1 4\nheap 1 512 1 4",
-        Status::BadScript,
-        b"ok\nbad line 2\n",
-    ),
-    (
-        b"heap 1 512 1 4\nm 65536 8\n",
-        Status::BadScript,
-        b"ok\nbad line 2\n",
-    ),
-    (
-        b"heap 1 512 1 4\nm 1 8\nw 1 0 a",
-        Status::BadScript,
-        b"ok\nok\nbad line 3\n",
-    ),
-];
+/// The room of a sink in these tests, in bytes.
+const ROOM: usize = 65_536;
+
+/// The words of a command line, the program's name first.
+fn command_line(rt: &HostRuntime, words: &[&str]) -> Result<Vec<String>, AllocError> {
+    let alloc = rt.alloc();
+    let mut line = Vec::new(alloc);
+    line.push(String::from_str(alloc, "cf_tool")?)?;
+    for word in words {
+        line.push(String::from_str(alloc, word)?)?;
+    }
+    Ok(line)
+}
+
+/// A sink that takes every piece whole.
+fn plain_sink(rt: &HostRuntime) -> Result<MemSink, Fail> {
+    let alloc = rt.alloc();
+    let sink = MemSink::new(alloc, ROOM, Vec::new(alloc), Vec::new(alloc)).map_err(|_| "room")?;
+    Ok(sink)
+}
+
+/// Answers a script, and gives the status.
+fn answer<S: Source>(rt: &HostRuntime, source: &mut S, sink: &mut MemSink) -> Result<Status, Fail> {
+    let words = command_line(rt, &[])?;
+    Ok(cf_main(rt, rt.alloc(), words.as_slice(), source, sink))
+}
 
 #[test]
-fn scripts_are_answered_up_to_the_first_bad_line(rt: HostRuntime) -> Result<(), Fail> {
+fn each_script_prints_its_replies(rt: HostRuntime) -> Result<(), Fail> {
+    for (shows, script, status, text) in ROWS {
+        let mut source = SureSource::new(script.to_vec(rt.alloc())?);
+        let mut sink = plain_sink(&rt)?;
+        assert_eq!(rt; answer(&rt, &mut source, &mut sink)?, status, "{shows}");
+        assert_eq!(rt; sink.written(), text, "{shows}");
+    }
+    Ok(())
+}
+
+#[test]
+fn the_steps_of_a_call_are_within_its_bound(rt: HostRuntime) -> Result<(), Fail> {
+    for (script, before, least, most, after) in STEPS {
+        let mut source = SureSource::new(script.to_vec(rt.alloc())?);
+        let mut sink = plain_sink(&rt)?;
+        assert_eq!(rt; answer(&rt, &mut source, &mut sink)?, Status::Done);
+        let rest = sink
+            .written()
+            .strip_prefix(before)
+            .ok_or("another text before the count")?;
+        let digits = rest
+            .strip_suffix(after)
+            .ok_or("another text behind the count")?;
+        let count = number_of(digits).ok_or("no count")?;
+        assert!(rt; least <= count && count <= most, "{count} steps");
+    }
+    Ok(())
+}
+
+#[test]
+fn the_same_bytes_are_answered_alike_however_they_are_cut(rt: HostRuntime) -> Result<(), Fail> {
     let alloc = rt.alloc();
-    let mut words = Vec::new(alloc);
-    words.push(String::from_str(alloc, "cf_tool")?)?;
-    for (script, status, text) in RUNS {
-        let mut source = SureSource::new(script.to_vec(alloc)?);
-        let mut sink = MemSink::new(alloc, 64, Vec::new(alloc), Vec::new(alloc)).map_err(
-            |_| "room",
-        )?;
-        assert_eq!(rt;
-            cf_main(&rt, alloc, words.as_slice(), &mut source, &mut sink),
-            status
-        );
+    let cuts = vec![in alloc; 1; MOVE.len()]?;
+    let mut source = MemSource::new(MOVE.to_vec(alloc)?, cuts, Vec::new(alloc));
+    let mut sink = plain_sink(&rt)?;
+    assert_eq!(rt; answer(&rt, &mut source, &mut sink)?, Status::Done);
+    assert_eq!(rt; sink.written(), MOVED);
+    Ok(())
+}
+
+#[test]
+fn a_line_has_at_most_8999_bytes(rt: HostRuntime) -> Result<(), Fail> {
+    let alloc = rt.alloc();
+    for (length, status, text) in [
+        (8_999, Status::Done, b"".as_slice()),
+        (9_000, Status::BadScript, b"bad line 1\n".as_slice()),
+    ] {
+        let mut script = vec![in alloc; b'#'; length]?;
+        script.push(b'\n')?;
+        let mut source = SureSource::new(script);
+        let mut sink = plain_sink(&rt)?;
+        assert_eq!(rt; answer(&rt, &mut source, &mut sink)?, status);
         assert_eq!(rt; sink.written(), text);
     }
     Ok(())
 }
 
 #[test]
-fn other_words_are_refused(rt: HostRuntime) -> Result<(), Fail> {
+fn a_script_with_no_end_is_too_long(rt: HostRuntime) -> Result<(), Fail> {
+    let mut line = vec![in rt.alloc(); b'#'; 8_999]?;
+    line.push(b'\n')?;
+    let mut source = LoopSource::new(line);
+    let mut sink = plain_sink(&rt)?;
+    assert_eq!(rt; answer(&rt, &mut source, &mut sink)?, Status::TooLong);
+    assert_eq!(rt; sink.written().len(), 0);
+    Ok(())
+}
+
+#[test]
+fn a_page_of_131072_bytes_has_4096_slots(rt: HostRuntime) -> Result<(), Fail> {
     let alloc = rt.alloc();
-    for word in ["--manager=other", "--count=1000001", "--help"] {
-        let mut words = Vec::new(alloc);
-        words.push(String::from_str(alloc, "cf_tool")?)?;
-        words.push(String::from_str(alloc, word)?)?;
-        let mut source = SureSource::new(b"heap 1 512 1 4\n".to_vec(alloc)?);
-        let mut sink = MemSink::new(alloc, 64, Vec::new(alloc), Vec::new(alloc)).map_err(
-            |_| "room",
-        )?;
+    let mut script = b"heap 1 131072 1 8192\n".to_vec(alloc)?;
+    let mut text = b"ok\n".to_vec(alloc)?;
+    let mut line = Line::new();
+    for id in 0..=4_096 {
+        line.clear();
+        line.push(b"m ").map_err(|_| "full")?;
+        line.push_number(id).map_err(|_| "full")?;
+        line.push(b" 24\n").map_err(|_| "full")?;
+        script.extend_from_slice(line.bytes())?;
+        text.extend_from_slice(if id < 4_096 {
+            b"ok\n".as_slice()
+        } else {
+            b"refused space\n".as_slice()
+        })?;
+    }
+    let mut source = SureSource::new(script);
+    let mut sink = plain_sink(&rt)?;
+    assert_eq!(rt; answer(&rt, &mut source, &mut sink)?, Status::Done);
+    assert_eq!(rt; sink.written(), text.as_slice());
+    Ok(())
+}
+
+#[test]
+fn words_that_are_not_taken_read_nothing(rt: HostRuntime) -> Result<(), Fail> {
+    let refused: [&[&str]; 5] = [
+        &["--manager", "other"],
+        &["--help"],
+        &["--version"],
+        &["--count", "1000001"],
+        &["run", "again"],
+    ];
+    for words in refused {
+        let words = command_line(&rt, words)?;
+        let mut source = SureSource::new(b"heap 1 512 1 4\n".to_vec(rt.alloc())?);
+        let mut sink = plain_sink(&rt)?;
         assert_eq!(rt;
-            cf_main(&rt, alloc, words.as_slice(), &mut source, &mut sink),
+            cf_main(&rt, rt.alloc(), words.as_slice(), &mut source, &mut sink),
             Status::Words
         );
         assert_eq!(rt; sink.written().len(), 0);
