@@ -10,6 +10,7 @@ ghost use Rattle.cf_tool.specs.Script.{bad, items_from, lines, malloc};
 use crate::script::{malloc_line, next_line};
 use cf_base::{Failed, Kind};
 use cf_io::{Line, Sink, put_all};
+use cf_model::Manager;
 use moving_heap::MovingHeap;
 use step_ledger::Steps;
 

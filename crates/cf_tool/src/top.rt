@@ -7,6 +7,7 @@ use crate::answers::{Ending, answer_bad, answer_requests};
 use crate::script::{heap_line, next_line};
 use cf_base::Status;
 use cf_io::{Sink, Source, put_all};
+use cf_model::Manager;
 use moving_heap::MovingHeap;
 use std::alloc::Global;
 use std::rt::Runtime;

@@ -1,7 +1,7 @@
 -- An object that gets another length in its slot.
-use Rattle.std.proofs.Common.{◌≡◌, ◌≢◌, ℕ, zero, suc, ◌+◌, ◌-◌, ◌*◌, ◌/◌, ◌%◌, ◌^◌, ◌<◌, ◌≤◌, List, length, get_or, set, take, drop, replicate, None, arith, refl, sym, ◌∙◌, ap, subst, inl, inr}
+use Rattle.std.proofs.Common.{◌≡◌, ◌≢◌, ℕ, zero, suc, ◌+◌, ◌-◌, ◌*◌, ◌/◌, ◌%◌, ◌^◌, ◌<◌, ◌≤◌, List, length, get_or, set, take, drop, replicate, None, arith, sym, ◌∙◌, ap, subst, inl, inr}
 use Rattle.std.proofs.lemmas.Bool.{cases_eq, cases_lt}
-use Rattle.std.proofs.lemmas.List.{get_or-drop, get_or-take, length-take, get_or-replicate, get_or_past, get_or-set_same, get_or-set_other, length-set}
+use Rattle.std.proofs.lemmas.List.{get_or-drop, get_or-take, length-take, get_or-replicate, get_or-set_same, get_or-set_other, length-set}
 use Rattle.std.proofs.Common.{length-drop}
 use Rattle.std.specs.FinMap.{insert}
 use Rattle.cf_base.specs.Classes.{need}
@@ -15,7 +15,7 @@ use Rattle.arrangement.specs.Steps.{resized}
 use Rattle.arrangement.proofs.Reading.{bytes_at-AreBytes}
 use Rattle.arrangement.proofs.Resizing.{length-resized}
 use Rattle.arrangement.proofs.SlotImages.{image_after_write}
-use Rattle.arrangement.proofs.Writing.{byte_of_object, object_word_small, resized_are_bytes, resized_before, resized_behind, word_by_bytes}
+use Rattle.arrangement.proofs.Writing.{resized_are_bytes}
 use Rattle.arrangement.proofs.Sizes.{class_holds}
 use Rattle.region.specs.Words.{cleared}
 use Rattle.region.proofs.CallerLemmas.{cleared_others, cleared_within, length-cleared}
@@ -27,9 +27,10 @@ use Rattle.moving_heap.specs.Access.{Overwrites}
 use Rattle.moving_heap.specs.Cutting.{Cuts}
 use Rattle.moving_heap.specs.Freeing.{IsObjectAt}
 use Rattle.moving_heap.proofs.Facts.{paging_ok}
-use Rattle.moving_heap.proofs.Becoming.{Becomes, becomes_kept, becomes_state, held_is, stored}
+use Rattle.moving_heap.proofs.Becoming.{Becomes, becomes_kept, becomes_state, held_is}
 use Rattle.moving_heap.proofs.Going.{asked_some, it_class, it_found, it_inside, it_slot}
-use Rattle.moving_heap.proofs.Reading.{bytes_few, holds, slot_small}
+use Rattle.moving_heap.proofs.Reading.{holds, slot_small}
+use Rattle.moving_heap.proofs.Standing.{before, few, past_new, past_old, was_byte, was_small, word_is, zero_byte}
 use Rattle.moving_heap.proofs.Writing.{changes}
 
 -- the first word is cut, and those behind it are cleared
@@ -103,12 +104,6 @@ module _ (h t n : OpenHeap) (k : IsKept h) (q a m c : ℕ) (o : IsObjectAt h q a
   are : AreBytes new
   are = resized_are_bytes old size (bytes_at-AreBytes h.region a)
 
-  few : q < 2 ^ 32
-  few = (stored h k q _ (it_found h k q a m c o)).0
-
-  slot : ℕ
-  slot = slot_for (paging_at h) (length old)
-
   old_holds : need m ≤ slot_for (paging_at h) (length old)
   old_holds = (let l = o.long in let r = class_holds (paging_at h) (paging_ok h k) (length old) (k.sound.slots q _ (it_found h k q a m c o)).class in omega arith)
 
@@ -124,41 +119,6 @@ module _ (h t n : OpenHeap) (k : IsKept h) (q a m c : ℕ) (o : IsObjectAt h q a
   in_slot : a + slot_for (paging_at h) (length old) ≤ length h.region
   in_slot = (let i = it_inside h k q a m c o in let e = it_slot h k q a m c o in omega arith)
 
-  stood : (i : ℕ) → suc i < slot_for (paging_at h) (length old) → get_or h.region (a + suc i) 0 ≡ object_word q old (suc i)
-  stood i lt = k.image.held q (record { place = a; bytes = old }) (it_found h k q a m c o) (suc i) lt
-
-  old_small : length old < 2 ^ 32
-  old_small = (let f = bytes_few h k q a o.known in omega arith)
-
-  was_small : (i : ℕ) → suc i < slot_for (paging_at h) (length old) → get_or h.region (a + suc i) 0 < 2 ^ 64
-  was_small i lt = (let e = stood i lt in let s = object_word_small q old (suc i) few old_small (bytes_at-AreBytes h.region a) in omega arith)
-
-  -- byte j of word i
-  word_byte : (v : List ℕ) (i j : ℕ) → j < 8 → AreBytes v → byte_of j (object_word q v (suc i)) ≡ get_or v (8 * i + j) 0
-  word_byte v i j lt all =
-      let r : (8 * i + j) % 8 ≡ j = omega arith in
-      let d : (8 * i + j) / 8 ≡ i = omega arith in
-      sym (ap (λ b. byte_of b (object_word q v (suc ((8 * i + j) / 8)))) r ∙ ap (λ e. byte_of j (object_word q v (suc e))) d) ∙ byte_of_object q v (8 * i + j) all
-
-  was_byte : (i j : ℕ) → suc i < slot_for (paging_at h) (length old) → j < 8 → byte_of j (get_or h.region (a + suc i) 0) ≡ get_or old (8 * i + j) 0
-  was_byte i j lt less = ap (byte_of j) (stood i lt) ∙ word_byte old i j less (bytes_at-AreBytes h.region a)
-
-  past_new : (b : ℕ) → size ≤ b → get_or new b 0 ≡ 0
-  past_new b le = get_or_past new b 0 (let l = new_long in omega arith)
-
-  past_old : (b : ℕ) → m ≤ b → get_or old b 0 ≡ 0
-  past_old b le = get_or_past old b 0 (let l = o.long in omega arith)
-
-  before : (b : ℕ) → b < size → get_or old b 0 ≡ get_or new b 0
-  before b lt = elim (cases_lt b (length old)) [
-    | inl inside ↦ sym (resized_before old size b lt inside)
-    | inr past ↦ get_or_past old b 0 past ∙ sym (resized_behind old size b past)
-  ]
-
-  zero_byte : (j : ℕ) → byte_of j 0 ≡ 0
-  zero_byte zero = refl
-  zero_byte (suc j) = zero_byte j
-
   -- each word behind the header after the cut, as bytes and as a number of 64 bits
   cut_word : size < m → (i : ℕ) → suc i < slot_for (paging_at h) (length old) → ((j : ℕ) → j < 8 → byte_of j (get_or t.region (a + suc i) 0) ≡ get_or new (8 * i + j) 0) × (get_or t.region (a + suc i) 0 < 2 ^ 64)
   cut_word less i lt =
@@ -166,15 +126,15 @@ module _ (h t n : OpenHeap) (k : IsKept h) (q a m c : ℕ) (o : IsObjectAt h q a
       elim (cases_lt i (size / 8)) [
         | inl low ↦ (
             let e : get_or t.region (a + suc i) 0 ≡ get_or h.region (a + suc i) 0 = k'.others (a + suc i) (inl (omega arith)) in
-            ((λ j l. ap (byte_of j) e ∙ was_byte i j lt l ∙ before (8 * i + j) (omega arith)), (let s = was_small i lt in omega arith)))
+            ((λ j l. ap (byte_of j) e ∙ was_byte h k q a m c o i j lt l ∙ before old size (8 * i + j) (omega arith)), (let s = was_small h k q a m c o i lt in omega arith)))
         | inr high ↦ elim (cases_eq i (size / 8)) [
           | inl is ↦ (
               let at : a + suc i ≡ a + 1 + size / 8 = omega arith in
               let e = ap (λ w. get_or t.region w 0) at in
               let f = ap (λ w. get_or h.region w 0) at in (
                 (λ j l. ap (byte_of j) e ∙ elim (cases_lt j (size % 8)) [
-                  | inl first ↦ k'.low j first ∙ sym (ap (byte_of j) f) ∙ was_byte i j lt l ∙ before (8 * i + j) (omega arith)
-                  | inr rest ↦ k'.high j rest l ∙ sym (past_new (8 * i + j) (omega arith))
+                  | inl first ↦ k'.low j first ∙ sym (ap (byte_of j) f) ∙ was_byte h k q a m c o i j lt l ∙ before old size (8 * i + j) (omega arith)
+                  | inr rest ↦ k'.high j rest l ∙ sym (past_new old size (8 * i + j) (omega arith))
                 ]),
                 (let s = k'.small in omega arith),
               ))
@@ -183,10 +143,10 @@ module _ (h t n : OpenHeap) (k : IsKept h) (q a m c : ℕ) (o : IsObjectAt h q a
                 let at : a + 1 + i ≡ a + suc i = omega arith in
                 let z = k'.zeros i (omega arith) inside in
                 let e : get_or t.region (a + suc i) 0 ≡ 0 = ap (λ w. get_or t.region w 0) (sym at) ∙ z in
-                ((λ j l. ap (byte_of j) e ∙ zero_byte j ∙ sym (past_new (8 * i + j) (omega arith))), omega arith))
+                ((λ j l. ap (byte_of j) e ∙ zero_byte j ∙ sym (past_new old size (8 * i + j) (omega arith))), omega arith))
             | inr behind ↦ (
                 let e : get_or t.region (a + suc i) 0 ≡ get_or h.region (a + suc i) 0 = k'.others (a + suc i) (inr (omega arith)) in
-                ((λ j l. ap (byte_of j) e ∙ was_byte i j lt l ∙ past_old (8 * i + j) (omega arith) ∙ sym (past_new (8 * i + j) (omega arith))), (let s = was_small i lt in omega arith)))
+                ((λ j l. ap (byte_of j) e ∙ was_byte h k q a m c o i j lt l ∙ past_old h k q a m c o (8 * i + j) (omega arith) ∙ sym (past_new old size (8 * i + j) (omega arith))), (let s = was_small h k q a m c o i lt in omega arith)))
           ]
         ]
       ]
@@ -196,11 +156,11 @@ module _ (h t n : OpenHeap) (k : IsKept h) (q a m c : ℕ) (o : IsObjectAt h q a
     | inl less ↦ cut_word less i lt
     | inr le ↦ (
         let e : get_or t.region (a + suc i) 0 ≡ get_or h.region (a + suc i) 0 = ap (λ (x : OpenHeap). get_or x.region (a + suc i) 0) (kept le) in (
-          (λ j l. ap (byte_of j) e ∙ was_byte i j lt l ∙ elim (cases_lt (8 * i + j) size) [
-            | inl inside ↦ before (8 * i + j) inside
-            | inr past ↦ past_old (8 * i + j) (omega arith) ∙ sym (past_new (8 * i + j) past)
+          (λ j l. ap (byte_of j) e ∙ was_byte h k q a m c o i j lt l ∙ elim (cases_lt (8 * i + j) size) [
+            | inl inside ↦ before old size (8 * i + j) inside
+            | inr past ↦ past_old h k q a m c o (8 * i + j) (omega arith) ∙ sym (past_new old size (8 * i + j) past)
           ]),
-          (let s = was_small i lt in omega arith),
+          (let s = was_small h k q a m c o i lt in omega arith),
         ))
   ])
     where
@@ -208,7 +168,7 @@ module _ (h t n : OpenHeap) (k : IsKept h) (q a m c : ℕ) (o : IsObjectAt h q a
       new_small = (let l = new_long in let r = size_few in omega arith)
 
       by_bytes : ((j : ℕ) → j < 8 → byte_of j (get_or t.region (a + suc i) 0) ≡ get_or new (8 * i + j) 0) × (get_or t.region (a + suc i) 0 < 2 ^ 64) → get_or t.region (a + suc i) 0 ≡ object_word q new (suc i)
-      by_bytes (each, small) = word_by_bytes (get_or t.region (a + suc i) 0) (object_word q new (suc i)) small (object_word_small q new (suc i) few new_small are) (λ j l. each j l ∙ sym (word_byte new i j l are))
+      by_bytes (each, small) = word_is q new i (get_or t.region (a + suc i) 0) (few h k q a m c o) new_small are small each
 
   long_t : length t.region ≡ length h.region
   long_t = elim (cases_lt size m) [

@@ -16,3 +16,11 @@ pub mod Writing
 pub mod Cutting
 pub mod Loans
 pub mod Loaned
+pub mod Standing
+pub mod Entering
+pub mod Carrying
+pub mod Between
+pub mod Changed
+pub mod ChangedAlone
+pub mod ChangedFilled
+pub mod Lengths

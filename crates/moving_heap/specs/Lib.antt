@@ -5,3 +5,4 @@ pub mod Cutting
 pub mod Payload
 pub mod Lending
 pub mod HeapLending
+pub mod Changing

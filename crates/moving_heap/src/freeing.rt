@@ -129,7 +129,14 @@ impl OpenHeap {
     }
 
     /// An object of class c moves to another place.
-    fn move_to(&mut self, h: Handle, from: u32, to: u32, slot_words: u32, steps: &mut Steps)
+    pub(crate) fn move_to(
+        &mut self,
+        h: Handle,
+        from: u32,
+        to: u32,
+        slot_words: u32,
+        steps: &mut Steps,
+    )
         requires live { IsSome (map.get self.old.proxies.places h.0) }
         requires source { from + slot_words ≤ length self.old.region }
         requires target { to + slot_words ≤ length self.old.region }
@@ -146,7 +153,7 @@ impl OpenHeap {
     }
 
     /// Counts an object of so many bytes in class c no more.
-    fn count_out(&mut self, c: u32, bytes: u32)
+    pub(crate) fn count_out(&mut self, c: u32, bytes: u32)
         requires class { c < length self.old.classes.sizes }
         requires listed { c < length self.old.live }
         requires live { 1 ≤ slice_index self.old.live c }
@@ -164,7 +171,7 @@ impl OpenHeap {
     }
 
     /// The used slot of class c at a place becomes free.
-    fn drop_at(&mut self, c: u32, place: u32, steps: &mut Steps)
+    pub(crate) fn drop_at(&mut self, c: u32, place: u32, steps: &mut Steps)
         requires tables { AreTables self.old.classes (tables_in self.old) }
         requires used { IsUsed (tables_in self.old) c (page_at self.old.classes place) (slot_at self.old.classes c place) }
         ensures freed { Vacates (tables_in self.old) c (page_at self.old.classes place) (slot_at self.old.classes c place) (tables_in self.new) }
@@ -184,7 +191,7 @@ impl OpenHeap {
     }
 
     /// The place of the object of class c that fills a freed slot; its own slot becomes free.
-    fn fill_from(&mut self, c: u32, steps: &mut Steps) -> u32
+    pub(crate) fn fill_from(&mut self, c: u32, steps: &mut Steps) -> u32
         requires tables { AreTables self.old.classes (tables_in self.old) }
         requires class { c < length self.old.classes.sizes }
         requires some { 1 ≤ length (pages_in self.old.lists c NotFull) }

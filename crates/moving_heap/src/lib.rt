@@ -3,6 +3,7 @@
 
 mod access;
 mod bounds;
+mod changing;
 mod freeing;
 mod giving;
 mod header;

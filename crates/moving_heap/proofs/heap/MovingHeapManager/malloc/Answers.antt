@@ -1,5 +1,5 @@
 use Rattle.moving_heap.proofs.Facts.{rules}
-use Rattle.moving_heap.proofs.heap.MovingHeap.malloc.Goals as goal
+use Rattle.moving_heap.proofs.heap.MovingHeapManager.malloc.Goals as goal
 
 pub returns-clause-rules : goal.returns-clause-rules
 returns-clause-rules c = rules _ c.malloc.ensures.kept

@@ -1,5 +1,5 @@
 use Rattle.moving_heap.proofs.Facts.{rules}
-use Rattle.moving_heap.proofs.heap.MovingHeap.free.Goals as goal
+use Rattle.moving_heap.proofs.heap.MovingHeapManager.free.Goals as goal
 
 pub returns-clause-rules : goal.returns-clause-rules
 returns-clause-rules c = rules _ c.free.ensures.kept

@@ -1,7 +1,7 @@
 use Rattle.std.proofs.Common.{subst, sym, ◌∙◌}
 use Rattle.cf_model.specs.Rules.{KeepsRules}
 use Rattle.moving_heap.proofs.Facts.{rules_in}
-use Rattle.moving_heap.proofs.heap.MovingHeap.is_open.Goals as goal
+use Rattle.moving_heap.proofs.heap.MovingHeapManager.is_open.Goals as goal
 
 pub returns-clause-rules : goal.returns-clause-rules
 returns-clause-rules c = λ t. subst KeepsRules c.self.view_is (rules_in c.self.inside.inner c.self.invariant (sym c.is_some.ensures ∙ t))

@@ -1,0 +1,5 @@
+use Rattle.moving_heap.proofs.Facts.{rules}
+use Rattle.moving_heap.proofs.heap.MovingHeapManager.resize.Goals as goal
+
+pub returns-clause-rules : goal.returns-clause-rules
+returns-clause-rules c = rules _ c.resize.ensures.kept
