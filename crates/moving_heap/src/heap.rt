@@ -1,5 +1,5 @@
 //! The heap that a caller holds: closed, or open.
-ghost use Rattle.std.specs.Prelude.{◌≡◌, ◌+◌, ◌<◌, List, IsSome, IsTrue, Some, length, option_copied};
+ghost use Rattle.std.specs.Prelude.{◌≡◌, ℕ, ◌+◌, ◌<◌, List, IsSome, IsTrue, Some, length, option_copied};
 ghost use Rattle.std.specs.Borrow.{sem};
 ghost use Rattle.step_ledger.specs.Counting.{RoseAtMost};
 ghost use Rattle.arrangement.specs.Arrangement.{home_pages, not_full_pages, free_pages};
