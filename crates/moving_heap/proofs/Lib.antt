@@ -14,6 +14,8 @@ pub mod Filling
 pub mod Knowing
 pub mod Writing
 pub mod Cutting
+pub mod Loans
+pub mod Loaned
 pub mod Standing
 pub mod Entering
 pub mod Carrying
@@ -22,5 +24,3 @@ pub mod Changed
 pub mod ChangedAlone
 pub mod ChangedFilled
 pub mod Lengths
-pub mod Loans
-pub mod Loaned

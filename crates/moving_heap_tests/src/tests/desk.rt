@@ -1,7 +1,10 @@
 //! A heap on which calls are tried.
 ghost use Rattle.std.specs.Prelude.{◌≤◌};
 
-use cf_base::{AccessFault, Figures, Freed, Handle, NotLive, Refusal, Settings, Totals};
+use cf_base::{
+    AccessFault, Figures, Freed, Handle, NotLive, Refusal, ResizeFault, Resized, Settings, Totals,
+};
+use cf_model::Manager;
 use moving_heap::MovingHeap;
 use std::alloc::Global;
 use std::process::Abort;
@@ -88,6 +91,19 @@ impl Desk {
         assert!(rt; self.heap.is_open());
         self.meter.lap();
         self.heap.free(handle, self.meter.steps())
+    }
+
+    /// A resize.
+    pub fn resize(
+        &mut self,
+        rt: &impl Abort,
+        id: usize,
+        bytes: u32,
+    ) -> Result<Resized, ResizeFault> {
+        let handle = self.handle(id);
+        assert!(rt; self.heap.is_open());
+        self.meter.lap();
+        self.heap.resize(handle, bytes, self.meter.steps())
     }
 
     /// A write.

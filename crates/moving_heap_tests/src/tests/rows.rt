@@ -1,6 +1,6 @@
 //! Runs of calls, each with what it answers.
 use super::desk::Desk;
-use cf_base::{AccessFault, Figures, Handle, NotLive, Refusal, Totals};
+use cf_base::{AccessFault, Figures, Handle, NotLive, Refusal, ResizeFault, Totals};
 use std::process::Abort;
 use std::test::Fail;
 use step_ledger::Meter;
@@ -13,6 +13,10 @@ enum Act {
     Refused(u32, Refusal),
     /// The object goes, and another one, where one is told, takes its place.
     Free(usize, Option<usize>),
+    /// The object gets another length, and another one, where one is told, takes its old place.
+    Resize(usize, u32, Option<usize>),
+    /// The object doesn't get another length.
+    NotResized(usize, u32, ResizeFault),
     /// There is no such object: it isn't freed, has no place and no words, and can't be read or written.
     Unknown(usize),
     /// The place of an object.
@@ -230,10 +234,46 @@ const LEAST_USED: [Act; 13] = [
     Act::At(6, 11),
 ];
 
+/// An object grows and shrinks in its slot: what comes is zeros, and what was cut doesn't come back.
+const IN_ITS_SLOT: [Act; 7] = [
+    Act::Malloc(1, 8),
+    Act::Write(1, 0, &[1, 2, 3, 4, 5, 6, 7, 8]),
+    Act::Resize(1, 16, None),
+    Act::Read(1, 0, &[1, 2, 3, 4, 5, 6, 7, 8]),
+    Act::Read(1, 8, &[0; 8]),
+    Act::Resize(1, 4, None),
+    Act::Resize(1, 8, None),
+];
+
+const STAYS_CUT: [Act; 1] = [Act::Read(1, 0, &[1, 2, 3, 4, 0, 0, 0, 0])];
+
+/// A resize is refused for what isn't live, then for the size, then for space.
+const NOT_RESIZED: [Act; 5] = [
+    Act::Malloc(1, 8),
+    Act::NotResized(1, 176, ResizeFault::Space),
+    Act::Resize(1, 24, None),
+    Act::NotResized(1, 505, ResizeFault::Size),
+    Act::NotResized(2, 8, ResizeFault::Unknown),
+];
+
+/// An object goes to a page of its new class, and another one fills its old slot.
+const NEW_CLASS: [Act; 10] = [
+    Act::Malloc(1, 176),
+    Act::Malloc(2, 176),
+    Act::Malloc(3, 176),
+    Act::Resize(1, 504, Some(3)),
+    Act::Cost(352),
+    Act::At(1, 128),
+    Act::At(3, 0),
+    Act::Class([23, 2, 2, 1, 0]),
+    Act::Class([64, 1, 1, 1, 0]),
+    Act::Whole([3, 2, 1], [856, 880, 1024]),
+];
+
 /// A row: pages, bytes to a page, the bound and the proxies; and runs of calls, one after the other.
 type Row = ((u32, u32, u32, u32), &'static [&'static [Act]]);
 
-const ROWS: [Row; 15] = [
+const ROWS: [Row; 18] = [
     ((2, 512, 1, 8), &[&FULL, &MOVED, &TOLD]),
     ((2, 512, 2, 8), &[&TWO_HALVES]),
     ((3, 512, 2, 8), &[&THIRD_HOLE]),
@@ -249,6 +289,9 @@ const ROWS: [Row; 15] = [
     ((3, 512, 1, 8), &[&LAST_OUT_FIRST]),
     ((2, 512, 2, 8), &[&FRONT]),
     ((2, 512, 1, 16), &[&LEAST_USED]),
+    ((2, 512, 1, 8), &[&IN_ITS_SLOT, &STAYS_CUT]),
+    ((1, 512, 1, 8), &[&NOT_RESIZED]),
+    ((3, 512, 1, 8), &[&NEW_CLASS]),
 ];
 
 /// Does what the act tells, and compares the answer.
@@ -262,6 +305,10 @@ fn try_act(rt: &impl Abort, desk: &mut Desk, act: &Act) {
             assert_eq!(rt; desk.malloc(rt, 0, *bytes), Err(*why), "{bytes} bytes");
         }
         Act::Free(id, moved) => try_free(rt, desk, *id, *moved),
+        Act::Resize(id, bytes, moved) => try_resize(rt, desk, (*id, *bytes), *moved),
+        Act::NotResized(id, bytes, why) => {
+            assert_eq!(rt; desk.resize(rt, *id, *bytes), Err(*why), "id {id}");
+        }
         Act::Unknown(id) => try_unknown(rt, desk, *id),
         Act::At(id, place) => assert_eq!(rt; desk.place(rt, *id), Some(*place), "id {id}"),
         Act::Word(word, value) => assert_eq!(rt; desk.peek(rt, *word), *value, "word {word}"),
@@ -286,6 +333,18 @@ fn try_free(rt: &impl Abort, desk: &mut Desk, id: usize, moved: Option<usize>) {
         panic!(rt; "id {id} isn't live");
     };
     assert_eq!(rt; freed.moved, want, "id {id}");
+}
+
+/// A resize, and which other object moved.
+fn try_resize(rt: &impl Abort, desk: &mut Desk, asked: (usize, u32), moved: Option<usize>) {
+    let want = match moved {
+        Some(other) => Some(desk.handle(other)),
+        None => None,
+    };
+    let Ok(resized) = desk.resize(rt, asked.0, asked.1) else {
+        panic!(rt; "not resized");
+    };
+    assert_eq!(rt; resized.moved, want);
 }
 
 /// Nothing is known of the object.

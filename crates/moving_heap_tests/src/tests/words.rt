@@ -1,5 +1,6 @@
 //! Words that are lent.
 use super::desk::Desk;
+use cf_model::Manager;
 use std::test::Fail;
 use step_ledger::Meter;
 
