@@ -15,7 +15,7 @@ use Rattle.command_words.specs.Choices.{AreRefused, Chooses}
 use Rattle.command_words.specs.declared.choice.Choice.{Choice}
 use Rattle.script_reader.specs.Items.{Item, items}
 use Rattle.script_runs.specs.Texts.{text_of}
-use Rattle.script_runner.specs.Outcome.{Call, IsClean, IsEnding, MOST_BYTES, MeetsOutcome, Printed, Prints, has_bad, items_within}
+use Rattle.script_runner.specs.Outcome.{IsClean, IsEnding, MOST_BYTES, MeetsOutcome, Printed, Prints, has_bad, items_within}
 use Rattle.transcripts.proofs.Further.{stays_at_one}
 use Rattle.transcripts.proofs.Telling.{run_tells}
 use Rattle.transcripts.specs.Transcripts.{transcript}
