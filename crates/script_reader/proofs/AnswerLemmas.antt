@@ -61,9 +61,12 @@ advances_then a b c p q = record {
 pub answers_then : (a b c : Reading) (n : Next) → PassesOver a b → Answers b n c → Answers a n c
 answers_then a b c (Start settings) p (advances, first, opening, bounding) =
     (advances_then a b c p advances, (λ more ended. p.left more ended ∙ first more ended), sym p.same_stage ∙ opening, bounding)
-answers_then a b c (Command command) p (advances, fits, first, leads) =
-    (advances_then a b c p advances, fits, (λ more ended. p.left more ended ∙ first more ended),
-    ap (λ stage. stage_behind stage (is_bound command)) (sym p.same_stage) ∙ leads)
+answers_then a b c (Command command) p (advances, fits, first, leads) = (
+  advances_then a b c p advances,
+  fits,
+  (λ more ended. p.left more ended ∙ first more ended),
+  ap (λ stage. stage_behind stage (is_bound command)) (sym p.same_stage) ∙ leads,
+)
 answers_then a b c NeedMore p (passes, open_end, none, few, no_feed) =
     (passes_then a b c p passes, sym p.same_end ∙ open_end, p.left [] false ∙ none, few, no_feed)
 answers_then a b c (Bad line) p h =
