@@ -53,3 +53,29 @@ fn a_write_fault_leaves_a_front_of_the_text(rt: HostRuntime) -> Result<(), Fail>
     }
     Ok(())
 }
+
+/// Two lines, of which the first is answered before the fault.
+const TWO_LINES: &[u8] = b"heap 1 512 1 4\nm 1 8\n";
+
+#[test]
+fn a_part_of_a_line_is_not_done(rt: HostRuntime) -> Result<(), Fail> {
+    let alloc = rt.alloc();
+    let cuts = vec![in alloc; 18; 1]?;
+    let fails = vec![in alloc; 1; 1]?;
+    let mut source = MemSource::new(TWO_LINES.to_vec(alloc)?, cuts, fails);
+    let mut sink = plain_sink(&rt)?;
+    assert_eq!(rt; answer(&rt, &mut source, &mut sink)?, Status::ReadFault);
+    assert_eq!(rt; sink.written(), b"ok\n".as_slice());
+    Ok(())
+}
+
+#[test]
+fn a_reply_that_is_not_taken_ends_the_run(rt: HostRuntime) -> Result<(), Fail> {
+    let alloc = rt.alloc();
+    let fails = vec![in alloc; 1; 1]?;
+    let mut source = SureSource::new(TWO_LINES.to_vec(alloc)?);
+    let mut sink = MemSink::new(alloc, ROOM, Vec::new(alloc), fails).map_err(|_| "room")?;
+    assert_eq!(rt; answer(&rt, &mut source, &mut sink)?, Status::WriteFault);
+    assert_eq!(rt; sink.written(), b"ok\n".as_slice());
+    Ok(())
+}
