@@ -1,5 +1,5 @@
 -- What a line orders and what is answered to it, as the grammar names it. No public clause cites this module.
-use Rattle.std.specs.Prelude.{ℕ, ◌≤◌, Option, Some, None}
+use Rattle.std.specs.Prelude.{◌≤◌, Option, Some, None}
 use Rattle.cf_base.specs.Settings.{profile_of}
 use Rattle.script_reader.specs.Commands.{IsWellFormed, Saying, asked_or_wrong, bytes_in, nothing, opens, asked, wrong, ◌>>=◌}
 use Rattle.script_reader.specs.declared.command.Command.{Command}

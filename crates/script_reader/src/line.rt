@@ -1,4 +1,4 @@
-//! What a line orders.
+//! What a line orders, by the grammar.
 ghost use Rattle.std.specs.Prelude.{◌≡◌, ◌≤◌, ◌∷◌, IfSome, codes, length, option_map};
 ghost use Rattle.std.specs.Str.{bytes_eq};
 ghost use Rattle.cf_base.specs.Settings.{profile_of};
@@ -142,7 +142,11 @@ fn slice(args: &[u8]) -> Option<Order>
     ensures value { said_by result ≡ asked_or_wrong (grammar.alone_in Command.Slice (tokens args.now)) }
     ensures fits { IfSome result IsSound }
 {
-    if is_done(args) { Some(Order::Slice) } else { None }
+    if is_done(args) {
+        Some(Order::Slice)
+    } else {
+        None
+    }
 }
 
 /// `walk`.
@@ -150,7 +154,11 @@ fn walk(args: &[u8]) -> Option<Order>
     ensures value { said_by result ≡ asked_or_wrong (grammar.alone_in Command.Walk (tokens args.now)) }
     ensures fits { IfSome result IsSound }
 {
-    if is_done(args) { Some(Order::Walk) } else { None }
+    if is_done(args) {
+        Some(Order::Walk)
+    } else {
+        None
+    }
 }
 
 /// `frag`.
@@ -158,7 +166,11 @@ fn frag(args: &[u8]) -> Option<Order>
     ensures value { said_by result ≡ asked_or_wrong (grammar.alone_in Command.Frag (tokens args.now)) }
     ensures fits { IfSome result IsSound }
 {
-    if is_done(args) { Some(Order::Frag) } else { None }
+    if is_done(args) {
+        Some(Order::Frag)
+    } else {
+        None
+    }
 }
 
 /// `steps`.
@@ -166,7 +178,11 @@ fn steps(args: &[u8]) -> Option<Order>
     ensures value { said_by result ≡ asked_or_wrong (grammar.alone_in Command.Steps (tokens args.now)) }
     ensures fits { IfSome result IsSound }
 {
-    if is_done(args) { Some(Order::Steps) } else { None }
+    if is_done(args) {
+        Some(Order::Steps)
+    } else {
+        None
+    }
 }
 
 /// The commands whose word is a letter.
@@ -274,7 +290,7 @@ pub fn is_idle(text: &[u8]) -> bool
     }
 }
 
-/// Reads the line of this number, without its line feed, where it is neither blank nor a comment.
+/// What a line orders, without its line feed; None where it is blank, a comment, or not in the grammar.
 pub fn read_line(text: &[u8]) -> Option<Order>
     ensures value { said_by result ≡ or_wrong (grammar.line_says text.now) }
     ensures fits { IfSome result IsSound }
