@@ -10,8 +10,9 @@ use Rattle.cf_base.specs.Settings.{Profile, profile_of}
 use Rattle.script_reader.specs.declared.command.Command.{Command as CommandType}
 use Rattle.script_reader.specs.Lines.{is_last_line, is_too_long, lines, tokens, without_return}
 use Rattle.script_reader.specs.Reading.{Advances, Answers, AnswersBad, Drops, HasNoLine, IsFirstLine, PassesOver, Reading, holds_line_feed, items_left}
-use Rattle.script_reader.specs.Said.{IsInRange, next_of, or_wrong, saying_of}
+use Rattle.script_reader.specs.Said.{IsInRange, or_wrong, said_by, saying_of}
 use Rattle.script_reader.specs.declared.next.Next.{Next}
+use Rattle.script_reader.specs.declared.order.Order.{Order}
 use Rattle.script_reader.specs.declared.next.Next.TheVariants.{Start, Command, NeedMore, Bad, End}
 use Rattle.script_reader.specs.declared.stage.Stage.{Stage}
 use Rattle.script_reader.specs.declared.stage.Stage.TheVariants.{Opening, Bounding, Running}
@@ -147,14 +148,10 @@ told_is_said line told = go (is_too_long line) refl told
     go true long told = rw long refl
     go false short told = rw short (tokens_told (tokens (without_return line)) told)
 
-asked_or_bad : (o : Option CommandType) (line : ℕ) → saying_of (next_of o line) ≡ or_wrong (asked_or_wrong o)
-asked_or_bad None line = refl
-asked_or_bad (Some command) line = refl
-
 -- what a command says
-pub command_said : (word : List ℕ) (args : List (List ℕ)) (line : ℕ) (answer : Next) → is_comment word ≡ false → bytes_eq word (codes "heap") ≡ false
-    → answer ≡ next_of (command_of word args) line → saying_of answer ≡ or_wrong (tokens_say (word ∷ args))
-command_said word args line answer told other is = rw (told, other) (ap saying_of is ∙ asked_or_bad (command_of word args) line)
+pub command_said : (word : List ℕ) (args : List (List ℕ)) (order : Option Order) → is_comment word ≡ false → bytes_eq word (codes "heap") ≡ false
+    → said_by order ≡ asked_or_wrong (command_of word args) → said_by order ≡ or_wrong (tokens_say (word ∷ args))
+command_said word args order told other is = rw (told, other) (is ∙ sym (command_says (command_of word args)))
 
 -- an idle line is passed
 pub step_idle : (old : Reading) (kept : List ℕ) (len at : ℕ) → old.stopped ≡ None → kept ≡ old.kept → IsFirstLine kept old.ended len at

@@ -6,6 +6,7 @@ mod fields;
 mod laws;
 mod line;
 mod next;
+mod order;
 mod payload;
 mod reader;
 mod stage;

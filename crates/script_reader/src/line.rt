@@ -1,19 +1,18 @@
-//! What a line says. Each command is made where its line is read: a command holds the bytes of a
-//! write, so that it is dear to move.
-ghost use Rattle.std.specs.Prelude.{◌≡◌, ◌≤◌, ◌∷◌, codes, length, option_map};
+//! What a line orders, by the grammar.
+ghost use Rattle.std.specs.Prelude.{◌≡◌, ◌≤◌, ◌∷◌, IfSome, codes, length, option_map};
 ghost use Rattle.std.specs.Str.{bytes_eq};
 ghost use Rattle.cf_base.specs.Settings.{profile_of};
 ghost use Rattle.script_reader.specs.Commands as grammar;
+ghost use Rattle.script_reader.specs.Commands.{asked_or_wrong};
+ghost use Rattle.script_reader.specs.declared.command.Command.{Command};
 ghost use Rattle.script_reader.specs.Lines.{is_too_long as too_long, tokens};
-ghost use Rattle.script_reader.specs.Said.{IsInRange, next_of, or_wrong, saying_of};
+ghost use Rattle.script_reader.specs.Said.{IsSound, or_wrong, said_by};
 
-use crate::command::Command;
 use crate::fields::{
     four, id_and_number, id_number_and_length, id_number_and_text, is_done, number_and_bound,
     one_id, one_number, one_task, task_and_number, task_and_numbers,
 };
-use crate::next::Next;
-use crate::payload::Payload;
+use crate::order::Order;
 use crate::tokens::{split_token, without_return};
 use cf_base::Settings;
 use cf_io::number_of;
@@ -22,251 +21,222 @@ use cf_io::number_of;
 pub const LONGEST: usize = 8_999;
 
 /// `m ID BYTES`.
-fn malloc(args: &[u8], line: u32) -> Next
-    ensures value { result ≡ next_of (grammar.malloc_in (tokens args.now)) line }
-    ensures fits { IsInRange result }
+fn malloc(args: &[u8]) -> Option<Order>
+    ensures value { said_by result ≡ asked_or_wrong (grammar.malloc_in (tokens args.now)) }
+    ensures fits { IfSome result IsSound }
 {
-    match id_and_number(args) {
-        Some((id, bytes)) => Next::Command(Command::Malloc { id, bytes }),
-        None => Next::Bad { line },
-    }
+    let (id, bytes) = id_and_number(args)?;
+    Some(Order::Malloc { id, bytes })
 }
 
 /// `f ID`.
-fn free(args: &[u8], line: u32) -> Next
-    ensures value { result ≡ next_of (grammar.free_in (tokens args.now)) line }
-    ensures fits { IsInRange result }
+fn free(args: &[u8]) -> Option<Order>
+    ensures value { said_by result ≡ asked_or_wrong (grammar.free_in (tokens args.now)) }
+    ensures fits { IfSome result IsSound }
 {
-    match one_id(args) {
-        Some(id) => Next::Command(Command::Free { id }),
-        None => Next::Bad { line },
-    }
+    let id = one_id(args)?;
+    Some(Order::Free { id })
 }
 
 /// `w ID AT HEX`.
-fn write(args: &[u8], line: u32) -> Next
-    ensures value { result ≡ next_of (grammar.write_in (tokens args.now)) line }
-    ensures fits { IsInRange result }
+fn write(args: &[u8]) -> Option<Order>
+    ensures value { said_by result ≡ asked_or_wrong (grammar.write_in (tokens args.now)) }
+    ensures fits { IfSome result IsSound }
 {
-    let Some((id, at, digits)) = id_number_and_text(args) else {
-        return Next::Bad { line };
-    };
-    match Payload::from_hex(digits) {
-        Some(bytes) => Next::Command(Command::Write { id, at, bytes }),
-        None => Next::Bad { line },
-    }
+    let (id, at, digits) = id_number_and_text(args)?;
+    Some(Order::Write { id, at, digits })
 }
 
 /// `r ID AT LEN`.
-fn read(args: &[u8], line: u32) -> Next
-    ensures value { result ≡ next_of (grammar.read_in (tokens args.now)) line }
-    ensures fits { IsInRange result }
+fn read(args: &[u8]) -> Option<Order>
+    ensures value { said_by result ≡ asked_or_wrong (grammar.read_in (tokens args.now)) }
+    ensures fits { IfSome result IsSound }
 {
-    match id_number_and_length(args) {
-        Some((id, at, len)) => Next::Command(Command::Read { id, at, len }),
-        None => Next::Bad { line },
-    }
+    let (id, at, len) = id_number_and_length(args)?;
+    Some(Order::Read { id, at, len })
 }
 
 /// `q ID`.
-fn place(args: &[u8], line: u32) -> Next
-    ensures value { result ≡ next_of (grammar.place_in (tokens args.now)) line }
-    ensures fits { IsInRange result }
+fn place(args: &[u8]) -> Option<Order>
+    ensures value { said_by result ≡ asked_or_wrong (grammar.place_in (tokens args.now)) }
+    ensures fits { IfSome result IsSound }
 {
-    match one_id(args) {
-        Some(id) => Next::Command(Command::Place { id }),
-        None => Next::Bad { line },
-    }
+    let id = one_id(args)?;
+    Some(Order::Place { id })
 }
 
 /// `b ID I`.
-fn block(args: &[u8], line: u32) -> Next
-    ensures value { result ≡ next_of (grammar.block_in (tokens args.now)) line }
-    ensures fits { IsInRange result }
+fn block(args: &[u8]) -> Option<Order>
+    ensures value { said_by result ≡ asked_or_wrong (grammar.block_in (tokens args.now)) }
+    ensures fits { IfSome result IsSound }
 {
-    match id_and_number(args) {
-        Some((id, i)) => Next::Command(Command::Block { id, i }),
-        None => Next::Bad { line },
-    }
+    let (id, i) = id_and_number(args)?;
+    Some(Order::Block { id, i })
 }
 
 /// `p WORD`.
-fn peek(args: &[u8], line: u32) -> Next
-    ensures value { result ≡ next_of (grammar.peek_in (tokens args.now)) line }
-    ensures fits { IsInRange result }
+fn peek(args: &[u8]) -> Option<Order>
+    ensures value { said_by result ≡ asked_or_wrong (grammar.peek_in (tokens args.now)) }
+    ensures fits { IfSome result IsSound }
 {
-    match one_number(args) {
-        Some(word) => Next::Command(Command::Peek { word }),
-        None => Next::Bad { line },
-    }
+    let word = one_number(args)?;
+    Some(Order::Peek { word })
 }
 
 /// `k SLOTWORDS K`.
-fn bound(args: &[u8], line: u32) -> Next
-    ensures value { result ≡ next_of (grammar.bound_command_in (tokens args.now)) line }
-    ensures fits { IsInRange result }
+fn bound(args: &[u8]) -> Option<Order>
+    ensures value { said_by result ≡ asked_or_wrong (grammar.bound_command_in (tokens args.now)) }
+    ensures fits { IfSome result IsSound }
 {
-    match number_and_bound(args) {
-        Some((slot_words, k)) => Next::Command(Command::Bound { slot_words, k }),
-        None => Next::Bad { line },
-    }
+    let (slot_words, k) = number_and_bound(args)?;
+    Some(Order::Bound { slot_words, k })
 }
 
 /// `z ID BYTES`.
-fn resize(args: &[u8], line: u32) -> Next
-    ensures value { result ≡ next_of (grammar.resize_in (tokens args.now)) line }
-    ensures fits { IsInRange result }
+fn resize(args: &[u8]) -> Option<Order>
+    ensures value { said_by result ≡ asked_or_wrong (grammar.resize_in (tokens args.now)) }
+    ensures fits { IfSome result IsSound }
 {
-    match id_and_number(args) {
-        Some((id, bytes)) => Next::Command(Command::Resize { id, bytes }),
-        None => Next::Bad { line },
-    }
+    let (id, bytes) = id_and_number(args)?;
+    Some(Order::Resize { id, bytes })
 }
 
 /// `t TASK`.
-fn task(args: &[u8], line: u32) -> Next
-    ensures value { result ≡ next_of (grammar.task_command_in (tokens args.now)) line }
-    ensures fits { IsInRange result }
+fn task(args: &[u8]) -> Option<Order>
+    ensures value { said_by result ≡ asked_or_wrong (grammar.task_command_in (tokens args.now)) }
+    ensures fits { IfSome result IsSound }
 {
-    match one_task(args) {
-        Some(task) => Next::Command(Command::Task { task }),
-        None => Next::Bad { line },
-    }
+    let task = one_task(args)?;
+    Some(Order::Task { task })
 }
 
 /// `quota TASK PAGES`.
-fn quota(args: &[u8], line: u32) -> Next
-    ensures value { result ≡ next_of (grammar.quota_in (tokens args.now)) line }
-    ensures fits { IsInRange result }
+fn quota(args: &[u8]) -> Option<Order>
+    ensures value { said_by result ≡ asked_or_wrong (grammar.quota_in (tokens args.now)) }
+    ensures fits { IfSome result IsSound }
 {
-    match task_and_number(args) {
-        Some((task, pages)) => Next::Command(Command::Quota { task, pages }),
-        None => Next::Bad { line },
-    }
+    let (task, pages) = task_and_number(args)?;
+    Some(Order::Quota { task, pages })
 }
 
 /// `need TASK BYTES COUNT`.
-fn need(args: &[u8], line: u32) -> Next
-    ensures value { result ≡ next_of (grammar.need_in (tokens args.now)) line }
-    ensures fits { IsInRange result }
+fn need(args: &[u8]) -> Option<Order>
+    ensures value { said_by result ≡ asked_or_wrong (grammar.need_in (tokens args.now)) }
+    ensures fits { IfSome result IsSound }
 {
-    match task_and_numbers(args) {
-        Some((task, bytes, count)) => Next::Command(Command::Need { task, bytes, count }),
-        None => Next::Bad { line },
-    }
+    let (task, bytes, count) = task_and_numbers(args)?;
+    Some(Order::Need { task, bytes, count })
 }
 
 /// `admit TASK`.
-fn admit(args: &[u8], line: u32) -> Next
-    ensures value { result ≡ next_of (grammar.admit_in (tokens args.now)) line }
-    ensures fits { IsInRange result }
+fn admit(args: &[u8]) -> Option<Order>
+    ensures value { said_by result ≡ asked_or_wrong (grammar.admit_in (tokens args.now)) }
+    ensures fits { IfSome result IsSound }
 {
-    match one_task(args) {
-        Some(task) => Next::Command(Command::Admit { task }),
-        None => Next::Bad { line },
-    }
+    let task = one_task(args)?;
+    Some(Order::Admit { task })
 }
 
 /// `s`.
-fn slice(args: &[u8], line: u32) -> Next
-    ensures value { result ≡ next_of (grammar.alone_in Command.Slice (tokens args.now)) line }
-    ensures fits { IsInRange result }
+fn slice(args: &[u8]) -> Option<Order>
+    ensures value { said_by result ≡ asked_or_wrong (grammar.alone_in Command.Slice (tokens args.now)) }
+    ensures fits { IfSome result IsSound }
 {
     if is_done(args) {
-        Next::Command(Command::Slice)
+        Some(Order::Slice)
     } else {
-        Next::Bad { line }
+        None
     }
 }
 
 /// `walk`.
-fn walk(args: &[u8], line: u32) -> Next
-    ensures value { result ≡ next_of (grammar.alone_in Command.Walk (tokens args.now)) line }
-    ensures fits { IsInRange result }
+fn walk(args: &[u8]) -> Option<Order>
+    ensures value { said_by result ≡ asked_or_wrong (grammar.alone_in Command.Walk (tokens args.now)) }
+    ensures fits { IfSome result IsSound }
 {
     if is_done(args) {
-        Next::Command(Command::Walk)
+        Some(Order::Walk)
     } else {
-        Next::Bad { line }
+        None
     }
 }
 
 /// `frag`.
-fn frag(args: &[u8], line: u32) -> Next
-    ensures value { result ≡ next_of (grammar.alone_in Command.Frag (tokens args.now)) line }
-    ensures fits { IsInRange result }
+fn frag(args: &[u8]) -> Option<Order>
+    ensures value { said_by result ≡ asked_or_wrong (grammar.alone_in Command.Frag (tokens args.now)) }
+    ensures fits { IfSome result IsSound }
 {
     if is_done(args) {
-        Next::Command(Command::Frag)
+        Some(Order::Frag)
     } else {
-        Next::Bad { line }
+        None
     }
 }
 
 /// `steps`.
-fn steps(args: &[u8], line: u32) -> Next
-    ensures value { result ≡ next_of (grammar.alone_in Command.Steps (tokens args.now)) line }
-    ensures fits { IsInRange result }
+fn steps(args: &[u8]) -> Option<Order>
+    ensures value { said_by result ≡ asked_or_wrong (grammar.alone_in Command.Steps (tokens args.now)) }
+    ensures fits { IfSome result IsSound }
 {
     if is_done(args) {
-        Next::Command(Command::Steps)
+        Some(Order::Steps)
     } else {
-        Next::Bad { line }
+        None
     }
 }
 
 /// The commands whose word is a letter.
-fn letter_command(letter: u8, args: &[u8], line: u32) -> Next
-    ensures value { result ≡ next_of (grammar.letter_command letter (tokens args.now)) line }
-    ensures fits { IsInRange result }
+fn letter_command(letter: u8, args: &[u8]) -> Option<Order>
+    ensures value { said_by result ≡ asked_or_wrong (grammar.letter_command letter (tokens args.now)) }
+    ensures fits { IfSome result IsSound }
 {
     match letter {
-        b'm' => malloc(args, line),
-        b'f' => free(args, line),
-        b'w' => write(args, line),
-        b'r' => read(args, line),
-        b'q' => place(args, line),
-        b'b' => block(args, line),
-        b'p' => peek(args, line),
-        b'k' => bound(args, line),
-        b'z' => resize(args, line),
-        b's' => slice(args, line),
-        b't' => task(args, line),
-        _ => Next::Bad { line },
+        b'm' => malloc(args),
+        b'f' => free(args),
+        b'w' => write(args),
+        b'r' => read(args),
+        b'q' => place(args),
+        b'b' => block(args),
+        b'p' => peek(args),
+        b'k' => bound(args),
+        b'z' => resize(args),
+        b's' => slice(args),
+        b't' => task(args),
+        _ => None,
     }
 }
 
 /// The commands whose word is longer.
-fn word_command(word: &[u8], args: &[u8], line: u32) -> Next
-    ensures value { result ≡ next_of (grammar.word_command word.now (tokens args.now)) line }
-    ensures fits { IsInRange result }
+fn word_command<'a>(word: &[u8], args: &'a [u8]) -> Option<Order<'a>>
+    ensures value { said_by result ≡ asked_or_wrong (grammar.word_command word.now (tokens args.now)) }
+    ensures fits { IfSome result IsSound }
 {
     if word == b"walk".as_slice() {
-        walk(args, line)
+        walk(args)
     } else if word == b"frag".as_slice() {
-        frag(args, line)
+        frag(args)
     } else if word == b"steps".as_slice() {
-        steps(args, line)
+        steps(args)
     } else if word == b"quota".as_slice() {
-        quota(args, line)
+        quota(args)
     } else if word == b"need".as_slice() {
-        need(args, line)
+        need(args)
     } else if word == b"admit".as_slice() {
-        admit(args, line)
+        admit(args)
     } else {
-        Next::Bad { line }
+        None
     }
 }
 
 /// The command of a word and what stands behind it.
-fn command_of(word: &[u8], args: &[u8], line: u32) -> Next
-    ensures value { result ≡ next_of (grammar.command_of word.now (tokens args.now)) line }
-    ensures fits { IsInRange result }
+fn command_of<'a>(word: &[u8], args: &'a [u8]) -> Option<Order<'a>>
+    ensures value { said_by result ≡ asked_or_wrong (grammar.command_of word.now (tokens args.now)) }
+    ensures fits { IfSome result IsSound }
 {
     if word.len() == 1 {
-        letter_command(word[0], args, line)
+        letter_command(word[0], args)
     } else {
-        word_command(word, args, line)
+        word_command(word, args)
     }
 }
 
@@ -320,34 +290,31 @@ pub fn is_idle(text: &[u8]) -> bool
     }
 }
 
-/// Reads the line of this number, without its line feed, where it is neither blank nor a comment.
-pub fn read_line(text: &[u8], line: u32) -> Next
-    ensures value { saying_of result ≡ or_wrong (grammar.line_says text.now) }
-    ensures fits { IsInRange result }
+/// What a line orders, without its line feed; None where it is blank, a comment, or not in the grammar.
+pub fn read_line(text: &[u8]) -> Option<Order>
+    ensures value { said_by result ≡ or_wrong (grammar.line_says text.now) }
+    ensures fits { IfSome result IsSound }
 {
     if is_too_long(text) {
-        return Next::Bad { line };
+        return None;
     }
     match split_token(without_return(text)) {
-        Some((word, args)) => read_tokens(word, args, line),
-        None => Next::Bad { line },
+        Some((word, args)) => read_tokens(word, args),
+        None => None,
     }
 }
 
 /// Reads a line by its first token, and what follows it.
-fn read_tokens(word: &[u8], args: &[u8], line: u32) -> Next
+fn read_tokens<'a>(word: &[u8], args: &'a [u8]) -> Option<Order<'a>>
     requires { 1 ≤ length word.now }
-    ensures value { saying_of result ≡ or_wrong (grammar.tokens_say (word.now ∷ tokens args.now)) }
-    ensures fits { IsInRange result }
+    ensures value { said_by result ≡ or_wrong (grammar.tokens_say (word.now ∷ tokens args.now)) }
+    ensures fits { IfSome result IsSound }
 {
     if is_comment(word) {
-        return Next::Bad { line };
+        return None;
     }
     if is_heap(word) {
-        return match settings(args) {
-            Some(settings) => Next::Start(settings),
-            None => Next::Bad { line },
-        };
+        return Some(Order::Start(settings(args)?));
     }
-    command_of(word, args, line)
+    command_of(word, args)
 }

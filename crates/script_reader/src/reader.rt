@@ -7,6 +7,7 @@ ghost use Rattle.script_reader.specs.Reading.{Answers, HasNoLine, IsFirstLine, f
 
 use crate::line::{LONGEST, is_idle as is_idle_line, read_line};
 use crate::next::Next;
+use crate::order::answer_to;
 use crate::stage::{Stage, stage_after};
 use crate::tokens::line_feed_at;
 use arrayvec::ArrayVec;
@@ -137,7 +138,7 @@ impl Reader {
     {
         let kept = &self.buffer.as_slice()[self.start..];
         let line = self.passed + 1;
-        let next = read_line(&kept[..cut.len], line);
+        let next = answer_to(read_line(&kept[..cut.len]), line);
         self.start += cut.next;
         self.searched = 0;
         self.passed = line;

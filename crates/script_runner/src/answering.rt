@@ -79,7 +79,7 @@ pub fn answer_kept<H: Manager, K: Sink>(
                 Ready::Cut => return Ready::Cut,
                 Ready::Wanting => return Ready::Wanting,
             },
-            Next::Command(command) => match session.apply(heap, &command, b"", sink) {
+            Next::Command(ref command) => match session.apply(heap, command, b"", sink) {
                 Ok(_) => {}
                 Err(_) => return Ready::Cut,
             },
