@@ -1,6 +1,7 @@
 mod faults;
 mod rows;
 
+use crate::complaint;
 use crate::top::cf_main;
 use cf_base::Status;
 use cf_io::{Line, LoopSource, MemSink, MemSource, Source, SureSource, number_of};
@@ -149,4 +150,20 @@ fn words_that_are_not_taken_read_nothing(rt: HostRuntime) -> Result<(), Fail> {
         assert_eq!(rt; sink.written().len(), 0);
     }
     Ok(())
+}
+
+#[test]
+fn each_status_has_its_line_on_standard_error(rt: HostRuntime) {
+    for (status, line) in [
+        (Status::Done, None),
+        (Status::Words, Some("cf_tool: bad words")),
+        (Status::BadScript, Some("cf_tool: bad script")),
+        (Status::ReadFault, Some("cf_tool: read fault")),
+        (Status::WriteFault, Some("cf_tool: write fault")),
+        (Status::OutOfMemory, Some("cf_tool: out of memory")),
+        (Status::TooLong, Some("cf_tool: script too long")),
+        (Status::BadImage, Some("cf_tool: bad image")),
+    ] {
+        assert_eq!(rt; complaint(status), line);
+    }
 }
