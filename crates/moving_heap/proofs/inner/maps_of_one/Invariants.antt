@@ -1,5 +1,0 @@
-use Rattle.std.proofs.Common.{◌≡◌, length}
-use Rattle.moving_heap.proofs.inner.maps_of_one.Given as goal
-
-abbrev pub invariant-loop-i : goal.invariant-loop-i
-invariant-loop-i l = length l.maps.items ≡ l._i
