@@ -7,15 +7,15 @@ use Rattle.cf_lemmas.proofs.MapValues.{get-map_values}
 use Rattle.cf_base.specs.declared.answers.Freed.{Freed}
 use Rattle.cf_base.specs.declared.answers.Resized.{Resized}
 use Rattle.cf_base.specs.declared.kind.Kind.TheVariants.{NonMoving}
-use Rattle.arrangement.specs.Held.{Held, Placed, objects}
-use Rattle.arrangement.specs.Paging.{IsPaging, paging_of}
-use Rattle.arrangement.specs.Arrangement.{IsSound}
-use Rattle.arrangement.specs.Frames.{AreBlocks, IsPhysical, block_of, frames_after}
-use Rattle.arrangement.specs.Image.{IsSlotImage, object_word, slot_for}
-use Rattle.arrangement.specs.Steps.{Request, Outcome, Moves, IsFreeStep as IsFreedBy}
-use Rattle.arrangement.proofs.BlockSteps.{free_blocks, resize_blocks}
-use Rattle.arrangement.proofs.Frames.{physical_word}
-use Rattle.arrangement.proofs.Sizes.{in_blocks}
+use Rattle.page_model.specs.Held.{Held, Placed, objects}
+use Rattle.page_model.specs.Paging.{IsPaging, paging_of}
+use Rattle.page_model.specs.Arrangement.{IsSound}
+use Rattle.page_model.specs.Frames.{AreBlocks, IsPhysical, block_of, frames_after}
+use Rattle.page_model.specs.Image.{IsSlotImage, object_word, slot_for}
+use Rattle.page_model.specs.Steps.{Request, Outcome, Moves, IsFreeStep as IsFreedBy}
+use Rattle.page_model.proofs.BlockSteps.{free_blocks, resize_blocks}
+use Rattle.page_model.proofs.Frames.{physical_word}
+use Rattle.page_model.proofs.Sizes.{in_blocks}
 use Rattle.cf_model.specs.State.{HeapState, paging_in, layout_of}
 use Rattle.cf_model.specs.Rules.{KeepsRules, KeepsRulesOf}
 use Rattle.cf_model.specs.Steps.{FreesObject, ResizesObject, BlocksStay, MovesIn, frames_left, outcome_of, number_of}

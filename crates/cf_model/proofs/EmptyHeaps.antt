@@ -10,16 +10,16 @@ use Rattle.std.specs.FinMap.{get, len, empty, get-empty, len-empty}
 use Rattle.cf_base.specs.Settings.{Profile}
 use Rattle.cf_base.specs.declared.kind.Kind.{Kind}
 use Rattle.cf_base.specs.declared.kind.Kind.TheVariants.{Moving, NonMoving, Tlsf, HalfFit}
-use Rattle.arrangement.specs.Held.{Placed}
-use Rattle.arrangement.specs.Paging.{first_bounds}
-use Rattle.arrangement.proofs.Nothing.{sound_empty, image_empty}
-use Rattle.arrangement.proofs.Frames.{first_permuted}
-use Rattle.arrangement.proofs.Sizes.{first_paged}
-use Rattle.arrangement.proofs.Sizes.{sized, in_blocks}
+use Rattle.page_model.specs.Held.{Placed}
+use Rattle.page_model.specs.Paging.{first_bounds}
+use Rattle.page_model.proofs.Nothing.{sound_empty, image_empty}
+use Rattle.page_model.proofs.Frames.{first_permuted}
+use Rattle.page_model.proofs.Sizes.{first_paged}
+use Rattle.page_model.proofs.Sizes.{sized, in_blocks}
 use Rattle.cf_base.specs.declared.kind.Layout.TheVariants.{Words}
 use Rattle.std.proofs.lemmas.Nat.{mul-le}
 use Rattle.std.proofs.lemmas.List.FromFn.{length-range_with_len}
-use Rattle.tiling.specs.Tiling.{Block, block_at, one_free_block}
+use Rattle.block_model.specs.Tiling.{Block, block_at, one_free_block}
 use Rattle.cf_model.specs.State.{HeapState, layout_of, region_words}
 use Rattle.cf_model.specs.Rules.{AreInRange, AreObjects, KeepsPages, KeepsRules, KeepsTiling}
 use Rattle.cf_model.specs.Steps.{empty_heap}

@@ -15,11 +15,11 @@ use Rattle.cf_base.specs.declared.answers.ResizeFault.{ResizeFault}
 use Rattle.cf_base.specs.declared.answers.ResizeFault.TheVariants as resize
 use Rattle.cf_base.specs.declared.kind.Kind.{Kind}
 use Rattle.cf_base.specs.declared.kind.Kind.TheVariants.{Moving, NonMoving, Tlsf, HalfFit}
-use Rattle.arrangement.specs.Held.{Held, Placed}
-use Rattle.arrangement.specs.Paging.{Paging, class_for, page_of, slots_of}
-use Rattle.arrangement.specs.Arrangement.{class_at, objects_on, not_full_pages, LacksRoom}
-use Rattle.arrangement.specs.Steps.{Request, IsFreePlace}
-use Rattle.arrangement.proofs.Counting.{part_yes}
+use Rattle.page_model.specs.Held.{Held, Placed}
+use Rattle.page_model.specs.Paging.{Paging, class_for, page_of, slots_of}
+use Rattle.page_model.specs.Arrangement.{class_at, objects_on, not_full_pages, LacksRoom}
+use Rattle.page_model.specs.Steps.{Request, IsFreePlace}
+use Rattle.page_model.proofs.Counting.{part_yes}
 use Rattle.cf_model.specs.State.{HeapState, paging_in}
 use Rattle.cf_model.specs.Rules.{IsPaged, IsTiled}
 use Rattle.cf_model.specs.Steps.{GivesObject, IsPlacedBy, IsRefusedBy, LacksRoomIn, Part, IsFault, ResizesObject, IsResizeFault}

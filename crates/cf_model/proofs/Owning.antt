@@ -4,11 +4,11 @@ use Rattle.std.proofs.lemmas.List.{length-replicate}
 use Rattle.std.proofs.lemmas.Bool.{cases_eq}
 use Rattle.std.specs.FinMap.{get, insert, remove}
 use Rattle.cf_lemmas.proofs.Maps.{get_inserted, get_insert_other, get_removed, get_remove_other}
-use Rattle.arrangement.specs.Held.{Held, Placed}
-use Rattle.arrangement.specs.Steps.{zeros_at}
-use Rattle.tiling.specs.Buckets.{FreeLists}
-use Rattle.tiling.specs.Tiling.{Block, Carves, IsTiling, IsCarvedTo, block_at, block_need, released}
-use Rattle.tiling.proofs.Others.{free_stays, malloc_stays, released_is_free}
+use Rattle.page_model.specs.Held.{Held, Placed}
+use Rattle.page_model.specs.Steps.{zeros_at}
+use Rattle.block_model.specs.Buckets.{FreeLists}
+use Rattle.block_model.specs.Tiling.{Block, Carves, IsTiling, IsCarvedTo, block_at, block_need, released}
+use Rattle.block_model.proofs.Others.{free_stays, malloc_stays, released_is_free}
 use Rattle.cf_model.specs.Rules.{AreOwned, IsBlockOf}
 
 some_block : (x y : Block) → Some x ≡ Some y → x ≡ y

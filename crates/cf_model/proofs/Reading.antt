@@ -7,8 +7,8 @@ use Rattle.std.specs.FinMap.{get}
 use Rattle.cf_lemmas.proofs.Maps.{get_inserted, get_insert_other, get_removed}
 use Rattle.cf_lemmas.proofs.MapValues.{get-map_values}
 use Rattle.cf_base.specs.declared.answers.Freed.{Freed}
-use Rattle.arrangement.specs.Held.{Placed, objects}
-use Rattle.arrangement.specs.Bytes.{written}
+use Rattle.page_model.specs.Held.{Placed, objects}
+use Rattle.page_model.specs.Bytes.{written}
 use Rattle.cf_model.specs.State.{HeapState}
 use Rattle.cf_model.specs.Steps.{Part, WritesBytes, ReadsBytes, FreesObject}
 

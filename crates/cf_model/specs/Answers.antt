@@ -5,12 +5,12 @@ use Rattle.cf_base.specs.declared.answers.Figures.{Figures}
 use Rattle.cf_base.specs.declared.answers.Totals.{Totals}
 use Rattle.cf_base.specs.declared.kind.Kind.{Kind}
 use Rattle.cf_base.specs.declared.kind.Kind.TheVariants.{Moving, NonMoving, Tlsf, HalfFit}
-use Rattle.arrangement.specs.Held.{Placed, objects}
-use Rattle.arrangement.specs.Figures.{figures_of, totals_of, asked_bytes}
-use Rattle.arrangement.specs.Frames.{block_of}
-use Rattle.arrangement.specs.Image.{slot_for}
-use Rattle.arrangement.specs.Paging.{classes}
-use Rattle.tiling.specs.Tiling.{used_words, used_blocks, free_blocks, largest_free}
+use Rattle.page_model.specs.Held.{Placed, objects}
+use Rattle.page_model.specs.Figures.{figures_of, totals_of, asked_bytes}
+use Rattle.page_model.specs.Frames.{block_of}
+use Rattle.page_model.specs.Image.{slot_for}
+use Rattle.page_model.specs.Paging.{classes}
+use Rattle.block_model.specs.Tiling.{used_words, used_blocks, free_blocks, largest_free}
 use Rattle.cf_model.specs.State.{HeapState, paging_in, region_words}
 
 -- the first word of an object's slot or block

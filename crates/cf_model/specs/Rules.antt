@@ -5,14 +5,14 @@ use Rattle.cf_base.specs.Settings.{Profile}
 use Rattle.cf_base.specs.Limits.{is_page_size}
 use Rattle.cf_base.specs.declared.kind.Kind.{Kind}
 use Rattle.cf_base.specs.declared.kind.Kind.TheVariants.{Moving, NonMoving, Tlsf, HalfFit}
-use Rattle.arrangement.specs.Held.{Held, Placed}
-use Rattle.arrangement.specs.Paging.{IsPaging}
-use Rattle.arrangement.specs.Arrangement.{IsSound}
-use Rattle.arrangement.specs.Bytes.{AreBytes}
-use Rattle.arrangement.specs.Image.{IsImage, IsSlotImage, object_word}
-use Rattle.arrangement.specs.Frames.{IsPermuted}
-use Rattle.tiling.specs.Tiling.{Block, IsTiling, block_at, block_need}
-use Rattle.tiling.specs.Words.{AreTilingWords}
+use Rattle.page_model.specs.Held.{Held, Placed}
+use Rattle.page_model.specs.Paging.{IsPaging}
+use Rattle.page_model.specs.Arrangement.{IsSound}
+use Rattle.page_model.specs.Bytes.{AreBytes}
+use Rattle.page_model.specs.Image.{IsImage, IsSlotImage, object_word}
+use Rattle.page_model.specs.Frames.{IsPermuted}
+use Rattle.block_model.specs.Tiling.{Block, IsTiling, block_at, block_need}
+use Rattle.block_model.specs.Words.{AreTilingWords}
 use Rattle.cf_model.specs.State.{HeapState, paging_in, region_words}
 
 -- whether the kind cuts its memory into pages

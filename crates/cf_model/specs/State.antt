@@ -8,9 +8,9 @@ use Rattle.cf_base.specs.declared.kind.Kind.{Kind}
 use Rattle.cf_base.specs.declared.kind.Kind.TheVariants.{Moving, NonMoving, Tlsf, HalfFit}
 use Rattle.cf_base.specs.declared.kind.Layout.{Layout}
 use Rattle.cf_base.specs.declared.kind.Layout.TheVariants.{Words, Blocks}
-use Rattle.arrangement.specs.Held.{Held, placed_code}
-use Rattle.arrangement.specs.Paging.{Paging, paging_of}
-use Rattle.tiling.specs.Tiling.{Block}
+use Rattle.page_model.specs.Held.{Held, placed_code}
+use Rattle.page_model.specs.Paging.{Paging, paging_of}
+use Rattle.block_model.specs.Tiling.{Block}
 
 -- The kind, whether it is open, the settings; by class how many pages may be not full; the objects by number, each with its place and its bytes; the words of the region; by virtual block its physical block; the blocks that tile the region; and the cost of the last call. What doesn't apply to a kind is the empty list.
 pub record HeapState : Type 0 where

@@ -16,15 +16,15 @@ use Rattle.cf_base.specs.declared.answers.ResizeFault.TheVariants as resize
 use Rattle.cf_base.specs.declared.kind.Kind.{Kind}
 use Rattle.cf_base.specs.declared.kind.Kind.TheVariants.{Moving, NonMoving, Tlsf, HalfFit}
 use Rattle.cf_base.specs.declared.settings.Settings.{Settings}
-use Rattle.arrangement.specs.Held.{Placed, objects}
-use Rattle.arrangement.specs.Paging.{class_for, first_bounds}
-use Rattle.arrangement.specs.Arrangement.{class_at, LacksRoom}
-use Rattle.arrangement.specs.Bytes.{written}
-use Rattle.arrangement.specs.Frames.{first_frames, frames_after, block_of, IsPhysical}
-use Rattle.arrangement.specs.Image.{IsOutside, slot_for}
-use Rattle.arrangement.specs.Steps.{Request, Outcome, IsFreePlace, zeros_at, Moves, without, resized, IsResizeStep as IsResizedBy}
-use Rattle.tiling.specs.Buckets.{tlsf, half_fit}
-use Rattle.tiling.specs.Tiling.{Block, LacksBlock, Carves, released, one_free_block, block_need, size_at}
+use Rattle.page_model.specs.Held.{Placed, objects}
+use Rattle.page_model.specs.Paging.{class_for, first_bounds}
+use Rattle.page_model.specs.Arrangement.{class_at, LacksRoom}
+use Rattle.page_model.specs.Bytes.{written}
+use Rattle.page_model.specs.Frames.{first_frames, frames_after, block_of, IsPhysical}
+use Rattle.page_model.specs.Image.{IsOutside, slot_for}
+use Rattle.page_model.specs.Steps.{Request, Outcome, IsFreePlace, zeros_at, Moves, without, resized, IsResizeStep as IsResizedBy}
+use Rattle.block_model.specs.Buckets.{tlsf, half_fit}
+use Rattle.block_model.specs.Tiling.{Block, LacksBlock, Carves, released, one_free_block, block_need, size_at}
 use Rattle.cf_model.specs.State.{HeapState, paging_in, layout_of, region_words}
 use Rattle.cf_model.specs.Rules.{IsPaged, IsTiled}
 

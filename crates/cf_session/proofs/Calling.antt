@@ -6,15 +6,15 @@ use Rattle.std.specs.FinMap.{get, len, empty, get-empty, len-empty}
 use Rattle.cf_base.specs.declared.kind.Kind.{Kind}
 use Rattle.cf_base.specs.declared.kind.Kind.TheVariants.{Moving, NonMoving}
 use Rattle.cf_lemmas.proofs.Maps.{equal_maps}
-use Rattle.arrangement.specs.Held.{Held, Placed}
+use Rattle.page_model.specs.Held.{Held, Placed}
 use Rattle.cf_model.specs.Answers.{bound_put, class_with}
 use Rattle.cf_model.specs.Rules.{KeepsRules}
 use Rattle.cf_model.specs.State.{HeapState}
 use Rattle.script_reader.specs.declared.command.Command.TheVariants.{Bound}
-use Rattle.script_runs.specs.Sessions.{AreTied, SessionState}
-use Rattle.script_runs.specs.Steps.{Step, bound_text, class_to_bound}
-use Rattle.script_runs.specs.Texts.{said, with_number}
-use Rattle.script_runs.specs.Replies.{steps_text}
+use Rattle.run_model.specs.Sessions.{AreTied, SessionState}
+use Rattle.run_model.specs.Steps.{Step, bound_text, class_to_bound}
+use Rattle.run_model.specs.Texts.{said, with_number}
+use Rattle.run_model.specs.Replies.{steps_text}
 use Rattle.cf_session.specs.Applying.{run_at}
 
 -- no object is live where no id is

@@ -12,19 +12,19 @@ use Rattle.cf_io.specs.Feeds.{appended, Puts}
 use Rattle.cf_model.specs.Rules.{KeepsRules}
 use Rattle.cf_model.specs.State.{HeapState, paging_in}
 use Rattle.cf_model.specs.Answers.{totals_in}
-use Rattle.arrangement.specs.Figures.{figures_of}
+use Rattle.page_model.specs.Figures.{figures_of}
 use Rattle.frag_report.proofs.Putting.{puts_line}
 use Rattle.script_reader.specs.declared.command.Command.{Command}
 use Rattle.script_reader.specs.declared.command.Command.TheVariants.{Walk, Frag}
-use Rattle.script_runs.specs.Answering.{Moment}
-use Rattle.script_runs.specs.Replies.{told}
-use Rattle.script_runs.specs.Reports.{class_line, total_line, frag_of, walk_of, live_classes}
-use Rattle.script_runs.specs.Runs.{Turn}
-use Rattle.script_runs.specs.Sessions.{AreTied, IsGoing, RunState, SessionState}
-use Rattle.script_runs.specs.Steps.{Step}
-use Rattle.script_runs.specs.Texts.{Reply, led, said}
-use Rattle.script_runs.proofs.Bounded.{step_meets_bounds}
-use Rattle.script_runs.proofs.Going.{step_going}
+use Rattle.run_model.specs.Answering.{Moment}
+use Rattle.run_model.specs.Replies.{told}
+use Rattle.run_model.specs.Reports.{class_line, total_line, frag_of, walk_of, live_classes}
+use Rattle.run_model.specs.Runs.{Turn}
+use Rattle.run_model.specs.Sessions.{AreTied, IsGoing, RunState, SessionState}
+use Rattle.run_model.specs.Steps.{Step}
+use Rattle.run_model.specs.Texts.{Reply, led, said}
+use Rattle.run_model.proofs.Bounded.{step_meets_bounds}
+use Rattle.run_model.proofs.Going.{step_going}
 use Rattle.cf_session.specs.Applying.{Applies, outcome_in, outcome_of, run_at}
 use Rattle.cf_session.specs.Speaking.{IsReported, Says, lines_at}
 use Rattle.cf_session.specs.declared.outcome.Outcome.{Outcome}

@@ -4,7 +4,7 @@ use Rattle.std.proofs.lemmas.List.{length-replicate}
 use Rattle.std.specs.FinMap as map
 use Rattle.cf_lemmas.specs.Maps.{numbered}
 use Rattle.cf_lemmas.proofs.Numbered.{get-numbered, numbered-set, numbered-clear}
-use Rattle.script_runs.specs.Sessions.{Ids, SessionState}
+use Rattle.run_model.specs.Sessions.{Ids, SessionState}
 use Rattle.cf_session.specs.Table.{AreVacant, session_of}
 
 numbered-vacant : (n k : ℕ) → numbered k (replicate {A = Option ℕ} n None) ≡ map.empty

@@ -9,9 +9,9 @@ use Rattle.cf_session.specs.declared.outcome.Outcome.{Outcome}
 use Rattle.cf_session.specs.declared.outcome.Outcome.TheVariants.{Good, Refused, Other}
 use Rattle.script_reader.specs.declared.command.Command.{Command}
 use Rattle.script_reader.specs.declared.command.Command.TheVariants.{Bound}
-use Rattle.script_runs.specs.Answering.{Asked, IsAnswered, IsCutShort, Moment}
-use Rattle.script_runs.specs.Sessions.{RunState, SessionState}
-use Rattle.script_runs.specs.Texts.{Reply}
+use Rattle.run_model.specs.Answering.{Asked, IsAnswered, IsCutShort, Moment}
+use Rattle.run_model.specs.Sessions.{RunState, SessionState}
+use Rattle.run_model.specs.Texts.{Reply}
 
 -- the run of a session and its manager
 abbrev pub run_at : SessionState → HeapState → RunState

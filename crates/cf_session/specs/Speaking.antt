@@ -5,9 +5,9 @@ use Rattle.cf_session.specs.declared.outcome.Outcome.{Outcome}
 use Rattle.cf_session.specs.declared.outcome.Outcome.TheVariants.{Other}
 use Rattle.script_reader.specs.declared.command.Command.{Command}
 use Rattle.script_reader.specs.declared.command.Command.TheVariants.{Malloc, Free, Write, Resize, Bound, Walk, Frag}
-use Rattle.script_runs.specs.Sessions.{RunState}
-use Rattle.script_runs.specs.Steps.{Step}
-use Rattle.script_runs.specs.Texts.{said}
+use Rattle.run_model.specs.Sessions.{RunState}
+use Rattle.run_model.specs.Steps.{Step}
+use Rattle.run_model.specs.Texts.{said}
 
 -- what stood on a line, and what stands there now
 pub record Lines : Type 0 where

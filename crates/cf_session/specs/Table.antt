@@ -2,7 +2,7 @@
 use Rattle.std.specs.Prelude.{◌≡◌, ℕ, List, Option, length}
 use Rattle.std.specs.FinMap.{empty}
 use Rattle.cf_lemmas.specs.Maps.{numbered}
-use Rattle.script_runs.specs.Sessions.{SessionState}
+use Rattle.run_model.specs.Sessions.{SessionState}
 
 -- the session whose handles stand in a list by id
 abbrev pub session_of : List (Option ℕ) → ℕ → ℕ → ℕ → SessionState

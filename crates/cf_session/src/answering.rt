@@ -5,7 +5,7 @@ ghost use Rattle.cf_io.specs.Lines.{line_room};
 ghost use Rattle.cf_session.specs.Applying.{Applies, MayBound, moment_at, run_at};
 ghost use Rattle.cf_session.specs.Speaking.{IsOneLine, IsReported, Looks, Says, lines_at};
 ghost use Rattle.script_reader.specs.Commands.{IsWellFormed};
-ghost use Rattle.script_runs.specs.Sessions.{IsGoing};
+ghost use Rattle.run_model.specs.Sessions.{IsGoing};
 
 use crate::changes::{free, malloc, resize, set_bound, write};
 use crate::looks::{block, peek, place, read, tell_steps};

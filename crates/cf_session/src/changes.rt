@@ -3,10 +3,10 @@ ghost use Rattle.std.specs.Prelude.{◌≡◌, ◌^◌, ◌≤◌, IsTrue, Err, 
 ghost use Rattle.std.specs.FinMap as map;
 ghost use Rattle.cf_session.specs.Applying.{run_at};
 ghost use Rattle.script_reader.specs.declared.command.Command.TheVariants.{Malloc, Free, Write, Resize, Bound};
-ghost use Rattle.script_runs.specs.Replies.{malloc_text, resize_text, write_text};
-ghost use Rattle.script_runs.specs.Sessions.{AreTied};
-ghost use Rattle.script_runs.specs.Steps.{Step};
-ghost use Rattle.script_runs.specs.Texts.{said};
+ghost use Rattle.run_model.specs.Replies.{malloc_text, resize_text, write_text};
+ghost use Rattle.run_model.specs.Sessions.{AreTied};
+ghost use Rattle.run_model.specs.Steps.{Step};
+ghost use Rattle.run_model.specs.Texts.{said};
 
 use crate::records::Records;
 use cf_base::{AccessFault, Refusal, ResizeFault};

@@ -3,7 +3,7 @@ ghost use Rattle.std.specs.Prelude.{◌≡◌, IfOk};
 ghost use Rattle.std.specs.FinMap as map;
 ghost use Rattle.cf_model.specs.Steps.{number_of};
 ghost use Rattle.cf_session.specs.Table.{AreVacant};
-ghost use Rattle.script_runs.specs.Sessions.{counted, fresh_session};
+ghost use Rattle.run_model.specs.Sessions.{counted, fresh_session};
 
 use cf_base::{Handle, OutOfMemory};
 use std::alloc::{AllocError, Global};
@@ -25,7 +25,7 @@ pub(crate) struct Records {
 impl Model for Records {
     ghost use Rattle.std.specs.Prelude.{◌≡◌, length};
     ghost use Rattle.cf_session.specs.Table.{session_of};
-    ghost use Rattle.script_runs.specs.Sessions.{SessionState, session_code};
+    ghost use Rattle.run_model.specs.Sessions.{SessionState, session_code};
 
     ghost Value = { SessionState };
 

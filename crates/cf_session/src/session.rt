@@ -6,7 +6,7 @@ ghost use Rattle.cf_model.specs.Rules.{KeepsRules};
 ghost use Rattle.cf_model.specs.Steps.{number_of};
 ghost use Rattle.cf_session.specs.Applying.{Applies, MayBound, moment_at};
 ghost use Rattle.script_reader.specs.Commands.{IsWellFormed};
-ghost use Rattle.script_runs.specs.Sessions.{AreTied, fresh_session};
+ghost use Rattle.run_model.specs.Sessions.{AreTied, fresh_session};
 
 use crate::answering::answer;
 use crate::outcome::Outcome;
@@ -29,7 +29,7 @@ pub struct Session {
 }
 
 impl Model for Session {
-    ghost use Rattle.script_runs.specs.Sessions.{SessionState, session_code};
+    ghost use Rattle.run_model.specs.Sessions.{SessionState, session_code};
 
     ghost Value = { SessionState };
 

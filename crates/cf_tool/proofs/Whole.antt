@@ -11,14 +11,14 @@ use Rattle.cf_base.specs.declared.status.Status.TheVariants.{Done, Words, BadScr
 use Rattle.cf_io.specs.Feeds.{Rose, appended}
 use Rattle.cf_model.specs.Rules.{IsPaged}
 use Rattle.cf_model.specs.State.{HeapState, closed_state}
-use Rattle.command_words.specs.Choices.{AreRefused, Chooses}
-use Rattle.command_words.specs.declared.choice.Choice.{Choice}
+use Rattle.command_line.specs.Choices.{AreRefused, Chooses}
+use Rattle.command_line.specs.declared.choice.Choice.{Choice}
 use Rattle.script_reader.specs.Items.{Item, items}
-use Rattle.script_runs.specs.Texts.{text_of}
-use Rattle.script_runner.specs.Outcome.{IsClean, IsEnding, MOST_BYTES, MeetsOutcome, Printed, Prints, has_bad, items_within}
-use Rattle.transcripts.proofs.Further.{stays_at_one}
-use Rattle.transcripts.proofs.Telling.{run_tells}
-use Rattle.transcripts.specs.Transcripts.{transcript}
+use Rattle.run_model.specs.Texts.{text_of}
+use Rattle.script_loop.specs.Outcome.{IsClean, IsEnding, MOST_BYTES, MeetsOutcome, Printed, Prints, has_bad, items_within}
+use Rattle.transcript_laws.proofs.Further.{stays_at_one}
+use Rattle.transcript_laws.proofs.Telling.{run_tells}
+use Rattle.transcript_laws.specs.Transcripts.{transcript}
 use Rattle.cf_tool.specs.Outcome.{ArePlain, AreTaken, DoesChosen, EndsBy, InMode, IsWhole, TellsTranscript}
 
 -- what a run over plain items prints is their transcript

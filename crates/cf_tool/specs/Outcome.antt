@@ -7,15 +7,15 @@ use Rattle.clap.specs.Words.{App, Text, fault_of}
 use Rattle.cf_io.specs.Feeds.{appended}
 use Rattle.cf_model.specs.Rules.{IsPaged}
 use Rattle.cf_model.specs.State.{HeapState, closed_state}
-use Rattle.command_words.specs.Choices.{AreRefused, Chooses}
-use Rattle.command_words.specs.Command.{IsCfApp}
-use Rattle.command_words.specs.declared.choice.Choice.{Choice}
-use Rattle.command_words.specs.declared.choice.Mode.{Mode}
-use Rattle.command_words.specs.declared.choice.Mode.TheVariants.{Run}
+use Rattle.command_line.specs.Choices.{AreRefused, Chooses}
+use Rattle.command_line.specs.Command.{IsCfApp}
+use Rattle.command_line.specs.declared.choice.Choice.{Choice}
+use Rattle.command_line.specs.declared.choice.Mode.{Mode}
+use Rattle.command_line.specs.declared.choice.Mode.TheVariants.{Run}
 use Rattle.script_reader.specs.Items.{Item}
-use Rattle.script_runs.specs.Texts.{text_of}
-use Rattle.script_runner.specs.Outcome.{Call, MeetsOutcome, items_within}
-use Rattle.transcripts.specs.Transcripts.{ArePlaceless, AskForOne, transcript}
+use Rattle.run_model.specs.Texts.{text_of}
+use Rattle.script_loop.specs.Outcome.{Call, MeetsOutcome, items_within}
+use Rattle.transcript_laws.specs.Transcripts.{ArePlaceless, AskForOne, transcript}
 
 -- nothing was read or written
 pub record IsUntouched (call : Call) : Type 0 where

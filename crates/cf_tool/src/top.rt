@@ -1,15 +1,15 @@
 //! The top call.
 ghost use Rattle.std.specs.Prelude.{◌≡◌, ◌<◌, ◌+◌, ◌⊎◌, map, string_bytes};
 ghost use Rattle.cf_io.specs.Feeds.{Rose, last_count};
-ghost use Rattle.script_runner.specs.Outcome.{IsClean, MOST_BYTES};
+ghost use Rattle.script_loop.specs.Outcome.{IsClean, MOST_BYTES};
 ghost use Rattle.cf_tool.specs.Outcome.{AreTaken, EndsWell, IsWhole};
 
 use cf_base::Status;
 use cf_io::{Sink, Source};
 use cf_session::Session;
-use command_words::{Mode, WordsFault, read_words};
+use command_line::{Mode, WordsFault, read_words};
 use moving_heap::MovingHeap;
-use script_runner::run_script;
+use script_loop::run_script;
 use std::alloc::Global;
 use std::rt::Runtime;
 

@@ -4,17 +4,17 @@ use Rattle.std.proofs.lemmas.List.{map-append}
 use Rattle.std.specs.Prelude.{Result, Err, map, not, nat_eq}
 use Rattle.std.specs.List.{range_with_len}
 use Rattle.std.proofs.lemmas.List.Elements.{filter-append}
-use Rattle.arrangement.specs.Arrangement.{live}
-use Rattle.arrangement.specs.Figures.{figures_of}
-use Rattle.arrangement.specs.Held.{objects}
+use Rattle.page_model.specs.Arrangement.{live}
+use Rattle.page_model.specs.Figures.{figures_of}
+use Rattle.page_model.specs.Held.{objects}
 use Rattle.cf_model.specs.State.{HeapState, paging_in}
 use Rattle.cf_base.specs.declared.answers.Failed.{Failed}
 use Rattle.cf_base.specs.declared.answers.Totals.{Totals}
 use Rattle.cf_io.specs.Feeds.{appended, Puts}
 use Rattle.cf_io.proofs.Feeding.{appended_then}
 use Rattle.cf_model.specs.Answers.{classes_in, totals_in}
-use Rattle.script_runs.specs.Reports.{class_line, pages_report, total_line}
-use Rattle.script_runs.specs.Texts.{led, said}
+use Rattle.run_model.specs.Reports.{class_line, pages_report, total_line}
+use Rattle.run_model.specs.Texts.{led, said}
 use Rattle.frag_report.specs.Classes.{lines_of, classes_below, class_if_live}
 use Rattle.frag_report.proofs.Putting.{led-append, puts_then, puts_cut}
 

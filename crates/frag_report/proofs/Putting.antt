@@ -8,7 +8,7 @@ use Rattle.std.proofs.lemmas.Fmt.{length-decimal-le}
 use Rattle.cf_base.specs.declared.answers.Failed.{Failed}
 use Rattle.cf_io.specs.Feeds.{appended, Puts}
 use Rattle.cf_io.proofs.Feeding.{appended_then}
-use Rattle.script_runs.specs.Texts.{Reply, led, said}
+use Rattle.run_model.specs.Texts.{Reply, led, said}
 
 -- a number of 64 bits has at most 20 digits
 pub digits : (n : ℕ) → n < 2 ^ 64 → length (decimal n) ≤ 20

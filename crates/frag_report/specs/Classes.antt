@@ -1,12 +1,12 @@
 -- How far the report on classes has come.
 use Rattle.std.specs.Prelude.{ℕ, List, ◌∷◌, [], map, filter, not, nat_eq}
 use Rattle.std.specs.List.{range_with_len}
-use Rattle.arrangement.specs.Arrangement.{live}
-use Rattle.arrangement.specs.Figures.{figures_of}
-use Rattle.arrangement.specs.Held.{objects}
+use Rattle.page_model.specs.Arrangement.{live}
+use Rattle.page_model.specs.Figures.{figures_of}
+use Rattle.page_model.specs.Held.{objects}
 use Rattle.cf_model.specs.State.{HeapState, paging_in}
-use Rattle.script_runs.specs.Reports.{class_line}
-use Rattle.script_runs.specs.Texts.{Reply}
+use Rattle.run_model.specs.Reports.{class_line}
+use Rattle.run_model.specs.Texts.{Reply}
 
 -- the lines of those classes of a list that have live objects
 abbrev pub lines_of : HeapState → List ℕ → Reply

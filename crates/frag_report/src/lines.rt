@@ -2,7 +2,7 @@
 ghost use Rattle.std.specs.Prelude.{◌≡◌, ◌+◌, ◌<◌, ◌≤◌, ◌++◌, ◌∷◌, [], OnErr, length};
 ghost use Rattle.cf_io.specs.Feeds.{Rose, Puts};
 ghost use Rattle.cf_io.specs.Lines.{line_room};
-ghost use Rattle.script_runs.specs.Texts.{with_number};
+ghost use Rattle.run_model.specs.Texts.{with_number};
 
 use cf_base::Failed;
 use cf_io::{Line, Sink, put_all};

@@ -4,8 +4,8 @@ ghost use Rattle.cf_io.specs.Feeds.{Rose, Puts};
 ghost use Rattle.cf_io.specs.Lines.{line_room};
 ghost use Rattle.cf_model.specs.Answers.{classes_in, totals_in};
 ghost use Rattle.frag_report.specs.Classes.{classes_below, class_if_live};
-ghost use Rattle.script_runs.specs.Reports.{blocks_line, class_line, frag_line as frag_text, frag_of, pages_report, total_line, walk_of};
-ghost use Rattle.script_runs.specs.Texts.{led, said};
+ghost use Rattle.run_model.specs.Reports.{blocks_line, class_line, frag_line as frag_text, frag_of, pages_report, total_line, walk_of};
+ghost use Rattle.run_model.specs.Texts.{led, said};
 
 use crate::lines::{begin_line, push_field, put_line};
 use cf_base::{Failed, Figures, Kind, Totals};

@@ -9,11 +9,11 @@ use Rattle.cf_lemmas.proofs.Sums.{insert_again}
 use Rattle.class_lists.specs.declared.Which.{Which}
 use Rattle.class_lists.specs.declared.Which.TheVariants.{NotFull}
 use Rattle.class_lists.specs.PageLists.{pages_in}
-use Rattle.arrangement.specs.Held.{Held, Placed}
-use Rattle.arrangement.specs.Paging.{Paging, IsPaging, bound_of, class_for, classes, page_of, slots_of}
-use Rattle.arrangement.specs.Arrangement.{class_at, objects_on, not_full_pages, standing_on, IsSlotAt, IsSound, LacksRoom}
-use Rattle.arrangement.specs.Steps.{IsFreePlace, MayFill, MustMove, moved_to, without}
-use Rattle.arrangement.proofs.FreeSteps.{mover_is_other, removed_twice}
+use Rattle.page_model.specs.Held.{Held, Placed}
+use Rattle.page_model.specs.Paging.{Paging, IsPaging, bound_of, class_for, classes, page_of, slots_of}
+use Rattle.page_model.specs.Arrangement.{class_at, objects_on, not_full_pages, standing_on, IsSlotAt, IsSound, LacksRoom}
+use Rattle.page_model.specs.Steps.{IsFreePlace, MayFill, MustMove, moved_to, without}
+use Rattle.page_model.proofs.FreeSteps.{mover_is_other, removed_twice}
 use Rattle.page_slots.specs.Tables.{Tables, AreTables, IsPageOf, IsUsed, slot_at, slots_on}
 use Rattle.page_slots.specs.Taking.{TakesAt, TakesSlot}
 use Rattle.page_slots.specs.Freeing.{FillsFrom, MovesObject, Vacates}

@@ -6,10 +6,10 @@ use Rattle.std.proofs.lemmas.Option.{slice_get_within}
 use Rattle.std.specs.FinMap.{get, remove}
 use Rattle.cf_lemmas.proofs.Maps.{some_removed, get_remove_other}
 use Rattle.slot_bitmap.proofs.CallerLemmas.{count-unset}
-use Rattle.arrangement.specs.Held.{Held, Placed}
-use Rattle.arrangement.specs.Paging.{Paging, IsPaging, page_of}
-use Rattle.arrangement.specs.Arrangement.{class_at, objects_on, IsSound}
-use Rattle.arrangement.proofs.Freeing.{objects_on-away, objects_on-left}
+use Rattle.page_model.specs.Held.{Held, Placed}
+use Rattle.page_model.specs.Paging.{Paging, IsPaging, page_of}
+use Rattle.page_model.specs.Arrangement.{class_at, objects_on, IsSound}
+use Rattle.page_model.proofs.Freeing.{objects_on-away, objects_on-left}
 use Rattle.page_slots.specs.Tables.{Tables, IsOf, IsUsed, slot_at, slots_on, used_in}
 use Rattle.page_slots.specs.Occupying.{Occupies, Tell, class_table}
 use Rattle.page_slots.proofs.Bits.{set_here, set_there, used_some, not_both}

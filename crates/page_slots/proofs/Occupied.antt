@@ -5,12 +5,12 @@ use Rattle.std.proofs.lemmas.Option.{slice_get_within}
 use Rattle.std.specs.FinMap.{get, insert, remove}
 use Rattle.cf_lemmas.proofs.Maps.{get_inserted, some_inserted, get_remove_other, some_removed}
 use Rattle.class_lists.specs.declared.Which.TheVariants.{Full, NotFull}
-use Rattle.arrangement.specs.Held.{Held, Placed}
-use Rattle.arrangement.specs.Paging.{Paging, IsPaging, classes, page_of, address_of}
-use Rattle.arrangement.specs.Arrangement.{class_at, objects_on, standing_on, IsSlotAt, IsSound}
-use Rattle.arrangement.proofs.Addresses.{address_is_slot, slot_is_address}
-use Rattle.arrangement.proofs.Counting.{still, on_page, standing}
-use Rattle.arrangement.proofs.Freeing.{objects_on-exchanged}
+use Rattle.page_model.specs.Held.{Held, Placed}
+use Rattle.page_model.specs.Paging.{Paging, IsPaging, classes, page_of, address_of}
+use Rattle.page_model.specs.Arrangement.{class_at, objects_on, standing_on, IsSlotAt, IsSound}
+use Rattle.page_model.proofs.Addresses.{address_is_slot, slot_is_address}
+use Rattle.page_model.proofs.Counting.{still, on_page, standing}
+use Rattle.page_model.proofs.Freeing.{objects_on-exchanged}
 use Rattle.page_slots.specs.Tables.{Tables, IsOf, IsUsed, IsFreePage, slot_at, slots_on}
 use Rattle.page_slots.specs.Occupying.{Occupies, Tell, class_table}
 use Rattle.page_slots.proofs.Pages.{listed_page, listed_class, of_list}

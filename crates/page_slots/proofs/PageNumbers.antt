@@ -9,12 +9,12 @@ use Rattle.class_lists.specs.declared.Which.{Which}
 use Rattle.class_lists.specs.declared.Which.TheVariants.{Full, NotFull}
 use Rattle.class_lists.specs.PageLists.{pages_in}
 use Rattle.page_pool.specs.Pool.{is_free}
-use Rattle.arrangement.specs.Held.{Held}
-use Rattle.arrangement.specs.Paging.{Paging, IsPaging, slots_of}
-use Rattle.arrangement.specs.Arrangement.{objects_on, standing_on, home_pages, not_full_pages, used_pages, free_pages, IsSound, LacksRoom}
-use Rattle.arrangement.proofs.Counting.{part_full, lt_yes, lt_no, on_page, stands_here}
-use Rattle.arrangement.proofs.Totals.{sum_same, sum_plus}
-use Rattle.arrangement.proofs.Lacking.{used_is}
+use Rattle.page_model.specs.Held.{Held}
+use Rattle.page_model.specs.Paging.{Paging, IsPaging, slots_of}
+use Rattle.page_model.specs.Arrangement.{objects_on, standing_on, home_pages, not_full_pages, used_pages, free_pages, IsSound, LacksRoom}
+use Rattle.page_model.proofs.Counting.{part_full, lt_yes, lt_no, on_page, stands_here}
+use Rattle.page_model.proofs.Totals.{sum_same, sum_plus}
+use Rattle.page_model.proofs.Lacking.{used_is}
 use Rattle.page_slots.specs.Tables.{Tables, HasUsed, IsOf, IsPageOf, slots_on, used_in}
 use Rattle.page_slots.specs.Occupying.{Occupies, Tell, class_table}
 use Rattle.page_slots.proofs.Pages.{placed_in, listed_page, list_of, free_page}

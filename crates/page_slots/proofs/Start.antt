@@ -17,8 +17,8 @@ use Rattle.class_lists.specs.PageLists.{AreApart, empty_lists, list_number, page
 use Rattle.class_lists.proofs.Members.{contains_nil, distinct_nil}
 use Rattle.page_pool.specs.Pool.{Pool, is_free}
 use Rattle.page_pool.proofs.CallerLemmas.{pooled_range}
-use Rattle.arrangement.specs.Held.{Placed}
-use Rattle.arrangement.specs.Paging.{Paging}
+use Rattle.page_model.specs.Held.{Placed}
+use Rattle.page_model.specs.Paging.{Paging}
 use Rattle.page_slots.specs.Tables.{AreTables, IsOf, tables}
 use Rattle.page_slots.specs.Occupying.{Occupies}
 use Rattle.page_slots.proofs.Listing.{along}

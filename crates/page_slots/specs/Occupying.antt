@@ -2,9 +2,9 @@
 use Rattle.std.specs.Prelude.{◌≡◌, ℕ, Some}
 use Rattle.std.specs.FinMap.{get}
 use Rattle.size_classes.specs.Table.{ClassTable}
-use Rattle.arrangement.specs.Held.{Held, Placed}
-use Rattle.arrangement.specs.Paging.{Paging, page_of, address_of}
-use Rattle.arrangement.specs.Arrangement.{class_at, objects_on}
+use Rattle.page_model.specs.Held.{Held, Placed}
+use Rattle.page_model.specs.Paging.{Paging, page_of, address_of}
+use Rattle.page_model.specs.Arrangement.{class_at, objects_on}
 use Rattle.page_slots.specs.Tables.{Tables, AreTables, IsOf, IsUsed, slot_at, slots_on, used_in}
 
 -- the classes of a paging

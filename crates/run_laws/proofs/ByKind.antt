@@ -4,12 +4,12 @@ use Rattle.cf_base.specs.Settings.{Profile}
 use Rattle.cf_base.specs.declared.answers.Handle.{Handle}
 use Rattle.cf_base.specs.declared.kind.Kind.{Kind}
 use Rattle.cf_base.specs.declared.kind.Kind.TheVariants.{Moving, NonMoving, Tlsf, HalfFit}
-use Rattle.arrangement.specs.Arrangement.{LacksRoom}
-use Rattle.arrangement.specs.Frames.{AreBlocks, IsPermuted, frames_after}
-use Rattle.arrangement.specs.Held.{Placed}
-use Rattle.arrangement.specs.Paging.{class_for, paging_of}
-use Rattle.arrangement.specs.Steps.{IsFreePlace, Moves, Outcome, Request}
-use Rattle.arrangement.proofs.Sizes.{in_blocks}
+use Rattle.page_model.specs.Arrangement.{LacksRoom}
+use Rattle.page_model.specs.Frames.{AreBlocks, IsPermuted, frames_after}
+use Rattle.page_model.specs.Held.{Placed}
+use Rattle.page_model.specs.Paging.{class_for, paging_of}
+use Rattle.page_model.specs.Steps.{IsFreePlace, Moves, Outcome, Request}
+use Rattle.page_model.proofs.Sizes.{in_blocks}
 use Rattle.cf_model.specs.Rules.{IsPaged, KeepsPages, KeepsRules, KeepsRulesOf}
 use Rattle.cf_model.specs.State.{HeapState, layout_of, paging_in, region_words}
 use Rattle.cf_model.specs.Steps.{ChangesCost, IsPlacedBy, IsUnmoved, LacksRoomIn, MovesIn, StaysOutside, frames_left, number_of, tiling_left}

@@ -2,11 +2,11 @@
 use Rattle.std.proofs.Common.{◌≡◌, ◌≢◌, ℕ, ◌+◌, ◌<◌, ◌≤◌, List, Option, Some, None, length, get_or, ◌∙◌, ap, refl, inl, inr}
 use Rattle.std.specs.FinMap.{get, insert}
 use Rattle.cf_lemmas.proofs.Maps.{get_inserted, get_insert_other}
-use Rattle.arrangement.specs.Bytes.{written}
-use Rattle.arrangement.specs.Image.{IsOutside}
-use Rattle.arrangement.specs.Steps.{resized}
-use Rattle.arrangement.proofs.Resizing.{length-resized}
-use Rattle.arrangement.proofs.Writing.{length-written, resized_before, resized_behind, written_before, written_behind, written_inside}
+use Rattle.page_model.specs.Bytes.{written}
+use Rattle.page_model.specs.Image.{IsOutside}
+use Rattle.page_model.specs.Steps.{resized}
+use Rattle.page_model.proofs.Resizing.{length-resized}
+use Rattle.page_model.proofs.Writing.{length-written, resized_before, resized_behind, written_before, written_behind, written_inside}
 use Rattle.script_reader.specs.declared.command.Command.TheVariants.{Write, Resize}
 use Rattle.run_laws.specs.Told.{Told, changed, done_by}
 use Rattle.run_laws.proofs.ReadBack.{changed_is}

@@ -5,10 +5,10 @@ use Rattle.cf_base.specs.declared.kind.Kind.{Kind}
 use Rattle.cf_model.specs.Rules.{IsPaged}
 use Rattle.cf_model.specs.State.{HeapState}
 use Rattle.script_reader.specs.Items.{Item, asks, bad, starts}
-use Rattle.script_runs.specs.Runs.{ItemStep, Run}
-use Rattle.script_runs.specs.Sessions.{RunState}
-use Rattle.script_runs.specs.Texts.{Reply, bad_line, led, said, text_of}
-use Rattle.script_runs.proofs.Going.{begins_going, step_going, step_same}
+use Rattle.run_model.specs.Runs.{ItemStep, Run}
+use Rattle.run_model.specs.Sessions.{RunState}
+use Rattle.run_model.specs.Texts.{Reply, bad_line, led, said, text_of}
+use Rattle.run_model.proofs.Going.{begins_going, step_going, step_same}
 use Rattle.run_laws.specs.Sayable.{AreSayable, IsSayableItem, IsUnderWay}
 use Rattle.run_laws.proofs.Turns.{begins_there, turn_there}
 

@@ -18,31 +18,31 @@ use Rattle.cf_base.specs.declared.answers.ResizeFault.TheVariants as resize
 use Rattle.cf_lemmas.proofs.Maps.{equal_maps, get_removed, len_fresh, len_rebound, some_inserted, some_removed}
 use Rattle.cf_lemmas.proofs.MapValues.{get-map_values, map_values-insert}
 use Rattle.cf_lemmas.proofs.Sums.{insert_again}
-use Rattle.arrangement.specs.Arrangement.{IsSound, class_at}
-use Rattle.arrangement.specs.Bytes.{AreBytes, written}
-use Rattle.arrangement.specs.Held.{Held, Objects, Placed, objects}
-use Rattle.arrangement.specs.Image.{IsSlotImage, slot_for}
-use Rattle.arrangement.specs.Paging.{Paging, class_for}
-use Rattle.arrangement.specs.Steps.{IsFreePlace, IsFreeStep, IsResizeStep as IsResizedBy, Moves, Outcome, Request, resized, resized_at, without, zeros_at}
-use Rattle.arrangement.proofs.Adding.{len-objects}
-use Rattle.arrangement.proofs.BlockSteps.{free_frames, resize_frames}
-use Rattle.arrangement.proofs.Counting.{eq_no}
-use Rattle.arrangement.proofs.FreeSteps.{sound_free}
-use Rattle.arrangement.proofs.Freeing.{sound_exchanged}
-use Rattle.arrangement.proofs.Nothing.{sound_empty}
-use Rattle.arrangement.proofs.Parts.{free_objects, malloc_objects}
-use Rattle.arrangement.proofs.Placing.{sound_malloc}
-use Rattle.arrangement.proofs.Resizing.{changes_class, sound_resize}
-use Rattle.arrangement.proofs.Sizes.{class_fits}
-use Rattle.arrangement.proofs.SlotImages.{own_words}
-use Rattle.arrangement.proofs.Writing.{length-written, resized_are_bytes, written_are_bytes, zeros_are_bytes}
+use Rattle.page_model.specs.Arrangement.{IsSound, class_at}
+use Rattle.page_model.specs.Bytes.{AreBytes, written}
+use Rattle.page_model.specs.Held.{Held, Objects, Placed, objects}
+use Rattle.page_model.specs.Image.{IsSlotImage, slot_for}
+use Rattle.page_model.specs.Paging.{Paging, class_for}
+use Rattle.page_model.specs.Steps.{IsFreePlace, IsFreeStep, IsResizeStep as IsResizedBy, Moves, Outcome, Request, resized, resized_at, without, zeros_at}
+use Rattle.page_model.proofs.Adding.{len-objects}
+use Rattle.page_model.proofs.BlockSteps.{free_frames, resize_frames}
+use Rattle.page_model.proofs.Counting.{eq_no}
+use Rattle.page_model.proofs.FreeSteps.{sound_free}
+use Rattle.page_model.proofs.Freeing.{sound_exchanged}
+use Rattle.page_model.proofs.Nothing.{sound_empty}
+use Rattle.page_model.proofs.Parts.{free_objects, malloc_objects}
+use Rattle.page_model.proofs.Placing.{sound_malloc}
+use Rattle.page_model.proofs.Resizing.{changes_class, sound_resize}
+use Rattle.page_model.proofs.Sizes.{class_fits}
+use Rattle.page_model.proofs.SlotImages.{own_words}
+use Rattle.page_model.proofs.Writing.{length-written, resized_are_bytes, written_are_bytes, zeros_are_bytes}
 use Rattle.cf_model.specs.Answers.{bound_put}
 use Rattle.cf_model.specs.Rules.{AreObjects, IsPaged, KeepsPages, KeepsRules}
 use Rattle.cf_model.specs.State.{HeapState, paging_in, region_words}
 use Rattle.cf_model.specs.Steps.{FreesObject, IsMallocStep, IsResizeStep, IsWriteStep, Part, frames_left, number_of, outcome_of, slot_in}
-use Rattle.script_runs.specs.Steps.{class_to_bound}
-use Rattle.script_runs.proofs.Bounded.{pages_kept}
-use Rattle.script_runs.proofs.Tied.{bytes_held, bytes_missing}
+use Rattle.run_model.specs.Steps.{class_to_bound}
+use Rattle.run_model.proofs.Bounded.{pages_kept}
+use Rattle.run_model.proofs.Tied.{bytes_held, bytes_missing}
 use Rattle.run_laws.proofs.Counting.{fresh_key, len_without, there_or_not}
 use Rattle.run_laws.proofs.Images.{sound_image}
 use Rattle.run_laws.proofs.ByKind.{FramesKept, frames_by, frames_stepped, handle_of, lacking_by, moves_by, number_of_handle, outside_by, place_by, rules_by, tiling_by, unmoved_by}

@@ -9,14 +9,14 @@ use Rattle.std.proofs.lemmas.List.FromFn.{get_or-map-range_with_len, length-map-
 use Rattle.std.specs.FinMap.{get}
 use Rattle.cf_lemmas.proofs.Induction.{map_induction}
 use Rattle.cf_lemmas.proofs.Maps.{get_inserted}
-use Rattle.arrangement.specs.Arrangement.{IsSound}
-use Rattle.arrangement.specs.Held.{Held, Placed}
-use Rattle.arrangement.specs.Image.{IsApart, IsImageOver, IsOutside, IsSlotImage, Rewrites, object_word, slot_for}
-use Rattle.arrangement.specs.Paging.{Paging}
-use Rattle.arrangement.proofs.Counting.{still}
-use Rattle.arrangement.proofs.Images.{image_added}
-use Rattle.arrangement.proofs.Nothing.{image_empty}
-use Rattle.arrangement.proofs.SlotImages.{object_inside, sound_apart}
+use Rattle.page_model.specs.Arrangement.{IsSound}
+use Rattle.page_model.specs.Held.{Held, Placed}
+use Rattle.page_model.specs.Image.{IsApart, IsImageOver, IsOutside, IsSlotImage, Rewrites, object_word, slot_for}
+use Rattle.page_model.specs.Paging.{Paging}
+use Rattle.page_model.proofs.Counting.{still}
+use Rattle.page_model.proofs.Images.{image_added}
+use Rattle.page_model.proofs.Nothing.{image_empty}
+use Rattle.page_model.proofs.SlotImages.{object_inside, sound_apart}
 
 -- whether w is one of the n words from a on
 abbrev is_in : ℕ → ℕ → ℕ → Bool

@@ -7,7 +7,7 @@ use Rattle.std.proofs.lemmas.Bool.Decides.{nat_tests}
 use Rattle.hex.specs.Hex.{decode_of}
 use Rattle.hex.specs.declared.error.FromHexError.{FromHexError}
 use Rattle.hex.proofs.HexLemmas.{decode_of-ok}
-use Rattle.arrangement.specs.Bytes.{AreBytes}
+use Rattle.page_model.specs.Bytes.{AreBytes}
 use Rattle.cf_base.specs.Limits.{is_page_bytes, is_page_size, is_within}
 use Rattle.cf_base.specs.Settings.{Profile, profile_from, setting_fault}
 use Rattle.cf_base.specs.declared.settings.SettingFault.{SettingFault}

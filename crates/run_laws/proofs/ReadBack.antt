@@ -16,23 +16,23 @@ use Rattle.cf_base.specs.declared.answers.ResizeFault.TheVariants as resize
 use Rattle.cf_base.specs.declared.kind.Kind.{Kind}
 use Rattle.cf_lemmas.proofs.Maps.{get_inserted, get_insert_other, get_removed, get_remove_other}
 use Rattle.cf_lemmas.proofs.MapValues.{get-map_values, map_values-insert}
-use Rattle.arrangement.specs.Bytes.{written}
-use Rattle.arrangement.specs.Held.{Objects, Placed, objects}
-use Rattle.arrangement.specs.Steps.{resized}
-use Rattle.arrangement.proofs.Parts.{malloc_objects}
+use Rattle.page_model.specs.Bytes.{written}
+use Rattle.page_model.specs.Held.{Objects, Placed, objects}
+use Rattle.page_model.specs.Steps.{resized}
+use Rattle.page_model.proofs.Parts.{malloc_objects}
 use Rattle.cf_model.specs.Answers.{bound_put}
 use Rattle.cf_model.specs.State.{HeapState}
 use Rattle.cf_model.specs.Steps.{IsMallocStep, IsResizeStep, IsWriteStep}
 use Rattle.script_reader.specs.Items.{Item, asks, bad, starts}
 use Rattle.script_reader.specs.declared.command.Command.{Command}
 use Rattle.script_reader.specs.declared.command.Command.TheVariants.{Malloc, Free, Write, Read, Bound, Resize}
-use Rattle.script_runs.specs.Replies.{malloc_text, object_of, read_text, resize_text, write_text}
-use Rattle.script_runs.specs.Runs.{Begins, ItemStep, Run}
-use Rattle.script_runs.specs.Sessions.{Ids, IsGoing, RunState, SessionState}
-use Rattle.script_runs.specs.Steps.{FreesAt, MallocsAt, ResizesAt, Step, WritesAt, class_to_bound, ids_given}
-use Rattle.script_runs.specs.Texts.{Reply, said}
-use Rattle.script_runs.proofs.Going.{begins_going, step_going}
-use Rattle.script_runs.proofs.Tied.{AreNames, bytes_held, bytes_missing, counted_ids, names_in, names_of_objects, resized_ids, unmoved_held}
+use Rattle.run_model.specs.Replies.{malloc_text, object_of, read_text, resize_text, write_text}
+use Rattle.run_model.specs.Runs.{Begins, ItemStep, Run}
+use Rattle.run_model.specs.Sessions.{Ids, IsGoing, RunState, SessionState}
+use Rattle.run_model.specs.Steps.{FreesAt, MallocsAt, ResizesAt, Step, WritesAt, class_to_bound, ids_given}
+use Rattle.run_model.specs.Texts.{Reply, said}
+use Rattle.run_model.proofs.Going.{begins_going, step_going}
+use Rattle.run_model.proofs.Tied.{AreNames, bytes_held, bytes_missing, counted_ids, names_in, names_of_objects, resized_ids, unmoved_held}
 use Rattle.run_laws.specs.Told.{AreReadsOf, IsReadOf, Told, changed, done_by, is_ok, read_told, told_after}
 
 -- the bytes under the number that an id names

@@ -5,14 +5,14 @@ use Rattle.std.proofs.lemmas.Bool.{cases_eq, cases_lt, false≢true}
 use Rattle.std.proofs.lemmas.Bool.Decides.{nat_tests}
 use Rattle.std.specs.FinMap.{get, remove, values}
 use Rattle.cf_lemmas.proofs.Maps.{get_remove_other, some_removed}
-use Rattle.arrangement.specs.Arrangement.{IsSound, LacksRoom, class_at, not_full_pages, objects_on, standing_on}
-use Rattle.arrangement.specs.Held.{Held, Placed}
-use Rattle.arrangement.specs.Paging.{IsPaging, Paging, address_of, bound_of, class_for, classes, page_of, slot_words, slots_of}
-use Rattle.arrangement.specs.Steps.{IsFreePlace, Moves}
-use Rattle.arrangement.proofs.Addresses.{address_is_slot}
-use Rattle.arrangement.proofs.Counting.{none_counted, nothing_on, on_page, eq_yes, some_counted}
-use Rattle.arrangement.proofs.Freeing.{objects_on-left}
-use Rattle.arrangement.proofs.PageCounts.{slots_some}
+use Rattle.page_model.specs.Arrangement.{IsSound, LacksRoom, class_at, not_full_pages, objects_on, standing_on}
+use Rattle.page_model.specs.Held.{Held, Placed}
+use Rattle.page_model.specs.Paging.{IsPaging, Paging, address_of, bound_of, class_for, classes, page_of, slot_words, slots_of}
+use Rattle.page_model.specs.Steps.{IsFreePlace, Moves}
+use Rattle.page_model.proofs.Addresses.{address_is_slot}
+use Rattle.page_model.proofs.Counting.{none_counted, nothing_on, on_page, eq_yes, some_counted}
+use Rattle.page_model.proofs.Freeing.{objects_on-left}
+use Rattle.page_model.proofs.PageCounts.{slots_some}
 use Rattle.run_laws.proofs.Counting.{both, counted_in_range, search_below}
 
 -- a page of the class that is neither empty nor full

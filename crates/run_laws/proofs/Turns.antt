@@ -5,8 +5,8 @@ use Rattle.std.specs.FinMap.{get, remove}
 use Rattle.cf_base.specs.Settings.{Profile}
 use Rattle.cf_base.specs.declared.kind.Kind.{Kind}
 use Rattle.cf_base.specs.declared.kind.Kind.TheVariants.{Moving, NonMoving, Tlsf, HalfFit}
-use Rattle.arrangement.specs.Bytes.{AreBytes}
-use Rattle.arrangement.specs.Steps.{Request}
+use Rattle.page_model.specs.Bytes.{AreBytes}
+use Rattle.page_model.specs.Steps.{Request}
 use Rattle.cf_model.specs.Answers.{bound_put}
 use Rattle.cf_model.specs.Costs.{resize_bound}
 use Rattle.cf_model.specs.Rules.{AreInRange, IsPaged}
@@ -15,13 +15,13 @@ use Rattle.cf_model.specs.Steps.{empty_heap}
 use Rattle.cf_model.proofs.EmptyHeaps.{moving_empty, nonmoving_empty}
 use Rattle.script_reader.specs.declared.command.Command.{Command}
 use Rattle.script_reader.specs.declared.command.Command.TheVariants.{Malloc, Free, Write, Bound, Resize}
-use Rattle.script_runs.specs.Replies.{malloc_text, resize_text, told, write_text}
-use Rattle.script_runs.specs.Runs.{Begins, Turn}
-use Rattle.script_runs.specs.Sessions.{IsGoing, RunState, counted, fresh_session}
-use Rattle.script_runs.specs.Steps.{FreesAt, MallocsAt, ResizesAt, Step, WritesAt, bound_text, class_to_bound, ids_given, session_resized}
-use Rattle.script_runs.specs.Texts.{Reply, said}
-use Rattle.script_runs.proofs.Bounded.{step_meets_bounds}
-use Rattle.script_runs.proofs.Going.{costs_nothing}
+use Rattle.run_model.specs.Replies.{malloc_text, resize_text, told, write_text}
+use Rattle.run_model.specs.Runs.{Begins, Turn}
+use Rattle.run_model.specs.Sessions.{IsGoing, RunState, counted, fresh_session}
+use Rattle.run_model.specs.Steps.{FreesAt, MallocsAt, ResizesAt, Step, WritesAt, bound_text, class_to_bound, ids_given, session_resized}
+use Rattle.run_model.specs.Texts.{Reply, said}
+use Rattle.run_model.proofs.Bounded.{step_meets_bounds}
+use Rattle.run_model.proofs.Going.{costs_nothing}
 use Rattle.run_laws.specs.Sayable.{IsSayable}
 use Rattle.run_laws.proofs.Heaps.{bound_done, free_done, malloc_done, resize_done, write_done}
 

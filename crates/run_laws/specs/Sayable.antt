@@ -1,13 +1,13 @@
 -- What a script can say.
 use Rattle.std.specs.Prelude.{◌≡◌, ⊤, List, [], ◌∷◌, Option, Some, None}
-use Rattle.arrangement.specs.Bytes.{AreBytes}
+use Rattle.page_model.specs.Bytes.{AreBytes}
 use Rattle.cf_base.specs.declared.kind.Kind.{Kind}
 use Rattle.cf_model.specs.Rules.{AreInRange}
 use Rattle.script_reader.specs.Commands.{IsWellFormed}
 use Rattle.script_reader.specs.Items.{Item, asks, bad, starts}
 use Rattle.script_reader.specs.declared.command.Command.{Command}
 use Rattle.script_reader.specs.declared.command.Command.TheVariants.{Write}
-use Rattle.script_runs.specs.Sessions.{IsGoing, RunState}
+use Rattle.run_model.specs.Sessions.{IsGoing, RunState}
 
 -- what the command writes, if it writes, are bytes
 abbrev pub HasBytes : Command → Type 0

@@ -4,12 +4,12 @@ use Rattle.std.specs.FinMap.{FinMap, empty, get, insert, remove}
 use Rattle.std.specs.Ordering.{nat_cmp}
 use Rattle.std.specs.Str.{bytes_eq}
 use Rattle.hex.specs.Hex.{encode_lower}
-use Rattle.arrangement.specs.Bytes.{written}
-use Rattle.arrangement.specs.Steps.{resized}
+use Rattle.page_model.specs.Bytes.{written}
+use Rattle.page_model.specs.Steps.{resized}
 use Rattle.script_reader.specs.Items.{Item, asks, bad, starts}
 use Rattle.script_reader.specs.declared.command.Command.{Command}
 use Rattle.script_reader.specs.declared.command.Command.TheVariants.{Malloc, Free, Write, Read, Resize}
-use Rattle.script_runs.specs.Texts.{Reply, said}
+use Rattle.run_model.specs.Texts.{Reply, said}
 
 -- the bytes of each id
 abbrev pub Told : Type 0

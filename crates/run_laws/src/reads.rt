@@ -1,13 +1,13 @@
 //! What reads give.
 ghost use Rattle.std.specs.Prelude.{ℕ, ◌≡◌, ◌≢◌, ◌+◌, ◌<◌, ◌≤◌, List, Option, Some, None, length, replicate, slice_index};
 ghost use Rattle.std.specs.FinMap.{get};
-ghost use Rattle.arrangement.specs.Image.{IsOutside};
+ghost use Rattle.page_model.specs.Image.{IsOutside};
 ghost use Rattle.cf_base.specs.declared.kind.Kind.{Kind};
 ghost use Rattle.script_reader.specs.Items.{Item};
 ghost use Rattle.script_reader.specs.declared.command.Command.TheVariants.{Malloc, Free, Write, Resize};
-ghost use Rattle.script_runs.specs.Runs.{Run};
-ghost use Rattle.script_runs.specs.Sessions.{RunState};
-ghost use Rattle.script_runs.specs.Texts.{Reply};
+ghost use Rattle.run_model.specs.Runs.{Run};
+ghost use Rattle.run_model.specs.Sessions.{RunState};
+ghost use Rattle.run_model.specs.Texts.{Reply};
 ghost use Rattle.run_laws.specs.Told.{AreReadsOf, Told, done_by};
 
 /// Over a run of any kind, each read of an id gives the bytes last written through it, and zeros

@@ -5,9 +5,9 @@ ghost use Rattle.cf_base.specs.declared.kind.Kind.{Kind};
 ghost use Rattle.cf_model.specs.Rules.{AreInRange, IsPaged};
 ghost use Rattle.script_reader.specs.Items.{Item, items};
 ghost use Rattle.script_reader.specs.declared.command.Command.{Command};
-ghost use Rattle.script_runs.specs.Runs.{Begins, Run, Turn};
-ghost use Rattle.script_runs.specs.Sessions.{IsGoing, RunState};
-ghost use Rattle.script_runs.specs.Texts.{Reply, text_of};
+ghost use Rattle.run_model.specs.Runs.{Begins, Run, Turn};
+ghost use Rattle.run_model.specs.Sessions.{IsGoing, RunState};
+ghost use Rattle.run_model.specs.Texts.{Reply, text_of};
 ghost use Rattle.run_laws.specs.Sayable.{AreSayable, IsSayable, IsUnderWay};
 
 /// With pages a run begins under any settings in their ranges, and from each state of a run that

@@ -5,8 +5,8 @@ use Rattle.std.proofs.lemmas.List.{get_or-set_same, get_or-set_other, get_or_pas
 use Rattle.std.proofs.lemmas.Bool.{cases_lt, cases_eq}
 use Rattle.std.proofs.lemmas.Bool.Decides.{nat_tests}
 use Rattle.std.specs.Int.{w64, to_le_bytes, from_le_bytes}
-use Rattle.arrangement.specs.Bytes.{byte_of, AreBytes, written}
-use Rattle.arrangement.proofs.Writing.{length-written, written_before, written_inside, written_behind, written_are_bytes}
+use Rattle.page_model.specs.Bytes.{byte_of, AreBytes, written}
+use Rattle.page_model.proofs.Writing.{length-written, written_before, written_inside, written_behind, written_are_bytes}
 use Rattle.std.proofs.lemmas.Nat.{le_bytes_8}
 use Rattle.word_bytes.specs.Cells.{byte_in, overwritten}
 

@@ -1,6 +1,6 @@
 -- The bytes of words, eight to a word, the least first.
 use Rattle.std.specs.Prelude.{ℕ, ◌+◌, ◌-◌, ◌/◌, ◌%◌, ◌&&◌, List, length, slice_index, nat_le, nat_lt, if◌then◌else◌}
-use Rattle.arrangement.specs.Bytes.{byte_of}
+use Rattle.page_model.specs.Bytes.{byte_of}
 
 -- byte k of the words
 abbrev pub byte_in : List ℕ → ℕ → ℕ

@@ -1,6 +1,6 @@
 //! Bytes of words.
 ghost use Rattle.std.specs.Prelude.{◌≡◌, ℕ, ◌+◌, ◌*◌, ◌<◌, ◌≤◌, length, slice_index};
-ghost use Rattle.arrangement.specs.Bytes.{byte_of, written};
+ghost use Rattle.page_model.specs.Bytes.{byte_of, written};
 ghost use Rattle.word_bytes.specs.Cells.{byte_in, overwritten};
 
 /// The bytes of a word.

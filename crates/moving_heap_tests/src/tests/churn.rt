@@ -4,7 +4,7 @@ ghost use Rattle.std.specs.Prelude.{◌≤◌, ◌<◌};
 use cf_base::{Handle, Layout, Refusal, Settings};
 use cf_model::Manager;
 use moving_heap::MovingHeap;
-use plain_model::Plain;
+use page_reference::Plain;
 use rand_core::{Rng, SeedableRng};
 use rand_xoshiro::SplitMix64;
 use std::alloc::Global;

@@ -1,7 +1,7 @@
 use Rattle.std.proofs.Common.{◌≡◌, ◌≤◌}
 use Rattle.cf_io.specs.Feeds.{appended}
 use Rattle.frag_report.specs.Classes.{classes_below}
-use Rattle.script_runs.specs.Texts.{led}
+use Rattle.run_model.specs.Texts.{led}
 use Rattle.frag_report.proofs.reports.put_classes.Given as goal
 
 abbrev pub invariant-loop-c : goal.invariant-loop-c

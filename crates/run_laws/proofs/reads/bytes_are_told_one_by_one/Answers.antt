@@ -1,6 +1,6 @@
 use Rattle.std.proofs.Common.{replicate}
-use Rattle.arrangement.specs.Bytes.{written}
-use Rattle.arrangement.specs.Steps.{resized}
+use Rattle.page_model.specs.Bytes.{written}
+use Rattle.page_model.specs.Steps.{resized}
 use Rattle.cf_lemmas.proofs.Maps.{get_inserted, get_insert_other, get_removed, get_remove_other}
 use Rattle.run_laws.proofs.Bytewise.{changed_other, resize_told_of, write_told_of}
 use Rattle.run_laws.proofs.reads.bytes_are_told_one_by_one.Goals as goal

@@ -1,5 +1,5 @@
 use Rattle.std.proofs.Common.{ap, ◌∙◌, List, ℕ}
-use Rattle.arrangement.specs.Bytes.{written}
+use Rattle.page_model.specs.Bytes.{written}
 use Rattle.word_bytes.proofs.Overwriting.{word_patched}
 use Rattle.word_bytes.proofs.cells.patched.Goals as goal
 

@@ -1,5 +1,0 @@
-use Rattle.arrangement.proofs.Frames.{no_block_shared}
-use Rattle.arrangement.proofs.blocks.live_objects_share_no_block.Goals as goal
-
-pub returns : goal.returns
-returns c = λ p m frames f h q x y. no_block_shared p f.paged f.blocks m f.sound frames f.count f.permuted h x q y

@@ -1,8 +1,0 @@
-use Rattle.arrangement.proofs.Sizes.{first_paged, paged}
-use Rattle.arrangement.proofs.classes.slot_sizes_rise.Goals as goal
-
-pub returns-clause-first : goal.returns-clause-first
-returns-clause-first c = first_paged
-
-pub returns-clause-bounded : goal.returns-clause-bounded
-returns-clause-bounded c = paged

@@ -1,5 +1,0 @@
-use Rattle.arrangement.proofs.RoomAtOne.{used_at_one}
-use Rattle.arrangement.proofs.room.pages_are_those_needed_at_bound_one.Goals as goal
-
-pub returns : goal.returns
-returns c = λ p m ok ones s. used_at_one p ok ones m s

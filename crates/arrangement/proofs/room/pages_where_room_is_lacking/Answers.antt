@@ -1,5 +1,0 @@
-use Rattle.arrangement.proofs.Lacking.{lacking}
-use Rattle.arrangement.proofs.room.pages_where_room_is_lacking.Goals as goal
-
-pub returns : goal.returns
-returns c = λ p m c ok s. lacking p m s ok c

@@ -1,5 +1,0 @@
-use Rattle.arrangement.proofs.Resizing.{sound_resize}
-use Rattle.arrangement.proofs.soundness.a_resize_keeps_soundness.Goals as goal
-
-pub returns : goal.returns
-returns c = sound_resize

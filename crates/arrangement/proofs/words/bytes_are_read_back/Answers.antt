@@ -1,5 +1,0 @@
-use Rattle.arrangement.proofs.Writing.{byte_read}
-use Rattle.arrangement.proofs.words.bytes_are_read_back.Goals as goal
-
-pub returns : goal.returns
-returns c = λ m words h k x im e bytes lt. byte_read m words im h x e bytes k lt

@@ -1,5 +1,0 @@
-use Rattle.arrangement.proofs.Reading.{held_from_image}
-use Rattle.arrangement.proofs.words.words_tell_what_is_held.Goals as goal
-
-pub returns : goal.returns
-returns c = held_from_image

@@ -1,0 +1,55 @@
+-- What the reading of words rests on.
+use Rattle.std.proofs.Common.{◌≡◌, ◌≤◌, ℕ, Bool, true, false, List, refl, arith, Option, Some, None, ◌≢◌, [], ◌∷◌, inl, inr}
+use Rattle.std.specs.Prelude.{Result, Ok, Err, unwrap_or}
+use Rattle.std.specs.Str.Parse.{ParsesUnsigned, digits_value, without_leading_plus}
+use Rattle.clap.specs.Words.{Text, ReadsOne, is_simple, is_simple_and_free}
+use Rattle.clap.specs.Kinds.{HasKind, Kinds}
+use Rattle.clap.specs.Values.{kind_of}
+use Rattle.clap.specs.declared.error.Error.{Error}
+use Rattle.clap.specs.declared.error.kind.ErrorKind.TheVariants as kind
+use Rattle.clap.specs.ValueTests.{accepts}
+use Rattle.clap.proofs.OnLiterals.{clap_on_literals}
+use Rattle.clap.proofs.ValueTestLemmas.{accepts-Accepts, Accepts-accepts}
+use Rattle.command_line.specs.Choices.{number_in}
+use Rattle.command_line.specs.Command.{IsCfApp, NameList, any_u64, cf_app}
+
+text_number : {E : Type 0} (G : List ℕ → Result ℕ E → Type 0) → ((u : List ℕ) (x : Result ℕ E) → G u x → ParsesUnsigned 64 10 u x)
+    → (t : Text) (r : Option ℕ) → ReadsOne G t r → unwrap_or r 0 ≡ number_in (Some t)
+text_number G only t (Some v) read =
+    let parsed = only t (Ok v) read in
+    let most : digits_value 10 (without_leading_plus t) ≤ 18446744073709551615 = omega (arith, parsed.0.1) in
+    let passes = Accepts-accepts false any_u64 t (parsed.0.0, parsed.0.1, omega arith, most) in
+    rw passes parsed.1
+text_number G only t None read = go (accepts false any_u64 t) refl
+  where
+    go : (b : Bool) → accepts false any_u64 t ≡ b → 0 ≡ number_in (Some t)
+    go true e =
+        let passes = accepts-Accepts false any_u64 t e in
+        absurd (only t (Err read.0) read.1 (passes.0, passes.1))
+    go false e = rw e refl
+
+-- a number that clap let through is read as `number_in` says
+pub number_of_text : {E : Type 0} (G : List ℕ → Result ℕ E → Type 0) → ((u : List ℕ) (x : Result ℕ E) → G u x → ParsesUnsigned 64 10 u x)
+    → (o : Option Text) (r : Option ℕ) → (o ≡ None → r ≡ None) → ((t : Text) → o ≡ Some t → ReadsOne G t r) → unwrap_or r 0 ≡ number_in o
+number_of_text G only None r none some = rw (none refl) refl
+number_of_text G only (Some t) r none some = text_number G only t r (some t refl)
+
+simple_shape : (modes managers : NameList) → is_simple (cf_app modes managers) ≡ true
+unfolding clap_on_literals
+simple_shape modes managers = refl
+
+free_shape : (modes managers : NameList) → is_simple_and_free (cf_app modes managers) ≡ true
+unfolding clap_on_literals
+free_shape modes managers = refl
+
+pub cf_is_simple : (app : _) → IsCfApp app → is_simple app ≡ true
+cf_is_simple app h = rw h.app_is (simple_shape h.modes h.managers)
+
+pub cf_is_free : (app : _) → IsCfApp app → is_simple_and_free app ≡ true
+cf_is_free app h = rw h.app_is (free_shape h.modes h.managers)
+
+-- an error of another kind than want of memory comes only where a fault is found
+pub another_kind_is_found : (kinds : Kinds) (e : Error) → HasKind kinds e → (kind_of e ≡ kind.OutOfMemory → ⊥) → kinds ≢ []
+another_kind_is_found [] e (inl wanting) other none = other wanting
+another_kind_is_found [] e (inr among) other none = among
+another_kind_is_found (k ∷ ks) e has other none = cc

@@ -1,0 +1,66 @@
+-- What the words choose, by `clap`'s definitions of the matches.
+use Rattle.std.specs.Prelude.{◌≡◌, ◌≢◌, ⊤, ℕ, List, [], Option, Some, None, Result, Ok, Err, codes, false, if◌then◌else◌}
+use Rattle.std.specs.Str.Parse.{digits_value, without_leading_plus}
+use Rattle.cf_base.specs.declared.kind.Kind.{Kind}
+use Rattle.cf_base.specs.declared.kind.Kind.TheVariants.{Moving}
+use Rattle.clap.specs.Words.{App, Row, Text, first_of, one_of, fault_of, matches_of}
+use Rattle.clap.specs.ValueTests.{accepts}
+use Rattle.command_line.specs.Command.{IsCfApp, any_u64}
+use Rattle.command_line.specs.declared.choice.Choice.{Choice}
+use Rattle.command_line.specs.declared.choice.Mode.{Mode}
+use Rattle.command_line.specs.declared.choice.Mode.TheVariants.{Run}
+use Rattle.command_line.specs.declared.choice.WordsFault.{WordsFault}
+use Rattle.command_line.specs.declared.choice.WordsFault.TheVariants.{Refused, OutOfMemory}
+
+-- the mode of a name; the command lets no other name through
+abbrev pub mode_named : Option Text → Mode
+mode_named name = Run
+
+-- the kind of a name; the command lets no other name through
+abbrev pub kind_named : Option Text → Kind
+kind_named name = Moving
+
+-- the number that a text says, as `clap` reads a u64; the command lets no other text through
+abbrev pub number_in : Option Text → ℕ
+number_in None = 0
+number_in (Some text) = if accepts false any_u64 text then digits_value 10 (without_leading_plus text) else 0
+
+-- what the rows of the matches choose
+abbrev pub choice_of : List Row → Choice
+choice_of rows = record {
+  mode = mode_named (first_of (codes "mode") rows);
+  kind = kind_named (first_of (codes "manager") rows);
+  seed = number_in (one_of (codes "seed") rows);
+  count = number_in (one_of (codes "count") rows);
+}
+
+-- the command finds no fault in the words, and they choose this
+pub record Chooses (words : List Text) (choice : Choice) : Type 0 where
+  pub app : App
+  pub is_app : IsCfApp app
+  pub taken : fault_of app words ≡ []
+  pub chosen : choice ≡ choice_of (matches_of app words)
+
+-- the command finds a fault in the words
+pub record AreRefused (words : List Text) : Type 0 where
+  pub app : App
+  pub is_app : IsCfApp app
+  pub refused : fault_of app words ≢ []
+
+-- the words choose this, or are refused; want of memory may always come
+abbrev pub ReadsAs : List Text → Result Choice WordsFault → Type 0
+ReadsAs words (Ok choice) = Chooses words choice
+ReadsAs words (Err Refused) = AreRefused words
+ReadsAs words (Err OutOfMemory) = ⊤
+
+-- whatever references it has, the command finds no fault in the words, and they choose this
+abbrev pub AlwaysChoose : List Text → Choice → Type 0
+AlwaysChoose words choice = (app : App) → IsCfApp app → (fault_of app words ≡ []) × (choice_of (matches_of app words) ≡ choice)
+
+-- whatever references it has, the command finds a fault in the words
+abbrev pub AreAlwaysRefused : List Text → Type 0
+AreAlwaysRefused words = (app : App) → IsCfApp app → fault_of app words ≢ []
+
+-- a run of the moving manager, with this seed and this count
+abbrev pub chosen : ℕ → ℕ → Choice
+chosen seed count = record { mode = Run; kind = Moving; seed = seed; count = count }

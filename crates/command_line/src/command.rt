@@ -1,0 +1,77 @@
+//! The one command that reads the words, and its arguments.
+ghost use Rattle.std.specs.Prelude.{◌≡◌, IfOk, codes, false};
+ghost use Rattle.clap.specs.Words.{app_of, rule_of};
+ghost use Rattle.command_line.specs.Command.{IsCfApp, count_rule, manager_rule, mode_rule, seed_rule};
+ghost use Rattle.command_line.specs.Command.{manager_names, mode_names, texts_of};
+
+use clap::{Arg, Command, value_parser};
+use std::alloc::{AllocError, Global};
+
+static MODES: [&str; 1] = ["run"];
+
+static MANAGERS: [&str; 1] = ["cf"];
+
+fn modes<'a>() -> &'a [&'a str]
+    ensures { texts_of result ≡ mode_names }
+{
+    MODES.as_slice()
+}
+
+fn managers<'a>() -> &'a [&'a str]
+    ensures { texts_of result ≡ manager_names }
+{
+    MANAGERS.as_slice()
+}
+
+fn mode_arg<'a>(alloc: Global, names: &'a [&'a str]) -> Arg<'a>
+    ensures rule { rule_of result ≡ mode_rule names.entry }
+    ensures local { result.global ≡ false }
+{
+    Arg::new(alloc, "mode")
+        .value_parser(names)
+        .default_value("run")
+}
+
+fn manager_arg<'a>(alloc: Global, names: &'a [&'a str]) -> Arg<'a>
+    ensures rule { rule_of result ≡ manager_rule names.entry }
+    ensures local { result.global ≡ false }
+{
+    Arg::new(alloc, "manager")
+        .long("manager")
+        .value_parser(names)
+        .default_value("cf")
+}
+
+fn seed_arg<'a>(alloc: Global) -> Arg<'a>
+    ensures rule { rule_of result ≡ seed_rule }
+    ensures local { result.global ≡ false }
+{
+    Arg::new(alloc, "seed")
+        .long("seed")
+        .value_parser(value_parser!(u64))
+        .default_value("0")
+}
+
+fn count_arg<'a>(alloc: Global) -> Arg<'a>
+    ensures rule { rule_of result ≡ count_rule }
+    ensures local { result.global ≡ false }
+{
+    Arg::new(alloc, "count")
+        .long("count")
+        .value_parser(value_parser!(u64).range(..=1_000_000))
+        .default_value("1000")
+}
+
+/// The command: MODE, `--manager`, `--seed` and `--count`, with their values, ranges and defaults,
+/// and nothing else.
+pub fn cf_command<'a>(alloc: Global) -> Result<Command<'a>, AllocError>
+    ensures { IfOk result (λ command. IsCfApp (app_of command)) }
+{
+    let mode = mode_arg(alloc, modes());
+    let manager = manager_arg(alloc, managers());
+    Command::new(alloc, "cf_tool")
+        .arg(mode)?
+        .arg(manager)?
+        .arg(seed_arg(alloc))?
+        .arg(count_arg(alloc))
+}

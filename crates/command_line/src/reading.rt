@@ -1,0 +1,60 @@
+//! The words of the command line to a choice.
+ghost use Rattle.std.specs.Prelude.{◌≡◌, map, option_map, string_bytes};
+ghost use Rattle.clap.specs.Words.{found_of, one_text};
+ghost use Rattle.command_line.specs.Choices.{ReadsAs, kind_named as kind_by, mode_named as mode_by};
+ghost use Rattle.command_line.specs.Choices.{number_in as number_by};
+
+use crate::choice::{Choice, Mode, WordsFault};
+use crate::command::cf_command;
+use cf_base::Kind;
+use clap::ArgMatches;
+use clap::error::ErrorKind;
+use std::alloc::Global;
+
+/// The mode of a name. A later mode is one more branch here and one more name in the command.
+fn mode_named(name: Option<&str>) -> Mode
+    ensures { result ≡ mode_by (option_map (λ s. s.now) name.entry) }
+{
+    match name {
+        _ => Mode::Run,
+    }
+}
+
+/// The kind of a name. A later kind is one more branch here and one more name in the command.
+fn kind_named(name: Option<&str>) -> Kind
+    ensures { result ≡ kind_by (option_map (λ s. s.now) name.entry) }
+{
+    match name {
+        _ => Kind::Moving,
+    }
+}
+
+fn number_in(matches: &ArgMatches<'_>, id: &str) -> u64
+    ensures { result ≡ number_by (one_text (found_of matches.now) id.now) }
+{
+    matches.get_one::<u64>(id).unwrap_or(0)
+}
+
+/// What the words of the command line choose, of which the first is the program's name. They are
+/// refused exactly where `clap` refuses them for another cause than memory.
+// a goal that no proof answers is refused at once: a search for a command would be long
+#[tactic(none)]
+pub fn read_words(alloc: Global, words: &[String]) -> Result<Choice, WordsFault>
+    ensures { ReadsAs (map (λ word. string_bytes word) words.now) result }
+{
+    let Ok(command) = cf_command(alloc) else {
+        return Err(WordsFault::OutOfMemory);
+    };
+    match command.try_get_matches_from(words) {
+        Ok(matches) => Ok(Choice {
+            mode: mode_named(matches.get_str("mode")),
+            kind: kind_named(matches.get_str("manager")),
+            seed: number_in(&matches, "seed"),
+            count: number_in(&matches, "count"),
+        }),
+        Err(error) => match error.kind() {
+            ErrorKind::OutOfMemory => Err(WordsFault::OutOfMemory),
+            _ => Err(WordsFault::Refused),
+        },
+    }
+}

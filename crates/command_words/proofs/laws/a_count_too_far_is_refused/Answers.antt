@@ -1,5 +1,0 @@
-use Rattle.command_words.proofs.KnownWords.{count_too_far}
-use Rattle.command_words.proofs.laws.a_count_too_far_is_refused.Goals as goal
-
-pub returns : goal.returns
-returns c = count_too_far

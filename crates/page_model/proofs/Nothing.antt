@@ -1,0 +1,45 @@
+-- Nothing held is a sound arrangement, on no page, and its words are zeros.
+use Rattle.std.proofs.Common.{◌≡◌, ℕ, Some, None, length, replicate, arith, sym, ◌∙◌, inl, inr}
+use Rattle.std.specs.List.{range_with_len}
+use Rattle.std.proofs.lemmas.Bool.{cases_lt}
+use Rattle.std.proofs.lemmas.List.{get_or-replicate, get_or_past, length-replicate}
+use Rattle.std.specs.Ordering.{nat_cmp}
+use Rattle.std.specs.FinMap.{get, empty, get-empty}
+use Rattle.page_model.specs.Held.{Placed}
+use Rattle.page_model.specs.Paging.{Paging, classes, slots_of}
+use Rattle.page_model.specs.Arrangement.{objects_on, home_pages, not_full_pages, used_pages, IsSound}
+use Rattle.page_model.specs.Image.{IsImageOver}
+use Rattle.page_model.proofs.Counting.{part_empty, lt_no}
+use Rattle.page_model.proofs.Totals.{sum_zeros, on_none}
+
+no_object : (h : ℕ) (x : Placed) → get {R = nat_cmp} empty h ≡ Some x → ⊥
+no_object h x e = absurd (let n : get {X = Placed} {R = nat_cmp} empty h ≡ None = get-empty nat_cmp h in let z : Some x ≡ None = sym e ∙ n in cc)
+
+pub none_not_full : (p : Paging) (c : ℕ) → not_full_pages p empty c ≡ 0
+unfolding not_full_pages
+none_not_full p c = sum_zeros _ (range_with_len 0 p.pages) (λ g. part_empty _ (slots_of p c) (on_none p c g))
+
+pub none_home : (p : Paging) (c : ℕ) → home_pages p empty c ≡ 0
+unfolding home_pages
+none_home p c = sum_zeros _ (range_with_len 0 p.pages) (λ g. (let e = on_none p c g in lt_no 0 (objects_on p empty c g) (omega arith)))
+
+pub none_used : (p : Paging) → used_pages p empty ≡ 0
+unfolding used_pages
+none_used p = sum_zeros (home_pages p empty) (range_with_len 0 (classes p)) (none_home p)
+
+pub sound_empty : (p : Paging) → IsSound p empty
+sound_empty p = record {
+  slots = λ h x e. absurd (no_object h x e);
+  own_place = λ h x q y e f ne. absurd (no_object h x e);
+  one_class = λ h x q y e f. absurd (no_object h x e);
+  few_not_full = λ c lt. (let z = none_not_full p c in omega arith);
+}
+
+pub image_empty : (extent : ℕ → ℕ) (n : ℕ) → IsImageOver extent empty (replicate n 0)
+image_empty extent n = record {
+  held = λ h x e. absurd (no_object h x e);
+  zeros = λ w _. elim (cases_lt w n) [
+    | inl lt ↦ get_or-replicate {A = ℕ} n w 0 0 lt
+    | inr past ↦ (let len : length (replicate {A = ℕ} n 0) ≡ n = length-replicate {A = ℕ} n 0 in get_or_past {X = ℕ} (replicate n 0) w 0 (omega arith))
+  ];
+}

@@ -1,0 +1,100 @@
+-- A sound arrangement has as many pages of a class as its objects can stand on.
+use Rattle.std.proofs.Common.{◌≡◌, ℕ, zero, suc, ◌+◌, ◌-◌, ◌*◌, ◌/◌, ◌%◌, ◌<◌, ◌≤◌, ◌∷◌, arith, sym, ◌∙◌, inl, inr}
+use Rattle.std.specs.Prelude.{sum_by, count_by, nat_lt}
+use Rattle.std.specs.List.{range_with_len}
+use Rattle.std.proofs.lemmas.List.Sums.{sum_by-cons}
+use Rattle.std.proofs.lemmas.Bool.{cases_eq, cases_lt}
+use Rattle.std.proofs.lemmas.Nat.{div-add-mod'}
+use Rattle.std.proofs.Math.Nat.{mod-lt}
+use Rattle.cf_lemmas.proofs.Ranges.{one}
+use Rattle.page_model.specs.Held.{Held, objects}
+use Rattle.page_model.specs.Paging.{Paging, IsPaging, classes, slot_words, slots_of, bound_of}
+use Rattle.page_model.specs.Counts.{Stand, CanHold}
+use Rattle.page_model.specs.Arrangement.{objects_on, not_full_pages, home_pages, live, IsSound}
+use Rattle.page_model.proofs.Counting.{part_full, part_yes, part_empty, part_over, lt_yes, lt_no}
+use Rattle.page_model.proofs.PageLaws.{can_hold_bound}
+use Rattle.page_model.proofs.Totals.{page_within, live_by_pages, live_is}
+
+-- m objects fit on a page, and on p objects stand on page p
+module _ (on : ℕ → ℕ) (m : ℕ) (some : 0 < m) where
+  -- pages that hold something; that hold something and aren't full
+  abbrev pub home : ℕ → ℕ → ℕ
+  home a n = count_by (λ p. nat_lt 0 (on p)) (range_with_len a n)
+
+  abbrev pub part : ℕ → ℕ → ℕ
+  part a n = count_by (λ p. part_full (on p) m) (range_with_len a n)
+
+  -- the objects on n pages from a on, of which f are full
+  pub record Stands (a n f : ℕ) : Type 0 where
+    pub all : home a n ≡ f + part a n
+    pub least : f * m + part a n ≤ sum_by on (range_with_len a n)
+    pub most : sum_by on (range_with_len a n) ≤ f * m + part a n * (m - 1)
+
+  pub stands : (a n : ℕ) → ((p : ℕ) → on p ≤ m) → (f : ℕ) × Stands a n f
+  stands a zero few = (0, record { all = omega arith; least = omega arith; most = omega arith })
+  stands a (suc n) few =
+      let r = range_with_len (a + 1) n in
+      let s = stands (a + 1) n few in
+      let all = s.1.all in let least = s.1.least in let most = s.1.most in
+      let x : home a (suc n) ≡ one (nat_lt 0 (on a)) + home (a + 1) n = sum_by-cons (λ p. one (nat_lt 0 (on p))) a r in
+      let y : part a (suc n) ≡ one (part_full (on a) m) + part (a + 1) n = sum_by-cons (λ p. one (part_full (on p) m)) a r in
+      let z : sum_by on (a ∷ r) ≡ on a + sum_by on r = sum_by-cons on a r in
+      elim (cases_eq (on a) 0) [
+        | inl none ↦ (
+            let u = lt_no 0 (on a) (omega arith) in let v = part_empty (on a) m none in
+            (s.0, record { all = omega arith; least = omega arith; most = (let e : part a (suc n) ≡ part (a + 1) n = omega arith in rw (z, e) (omega arith)) }))
+        | inr ne ↦ elim (cases_lt (on a) m) [
+          | inl less ↦ (
+              let u = lt_yes 0 (on a) (omega arith) in let v = part_yes (on a) m (omega arith) less in
+              let e : part a (suc n) ≡ part (a + 1) n + 1 = omega arith in
+              (s.0, record { all = omega arith; least = omega arith; most = rw (z, e) (omega arith) }))
+          | inr full ↦ (
+              let u = lt_yes 0 (on a) (omega arith) in let v = part_over (on a) m full in
+              let e : part a (suc n) ≡ part (a + 1) n = omega arith in
+              let k : on a ≡ m = omega (arith, few a) in
+              (s.0 + 1, record { all = omega arith; least = omega arith; most = rw (z, e) (omega arith) }))
+        ]
+      ]
+
+stand_from : (home part full total live m k : ℕ) → home ≡ full + part → full * m + part ≤ total → total ≤ full * m + part * (m - 1) → total ≡ live → part ≤ k → Stand home live m k part
+stand_from home part full total live m k all least most is few =
+    let e : home - part ≡ full = omega arith in
+    record { few = few; within = omega arith; least = rw (e, ← is) least; most = rw (e, ← is) most }
+
+-- a size that fits has a slot on a page
+pub some_slots : (P size : ℕ) → 0 < size → size ≤ P → 0 < P / size
+some_slots P size pos fits = elim (cases_lt 0 (P / size)) [
+  | inl lt ↦ lt
+  | inr under ↦ absurd (
+      let e = div-add-mod' P size in
+      let r = mod-lt P pos in
+      let z : P / size ≡ 0 = omega arith in
+      let f : 0 * size + P % size ≡ P = rw z at e in
+      omega arith)
+]
+
+module _ (p : Paging) (ok : IsPaging p) (c : ℕ) (lt : c < classes p) where
+  pub size_some : 0 < slot_words p c
+  size_some = (let l = ok.sized.least c lt in omega arith)
+
+  pub slots_some : 0 < slots_of p c
+  slots_some = some_slots p.page_words (slot_words p c) size_some (ok.sized.fits c lt)
+
+  module _ (m : Held) (s : IsSound p m) where
+    pub within : (page : ℕ) → objects_on p m c page ≤ slots_of p c
+    within page = page_within p c page m size_some s
+
+    -- the pages of the class are those that are not full and those that are
+    pub sound_stand : Stand (home_pages p m c) (live p (objects m) c) (slots_of p c) (bound_of p c) (not_full_pages p m c)
+    unfolding home_pages not_full_pages
+    sound_stand =
+        let st = stands (objects_on p m c) (slots_of p c) slots_some 0 p.pages within in
+        let count = live_by_pages p c m (λ q x f. (s.slots q x f).page) ∙ sym (live_is p c m) in
+        stand_from _ _ st.0 _ _ (slots_of p c) (bound_of p c) st.1.all st.1.least st.1.most count (s.few_not_full c lt)
+
+    pub sound_can_hold : CanHold (home_pages p m c) (live p (objects m) c) (slots_of p c) (bound_of p c)
+    sound_can_hold = (not_full_pages p m c, sound_stand)
+
+    -- the pages of a class are no more than those that its objects fill, and its bound
+    pub sound_few : home_pages p m c ≤ live p (objects m) c / slots_of p c + bound_of p c
+    sound_few = can_hold_bound (home_pages p m c) (live p (objects m) c) (slots_of p c) (bound_of p c) slots_some sound_can_hold

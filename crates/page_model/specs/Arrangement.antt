@@ -1,0 +1,74 @@
+-- Which places objects may have, and the pages that they take.
+use Rattle.std.specs.Prelude.{◌≡◌, ◌≢◌, ℕ, Bool, ◌&&◌, ◌+◌, ◌-◌, ◌%◌, ◌≤◌, ◌<◌, Some, length, filter, not, nat_lt, nat_eq, count_by, sum_by, cond}
+use Rattle.std.specs.List.{range_with_len}
+use Rattle.std.specs.FinMap.{get, values}
+use Rattle.page_model.specs.Held.{Held, Objects, Placed}
+use Rattle.page_model.specs.Paging.{Paging, classes, slot_words, slots_of, bound_of, class_for, page_of}
+use Rattle.page_model.specs.Counts.{ceil_div, most_pages}
+
+-- the class of an object
+abbrev pub class_at : Paging → Placed → ℕ
+class_at p x = class_for p (length x.bytes)
+
+-- how many objects have class c
+unfoldable pub live : Paging → Objects → ℕ → ℕ
+live p objects c = count_by (λ v. nat_eq (class_for p (length v)) c) (values objects)
+
+-- whether x is of class c and stands on the page
+abbrev pub is_on : Paging → ℕ → ℕ → Placed → Bool
+is_on p c page x = nat_eq (page_of p x.place) page && nat_eq (class_at p x) c
+
+-- how many objects of class c stand on the page
+unfoldable pub objects_on : Paging → Held → ℕ → ℕ → ℕ
+objects_on p m c page = count_by (is_on p c page) (values m)
+
+-- how many objects stand on the page, of whatever class
+unfoldable pub standing_on : Paging → Held → ℕ → ℕ
+standing_on p m page = count_by (λ (x : Placed). nat_eq (page_of p x.place) page) (values m)
+
+-- how many pages hold an object of class c
+unfoldable pub home_pages : Paging → Held → ℕ → ℕ
+home_pages p m c = count_by (λ page. nat_lt 0 (objects_on p m c page)) (range_with_len 0 p.pages)
+
+-- how many pages hold an object of class c, and fewer than they could
+unfoldable pub not_full_pages : Paging → Held → ℕ → ℕ
+not_full_pages p m c = count_by (λ page. nat_lt 0 (objects_on p m c page) && nat_lt (objects_on p m c page) (slots_of p c)) (range_with_len 0 p.pages)
+
+-- the pages in use: the home pages of all classes
+unfoldable pub used_pages : Paging → Held → ℕ
+used_pages p m = sum_by (home_pages p m) (range_with_len 0 (classes p))
+
+-- the pages that are not in use
+abbrev pub free_pages : Paging → Held → ℕ
+free_pages p m = p.pages - used_pages p m
+
+-- the pages that the objects need by arithmetic: in each class the objects over the slots, rounded up
+unfoldable pub pages_needed : Paging → Objects → ℕ
+pages_needed p objects = sum_by (λ c. ceil_div (live p objects c) (slots_of p c)) (range_with_len 0 (classes p))
+
+-- the same with one more object of n bytes
+unfoldable pub pages_needed_with : Paging → Objects → ℕ → ℕ
+pages_needed_with p objects n = sum_by (λ c. ceil_div (live p objects c + cond (nat_eq (class_for p n) c) 1 0) (slots_of p c)) (range_with_len 0 (classes p))
+
+-- the most pages that the objects of the classes other than c can stand on
+unfoldable pub most_pages_besides : Paging → Objects → ℕ → ℕ
+most_pages_besides p objects c = sum_by (λ d. most_pages (live p objects d) (slots_of p d) (bound_of p d)) (filter (λ d. not (nat_eq d c)) (range_with_len 0 (classes p)))
+
+-- a slot of class c begins at the address
+pub record IsSlotAt (p : Paging) (c a : ℕ) : Type 0 where
+  pub class : c < classes p
+  pub page : page_of p a < p.pages
+  pub aligned : a % p.page_words % slot_words p c ≡ 0
+  pub fits : a % p.page_words + slot_words p c ≤ p.page_words
+
+-- Each object stands in a slot of its class, no two at one place, those of one page in one class; and no class has more pages that are not full than its bound.
+pub record IsSound (p : Paging) (m : Held) : Type 0 where
+  pub slots : (h : ℕ) (x : Placed) → get m h ≡ Some x → IsSlotAt p (class_at p x) x.place
+  pub own_place : (h : ℕ) (x : Placed) (q : ℕ) (y : Placed) → get m h ≡ Some x → get m q ≡ Some y → q ≢ h → x.place ≢ y.place
+  pub one_class : (h : ℕ) (x : Placed) (q : ℕ) (y : Placed) → get m h ≡ Some x → get m q ≡ Some y → page_of p x.place ≡ page_of p y.place → class_at p x ≡ class_at p y
+  pub few_not_full : (c : ℕ) → c < classes p → not_full_pages p m c ≤ bound_of p c
+
+-- there is no room for class c: none of its pages is not full, and every page holds an object
+pub record LacksRoom (p : Paging) (m : Held) (c : ℕ) : Type 0 where
+  pub full : not_full_pages p m c ≡ 0
+  pub taken : (page : ℕ) → page < p.pages → 0 < standing_on p m page

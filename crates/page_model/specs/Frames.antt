@@ -1,0 +1,55 @@
+-- The block permutation of the non-moving manager. A block is four words; virtual block v stands at physical block `frames[v]`.
+use Rattle.std.specs.Prelude.{◌≡◌, ℕ, ◌+◌, ◌*◌, ◌/◌, ◌%◌, ◌<◌, List, Option, Some, None, length, slice_index}
+use Rattle.std.specs.List.{range_with_len}
+use Rattle.std.specs.FinMap.{get}
+use Rattle.cf_lemmas.specs.Exchanges.{exchanged}
+use Rattle.page_model.specs.Held.{Held, Placed}
+use Rattle.page_model.specs.Paging.{IsPaging, Paging, slot_words}
+use Rattle.page_model.specs.Arrangement.{IsSound, class_at}
+use Rattle.page_model.specs.Steps.{Outcome}
+
+-- the numbers below n, each at its own place
+abbrev pub first_frames : ℕ → List ℕ
+first_frames n = range_with_len 0 n
+
+-- a list of numbers below its length, none of them twice
+pub record IsPermuted (frames : List ℕ) : Type 0 where
+  pub below : (v : ℕ) → v < length frames → slice_index frames v < length frames
+  pub once : (v w : ℕ) → v < length frames → w < length frames → slice_index frames v ≡ slice_index frames w → v ≡ w
+
+-- an object was at y and is at z: the blocks of its slot have changed places with those where it now stands
+abbrev pub frames_moved : Paging → Option Placed → Option Placed → List ℕ → List ℕ
+frames_moved p None z frames = frames
+frames_moved p (Some y) None frames = frames
+frames_moved p (Some y) (Some z) frames = exchanged frames (y.place / 4) (z.place / 4) (slot_words p (class_at p y) / 4)
+
+-- the object under a number, where there is one
+abbrev pub found : Held → Option ℕ → Option Placed
+found m None = None
+found m (Some q) = get m q
+
+-- the frames after a step: only an object that moved exchanges blocks
+abbrev pub frames_after : Paging → Held → Outcome → List ℕ → List ℕ
+frames_after p old after frames = frames_moved p (found old after.moved) (found after.held after.moved) frames
+
+-- the physical block of block i of an object at a place
+abbrev pub block_of : List ℕ → ℕ → ℕ → ℕ
+block_of frames a i = slice_index frames (a / 4 + i)
+
+-- word 4v+j of the region stands at word j of physical block `frames[v]`
+pub record IsPhysical (frames words physical : List ℕ) : Type 0 where
+  pub count : length physical ≡ 4 * length frames
+  pub word : (v j : ℕ) → v < length frames → j < 4 → slice_index physical (4 * slice_index frames v + j) ≡ slice_index words (4 * v + j)
+
+-- pages and slots are whole blocks
+pub record AreBlocks (p : Paging) : Type 0 where
+  pub page : p.page_words % 4 ≡ 0
+  pub slot : (c : ℕ) → slot_words p c % 4 ≡ 0
+
+-- A sound arrangement in whole blocks, and as many frames as the region has blocks, each number once.
+pub record AreFramed (p : Paging) (m : Held) (frames : List ℕ) : Type 0 where
+  pub paged : IsPaging p
+  pub blocks : AreBlocks p
+  pub sound : IsSound p m
+  pub count : length frames ≡ p.pages * p.page_words / 4
+  pub permuted : IsPermuted frames

@@ -1,0 +1,81 @@
+-- The words of a region that holds objects.
+use Rattle.std.specs.Prelude.{◌≡◌, ◌≢◌, ℕ, zero, suc, ◌+◌, ◌*◌, ◌^◌, ◌≤◌, ◌<◌, ◌⊎◌, List, [], ◌∷◌, Some, length, take, drop, slice_index}
+use Rattle.std.specs.FinMap.{get}
+use Rattle.cf_base.specs.Classes.{need}
+use Rattle.page_model.specs.Held.{Held, Placed}
+use Rattle.page_model.specs.Paging.{Paging, slot_words, class_for}
+
+-- bytes as a number, the least first
+abbrev pub word_of_bytes : List ℕ → ℕ
+word_of_bytes [] = 0
+word_of_bytes (b ∷ bs) = b + 256 * word_of_bytes bs
+
+-- the header of an object: its number, and its length in bytes
+abbrev pub header_word : ℕ → ℕ → ℕ
+header_word h n = h + 2 ^ 32 * n
+
+-- word i of object h with bytes v: its header, then its bytes, eight to a word, then zeros
+abbrev pub object_word : ℕ → List ℕ → ℕ → ℕ
+object_word h v zero = header_word h (length v)
+object_word h v (suc i) = word_of_bytes (take 8 (drop (8 * i) v))
+
+-- w is none of the n words from a on
+abbrev pub IsOutside : ℕ → ℕ → ℕ → Type 0
+IsOutside a n w = (w < a) ⊎ (a + n ≤ w)
+
+-- the n words from a on and the m words from b on have none in common
+abbrev pub IsDisjoint : ℕ → ℕ → ℕ → ℕ → Type 0
+IsDisjoint a n b m = (a + n ≤ b) ⊎ (b + m ≤ a)
+
+-- the words of the slot of an object of n bytes
+abbrev pub slot_for : Paging → ℕ → ℕ
+slot_for p n = slot_words p (class_for p n)
+
+-- w is outside the words of x, of which an object of n bytes has `extent n`
+abbrev pub IsOutsideOf : (ℕ → ℕ) → Placed → ℕ → Type 0
+IsOutsideOf extent x w = IsOutside x.place (extent (length x.bytes)) w
+
+-- the two objects have no word in common
+abbrev pub AreDisjoint : (ℕ → ℕ) → Placed → Placed → Type 0
+AreDisjoint extent x y = IsDisjoint x.place (extent (length x.bytes)) y.place (extent (length y.bytes))
+
+-- The words of each object stand at its place, and every other word is 0. An object of n bytes has `extent n` words: at `need` its own, at `slot_for` those of its slot, where zeros follow.
+pub record IsImageOver (extent : ℕ → ℕ) (m : Held) (words : List ℕ) : Type 0 where
+  pub held : (h : ℕ) (x : Placed) → get m h ≡ Some x → (i : ℕ) → i < extent (length x.bytes) → slice_index words (x.place + i) ≡ object_word h x.bytes i
+  pub zeros : (w : ℕ) → ((h : ℕ) (x : Placed) → get m h ≡ Some x → IsOutsideOf extent x w) → slice_index words w ≡ 0
+
+-- the words of the region are those of the objects, and zeros
+abbrev pub IsImage : Held → List ℕ → Type 0
+IsImage m words = IsImageOver need m words
+
+-- the same, with the whole slot of each object
+abbrev pub IsSlotImage : Paging → Held → List ℕ → Type 0
+IsSlotImage p m words = IsImageOver (slot_for p) m words
+
+-- no two objects share a word
+pub record IsApart (extent : ℕ → ℕ) (m : Held) : Type 0 where
+  pub pairs : (h : ℕ) (x : Placed) (q : ℕ) (y : Placed) → get m h ≡ Some x → get m q ≡ Some y → q ≢ h → AreDisjoint extent x y
+
+-- x shares no word with an object other than h
+abbrev pub IsApartFrom : (ℕ → ℕ) → Held → ℕ → Placed → Type 0
+IsApartFrom extent m h x = (q : ℕ) (y : Placed) → get m q ≡ Some y → q ≢ h → AreDisjoint extent x y
+
+-- the words from a on
+pub record Run : Type 0 where
+  pub from : ℕ
+  pub count : ℕ
+
+-- the words of a run become f 0, f 1 and so on, and every other word stays
+pub record Rewrites (old new : List ℕ) (run : Run) (f : ℕ → ℕ) : Type 0 where
+  pub within : (i : ℕ) → i < run.count → slice_index new (run.from + i) ≡ f i
+  pub others : (w : ℕ) → IsOutside run.from run.count w → slice_index new w ≡ slice_index old w
+
+-- the words of a run become zeros
+abbrev pub Clears : List ℕ → List ℕ → Run → Type 0
+Clears old new run = Rewrites old new run (λ _. 0)
+
+-- the words of a run go to b, where nothing stood, and leave zeros behind
+pub record MovesWords (old new : List ℕ) (run : Run) (b : ℕ) : Type 0 where
+  pub arrived : (i : ℕ) → i < run.count → slice_index new (b + i) ≡ slice_index old (run.from + i)
+  pub left_zeros : (i : ℕ) → i < run.count → slice_index new (run.from + i) ≡ 0
+  pub others : (w : ℕ) → IsOutside run.from run.count w → IsOutside b run.count w → slice_index new w ≡ slice_index old w

@@ -1,0 +1,99 @@
+-- The steps of an arrangement: malloc, free and resize.
+use Rattle.std.specs.Prelude.{◌≡◌, ◌≢◌, ℕ, ◌⊎◌, ◌-◌, ◌<◌, List, ◌++◌, Option, Some, None, length, take, replicate}
+use Rattle.std.specs.FinMap.{get, insert, remove}
+use Rattle.page_model.specs.Held.{Held, Placed}
+use Rattle.page_model.specs.Paging.{Paging, slots_of, bound_of, class_for, page_of}
+use Rattle.page_model.specs.Arrangement.{class_at, objects_on, standing_on, not_full_pages, IsSlotAt}
+
+-- an object that is asked for, or asked to change: its number, and its length in bytes
+pub record Request : Type 0 where
+  pub number : ℕ
+  pub length : ℕ
+
+-- what a step leaves: the objects, and the other object that moved, if one did
+pub record Outcome : Type 0 where
+  pub held : Held
+  pub moved : Option ℕ
+
+-- An object of n bytes may be placed at the address: in a slot that is free, on a page of its class that is not full, or where there is none on a page that holds nothing.
+pub record IsFreePlace (p : Paging) (m : Held) (n a : ℕ) : Type 0 where
+  pub slot : IsSlotAt p (class_for p n) a
+  pub unused : (q : ℕ) (y : Placed) → get m q ≡ Some y → y.place ≢ a
+  pub choice : ((0 < objects_on p m (class_for p n) (page_of p a)) × (objects_on p m (class_for p n) (page_of p a) < slots_of p (class_for p n)))
+      ⊎ ((not_full_pages p m (class_for p n) ≡ 0) × (standing_on p m (page_of p a) ≡ 0))
+
+-- so many zeros at a place
+abbrev pub zeros_at : ℕ → ℕ → Placed
+zeros_at a n = record { place = a; bytes = replicate n 0 }
+
+-- a malloc: zeros come to a free place under a number that wasn't in use
+pub record IsMallocStep (p : Paging) (old : Held) (asked : Request) (new : Held) : Type 0 where
+  pub place : ℕ
+  pub unused : get old asked.number ≡ None
+  pub free : IsFreePlace p old asked.length place
+  pub placed : new ≡ insert old asked.number (zeros_at place asked.length)
+
+-- A free of x moves an object: its page is full and has more than one slot, and its class has as many pages that are not full as it may.
+pub record MustMove (p : Paging) (m : Held) (x : Placed) : Type 0 where
+  pub full : objects_on p m (class_at p x) (page_of p x.place) ≡ slots_of p (class_at p x)
+  pub several : 1 < slots_of p (class_at p x)
+  pub many : not_full_pages p m (class_at p x) ≡ bound_of p (class_at p x)
+
+-- y is of the class of x, on a page that is not full
+pub record MayFill (p : Paging) (m : Held) (x y : Placed) : Type 0 where
+  pub class : class_at p y ≡ class_at p x
+  pub not_full : objects_on p m (class_at p x) (page_of p y.place) < slots_of p (class_at p x)
+
+-- a free of x moves this object, or none
+abbrev pub Moves : Paging → Held → Placed → Option ℕ → Type 0
+Moves p m x None = MustMove p m x → ⊥
+Moves p m x (Some q) = MustMove p m x × ((y : Placed) × (get m q ≡ Some y) × MayFill p m x y)
+
+-- the same objects, with this one at another place
+abbrev pub moved_to : Held → ℕ → Option Placed → ℕ → Held
+moved_to m q None a = m
+moved_to m q (Some y) a = insert m q (record { place = a; bytes = y.bytes })
+
+-- without object h, whose place is then that of the object that moved
+abbrev pub without : Held → ℕ → ℕ → Option ℕ → Held
+without m h a None = remove m h
+without m h a (Some q) = moved_to (remove m h) q (get m q) a
+
+-- a free: the object goes, and where it must be so one object of its class takes its place
+pub record IsFreeStep (p : Paging) (old : Held) (h : ℕ) (after : Outcome) : Type 0 where
+  pub freed : Placed
+  pub found : get old h ≡ Some freed
+  pub moves : Moves p old freed after.moved
+  pub left : after.held ≡ without old h freed.place after.moved
+
+-- the first n bytes, filled up with zeros
+abbrev pub resized : List ℕ → ℕ → List ℕ
+resized v n = take n v ++ replicate (n - length v) 0
+
+-- the object that a resize gives, at a place
+abbrev pub resized_at : ℕ → Placed → ℕ → Placed
+resized_at a x n = record { place = a; bytes = resized x.bytes n }
+
+-- A resize within the class: the place stays.
+pub record ResizesInPlace (p : Paging) (old : Held) (asked : Request) (after : Outcome) : Type 0 where
+  pub object : Placed
+  pub found : get old asked.number ≡ Some object
+  pub same : class_for p asked.length ≡ class_at p object
+  pub placed : after.held ≡ insert old asked.number (resized_at object.place object asked.length)
+  pub still : after.moved ≡ None
+
+-- A resize to another class: a malloc under a number that isn't in use, with the old object still there, then a free of the old object, and the new one gets its number.
+pub record ChangesClass (p : Paging) (old : Held) (asked : Request) (after : Outcome) : Type 0 where
+  pub object : Placed
+  pub found : get old asked.number ≡ Some object
+  pub other : class_for p asked.length ≢ class_at p object
+  pub place : ℕ
+  pub free : IsFreePlace p old asked.length place
+  pub spare : ℕ
+  pub unused : get old spare ≡ None
+  pub left : Held
+  pub freed : IsFreeStep p (insert old spare (resized_at place object asked.length)) asked.number (record { held = left; moved = after.moved })
+  pub renamed : after.held ≡ insert (remove left spare) asked.number (resized_at place object asked.length)
+
+abbrev pub IsResizeStep : Paging → Held → Request → Outcome → Type 0
+IsResizeStep p old asked after = ResizesInPlace p old asked after ⊎ ChangesClass p old asked after

@@ -1,0 +1,59 @@
+//! The blocks of objects in the non-moving manager.
+ghost use Rattle.std.specs.Prelude.{ℕ, ◌≡◌, ◌≢◌, ◌+◌, ◌*◌, ◌/◌, ◌%◌, ◌<◌, List, Some, length, slice_index};
+ghost use Rattle.std.specs.FinMap.{get};
+ghost use Rattle.page_model.specs.Frames.{IsPermuted, IsPhysical, AreFramed, block_of, first_frames, frames_after};
+ghost use Rattle.page_model.specs.Held.{Held, Placed};
+ghost use Rattle.page_model.specs.Image.{IsSlotImage, object_word, slot_for};
+ghost use Rattle.page_model.specs.Paging.{Paging};
+ghost use Rattle.page_model.specs.Steps.{IsFreeStep, IsResizeStep, Outcome, Request, ResizesInPlace};
+
+/// The frames of an empty heap, and those after each step, have every number once.
+pub fn frames_stay_permuted()
+    ensures first { (n : ℕ) → IsPermuted (first_frames n) × (length (first_frames n) ≡ n) }
+    ensures free { (p : Paging) (old : Held) (frames : List ℕ) (h : ℕ) (after : Outcome)
+        → AreFramed p old frames → IsFreeStep p old h after
+        → AreFramed p after.held (frames_after p old after frames) }
+    ensures resize { (p : Paging) (old : Held) (frames : List ℕ) (asked : Request) (after : Outcome)
+        → AreFramed p old frames → IsResizeStep p old asked after
+        → AreFramed p after.held (frames_after p old after frames) }
+{}
+
+/// Each block of an object stays the same while other objects are freed or resized, also where it
+/// moves, and while it is itself resized within its class. A malloc changes no frame and no place.
+pub fn blocks_of_others_stay()
+    ensures free { (p : Paging) (old : Held) (frames : List ℕ) (h : ℕ) (after : Outcome)
+        → AreFramed p old frames → IsFreeStep p old h after
+        → (q : ℕ) (y z : Placed) → q ≢ h → get old q ≡ Some y → get after.held q ≡ Some z
+        → (i : ℕ) → i < slot_for p (length y.bytes) / 4
+        → block_of (frames_after p old after frames) z.place i ≡ block_of frames y.place i }
+    ensures resize { (p : Paging) (old : Held) (frames : List ℕ) (asked : Request) (after : Outcome)
+        → AreFramed p old frames → IsResizeStep p old asked after
+        → (q : ℕ) (y z : Placed) → q ≢ asked.number
+        → get old q ≡ Some y → get after.held q ≡ Some z
+        → (i : ℕ) → i < slot_for p (length y.bytes) / 4
+        → block_of (frames_after p old after frames) z.place i ≡ block_of frames y.place i }
+    ensures same_class { (p : Paging) (old : Held) (frames : List ℕ) (asked : Request)
+        (after : Outcome)
+        → ResizesInPlace p old asked after
+        → (y z : Placed) → get old asked.number ≡ Some y → get after.held asked.number ≡ Some z
+        → (i : ℕ) → block_of (frames_after p old after frames) z.place i
+        ≡ block_of frames y.place i }
+{}
+
+/// No block is one of two live objects.
+pub fn live_objects_share_no_block()
+    ensures { (p : Paging) (m : Held) (frames : List ℕ) → AreFramed p m frames
+        → (h q : ℕ) (x y : Placed) → get m h ≡ Some x → get m q ≡ Some y → q ≢ h
+        → (i j : ℕ) → i < slot_for p (length x.bytes) / 4 → j < slot_for p (length y.bytes) / 4
+        → block_of frames x.place i ≢ block_of frames y.place j }
+{}
+
+/// Word i of an object's slot stands in word i modulo 4 of its block i / 4. So a step that keeps an
+/// object's blocks and bytes keeps its physical words.
+pub fn slots_stand_in_their_blocks()
+    ensures { (p : Paging) (m : Held) (frames words physical : List ℕ) → AreFramed p m frames
+        → IsSlotImage p m words → IsPhysical frames words physical
+        → (h i : ℕ) (x : Placed) → get m h ≡ Some x → i < slot_for p (length x.bytes)
+        → slice_index physical (4 * block_of frames x.place (i / 4) + i % 4)
+        ≡ object_word h x.bytes i }
+{}

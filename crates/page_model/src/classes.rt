@@ -1,0 +1,60 @@
+//! The sizes of slots, the class of a request, and the addresses of slots.
+ghost use Rattle.std.specs.Prelude.{ℕ, ◌≡◌, ◌*◌, ◌/◌, ◌%◌, ◌<◌, ◌≤◌, IsTrue, List, None, Some, length, slice_index};
+ghost use Rattle.cf_base.specs.Classes.{class_of, need, sizes};
+ghost use Rattle.cf_base.specs.Limits.{is_page_size};
+ghost use Rattle.cf_base.specs.Settings.{Profile};
+ghost use Rattle.cf_base.specs.declared.kind.Layout.{Layout};
+ghost use Rattle.cf_base.specs.declared.kind.Layout.TheVariants.{Blocks};
+ghost use Rattle.page_model.specs.Frames.{AreBlocks};
+ghost use Rattle.page_model.specs.Paging.{AreOne, IsPaging, Paging, address_of, class_for, classes, first_bounds, page_of, paging_of, slot_words, slots_of};
+ghost use Rattle.page_model.specs.Arrangement.{IsSlotAt};
+
+/// The slot sizes of a page rise from 4 words at least to the page, in words and in blocks, and
+/// each class has a bound: that of the settings, or another of at least 1.
+pub fn slot_sizes_rise()
+    ensures first { (s : Profile) (layout : Layout) → IsTrue (is_page_size s.page_words) → 1 ≤ s.k
+        → IsPaging (paging_of s layout (first_bounds s layout)) }
+    ensures bounded { (s : Profile) (layout : Layout) (bounds : List ℕ)
+        → IsTrue (is_page_size s.page_words)
+        → length bounds ≡ length (sizes s.page_words layout)
+        → ((c : ℕ) → c < length bounds → 1 ≤ slice_index bounds c)
+        → IsPaging (paging_of s layout bounds) }
+{}
+
+/// With the bound 1 in the settings every class has it; pages of whole blocks have slots of whole
+/// blocks; and a page has at most a slot for every four words.
+pub fn slots_are_few_and_in_blocks()
+    ensures ones { (s : Profile) (layout : Layout) → s.k ≡ 1
+        → AreOne (paging_of s layout (first_bounds s layout)) }
+    ensures blocks { (s : Profile) (bounds : List ℕ) → IsTrue (is_page_size s.page_words)
+        → AreBlocks (paging_of s Blocks bounds) }
+    ensures few { (p : Paging) (c : ℕ) → IsPaging p → c < classes p
+        → 4 * slots_of p c ≤ p.page_words }
+{}
+
+/// A request that fits a page has a class: the least whose slots hold it. One that doesn't fit has
+/// none.
+pub fn a_class_holds_its_requests()
+    ensures fits { (p : Paging) (n : ℕ) → IsPaging p → need n ≤ p.page_words
+        → class_for p n < classes p }
+    ensures holds { (p : Paging) (n : ℕ) → IsPaging p → class_for p n < classes p
+        → need n ≤ slot_words p (class_for p n) }
+    ensures least { (p : Paging) (n c : ℕ) → IsPaging p → c < class_for p n
+        → slot_words p c < need n }
+    ensures known { (p : Paging) (n : ℕ) → IsPaging p → class_for p n < classes p
+        → class_of p.sizes n ≡ Some (class_for p n) }
+    ensures none { (p : Paging) (n : ℕ) → IsPaging p → p.page_words < need n
+        → class_of p.sizes n ≡ None }
+{}
+
+/// The slots of a class are those of the pages, counted on each page from 0.
+pub fn slots_have_addresses()
+    ensures slot { (p : Paging) (c page slot : ℕ) → IsPaging p → c < classes p
+        → page < p.pages → slot < slots_of p c
+        → IsSlotAt p c (address_of p c page slot)
+        × (page_of p (address_of p c page slot) ≡ page)
+        × (address_of p c page slot % p.page_words / slot_words p c ≡ slot) }
+    ensures address { (p : Paging) (c a : ℕ) → IsPaging p → IsSlotAt p c a
+        → (a ≡ address_of p c (page_of p a) (a % p.page_words / slot_words p c))
+        × (a % p.page_words / slot_words p c < slots_of p c) }
+{}

@@ -1,0 +1,36 @@
+//! The numbers of the reports on classes and on the whole heap.
+ghost use Rattle.std.specs.Prelude.{ℕ, ◌≡◌, ◌+◌, ◌*◌, List, None, Some, cond, length, nat_eq};
+ghost use Rattle.std.specs.FinMap.{get, insert, len, remove};
+ghost use Rattle.page_model.specs.Arrangement.{IsSound, free_pages, live, used_pages};
+ghost use Rattle.page_model.specs.Figures.{asked_bytes, taken_bytes};
+ghost use Rattle.page_model.specs.Held.{Held, Objects, objects};
+ghost use Rattle.page_model.specs.Paging.{Paging, class_for, slot_words};
+
+/// The pages in use and the free ones are all there are, and each object held counts once.
+pub fn pages_and_objects_add_up()
+    ensures pages { (p : Paging) (m : Held) → IsSound p m
+        → used_pages p m + free_pages p m ≡ p.pages }
+    ensures len { (m : Held) → len (objects m) ≡ len m }
+{}
+
+/// An object that comes counts in its class, and its bytes and its slot's are added.
+pub fn figures_where_an_object_comes()
+    ensures live { (p : Paging) (o : Objects) (h : ℕ) (v : List ℕ) (c : ℕ) → get o h ≡ None
+        → live p (insert o h v) c ≡ live p o c + cond (nat_eq (class_for p (length v)) c) 1 0 }
+    ensures asked { (o : Objects) (h : ℕ) (v : List ℕ) → get o h ≡ None
+        → asked_bytes (insert o h v) ≡ asked_bytes o + length v }
+    ensures taken { (p : Paging) (o : Objects) (h : ℕ) (v : List ℕ) → get o h ≡ None
+        → taken_bytes p (insert o h v)
+        ≡ taken_bytes p o + 8 * slot_words p (class_for p (length v)) }
+{}
+
+/// An object that goes no longer counts in its class, and its bytes and its slot's are taken away.
+pub fn figures_where_an_object_goes()
+    ensures live { (p : Paging) (o : Objects) (h : ℕ) (v : List ℕ) (c : ℕ) → get o h ≡ Some v
+        → live p (remove o h) c + cond (nat_eq (class_for p (length v)) c) 1 0 ≡ live p o c }
+    ensures asked { (o : Objects) (h : ℕ) (v : List ℕ) → get o h ≡ Some v
+        → asked_bytes (remove o h) + length v ≡ asked_bytes o }
+    ensures taken { (p : Paging) (o : Objects) (h : ℕ) (v : List ℕ) → get o h ≡ Some v
+        → taken_bytes p (remove o h) + 8 * slot_words p (class_for p (length v))
+        ≡ taken_bytes p o }
+{}

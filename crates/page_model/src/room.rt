@@ -1,0 +1,38 @@
+//! When a sound arrangement has no room for one more object of a class.
+ghost use Rattle.std.specs.Prelude.{ℕ, ◌≡◌, ◌+◌, ◌/◌, ◌%◌, ◌<◌, ◌≤◌, ◌↔◌, List, None, length};
+ghost use Rattle.std.specs.FinMap.{get, insert};
+ghost use Rattle.page_model.specs.Arrangement.{IsSound, LacksRoom, free_pages, live, most_pages_besides, not_full_pages, pages_needed, pages_needed_with, used_pages};
+ghost use Rattle.page_model.specs.Held.{Held, Objects, objects};
+ghost use Rattle.page_model.specs.Paging.{AreOne, IsPaging, Paging, class_for, classes, slots_of};
+
+/// A class lacks room exactly where none of its pages is not full, and no page is free.
+pub fn lack_of_room_is_no_page_left()
+    ensures { (p : Paging) (m : Held) (c : ℕ) → IsSound p m
+        → LacksRoom p m c ↔ ((not_full_pages p m c ≡ 0) × (free_pages p m ≡ 0)) }
+{}
+
+/// Where a class lacks room its objects fill their pages, and the objects of the other classes can
+/// stand on as many pages as are left.
+pub fn pages_where_room_is_lacking()
+    ensures { (p : Paging) (m : Held) (c : ℕ) → IsPaging p → IsSound p m → c < classes p
+        → LacksRoom p m c
+        → (live p (objects m) c % slots_of p c ≡ 0)
+        × (p.pages ≤ live p (objects m) c / slots_of p c + most_pages_besides p (objects m) c) }
+{}
+
+/// Where every bound is 1, the pages in use are those that the objects need by arithmetic.
+pub fn pages_are_those_needed_at_bound_one()
+    ensures { (p : Paging) (m : Held) → IsPaging p → AreOne p → IsSound p m
+        → used_pages p m ≡ pages_needed p (objects m) }
+{}
+
+/// Where every bound is 1, there is no room for an object of n bytes exactly where the objects need
+/// more pages with it than there are. So it is for a malloc, and for a resize into another class,
+/// where the old object counts too.
+pub fn lack_of_room_is_arithmetic_at_bound_one()
+    ensures room { (p : Paging) (m : Held) (n : ℕ) → IsPaging p → AreOne p → IsSound p m
+        → class_for p n < classes p
+        → LacksRoom p m (class_for p n) ↔ (p.pages < pages_needed_with p (objects m) n) }
+    ensures added { (p : Paging) (o : Objects) (h : ℕ) (v : List ℕ) → get o h ≡ None
+        → pages_needed p (insert o h v) ≡ pages_needed_with p o (length v) }
+{}

@@ -1,0 +1,115 @@
+//! What a sound arrangement is, and that each step leaves one.
+ghost use Rattle.std.specs.Prelude.{ℕ, ◌≡◌, ◌≢◌, ◌+◌, ◌/◌, ◌<◌, ◌≤◌, ◌&&◌, Option, Some, None, cond, length, nat_lt, replicate};
+ghost use Rattle.std.specs.FinMap.{empty, get, insert, remove};
+ghost use Rattle.page_model.specs.Arrangement.{IsSound, class_at, home_pages, is_on, live, not_full_pages, objects_on};
+ghost use Rattle.page_model.specs.Counts.{CanHold, Stand};
+ghost use Rattle.page_model.specs.Held.{Held, Placed, objects, places};
+ghost use Rattle.page_model.specs.Paging.{IsPaging, Paging, bound_of, class_for, classes, page_of, slots_of};
+ghost use Rattle.page_model.specs.Steps.{ChangesClass, IsFreePlace, IsFreeStep, IsMallocStep, IsResizeStep, MayFill, Moves, MustMove, Outcome, Request, resized_at, without, zeros_at};
+
+/// Without objects an arrangement is sound, whatever the bounds, and has no pages.
+pub fn nothing_is_a_sound_arrangement()
+    ensures sound { (p : Paging) → IsSound p empty }
+    ensures pages { (p : Paging) (c : ℕ) → home_pages p empty c ≡ 0 }
+    ensures not_full { (p : Paging) (c : ℕ) → not_full_pages p empty c ≡ 0 }
+{}
+
+/// The pages of a class are a number on which its objects can stand, and no page holds more than
+/// its slots.
+pub fn page_counts_of_a_sound_arrangement()
+    ensures can_hold { (p : Paging) (m : Held) (c : ℕ) → IsPaging p → IsSound p m → c < classes p
+        → CanHold (home_pages p m c) (live p (objects m) c) (slots_of p c) (bound_of p c) }
+    ensures not_full { (p : Paging) (m : Held) (c : ℕ) → IsPaging p → IsSound p m → c < classes p
+        → Stand (home_pages p m c) (live p (objects m) c) (slots_of p c) (bound_of p c)
+        (not_full_pages p m c) }
+    ensures few { (p : Paging) (m : Held) (c : ℕ) → IsPaging p → IsSound p m → c < classes p
+        → home_pages p m c ≤ live p (objects m) c / slots_of p c + bound_of p c }
+    ensures slots { (p : Paging) (m : Held) (c page : ℕ) → IsPaging p → IsSound p m → c < classes p
+        → objects_on p m c page ≤ slots_of p c }
+{}
+
+/// A malloc keeps an arrangement sound.
+pub fn a_malloc_keeps_soundness()
+    ensures { (p : Paging) (old : Held) (asked : Request) (new : Held) → IsPaging p → IsSound p old
+        → IsMallocStep p old asked new → IsSound p new }
+{}
+
+/// A free keeps an arrangement sound, where an object moves and where none does.
+pub fn a_free_keeps_soundness()
+    ensures { (p : Paging) (old : Held) (h : ℕ) (after : Outcome) → IsPaging p → IsSound p old
+        → IsFreeStep p old h after → IsSound p after.held }
+{}
+
+/// A resize keeps an arrangement sound, within its class and to another one.
+pub fn a_resize_keeps_soundness()
+    ensures { (p : Paging) (old : Held) (asked : Request) (after : Outcome) → IsPaging p
+        → IsSound p old
+        → IsResizeStep p old asked after → IsSound p after.held }
+{}
+
+/// A resize to another class is this: the object stands at a free place under its own number, and
+/// the rest is what a free of its old place leaves. `spare` is any number that isn't in use.
+pub fn a_resize_in_two_steps()
+    ensures given { (p : Paging) (m : Held) (h n a spare : ℕ) (x : Placed) (moved : Option ℕ)
+        → IsPaging p → IsSound p m → get m h ≡ Some x → class_for p n ≢ class_at p x
+        → get m spare ≡ None → IsFreePlace p m n a → Moves p m x moved
+        → ChangesClass p m (record { number = h; length = n })
+        (record { held = insert (without m h x.place moved) h (resized_at a x n); moved = moved }) }
+    ensures taken { (p : Paging) (old : Held) (asked : Request) (after : Outcome) → IsPaging p
+        → IsSound p old
+        → (r : ChangesClass p old asked after)
+        → Moves p old r.object after.moved
+        × (after.held ≡ insert (without old asked.number r.object.place after.moved) asked.number
+        (resized_at r.place r.object asked.length)) }
+{}
+
+/// What each step does to the bytes alone, and to the places alone.
+pub fn objects_after_a_step()
+    ensures malloc { (m : Held) (h a n : ℕ)
+        → (objects (insert m h (zeros_at a n)) ≡ insert (objects m) h (replicate n 0))
+        × (places (insert m h (zeros_at a n)) ≡ insert (places m) h a) }
+    ensures free { (p : Paging) (m : Held) (h : ℕ) (x : Placed) (moved : Option ℕ)
+        → IsPaging p → IsSound p m → get m h ≡ Some x → Moves p m x moved
+        → objects (without m h x.place moved) ≡ remove (objects m) h }
+    ensures still { (m : Held) (h a : ℕ) → places (without m h a None) ≡ remove (places m) h }
+    ensures moved { (p : Paging) (m : Held) (h q : ℕ) (x : Placed)
+        → IsPaging p → IsSound p m → get m h ≡ Some x → Moves p m x (Some q)
+        → places (without m h x.place (Some q)) ≡ insert (remove (places m) h) q x.place }
+{}
+
+/// A malloc adds one to the objects of its class on its page.
+pub fn counts_after_a_malloc()
+    ensures { (p : Paging) (m : Held) (h c page : ℕ) (x : Placed) → get m h ≡ None
+        → objects_on p (insert m h x) c page
+        ≡ objects_on p m c page + cond (is_on p c page x) 1 0 }
+{}
+
+/// A free takes one from the objects of its class on one page: its own, or that of the object that
+/// moved.
+pub fn counts_after_a_free()
+    ensures still { (p : Paging) (m : Held) (h a c page : ℕ) (x : Placed) → get m h ≡ Some x
+        → objects_on p (without m h a None) c page + cond (is_on p c page x) 1 0
+        ≡ objects_on p m c page }
+    ensures moved { (p : Paging) (m : Held) (h q c page : ℕ) (x y : Placed) → IsPaging p
+        → IsSound p m
+        → get m h ≡ Some x → get m q ≡ Some y → MustMove p m x → MayFill p m x y
+        → objects_on p (without m h x.place (Some q)) c page + cond (is_on p c page y) 1 0
+        ≡ objects_on p m c page }
+{}
+
+/// Where the objects of a class have changed on one page alone, its pages and its pages that are
+/// not full change as that page does.
+pub fn page_counts_follow_one_page()
+    ensures pages { (p : Paging) (old new : Held) (c page : ℕ) → page < p.pages
+        → ((g : ℕ) → g ≢ page → objects_on p new c g ≡ objects_on p old c g)
+        → home_pages p new c + cond (nat_lt 0 (objects_on p old c page)) 1 0
+        ≡ home_pages p old c + cond (nat_lt 0 (objects_on p new c page)) 1 0 }
+    ensures not_full { (p : Paging) (old new : Held) (c page : ℕ) → page < p.pages
+        → ((g : ℕ) → g ≢ page → objects_on p new c g ≡ objects_on p old c g)
+        → not_full_pages p new c
+        + cond (nat_lt 0 (objects_on p old c page) && nat_lt (objects_on p old c page)
+        (slots_of p c)) 1 0
+        ≡ not_full_pages p old c
+        + cond (nat_lt 0 (objects_on p new c page) && nat_lt (objects_on p new c page)
+        (slots_of p c)) 1 0 }
+{}

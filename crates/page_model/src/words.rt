@@ -1,0 +1,164 @@
+//! The words of a region that holds objects, after each step.
+ghost use Rattle.std.specs.Prelude.{ℕ, ◌≡◌, ◌+◌, ◌*◌, ◌/◌, ◌%◌, ◌^◌, ◌<◌, ◌≤◌, List, Option, Some, None, length, replicate, slice_index, slice_set};
+ghost use Rattle.std.specs.FinMap.{FinMap, empty, get, insert, remove};
+ghost use Rattle.std.specs.Ordering.{nat_cmp};
+ghost use Rattle.page_model.specs.Arrangement.{IsSound, class_at};
+ghost use Rattle.page_model.specs.Bytes.{AreBytes, AreStorable, byte_of, bytes_at, held_at, written};
+ghost use Rattle.page_model.specs.Held.{Held, Placed, places};
+ghost use Rattle.page_model.specs.Image.{Clears, IsImage, IsSlotImage, MovesWords, Rewrites, header_word, object_word, slot_for};
+ghost use Rattle.page_model.specs.Paging.{IsPaging, Paging, class_for};
+ghost use Rattle.page_model.specs.Steps.{IsFreePlace, MayFill, MustMove, resized, without, zeros_at};
+
+/// The words of a region are determined by its objects; those of an empty one are zeros. What is
+/// said of whole slots holds of the objects' own words.
+pub fn words_are_one_list()
+    ensures one { (m : Held) (u v : List ℕ) → length u ≡ length v → IsImage m u → IsImage m v
+        → u ≡ v }
+    ensures empty { (p : Paging) (n : ℕ) → IsSlotImage p empty (replicate n 0) }
+    ensures own { (p : Paging) (m : Held) (words : List ℕ) → IsPaging p → IsSound p m
+        → IsSlotImage p m words → IsImage m words }
+{}
+
+/// A malloc writes the header into zeros, and no other word.
+pub fn words_after_a_malloc()
+    ensures zeros { (p : Paging) (m : Held) (words : List ℕ) (h n a : ℕ) → IsPaging p → IsSound p m
+        → IsSlotImage p m words → get m h ≡ None → IsFreePlace p m n a
+        → (i : ℕ) → i < slot_for p n → slice_index words (a + i) ≡ 0 }
+    ensures header { (p : Paging) (m : Held) (words : List ℕ) (h n a : ℕ) → IsPaging p → IsSound p m
+        → IsSlotImage p m words → length words ≡ p.pages * p.page_words
+        → get m h ≡ None → IsFreePlace p m n a
+        → IsSlotImage p (insert m h (zeros_at a n)) (slice_set words a (header_word h n)) }
+{}
+
+/// A write rewrites those words of the object that hold one of its bytes.
+pub fn words_after_a_write()
+    ensures bytes { (p : Paging) (m : Held) (old new : List ℕ) (h at : ℕ) (x : Placed)
+        (bytes : List ℕ)
+        → IsPaging p → IsSound p m → IsSlotImage p m old → get m h ≡ Some x
+        → at + length bytes ≤ length x.bytes
+        → Rewrites old new
+        (record { from = x.place + (1 + at / 8); count = (at % 8 + length bytes + 7) / 8 })
+        (λ i. object_word h (written x.bytes at bytes) (1 + at / 8 + i))
+        → IsSlotImage p (insert m h
+        (record { place = x.place; bytes = written x.bytes at bytes })) new }
+    ensures slot { (p : Paging) (m : Held) (old new : List ℕ) (h : ℕ) (x : Placed) (bytes : List ℕ)
+        → IsPaging p → IsSound p m → IsSlotImage p m old → get m h ≡ Some x
+        → class_for p (length bytes) ≡ class_at p x
+        → Rewrites old new (record { from = x.place; count = slot_for p (length x.bytes) })
+        (object_word h bytes)
+        → IsSlotImage p (insert m h (record { place = x.place; bytes = bytes })) new }
+{}
+
+/// A free clears the object's slot, or moves there the slot of the object that moves, and leaves
+/// zeros where that one stood.
+pub fn words_after_a_free()
+    ensures still { (p : Paging) (m : Held) (old new : List ℕ) (h : ℕ) (x : Placed)
+        → IsPaging p → IsSound p m → IsSlotImage p m old → get m h ≡ Some x
+        → Clears old new (record { from = x.place; count = slot_for p (length x.bytes) })
+        → IsSlotImage p (remove m h) new }
+    ensures moved { (p : Paging) (m : Held) (old new : List ℕ) (h q : ℕ) (x y : Placed)
+        → IsPaging p → IsSound p m → IsSlotImage p m old
+        → get m h ≡ Some x → get m q ≡ Some y → MustMove p m x → MayFill p m x y
+        → MovesWords old new (record {
+          from = y.place;
+          count = slot_for p
+              (length y.bytes);
+        }) x.place
+        → IsSlotImage p (insert (remove m h) q (record { place = x.place; bytes = y.bytes })) new }
+{}
+
+/// A resize to another class writes the new slot, with the old one still there, and then clears the
+/// old slot or moves there the slot of the object that moves. `spare` is any number that isn't in
+/// use.
+pub fn words_after_a_resize()
+    ensures still { (p : Paging) (m : Held) (old mid new : List ℕ) (h a spare : ℕ) (x : Placed)
+        (bytes : List ℕ)
+        → IsPaging p → IsSound p m → IsSlotImage p m old
+        → length old ≡ p.pages * p.page_words → length new ≡ p.pages * p.page_words
+        → get m h ≡ Some x → get m spare ≡ None → IsFreePlace p m (length bytes) a
+        → Rewrites old mid (record { from = a; count = slot_for p (length bytes) })
+        (object_word h bytes)
+        → Clears mid new (record { from = x.place; count = slot_for p (length x.bytes) })
+        → IsSlotImage p (insert (remove m h) h (record { place = a; bytes = bytes })) new }
+    ensures moved { (p : Paging) (m : Held) (old mid new : List ℕ) (h q a spare : ℕ) (x y : Placed)
+        (bytes : List ℕ) → IsPaging p → IsSound p m → IsSlotImage p m old
+        → length old ≡ p.pages * p.page_words → length new ≡ p.pages * p.page_words
+        → get m h ≡ Some x → get m spare ≡ None → IsFreePlace p m (length bytes) a
+        → Rewrites old mid (record { from = a; count = slot_for p (length bytes) })
+        (object_word h bytes)
+        → get m q ≡ Some y → MustMove p m x → MayFill p m x y
+        → MovesWords mid new (record {
+          from = y.place;
+          count = slot_for p
+              (length y.bytes);
+        }) x.place
+        → IsSlotImage p
+        (insert (insert (remove m h) q (record { place = x.place; bytes = y.bytes })) h
+        (record { place = a; bytes = bytes }))
+        new }
+{}
+
+/// The header of an object tells its number and its length.
+pub fn headers_tell()
+    ensures { (m : Held) (words : List ℕ) (h : ℕ) (x : Placed) → IsImage m words → get m h ≡ Some x
+        → h < 2 ^ 32
+        → (slice_index words x.place % 2 ^ 32 ≡ h) × (slice_index words x.place / 2 ^ 32
+        ≡ length x.bytes) }
+{}
+
+/// The objects can be read back from the words and the places.
+pub fn words_tell_what_is_held()
+    ensures { (m : Held) (at : FinMap nat_cmp ℕ) (words : List ℕ) → IsImage m words → at ≡ places m
+        → AreStorable m → held_at words at ≡ m }
+{}
+
+/// What stands at the places has these places, and the bytes that the words tell.
+pub fn what_stands_at_places()
+    ensures places { (words : List ℕ) (at : FinMap nat_cmp ℕ) → places (held_at words at) ≡ at }
+    ensures found { (words : List ℕ) (at : FinMap nat_cmp ℕ) (h : ℕ) (x : Placed)
+        → get (held_at words at) h ≡ Some x
+        → (get at h ≡ Some x.place) × (x.bytes ≡ bytes_at words x.place) }
+    ensures bytes { (words : List ℕ) (at : FinMap nat_cmp ℕ) (h : ℕ) (x : Placed)
+        → get (held_at words at) h ≡ Some x → AreBytes x.bytes }
+{}
+
+/// Objects stay such that words can tell of them.
+pub fn objects_stay_storable()
+    ensures comes { (m : Held) (h : ℕ) (x : Placed) → AreStorable m → h < 2 ^ 32 → AreBytes x.bytes
+        → AreStorable (insert m h x) }
+    ensures goes { (m : Held) (h a : ℕ) (moved : Option ℕ) → AreStorable m
+        → AreStorable (without m h a moved) }
+    ensures zeros { (n : ℕ) → AreBytes (replicate n 0) }
+    ensures resized { (v : List ℕ) (n : ℕ) → AreBytes v → AreBytes (resized v n) }
+    ensures written { (v : List ℕ) (at : ℕ) (bytes : List ℕ) → at + length bytes ≤ length v
+        → AreBytes v → AreBytes bytes → AreBytes (written v at bytes) }
+{}
+
+/// Byte k of an object stands in byte k modulo 8 of the word k / 8 after its header.
+pub fn bytes_are_read_back()
+    ensures { (m : Held) (words : List ℕ) (h k : ℕ) (x : Placed) → IsImage m words
+        → get m h ≡ Some x
+        → AreBytes x.bytes → k < length x.bytes
+        → byte_of (k % 8) (slice_index words (x.place + 1 + k / 8)) ≡ slice_index x.bytes k }
+{}
+
+/// A word of 64 bits is its eight bytes, and those of an object are such words.
+pub fn a_word_is_its_bytes()
+    ensures same { (u v : ℕ) → u < 2 ^ 64 → v < 2 ^ 64 → ((j : ℕ) → j < 8
+        → byte_of j u ≡ byte_of j v) → u ≡ v }
+    ensures fits { (h : ℕ) (v : List ℕ) (i : ℕ) → h < 2 ^ 32 → length v < 2 ^ 32 → AreBytes v
+        → object_word h v i < 2 ^ 64 }
+{}
+
+/// What is written over a part of an object's bytes changes that part alone.
+pub fn a_part_is_written()
+    ensures len { (v : List ℕ) (at : ℕ) (bytes : List ℕ) → at + length bytes ≤ length v
+        → length (written v at bytes) ≡ length v }
+    ensures before { (v : List ℕ) (at : ℕ) (bytes : List ℕ) → at + length bytes ≤ length v
+        → (k : ℕ) → k < at → slice_index (written v at bytes) k ≡ slice_index v k }
+    ensures inside { (v : List ℕ) (at : ℕ) (bytes : List ℕ) → at + length bytes ≤ length v
+        → (k : ℕ) → k < length bytes
+        → slice_index (written v at bytes) (at + k) ≡ slice_index bytes k }
+    ensures behind { (v : List ℕ) (at : ℕ) (bytes : List ℕ) → at + length bytes ≤ length v
+        → (k : ℕ) → at + length bytes ≤ k → slice_index (written v at bytes) k ≡ slice_index v k }
+{}

@@ -1,0 +1,58 @@
+-- What is added up over objects: numbers that depend on an object's place and length. No public clause cites this module.
+use Rattle.std.specs.Prelude.{ℕ, ◌&&◌, ◌^◌, ◌<◌, List, Option, Some, None, cond, nat_eq, map, option_map, sum_by}
+use Rattle.cf_lemmas.specs.Maps.{numbered}
+use Rattle.page_model.specs.Held.{Held, Placed}
+use Rattle.page_model.specs.Paging.{Paging, slot_words, class_for, page_of}
+use Rattle.page_model.specs.Arrangement.{standing_on}
+use Rattle.page_model.specs.Steps.{MustMove, resized}
+use Rattle.page_reference.specs.declared.object.Object.{Object}
+use Rattle.page_reference.specs.declared.object.Amount.{Amount}
+use Rattle.page_reference.specs.declared.object.Amount.TheVariants.{One, OfClass, OnPage, OfClassOnPage, Length, SlotWords}
+
+-- an object begins with the bytes that are kept, and is zero after them
+abbrev pub placed : Object → Placed
+placed o = record { place = o.place; bytes = resized o.bytes.items o.length }
+
+-- the same object at another place
+abbrev pub at_place : ℕ → Object → Object
+at_place a o = record o { place = a }
+
+-- the objects of a table, each under its index
+abbrev pub held_in : List (Option Object) → Held
+held_in os = numbered 0 (map (option_map placed) os)
+
+-- what is added for an object at a, of n bytes
+abbrev pub amount_of : Paging → Amount → ℕ → ℕ → ℕ
+amount_of p One a n = 1
+amount_of p (OfClass c) a n = cond (nat_eq (class_for p n) c) 1 0
+amount_of p (OnPage page) a n = cond (nat_eq (page_of p a) page) 1 0
+amount_of p (OfClassOnPage c page) a n = cond (nat_eq (page_of p a) page && nat_eq (class_for p n) c) 1 0
+amount_of p Length a n = n
+amount_of p SlotWords a n = slot_words p (class_for p n)
+
+-- no amount is larger
+abbrev pub most_of : Amount → ℕ
+most_of One = 1
+most_of (OfClass c) = 1
+most_of (OnPage page) = 1
+most_of (OfClassOnPage c page) = 1
+most_of Length = 2 ^ 32
+most_of SlotWords = 2 ^ 32
+
+-- nothing is added where no object is
+abbrev pub amount_in : (ℕ → ℕ → ℕ) → Option Object → ℕ
+amount_in f None = 0
+amount_in f (Some o) = f o.place o.length
+
+-- the sum over a table
+abbrev pub total_of : (ℕ → ℕ → ℕ) → List (Option Object) → ℕ
+total_of f os = sum_by (amount_in f) os
+
+-- every page holds an object
+abbrev pub AreTaken : Paging → Held → Type 0
+AreTaken p m = (page : ℕ) → page < p.pages → 0 < standing_on p m page
+
+-- an object is there, and a free of it moves another one
+abbrev pub MovesOne : Paging → Held → Option Placed → Type 0
+MovesOne p m None = ⊥
+MovesOne p m (Some x) = MustMove p m x

@@ -1,0 +1,58 @@
+//! The block table of a manager that exchanges blocks, as a plain list: entry v is the physical
+//! block of virtual block v. A block is four words.
+ghost use Rattle.std.specs.Prelude.{◌≡◌, ◌+◌, ◌/◌, ◌^◌, ◌<◌, ◌≤◌, IfOk, length};
+ghost use Rattle.page_model.specs.Frames.{block_of as physical_block, first_frames};
+ghost use Rattle.cf_lemmas.specs.Exchanges.{exchanged, partner};
+
+use std::alloc::{AllocError, Global};
+
+/// The table of an empty heap: so many blocks, each at its own place.
+pub fn new_frames(alloc: Global, blocks: u32) -> Result<Vec<u32>, AllocError>
+    ensures { IfOk result (λ v. v.items ≡ first_frames blocks) }
+{
+    (0..blocks).collect(alloc)
+}
+
+/// The table after the `n` entries from `a` on changed places with those from `b` on, pair by pair.
+pub fn exchange(
+    alloc: Global,
+    frames: &[u32],
+    a: u32,
+    b: u32,
+    n: u32,
+) -> Result<Vec<u32>, AllocError>
+    requires small { length frames.now < 2 ^ 32 }
+    requires a_in_range { a + n ≤ length frames.now }
+    requires b_in_range { b + n ≤ length frames.now }
+    ensures value { IfOk result (λ v. v.items ≡ exchanged frames.now a b n) }
+    ensures len { IfOk result (λ v. length v.items ≡ length frames.now) }
+{
+    let mut all = Vec::new(alloc);
+    for v in 0..frames.len() {
+        all.push(frames[partner_of(a, b, n, v as u32) as usize])?;
+    }
+    Ok(all)
+}
+
+/// Where v goes where the `n` numbers from `a` on change places with those from `b` on.
+fn partner_of(a: u32, b: u32, n: u32, v: u32) -> u32
+    requires a_fits { a + n < 2 ^ 32 }
+    requires b_fits { b + n < 2 ^ 32 }
+    ensures { result ≡ partner a b n v }
+{
+    if a <= v && v < a + n {
+        b + (v - a)
+    } else if b <= v && v < b + n {
+        a + (v - b)
+    } else {
+        v
+    }
+}
+
+/// The physical block of block i of an object at a place.
+pub fn block_of(frames: &[u32], place: u32, i: u32) -> u32
+    requires { place / 4 + i < length frames.now }
+    ensures { result ≡ physical_block frames.now place i }
+{
+    frames[(place / 4) as usize + i as usize]
+}

@@ -1,0 +1,166 @@
+//! Pages and size classes.
+ghost use Rattle.std.specs.Prelude.{◌≡◌, ◌*◌, ◌<◌, ◌≤◌, ◌^◌, IfOk, length, slice_set, position};
+ghost use Rattle.page_model.specs.Paging.{classes, slot_words, slots_of, bound_of, class_for, page_of, paging_of, first_bounds};
+ghost use Rattle.cf_base.specs.Settings.{profile_of};
+ghost use Rattle.page_reference.specs.Amounts.{amount_of, most_of, amount_in, total_of};
+
+use crate::object::{Amount, Object};
+use cf_base::{Layout, OutOfMemory, Settings, class_in, slot_sizes};
+use std::alloc::{AllocError, Global};
+use std::marker::Model;
+
+/// Pages, and by class the words of a slot and how many pages may be not full.
+#[derive(Drop)]
+pub struct Pages {
+    pages: u32,
+    page_words: u32,
+    sizes: Vec<u32>,
+    bounds: Vec<u32>,
+}
+
+impl Model for Pages {
+    ghost use Rattle.page_model.specs.Paging.{Paging};
+    ghost use Rattle.page_reference.specs.Arranged.{paging_code, IsModest};
+
+    ghost Value = { Paging };
+
+    ghost coded = { paging_code };
+
+    ghost view = { λ p. record { pages = p.pages; page_words = p.page_words; sizes = p.sizes.items; bounds = p.bounds.items } };
+
+    ghost invariant = { λ p. IsModest (record { pages = p.pages; page_words = p.page_words; sizes = p.sizes.items; bounds = p.bounds.items }) };
+}
+
+impl Pages {
+    /// The pages of these settings, each class with their bound.
+    pub fn new(alloc: Global, s: &Settings, layout: Layout) -> Result<Pages, OutOfMemory>
+        ensures { IfOk result (λ p. p ≡ paging_of (profile_of s.now) layout (first_bounds (profile_of s.now) layout)) }
+    {
+        let Ok(sizes) = slot_sizes(alloc, s.page_words, layout) else {
+            return Err(OutOfMemory);
+        };
+        let Ok(bounds) = Vec::from_elem(alloc, s.k, sizes.len()) else {
+            return Err(OutOfMemory);
+        };
+        Ok(Pages {
+            pages: s.pages,
+            page_words: s.page_words,
+            sizes,
+            bounds,
+        })
+    }
+
+    /// How many pages there are.
+    pub fn count(&self) -> u32
+        ensures value { result ≡ self.now.pages }
+        ensures few { result ≤ 4096 }
+    {
+        self.pages
+    }
+
+    /// The words of a page.
+    pub fn page_words(&self) -> u32
+        ensures value { result ≡ self.now.page_words }
+        ensures small { result ≤ 16384 }
+    {
+        self.page_words
+    }
+
+    /// How many classes there are.
+    pub fn classes(&self) -> u32
+        ensures value { result ≡ classes self.now }
+        ensures few { result ≤ 67 }
+    {
+        self.sizes.len() as u32
+    }
+
+    /// The words of a slot of a class; 0 where there is no such class.
+    pub fn slot_words(&self, c: u32) -> u32
+        ensures value { result ≡ slot_words self.now c }
+        ensures small { result ≤ 16384 }
+    {
+        let c = c as usize;
+        if c < self.sizes.len() {
+            self.sizes[c]
+        } else {
+            0
+        }
+    }
+
+    /// The slots of a class on a page.
+    pub fn slots(&self, c: u32) -> u32
+        requires { c < classes self.now }
+        ensures value { result ≡ slots_of self.now c }
+        ensures some { 1 ≤ result }
+        ensures few { result ≤ 4096 }
+    {
+        self.page_words / self.sizes[c as usize]
+    }
+
+    /// How many pages of a class may be not full.
+    pub fn bound(&self, c: u32) -> u32
+        requires { c < classes self.now }
+        ensures { result ≡ bound_of self.now c }
+    {
+        self.bounds[c as usize]
+    }
+
+    /// The class of an object of so many bytes; the number of classes where none holds it.
+    pub fn class_for(&self, bytes: u32) -> u32
+        ensures value { result ≡ class_for self.now bytes }
+        ensures within { result ≤ classes self.now }
+    {
+        match class_in(&self.sizes, bytes) {
+            Some(c) => c as u32,
+            None => self.sizes.len() as u32,
+        }
+    }
+
+    /// The page of an address.
+    pub fn page_of(&self, place: u32) -> u32
+        ensures { result ≡ page_of self.now place }
+    {
+        place / self.page_words
+    }
+
+    /// What is added for an object at a place, of so many bytes.
+    pub fn amount(&self, which: Amount, place: u32, length: u32) -> u64
+        ensures value { result ≡ amount_of self.now which place length }
+        ensures within { result ≤ most_of which }
+    {
+        match which {
+            Amount::One => 1,
+            Amount::OfClass(c) => (self.class_for(length) == c) as u64,
+            Amount::OnPage(page) => (self.page_of(place) == page) as u64,
+            Amount::OfClassOnPage(c, page) => {
+                (self.page_of(place) == page && self.class_for(length) == c) as u64
+            }
+            Amount::Length => length as u64,
+            Amount::SlotWords => self.slot_words(self.class_for(length)) as u64,
+        }
+    }
+
+    /// The sum over the objects of a table.
+    pub fn total(&self, which: Amount, objects: &[Option<Object>]) -> u64
+        requires few { length objects.now ≤ 65536 }
+        ensures value { result ≡ total_of (amount_of self.now which) objects.now }
+        ensures within { result ≤ length objects.now * most_of which }
+    {
+        let mut sum = 0;
+        for entry in objects {
+            sum += self.amount_at(which, entry);
+        }
+        sum
+    }
+
+    /// What is added for an entry of a table.
+    fn amount_at(&self, which: Amount, entry: &Option<Object>) -> u64
+        ensures value { result ≡ amount_in (amount_of self.now which) entry.now }
+        ensures within { result ≤ most_of which }
+    {
+        match entry {
+            Some(object) => self.amount(which, object.place, object.length),
+            None => 0,
+        }
+    }
+}

@@ -1,0 +1,446 @@
+//! Pages with objects on them.
+ghost use Rattle.std.specs.Prelude.{◌≡◌, ◌↔◌, ◌+◌, ◌*◌, ◌^◌, ◌&&◌, ◌<◌, ◌≤◌, IfOk, IsTrue, OnOk, OnErr, length, option_map, slice_set, nat_lt, cond};
+ghost use Rattle.std.specs.FinMap as map;
+ghost use Rattle.cf_base.specs.Classes.{need};
+ghost use Rattle.cf_base.specs.Settings.{profile_of};
+ghost use Rattle.page_model.specs.Held.{objects};
+ghost use Rattle.page_model.specs.Paging.{bound_of, classes, slot_words, slots_of, class_for, paging_of, first_bounds};
+ghost use Rattle.page_model.specs.Counts.{ceil_div};
+ghost use Rattle.page_model.specs.Arrangement.{live, objects_on, standing_on, home_pages, not_full_pages, used_pages, free_pages, pages_needed, pages_needed_with, IsSound, LacksRoom};
+ghost use Rattle.page_model.specs.Figures.{asked_bytes, taken_bytes, figures_of, totals_of};
+ghost use Rattle.page_model.specs.Image.{IsApart, IsImage};
+ghost use Rattle.page_model.specs.Steps.{MustMove, moved_to, resized};
+ghost use Rattle.page_reference.specs.Amounts.{AreTaken, MovesOne, at_place, held_in, placed};
+ghost use Rattle.page_reference.specs.Words.{AreInside, IsWordAt};
+
+use crate::object::{Amount, Object};
+use crate::pages::Pages;
+use crate::words::word_at;
+use cf_base::{Figures, Layout, OutOfMemory, Settings, Totals};
+use std::alloc::{AllocError, Global};
+use std::marker::Model;
+
+/// Pages, and objects on them under numbers. Each answer is computed afresh from the objects, by its
+/// definition.
+#[derive(Drop)]
+pub struct Plain {
+    pages: Pages,
+    objects: Vec<Option<Object>>,
+}
+
+impl Model for Plain {
+    ghost use Rattle.std.specs.Prelude.{◌≤◌, length};
+    ghost use Rattle.page_reference.specs.Arranged.{Arranged, arranged_code};
+    ghost use Rattle.page_reference.specs.Amounts.{held_in};
+
+    ghost Value = { Arranged };
+
+    ghost coded = { arranged_code };
+
+    ghost view = { λ p. record { paging = p.pages; held = held_in p.objects.items } };
+
+    ghost invariant = { λ p. length p.objects.items ≤ 65536 };
+}
+
+impl Plain {
+    /// The pages of these settings, each class with their bound, and nothing on them.
+    pub fn new(alloc: Global, s: &Settings, layout: Layout) -> Result<Plain, OutOfMemory>
+        ensures paging { IfOk result (λ p. p.paging ≡ paging_of (profile_of s.now) layout (first_bounds (profile_of s.now) layout)) }
+        ensures held { IfOk result (λ p. p.held ≡ map.empty) }
+    {
+        let pages = Pages::new(alloc, s, layout)?;
+        Ok(Plain {
+            pages,
+            objects: Vec::new(alloc),
+        })
+    }
+
+    /// An object of `length` bytes stands at word `place` under this number. It begins with `bytes`,
+    /// as far as they go, and is zero after them.
+    pub fn put(
+        &mut self,
+        alloc: Global,
+        number: u16,
+        place: u32,
+        length: u32,
+        bytes: &[u8],
+    ) -> Result<(), OutOfMemory>
+        ensures paging { self.new.paging ≡ self.old.paging }
+        ensures ok { OnOk result (self.new.held ≡ map.insert self.old.held number (record { place = place; bytes = resized bytes.now length })) }
+        ensures err { OnErr result (self.new.held ≡ self.old.held) }
+    {
+        let Ok(bytes) = Vec::from_slice(alloc, bytes) else {
+            return Err(OutOfMemory);
+        };
+        let Ok(()) = reach(&mut self.objects, number as usize) else {
+            return Err(OutOfMemory);
+        };
+        let object = Object {
+            place,
+            length,
+            bytes,
+        };
+        put_entry(&mut self.objects, number as usize, Some(object));
+        Ok(())
+    }
+
+    /// The object under this number goes.
+    pub fn remove(&mut self, number: u16)
+        ensures paging { self.new.paging ≡ self.old.paging }
+        ensures held { self.new.held ≡ map.remove self.old.held number }
+    {
+        if (number as usize) < self.objects.len() {
+            put_entry(&mut self.objects, number as usize, None);
+        }
+    }
+
+    /// The object under this number, where there is one, stands at another place.
+    pub fn move_to(&mut self, number: u16, place: u32)
+        ensures paging { self.new.paging ≡ self.old.paging }
+        ensures held { self.new.held ≡ moved_to self.old.held number (map.get self.old.held number) place }
+    {
+        if (number as usize) < self.objects.len() {
+            move_entry(&mut self.objects[number as usize], place);
+        }
+    }
+
+    /// How many pages there are.
+    pub fn pages(&self) -> u32
+        ensures value { result ≡ self.now.paging.pages }
+        ensures few { result ≤ 4096 }
+    {
+        self.pages.count()
+    }
+
+    /// The words of a page.
+    pub fn page_words(&self) -> u32
+        ensures value { result ≡ self.now.paging.page_words }
+        ensures small { result ≤ 16384 }
+    {
+        self.pages.page_words()
+    }
+
+    /// How many classes there are.
+    pub fn classes(&self) -> u32
+        ensures value { result ≡ classes self.now.paging }
+        ensures few { result ≤ 67 }
+    {
+        self.pages.classes()
+    }
+
+    /// The words of a slot of a class; 0 where there is no such class.
+    pub fn slot_words(&self, c: u32) -> u32
+        ensures { result ≡ slot_words self.now.paging c }
+    {
+        self.pages.slot_words(c)
+    }
+
+    /// The slots of a class on a page.
+    pub fn slots(&self, c: u32) -> u32
+        requires { c < classes self.now.paging }
+        ensures value { result ≡ slots_of self.now.paging c }
+        ensures some { 1 ≤ result }
+        ensures few { result ≤ 4096 }
+    {
+        self.pages.slots(c)
+    }
+
+    /// The class of an object of so many bytes; the number of classes where none holds it.
+    pub fn class_for(&self, bytes: u32) -> u32
+        ensures { result ≡ class_for self.now.paging bytes }
+    {
+        self.pages.class_for(bytes)
+    }
+
+    /// How many objects there are.
+    pub fn count(&self) -> u32
+        ensures { result ≡ map.len (objects self.now.held) }
+    {
+        self.pages.total(Amount::One, &self.objects) as u32
+    }
+
+    /// How many objects have class c.
+    pub fn live(&self, c: u32) -> u32
+        ensures value { result ≡ live self.now.paging (objects self.now.held) c }
+        ensures few { result ≤ 65536 }
+    {
+        self.pages.total(Amount::OfClass(c), &self.objects) as u32
+    }
+
+    /// How many objects of class c stand on the page.
+    pub fn objects_on(&self, c: u32, page: u32) -> u32
+        ensures { result ≡ objects_on self.now.paging self.now.held c page }
+    {
+        self.pages
+            .total(Amount::OfClassOnPage(c, page), &self.objects) as u32
+    }
+
+    /// How many objects stand on the page, of whatever class.
+    pub fn standing_on(&self, page: u32) -> u32
+        ensures { result ≡ standing_on self.now.paging self.now.held page }
+    {
+        self.pages.total(Amount::OnPage(page), &self.objects) as u32
+    }
+
+    /// The lengths of all objects, in bytes.
+    pub fn asked_bytes(&self) -> u64
+        ensures { result ≡ asked_bytes (objects self.now.held) }
+    {
+        self.pages.total(Amount::Length, &self.objects)
+    }
+
+    /// The bytes of the slots of all objects.
+    pub fn taken_bytes(&self) -> u64
+        ensures { result ≡ taken_bytes self.now.paging (objects self.now.held) }
+    {
+        8 * self.pages.total(Amount::SlotWords, &self.objects)
+    }
+
+    /// How many pages hold an object of class c.
+    pub fn home_pages(&self, c: u32) -> u32
+        ensures value { result ≡ home_pages self.now.paging self.now.held c }
+        ensures few { result ≤ 4096 }
+    {
+        let mut pages = 0;
+        for page in 0..self.pages() {
+            pages += one(0 < self.objects_on(c, page));
+        }
+        pages
+    }
+
+    /// How many pages hold an object of class c, and fewer than they could.
+    pub fn not_full_pages(&self, c: u32) -> u32
+        requires { c < classes self.now.paging }
+        ensures { result ≡ not_full_pages self.now.paging self.now.held c }
+    {
+        let slots = self.slots(c);
+        let mut pages = 0;
+        for page in 0..self.pages() {
+            pages += one(is_part_full(self.objects_on(c, page), slots));
+        }
+        pages
+    }
+
+    /// How many pages are in use: the home pages of all classes.
+    pub fn used_pages(&self) -> u32
+        ensures value { result ≡ used_pages self.now.paging self.now.held }
+        ensures few { result ≤ 2 ^ 19 }
+    {
+        let mut pages = 0;
+        for c in 0..self.classes() {
+            pages += self.home_pages(c);
+        }
+        pages
+    }
+
+    /// How many pages are not in use.
+    pub fn free_pages(&self) -> u32
+        ensures { result ≡ free_pages self.now.paging self.now.held }
+    {
+        self.pages().saturating_sub(self.used_pages())
+    }
+
+    /// How many pages the objects need by arithmetic: in each class the objects over the slots,
+    /// rounded up.
+    pub fn pages_needed(&self) -> u32
+        ensures { result ≡ pages_needed self.now.paging (objects self.now.held) }
+    {
+        let mut pages = 0;
+        for c in 0..self.classes() {
+            pages += pages_for(self.live(c), self.slots(c));
+        }
+        pages
+    }
+
+    /// How many pages they would need with one more object of so many bytes.
+    pub fn pages_needed_with(&self, bytes: u32) -> u32
+        ensures { result ≡ pages_needed_with self.now.paging (objects self.now.held) bytes }
+    {
+        let class = self.class_for(bytes);
+        let mut pages = 0;
+        for c in 0..self.classes() {
+            let live = self.live(c) + one(class == c);
+            pages += pages_for(live, self.slots(c));
+        }
+        pages
+    }
+
+    /// Whether a free of the object under this number, where there is one, moves another: its page is
+    /// full and has more than one slot, and its class has as many pages that are not full as it may.
+    pub fn must_move(&self, number: u16) -> bool
+        ensures { IsTrue result ↔ MovesOne self.now.paging self.now.held (map.get self.now.held number) }
+    {
+        if (number as usize) < self.objects.len() {
+            self.must_move_from(&self.objects[number as usize])
+        } else {
+            false
+        }
+    }
+
+    /// Whether a free of the object of this entry, where there is one, moves another.
+    fn must_move_from(&self, entry: &Option<Object>) -> bool
+        ensures { IsTrue result ↔ MovesOne self.now.paging self.now.held (option_map placed entry.now) }
+    {
+        match entry {
+            Some(object) => self.leaves_a_hole(object),
+            None => false,
+        }
+    }
+
+    /// Whether an object must take the place of this one.
+    fn leaves_a_hole(&self, object: &Object) -> bool
+        ensures { IsTrue result ↔ MustMove self.now.paging self.now.held (placed object.now) }
+    {
+        let class = self.class_for(object.length);
+        if class >= self.classes() {
+            return false;
+        }
+        let on_page = self.objects_on(class, self.pages.page_of(object.place));
+        fills_several(on_page, self.slots(class)) && self.is_at_bound(class)
+    }
+
+    /// Whether class c has as many pages that are not full as it may.
+    fn is_at_bound(&self, c: u32) -> bool
+        requires { c < classes self.now.paging }
+        ensures { IsTrue result ↔ (not_full_pages self.now.paging self.now.held c ≡ bound_of self.now.paging c) }
+    {
+        self.not_full_pages(c) == self.pages.bound(c)
+    }
+
+    /// Whether there is no room for class c: none of its pages is not full, and every page holds an
+    /// object.
+    pub fn lacks_room(&self, c: u32) -> bool
+        requires { c < classes self.now.paging }
+        ensures { IsTrue result ↔ LacksRoom self.now.paging self.now.held c }
+    {
+        self.not_full_pages(c) == 0 && self.all_taken()
+    }
+
+    /// Whether every page holds an object.
+    fn all_taken(&self) -> bool
+        ensures { IsTrue result ↔ AreTaken self.now.paging self.now.held }
+    {
+        for page in 0..self.pages() {
+            if self.standing_on(page) == 0 {
+                return false;
+            }
+        }
+        true
+    }
+
+    /// The words of the region.
+    pub fn image(&self, alloc: Global) -> Result<Vec<u64>, AllocError>
+        ensures len { IfOk result (λ v. length v.items ≡ self.now.paging.pages * self.now.paging.page_words) }
+        // Objects that share a word, or pass the end of the region, have no image.
+        ensures image { IfOk result (λ v. IsApart need self.now.held → AreInside self.now.paging self.now.held → IsImage self.now.held v.items) }
+        ensures sound { IfOk result (λ v. IsSound self.now.paging self.now.held → IsImage self.now.held v.items) }
+    {
+        let count = self.pages() * self.page_words();
+        let mut words = Vec::new(alloc);
+        for w in 0..count {
+            words.push(self.word_at(w))?;
+        }
+        Ok(words)
+    }
+
+    /// Word w of the region.
+    fn word_at(&self, w: u32) -> u64
+        ensures { IsApart need self.now.held → IsWordAt self.now.held w result }
+    {
+        word_at(&self.objects, w)
+    }
+
+    /// The figures of class c.
+    pub fn figures(&self, c: u32) -> Figures
+        requires { c < classes self.now.paging }
+        ensures { result ≡ figures_of self.now.paging self.now.held c }
+    {
+        Figures {
+            slot_words: self.slot_words(c),
+            slots: self.slots(c),
+            live: self.live(c),
+            pages: self.home_pages(c),
+            not_full: self.not_full_pages(c),
+        }
+    }
+
+    /// The figures of the whole heap.
+    pub fn totals(&self) -> Totals
+        ensures { result ≡ totals_of self.now.paging self.now.held }
+    {
+        let free = self.free_pages();
+        Totals {
+            live: self.count(),
+            asked: self.asked_bytes(),
+            taken: self.taken_bytes(),
+            held: 8 * self.page_words() as u64 * self.used_pages() as u64,
+            used: self.used_pages(),
+            free,
+            largest: if free == 0 { 0 } else { self.page_words() },
+        }
+    }
+}
+
+/// Lengthens the table until it has an entry for this number.
+fn reach(objects: &mut Vec<Option<Object>>, number: usize) -> Result<(), AllocError>
+    requires number { number < 65536 }
+    requires few { length objects.old.items ≤ 65536 }
+    ensures held { held_in objects.new.items ≡ held_in objects.old.items }
+    ensures few { length objects.new.items ≤ 65536 }
+    ensures ok { OnOk result (number < length objects.new.items) }
+{
+    'entries: while objects.len() <= number {
+        objects.push(None)?;
+    }
+    Ok(())
+}
+
+/// The entry of this number becomes the given one.
+fn put_entry(objects: &mut Vec<Option<Object>>, number: usize, entry: Option<Object>)
+    requires { number < length objects.old.items }
+    ensures { objects.new.items ≡ slice_set objects.old.items number entry }
+{
+    objects[number] = entry;
+}
+
+/// 1 where the test holds.
+fn one(test: bool) -> u32
+    ensures value { result ≡ cond test 1 0 }
+    ensures few { result ≤ 1 }
+{
+    if test { 1 } else { 0 }
+}
+
+/// Whether so many objects are some, and fewer than the slots.
+fn is_part_full(objects: u32, slots: u32) -> bool
+    ensures { result ≡ (nat_lt 0 objects && nat_lt objects slots) }
+{
+    0 < objects && objects < slots
+}
+
+/// Whether so many objects fill all slots of a page, which has more than one.
+fn fills_several(objects: u32, slots: u32) -> bool
+    ensures { IsTrue result ↔ ((objects ≡ slots) × (1 < slots)) }
+{
+    objects == slots && 1 < slots
+}
+
+/// How many pages of so many slots that many objects need: the quotient, rounded up.
+fn pages_for(objects: u32, slots: u32) -> u32
+    requires some { 1 ≤ slots }
+    requires few { objects ≤ 65537 }
+    requires small { slots ≤ 4096 }
+    ensures value { result ≡ ceil_div objects slots }
+    ensures few { result ≤ 70000 }
+{
+    (objects + (slots - 1)) / slots
+}
+
+/// The object of the entry, where there is one, stands at another place.
+fn move_entry(entry: &mut Option<Object>, place: u32)
+    ensures { entry.new ≡ option_map (at_place place) entry.old }
+{
+    if let Some(object) = entry {
+        object.place = place;
+    }
+}

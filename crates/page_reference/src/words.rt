@@ -1,0 +1,85 @@
+//! The words of objects.
+ghost use Rattle.std.specs.Prelude.{◌≡◌, ◌*◌, ◌^◌, ◌<◌, ◌≤◌, IfNone, IfSome, Some, drop, length, option_map, slice_index, take};
+ghost use Rattle.cf_base.specs.Classes.{need};
+ghost use Rattle.page_model.specs.Image.{IsApart, object_word, word_of_bytes};
+ghost use Rattle.page_reference.specs.Amounts.{held_in, placed};
+ghost use Rattle.page_reference.specs.Words.{HasWord, IsWordAt, Misses};
+
+use crate::object::Object;
+use cf_base::need_of;
+
+/// Byte i of an object; 0 past its end.
+fn byte_at(object: &Object, i: u64) -> u8
+    ensures { result ≡ slice_index (placed object.now).bytes i }
+{
+    if i < object.length as u64 && i < object.bytes.len() as u64 {
+        object.bytes[i as usize]
+    } else {
+        0
+    }
+}
+
+/// The eight bytes of an object from byte `from` on as a word, the least first.
+fn eight_bytes(object: &Object, from: u64) -> u64
+    requires { from ≤ 2 ^ 40 }
+    ensures { result ≡ word_of_bytes (take 8 (drop from (placed object.now).bytes)) }
+{
+    let cell = [
+        byte_at(object, from),
+        byte_at(object, from + 1),
+        byte_at(object, from + 2),
+        byte_at(object, from + 3),
+        byte_at(object, from + 4),
+        byte_at(object, from + 5),
+        byte_at(object, from + 6),
+        byte_at(object, from + 7),
+    ];
+    u64::from_le_bytes(cell)
+}
+
+/// Word i of the object of this number: its header, then its bytes, eight to a word, then zeros.
+fn word_of_object(number: u32, object: &Object, i: u32) -> u64
+    ensures { result ≡ object_word number (placed object.now).bytes i }
+{
+    if i == 0 {
+        number as u64 + 4_294_967_296 * object.length as u64
+    } else {
+        eight_bytes(object, 8 * (i - 1) as u64)
+    }
+}
+
+/// Word w of the region where the object of this entry has it.
+fn word_in(number: u32, entry: &Option<Object>, w: u32) -> Option<u64>
+    ensures found { IfSome result (λ word. HasWord number (option_map placed entry.now) w word) }
+    ensures none { IfNone result (Misses (option_map placed entry.now) w) }
+{
+    match entry {
+        Some(object) => word_of(number, object, w),
+        None => None,
+    }
+}
+
+/// Word w of the region where the object has it.
+fn word_of(number: u32, object: &Object, w: u32) -> Option<u64>
+    ensures found { IfSome result (λ word. HasWord number (Some (placed object.now)) w word) }
+    ensures none { IfNone result (Misses (Some (placed object.now)) w) }
+{
+    if object.place <= w && w - object.place < need_of(object.length) {
+        Some(word_of_object(number, object, w - object.place))
+    } else {
+        None
+    }
+}
+
+/// Word w of the region: that of the first object that has it, else 0.
+pub fn word_at(objects: &[Option<Object>], w: u32) -> u64
+    requires { length objects.now ≤ 65536 }
+    ensures { IsApart need (held_in objects.now) → IsWordAt (held_in objects.now) w result }
+{
+    for number in 0..objects.len() {
+        if let Some(word) = word_in(number as u32, &objects[number], w) {
+            return word;
+        }
+    }
+    0
+}

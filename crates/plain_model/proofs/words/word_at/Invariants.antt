@@ -1,9 +1,0 @@
-use Rattle.std.proofs.Common.{ℕ, ◌<◌}
-use Rattle.std.specs.FinMap.{get}
-use Rattle.plain_model.specs.Amounts.{held_in}
-use Rattle.plain_model.specs.Words.{Misses}
-use Rattle.plain_model.proofs.words.word_at.Given as goal
-
--- none of the objects so far has the word
-abbrev pub invariant-loop-number : goal.invariant-loop-number
-invariant-loop-number l = (h : ℕ) → h < l.number → Misses (get (held_in l.objects) h) l.w

@@ -1,0 +1,123 @@
+-- Every step of a run that goes on meets the bound on pages, and refuses mallocs as the arithmetic says.
+use Rattle.std.proofs.Common.{◌≡◌, ℕ, zero, suc, Bool, ◌+◌, ◌<◌, ◌≤◌, Option, Some, None, Result, Ok, Err, arith, sym, ◌∙◌, ap, subst, inl, inr, refl}
+use Rattle.std.specs.Prelude.{count_by, ◌↔◌, codes}
+use Rattle.std.specs.List.{range_with_len}
+use Rattle.std.proofs.lemmas.List.Sums.{sum_by-cons}
+use Rattle.std.proofs.lemmas.Bool.{cases_eq}
+use Rattle.std.specs.FinMap.{get}
+use Rattle.cf_base.specs.Classes.{need}
+use Rattle.cf_base.specs.declared.answers.Handle.{Handle}
+use Rattle.cf_base.specs.declared.answers.Refusal.{Refusal}
+use Rattle.cf_base.specs.declared.answers.Refusal.TheVariants as refusal
+use Rattle.cf_base.specs.declared.kind.Kind.{Kind}
+use Rattle.cf_base.specs.declared.kind.Kind.TheVariants.{Moving, NonMoving, Tlsf, HalfFit}
+use Rattle.cf_lemmas.proofs.Ranges.{one}
+use Rattle.page_model.specs.Arrangement.{LacksRoom, not_full_pages, objects_on, pages_needed_with}
+use Rattle.page_model.specs.Held.{Held, objects}
+use Rattle.page_model.specs.Paging.{AreOne, Paging, class_for, page_of, slots_of}
+use Rattle.page_model.specs.Steps.{IsFreePlace, Request}
+use Rattle.page_model.proofs.Counting.{part_full, part_yes}
+use Rattle.page_model.proofs.PageCounts.{sound_few}
+use Rattle.page_model.proofs.RoomAtOne.{lacks_room_at_one}
+use Rattle.page_model.proofs.Sizes.{class_fits}
+use Rattle.cf_model.specs.Rules.{IsPaged, KeepsPages, KeepsRules, KeepsRulesOf}
+use Rattle.cf_model.specs.State.{HeapState, paging_in}
+use Rattle.cf_model.specs.Steps.{IsMallocStep, IsPlacedBy, LacksRoomIn}
+use Rattle.script_reader.specs.declared.command.Command.{Command}
+use Rattle.script_reader.specs.declared.command.Command.TheVariants.{Malloc}
+use Rattle.run_model.specs.Bounds.{HasFewPages, IsWanting, MeetsBounds, Refuses, RefusesByNeed, RefusesForWant}
+use Rattle.run_model.specs.Replies.{malloc_text}
+use Rattle.run_model.specs.Sessions.{IsGoing, RunState}
+use Rattle.run_model.specs.Steps.{MallocsAt, Step}
+use Rattle.run_model.specs.Texts.{Reply, said}
+use Rattle.run_model.proofs.Going.{step_rules, step_same}
+
+-- the rules of a kind with pages
+pub pages_kept : (k : Kind) (s : HeapState) → IsPaged k → KeepsRulesOf k s → KeepsPages s
+pages_kept Moving s paged rules = rules.0
+pages_kept NonMoving s paged rules = rules.0
+pages_kept Tlsf s paged rules = absurd paged
+pages_kept HalfFit s paged rules = absurd paged
+
+-- a heap with pages that keeps its rules has few pages
+pub few_pages : (s : HeapState) → IsPaged s.kind → KeepsRules s → HasFewPages s
+few_pages s paged rules = (let k = pages_kept s.kind s paged rules.of_kind in λ c lt. sound_few (paging_in s) k.paging c lt s.held k.sound)
+
+-- what passes in a range counts
+some_counted : (f : ℕ → Bool) (a n d : ℕ) → a ≤ d → d < a + n → one (f d) ≡ 1 → 0 < count_by f (range_with_len a n)
+some_counted f a zero d low high is = absurd (omega arith)
+some_counted f a (suc n) d low high is =
+    let x : count_by f (range_with_len a (suc n)) ≡ one (f a) + count_by f (range_with_len (a + 1) n) = sum_by-cons (λ p. one (f p)) a (range_with_len (a + 1) n) in
+    elim (cases_eq d a) [
+      | inl same ↦ (let y : one (f a) ≡ 1 = ap (λ k. one (f k)) (sym same) ∙ is in omega arith)
+      | inr ne ↦ (let rest = some_counted f (a + 1) n d (omega arith) (omega arith) is in omega arith)
+    ]
+
+-- a page that is not full counts
+not_full_here : (p : Paging) (m : Held) (c page : ℕ) → page < p.pages → 0 < objects_on p m c page → objects_on p m c page < slots_of p c → 0 < not_full_pages p m c
+unfolding not_full_pages
+not_full_here p m c page lt some less = some_counted (λ g. part_full (objects_on p m c g) (slots_of p c)) 0 p.pages page (omega arith) (omega arith) (part_yes _ _ some less)
+
+-- where there is a free place there is room
+pub place_is_room : (p : Paging) (m : Held) (n a : ℕ) → IsFreePlace p m n a → LacksRoom p m (class_for p n) → ⊥
+place_is_room p m n a free lacks = elim free.choice [
+  | inl there ↦ (let some = not_full_here p m (class_for p n) (page_of p a) free.slot.page there.0 there.1 in let none = lacks.full in absurd (omega arith))
+  | inr bare ↦ (let some = lacks.taken (page_of p a) free.slot.page in let none = bare.1 in absurd (omega arith))
+]
+
+-- a heap with pages, of a kind that is known, and a malloc of so many bytes that fit a page, where every bound is 1
+module _ (k : Kind) (paged : IsPaged k) (s : HeapState) (rules : KeepsRules s) (is : s.kind ≡ k) (bytes : ℕ) (ones : AreOne (paging_in s)) (fits : need bytes ≤ s.profile.page_words) where
+  pages : KeepsPages s
+  pages = pages_kept s.kind s (subst IsPaged (sym is) paged) rules.of_kind
+
+  -- room is lacking exactly as arithmetic says
+  by_need : LacksRoom (paging_in s) s.held (class_for (paging_in s) bytes) ↔ (s.profile.pages < pages_needed_with (paging_in s) (objects s.held) bytes)
+  by_need = lacks_room_at_one (paging_in s) pages.paging ones s.held pages.sound bytes (class_fits (paging_in s) pages.paging bytes fits)
+
+  lacking_in : (j : Kind) → IsPaged j → LacksRoomIn j s bytes → LacksRoom (paging_in s) s.held (class_for (paging_in s) bytes)
+  lacking_in Moving p l = l
+  lacking_in NonMoving p l = l
+  lacking_in Tlsf p l = absurd p
+  lacking_in HalfFit p l = absurd p
+
+  placed_in : (j : Kind) (asked : Request) (place : ℕ) (new : HeapState) → IsPaged j → IsPlacedBy j s asked place new → IsFreePlace (paging_in s) s.held asked.length place
+  placed_in Moving asked place new p at = at
+  placed_in NonMoving asked place new p at = at
+  placed_in Tlsf asked place new p at = absurd p
+  placed_in HalfFit asked place new p at = absurd p
+
+  refused_exactly : (answer : Result Handle Refusal) (new : HeapState) (reply : Reply) → IsMallocStep s bytes answer new → reply ≡ said (malloc_text answer) → RefusesForWant reply ↔ IsWanting s bytes
+  refused_exactly (Ok h) new reply step told = (
+    (λ refused. absurd (elim refused [
+      | inl e ↦ (let z : said (codes "ok") ≡ said (codes "refused proxy") = sym told ∙ e in cc)
+      | inr e ↦ (let z : said (codes "ok") ≡ said (codes "refused space") = sym told ∙ e in cc)
+    ])),
+    (λ wanting. absurd (elim wanting [
+      | inl all ↦ (let few = step.few in omega arith)
+      | inr more ↦ place_is_room (paging_in s) s.held bytes step.place (placed_in s.kind (record { number = h.0; length = bytes }) step.place new (subst IsPaged (sym is) paged) step.placed) (by_need.1 more)
+    ])),
+  )
+  refused_exactly (Err refusal.Size) new reply step told = absurd (let large = step.0 in omega arith)
+  refused_exactly (Err refusal.Proxy) new reply step told = ((λ _. inl step.0.all), (λ _. inl told))
+  refused_exactly (Err refusal.Space) new reply step told = ((λ _. inr (by_need.0 (lacking_in s.kind (subst IsPaged (sym is) paged) step.0.lacking))), (λ _. inr told))
+
+refuses_at : (k : Kind) (o : Option ℕ) (old : RunState) (asked : Request) (reply : Reply) (new : RunState) → IsPaged k → KeepsRules old.heap → old.heap.kind ≡ k → MallocsAt o old asked reply new → RefusesByNeed o old.heap asked.length reply
+refuses_at k (Some h) old asked reply new paged rules is step = tt
+refuses_at k None old asked reply new paged rules is step = λ ones fits. refused_exactly k paged old.heap rules is asked.length ones fits step.answer new.heap reply step.step step.reply_is
+
+-- a malloc is refused by need, where every bound is 1
+pub step_refuses : (old new : RunState) (c : Command) (reply : Reply) → IsPaged old.heap.kind → KeepsRules old.heap → Step old c reply new → Refuses old c reply
+step_refuses old new (Malloc id bytes) reply paged rules step = refuses_at old.heap.kind (get old.session.ids id) old (record { number = id; length = bytes }) reply new paged rules refl step
+step_refuses old new _ reply paged rules step = tt
+
+meets : (k : Kind) (old new : RunState) (c : Command) (reply : Reply) → (IsPaged k → HasFewPages new.heap) → (IsPaged k → Refuses old c reply) → MeetsBounds k old c reply new
+meets Moving old new c reply few refuses = (few tt, refuses tt)
+meets NonMoving old new c reply few refuses = (few tt, refuses tt)
+meets Tlsf old new c reply few refuses = tt
+meets HalfFit old new c reply few refuses = tt
+
+-- every step of a run that goes on meets the bounds
+pub step_meets_bounds : (old new : RunState) (c : Command) (reply : Reply) → IsGoing old → Step old c reply new → MeetsBounds old.heap.kind old c reply new
+step_meets_bounds old new c reply going step = meets old.heap.kind old new c reply
+    (λ paged. few_pages new.heap (subst IsPaged (sym (step_same old new c reply going.rules step).kind) paged) (step_rules old new c reply going.rules step))
+    (λ paged. step_refuses old new c reply paged going.rules step)

@@ -1,0 +1,38 @@
+-- One command answered to a sink.
+use Rattle.std.specs.Prelude.{◌≡◌, ℕ, List, ◌++◌, Option, Result, Ok, Err}
+use Rattle.cf_base.specs.declared.answers.Failed.{Failed}
+use Rattle.cf_io.specs.Feeds.{appended}
+use Rattle.script_reader.specs.declared.command.Command.{Command}
+use Rattle.run_model.specs.Runs.{Turn}
+use Rattle.run_model.specs.Sessions.{RunState}
+use Rattle.run_model.specs.Texts.{Reply, led}
+
+-- a command, and what leads each line of its reply
+pub record Asked : Type 0 where
+  pub command : Command
+  pub lead : List ℕ
+
+-- a run at one moment, and the bytes written by then, where the sink tells them
+pub record Moment : Type 0 where
+  pub run : RunState
+  pub written : Option (List ℕ)
+
+-- the command took effect, and its whole reply was written
+pub record IsAnswered (old : Moment) (asked : Asked) (new : Moment) : Type 0 where
+  pub reply : Reply
+  pub turn : Turn old.run asked.command reply new.run
+  pub written : new.written ≡ appended old.written (led asked.lead reply)
+
+-- the command took effect, and a front of its reply was written
+pub record IsCutShort (old : Moment) (asked : Asked) (new : Moment) : Type 0 where
+  pub reply : Reply
+  pub front : List ℕ
+  pub lost : List ℕ
+  pub turn : Turn old.run asked.command reply new.run
+  pub cut : led asked.lead reply ≡ front ++ lost
+  pub written : new.written ≡ appended old.written front
+
+-- by whether the sink failed
+abbrev pub IsAnsweredBy : {T : Type 0} → Moment → Asked → Result T Failed → Moment → Type 0
+IsAnsweredBy old asked (Ok t) new = IsAnswered old asked new
+IsAnsweredBy old asked (Err e) new = IsCutShort old asked new

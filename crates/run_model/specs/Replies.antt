@@ -1,0 +1,97 @@
+-- The reply of each command.
+use Rattle.std.specs.Prelude.{ℕ, ◌+◌, List, ◌++◌, Option, Some, None, Result, Ok, Err, codes, length, take, drop, nat_le, if◌then◌else◌, slice_get}
+use Rattle.std.specs.FinMap.{get}
+use Rattle.hex.specs.Hex.{encode_lower}
+use Rattle.cf_base.specs.declared.answers.AccessFault.{AccessFault}
+use Rattle.cf_base.specs.declared.answers.AccessFault.TheVariants as access
+use Rattle.cf_base.specs.declared.answers.Handle.{Handle}
+use Rattle.cf_base.specs.declared.answers.Refusal.{Refusal}
+use Rattle.cf_base.specs.declared.answers.Refusal.TheVariants as refusal
+use Rattle.cf_base.specs.declared.answers.Resized.{Resized}
+use Rattle.cf_base.specs.declared.answers.ResizeFault.{ResizeFault}
+use Rattle.cf_base.specs.declared.answers.ResizeFault.TheVariants as resize
+use Rattle.cf_base.specs.declared.kind.Kind.{Kind}
+use Rattle.cf_base.specs.declared.kind.Kind.TheVariants.{Moving, NonMoving, Tlsf, HalfFit}
+use Rattle.page_model.specs.Held.{Placed}
+use Rattle.cf_io.specs.Lines.{word_text}
+use Rattle.cf_model.specs.Answers.{block_of_object}
+use Rattle.cf_model.specs.State.{HeapState}
+use Rattle.script_reader.specs.declared.command.Command.{Command}
+use Rattle.script_reader.specs.declared.command.Command.TheVariants.{Read, Place, Block, Peek, Walk, Frag, Steps}
+use Rattle.run_model.specs.Reports.{frag_of, walk_of}
+use Rattle.run_model.specs.Sessions.{RunState, SessionState}
+use Rattle.run_model.specs.Texts.{Reply, said, with_number}
+
+-- the object that an id names, where it is live
+abbrev pub object_of : RunState → ℕ → Option Placed
+object_of s id = elim (get s.session.ids id) [ None ↦ None | Some h ↦ get s.heap.held h ]
+
+-- m
+abbrev pub malloc_text : Result Handle Refusal → List ℕ
+malloc_text (Ok h) = codes "ok"
+malloc_text (Err refusal.Size) = codes "refused size"
+malloc_text (Err refusal.Proxy) = codes "refused proxy"
+malloc_text (Err refusal.Space) = codes "refused space"
+
+-- w
+abbrev pub write_text : Result Unit AccessFault → List ℕ
+write_text (Ok u) = codes "ok"
+write_text (Err access.Unknown) = codes "unknown"
+write_text (Err access.Range) = codes "range"
+
+-- z
+abbrev pub resize_text : Result Resized ResizeFault → List ℕ
+resize_text (Ok done) = codes "ok"
+resize_text (Err resize.Unknown) = codes "unknown"
+resize_text (Err resize.Kind) = codes "none"
+resize_text (Err resize.Size) = codes "refused size"
+resize_text (Err resize.Space) = codes "refused space"
+
+-- r: `=` and the bytes in hexadecimal
+abbrev pub read_text : Option Placed → ℕ → ℕ → List ℕ
+read_text None at count = codes "unknown"
+read_text (Some x) at count = if nat_le (at + count) (length x.bytes) then codes "=" ++ encode_lower (take count (drop at x.bytes)) else codes "range"
+
+-- q: the first word of the object's slot or block
+abbrev pub place_text : Option Placed → List ℕ
+place_text None = codes "unknown"
+place_text (Some x) = with_number (codes "at ") x.place
+
+-- a physical block, where the object has such a block
+abbrev pub frame_text : Option ℕ → List ℕ
+frame_text None = codes "range"
+frame_text (Some frame) = with_number (codes "block ") frame
+
+-- b, on a live object: only one kind has a block table
+abbrev pub block_text : Kind → HeapState → Placed → ℕ → List ℕ
+block_text Moving s x i = codes "none"
+block_text NonMoving s x i = frame_text (block_of_object s (Some x) i)
+block_text Tlsf s x i = codes "none"
+block_text HalfFit s x i = codes "none"
+
+abbrev pub block_text_at : HeapState → Option Placed → ℕ → List ℕ
+block_text_at s None i = codes "unknown"
+block_text_at s (Some x) i = block_text s.kind s x i
+
+-- p: the word as 16 hexadecimal digits
+abbrev pub peek_text : Option ℕ → List ℕ
+peek_text None = codes "range"
+peek_text (Some word) = word_text word
+
+-- steps: the cost of the last call; with pages also its bound, and how many objects moved, with the words of their slots
+abbrev pub steps_text : Kind → SessionState → ℕ → List ℕ
+steps_text Moving s cost = with_number (codes "steps last ") cost ++ (with_number (codes " bound ") s.bound ++ (with_number (codes " moves ") s.moves ++ with_number (codes " words ") s.words))
+steps_text NonMoving s cost = with_number (codes "steps last ") cost ++ (with_number (codes " bound ") s.bound ++ (with_number (codes " moves ") s.moves ++ with_number (codes " words ") s.words))
+steps_text Tlsf s cost = with_number (codes "steps last ") cost
+steps_text HalfFit s cost = with_number (codes "steps last ") cost
+
+-- the reply of a command that changes nothing; `none` to the words of the modes that do more
+abbrev pub told : RunState → Command → Reply
+told s (Read id at count) = said (read_text (object_of s id) at count)
+told s (Place id) = said (place_text (object_of s id))
+told s (Block id i) = said (block_text_at s.heap (object_of s id) i)
+told s (Peek word) = said (peek_text (slice_get s.heap.words word))
+told s Walk = walk_of s.heap.kind s.heap
+told s Frag = frag_of s.heap
+told s Steps = said (steps_text s.heap.kind s.session s.heap.cost)
+told s command = said (codes "none")

@@ -1,0 +1,64 @@
+-- What a session keeps beside its manager.
+use Rattle.std.specs.Prelude.{◌≡◌, ℕ, ◌+◌, ◌≤◌, ⊤, Option, Some, None, min, refl, IsTrue}
+use Rattle.std.specs.Ordering.{nat_cmp}
+use Rattle.std.specs.FinMap as map
+use Rattle.std.specs.Coded.{Coded, code_by, coded×, coded_ℕ}
+use Rattle.cf_base.specs.declared.kind.Kind.{Kind}
+use Rattle.cf_base.specs.declared.kind.Kind.TheVariants.{Moving, NonMoving, Tlsf, HalfFit}
+use Rattle.page_model.specs.Held.{Placed}
+use Rattle.cf_io.specs.Feeds.{last_count}
+use Rattle.cf_model.specs.Rules.{KeepsRules}
+use Rattle.cf_model.specs.State.{HeapState}
+
+-- the number of the handle of each live id
+abbrev pub Ids : Type 0
+Ids = map.FinMap nat_cmp ℕ
+
+-- The live ids; the bound on the steps of the last call that changed the objects' places or lengths, 0 before one; how many objects moved, and the words of their slots.
+pub record SessionState : Type 0 where
+  pub ids : Ids
+  pub bound : ℕ
+  pub moves : ℕ
+  pub words : ℕ
+
+-- a session that was just begun
+abbrev pub fresh_session : SessionState
+fresh_session = record { ids = map.empty; bound = 0; moves = 0; words = 0 }
+
+abbrev pub session_code : Coded SessionState
+session_code = code_by (Ids × (ℕ × (ℕ × ℕ))) (coded× (map.code coded_ℕ coded_ℕ) (coded× coded_ℕ (coded× coded_ℕ coded_ℕ)))
+    (λ s. (s.ids, (s.bound, (s.moves, s.words)))) (λ q. record { ids = q.0; bound = q.1.0; moves = q.1.1.0; words = q.1.1.1 }) (λ _. refl)
+
+-- n more, as far as a counter of 64 bits goes
+abbrev pub more_by : ℕ → ℕ → ℕ
+more_by count n = min (count + n) last_count
+
+-- an object moved, if one did, from a slot of so many words
+abbrev pub counted : {T : Type 0} → SessionState → Option T → ℕ → SessionState
+counted s None slot_words = s
+counted s (Some h) slot_words = record s { moves = more_by s.moves 1; words = more_by s.words slot_words }
+
+-- a run at one moment: the session and its manager
+pub record RunState : Type 0 where
+  pub session : SessionState
+  pub heap : HeapState
+
+-- with pages, a call costs at most so many steps
+abbrev pub CostsAtMost : Kind → ℕ → ℕ → Type 0
+CostsAtMost Moving cost n = cost ≤ n
+CostsAtMost NonMoving cost n = cost ≤ n
+CostsAtMost Tlsf cost n = ⊤
+CostsAtMost HalfFit cost n = ⊤
+
+-- The live ids name just the live handles, each once; and with pages the last cost is within its bound.
+pub record AreTied (session : SessionState) (heap : HeapState) : Type 0 where
+  pub named : (id h : ℕ) → map.get session.ids id ≡ Some h → (x : Placed) × (map.get heap.held h ≡ Some x)
+  pub once : (id other h : ℕ) → map.get session.ids id ≡ Some h → map.get session.ids other ≡ Some h → other ≡ id
+  pub all : (h : ℕ) (x : Placed) → map.get heap.held h ≡ Some x → (id : ℕ) × (map.get session.ids id ≡ Some h)
+  pub cost : CostsAtMost heap.kind heap.cost session.bound
+
+-- the run goes on: its manager is open and keeps its rules, and its session is tied to it
+pub record IsGoing (s : RunState) : Type 0 where
+  pub opened : IsTrue s.heap.is_open
+  pub rules : KeepsRules s.heap
+  pub tied : AreTied s.session s.heap

@@ -1,0 +1,115 @@
+-- What one command does.
+use Rattle.std.specs.Prelude.{◌≡◌, ℕ, ◌+◌, ◌*◌, List, Option, Some, None, Result, Ok, Err, codes, if◌then◌else◌, nat_eq}
+use Rattle.std.specs.FinMap.{get, insert, len, remove}
+use Rattle.cf_base.specs.declared.answers.AccessFault.{AccessFault}
+use Rattle.cf_base.specs.declared.answers.Freed.{Freed}
+use Rattle.cf_base.specs.declared.answers.Handle.{Handle}
+use Rattle.cf_base.specs.declared.answers.Refusal.{Refusal}
+use Rattle.cf_base.specs.declared.answers.Resized.{Resized}
+use Rattle.cf_base.specs.declared.answers.ResizeFault.{ResizeFault}
+use Rattle.page_model.specs.Steps.{Request}
+use Rattle.cf_model.specs.Answers.{bound_put, class_with}
+use Rattle.cf_model.specs.Costs.{resize_bound}
+use Rattle.cf_model.specs.Rules.{KeepsRules}
+use Rattle.cf_model.specs.State.{HeapState}
+use Rattle.cf_model.specs.Steps.{FreesObject, IsMallocStep, IsResizeStep, IsWriteStep, Part}
+use Rattle.script_reader.specs.declared.command.Command.{Command}
+use Rattle.script_reader.specs.declared.command.Command.TheVariants.{Malloc, Free, Write, Bound, Resize}
+use Rattle.run_model.specs.Replies.{malloc_text, resize_text, told, write_text}
+use Rattle.run_model.specs.Sessions.{CostsAtMost, Ids, RunState, SessionState, counted}
+use Rattle.run_model.specs.Texts.{Reply, said}
+
+-- the command does nothing, and gets this reply
+abbrev pub Stays : RunState → List ℕ → Reply → RunState → Type 0
+Stays old text reply new = (reply ≡ said text) × (new ≡ old)
+
+-- the ids after a malloc for an id
+abbrev pub ids_given : Ids → ℕ → Result Handle Refusal → Ids
+ids_given ids id (Ok h) = insert ids id h.0
+ids_given ids id (Err e) = ids
+
+-- a malloc for an id that isn't live
+pub record Mallocs (old : RunState) (asked : Request) (reply : Reply) (new : RunState) : Type 0 where
+  pub answer : Result Handle Refusal
+  pub step : IsMallocStep old.heap asked.length answer new.heap
+  pub rules : KeepsRules new.heap
+  pub cost : CostsAtMost new.heap.kind new.heap.cost 64
+  pub session : new.session ≡ record old.session { ids = ids_given old.session.ids asked.number answer; bound = 64 }
+  pub reply_is : reply ≡ said (malloc_text answer)
+
+-- by what the id names
+abbrev pub MallocsAt : Option ℕ → RunState → Request → Reply → RunState → Type 0
+MallocsAt (Some h) old asked reply new = Stays old (codes "live") reply new
+MallocsAt None old asked reply new = Mallocs old asked reply new
+
+-- an id, and the number of the handle that it names
+pub record Named : Type 0 where
+  pub id : ℕ
+  pub number : ℕ
+
+-- a free of a live id
+pub record Frees (old : RunState) (named : Named) (reply : Reply) (new : RunState) : Type 0 where
+  pub freed : Freed
+  pub step : FreesObject old.heap named.number freed new.heap
+  pub rules : KeepsRules new.heap
+  pub cost : CostsAtMost new.heap.kind new.heap.cost (96 + 2 * freed.slot_words)
+  pub session : new.session ≡ counted (record old.session { ids = remove old.session.ids named.id; bound = 96 + 2 * freed.slot_words }) freed.moved freed.slot_words
+  pub reply_is : reply ≡ said (codes "ok")
+
+abbrev pub FreesAt : Option ℕ → RunState → ℕ → Reply → RunState → Type 0
+FreesAt None old id reply new = Stays old (codes "unknown") reply new
+FreesAt (Some h) old id reply new = Frees old (record { id = id; number = h }) reply new
+
+-- a write into a live object
+pub record Writes (old : RunState) (part : Part) (bytes : List ℕ) (reply : Reply) (new : RunState) : Type 0 where
+  pub answer : Result Unit AccessFault
+  pub step : IsWriteStep old.heap part bytes answer new.heap
+  pub rules : KeepsRules new.heap
+  pub session : new.session ≡ old.session
+  pub reply_is : reply ≡ said (write_text answer)
+
+abbrev pub WritesAt : Option ℕ → RunState → ℕ → List ℕ → Reply → RunState → Type 0
+WritesAt None old at bytes reply new = Stays old (codes "unknown") reply new
+WritesAt (Some h) old at bytes reply new = Writes old (record { number = h; from = at }) bytes reply new
+
+-- the session after a resize: an object that takes the old slot has moved
+abbrev pub session_resized : SessionState → Result Resized ResizeFault → SessionState
+session_resized s (Ok done) = counted s done.moved done.old_slot_words
+session_resized s (Err e) = s
+
+-- a resize of a live object; `number` is that of its handle
+pub record Resizes (old : RunState) (asked : Request) (reply : Reply) (new : RunState) : Type 0 where
+  pub answer : Result Resized ResizeFault
+  pub step : IsResizeStep old.heap asked answer new.heap
+  pub rules : KeepsRules new.heap
+  pub cost : CostsAtMost new.heap.kind new.heap.cost (resize_bound answer)
+  pub session : new.session ≡ session_resized (record old.session { bound = resize_bound answer }) answer
+  pub reply_is : reply ≡ said (resize_text answer)
+
+abbrev pub ResizesAt : Option ℕ → RunState → ℕ → Reply → RunState → Type 0
+ResizesAt None old bytes reply new = Stays old (codes "unknown") reply new
+ResizesAt (Some h) old bytes reply new = Resizes old (record { number = h; length = bytes }) reply new
+
+-- the class that gets a bound of its own: none where no class has such slots; nor where an object is live, of which no script tells
+abbrev pub class_to_bound : HeapState → ℕ → Option ℕ
+class_to_bound s slot_words = if nat_eq (len s.held) 0 then class_with s.kind s slot_words else None
+
+abbrev pub bound_text : Option ℕ → List ℕ
+bound_text None = codes "none"
+bound_text (Some c) = codes "ok"
+
+-- a class gets a bound
+pub record Bounds (old : RunState) (slot_words k : ℕ) (reply : Reply) (new : RunState) : Type 0 where
+  pub heap : new.heap ≡ bound_put old.heap (class_to_bound old.heap slot_words) k
+  pub rules : KeepsRules new.heap
+  pub session : new.session ≡ old.session
+  pub reply_is : reply ≡ said (bound_text (class_to_bound old.heap slot_words))
+
+-- One command: its reply, and the state after it.
+abbrev pub Step : RunState → Command → Reply → RunState → Type 0
+Step old (Malloc id bytes) reply new = MallocsAt (get old.session.ids id) old (record { number = id; length = bytes }) reply new
+Step old (Free id) reply new = FreesAt (get old.session.ids id) old id reply new
+Step old (Write id at bytes) reply new = WritesAt (get old.session.ids id) old at bytes reply new
+Step old (Resize id bytes) reply new = ResizesAt (get old.session.ids id) old bytes reply new
+Step old (Bound slot_words k) reply new = Bounds old slot_words k reply new
+Step old command reply new = (reply ≡ told old command) × (new ≡ old)

@@ -1,0 +1,63 @@
+use Rattle.std.proofs.Common.{◌≤◌, ◌∙◌, ◌++◌, [], arith, ap, drop, length, length-drop}
+use Rattle.std.proofs.lemmas.List.{length-take-le, take_rest}
+use Rattle.script_loop.proofs.Feeding.{appended_after, appended_none}
+use Rattle.script_loop.proofs.Going.{answered_fed, answered_next, answered_none, answered_over, cut_next, cut_over}
+use Rattle.script_loop.proofs.answering.answer_piece.Goals as goal
+
+pub feeds-init : goal.feeds-init
+feeds-init g c = record {
+  text = [];
+  answered = answered_none _;
+  ready = c.requires.ready;
+  waiting = c.requires.waiting;
+  same_end = c.requires.open;
+  fed = omega arith;
+  within = omega arith;
+  wrote = appended_none _;
+  grows = omega arith;
+}
+
+pub feeds-preserved : goal.feeds-preserved
+feeds-preserved g c =
+    let so_far = c.feeds.invariant in
+    let took = rw (take_rest c.args.piece.now c.feeds.at) at c.feed-at.ensures in
+    let kept = c.in-GoesOn.ensures.goes in
+    let some : c.feed-at.result ≤ length (drop c.feeds.at c.args.piece.now) = omega (arith, took.value) in
+    let long = length-take-le c.feed-at.result (drop c.feeds.at c.args.piece.now) some in
+    let count = ap (λ r. r.fed) took.fed in
+    record {
+      text = so_far.text ++ kept.text;
+      answered = answered_next (answered_fed _ c.args.piece.now c.feeds.at c.feed-at.result so_far.answered so_far.same_end took.fed) kept.answered;
+      ready = kept.ready;
+      waiting = kept.waiting;
+      same_end = kept.same_end ∙ ap (λ r. r.ended) took.fed ∙ so_far.same_end;
+      fed = omega (arith, kept.fed, count, long, so_far.fed);
+      within = omega (arith, some, length-drop c.feeds.at c.args.piece.now);
+      wrote = appended_after _ _ _ _ _ so_far.wrote kept.wrote;
+      grows = omega arith;
+    }
+
+pub returns-in-Stopped-clause-goes : goal.returns-in-Stopped-clause-goes
+returns-in-Stopped-clause-goes g c =
+    let so_far = c.feeds.invariant in
+    let took = rw (take_rest c.args.piece.now c.feeds.at) at c.feed-at.ensures in
+    let kept = c.in-Stopped.ensures.goes in
+    record {
+      text = so_far.text ++ kept.text;
+      answered = answered_over kept.over.0 c.args.piece.now _
+          (answered_next (answered_fed _ c.args.piece.now c.feeds.at c.feed-at.result so_far.answered so_far.same_end took.fed) kept.answered) kept.over.1;
+      wrote = appended_after _ _ _ _ _ so_far.wrote kept.wrote;
+      over = kept.over;
+    }
+
+pub returns-in-Cut-clause-goes : goal.returns-in-Cut-clause-goes
+returns-in-Cut-clause-goes g c =
+    let so_far = c.feeds.invariant in
+    let took = rw (take_rest c.args.piece.now c.feeds.at) at c.feed-at.ensures in
+    let kept = c.in-Cut.ensures.goes in
+    record {
+      out = so_far.text ++ kept.out;
+      cut = cut_over c.args.piece.now _
+          (cut_next (answered_fed _ c.args.piece.now c.feeds.at c.feed-at.result so_far.answered so_far.same_end took.fed) kept.cut);
+      wrote = appended_after _ _ _ _ _ so_far.wrote kept.wrote;
+    }

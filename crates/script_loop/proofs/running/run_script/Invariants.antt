@@ -1,0 +1,29 @@
+use Rattle.std.proofs.Common.{◌≡◌, ◌≤◌, ◌+◌, List, ℕ, false, length}
+use Rattle.cf_io.specs.Feeds.{HasGiven, appended, preceded}
+use Rattle.script_reader.specs.Reading.{fresh}
+use Rattle.script_loop.specs.Going.{Answered, IsWaiting}
+use Rattle.script_loop.specs.Outcome.{MOST_BYTES}
+use Rattle.script_loop.specs.Players.{IsReady, player}
+use Rattle.script_loop.proofs.running.run_script.Given as goal
+
+abbrev pub invariant-pieces : goal.invariant-pieces
+invariant-pieces g l = record {
+  taken : List ℕ;
+  text : List ℕ;
+  answered : Answered (player fresh l.initial.session (g.H.Manager.state l.initial.heap)) taken
+      (player l.reader l.session (g.H.Manager.state l.heap)) text false;
+  ready : IsReady (player l.reader l.session (g.H.Manager.state l.heap));
+  waiting : IsWaiting l.reader;
+  same_end : l.reader.ended ≡ false;
+  fed : l.reader.fed ≡ length taken;
+  count : length taken + l.room ≡ MOST_BYTES;
+  hands : g.S.Source.rest l.initial.source ≡ preceded taken (g.S.Source.rest l.source);
+  wrote : g.K.Sink.written l.sink ≡ appended (g.K.Sink.written l.initial.sink) text;
+  given : HasGiven (g.S.Source.given l.initial.source) (length taken) (g.S.Source.given l.source);
+  source_grows : g.S.Source.faults l.initial.source ≤ g.S.Source.faults l.source;
+  sink_grows : g.K.Sink.faults l.initial.sink ≤ g.K.Sink.faults l.sink;
+  buffer : length l.buffer ≡ 4096;
+}
+
+abbrev pub decreases-pieces : goal.decreases-pieces
+decreases-pieces g l = l.room

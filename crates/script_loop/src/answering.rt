@@ -1,0 +1,120 @@
+//! Answering what a reader has.
+ghost use Rattle.std.specs.Prelude.{◌≡◌, ◌≤◌, ◌+◌, [], length, false, None};
+ghost use Rattle.cf_io.specs.Feeds.{Rose};
+ghost use Rattle.script_reader.specs.Reading.{MOST_FED};
+ghost use Rattle.script_loop.specs.Going.{Goes, IsWaiting, NamesBad, Opens};
+ghost use Rattle.script_loop.specs.Players.{IsReady, heap_moment, player, progress};
+
+use cf_base::Settings;
+use cf_io::{Line, Sink, put_all};
+use cf_model::Manager;
+use cf_session::Session;
+use script_reader::{Next, Reader};
+
+/// How far the answers came.
+#[derive(Clone, Copy, Debug, PartialEq, Eq)]
+pub enum Ready {
+    /// Up to where more is needed, or to the end.
+    GoesOn,
+    /// To a bad line, which was named.
+    Stopped,
+    /// To where the sink failed.
+    Cut,
+    /// To the `heap` line, for which memory was wanting.
+    Wanting,
+}
+
+/// Opens the manager, as the `heap` line asks.
+fn open_heap<H: Manager, K: Sink>(heap: &mut H, settings: &Settings, sink: &mut K) -> Ready
+    ensures opens { Opens (heap_moment (H.state heap.old) (K.written sink.old)) settings.now result
+        (heap_moment (H.state heap.new) (K.written sink.new)) }
+    ensures grows { K.faults sink.old ≤ K.faults sink.new }
+    ensures failed { result ≡ Ready.Cut → Rose (K.faults sink.old) (K.faults sink.new) }
+{
+    match heap.open_heap(settings) {
+        Ok(()) => {}
+        Err(_) => return Ready::Wanting,
+    }
+    match put_all(sink, b"ok\n") {
+        Ok(()) => Ready::GoesOn,
+        Err(_) => Ready::Cut,
+    }
+}
+
+/// Names the bad line.
+fn name_bad<K: Sink>(number: u32, sink: &mut K) -> Ready
+    ensures names { NamesBad (K.written sink.old) number result (K.written sink.new) }
+    ensures grows { K.faults sink.old ≤ K.faults sink.new }
+    ensures failed { result ≡ Ready.Cut → Rose (K.faults sink.old) (K.faults sink.new) }
+{
+    let mut line = Line::new();
+    line.push(b"bad line ").unwrap();
+    line.push_number(number as u64).unwrap();
+    line.push(b"\n").unwrap();
+    match put_all(sink, line.bytes()) {
+        Ok(()) => Ready::Stopped,
+        Err(_) => Ready::Cut,
+    }
+}
+
+/// Answers what the reader has, until it needs more, has ended, or is at a bad line.
+pub fn answer_kept<H: Manager, K: Sink>(
+    reader: &mut Reader,
+    session: &mut Session,
+    heap: &mut H,
+    sink: &mut K,
+) -> Ready
+    requires going { reader.old.stopped ≡ None }
+    requires ready { IsReady (player reader.old session.old (H.state heap.old)) }
+    ensures goes { Goes (progress (player reader.old session.old (H.state heap.old)) (K.written sink.old)) [] result
+        (progress (player reader.new session.new (H.state heap.new)) (K.written sink.new)) }
+    ensures grows { K.faults sink.old ≤ K.faults sink.new }
+    ensures failed { result ≡ Ready.Cut → Rose (K.faults sink.old) (K.faults sink.new) }
+{
+    'replies: loop {
+        match reader.next_command() {
+            Next::Start(settings) => match open_heap(heap, &settings, sink) {
+                Ready::GoesOn => {}
+                Ready::Stopped => return Ready::Stopped,
+                Ready::Cut => return Ready::Cut,
+                Ready::Wanting => return Ready::Wanting,
+            },
+            Next::Command(ref command) => match session.apply(heap, command, b"", sink) {
+                Ok(_) => {}
+                Err(_) => return Ready::Cut,
+            },
+            Next::NeedMore | Next::End => return Ready::GoesOn,
+            Next::Bad { line } => return name_bad(line, sink),
+        }
+    }
+}
+
+/// Answers what the piece completes.
+pub fn answer_piece<H: Manager, K: Sink>(
+    reader: &mut Reader,
+    session: &mut Session,
+    heap: &mut H,
+    sink: &mut K,
+    piece: &[u8],
+) -> Ready
+    requires waiting { IsWaiting reader.old }
+    requires open { reader.old.ended ≡ false }
+    requires few { reader.old.fed + length piece.now ≤ MOST_FED }
+    requires ready { IsReady (player reader.old session.old (H.state heap.old)) }
+    ensures goes { Goes (progress (player reader.old session.old (H.state heap.old)) (K.written sink.old)) piece.now result
+        (progress (player reader.new session.new (H.state heap.new)) (K.written sink.new)) }
+    ensures grows { K.faults sink.old ≤ K.faults sink.new }
+    ensures failed { result ≡ Ready.Cut → Rose (K.faults sink.old) (K.faults sink.new) }
+{
+    let mut at = 0;
+    'feeds: while at < piece.len() {
+        at += reader.feed(&piece[at..]);
+        match answer_kept(reader, session, heap, sink) {
+            Ready::GoesOn => {}
+            Ready::Stopped => return Ready::Stopped,
+            Ready::Cut => return Ready::Cut,
+            Ready::Wanting => return Ready::Wanting,
+        }
+    }
+    Ready::GoesOn
+}

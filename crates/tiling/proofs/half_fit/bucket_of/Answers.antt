@@ -1,7 +1,0 @@
-use Rattle.std.proofs.Common.{sym, arith}
-use Rattle.tiling.proofs.Logs.{log_is}
-use Rattle.tiling.proofs.half_fit.bucket_of.Goals as goal
-
--- a u32 has its power among the first 32
-pub returns : goal.returns
-returns c = sym (log_is 31 c.args.size c.ilog2.result (omega arith) (omega arith) (omega arith))

@@ -1,0 +1,98 @@
+-- The figures where every bound is 1.
+use Rattle.std.proofs.Common.{◌≡◌, ℕ, zero, suc, ◌+◌, ◌-◌, ◌*◌, ◌%◌, ◌<◌, ◌≤◌, length, arith, sym, ◌∙◌, ap, subst, cond}
+use Rattle.std.specs.Prelude.{nat_eq}
+use Rattle.std.specs.List.{range_with_len}
+use Rattle.std.proofs.lemmas.Nat.{mod-mul-add}
+use Rattle.std.proofs.Math.Nat.{mul-mod_left}
+use Rattle.cf_lemmas.proofs.Ranges.{one}
+use Rattle.page_model.specs.Held.{Held, Objects, objects}
+use Rattle.page_model.specs.Paging.{Paging, IsPaging, AreOne, classes, slot_words, slots_of, class_for}
+use Rattle.page_model.specs.Counts.{Stand, ceil_div}
+use Rattle.page_model.specs.Figures.{asked_bytes, figures_of, taken_bytes, totals_of}
+use Rattle.page_model.specs.Arrangement.{live, home_pages, not_full_pages, pages_needed, pages_needed_with, IsSound}
+use Rattle.page_model.proofs.Counting.{eq_no, eq_yes}
+use Rattle.page_model.proofs.PageCounts.{slots_some, sound_stand}
+use Rattle.page_model.proofs.PageLaws.{can_hold_one}
+use Rattle.page_model.proofs.RoomAtOne.{used_at_one}
+use Rattle.page_model.proofs.Totals.{sum_same}
+use Rattle.transcript_laws.specs.AtOne.{figures_at_one, part_pages, totals_at_one}
+use Rattle.transcript_laws.proofs.Renaming.{CountAlike}
+
+divides : (n m : ℕ) → n % m ≡ 0 → part_pages n m ≡ 0
+divides n m is = (let e = eq_yes (n % m) 0 is in rw e)
+
+leaves : (n m : ℕ) → 0 < n % m → part_pages n m ≡ 1
+leaves n m some = (let e = eq_no (n % m) 0 (λ is. omega arith) in rw e)
+
+-- of the pages at most one is not full, and none where the objects fill them
+part_is : (h n m q : ℕ) → 0 < m → Stand h n m 1 q → q ≡ part_pages n m
+part_is h n m zero pos s =
+    let e : h - 0 ≡ h = omega arith in
+    let low : h * m + 0 ≤ n = rw e at s.least in
+    let high : n ≤ h * m + 0 * (m - 1) = rw e at s.most in
+    let is : n ≡ h * m = omega arith in
+    sym (divides n m (ap (λ k. k % m) is ∙ mul-mod_left h m))
+part_is zero n m (suc zero) pos s = absurd (let w : 1 ≤ 0 = s.within in omega arith)
+part_is (suc h) n m (suc zero) pos s =
+    let e : suc h - 1 ≡ h = omega arith in
+    let low : h * m + 1 ≤ n = rw e at s.least in
+    let high : n ≤ h * m + 1 * (m - 1) = rw e at s.most in
+    let is : n ≡ h * m + (n - h * m) = omega arith in
+    let rest : n % m ≡ n - h * m = ap (λ k. k % m) is ∙ mod-mul-add h m (n - h * m) (omega arith) in
+    sym (leaves n m (omega arith))
+part_is h n m (suc (suc q)) pos s = absurd (omega (arith, s.few))
+
+module _ (p : Paging) (ok : IsPaging p) (ones : AreOne p) (m : Held) (s : IsSound p m) where
+  module _ (c : ℕ) (lt : c < classes p) where
+    stand_at_one : Stand (home_pages p m c) (live p (objects m) c) (slots_of p c) 1 (not_full_pages p m c)
+    stand_at_one = subst (λ k. Stand (home_pages p m c) (live p (objects m) c) (slots_of p c) k (not_full_pages p m c)) (ones c lt) (sound_stand p ok c lt m s)
+
+    home_is : home_pages p m c ≡ ceil_div (live p (objects m) c) (slots_of p c)
+    home_is = can_hold_one (home_pages p m c) (live p (objects m) c) (slots_of p c) (slots_some p ok c lt) (not_full_pages p m c, stand_at_one)
+
+    not_full_is : not_full_pages p m c ≡ part_pages (live p (objects m) c) (slots_of p c)
+    not_full_is = part_is _ _ _ _ (slots_some p ok c lt) stand_at_one
+
+    -- the figures of a class are counted from its objects
+    pub figures_are : figures_of p m c ≡ figures_at_one p (objects m) c
+    figures_are = λ i. record { slot_words = slot_words p c; slots = slots_of p c; live = live p (objects m) c; pages = home_is i; not_full = not_full_is i }
+
+  -- and so are those of the whole heap
+  pub totals_are : totals_of p m ≡ totals_at_one p (objects m)
+  totals_are = ap (λ used. record (totals_of p m) { held = 8 * p.page_words * used; used = used; free = p.pages - used; largest = cond (nat_eq (p.pages - used) 0) 0 p.page_words }) (used_at_one p ok ones m s)
+
+-- as many objects with as many bytes have the same figures
+module _ (p : Paging) (m n : Objects) (a : CountAlike m n) where
+  pub live_alike : (c : ℕ) → live p n c ≡ live p m c
+  unfolding live
+  live_alike c = a.sums (λ v. one (nat_eq (class_for p (length v)) c))
+
+  pub needed_alike : pages_needed p n ≡ pages_needed p m
+  unfolding pages_needed
+  needed_alike = sum_same _ _ (range_with_len 0 (classes p)) (λ c. ap (λ k. ceil_div k (slots_of p c)) (live_alike c))
+
+  pub needed_with_alike : (bytes : ℕ) → pages_needed_with p n bytes ≡ pages_needed_with p m bytes
+  unfolding pages_needed_with
+  needed_with_alike bytes = sum_same _ _ (range_with_len 0 (classes p)) (λ c. ap (λ k. ceil_div (k + one (nat_eq (class_for p bytes) c)) (slots_of p c)) (live_alike c))
+
+  asked_alike : asked_bytes n ≡ asked_bytes m
+  unfolding asked_bytes
+  asked_alike = a.sums length
+
+  taken_alike : taken_bytes p n ≡ taken_bytes p m
+  unfolding taken_bytes
+  taken_alike = ap (λ k. 8 * k) (a.sums (λ v. slot_words p (class_for p (length v))))
+
+  pub figures_alike : (c : ℕ) → figures_at_one p n c ≡ figures_at_one p m c
+  figures_alike c = ap (λ k. record (figures_at_one p m c) { live = k; pages = ceil_div k (slots_of p c); not_full = part_pages k (slots_of p c) }) (live_alike c)
+
+  pub totals_alike : totals_at_one p n ≡ totals_at_one p m
+  totals_alike = λ i. record {
+    live = a.count i;
+    asked = asked_alike i;
+    taken = taken_alike i;
+    held = 8 * p.page_words * needed_alike i;
+    used = needed_alike i;
+    free = p.pages - needed_alike i;
+    largest = cond (nat_eq (p.pages - needed_alike i) 0) 0 p.page_words;
+  }

@@ -1,0 +1,24 @@
+-- What a script leaves where it is not asked for places: the objects by the ids of the script.
+use Rattle.std.specs.Prelude.{ℕ, List}
+use Rattle.std.specs.FinMap.{empty}
+use Rattle.cf_base.specs.Settings.{Profile}
+use Rattle.cf_base.specs.declared.kind.Kind.{Kind}
+use Rattle.page_model.specs.Held.{Objects}
+use Rattle.page_model.specs.Paging.{Paging, paging_of}
+use Rattle.cf_model.specs.State.{layout_of}
+use Rattle.cf_model.specs.Steps.{opening_bounds}
+
+-- The kind, the settings, the bounds of the classes, and the bytes of each live id. There are no handles, places, words and costs.
+pub record ById : Type 0 where
+  pub kind : Kind
+  pub profile : Profile
+  pub bounds : List ℕ
+  pub objects : Objects
+
+-- nothing is live yet
+abbrev pub begun : Kind → Profile → ById
+begun kind p = record { kind = kind; profile = p; bounds = opening_bounds kind p; objects = empty }
+
+-- the pages and size classes
+abbrev pub paging_by_id : ById → Paging
+paging_by_id t = paging_of t.profile (layout_of t.kind) t.bounds

@@ -1,0 +1,40 @@
+-- What is left of a run where the places are left out, and what may follow it.
+use Rattle.std.specs.Prelude.{◌≡◌, ⊤, ℕ, List, [], ◌∷◌, Option, option_map}
+use Rattle.std.specs.Option.{unwrap_or}
+use Rattle.std.specs.FinMap.{get}
+use Rattle.cf_lemmas.specs.Maps.{map_values}
+use Rattle.page_model.specs.Held.{Objects, Placed, objects}
+use Rattle.script_reader.specs.Items.{Item, asks, starts}
+use Rattle.script_reader.specs.declared.command.Command.TheVariants.{Bound}
+use Rattle.run_model.specs.Replies.{object_of}
+use Rattle.run_model.specs.Sessions.{Ids, RunState}
+use Rattle.transcript_laws.specs.ById.{ById}
+use Rattle.transcript_laws.specs.Transcripts.{IsPlaceless}
+
+-- under each id the bytes that stand under its number
+abbrev pub objects_by_id : Ids → Objects → Objects
+objects_by_id ids m = map_values (λ h. unwrap_or (get m h) []) ids
+
+-- a run at one moment, without places and numbers
+abbrev pub by_id : RunState → ById
+by_id s = record { kind = s.heap.kind; profile = s.heap.profile; bounds = s.heap.bounds; objects = objects_by_id s.session.ids (objects s.heap.held) }
+
+-- the bytes of the object that an id names, where it is live
+abbrev pub bytes_of : RunState → ℕ → Option (List ℕ)
+bytes_of s id = option_map (λ (x : Placed). x.bytes) (object_of s id)
+
+-- two runs of one kind under equal settings, with equal objects by id
+pub record AreAlike (one other : RunState) : Type 0 where
+  pub kind : other.heap.kind ≡ one.heap.kind
+  pub profile : other.heap.profile ≡ one.heap.profile
+  pub objects : (id : ℕ) → bytes_of other id ≡ bytes_of one id
+
+-- an item that may follow: no `heap` line, and no command that sets a bound, or asks for a place or a cost
+abbrev pub IsFurther : Item → Type 0
+IsFurther (starts p) = ⊥
+IsFurther (asks (Bound slot_words k)) = ⊥
+IsFurther item = IsPlaceless item
+
+abbrev pub AreFurther : List Item → Type 0
+AreFurther [] = ⊤
+AreFurther (item ∷ rest) = IsFurther item × AreFurther rest

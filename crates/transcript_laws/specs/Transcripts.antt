@@ -1,0 +1,74 @@
+-- The replies to the items of a script, as a function of the kind and the items.
+use Rattle.std.specs.Prelude.{◌≡◌, ⊤, List, [], ◌∷◌, Option, Some, None, codes}
+use Rattle.cf_base.specs.declared.kind.Kind.{Kind}
+use Rattle.page_model.specs.Paging.{AreOne}
+use Rattle.script_reader.specs.Items.{Item, asks, bad, starts}
+use Rattle.script_reader.specs.declared.command.Command.{Command}
+use Rattle.script_reader.specs.declared.command.Command.TheVariants.{Place, Block, Peek, Steps, Bound}
+use Rattle.run_model.specs.Texts.{Reply, bad_line, said}
+use Rattle.transcript_laws.specs.ById.{ById, begun, paging_by_id}
+use Rattle.transcript_laws.specs.Replies.{after_by_id, reply_by_id}
+
+-- the reply to an item; before the `heap` line a command has none
+abbrev pub reply_at : Option ById → Item → Reply
+reply_at t (starts p) = said (codes "ok")
+reply_at None (asks command) = []
+reply_at (Some t) (asks command) = reply_by_id t command
+reply_at t (bad n) = said (bad_line n)
+
+-- the state after an item
+abbrev pub after_at : Kind → Option ById → Item → Option ById
+after_at kind t (starts p) = Some (begun kind p)
+after_at kind None (asks command) = None
+after_at kind (Some t) (asks command) = Some (after_by_id t command)
+after_at kind t (bad n) = t
+
+-- the replies to the items from a state on, one each
+abbrev pub replies_from : Kind → Option ById → List Item → List Reply
+replies_from kind t [] = []
+replies_from kind t (item ∷ rest) = reply_at t item ∷ replies_from kind (after_at kind t item) rest
+
+-- the replies to the items of a script
+abbrev pub transcript : Kind → List Item → List Reply
+transcript kind items = replies_from kind None items
+
+-- every bound is 1 where this command is answered; `k` needs no premise, for it is answered alike
+abbrev pub IsAtOne : ById → Command → Type 0
+IsAtOne t (Bound slot_words k) = ⊤
+IsAtOne t command = AreOne (paging_by_id t)
+
+abbrev pub IsItemAtOne : Option ById → Item → Type 0
+IsItemAtOne (Some t) (asks command) = IsAtOne t command
+IsItemAtOne t item = ⊤
+
+-- every bound is 1 at each command but `k`
+abbrev pub StaysAtOne : Kind → Option ById → List Item → Type 0
+StaysAtOne kind t [] = ⊤
+StaysAtOne kind t (item ∷ rest) = IsItemAtOne t item × StaysAtOne kind (after_at kind t item) rest
+
+-- the script asks for no other bound than 1
+abbrev pub AsksForOne : Item → Type 0
+AsksForOne (starts p) = p.k ≡ 1
+AsksForOne (asks (Bound slot_words k)) = k ≡ 1
+AsksForOne item = ⊤
+
+abbrev pub AskForOne : List Item → Type 0
+AskForOne [] = ⊤
+AskForOne (item ∷ rest) = AsksForOne item × AskForOne rest
+
+-- the command asks for no place and no cost: it isn't `q`, `b`, `p` and `steps`
+abbrev pub TellsNoPlace : Command → Type 0
+TellsNoPlace (Place id) = ⊥
+TellsNoPlace (Block id i) = ⊥
+TellsNoPlace (Peek word) = ⊥
+TellsNoPlace Steps = ⊥
+TellsNoPlace command = ⊤
+
+abbrev pub IsPlaceless : Item → Type 0
+IsPlaceless (asks command) = TellsNoPlace command
+IsPlaceless item = ⊤
+
+-- none of the items asks for a place or a cost
+abbrev pub ArePlaceless : List Item → Type 0
+ArePlaceless [] = ⊤
+ArePlaceless (item ∷ rest) = IsPlaceless item × ArePlaceless rest
