@@ -1,0 +1,60 @@
+-- Words of objects that are lent.
+use Rattle.std.proofs.Common.{◌≡◌, ℕ, suc, ◌+◌, ◌*◌, ◌/◌, ◌^◌, ◌<◌, ◌≤◌, List, length, get_or, take, drop, Some, None, arith, sym, ◌∙◌, ap}
+use Rattle.std.proofs.lemmas.Grind.{same_number_lists}
+use Rattle.std.proofs.lemmas.List.{get_or-take, get_or-drop, length-take-le, length-drop}
+use Rattle.std.proofs.lemmas.List.FromFn.{length-map-range_with_len, get_or-map-range_with_len}
+use Rattle.std.specs.Prelude.{option_map}
+use Rattle.std.specs.FinMap.{get}
+use Rattle.page_model.specs.Held.{Placed}
+use Rattle.page_model.specs.Bytes.{bytes_at}
+use Rattle.page_model.specs.Image.{word_of_bytes}
+use Rattle.paged_heap.specs.declared.open_heap.OpenHeap.{OpenHeap}
+use Rattle.cf_base.specs.declared.kind.Kind.TheVariants.{Moving}
+use Rattle.paged_heap.specs.Heap.{seen}
+use Rattle.paged_heap.specs.Layout.{IsKept, state_at}
+use Rattle.moving_heap.specs.Payload.{payload_of, whole_words}
+use Rattle.paged_heap.proofs.Preserved.{has_place, no_place}
+use Rattle.paged_heap.proofs.ReadLemmas.{bytes_long, holds, slot_there}
+
+pub length-whole_words : (v : List ℕ) → length (whole_words v) ≡ length v / 8
+length-whole_words v = length-map-range_with_len _ 0 _
+
+-- a number without a place has no words
+pub none_lent : (h : OpenHeap) → IsKept (seen Moving h) → (q : ℕ) → get h.proxies.places q ≡ None → payload_of (state_at Moving h) q ≡ None
+none_lent h k q none = ap (option_map (λ (x : Placed). whole_words x.bytes)) (no_place (seen Moving h) k q none)
+
+-- the number of words, as it is read from the header
+pub count_is : (h : OpenHeap) (a read : ℕ) → read ≡ get_or h.region a 0 / 2 ^ 32 → read / 8 ≡ length (bytes_at h.region a) / 8
+count_is h a read is = (let long = bytes_long h.region a in omega arith)
+
+-- an object with its place
+module _ (h : OpenHeap) (k : IsKept (seen Moving h)) (q a : ℕ) (some : get h.proxies.places q ≡ Some a) where
+  abbrev bytes : List ℕ
+  bytes = bytes_at h.region a
+
+  pub run_inside : a + 1 + length bytes / 8 ≤ length h.region
+  run_inside = (let s = slot_there (seen Moving h) k q a some in let o = holds (seen Moving h) k q a some in omega arith)
+
+  pub run_small : a + 1 < 2 ^ 32
+  run_small = (let r = run_inside in let long = k.words_long in let small = h.settings.small_region in omega arith)
+
+  -- the words behind the header are the whole words of the bytes
+  pub words_are : take (length bytes / 8) (drop (a + 1) h.region) ≡ whole_words bytes
+  words_are =
+      let inside = run_inside in
+      let o = holds (seen Moving h) k q a some in
+      let left = length-drop (a + 1) h.region in
+      let long : length (take (length bytes / 8) (drop (a + 1) h.region)) ≡ length bytes / 8 = length-take-le (length bytes / 8) (drop (a + 1) h.region) (omega arith) in
+      let whole = length-whole_words bytes in
+      same_number_lists (take (length bytes / 8) (drop (a + 1) h.region)) (whole_words bytes) (long ∙ sym whole) (λ j lt.
+      let place : a + 1 + j ≡ a + suc j = omega arith in
+      get_or-take (length bytes / 8) (drop (a + 1) h.region) j 0 (omega arith) ∙ get_or-drop (a + 1) h.region j 0 ∙ ap (λ i. get_or h.region i 0) place
+      ∙ k.image.held q (record { place = a; bytes = bytes }) (has_place (seen Moving h) k q a some) (suc j) (omega arith)
+      ∙ sym (get_or-map-range_with_len (λ i. word_of_bytes (take 8 (drop (8 * i) bytes))) 0 (length bytes / 8) j j 0 (omega arith) (omega arith)))
+
+  pub some_lent : payload_of (state_at Moving h) q ≡ Some (whole_words bytes)
+  some_lent = ap (option_map (λ (x : Placed). whole_words x.bytes)) (has_place (seen Moving h) k q a some)
+
+  -- so many words from the place on, where their number is read from the header
+  pub lent_is : (n : ℕ) → n ≡ length bytes / 8 → (ws : List ℕ) → ws ≡ take n (drop (a + 1) h.region) → Some ws ≡ payload_of (state_at Moving h) q
+  lent_is n is ws e = ap Some (e ∙ ap (λ m. take m (drop (a + 1) h.region)) is ∙ words_are) ∙ sym some_lent

@@ -1,0 +1,224 @@
+//! The heap that a caller holds: closed, or open.
+ghost use Rattle.std.specs.Prelude.{◌≡◌, ℕ, ◌+◌, ◌<◌, List, IsSome, IsTrue, Some, length, option_copied};
+ghost use Rattle.page_model.specs.Arrangement.{home_pages, not_full_pages, free_pages};
+ghost use Rattle.cf_base.specs.declared.kind.Kind.TheVariants.{Moving};
+ghost use Rattle.cf_model.specs.Answers.{classes_in, place_of};
+ghost use Rattle.cf_model.specs.Rules.{KeepsRules};
+ghost use Rattle.cf_model.specs.State.{closed_state, paging_in};
+ghost use Rattle.std.specs.Borrow.{sem};
+ghost use Rattle.step_ledger.specs.Counting.{RoseAtMost};
+ghost use Rattle.paged_heap.specs.Layout.{Holds, state_at};
+ghost use Rattle.moving_heap.specs.Payload.{lent_back, payload_bound, payload_of};
+ghost use Rattle.moving_heap.specs.HeapLoan.{LendsPayload};
+
+use crate::payload::{payload, words_in};
+use cf_base::{
+    AccessFault, Figures, Freed, Handle, Kind, Layout, NotLive, OutOfMemory, Refusal, ResizeFault,
+    Resized, Settings, Totals,
+};
+use cf_model::Manager;
+use paged_heap::OpenHeap;
+use std::alloc::Global;
+use std::marker::Model;
+use step_ledger::Steps;
+use virtual_words::Direct;
+
+/// The moving manager.
+#[derive(Drop)]
+pub struct MovingHeap {
+    alloc: Global,
+    inner: Option<OpenHeap>,
+}
+
+impl Model for MovingHeap {
+    ghost use Rattle.cf_base.specs.declared.kind.Kind.TheVariants.{Moving};
+    ghost use Rattle.cf_model.specs.State.{HeapState, state_code};
+
+    ghost Value = { HeapState };
+
+    ghost coded = { state_code };
+
+    ghost use Rattle.paged_heap.specs.Layout.{IsKeptIn, state_in};
+
+    ghost view = { λ h. state_in Moving h.inner };
+
+    ghost invariant = { λ h. IsKeptIn Moving h.inner };
+}
+
+impl MovingHeap {
+    /// A closed manager, which takes no memory.
+    pub fn closed(alloc: Global) -> MovingHeap
+        ensures { result ≡ closed_state Moving }
+    {
+        MovingHeap { alloc, inner: None }
+    }
+}
+
+impl Manager for MovingHeap {
+    ghost state = { λ h. h };
+
+    fn kind(&self) -> Kind {
+        let _inner = &self.inner;
+        Kind::Moving
+    }
+
+    fn is_open(&self) -> bool {
+        self.inner.is_some()
+    }
+
+    fn open_heap(&mut self, s: &Settings) -> Result<(), OutOfMemory> {
+        self.inner = None;
+        self.inner = Some(OpenHeap::new::<Direct>(self.alloc, s, Layout::Words, None)?);
+        Ok(())
+    }
+
+    fn malloc(&mut self, bytes: u32, steps: &mut Steps) -> Result<Handle, Refusal> {
+        match &mut self.inner {
+            Some(open) => open.malloc::<Direct>(bytes, steps),
+            None => unreachable!(),
+        }
+    }
+
+    fn free(&mut self, h: Handle, steps: &mut Steps) -> Result<Freed, NotLive> {
+        match &mut self.inner {
+            Some(open) => open.free::<Direct>(h, steps),
+            None => unreachable!(),
+        }
+    }
+
+    fn write(
+        &mut self,
+        h: Handle,
+        at: u32,
+        bytes: &[u8],
+        steps: &mut Steps,
+    ) -> Result<(), AccessFault> {
+        match &mut self.inner {
+            Some(open) => open.write::<Direct>(h, at, bytes, steps),
+            None => unreachable!(),
+        }
+    }
+
+    fn read(
+        &self,
+        h: Handle,
+        at: u32,
+        out: &mut [u8],
+        steps: &mut Steps,
+    ) -> Result<(), AccessFault> {
+        match &self.inner {
+            Some(open) => open.read::<Direct>(h, at, out, steps),
+            None => unreachable!(),
+        }
+    }
+
+    fn resize(&mut self, h: Handle, bytes: u32, steps: &mut Steps) -> Result<Resized, ResizeFault> {
+        match &mut self.inner {
+            Some(open) => open.resize::<Direct>(h, bytes, steps),
+            None => unreachable!(),
+        }
+    }
+
+    fn set_bound(&mut self, slot_words: u32, k: u32) -> bool {
+        match &mut self.inner {
+            Some(open) => open.set_bound::<Direct>(slot_words, k),
+            None => unreachable!(),
+        }
+    }
+
+    fn place(&self, h: Handle, steps: &mut Steps) -> Option<u32> {
+        self.open().place::<Direct>(h, steps)
+    }
+
+    fn peek(&self, word: u32, steps: &mut Steps) -> Option<u64> {
+        match &self.inner {
+            Some(open) => open.peek::<Direct>(word, steps),
+            None => unreachable!(),
+        }
+    }
+
+    fn block(&self, _h: Handle, _i: u32, _steps: &mut Steps) -> Option<u32> {
+        let _open = self.open();
+        None
+    }
+
+    fn classes(&self) -> u32 {
+        self.open().class_count::<Direct>()
+    }
+
+    fn figures(&self, c: u32) -> Option<Figures> {
+        self.open().figures::<Direct>(c)
+    }
+
+    fn totals(&self, _steps: &mut Steps) -> Totals {
+        self.open().totals::<Direct>()
+    }
+
+    fn cost(&self) -> u64 {
+        self.open().cost
+    }
+}
+
+impl MovingHeap {
+    /// The pages of class c.
+    pub fn pages_of(&self, c: u32) -> u32
+        requires open { IsTrue self.now.is_open }
+        requires class { c < classes_in self.now.kind self.now }
+        ensures { result ≡ home_pages (paging_in self.now) self.now.held c }
+    {
+        self.open().pages_of::<Direct>(c)
+    }
+
+    /// The pages of class c that are not full.
+    pub fn not_full(&self, c: u32) -> u32
+        requires open { IsTrue self.now.is_open }
+        requires class { c < classes_in self.now.kind self.now }
+        ensures { result ≡ not_full_pages (paging_in self.now) self.now.held c }
+    {
+        self.open().not_full::<Direct>(c)
+    }
+
+    /// The pages that are free.
+    pub fn free_pages(&self) -> u32
+        requires { IsTrue self.now.is_open }
+        ensures { result ≡ free_pages (paging_in self.now) self.now.held }
+    {
+        self.open().free_pages::<Direct>()
+    }
+
+    /// Lends the whole words of an object, eight bytes to a word, the least first, without a copy; none
+    /// where the handle isn't live. Bytes behind the last whole word are reached by `read`. At most a
+    /// step for each word, and two.
+    pub fn payload(&self, h: Handle, steps: &mut Steps) -> Option<&[u64]>
+        requires { IsTrue self.now.is_open }
+        ensures value { option_copied result ≡ payload_of self.now h.0 }
+        ensures bound { RoseAtMost steps.old steps.new (payload_bound (payload_of self.now h.0)) }
+    {
+        payload(self.open(), h, steps)
+    }
+
+    /// Lends the whole words of a live object, eight bytes to a word, the least first, to be written
+    /// without a copy. What is left there are the object's bytes afterwards, and all else stays.
+    pub fn payload_mut(&mut self, h: Handle, steps: &mut Steps) -> &mut [u64]
+        requires open { IsTrue self.old.is_open }
+        requires live { IsSome (place_of self.old h.0) }
+        ensures* writes_back { sem 𝓛 (LendsPayload self.entry h.0 result) }
+        ensures value { Some result.now ≡ payload_of self.old h.0 }
+        ensures rules { (ws : List ℕ) → KeepsRules (lent_back self.old h.0 ws) }
+        ensures bound { RoseAtMost steps.old steps.new (2 + length result.now) }
+    {
+        words_in(&mut self.inner, h, steps)
+    }
+
+    /// What is open.
+    fn open(&self) -> &OpenHeap
+        requires { IsTrue self.now.is_open }
+        ensures kept { Holds Moving result.now }
+        ensures state { state_at Moving result.now ≡ self.now }
+    {
+        match &self.inner {
+            Some(open) => open,
+            None => unreachable!(),
+        }
+    }
+}

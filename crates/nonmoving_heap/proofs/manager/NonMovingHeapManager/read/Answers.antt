@@ -1,0 +1,6 @@
+use Rattle.cf_base.specs.declared.kind.Kind.TheVariants.{NonMoving}
+use Rattle.paged_heap.proofs.LayoutFacts.{rules_of}
+use Rattle.nonmoving_heap.proofs.manager.NonMovingHeapManager.read.Goals as goal
+
+pub returns-clause-rules : goal.returns-clause-rules
+returns-clause-rules c = rules_of NonMoving c.self.inside.inner c.self.invariant c.args.self.now c.self.view_is c.requires.open

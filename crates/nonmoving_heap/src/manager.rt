@@ -1,0 +1,231 @@
+//! The heap that a caller holds: closed, or open.
+ghost use Rattle.std.specs.Prelude.{◌≡◌, ℕ, ◌<◌, ◌≤◌, IfOk, IsTrue};
+ghost use Rattle.page_model.specs.Arrangement.{home_pages, not_full_pages, free_pages};
+ghost use Rattle.cf_base.specs.declared.kind.Kind.TheVariants.{NonMoving};
+ghost use Rattle.cf_model.specs.Answers.{classes_in};
+ghost use Rattle.cf_model.specs.Steps.{IsEmptyHeap};
+ghost use Rattle.cf_model.specs.State.{closed_state, paging_in};
+ghost use Rattle.page_model.specs.Frames.{block_of};
+ghost use Rattle.cf_model.specs.Answers.{block_in};
+ghost use Rattle.paged_heap.specs.Layout.{Holds, state_at};
+ghost use Rattle.paged_heap.specs.FirstTable.{IsFirstTable};
+
+use block_table::BlockTable;
+use cf_base::{
+    AccessFault, Figures, Freed, Handle, Kind, Layout, NotLive, OutOfMemory, Refusal, ResizeFault,
+    Resized, Settings, Totals,
+};
+use cf_model::Manager;
+use paged_heap::OpenHeap;
+use std::alloc::Global;
+use std::marker::Model;
+use step_ledger::Steps;
+use virtual_words::Mapped;
+
+/// The non-moving manager.
+#[derive(Drop)]
+pub struct NonMovingHeap {
+    alloc: Global,
+    inner: Option<OpenHeap>,
+}
+
+impl Model for NonMovingHeap {
+    ghost use Rattle.cf_base.specs.declared.kind.Kind.TheVariants.{NonMoving};
+    ghost use Rattle.cf_model.specs.State.{HeapState, state_code};
+
+    ghost Value = { HeapState };
+
+    ghost coded = { state_code };
+
+    ghost use Rattle.paged_heap.specs.Layout.{IsKeptIn, state_in};
+
+    ghost view = { λ h. state_in NonMoving h.inner };
+
+    ghost invariant = { λ h. IsKeptIn NonMoving h.inner };
+}
+
+impl NonMovingHeap {
+    /// A closed manager, which takes no memory.
+    pub fn closed(alloc: Global) -> NonMovingHeap
+        ensures { result ≡ closed_state NonMoving }
+    {
+        NonMovingHeap { alloc, inner: None }
+    }
+}
+
+impl Manager for NonMovingHeap {
+    ghost state = { λ h. h };
+
+    fn kind(&self) -> Kind {
+        let _inner = &self.inner;
+        Kind::NonMoving
+    }
+
+    fn is_open(&self) -> bool {
+        self.inner.is_some()
+    }
+
+    fn open_heap(&mut self, s: &Settings) -> Result<(), OutOfMemory> {
+        self.inner = None;
+        self.inner = Some(empty_heap(self.alloc, s)?);
+        Ok(())
+    }
+
+    fn malloc(&mut self, bytes: u32, steps: &mut Steps) -> Result<Handle, Refusal> {
+        match &mut self.inner {
+            Some(open) => open.malloc::<Mapped>(bytes, steps),
+            None => unreachable!(),
+        }
+    }
+
+    fn free(&mut self, h: Handle, steps: &mut Steps) -> Result<Freed, NotLive> {
+        match &mut self.inner {
+            Some(open) => open.free::<Mapped>(h, steps),
+            None => unreachable!(),
+        }
+    }
+
+    fn write(
+        &mut self,
+        h: Handle,
+        at: u32,
+        bytes: &[u8],
+        steps: &mut Steps,
+    ) -> Result<(), AccessFault> {
+        match &mut self.inner {
+            Some(open) => open.write::<Mapped>(h, at, bytes, steps),
+            None => unreachable!(),
+        }
+    }
+
+    fn read(
+        &self,
+        h: Handle,
+        at: u32,
+        out: &mut [u8],
+        steps: &mut Steps,
+    ) -> Result<(), AccessFault> {
+        match &self.inner {
+            Some(open) => open.read::<Mapped>(h, at, out, steps),
+            None => unreachable!(),
+        }
+    }
+
+    fn resize(&mut self, h: Handle, bytes: u32, steps: &mut Steps) -> Result<Resized, ResizeFault> {
+        match &mut self.inner {
+            Some(open) => open.resize::<Mapped>(h, bytes, steps),
+            None => unreachable!(),
+        }
+    }
+
+    fn set_bound(&mut self, slot_words: u32, k: u32) -> bool {
+        match &mut self.inner {
+            Some(open) => open.set_bound::<Mapped>(slot_words, k),
+            None => unreachable!(),
+        }
+    }
+
+    fn place(&self, h: Handle, steps: &mut Steps) -> Option<u32> {
+        self.open().place::<Mapped>(h, steps)
+    }
+
+    fn peek(&self, word: u32, steps: &mut Steps) -> Option<u64> {
+        match &self.inner {
+            Some(open) => open.peek::<Mapped>(word, steps),
+            None => unreachable!(),
+        }
+    }
+
+    fn block(&self, h: Handle, i: u32, steps: &mut Steps) -> Option<u32> {
+        block_of(self.open(), h, i, steps)
+    }
+
+    fn classes(&self) -> u32 {
+        self.open().class_count::<Mapped>()
+    }
+
+    fn figures(&self, c: u32) -> Option<Figures> {
+        self.open().figures::<Mapped>(c)
+    }
+
+    fn totals(&self, _steps: &mut Steps) -> Totals {
+        self.open().totals::<Mapped>()
+    }
+
+    fn cost(&self) -> u64 {
+        self.open().cost
+    }
+}
+
+impl NonMovingHeap {
+    /// The pages of class c.
+    pub fn pages_of(&self, c: u32) -> u32
+        requires open { IsTrue self.now.is_open }
+        requires class { c < classes_in self.now.kind self.now }
+        ensures { result ≡ home_pages (paging_in self.now) self.now.held c }
+    {
+        self.open().pages_of::<Mapped>(c)
+    }
+
+    /// The pages of class c that are not full.
+    pub fn not_full(&self, c: u32) -> u32
+        requires open { IsTrue self.now.is_open }
+        requires class { c < classes_in self.now.kind self.now }
+        ensures { result ≡ not_full_pages (paging_in self.now) self.now.held c }
+    {
+        self.open().not_full::<Mapped>(c)
+    }
+
+    /// The pages that are free.
+    pub fn free_pages(&self) -> u32
+        requires { IsTrue self.now.is_open }
+        ensures { result ≡ free_pages (paging_in self.now) self.now.held }
+    {
+        self.open().free_pages::<Mapped>()
+    }
+
+    /// What is open.
+    fn open(&self) -> &OpenHeap
+        requires { IsTrue self.now.is_open }
+        ensures kept { Holds NonMoving result.now }
+        ensures state { state_at NonMoving result.now ≡ self.now }
+    {
+        match &self.inner {
+            Some(open) => open,
+            None => unreachable!(),
+        }
+    }
+}
+
+/// An open heap without objects, with a table where each block is at its own place.
+fn empty_heap(alloc: Global, s: &Settings) -> Result<OpenHeap, OutOfMemory>
+    ensures kept { IfOk result (λ h. Holds NonMoving h) }
+    ensures empty { IfOk result (λ h. IsEmptyHeap NonMoving s.now (state_at NonMoving h)) }
+{
+    let blocks = BlockTable::new(alloc, s.pages, s.page_words / 4)?;
+    OpenHeap::new::<Mapped>(alloc, s, Layout::Blocks, Some(blocks))
+}
+
+/// The physical block of block i of the object's slot; none where the handle isn't live, or the slot
+/// has no block i.
+fn block_of(heap: &OpenHeap, h: Handle, i: u32, steps: &mut Steps) -> Option<u32>
+    requires { Holds NonMoving heap.now }
+    ensures value { result ≡ block_in NonMoving (state_at NonMoving heap.now) h.0 i }
+    ensures rises { steps.old ≤ steps.new }
+{
+    let Some(place) = heap.proxies.lookup(h, steps) else {
+        return None;
+    };
+    let length = heap.length_at::<Mapped>(place, steps);
+    let Some(c) = heap.classes.class_of(length, steps) else {
+        unreachable!();
+    };
+    if i < heap.classes.slot_words(c) / 4 {
+        match &heap.blocks {
+            Some(table) => Some(table.block(place / 4 + i, steps)),
+            None => unreachable!(),
+        }
+    } else {
+        None
+    }
+}

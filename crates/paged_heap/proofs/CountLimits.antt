@@ -1,0 +1,84 @@
+-- How large the counts of an open heap may be, and the class of a request.
+use Rattle.std.proofs.Common.{◌≡◌, ℕ, ◌*◌, ◌<◌, ◌≤◌, length, get_or, Option, Some, None, arith, refl, sym, ◌∙◌, ap, subst, inl, inr}
+use Rattle.std.specs.Prelude.{nat_eq, option_map}
+use Rattle.std.proofs.lemmas.Bool.{cases_lt}
+use Rattle.std.specs.FinMap.{get, len}
+use Rattle.cf_base.specs.Classes.{need, class_of}
+use Rattle.cf_lemmas.proofs.MapValues.{get-map_values}
+use Rattle.cf_lemmas.proofs.Ranges.{one}
+use Rattle.page_model.specs.Held.{Held, Placed, objects}
+use Rattle.page_model.specs.Paging.{Paging, IsPaging, class_for, classes, slot_words}
+use Rattle.page_model.specs.Arrangement.{class_at, live, IsSound}
+use Rattle.page_model.specs.Figures.{asked_bytes, taken_bytes}
+use Rattle.page_model.proofs.Adding.{len-objects}
+use Rattle.page_model.proofs.Counting.{one_le}
+use Rattle.page_model.proofs.Sizes.{class_fits, class_holds, class_known, class_none}
+use Rattle.paged_heap.specs.Heap.{Heap}
+use Rattle.paged_heap.specs.Layout.{IsKept, held_in, paging_at}
+use Rattle.paged_heap.proofs.LayoutFacts.{held_len, paging_ok, sizes_are, table_ok, page_is}
+use Rattle.paged_heap.proofs.Values.{sum_at_most}
+
+-- an object has the bytes of a page at most, and so has its slot
+module _ (p : Paging) (ok : IsPaging p) (m : Held) (s : IsSound p m) (small : p.page_words ≤ 16384) where
+  object_small : (q : ℕ) (v : _) → get (objects m) q ≡ Some v → (length v ≤ 131072) × (slot_words p (class_for p (length v)) ≤ 16384)
+  object_small q v e = go (get m q) refl
+    where
+      go : (o : Option Placed) → get m q ≡ o → (length v ≤ 131072) × (slot_words p (class_for p (length v)) ≤ 16384)
+      go None f = absurd (let z : None ≡ Some v = sym (get-map_values (λ (x : Placed). x.bytes) m q ∙ ap (option_map (λ (x : Placed). x.bytes)) f) ∙ e in cc)
+      go (Some x) f =
+          let z : Some x.bytes ≡ Some v = sym (get-map_values (λ (x : Placed). x.bytes) m q ∙ ap (option_map (λ (x : Placed). x.bytes)) f) ∙ e in
+          let is : x.bytes ≡ v = cc in
+          let class = (s.slots q x f).class in
+          let fits = ok.sized.fits (class_at p x) class in
+          let holds = class_holds p ok (length x.bytes) class in
+          subst (λ v. (length v ≤ 131072) × (slot_words p (class_for p (length v)) ≤ 16384)) is (omega arith, omega arith)
+
+  pub live_few : (c : ℕ) → live p (objects m) c ≤ len m
+  unfolding live
+  live_few c =
+      let a = sum_at_most (λ v. one (nat_eq (class_for p (length v)) c)) 1 (objects m) (λ q v e. one_le (nat_eq (class_for p (length v)) c)) in
+      let l = len-objects m in
+      omega arith
+
+  pub asked_few : asked_bytes (objects m) ≤ 131072 * len m
+  unfolding asked_bytes
+  asked_few =
+      let a = sum_at_most length 131072 (objects m) (λ q v e. (object_small q v e).0) in
+      let l = len-objects m in
+      omega arith
+
+  pub taken_few : taken_bytes p (objects m) ≤ 131072 * len m
+  unfolding taken_bytes
+  taken_few =
+      let a = sum_at_most (λ v. slot_words p (class_for p (length v))) 16384 (objects m) (λ q v e. (object_small q v e).1) in
+      let l = len-objects m in
+      omega arith
+
+module _ (h : Heap) (k : IsKept h) where
+  pub page_small : h.settings.page_words ≤ 16384
+  page_small = (let s = (table_ok h k).small in let e = page_is h k in omega arith)
+
+  pub len_few : len (held_in h) ≤ 65536
+  len_few = (let e = held_len h k in let f = k.handles.few in let n = k.numbers in let few = h.settings.few_proxies in omega arith)
+
+  pub live_room : (c : ℕ) → c < classes (paging_at h) → get_or h.live c 0 ≤ 65536
+  live_room c lt = (let e = k.counted c lt in let l = live_few (paging_at h) (paging_ok h k) (held_in h) k.sound page_small c in let f = len_few in omega arith)
+
+  pub asked_room : h.asked ≤ 131072 * 65536
+  asked_room = (let e = k.asked_all in let l = asked_few (paging_at h) (paging_ok h k) (held_in h) k.sound page_small in let f = len_few in omega arith)
+
+  pub taken_room : h.taken ≤ 131072 * 65536
+  taken_room = (let e = k.taken_all in let l = taken_few (paging_at h) (paging_ok h k) (held_in h) k.sound page_small in let f = len_few in omega arith)
+
+  -- a request that has a class fits, and it is that of the model
+  pub class_is : (bytes c : ℕ) → Some c ≡ class_of h.classes.sizes bytes → (need bytes ≤ h.settings.page_words) × (class_for (paging_at h) bytes ≡ c) × (c < classes (paging_at h))
+  class_is bytes c e =
+      let e' : Some c ≡ class_of (paging_at h).sizes bytes = subst (λ xs. Some c ≡ class_of xs bytes) (sizes_are h k) e in
+      elim (cases_lt h.settings.page_words (need bytes)) [
+        | inl more ↦ absurd (let z : Some c ≡ None = e' ∙ class_none (paging_at h) (paging_ok h k) bytes more in cc)
+        | inr fits ↦ (
+            let lt = class_fits (paging_at h) (paging_ok h k) bytes fits in
+            let z : Some c ≡ Some (class_for (paging_at h) bytes) = e' ∙ class_known (paging_at h) (paging_ok h k) bytes lt in
+            let is : class_for (paging_at h) bytes ≡ c = cc in
+            (fits, is, subst (λ c. c < classes (paging_at h)) is lt))
+      ]

@@ -1,0 +1,141 @@
+-- An open heap without objects.
+use Rattle.std.proofs.Common.{◌≡◌, ℕ, ◌*◌, ◌<◌, ◌≤◌, List, length, take, replicate, get_or, arith, sym, ◌∙◌, ap, subst}
+use Rattle.std.specs.Prelude.{sum_by}
+use Rattle.std.specs.List.{range_with_len}
+use Rattle.std.proofs.lemmas.List.{get_or-replicate, length-replicate, take-replicate}
+use Rattle.std.specs.FinMap.{empty}
+use Rattle.cf_base.specs.Classes.{sizes}
+use Rattle.cf_base.proofs.Rising.{are_sizes, page_size}
+use Rattle.page_model.specs.Held.{Placed, objects}
+use Rattle.page_model.specs.Bytes.{bytes_at, held_at}
+use Rattle.page_model.specs.Paging.{Paging, class_for, slot_words}
+use Rattle.page_model.specs.Arrangement.{IsSound, live}
+use Rattle.page_model.specs.Image.{IsSlotImage, slot_for}
+use Rattle.page_model.specs.Figures.{asked_bytes, taken_bytes}
+use Rattle.page_model.proofs.Counting.{no_values}
+use Rattle.page_model.proofs.Totals.{map_values-empty}
+use Rattle.page_model.proofs.Nothing.{sound_empty, image_empty}
+use Rattle.size_classes.specs.Table.{ClassTable, IsTable, table_of}
+use Rattle.class_lists.specs.PageLists.{empty_lists}
+use Rattle.page_pool.specs.Pool.{Pool}
+use Rattle.proxy_table.specs.Proxies.{Proxies, AreBelowLimit, no_proxies}
+use Rattle.page_slots.specs.Tables.{AreTables, tables}
+use Rattle.page_slots.specs.Occupying.{Occupies, Tell, class_table}
+use Rattle.page_slots.proofs.Start.{first_tables, first_occupied}
+use Rattle.cf_base.specs.Settings.{profile_of}
+use Rattle.cf_model.specs.State.{layout_of}
+use Rattle.cf_model.specs.Steps.{IsEmptyHeap, opening_bounds, opening_frames, opening_tiling}
+use Rattle.cf_model.specs.Rules.{IsPaged}
+use Rattle.paged_heap.specs.Heap.{Heap}
+use Rattle.paged_heap.proofs.ByKind.{opening_bounds_are, opening_tiling_is, opening_words, paged_of}
+use Rattle.paged_heap.specs.Layout.{IsFramed, IsKept, held_in, paging_at, state_of, tables_in}
+
+pub nothing_held : (words : List ℕ) → held_at words empty ≡ empty
+nothing_held words = map_values-empty (λ a. record { place = a; bytes = bytes_at words a }) (λ v. 0)
+
+pub no_objects : objects empty ≡ empty
+no_objects = map_values-empty (λ (x : Placed). x.bytes) (λ v. 0)
+
+-- the counts of no objects
+pub none_live : (p : Paging) (c : ℕ) → live p empty c ≡ 0
+unfolding live
+none_live p c = ap (sum_by _) no_values
+
+pub none_asked : asked_bytes empty ≡ 0
+unfolding asked_bytes
+none_asked = ap (sum_by length) no_values
+
+pub none_taken : (p : Paging) → taken_bytes p empty ≡ 0
+unfolding taken_bytes
+none_taken p = ap (λ vs. 8 * sum_by (λ v. slot_words p (class_for p (length v))) vs) no_values
+
+-- what an opened heap is made of
+pub record IsFirst (h : Heap) : Type 0 where
+  pub table : h.classes ≡ table_of h.settings.page_words (layout_of h.kind)
+  pub bounds : h.bounds ≡ replicate 128 h.settings.k
+  pub live : h.live ≡ replicate 128 0
+  pub asked : h.asked ≡ 0
+  pub taken : h.taken ≡ 0
+  pub cost : h.cost ≡ 0
+  pub framed : IsFramed h.kind h
+  pub frames : h.frames ≡ opening_frames h.kind (profile_of h.settings)
+  pub words : h.words ≡ replicate (h.settings.pages * h.settings.page_words) 0
+  pub maps : length h.maps ≡ h.settings.pages
+  pub lists : h.lists ≡ empty_lists (length h.classes.sizes) h.settings.pages
+  pub pool : h.pool ≡ record { pages = h.settings.pages; free = range_with_len 0 h.settings.pages }
+  pub proxies : h.proxies ≡ no_proxies h.settings.proxies
+  pub handles : AreBelowLimit h.proxies
+
+module _ (h : Heap) (f : IsFirst h) where
+  none : held_in h ≡ empty
+  none = ap (λ (x : Proxies). held_at h.words x.places) f.proxies ∙ nothing_held h.words
+
+  none_of : objects (held_in h) ≡ empty
+  none_of = ap objects none ∙ no_objects
+
+  many : length h.classes.sizes ≡ length (sizes h.settings.page_words (layout_of h.kind))
+  many = ap (λ (t : ClassTable). length t.sizes) f.table
+
+  few : length (sizes h.settings.page_words (layout_of h.kind)) ≤ 67
+  few = (are_sizes h.settings.page_words (layout_of h.kind) h.settings.page_size).few
+
+  tell : Tell (paging_at h) (tables_in h)
+  tell = record {
+    tables =
+        let small = h.settings.small_region in
+        let t : IsTable h.settings.page_words (sizes h.settings.page_words (layout_of h.kind)) = record { are_sizes = are_sizes h.settings.page_words (layout_of h.kind) h.settings.page_size; small = (page_size h.settings.page_words h.settings.page_size).small } in
+        let all = first_tables (length h.classes.sizes) h.settings.pages (class_table (paging_at h)) h.maps t (omega arith) f.maps many in
+        let l = subst (λ l. AreTables (class_table (paging_at h)) (tables h.maps l (record { pages = h.settings.pages; free = range_with_len 0 h.settings.pages }))) (sym f.lists) all in
+        subst (λ q. AreTables (class_table (paging_at h)) (tables h.maps h.lists q)) (sym f.pool) l;
+    pages = ap (λ (q : Pool). q.pages) f.pool;
+  }
+
+  bound : (c : ℕ) → c < 128 → get_or h.bounds c 0 ≡ h.settings.k
+  bound c lt = ap (λ b. get_or b c 0) f.bounds ∙ get_or-replicate 128 c h.settings.k 0 lt
+
+  pub first_kept : IsKept h
+  first_kept = record {
+    framed = f.framed;
+    table = f.table;
+    words_long = ap length f.words ∙ length-replicate {A = ℕ} (h.settings.pages * h.settings.page_words) 0;
+    image =
+        let at : IsSlotImage (paging_at h) empty (replicate (h.settings.pages * h.settings.page_words) 0) = image_empty (slot_for (paging_at h)) (h.settings.pages * h.settings.page_words) in
+        let held : IsSlotImage (paging_at h) (held_in h) (replicate (h.settings.pages * h.settings.page_words) 0) = subst (λ m. IsSlotImage (paging_at h) m (replicate (h.settings.pages * h.settings.page_words) 0)) (sym none) at in
+        subst (λ w. IsSlotImage (paging_at h) (held_in h) w) (sym f.words) held;
+    sound = subst (IsSound (paging_at h)) (sym none) (sound_empty (paging_at h));
+    tell = tell;
+    occupied =
+        let o = first_occupied (length h.classes.sizes) h.settings.pages (paging_at h) h.maps h.pool in
+        let l : Occupies (paging_at h) empty (tables_in h) = subst (λ l. Occupies (paging_at h) empty (tables h.maps l h.pool)) (sym f.lists) o in
+        subst (λ m. Occupies (paging_at h) m (tables_in h)) (sym none) l;
+    numbers = ap (λ (x : Proxies). x.limit) f.proxies;
+    handles = f.handles;
+    bounds_long = ap length f.bounds ∙ length-replicate {A = ℕ} 128 h.settings.k;
+    some_bound = λ c lt. (let e = bound c lt in let some = h.settings.some_bound in omega arith);
+    low_bound = λ c lt. (let e = bound c lt in let low = h.settings.low_bound in omega arith);
+    live_long = ap length f.live ∙ length-replicate {A = ℕ} 128 0;
+    counted = λ c lt. (
+        let l = few in
+        let here : c < 128 = omega arith in
+        ap (λ b. get_or b c 0) f.live ∙ get_or-replicate {A = ℕ} 128 c 0 0 here ∙ sym (ap (λ o. live (paging_at h) o c) none_of ∙ none_live (paging_at h) c));
+    asked_all = f.asked ∙ sym (ap asked_bytes none_of ∙ none_asked);
+    taken_all = f.taken ∙ sym (ap (taken_bytes (paging_at h)) none_of ∙ none_taken (paging_at h));
+  }
+
+  pub first_empty : IsEmptyHeap h.kind h.settings (state_of h)
+  first_empty = record {
+    words = opening_words h.kind paged (profile_of h.settings) h.words f.words;
+    whole =
+        let p = profile_of h.settings in
+        let bounds : take (length h.classes.sizes) h.bounds ≡ opening_bounds h.kind p = (
+        let l = few in let e = many in
+        ap (take (length h.classes.sizes)) f.bounds ∙ take-replicate (length h.classes.sizes) 128 h.settings.k (omega arith) ∙ ap (λ n. replicate n h.settings.k) many ∙ sym (opening_bounds_are h.kind paged p)) in
+        ap (λ b. record (state_of h) { bounds = b }) bounds
+        ∙ ap (λ m. record (state_of h) { bounds = opening_bounds h.kind p; held = m }) none
+        ∙ ap (λ fs. record (state_of h) { bounds = opening_bounds h.kind p; held = empty; frames = fs }) f.frames
+        ∙ ap (λ t. record (state_of h) { bounds = opening_bounds h.kind p; held = empty; frames = opening_frames h.kind p; tiling = t }) (sym (opening_tiling_is h.kind paged p))
+        ∙ ap (λ x. record (state_of h) { bounds = opening_bounds h.kind p; held = empty; frames = opening_frames h.kind p; tiling = opening_tiling h.kind p; cost = x }) f.cost;
+  }
+    where
+      paged : IsPaged h.kind
+      paged = paged_of h.kind h f.framed

@@ -1,0 +1,225 @@
+-- A free that moves another object to the freed slot.
+use Rattle.std.proofs.Common.{◌≡◌, ◌≢◌, ℕ, ◌+◌, ◌-◌, ◌*◌, ◌/◌, ◌%◌, ◌^◌, ◌<◌, ◌≤◌, List, length, get_or, set, Some, arith, sym, ◌∙◌, ap, subst, inl, inr}
+use Rattle.std.specs.Prelude.{◌⊎◌, IsSome, is_some}
+use Rattle.std.specs.FinMap.{get, insert, remove}
+use Rattle.cf_lemmas.proofs.Maps.{get_inserted, get_remove_other}
+use Rattle.cf_lemmas.specs.Exchanges.{exchanged}
+use Rattle.page_model.specs.Held.{Placed}
+use Rattle.page_model.specs.Image.{IsSlotImage, MovesWords, slot_for}
+use Rattle.page_model.specs.Paging.{slot_words}
+use Rattle.page_model.specs.Arrangement.{class_at}
+use Rattle.page_model.specs.Steps.{MayFill, MustMove, Moves, moved_to}
+use Rattle.page_model.proofs.FreeSteps.{mover_is_other}
+use Rattle.page_model.proofs.Parts.{moved_places}
+use Rattle.page_model.proofs.SlotImages.{image_after_move, object_inside, own_words, sound_apart_from}
+use Rattle.page_model.proofs.Writing.{header_told}
+use Rattle.proxy_table.specs.Proxies.{AreBelowLimit, with_place, without_place}
+use Rattle.cf_model.specs.Steps.{frames_left}
+use Rattle.page_slots.specs.Freeing.{FillsFrom}
+use Rattle.page_slots.specs.Tables.{AreTables, Tables}
+use Rattle.page_slots.specs.Occupying.{Occupies, Tell, class_table}
+use Rattle.page_slots.proofs.CallerLemmas.{filled_occupied, filled_tell, filler, filler_may}
+use Rattle.virtual_words.specs.Words.{IsWhole}
+use Rattle.paged_heap.specs.Heap.{Heap}
+use Rattle.paged_heap.specs.Layout.{IsFramed, IsKept, held_in, paging_at, state_of, tables_in}
+use Rattle.paged_heap.specs.Free.{IsMoving, IsObjectAt, MovesSlot}
+use Rattle.paged_heap.proofs.ByKind.{frames_change}
+use Rattle.paged_heap.proofs.WholeBlocks.{whole_slot}
+use Rattle.paged_heap.proofs.LayoutFacts.{number_small, paging_ok, place_known, table_is}
+use Rattle.paged_heap.proofs.Preserved.{Becomes, places_are, rest_from}
+use Rattle.paged_heap.proofs.FreedObject.{goes, it, it_class, it_found, it_inside, it_slot, must, rest_held}
+
+module _ (h : Heap) (k : IsKept h) (q a size c : ℕ) (o : IsObjectAt h q a size c) (moves : IsMoving h a c) (b : ℕ) (new : Tables) (filled : FillsFrom h.classes (tables_in h) c b new) (tables : AreTables h.classes new) where
+  abbrev pub words : ℕ
+  words = get_or h.classes.sizes c 0
+
+  due : MustMove (paging_at h) (held_in h) (it h k q a size c o)
+  due = must h k q a size c o moves
+
+  fills : FillsFrom (class_table (paging_at h)) (tables_in h) (class_at (paging_at h) (it h k q a size c o)) b new
+  fills = subst (λ d. FillsFrom (class_table (paging_at h)) (tables_in h) d b new) (sym (it_class h k q a size c o)) (subst (λ t. FillsFrom t (tables_in h) c b new) (sym (table_is h k)) filled)
+
+  kept_tables : AreTables (class_table (paging_at h)) new
+  kept_tables = subst (λ t. AreTables t new) (sym (table_is h k)) tables
+
+  other : (r : ℕ) × (y : Placed) × (get (held_in h) r ≡ Some y) × (y.place ≡ b)
+  other = filler (paging_at h) (paging_ok h k) (held_in h) (tables_in h) new k.tell k.occupied kept_tables k.sound q (it h k q a size c o) (it_found h k q a size c o) b fills
+
+  pub r : ℕ
+  r = other.0
+
+  pub y : Placed
+  y = other.1
+
+  there : get (held_in h) r ≡ Some y
+  unfolding r y
+  there = other.2
+
+  at : y.place ≡ b
+  unfolding y
+  at = other.3
+
+  may : MayFill (paging_at h) (held_in h) (it h k q a size c o) y
+  may = filler_may (paging_at h) (paging_ok h k) (held_in h) (tables_in h) new k.tell k.occupied kept_tables k.sound q (it h k q a size c o) (it_found h k q a size c o) b fills r y there at
+
+  is_other : r ≢ q
+  is_other = mover_is_other (paging_at h) (paging_ok h k) (held_in h) k.sound q (it h k q a size c o) (it_found h k q a size c o) r y there due may
+
+  same_slot : words ≡ slot_for (paging_at h) (length y.bytes)
+  same_slot = it_slot h k q a size c o ∙ sym (ap (slot_words (paging_at h)) may.class)
+
+  pub mover : Moves (paging_at h) (held_in h) (it h k q a size c o) (Some r)
+  mover = (due, (y, there, may))
+
+  -- its words are in the region
+  pub source_in : b + words ≤ length h.words
+  source_in = (
+      let l = object_inside (paging_at h) (held_in h) k.sound r y there in
+      let e = same_slot in let p = at in let long = k.words_long in
+      omega arith)
+
+  pub place_in : b < length h.words
+  place_in = (
+      let s = source_in in
+      let e = it_slot h k q a size c o in
+      let least = (paging_ok h k).sized.least (class_at (paging_at h) (it h k q a size c o)) (k.sound.slots q (it h k q a size c o) (it_found h k q a size c o)).class in
+      omega arith)
+
+  pub slots_apart : (b + words ≤ a) ⊎ (a + words ≤ b)
+  slots_apart =
+      let d = sound_apart_from (paging_at h) (held_in h) k.sound r y there q (it h k q a size c o) (it_found h k q a size c o) (λ e. is_other (sym e)) in
+      let e = same_slot in let f = it_slot h k q a size c o in let p = at in
+      elim d [ inl l ↦ inl (omega arith) | inr l ↦ inr (omega arith) ]
+
+  -- its header tells its number
+  pub number_told : get_or h.words b 0 % 2 ^ 32 ≡ r
+  number_told =
+      let small = number_small h k r y there in
+      let few = h.settings.few_proxies in
+      let t = header_told (held_in h) h.words r y (own_words (paging_at h) (paging_ok h k) (held_in h) k.sound h.words k.image) there (omega arith) in
+      ap (λ i. get_or h.words i 0 % 2 ^ 32) (sym at) ∙ t.0
+
+  -- it is still live where the freed one isn't
+  pub live_still : get (remove h.proxies.places q) r ≡ Some y.place
+  live_still = get_remove_other h.proxies.places q r is_other ∙ place_known h k r y there
+
+  -- the words after the move
+  module _ (left_words : List ℕ) (words_move : MovesWords h.words left_words (record { from = b; count = words }) a) where
+    moves_words : MovesWords h.words left_words (record { from = y.place; count = slot_for (paging_at h) (length y.bytes) }) a
+    moves_words =
+        subst (λ s. MovesWords h.words left_words (record { from = y.place; count = s }) a) same_slot
+        (subst (λ p. MovesWords h.words left_words (record { from = p; count = words }) a) (sym at) words_move)
+
+    image : IsSlotImage (paging_at h) (moved_to (remove (held_in h) q) r (get (held_in h) r) a) left_words
+    image =
+        let i = image_after_move (paging_at h) (paging_ok h k) (held_in h) k.sound h.words k.image q (it h k q a size c o) (it_found h k q a size c o) left_words r y there due may moves_words in
+        subst (λ z. IsSlotImage (paging_at h) (moved_to (remove (held_in h) q) r z a) left_words) (sym there) i
+
+  -- the places and the words of the slots are those of whole blocks
+  pub whole_target : IsWhole h.kind a
+  whole_target = (whole_slot h k q (it h k q a size c o) (it_found h k q a size c o)).0
+
+  pub whole_source : IsWhole h.kind b
+  whole_source = subst (IsWhole h.kind) at (whole_slot h k r y there).0
+
+  pub whole_words : IsWhole h.kind words
+  whole_words = subst (IsWhole h.kind) (sym same_slot) (whole_slot h k r y there).1
+
+  -- all but the tables is as it was, with what the free does to it
+  module _ (t n : Heap)
+      (whole : n ≡ record h {
+        maps = t.maps;
+        lists = t.lists;
+        pool = t.pool;
+        proxies = with_place (without_place h.proxies q) r a;
+        words = n.words;
+        frames = n.frames;
+        live = set h.live c (get_or h.live c 0 - 1);
+        asked = h.asked - size;
+        taken = h.taken - 8 * words;
+      })
+      (moved : MovesSlot h n b a words) (framed : IsFramed h.kind n) (same : tables_in t ≡ new) (handles : AreBelowLimit n.proxies) where
+    on : tables_in n ≡ new
+    on = ap tables_in whole ∙ same
+
+    pub refilled : Becomes h n (rest_held h k q a size c o n (Some r) mover)
+    refilled = goes h k q a size c o n (Some r) mover
+        (record { live = ap (λ (x : Heap). x.live) whole; asked = ap (λ (x : Heap). x.asked) whole; taken = ap (λ (x : Heap). x.taken) whole })
+        (rest_from h n (ap (λ (x : Heap). x.kind) whole) (ap (λ (x : Heap). x.settings) whole) (ap (λ (x : Heap). x.classes) whole) (ap (λ (x : Heap). x.bounds) whole))
+        (ap (λ (x : Heap). x.proxies.places) whole ∙ ap (λ m. insert (remove m q) r a) (places_are h k)
+        ∙ sym (moved_places (paging_at h) (paging_ok h k) (held_in h) k.sound q (it h k q a size c o) (it_found h k q a size c o) r y there due may))
+        moved.long
+        (image n.words moved.words)
+        framed
+        (subst (Tell (paging_at h)) (sym on) (filled_tell (paging_at h) (paging_ok h k) (held_in h) (tables_in h) new k.tell k.occupied kept_tables k.sound q (it h k q a size c o) (it_found h k q a size c o) b fills))
+        (subst (Occupies (paging_at h) (moved_to (remove (held_in h) q) r (get (held_in h) r) a)) (sym on) (filled_occupied (paging_at h) (paging_ok h k) (held_in h) (tables_in h) new k.tell k.occupied kept_tables k.sound q (it h k q a size c o) (it_found h k q a size c o) b fills r y there at due))
+        (ap (λ (x : Heap). x.proxies.limit) whole)
+        handles
+
+    -- the frames are those that the model has
+    pub frames_are : n.frames ≡ frames_left h.kind (state_of h) (record { held = rest_held h k q a size c o n (Some r) mover; moved = Some r })
+    frames_are =
+        let e : get (rest_held h k q a size c o n (Some r) mover) r ≡ Some (record { place = a; bytes = y.bytes }) =
+        (let f : get (held_in h) r ≡ Some y = there in rw f (get_inserted (remove (held_in h) q) r (record { place = a; bytes = y.bytes }))) in
+        moved.frames
+        ∙ ap (λ s. exchanged h.frames (b / 4) (a / 4) (s / 4)) same_slot
+        ∙ ap (λ p. exchanged h.frames (p / 4) (a / 4) (slot_for (paging_at h) (length y.bytes) / 4)) (sym at)
+        ∙ sym (frames_change h.kind h k.framed (rest_held h k q a size c o n (Some r) mover) r y (record { place = a; bytes = y.bytes }) there e)
+
+  -- the slot was found, the number given back and the object counted no more; w are the slot's words and i is the other's number
+  module _ (t e g : Heap) (w i : ℕ) (size_w : w ≡ words) (is : i ≡ r)
+      (et : t ≡ record h { maps = t.maps; lists = t.lists; pool = t.pool })
+      (released : e ≡ record t { proxies = without_place t.proxies q })
+      (counted : g ≡ record e { live = set e.live c (get_or e.live c 0 - 1); asked = e.asked - size; taken = e.taken - 8 * get_or e.classes.sizes c 0 }) where
+    counted_is : g ≡ record h { maps = t.maps; lists = t.lists; pool = t.pool; proxies = without_place h.proxies q; live = set h.live c (get_or h.live c 0 - 1); asked = h.asked - size; taken = h.taken - 8 * words }
+    counted_is = counted
+        ∙ ap (λ (x : Heap). record x { live = set x.live c (get_or x.live c 0 - 1); asked = x.asked - size; taken = x.taken - 8 * get_or x.classes.sizes c 0 })
+        (released ∙ ap (λ (x : Heap). record x { proxies = without_place x.proxies q }) et)
+
+    pub live_there : IsSome (get g.proxies.places i)
+    live_there = ap (λ (x : Heap). is_some (get x.proxies.places i)) counted_is ∙ ap (λ j. is_some (get (remove h.proxies.places q) j)) is ∙ ap is_some live_still
+
+    pub source_there : b + w ≤ length g.words
+    source_there = (let l = ap (λ (x : Heap). length x.words) counted_is in let s = source_in in let z = size_w in omega arith)
+
+    pub target_there : a + w ≤ length g.words
+    target_there = (let l = ap (λ (x : Heap). length x.words) counted_is in let s = it_inside h k q a size c o in let z = size_w in omega arith)
+
+    pub apart_there : (b + w ≤ a) ⊎ (a + w ≤ b)
+    apart_there = subst (λ w. (b + w ≤ a) ⊎ (a + w ≤ b)) (sym size_w) slots_apart
+
+    pub whole_there : IsWhole h.kind w
+    whole_there = subst (IsWhole h.kind) (sym size_w) whole_words
+
+    pub whole_is : (n : Heap) → n ≡ record g { proxies = with_place g.proxies i a; words = n.words; frames = n.frames }
+        → n ≡ record h {
+          maps = t.maps;
+          lists = t.lists;
+          pool = t.pool;
+          proxies = with_place (without_place h.proxies q) r a;
+          words = n.words;
+          frames = n.frames;
+          live = set h.live c (get_or h.live c 0 - 1);
+          asked = h.asked - size;
+          taken = h.taken - 8 * words;
+        }
+    whole_is n en = en
+        ∙ ap (λ (x : Heap). record x { proxies = with_place x.proxies i a; words = n.words; frames = n.frames }) counted_is
+        ∙ ap (λ j. record h {
+          maps = t.maps;
+          lists = t.lists;
+          pool = t.pool;
+          proxies = with_place (without_place h.proxies q) j a;
+          words = n.words;
+          frames = n.frames;
+          live = set h.live c (get_or h.live c 0 - 1);
+          asked = h.asked - size;
+          taken = h.taken - 8 * words;
+        }) is
+
+    pub moved_is : (n : Heap) → MovesSlot g n b a w → MovesSlot h n b a words
+    moved_is n m = subst (MovesSlot h n b a) size_w (record {
+      long = m.long ∙ ap (λ (x : Heap). length x.words) counted_is;
+      words = subst (λ ws. MovesWords ws n.words (record { from = b; count = w }) a) (ap (λ (x : Heap). x.words) counted_is) m.words;
+      frames = m.frames ∙ ap (λ (x : Heap). exchanged x.frames (b / 4) (a / 4) (w / 4)) counted_is;
+    })

@@ -1,0 +1,53 @@
+-- The object at a live number's place, by its header.
+use Rattle.std.proofs.Common.{◌≡◌, ℕ, ◌/◌, ◌^◌, ◌<◌, length, get_or, Some, None, Result, Ok, Err, sym, ◌∙◌, ap, subst}
+use Rattle.std.specs.FinMap.{get}
+use Rattle.cf_base.specs.Classes.{class_of}
+use Rattle.cf_base.specs.declared.answers.Freed.{Freed}
+use Rattle.cf_base.specs.declared.answers.NotLive.{NotLive}
+use Rattle.cf_model.specs.State.{HeapState}
+use Rattle.cf_model.specs.Steps.{IsFreeStep}
+use Rattle.page_model.specs.Bytes.{bytes_at}
+use Rattle.page_model.specs.Paging.{class_for}
+use Rattle.page_model.proofs.Sizes.{class_known}
+use Rattle.page_slots.specs.Tables.{page_at}
+use Rattle.page_slots.proofs.CallerLemmas.{found_page}
+use Rattle.paged_heap.specs.Heap.{Heap}
+use Rattle.paged_heap.specs.Layout.{IsKept, held_in, paging_at, state_of, tables_in}
+use Rattle.paged_heap.specs.Free.{IsObjectAt}
+use Rattle.paged_heap.proofs.LayoutFacts.{paging_ok, sizes_are}
+use Rattle.paged_heap.proofs.CountLimits.{class_is}
+use Rattle.paged_heap.proofs.ReadLemmas.{bytes_long, held}
+use Rattle.paged_heap.proofs.FreedObject.{it, it_found, page_same}
+
+module _ (h : Heap) (k : IsKept h) (q a : ℕ) (some : get h.proxies.places q ≡ Some a) (size : ℕ) (told : size ≡ get_or h.words a 0 / 2 ^ 32) where
+  long : length (bytes_at h.words a) ≡ size
+  long = bytes_long h.words a ∙ sym told
+
+  -- it has a class
+  pub has_class : None ≡ class_of h.classes.sizes size → ⊥
+  has_class none =
+      let lt = (k.sound.slots q (record { place = a; bytes = bytes_at h.words a }) (held h k q a some)).class in
+      let known = class_known (paging_at h) (paging_ok h k) (length (bytes_at h.words a)) lt in
+      let z : None ≡ Some (class_for (paging_at h) (length (bytes_at h.words a))) = none ∙ ap (λ xs. class_of xs size) (sizes_are h k) ∙ ap (class_of (paging_at h).sizes) (sym long) ∙ known in
+      absurd (let w : None ≡ Some (class_for (paging_at h) (length (bytes_at h.words a))) = z in cc)
+
+  pub object_at : (c : ℕ) → Some c ≡ class_of h.classes.sizes size → IsObjectAt h q a size c
+  object_at c found = (let is = class_is h k size c found in record { known = some; long = long; class = is.1; in_range = is.2 })
+
+-- its page is one of the tables'
+pub page_there : (h : Heap) (k : IsKept h) (q a size c : ℕ) (o : IsObjectAt h q a size c) → page_at h.classes a < length h.maps
+page_there h k q a size c o =
+    let lt = found_page (paging_at h) (paging_ok h k) (held_in h) (tables_in h) k.tell k.occupied q (it h k q a size c o) (it_found h k q a size c o) in
+    subst (λ g. g < length h.maps) (page_same h k q a size c o) lt
+
+-- the cost of a free
+pub free_cost : (o : Heap) (q : ℕ) (r : Result Freed NotLive) (h : Heap) (cost : ℕ) → IsFreeStep (state_of o) q r (state_of h) → IsFreeStep (state_of o) q r (state_of (record h { cost = cost }))
+free_cost o q (Ok freed) h cost g = record {
+  object = g.object;
+  found = g.found;
+  slot = g.slot;
+  moves = g.moves;
+  left = g.left;
+  whole = ap (λ (t : HeapState). record t { cost = cost }) g.whole;
+}
+free_cost o q (Err e) h cost (cause, same) = (cause, ap (λ (t : HeapState). record t { cost = cost }) same)

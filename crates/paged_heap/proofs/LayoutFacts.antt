@@ -1,0 +1,124 @@
+-- What an open heap's invariant tells: its paging, its tables, and the rules that it keeps.
+use Rattle.std.proofs.Common.{◌≡◌, ℕ, ◌<◌, ◌≤◌, length, take, get_or, Option, Some, None, arith, refl, sym, ◌∙◌, ap, subst, inl, inr}
+use Rattle.std.specs.Prelude.{IsTrue, is_some}
+use Rattle.std.proofs.lemmas.Bool.{cases_lt, false≢true}
+use Rattle.std.proofs.lemmas.List.{get_or-take, get_or_past, length-take-le}
+use Rattle.std.specs.FinMap.{get, len}
+use Rattle.cf_base.specs.Classes.{sizes}
+use Rattle.cf_base.specs.Settings.{profile_of}
+use Rattle.page_model.specs.Held.{Placed}
+use Rattle.page_model.specs.Bytes.{bytes_at}
+use Rattle.page_model.specs.Paging.{IsPaging, classes}
+use Rattle.page_model.proofs.Reading.{held_at_is, held_at_bytes}
+use Rattle.page_model.proofs.SlotImages.{own_words}
+use Rattle.page_model.proofs.Sizes.{paged}
+use Rattle.size_classes.specs.Table.{ClassTable, IsTable}
+use Rattle.page_slots.specs.Tables.{AreTables}
+use Rattle.page_slots.specs.Occupying.{class_table}
+use Rattle.cf_model.specs.State.{HeapState, layout_of}
+use Rattle.cf_model.specs.Rules.{IsPaged, KeepsRules}
+use Rattle.cf_base.specs.declared.kind.Kind.{Kind}
+use Rattle.paged_heap.specs.declared.open_heap.OpenHeap.{OpenHeap}
+use Rattle.paged_heap.specs.Heap.{Heap, seen}
+use Rattle.paged_heap.specs.Layout.{IsKept, IsKeptIn, held_in, paging_at, state_in, state_of, tables_in}
+use Rattle.paged_heap.proofs.ByKind.{paged_of, rules_by}
+use Rattle.paged_heap.proofs.Values.{len-map_values}
+
+module _ (h : Heap) (k : IsKept h) where
+  -- the classes are those of the paging
+  pub table_is : class_table (paging_at h) ≡ h.classes
+  table_is = sym k.table
+
+  pub sizes_are : h.classes.sizes ≡ sizes h.settings.page_words (layout_of h.kind)
+  sizes_are = ap (λ (t : ClassTable). t.sizes) k.table
+
+  pub page_is : h.classes.page_words ≡ h.settings.page_words
+  page_is = ap (λ (t : ClassTable). t.page_words) k.table
+
+  pub as_many : length h.classes.sizes ≡ classes (paging_at h)
+  as_many = ap (λ (t : ClassTable). length t.sizes) k.table
+
+  pub few_classes : classes (paging_at h) ≤ 67
+  few_classes = k.tell.tables.table.are_sizes.few
+
+  pub bounds_many : length (take (length h.classes.sizes) h.bounds) ≡ length h.classes.sizes
+  bounds_many = length-take-le (length h.classes.sizes) h.bounds (let few = few_classes in let e = as_many in let long = k.bounds_long in omega arith)
+
+  pub bound_is : (c : ℕ) → c < length h.classes.sizes → get_or (take (length h.classes.sizes) h.bounds) c 0 ≡ get_or h.bounds c 0
+  bound_is c lt = get_or-take (length h.classes.sizes) h.bounds c 0 lt
+
+  pub paging_ok : IsPaging (paging_at h)
+  paging_ok = paged (profile_of h.settings) (layout_of h.kind) (take (length h.classes.sizes) h.bounds) h.settings.page_size (bounds_many ∙ as_many) (λ c lt. (
+      let lt' : c < length h.classes.sizes = (let e = bounds_many in omega arith) in
+      let few = few_classes in let e = as_many in
+      let some = k.some_bound c (omega arith) in
+      let is = bound_is c lt' in
+      omega arith))
+
+  pub tables_ok : AreTables h.classes (tables_in h)
+  tables_ok = subst (λ t. AreTables t (tables_in h)) table_is k.tell.tables
+
+  pub table_ok : IsTable h.classes.page_words h.classes.sizes
+  table_ok = subst (λ (t : ClassTable). IsTable t.page_words t.sizes) table_is k.tell.tables.table
+
+  pub bounds_low : (c : ℕ) → get_or (take (length h.classes.sizes) h.bounds) c 0 ≤ 64
+  bounds_low c = elim (cases_lt c (length h.classes.sizes)) [
+    | inl lt ↦ (
+        let few = few_classes in let e = as_many in
+        let low = k.low_bound c (omega arith) in
+        let is = bound_is c lt in
+        omega arith)
+    | inr past ↦ (let l = bounds_many in let e = get_or_past (take (length h.classes.sizes) h.bounds) c 0 (omega arith) in omega arith)
+  ]
+
+  -- a number that is held has its place in the proxies
+  pub place_known : (q : ℕ) (x : Placed) → get (held_in h) q ≡ Some x → get h.proxies.places q ≡ Some x.place
+  place_known q x e = (held_at_is h.words h.proxies.places q x e).0
+
+  pub number_small : (q : ℕ) (x : Placed) → get (held_in h) q ≡ Some x → q < h.settings.proxies
+  number_small q x e = (let lt = k.handles.below q x.place (place_known q x e) in let s = k.numbers in omega arith)
+
+  pub held_len : len (held_in h) ≡ len h.proxies.places
+  held_len = len-map_values (λ a. record { place = a; bytes = bytes_at h.words a }) h.proxies.places
+
+  -- it is of a kind with pages
+  pub paged_kind : IsPaged h.kind
+  paged_kind = paged_of h.kind h k.framed
+
+  pub rules : KeepsRules (state_of h)
+  rules = record {
+    settings = record {
+      some_pages = h.settings.some_pages;
+      few_pages = h.settings.few_pages;
+      page_size = h.settings.page_size;
+      some_bound = h.settings.some_bound;
+      low_bound = h.settings.low_bound;
+      some_proxies = h.settings.some_proxies;
+      few_proxies = h.settings.few_proxies;
+      small_region = h.settings.small_region;
+    };
+    region = k.words_long;
+    numbers = record {
+      handles = number_small;
+      bytes = held_at_bytes h.words h.proxies.places;
+      few = (let e = held_len in let f = k.handles.few in let s = k.numbers in omega arith);
+    };
+    of_kind = rules_by h.kind h k.framed k.words_long (record {
+      paging = paging_ok;
+      low_bounds = bounds_low;
+      sound = k.sound;
+      image = own_words (paging_at h) paging_ok (held_in h) k.sound h.words k.image;
+      slots = k.image;
+      no_tiling = refl;
+    });
+  }
+
+-- an open heap keeps its rules
+pub rules_in : (kind : Kind) (o : Option OpenHeap) → IsKeptIn kind o → IsTrue (is_some o) → KeepsRules (state_in kind o)
+rules_in kind None k open_now = absurd (false≢true open_now)
+rules_in kind (Some h) k open_now = rules (seen kind h) k.kept
+
+-- the same in the terms of the value
+pub rules_of : (kind : Kind) (o : Option OpenHeap) → IsKeptIn kind o → (s : HeapState) → state_in kind o ≡ s → IsTrue s.is_open → KeepsRules s
+rules_of kind None k s is open_now = absurd (false≢true (ap (λ (t : HeapState). t.is_open) is ∙ open_now))
+rules_of kind (Some h) k s is open_now = subst KeepsRules is (rules (seen kind h) k.kept)

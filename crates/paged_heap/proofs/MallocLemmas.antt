@@ -1,0 +1,116 @@
+-- The parts of a malloc, put together.
+use Rattle.std.proofs.Common.{◌≡◌, ◌≢◌, ℕ, ◌+◌, ◌*◌, ◌<◌, length, get_or, set, Some, None, Result, Ok, Err, arith, sym, ◌∙◌, ap, subst}
+use Rattle.std.specs.FinMap.{get, len}
+use Rattle.cf_base.specs.Classes.{class_of}
+use Rattle.cf_base.specs.declared.answers.Handle.{Handle}
+use Rattle.cf_base.specs.declared.answers.Refusal.{Refusal}
+use Rattle.page_model.specs.Arrangement.{LacksRoom}
+use Rattle.page_model.specs.Image.{header_word}
+use Rattle.page_model.specs.Paging.{class_for}
+use Rattle.page_model.proofs.SlotImages.{slot_inside}
+use Rattle.proxy_table.specs.Proxies.{Proxies, AreBelowLimit, with_place}
+use Rattle.page_slots.specs.Tables.{AreTables, Tables}
+use Rattle.page_slots.specs.Taking.{TakesAt, TakesSlot}
+use Rattle.page_slots.specs.Occupying.{class_table}
+use Rattle.page_slots.proofs.CallerLemmas.{refused_lacks_room, taken_is_free}
+use Rattle.cf_model.specs.Rules.{IsPaged}
+use Rattle.cf_model.specs.State.{HeapState}
+use Rattle.cf_model.specs.Steps.{ChangesCost, IsMallocStep, WantsProxy, WantsSpace}
+use Rattle.paged_heap.specs.Heap.{Heap}
+use Rattle.paged_heap.specs.Layout.{IsKept, held_in, paging_at, state_of, tables_in}
+use Rattle.paged_heap.proofs.ByKind.{lacks_in, placed_same}
+use Rattle.paged_heap.proofs.LayoutFacts.{held_len, paged_kind, paging_ok, sizes_are, table_is}
+use Rattle.paged_heap.proofs.CountLimits.{class_is}
+use Rattle.paged_heap.proofs.Preserved.{rest_from}
+use Rattle.paged_heap.proofs.MallocPreserves.{Comes}
+
+module _ (h : Heap) (k : IsKept h) (bytes c : ℕ) (found : Some c ≡ class_of h.classes.sizes bytes) where
+  pub wants_proxy : len h.proxies.places ≡ h.settings.proxies → WantsProxy (state_of h) bytes
+  wants_proxy all = record { fits = (class_is h k bytes c found).0; all = held_len h k ∙ all }
+
+  few_proxies : len h.proxies.places ≢ h.settings.proxies → len h.proxies.places < h.settings.proxies
+  few_proxies ne = (let f = k.handles.few in let e = k.numbers in omega arith)
+
+  pub wants_space : (new : Tables) → len h.proxies.places ≢ h.settings.proxies → TakesSlot h.classes (tables_in h) c None new → WantsSpace (state_of h) bytes
+  wants_space new ne none =
+      let is = class_is h k bytes c found in
+      let t : TakesSlot (class_table (paging_at h)) (tables_in h) c None new = subst (λ t. TakesSlot t (tables_in h) c None new) (sym (table_is h k)) none in
+      record {
+        fits = is.0;
+        few = (let e = held_len h k in let lt = few_proxies ne in omega arith);
+        lacking = lacks_in h.kind (paged_kind h k) (state_of h) bytes (subst (LacksRoom (paging_at h) (held_in h)) (sym is.1) (refused_lacks_room (paging_at h) (paging_ok h k) (held_in h) (tables_in h) k.tell k.occupied c new t));
+      }
+
+  module _ (new : Tables) (a : ℕ) (t : TakesAt h.classes (tables_in h) c a new) (tables : AreTables h.classes new) where
+    abbrev at_table : TakesAt (class_table (paging_at h)) (tables_in h) c a new
+    at_table = subst (λ t. TakesAt t (tables_in h) c a new) (sym (table_is h k)) t
+
+    abbrev of_table : AreTables (class_table (paging_at h)) new
+    of_table = subst (λ t. AreTables t new) (sym (table_is h k)) tables
+
+    -- the place is in the region
+    pub place_inside : a < length h.words
+    place_inside =
+        let is = class_is h k bytes c found in
+        let lt = is.2 in
+        let free = taken_is_free (paging_at h) (paging_ok h k) (held_in h) (tables_in h) new k.tell k.occupied of_table c a lt at_table bytes is.1 in
+        let inside = slot_inside (paging_at h) (class_for (paging_at h) bytes) a free.slot in
+        let least = (paging_ok h k).sized.least (class_for (paging_at h) bytes) free.slot.class in
+        let long = k.words_long in
+        omega arith
+
+  -- a slot is taken, the object is bound, and it is counted
+  pub comes : (t b n : Heap) (a q : ℕ) → len h.proxies.places ≢ h.settings.proxies
+      → TakesAt h.classes (tables_in h) c a (tables_in t) → AreTables h.classes (tables_in t)
+      → t ≡ record h { maps = t.maps; lists = t.lists; pool = t.pool }
+      → get t.proxies.places q ≡ None → q < t.proxies.limit
+      → b ≡ record t { proxies = with_place t.proxies q a; words = set t.words a (header_word q bytes) } → AreBelowLimit b.proxies
+      → n ≡ record b { live = set b.live c (get_or b.live c 0 + 1); asked = b.asked + bytes; taken = b.taken + 8 * get_or b.classes.sizes c 0 }
+      → Comes h n c a bytes q
+  comes t b n a q ne taken tables et unused below eb handles en =
+      let is = class_is h k bytes c found in
+      let pt : t.proxies ≡ h.proxies = ap (λ (x : Heap). x.proxies) et in
+      let on : tables_in n ≡ tables_in t = ap tables_in en ∙ ap tables_in eb in
+      record {
+        rest = rest_from h n
+            (ap (λ (x : Heap). x.kind) en ∙ ap (λ (x : Heap). x.kind) eb ∙ ap (λ (x : Heap). x.kind) et)
+            (ap (λ (x : Heap). x.settings) en ∙ ap (λ (x : Heap). x.settings) eb ∙ ap (λ (x : Heap). x.settings) et)
+            (ap (λ (x : Heap). x.classes) en ∙ ap (λ (x : Heap). x.classes) eb ∙ ap (λ (x : Heap). x.classes) et)
+            (ap (λ (x : Heap). x.bounds) en ∙ ap (λ (x : Heap). x.bounds) eb ∙ ap (λ (x : Heap). x.bounds) et);
+        fits = is.0;
+        class = is.1;
+        in_range = is.2;
+        few = few_proxies ne;
+        taken = subst (λ x. TakesAt (class_table (paging_at h)) (tables_in h) c a x) (sym on) (at_table (tables_in t) a taken tables);
+        tables = subst (λ x. AreTables (class_table (paging_at h)) x) (sym on) (of_table (tables_in t) a taken tables);
+        unused = sym (ap (λ (x : Proxies). get x.places q) pt) ∙ unused;
+        below = (let e = ap (λ (x : Proxies). x.limit) pt in omega arith);
+        proxies = ap (λ (x : Heap). x.proxies) en ∙ ap (λ (x : Heap). x.proxies) eb ∙ ap (λ x. with_place x q a) pt;
+        handles = subst AreBelowLimit (sym (ap (λ (x : Heap). x.proxies) en)) handles;
+        frames = ap (λ (x : Heap). x.frames) en ∙ ap (λ (x : Heap). x.frames) eb ∙ ap (λ (x : Heap). x.frames) et;
+        words = ap (λ (x : Heap). x.words) en ∙ ap (λ (x : Heap). x.words) eb ∙ ap (λ (x : Heap). set x.words a (header_word q bytes)) et;
+        live = ap (λ (x : Heap). x.live) en ∙ ap (λ (x : Heap). set x.live c (get_or x.live c 0 + 1)) (eb' t b q a eb et);
+        asked = ap (λ (x : Heap). x.asked) en ∙ ap (λ (x : Heap). x.asked + bytes) (eb' t b q a eb et);
+        all_taken = ap (λ (x : Heap). x.taken) en ∙ ap (λ (x : Heap). x.taken + 8 * get_or x.classes.sizes c 0) (eb' t b q a eb et) ∙ ap (λ xs. h.taken + 8 * get_or xs c 0) (sizes_are h k);
+      }
+    where
+      eb' : (t b : Heap) (q a : ℕ) → b ≡ record t { proxies = with_place t.proxies q a; words = set t.words a (header_word q bytes) } → t ≡ record h { maps = t.maps; lists = t.lists; pool = t.pool }
+          → b ≡ record h { maps = t.maps; lists = t.lists; pool = t.pool; proxies = with_place t.proxies q a; words = set t.words a (header_word q bytes) }
+      eb' t b q a eb et = eb ∙ ap (λ (x : Heap). record x { proxies = with_place t.proxies q a; words = set t.words a (header_word q bytes) }) et
+
+-- where only tables that are the same were looked at, the state is the same but for the cost
+pub same_state : (h t : Heap) → t ≡ record h { maps = t.maps; lists = t.lists; pool = t.pool } → ChangesCost (state_of h) (state_of t)
+same_state h t e = ap state_of e ∙ ap (λ x. record (state_of h) { cost = x }) (sym (ap (λ (x : Heap). x.cost) e))
+
+-- the cost of a malloc
+pub malloc_cost : (o : Heap) → IsPaged o.kind → (bytes : ℕ) (r : Result Handle Refusal) (h : Heap) (cost : ℕ) → IsMallocStep (state_of o) bytes r (state_of h) → IsMallocStep (state_of o) bytes r (state_of (record h { cost = cost }))
+malloc_cost o p bytes (Ok q) h cost g = record {
+  fits = g.fits;
+  few = g.few;
+  in_range = g.in_range;
+  unused = g.unused;
+  place = g.place;
+  placed = placed_same o.kind p (state_of o) (record { number = q.0; length = bytes }) g.place (state_of h) (state_of (record h { cost = cost })) g.placed;
+  whole = ap (λ (t : HeapState). record t { cost = cost }) g.whole;
+}
+malloc_cost o p bytes (Err e) h cost (cause, same) = (cause, ap (λ (t : HeapState). record t { cost = cost }) same)

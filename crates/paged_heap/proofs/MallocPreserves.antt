@@ -1,0 +1,135 @@
+-- An object comes to a free slot: a malloc.
+use Rattle.std.proofs.Common.{◌≡◌, ℕ, ◌+◌, ◌*◌, ◌^◌, ◌<◌, ◌≤◌, length, get_or, set, replicate, None, arith, refl, sym, ◌∙◌, ap, subst, inl, inr}
+use Rattle.std.specs.Prelude.{nat_eq, option_map}
+use Rattle.std.proofs.lemmas.Bool.{cases_eq}
+use Rattle.std.proofs.lemmas.List.{length-set, length-replicate, get_or-set_same, get_or-set_other}
+use Rattle.std.specs.FinMap.{get, insert, len}
+use Rattle.cf_base.specs.Classes.{need}
+use Rattle.cf_lemmas.proofs.MapValues.{get-map_values}
+use Rattle.cf_lemmas.proofs.Ranges.{one}
+use Rattle.page_model.specs.Held.{Held, Placed, objects}
+use Rattle.page_model.specs.Paging.{class_for, classes, slot_words}
+use Rattle.page_model.specs.Arrangement.{class_at, live}
+use Rattle.page_model.specs.Image.{header_word, IsSlotImage}
+use Rattle.page_model.specs.Figures.{asked_bytes, taken_bytes}
+use Rattle.page_model.specs.Steps.{IsFreePlace, zeros_at}
+use Rattle.page_model.proofs.Adding.{live_added, asked_added, taken_added}
+use Rattle.page_model.proofs.Counting.{eq_no, eq_yes}
+use Rattle.page_model.proofs.Parts.{malloc_objects, malloc_places}
+use Rattle.page_model.proofs.Placing.{sound_malloc}
+use Rattle.page_model.proofs.SlotImages.{image_after_malloc}
+use Rattle.page_model.proofs.Writing.{storable_added, zeros_are_bytes}
+use Rattle.proxy_table.specs.Proxies.{Proxies, AreBelowLimit, with_place}
+use Rattle.page_slots.specs.Tables.{AreTables}
+use Rattle.page_slots.specs.Taking.{TakesAt}
+use Rattle.page_slots.specs.Occupying.{class_table}
+use Rattle.page_slots.proofs.CallerLemmas.{taken_is_free, taken_occupied, taken_tell}
+use Rattle.cf_model.specs.Steps.{GivesObject}
+use Rattle.paged_heap.specs.Heap.{Heap}
+use Rattle.paged_heap.specs.Layout.{IsKept, held_in, paging_at, state_of, tables_in}
+use Rattle.paged_heap.proofs.ByKind.{framed_kept, placed_in}
+use Rattle.paged_heap.proofs.LayoutFacts.{few_classes, held_len, paged_kind, paging_ok}
+use Rattle.paged_heap.proofs.Preserved.{Becomes, becomes_kept, becomes_state, no_place, places_are, stored, with_parts}
+
+-- in n an object of so many bytes has come to the free slot of class c at the place a, under number q
+pub record Comes (h n : Heap) (c a bytes q : ℕ) : Type 0 where
+  pub rest : n ≡ with_parts h n
+  pub fits : need bytes ≤ h.settings.page_words
+  pub class : class_for (paging_at h) bytes ≡ c
+  pub in_range : c < classes (paging_at h)
+  pub few : len h.proxies.places < h.settings.proxies
+  pub taken : TakesAt (class_table (paging_at h)) (tables_in h) c a (tables_in n)
+  pub tables : AreTables (class_table (paging_at h)) (tables_in n)
+  pub unused : get h.proxies.places q ≡ None
+  pub below : q < h.proxies.limit
+  pub proxies : n.proxies ≡ with_place h.proxies q a
+  pub handles : AreBelowLimit n.proxies
+  pub words : n.words ≡ set h.words a (header_word q bytes)
+  pub frames : n.frames ≡ h.frames
+  pub live : n.live ≡ set h.live c (get_or h.live c 0 + 1)
+  pub asked : n.asked ≡ h.asked + bytes
+  pub all_taken : n.taken ≡ h.taken + 8 * slot_words (paging_at h) c
+
+module _ (h n : Heap) (k : IsKept h) (c a bytes q : ℕ) (co : Comes h n c a bytes q) where
+  abbrev after : Held
+  after = insert (held_in h) q (zeros_at a bytes)
+
+  none : get (held_in h) q ≡ None
+  none = no_place h k q co.unused
+
+  size : length (replicate {A = ℕ} bytes 0) ≡ bytes
+  size = length-replicate {A = ℕ} bytes 0
+
+  free : IsFreePlace (paging_at h) (held_in h) bytes a
+  free = taken_is_free (paging_at h) (paging_ok h k) (held_in h) (tables_in h) (tables_in n) k.tell k.occupied co.tables c a co.in_range co.taken bytes co.class
+
+  small : q < 2 ^ 32
+  small = (let lt = co.below in let e = k.numbers in let few = h.settings.few_proxies in omega arith)
+
+  class_of_zeros : class_at (paging_at h) (zeros_at a bytes) ≡ c
+  class_of_zeros = ap (class_for (paging_at h)) size ∙ co.class
+
+  objects_are : objects after ≡ insert (objects (held_in h)) q (replicate bytes 0)
+  objects_are = malloc_objects (held_in h) q a bytes
+
+  no_bytes : get (objects (held_in h)) q ≡ None
+  no_bytes = get-map_values (λ (x : Placed). x.bytes) (held_in h) q ∙ ap (option_map (λ (x : Placed). x.bytes)) none
+
+  counts : (d : ℕ) → d < classes (paging_at h) → get_or n.live d 0 ≡ live (paging_at h) (objects after) d
+  counts d lt =
+      let add = live_added (paging_at h) (objects (held_in h)) q (replicate bytes 0) d no_bytes in
+      let was = k.counted d lt in
+      let all : live (paging_at h) (objects after) d ≡ live (paging_at h) (insert (objects (held_in h)) q (replicate bytes 0)) d = ap (λ o. live (paging_at h) o d) objects_are in
+      let now : get_or n.live d 0 ≡ get_or (set h.live c (get_or h.live c 0 + 1)) d 0 = ap (λ l. get_or l d 0) co.live in
+      elim (cases_eq d c) [
+        | inl is ↦ (
+            let inside : c < length h.live = (let few = few_classes h k in let lt' = co.in_range in let long = k.live_long in omega arith) in
+            let here : get_or (set h.live c (get_or h.live c 0 + 1)) d 0 ≡ get_or h.live d 0 + 1 = rw is (get_or-set_same h.live c (get_or h.live c 0 + 1) 0 inside) in
+            let e : one (nat_eq (class_for (paging_at h) (length (replicate {A = ℕ} bytes 0))) d) ≡ 1 = ap one (eq_yes _ _ (class_of_zeros ∙ sym is)) in
+            omega arith)
+        | inr ne ↦ (
+            let here : get_or (set h.live c (get_or h.live c 0 + 1)) d 0 ≡ get_or h.live d 0 = get_or-set_other h.live c d (get_or h.live c 0 + 1) 0 ne in
+            let e : one (nat_eq (class_for (paging_at h) (length (replicate {A = ℕ} bytes 0))) d) ≡ 0 = ap one (eq_no _ _ (λ is. ne (sym is ∙ class_of_zeros))) in
+            omega arith)
+      ]
+
+  becomes : Becomes h n after
+  becomes = record {
+    rest = co.rest;
+    framed = framed_kept h.kind h n co.frames (ap length co.words ∙ length-set h.words a (header_word q bytes)) k.framed;
+    places = ap (λ (x : Proxies). x.places) co.proxies ∙ ap (λ m. insert m q a) (places_are h k) ∙ sym (malloc_places (held_in h) q a bytes);
+    storable = storable_added (held_in h) q (zeros_at a bytes) (stored h k) small (zeros_are_bytes bytes);
+    long = ap length co.words ∙ length-set h.words a (header_word q bytes);
+    image = subst (λ w. IsSlotImage (paging_at h) after w) (sym co.words)
+        (image_after_malloc (paging_at h) (paging_ok h k) (held_in h) k.sound h.words k.image q bytes a none k.words_long free);
+    sound = sound_malloc (paging_at h) (held_in h) (record { number = q; length = bytes }) after (paging_ok h k) k.sound (record { place = a; unused = none; free = free; placed = refl });
+    tell = taken_tell (paging_at h) (paging_ok h k) (held_in h) (tables_in h) (tables_in n) k.tell k.occupied co.tables c a co.in_range co.taken;
+    occupied = taken_occupied (paging_at h) (paging_ok h k) (held_in h) (tables_in h) (tables_in n) k.tell k.occupied co.tables c a co.in_range co.taken q (zeros_at a bytes) none refl class_of_zeros;
+    limit = ap (λ (x : Proxies). x.limit) co.proxies;
+    handles = co.handles;
+    live_long = ap length co.live ∙ length-set h.live c (get_or h.live c 0 + 1) ∙ k.live_long;
+    counted = counts;
+    asked_all = (
+        let add = asked_added (objects (held_in h)) q (replicate bytes 0) no_bytes in
+        let all = ap asked_bytes objects_are in let was = k.asked_all in let now = co.asked in let s = size in
+        omega arith);
+    taken_all = (
+        let add = taken_added (paging_at h) (objects (held_in h)) q (replicate bytes 0) no_bytes in
+        let all = ap (taken_bytes (paging_at h)) objects_are in let was = k.taken_all in let now = co.all_taken in
+        let s : slot_words (paging_at h) (class_for (paging_at h) (length (replicate {A = ℕ} bytes 0))) ≡ slot_words (paging_at h) c = ap (slot_words (paging_at h)) class_of_zeros in
+        omega arith);
+  }
+
+  pub comes_kept : IsKept n
+  comes_kept = becomes_kept h n k after becomes
+
+  pub comes_given : GivesObject (state_of h) (record { number = q; length = bytes }) (state_of n)
+  comes_given = record {
+    fits = co.fits;
+    few = (let e = held_len h k in let f = co.few in omega arith);
+    in_range = (let lt = co.below in let e = k.numbers in omega arith);
+    unused = none;
+    place = a;
+    placed = placed_in h.kind (paged_kind h k) (state_of h) (record { number = q; length = bytes }) a (state_of n) free;
+    whole = becomes_state h n k after becomes ∙ ap (λ fs. record (state_of h) { held = after; words = n.words; frames = fs; cost = n.cost }) co.frames;
+  }

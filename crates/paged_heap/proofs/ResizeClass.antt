@@ -1,0 +1,281 @@
+-- An object with its new length in another class: what is known of the heap where its old slot isn't free yet, and of the one that a change leaves.
+use Rattle.std.proofs.Common.{◌≡◌, ◌≢◌, ℕ, ◌+◌, ◌-◌, ◌<◌, ◌≤◌, List, length, get_or, set, Option, Some, None, arith, refl, sym, ◌∙◌, ap, subst, inl, inr}
+use Rattle.std.specs.Prelude.{nat_eq, option_map}
+use Rattle.std.proofs.lemmas.Bool.{cases_eq}
+use Rattle.std.proofs.lemmas.List.{get_or-set_same, get_or-set_other, length-set}
+use Rattle.std.specs.FinMap.{get, insert, remove}
+use Rattle.cf_base.specs.declared.answers.Resized.{Resized}
+use Rattle.cf_lemmas.proofs.MapValues.{get-map_values, map_values-insert}
+use Rattle.cf_lemmas.proofs.Ranges.{one}
+use Rattle.cf_lemmas.proofs.Sums.{insert_again}
+use Rattle.page_model.specs.Held.{Held, Placed, objects, places}
+use Rattle.page_model.specs.Bytes.{AreStorable}
+use Rattle.page_model.specs.Paging.{class_for, classes, page_of, slot_words}
+use Rattle.page_model.specs.Arrangement.{class_at, IsSound, live, not_full_pages, objects_on}
+use Rattle.page_model.specs.Image.{Clears, IsDisjoint, IsSlotImage, MovesWords, Rewrites, object_word, slot_for}
+use Rattle.page_model.specs.Figures.{asked_bytes, taken_bytes}
+use Rattle.page_model.specs.Steps.{ChangesClass, IsFreePlace, IsResizeStep as IsResizedBy, Moves, MustMove, Request, resized_at, without}
+use Rattle.page_model.proofs.Counting.{eq_no, eq_yes, not_full-same, still}
+use Rattle.page_model.proofs.Parts.{free_objects}
+use Rattle.page_model.proofs.Placing.{objects_on-elsewhere, sound_placed}
+use Rattle.page_model.proofs.Resizing.{change_is, class-resized, length-resized, sound_resize}
+use Rattle.page_model.proofs.Writing.{storable_added, storable_without}
+use Rattle.size_classes.specs.Table.{ClassTable}
+use Rattle.proxy_table.specs.Proxies.{AreBelowLimit}
+use Rattle.page_slots.specs.Tables.{IsUsed, page_at, slot_at}
+use Rattle.page_slots.specs.Occupying.{Occupies, Tell, class_table}
+use Rattle.page_slots.proofs.CallerLemmas.{taken_occupied, taken_tell}
+use Rattle.cf_model.specs.Steps.{ResizesObject, frames_left, number_of}
+use Rattle.paged_heap.specs.Heap.{Heap}
+use Rattle.paged_heap.specs.declared.resize_class.Change.{Change}
+use Rattle.paged_heap.specs.ResizeClass.{EntersAt, IsChange, old_words}
+use Rattle.paged_heap.specs.Layout.{IsFramed, IsKept, held_in, paging_at, state_of, tables_in}
+use Rattle.paged_heap.proofs.LayoutFacts.{few_classes, paged_kind, paging_ok, sizes_are, table_is}
+use Rattle.paged_heap.proofs.Preserved.{Becomes, becomes_kept, becomes_state, held_is, rest_from, stored}
+use Rattle.paged_heap.proofs.TwoWrites.{between, cleared_then, moved_then, written_first}
+use Rattle.paged_heap.proofs.ResizeCopy.{are_now, arrived, carried_long, untouched}
+use Rattle.paged_heap.proofs.ResizeEnter.{at_table, is_free, new_inside, none_spare, of_table, slots_apart}
+use Rattle.paged_heap.proofs.FreedObject.{asked_some, it, it_class, it_found, it_slot, taken_some}
+use Rattle.paged_heap.proofs.ObjectWords.{few}
+use Rattle.paged_heap.proofs.WriteLemmas.{asked_changed, live_changed, taken_changed}
+
+module _ (h : Heap) (k : IsKept h) (x : Change) (is : IsChange h x) (b : ℕ) (n : Heap) (en : EntersAt h x b n) where
+  abbrev pub object : Placed
+  object = it h k x.handle.0 x.place x.length x.class is.object
+
+  pub found : get (held_in h) x.handle.0 ≡ Some object
+  found = it_found h k x.handle.0 x.place x.length x.class is.object
+
+  object_class : class_at (paging_at h) object ≡ x.class
+  object_class = it_class h k x.handle.0 x.place x.length x.class is.object
+
+  pub place_free : IsFreePlace (paging_at h) (held_in h) x.bytes b
+  place_free = is_free h k x is b (tables_in n) en.taken en.tables
+
+  -- the object as it is to be
+  abbrev pub new : Placed
+  new = resized_at b object x.bytes
+
+  new_class : class_at (paging_at h) new ≡ x.to
+  new_class = class-resized (paging_at h) b x.bytes object ∙ is.class
+
+  pub new_free : IsFreePlace (paging_at h) (held_in h) (length new.bytes) b
+  new_free = subst (λ m. IsFreePlace (paging_at h) (held_in h) m b) (sym (length-resized object.bytes x.bytes)) place_free
+
+  -- both stand, the new one under a number that no object has
+  abbrev pub spare : ℕ
+  spare = h.settings.proxies
+
+  abbrev pub both : Held
+  both = insert (held_in h) spare new
+
+  pub unused : get (held_in h) spare ≡ None
+  unused = none_spare h k
+
+  pub spare_is_other : spare ≢ x.handle.0
+  spare_is_other e = absurd (let z : Some object ≡ None = sym found ∙ ap (get (held_in h)) (sym e) ∙ unused in cc)
+
+  pub found_still : get both x.handle.0 ≡ Some object
+  found_still = (still (held_in h) spare new unused x.handle.0 object found).1
+
+  pub both_sound : IsSound (paging_at h) both
+  both_sound = sound_placed (paging_at h) (held_in h) spare new unused (paging_ok h k) k.sound new_free
+
+  pub both_tell : Tell (paging_at h) (tables_in n)
+  both_tell = taken_tell (paging_at h) (paging_ok h k) (held_in h) (tables_in h) (tables_in n) k.tell k.occupied (of_table h k x is b (tables_in n) en.taken en.tables) x.to b is.in_range (at_table h k x is b (tables_in n) en.taken en.tables)
+
+  pub both_occupied : Occupies (paging_at h) both (tables_in n)
+  both_occupied =
+      taken_occupied (paging_at h) (paging_ok h k) (held_in h) (tables_in h) (tables_in n) k.tell k.occupied (of_table h k x is b (tables_in n) en.taken en.tables) x.to b is.in_range (at_table h k x is b (tables_in n) en.taken en.tables)
+      spare new unused refl new_class
+
+  -- the class of the old one has its objects as before
+  same_on : (g : ℕ) → objects_on (paging_at h) both (class_at (paging_at h) object) g ≡ objects_on (paging_at h) (held_in h) (class_at (paging_at h) object) g
+  same_on g = objects_on-elsewhere (paging_at h) (held_in h) spare new unused (class_at (paging_at h) object) g (inr (λ e. is.other (sym new_class ∙ e ∙ object_class)))
+
+  same_not_full : not_full_pages (paging_at h) both (class_at (paging_at h) object) ≡ not_full_pages (paging_at h) (held_in h) (class_at (paging_at h) object)
+  same_not_full = not_full-same (paging_at h) (held_in h) both (class_at (paging_at h) object) same_on
+
+  pub must_still : MustMove (paging_at h) (held_in h) object → MustMove (paging_at h) both object
+  must_still m = record { full = same_on _ ∙ m.full; several = m.several; many = same_not_full ∙ m.many }
+
+  pub must_before : MustMove (paging_at h) both object → MustMove (paging_at h) (held_in h) object
+  must_before m = record { full = sym (same_on _) ∙ m.full; several = m.several; many = sym same_not_full ∙ m.many }
+
+  pub old_used : IsUsed (tables_in n) x.class (page_at n.classes x.place) (slot_at n.classes x.class x.place)
+  old_used =
+      let u = both_occupied.stands x.handle.0 object found_still in
+      let v : IsUsed (tables_in n) x.class (page_of (paging_at h) x.place) (slot_at (class_table (paging_at h)) x.class x.place) =
+      subst (λ d. IsUsed (tables_in n) d (page_of (paging_at h) x.place) (slot_at (class_table (paging_at h)) d x.place)) object_class u in
+      subst (λ (t : ClassTable). IsUsed (tables_in n) x.class (page_at t x.place) (slot_at t x.class x.place)) (table_is h k ∙ sym en.classes) v
+
+  pub entered_long : length n.words ≡ length h.words
+  entered_long = carried_long h k x is b place_free n.words en.words
+
+  pub new_there : b + slot_for (paging_at h) x.bytes ≤ length n.words
+  new_there = (let l = entered_long in let i = new_inside h k x is b place_free in omega arith)
+
+  -- the words with the new slot written, and the old one not cleared
+  abbrev pub middle : List ℕ
+  middle = between h.words n.words b (slot_for (paging_at h) x.bytes) x.place (old_words h x) (new_inside h k x is b place_free) new_there (object_word x.handle.0 new.bytes) (slots_apart h k x is b place_free)
+      (arrived h k x is b place_free n.words en.words) (untouched h k x is b place_free n.words en.words)
+
+  pub rewritten : Rewrites h.words middle (record { from = b; count = slot_for (paging_at h) (length new.bytes) }) (object_word x.handle.0 new.bytes)
+  rewritten = subst (λ l. Rewrites h.words middle (record { from = b; count = slot_for (paging_at h) l }) (object_word x.handle.0 new.bytes)) (sym (length-resized object.bytes x.bytes))
+      (written_first h.words n.words b (slot_for (paging_at h) x.bytes) x.place (old_words h x) (new_inside h k x is b place_free) new_there (object_word x.handle.0 new.bytes) (slots_apart h k x is b place_free)
+      (arrived h k x is b place_free n.words en.words) (untouched h k x is b place_free n.words en.words))
+
+  pub then_cleared : (last : List ℕ) → Clears n.words last (record { from = x.place; count = old_words h x }) → Clears middle last (record { from = x.place; count = slot_for (paging_at h) (length object.bytes) })
+  then_cleared last c = subst (λ l. Clears middle last (record { from = x.place; count = l })) (it_slot h k x.handle.0 x.place x.length x.class is.object)
+      (cleared_then h.words n.words b (slot_for (paging_at h) x.bytes) x.place (old_words h x) (new_inside h k x is b place_free) new_there (object_word x.handle.0 new.bytes) (slots_apart h k x is b place_free)
+      (arrived h k x is b place_free n.words en.words) (untouched h k x is b place_free n.words en.words) last c)
+
+  pub then_moved : (last : List ℕ) (f : ℕ) → IsDisjoint x.place (old_words h x) f (old_words h x) → MovesWords n.words last (record { from = f; count = old_words h x }) x.place → MovesWords middle last (record { from = f; count = old_words h x }) x.place
+  then_moved = moved_then h.words n.words b (slot_for (paging_at h) x.bytes) x.place (old_words h x) (new_inside h k x is b place_free) new_there (object_word x.handle.0 new.bytes) (slots_apart h k x is b place_free)
+      (arrived h k x is b place_free n.words en.words) (untouched h k x is b place_free n.words en.words)
+
+  -- by the other object that moves
+  module _ (moved : Option ℕ) (mv : Moves (paging_at h) both object moved) where
+    abbrev pub asked : Request
+    asked = record { number = x.handle.0; length = x.bytes }
+
+    abbrev pub left : Held
+    left = without both x.handle.0 x.place moved
+
+    abbrev pub after : Held
+    after = insert (remove left spare) x.handle.0 new
+
+    step : ChangesClass (paging_at h) (held_in h) asked (record { held = after; moved = moved })
+    step = record {
+      object = object;
+      found = found;
+      other = λ e. is.other (sym is.class ∙ e ∙ object_class);
+      place = b;
+      free = place_free;
+      spare = spare;
+      unused = unused;
+      left = left;
+      freed = record { freed = object; found = found_still; moves = mv; left = refl };
+      renamed = refl;
+    }
+
+    pub moves_before : Moves (paging_at h) (held_in h) object moved
+    unfolding step
+    moves_before = (change_is (paging_at h) (paging_ok h k) (held_in h) k.sound asked (record { held = after; moved = moved }) step).0
+
+    pub after_is : after ≡ insert (without (held_in h) x.handle.0 x.place moved) x.handle.0 new
+    unfolding step
+    after_is = (change_is (paging_at h) (paging_ok h k) (held_in h) k.sound asked (record { held = after; moved = moved }) step).1
+
+    after_sound : IsSound (paging_at h) after
+    after_sound = sound_resize (paging_at h) (held_in h) asked (record { held = after; moved = moved }) (paging_ok h k) k.sound (inr step)
+
+    objects_are : objects after ≡ insert (objects (held_in h)) x.handle.0 new.bytes
+    objects_are =
+        ap objects after_is ∙ map_values-insert (λ (y : Placed). y.bytes) (without (held_in h) x.handle.0 x.place moved) x.handle.0 new
+        ∙ ap (λ o. insert o x.handle.0 new.bytes) (free_objects (paging_at h) (paging_ok h k) (held_in h) k.sound x.handle.0 object found moved moves_before)
+        ∙ insert_again (objects (held_in h)) x.handle.0 new.bytes
+
+    old_bytes : get (objects (held_in h)) x.handle.0 ≡ Some object.bytes
+    old_bytes = get-map_values (λ (y : Placed). y.bytes) (held_in h) x.handle.0 ∙ ap (option_map (λ (y : Placed). y.bytes)) found
+
+    after_storable : AreStorable after
+    after_storable = subst AreStorable (sym after_is)
+        (storable_added (without (held_in h) x.handle.0 x.place moved) x.handle.0 new (storable_without (held_in h) x.handle.0 x.place moved (stored h k))
+        (few h k x.handle.0 x.place x.length x.class is.object) (are_now h k x is b place_free n.words en.words))
+
+    counts : (d : ℕ) → d < classes (paging_at h) → get_or n.live d 0 ≡ live (paging_at h) (objects after) d
+    counts d lt =
+        let e = live_changed (paging_at h) (objects (held_in h)) x.handle.0 object.bytes new.bytes old_bytes d in
+        let was = k.counted d lt in
+        let all : live (paging_at h) (objects after) d ≡ live (paging_at h) (insert (objects (held_in h)) x.handle.0 new.bytes) d = ap (λ o. live (paging_at h) o d) objects_are in
+        let now = ap (λ l. get_or l d 0) en.live in
+        let long : length h.live ≡ 128 = k.live_long in
+        let many = few_classes h k in
+        let c_in : x.class < length h.live = (let r = is.object.in_range in omega arith) in
+        let long' = length-set h.live x.class (get_or h.live x.class 0 - 1) in
+        let d_in : x.to < length (set h.live x.class (get_or h.live x.class 0 - 1)) = (let r = is.in_range in omega arith) in
+        elim (cases_eq d x.to) [
+          | inl to ↦ (
+              let here : get_or (set (set h.live x.class (get_or h.live x.class 0 - 1)) x.to (get_or h.live x.to 0 + 1)) d 0 ≡ get_or h.live d 0 + 1 = rw to (get_or-set_same (set h.live x.class (get_or h.live x.class 0 - 1)) x.to (get_or h.live x.to 0 + 1) 0 d_in) in
+              let y : one (nat_eq (class_for (paging_at h) (length new.bytes)) d) ≡ 1 = ap one (eq_yes _ _ (new_class ∙ sym to)) in
+              let z : one (nat_eq (class_for (paging_at h) (length object.bytes)) d) ≡ 0 = ap one (eq_no _ _ (λ e. is.other (sym to ∙ sym e ∙ object_class))) in
+              omega arith)
+          | inr nt ↦ (
+              let there : get_or (set (set h.live x.class (get_or h.live x.class 0 - 1)) x.to (get_or h.live x.to 0 + 1)) d 0 ≡ get_or (set h.live x.class (get_or h.live x.class 0 - 1)) d 0 = get_or-set_other (set h.live x.class (get_or h.live x.class 0 - 1)) x.to d (get_or h.live x.to 0 + 1) 0 nt in
+              let y : one (nat_eq (class_for (paging_at h) (length new.bytes)) d) ≡ 0 = ap one (eq_no _ _ (λ e. nt (sym e ∙ new_class))) in
+              elim (cases_eq d x.class) [
+                | inl of ↦ (
+                    let here : get_or (set h.live x.class (get_or h.live x.class 0 - 1)) d 0 ≡ get_or h.live d 0 - 1 = rw of (get_or-set_same h.live x.class (get_or h.live x.class 0 - 1) 0 c_in) in
+                    let z : one (nat_eq (class_for (paging_at h) (length object.bytes)) d) ≡ 1 = ap one (eq_yes _ _ (object_class ∙ sym of)) in
+                    omega arith)
+                | inr off ↦ (
+                    let here : get_or (set h.live x.class (get_or h.live x.class 0 - 1)) d 0 ≡ get_or h.live d 0 = get_or-set_other h.live x.class d (get_or h.live x.class 0 - 1) 0 off in
+                    let z : one (nat_eq (class_for (paging_at h) (length object.bytes)) d) ≡ 0 = ap one (eq_no _ _ (λ e. off (sym e ∙ object_class))) in
+                    omega arith)
+              ])
+        ]
+
+    -- m is that heap but for its tables, its words and its proxies
+    pub record Keeps (m : Heap) : Type 0 where
+      pub kind : m.kind ≡ n.kind
+      pub settings : m.settings ≡ n.settings
+      pub classes : m.classes ≡ n.classes
+      pub bounds : m.bounds ≡ n.bounds
+      pub live : m.live ≡ n.live
+      pub asked : m.asked ≡ n.asked
+      pub taken : m.taken ≡ n.taken
+      pub limit : m.proxies.limit ≡ n.proxies.limit
+
+    module _ (m : Heap) (same : Keeps m) where
+      pub changes : IsFramed h.kind m → m.proxies.places ≡ places after → length m.words ≡ length h.words → IsSlotImage (paging_at h) after m.words
+          → Tell (paging_at h) (tables_in m) → Occupies (paging_at h) after (tables_in m) → AreBelowLimit m.proxies → Becomes h m after
+      changes framed at long image tell occupied handles = record {
+        framed = framed;
+        rest = rest_from h m (same.kind ∙ en.kind) (same.settings ∙ en.settings) (same.classes ∙ en.classes) (same.bounds ∙ en.bounds);
+        places = at;
+        storable = after_storable;
+        long = long;
+        image = image;
+        sound = after_sound;
+        tell = tell;
+        occupied = occupied;
+        limit = same.limit ∙ ap (λ p. p.limit) en.proxies;
+        handles = handles;
+        live_long = ap length same.live ∙ ap length en.live ∙ length-set (set h.live x.class (get_or h.live x.class 0 - 1)) x.to (get_or h.live x.to 0 + 1) ∙ length-set h.live x.class (get_or h.live x.class 0 - 1) ∙ k.live_long;
+        counted = λ d lt. ap (λ l. get_or l d 0) same.live ∙ counts d lt;
+        asked_all = (
+            let e = asked_changed (paging_at h) (objects (held_in h)) x.handle.0 object.bytes new.bytes old_bytes in
+            let all = ap asked_bytes objects_are in let was = k.asked_all in let now = en.asked in let s = same.asked in
+            let l = is.object.long in let l' = length-resized object.bytes x.bytes in
+            let some = asked_some h k x.handle.0 x.place x.length x.class is.object in
+            omega arith);
+        taken_all = (
+            let e = taken_changed (paging_at h) (objects (held_in h)) x.handle.0 object.bytes new.bytes old_bytes in
+            let all = ap (taken_bytes (paging_at h)) objects_are in let was = k.taken_all in let now = en.all_taken in let s = same.taken in
+            let l = it_slot h k x.handle.0 x.place x.length x.class is.object in
+            let l' : slot_words (paging_at h) (class_for (paging_at h) (length new.bytes)) ≡ slot_words (paging_at h) x.to = ap (slot_words (paging_at h)) new_class in
+            let l'' : get_or h.classes.sizes x.to 0 ≡ slot_words (paging_at h) x.to = ap (λ xs. get_or xs x.to 0) (sizes_are h k) in
+            let some = taken_some h k x.handle.0 x.place x.length x.class is.object in
+            omega arith);
+      }
+
+      module _ (be : Becomes h m after) where
+        pub change_kept : IsKept m
+        change_kept = becomes_kept h m k after be
+
+        pub change_resized : m.frames ≡ frames_left h.kind (state_of h) (record { held = after; moved = moved }) → (done : Resized) → done.old_slot_words ≡ get_or h.classes.sizes x.class 0 → done.slot_words ≡ get_or h.classes.sizes x.to 0 → number_of done.moved ≡ moved → ResizesObject (state_of h) asked done (state_of m)
+        change_resized frames done was_words words none = record {
+          pages = paged_kind h k;
+          fits = is.fits;
+          object = object;
+          found = found;
+          old_slot = was_words ∙ it_slot h k x.handle.0 x.place x.length x.class is.object;
+          slot = words ∙ ap (λ xs. get_or xs x.to 0) (sizes_are h k) ∙ ap (slot_words (paging_at h)) (sym is.class);
+          step = subst (λ g. IsResizedBy (paging_at h) (held_in h) asked (record { held = g; moved = number_of done.moved })) (sym (held_is h m k after be))
+              (subst (λ v. IsResizedBy (paging_at h) (held_in h) asked (record { held = after; moved = v })) (sym none) (inr step));
+          left = ap objects (held_is h m k after be) ∙ objects_are;
+          whole = becomes_state h m k after be
+              ∙ ap (λ fs. record (state_of h) { held = after; words = m.words; frames = fs; cost = m.cost }) (frames ∙ ap (λ v. frames_left h.kind (state_of h) (record { held = after; moved = v })) (sym none))
+              ∙ ap (λ g. record (state_of h) { held = g; words = m.words; frames = frames_left h.kind (state_of h) (record { held = g; moved = number_of done.moved }); cost = m.cost }) (sym (held_is h m k after be));
+        }

@@ -1,0 +1,222 @@
+-- Bytes that are written into an object.
+use Rattle.std.proofs.Common.{◌≡◌, ℕ, suc, ◌+◌, ◌-◌, ◌*◌, ◌/◌, ◌%◌, ◌<◌, ◌≤◌, List, [], ◌∷◌, length, get_or, Some, arith, refl, sym, ◌∙◌, ap, subst, inl, inr}
+use Rattle.std.specs.Prelude.{nat_eq}
+use Rattle.std.proofs.lemmas.Bool.{cases_lt}
+use Rattle.std.specs.FinMap.{get, insert, remove}
+use Rattle.cf_lemmas.proofs.Maps.{get_removed}
+use Rattle.cf_lemmas.proofs.MapValues.{get-map_values, map_values-insert}
+use Rattle.cf_lemmas.proofs.Sums.{insert_again}
+use Rattle.cf_lemmas.proofs.Ranges.{one}
+use Rattle.page_model.specs.Held.{Held, Objects, Placed, objects, places}
+use Rattle.page_model.specs.Bytes.{AreBytes, byte_of, bytes_at, written}
+use Rattle.page_model.specs.Paging.{Paging, class_for, slot_words}
+use Rattle.page_model.specs.Arrangement.{IsSound, live}
+use Rattle.page_model.specs.Figures.{asked_bytes, taken_bytes}
+use Rattle.page_model.specs.Image.{IsSlotImage, Rewrites, object_word, slot_for}
+use Rattle.page_model.proofs.Adding.{asked_added, asked_taken, live_added, live_taken, taken_added, taken_taken}
+use Rattle.page_model.proofs.Freeing.{sound_exchanged}
+use Rattle.page_model.proofs.Parts.{inserted_there}
+use Rattle.page_model.proofs.Reading.{bytes_at-AreBytes}
+use Rattle.page_model.proofs.Writing.{byte_of_object, image_after_bytes, length-written, object_word_small, storable_added, word_by_bytes, written_are_bytes, written_before, written_behind, written_inside, written_nothing}
+use Rattle.word_bytes.specs.Cells.{overwritten}
+use Rattle.word_bytes.proofs.Overwriting.{overwritten_before, overwritten_behind, overwritten_inside}
+use Rattle.page_slots.specs.Occupying.{Occupies, Tell}
+use Rattle.page_slots.proofs.CallerLemmas.{rewritten_occupied}
+use Rattle.proxy_table.specs.Proxies.{AreBelowLimit}
+use Rattle.cf_model.specs.Steps.{WritesBytes}
+use Rattle.paged_heap.specs.Heap.{Heap}
+use Rattle.paged_heap.specs.Layout.{IsKept, held_in, paging_at, state_of, tables_in}
+use Rattle.paged_heap.specs.Access.{Lies}
+use Rattle.virtual_words.specs.Overwriting.{Overwrites}
+use Rattle.paged_heap.proofs.ByKind.{framed_kept, outside_in}
+use Rattle.paged_heap.proofs.LayoutFacts.{paged_kind, paging_ok}
+use Rattle.paged_heap.proofs.Preserved.{Becomes, becomes_kept, becomes_state, places_are, rest_from, stored}
+use Rattle.paged_heap.proofs.ReadLemmas.{bytes_few, holds, lies_place}
+
+-- one object's bytes instead of others
+module _ (p : Paging) (o : Objects) (q : ℕ) (v u : List ℕ) (some : get o q ≡ Some v) where
+  pub live_changed : (c : ℕ) → live p (insert o q u) c + one (nat_eq (class_for p (length v)) c) ≡ live p o c + one (nat_eq (class_for p (length u)) c)
+  live_changed c =
+      let a = live_taken p o q v c some in
+      let b = live_added p (remove o q) q u c (get_removed o q) in
+      let e : live p (insert (remove o q) q u) c ≡ live p (insert o q u) c = ap (λ o. live p o c) (insert_again o q u) in
+      omega arith
+
+  pub asked_changed : asked_bytes (insert o q u) + length v ≡ asked_bytes o + length u
+  asked_changed =
+      let a = asked_taken o q v some in
+      let b = asked_added (remove o q) q u (get_removed o q) in
+      let e : asked_bytes (insert (remove o q) q u) ≡ asked_bytes (insert o q u) = ap asked_bytes (insert_again o q u) in
+      omega arith
+
+  pub taken_changed : taken_bytes p (insert o q u) + 8 * slot_words p (class_for p (length v)) ≡ taken_bytes p o + 8 * slot_words p (class_for p (length u))
+  taken_changed =
+      let a = taken_taken p o q v some in
+      let b = taken_added p (remove o q) q u (get_removed o q) in
+      let e : taken_bytes p (insert (remove o q) q u) ≡ taken_bytes p (insert o q u) = ap (taken_bytes p) (insert_again o q u) in
+      omega arith
+
+-- An object has other bytes of the same class, at the same place: all but the image, which is to be shown, and the counts.
+module _ (h n : Heap) (k : IsKept h) (q a : ℕ) (some : get (held_in h) q ≡ Some (record { place = a; bytes = bytes_at h.words a })) (u : List ℕ)
+    (class : class_for (paging_at h) (length u) ≡ class_for (paging_at h) (length (bytes_at h.words a))) (are : AreBytes u)
+    (rest : n ≡ record h { words = n.words; asked = n.asked }) (long : length n.words ≡ length h.words)
+    (image : IsSlotImage (paging_at h) (insert (held_in h) q (record { place = a; bytes = u })) n.words) (asked : n.asked + length (bytes_at h.words a) ≡ h.asked + length u) where
+  abbrev pub changed : Held
+  changed = insert (held_in h) q (record { place = a; bytes = u })
+
+  old_bytes : get (objects (held_in h)) q ≡ Some (bytes_at h.words a)
+  old_bytes = get-map_values (λ (x : Placed). x.bytes) (held_in h) q ∙ rw some refl
+
+  objects_are : objects changed ≡ insert (objects (held_in h)) q u
+  objects_are = map_values-insert (λ (x : Placed). x.bytes) (held_in h) q (record { place = a; bytes = u })
+
+  same_places : places changed ≡ places (held_in h)
+  same_places =
+      map_values-insert (λ (x : Placed). x.place) (held_in h) q (record { place = a; bytes = u })
+      ∙ inserted_there (places (held_in h)) q a (get-map_values (λ (x : Placed). x.place) (held_in h) q ∙ rw some refl)
+
+  still_sound : IsSound (paging_at h) changed
+  still_sound = subst (IsSound (paging_at h)) (insert_again (held_in h) q (record { place = a; bytes = u }))
+      (sound_exchanged (paging_at h) (held_in h) q (record { place = a; bytes = bytes_at h.words a }) some q u (get_removed (held_in h) q) class k.sound)
+
+  pub changes : Becomes h n changed
+  changes = record {
+    rest = rest_from h n (ap (λ (x : Heap). x.kind) rest) (ap (λ (x : Heap). x.settings) rest) (ap (λ (x : Heap). x.classes) rest) (ap (λ (x : Heap). x.bounds) rest);
+    framed = framed_kept h.kind h n (ap (λ (x : Heap). x.frames) rest) long k.framed;
+    places = ap (λ (x : Heap). x.proxies.places) rest ∙ places_are h k ∙ sym same_places;
+    storable = storable_added (held_in h) q (record { place = a; bytes = u }) (stored h k) (stored h k q _ some).0 are;
+    long = long;
+    image = image;
+    sound = still_sound;
+    tell = subst (Tell (paging_at h)) (sym (ap tables_in rest)) k.tell;
+    occupied = subst (Occupies (paging_at h) changed) (sym (ap tables_in rest)) (rewritten_occupied (paging_at h) (held_in h) (tables_in h) k.occupied q (record { place = a; bytes = bytes_at h.words a }) some u class);
+    limit = ap (λ (x : Heap). x.proxies.limit) rest;
+    handles = subst AreBelowLimit (sym (ap (λ (x : Heap). x.proxies) rest)) k.handles;
+    live_long = ap (λ (x : Heap). length x.live) rest ∙ k.live_long;
+    counted = λ c lt. (
+        let e = live_changed (paging_at h) (objects (held_in h)) q (bytes_at h.words a) u old_bytes c in
+        let s : one (nat_eq (class_for (paging_at h) (length u)) c) ≡ one (nat_eq (class_for (paging_at h) (length (bytes_at h.words a))) c) = ap (λ d. one (nat_eq d c)) class in
+        let was = k.counted c lt in
+        let now = ap (λ (x : Heap). get_or x.live c 0) rest in
+        let all : live (paging_at h) (objects changed) c ≡ live (paging_at h) (insert (objects (held_in h)) q u) c = ap (λ o. live (paging_at h) o c) objects_are in
+        omega arith);
+    asked_all = (
+        let e = asked_changed (paging_at h) (objects (held_in h)) q (bytes_at h.words a) u old_bytes in
+        let all = ap asked_bytes objects_are in let was = k.asked_all in let now = asked in
+        omega arith);
+    taken_all = (
+        let e = taken_changed (paging_at h) (objects (held_in h)) q (bytes_at h.words a) u old_bytes in
+        let s : slot_words (paging_at h) (class_for (paging_at h) (length u)) ≡ slot_words (paging_at h) (class_for (paging_at h) (length (bytes_at h.words a))) = ap (slot_words (paging_at h)) class in
+        let all = ap (taken_bytes (paging_at h)) objects_are in let was = k.taken_all in
+        let now = ap (λ (x : Heap). x.taken) rest in
+        omega arith);
+  }
+
+  pub changed_kept : IsKept n
+  changed_kept = becomes_kept h n k changed changes
+
+-- the bytes of a part are written
+module _ (h n : Heap) (k : IsKept h) (q at a : ℕ) (bytes : List ℕ) (l : Lies h (record { number = q; from = at }) (length bytes) a) (each : AreBytes bytes) (rest : n ≡ record h { words = n.words })
+    (w : Overwrites h.words n.words (record { from = a + 1 + at / 8; count = (at % 8 + length bytes + 7) / 8 }) (at % 8) bytes) where
+  abbrev old : List ℕ
+  old = bytes_at h.words a
+
+  abbrev new : List ℕ
+  new = written old at bytes
+
+  are : AreBytes new
+  are = written_are_bytes old at bytes l.within (bytes_at-AreBytes h.words a) each
+
+  size : length new ≡ length old
+  size = length-written old at bytes l.within
+
+  -- byte b of the object's words, and of the new ones
+  old_byte : (b : ℕ) → 1 + b / 8 < slot_for (paging_at h) (length old) → byte_of (b % 8) (get_or h.words (a + 1 + b / 8) 0) ≡ get_or old b 0
+  old_byte b lt =
+      let word = k.image.held q (record { place = a; bytes = old }) l.found (suc (b / 8)) (omega arith) in
+      let place : a + 1 + b / 8 ≡ a + suc (b / 8) = omega arith in
+      ap (λ i. byte_of (b % 8) (get_or h.words i 0)) place ∙ ap (byte_of (b % 8)) word ∙ byte_of_object q old b (bytes_at-AreBytes h.words a)
+
+  -- byte j of the words that are written is that of the new bytes
+  new_byte : (j : ℕ) → j < 8 * ((at % 8 + length bytes + 7) / 8) → overwritten (λ b. byte_of (b % 8) (get_or h.words (a + 1 + at / 8 + b / 8) 0)) (at % 8) bytes j ≡ get_or new (8 * (at / 8) + j) 0
+  new_byte j lt =
+      let fits = l.within in
+      let o = holds h k q a (lies_place h k q at (length bytes) a l) in
+      let was : byte_of (j % 8) (get_or h.words (a + 1 + at / 8 + j / 8) 0) ≡ get_or old (8 * (at / 8) + j) 0 =
+      (let place : a + 1 + at / 8 + j / 8 ≡ a + 1 + (8 * (at / 8) + j) / 8 = omega arith in
+      let byte : j % 8 ≡ (8 * (at / 8) + j) % 8 = omega arith in
+      ap (λ i. byte_of (j % 8) (get_or h.words i 0)) place ∙ ap (λ b. byte_of b (get_or h.words (a + 1 + (8 * (at / 8) + j) / 8) 0)) byte ∙ old_byte (8 * (at / 8) + j) (omega arith)) in
+      elim (cases_lt j (at % 8)) [
+        | inl before ↦ overwritten_before (λ b. byte_of (b % 8) (get_or h.words (a + 1 + at / 8 + b / 8) 0)) (at % 8) bytes j before ∙ was ∙ sym (written_before old at bytes fits (8 * (at / 8) + j) (omega arith))
+        | inr from ↦ elim (cases_lt j (at % 8 + length bytes)) [
+          | inl inside ↦ (
+              let e : at + (j - at % 8) ≡ 8 * (at / 8) + j = omega arith in
+              overwritten_inside (λ b. byte_of (b % 8) (get_or h.words (a + 1 + at / 8 + b / 8) 0)) (at % 8) bytes j from inside ∙ sym (written_inside old at bytes fits (j - at % 8) (omega arith)) ∙ ap (λ i. get_or new i 0) e)
+          | inr behind ↦ overwritten_behind (λ b. byte_of (b % 8) (get_or h.words (a + 1 + at / 8 + b / 8) 0)) (at % 8) bytes j behind ∙ was ∙ sym (written_behind old at bytes fits (8 * (at / 8) + j) (omega arith))
+        ]
+      ]
+
+  rewrites : Rewrites h.words n.words (record { from = a + 1 + at / 8; count = (at % 8 + length bytes + 7) / 8 }) (λ i. object_word q new (1 + at / 8 + i))
+  rewrites = record {
+    within = λ i lt.
+        let few = (stored h k q _ l.found).0 in
+        let fits = l.within in
+        let sz = size in
+        let o = holds h k q a (lies_place h k q at (length bytes) a l) in
+        let as_suc : 1 + at / 8 + i ≡ suc (at / 8 + i) = omega arith in
+        let short = length_small in
+        rw as_suc (word_by_bytes (get_or n.words (a + 1 + at / 8 + i) 0) (object_word q new (suc (at / 8 + i))) (w.small i lt) (object_word_small q new (suc (at / 8 + i)) few (omega arith) are) (λ j less.
+        let div : (8 * i + j) / 8 ≡ i = omega arith in
+        let rem : (8 * i + j) % 8 ≡ j = omega arith in
+        let v = w.value (8 * i + j) (omega arith) ∙ new_byte (8 * i + j) (omega arith) in
+        let b = byte_of_object q new (8 * (at / 8 + i) + j) are in
+        let div' : (8 * (at / 8 + i) + j) / 8 ≡ at / 8 + i = omega arith in
+        let rem' : (8 * (at / 8 + i) + j) % 8 ≡ j = omega arith in
+        let same : 8 * (at / 8) + (8 * i + j) ≡ 8 * (at / 8 + i) + j = omega arith in
+        sym (ap (λ d. byte_of ((8 * i + j) % 8) (get_or n.words (a + 1 + at / 8 + d) 0)) div ∙ ap (λ b. byte_of b (get_or n.words (a + 1 + at / 8 + i) 0)) rem)
+        ∙ v ∙ ap (λ i. get_or new i 0) same ∙ sym b
+        ∙ ap (λ d. byte_of ((8 * (at / 8 + i) + j) % 8) (object_word q new (suc d))) div' ∙ ap (λ b. byte_of b (object_word q new (suc (at / 8 + i)))) rem'));
+    others = w.others;
+  }
+    where
+      length_small : length old ≤ 131072
+      length_small = bytes_few h k q a (lies_place h k q at (length bytes) a l)
+
+  image : IsSlotImage (paging_at h) (insert (held_in h) q (record { place = a; bytes = new })) n.words
+  image =
+      let from : a + 1 + at / 8 ≡ a + (1 + at / 8) = omega arith in
+      image_after_bytes (paging_at h) (paging_ok h k) (held_in h) k.sound h.words k.image q (record { place = a; bytes = old }) l.found n.words at bytes l.within
+      (subst (λ f. Rewrites h.words n.words (record { from = f; count = (at % 8 + length bytes + 7) / 8 }) (λ i. object_word q new (1 + at / 8 + i))) from rewrites)
+
+  becomes : Becomes h n (insert (held_in h) q (record { place = a; bytes = new }))
+  becomes = changes h n k q a l.found new (ap (class_for (paging_at h)) size) are
+      (rest ∙ ap (λ x. record h { words = n.words; asked = x }) (sym (ap (λ (x : Heap). x.asked) rest)))
+      w.long image (let e = ap (λ (x : Heap). x.asked) rest in let s = size in omega arith)
+
+  pub wrote_kept : IsKept n
+  wrote_kept = becomes_kept h n k (insert (held_in h) q (record { place = a; bytes = new })) becomes
+
+  pub wrote : WritesBytes (state_of h) (record { number = q; from = at }) bytes (state_of n)
+  wrote = record {
+    object = record { place = a; bytes = old };
+    found = l.found;
+    within = l.within;
+    outside = outside_in h.kind (paged_kind h k) (state_of h) (record { place = a; bytes = old }) (state_of n);
+    whole = becomes_state h n k (insert (held_in h) q (record { place = a; bytes = new })) becomes
+        ∙ ap (λ fs. record (state_of h) { held = insert (held_in h) q (record { place = a; bytes = new }); words = n.words; frames = fs; cost = n.cost }) (ap (λ (x : Heap). x.frames) rest)
+        ∙ ap (λ x. record (state_of h) { held = insert (held_in h) q (record { place = a; bytes = new }); words = n.words; cost = x }) (ap (λ (x : Heap). x.cost) rest);
+  }
+
+-- to write no bytes changes nothing
+pub wrote_nothing : (h : Heap) → IsKept h → (q at a : ℕ) (bytes : List ℕ) → length bytes ≡ 0 → Lies h (record { number = q; from = at }) (length bytes) a → WritesBytes (state_of h) (record { number = q; from = at }) bytes (state_of h)
+wrote_nothing h k q at a [] none l = record {
+  object = record { place = a; bytes = bytes_at h.words a };
+  found = l.found;
+  within = l.within;
+  outside = outside_in h.kind (paged_kind h k) (state_of h) (record { place = a; bytes = bytes_at h.words a }) (state_of h);
+  whole =
+      let fits = l.within in
+      let same = written_nothing (bytes_at h.words a) at (omega arith) in
+      ap (λ m. record (state_of h) { held = m }) (sym (ap (λ v. insert (held_in h) q (record { place = a; bytes = v })) same ∙ inserted_there (held_in h) q (record { place = a; bytes = bytes_at h.words a }) l.found));
+}
+wrote_nothing h k q at a (x ∷ xs) none l = absurd (omega arith)

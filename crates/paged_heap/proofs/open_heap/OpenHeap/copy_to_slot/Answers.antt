@@ -1,0 +1,34 @@
+-- The kept words are moved and cut, and the header comes before them.
+use Rattle.std.proofs.Common.{◌+◌, ◌-◌, ◌*◌, ◌/◌, ◌<◌, ◌≤◌, set, arith, sym, ◌∙◌, ap, subst}
+use Rattle.page_model.specs.Image.{MovesWords}
+use Rattle.virtual_words.specs.Words.{words_of}
+use Rattle.virtual_words.proofs.CallerLemmas.{laid_long}
+use Rattle.paged_heap.specs.declared.open_heap.OpenHeap.{OpenHeap}
+use Rattle.paged_heap.specs.ZeroTail.{Cuts}
+use Rattle.paged_heap.specs.Heap.{seen}
+use Rattle.paged_heap.proofs.open_heap.OpenHeap.copy_to_slot.Goals as goal
+
+pub returns-clause-words : goal.returns-clause-words
+returns-clause-words g c =
+    let kind = g.A.Mapping.kind in let blocks = c.args.self.now.blocks in
+    let old = words_of kind blocks c.args.self.now.region in
+    let moved = words_of kind blocks c.move_words.new.region in
+    let cut = (seen kind c.zero_tail.new.self).words in
+    let w = c.words-words.ensures in
+    record {
+      moved = moved;
+      moves = subst (λ n. MovesWords old moved (record { from = c.args.x.place + 1; count = n }) (c.args.to + 1)) w c.move_words.ensures.words;
+      long = laid_long kind blocks c.move_words.new.region c.move_words.ensures.laid ∙ c.move_words.ensures.len ∙ sym (laid_long kind blocks c.args.self.now.region c.requires.laid);
+      cut = cut;
+      shorter = subst (λ n. c.args.x.bytes < 8 * n → Cuts moved cut c.args.to c.args.x.bytes (8 * n)) w c.zero_tail.ensures.cut;
+      as_long = λ le. ap (λ (o : OpenHeap). (seen kind o).words) (c.zero_tail.ensures.kept (omega arith));
+      whole = c.write.ensures.words ∙ ap (set cut c.args.to) c.pack.ensures;
+    }
+
+pub returns-clause-bound : goal.returns-clause-bound
+returns-clause-bound g c =
+    let w = c.words-words.ensures in
+    let a = c.move_words.ensures.bound in let b = c.zero_tail.ensures.bound in let d = c.write.ensures.bound in let e = c.rebind.ensures.steps in
+    let few : (8 * c.words-words.result + 7) / 8 - c.args.x.bytes / 8 ≤ 1 = omega arith in
+    let ak = a.kept in let ab = a.bound in let bk = b.kept in let bb = b.bound in let dk = d.kept in let db = d.bound in let ek = e.kept in let eb = e.bound in
+    record { kept = omega arith; bound = omega arith }

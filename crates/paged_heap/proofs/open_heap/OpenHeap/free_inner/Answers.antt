@@ -1,0 +1,29 @@
+-- What the header tells is the object's length.
+use Rattle.std.proofs.Common.{refl, sym, arith}
+use Rattle.paged_heap.specs.Heap.{seen}
+use Rattle.paged_heap.proofs.Preserved.{no_place}
+use Rattle.paged_heap.proofs.ByKind.{in_region}
+use Rattle.paged_heap.proofs.ReadLemmas.{place_in}
+use Rattle.paged_heap.proofs.HeaderLemmas.{has_class, object_at, page_there}
+use Rattle.paged_heap.proofs.open_heap.OpenHeap.free_inner.Goals as goal
+
+pub returns-in_default-clause-step : goal.returns-in_default-clause-step
+returns-in_default-clause-step g c = (no_place (seen g.A.Mapping.kind c.args.self.now) c.requires.kept c.args.h.0 (sym c.in_default.ensures.found), refl)
+
+pub length_at-length-requires-clause-within : goal.length_at-length-requires-clause-within
+length_at-length-requires-clause-within g c =
+    let l = place_in (seen g.A.Mapping.kind c.args.self.now) c.requires.kept c.args.h.0 c.in-Some.place (sym c.in-Some.ensures.found) in
+    let e = in_region g.A.Mapping.kind c.args.self.now c.requires.laid in
+    omega arith
+
+pub unreachable-requires : goal.unreachable-requires
+unreachable-requires g c = has_class (seen g.A.Mapping.kind c.args.self.now) c.requires.kept c.args.h.0 c.in-Some.place (sym c.in-Some.ensures.found) c.length_at-length.result c.length_at-length.ensures.value c.in_default-class_of.ensures.found
+
+pub must_move-requires-clause-page : goal.must_move-requires-clause-page
+must_move-requires-clause-page g c = rw c.deref.ensures.value (page_there (seen g.A.Mapping.kind c.args.self.now) c.requires.kept c.args.h.0 c.in-Some.place _ _ (object_at (seen g.A.Mapping.kind c.args.self.now) c.requires.kept c.args.h.0 c.in-Some.place (sym c.in-Some.ensures.found) c.length_at-length.result c.length_at-length.ensures.value c.in-Some-class_of.c c.in-Some-class_of.ensures.found))
+
+pub free_and_fill-requires-clause-object : goal.free_and_fill-requires-clause-object
+free_and_fill-requires-clause-object g c = object_at (seen g.A.Mapping.kind c.args.self.now) c.requires.kept c.args.h.0 c.in-Some.place (sym c.in-Some.ensures.found) c.length_at-length.result c.length_at-length.ensures.value c.in-Some-class_of.c c.in-Some-class_of.ensures.found
+
+pub free_alone-requires-clause-object : goal.free_alone-requires-clause-object
+free_alone-requires-clause-object g c = object_at (seen g.A.Mapping.kind c.args.self.now) c.requires.kept c.args.h.0 c.in-Some.place (sym c.in-Some.ensures.found) c.length_at-length.result c.length_at-length.ensures.value c.in-Some-class_of.c c.in-Some-class_of.ensures.found

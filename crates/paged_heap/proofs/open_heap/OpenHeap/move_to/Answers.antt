@@ -1,0 +1,12 @@
+-- The words are as many as before, since the region is.
+use Rattle.std.proofs.Common.{sym, ◌∙◌}
+use Rattle.virtual_words.proofs.CallerLemmas.{laid_long}
+use Rattle.paged_heap.proofs.open_heap.OpenHeap.move_to.Goals as goal
+
+pub returns-clause-moves : goal.returns-clause-moves
+returns-clause-moves g c = record {
+  long = laid_long g.A.Mapping.kind c.move_slot.new.blocks c.move_slot.new.region c.move_slot.ensures.laid ∙ c.move_slot.ensures.len
+      ∙ sym (laid_long g.A.Mapping.kind c.args.self.now.blocks c.args.self.now.region c.requires.laid);
+  words = c.move_slot.ensures.words;
+  frames = c.move_slot.ensures.frames;
+}

@@ -1,0 +1,74 @@
+-- An object that gets a length of another class. No public clause cites this module.
+use Rattle.std.specs.Prelude.{◌≡◌, ◌≢◌, ℕ, ◌+◌, ◌-◌, ◌*◌, ◌/◌, ◌≤◌, ◌<◌, min, max, length, List, Option, Some, None, Result, Ok, Err, slice_index, slice_set}
+use Rattle.cf_base.specs.Classes.{need}
+use Rattle.cf_base.specs.declared.answers.Resized.{Resized}
+use Rattle.cf_base.specs.declared.answers.ResizeFault.{ResizeFault}
+use Rattle.page_model.specs.Paging.{class_for, classes}
+use Rattle.page_model.specs.Arrangement.{LacksRoom}
+use Rattle.page_model.specs.Image.{MovesWords, header_word}
+use Rattle.proxy_table.specs.Proxies.{AreBelowLimit, with_place}
+use Rattle.page_slots.specs.Tables.{AreTables}
+use Rattle.page_slots.specs.Taking.{TakesAt}
+use Rattle.paged_heap.specs.Heap.{Heap}
+use Rattle.paged_heap.specs.declared.resize_class.Change.{Change}
+use Rattle.paged_heap.specs.ZeroTail.{Cuts}
+use Rattle.paged_heap.specs.Free.{IsObjectAt}
+use Rattle.paged_heap.specs.Layout.{held_in, paging_at, tables_in}
+
+-- the object is there, and its new length is of another class
+pub record IsChange (h : Heap) (x : Change) : Type 0 where
+  pub object : IsObjectAt h x.handle.0 x.place x.length x.class
+  pub fits : need x.bytes ≤ h.settings.page_words
+  pub class : class_for (paging_at h) x.bytes ≡ x.to
+  pub in_range : x.to < classes (paging_at h)
+  pub other : x.to ≢ x.class
+
+-- the words of a slot of the class that the object has
+abbrev pub old_words : Heap → Change → ℕ
+old_words h x = slice_index h.classes.sizes x.class
+
+-- the words of the bytes that both lengths have
+abbrev pub kept_words : Change → ℕ
+kept_words x = (min x.length x.bytes + 7) / 8
+
+-- The kept words go to the slot at b, those of them that are beyond the new length are cut, and the header comes before them.
+pub record Carries (old new : List ℕ) (x : Change) (b : ℕ) : Type 0 where
+  pub moved : List ℕ
+  pub moves : MovesWords old moved (record { from = x.place + 1; count = kept_words x }) (b + 1)
+  pub long : length moved ≡ length old
+  pub cut : List ℕ
+  pub shorter : x.bytes < 8 * kept_words x → Cuts moved cut b x.bytes (8 * kept_words x)
+  pub as_long : 8 * kept_words x ≤ x.bytes → cut ≡ moved
+  pub whole : new ≡ slice_set cut b (header_word x.handle.0 x.bytes)
+
+-- the object stands at b, in a slot of its new class, and its old slot isn't free yet
+pub record EntersAt (h : Heap) (x : Change) (b : ℕ) (n : Heap) : Type 0 where
+  pub settings : n.settings ≡ h.settings
+  pub classes : n.classes ≡ h.classes
+  pub bounds : n.bounds ≡ h.bounds
+  pub taken : TakesAt h.classes (tables_in h) x.to b (tables_in n)
+  pub tables : AreTables h.classes (tables_in n)
+  pub kind : n.kind ≡ h.kind
+  pub words : Carries h.words n.words x b
+  pub frames : n.frames ≡ h.frames
+  pub proxies : n.proxies ≡ with_place h.proxies x.handle.0 b
+  pub handles : AreBelowLimit n.proxies
+  pub live : n.live ≡ slice_set (slice_set h.live x.class (slice_index h.live x.class - 1)) x.to (slice_index h.live x.to + 1)
+  pub asked : n.asked ≡ h.asked - x.length + x.bytes
+  pub all_taken : n.taken ≡ h.taken - 8 * old_words h x + 8 * slice_index h.classes.sizes x.to
+
+-- there is no room for the object in its new class, and nothing has changed
+pub record FindsNoRoom (h : Heap) (x : Change) (n : Heap) : Type 0 where
+  pub lacking : LacksRoom (paging_at h) (held_in h) x.to
+  pub tables : tables_in n ≡ tables_in h
+  pub rest : n ≡ record h { maps = n.maps; lists = n.lists; pool = n.pool }
+
+-- the object enters its new class, or there is no room for it
+abbrev pub Enters : Heap → Change → Option ℕ → Heap → Type 0
+Enters h x None n = FindsNoRoom h x n
+Enters h x (Some b) n = EntersAt h x b n
+
+-- the steps of a change of class
+abbrev pub changing_bound : Result Resized ResizeFault → ℕ
+changing_bound (Ok done) = 120 + 3 * max done.old_slot_words done.slot_words
+changing_bound (Err e) = 80

@@ -1,0 +1,239 @@
+//! An object goes.
+ghost use Rattle.std.specs.Prelude.{◌≡◌, ◌≢◌, ℕ, ◌+◌, ◌-◌, ◌*◌, ◌/◌, ◌^◌, ◌<◌, ◌≤◌, None, Some, IsSome, length, slice_index, slice_set};
+ghost use Rattle.std.specs.FinMap as map;
+ghost use Rattle.step_ledger.specs.Counting.{RoseAtMost};
+ghost use Rattle.page_model.specs.Image.{Clears, IsDisjoint};
+ghost use Rattle.cf_model.specs.Costs.{free_bound};
+ghost use Rattle.cf_model.specs.Steps.{FreesObject, IsFreeStep};
+ghost use Rattle.class_lists.specs.PageLists.{pages_in};
+ghost use Rattle.class_lists.specs.declared.Which.TheVariants.{NotFull};
+ghost use Rattle.page_slots.specs.Freeing.{FillsFrom, MovesObject, Vacates};
+ghost use Rattle.page_slots.specs.Tables.{AreTables, IsUsed, page_at, slot_at, slots_on, tables};
+ghost use Rattle.proxy_table.specs.Proxies.{AreBelowLimit, with_place, without_place};
+ghost use Rattle.virtual_words.specs.Words.{AreLaid, IsWhole, run_bound};
+ghost use Rattle.paged_heap.specs.Free.{IsObjectAt, IsMoving, MovesSlot};
+ghost use Rattle.paged_heap.specs.Heap.{seen};
+ghost use Rattle.paged_heap.specs.Layout.{Holds, state_at};
+
+use crate::header::Header;
+use crate::open_heap::OpenHeap;
+use cf_base::{Freed, Handle, NotLive};
+use page_slots::{drop_slot, fill_slot, must_move};
+use step_ledger::Steps;
+use virtual_words::Mapping;
+
+impl OpenHeap {
+    /// Takes an object away, and notes the cost.
+    pub fn free<A: Mapping>(&mut self, h: Handle, steps: &mut Steps) -> Result<Freed, NotLive>
+        requires kept { Holds A.kind self.old }
+        requires room { steps.old ≤ 2 ^ 63 }
+        ensures step { IsFreeStep (state_at A.kind self.old) h.0 result (state_at A.kind self.new) }
+        ensures kept { Holds A.kind self.new }
+        ensures bound { RoseAtMost steps.old steps.new (free_bound result) }
+        ensures told { steps.new ≡ steps.old + self.new.cost }
+    {
+        let before = steps.count();
+        let result = self.free_inner::<A>(h, steps);
+        self.cost = steps.count() - before;
+        result
+    }
+
+    /// Takes an object away.
+    fn free_inner<A: Mapping>(&mut self, h: Handle, steps: &mut Steps) -> Result<Freed, NotLive>
+        requires { Holds A.kind self.old }
+        ensures step { IsFreeStep (state_at A.kind self.old) h.0 result (state_at A.kind self.new) }
+        ensures kept { Holds A.kind self.new }
+        ensures bound { RoseAtMost steps.old steps.new (free_bound result) }
+    {
+        let Some(place) = self.proxies.lookup(h, steps) else {
+            return Err(NotLive);
+        };
+        let length = self.length_at::<A>(place, steps);
+        let Some(c) = self.classes.class_of(length, steps) else {
+            unreachable!();
+        };
+        let bound = self.bounds[c as usize];
+        if must_move(
+            &self.classes,
+            &self.maps,
+            &self.lists,
+            c,
+            place,
+            bound,
+            steps,
+        ) {
+            Ok(self.free_and_fill::<A>(h, place, length, c, steps))
+        } else {
+            Ok(self.free_alone::<A>(h, place, length, c, steps))
+        }
+    }
+
+    /// Takes an object away, and moves no other.
+    fn free_alone<A: Mapping>(
+        &mut self,
+        h: Handle,
+        place: u32,
+        length: u32,
+        c: u32,
+        steps: &mut Steps,
+    ) -> Freed
+        requires kept { Holds A.kind self.old }
+        requires object { IsObjectAt (seen A.kind self.old) h.0 place length c }
+        requires stays { IsMoving (seen A.kind self.old) place c → ⊥ }
+        ensures step { FreesObject (state_at A.kind self.old) h.0 result (state_at A.kind self.new) }
+        ensures kept { Holds A.kind self.new }
+        ensures bound { RoseAtMost steps.old steps.new (80 + 2 * result.slot_words) }
+    {
+        let slot_words = self.classes.slot_words(c);
+        self.erase::<A>(h, place, slot_words, steps);
+        self.count_out(c, length);
+        self.release_slot(c, place, steps);
+        Freed {
+            slot_words,
+            moved: None,
+        }
+    }
+
+    /// Takes an object away, and moves another one to its slot.
+    fn free_and_fill<A: Mapping>(
+        &mut self,
+        h: Handle,
+        place: u32,
+        length: u32,
+        c: u32,
+        steps: &mut Steps,
+    ) -> Freed
+        requires kept { Holds A.kind self.old }
+        requires object { IsObjectAt (seen A.kind self.old) h.0 place length c }
+        requires moves { IsMoving (seen A.kind self.old) place c }
+        ensures step { FreesObject (state_at A.kind self.old) h.0 result (state_at A.kind self.new) }
+        ensures kept { Holds A.kind self.new }
+        ensures bound { RoseAtMost steps.old steps.new (80 + 2 * result.slot_words) }
+    {
+        let slot_words = self.classes.slot_words(c);
+        let from = self.take_filler(c, steps);
+        let other = Header::unpack(A::read(&self.region, &self.blocks, from, steps)).handle;
+        self.proxies.release(h, steps);
+        self.count_out(c, length);
+        self.move_to::<A>(other, from, place, slot_words, steps);
+        Freed {
+            slot_words,
+            moved: Some(other),
+        }
+    }
+
+    /// The number of the object at a place is given back, and the words of its slot are cleared.
+    fn erase<A: Mapping>(&mut self, h: Handle, place: u32, slot_words: u32, steps: &mut Steps)
+        requires laid { AreLaid A.kind self.old.blocks self.old.region }
+        requires live { IsSome (map.get self.old.proxies.places h.0) }
+        requires within { place + slot_words ≤ length self.old.region }
+        ensures rest { seen A.kind self.new ≡ record (seen A.kind self.old) {
+          proxies = without_place self.old.proxies h.0;
+          words = (seen A.kind self.new).words;
+        } }
+        ensures words { Clears (seen A.kind self.old).words (seen A.kind self.new).words (record { from = place; count = slot_words }) }
+        ensures len { length self.new.region ≡ length self.old.region }
+        ensures laid { AreLaid A.kind self.new.blocks self.new.region }
+        ensures handles { AreBelowLimit self.new.proxies }
+        ensures bound { RoseAtMost steps.old steps.new (2 + run_bound slot_words) }
+    {
+        self.proxies.release(h, steps);
+        A::clear(&mut self.region, &self.blocks, place, slot_words, steps);
+    }
+
+    /// An object of class c moves to another place.
+    pub(crate) fn move_to<A: Mapping>(
+        &mut self,
+        h: Handle,
+        from: u32,
+        to: u32,
+        slot_words: u32,
+        steps: &mut Steps,
+    )
+        requires laid { AreLaid A.kind self.old.blocks self.old.region }
+        requires live { IsSome (map.get self.old.proxies.places h.0) }
+        requires source { from + slot_words ≤ length self.old.region }
+        requires target { to + slot_words ≤ length self.old.region }
+        requires apart { IsDisjoint from slot_words to slot_words }
+        requires whole_source { IsWhole A.kind from }
+        requires whole_target { IsWhole A.kind to }
+        requires whole { IsWhole A.kind slot_words }
+        ensures rest { self.new ≡ record self.old {
+          proxies = with_place self.old.proxies h.0 to;
+          region = self.new.region;
+          blocks = self.new.blocks;
+        } }
+        ensures moves { MovesSlot (seen A.kind self.old) (seen A.kind self.new) from to slot_words }
+        ensures laid { AreLaid A.kind self.new.blocks self.new.region }
+        ensures handles { AreBelowLimit self.new.proxies }
+        ensures bound { RoseAtMost steps.old steps.new (1 + run_bound slot_words) }
+    {
+        A::move_slot(
+            &mut self.region,
+            &mut self.blocks,
+            from,
+            to,
+            slot_words,
+            steps,
+        );
+        self.proxies.rebind(h, to, steps);
+    }
+
+    /// Counts an object of so many bytes in class c no more.
+    pub(crate) fn count_out(&mut self, c: u32, bytes: u32)
+        requires class { c < length self.old.classes.sizes }
+        requires listed { c < length self.old.live }
+        requires live { 1 ≤ slice_index self.old.live c }
+        requires asked { bytes ≤ self.old.asked }
+        requires taken { 8 * slice_index self.old.classes.sizes c ≤ self.old.taken }
+        ensures { self.new ≡ record self.old {
+          live = slice_set self.old.live c (slice_index self.old.live c - 1);
+          asked = self.old.asked - bytes;
+          taken = self.old.taken - 8 * slice_index self.old.classes.sizes c;
+        } }
+    {
+        self.live[c as usize] -= 1;
+        self.asked -= u64::from(bytes);
+        self.taken -= 8 * u64::from(self.classes.slot_words(c));
+    }
+
+    /// The used slot of class c at a place becomes free.
+    pub(crate) fn release_slot(&mut self, c: u32, place: u32, steps: &mut Steps)
+        requires tables { AreTables self.old.classes (tables self.old.maps.items self.old.lists self.old.pool) }
+        requires used { IsUsed (tables self.old.maps.items self.old.lists self.old.pool) c (page_at self.old.classes place) (slot_at self.old.classes c place) }
+        ensures freed { Vacates (tables self.old.maps.items self.old.lists self.old.pool) c (page_at self.old.classes place) (slot_at self.old.classes c place) (tables self.new.maps.items self.new.lists self.new.pool) }
+        ensures tables { AreTables self.old.classes (tables self.new.maps.items self.new.lists self.new.pool) }
+        ensures rest { self.new ≡ record self.old { maps = self.new.maps; lists = self.new.lists; pool = self.new.pool } }
+        ensures bound { RoseAtMost steps.old steps.new 18 }
+    {
+        drop_slot(
+            &self.classes,
+            &mut self.maps,
+            &mut self.lists,
+            &mut self.pool,
+            c,
+            place,
+            steps,
+        );
+    }
+
+    /// The place of the object of class c that fills a freed slot; its own slot becomes free.
+    pub(crate) fn take_filler(&mut self, c: u32, steps: &mut Steps) -> u32
+        requires tables { AreTables self.old.classes (tables self.old.maps.items self.old.lists self.old.pool) }
+        requires class { c < length self.old.classes.sizes }
+        requires some { 1 ≤ length (pages_in self.old.lists c NotFull) }
+        ensures filled { FillsFrom self.old.classes (tables self.old.maps.items self.old.lists self.old.pool) c result (tables self.new.maps.items self.new.lists self.new.pool) }
+        ensures tables { AreTables self.old.classes (tables self.new.maps.items self.new.lists self.new.pool) }
+        ensures rest { self.new ≡ record self.old { maps = self.new.maps; lists = self.new.lists; pool = self.new.pool } }
+        ensures bound { RoseAtMost steps.old steps.new 26 }
+    {
+        fill_slot(
+            &self.classes,
+            &mut self.maps,
+            &mut self.lists,
+            &mut self.pool,
+            c,
+            steps,
+        )
+    }
+}

@@ -1,0 +1,138 @@
+//! An object gets another length.
+ghost use Rattle.std.specs.Prelude.{◌≡◌, ℕ, ◌+◌, ◌-◌, ◌*◌, ◌/◌, ◌^◌, ◌<◌, ◌≤◌, length};
+ghost use Rattle.step_ledger.specs.Counting.{RoseAtMost};
+ghost use Rattle.page_model.specs.Paging.{class_for};
+ghost use Rattle.cf_base.specs.Classes.{need};
+ghost use Rattle.cf_model.specs.Costs.{resize_bound};
+ghost use Rattle.cf_model.specs.Steps.{IsResizeStep, ResizesObject};
+ghost use Rattle.virtual_words.specs.Words.{AreLaid, run_bound};
+ghost use Rattle.paged_heap.specs.ZeroTail.{Cuts};
+ghost use Rattle.paged_heap.specs.Free.{IsObjectAt};
+ghost use Rattle.paged_heap.specs.Heap.{seen};
+ghost use Rattle.paged_heap.specs.Layout.{Holds, paging_at, state_at};
+
+use crate::resize_class::Change;
+use crate::header::Header;
+use crate::open_heap::OpenHeap;
+use cf_base::{Handle, ResizeFault, Resized};
+use step_ledger::Steps;
+use virtual_words::Mapping;
+
+impl OpenHeap {
+    /// Gives an object another length, and notes the cost.
+    pub fn resize<A: Mapping>(
+        &mut self,
+        h: Handle,
+        bytes: u32,
+        steps: &mut Steps,
+    ) -> Result<Resized, ResizeFault>
+        requires kept { Holds A.kind self.old }
+        requires room { steps.old ≤ 2 ^ 63 }
+        ensures step { IsResizeStep (state_at A.kind self.old) (record { number = h.0; length = bytes }) result (state_at A.kind self.new) }
+        ensures kept { Holds A.kind self.new }
+        ensures bound { RoseAtMost steps.old steps.new (resize_bound result) }
+        ensures told { steps.new ≡ steps.old + self.new.cost }
+    {
+        let before = steps.count();
+        let result = self.resize_inner::<A>(h, bytes, steps);
+        self.cost = steps.count() - before;
+        result
+    }
+
+    /// Gives an object another length, in its slot where the class is the same.
+    fn resize_inner<A: Mapping>(
+        &mut self,
+        h: Handle,
+        bytes: u32,
+        steps: &mut Steps,
+    ) -> Result<Resized, ResizeFault>
+        requires { Holds A.kind self.old }
+        ensures step { IsResizeStep (state_at A.kind self.old) (record { number = h.0; length = bytes }) result (state_at A.kind self.new) }
+        ensures kept { Holds A.kind self.new }
+        ensures bound { RoseAtMost steps.old steps.new (resize_bound result) }
+    {
+        let Some(place) = self.proxies.lookup(h, steps) else {
+            return Err(ResizeFault::Unknown);
+        };
+        let Some(to) = self.classes.class_of(bytes, steps) else {
+            return Err(ResizeFault::Size);
+        };
+        let length = self.length_at::<A>(place, steps);
+        let Some(class) = self.classes.class_of(length, steps) else {
+            unreachable!();
+        };
+        if to == class {
+            return Ok(self.resize_in_place::<A>(h, place, length, bytes, class, steps));
+        }
+        let change = Change {
+            handle: h,
+            place,
+            length,
+            class,
+            bytes,
+            to,
+        };
+        self.resize_to_class::<A>(change, steps)
+    }
+
+    /// Gives an object of class c another length of that class: it stays in its slot.
+    pub(crate) fn resize_in_place<A: Mapping>(
+        &mut self,
+        h: Handle,
+        place: u32,
+        length: u32,
+        bytes: u32,
+        c: u32,
+        steps: &mut Steps,
+    ) -> Resized
+        requires kept { Holds A.kind self.old }
+        requires object { IsObjectAt (seen A.kind self.old) h.0 place length c }
+        requires same { class_for (paging_at (seen A.kind self.old)) bytes ≡ c }
+        requires fits { need bytes ≤ self.old.settings.page_words }
+        ensures step { ResizesObject (state_at A.kind self.old) (record { number = h.0; length = bytes }) result (state_at A.kind self.new) }
+        ensures kept { Holds A.kind self.new }
+        ensures bound { RoseAtMost steps.old steps.new (10 + 2 * result.slot_words) }
+    {
+        let slot_words = self.classes.slot_words(c);
+        self.zero_tail::<A>(place, bytes, length, steps);
+        let header = Header {
+            handle: h,
+            length: bytes,
+        };
+        A::write(&mut self.region, &self.blocks, place, header.pack(), steps);
+        self.asked = self.asked - u64::from(length) + u64::from(bytes);
+        Resized {
+            old_slot_words: slot_words,
+            slot_words,
+            moved: None,
+        }
+    }
+
+    /// Of so many bytes behind a header those from `keep` on become zeros.
+    pub(crate) fn zero_tail<A: Mapping>(&mut self, place: u32, keep: u32, bytes: u32, steps: &mut Steps)
+        requires laid { AreLaid A.kind self.old.blocks self.old.region }
+        requires within { place + 1 + (bytes + 7) / 8 ≤ length self.old.region }
+        requires small { place + 1 + (bytes + 7) / 8 < 4294967296 }
+        ensures rest { seen A.kind self.new ≡ record (seen A.kind self.old) { words = (seen A.kind self.new).words } }
+        ensures len { length self.new.region ≡ length self.old.region }
+        ensures laid { AreLaid A.kind self.new.blocks self.new.region }
+        ensures cut { keep < bytes → Cuts (seen A.kind self.old).words (seen A.kind self.new).words place keep bytes }
+        ensures kept { bytes ≤ keep → self.new ≡ self.old }
+        ensures bound { RoseAtMost steps.old steps.new (run_bound ((bytes + 7) / 8 - keep / 8) + 4) }
+    {
+        if keep < bytes {
+            let first = place + 1 + keep / 8;
+            let whole = (keep % 8) as usize;
+            A::write_bytes(
+                &mut self.region,
+                &self.blocks,
+                first,
+                whole,
+                &[0; 8][whole..],
+                steps,
+            );
+            let rest = bytes.div_ceil(8) - keep / 8 - 1;
+            A::clear(&mut self.region, &self.blocks, first + 1, rest, steps);
+        }
+    }
+}

@@ -1,0 +1,190 @@
+//! An object gets a length of another class.
+ghost use Rattle.std.specs.Prelude.{◌≡◌, ◌+◌, ◌-◌, ◌*◌, ◌/◌, ◌^◌, ◌<◌, ◌≤◌, IsNone, IsSome, length, slice_index};
+ghost use Rattle.std.specs.FinMap as map;
+ghost use Rattle.step_ledger.specs.Counting.{RoseAtMost};
+ghost use Rattle.page_model.specs.Image.{Clears, IsDisjoint};
+ghost use Rattle.cf_model.specs.Steps.{IsResizeStep};
+ghost use Rattle.proxy_table.specs.Proxies.{AreBelowLimit, with_place};
+ghost use Rattle.virtual_words.specs.Words.{AreInStep, AreLaid, run_bound};
+ghost use Rattle.paged_heap.specs.ResizeClass.{Carries, Enters, IsChange, changing_bound, kept_words, old_words};
+ghost use Rattle.paged_heap.specs.Free.{IsMoving};
+ghost use Rattle.paged_heap.specs.Heap.{seen};
+ghost use Rattle.paged_heap.specs.Layout.{Holds, state_at};
+
+use crate::header::Header;
+use crate::open_heap::OpenHeap;
+use cf_base::{Handle, ResizeFault, Resized};
+use page_slots::must_move;
+use step_ledger::Steps;
+use virtual_words::Mapping;
+
+/// An object that is to go to another class: its slot of class `class` begins at word `place`, and it
+/// has `length` bytes. It is to have `bytes` of them, in class `to`.
+#[derive(Clone, Copy)]
+pub(crate) struct Change {
+    pub(crate) handle: Handle,
+    pub(crate) place: u32,
+    pub(crate) length: u32,
+    pub(crate) class: u32,
+    pub(crate) bytes: u32,
+    pub(crate) to: u32,
+}
+
+impl Change {
+    /// The words of the bytes that both lengths have.
+    fn words(self) -> u32
+        ensures { result ≡ kept_words self }
+    {
+        self.length.min(self.bytes).div_ceil(8)
+    }
+}
+
+impl OpenHeap {
+    /// Gives an object a length of another class: it takes a slot there, and its old slot is freed.
+    pub(crate) fn resize_to_class<A: Mapping>(
+        &mut self,
+        x: Change,
+        steps: &mut Steps,
+    ) -> Result<Resized, ResizeFault>
+        requires kept { Holds A.kind self.old }
+        requires change { IsChange (seen A.kind self.old) x }
+        ensures step { IsResizeStep (state_at A.kind self.old) (record { number = x.handle.0; length = x.bytes }) result (state_at A.kind self.new) }
+        ensures kept { Holds A.kind self.new }
+        ensures bound { RoseAtMost steps.old steps.new (1 + changing_bound result) }
+    {
+        let bound = self.bounds[x.class as usize];
+        if must_move(
+            &self.classes,
+            &self.maps,
+            &self.lists,
+            x.class,
+            x.place,
+            bound,
+            steps,
+        ) {
+            self.resize_class_and_fill::<A>(x, steps)
+        } else {
+            self.resize_class_alone::<A>(x, steps)
+        }
+    }
+
+    /// Moves an object to another class, and no other one.
+    fn resize_class_alone<A: Mapping>(
+        &mut self,
+        x: Change,
+        steps: &mut Steps,
+    ) -> Result<Resized, ResizeFault>
+        requires kept { Holds A.kind self.old }
+        requires change { IsChange (seen A.kind self.old) x }
+        requires stays { IsMoving (seen A.kind self.old) x.place x.class → ⊥ }
+        ensures step { IsResizeStep (state_at A.kind self.old) (record { number = x.handle.0; length = x.bytes }) result (state_at A.kind self.new) }
+        ensures kept { Holds A.kind self.new }
+        ensures bound { RoseAtMost steps.old steps.new (changing_bound result) }
+    {
+        let old_slot_words = self.classes.slot_words(x.class);
+        let slot_words = self.classes.slot_words(x.to);
+        let Some(_to) = self.enter_class::<A>(x, steps) else {
+            return Err(ResizeFault::Space);
+        };
+        self.wipe::<A>(x.place, old_slot_words, steps);
+        self.release_slot(x.class, x.place, steps);
+        Ok(Resized {
+            old_slot_words,
+            slot_words,
+            moved: None,
+        })
+    }
+
+    /// Moves an object to another class, and another one to its old slot.
+    fn resize_class_and_fill<A: Mapping>(
+        &mut self,
+        x: Change,
+        steps: &mut Steps,
+    ) -> Result<Resized, ResizeFault>
+        requires kept { Holds A.kind self.old }
+        requires change { IsChange (seen A.kind self.old) x }
+        requires moves { IsMoving (seen A.kind self.old) x.place x.class }
+        ensures step { IsResizeStep (state_at A.kind self.old) (record { number = x.handle.0; length = x.bytes }) result (state_at A.kind self.new) }
+        ensures kept { Holds A.kind self.new }
+        ensures bound { RoseAtMost steps.old steps.new (changing_bound result) }
+    {
+        let old_slot_words = self.classes.slot_words(x.class);
+        let slot_words = self.classes.slot_words(x.to);
+        let Some(_to) = self.enter_class::<A>(x, steps) else {
+            return Err(ResizeFault::Space);
+        };
+        let from = self.take_filler(x.class, steps);
+        let other = Header::unpack(A::read(&self.region, &self.blocks, from, steps)).handle;
+        self.move_to::<A>(other, from, x.place, old_slot_words, steps);
+        Ok(Resized {
+            old_slot_words,
+            slot_words,
+            moved: Some(other),
+        })
+    }
+
+    /// Takes a slot of the new class for the object and brings it there. None where there is no room.
+    fn enter_class<A: Mapping>(&mut self, x: Change, steps: &mut Steps) -> Option<u32>
+        requires kept { Holds A.kind self.old }
+        requires change { IsChange (seen A.kind self.old) x }
+        ensures entered { Enters (seen A.kind self.old) x result (seen A.kind self.new) }
+        ensures laid { AreLaid A.kind self.new.blocks self.new.region }
+        ensures refused { IsNone result → RoseAtMost steps.old steps.new 26 }
+        ensures bound { RoseAtMost steps.old steps.new (40 + run_bound (kept_words x)) }
+    {
+        let Some(to) = self.take_slot(x.to, steps) else {
+            return None;
+        };
+        self.copy_to_slot::<A>(x, to, steps);
+        self.count_out(x.class, x.length);
+        self.count_in(x.to, x.bytes);
+        Some(to)
+    }
+
+    /// Brings an object with its new length to another slot, whose words are zeros. Its old slot is to
+    /// be cleared, or filled.
+    fn copy_to_slot<A: Mapping>(&mut self, x: Change, to: u32, steps: &mut Steps)
+        requires laid { AreLaid A.kind self.old.blocks self.old.region }
+        requires live { IsSome (map.get self.old.proxies.places x.handle.0) }
+        requires small { length self.old.region ≤ 2 ^ 23 }
+        requires source { x.place + 1 + kept_words x ≤ length self.old.region }
+        requires target { to + 1 + (x.bytes + 7) / 8 ≤ length self.old.region }
+        requires apart { IsDisjoint (x.place + 1) (kept_words x) (to + 1) (kept_words x) }
+        requires in_step { AreInStep A.kind (x.place + 1) (to + 1) }
+        ensures rest { seen A.kind self.new ≡ record (seen A.kind self.old) { proxies = with_place self.old.proxies x.handle.0 to; words = (seen A.kind self.new).words } }
+        ensures words { Carries (seen A.kind self.old).words (seen A.kind self.new).words x to }
+        ensures laid { AreLaid A.kind self.new.blocks self.new.region }
+        ensures handles { AreBelowLimit self.new.proxies }
+        ensures bound { RoseAtMost steps.old steps.new (14 + run_bound (kept_words x)) }
+    {
+        let words = x.words();
+        A::move_words(
+            &mut self.region,
+            &self.blocks,
+            x.place + 1,
+            to + 1,
+            words,
+            steps,
+        );
+        self.zero_tail::<A>(to, x.bytes, 8 * words, steps);
+        let header = Header {
+            handle: x.handle,
+            length: x.bytes,
+        };
+        A::write(&mut self.region, &self.blocks, to, header.pack(), steps);
+        self.proxies.rebind(x.handle, to, steps);
+    }
+
+    /// The words of a slot become zeros.
+    fn wipe<A: Mapping>(&mut self, place: u32, slot_words: u32, steps: &mut Steps)
+        requires laid { AreLaid A.kind self.old.blocks self.old.region }
+        requires within { place + slot_words ≤ length self.old.region }
+        ensures rest { seen A.kind self.new ≡ record (seen A.kind self.old) { words = (seen A.kind self.new).words } }
+        ensures words { Clears (seen A.kind self.old).words (seen A.kind self.new).words (record { from = place; count = slot_words }) }
+        ensures len { length self.new.region ≡ length self.old.region }
+        ensures laid { AreLaid A.kind self.new.blocks self.new.region }
+        ensures bound { RoseAtMost steps.old steps.new (run_bound slot_words) }
+    {
+        A::clear(&mut self.region, &self.blocks, place, slot_words, steps);
+    }
+}
