@@ -15,7 +15,7 @@ use Rattle.run_model.specs.Sessions.{AreTied, SessionState}
 use Rattle.run_model.specs.Steps.{Step, bound_text, class_to_bound}
 use Rattle.run_model.specs.Texts.{said, with_number}
 use Rattle.run_model.specs.Replies.{steps_text}
-use Rattle.cf_session.specs.Applying.{run_at}
+use Rattle.cf_session.specs.Apply.{run_at}
 
 -- no object is live where no id is
 module _ (session : SessionState) (heap : HeapState) (tied : AreTied session heap) (none : session.ids ≡ empty) where

@@ -25,8 +25,8 @@ use Rattle.run_model.specs.Steps.{Step}
 use Rattle.run_model.specs.Texts.{Reply, led, said}
 use Rattle.run_model.proofs.Bounded.{step_meets_bounds}
 use Rattle.run_model.proofs.Going.{step_going}
-use Rattle.cf_session.specs.Applying.{Applies, outcome_in, outcome_of, run_at}
-use Rattle.cf_session.specs.Speaking.{IsReported, Says, lines_at}
+use Rattle.cf_session.specs.Apply.{Applies, outcome_in, outcome_of, run_at}
+use Rattle.cf_session.specs.OneLine.{IsReported, Says, lines_at}
 use Rattle.cf_session.specs.declared.outcome.Outcome.{Outcome}
 use Rattle.cf_session.specs.declared.outcome.Outcome.TheVariants.{Other}
 

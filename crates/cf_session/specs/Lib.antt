@@ -1,3 +1,3 @@
-pub mod Applying
+pub mod Apply
 pub mod Table
-pub mod Speaking
+pub mod OneLine

@@ -1,7 +1,7 @@
 //! The commands that change objects: each does its call, and answers the text of its reply.
 ghost use Rattle.std.specs.Prelude.{◌≡◌, ◌^◌, ◌≤◌, IsTrue, Err, codes, length};
 ghost use Rattle.std.specs.FinMap as map;
-ghost use Rattle.cf_session.specs.Applying.{run_at};
+ghost use Rattle.cf_session.specs.Apply.{run_at};
 ghost use Rattle.script_reader.specs.declared.command.Command.TheVariants.{Malloc, Free, Write, Resize, Bound};
 ghost use Rattle.run_model.specs.Replies.{malloc_text, resize_text, write_text};
 ghost use Rattle.run_model.specs.Sessions.{AreTied};
@@ -30,7 +30,7 @@ pub(crate) fn malloc<H: Manager>(
     if records.handle(id).is_some() {
         return b"live";
     }
-    records.keep_bound(64);
+    records.set_step_bound(64);
     match heap.malloc(bytes, steps) {
         Ok(h) => {
             records.bind(id, h);
@@ -73,7 +73,7 @@ pub(crate) fn free<H: Manager>(
         unreachable!();
     };
     records.unbind(id);
-    records.keep_bound(96 + 2 * freed.slot_words as u64);
+    records.set_step_bound(96 + 2 * freed.slot_words as u64);
     records.count_move(freed.moved, freed.slot_words);
     b"ok"
 }
@@ -132,12 +132,12 @@ pub(crate) fn resize<H: Manager>(
     };
     match heap.resize(h, bytes, steps) {
         Ok(done) => {
-            records.keep_bound(160 + 3 * done.old_slot_words.max(done.slot_words) as u64);
+            records.set_step_bound(160 + 3 * done.old_slot_words.max(done.slot_words) as u64);
             records.count_move(done.moved, done.old_slot_words);
             b"ok"
         }
         Err(fault) => {
-            records.keep_bound(160);
+            records.set_step_bound(160);
             resize_fault_text(fault)
         }
     }

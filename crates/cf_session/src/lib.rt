@@ -1,7 +1,7 @@
 //! A session: the ids of one manager's objects, and the replies to the commands of a script.
 #![tactic(auto)]
 
-mod answering;
+mod dispatch;
 mod changes;
 mod looks;
 mod outcome;

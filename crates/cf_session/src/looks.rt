@@ -2,7 +2,7 @@
 ghost use Rattle.std.specs.Prelude.{◌≡◌, ◌^◌, ◌<◌, ◌≤◌, ◌++◌, IsTrue, length, slice_get};
 ghost use Rattle.std.specs.FinMap as map;
 ghost use Rattle.cf_io.specs.Lines.{line_room};
-ghost use Rattle.cf_session.specs.Applying.{run_at};
+ghost use Rattle.cf_session.specs.Apply.{run_at};
 ghost use Rattle.run_model.specs.Replies.{block_text_at, object_of, peek_text, place_text, read_text, steps_text};
 ghost use Rattle.run_model.specs.Sessions.{AreTied};
 

@@ -1,6 +1,6 @@
 //! How a command ended.
 ghost use Rattle.std.specs.Prelude.{◌≡◌};
-ghost use Rattle.cf_session.specs.Applying.{outcome_in};
+ghost use Rattle.cf_session.specs.Apply.{outcome_in};
 
 /// How a command ended, as the first bytes of its reply tell.
 #[derive(Clone, Copy, Debug, PartialEq, Eq)]

@@ -98,7 +98,7 @@ impl Records {
     }
 
     /// Keeps the bound on the steps of a call.
-    pub(crate) fn keep_bound(&mut self, bound: u64)
+    pub(crate) fn set_step_bound(&mut self, bound: u64)
         ensures { self.new ≡ record self.old { bound = bound } }
     {
         self.bound = bound;

@@ -4,11 +4,11 @@ ghost use Rattle.std.specs.FinMap as map;
 ghost use Rattle.cf_io.specs.Feeds.{Rose};
 ghost use Rattle.cf_model.specs.Rules.{KeepsRules};
 ghost use Rattle.cf_model.specs.Steps.{number_of};
-ghost use Rattle.cf_session.specs.Applying.{Applies, MayBound, moment_at};
+ghost use Rattle.cf_session.specs.Apply.{Applies, MayBound, moment_at};
 ghost use Rattle.script_reader.specs.Commands.{IsWellFormed};
 ghost use Rattle.run_model.specs.Sessions.{AreTied, fresh_session};
 
-use crate::answering::answer;
+use crate::dispatch::answer;
 use crate::outcome::Outcome;
 use crate::records::Records;
 use cf_base::{Failed, Handle, OutOfMemory};

@@ -19,11 +19,11 @@ use Rattle.page_slots.specs.Taking.{TakesAt, TakesSlot}
 use Rattle.page_slots.specs.Freeing.{FillsFrom, MovesObject, Vacates}
 use Rattle.page_slots.specs.Occupying.{Occupies, Tell, class_table}
 use Rattle.page_slots.proofs.Pages.{listed_page, of_list, placed_in}
-use Rattle.page_slots.proofs.Taken.{Gains, front_listed, gains_free, gains_open}
-use Rattle.page_slots.proofs.Vacated.{Loses, loses}
+use Rattle.page_slots.proofs.TablesAfterTake.{Gains, front_listed, gains_free, gains_open}
+use Rattle.page_slots.proofs.TablesAfterFree.{Loses, loses}
 use Rattle.page_slots.proofs.Occupied.{free_bare, occupied_renamed, stands_at}
-use Rattle.page_slots.proofs.Gained.{gained_address, gained_unused, occupied_gained}
-use Rattle.page_slots.proofs.Lost.{occupied_lost}
+use Rattle.page_slots.proofs.OccupiedAfterTake.{gained_address, gained_unused, occupied_gained}
+use Rattle.page_slots.proofs.OccupiedAfterFree.{occupied_lost}
 use Rattle.page_slots.proofs.PageNumbers.{lacks_room, not_full_pages_are}
 
 module _ (p : Paging) (ok : IsPaging p) (m : Held) (old new : Tables) (tell : Tell p old) (o : Occupies p m old) (kept : AreTables (class_table p) new) where

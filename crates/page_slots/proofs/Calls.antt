@@ -15,7 +15,7 @@ use Rattle.page_pool.specs.Pool.{Pool, TakesFront, is_free}
 use Rattle.page_slots.specs.Tables.{Tables, AreTables, IsOf, IsPageOf, Joins, slots_in, slots_on, tables, used_in}
 use Rattle.page_slots.specs.Taking.{FillsPage, TakesOnOpenPage, TakesOnFreePage}
 use Rattle.page_slots.proofs.Pages.{placed_in, listed_page, listed_class, of_list}
-use Rattle.page_slots.proofs.Taken.{front_listed, pool_front}
+use Rattle.page_slots.proofs.TablesAfterTake.{front_listed, pool_front}
 
 -- where there is a free slot the search for one doesn't fail, nor where there is a used one
 pub finds_free : (xs : List Bool) → used_in xs < length xs → None ≡ position (λ used. not used) xs → ⊥

@@ -10,7 +10,7 @@ use Rattle.page_pool.specs.Pool.{HasNoRepeats, is_free}
 use Rattle.page_model.proofs.Totals.{sum_zeros}
 use Rattle.page_slots.proofs.Listing.{along}
 use Rattle.page_slots.proofs.Pages.{other_free}
-use Rattle.page_slots.proofs.Taken.{free_head}
+use Rattle.page_slots.proofs.TablesAfterTake.{free_head}
 
 -- the test for a list, and what stands there
 pub contains_any : (q : ℕ) (xs : List ℕ) → Contains xs q → is_free xs q ≡ true

@@ -1,12 +1,12 @@
 pub mod Bits
 pub mod Listing
 pub mod Pages
-pub mod Taken
-pub mod Vacated
+pub mod TablesAfterTake
+pub mod TablesAfterFree
 pub mod Calls
 pub mod Occupied
-pub mod Gained
-pub mod Lost
+pub mod OccupiedAfterTake
+pub mod OccupiedAfterFree
 pub mod Counted
 pub mod PageNumbers
 pub mod Start

@@ -23,7 +23,7 @@ use Rattle.page_slots.specs.Tables.{AreTables, IsOf, tables}
 use Rattle.page_slots.specs.Occupying.{Occupies}
 use Rattle.page_slots.proofs.Listing.{along}
 use Rattle.page_slots.proofs.Pages.{other_free}
-use Rattle.page_slots.proofs.Taken.{free_head}
+use Rattle.page_slots.proofs.TablesAfterTake.{free_head}
 
 -- the numbers from a on are all in their range
 range_has : (a n q : ℕ) → a ≤ q → q < a + n → is_free (range_with_len a n) q ≡ true

@@ -10,7 +10,7 @@ use Rattle.run_model.specs.Sessions.{RunState}
 use Rattle.run_model.specs.Texts.{Reply, bad_line, led, said, text_of}
 use Rattle.run_model.proofs.Going.{begins_going, step_going, step_same}
 use Rattle.run_laws.specs.Sayable.{AreSayable, IsSayableItem, IsUnderWay}
-use Rattle.run_laws.proofs.Turns.{begins_there, turn_there}
+use Rattle.run_laws.proofs.CommandAnswers.{begins_there, turn_there}
 
 -- an item leaves a run that goes on
 pub item_keeps : (kind : Kind) (old : Option RunState) (item : Item) (reply : Reply) (new : Option RunState) → IsUnderWay kind old → ItemStep kind old item reply new → IsUnderWay kind new

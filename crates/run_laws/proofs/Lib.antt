@@ -2,8 +2,8 @@ pub mod Counting
 pub mod Images
 pub mod Room
 pub mod ByKind
-pub mod Heaps
-pub mod Turns
+pub mod HeapAnswers
+pub mod CommandAnswers
 pub mod Items
 pub mod GoingOn
 pub mod ReadBack

@@ -1,7 +1,7 @@
 -- What the stage of a script tells of its run.
 use Rattle.std.proofs.Common.{◌≡◌, ◌∙◌, Bool, true, false, Some, refl, ap, subst}
 use Rattle.std.proofs.lemmas.Bool.{false≢true}
-use Rattle.cf_session.specs.Applying.{MayBound}
+use Rattle.cf_session.specs.Apply.{MayBound}
 use Rattle.script_reader.specs.Items.{is_bound, stage_behind}
 use Rattle.script_reader.specs.declared.command.Command.{Command}
 use Rattle.script_reader.specs.declared.command.Command.TheVariants.{Malloc, Free, Write, Read, Place, Block, Peek, Walk, Frag, Steps, Bound, Resize, Slice, Task, Quota, Need, Admit}

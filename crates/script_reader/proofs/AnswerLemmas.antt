@@ -10,9 +10,9 @@ use Rattle.cf_base.specs.Settings.{Profile, profile_of}
 use Rattle.script_reader.specs.declared.command.Command.{Command as CommandType}
 use Rattle.script_reader.specs.Lines.{is_last_line, is_too_long, lines, tokens, without_return}
 use Rattle.script_reader.specs.Reading.{Advances, Answers, AnswersBad, Drops, HasNoLine, IsFirstLine, PassesOver, Reading, holds_line_feed, items_left}
-use Rattle.script_reader.specs.Said.{IsInRange, or_wrong, said_by, saying_of}
+use Rattle.script_reader.specs.ParsedLine.{IsInRange, or_wrong, said_by, saying_of}
 use Rattle.script_reader.specs.declared.next.Next.{Next}
-use Rattle.script_reader.specs.declared.order.Order.{Order}
+use Rattle.script_reader.specs.declared.parsed_line.ParsedLine.{ParsedLine}
 use Rattle.script_reader.specs.declared.next.Next.TheVariants.{Start, Command, NeedMore, Bad, End}
 use Rattle.script_reader.specs.declared.stage.Stage.{Stage}
 use Rattle.script_reader.specs.declared.stage.Stage.TheVariants.{Opening, Bounding, Running}
@@ -149,7 +149,7 @@ told_is_said line told = go (is_too_long line) refl told
     go false short told = rw short (tokens_told (tokens (without_return line)) told)
 
 -- what a command says
-pub command_said : (word : List ℕ) (args : List (List ℕ)) (order : Option Order) → is_comment word ≡ false → bytes_eq word (codes "heap") ≡ false
+pub command_said : (word : List ℕ) (args : List (List ℕ)) (order : Option ParsedLine) → is_comment word ≡ false → bytes_eq word (codes "heap") ≡ false
     → said_by order ≡ asked_or_wrong (command_of word args) → said_by order ≡ or_wrong (tokens_say (word ∷ args))
 command_said word args order told other is = rw (told, other) (is ∙ sym (command_says (command_of word args)))
 

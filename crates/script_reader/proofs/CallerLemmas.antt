@@ -1,7 +1,7 @@
 -- What a reader gives over calls of feed, finish and next_command.
 use Rattle.std.proofs.Common.{◌≡◌, ◌∙◌, ◌++◌, ℕ, Bool, true, false, List, [], ◌∷◌, Option, Some, None, refl, sym, ap, subst, append-nil, append_assoc}
 use Rattle.std.proofs.lemmas.Bool.{true≢false}
-use Rattle.script_reader.specs.Calls.{AreCalls, Call, answers, bytes_fed, feeds, finishes, is_finished, items_given}
+use Rattle.script_reader.specs.ReaderCalls.{AreCalls, Call, answers, bytes_fed, feeds, finishes, is_finished, items_given}
 use Rattle.script_reader.specs.Items.{AreFirstOf, Item, items}
 use Rattle.script_reader.specs.Reading.{Answers, AnswersBad, Reading, fed_with, fresh, items_left}
 use Rattle.script_reader.specs.declared.next.Next.{Next}

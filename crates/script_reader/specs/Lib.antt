@@ -2,7 +2,7 @@ pub mod Reading
 pub mod Items
 pub mod Commands
 pub mod Lines
-pub mod Calls
-pub mod Said
-pub mod Looking
-pub mod Inside
+pub mod ReaderCalls
+pub mod ParsedLine
+pub mod Look
+pub mod Layout

@@ -24,7 +24,7 @@ pub fn id_of(text: &[u8]) -> Option<u16>
 }
 
 /// How many bytes are read at once.
-pub fn length_of(text: &[u8]) -> Option<u16>
+pub fn read_length(text: &[u8]) -> Option<u16>
     ensures value { result ≡ grammar.length_in text.now }
     ensures within { IfSome result (λ n. n ≤ 4096) }
 {
@@ -56,7 +56,7 @@ pub fn is_done(text: &[u8]) -> bool
 }
 
 /// The one token that is there.
-pub fn one(text: &[u8]) -> Option<&[u8]>
+pub fn one_token(text: &[u8]) -> Option<&[u8]>
     ensures { grammar.one_of (tokens text.now) ≡ option_map (λ a. a.now) result }
 {
     let (first, rest) = split_token(text)?;
@@ -64,30 +64,30 @@ pub fn one(text: &[u8]) -> Option<&[u8]>
 }
 
 /// The two tokens that are there.
-pub fn two(text: &[u8]) -> Option<(&[u8], &[u8])>
+pub fn two_tokens(text: &[u8]) -> Option<(&[u8], &[u8])>
     ensures { grammar.two_of (tokens text.now) ≡ option_map (λ p. (p.0.now, p.1.now)) result }
 {
     let (first, rest) = split_token(text)?;
-    let second = one(rest)?;
+    let second = one_token(rest)?;
     Some((first, second))
 }
 
 /// The three tokens that are there.
-pub fn three(text: &[u8]) -> Option<(&[u8], &[u8], &[u8])>
+pub fn three_tokens(text: &[u8]) -> Option<(&[u8], &[u8], &[u8])>
     ensures { grammar.three_of (tokens text.now) ≡ option_map (λ p. (p.0.now, p.1.now, p.2.now)) result }
 {
     let (first, rest) = split_token(text)?;
-    let (second, third) = two(rest)?;
+    let (second, third) = two_tokens(rest)?;
     Some((first, second, third))
 }
 
 /// The four tokens that are there.
-pub fn four(text: &[u8]) -> Option<(&[u8], &[u8], &[u8], &[u8])>
+pub fn four_tokens(text: &[u8]) -> Option<(&[u8], &[u8], &[u8], &[u8])>
     ensures { grammar.four_of (tokens text.now)
         ≡ option_map (λ p. (p.0.now, p.1.now, p.2.now, p.3.now)) result }
 {
     let (first, rest) = split_token(text)?;
-    let (second, third, fourth) = three(rest)?;
+    let (second, third, fourth) = three_tokens(rest)?;
     Some((first, second, third, fourth))
 }
 
@@ -95,14 +95,14 @@ pub fn four(text: &[u8]) -> Option<(&[u8], &[u8], &[u8], &[u8])>
 pub fn one_id(args: &[u8]) -> Option<u16>
     ensures { result ≡ grammar.one_id (tokens args.now) }
 {
-    id_of(one(args)?)
+    id_of(one_token(args)?)
 }
 
 /// A number alone.
 pub fn one_number(args: &[u8]) -> Option<u32>
     ensures { result ≡ grammar.one_number (tokens args.now) }
 {
-    number_of(one(args)?)
+    number_of(one_token(args)?)
 }
 
 /// A task alone.
@@ -110,14 +110,14 @@ pub fn one_task(args: &[u8]) -> Option<u32>
     ensures value { result ≡ grammar.one_task (tokens args.now) }
     ensures within { IfSome result (λ n. n ≤ 15) }
 {
-    task_of(one(args)?)
+    task_of(one_token(args)?)
 }
 
 /// An id and a number.
 pub fn id_and_number(args: &[u8]) -> Option<(u16, u32)>
     ensures { result ≡ grammar.id_and_number (tokens args.now) }
 {
-    let (id, n) = two(args)?;
+    let (id, n) = two_tokens(args)?;
     let id = id_of(id)?;
     let n = number_of(n)?;
     Some((id, n))
@@ -128,7 +128,7 @@ pub fn number_and_bound(args: &[u8]) -> Option<(u32, u32)>
     ensures value { result ≡ grammar.number_and_bound (tokens args.now) }
     ensures within { IfSome result (λ p. (1 ≤ p.1) × (p.1 ≤ 64)) }
 {
-    let (n, k) = two(args)?;
+    let (n, k) = two_tokens(args)?;
     let n = number_of(n)?;
     let k = bound_of(k)?;
     Some((n, k))
@@ -139,7 +139,7 @@ pub fn task_and_number(args: &[u8]) -> Option<(u32, u32)>
     ensures value { result ≡ grammar.task_and_number (tokens args.now) }
     ensures within { IfSome result (λ p. p.0 ≤ 15) }
 {
-    let (task, n) = two(args)?;
+    let (task, n) = two_tokens(args)?;
     let task = task_of(task)?;
     let n = number_of(n)?;
     Some((task, n))
@@ -150,7 +150,7 @@ pub fn task_and_numbers(args: &[u8]) -> Option<(u32, u32, u32)>
     ensures value { result ≡ grammar.task_and_numbers (tokens args.now) }
     ensures within { IfSome result (λ p. p.0 ≤ 15) }
 {
-    let (task, m, n) = three(args)?;
+    let (task, m, n) = three_tokens(args)?;
     let task = task_of(task)?;
     let m = number_of(m)?;
     let n = number_of(n)?;
@@ -162,10 +162,10 @@ pub fn id_number_and_length(args: &[u8]) -> Option<(u16, u32, u16)>
     ensures value { result ≡ grammar.id_number_and_length (tokens args.now) }
     ensures within { IfSome result (λ p. p.2 ≤ 4096) }
 {
-    let (id, n, len) = three(args)?;
+    let (id, n, len) = three_tokens(args)?;
     let id = id_of(id)?;
     let n = number_of(n)?;
-    let len = length_of(len)?;
+    let len = read_length(len)?;
     Some((id, n, len))
 }
 
@@ -173,7 +173,7 @@ pub fn id_number_and_length(args: &[u8]) -> Option<(u16, u32, u16)>
 pub fn id_number_and_text(args: &[u8]) -> Option<(u16, u32, &[u8])>
     ensures { grammar.id_number_and_text (tokens args.now) ≡ option_map (λ p. (p.0, p.1, p.2.now)) result }
 {
-    let (id, n, text) = three(args)?;
+    let (id, n, text) = three_tokens(args)?;
     let id = id_of(id)?;
     let n = number_of(n)?;
     Some((id, n, text))

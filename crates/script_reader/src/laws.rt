@@ -1,6 +1,6 @@
 //! Laws of scripts, for those who prove what is done with their items.
 ghost use Rattle.std.specs.Prelude.{ℕ, List, Bool, false, ◌++◌};
-ghost use Rattle.script_reader.specs.Calls.{AreCalls, Call, bytes_fed, is_finished, items_given};
+ghost use Rattle.script_reader.specs.ReaderCalls.{AreCalls, Call, bytes_fed, is_finished, items_given};
 ghost use Rattle.script_reader.specs.Items.{AreFirstOf, items};
 ghost use Rattle.script_reader.specs.Reading.{Reading, fresh};
 

@@ -6,7 +6,7 @@ mod fields;
 mod laws;
 mod line;
 mod next;
-mod order;
+mod parsed_line;
 mod payload;
 mod reader;
 mod stage;

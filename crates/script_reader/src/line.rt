@@ -6,13 +6,13 @@ ghost use Rattle.script_reader.specs.Commands as grammar;
 ghost use Rattle.script_reader.specs.Commands.{asked_or_wrong};
 ghost use Rattle.script_reader.specs.declared.command.Command.{Command};
 ghost use Rattle.script_reader.specs.Lines.{is_too_long as too_long, tokens};
-ghost use Rattle.script_reader.specs.Said.{IsSound, or_wrong, said_by};
+ghost use Rattle.script_reader.specs.ParsedLine.{IsSound, or_wrong, said_by};
 
 use crate::fields::{
     four, id_and_number, id_number_and_length, id_number_and_text, is_done, number_and_bound,
     one_id, one_number, one_task, task_and_number, task_and_numbers,
 };
-use crate::order::Order;
+use crate::parsed_line::ParsedLine;
 use crate::tokens::{split_token, without_return};
 use cf_base::Settings;
 use cf_io::number_of;
@@ -21,172 +21,172 @@ use cf_io::number_of;
 pub const LONGEST: usize = 8_999;
 
 /// `m ID BYTES`.
-fn malloc(args: &[u8]) -> Option<Order>
+fn malloc(args: &[u8]) -> Option<ParsedLine>
     ensures value { said_by result ≡ asked_or_wrong (grammar.malloc_in (tokens args.now)) }
     ensures fits { IfSome result IsSound }
 {
     let (id, bytes) = id_and_number(args)?;
-    Some(Order::Malloc { id, bytes })
+    Some(ParsedLine::Malloc { id, bytes })
 }
 
 /// `f ID`.
-fn free(args: &[u8]) -> Option<Order>
+fn free(args: &[u8]) -> Option<ParsedLine>
     ensures value { said_by result ≡ asked_or_wrong (grammar.free_in (tokens args.now)) }
     ensures fits { IfSome result IsSound }
 {
     let id = one_id(args)?;
-    Some(Order::Free { id })
+    Some(ParsedLine::Free { id })
 }
 
 /// `w ID AT HEX`.
-fn write(args: &[u8]) -> Option<Order>
+fn write(args: &[u8]) -> Option<ParsedLine>
     ensures value { said_by result ≡ asked_or_wrong (grammar.write_in (tokens args.now)) }
     ensures fits { IfSome result IsSound }
 {
     let (id, at, digits) = id_number_and_text(args)?;
-    Some(Order::Write { id, at, digits })
+    Some(ParsedLine::Write { id, at, digits })
 }
 
 /// `r ID AT LEN`.
-fn read(args: &[u8]) -> Option<Order>
+fn read(args: &[u8]) -> Option<ParsedLine>
     ensures value { said_by result ≡ asked_or_wrong (grammar.read_in (tokens args.now)) }
     ensures fits { IfSome result IsSound }
 {
     let (id, at, len) = id_number_and_length(args)?;
-    Some(Order::Read { id, at, len })
+    Some(ParsedLine::Read { id, at, len })
 }
 
 /// `q ID`.
-fn place(args: &[u8]) -> Option<Order>
+fn place(args: &[u8]) -> Option<ParsedLine>
     ensures value { said_by result ≡ asked_or_wrong (grammar.place_in (tokens args.now)) }
     ensures fits { IfSome result IsSound }
 {
     let id = one_id(args)?;
-    Some(Order::Place { id })
+    Some(ParsedLine::Place { id })
 }
 
 /// `b ID I`.
-fn block(args: &[u8]) -> Option<Order>
+fn block(args: &[u8]) -> Option<ParsedLine>
     ensures value { said_by result ≡ asked_or_wrong (grammar.block_in (tokens args.now)) }
     ensures fits { IfSome result IsSound }
 {
     let (id, i) = id_and_number(args)?;
-    Some(Order::Block { id, i })
+    Some(ParsedLine::Block { id, i })
 }
 
 /// `p WORD`.
-fn peek(args: &[u8]) -> Option<Order>
+fn peek(args: &[u8]) -> Option<ParsedLine>
     ensures value { said_by result ≡ asked_or_wrong (grammar.peek_in (tokens args.now)) }
     ensures fits { IfSome result IsSound }
 {
     let word = one_number(args)?;
-    Some(Order::Peek { word })
+    Some(ParsedLine::Peek { word })
 }
 
 /// `k SLOTWORDS K`.
-fn bound(args: &[u8]) -> Option<Order>
+fn bound(args: &[u8]) -> Option<ParsedLine>
     ensures value { said_by result ≡ asked_or_wrong (grammar.bound_command_in (tokens args.now)) }
     ensures fits { IfSome result IsSound }
 {
     let (slot_words, k) = number_and_bound(args)?;
-    Some(Order::Bound { slot_words, k })
+    Some(ParsedLine::Bound { slot_words, k })
 }
 
 /// `z ID BYTES`.
-fn resize(args: &[u8]) -> Option<Order>
+fn resize(args: &[u8]) -> Option<ParsedLine>
     ensures value { said_by result ≡ asked_or_wrong (grammar.resize_in (tokens args.now)) }
     ensures fits { IfSome result IsSound }
 {
     let (id, bytes) = id_and_number(args)?;
-    Some(Order::Resize { id, bytes })
+    Some(ParsedLine::Resize { id, bytes })
 }
 
 /// `t TASK`.
-fn task(args: &[u8]) -> Option<Order>
+fn task(args: &[u8]) -> Option<ParsedLine>
     ensures value { said_by result ≡ asked_or_wrong (grammar.task_command_in (tokens args.now)) }
     ensures fits { IfSome result IsSound }
 {
     let task = one_task(args)?;
-    Some(Order::Task { task })
+    Some(ParsedLine::Task { task })
 }
 
 /// `quota TASK PAGES`.
-fn quota(args: &[u8]) -> Option<Order>
+fn quota(args: &[u8]) -> Option<ParsedLine>
     ensures value { said_by result ≡ asked_or_wrong (grammar.quota_in (tokens args.now)) }
     ensures fits { IfSome result IsSound }
 {
     let (task, pages) = task_and_number(args)?;
-    Some(Order::Quota { task, pages })
+    Some(ParsedLine::Quota { task, pages })
 }
 
 /// `need TASK BYTES COUNT`.
-fn need(args: &[u8]) -> Option<Order>
+fn need(args: &[u8]) -> Option<ParsedLine>
     ensures value { said_by result ≡ asked_or_wrong (grammar.need_in (tokens args.now)) }
     ensures fits { IfSome result IsSound }
 {
     let (task, bytes, count) = task_and_numbers(args)?;
-    Some(Order::Need { task, bytes, count })
+    Some(ParsedLine::Need { task, bytes, count })
 }
 
 /// `admit TASK`.
-fn admit(args: &[u8]) -> Option<Order>
+fn admit(args: &[u8]) -> Option<ParsedLine>
     ensures value { said_by result ≡ asked_or_wrong (grammar.admit_in (tokens args.now)) }
     ensures fits { IfSome result IsSound }
 {
     let task = one_task(args)?;
-    Some(Order::Admit { task })
+    Some(ParsedLine::Admit { task })
 }
 
 /// `s`.
-fn slice(args: &[u8]) -> Option<Order>
+fn slice(args: &[u8]) -> Option<ParsedLine>
     ensures value { said_by result ≡ asked_or_wrong (grammar.alone_in Command.Slice (tokens args.now)) }
     ensures fits { IfSome result IsSound }
 {
     if is_done(args) {
-        Some(Order::Slice)
+        Some(ParsedLine::Slice)
     } else {
         None
     }
 }
 
 /// `walk`.
-fn walk(args: &[u8]) -> Option<Order>
+fn walk(args: &[u8]) -> Option<ParsedLine>
     ensures value { said_by result ≡ asked_or_wrong (grammar.alone_in Command.Walk (tokens args.now)) }
     ensures fits { IfSome result IsSound }
 {
     if is_done(args) {
-        Some(Order::Walk)
+        Some(ParsedLine::Walk)
     } else {
         None
     }
 }
 
 /// `frag`.
-fn frag(args: &[u8]) -> Option<Order>
+fn frag(args: &[u8]) -> Option<ParsedLine>
     ensures value { said_by result ≡ asked_or_wrong (grammar.alone_in Command.Frag (tokens args.now)) }
     ensures fits { IfSome result IsSound }
 {
     if is_done(args) {
-        Some(Order::Frag)
+        Some(ParsedLine::Frag)
     } else {
         None
     }
 }
 
 /// `steps`.
-fn steps(args: &[u8]) -> Option<Order>
+fn steps(args: &[u8]) -> Option<ParsedLine>
     ensures value { said_by result ≡ asked_or_wrong (grammar.alone_in Command.Steps (tokens args.now)) }
     ensures fits { IfSome result IsSound }
 {
     if is_done(args) {
-        Some(Order::Steps)
+        Some(ParsedLine::Steps)
     } else {
         None
     }
 }
 
 /// The commands whose word is a letter.
-fn letter_command(letter: u8, args: &[u8]) -> Option<Order>
+fn letter_command(letter: u8, args: &[u8]) -> Option<ParsedLine>
     ensures value { said_by result ≡ asked_or_wrong (grammar.letter_command letter (tokens args.now)) }
     ensures fits { IfSome result IsSound }
 {
@@ -207,7 +207,7 @@ fn letter_command(letter: u8, args: &[u8]) -> Option<Order>
 }
 
 /// The commands whose word is longer.
-fn word_command<'a>(word: &[u8], args: &'a [u8]) -> Option<Order<'a>>
+fn word_command<'a>(word: &[u8], args: &'a [u8]) -> Option<ParsedLine<'a>>
     ensures value { said_by result ≡ asked_or_wrong (grammar.word_command word.now (tokens args.now)) }
     ensures fits { IfSome result IsSound }
 {
@@ -229,7 +229,7 @@ fn word_command<'a>(word: &[u8], args: &'a [u8]) -> Option<Order<'a>>
 }
 
 /// The command of a word and what stands behind it.
-fn command_of<'a>(word: &[u8], args: &'a [u8]) -> Option<Order<'a>>
+fn command_of<'a>(word: &[u8], args: &'a [u8]) -> Option<ParsedLine<'a>>
     ensures value { said_by result ≡ asked_or_wrong (grammar.command_of word.now (tokens args.now)) }
     ensures fits { IfSome result IsSound }
 {
@@ -244,7 +244,7 @@ fn command_of<'a>(word: &[u8], args: &'a [u8]) -> Option<Order<'a>>
 fn settings(args: &[u8]) -> Option<Settings>
     ensures { option_map (λ s. profile_of s) result ≡ grammar.settings_in (tokens args.now) }
 {
-    let (pages, page_bytes, k, proxies) = four(args)?;
+    let (pages, page_bytes, k, proxies) = four_tokens(args)?;
     let pages = number_of(pages)?;
     let page_bytes = number_of(page_bytes)?;
     let k = number_of(k)?;
@@ -291,7 +291,7 @@ pub fn is_idle(text: &[u8]) -> bool
 }
 
 /// What a line orders, without its line feed; None where it is blank, a comment, or not in the grammar.
-pub fn read_line(text: &[u8]) -> Option<Order>
+pub fn read_line(text: &[u8]) -> Option<ParsedLine>
     ensures value { said_by result ≡ or_wrong (grammar.line_says text.now) }
     ensures fits { IfSome result IsSound }
 {
@@ -299,13 +299,13 @@ pub fn read_line(text: &[u8]) -> Option<Order>
         return None;
     }
     match split_token(without_return(text)) {
-        Some((word, args)) => read_tokens(word, args),
+        Some((word, args)) => parse_line(word, args),
         None => None,
     }
 }
 
 /// Reads a line by its first token, and what follows it.
-fn read_tokens<'a>(word: &[u8], args: &'a [u8]) -> Option<Order<'a>>
+fn parse_line<'a>(word: &[u8], args: &'a [u8]) -> Option<ParsedLine<'a>>
     requires { 1 ≤ length word.now }
     ensures value { said_by result ≡ or_wrong (grammar.tokens_say (word.now ∷ tokens args.now)) }
     ensures fits { IfSome result IsSound }
@@ -314,7 +314,7 @@ fn read_tokens<'a>(word: &[u8], args: &'a [u8]) -> Option<Order<'a>>
         return None;
     }
     if is_heap(word) {
-        return Some(Order::Start(settings(args)?));
+        return Some(ParsedLine::Start(settings(args)?));
     }
     command_of(word, args)
 }

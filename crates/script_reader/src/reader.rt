@@ -2,12 +2,12 @@
 ghost use Rattle.std.specs.Prelude.{◌≡◌, ◌≤◌, ◌==◌, false, length, take, drop, position, MatchOption, None, true};
 ghost use Rattle.script_reader.specs.Commands.{is_idle};
 ghost use Rattle.script_reader.specs.Lines.{is_last_line};
-ghost use Rattle.script_reader.specs.Looking.{Looks};
+ghost use Rattle.script_reader.specs.Look.{Looks};
 ghost use Rattle.script_reader.specs.Reading.{Answers, HasNoLine, IsFirstLine, fed_with, fresh, holds_line_feed, taken};
 
 use crate::line::{LONGEST, is_idle as is_idle_line, read_line};
 use crate::next::Next;
-use crate::order::answer_to;
+use crate::parsed_line::into_next;
 use crate::stage::{Stage, stage_after};
 use crate::tokens::line_feed_at;
 use arrayvec::ArrayVec;
@@ -37,7 +37,7 @@ impl Model for Reader {
 
     ghost Value = { Reading };
 
-    ghost use Rattle.script_reader.specs.Inside.{IsReader, reading_of};
+    ghost use Rattle.script_reader.specs.Layout.{IsReader, reading_of};
 
     ghost view = { reading_of };
 
@@ -99,16 +99,16 @@ impl Reader {
         }
         'lines: loop {
             match self.look() {
-                Look::Idle => {}
-                Look::Line(cut) => return self.answer(cut),
-                Look::Waiting => return Next::NeedMore,
-                Look::Ended => return Next::End,
+                Looked::Idle => {}
+                Looked::Line(cut) => return self.answer(cut),
+                Looked::Waiting => return Next::NeedMore,
+                Looked::Ended => return Next::End,
             }
         }
     }
 
     /// Looks at the first line, and passes it where it is blank or a comment.
-    fn look(&mut self) -> Look
+    fn look(&mut self) -> Looked
         requires { self.old.stopped ≡ None }
         ensures { Looks self.old result self.new }
     {
@@ -116,17 +116,17 @@ impl Reader {
         let Some(cut) = first_line(kept, self.searched, self.ended) else {
             self.searched = kept.len();
             if self.ended {
-                return Look::Ended;
+                return Looked::Ended;
             }
-            return Look::Waiting;
+            return Looked::Waiting;
         };
         if is_idle_line(&kept[..cut.len]) {
             self.start += cut.next;
             self.searched = 0;
             self.passed += 1;
-            return Look::Idle;
+            return Looked::Idle;
         }
-        Look::Line(cut)
+        Looked::Line(cut)
     }
 
     /// Answers the first line.
@@ -138,7 +138,7 @@ impl Reader {
     {
         let kept = &self.buffer.as_slice()[self.start..];
         let line = self.passed + 1;
-        let next = answer_to(read_line(&kept[..cut.len]), line);
+        let next = into_next(read_line(&kept[..cut.len]), line);
         self.start += cut.next;
         self.searched = 0;
         self.passed = line;
@@ -174,7 +174,7 @@ struct Cut {
 
 /// What a look at the first line finds.
 #[derive(Clone, Copy)]
-enum Look {
+enum Looked {
     /// It was blank or a comment, and is passed.
     Idle,
     /// It says something.

@@ -1,7 +1,7 @@
 //! How far a script has come.
 ghost use Rattle.std.specs.Prelude.{◌≡◌};
 ghost use Rattle.script_reader.specs.Items as place;
-ghost use Rattle.script_reader.specs.Said.{saying_of};
+ghost use Rattle.script_reader.specs.ParsedLine.{saying_of};
 
 use crate::command::Command;
 use crate::next::Next;

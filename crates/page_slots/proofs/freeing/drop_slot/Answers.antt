@@ -2,7 +2,7 @@
 use Rattle.std.proofs.Common.{subst, sym}
 use Rattle.page_slots.specs.Tables.{IsOf, tables}
 use Rattle.page_slots.proofs.Calls.{of_class, of_lists_class, of_taken, of_listed}
-use Rattle.page_slots.proofs.Vacated.{loses}
+use Rattle.page_slots.proofs.TablesAfterFree.{loses}
 use Rattle.page_slots.proofs.freeing.drop_slot.Goals as goal
 
 pub slot_of-slot-requires-clause-class : goal.slot_of-slot-requires-clause-class

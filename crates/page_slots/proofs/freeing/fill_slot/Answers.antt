@@ -1,6 +1,6 @@
 -- The front page of those that are not full has a used slot.
 use Rattle.page_slots.proofs.Calls.{finds_used, front_inside, front_page, front_reads, front_slot, front_small, front_some_used, front_taken}
-use Rattle.page_slots.proofs.Vacated.{loses}
+use Rattle.page_slots.proofs.TablesAfterFree.{loses}
 use Rattle.page_slots.proofs.freeing.fill_slot.Goals as goal
 
 pub bounds-maps-page : goal.bounds-maps-page

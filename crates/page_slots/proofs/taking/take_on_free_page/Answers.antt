@@ -1,6 +1,6 @@
 -- The front page of the pool is in no list.
 use Rattle.page_slots.proofs.Calls.{pool_inside, pool_small, pool_listable, pool_unlisted, took_free}
-use Rattle.page_slots.proofs.Taken.{gains_free}
+use Rattle.page_slots.proofs.TablesAfterTake.{gains_free}
 use Rattle.page_slots.proofs.taking.take_on_free_page.Goals as goal
 
 pub bounds-maps-page : goal.bounds-maps-page

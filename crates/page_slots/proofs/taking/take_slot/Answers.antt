@@ -3,7 +3,7 @@ use Rattle.std.proofs.Common.{inl}
 use Rattle.class_lists.specs.PageLists.{pages_in}
 use Rattle.class_lists.specs.declared.Which.TheVariants.{NotFull}
 use Rattle.page_slots.proofs.Calls.{front_none, front_there, front_inside, front_small, front_room, front_slot, took_open}
-use Rattle.page_slots.proofs.Taken.{gains_open}
+use Rattle.page_slots.proofs.TablesAfterTake.{gains_open}
 use Rattle.page_slots.proofs.taking.take_slot.Goals as goal
 
 pub bounds-maps-page : goal.bounds-maps-page

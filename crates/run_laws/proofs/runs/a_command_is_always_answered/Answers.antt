@@ -1,4 +1,4 @@
-use Rattle.run_laws.proofs.Turns.{begins_there, turn_there}
+use Rattle.run_laws.proofs.CommandAnswers.{begins_there, turn_there}
 use Rattle.run_laws.proofs.runs.a_command_is_always_answered.Goals as goal
 
 pub returns-clause-begins : goal.returns-clause-begins

@@ -1,6 +1,6 @@
 use Rattle.std.proofs.Common.{◌∙◌, ap, drop, drop-drop, sym}
 use Rattle.std.proofs.lemmas.List.{take_rest}
-use Rattle.script_reader.specs.Inside.{reading_of}
+use Rattle.script_reader.specs.Layout.{reading_of}
 use Rattle.script_reader.proofs.AnswerLemmas.{step_idle, step_waits}
 use Rattle.script_reader.proofs.reader.Reader.look.Goals as goal
 

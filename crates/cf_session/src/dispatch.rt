@@ -2,8 +2,8 @@
 ghost use Rattle.std.specs.Prelude.{◌≡◌, ◌^◌, ◌<◌, ◌≤◌, OnErr, length};
 ghost use Rattle.cf_io.specs.Feeds.{Rose};
 ghost use Rattle.cf_io.specs.Lines.{line_room};
-ghost use Rattle.cf_session.specs.Applying.{Applies, MayBound, moment_at, run_at};
-ghost use Rattle.cf_session.specs.Speaking.{IsOneLine, IsReported, Looks, Says, lines_at};
+ghost use Rattle.cf_session.specs.Apply.{Applies, MayBound, moment_at, run_at};
+ghost use Rattle.cf_session.specs.OneLine.{IsOneLine, IsReported, Looks, Says, lines_at};
 ghost use Rattle.script_reader.specs.Commands.{IsWellFormed};
 ghost use Rattle.run_model.specs.Sessions.{IsGoing};
 
@@ -45,7 +45,7 @@ pub(crate) fn answer<H: Manager, K: Sink>(
         Command::Frag => reported(frag_line(heap, lead, line, out, steps)),
         _ => {
             begin_line(line, lead);
-            speak(records, heap, c, line, steps);
+            one_line_reply(records, heap, c, line, steps);
             let outcome = Outcome::of(&line.bytes()[lead.len()..]);
             match put_line(line, out) {
                 Ok(()) => Ok(outcome),
@@ -66,7 +66,7 @@ fn reported(written: Result<(), Failed>) -> Result<Outcome, Failed>
 }
 
 /// Does a command whose reply is one line, and writes its text on the line.
-fn speak<H: Manager>(
+fn one_line_reply<H: Manager>(
     records: &mut Records,
     heap: &mut H,
     c: &Command,

@@ -23,7 +23,7 @@ use Rattle.run_model.specs.Texts.{Reply, said}
 use Rattle.run_model.proofs.Bounded.{step_meets_bounds}
 use Rattle.run_model.proofs.Going.{costs_nothing}
 use Rattle.run_laws.specs.Sayable.{IsSayable}
-use Rattle.run_laws.proofs.Heaps.{bound_done, free_done, malloc_done, resize_done, write_done}
+use Rattle.run_laws.proofs.HeapAnswers.{bound_done, free_done, malloc_done, resize_done, write_done}
 
 -- a reply, and the state after it
 record HasAnswer (R : Reply → RunState → Type 0) : Type 0 where

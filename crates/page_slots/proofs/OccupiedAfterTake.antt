@@ -17,7 +17,7 @@ use Rattle.page_slots.specs.Tables.{Tables, IsOf, IsUsed, slot_at, slots_in, slo
 use Rattle.page_slots.specs.Occupying.{Occupies, Tell, class_table}
 use Rattle.page_slots.proofs.Bits.{set_here, set_there, none_used, not_both}
 use Rattle.page_slots.proofs.Pages.{same_of, was_of, one_class}
-use Rattle.page_slots.proofs.Taken.{Gains}
+use Rattle.page_slots.proofs.TablesAfterTake.{Gains}
 use Rattle.page_slots.proofs.Occupied.{used_along, free_of_none, none_counts}
 
 module _ (p : Paging) (ok : IsPaging p) (m : Held) (old new : Tables) (tell : Tell p old) (o : Occupies p m old) (c page slot : ℕ) (g : Gains (class_table p) old new c page slot) where

@@ -14,7 +14,7 @@ use Rattle.page_slots.specs.Tables.{Tables, AreTables, IsOf, IsPlaced, IsPageOf,
 use Rattle.page_slots.specs.Freeing.{Vacates}
 use Rattle.page_slots.proofs.Listing.{along, joined_here, joined_comes, joined_stays, joined_pages, joined_classes, left_comes, left_stays, left_pages, left_classes, left_unlisted}
 use Rattle.page_slots.proofs.Pages.{IsSame, other_free, map_here, map_there, maps_long, placed_in, listed_page, list_of, tables_after}
-use Rattle.page_slots.proofs.Taken.{free_head}
+use Rattle.page_slots.proofs.TablesAfterTake.{free_head}
 
 -- What a slot that becomes free changes: its page, on which the other slots stay; it is of the class still, or free and empty.
 pub record Loses (k : ClassTable) (old new : Tables) (c page slot : ℕ) : Type 0 where

@@ -6,11 +6,11 @@ use Rattle.script_reader.specs.declared.command.Command.{Command}
 use Rattle.script_reader.specs.declared.command.Command.TheVariants as command
 use Rattle.script_reader.specs.declared.next.Next.{Next}
 use Rattle.script_reader.specs.declared.next.Next.TheVariants as next
-use Rattle.script_reader.specs.declared.order.Order.{Order}
-use Rattle.script_reader.specs.declared.order.Order.TheVariants as order
+use Rattle.script_reader.specs.declared.parsed_line.ParsedLine.{ParsedLine}
+use Rattle.script_reader.specs.declared.parsed_line.ParsedLine.TheVariants as order
 
 -- the command that is ordered; none where digits spell no bytes, or where the heap is to be opened
-abbrev pub asked_in : Order → Option Command
+abbrev pub asked_in : ParsedLine → Option Command
 asked_in (order.Start settings) = None
 asked_in (order.Malloc id bytes) = Some (command.Malloc id bytes)
 asked_in (order.Free id) = Some (command.Free id)
@@ -33,17 +33,17 @@ asked_in (order.Need task bytes count) = Some (command.Need task bytes count)
 asked_in (order.Admit task) = Some (command.Admit task)
 
 -- what the order says
-abbrev pub said_in : Order → Saying
+abbrev pub said_in : ParsedLine → Saying
 said_in (order.Start settings) = opens (profile_of settings)
 said_in order = asked_or_wrong (asked_in order)
 
 -- what an order says, where there is one
-abbrev pub said_by : Option Order → Saying
+abbrev pub said_by : Option ParsedLine → Saying
 said_by None = wrong
 said_by (Some order) = said_in order
 
 -- the numbers of the order are in range
-abbrev pub IsSound : Order → Type 0
+abbrev pub IsSound : ParsedLine → Type 0
 IsSound (order.Read id at len) = len ≤ 4096
 IsSound (order.Bound slot_words k) = (1 ≤ k) × (k ≤ 64)
 IsSound (order.Task task) = task ≤ 15

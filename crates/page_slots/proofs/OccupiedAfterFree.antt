@@ -14,7 +14,7 @@ use Rattle.page_slots.specs.Tables.{Tables, IsOf, IsUsed, slot_at, slots_on, use
 use Rattle.page_slots.specs.Occupying.{Occupies, Tell, class_table}
 use Rattle.page_slots.proofs.Bits.{set_here, set_there, used_some, not_both}
 use Rattle.page_slots.proofs.Pages.{same_of, was_of, one_class}
-use Rattle.page_slots.proofs.Vacated.{Loses}
+use Rattle.page_slots.proofs.TablesAfterFree.{Loses}
 use Rattle.page_slots.proofs.Occupied.{used_along, free_of_none, stands_at, place_is}
 
 module _ (p : Paging) (ok : IsPaging p) (m : Held) (s : IsSound p m) (old new : Tables) (tell : Tell p old) (o : Occupies p m old) (c page slot : ℕ) (l : Loses (class_table p) old new c page slot)
