@@ -26,9 +26,9 @@ abbrev pub sink_faults : {T : Type 0} → StdSink T → ℕ
 sink_faults s = s.faults
 
 -- what the reader has left, where it is known, lost just what was given
-abbrev pub Reads : {T : Type 0} → (T → Option (List ℕ)) → StdSource T → Result ℕ Failed → StdSource T → List ℕ → Type 0
-Reads remaining old answer new buf = ReadConsumes (remaining (reader_of old)) (remaining (reader_of new)) answer buf
+abbrev pub ReadsFrom : {T : Type 0} → (T → Option (List ℕ)) → StdSource T → Result ℕ Failed → StdSource T → List ℕ → Type 0
+ReadsFrom remaining old answer new buf = ReadConsumes (remaining (reader_of old)) (remaining (reader_of new)) answer buf
 
 -- what the writer holds, where it is known, grew by this piece
-abbrev pub Writes : {T : Type 0} → (T → Option (List ℕ)) → StdSink T → List ℕ → StdSink T → Type 0
-Writes contents old piece new = Appends (contents (writer_of old)) (contents (writer_of new)) piece
+abbrev pub WritesTo : {T : Type 0} → (T → Option (List ℕ)) → StdSink T → List ℕ → StdSink T → Type 0
+WritesTo contents old piece new = Appends (contents (writer_of old)) (contents (writer_of new)) piece

@@ -1,8 +1,8 @@
 //! Sources and sinks over std's readers and writers.
 ghost use Rattle.std.specs.Prelude.{◌≡◌, ◌<◌, ◌≤◌, None, length, take, IfOk, IfSome, OnOk, OnErr};
 ghost use Rattle.std.specs.Io.KnownBytes.{Appends};
-ghost use Rattle.cf_io.specs.Devices.{Reads, given_by, reader_of, source_faults};
-ghost use Rattle.cf_io.specs.Devices.{Writes, sink_faults, writer_of};
+ghost use Rattle.cf_io.specs.Devices.{ReadsFrom, given_by, reader_of, source_faults};
+ghost use Rattle.cf_io.specs.Devices.{WritesTo, sink_faults, writer_of};
 ghost use Rattle.cf_io.specs.Schedules.{one_more};
 ghost use Rattle.cf_io.specs.Sources.{more_given};
 
@@ -43,7 +43,7 @@ impl<T: Read> Source for StdSource<T> {
     ghost faults = { source_faults };
 
     fn take(&mut self, buf: &mut [u8]) -> Result<usize, Failed>
-        ensures bytes { Reads T.remaining self.old result self.new buf.new }
+        ensures bytes { ReadsFrom T.remaining self.old result self.new buf.new }
         ensures within { IfOk result (λ n. n ≤ length buf.new) }
         ensures given { IfOk result (λ n. given_by self.new ≡ more_given (given_by self.old) n) }
         ensures grows { source_faults self.old ≤ source_faults self.new }
@@ -82,7 +82,7 @@ impl<T> StdSink<T> {
     }
 }
 
-/// Writes once, then flushes. None where either fails, or nothing of the bytes was taken.
+/// WritesTo once, then flushes. None where either fails, or nothing of the bytes was taken.
 fn write_and_flush<T: Write>(writer: &mut T, bytes: &[u8]) -> Option<usize>
     ensures within { IfSome result (λ n. n ≤ length bytes.now) }
     ensures some { 0 < length bytes.now → IfSome result (λ n. 0 < n) }
@@ -103,7 +103,7 @@ impl<T: Write> Sink for StdSink<T> {
     ghost faults = { sink_faults };
 
     fn put(&mut self, bytes: &[u8]) -> Result<usize, Failed>
-        ensures bytes { IfOk result (λ n. Writes T.contents self.old (take n bytes.now) self.new) }
+        ensures bytes { IfOk result (λ n. WritesTo T.contents self.old (take n bytes.now) self.new) }
         ensures within { IfOk result (λ n. n ≤ length bytes.now) }
         ensures some { 0 < length bytes.now → IfOk result (λ n. 0 < n) }
         ensures grows { sink_faults self.old ≤ sink_faults self.new }

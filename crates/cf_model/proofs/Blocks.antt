@@ -12,13 +12,13 @@ use Rattle.page_model.specs.Paging.{IsPaging, paging_of}
 use Rattle.page_model.specs.Arrangement.{IsSound}
 use Rattle.page_model.specs.Frames.{AreBlocks, IsPhysical, block_of, frames_after}
 use Rattle.page_model.specs.Image.{IsSlotImage, object_word, slot_for}
-use Rattle.page_model.specs.Steps.{Request, Outcome, Moves, IsFreeStep as IsFreedBy}
+use Rattle.page_model.specs.Steps.{Request, Leaves, Moves, RemovesObject as IsFreedBy}
 use Rattle.page_model.proofs.BlockSteps.{free_blocks, resize_blocks}
 use Rattle.page_model.proofs.Frames.{physical_word}
 use Rattle.page_model.proofs.Sizes.{in_blocks}
 use Rattle.cf_model.specs.State.{HeapState, paging_in, layout_of}
 use Rattle.cf_model.specs.Rules.{KeepsRules, KeepsRulesOf}
-use Rattle.cf_model.specs.Steps.{FreesObject, ResizesObject, BlocksStay, MovesIn, frames_left, outcome_of, number_of}
+use Rattle.cf_model.specs.Steps.{FreesObject, ResizesObject, BlocksStay, MovesIn, frames_left, leaves_of, number_of}
 
 -- what the non-moving manager keeps
 record Framed (s : HeapState) : Type 0 where
@@ -72,7 +72,7 @@ blocks_after_free old h freed new is before after f =
     let o = framed old is before in
     let n = framed new (ap (λ (s : HeapState). s.kind) f.whole ∙ is) after in
     let same : paging_in new ≡ paging_in old = ap paging_in f.whole in
-    let out : Outcome = outcome_of old h f.object moved in
+    let out : Leaves = leaves_of old h f.object moved in
     let moves : Moves (paging_in old) old.held f.object moved = subst (λ k. MovesIn k old f.object moved) is f.moves in
     let step : IsFreedBy (paging_in old) old.held h out = record { freed = f.object; found = f.found; moves = moves; left = refl } in
     let frames : new.frames ≡ frames_after (paging_in old) old.held out old.frames = ap (λ (s : HeapState). s.frames) f.whole ∙ ap (λ k. frames_left k old out) is in
@@ -91,7 +91,7 @@ blocks_after_resize old asked done new is before after f =
     let o = framed old is before in
     let n = framed new (ap (λ (s : HeapState). s.kind) f.whole ∙ is) after in
     let same : paging_in new ≡ paging_in old = ap paging_in f.whole in
-    let out : Outcome = record { held = new.held; moved = number_of done.moved } in
+    let out : Leaves = record { held = new.held; moved = number_of done.moved } in
     let frames : new.frames ≡ frames_after (paging_in old) old.held out old.frames = ap (λ (s : HeapState). s.frames) f.whole ∙ ap (λ k. frames_left k old out) is in
     let stay : (q : ℕ) (x y : Placed) → q ≢ asked.number → get old.held q ≡ Some x → get new.held q ≡ Some y → (i : ℕ) → i < slot_for (paging_in old) (length x.bytes) / 4 → block_of new.frames y.place i ≡ block_of old.frames x.place i
     = λ q x y ne e g i lt. rw frames (resize_blocks (paging_in old) old.held old.frames o.paging o.blocks o.sound o.count asked out f.step q x y ne e g i lt) in

@@ -56,15 +56,15 @@ abbrev pub block_code : Coded Block
 block_code = code_by (ℕ × (ℕ × Option ℕ)) (coded× coded_ℕ (coded× coded_ℕ (coded_option coded_ℕ)))
     (λ b. (b.address, (b.size, b.owner))) (λ q. record { address = q.0; size = q.1.0; owner = q.1.1 }) (λ _. refl)
 
-abbrev pub Parts : Type 0
-Parts = Kind × (Bool × (Profile × (List ℕ × (Held × (List ℕ × (List ℕ × (List Block × ℕ)))))))
+abbrev pub StateParts : Type 0
+StateParts = Kind × (Bool × (Profile × (List ℕ × (Held × (List ℕ × (List ℕ × (List Block × ℕ)))))))
 
-abbrev pub parts_code : Coded Parts
+abbrev pub parts_code : Coded StateParts
 parts_code = coded× kind.the_row.coded (coded× coded_bool (coded× profile_code (coded× (coded_list coded_ℕ) (coded× (map.code coded_ℕ placed_code)
     (coded× (coded_list coded_ℕ) (coded× (coded_list coded_ℕ) (coded× (coded_list block_code) coded_ℕ)))))))
 
 abbrev pub state_code : Coded HeapState
-state_code = code_by Parts parts_code
+state_code = code_by StateParts parts_code
     (λ s. (s.kind, (s.is_open, (s.profile, (s.bounds, (s.held, (s.words, (s.frames, (s.tiling, s.cost)))))))))
     (λ q. record { kind = q.0; is_open = q.1.0; profile = q.1.1.0; bounds = q.1.1.1.0; held = q.1.1.1.1.0; words = q.1.1.1.1.1.0; frames = q.1.1.1.1.1.1.0; tiling = q.1.1.1.1.1.1.1.0; cost = q.1.1.1.1.1.1.1.1 })
     (λ _. refl)

@@ -22,7 +22,7 @@ use Rattle.page_model.specs.Arrangement.{class_at, LacksRoom}
 use Rattle.page_model.specs.Bytes.{written}
 use Rattle.page_model.specs.Frames.{first_frames, frames_after, block_of, IsPhysical}
 use Rattle.page_model.specs.Image.{IsOutside, slot_for}
-use Rattle.page_model.specs.Steps.{Request, Outcome, IsFreePlace, zeros_at, Moves, without, resized, IsResizeStep as IsResizedBy}
+use Rattle.page_model.specs.Steps.{Request, Leaves, IsFreePlace, zeros_at, Moves, without, resized, RefitsObject as IsResizedBy}
 use Rattle.block_model.specs.Buckets.{tlsf, half_fit}
 use Rattle.block_model.specs.Tiling.{Block, LacksBlock, Carves, released, one_free_block, block_need, size_at}
 use Rattle.cf_model.specs.State.{HeapState, paging_in, layout_of, region_words}
@@ -144,7 +144,7 @@ MovesIn Tlsf s x moved = moved ≡ None
 MovesIn HalfFit s x moved = moved ≡ None
 
 -- the block table after a step; only an object that moves exchanges blocks
-abbrev pub frames_left : Kind → HeapState → Outcome → List ℕ
+abbrev pub frames_left : Kind → HeapState → Leaves → List ℕ
 frames_left Moving s after = s.frames
 frames_left NonMoving s after = frames_after (paging_in s) s.held after s.frames
 frames_left Tlsf s after = s.frames
@@ -162,8 +162,8 @@ abbrev pub number_of : Option Handle → Option ℕ
 number_of moved = option_map (λ (h : Handle). h.0) moved
 
 -- what a free of the object leaves
-abbrev pub outcome_of : HeapState → ℕ → Placed → Option ℕ → Outcome
-outcome_of old h x moved = record { held = without old.held h x.place moved; moved = moved }
+abbrev pub leaves_of : HeapState → ℕ → Placed → Option ℕ → Leaves
+leaves_of old h x moved = record { held = without old.held h x.place moved; moved = moved }
 
 -- An object goes, and the one that moved has its place. All others keep their bytes.
 pub record FreesObject (old : HeapState) (h : ℕ) (freed : Freed) (new : HeapState) : Type 0 where
@@ -172,7 +172,7 @@ pub record FreesObject (old : HeapState) (h : ℕ) (freed : Freed) (new : HeapSt
   pub slot : freed.slot_words ≡ slot_in old.kind old object
   pub moves : MovesIn old.kind old object (number_of freed.moved)
   pub left : objects new.held ≡ remove (objects old.held) h
-  pub whole : new ≡ record old { held = without old.held h object.place (number_of freed.moved); words = new.words; frames = frames_left old.kind old (outcome_of old h object (number_of freed.moved)); tiling = tiling_left old.kind old object.place; cost = new.cost }
+  pub whole : new ≡ record old { held = without old.held h object.place (number_of freed.moved); words = new.words; frames = frames_left old.kind old (leaves_of old h object (number_of freed.moved)); tiling = tiling_left old.kind old object.place; cost = new.cost }
 
 -- a free takes an object away, or is refused and changes the cost alone
 abbrev pub IsFreeStep : HeapState → ℕ → Result Freed NotLive → HeapState → Type 0

@@ -30,15 +30,15 @@ IsOneLine Frag = ⊥
 IsOneLine _ = Unit {0}
 
 -- the command changes nothing, and its reply is one line
-abbrev pub Looks : Command → Type 0
-Looks (Malloc id bytes) = ⊥
-Looks (Free id) = ⊥
-Looks (Write id at bytes) = ⊥
-Looks (Resize id bytes) = ⊥
-Looks (Bound slot_words k) = ⊥
-Looks Walk = ⊥
-Looks Frag = ⊥
-Looks _ = Unit {0}
+abbrev pub OnlyLooks : Command → Type 0
+OnlyLooks (Malloc id bytes) = ⊥
+OnlyLooks (Free id) = ⊥
+OnlyLooks (Write id at bytes) = ⊥
+OnlyLooks (Resize id bytes) = ⊥
+OnlyLooks (Bound slot_words k) = ⊥
+OnlyLooks Walk = ⊥
+OnlyLooks Frag = ⊥
+OnlyLooks _ = Unit {0}
 
 -- a report was written, or not
 abbrev pub IsReported : {T : Type 0} → Result T Failed → Result Outcome Failed → Type 0

@@ -3,7 +3,7 @@ ghost use Rattle.std.specs.Prelude.{◌≡◌, ◌^◌, ◌<◌, ◌≤◌, OnEr
 ghost use Rattle.cf_io.specs.Feeds.{Rose};
 ghost use Rattle.cf_io.specs.Lines.{line_room};
 ghost use Rattle.cf_session.specs.Apply.{Applies, MayBound, moment_at, run_at};
-ghost use Rattle.cf_session.specs.OneLine.{IsOneLine, IsReported, Looks, Says, lines_at};
+ghost use Rattle.cf_session.specs.OneLine.{IsOneLine, IsReported, OnlyLooks, Says, lines_at};
 ghost use Rattle.script_reader.specs.Commands.{IsWellFormed};
 ghost use Rattle.run_model.specs.Sessions.{IsGoing};
 
@@ -106,7 +106,7 @@ fn one_line_reply<H: Manager>(
 fn look<H: Manager>(records: &Records, heap: &H, c: &Command, line: &mut Line, steps: &mut Steps)
     requires going { IsGoing (run_at records.now (H.state heap.now)) }
     requires formed { IsWellFormed c.now }
-    requires looks { Looks c.now }
+    requires looks { OnlyLooks c.now }
     requires room { steps.old ≤ 2 ^ 63 }
     requires begun { length line.old ≤ 8 }
     ensures said { Says (run_at records.now (H.state heap.now))

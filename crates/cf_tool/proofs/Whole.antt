@@ -15,11 +15,11 @@ use Rattle.command_line.specs.Choices.{AreRefused, Chooses}
 use Rattle.command_line.specs.declared.choice.Choice.{Choice}
 use Rattle.script_reader.specs.Items.{Item, items}
 use Rattle.run_model.specs.Texts.{text_of}
-use Rattle.script_loop.specs.Outcome.{IsClean, IsEnding, MOST_BYTES, MeetsOutcome, Printed, Prints, has_bad, items_within}
+use Rattle.script_loop.specs.ScriptOutcome.{IsClean, IsEnding, MOST_BYTES, MeetsOutcome, Printed, Prints, has_bad, items_within}
 use Rattle.transcript_laws.proofs.Further.{stays_at_one}
 use Rattle.transcript_laws.proofs.Telling.{run_tells}
 use Rattle.transcript_laws.specs.Transcripts.{transcript}
-use Rattle.cf_tool.specs.Outcome.{ArePlain, AreTaken, DoesChosen, EndsBy, InMode, IsWhole, TellsTranscript}
+use Rattle.cf_tool.specs.TopOutcome.{ArePlain, AreAccepted, DoesChosen, EndsBy, InMode, EndsWhole, TellsTranscript}
 
 -- what a run over plain items prints is their transcript
 transcript_printed : (kind : Kind) (wanted : List Item) (printed : Printed) (before after : Option (List ℕ)) → Prints kind wanted printed → after ≡ appended before printed.text → IsPaged kind
@@ -68,7 +68,7 @@ ends_run words choice had left before after WriteFault from end chosen closed me
 ends_run words choice had left before after TooLong from end chosen closed met ends silent = does_run words choice had left before after TooLong from end chosen closed met
 
 -- words that no command finds a fault in are not refused
-pub not_refused : (words : List Text) → AreTaken words → AreRefused words → ⊥
+pub not_refused : (words : List Text) → AreAccepted words → AreRefused words → ⊥
 not_refused words taken refused = refused.refused (taken refused.app refused.is_app)
 
 within_all : (all : List ℕ) → length all ≤ MOST_BYTES → items_within all ≡ items all true
@@ -77,7 +77,7 @@ within_all all fits = ap (λ (l : List ℕ). items l (nat_le (length all) MOST_B
 -- with no fault, a script with no bad line is answered whole
 pub whole_run : (from end : HeapState) (had left before after : Option (List ℕ)) (st : Status) (a b d e : ℕ)
     → MeetsOutcome from (record { had = had; left = left; before = before; after = after; status = st }) end → IsEnding st → (st ≡ ReadFault → Rose a b) → (st ≡ WriteFault → Rose d e)
-    → IsClean had → ¬ Rose a b → ¬ Rose d e → IsWhole st
+    → IsClean had → ¬ Rose a b → ¬ Rose d e → EndsWhole st
 whole_run from end None left before after st a b d e met ends read wrote clean sure firm = absurd clean
 whole_run from end (Some all) None before after st a b d e met ends read wrote clean sure firm = absurd met
 whole_run from end (Some all) (Some left) before after Words a b d e met ends read wrote clean sure firm = absurd ends

@@ -1,8 +1,8 @@
 //! The top call.
 ghost use Rattle.std.specs.Prelude.{◌≡◌, ◌<◌, ◌+◌, ◌⊎◌, map, string_bytes};
 ghost use Rattle.cf_io.specs.Feeds.{Rose, last_count};
-ghost use Rattle.script_loop.specs.Outcome.{IsClean, MOST_BYTES};
-ghost use Rattle.cf_tool.specs.Outcome.{AreTaken, EndsWell, IsWhole};
+ghost use Rattle.script_loop.specs.ScriptOutcome.{IsClean, MOST_BYTES};
+ghost use Rattle.cf_tool.specs.TopOutcome.{AreAccepted, EndsWell, EndsWhole};
 
 use cf_base::Status;
 use cf_io::{Sink, Source};
@@ -35,8 +35,8 @@ pub fn cf_main<R: Runtime, S: Source, K: Sink>(
       after = K.written sink.new;
       status = result;
     }) }
-    ensures complete { AreTaken (map (λ word. string_bytes word) words.now) → IsClean (S.rest source.old)
-        → ¬ Rose (S.faults source.old) (S.faults source.new) → ¬ Rose (K.faults sink.old) (K.faults sink.new) → IsWhole result }
+    ensures complete { AreAccepted (map (λ word. string_bytes word) words.now) → IsClean (S.rest source.old)
+        → ¬ Rose (S.faults source.old) (S.faults source.new) → ¬ Rose (K.faults sink.old) (K.faults sink.new) → EndsWhole result }
     // The causes, over every source and sink.
     ensures read_fault { result ≡ Status.ReadFault → Rose (S.faults source.old) (S.faults source.new) }
     ensures write_fault { result ≡ Status.WriteFault → Rose (K.faults sink.old) (K.faults sink.new) }

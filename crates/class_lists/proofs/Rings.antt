@@ -4,8 +4,8 @@ use Rattle.std.specs.Prelude.{nat_eq}
 use Rattle.std.specs.List.{Contains, IsDistinct}
 use Rattle.std.proofs.lemmas.Bool.{cases_eq}
 use Rattle.std.proofs.lemmas.List.{get_or-set_same, get_or-set_other, length-set, same_lists, get_or_default}
-use Rattle.class_lists.specs.PageLists.{without}
-use Rattle.class_lists.specs.Links.{chain, chains, list_at, IsLinked, AreLinked, AreDisjoint}
+use Rattle.class_lists.specs.PageLists.{without_page}
+use Rattle.class_lists.specs.Layout.{chain, chains, list_at, IsLinked, AreRings, HoldPagesOnce}
 use Rattle.class_lists.proofs.Members.{contains_head, contains_cases, distinct_cons, contains_without, distinct_without, length-without}
 use Rattle.class_lists.proofs.Chains.{linked_chain, linked_kept, first_in, next_in, previous_in, pushed, unlinked}
 
@@ -18,9 +18,9 @@ module _ (lists : List (List ℕ)) (k : ℕ) (list : List ℕ) where
   list_at-set_other j ne = get_or-set_other lists k j list [] ne
 
   -- a list whose pages stand in no other takes the place of one
-  pub disjoint_after : (pages : ℕ) → k < length lists → AreDisjoint pages lists
+  pub disjoint_after : (pages : ℕ) → k < length lists → HoldPagesOnce pages lists
       → ((p : ℕ) → Contains list p → p < pages) → IsDistinct nat_eq list
-      → ((j p : ℕ) → j ≢ k → Contains (list_at lists j) p → ¬ Contains list p) → AreDisjoint pages (set lists k list)
+      → ((j p : ℕ) → j ≢ k → Contains (list_at lists j) p → ¬ Contains list p) → HoldPagesOnce pages (set lists k list)
   disjoint_after pages lt d within distinct apart = record {
     within = λ j p h. elim (cases_eq j k) [
       | inl is ↦ within p (rw (is, list_at-set_same lt) at h)
@@ -42,7 +42,7 @@ module _ (lists : List (List ℕ)) (k : ℕ) (list : List ℕ) where
     ];
   }
 
-module _ (next previous lens : List ℕ) (pages : ℕ) (lists : List (List ℕ)) (k : ℕ) (lt : k < length lens) (l : AreLinked next previous lens pages lists) (d : AreDisjoint pages lists) where
+module _ (next previous lens : List ℕ) (pages : ℕ) (lists : List (List ℕ)) (k : ℕ) (lt : k < length lens) (l : AreRings next previous lens pages lists) (d : HoldPagesOnce pages lists) where
   -- the nodes of a ring
   abbrev ring : ℕ → List ℕ
   ring j = (pages + j) ∷ list_at lists j
@@ -74,7 +74,7 @@ module _ (next previous lens : List ℕ) (pages : ℕ) (lists : List (List ℕ))
   linked_after : (next' previous' : List ℕ) (list : List ℕ) (len : ℕ) → len ≡ length list
       → IsLinked next' previous' (pages + k) list (pages + k)
       → ((j : ℕ) → j < length lens → j ≢ k → IsLinked next' previous' (pages + j) (list_at lists j) (pages + j))
-      → AreLinked next' previous' (set lens k len) pages (set lists k list)
+      → AreRings next' previous' (set lens k len) pages (set lists k list)
   linked_after next' previous' list len is here others =
       let lt' : k < length lists = (let e = l.as_many in omega arith) in
       record {
@@ -95,7 +95,7 @@ module _ (next previous lens : List ℕ) (pages : ℕ) (lists : List (List ℕ))
     first_within = ring_within _ nodes (first_in next previous _ _ _ (l.linked k lt))
 
     pub push_linked : (p first len : ℕ) → p < pages → ((j : ℕ) → ¬ Contains (list_at lists j) p) → get_or next (pages + k) 0 ≡ first → len ≡ get_or lens k 0 + 1
-        → AreLinked (set (set next (pages + k) p) p first) (set (set previous p (pages + k)) first p) (set lens k len) pages (set lists k (p ∷ list_at lists k))
+        → AreRings (set (set next (pages + k) p) p first) (set (set previous p (pages + k)) first p) (set lens k len) pages (set lists k (p ∷ list_at lists k))
     push_linked p first len in_p out is counts =
         let in_first : Contains (ring k) first = rw (sym is) (first_in next previous _ _ _ (l.linked k lt)) in
         let off : (j : ℕ) → ¬ Contains (ring j) p = λ j h. elim (contains_cases p (pages + j) (list_at lists j) h) [ inl at ↦ absurd (omega arith) | inr in' ↦ out j in' ] in
@@ -106,7 +106,7 @@ module _ (next previous lens : List ℕ) (pages : ℕ) (lists : List (List ℕ))
         (λ j lj ne. linked_kept (set next (pages + k) p) (set previous p (pages + k)) _ _ _ p first first p (off j) (off_ring j first ne in_first)
         (linked_kept next previous _ _ _ (pages + k) p p (pages + k) (off_ring j (pages + k) ne (contains_head (pages + k) (list_at lists k))) (off j) (l.linked j lj)))
 
-    pub push_disjoint : (p : ℕ) → p < pages → ((j : ℕ) → ¬ Contains (list_at lists j) p) → AreDisjoint pages (set lists k (p ∷ list_at lists k))
+    pub push_disjoint : (p : ℕ) → p < pages → ((j : ℕ) → ¬ Contains (list_at lists j) p) → HoldPagesOnce pages (set lists k (p ∷ list_at lists k))
     push_disjoint p in_p out =
         disjoint_after lists k (p ∷ list_at lists k) pages (let e = l.as_many in omega arith) d
         (λ q h. elim (contains_cases q p (list_at lists k) h) [ inl at ↦ rw at in_p | inr in' ↦ d.within k q in' ])
@@ -127,17 +127,17 @@ module _ (next previous lens : List ℕ) (pages : ℕ) (lists : List (List ℕ))
       after_within = ring_within after nodes on_after
 
       pub unlink_linked : (len : ℕ) → len ≡ get_or lens k 0 - 1
-          → AreLinked (set next before after) (set previous after before) (set lens k len) pages (set lists k (without p (list_at lists k)))
+          → AreRings (set next before after) (set previous after before) (set lens k len) pages (set lists k (without_page p (list_at lists k)))
       unlink_linked len counts =
           let counted : get_or lens k 0 ≡ length (list_at lists k) = l.counted k lt in
-          let shorter : length (without p (list_at lists k)) + 1 ≡ length (list_at lists k) = length-without p (list_at lists k) (d.distinct k) h in
-          linked_after _ _ (without p (list_at lists k)) len (omega arith)
+          let shorter : length (without_page p (list_at lists k)) + 1 ≡ length (list_at lists k) = length-without p (list_at lists k) (d.distinct k) h in
+          linked_after _ _ (without_page p (list_at lists k)) len (omega arith)
           (unlinked next previous (pages + k) p (list_at lists k) (pages + k) before after b a before_within (let w = after_within in omega arith) (own_node k) (own_node k) (d.distinct k) h (l.linked k lt))
           (λ j lj ne. linked_kept next previous _ _ _ before after after before (off_ring j before ne on_before) (off_ring j after ne on_after) (l.linked j lj))
 
-      pub unlink_disjoint : AreDisjoint pages (set lists k (without p (list_at lists k)))
+      pub unlink_disjoint : HoldPagesOnce pages (set lists k (without_page p (list_at lists k)))
       unlink_disjoint =
-          disjoint_after lists k (without p (list_at lists k)) pages (let e = l.as_many in omega arith) d
+          disjoint_after lists k (without_page p (list_at lists k)) pages (let e = l.as_many in omega arith) d
           (λ q g. d.within k q (contains_without p q (list_at lists k) g).1)
           (distinct_without p (list_at lists k) (d.distinct k))
           (λ j q ne g in'. ne (d.once j k q g (contains_without p q (list_at lists k) in').1))
@@ -154,7 +154,7 @@ list_at-chains next node (len ∷ lens) (suc k) lt =
     list_at-chains next (node + 1) lens k (omega arith)
     ∙ (let e : node + 1 + k ≡ node + suc k = omega arith in ap (λ n. chain next (get_or lens k 0) (get_or next n 0)) e)
 
-pub chains_are : (next previous lens : List ℕ) (pages : ℕ) (lists : List (List ℕ)) → AreLinked next previous lens pages lists → chains next pages lens ≡ lists
+pub chains_are : (next previous lens : List ℕ) (pages : ℕ) (lists : List (List ℕ)) → AreRings next previous lens pages lists → chains next pages lens ≡ lists
 chains_are next previous lens pages lists l =
     same_lists _ _ (length-chains next pages lens ∙ sym l.as_many) (λ k e lt.
     let lt' : k < length lens = (let n = length-chains next pages lens in omega arith) in

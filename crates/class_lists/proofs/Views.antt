@@ -6,8 +6,8 @@ use Rattle.std.proofs.lemmas.Bool.{cases_eq, cases_lt}
 use Rattle.std.proofs.lemmas.List.{get_or_read, get_or-set_same, get_or-set_other, length-set, get_or_past, length-replicate, get_or-replicate}
 use Rattle.class_lists.specs.declared.Which.{Which}
 use Rattle.class_lists.specs.declared.Which.TheVariants.{Full, NotFull}
-use Rattle.class_lists.specs.PageLists.{PageLists, AreApart, AreEmpty, IsUnlisted, KeepsOthers, empty_lists, list_number, pages_in, with_list, without}
-use Rattle.class_lists.specs.Links.{chains, lists_of, list_at, IsLinked, AreLinked, AreDisjoint, AreAlone, IsSound}
+use Rattle.class_lists.specs.PageLists.{PageLists, AreApart, AreEmpty, IsUnlisted, KeepsOthers, empty_lists, list_number, pages_in, with_list, without_page}
+use Rattle.class_lists.specs.Layout.{chains, lists_of, list_at, IsLinked, AreRings, HoldPagesOnce, AreAlone, IsValid}
 use Rattle.class_lists.proofs.Members.{contains_nil, contains_head, contains_without, contains_cases, distinct_nil, distinct_cons, length-without, length_within}
 use Rattle.class_lists.proofs.Rings.{length-chains, chains_are, first_within, push_linked, push_disjoint, before_within, after_within, unlink_linked, unlink_disjoint}
 
@@ -39,18 +39,18 @@ module _ (v : PageLists) (c : ℕ) (w : Which) (list : List ℕ) where
 
 -- a page that leaves its list is in no other
 pub unlisted_then : (v : PageLists) (c : ℕ) (w : Which) (p : ℕ) → list_number c w < length v.lists → AreApart v → Contains (pages_in v c w) p
-    → IsUnlisted (with_list v c w (without p (pages_in v c w))) p
+    → IsUnlisted (with_list v c w (without_page p (pages_in v c w))) p
 unlisted_then v c w p lt a h d u g = elim (cases_eq (list_number d u) (list_number c w)) [
   | inl is ↦ (
-      let there : Contains (without p (pages_in v c w)) p = rw (is, get_or-set_same v.lists (list_number c w) (without p (pages_in v c w)) [] lt) at g in
+      let there : Contains (without_page p (pages_in v c w)) p = rw (is, get_or-set_same v.lists (list_number c w) (without_page p (pages_in v c w)) [] lt) at g in
       (contains_without p p (pages_in v c w) there).0 refl)
   | inr ne ↦ (
-      let there : Contains (pages_in v d u) p = rw (get_or-set_other v.lists (list_number c w) (list_number d u) (without p (pages_in v c w)) [] ne) at g in
+      let there : Contains (pages_in v d u) p = rw (get_or-set_other v.lists (list_number c w) (list_number d u) (without_page p (pages_in v c w)) [] ne) at g in
       let is = a.once d c u w p there h in
       ne (ap (λ e. list_number e u) is.0 ∙ ap (list_number c) is.1))
 ]
 
-module _ (next previous lens : List ℕ) (pages : ℕ) (s : IsSound next previous lens pages) where
+module _ (next previous lens : List ℕ) (pages : ℕ) (s : IsValid next previous lens pages) where
   abbrev all : List (List ℕ)
   all = chains next pages lens
 
@@ -68,7 +68,7 @@ module _ (next previous lens : List ℕ) (pages : ℕ) (s : IsSound next previou
 
   -- other arrays that are linked through the lists
   pub sound_after : (next' previous' lens' : List ℕ) (lists : List (List ℕ)) → length next' ≡ length next → length previous' ≡ length previous → length lens' ≡ length lens
-      → AreLinked next' previous' lens' pages lists → AreDisjoint pages lists → IsSound next' previous' lens' pages
+      → AreRings next' previous' lens' pages lists → HoldPagesOnce pages lists → IsValid next' previous' lens' pages
   sound_after next' previous' lens' lists n p m l d =
       let e : lists ≡ chains next' pages lens' = sym (chains_are next' previous' lens' pages lists l) in
       let nodes = s.nodes in
@@ -78,19 +78,19 @@ module _ (next previous lens : List ℕ) (pages : ℕ) (s : IsSound next previou
         backed = omega arith;
         few = rw n s.few;
         paired = rw m s.paired;
-        linked = subst (λ ls. AreLinked next' previous' lens' pages ls) e l;
-        disjoint = subst (λ ls. AreDisjoint pages ls) e d;
+        linked = subst (λ ls. AreRings next' previous' lens' pages ls) e l;
+        disjoint = subst (λ ls. HoldPagesOnce pages ls) e d;
       }
 
 -- what a call that changes one list leaves
 pub record Changes (next previous lens : List ℕ) (pages : ℕ) (v : PageLists) (c : ℕ) (w : Which) (asked : List ℕ) : Type 0 where
-  pub sound : IsSound next previous lens pages
+  pub sound : IsValid next previous lens pages
   pub lists : lists_of next lens pages ≡ with_list v c w asked
   pub list : pages_in (lists_of next lens pages) c w ≡ asked
   pub others : KeepsOthers v (lists_of next lens pages) c w
   pub kept : AreApart (lists_of next lens pages)
 
-module _ (next previous lens : List ℕ) (pages : ℕ) (s : IsSound next previous lens pages) (v : PageLists) (seen : lists_of next lens pages ≡ v) where
+module _ (next previous lens : List ℕ) (pages : ℕ) (s : IsValid next previous lens pages) (v : PageLists) (seen : lists_of next lens pages ≡ v) where
   pub apart : AreApart v
   apart = subst AreApart seen (lists_apart next previous lens pages s)
 
@@ -145,7 +145,7 @@ module _ (next previous lens : List ℕ) (pages : ℕ) (s : IsSound next previou
 
     -- other arrays that are linked through the lists, one of which is another
     changed : (next' previous' lens' : List ℕ) (list list' : List ℕ) → list ≡ list' → length next' ≡ length next → length previous' ≡ length previous → length lens' ≡ length lens
-        → AreLinked next' previous' lens' pages (set (chains next pages lens) k list) → AreDisjoint pages (set (chains next pages lens) k list)
+        → AreRings next' previous' lens' pages (set (chains next pages lens) k list) → HoldPagesOnce pages (set (chains next pages lens) k list)
         → Changes next' previous' lens' pages v c w list'
     changed next' previous' lens' list list' e n p m l d =
         let seen' : lists_of next' lens' pages ≡ with_list v c w list' =
@@ -184,7 +184,7 @@ module _ (next previous lens : List ℕ) (pages : ℕ) (s : IsSound next previou
       pushed first len next' previous' lens' reads counts n b m =
           let is = follower first reads in
           let more : len + 1 ≡ get_or lens k 0 + 1 = ap (λ q. q + 1) (get_or_read lens k len within counts 0) in
-          let linked : AreLinked next' previous' lens' pages (set (chains next pages lens) k (p ∷ list_at (chains next pages lens) k)) =
+          let linked : AreRings next' previous' lens' pages (set (chains next pages lens) k (p ∷ list_at (chains next pages lens) k)) =
           rw (n, b, m) (push_linked next previous lens pages _ k within s.linked s.disjoint s.nodes s.backed p first (len + 1) below unlisted (sym is) more) in
           changed next' previous' lens' (p ∷ list_at (chains next pages lens) k) (p ∷ pages_in v c w) (ap (λ xs. p ∷ xs) (sym list_k))
           (ap length n ∙ length-set (set next (pages + k) p) p first ∙ length-set next (pages + k) p)
@@ -205,10 +205,10 @@ module _ (next previous lens : List ℕ) (pages : ℕ) (s : IsSound next previou
       pub some_page : 1 ≤ length (pages_in v c w)
       some_page = (let lt' : h.0 < length (pages_in v c w) = h.1 in omega arith)
 
-      pub unlisted_now : IsUnlisted (with_list v c w (without p (pages_in v c w))) p
+      pub unlisted_now : IsUnlisted (with_list v c w (without_page p (pages_in v c w))) p
       unlisted_now = unlisted_then v c w p inside apart h
 
-      pub shorter : length (without p (pages_in v c w)) + 1 ≡ length (pages_in v c w)
+      pub shorter : length (without_page p (pages_in v c w)) + 1 ≡ length (pages_in v c w)
       shorter = length-without p (pages_in v c w) (apart.distinct c w) h
 
       module _ (before after : ℕ) (b : before ≡ get_or previous p before) (a : after ≡ get_or next p after) where
@@ -226,12 +226,12 @@ module _ (next previous lens : List ℕ) (pages : ℕ) (s : IsSound next previou
 
         pub unlinked : (len : ℕ) (next' previous' lens' : List ℕ) → len ≡ get_or lens k len
             → next' ≡ set next before after → previous' ≡ set previous after before → lens' ≡ set lens k (len - 1)
-            → Changes next' previous' lens' pages v c w (without p (pages_in v c w))
+            → Changes next' previous' lens' pages v c w (without_page p (pages_in v c w))
         unlinked len next' previous' lens' counts n r m =
             let fewer : len - 1 ≡ get_or lens k 0 - 1 = ap (λ q. q - 1) (get_or_read lens k len within counts 0) in
-            let linked : AreLinked next' previous' lens' pages (set (chains next pages lens) k (without p (list_at (chains next pages lens) k))) =
+            let linked : AreRings next' previous' lens' pages (set (chains next pages lens) k (without_page p (list_at (chains next pages lens) k))) =
             rw (n, r, m) (unlink_linked next previous lens pages _ k within s.linked s.disjoint s.nodes s.backed p before after at_list at_before at_after (len - 1) fewer) in
-            changed next' previous' lens' (without p (list_at (chains next pages lens) k)) (without p (pages_in v c w)) (ap (without p) (sym list_k))
+            changed next' previous' lens' (without_page p (list_at (chains next pages lens) k)) (without_page p (pages_in v c w)) (ap (without_page p) (sym list_k))
             (ap length n ∙ length-set next before after) (ap length r ∙ length-set previous after before)
             (ap length m ∙ length-set lens k (len - 1)) linked
             (unlink_disjoint next previous lens pages _ k within s.linked s.disjoint s.nodes s.backed p before after at_list at_before at_after)
@@ -257,7 +257,7 @@ module _ (next previous lens : List ℕ) (classes pages nodes : ℕ) (is : pages
   long : length lens ≡ 2 * classes
   long = ap length m ∙ length-replicate {A = ℕ} (2 * classes) 0
 
-  new_linked : AreLinked next previous lens pages (replicate (2 * classes) [])
+  new_linked : AreRings next previous lens pages (replicate (2 * classes) [])
   new_linked = record {
     as_many = length-replicate {A = List ℕ} (2 * classes) [] ∙ sym long;
     linked = λ k lt. rw (no_list (2 * classes) k) (n.alone (pages + k) (let e = long in omega arith), b.alone (pages + k) (let e = long in omega arith));
@@ -267,7 +267,7 @@ module _ (next previous lens : List ℕ) (classes pages nodes : ℕ) (is : pages
   new_chains : chains next pages lens ≡ replicate (2 * classes) []
   new_chains = chains_are next previous lens pages _ new_linked
 
-  pub new_sound : IsSound next previous lens pages
+  pub new_sound : IsValid next previous lens pages
   new_sound = record {
     nodes = (let e = n.long in let f = long in omega arith);
     backed = (let e = n.long in let f = b.long in omega arith);

@@ -1,2 +1,2 @@
 pub mod PageLists
-pub mod Links
+pub mod Layout

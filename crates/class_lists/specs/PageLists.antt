@@ -37,8 +37,8 @@ abbrev pub IsUnlisted : PageLists → ℕ → Type 0
 IsUnlisted v page = (c : ℕ) (which : Which) → ¬ Contains (pages_in v c which) page
 
 -- the others of a list, in order
-abbrev pub without : ℕ → List ℕ → List ℕ
-without page list = filter (λ other. not (other == page)) list
+abbrev pub without_page : ℕ → List ℕ → List ℕ
+without_page page list = filter (λ other. not (other == page)) list
 
 -- all lists but this one stay
 abbrev pub KeepsOthers : PageLists → PageLists → ℕ → Which → Type 0

@@ -4,8 +4,8 @@
 ghost use Rattle.std.specs.Prelude.{◌≡◌, ℕ, ◌+◌, ◌*◌, ◌<◌, ◌^◌, ◌↔◌, [], ◌∷◌, IfOk, IfSome, IsNone, length, slice_get, slice_set, vec_len};
 ghost use Rattle.std.specs.List.{Contains};
 ghost use Rattle.step_ledger.specs.Counting.{RoseBetween, RoseBy};
-ghost use Rattle.class_lists.specs.Links.{AreAlone};
-ghost use Rattle.class_lists.specs.PageLists.{AreApart, AreEmpty, IsUnlisted, KeepsOthers, empty_lists, list_number, pages_in, with_list, without};
+ghost use Rattle.class_lists.specs.Layout.{AreAlone};
+ghost use Rattle.class_lists.specs.PageLists.{AreApart, AreEmpty, IsUnlisted, KeepsOthers, empty_lists, list_number, pages_in, with_list, without_page};
 
 use cf_base::OutOfMemory;
 use std::alloc::{AllocError, Global};
@@ -44,11 +44,11 @@ impl Model for ClassLists {
 
     ghost coded = { lists_code };
 
-    ghost use Rattle.class_lists.specs.Links.{lists_of, IsSound};
+    ghost use Rattle.class_lists.specs.Layout.{lists_of, IsValid};
 
     ghost view = { λ l. lists_of l.links.next.items l.lens.items l.pages };
 
-    ghost invariant = { λ l. IsSound l.links.next.items l.links.previous.items l.lens.items l.pages };
+    ghost invariant = { λ l. IsValid l.links.next.items l.links.previous.items l.lens.items l.pages };
 }
 
 impl ClassLists {
@@ -124,8 +124,8 @@ impl ClassLists {
     pub fn unlink(&mut self, c: u32, which: Which, page: u32, steps: &mut Steps)
         requires class { c < self.old.classes }
         requires listed { Contains (pages_in self.old c which) page }
-        ensures lists { self.new ≡ with_list self.old c which (without page (pages_in self.old c which)) }
-        ensures list { pages_in self.new c which ≡ without page (pages_in self.old c which) }
+        ensures lists { self.new ≡ with_list self.old c which (without_page page (pages_in self.old c which)) }
+        ensures list { pages_in self.new c which ≡ without_page page (pages_in self.old c which) }
         ensures len { length (pages_in self.new c which) + 1 ≡ length (pages_in self.old c which) }
         ensures within { page < self.new.pages }
         ensures unlisted { IsUnlisted self.new page }

@@ -10,11 +10,11 @@ use Rattle.clap.specs.declared.error.kind.ErrorKind.TheVariants as kind
 use Rattle.clap.specs.ValueTests.{accepts}
 use Rattle.clap.proofs.OnLiterals.{clap_on_literals}
 use Rattle.clap.proofs.ValueTestLemmas.{accepts-Accepts, Accepts-accepts}
-use Rattle.command_line.specs.Choices.{number_in}
+use Rattle.command_line.specs.Choices.{u64_in}
 use Rattle.command_line.specs.Command.{IsCfApp, NameList, any_u64, cf_app}
 
 text_number : {E : Type 0} (G : List ℕ → Result ℕ E → Type 0) → ((u : List ℕ) (x : Result ℕ E) → G u x → ParsesUnsigned 64 10 u x)
-    → (t : Text) (r : Option ℕ) → ReadsOne G t r → unwrap_or r 0 ≡ number_in (Some t)
+    → (t : Text) (r : Option ℕ) → ReadsOne G t r → unwrap_or r 0 ≡ u64_in (Some t)
 text_number G only t (Some v) read =
     let parsed = only t (Ok v) read in
     let most : digits_value 10 (without_leading_plus t) ≤ 18446744073709551615 = omega (arith, parsed.0.1) in
@@ -22,15 +22,15 @@ text_number G only t (Some v) read =
     rw passes parsed.1
 text_number G only t None read = go (accepts false any_u64 t) refl
   where
-    go : (b : Bool) → accepts false any_u64 t ≡ b → 0 ≡ number_in (Some t)
+    go : (b : Bool) → accepts false any_u64 t ≡ b → 0 ≡ u64_in (Some t)
     go true e =
         let passes = accepts-Accepts false any_u64 t e in
         absurd (only t (Err read.0) read.1 (passes.0, passes.1))
     go false e = rw e refl
 
--- a number that clap let through is read as `number_in` says
+-- a number that clap let through is read as `u64_in` says
 pub number_of_text : {E : Type 0} (G : List ℕ → Result ℕ E → Type 0) → ((u : List ℕ) (x : Result ℕ E) → G u x → ParsesUnsigned 64 10 u x)
-    → (o : Option Text) (r : Option ℕ) → (o ≡ None → r ≡ None) → ((t : Text) → o ≡ Some t → ReadsOne G t r) → unwrap_or r 0 ≡ number_in o
+    → (o : Option Text) (r : Option ℕ) → (o ≡ None → r ≡ None) → ((t : Text) → o ≡ Some t → ReadsOne G t r) → unwrap_or r 0 ≡ u64_in o
 number_of_text G only None r none some = rw (none refl) refl
 number_of_text G only (Some t) r none some = text_number G only t r (some t refl)
 

@@ -21,17 +21,17 @@ abbrev pub kind_named : Option Text → Kind
 kind_named name = Moving
 
 -- the number that a text says, as `clap` reads a u64; the command lets no other text through
-abbrev pub number_in : Option Text → ℕ
-number_in None = 0
-number_in (Some text) = if accepts false any_u64 text then digits_value 10 (without_leading_plus text) else 0
+abbrev pub u64_in : Option Text → ℕ
+u64_in None = 0
+u64_in (Some text) = if accepts false any_u64 text then digits_value 10 (without_leading_plus text) else 0
 
 -- what the rows of the matches choose
 abbrev pub choice_of : List Row → Choice
 choice_of rows = record {
   mode = mode_named (first_of (codes "mode") rows);
   kind = kind_named (first_of (codes "manager") rows);
-  seed = number_in (one_of (codes "seed") rows);
-  count = number_in (one_of (codes "count") rows);
+  seed = u64_in (one_of (codes "seed") rows);
+  count = u64_in (one_of (codes "count") rows);
 }
 
 -- the command finds no fault in the words, and they choose this

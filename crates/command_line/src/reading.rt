@@ -2,7 +2,7 @@
 ghost use Rattle.std.specs.Prelude.{◌≡◌, map, option_map, string_bytes};
 ghost use Rattle.clap.specs.Words.{found_of, one_text};
 ghost use Rattle.command_line.specs.Choices.{ReadsAs, kind_named as kind_by, mode_named as mode_by};
-ghost use Rattle.command_line.specs.Choices.{number_in as number_by};
+ghost use Rattle.command_line.specs.Choices.{u64_in as number_by};
 
 use crate::choice::{Choice, Mode, WordsFault};
 use crate::command::cf_command;
@@ -29,7 +29,7 @@ fn kind_named(name: Option<&str>) -> Kind
     }
 }
 
-fn number_in(matches: &ArgMatches<'_>, id: &str) -> u64
+fn u64_in(matches: &ArgMatches<'_>, id: &str) -> u64
     ensures { result ≡ number_by (one_text (found_of matches.now) id.now) }
 {
     matches.get_one::<u64>(id).unwrap_or(0)
@@ -49,8 +49,8 @@ pub fn read_words(alloc: Global, words: &[String]) -> Result<Choice, WordsFault>
         Ok(matches) => Ok(Choice {
             mode: mode_named(matches.get_str("mode")),
             kind: kind_named(matches.get_str("manager")),
-            seed: number_in(&matches, "seed"),
-            count: number_in(&matches, "count"),
+            seed: u64_in(&matches, "seed"),
+            count: u64_in(&matches, "count"),
         }),
         Err(error) => match error.kind() {
             ErrorKind::OutOfMemory => Err(WordsFault::OutOfMemory),

@@ -22,7 +22,7 @@ use Rattle.virtual_words.specs.Overwriting.{Overwrites}
 use Rattle.virtual_words.proofs.Bytes.{loan_overwrites}
 use Rattle.paged_heap.specs.Access.{Lies}
 use Rattle.paged_heap.specs.Heap.{seen}
-use Rattle.paged_heap.specs.Layout.{Holds, IsKept, IsKeptIn, held_in, state_at, state_in}
+use Rattle.paged_heap.specs.Layout.{Holds, IsValid, IsValidIn, held_in, state_at, state_in}
 use Rattle.moving_heap.specs.PayloadLoan.{place_in, with_payload_at, with_payload_in, with_payload_of, with_run}
 use Rattle.moving_heap.specs.Payload.{bytes_of_words, lent_back, with_object}
 use Rattle.paged_heap.proofs.Preserved.{has_place, no_place}
@@ -70,7 +70,7 @@ run_overwritten old ws first n inside =
     few le = (let l = length-take n (drop first old) in omega arith)
 
 -- what a loan of the whole words of an object leaves
-module _ (h : OpenHeap) (k : IsKept (seen Moving h)) (q a : ℕ) (some : get h.proxies.places q ≡ Some a) (ws : List ℕ) where
+module _ (h : OpenHeap) (k : IsValid (seen Moving h)) (q a : ℕ) (some : get h.proxies.places q ≡ Some a) (ws : List ℕ) where
   abbrev was : List ℕ
   was = bytes_at h.region a
 
@@ -102,7 +102,7 @@ module _ (h : OpenHeap) (k : IsKept (seen Moving h)) (q a : ℕ) (some : get h.p
       (subst (λ n. Overwrites h.region left.region (record { from = a + 1; count = n }) 0 patch) count
       (run_overwritten h.region ws (a + 1) many (run_inside h k q a some)))
 
-  left_kept : IsKept (seen Moving left)
+  left_kept : IsValid (seen Moving left)
   left_kept = wrote_kept (seen Moving h) (seen Moving left) k q 0 a patch lies_there (bytes_of_words_are (fit many ws)) refl overwrites
 
   left_state : state_at Moving left ≡ lent_back (state_at Moving h) q ws
@@ -118,18 +118,18 @@ module _ (h : OpenHeap) (k : IsKept (seen Moving h)) (q a : ℕ) (some : get h.p
       whole = w.whole ∙ ap (λ (x : Placed). record (state_at Moving h) { held = insert (held_in (seen Moving h)) q (record x { bytes = written x.bytes 0 patch }); words = left.region }) same
 
   -- the same of the heap with the payload
-  payload_kept : IsKept (seen Moving (with_payload_at h a ws))
-  payload_kept = subst (λ (x : OpenHeap). IsKept (seen Moving x)) (left_is many refl) left_kept
+  payload_kept : IsValid (seen Moving (with_payload_at h a ws))
+  payload_kept = subst (λ (x : OpenHeap). IsValid (seen Moving x)) (left_is many refl) left_kept
 
   payload_state : state_at Moving (with_payload_at h a ws) ≡ lent_back (state_at Moving h) q ws
   payload_state = ap (state_at Moving) (sym (left_is many refl)) ∙ left_state
 
 -- the same where there may be no such object
-of_kept : (h : OpenHeap) → IsKept (seen Moving h) → (q : ℕ) (p : Option ℕ) → get h.proxies.places q ≡ p → (ws : List ℕ) → IsKept (seen Moving (with_payload_of h p ws))
+of_kept : (h : OpenHeap) → IsValid (seen Moving h) → (q : ℕ) (p : Option ℕ) → get h.proxies.places q ≡ p → (ws : List ℕ) → IsValid (seen Moving (with_payload_of h p ws))
 of_kept h k q None e ws = k
 of_kept h k q (Some a) e ws = payload_kept h k q a e ws
 
-of_state : (h : OpenHeap) → IsKept (seen Moving h) → (q : ℕ) (p : Option ℕ) → get h.proxies.places q ≡ p → (ws : List ℕ) → state_at Moving (with_payload_of h p ws) ≡ lent_back (state_at Moving h) q ws
+of_state : (h : OpenHeap) → IsValid (seen Moving h) → (q : ℕ) (p : Option ℕ) → get h.proxies.places q ≡ p → (ws : List ℕ) → state_at Moving (with_payload_of h p ws) ≡ lent_back (state_at Moving h) q ws
 of_state h k q None e ws = rw (no_place (seen Moving h) k q e) refl
 of_state h k q (Some a) e ws = payload_state h k q a e ws
 
@@ -147,7 +147,7 @@ same_blocks : (h : OpenHeap) (p : Option ℕ) (ws : List ℕ) → (with_payload_
 same_blocks h None ws = refl
 same_blocks h (Some a) ws = refl
 
-pub lent_kept : (o : Option OpenHeap) → IsKeptIn Moving o → (q : ℕ) (ws : List ℕ) → IsKeptIn Moving (with_payload_in o q ws)
+pub lent_kept : (o : Option OpenHeap) → IsValidIn Moving o → (q : ℕ) (ws : List ℕ) → IsValidIn Moving (with_payload_in o q ws)
 lent_kept None k q ws = tt
 lent_kept (Some h) k q ws = record {
   laid = record {
@@ -157,7 +157,7 @@ lent_kept (Some h) k q ws = record {
   kept = of_kept h k.kept q (get h.proxies.places q) refl ws;
 }
 
-pub lent_state : (o : Option OpenHeap) → IsKeptIn Moving o → (s : HeapState) → state_in Moving o ≡ s → IsTrue s.is_open → (q : ℕ) (ws : List ℕ) → state_in Moving (with_payload_in o q ws) ≡ lent_back s q ws
+pub lent_state : (o : Option OpenHeap) → IsValidIn Moving o → (s : HeapState) → state_in Moving o ≡ s → IsTrue s.is_open → (q : ℕ) (ws : List ℕ) → state_in Moving (with_payload_in o q ws) ≡ lent_back s q ws
 lent_state None k s is open_now q ws = absurd (false≢true (ap (λ (t : HeapState). t.is_open) is ∙ open_now))
 lent_state (Some h) k s is open_now q ws = of_state h k.kept q (get h.proxies.places q) refl ws ∙ ap (λ t. lent_back t q ws) is
 
@@ -165,5 +165,5 @@ still_open : (o : Option OpenHeap) (s : HeapState) → state_in Moving o ≡ s �
 still_open None s is open_now q ws = absurd (false≢true (ap (λ (t : HeapState). t.is_open) is ∙ open_now))
 still_open (Some h) s is open_now q ws = refl
 
-pub lent_rules : (o : Option OpenHeap) → IsKeptIn Moving o → (s : HeapState) → state_in Moving o ≡ s → IsTrue s.is_open → (q : ℕ) (ws : List ℕ) → KeepsRules (lent_back s q ws)
+pub lent_rules : (o : Option OpenHeap) → IsValidIn Moving o → (s : HeapState) → state_in Moving o ≡ s → IsTrue s.is_open → (q : ℕ) (ws : List ℕ) → KeepsRules (lent_back s q ws)
 lent_rules o k s is open_now q ws = subst KeepsRules (lent_state o k s is open_now q ws) (rules_in Moving (with_payload_in o q ws) (lent_kept o k q ws) (still_open o s is open_now q ws))

@@ -11,7 +11,7 @@ use Rattle.page_model.specs.Image.{word_of_bytes}
 use Rattle.paged_heap.specs.declared.open_heap.OpenHeap.{OpenHeap}
 use Rattle.cf_base.specs.declared.kind.Kind.TheVariants.{Moving}
 use Rattle.paged_heap.specs.Heap.{seen}
-use Rattle.paged_heap.specs.Layout.{IsKept, state_at}
+use Rattle.paged_heap.specs.Layout.{IsValid, state_at}
 use Rattle.moving_heap.specs.Payload.{payload_of, whole_words}
 use Rattle.paged_heap.proofs.Preserved.{has_place, no_place}
 use Rattle.paged_heap.proofs.ReadLemmas.{bytes_long, holds, slot_there}
@@ -20,7 +20,7 @@ pub length-whole_words : (v : List ℕ) → length (whole_words v) ≡ length v 
 length-whole_words v = length-map-range_with_len _ 0 _
 
 -- a number without a place has no words
-pub none_lent : (h : OpenHeap) → IsKept (seen Moving h) → (q : ℕ) → get h.proxies.places q ≡ None → payload_of (state_at Moving h) q ≡ None
+pub none_lent : (h : OpenHeap) → IsValid (seen Moving h) → (q : ℕ) → get h.proxies.places q ≡ None → payload_of (state_at Moving h) q ≡ None
 none_lent h k q none = ap (option_map (λ (x : Placed). whole_words x.bytes)) (no_place (seen Moving h) k q none)
 
 -- the number of words, as it is read from the header
@@ -28,7 +28,7 @@ pub count_is : (h : OpenHeap) (a read : ℕ) → read ≡ get_or h.region a 0 / 
 count_is h a read is = (let long = bytes_long h.region a in omega arith)
 
 -- an object with its place
-module _ (h : OpenHeap) (k : IsKept (seen Moving h)) (q a : ℕ) (some : get h.proxies.places q ≡ Some a) where
+module _ (h : OpenHeap) (k : IsValid (seen Moving h)) (q a : ℕ) (some : get h.proxies.places q ≡ Some a) where
   abbrev bytes : List ℕ
   bytes = bytes_at h.region a
 

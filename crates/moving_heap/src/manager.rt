@@ -38,11 +38,11 @@ impl Model for MovingHeap {
 
     ghost coded = { state_code };
 
-    ghost use Rattle.paged_heap.specs.Layout.{IsKeptIn, state_in};
+    ghost use Rattle.paged_heap.specs.Layout.{IsValidIn, state_in};
 
     ghost view = { λ h. state_in Moving h.inner };
 
-    ghost invariant = { λ h. IsKeptIn Moving h.inner };
+    ghost invariant = { λ h. IsValidIn Moving h.inner };
 }
 
 impl MovingHeap {

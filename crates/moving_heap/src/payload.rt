@@ -4,7 +4,7 @@ ghost use Rattle.std.specs.Borrow.{sem};
 ghost use Rattle.std.specs.FinMap as map;
 ghost use Rattle.step_ledger.specs.Counting.{RoseAtMost, RoseBy};
 ghost use Rattle.cf_base.specs.declared.kind.Kind.TheVariants.{Moving};
-ghost use Rattle.paged_heap.specs.Layout.{Holds, IsKeptIn, state_at, state_in};
+ghost use Rattle.paged_heap.specs.Layout.{Holds, IsValidIn, state_at, state_in};
 ghost use Rattle.moving_heap.specs.Payload.{payload_bound, payload_of};
 ghost use Rattle.moving_heap.specs.PayloadLoan.{LendsPayloadAt, LendsPayloadIn, LendsPayloadOf, LendsRun, place_in};
 
@@ -68,7 +68,7 @@ pub(crate) fn words_in<'a>(
     h: Handle,
     steps: &mut Steps,
 ) -> &'a mut [u64]
-    requires kept { IsKeptIn Moving inner.old }
+    requires kept { IsValidIn Moving inner.old }
     requires live { IsSome (place_in inner.old h.0) }
     ensures* writes_back { sem 𝓛 (LendsPayloadIn inner.entry h.0 result) }
     ensures value { Some result.now ≡ payload_of (state_in Moving inner.old) h.0 }

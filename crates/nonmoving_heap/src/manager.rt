@@ -37,11 +37,11 @@ impl Model for NonMovingHeap {
 
     ghost coded = { state_code };
 
-    ghost use Rattle.paged_heap.specs.Layout.{IsKeptIn, state_in};
+    ghost use Rattle.paged_heap.specs.Layout.{IsValidIn, state_in};
 
     ghost view = { λ h. state_in NonMoving h.inner };
 
-    ghost invariant = { λ h. IsKeptIn NonMoving h.inner };
+    ghost invariant = { λ h. IsValidIn NonMoving h.inner };
 }
 
 impl NonMovingHeap {

@@ -10,7 +10,7 @@ use Rattle.cf_lemmas.proofs.Ranges.{one}
 use Rattle.page_model.specs.Held.{Held, Placed}
 use Rattle.page_model.specs.Paging.{Paging, IsPaging, classes, slots_of, bound_of, page_of}
 use Rattle.page_model.specs.Arrangement.{class_at, is_on, objects_on, not_full_pages, IsSound}
-use Rattle.page_model.specs.Steps.{Request, IsFreePlace, IsMallocStep, zeros_at}
+use Rattle.page_model.specs.Steps.{Request, IsFreePlace, PlacesObject, zeros_at}
 use Rattle.page_model.proofs.Counting.{part_full, part_yes, one_le, on_no, on_page, nothing_on, not_full-changed, not_full-same}
 
 module _ (p : Paging) (m : Held) (h : ℕ) (x : Placed) (none : get m h ≡ None) where
@@ -79,7 +79,7 @@ module _ (p : Paging) (m : Held) (h : ℕ) (x : Placed) (none : get m h ≡ None
   }
 
 -- a malloc keeps the arrangement sound
-pub sound_malloc : (p : Paging) (old : Held) (asked : Request) (new : Held) → IsPaging p → IsSound p old → IsMallocStep p old asked new → IsSound p new
+pub sound_malloc : (p : Paging) (old : Held) (asked : Request) (new : Held) → IsPaging p → IsSound p old → PlacesObject p old asked new → IsSound p new
 sound_malloc p old asked new ok s step =
     let len : length (replicate asked.length 0) ≡ asked.length = length-replicate {A = ℕ} asked.length 0 in
     let e = step.placed in

@@ -6,7 +6,7 @@ use Rattle.cf_lemmas.specs.Exchanges.{exchanged}
 use Rattle.page_model.specs.Held.{Held, Placed}
 use Rattle.page_model.specs.Paging.{IsPaging, Paging, slot_words}
 use Rattle.page_model.specs.Arrangement.{IsSound, class_at}
-use Rattle.page_model.specs.Steps.{Outcome}
+use Rattle.page_model.specs.Steps.{Leaves}
 
 -- the numbers below n, each at its own place
 abbrev pub first_frames : ℕ → List ℕ
@@ -29,7 +29,7 @@ found m None = None
 found m (Some q) = get m q
 
 -- the frames after a step: only an object that moved exchanges blocks
-abbrev pub frames_after : Paging → Held → Outcome → List ℕ → List ℕ
+abbrev pub frames_after : Paging → Held → Leaves → List ℕ → List ℕ
 frames_after p old after frames = frames_moved p (found old after.moved) (found after.held after.moved) frames
 
 -- the physical block of block i of an object at a place

@@ -61,21 +61,21 @@ abbrev pub IsApartFrom : (ℕ → ℕ) → Held → ℕ → Placed → Type 0
 IsApartFrom extent m h x = (q : ℕ) (y : Placed) → get m q ≡ Some y → q ≢ h → AreDisjoint extent x y
 
 -- the words from a on
-pub record Run : Type 0 where
+pub record WordRange : Type 0 where
   pub from : ℕ
   pub count : ℕ
 
 -- the words of a run become f 0, f 1 and so on, and every other word stays
-pub record Rewrites (old new : List ℕ) (run : Run) (f : ℕ → ℕ) : Type 0 where
+pub record Rewrites (old new : List ℕ) (run : WordRange) (f : ℕ → ℕ) : Type 0 where
   pub within : (i : ℕ) → i < run.count → slice_index new (run.from + i) ≡ f i
   pub others : (w : ℕ) → IsOutside run.from run.count w → slice_index new w ≡ slice_index old w
 
 -- the words of a run become zeros
-abbrev pub Clears : List ℕ → List ℕ → Run → Type 0
+abbrev pub Clears : List ℕ → List ℕ → WordRange → Type 0
 Clears old new run = Rewrites old new run (λ _. 0)
 
 -- the words of a run go to b, where nothing stood, and leave zeros behind
-pub record MovesWords (old new : List ℕ) (run : Run) (b : ℕ) : Type 0 where
+pub record MovesWords (old new : List ℕ) (run : WordRange) (b : ℕ) : Type 0 where
   pub arrived : (i : ℕ) → i < run.count → slice_index new (b + i) ≡ slice_index old (run.from + i)
   pub left_zeros : (i : ℕ) → i < run.count → slice_index new (run.from + i) ≡ 0
   pub others : (w : ℕ) → IsOutside run.from run.count w → IsOutside b run.count w → slice_index new w ≡ slice_index old w

@@ -11,7 +11,7 @@ pub record Request : Type 0 where
   pub length : ℕ
 
 -- what a step leaves: the objects, and the other object that moved, if one did
-pub record Outcome : Type 0 where
+pub record Leaves : Type 0 where
   pub held : Held
   pub moved : Option ℕ
 
@@ -27,7 +27,7 @@ abbrev pub zeros_at : ℕ → ℕ → Placed
 zeros_at a n = record { place = a; bytes = replicate n 0 }
 
 -- a malloc: zeros come to a free place under a number that wasn't in use
-pub record IsMallocStep (p : Paging) (old : Held) (asked : Request) (new : Held) : Type 0 where
+pub record PlacesObject (p : Paging) (old : Held) (asked : Request) (new : Held) : Type 0 where
   pub place : ℕ
   pub unused : get old asked.number ≡ None
   pub free : IsFreePlace p old asked.length place
@@ -60,7 +60,7 @@ without m h a None = remove m h
 without m h a (Some q) = moved_to (remove m h) q (get m q) a
 
 -- a free: the object goes, and where it must be so one object of its class takes its place
-pub record IsFreeStep (p : Paging) (old : Held) (h : ℕ) (after : Outcome) : Type 0 where
+pub record RemovesObject (p : Paging) (old : Held) (h : ℕ) (after : Leaves) : Type 0 where
   pub freed : Placed
   pub found : get old h ≡ Some freed
   pub moves : Moves p old freed after.moved
@@ -75,7 +75,7 @@ abbrev pub resized_at : ℕ → Placed → ℕ → Placed
 resized_at a x n = record { place = a; bytes = resized x.bytes n }
 
 -- A resize within the class: the place stays.
-pub record ResizesInPlace (p : Paging) (old : Held) (asked : Request) (after : Outcome) : Type 0 where
+pub record ResizesInPlace (p : Paging) (old : Held) (asked : Request) (after : Leaves) : Type 0 where
   pub object : Placed
   pub found : get old asked.number ≡ Some object
   pub same : class_for p asked.length ≡ class_at p object
@@ -83,7 +83,7 @@ pub record ResizesInPlace (p : Paging) (old : Held) (asked : Request) (after : O
   pub still : after.moved ≡ None
 
 -- A resize to another class: a malloc under a number that isn't in use, with the old object still there, then a free of the old object, and the new one gets its number.
-pub record ChangesClass (p : Paging) (old : Held) (asked : Request) (after : Outcome) : Type 0 where
+pub record ChangesClass (p : Paging) (old : Held) (asked : Request) (after : Leaves) : Type 0 where
   pub object : Placed
   pub found : get old asked.number ≡ Some object
   pub other : class_for p asked.length ≢ class_at p object
@@ -92,8 +92,8 @@ pub record ChangesClass (p : Paging) (old : Held) (asked : Request) (after : Out
   pub spare : ℕ
   pub unused : get old spare ≡ None
   pub left : Held
-  pub freed : IsFreeStep p (insert old spare (resized_at place object asked.length)) asked.number (record { held = left; moved = after.moved })
+  pub freed : RemovesObject p (insert old spare (resized_at place object asked.length)) asked.number (record { held = left; moved = after.moved })
   pub renamed : after.held ≡ insert (remove left spare) asked.number (resized_at place object asked.length)
 
-abbrev pub IsResizeStep : Paging → Held → Request → Outcome → Type 0
-IsResizeStep p old asked after = ResizesInPlace p old asked after ⊎ ChangesClass p old asked after
+abbrev pub RefitsObject : Paging → Held → Request → Leaves → Type 0
+RefitsObject p old asked after = ResizesInPlace p old asked after ⊎ ChangesClass p old asked after

@@ -5,35 +5,35 @@ ghost use Rattle.page_model.specs.Frames.{IsPermuted, IsPhysical, AreFramed, blo
 ghost use Rattle.page_model.specs.Held.{Held, Placed};
 ghost use Rattle.page_model.specs.Image.{IsSlotImage, object_word, slot_for};
 ghost use Rattle.page_model.specs.Paging.{Paging};
-ghost use Rattle.page_model.specs.Steps.{IsFreeStep, IsResizeStep, Outcome, Request, ResizesInPlace};
+ghost use Rattle.page_model.specs.Steps.{RemovesObject, RefitsObject, Leaves, Request, ResizesInPlace};
 
 /// The frames of an empty heap, and those after each step, have every number once.
 pub fn frames_stay_permuted()
     ensures first { (n : ℕ) → IsPermuted (first_frames n) × (length (first_frames n) ≡ n) }
-    ensures free { (p : Paging) (old : Held) (frames : List ℕ) (h : ℕ) (after : Outcome)
-        → AreFramed p old frames → IsFreeStep p old h after
+    ensures free { (p : Paging) (old : Held) (frames : List ℕ) (h : ℕ) (after : Leaves)
+        → AreFramed p old frames → RemovesObject p old h after
         → AreFramed p after.held (frames_after p old after frames) }
-    ensures resize { (p : Paging) (old : Held) (frames : List ℕ) (asked : Request) (after : Outcome)
-        → AreFramed p old frames → IsResizeStep p old asked after
+    ensures resize { (p : Paging) (old : Held) (frames : List ℕ) (asked : Request) (after : Leaves)
+        → AreFramed p old frames → RefitsObject p old asked after
         → AreFramed p after.held (frames_after p old after frames) }
 {}
 
 /// Each block of an object stays the same while other objects are freed or resized, also where it
 /// moves, and while it is itself resized within its class. A malloc changes no frame and no place.
 pub fn blocks_of_others_stay()
-    ensures free { (p : Paging) (old : Held) (frames : List ℕ) (h : ℕ) (after : Outcome)
-        → AreFramed p old frames → IsFreeStep p old h after
+    ensures free { (p : Paging) (old : Held) (frames : List ℕ) (h : ℕ) (after : Leaves)
+        → AreFramed p old frames → RemovesObject p old h after
         → (q : ℕ) (y z : Placed) → q ≢ h → get old q ≡ Some y → get after.held q ≡ Some z
         → (i : ℕ) → i < slot_for p (length y.bytes) / 4
         → block_of (frames_after p old after frames) z.place i ≡ block_of frames y.place i }
-    ensures resize { (p : Paging) (old : Held) (frames : List ℕ) (asked : Request) (after : Outcome)
-        → AreFramed p old frames → IsResizeStep p old asked after
+    ensures resize { (p : Paging) (old : Held) (frames : List ℕ) (asked : Request) (after : Leaves)
+        → AreFramed p old frames → RefitsObject p old asked after
         → (q : ℕ) (y z : Placed) → q ≢ asked.number
         → get old q ≡ Some y → get after.held q ≡ Some z
         → (i : ℕ) → i < slot_for p (length y.bytes) / 4
         → block_of (frames_after p old after frames) z.place i ≡ block_of frames y.place i }
     ensures same_class { (p : Paging) (old : Held) (frames : List ℕ) (asked : Request)
-        (after : Outcome)
+        (after : Leaves)
         → ResizesInPlace p old asked after
         → (y z : Placed) → get old asked.number ≡ Some y → get after.held asked.number ≡ Some z
         → (i : ℕ) → block_of (frames_after p old after frames) z.place i

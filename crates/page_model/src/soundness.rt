@@ -5,7 +5,7 @@ ghost use Rattle.page_model.specs.Arrangement.{IsSound, class_at, home_pages, is
 ghost use Rattle.page_model.specs.Counts.{CanHold, Stand};
 ghost use Rattle.page_model.specs.Held.{Held, Placed, objects, places};
 ghost use Rattle.page_model.specs.Paging.{IsPaging, Paging, bound_of, class_for, classes, page_of, slots_of};
-ghost use Rattle.page_model.specs.Steps.{ChangesClass, IsFreePlace, IsFreeStep, IsMallocStep, IsResizeStep, MayFill, Moves, MustMove, Outcome, Request, resized_at, without, zeros_at};
+ghost use Rattle.page_model.specs.Steps.{ChangesClass, IsFreePlace, RemovesObject, PlacesObject, RefitsObject, MayFill, Moves, MustMove, Leaves, Request, resized_at, without, zeros_at};
 
 /// Without objects an arrangement is sound, whatever the bounds, and has no pages.
 pub fn nothing_is_a_sound_arrangement()
@@ -31,20 +31,20 @@ pub fn page_counts_of_a_sound_arrangement()
 /// A malloc keeps an arrangement sound.
 pub fn a_malloc_keeps_soundness()
     ensures { (p : Paging) (old : Held) (asked : Request) (new : Held) → IsPaging p → IsSound p old
-        → IsMallocStep p old asked new → IsSound p new }
+        → PlacesObject p old asked new → IsSound p new }
 {}
 
 /// A free keeps an arrangement sound, where an object moves and where none does.
 pub fn a_free_keeps_soundness()
-    ensures { (p : Paging) (old : Held) (h : ℕ) (after : Outcome) → IsPaging p → IsSound p old
-        → IsFreeStep p old h after → IsSound p after.held }
+    ensures { (p : Paging) (old : Held) (h : ℕ) (after : Leaves) → IsPaging p → IsSound p old
+        → RemovesObject p old h after → IsSound p after.held }
 {}
 
 /// A resize keeps an arrangement sound, within its class and to another one.
 pub fn a_resize_keeps_soundness()
-    ensures { (p : Paging) (old : Held) (asked : Request) (after : Outcome) → IsPaging p
+    ensures { (p : Paging) (old : Held) (asked : Request) (after : Leaves) → IsPaging p
         → IsSound p old
-        → IsResizeStep p old asked after → IsSound p after.held }
+        → RefitsObject p old asked after → IsSound p after.held }
 {}
 
 /// A resize to another class is this: the object stands at a free place under its own number, and
@@ -55,7 +55,7 @@ pub fn a_resize_in_two_steps()
         → get m spare ≡ None → IsFreePlace p m n a → Moves p m x moved
         → ChangesClass p m (record { number = h; length = n })
         (record { held = insert (without m h x.place moved) h (resized_at a x n); moved = moved }) }
-    ensures taken { (p : Paging) (old : Held) (asked : Request) (after : Outcome) → IsPaging p
+    ensures taken { (p : Paging) (old : Held) (asked : Request) (after : Leaves) → IsPaging p
         → IsSound p old
         → (r : ChangesClass p old asked after)
         → Moves p old r.object after.moved

@@ -3,7 +3,7 @@ use Rattle.std.proofs.Common.{◌≡◌, ℕ, zero, suc, ◌+◌, ◌<◌, ◌�
 use Rattle.std.proofs.lemmas.Bool.{eqb-true, ne_eqb}
 use Rattle.std.proofs.lemmas.Map.Steps.{length-le_from_distinct_below}
 use Rattle.std.specs.List.{AllByRecursion, IsDistinct, range_with_len}
-use Rattle.page_pool.specs.Pool.{is_free, HasNoRepeats, IsPool}
+use Rattle.page_pool.specs.Pool.{is_in_pool, HasNoRepeats, IsPool}
 
 some_true : (a b : Bool) → (a || b) ≡ true → (a ≡ true) ⊎ (b ≡ true)
 some_true true b h = inl refl
@@ -25,7 +25,7 @@ abbrev pub Pooled : ℕ → List ℕ → Type 0
 Pooled n free = IsPool (record { pages = n; free = free })
 
 -- the page in front isn't among the rest
-pub front_gone : (n page : ℕ) (free : List ℕ) → Pooled n (page ∷ free) → is_free free page ≡ false
+pub front_gone : (n page : ℕ) (free : List ℕ) → Pooled n (page ∷ free) → is_in_pool free page ≡ false
 front_gone n page free h = h.distinct.0
 
 -- the page in front is one of the pages
@@ -33,20 +33,20 @@ pub front_below : (n page : ℕ) (free : List ℕ) → Pooled n (page ∷ free) 
 front_below n page free h = h.below page (rw (eq-eqb page page refl) refl)
 
 pub pooled_rest : (n page : ℕ) (free : List ℕ) → Pooled n (page ∷ free) → Pooled n free
-pooled_rest n page free h = record { distinct = h.distinct.1; below = λ q is. h.below q (right_true (eqb q page) (is_free free q) is) }
+pooled_rest n page free h = record { distinct = h.distinct.1; below = λ q is. h.below q (right_true (eqb q page) (is_in_pool free q) is) }
 
-pub pooled_front : (n page : ℕ) (free : List ℕ) → Pooled n free → page < n → is_free free page ≡ false → Pooled n (page ∷ free)
+pub pooled_front : (n page : ℕ) (free : List ℕ) → Pooled n free → page < n → is_in_pool free page ≡ false → Pooled n (page ∷ free)
 pooled_front n page free h lt gone = record {
   distinct = (gone, h.distinct);
-  below = λ q is. elim (some_true (eqb q page) (is_free free q) is) [
+  below = λ q is. elim (some_true (eqb q page) (is_in_pool free q) is) [
     | inl e ↦ (let same : q ≡ page = eqb-true q page e in omega arith)
     | inr e ↦ h.below q e
   ];
 }
 
-others_by_test : (page : ℕ) (free : List ℕ) → is_free free page ≡ false → AllByRecursion (λ q. eqb page q ≡ false) free
+others_by_test : (page : ℕ) (free : List ℕ) → is_in_pool free page ≡ false → AllByRecursion (λ q. eqb page q ≡ false) free
 others_by_test page [] gone = tt
-others_by_test page (q ∷ free) gone = let parts = none_true (eqb page q) (is_free free page) gone in (parts.0, others_by_test page free parts.1)
+others_by_test page (q ∷ free) gone = let parts = none_true (eqb page q) (is_in_pool free page) gone in (parts.0, others_by_test page free parts.1)
 
 distinct_by_test : (free : List ℕ) → HasNoRepeats free → IsDistinct eqb free
 unfolding IsDistinct
@@ -58,21 +58,21 @@ pub free_within : (n : ℕ) (free : List ℕ) → Pooled n free → length free 
 free_within n free h = length-le_from_distinct_below free n (distinct_by_test free h.distinct) h.below
 
 -- while a page isn't free, fewer are free than there are
-pub free_room : (n page : ℕ) (free : List ℕ) → Pooled n free → page < n → is_free free page ≡ false → length free < n
+pub free_room : (n page : ℕ) (free : List ℕ) → Pooled n free → page < n → is_in_pool free page ≡ false → length free < n
 free_room n page free h lt gone = let all = free_within n (page ∷ free) (pooled_front n page free h lt gone) in omega arith
 
 -- the numbers from a on
-range_absent : (a n page : ℕ) → page < a → is_free (range_with_len a n) page ≡ false
+range_absent : (a n page : ℕ) → page < a → is_in_pool (range_with_len a n) page ≡ false
 range_absent a zero page lt = refl
-range_absent a (suc n) page lt = both_false (eqb page a) (is_free (range_with_len (a + 1) n) page) (ne_eqb page a (omega arith)) (range_absent (a + 1) n page (omega arith))
+range_absent a (suc n) page lt = both_false (eqb page a) (is_in_pool (range_with_len (a + 1) n) page) (ne_eqb page a (omega arith)) (range_absent (a + 1) n page (omega arith))
 
 range_distinct : (a n : ℕ) → HasNoRepeats (range_with_len a n)
 range_distinct a zero = tt
 range_distinct a (suc n) = (range_absent (a + 1) n a (omega arith), range_distinct (a + 1) n)
 
-range_below : (a n page : ℕ) → is_free (range_with_len a n) page ≡ true → page < a + n
+range_below : (a n page : ℕ) → is_in_pool (range_with_len a n) page ≡ true → page < a + n
 range_below a zero page is = cc
-range_below a (suc n) page is = elim (some_true (eqb page a) (is_free (range_with_len (a + 1) n) page) is) [
+range_below a (suc n) page is = elim (some_true (eqb page a) (is_in_pool (range_with_len (a + 1) n) page) is) [
   | inl e ↦ (let same : page ≡ a = eqb-true page a e in omega arith)
   | inr e ↦ (let lt : page < a + 1 + n = range_below (a + 1) n page e in omega arith)
 ]

@@ -13,18 +13,18 @@ abbrev pub pool_code : Coded Pool
 pool_code = code_by (ℕ × List ℕ) (coded× coded_ℕ (coded_list coded_ℕ)) (λ p. (p.pages, p.free)) (λ p. record { pages = p.0; free = p.1 }) (λ _. refl)
 
 -- whether the page is one of the list
-abbrev pub is_free : List ℕ → ℕ → Bool
-is_free free page = list_any (nat_eq page) free
+abbrev pub is_in_pool : List ℕ → ℕ → Bool
+is_in_pool free page = list_any (nat_eq page) free
 
 -- no page stands twice in the list
 abbrev pub HasNoRepeats : List ℕ → Type 0
 HasNoRepeats [] = ⊤
-HasNoRepeats (page ∷ free) = (is_free free page ≡ false) × HasNoRepeats free
+HasNoRepeats (page ∷ free) = (is_in_pool free page ≡ false) × HasNoRepeats free
 
 -- no page is free twice, and each is one of the pages that there are
 pub record IsPool (p : Pool) : Type 0 where
   pub distinct : HasNoRepeats p.free
-  pub below : (page : ℕ) → is_free p.free page ≡ true → page < p.pages
+  pub below : (page : ℕ) → is_in_pool p.free page ≡ true → page < p.pages
 
 -- the front is taken, where there is one
 abbrev pub TakesFront : Pool → Option ℕ → Pool → Type 0

@@ -1,7 +1,7 @@
 ghost use Rattle.std.specs.Prelude.{◌≡◌, ◌<◌, ◌∷◌, false, length, IfOk};
 ghost use Rattle.std.specs.List.{range_with_len};
 ghost use Rattle.step_ledger.specs.Counting.{RoseBy};
-ghost use Rattle.page_pool.specs.Pool.{is_free, IsPool, TakesFront};
+ghost use Rattle.page_pool.specs.Pool.{is_in_pool, IsPool, TakesFront};
 
 use cf_base::OutOfMemory;
 use std::alloc::{AllocError, Global};
@@ -17,7 +17,7 @@ pub struct PagePool {
 
 impl Model for PagePool {
     ghost use Rattle.page_pool.specs.Pool.{Pool, pool_code};
-    ghost use Rattle.page_pool.specs.Laid.{pool_of, IsLaid};
+    ghost use Rattle.page_pool.specs.Layout.{pool_of, IsValid};
 
     ghost Value = { Pool };
 
@@ -25,7 +25,7 @@ impl Model for PagePool {
 
     ghost view = { λ p. pool_of p.stack.items p.first };
 
-    ghost invariant = { λ p. IsLaid p.stack.items p.first };
+    ghost invariant = { λ p. IsValid p.stack.items p.first };
 }
 
 impl PagePool {
@@ -66,7 +66,7 @@ impl PagePool {
     /// Puts a page that isn't free in front, for one step.
     pub fn give(&mut self, page: u32, steps: &mut Steps)
         requires within { page < self.old.pages }
-        requires taken { is_free self.old.free page ≡ false }
+        requires taken { is_in_pool self.old.free page ≡ false }
         ensures pool { self.new ≡ record self.old { free = page ∷ self.old.free } }
         ensures steps { RoseBy steps.old steps.new 1 }
         ensures kept { IsPool self.new }

@@ -19,7 +19,7 @@ use Rattle.page_model.proofs.Totals.{live_is, sum-map_values}
 use Rattle.page_model.proofs.Resizing.{length-resized}
 use Rattle.page_reference.specs.declared.object.Object.{Object}
 use Rattle.page_reference.specs.declared.object.Amount.TheVariants.{One, OfClass, OnPage, OfClassOnPage, Length, SlotWords}
-use Rattle.page_reference.specs.Amounts.{placed, held_in, amount_of, amount_in, total_of}
+use Rattle.page_reference.specs.Amounts.{placed, held_of, amount_of, amount_in, total_of}
 
 module _ (f : ℕ → ℕ → ℕ) where
   -- the same for an object of a map
@@ -38,7 +38,7 @@ module _ (f : ℕ → ℕ → ℕ) where
       let ih = total_from (k + 1) os in
       omega arith
 
-  pub total-values : (os : List (Option Object)) → total_of f os ≡ sum_by of_placed (values (held_in os))
+  pub total-values : (os : List (Option Object)) → total_of f os ≡ sum_by of_placed (values (held_of os))
   total-values os = total_from 0 os
 
 sum_ones : (m : Held) → sum_by (λ (x : Placed). 1) (values m) ≡ len m
@@ -50,23 +50,23 @@ sum_ones = map_induction (λ m. sum_by (λ (x : Placed). 1) (values m) ≡ len m
     omega arith))
 
 module _ (p : Paging) (os : List (Option Object)) where
-  pub live_total : (c : ℕ) → total_of (amount_of p (OfClass c)) os ≡ live p (objects (held_in os)) c
-  live_total c = total-values (amount_of p (OfClass c)) os ∙ sym (live_is p c (held_in os))
+  pub live_total : (c : ℕ) → total_of (amount_of p (OfClass c)) os ≡ live p (objects (held_of os)) c
+  live_total c = total-values (amount_of p (OfClass c)) os ∙ sym (live_is p c (held_of os))
 
-  pub on_total : (c page : ℕ) → total_of (amount_of p (OfClassOnPage c page)) os ≡ objects_on p (held_in os) c page
+  pub on_total : (c page : ℕ) → total_of (amount_of p (OfClassOnPage c page)) os ≡ objects_on p (held_of os) c page
   unfolding objects_on
   on_total c page = total-values (amount_of p (OfClassOnPage c page)) os
 
-  pub standing_total : (page : ℕ) → total_of (amount_of p (OnPage page)) os ≡ standing_on p (held_in os) page
+  pub standing_total : (page : ℕ) → total_of (amount_of p (OnPage page)) os ≡ standing_on p (held_of os) page
   unfolding standing_on
   standing_total page = total-values (amount_of p (OnPage page)) os
 
-  pub asked_total : total_of (amount_of p Length) os ≡ asked_bytes (objects (held_in os))
+  pub asked_total : total_of (amount_of p Length) os ≡ asked_bytes (objects (held_of os))
   unfolding asked_bytes
-  asked_total = total-values (amount_of p Length) os ∙ sym (sum-map_values (λ (x : Placed). x.bytes) length (held_in os))
+  asked_total = total-values (amount_of p Length) os ∙ sym (sum-map_values (λ (x : Placed). x.bytes) length (held_of os))
 
-  pub taken_total : total_of (amount_of p SlotWords) os ≡ sum_by (λ v. slot_words p (class_for p (length v))) (values (objects (held_in os)))
-  taken_total = total-values (amount_of p SlotWords) os ∙ sym (sum-map_values (λ (x : Placed). x.bytes) (λ v. slot_words p (class_for p (length v))) (held_in os))
+  pub taken_total : total_of (amount_of p SlotWords) os ≡ sum_by (λ v. slot_words p (class_for p (length v))) (values (objects (held_of os)))
+  taken_total = total-values (amount_of p SlotWords) os ∙ sym (sum-map_values (λ (x : Placed). x.bytes) (λ v. slot_words p (class_for p (length v))) (held_of os))
 
-  pub count_total : total_of (amount_of p One) os ≡ len (objects (held_in os))
-  count_total = total-values (amount_of p One) os ∙ sum_ones (held_in os) ∙ sym (len-objects (held_in os))
+  pub count_total : total_of (amount_of p One) os ≡ len (objects (held_of os))
+  count_total = total-values (amount_of p One) os ∙ sum_ones (held_of os) ∙ sym (len-objects (held_of os))

@@ -9,7 +9,7 @@ use Rattle.page_model.specs.Held.{Held}
 use Rattle.page_model.specs.Paging.{Paging}
 use Rattle.page_model.specs.Image.{IsOutside, IsDisjoint, IsApart, IsImage}
 use Rattle.page_reference.specs.declared.object.Object.{Object}
-use Rattle.page_reference.specs.Amounts.{placed, held_in}
+use Rattle.page_reference.specs.Amounts.{placed, held_of}
 use Rattle.page_reference.specs.Words.{IsWordAt, HasWord, Misses, AreInside}
 use Rattle.page_reference.proofs.Tables.{get_held}
 
@@ -46,15 +46,15 @@ module _ (m : Held) (w : ℕ) where
 
 module _ (os : List (Option Object)) where
   -- an entry of the table is what the map has
-  pub entry_is : (h : ℕ) (e : Option Object) → h < length os → e ≡ get_or os h e → option_map placed e ≡ get (held_in os) h
+  pub entry_is : (h : ℕ) (e : Option Object) → h < length os → e ≡ get_or os h e → option_map placed e ≡ get (held_of os) h
   entry_is h e lt is = ap (option_map placed) is ∙ sym (get_held os h ∙ get_or-map (option_map placed) os h e None lt)
 
   -- behind the table there is nothing
-  pub missed_past : (h w : ℕ) → length os ≤ h → Misses (get (held_in os) h) w
+  pub missed_past : (h w : ℕ) → length os ≤ h → Misses (get (held_of os) h) w
   missed_past h w past x is = absurd (
       let past' : length (map (option_map placed) os) ≤ h = rw (length-map os (option_map placed)) past in
-      let none : get (held_in os) h ≡ None = get_held os h ∙ get_or_past (map (option_map placed) os) h None past' in
-      let some : get (held_in os) h ≡ Some x = is in
+      let none : get (held_of os) h ≡ None = get_held os h ∙ get_or_past (map (option_map placed) os) h None past' in
+      let some : get (held_of os) h ≡ Some x = is in
       cc)
 
 -- words that are right, and the next one

@@ -18,8 +18,8 @@ abbrev pub at_place : ℕ → Object → Object
 at_place a o = record o { place = a }
 
 -- the objects of a table, each under its index
-abbrev pub held_in : List (Option Object) → Held
-held_in os = numbered 0 (map (option_map placed) os)
+abbrev pub held_of : List (Option Object) → Held
+held_of os = numbered 0 (map (option_map placed) os)
 
 -- what is added for an object at a, of n bytes
 abbrev pub amount_of : Paging → Amount → ℕ → ℕ → ℕ
@@ -49,8 +49,8 @@ abbrev pub total_of : (ℕ → ℕ → ℕ) → List (Option Object) → ℕ
 total_of f os = sum_by (amount_in f) os
 
 -- every page holds an object
-abbrev pub AreTaken : Paging → Held → Type 0
-AreTaken p m = (page : ℕ) → page < p.pages → 0 < standing_on p m page
+abbrev pub AreAllUsed : Paging → Held → Type 0
+AreAllUsed p m = (page : ℕ) → page < p.pages → 0 < standing_on p m page
 
 -- an object is there, and a free of it moves another one
 abbrev pub MovesOne : Paging → Held → Option Placed → Type 0

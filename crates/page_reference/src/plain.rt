@@ -10,7 +10,7 @@ ghost use Rattle.page_model.specs.Arrangement.{live, objects_on, standing_on, ho
 ghost use Rattle.page_model.specs.Figures.{asked_bytes, taken_bytes, figures_of, totals_of};
 ghost use Rattle.page_model.specs.Image.{IsApart, IsImage};
 ghost use Rattle.page_model.specs.Steps.{MustMove, moved_to, resized};
-ghost use Rattle.page_reference.specs.Amounts.{AreTaken, MovesOne, at_place, held_in, placed};
+ghost use Rattle.page_reference.specs.Amounts.{AreAllUsed, MovesOne, at_place, held_of, placed};
 ghost use Rattle.page_reference.specs.Words.{AreInside, IsWordAt};
 
 use crate::object::{Amount, Object};
@@ -31,13 +31,13 @@ pub struct Plain {
 impl Model for Plain {
     ghost use Rattle.std.specs.Prelude.{◌≤◌, length};
     ghost use Rattle.page_reference.specs.Arranged.{Arranged, arranged_code};
-    ghost use Rattle.page_reference.specs.Amounts.{held_in};
+    ghost use Rattle.page_reference.specs.Amounts.{held_of};
 
     ghost Value = { Arranged };
 
     ghost coded = { arranged_code };
 
-    ghost view = { λ p. record { paging = p.pages; held = held_in p.objects.items } };
+    ghost view = { λ p. record { paging = p.pages; held = held_of p.objects.items } };
 
     ghost invariant = { λ p. length p.objects.items ≤ 65536 };
 }
@@ -318,7 +318,7 @@ impl Plain {
 
     /// Whether every page holds an object.
     fn all_taken(&self) -> bool
-        ensures { IsTrue result ↔ AreTaken self.now.paging self.now.held }
+        ensures { IsTrue result ↔ AreAllUsed self.now.paging self.now.held }
     {
         for page in 0..self.pages() {
             if self.standing_on(page) == 0 {
@@ -385,7 +385,7 @@ impl Plain {
 fn reach(objects: &mut Vec<Option<Object>>, number: usize) -> Result<(), AllocError>
     requires number { number < 65536 }
     requires few { length objects.old.items ≤ 65536 }
-    ensures held { held_in objects.new.items ≡ held_in objects.old.items }
+    ensures held { held_of objects.new.items ≡ held_of objects.old.items }
     ensures few { length objects.new.items ≤ 65536 }
     ensures ok { OnOk result (number < length objects.new.items) }
 {

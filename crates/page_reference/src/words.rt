@@ -2,7 +2,7 @@
 ghost use Rattle.std.specs.Prelude.{◌≡◌, ◌*◌, ◌^◌, ◌<◌, ◌≤◌, IfNone, IfSome, Some, drop, length, option_map, slice_index, take};
 ghost use Rattle.cf_base.specs.Classes.{need};
 ghost use Rattle.page_model.specs.Image.{IsApart, object_word, word_of_bytes};
-ghost use Rattle.page_reference.specs.Amounts.{held_in, placed};
+ghost use Rattle.page_reference.specs.Amounts.{held_of, placed};
 ghost use Rattle.page_reference.specs.Words.{HasWord, IsWordAt, Misses};
 
 use crate::object::Object;
@@ -74,7 +74,7 @@ fn word_of(number: u32, object: &Object, w: u32) -> Option<u64>
 /// Word w of the region: that of the first object that has it, else 0.
 pub fn word_at(objects: &[Option<Object>], w: u32) -> u64
     requires { length objects.now ≤ 65536 }
-    ensures { IsApart need (held_in objects.now) → IsWordAt (held_in objects.now) w result }
+    ensures { IsApart need (held_of objects.now) → IsWordAt (held_of objects.now) w result }
 {
     for number in 0..objects.len() {
         if let Some(word) = word_in(number as u32, &objects[number], w) {

@@ -11,8 +11,8 @@ use Rattle.size_classes.specs.Table.{ClassTable}
 use Rattle.class_lists.specs.declared.Which.{Which}
 use Rattle.class_lists.specs.declared.Which.TheVariants.{Full, NotFull}
 use Rattle.class_lists.specs.PageLists.{PageLists, IsUnlisted, pages_in}
-use Rattle.page_pool.specs.Pool.{Pool, TakesFront, is_free}
-use Rattle.page_slots.specs.Tables.{Tables, AreTables, IsOf, IsPageOf, Joins, slots_in, slots_on, tables, used_in}
+use Rattle.page_pool.specs.Pool.{Pool, TakesFront, is_in_pool}
+use Rattle.page_slots.specs.Tables.{Tables, AreTables, IsOf, IsPageOf, JoinsList, slots_in, slots_on, tables, used_in}
 use Rattle.page_slots.specs.Taking.{FillsPage, TakesOnOpenPage, TakesOnFreePage}
 use Rattle.page_slots.proofs.Pages.{placed_in, listed_page, listed_class, of_list}
 use Rattle.page_slots.proofs.TablesAfterTake.{front_listed, pool_front}
@@ -59,7 +59,7 @@ module _ (k : ClassTable) (t : Tables) (a : AreTables k t) where
     front_placed : IsPageOf k t page c NotFull
     front_placed = placed_in k t a c page NotFull front_there
 
-    pub front_taken : is_free t.pool.free page ≡ false
+    pub front_taken : is_in_pool t.pool.free page ≡ false
     front_taken = front_placed.taken
 
     module _ (d : List Bool) where
@@ -112,7 +112,7 @@ module _ (k : ClassTable) (t : Tables) (a : AreTables k t) where
 
     -- its first slot was taken
     pub took_free : (c n : ℕ) (map fresh : List Bool) (lists : PageLists) → pages_in t.lists c NotFull ≡ [] → n ≡ slots_in k c → fresh ≡ replicate n false → map ≡ set fresh 0 true
-        → (n ≡ 1 → Joins t.lists c Full page lists) → (n ≢ 1 → Joins t.lists c NotFull page lists) → TakesOnFreePage k t c page (tables (set t.maps page map) lists pool)
+        → (n ≡ 1 → JoinsList t.lists c Full page lists) → (n ≢ 1 → JoinsList t.lists c NotFull page lists) → TakesOnFreePage k t c page (tables (set t.maps page map) lists pool)
     took_free c n map fresh lists none slots is_fresh is filled not_filled = record {
       none = none;
       front = f;
@@ -132,7 +132,7 @@ module _ (k : ClassTable) (t : Tables) (a : AreTables k t) where
     pub of_page : page < t.pool.pages
     of_page = (let p = of_list k t a c page of in listed_page k t a c page p.0 p.1.listed)
 
-    pub of_taken : is_free t.pool.free page ≡ false
+    pub of_taken : is_in_pool t.pool.free page ≡ false
     of_taken = (of_list k t a c page of).1.taken
 
     -- its list is that which its slots tell

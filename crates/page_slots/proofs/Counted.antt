@@ -6,59 +6,59 @@ use Rattle.std.proofs.lemmas.Bool.{cases_eq, true≢false}
 use Rattle.std.proofs.lemmas.List.Sums.{sum_by-cons}
 use Rattle.cf_lemmas.proofs.Ranges.{one, count_changed}
 use Rattle.class_lists.proofs.Members.{contains_nil, contains_head, contains_tail, contains_cases, distinct_head, distinct_tail}
-use Rattle.page_pool.specs.Pool.{HasNoRepeats, is_free}
+use Rattle.page_pool.specs.Pool.{HasNoRepeats, is_in_pool}
 use Rattle.page_model.proofs.Totals.{sum_zeros}
 use Rattle.page_slots.proofs.Listing.{along}
 use Rattle.page_slots.proofs.Pages.{other_free}
 use Rattle.page_slots.proofs.TablesAfterTake.{free_head}
 
 -- the test for a list, and what stands there
-pub contains_any : (q : ℕ) (xs : List ℕ) → Contains xs q → is_free xs q ≡ true
+pub contains_any : (q : ℕ) (xs : List ℕ) → Contains xs q → is_in_pool xs q ≡ true
 contains_any q [] h = absurd (contains_nil q h)
 contains_any q (x ∷ xs) h = elim (cases_eq q x) [
-  | inl is ↦ ap (λ y. is_free (y ∷ xs) q) (sym is) ∙ free_head q xs
+  | inl is ↦ ap (λ y. is_in_pool (y ∷ xs) q) (sym is) ∙ free_head q xs
   | inr ne ↦ other_free xs x q ne ∙ elim (contains_cases q x xs h) [
     | inl is ↦ absurd (ne is)
     | inr there ↦ contains_any q xs there
   ]
 ]
 
-pub any_contains : (q : ℕ) (xs : List ℕ) → is_free xs q ≡ true → Contains xs q
+pub any_contains : (q : ℕ) (xs : List ℕ) → is_in_pool xs q ≡ true → Contains xs q
 any_contains q [] is = absurd (true≢false (sym is))
 any_contains q (x ∷ xs) is = elim (cases_eq q x) [
   | inl same ↦ along q (q ∷ xs) (x ∷ xs) (ap (λ y. y ∷ xs) same) (contains_head q xs)
   | inr ne ↦ contains_tail q x xs (any_contains q xs (sym (other_free xs x q ne) ∙ is))
 ]
 
-pub no_contains : (q : ℕ) (xs : List ℕ) → ¬ Contains xs q → is_free xs q ≡ false
-no_contains q xs none = go (is_free xs q) refl
+pub no_contains : (q : ℕ) (xs : List ℕ) → ¬ Contains xs q → is_in_pool xs q ≡ false
+no_contains q xs none = go (is_in_pool xs q) refl
   where
-    go : (b : Bool) → is_free xs q ≡ b → is_free xs q ≡ false
+    go : (b : Bool) → is_in_pool xs q ≡ b → is_in_pool xs q ≡ false
     go true e = absurd (none (any_contains q xs e))
     go false e = e
 
-pub contains_no : (q : ℕ) (xs : List ℕ) → is_free xs q ≡ false → ¬ Contains xs q
+pub contains_no : (q : ℕ) (xs : List ℕ) → is_in_pool xs q ≡ false → ¬ Contains xs q
 contains_no q xs e h = true≢false (sym (contains_any q xs h) ∙ e)
 
 pub no_repeats : (xs : List ℕ) → IsDistinct nat_eq xs → HasNoRepeats xs
 no_repeats [] d = tt
 no_repeats (x ∷ xs) d = (no_contains x xs (distinct_head x xs d), no_repeats xs (distinct_tail x xs d))
 
-tail_free : (x q : ℕ) (xs : List ℕ) → is_free xs q ≡ true → is_free (x ∷ xs) q ≡ true
+tail_free : (x q : ℕ) (xs : List ℕ) → is_in_pool xs q ≡ true → is_in_pool (x ∷ xs) q ≡ true
 tail_free x q xs is = elim (cases_eq q x) [
-  | inl same ↦ ap (λ y. is_free (y ∷ xs) q) (sym same) ∙ free_head q xs
+  | inl same ↦ ap (λ y. is_in_pool (y ∷ xs) q) (sym same) ∙ free_head q xs
   | inr ne ↦ other_free xs x q ne ∙ is
 ]
 
 -- of the numbers below n, those of the list are as many as it is long
-pub count_members : (n : ℕ) (xs : List ℕ) → HasNoRepeats xs → ((q : ℕ) → is_free xs q ≡ true → q < n) → count_by (is_free xs) (range_with_len 0 n) ≡ length xs
-count_members n [] d below = sum_zeros (λ q. one (is_free [] q)) (range_with_len 0 n) (λ _. refl)
+pub count_members : (n : ℕ) (xs : List ℕ) → HasNoRepeats xs → ((q : ℕ) → is_in_pool xs q ≡ true → q < n) → count_by (is_in_pool xs) (range_with_len 0 n) ≡ length xs
+count_members n [] d below = sum_zeros (λ q. one (is_in_pool [] q)) (range_with_len 0 n) (λ _. refl)
 count_members n (x ∷ xs) d below =
     let lt : x < n = below x (free_head x xs) in
-    let e = count_changed (is_free (x ∷ xs)) (is_free xs) 0 n x (omega arith) (omega arith) (λ q ne. other_free xs x q ne) in
-    let a : one (is_free xs x) ≡ 0 = ap one d.0 in
-    let b : one (is_free (x ∷ xs) x) ≡ 1 = ap one (free_head x xs) in
-    let rest : count_by (is_free xs) (range_with_len 0 n) ≡ length xs = count_members n xs d.1 (λ q is. below q (tail_free x q xs is)) in
+    let e = count_changed (is_in_pool (x ∷ xs)) (is_in_pool xs) 0 n x (omega arith) (omega arith) (λ q ne. other_free xs x q ne) in
+    let a : one (is_in_pool xs x) ≡ 0 = ap one d.0 in
+    let b : one (is_in_pool (x ∷ xs) x) ≡ 1 = ap one (free_head x xs) in
+    let rest : count_by (is_in_pool xs) (range_with_len 0 n) ≡ length xs = count_members n xs d.1 (λ q is. below q (tail_free x q xs is)) in
     omega arith
 
 -- where of each number one test or the other passes, all are counted

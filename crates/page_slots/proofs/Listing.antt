@@ -5,9 +5,9 @@ use Rattle.std.specs.List.{Contains}
 use Rattle.std.proofs.lemmas.Bool.{cases_eq}
 use Rattle.class_lists.specs.declared.Which.{Which}
 use Rattle.class_lists.specs.declared.Which.TheVariants.{Full, NotFull}
-use Rattle.class_lists.specs.PageLists.{PageLists, AreApart, IsUnlisted, pages_in, without}
+use Rattle.class_lists.specs.PageLists.{PageLists, AreApart, IsUnlisted, pages_in, without_page}
 use Rattle.class_lists.proofs.Members.{contains_head, contains_tail, contains_cases, contains_without, without_contains}
-use Rattle.page_slots.specs.Tables.{Joins, Leaves}
+use Rattle.page_slots.specs.Tables.{JoinsList, LeavesList}
 
 pub along : (q : ℕ) (xs ys : List ℕ) → xs ≡ ys → Contains xs q → Contains ys q
 along q xs ys e h = let P : List ℕ → Type 0 = λ l. Contains l q in subst P e h
@@ -32,7 +32,7 @@ pub same_list : (t : PageLists) (c d : ℕ) (w v : Which) → d ≡ c → v ≡ 
 same_list t c d w v a b = λ i. pages_in t (a i) (b i)
 
 module _ (old : PageLists) (c : ℕ) (w : Which) (page : ℕ) (new : PageLists) where
-  module _ (j : Joins old c w page new) where
+  module _ (j : JoinsList old c w page new) where
     joined : (d : ℕ) (v : Which) → d ≡ c → v ≡ w → pages_in new d v ≡ page ∷ pages_in old d v
     joined d v a b = same_list new c d w v a b ∙ j.list ∙ ap (λ l. page ∷ l) (sym (same_list old c d w v a b))
 
@@ -60,9 +60,9 @@ module _ (old : PageLists) (c : ℕ) (w : Which) (page : ℕ) (new : PageLists) 
     pub joined_classes : new.classes ≡ old.classes
     joined_classes = ap (λ (t : PageLists). t.classes) j.value
 
-  module _ (l : Leaves old c w page new) where
-    left : (d : ℕ) (v : Which) → d ≡ c → v ≡ w → pages_in new d v ≡ without page (pages_in old d v)
-    left d v a b = same_list new c d w v a b ∙ l.list ∙ ap (without page) (sym (same_list old c d w v a b))
+  module _ (l : LeavesList old c w page new) where
+    left : (d : ℕ) (v : Which) → d ≡ c → v ≡ w → pages_in new d v ≡ without_page page (pages_in old d v)
+    left d v a b = same_list new c d w v a b ∙ l.list ∙ ap (without_page page) (sym (same_list old c d w v a b))
 
     -- a page that left its list is in none
     pub left_unlisted : AreApart old → Contains (pages_in old c w) page → IsUnlisted new page

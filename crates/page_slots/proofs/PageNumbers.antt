@@ -8,7 +8,7 @@ use Rattle.cf_lemmas.proofs.Ranges.{one, count_same}
 use Rattle.class_lists.specs.declared.Which.{Which}
 use Rattle.class_lists.specs.declared.Which.TheVariants.{Full, NotFull}
 use Rattle.class_lists.specs.PageLists.{pages_in}
-use Rattle.page_pool.specs.Pool.{is_free}
+use Rattle.page_pool.specs.Pool.{is_in_pool}
 use Rattle.page_model.specs.Held.{Held}
 use Rattle.page_model.specs.Paging.{Paging, IsPaging, slots_of}
 use Rattle.page_model.specs.Arrangement.{objects_on, standing_on, home_pages, not_full_pages, used_pages, free_pages, IsSound, LacksRoom}
@@ -41,13 +41,13 @@ module _ (p : Paging) (ok : IsPaging p) (m : Held) (t : Tables) (tell : Tell p t
   counts : (c page : ℕ) (w : Which) → Contains (pages_in t.lists c w) page → objects_on p m c page ≡ used_in (slots_on t page)
   counts c page w h = o.counted c page (list_of (class_table p) t tell.tables c page w h)
 
-  unlisted : (c page : ℕ) → is_free (pages_in t.lists c Full) page ≡ false → is_free (pages_in t.lists c NotFull) page ≡ false → ¬ IsOf t c page
+  unlisted : (c page : ℕ) → is_in_pool (pages_in t.lists c Full) page ≡ false → is_in_pool (pages_in t.lists c NotFull) page ≡ false → ¬ IsOf t c page
   unlisted c page a b (inl h) = contains_no page (pages_in t.lists c Full) a h
   unlisted c page a b (inr h) = contains_no page (pages_in t.lists c NotFull) b h
 
   -- in class c
   module _ (c page : ℕ) where
-    is_part : is_free (pages_in t.lists c NotFull) page ≡ true → part_full (objects_on p m c page) (slots_of p c) ≡ true
+    is_part : is_in_pool (pages_in t.lists c NotFull) page ≡ true → part_full (objects_on p m c page) (slots_of p c) ≡ true
     is_part e =
         let h = any_contains page (pages_in t.lists c NotFull) e in
         let n = counts c page NotFull h in
@@ -55,29 +55,29 @@ module _ (p : Paging) (ok : IsPaging p) (m : Held) (t : Tables) (tell : Tell p t
         let some = f.0 in let few = f.1 in
         part_is (objects_on p m c page) (slots_of p c) (omega arith) (omega arith)
 
-    is_full : is_free (pages_in t.lists c Full) page ≡ true → objects_on p m c page ≡ slots_of p c
+    is_full : is_in_pool (pages_in t.lists c Full) page ≡ true → objects_on p m c page ≡ slots_of p c
     is_full e = (let h = any_contains page (pages_in t.lists c Full) e in counts c page Full h ∙ (listed c page Full h).fills)
 
-    some_slots : is_free (pages_in t.lists c Full) page ≡ true → 0 < slots_of p c
+    some_slots : is_in_pool (pages_in t.lists c Full) page ≡ true → 0 < slots_of p c
     some_slots e = (listed c page Full (any_contains page (pages_in t.lists c Full) e)).some
 
-    is_none : is_free (pages_in t.lists c Full) page ≡ false → is_free (pages_in t.lists c NotFull) page ≡ false → objects_on p m c page ≡ 0
+    is_none : is_in_pool (pages_in t.lists c Full) page ≡ false → is_in_pool (pages_in t.lists c NotFull) page ≡ false → objects_on p m c page ≡ 0
     is_none a b = none_counts p ok t tell m o c page (unlisted c page a b)
 
-    same_part : part_full (objects_on p m c page) (slots_of p c) ≡ is_free (pages_in t.lists c NotFull) page
-    same_part = by_tests (is_free (pages_in t.lists c NotFull) page) (is_free (pages_in t.lists c Full) page) refl refl
+    same_part : part_full (objects_on p m c page) (slots_of p c) ≡ is_in_pool (pages_in t.lists c NotFull) page
+    same_part = by_tests (is_in_pool (pages_in t.lists c NotFull) page) (is_in_pool (pages_in t.lists c Full) page) refl refl
       where
-        by_tests : (n f : Bool) → is_free (pages_in t.lists c NotFull) page ≡ n → is_free (pages_in t.lists c Full) page ≡ f
-            → part_full (objects_on p m c page) (slots_of p c) ≡ is_free (pages_in t.lists c NotFull) page
+        by_tests : (n f : Bool) → is_in_pool (pages_in t.lists c NotFull) page ≡ n → is_in_pool (pages_in t.lists c Full) page ≡ f
+            → part_full (objects_on p m c page) (slots_of p c) ≡ is_in_pool (pages_in t.lists c NotFull) page
         by_tests true f a b = is_part a ∙ sym a
         by_tests false true a b = (let e = is_full b in part_not (objects_on p m c page) (slots_of p c) (omega arith) ∙ sym a)
         by_tests false false a b = part_none (objects_on p m c page) (slots_of p c) (is_none b a) ∙ sym a
 
-    split : one (nat_lt 0 (objects_on p m c page)) ≡ one (is_free (pages_in t.lists c Full) page) + one (is_free (pages_in t.lists c NotFull) page)
-    split = by_tests (is_free (pages_in t.lists c NotFull) page) (is_free (pages_in t.lists c Full) page) refl refl
+    split : one (nat_lt 0 (objects_on p m c page)) ≡ one (is_in_pool (pages_in t.lists c Full) page) + one (is_in_pool (pages_in t.lists c NotFull) page)
+    split = by_tests (is_in_pool (pages_in t.lists c NotFull) page) (is_in_pool (pages_in t.lists c Full) page) refl refl
       where
-        by_tests : (n f : Bool) → is_free (pages_in t.lists c NotFull) page ≡ n → is_free (pages_in t.lists c Full) page ≡ f
-            → one (nat_lt 0 (objects_on p m c page)) ≡ one (is_free (pages_in t.lists c Full) page) + one (is_free (pages_in t.lists c NotFull) page)
+        by_tests : (n f : Bool) → is_in_pool (pages_in t.lists c NotFull) page ≡ n → is_in_pool (pages_in t.lists c Full) page ≡ f
+            → one (nat_lt 0 (objects_on p m c page)) ≡ one (is_in_pool (pages_in t.lists c Full) page) + one (is_in_pool (pages_in t.lists c NotFull) page)
         by_tests true true a b = absurd (
             let h = any_contains page (pages_in t.lists c NotFull) a in
             let n = counts c page NotFull h in
@@ -98,30 +98,30 @@ module _ (p : Paging) (ok : IsPaging p) (m : Held) (t : Tables) (tell : Tell p t
             let y = lt_no 0 (objects_on p m c page) (omega arith) in
             let u = ap one a in let v = ap one b in omega arith
 
-  below : (c : ℕ) (w : Which) (page : ℕ) → is_free (pages_in t.lists c w) page ≡ true → page < p.pages
+  below : (c : ℕ) (w : Which) (page : ℕ) → is_in_pool (pages_in t.lists c w) page ≡ true → page < p.pages
   below c w page is = (let lt = listed_page (class_table p) t tell.tables c page w (any_contains page (pages_in t.lists c w) is) in let e = tell.pages in omega arith)
 
-  members : (c : ℕ) (w : Which) → count_by (is_free (pages_in t.lists c w)) (range_with_len 0 p.pages) ≡ length (pages_in t.lists c w)
+  members : (c : ℕ) (w : Which) → count_by (is_in_pool (pages_in t.lists c w)) (range_with_len 0 p.pages) ≡ length (pages_in t.lists c w)
   members c w = count_members p.pages (pages_in t.lists c w) (no_repeats (pages_in t.lists c w) (tell.tables.lists.distinct c w)) (below c w)
 
   -- the pages of a class that are not full are those of its list
   pub not_full_pages_are : (c : ℕ) → not_full_pages p m c ≡ length (pages_in t.lists c NotFull)
   unfolding not_full_pages
   not_full_pages_are c =
-      count_same (λ page. part_full (objects_on p m c page) (slots_of p c)) (is_free (pages_in t.lists c NotFull)) 0 p.pages (λ page _. same_part c page) ∙ members c NotFull
+      count_same (λ page. part_full (objects_on p m c page) (slots_of p c)) (is_in_pool (pages_in t.lists c NotFull)) 0 p.pages (λ page _. same_part c page) ∙ members c NotFull
 
   -- the pages of a class are those of its two lists
   pub home_pages_are : (c : ℕ) → home_pages p m c ≡ length (pages_in t.lists c Full) + length (pages_in t.lists c NotFull)
   unfolding home_pages
   home_pages_are c =
-      let e = sum_same (λ page. one (nat_lt 0 (objects_on p m c page))) (λ page. one (is_free (pages_in t.lists c Full) page) + one (is_free (pages_in t.lists c NotFull) page)) (range_with_len 0 p.pages) (split c) in
-      let f = sum_plus (λ page. one (is_free (pages_in t.lists c Full) page)) (λ page. one (is_free (pages_in t.lists c NotFull) page)) (range_with_len 0 p.pages) in
+      let e = sum_same (λ page. one (nat_lt 0 (objects_on p m c page))) (λ page. one (is_in_pool (pages_in t.lists c Full) page) + one (is_in_pool (pages_in t.lists c NotFull) page)) (range_with_len 0 p.pages) (split c) in
+      let f = sum_plus (λ page. one (is_in_pool (pages_in t.lists c Full) page)) (λ page. one (is_in_pool (pages_in t.lists c NotFull) page)) (range_with_len 0 p.pages) in
       let a = members c Full in
       let b = members c NotFull in
       omega arith
 
   -- something stands on each page that isn't free
-  pub taken_stands : (page : ℕ) → page < p.pages → is_free t.pool.free page ≡ false → 0 < standing_on p m page
+  pub taken_stands : (page : ℕ) → page < p.pages → is_in_pool t.pool.free page ≡ false → 0 < standing_on p m page
   taken_stands page lt not_free = elim (tell.tables.placed page (let e = tell.pages in omega arith)) [
     | inl f ↦ absurd (true≢false (sym f.free ∙ not_free))
     | inr (c, w, q) ↦ (
@@ -136,10 +136,10 @@ module _ (p : Paging) (ok : IsPaging p) (m : Held) (t : Tables) (tell : Tell p t
       used_there NotFull n s f some = f.0
 
   -- on a free page nothing stands
-  free_or_taken : (page : ℕ) → page < p.pages → one (nat_lt 0 (standing_on p m page)) + one (is_free t.pool.free page) ≡ 1
-  free_or_taken page lt = by_test (is_free t.pool.free page) refl
+  free_or_taken : (page : ℕ) → page < p.pages → one (nat_lt 0 (standing_on p m page)) + one (is_in_pool t.pool.free page) ≡ 1
+  free_or_taken page lt = by_test (is_in_pool t.pool.free page) refl
     where
-      by_test : (b : Bool) → is_free t.pool.free page ≡ b → one (nat_lt 0 (standing_on p m page)) + one (is_free t.pool.free page) ≡ 1
+      by_test : (b : Bool) → is_in_pool t.pool.free page ≡ b → one (nat_lt 0 (standing_on p m page)) + one (is_in_pool t.pool.free page) ≡ 1
       by_test true e =
           let z = free_bare p ok t tell m o page (free_page (class_table p) t tell.tables page (let f = tell.pages in omega arith) e) in
           let y = lt_no 0 (standing_on p m page) (omega arith) in let u = ap one e in omega arith
@@ -150,7 +150,7 @@ module _ (p : Paging) (ok : IsPaging p) (m : Held) (t : Tables) (tell : Tell p t
   pages_are s =
       let used = used_is p m s in
       let free = count_members p.pages t.pool.free tell.tables.pool.distinct (λ page is. (let lt = tell.tables.pool.below page is in let e = tell.pages in omega arith)) in
-      let all = count_both (λ page. nat_lt 0 (standing_on p m page)) (is_free t.pool.free) 0 p.pages (λ page _ lt. free_or_taken page (omega arith)) in
+      let all = count_both (λ page. nat_lt 0 (standing_on p m page)) (is_in_pool t.pool.free) 0 p.pages (λ page _ lt. free_or_taken page (omega arith)) in
       omega arith
 
   pub free_pages_are : IsSound p m → free_pages p m ≡ length t.pool.free
@@ -160,5 +160,5 @@ module _ (p : Paging) (ok : IsPaging p) (m : Held) (t : Tables) (tell : Tell p t
   pub lacks_room : (c : ℕ) → pages_in t.lists c NotFull ≡ [] → t.pool.free ≡ [] → LacksRoom p m c
   lacks_room c none empty = record {
     full = not_full_pages_are c ∙ ap length none;
-    taken = λ page lt. taken_stands page lt (ap (λ free. is_free free page) empty);
+    taken = λ page lt. taken_stands page lt (ap (λ free. is_in_pool free page) empty);
   }

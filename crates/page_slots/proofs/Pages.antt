@@ -8,12 +8,12 @@ use Rattle.size_classes.specs.Table.{ClassTable}
 use Rattle.class_lists.specs.declared.Which.{Which}
 use Rattle.class_lists.specs.declared.Which.TheVariants.{Full, NotFull}
 use Rattle.class_lists.specs.PageLists.{AreApart, pages_in}
-use Rattle.page_pool.specs.Pool.{IsPool, is_free}
+use Rattle.page_pool.specs.Pool.{IsPool, is_in_pool}
 use Rattle.page_slots.specs.Tables.{Tables, AreTables, IsOf, IsPlaced, IsPageOf, IsFreePage, slots_in, slots_on}
 
 -- a page is as it was
 pub record IsSame (old new : Tables) (g : ℕ) : Type 0 where
-  pub free : is_free new.pool.free g ≡ is_free old.pool.free g
+  pub free : is_in_pool new.pool.free g ≡ is_in_pool old.pool.free g
   pub comes : (d : ℕ) (v : Which) → Contains (pages_in old.lists d v) g → Contains (pages_in new.lists d v) g
   pub stays : (d : ℕ) (v : Which) → Contains (pages_in new.lists d v) g → Contains (pages_in old.lists d v) g
   pub slots : slots_on new g ≡ slots_on old g
@@ -33,7 +33,7 @@ same_placed k old new g s (inr (c, w, p)) =
     inr (c, w, record { taken = s.free ∙ p.taken; listed = s.comes c w p.listed; slots = ap length s.slots ∙ p.slots; some = p.some; fills = rw s.slots p.fills })
 
 -- the pool without or with one page more answers alike for all others
-pub other_free : (free : List ℕ) (page g : ℕ) → g ≢ page → is_free (page ∷ free) g ≡ is_free free g
+pub other_free : (free : List ℕ) (page g : ℕ) → g ≢ page → is_in_pool (page ∷ free) g ≡ is_in_pool free g
 other_free free page g ne = (let e : eqb g page ≡ false = ne_eqb g page ne in rw e)
 
 -- a map is written
@@ -77,13 +77,13 @@ module _ (k : ClassTable) (t : Tables) (a : AreTables k t) where
       let p = of_list c page x in let q = of_list d page y in
       (a.lists.once c d p.0 q.0 page p.1.listed q.1.listed).0
 
-  pub free_page : (page : ℕ) → page < t.pool.pages → is_free t.pool.free page ≡ true → IsFreePage t page
+  pub free_page : (page : ℕ) → page < t.pool.pages → is_in_pool t.pool.free page ≡ true → IsFreePage t page
   free_page page lt is = elim (a.placed page lt) [
     | inl f ↦ f
     | inr (c, w, p) ↦ absurd (true≢false (sym is ∙ p.taken))
   ]
 
-  pub taken_page : (page : ℕ) → page < t.pool.pages → is_free t.pool.free page ≡ false → (c : ℕ) × (w : Which) × IsPageOf k t page c w
+  pub taken_page : (page : ℕ) → page < t.pool.pages → is_in_pool t.pool.free page ≡ false → (c : ℕ) × (w : Which) × IsPageOf k t page c w
   taken_page page lt is = elim (a.placed page lt) [
     | inl f ↦ absurd (true≢false (sym f.free ∙ is))
     | inr p ↦ p

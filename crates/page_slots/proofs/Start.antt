@@ -10,12 +10,12 @@ use Rattle.cf_base.specs.Classes.{sizes}
 use Rattle.cf_base.specs.Limits.{is_page_size}
 use Rattle.cf_base.specs.declared.kind.Layout.{Layout}
 use Rattle.cf_base.proofs.Rising.{are_sizes, page_size}
-use Rattle.size_classes.specs.Table.{ClassTable, IsTable}
+use Rattle.size_classes.specs.Table.{ClassTable, IsClassTable}
 use Rattle.class_lists.specs.declared.Which.{Which}
 use Rattle.class_lists.specs.declared.Which.TheVariants.{Full, NotFull}
 use Rattle.class_lists.specs.PageLists.{AreApart, empty_lists, list_number, pages_in}
 use Rattle.class_lists.proofs.Members.{contains_nil, distinct_nil}
-use Rattle.page_pool.specs.Pool.{Pool, is_free}
+use Rattle.page_pool.specs.Pool.{Pool, is_in_pool}
 use Rattle.page_pool.proofs.CallerLemmas.{pooled_range}
 use Rattle.page_model.specs.Held.{Placed}
 use Rattle.page_model.specs.Paging.{Paging}
@@ -26,15 +26,15 @@ use Rattle.page_slots.proofs.Pages.{other_free}
 use Rattle.page_slots.proofs.TablesAfterTake.{free_head}
 
 -- the numbers from a on are all in their range
-range_has : (a n q : ℕ) → a ≤ q → q < a + n → is_free (range_with_len a n) q ≡ true
+range_has : (a n q : ℕ) → a ≤ q → q < a + n → is_in_pool (range_with_len a n) q ≡ true
 range_has a zero q low high = absurd (omega arith)
 range_has a (suc n) q low high = elim (cases_eq q a) [
-  | inl is ↦ ap (λ y. is_free (y ∷ range_with_len (a + 1) n) q) (sym is) ∙ free_head q (range_with_len (a + 1) n)
+  | inl is ↦ ap (λ y. is_in_pool (y ∷ range_with_len (a + 1) n) q) (sym is) ∙ free_head q (range_with_len (a + 1) n)
   | inr ne ↦ other_free (range_with_len (a + 1) n) a q ne ∙ range_has (a + 1) n q (omega arith) (omega arith)
 ]
 
 -- the classes of a heap's pages are a table
-pub first_table : (page_words : ℕ) (layout : Layout) → IsTrue (is_page_size page_words) → IsTable page_words (sizes page_words layout)
+pub first_table : (page_words : ℕ) (layout : Layout) → IsTrue (is_page_size page_words) → IsClassTable page_words (sizes page_words layout)
 first_table page_words layout ok = record { are_sizes = are_sizes page_words layout ok; small = (page_size page_words ok).small }
 
 module _ (classes pages : ℕ) where
@@ -61,7 +61,7 @@ module _ (classes pages : ℕ) where
   none_of maps pool c page (inr h) = none_listed c NotFull page h
 
   -- the tables at the start, whatever the maps of the free pages are
-  pub first_tables : (k : ClassTable) (maps : List (List Bool)) → IsTable k.page_words k.sizes → pages * k.page_words < 2 ^ 32 → length maps ≡ pages → classes ≡ length k.sizes
+  pub first_tables : (k : ClassTable) (maps : List (List Bool)) → IsClassTable k.page_words k.sizes → pages * k.page_words < 2 ^ 32 → length maps ≡ pages → classes ≡ length k.sizes
       → AreTables k (tables maps (empty_lists classes pages) (record { pages = pages; free = range_with_len 0 pages }))
   first_tables k maps table small long all = record {
     table = table;

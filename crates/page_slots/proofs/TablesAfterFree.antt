@@ -9,7 +9,7 @@ use Rattle.size_classes.specs.Table.{ClassTable}
 use Rattle.class_lists.specs.declared.Which.{Which}
 use Rattle.class_lists.specs.declared.Which.TheVariants.{Full, NotFull}
 use Rattle.class_lists.specs.PageLists.{PageLists, AreApart, pages_in}
-use Rattle.page_pool.specs.Pool.{Pool, IsPool, is_free}
+use Rattle.page_pool.specs.Pool.{Pool, IsPool, is_in_pool}
 use Rattle.page_slots.specs.Tables.{Tables, AreTables, IsOf, IsPlaced, IsPageOf, IsFreePage, slots_in, slots_on, used_in}
 use Rattle.page_slots.specs.Freeing.{Vacates}
 use Rattle.page_slots.proofs.Listing.{along, joined_here, joined_comes, joined_stays, joined_pages, joined_classes, left_comes, left_stays, left_pages, left_classes, left_unlisted}
@@ -44,7 +44,7 @@ module _ (k : ClassTable) (old : Tables) (a : AreTables k old) (c page slot : �
 
   -- by its lists and the pool
   record Left : Type 0 where
-    free : (g : ℕ) → g ≢ page → is_free new.pool.free g ≡ is_free old.pool.free g
+    free : (g : ℕ) → g ≢ page → is_in_pool new.pool.free g ≡ is_in_pool old.pool.free g
     comes : (g d : ℕ) (w : Which) → g ≢ page → Contains (pages_in old.lists d w) g → Contains (pages_in new.lists d w) g
     stays : (g d : ℕ) (w : Which) → g ≢ page → Contains (pages_in new.lists d w) g → Contains (pages_in old.lists d w) g
     pages : new.lists.pages ≡ old.lists.pages
@@ -54,7 +54,7 @@ module _ (k : ClassTable) (old : Tables) (a : AreTables k old) (c page slot : �
 
   emptied : used_in (slots_on new page) ≡ 0 → Left
   emptied is = record {
-    free = λ g ne. ap (λ (p : Pool). is_free p.free g) (v.returned is) ∙ other_free old.pool.free page g ne;
+    free = λ g ne. ap (λ (p : Pool). is_in_pool p.free g) (v.returned is) ∙ other_free old.pool.free page g ne;
     comes = λ g d w ne h. left_comes _ c v.which page _ (v.emptied is) g d w ne h;
     stays = λ g d w ne h. left_stays _ c v.which page _ (v.emptied is) g d w h;
     pages = left_pages _ c v.which page _ (v.emptied is);
@@ -62,15 +62,15 @@ module _ (k : ClassTable) (old : Tables) (a : AreTables k old) (c page slot : �
     pool_pages = ap (λ (p : Pool). p.pages) (v.returned is);
     here = inl (
       record {
-        free = ap (λ (p : Pool). is_free p.free page) (v.returned is) ∙ free_head page old.pool.free;
+        free = ap (λ (p : Pool). is_in_pool p.free page) (v.returned is) ∙ free_head page old.pool.free;
         unlisted = left_unlisted _ c v.which page _ (v.emptied is) a.lists v.listed;
       },
       is,
     );
   }
 
-  pool_same : used_in (slots_on new page) ≢ 0 → (g : ℕ) → is_free new.pool.free g ≡ is_free old.pool.free g
-  pool_same ne g = ap (λ (p : Pool). is_free p.free g) (v.kept ne)
+  pool_same : used_in (slots_on new page) ≢ 0 → (g : ℕ) → is_in_pool new.pool.free g ≡ is_in_pool old.pool.free g
+  pool_same ne g = ap (λ (p : Pool). is_in_pool p.free g) (v.kept ne)
 
   opened : used_in (slots_on new page) ≢ 0 → v.which ≡ Full → Left
   opened ne is =

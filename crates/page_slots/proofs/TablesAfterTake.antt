@@ -11,9 +11,9 @@ use Rattle.class_lists.specs.declared.Which.{Which}
 use Rattle.class_lists.specs.declared.Which.TheVariants.{Full, NotFull}
 use Rattle.class_lists.specs.PageLists.{PageLists, AreApart, pages_in}
 use Rattle.class_lists.proofs.Members.{contains_head}
-use Rattle.page_pool.specs.Pool.{Pool, IsPool, TakesFront, is_free}
+use Rattle.page_pool.specs.Pool.{Pool, IsPool, TakesFront, is_in_pool}
 use Rattle.page_pool.proofs.CallerLemmas.{front_gone, front_below}
-use Rattle.page_slots.specs.Tables.{Tables, AreTables, IsOf, IsPageOf, IsFreePage, Joins, slots_in, slots_on, used_in}
+use Rattle.page_slots.specs.Tables.{Tables, AreTables, IsOf, IsPageOf, IsFreePage, JoinsList, slots_in, slots_on, used_in}
 use Rattle.page_slots.specs.Taking.{FillsPage, TakesOnOpenPage, TakesOnFreePage}
 use Rattle.page_slots.proofs.Listing.{along, joined_here, joined_comes, joined_stays, joined_pages, joined_classes, left_comes, left_stays, left_pages, left_classes}
 use Rattle.page_slots.proofs.Pages.{IsSame, other_free, map_here, map_there, maps_long, placed_in, listed_page, list_of, free_page, some_slots, tables_after}
@@ -23,7 +23,7 @@ pub front_listed : (xs : List ℕ) (page : ℕ) → slice_get xs 0 ≡ Some page
 front_listed [] page e = absurd (let lt = slice_get_within [] 0 page e in omega arith)
 front_listed (x ∷ xs) page e = (let same : Some x ≡ Some page = e in let is : x ≡ page = cc in along page _ _ (ap (λ y. y ∷ xs) (sym is)) (contains_head page xs))
 
-pub free_head : (page : ℕ) (free : List ℕ) → is_free (page ∷ free) page ≡ true
+pub free_head : (page : ℕ) (free : List ℕ) → is_in_pool (page ∷ free) page ≡ true
 free_head page free = (let e = eq-eqb page page refl in rw e)
 
 first_of : (n : ℕ) → 1 ≤ n → slice_get (replicate n false) 0 ≡ Some false
@@ -35,7 +35,7 @@ pub pool_front : (k : ClassTable) (t : Tables) → AreTables k t → (page : ℕ
 pool_front k t a page pool f =
     let P : List ℕ → Type 0 = λ free. IsPool (record { pages = t.pool.pages; free = free }) in
     let inside = front_below t.pool.pages page pool.free (subst P f.0 a.pool) in
-    (inside, free_page k t a page inside (ap (λ free. is_free free page) f.0 ∙ free_head page pool.free))
+    (inside, free_page k t a page inside (ap (λ free. is_in_pool free page) f.0 ∙ free_head page pool.free))
 
 -- What a slot that becomes used changes: its page, on which the other slots stay, and which was not full, or free where the class had no such page.
 pub record Gains (k : ClassTable) (old new : Tables) (c page slot : ℕ) : Type 0 where
@@ -72,8 +72,8 @@ module _ (k : ClassTable) (old : Tables) (a : AreTables k old) (c page : ℕ) (n
     long : length (slots_on new page) ≡ slots_in k c
     long = ap length now ∙ length-set (slots_on old page) slot true ∙ was.slots
 
-    pool_same : (g : ℕ) → is_free new.pool.free g ≡ is_free old.pool.free g
-    pool_same g = ap (λ (p : Pool). is_free p.free g) t.pool
+    pool_same : (g : ℕ) → is_in_pool new.pool.free g ≡ is_in_pool old.pool.free g
+    pool_same g = ap (λ (p : Pool). is_in_pool p.free g) t.pool
 
     -- by its lists, filled or not
     record Listed : Type 0 where
@@ -177,15 +177,15 @@ module _ (k : ClassTable) (old : Tables) (a : AreTables k old) (c page : ℕ) (n
     long_free : length (slots_on new page) ≡ slots_in k c
     long_free = ap length now_free ∙ length-set fresh 0 true ∙ fresh_long
 
-    gone : is_free new.pool.free page ≡ false
+    gone : is_in_pool new.pool.free page ≡ false
     gone = front_gone old.pool.pages page new.pool.free pooled
 
-    free_same : (g : ℕ) → g ≢ page → is_free new.pool.free g ≡ is_free old.pool.free g
-    free_same g ne = sym (ap (λ free. is_free free g) front ∙ other_free new.pool.free page g ne)
+    free_same : (g : ℕ) → g ≢ page → is_in_pool new.pool.free g ≡ is_in_pool old.pool.free g
+    free_same g ne = sym (ap (λ free. is_in_pool free g) front ∙ other_free new.pool.free page g ne)
 
     record Joined : Type 0 where
       which : Which
-      joins : Joins old.lists c which page new.lists
+      joins : JoinsList old.lists c which page new.lists
       here : IsPageOf k new page c which
 
     joined_free : Joined

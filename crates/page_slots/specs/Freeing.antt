@@ -5,13 +5,13 @@ use Rattle.size_classes.specs.Table.{ClassTable}
 use Rattle.class_lists.specs.declared.Which.{Which}
 use Rattle.class_lists.specs.declared.Which.TheVariants.{Full, NotFull}
 use Rattle.class_lists.specs.PageLists.{PageLists, pages_in}
-use Rattle.page_slots.specs.Tables.{Tables, Joins, Leaves, address_in, slots_on, used_in}
+use Rattle.page_slots.specs.Tables.{Tables, JoinsList, LeavesList, address_in, slots_on, used_in}
 
 -- a page of which a slot becomes free goes to the list of the pages that are not full
 pub record OpensPage (old : PageLists) (c page : ℕ) (new : PageLists) : Type 0 where
   pub between : PageLists
-  pub leaves : Leaves old c Full page between
-  pub joins : Joins between c NotFull page new
+  pub leaves : LeavesList old c Full page between
+  pub joins : JoinsList between c NotFull page new
 
 -- A used slot of a page of class c becomes free. A page that it leaves empty leaves its list and is the front page of the pool; one that was full becomes the front page of those that are not.
 pub record Vacates (old : Tables) (c page slot : ℕ) (new : Tables) : Type 0 where
@@ -19,7 +19,7 @@ pub record Vacates (old : Tables) (c page slot : ℕ) (new : Tables) : Type 0 wh
   pub listed : Contains (pages_in old.lists c which) page
   pub used : slice_get (slots_on old page) slot ≡ Some true
   pub maps : new.maps ≡ slice_set old.maps page (slice_set (slots_on old page) slot false)
-  pub emptied : used_in (slots_on new page) ≡ 0 → Leaves old.lists c which page new.lists
+  pub emptied : used_in (slots_on new page) ≡ 0 → LeavesList old.lists c which page new.lists
   pub returned : used_in (slots_on new page) ≡ 0 → new.pool ≡ record old.pool { free = page ∷ old.pool.free }
   pub opened : used_in (slots_on new page) ≢ 0 → which ≡ Full → OpensPage old.lists c page new.lists
   pub still : used_in (slots_on new page) ≢ 0 → which ≡ NotFull → new.lists ≡ old.lists

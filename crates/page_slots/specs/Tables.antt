@@ -2,11 +2,11 @@
 use Rattle.std.specs.Prelude.{◌≡◌, ℕ, Bool, true, false, ◌+◌, ◌*◌, ◌/◌, ◌%◌, ◌^◌, ◌<◌, ◌⊎◌, List, [], ◌∷◌, length, Some, count_by, slice_get, slice_index, slice_index_or}
 use Rattle.std.specs.List.{Contains}
 use Rattle.cf_base.specs.Classes.{slots}
-use Rattle.size_classes.specs.Table.{ClassTable, IsTable}
+use Rattle.size_classes.specs.Table.{ClassTable, IsClassTable}
 use Rattle.class_lists.specs.declared.Which.{Which}
 use Rattle.class_lists.specs.declared.Which.TheVariants.{Full, NotFull}
-use Rattle.class_lists.specs.PageLists.{PageLists, AreApart, IsUnlisted, KeepsOthers, pages_in, with_list, without}
-use Rattle.page_pool.specs.Pool.{Pool, IsPool, is_free}
+use Rattle.class_lists.specs.PageLists.{PageLists, AreApart, IsUnlisted, KeepsOthers, pages_in, with_list, without_page}
+use Rattle.page_pool.specs.Pool.{Pool, IsPool, is_in_pool}
 
 -- the slots of each page, true for used; the pages of each class; and the free pages
 pub record Tables : Type 0 where
@@ -56,12 +56,12 @@ HasUsed NotFull used n = (0 < used) × (used < n)
 
 -- the page is free, and of no class
 pub record IsFreePage (t : Tables) (page : ℕ) : Type 0 where
-  pub free : is_free t.pool.free page ≡ true
+  pub free : is_in_pool t.pool.free page ≡ true
   pub unlisted : IsUnlisted t.lists page
 
 -- the page stands in that list of class c, with its slots, and as many of them are used as the list says
 pub record IsPageOf (k : ClassTable) (t : Tables) (page c : ℕ) (which : Which) : Type 0 where
-  pub taken : is_free t.pool.free page ≡ false
+  pub taken : is_in_pool t.pool.free page ≡ false
   pub listed : Contains (pages_in t.lists c which) page
   pub slots : length (slots_on t page) ≡ slots_in k c
   pub some : 0 < slots_in k c
@@ -73,7 +73,7 @@ IsPlaced k t page = IsFreePage t page ⊎ ((c : ℕ) × (which : Which) × IsPag
 
 -- Each page has its slots and is in one place: free, or in one list of one class, full or neither full nor empty.
 pub record AreTables (k : ClassTable) (t : Tables) : Type 0 where
-  pub table : IsTable k.page_words k.sizes
+  pub table : IsClassTable k.page_words k.sizes
   pub small : t.pool.pages * k.page_words < 2 ^ 32
   pub maps : length t.maps ≡ t.pool.pages
   pub pages : t.lists.pages ≡ t.pool.pages
@@ -83,13 +83,13 @@ pub record AreTables (k : ClassTable) (t : Tables) : Type 0 where
   pub placed : (page : ℕ) → page < t.pool.pages → IsPlaced k t page
 
 -- a page joins a list in front
-pub record Joins (old : PageLists) (c : ℕ) (which : Which) (page : ℕ) (new : PageLists) : Type 0 where
+pub record JoinsList (old : PageLists) (c : ℕ) (which : Which) (page : ℕ) (new : PageLists) : Type 0 where
   pub value : new ≡ with_list old c which (page ∷ pages_in old c which)
   pub list : pages_in new c which ≡ page ∷ pages_in old c which
   pub others : KeepsOthers old new c which
 
 -- a page leaves a list
-pub record Leaves (old : PageLists) (c : ℕ) (which : Which) (page : ℕ) (new : PageLists) : Type 0 where
-  pub value : new ≡ with_list old c which (without page (pages_in old c which))
-  pub list : pages_in new c which ≡ without page (pages_in old c which)
+pub record LeavesList (old : PageLists) (c : ℕ) (which : Which) (page : ℕ) (new : PageLists) : Type 0 where
+  pub value : new ≡ with_list old c which (without_page page (pages_in old c which))
+  pub list : pages_in new c which ≡ without_page page (pages_in old c which)
   pub others : KeepsOthers old new c which

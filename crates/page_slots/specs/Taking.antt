@@ -5,13 +5,13 @@ use Rattle.size_classes.specs.Table.{ClassTable}
 use Rattle.class_lists.specs.declared.Which.TheVariants.{Full, NotFull}
 use Rattle.class_lists.specs.PageLists.{PageLists, pages_in}
 use Rattle.page_pool.specs.Pool.{TakesFront}
-use Rattle.page_slots.specs.Tables.{Tables, Joins, Leaves, address_in, slots_in, slots_on, used_in}
+use Rattle.page_slots.specs.Tables.{Tables, JoinsList, LeavesList, address_in, slots_in, slots_on, used_in}
 
 -- a page that is filled goes from the list of the pages that are not full to that of the full ones
 pub record FillsPage (old : PageLists) (c page : ℕ) (new : PageLists) : Type 0 where
   pub between : PageLists
-  pub leaves : Leaves old c NotFull page between
-  pub joins : Joins between c Full page new
+  pub leaves : LeavesList old c NotFull page between
+  pub joins : JoinsList between c Full page new
 
 -- the least free slot of the front page of class c that is not full
 pub record TakesOnOpenPage (old : Tables) (c page slot : ℕ) (new : Tables) : Type 0 where
@@ -28,8 +28,8 @@ pub record TakesOnFreePage (k : ClassTable) (old : Tables) (c page : ℕ) (new :
   pub none : pages_in old.lists c NotFull ≡ []
   pub front : TakesFront old.pool (Some page) new.pool
   pub maps : new.maps ≡ slice_set old.maps page (slice_set (replicate (slots_in k c) false) 0 true)
-  pub filled : slots_in k c ≡ 1 → Joins old.lists c Full page new.lists
-  pub not_filled : slots_in k c ≢ 1 → Joins old.lists c NotFull page new.lists
+  pub filled : slots_in k c ≡ 1 → JoinsList old.lists c Full page new.lists
+  pub not_filled : slots_in k c ≢ 1 → JoinsList old.lists c NotFull page new.lists
 
 -- a free slot of class c with that address is used now
 pub record TakesAt (k : ClassTable) (old : Tables) (c a : ℕ) (new : Tables) : Type 0 where

@@ -3,8 +3,8 @@ ghost use Rattle.std.specs.Prelude.{◌≡◌, ◌≢◌, ◌<◌, ◌≤◌, []
 ghost use Rattle.std.specs.List.{Contains};
 ghost use Rattle.step_ledger.specs.Counting.{RoseAtMost, RoseBy};
 ghost use Rattle.class_lists.specs.PageLists.{AreApart, pages_in};
-ghost use Rattle.page_pool.specs.Pool.{IsPool, is_free};
-ghost use Rattle.size_classes.specs.Table.{IsTable};
+ghost use Rattle.page_pool.specs.Pool.{IsPool, is_in_pool};
+ghost use Rattle.size_classes.specs.Table.{IsClassTable};
 ghost use Rattle.page_slots.specs.Tables.{AreTables, IsUsed, page_at, slot_at, tables, used_in};
 ghost use Rattle.page_slots.specs.Freeing.{FillsFrom, MovesObject, OpensPage, Vacates};
 
@@ -26,7 +26,7 @@ pub fn must_move(
     bound: u32,
     steps: &mut Steps,
 ) -> bool
-    requires table { IsTable classes.now.page_words classes.now.sizes }
+    requires table { IsClassTable classes.now.page_words classes.now.sizes }
     requires page { page_at classes.now at < length maps.now }
     requires class { c < lists.now.classes }
     ensures value { IsTrue result ↔ MovesObject (slice_index_or maps.now (page_at classes.now at) [])
@@ -121,7 +121,7 @@ fn vacate(
     requires pool { IsPool pool.old }
     requires page { page < length maps.old }
     requires within { page < pool.old.pages }
-    requires taken { is_free pool.old.free page ≡ false }
+    requires taken { is_in_pool pool.old.free page ≡ false }
     requires listed { Contains (pages_in lists.old c which) page }
     requires used { slice_get (slice_index_or maps.old page []) slot ≡ Some true }
     ensures freed { Vacates (tables maps.old lists.old pool.old) c page slot (tables maps.new lists.new pool.new) }

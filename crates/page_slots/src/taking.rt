@@ -3,7 +3,7 @@ ghost use Rattle.std.specs.Prelude.{◌≡◌, ◌≢◌, ◌<◌, [], length, n
 ghost use Rattle.std.specs.List.{Contains, position};
 ghost use Rattle.step_ledger.specs.Counting.{RoseAtMost};
 ghost use Rattle.class_lists.specs.PageLists.{AreApart, IsUnlisted, pages_in};
-ghost use Rattle.page_slots.specs.Tables.{AreTables, Joins, tables, used_in};
+ghost use Rattle.page_slots.specs.Tables.{AreTables, JoinsList, tables, used_in};
 ghost use Rattle.page_slots.specs.Taking.{FillsPage, TakesSlot};
 
 use crate::place::address_of;
@@ -104,8 +104,8 @@ fn join_with_one(lists: &mut ClassLists, c: u32, page: u32, slots: u32, steps: &
     requires class { c < lists.old.classes }
     requires page { page < lists.old.pages }
     requires unlisted { IsUnlisted lists.old page }
-    ensures filled { slots ≡ 1 → Joins lists.old c Which.Full page lists.new }
-    ensures not_filled { slots ≢ 1 → Joins lists.old c Which.NotFull page lists.new }
+    ensures filled { slots ≡ 1 → JoinsList lists.old c Which.Full page lists.new }
+    ensures not_filled { slots ≢ 1 → JoinsList lists.old c Which.NotFull page lists.new }
     ensures kept { AreApart lists.new }
     ensures steps { RoseAtMost steps.old steps.new 4 }
 {

@@ -15,7 +15,7 @@ use Rattle.cf_lemmas.proofs.Positions.{position_is, position_none}
 use Rattle.page_model.proofs.Counting.{eq_no, eq_yes}
 use Rattle.cf_model.specs.Answers.{bound_put}
 use Rattle.paged_heap.specs.Heap.{Heap}
-use Rattle.paged_heap.specs.Layout.{IsKept, held_in, paging_at, state_of}
+use Rattle.paged_heap.specs.Layout.{IsValid, held_in, paging_at, state_of}
 use Rattle.paged_heap.proofs.ByKind.{framed_kept}
 use Rattle.paged_heap.proofs.LayoutFacts.{as_many, few_classes, sizes_are}
 use Rattle.paged_heap.proofs.EmptyHeap.{no_objects, none_live, none_taken}
@@ -23,7 +23,7 @@ use Rattle.paged_heap.proofs.EmptyHeap.{no_objects, none_live, none_taken}
 abbrev pub rebound : Heap → ℕ → ℕ → Heap
 rebound h c b = record h { bounds = set h.bounds c b }
 
-module _ (h : Heap) (k : IsKept h) (none : held_in h ≡ empty) (c b : ℕ) (lt : c < length h.classes.sizes) (least : 1 ≤ b) (most : b ≤ 64) where
+module _ (h : Heap) (k : IsValid h) (none : held_in h ≡ empty) (c b : ℕ) (lt : c < length h.classes.sizes) (least : 1 ≤ b) (most : b ≤ 64) where
   no_object : (q : ℕ) (x : Placed) → get (held_in h) q ≡ Some x → ⊥
   no_object q x e = absurd (let n : get {X = Placed} {R = nat_cmp} empty q ≡ None = get-empty nat_cmp q in let z : Some x ≡ None = sym e ∙ ap (λ m. get m q) none ∙ n in cc)
 
@@ -39,7 +39,7 @@ module _ (h : Heap) (k : IsKept h) (none : held_in h ≡ empty) (c b : ℕ) (lt 
     | inr ne ↦ inr (get_or-set_other h.bounds c d b 0 ne)
   ]
 
-  pub rebound_kept : IsKept (rebound h c b)
+  pub rebound_kept : IsValid (rebound h c b)
   rebound_kept = record {
     framed = framed_kept h.kind h (rebound h c b) refl refl k.framed;
     table = k.table;
@@ -74,7 +74,7 @@ module _ (h : Heap) (k : IsKept h) (none : held_in h ≡ empty) (c b : ℕ) (lt 
   rebound_state = ap (λ bs. record (state_of h) { bounds = bs }) (take-set-lt (length h.classes.sizes) h.bounds c b lt)
 
 -- the class whose slots have so many words is the first of that size
-module _ (h : Heap) (k : IsKept h) (words : ℕ) where
+module _ (h : Heap) (k : IsValid h) (words : ℕ) where
   pub class_found : (c : ℕ) → c < length h.classes.sizes → ((j : ℕ) → j < c → get_or h.classes.sizes j 0 ≢ words) → get_or h.classes.sizes c 0 ≡ words → Some c ≡ position (λ w. nat_eq w words) (paging_at h).sizes
   class_found c lt before is =
       subst (λ xs. Some c ≡ position (λ w. nat_eq w words) xs) (sizes_are h k)

@@ -14,7 +14,7 @@ use Rattle.page_model.proofs.Adding.{len-objects}
 use Rattle.page_model.proofs.Counting.{one_le}
 use Rattle.page_model.proofs.Sizes.{class_fits, class_holds, class_known, class_none}
 use Rattle.paged_heap.specs.Heap.{Heap}
-use Rattle.paged_heap.specs.Layout.{IsKept, held_in, paging_at}
+use Rattle.paged_heap.specs.Layout.{IsValid, held_in, paging_at}
 use Rattle.paged_heap.proofs.LayoutFacts.{held_len, paging_ok, sizes_are, table_ok, page_is}
 use Rattle.paged_heap.proofs.Values.{sum_at_most}
 
@@ -54,7 +54,7 @@ module _ (p : Paging) (ok : IsPaging p) (m : Held) (s : IsSound p m) (small : p.
       let l = len-objects m in
       omega arith
 
-module _ (h : Heap) (k : IsKept h) where
+module _ (h : Heap) (k : IsValid h) where
   pub page_small : h.settings.page_words ≤ 16384
   page_small = (let s = (table_ok h k).small in let e = page_is h k in omega arith)
 

@@ -15,7 +15,7 @@ use Rattle.page_model.specs.Figures.{asked_bytes, taken_bytes}
 use Rattle.page_model.proofs.Counting.{no_values}
 use Rattle.page_model.proofs.Totals.{map_values-empty}
 use Rattle.page_model.proofs.Nothing.{sound_empty, image_empty}
-use Rattle.size_classes.specs.Table.{ClassTable, IsTable, table_of}
+use Rattle.size_classes.specs.Table.{ClassTable, IsClassTable, table_of}
 use Rattle.class_lists.specs.PageLists.{empty_lists}
 use Rattle.page_pool.specs.Pool.{Pool}
 use Rattle.proxy_table.specs.Proxies.{Proxies, AreBelowLimit, no_proxies}
@@ -28,7 +28,7 @@ use Rattle.cf_model.specs.Steps.{IsEmptyHeap, opening_bounds, opening_frames, op
 use Rattle.cf_model.specs.Rules.{IsPaged}
 use Rattle.paged_heap.specs.Heap.{Heap}
 use Rattle.paged_heap.proofs.ByKind.{opening_bounds_are, opening_tiling_is, opening_words, paged_of}
-use Rattle.paged_heap.specs.Layout.{IsFramed, IsKept, held_in, paging_at, state_of, tables_in}
+use Rattle.paged_heap.specs.Layout.{IsFramed, IsValid, held_in, paging_at, state_of, tables_in}
 
 pub nothing_held : (words : List ℕ) → held_at words empty ≡ empty
 nothing_held words = map_values-empty (λ a. record { place = a; bytes = bytes_at words a }) (λ v. 0)
@@ -83,7 +83,7 @@ module _ (h : Heap) (f : IsFirst h) where
   tell = record {
     tables =
         let small = h.settings.small_region in
-        let t : IsTable h.settings.page_words (sizes h.settings.page_words (layout_of h.kind)) = record { are_sizes = are_sizes h.settings.page_words (layout_of h.kind) h.settings.page_size; small = (page_size h.settings.page_words h.settings.page_size).small } in
+        let t : IsClassTable h.settings.page_words (sizes h.settings.page_words (layout_of h.kind)) = record { are_sizes = are_sizes h.settings.page_words (layout_of h.kind) h.settings.page_size; small = (page_size h.settings.page_words h.settings.page_size).small } in
         let all = first_tables (length h.classes.sizes) h.settings.pages (class_table (paging_at h)) h.maps t (omega arith) f.maps many in
         let l = subst (λ l. AreTables (class_table (paging_at h)) (tables h.maps l (record { pages = h.settings.pages; free = range_with_len 0 h.settings.pages }))) (sym f.lists) all in
         subst (λ q. AreTables (class_table (paging_at h)) (tables h.maps h.lists q)) (sym f.pool) l;
@@ -93,7 +93,7 @@ module _ (h : Heap) (f : IsFirst h) where
   bound : (c : ℕ) → c < 128 → get_or h.bounds c 0 ≡ h.settings.k
   bound c lt = ap (λ b. get_or b c 0) f.bounds ∙ get_or-replicate 128 c h.settings.k 0 lt
 
-  pub first_kept : IsKept h
+  pub first_kept : IsValid h
   first_kept = record {
     framed = f.framed;
     table = f.table;

@@ -12,7 +12,7 @@ use Rattle.class_lists.specs.PageLists.{pages_in}
 use Rattle.class_lists.specs.declared.Which.TheVariants.{Full, NotFull}
 use Rattle.page_slots.proofs.PageNumbers.{not_full_pages_are, home_pages_are, free_pages_are, pages_are}
 use Rattle.paged_heap.specs.Heap.{Heap}
-use Rattle.paged_heap.specs.Layout.{IsKept, held_in, paging_at, tables_in}
+use Rattle.paged_heap.specs.Layout.{IsValid, held_in, paging_at, tables_in}
 use Rattle.paged_heap.proofs.Values.{count_at_most}
 use Rattle.paged_heap.proofs.LayoutFacts.{held_len, paging_ok}
 
@@ -25,7 +25,7 @@ pub totals_same : (p : Paging) (m : Held) (l a t h u f g : ℕ) → l ≡ len (o
     → g ≡ (if nat_eq (free_pages p m) 0 then 0 else p.page_words) → ◌≡◌ {A = Totals} (record { live = l; asked = a; taken = t; held = h; used = u; free = f; largest = g }) (totals_of p m)
 totals_same p m l a t h u f g el ea et eh eu ef eg = rw (el, ea, et, eh, eu, ef, eg) refl
 
-module _ (h : Heap) (k : IsKept h) where
+module _ (h : Heap) (k : IsValid h) where
   pub home_is : (c : ℕ) → home_pages (paging_at h) (held_in h) c ≡ length (pages_in h.lists c Full) + length (pages_in h.lists c NotFull)
   home_is c = home_pages_are (paging_at h) (paging_ok h k) (held_in h) (tables_in h) k.tell k.occupied c
 

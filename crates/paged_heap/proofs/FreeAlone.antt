@@ -12,13 +12,13 @@ use Rattle.page_slots.specs.Tables.{AreTables, page_at, slot_at}
 use Rattle.page_slots.specs.Occupying.{class_table}
 use Rattle.page_slots.proofs.CallerLemmas.{vacated_occupied, vacated_tell}
 use Rattle.paged_heap.specs.Heap.{Heap}
-use Rattle.paged_heap.specs.Layout.{IsFramed, IsKept, held_in, paging_at, tables_in}
+use Rattle.paged_heap.specs.Layout.{IsFramed, IsValid, held_in, paging_at, tables_in}
 use Rattle.paged_heap.specs.Free.{IsMoving, IsObjectAt}
 use Rattle.paged_heap.proofs.LayoutFacts.{paging_ok, table_is}
 use Rattle.paged_heap.proofs.Preserved.{Becomes, places_are, rest_from}
 use Rattle.paged_heap.proofs.FreedObject.{goes, it, it_class, it_found, it_slot, moving, page_same, rest_held, slot_same}
 
-module _ (h : Heap) (k : IsKept h) (q a size c : ℕ) (o : IsObjectAt h q a size c) (still : IsMoving h a c → ⊥) (e g n : Heap)
+module _ (h : Heap) (k : IsValid h) (q a size c : ℕ) (o : IsObjectAt h q a size c) (still : IsMoving h a c → ⊥) (e g n : Heap)
     (erased : e ≡ record h { proxies = without_place h.proxies q; words = e.words }) (gone : Clears h.words e.words (record { from = a; count = get_or h.classes.sizes c 0 })) (long : length e.words ≡ length h.words) (framed : IsFramed h.kind n) (handles : AreBelowLimit e.proxies)
     (counted : g ≡ record e { live = set e.live c (get_or e.live c 0 - 1); asked = e.asked - size; taken = e.taken - 8 * get_or e.classes.sizes c 0 })
     (freed : Vacates (tables_in g) c (page_at g.classes a) (slot_at g.classes c a) (tables_in n)) (tables : AreTables g.classes (tables_in n))

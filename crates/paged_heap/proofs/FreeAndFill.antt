@@ -21,7 +21,7 @@ use Rattle.page_slots.specs.Occupying.{Occupies, Tell, class_table}
 use Rattle.page_slots.proofs.CallerLemmas.{filled_occupied, filled_tell, filler, filler_may}
 use Rattle.virtual_words.specs.Words.{IsWhole}
 use Rattle.paged_heap.specs.Heap.{Heap}
-use Rattle.paged_heap.specs.Layout.{IsFramed, IsKept, held_in, paging_at, state_of, tables_in}
+use Rattle.paged_heap.specs.Layout.{IsFramed, IsValid, held_in, paging_at, state_of, tables_in}
 use Rattle.paged_heap.specs.Free.{IsMoving, IsObjectAt, MovesSlot}
 use Rattle.paged_heap.proofs.ByKind.{frames_change}
 use Rattle.paged_heap.proofs.WholeBlocks.{whole_slot}
@@ -29,7 +29,7 @@ use Rattle.paged_heap.proofs.LayoutFacts.{number_small, paging_ok, place_known, 
 use Rattle.paged_heap.proofs.Preserved.{Becomes, places_are, rest_from}
 use Rattle.paged_heap.proofs.FreedObject.{goes, it, it_class, it_found, it_inside, it_slot, must, rest_held}
 
-module _ (h : Heap) (k : IsKept h) (q a size c : ℕ) (o : IsObjectAt h q a size c) (moves : IsMoving h a c) (b : ℕ) (new : Tables) (filled : FillsFrom h.classes (tables_in h) c b new) (tables : AreTables h.classes new) where
+module _ (h : Heap) (k : IsValid h) (q a size c : ℕ) (o : IsObjectAt h q a size c) (moves : IsMoving h a c) (b : ℕ) (new : Tables) (filled : FillsFrom h.classes (tables_in h) c b new) (tables : AreTables h.classes new) where
   abbrev pub words : ℕ
   words = get_or h.classes.sizes c 0
 

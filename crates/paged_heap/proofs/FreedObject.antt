@@ -27,16 +27,16 @@ use Rattle.page_slots.specs.Freeing.{MovesObject}
 use Rattle.page_slots.specs.Tables.{IsUsed, page_at, slot_at, slots_on}
 use Rattle.page_slots.specs.Occupying.{Occupies, Tell, class_table}
 use Rattle.page_slots.proofs.CallerLemmas.{moves_is, moves_some}
-use Rattle.cf_model.specs.Steps.{FreesObject, MovesIn, frames_left, number_of, outcome_of, tiling_left}
+use Rattle.cf_model.specs.Steps.{FreesObject, MovesIn, frames_left, number_of, leaves_of, tiling_left}
 use Rattle.paged_heap.specs.Heap.{Heap}
-use Rattle.paged_heap.specs.Layout.{IsFramed, IsKept, held_in, paging_at, state_of, tables_in}
+use Rattle.paged_heap.specs.Layout.{IsFramed, IsValid, held_in, paging_at, state_of, tables_in}
 use Rattle.paged_heap.specs.Free.{IsMoving, IsObjectAt}
 use Rattle.paged_heap.proofs.ByKind.{moves_in, slot_in_is, tiling_stays}
 use Rattle.paged_heap.proofs.LayoutFacts.{as_many, bound_is, few_classes, paged_kind, paging_ok, sizes_are, table_is}
 use Rattle.paged_heap.proofs.Preserved.{Becomes, becomes_kept, becomes_state, has_place, held_is, stored, with_parts}
 use Rattle.paged_heap.proofs.ReadLemmas.{slot_there}
 
-module _ (h : Heap) (k : IsKept h) (q a size c : ℕ) (o : IsObjectAt h q a size c) where
+module _ (h : Heap) (k : IsValid h) (q a size c : ℕ) (o : IsObjectAt h q a size c) where
   abbrev pub it : Placed
   it = record { place = a; bytes = bytes_at h.words a }
 
@@ -169,7 +169,7 @@ module _ (h : Heap) (k : IsKept h) (q a size c : ℕ) (o : IsObjectAt h q a size
       }
 
     module _ (b : Becomes h n rest_held) where
-      pub goes_kept : IsKept n
+      pub goes_kept : IsValid n
       goes_kept = becomes_kept h n k rest_held b
 
       pub goes_freed : n.frames ≡ frames_left h.kind (state_of h) (record { held = rest_held; moved = moved }) → (freed : Freed) → freed.slot_words ≡ get_or h.classes.sizes c 0 → number_of freed.moved ≡ moved → FreesObject (state_of h) q freed (state_of n)
@@ -179,7 +179,7 @@ module _ (h : Heap) (k : IsKept h) (q a size c : ℕ) (o : IsObjectAt h q a size
         slot = words ∙ it_slot ∙ sym (slot_in_is h.kind (paged_kind h k) (state_of h) it);
         moves = subst (MovesIn h.kind (state_of h) it) (sym is) (moves_in h.kind (paged_kind h k) (state_of h) it moved mv);
         left = ap objects (held_is h n k rest_held b) ∙ objects_are;
-        whole = subst (λ v. state_of n ≡ record (state_of h) { held = without (held_in h) q a v; words = n.words; frames = frames_left h.kind (state_of h) (outcome_of (state_of h) q it v); tiling = tiling_left h.kind (state_of h) a; cost = n.cost }) (sym is)
+        whole = subst (λ v. state_of n ≡ record (state_of h) { held = without (held_in h) q a v; words = n.words; frames = frames_left h.kind (state_of h) (leaves_of (state_of h) q it v); tiling = tiling_left h.kind (state_of h) a; cost = n.cost }) (sym is)
             (becomes_state h n k rest_held b ∙ ap (λ fs. record (state_of h) { held = rest_held; words = n.words; frames = fs; cost = n.cost }) frames
             ∙ ap (λ t. record (state_of h) { held = rest_held; words = n.words; frames = frames_left h.kind (state_of h) (record { held = rest_held; moved = moved }); tiling = t; cost = n.cost }) (sym (tiling_stays h.kind (paged_kind h k) (state_of h) a)));
       }

@@ -12,14 +12,14 @@ use Rattle.page_model.proofs.Sizes.{class_known}
 use Rattle.page_slots.specs.Tables.{page_at}
 use Rattle.page_slots.proofs.CallerLemmas.{found_page}
 use Rattle.paged_heap.specs.Heap.{Heap}
-use Rattle.paged_heap.specs.Layout.{IsKept, held_in, paging_at, state_of, tables_in}
+use Rattle.paged_heap.specs.Layout.{IsValid, held_in, paging_at, state_of, tables_in}
 use Rattle.paged_heap.specs.Free.{IsObjectAt}
 use Rattle.paged_heap.proofs.LayoutFacts.{paging_ok, sizes_are}
 use Rattle.paged_heap.proofs.CountLimits.{class_is}
 use Rattle.paged_heap.proofs.ReadLemmas.{bytes_long, held}
 use Rattle.paged_heap.proofs.FreedObject.{it, it_found, page_same}
 
-module _ (h : Heap) (k : IsKept h) (q a : ℕ) (some : get h.proxies.places q ≡ Some a) (size : ℕ) (told : size ≡ get_or h.words a 0 / 2 ^ 32) where
+module _ (h : Heap) (k : IsValid h) (q a : ℕ) (some : get h.proxies.places q ≡ Some a) (size : ℕ) (told : size ≡ get_or h.words a 0 / 2 ^ 32) where
   long : length (bytes_at h.words a) ≡ size
   long = bytes_long h.words a ∙ sym told
 
@@ -35,7 +35,7 @@ module _ (h : Heap) (k : IsKept h) (q a : ℕ) (some : get h.proxies.places q �
   object_at c found = (let is = class_is h k size c found in record { known = some; long = long; class = is.1; in_range = is.2 })
 
 -- its page is one of the tables'
-pub page_there : (h : Heap) (k : IsKept h) (q a size c : ℕ) (o : IsObjectAt h q a size c) → page_at h.classes a < length h.maps
+pub page_there : (h : Heap) (k : IsValid h) (q a size c : ℕ) (o : IsObjectAt h q a size c) → page_at h.classes a < length h.maps
 page_there h k q a size c o =
     let lt = found_page (paging_at h) (paging_ok h k) (held_in h) (tables_in h) k.tell k.occupied q (it h k q a size c o) (it_found h k q a size c o) in
     subst (λ g. g < length h.maps) (page_same h k q a size c o) lt

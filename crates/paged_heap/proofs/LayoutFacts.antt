@@ -12,7 +12,7 @@ use Rattle.page_model.specs.Paging.{IsPaging, classes}
 use Rattle.page_model.proofs.Reading.{held_at_is, held_at_bytes}
 use Rattle.page_model.proofs.SlotImages.{own_words}
 use Rattle.page_model.proofs.Sizes.{paged}
-use Rattle.size_classes.specs.Table.{ClassTable, IsTable}
+use Rattle.size_classes.specs.Table.{ClassTable, IsClassTable}
 use Rattle.page_slots.specs.Tables.{AreTables}
 use Rattle.page_slots.specs.Occupying.{class_table}
 use Rattle.cf_model.specs.State.{HeapState, layout_of}
@@ -20,11 +20,11 @@ use Rattle.cf_model.specs.Rules.{IsPaged, KeepsRules}
 use Rattle.cf_base.specs.declared.kind.Kind.{Kind}
 use Rattle.paged_heap.specs.declared.open_heap.OpenHeap.{OpenHeap}
 use Rattle.paged_heap.specs.Heap.{Heap, seen}
-use Rattle.paged_heap.specs.Layout.{IsKept, IsKeptIn, held_in, paging_at, state_in, state_of, tables_in}
+use Rattle.paged_heap.specs.Layout.{IsValid, IsValidIn, held_in, paging_at, state_in, state_of, tables_in}
 use Rattle.paged_heap.proofs.ByKind.{paged_of, rules_by}
 use Rattle.paged_heap.proofs.Values.{len-map_values}
 
-module _ (h : Heap) (k : IsKept h) where
+module _ (h : Heap) (k : IsValid h) where
   -- the classes are those of the paging
   pub table_is : class_table (paging_at h) ≡ h.classes
   table_is = sym k.table
@@ -58,8 +58,8 @@ module _ (h : Heap) (k : IsKept h) where
   pub tables_ok : AreTables h.classes (tables_in h)
   tables_ok = subst (λ t. AreTables t (tables_in h)) table_is k.tell.tables
 
-  pub table_ok : IsTable h.classes.page_words h.classes.sizes
-  table_ok = subst (λ (t : ClassTable). IsTable t.page_words t.sizes) table_is k.tell.tables.table
+  pub table_ok : IsClassTable h.classes.page_words h.classes.sizes
+  table_ok = subst (λ (t : ClassTable). IsClassTable t.page_words t.sizes) table_is k.tell.tables.table
 
   pub bounds_low : (c : ℕ) → get_or (take (length h.classes.sizes) h.bounds) c 0 ≤ 64
   bounds_low c = elim (cases_lt c (length h.classes.sizes)) [
@@ -114,11 +114,11 @@ module _ (h : Heap) (k : IsKept h) where
   }
 
 -- an open heap keeps its rules
-pub rules_in : (kind : Kind) (o : Option OpenHeap) → IsKeptIn kind o → IsTrue (is_some o) → KeepsRules (state_in kind o)
+pub rules_in : (kind : Kind) (o : Option OpenHeap) → IsValidIn kind o → IsTrue (is_some o) → KeepsRules (state_in kind o)
 rules_in kind None k open_now = absurd (false≢true open_now)
 rules_in kind (Some h) k open_now = rules (seen kind h) k.kept
 
 -- the same in the terms of the value
-pub rules_of : (kind : Kind) (o : Option OpenHeap) → IsKeptIn kind o → (s : HeapState) → state_in kind o ≡ s → IsTrue s.is_open → KeepsRules s
+pub rules_of : (kind : Kind) (o : Option OpenHeap) → IsValidIn kind o → (s : HeapState) → state_in kind o ≡ s → IsTrue s.is_open → KeepsRules s
 rules_of kind None k s is open_now = absurd (false≢true (ap (λ (t : HeapState). t.is_open) is ∙ open_now))
 rules_of kind (Some h) k s is open_now = subst KeepsRules is (rules (seen kind h) k.kept)

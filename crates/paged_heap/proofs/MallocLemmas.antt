@@ -17,14 +17,14 @@ use Rattle.cf_model.specs.Rules.{IsPaged}
 use Rattle.cf_model.specs.State.{HeapState}
 use Rattle.cf_model.specs.Steps.{ChangesCost, IsMallocStep, WantsProxy, WantsSpace}
 use Rattle.paged_heap.specs.Heap.{Heap}
-use Rattle.paged_heap.specs.Layout.{IsKept, held_in, paging_at, state_of, tables_in}
+use Rattle.paged_heap.specs.Layout.{IsValid, held_in, paging_at, state_of, tables_in}
 use Rattle.paged_heap.proofs.ByKind.{lacks_in, placed_same}
 use Rattle.paged_heap.proofs.LayoutFacts.{held_len, paged_kind, paging_ok, sizes_are, table_is}
 use Rattle.paged_heap.proofs.CountLimits.{class_is}
 use Rattle.paged_heap.proofs.Preserved.{rest_from}
 use Rattle.paged_heap.proofs.MallocPreserves.{Comes}
 
-module _ (h : Heap) (k : IsKept h) (bytes c : ℕ) (found : Some c ≡ class_of h.classes.sizes bytes) where
+module _ (h : Heap) (k : IsValid h) (bytes c : ℕ) (found : Some c ≡ class_of h.classes.sizes bytes) where
   pub wants_proxy : len h.proxies.places ≡ h.settings.proxies → WantsProxy (state_of h) bytes
   wants_proxy all = record { fits = (class_is h k bytes c found).0; all = held_len h k ∙ all }
 

@@ -26,7 +26,7 @@ use Rattle.page_slots.specs.Occupying.{class_table}
 use Rattle.page_slots.proofs.CallerLemmas.{taken_is_free, taken_occupied, taken_tell}
 use Rattle.cf_model.specs.Steps.{GivesObject}
 use Rattle.paged_heap.specs.Heap.{Heap}
-use Rattle.paged_heap.specs.Layout.{IsKept, held_in, paging_at, state_of, tables_in}
+use Rattle.paged_heap.specs.Layout.{IsValid, held_in, paging_at, state_of, tables_in}
 use Rattle.paged_heap.proofs.ByKind.{framed_kept, placed_in}
 use Rattle.paged_heap.proofs.LayoutFacts.{few_classes, held_len, paged_kind, paging_ok}
 use Rattle.paged_heap.proofs.Preserved.{Becomes, becomes_kept, becomes_state, no_place, places_are, stored, with_parts}
@@ -50,7 +50,7 @@ pub record Comes (h n : Heap) (c a bytes q : ℕ) : Type 0 where
   pub asked : n.asked ≡ h.asked + bytes
   pub all_taken : n.taken ≡ h.taken + 8 * slot_words (paging_at h) c
 
-module _ (h n : Heap) (k : IsKept h) (c a bytes q : ℕ) (co : Comes h n c a bytes q) where
+module _ (h n : Heap) (k : IsValid h) (c a bytes q : ℕ) (co : Comes h n c a bytes q) where
   abbrev after : Held
   after = insert (held_in h) q (zeros_at a bytes)
 
@@ -120,7 +120,7 @@ module _ (h n : Heap) (k : IsKept h) (c a bytes q : ℕ) (co : Comes h n c a byt
         omega arith);
   }
 
-  pub comes_kept : IsKept n
+  pub comes_kept : IsValid n
   comes_kept = becomes_kept h n k after becomes
 
   pub comes_given : GivesObject (state_of h) (record { number = q; length = bytes }) (state_of n)

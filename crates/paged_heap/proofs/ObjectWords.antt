@@ -9,7 +9,7 @@ use Rattle.page_model.proofs.Reading.{bytes_at-AreBytes}
 use Rattle.page_model.proofs.Resizing.{length-resized}
 use Rattle.page_model.proofs.Writing.{byte_of_object, object_word_small, resized_before, resized_behind, word_by_bytes}
 use Rattle.paged_heap.specs.Heap.{Heap}
-use Rattle.paged_heap.specs.Layout.{IsKept, paging_at}
+use Rattle.paged_heap.specs.Layout.{IsValid, paging_at}
 use Rattle.paged_heap.specs.Free.{IsObjectAt}
 use Rattle.paged_heap.proofs.Preserved.{stored}
 use Rattle.paged_heap.proofs.FreedObject.{it, it_found}
@@ -41,7 +41,7 @@ module _ (v : List ℕ) (size : ℕ) where
     | inr past ↦ get_or_past v b 0 past ∙ sym (resized_behind v size b past)
   ]
 
-module _ (h : Heap) (k : IsKept h) (q a m c : ℕ) (o : IsObjectAt h q a m c) where
+module _ (h : Heap) (k : IsValid h) (q a m c : ℕ) (o : IsObjectAt h q a m c) where
   abbrev old : List ℕ
   old = bytes_at h.words a
 

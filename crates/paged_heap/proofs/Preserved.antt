@@ -16,7 +16,7 @@ use Rattle.cf_lemmas.proofs.MapValues.{get-map_values}
 use Rattle.proxy_table.specs.Proxies.{AreBelowLimit}
 use Rattle.page_slots.specs.Occupying.{Occupies, Tell}
 use Rattle.paged_heap.specs.Heap.{Heap}
-use Rattle.paged_heap.specs.Layout.{IsFramed, IsKept, held_in, paging_at, state_of, tables_in}
+use Rattle.paged_heap.specs.Layout.{IsFramed, IsValid, held_in, paging_at, state_of, tables_in}
 use Rattle.paged_heap.proofs.LayoutFacts.{number_small, paging_ok}
 
 -- h, with all of n that the calls change
@@ -41,11 +41,11 @@ pub record Becomes (h n : Heap) (m : Held) : Type 0 where
   pub asked_all : n.asked ≡ asked_bytes (objects m)
   pub taken_all : n.taken ≡ taken_bytes (paging_at h) (objects m)
 
-module _ (h n : Heap) (k : IsKept h) (m : Held) (b : Becomes h n m) where
+module _ (h n : Heap) (k : IsValid h) (m : Held) (b : Becomes h n m) where
   pub held_is : held_in n ≡ m
   held_is = held_from_image m n.proxies.places n.words (own_words (paging_at h) (paging_ok h k) m b.sound n.words b.image) b.places b.storable
 
-  parts_kept : IsKept (with_parts h n)
+  parts_kept : IsValid (with_parts h n)
   parts_kept = record {
     framed = subst (IsFramed h.kind) b.rest b.framed;
     table = k.table;
@@ -65,8 +65,8 @@ module _ (h n : Heap) (k : IsKept h) (m : Held) (b : Becomes h n m) where
     taken_all = b.taken_all ∙ ap (λ m. taken_bytes (paging_at h) (objects m)) (sym held_is);
   }
 
-  pub becomes_kept : IsKept n
-  becomes_kept = subst IsKept (sym b.rest) parts_kept
+  pub becomes_kept : IsValid n
+  becomes_kept = subst IsValid (sym b.rest) parts_kept
 
   pub becomes_state : state_of n ≡ record (state_of h) { held = m; words = n.words; frames = n.frames; cost = n.cost }
   becomes_state = ap state_of b.rest ∙ ap (λ m. record (state_of h) { held = m; words = n.words; frames = n.frames; cost = n.cost }) held_is
@@ -78,7 +78,7 @@ framed_same Tlsf h cost f = absurd f
 framed_same HalfFit h cost f = absurd f
 
 -- another cost
-pub cost_kept : (h : Heap) (cost : ℕ) → IsKept h → IsKept (record h { cost = cost })
+pub cost_kept : (h : Heap) (cost : ℕ) → IsValid h → IsValid (record h { cost = cost })
 cost_kept h cost k = record {
   framed = framed_same h.kind h cost k.framed;
   table = k.table;
@@ -98,7 +98,7 @@ cost_kept h cost k = record {
   taken_all = k.taken_all;
 }
 
-module _ (h : Heap) (k : IsKept h) where
+module _ (h : Heap) (k : IsValid h) where
   pub stored : AreStorable (held_in h)
   stored q x e = (let s = number_small h k q x e in let few = h.settings.few_proxies in omega arith, held_at_bytes h.words h.proxies.places q x e)
 

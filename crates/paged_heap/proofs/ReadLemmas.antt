@@ -17,7 +17,7 @@ use Rattle.virtual_words.specs.Overwriting.{byte_from}
 use Rattle.cf_model.specs.Answers.{place_of}
 use Rattle.cf_model.specs.Steps.{PassesEnd, ReadsBytes}
 use Rattle.paged_heap.specs.Heap.{Heap}
-use Rattle.paged_heap.specs.Layout.{IsKept, held_in, paging_at, state_of}
+use Rattle.paged_heap.specs.Layout.{IsValid, held_in, paging_at, state_of}
 use Rattle.paged_heap.specs.Access.{Lies}
 use Rattle.paged_heap.proofs.LayoutFacts.{paging_ok}
 use Rattle.paged_heap.proofs.Preserved.{has_place}
@@ -37,7 +37,7 @@ byte_is words a i lt =
 pub place_told : (h : Heap) (q : ℕ) → get h.proxies.places q ≡ place_of (state_of h) q
 place_told h q = ap (λ m. get m q) (sym (places-held_at h.words h.proxies.places)) ∙ get-map_values (λ (x : Placed). x.place) (held_in h) q
 
-module _ (h : Heap) (k : IsKept h) (q a : ℕ) (some : get h.proxies.places q ≡ Some a) where
+module _ (h : Heap) (k : IsValid h) (q a : ℕ) (some : get h.proxies.places q ≡ Some a) where
   abbrev bytes : List ℕ
   bytes = bytes_at h.words a
 
@@ -71,7 +71,7 @@ module _ (h : Heap) (k : IsKept h) (q a : ℕ) (some : get h.proxies.places q �
   lies at count fits = record { found = held; within = fits }
 
 -- where a part lies, its words are in the region
-module _ (h : Heap) (k : IsKept h) (q at count a : ℕ) (l : Lies h (record { number = q; from = at }) count a) where
+module _ (h : Heap) (k : IsValid h) (q at count a : ℕ) (l : Lies h (record { number = q; from = at }) count a) where
   abbrev object : Placed
   object = record { place = a; bytes = bytes_at h.words a }
 

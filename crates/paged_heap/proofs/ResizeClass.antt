@@ -14,7 +14,7 @@ use Rattle.page_model.specs.Paging.{class_for, classes, page_of, slot_words}
 use Rattle.page_model.specs.Arrangement.{class_at, IsSound, live, not_full_pages, objects_on}
 use Rattle.page_model.specs.Image.{Clears, IsDisjoint, IsSlotImage, MovesWords, Rewrites, object_word, slot_for}
 use Rattle.page_model.specs.Figures.{asked_bytes, taken_bytes}
-use Rattle.page_model.specs.Steps.{ChangesClass, IsFreePlace, IsResizeStep as IsResizedBy, Moves, MustMove, Request, resized_at, without}
+use Rattle.page_model.specs.Steps.{ChangesClass, IsFreePlace, RefitsObject as IsResizedBy, Moves, MustMove, Request, resized_at, without}
 use Rattle.page_model.proofs.Counting.{eq_no, eq_yes, not_full-same, still}
 use Rattle.page_model.proofs.Parts.{free_objects}
 use Rattle.page_model.proofs.Placing.{objects_on-elsewhere, sound_placed}
@@ -29,7 +29,7 @@ use Rattle.cf_model.specs.Steps.{ResizesObject, frames_left, number_of}
 use Rattle.paged_heap.specs.Heap.{Heap}
 use Rattle.paged_heap.specs.declared.resize_class.Change.{Change}
 use Rattle.paged_heap.specs.ResizeClass.{EntersAt, IsChange, old_words}
-use Rattle.paged_heap.specs.Layout.{IsFramed, IsKept, held_in, paging_at, state_of, tables_in}
+use Rattle.paged_heap.specs.Layout.{IsFramed, IsValid, held_in, paging_at, state_of, tables_in}
 use Rattle.paged_heap.proofs.LayoutFacts.{few_classes, paged_kind, paging_ok, sizes_are, table_is}
 use Rattle.paged_heap.proofs.Preserved.{Becomes, becomes_kept, becomes_state, held_is, rest_from, stored}
 use Rattle.paged_heap.proofs.TwoWrites.{between, cleared_then, moved_then, written_first}
@@ -39,7 +39,7 @@ use Rattle.paged_heap.proofs.FreedObject.{asked_some, it, it_class, it_found, it
 use Rattle.paged_heap.proofs.ObjectWords.{few}
 use Rattle.paged_heap.proofs.WriteLemmas.{asked_changed, live_changed, taken_changed}
 
-module _ (h : Heap) (k : IsKept h) (x : Change) (is : IsChange h x) (b : ℕ) (n : Heap) (en : EntersAt h x b n) where
+module _ (h : Heap) (k : IsValid h) (x : Change) (is : IsChange h x) (b : ℕ) (n : Heap) (en : EntersAt h x b n) where
   abbrev pub object : Placed
   object = it h k x.handle.0 x.place x.length x.class is.object
 
@@ -261,7 +261,7 @@ module _ (h : Heap) (k : IsKept h) (x : Change) (is : IsChange h x) (b : ℕ) (n
       }
 
       module _ (be : Becomes h m after) where
-        pub change_kept : IsKept m
+        pub change_kept : IsValid m
         change_kept = becomes_kept h m k after be
 
         pub change_resized : m.frames ≡ frames_left h.kind (state_of h) (record { held = after; moved = moved }) → (done : Resized) → done.old_slot_words ≡ get_or h.classes.sizes x.class 0 → done.slot_words ≡ get_or h.classes.sizes x.to 0 → number_of done.moved ≡ moved → ResizesObject (state_of h) asked done (state_of m)

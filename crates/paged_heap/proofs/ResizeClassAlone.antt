@@ -19,7 +19,7 @@ use Rattle.paged_heap.specs.Heap.{Heap}
 use Rattle.paged_heap.specs.declared.resize_class.Change.{Change}
 use Rattle.paged_heap.specs.ResizeClass.{EntersAt, IsChange, old_words}
 use Rattle.paged_heap.specs.Free.{IsMoving}
-use Rattle.paged_heap.specs.Layout.{IsFramed, IsKept, held_in, paging_at, state_of, tables_in}
+use Rattle.paged_heap.specs.Layout.{IsFramed, IsValid, held_in, paging_at, state_of, tables_in}
 use Rattle.cf_model.specs.Steps.{frames_left}
 use Rattle.paged_heap.proofs.ByKind.{frames_stay}
 use Rattle.paged_heap.proofs.LayoutFacts.{paged_kind, paging_ok, table_is}
@@ -27,7 +27,7 @@ use Rattle.paged_heap.proofs.Preserved.{Becomes, places_are}
 use Rattle.paged_heap.proofs.FreedObject.{it_class, moving, page_same, slot_same}
 use Rattle.paged_heap.proofs.ResizeClass.{Keeps, after, after_is, both, both_occupied, both_sound, both_tell, changes, entered_long, found, found_still, middle, must_before, new, new_free, object, rewritten, spare, spare_is_other, then_cleared, unused}
 
-module _ (h : Heap) (k : IsKept h) (x : Change) (is : IsChange h x) (b : ℕ) (n : Heap) (en : EntersAt h x b n) (stays : IsMoving h x.place x.class → ⊥) (e m : Heap)
+module _ (h : Heap) (k : IsValid h) (x : Change) (is : IsChange h x) (b : ℕ) (n : Heap) (en : EntersAt h x b n) (stays : IsMoving h x.place x.class → ⊥) (e m : Heap)
     (wiped : e ≡ record n { words = e.words }) (gone : Clears n.words e.words (record { from = x.place; count = old_words h x })) (long : length e.words ≡ length n.words) (framed : IsFramed h.kind m)
     (freed' : Vacates (tables_in e) x.class (page_at e.classes x.place) (slot_at e.classes x.class x.place) (tables_in m)) (tables' : AreTables e.classes (tables_in m))
     (dropped' : m ≡ record e { maps = m.maps; lists = m.lists; pool = m.pool }) where

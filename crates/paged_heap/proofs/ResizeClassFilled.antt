@@ -31,7 +31,7 @@ use Rattle.paged_heap.specs.Heap.{Heap}
 use Rattle.paged_heap.specs.declared.resize_class.Change.{Change}
 use Rattle.paged_heap.specs.ResizeClass.{EntersAt, IsChange, old_words}
 use Rattle.paged_heap.specs.Free.{IsMoving, MovesSlot}
-use Rattle.paged_heap.specs.Layout.{IsFramed, IsKept, held_in, paging_at, state_of, tables_in}
+use Rattle.paged_heap.specs.Layout.{IsFramed, IsValid, held_in, paging_at, state_of, tables_in}
 use Rattle.paged_heap.proofs.ByKind.{frames_change}
 use Rattle.paged_heap.proofs.WholeBlocks.{whole_slot}
 use Rattle.paged_heap.proofs.LayoutFacts.{number_small, paging_ok, place_known, table_is}
@@ -51,7 +51,7 @@ placed_in_turn m q r a b ne = equal_maps _ _ (λ t. elim (cases_eq t q) [
   ]
 ])
 
-module _ (h : Heap) (k : IsKept h) (x : Change) (is : IsChange h x) (b : ℕ) (n : Heap) (en : EntersAt h x b n) (moves : IsMoving h x.place x.class) where
+module _ (h : Heap) (k : IsValid h) (x : Change) (is : IsChange h x) (b : ℕ) (n : Heap) (en : EntersAt h x b n) (moves : IsMoving h x.place x.class) where
   due : MustMove (paging_at h) (both h k x is b n en) (object h k x is b n en)
   due = must_still h k x is b n en (must h k x.handle.0 x.place x.length x.class is.object moves)
 

@@ -27,7 +27,7 @@ use Rattle.page_slots.proofs.CallerLemmas.{refused_lacks_room, taken_is_free}
 use Rattle.paged_heap.specs.Heap.{Heap}
 use Rattle.paged_heap.specs.declared.resize_class.Change.{Change}
 use Rattle.paged_heap.specs.ResizeClass.{Carries, EntersAt, FindsNoRoom, IsChange, kept_words, old_words}
-use Rattle.paged_heap.specs.Layout.{IsKept, held_in, paging_at, state_of, tables_in}
+use Rattle.paged_heap.specs.Layout.{IsValid, held_in, paging_at, state_of, tables_in}
 use Rattle.paged_heap.proofs.ByKind.{unmoved}
 use Rattle.paged_heap.proofs.LayoutFacts.{number_small, paged_kind, paging_ok, table_is}
 use Rattle.paged_heap.proofs.FreedObject.{it, it_class, it_found, it_slot}
@@ -35,14 +35,14 @@ use Rattle.paged_heap.proofs.ReadLemmas.{holds}
 use Rattle.paged_heap.proofs.MallocLemmas.{same_state}
 
 -- the number of proxies is no object's
-pub none_spare : (h : Heap) → IsKept h → get (held_in h) h.settings.proxies ≡ None
+pub none_spare : (h : Heap) → IsValid h → get (held_in h) h.settings.proxies ≡ None
 none_spare h k = go (get (held_in h) h.settings.proxies) refl
   where
     go : (o : Option Placed) → get (held_in h) h.settings.proxies ≡ o → get (held_in h) h.settings.proxies ≡ None
     go None e = e
     go (Some y) e = absurd (let lt = number_small h k h.settings.proxies y e in omega arith)
 
-module _ (h : Heap) (k : IsKept h) (x : Change) (is : IsChange h x) where
+module _ (h : Heap) (k : IsValid h) (x : Change) (is : IsChange h x) where
   -- where no slot was taken, there is no room
   pub lacks : (new : Tables) → TakesSlot h.classes (tables_in h) x.to None new → LacksRoom (paging_at h) (held_in h) x.to
   lacks new none = refused_lacks_room (paging_at h) (paging_ok h k) (held_in h) (tables_in h) k.tell k.occupied x.to new (subst (λ t. TakesSlot t (tables_in h) x.to None new) (sym (table_is h k)) none)
@@ -83,7 +83,7 @@ module _ (h : Heap) (k : IsKept h) (x : Change) (is : IsChange h x) where
     apart_there = (let r = new_holds in elim slots_apart [ inl l ↦ inr (omega arith) | inr l ↦ inl (omega arith) ])
 
 -- where no slot was taken, nothing has changed
-module _ (h : Heap) (k : IsKept h) (x : Change) (is : IsChange h x) (n : Heap) (none : FindsNoRoom h x n) where
+module _ (h : Heap) (k : IsValid h) (x : Change) (is : IsChange h x) (n : Heap) (none : FindsNoRoom h x n) where
   pub refused : IsResizeStep (state_of h) (record { number = x.handle.0; length = x.bytes }) (Err resize.Space) (state_of n)
   refused = (
     record {
@@ -134,7 +134,7 @@ pub unchanged : (h : Heap) (x : Change) (n : Heap) → FindsNoRoom h x n → n �
 unchanged h x n none = none.rest ∙ ap (λ (t : Tables). record h { maps = t.maps; lists = t.lists; pool = t.pool }) none.tables
 
 -- the kept words are fewer than those of the old slot
-pub kept_few : (h : Heap) (k : IsKept h) (x : Change) (is : IsChange h x) → kept_words x + 1 ≤ old_words h x
+pub kept_few : (h : Heap) (k : IsValid h) (x : Change) (is : IsChange h x) → kept_words x + 1 ≤ old_words h x
 kept_few h k x is =
     let o = holds h k x.handle.0 x.place is.object.known in
     let l = is.object.long in

@@ -20,7 +20,7 @@ use Rattle.page_model.proofs.Sizes.{class_holds}
 use Rattle.word_bytes.proofs.Overwriting.{overwritten_before, overwritten_inside}
 use Rattle.cf_model.specs.Steps.{ResizesObject, frames_left, number_of}
 use Rattle.paged_heap.specs.Heap.{Heap}
-use Rattle.paged_heap.specs.Layout.{IsKept, held_in, paging_at, state_of}
+use Rattle.paged_heap.specs.Layout.{IsValid, held_in, paging_at, state_of}
 use Rattle.virtual_words.specs.Overwriting.{Overwrites, words_with}
 use Rattle.paged_heap.specs.ZeroTail.{Cuts}
 use Rattle.paged_heap.specs.Free.{IsObjectAt}
@@ -91,7 +91,7 @@ module _ (old mid new : List ℕ) (a n m : ℕ) (less : n < m) (inside : a + 1 +
   }
 
 -- The object gets another length in its slot: what is known of the words.
-module _ (h t n : Heap) (k : IsKept h) (q a m c : ℕ) (o : IsObjectAt h q a m c) (size : ℕ) (same : class_for (paging_at h) size ≡ c)
+module _ (h t n : Heap) (k : IsValid h) (q a m c : ℕ) (o : IsObjectAt h q a m c) (size : ℕ) (same : class_for (paging_at h) size ≡ c)
     (et : t ≡ record h { words = t.words }) (cut : size < m → Cuts h.words t.words a size m) (kept : m ≤ size → t ≡ h)
     (en : n ≡ record t { words = set t.words a (header_word q size); asked = t.asked - m + size }) where
   abbrev old : List ℕ
@@ -227,7 +227,7 @@ module _ (h t n : Heap) (k : IsKept h) (q a m c : ℕ) (o : IsObjectAt h q a m c
   frames_still : n.frames ≡ frames_left h.kind (state_of h) (record { held = insert (held_in h) q (record { place = a; bytes = new }); moved = None })
   frames_still = ap (λ (x : Heap). x.frames) en ∙ ap (λ (x : Heap). x.frames) et ∙ sym (frames_stay h.kind (paged_kind h k) (state_of h) (insert (held_in h) q (record { place = a; bytes = new })))
 
-  pub fits_kept : IsKept n
+  pub fits_kept : IsValid n
   fits_kept = becomes_kept h n k (insert (held_in h) q (record { place = a; bytes = new })) becomes
 
   pub fits_resized : (done : Resized) → done.old_slot_words ≡ get_or h.classes.sizes c 0 → done.slot_words ≡ get_or h.classes.sizes c 0 → done.moved ≡ None → need size ≤ h.settings.page_words
@@ -254,7 +254,7 @@ module _ (h t n : Heap) (k : IsKept h) (q a m c : ℕ) (o : IsObjectAt h q a m c
   }
 
 -- its slot has the words of its bytes
-module _ (h : Heap) (k : IsKept h) (q a m c : ℕ) (o : IsObjectAt h q a m c) where
+module _ (h : Heap) (k : IsValid h) (q a m c : ℕ) (o : IsObjectAt h q a m c) where
   pub holds_bytes : 1 + (m + 7) / 8 ≤ get_or h.classes.sizes c 0
   holds_bytes = (let r = holds h k q a o.known in let e = it_slot h k q a m c o in let l = o.long in omega arith)
 

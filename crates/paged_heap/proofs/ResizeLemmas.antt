@@ -15,14 +15,14 @@ use Rattle.cf_model.specs.Steps.{IsResizeStep, PassesPage}
 use Rattle.paged_heap.specs.Heap.{Heap}
 use Rattle.paged_heap.specs.ResizeClass.{IsChange}
 use Rattle.paged_heap.specs.Free.{IsObjectAt}
-use Rattle.paged_heap.specs.Layout.{IsKept, paging_at, state_of}
+use Rattle.paged_heap.specs.Layout.{IsValid, paging_at, state_of}
 use Rattle.paged_heap.proofs.ByKind.{unmoved_cost}
 use Rattle.paged_heap.proofs.LayoutFacts.{paged_kind, paging_ok, sizes_are}
 use Rattle.paged_heap.proofs.CountLimits.{class_is}
 use Rattle.paged_heap.proofs.ReadLemmas.{held}
 
 -- what has no class is too long for a page
-pub passes_page : (h : Heap) (k : IsKept h) (q a n : ℕ) → get h.proxies.places q ≡ Some a → None ≡ class_of h.classes.sizes n → PassesPage (state_of h) (record { number = q; length = n })
+pub passes_page : (h : Heap) (k : IsValid h) (q a n : ℕ) → get h.proxies.places q ≡ Some a → None ≡ class_of h.classes.sizes n → PassesPage (state_of h) (record { number = q; length = n })
 passes_page h k q a n some none = record {
   object = record { place = a; bytes = bytes_at h.words a };
   found = held h k q a some;
@@ -37,7 +37,7 @@ passes_page h k q a n some none = record {
 }
 
 -- a change of class, where the new length has one
-pub change_at : (h : Heap) (k : IsKept h) (q : Handle) (a m n c d : ℕ) → IsObjectAt h q.0 a m c → Some d ≡ class_of h.classes.sizes n → d ≢ c
+pub change_at : (h : Heap) (k : IsValid h) (q : Handle) (a m n c d : ℕ) → IsObjectAt h q.0 a m c → Some d ≡ class_of h.classes.sizes n → d ≢ c
     → IsChange h (record { handle = q; place = a; length = m; class = c; bytes = n; to = d })
 change_at h k q a m n c d o found other =
     let is = class_is h k n d found in

@@ -17,7 +17,7 @@ use Rattle.cf_model.specs.Rules.{IsPaged}
 use Rattle.cf_model.specs.State.{layout_of}
 use Rattle.virtual_words.specs.Words.{IsWhole}
 use Rattle.paged_heap.specs.Heap.{Heap}
-use Rattle.paged_heap.specs.Layout.{IsKept, held_in, paging_at}
+use Rattle.paged_heap.specs.Layout.{IsValid, held_in, paging_at}
 use Rattle.paged_heap.proofs.LayoutFacts.{paged_kind, paging_ok}
 
 pub whole_by : (kind : Kind) → IsPaged kind → (s : Profile) (bounds : List ℕ) → IsTrue (is_page_size s.page_words) → IsPaging (paging_of s (layout_of kind) bounds) → (m : Held) → IsSound (paging_of s (layout_of kind) bounds) m
@@ -30,5 +30,5 @@ whole_by Tlsf p s bounds size ok m sound q x e = absurd p
 whole_by HalfFit p s bounds size ok m sound q x e = absurd p
 
 -- the slot of an object
-pub whole_slot : (h : Heap) (k : IsKept h) (q : ℕ) (x : Placed) → get (held_in h) q ≡ Some x → IsWhole h.kind x.place × IsWhole h.kind (slot_for (paging_at h) (length x.bytes))
+pub whole_slot : (h : Heap) (k : IsValid h) (q : ℕ) (x : Placed) → get (held_in h) q ≡ Some x → IsWhole h.kind x.place × IsWhole h.kind (slot_for (paging_at h) (length x.bytes))
 whole_slot h k q x e = whole_by h.kind (paged_kind h k) (profile_of h.settings) (take (length h.classes.sizes) h.bounds) h.settings.page_size (paging_ok h k) (held_in h) k.sound q x e

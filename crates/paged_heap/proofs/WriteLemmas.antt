@@ -25,7 +25,7 @@ use Rattle.page_slots.proofs.CallerLemmas.{rewritten_occupied}
 use Rattle.proxy_table.specs.Proxies.{AreBelowLimit}
 use Rattle.cf_model.specs.Steps.{WritesBytes}
 use Rattle.paged_heap.specs.Heap.{Heap}
-use Rattle.paged_heap.specs.Layout.{IsKept, held_in, paging_at, state_of, tables_in}
+use Rattle.paged_heap.specs.Layout.{IsValid, held_in, paging_at, state_of, tables_in}
 use Rattle.paged_heap.specs.Access.{Lies}
 use Rattle.virtual_words.specs.Overwriting.{Overwrites}
 use Rattle.paged_heap.proofs.ByKind.{framed_kept, outside_in}
@@ -57,7 +57,7 @@ module _ (p : Paging) (o : Objects) (q : ℕ) (v u : List ℕ) (some : get o q �
       omega arith
 
 -- An object has other bytes of the same class, at the same place: all but the image, which is to be shown, and the counts.
-module _ (h n : Heap) (k : IsKept h) (q a : ℕ) (some : get (held_in h) q ≡ Some (record { place = a; bytes = bytes_at h.words a })) (u : List ℕ)
+module _ (h n : Heap) (k : IsValid h) (q a : ℕ) (some : get (held_in h) q ≡ Some (record { place = a; bytes = bytes_at h.words a })) (u : List ℕ)
     (class : class_for (paging_at h) (length u) ≡ class_for (paging_at h) (length (bytes_at h.words a))) (are : AreBytes u)
     (rest : n ≡ record h { words = n.words; asked = n.asked }) (long : length n.words ≡ length h.words)
     (image : IsSlotImage (paging_at h) (insert (held_in h) q (record { place = a; bytes = u })) n.words) (asked : n.asked + length (bytes_at h.words a) ≡ h.asked + length u) where
@@ -112,11 +112,11 @@ module _ (h n : Heap) (k : IsKept h) (q a : ℕ) (some : get (held_in h) q ≡ S
         omega arith);
   }
 
-  pub changed_kept : IsKept n
+  pub changed_kept : IsValid n
   changed_kept = becomes_kept h n k changed changes
 
 -- the bytes of a part are written
-module _ (h n : Heap) (k : IsKept h) (q at a : ℕ) (bytes : List ℕ) (l : Lies h (record { number = q; from = at }) (length bytes) a) (each : AreBytes bytes) (rest : n ≡ record h { words = n.words })
+module _ (h n : Heap) (k : IsValid h) (q at a : ℕ) (bytes : List ℕ) (l : Lies h (record { number = q; from = at }) (length bytes) a) (each : AreBytes bytes) (rest : n ≡ record h { words = n.words })
     (w : Overwrites h.words n.words (record { from = a + 1 + at / 8; count = (at % 8 + length bytes + 7) / 8 }) (at % 8) bytes) where
   abbrev old : List ℕ
   old = bytes_at h.words a
@@ -193,7 +193,7 @@ module _ (h n : Heap) (k : IsKept h) (q at a : ℕ) (bytes : List ℕ) (l : Lies
       (rest ∙ ap (λ x. record h { words = n.words; asked = x }) (sym (ap (λ (x : Heap). x.asked) rest)))
       w.long image (let e = ap (λ (x : Heap). x.asked) rest in let s = size in omega arith)
 
-  pub wrote_kept : IsKept n
+  pub wrote_kept : IsValid n
   wrote_kept = becomes_kept h n k (insert (held_in h) q (record { place = a; bytes = new })) becomes
 
   pub wrote : WritesBytes (state_of h) (record { number = q; from = at }) bytes (state_of n)
@@ -208,7 +208,7 @@ module _ (h n : Heap) (k : IsKept h) (q at a : ℕ) (bytes : List ℕ) (l : Lies
   }
 
 -- to write no bytes changes nothing
-pub wrote_nothing : (h : Heap) → IsKept h → (q at a : ℕ) (bytes : List ℕ) → length bytes ≡ 0 → Lies h (record { number = q; from = at }) (length bytes) a → WritesBytes (state_of h) (record { number = q; from = at }) bytes (state_of h)
+pub wrote_nothing : (h : Heap) → IsValid h → (q at a : ℕ) (bytes : List ℕ) → length bytes ≡ 0 → Lies h (record { number = q; from = at }) (length bytes) a → WritesBytes (state_of h) (record { number = q; from = at }) bytes (state_of h)
 wrote_nothing h k q at a [] none l = record {
   object = record { place = a; bytes = bytes_at h.words a };
   found = l.found;

@@ -48,7 +48,7 @@ IsFramed Tlsf h = ⊥
 IsFramed HalfFit h = ⊥
 
 -- What an open heap keeps: its classes are those of its pages; the words are the image of the objects, whose arrangement is sound; the tables tell which slots they occupy; each number is one of the proxies'; each class has a bound from 1 to 64; and the counts are those of the objects.
-pub record IsKept (h : Heap) : Type 0 where
+pub record IsValid (h : Heap) : Type 0 where
   pub framed : IsFramed h.kind h
   pub table : h.classes ≡ table_of h.settings.page_words (layout_of h.kind)
   pub words_long : length h.words ≡ h.settings.pages * h.settings.page_words
@@ -69,7 +69,7 @@ pub record IsKept (h : Heap) : Type 0 where
 -- the same of a heap in memory, whose words stand in its region as this kind has them
 pub record Holds (kind : Kind) (h : OpenHeap) : Type 0 where
   pub laid : AreLaid kind h.blocks h.region
-  pub kept : IsKept (seen kind h)
+  pub kept : IsValid (seen kind h)
 
 -- what callers see of it
 abbrev pub state_at : Kind → OpenHeap → HeapState
@@ -81,6 +81,6 @@ state_in kind None = closed_state kind
 state_in kind (Some h) = state_at kind h
 
 -- what it keeps where it is open
-abbrev pub IsKeptIn : Kind → Option OpenHeap → Type 0
-IsKeptIn kind None = Unit {0}
-IsKeptIn kind (Some h) = Holds kind h
+abbrev pub IsValidIn : Kind → Option OpenHeap → Type 0
+IsValidIn kind None = Unit {0}
+IsValidIn kind (Some h) = Holds kind h

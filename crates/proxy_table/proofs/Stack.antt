@@ -4,7 +4,7 @@ use Rattle.std.specs.Prelude.{count_by, is_some, IsSome}
 use Rattle.std.proofs.lemmas.List.{get_or-set_same, get_or-set_other, length-set, length-replicate, get_or_read, get_or-replicate}
 use Rattle.std.proofs.lemmas.List.Sums.{sum_by-set, sum_by-cons}
 use Rattle.std.proofs.lemmas.Bool.{cases_lt, false≢true}
-use Rattle.proxy_table.specs.Layout.{IsFreeStack, IsFalling, vacant}
+use Rattle.proxy_table.specs.Layout.{IsValid, IsFalling, vacant}
 
 -- 1 where a number is live
 abbrev one : Option ℕ → ℕ
@@ -26,7 +26,7 @@ count_vacant zero = refl
 count_vacant (suc n) = sum_by-cons one None (vacant n) ∙ (let e = count_vacant n in omega arith)
 
 -- none is live, and the numbers stand in falling order
-pub stack_new : (n : ℕ) (numbers : List ℕ) → n < 2 ^ 32 → IsFalling n numbers → IsFreeStack (vacant n) numbers n
+pub stack_new : (n : ℕ) (numbers : List ℕ) → n < 2 ^ 32 → IsFalling n numbers → IsValid (vacant n) numbers n
 stack_new n numbers small f =
     let l : length (vacant n) ≡ n = length-replicate {A = Option ℕ} n None in
     let long = f.long in
@@ -41,11 +41,11 @@ stack_new n numbers small f =
     }
 
 -- the number that was read on top of the stack
-pub top : (places : List (Option ℕ)) (stack : List ℕ) (left : ℕ) → IsFreeStack places stack left → 0 < left → (h : ℕ) → h ≡ get_or stack (left - 1) h → h ≡ get_or stack (left - 1) 0
+pub top : (places : List (Option ℕ)) (stack : List ℕ) (left : ℕ) → IsValid places stack left → 0 < left → (h : ℕ) → h ≡ get_or stack (left - 1) h → h ≡ get_or stack (left - 1) 0
 top places stack left s some h read = get_or_read stack (left - 1) h (omega (arith, s.counted, s.as_long)) read 0
 
-module _ (places : List (Option ℕ)) (stack : List ℕ) (left h : ℕ) (s : IsFreeStack places stack left) where
-  pub stack_rebound : (a : ℕ) → IsSome (get_or places h None) → h < length places → IsFreeStack (set places h (Some a)) stack left
+module _ (places : List (Option ℕ)) (stack : List ℕ) (left h : ℕ) (s : IsValid places stack left) where
+  pub stack_rebound : (a : ℕ) → IsSome (get_or places h None) → h < length places → IsValid (set places h (Some a)) stack left
   stack_rebound a some lt = record {
     as_long = s.as_long ∙ sym (length-set places h (Some a));
     counted = rw length-set (let c = count_set places h (Some a) lt in let o = live_is_one _ some in let is = s.counted in omega arith);
@@ -55,7 +55,7 @@ module _ (places : List (Option ℕ)) (stack : List ℕ) (left h : ℕ) (s : IsF
     distinct = s.distinct;
   }
 
-  pub stack_bound : (a : ℕ) → 0 < left → h ≡ get_or stack (left - 1) 0 → IsFreeStack (set places h (Some a)) stack (left - 1)
+  pub stack_bound : (a : ℕ) → 0 < left → h ≡ get_or stack (left - 1) 0 → IsValid (set places h (Some a)) stack (left - 1)
   stack_bound a some is =
       let lt : h < length places = rw is (s.in_range (left - 1) (omega arith)) in
       let none : get_or places h None ≡ None = rw is (s.not_live (left - 1) (omega arith)) in
@@ -72,7 +72,7 @@ module _ (places : List (Option ℕ)) (stack : List ℕ) (left h : ℕ) (s : IsF
   pub stack_room : IsSome (get_or places h None) → h < length places → left < length places
   stack_room some lt = (let c = count_set places h None lt in let o = live_is_one _ some in let is = s.counted in omega arith)
 
-  pub stack_released : IsSome (get_or places h None) → h < length places → IsFreeStack (set places h None) (set stack left h) (left + 1)
+  pub stack_released : IsSome (get_or places h None) → h < length places → IsValid (set places h None) (set stack left h) (left + 1)
   stack_released some lt =
       let inside : left < length stack = omega (arith, s.as_long, stack_room some lt) in
       record {

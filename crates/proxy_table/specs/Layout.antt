@@ -17,7 +17,7 @@ pub record IsFalling (n : ℕ) (numbers : List ℕ) : Type 0 where
   pub falls : (i : ℕ) → i < length numbers → slice_index numbers i ≡ n - 1 - i
 
 -- the first `left` numbers of the stack are those that are not live, each once
-pub record IsFreeStack (places : List (Option ℕ)) (stack : List ℕ) (left : ℕ) : Type 0 where
+pub record IsValid (places : List (Option ℕ)) (stack : List ℕ) (left : ℕ) : Type 0 where
   pub as_long : length stack ≡ length places
   pub counted : left + count_by is_some places ≡ length places
   pub few : length places < 2 ^ 32

@@ -28,11 +28,11 @@ impl Model for ProxyTable {
 
     ghost coded = { proxies_code };
 
-    ghost use Rattle.proxy_table.specs.Layout.{proxies_of, IsFreeStack};
+    ghost use Rattle.proxy_table.specs.Layout.{proxies_of, IsValid};
 
     ghost view = { λ t. proxies_of t.places.items };
 
-    ghost invariant = { λ t. IsFreeStack t.places.items t.free.items t.left };
+    ghost invariant = { λ t. IsValid t.places.items t.free.items t.left };
 }
 
 impl ProxyTable {

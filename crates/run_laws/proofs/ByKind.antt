@@ -8,7 +8,7 @@ use Rattle.page_model.specs.Arrangement.{LacksRoom}
 use Rattle.page_model.specs.Frames.{AreBlocks, IsPermuted, frames_after}
 use Rattle.page_model.specs.Held.{Placed}
 use Rattle.page_model.specs.Paging.{class_for, paging_of}
-use Rattle.page_model.specs.Steps.{IsFreePlace, Moves, Outcome, Request}
+use Rattle.page_model.specs.Steps.{IsFreePlace, Moves, Leaves, Request}
 use Rattle.page_model.proofs.Sizes.{in_blocks}
 use Rattle.cf_model.specs.Rules.{IsPaged, KeepsPages, KeepsRules, KeepsRulesOf}
 use Rattle.cf_model.specs.State.{HeapState, layout_of, paging_in, region_words}
@@ -71,7 +71,7 @@ rules_by Tlsf s paged pages frames = absurd paged
 rules_by HalfFit s paged pages frames = absurd paged
 
 -- the block table after a step that exchanges blocks as a permutation does
-pub frames_stepped : (k : Kind) (s : HeapState) (after : Outcome) → s.kind ≡ k → IsPaged k → KeepsRules s → FramesKept k s.profile s.frames
+pub frames_stepped : (k : Kind) (s : HeapState) (after : Leaves) → s.kind ≡ k → IsPaged k → KeepsRules s → FramesKept k s.profile s.frames
     → (AreBlocks (paging_in s) → length s.frames ≡ (paging_in s).pages * (paging_in s).page_words / 4 → IsPermuted s.frames
     → IsPermuted (frames_after (paging_in s) s.held after s.frames) × (length (frames_after (paging_in s) s.held after s.frames) ≡ length s.frames))
     → FramesKept k s.profile (frames_left k s after)

@@ -23,7 +23,7 @@ use Rattle.page_model.specs.Bytes.{AreBytes, written}
 use Rattle.page_model.specs.Held.{Held, Objects, Placed, objects}
 use Rattle.page_model.specs.Image.{IsSlotImage, slot_for}
 use Rattle.page_model.specs.Paging.{Paging, class_for}
-use Rattle.page_model.specs.Steps.{IsFreePlace, IsFreeStep, IsResizeStep as IsResizedBy, Moves, Outcome, Request, resized, resized_at, without, zeros_at}
+use Rattle.page_model.specs.Steps.{IsFreePlace, RemovesObject, RefitsObject as IsResizedBy, Moves, Leaves, Request, resized, resized_at, without, zeros_at}
 use Rattle.page_model.proofs.Adding.{len-objects}
 use Rattle.page_model.proofs.BlockSteps.{free_frames, resize_frames}
 use Rattle.page_model.proofs.Counting.{eq_no}
@@ -39,7 +39,7 @@ use Rattle.page_model.proofs.Writing.{length-written, resized_are_bytes, written
 use Rattle.cf_model.specs.Answers.{bound_put}
 use Rattle.cf_model.specs.Rules.{AreObjects, IsPaged, KeepsPages, KeepsRules}
 use Rattle.cf_model.specs.State.{HeapState, paging_in, region_words}
-use Rattle.cf_model.specs.Steps.{FreesObject, IsMallocStep, IsResizeStep, IsWriteStep, Part, frames_left, number_of, outcome_of, slot_in}
+use Rattle.cf_model.specs.Steps.{FreesObject, IsMallocStep, IsResizeStep, IsWriteStep, Part, frames_left, number_of, leaves_of, slot_in}
 use Rattle.run_model.specs.Steps.{class_to_bound}
 use Rattle.run_model.proofs.Bounded.{pages_kept}
 use Rattle.run_model.proofs.Tied.{bytes_held, bytes_missing}
@@ -219,8 +219,8 @@ module _ (old : HeapState) (rules : KeepsRules old) (paged : IsPaged old.kind) w
   free_with : (h : ℕ) (x : Placed) → get old.held h ≡ Some x → (moved : Option Handle) → Moves p old.held x (number_of moved) → HasFree h
   free_with h x there moved moves =
       let left : Held = without old.held h x.place (number_of moved) in
-      let after : Outcome = outcome_of old h x (number_of moved) in
-      let step : IsFreeStep p old.held h after = record { freed = x; found = there; moves = moves; left = refl } in
+      let after : Leaves = leaves_of old h x (number_of moved) in
+      let step : RemovesObject p old.held h after = record { freed = x; found = there; moves = moves; left = refl } in
       let gone = free_objects p pages.paging old.held pages.sound h x there (number_of moved) moves in
       let frames = frames_left old.kind old after in
       let kept : FramesKept old.kind old.profile frames = frames_stepped old.kind old after refl paged rules frames_old (λ blocks count permuted. free_frames p old.held old.frames pages.paging blocks pages.sound count h after step permuted) in
@@ -293,7 +293,7 @@ module _ (old : HeapState) (rules : KeepsRules old) (paged : IsPaged old.kind) w
   resize_with : (asked : Request) (x : Placed) → get old.held asked.number ≡ Some x → need asked.length ≤ old.profile.page_words → (m : Held) (moved : Option Handle)
       → IsResizedBy p old.held asked (record { held = m; moved = number_of moved }) → objects m ≡ insert (objects old.held) asked.number (resized x.bytes asked.length) → HasResize asked
   resize_with asked x there fits m moved step left =
-      let after : Outcome = record { held = m; moved = number_of moved } in
+      let after : Leaves = record { held = m; moved = number_of moved } in
       let frames = frames_left old.kind old after in
       let kept : FramesKept old.kind old.profile frames = frames_stepped old.kind old after refl paged rules frames_old (λ blocks count permuted. resize_frames p old.held old.frames pages.paging blocks pages.sound count asked after step permuted) in
       let few : AreFew old.profile.proxies (objects m) = subst (AreFew old.profile.proxies) (sym left)

@@ -14,7 +14,7 @@ use Rattle.cf_base.specs.declared.settings.SettingFault.{SettingFault}
 use Rattle.cf_base.specs.declared.settings.SettingFault.TheVariants.{Pages, PageBytes, Bound as BoundFault, Proxies, Region}
 use Rattle.cf_io.specs.Numbers.{number_in}
 use Rattle.cf_model.specs.Rules.{AreInRange}
-use Rattle.script_reader.specs.Commands.{Saying, nothing, opens, asked, wrong, IsWellFormed, admit_in, alone_in, asked_or_wrong, block_in, bound_command_in, bound_in, bytes_in, command_of, four_of, free_in, id_and_number, id_in, id_number_and_length, id_number_and_text, is_comment, length_in, letter_command, line_says, malloc_in, need_in, none_of, number_and_bound, number_from, one_id, one_number, one_of, one_task, opens_or_wrong, peek_in, place_in, quota_in, read_in, resize_in, settings_if, settings_in, task_and_number, task_and_numbers, task_command_in, task_in, three_of, tokens_say, two_of, word_command, write_in, ◌>>=◌}
+use Rattle.script_reader.specs.Commands.{Saying, nothing, opens, asked, wrong, IsWellFormed, admit_in, alone_in, asked_or_wrong, block_command_in, bound_command_in, bound_in, bytes_in, command_of, four_of, free_in, id_and_number, id_in, id_number_and_length, id_number_and_text, is_comment, length_in, letter_command, line_says, malloc_in, need_in, none_of, number_and_bound, number_from, one_id, one_number, one_of, one_task, opens_or_wrong, peek_in, place_command_in, quota_in, read_in, resize_in, settings_if, settings_in, task_and_number, task_and_numbers, task_command_in, task_in, three_of, tokens_say, two_of, word_command, write_in, ◌>>=◌}
 use Rattle.script_reader.specs.Items.{Item, items, items_at, items_by, stage_after}
 use Rattle.script_reader.specs.Lines.{is_too_long, lines, tokens, without_return}
 use Rattle.script_reader.specs.declared.command.Command.{Command}
@@ -125,10 +125,10 @@ can_read args = mapped IsShort IsSayable (λ p. Read p.0 p.1 p.2) (id_number_and
     (λ n. bound (IsFrom 0 4096) IsShort _ (length_in a.2) (number_of_range 0 4096 a.2) (λ len is. sort_some IsShort (id, n, len) is.1)))))
     (λ p is. plain (Read p.0 p.1 p.2) is tt)
 
-can_place : (args : List (List ℕ)) → Can (place_in args)
+can_place : (args : List (List ℕ)) → Can (place_command_in args)
 can_place args = mapped_any IsSayable (λ id. Place id) (one_id args) (λ id. plain (Place id) tt tt)
 
-can_block : (args : List (List ℕ)) → Can (block_in args)
+can_block : (args : List (List ℕ)) → Can (block_command_in args)
 can_block args = mapped_any IsSayable (λ p. Block p.0 p.1) (id_and_number args) (λ p. plain (Block p.0 p.1) tt tt)
 
 can_peek : (args : List (List ℕ)) → Can (peek_in args)
@@ -183,8 +183,8 @@ can_letter letter args =
     if_test (letter == byte "f") (free_in args) _ (can_free args) (
     if_test (letter == byte "w") (write_in args) _ (can_write args) (
     if_test (letter == byte "r") (read_in args) _ (can_read args) (
-    if_test (letter == byte "q") (place_in args) _ (can_place args) (
-    if_test (letter == byte "b") (block_in args) _ (can_block args) (
+    if_test (letter == byte "q") (place_command_in args) _ (can_place args) (
+    if_test (letter == byte "b") (block_command_in args) _ (can_block args) (
     if_test (letter == byte "p") (peek_in args) _ (can_peek args) (
     if_test (letter == byte "k") (bound_command_in args) _ (can_bound args) (
     if_test (letter == byte "z") (resize_in args) _ (can_resize args) (

@@ -21,7 +21,7 @@ use Rattle.run_laws.proofs.GoingOn.{front_written, run_joined, text_joined}
 use Rattle.run_laws.proofs.Items.{items_sayable}
 use Rattle.run_laws.proofs.ReadBack.{reads_are_told}
 use Rattle.script_loop.specs.Going.{Answered, CutOff, IsWaiting, WasWanting}
-use Rattle.script_loop.specs.Outcome.{Call, HasOutcome, HasOutcomeOf, IsFrontOfWhole, MOST_BYTES, Printed, Prints, PrintsFront, has_bad, items_within}
+use Rattle.script_loop.specs.ScriptOutcome.{Effects, HasOutcome, HasOutcomeOf, IsFrontOfWhole, MOST_BYTES, Printed, Prints, PrintsFront, has_bad, items_within}
 use Rattle.script_loop.specs.Players.{Player, progress, run_of}
 use Rattle.script_loop.proofs.Feeding.{appended_none}
 use Rattle.script_loop.proofs.Going.{bad_then, nothing_left, one_run}
@@ -244,7 +244,7 @@ wants_at_end {s} {mid} {new} {t} {text} {w0} {w} {w'} {had} {left} all rest a we
 
 -- ---- where the source tells its bytes
 
-pub told : (from : HeapState) (had left : Option (List ℕ)) (call : Call) (to : HeapState) (t : List ℕ) → had ≡ preceded t left
+pub told : (from : HeapState) (had left : Option (List ℕ)) (call : Effects) (to : HeapState) (t : List ℕ) → had ≡ preceded t left
     → ((all rest : List ℕ) → left ≡ Some rest → all ≡ t ++ rest → HasOutcome from (record { all = all; left = rest }) call to) → HasOutcomeOf from had left call to
 told from None left call to t hands holds = tt
 told from (Some all) (Some rest) call to t hands holds = holds all rest refl cc

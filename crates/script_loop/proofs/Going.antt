@@ -24,8 +24,8 @@ use Rattle.run_model.specs.Texts.{Reply, bad_line, led, said, text_of}
 use Rattle.script_loop.specs.Going.{Answered, CutOff, Goes, IsWaiting, NamesBad, WasOpened}
 use Rattle.script_loop.specs.declared.answering.Ready.{Ready}
 use Rattle.script_loop.specs.declared.answering.Ready.TheVariants.{GoesOn, Stopped, Cut, Wanting}
-use Rattle.script_loop.specs.Outcome.{has_bad}
-use Rattle.script_loop.specs.Players.{HeapMoment, IsReady, IsReadyAt, Player, Progress, progress, run_at, run_of}
+use Rattle.script_loop.specs.ScriptOutcome.{has_bad}
+use Rattle.script_loop.specs.Players.{HeapMoment, IsReady, IsReadyAt, Player, Progress, progress, run_in, run_of}
 use Rattle.script_loop.proofs.Feeding.{appended_after}
 use Rattle.script_loop.proofs.Stages.{going_at, never_opening, run_before, run_behind}
 
@@ -105,7 +105,7 @@ pub answered_blank : (r r' : Reading) (s : RunState) → PassesOver r r' → Ans
 answered_blank r r' s passes = record {
   done = [];
   replies = [];
-  run = (refl, ap (λ (a : Stage). run_at a s) passes.same_stage);
+  run = (refl, ap (λ (a : Stage). run_in a s) passes.same_stage);
   text_is = refl;
   stops = refl;
   left = passes.left;
@@ -137,10 +137,10 @@ begins {first} {mid} {t} {before} {after} a settings opening ready opened same =
     let empty = subst (λ (h : HeapState). IsEmptyHeap h.kind settings after.heap) same opened.empty in
     record { session = fresh_at mid.reading.stage mid.state opening ready; words = empty.words; heap = empty.whole; rules = opened.rules }
 
-open_step : (kind : Kind) (p : Profile) (a b : Stage) (s t : RunState) → a ≡ Opening → b ≡ Bounding → Begins kind p t → ItemStep kind (run_at a s) (starts p) (said (codes "ok")) (run_at b t)
+open_step : (kind : Kind) (p : Profile) (a b : Stage) (s t : RunState) → a ≡ Opening → b ≡ Bounding → Begins kind p t → ItemStep kind (run_in a s) (starts p) (said (codes "ok")) (run_in b t)
 open_step kind p a b s t is leads begun =
-    subst (λ (z : Stage). ItemStep kind (run_at z s) (starts p) (said (codes "ok")) (run_at b t)) (sym is)
-    (subst (λ (z : Stage). ItemStep kind None (starts p) (said (codes "ok")) (run_at z t)) (sym leads) (t, begun, refl, refl))
+    subst (λ (z : Stage). ItemStep kind (run_in z s) (starts p) (said (codes "ok")) (run_in b t)) (sym is)
+    (subst (λ (z : Stage). ItemStep kind None (starts p) (said (codes "ok")) (run_in z t)) (sym leads) (t, begun, refl, refl))
 
 pub ready_open : (kind : Kind) (p : Profile) (b : Stage) (t : RunState) → b ≡ Bounding → Begins kind p t → IsReadyAt b t
 ready_open kind p b t leads begun = subst (λ (a : Stage). IsReadyAt a t) (sym leads) (begins_going kind p t begun, ap (λ z. z.ids) begun.session)
@@ -182,9 +182,9 @@ cut_open old new settings front lost (advances, first, opening, bounding) begun 
 
 -- a command
 command_step : (kind : Kind) (c : Command) (reply : Reply) (a b : Stage) (s t : RunState) → stage_behind a (is_bound c) ≡ Some b → Turn s c reply t
-    → ItemStep kind (run_at a s) (asks c) reply (run_at b t)
+    → ItemStep kind (run_in a s) (asks c) reply (run_in b t)
 command_step kind c reply a b s t leads turn =
-    subst (λ (o : Option RunState). ItemStep kind o (asks c) reply (run_at b t)) (sym (run_before a b (is_bound c) leads s))
+    subst (λ (o : Option RunState). ItemStep kind o (asks c) reply (run_in b t)) (sym (run_before a b (is_bound c) leads s))
     (subst (λ (o : Option RunState). ItemStep kind (Some s) (asks c) reply o) (sym (run_behind a b (is_bound c) leads t)) (t, turn, refl))
 
 pub answered_command : (old new : Player) (c : Command) (reply : Reply) → Answers old.reading (next.Command c) new.reading → IsReady old → Turn old.state c reply new.state
@@ -224,8 +224,8 @@ bad_step : (kind : Kind) (old : Option RunState) (n : ℕ) → ItemStep kind old
 bad_step kind None n = (refl, refl)
 bad_step kind (Some s) n = (refl, refl)
 
-bad_step_at : (kind : Kind) (a b : Stage) (s : RunState) (n : ℕ) → b ≡ a → ItemStep kind (run_at a s) (bad n) (said (bad_line n)) (run_at b s)
-bad_step_at kind a b s n same = subst (λ (z : Stage). ItemStep kind (run_at a s) (bad n) (said (bad_line n)) (run_at z s)) (sym same) (bad_step kind (run_at a s) n)
+bad_step_at : (kind : Kind) (a b : Stage) (s : RunState) (n : ℕ) → b ≡ a → ItemStep kind (run_in a s) (bad n) (said (bad_line n)) (run_in b s)
+bad_step_at kind a b s n same = subst (λ (z : Stage). ItemStep kind (run_in a s) (bad n) (said (bad_line n)) (run_in z s)) (sym same) (bad_step kind (run_in a s) n)
 
 pub nothing_left : (r : Reading) (line : ℕ) (more : List ℕ) (ended : Bool) → r.stopped ≡ Some line → items_left r more ended ≡ []
 nothing_left r line more ended over = rw over refl
@@ -240,7 +240,7 @@ answered_bad r r' s line going h =
     record {
       done = bad line ∷ [];
       replies = said (bad_line line) ∷ [];
-      run = one_run s.heap.kind (run_at r.stage s) (run_at r'.stage s) (bad line) (said (bad_line line)) (bad_step_at s.heap.kind _ _ s line same_stage);
+      run = one_run s.heap.kind (run_in r.stage s) (run_in r'.stage s) (bad line) (said (bad_line line)) (bad_step_at s.heap.kind _ _ s line same_stage);
       text_is = sym (append-nil (led [] (said (bad_line line))));
       stops = refl;
       left = λ more ended. first more ended ∙ ap (λ (l : List Item). bad line ∷ l) (sym (nothing_left r' line more ended stopped));
@@ -256,7 +256,7 @@ cut_bad r r' s line front lost going h cut =
     record {
       done = [];
       replies = [];
-      mid = run_at r.stage s;
+      mid = run_in r.stage s;
       item = bad line;
       reply = said (bad_line line);
       front = front;

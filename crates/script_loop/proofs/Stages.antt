@@ -10,8 +10,8 @@ use Rattle.script_reader.specs.declared.stage.Stage.TheVariants.{Opening, Boundi
 use Rattle.run_model.specs.Sessions.{IsGoing, RunState}
 use Rattle.run_model.specs.Steps.{Step}
 use Rattle.run_model.specs.Texts.{Reply}
-use Rattle.script_loop.specs.Outcome.{StandsAfter}
-use Rattle.script_loop.specs.Players.{IsReadyAt, run_at}
+use Rattle.script_loop.specs.ScriptOutcome.{StandsAfter}
+use Rattle.script_loop.specs.Players.{IsReadyAt, run_in}
 
 -- behind a command the heap is open
 pub never_opening : (a b : Stage) (k : Bool) → stage_behind a k ≡ Some b → b ≡ Opening → ⊥
@@ -22,12 +22,12 @@ never_opening Running b true leads is = absurd cc
 never_opening Running b false leads is = absurd cc
 
 -- and before it
-pub run_before : (a b : Stage) (k : Bool) → stage_behind a k ≡ Some b → (s : RunState) → run_at a s ≡ Some s
+pub run_before : (a b : Stage) (k : Bool) → stage_behind a k ≡ Some b → (s : RunState) → run_in a s ≡ Some s
 run_before Opening b k leads s = absurd cc
 run_before Bounding b k leads s = refl
 run_before Running b k leads s = refl
 
-pub run_behind : (a b : Stage) (k : Bool) → stage_behind a k ≡ Some b → (s : RunState) → run_at b s ≡ Some s
+pub run_behind : (a b : Stage) (k : Bool) → stage_behind a k ≡ Some b → (s : RunState) → run_in b s ≡ Some s
 run_behind a Opening k leads s = absurd (never_opening a Opening k leads refl)
 run_behind a Bounding k leads s = refl
 run_behind a Running k leads s = refl
@@ -100,7 +100,7 @@ ready_behind a Bounding s t c reply leads ready going step =
     (going, ap (λ z. z.ids) (session_kept s t c reply on.1 step) ∙ before.1)
 
 -- where a manager stands behind its run
-pub stands : (a : Stage) (s t : RunState) → (a ≡ Opening → t ≡ s) → StandsAfter s.heap (run_at a t) t.heap
+pub stands : (a : Stage) (s t : RunState) → (a ≡ Opening → t ≡ s) → StandsAfter s.heap (run_in a t) t.heap
 stands Opening s t untouched = ap (λ (z : RunState). z.heap) (untouched refl)
 stands Bounding s t untouched = refl
 stands Running s t untouched = refl

@@ -11,7 +11,7 @@ use Rattle.script_reader.specs.declared.stage.Stage.TheVariants.{Opening}
 use Rattle.run_model.specs.Runs.{ItemStep, Run}
 use Rattle.run_model.specs.Sessions.{RunState}
 use Rattle.run_model.specs.Texts.{Reply, bad_line, led, said, text_of}
-use Rattle.script_loop.specs.Outcome.{has_bad}
+use Rattle.script_loop.specs.ScriptOutcome.{has_bad}
 use Rattle.script_loop.specs.Players.{HeapMoment, IsReady, Player, Progress, run_of}
 use Rattle.script_loop.specs.declared.answering.Ready.{Ready}
 use Rattle.script_loop.specs.declared.answering.Ready.TheVariants.{GoesOn, Stopped, Cut, Wanting}
@@ -98,11 +98,11 @@ pub record WroteFront (old : Option (List ℕ)) (text : List ℕ) (new : Option 
   pub wrote : new ≡ appended old front
 
 -- a manager was opened, and `ok` written; or memory was wanting, and nothing written
-abbrev pub Opens : HeapMoment → Settings → Ready → HeapMoment → Type 0
-Opens old settings GoesOn new = WasOpened old settings new × (new.written ≡ appended old.written (led [] (said (codes "ok"))))
-Opens old settings Cut new = WasOpened old settings new × WroteFront old.written (led [] (said (codes "ok"))) new.written
-Opens old settings Wanting new = IsClosed old.heap new.heap × (new.written ≡ old.written)
-Opens old settings Stopped new = ⊥
+abbrev pub OpensHeap : HeapMoment → Settings → Ready → HeapMoment → Type 0
+OpensHeap old settings GoesOn new = WasOpened old settings new × (new.written ≡ appended old.written (led [] (said (codes "ok"))))
+OpensHeap old settings Cut new = WasOpened old settings new × WroteFront old.written (led [] (said (codes "ok"))) new.written
+OpensHeap old settings Wanting new = IsClosed old.heap new.heap × (new.written ≡ old.written)
+OpensHeap old settings Stopped new = ⊥
 
 -- a bad line was named, or a front of its reply written
 abbrev pub NamesBad : Option (List ℕ) → ℕ → Ready → Option (List ℕ) → Type 0

@@ -1,3 +1,3 @@
-pub mod Outcome
+pub mod ScriptOutcome
 pub mod Players
 pub mod Going

@@ -16,13 +16,13 @@ abbrev pub player : Reading → SessionState → HeapState → Player
 player reading session heap = record { reading = reading; state = record { session = session; heap = heap } }
 
 -- the run that the script has come to: none before its `heap` line
-abbrev pub run_at : Stage → RunState → Option RunState
-run_at Opening s = None
-run_at Bounding s = Some s
-run_at Running s = Some s
+abbrev pub run_in : Stage → RunState → Option RunState
+run_in Opening s = None
+run_in Bounding s = Some s
+run_in Running s = Some s
 
 abbrev pub run_of : Player → Option RunState
-run_of p = run_at p.reading.stage p.state
+run_of p = run_in p.reading.stage p.state
 
 -- Before the `heap` line the session is a fresh one. Behind it the run goes on, and no id is live as long as bounds may be given.
 abbrev pub IsReadyAt : Stage → RunState → Type 0

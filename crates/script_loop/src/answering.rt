@@ -2,7 +2,7 @@
 ghost use Rattle.std.specs.Prelude.{◌≡◌, ◌≤◌, ◌+◌, [], length, false, None};
 ghost use Rattle.cf_io.specs.Feeds.{Rose};
 ghost use Rattle.script_reader.specs.Reading.{MOST_FED};
-ghost use Rattle.script_loop.specs.Going.{Goes, IsWaiting, NamesBad, Opens};
+ghost use Rattle.script_loop.specs.Going.{Goes, IsWaiting, NamesBad, OpensHeap};
 ghost use Rattle.script_loop.specs.Players.{IsReady, heap_moment, player, progress};
 
 use cf_base::Settings;
@@ -24,9 +24,9 @@ pub enum Ready {
     Wanting,
 }
 
-/// Opens the manager, as the `heap` line asks.
+/// OpensHeap the manager, as the `heap` line asks.
 fn open_heap<H: Manager, K: Sink>(heap: &mut H, settings: &Settings, sink: &mut K) -> Ready
-    ensures opens { Opens (heap_moment (H.state heap.old) (K.written sink.old)) settings.now result
+    ensures opens { OpensHeap (heap_moment (H.state heap.old) (K.written sink.old)) settings.now result
         (heap_moment (H.state heap.new) (K.written sink.new)) }
     ensures grows { K.faults sink.old ≤ K.faults sink.new }
     ensures failed { result ≡ Ready.Cut → Rose (K.faults sink.old) (K.faults sink.new) }

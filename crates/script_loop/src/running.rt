@@ -2,7 +2,7 @@
 ghost use Rattle.std.specs.Prelude.{◌≡◌, ◌<◌, ◌+◌, ◌⊎◌};
 ghost use Rattle.cf_io.specs.Feeds.{Rose, last_count};
 ghost use Rattle.run_model.specs.Sessions.{fresh_session};
-ghost use Rattle.script_loop.specs.Outcome.{IsEnding, MOST_BYTES, MeetsOutcome};
+ghost use Rattle.script_loop.specs.ScriptOutcome.{IsEnding, MOST_BYTES, MeetsOutcome};
 
 use crate::answering::{Ready, answer_kept, answer_piece};
 use cf_base::Status;

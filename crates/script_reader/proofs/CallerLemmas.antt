@@ -1,7 +1,7 @@
 -- What a reader gives over calls of feed, finish and next_command.
 use Rattle.std.proofs.Common.{◌≡◌, ◌∙◌, ◌++◌, ℕ, Bool, true, false, List, [], ◌∷◌, Option, Some, None, refl, sym, ap, subst, append-nil, append_assoc}
 use Rattle.std.proofs.lemmas.Bool.{true≢false}
-use Rattle.script_reader.specs.ReaderCalls.{AreCalls, Call, answers, bytes_fed, feeds, finishes, is_finished, items_given}
+use Rattle.script_reader.specs.ReaderCalls.{AreCalls, ReaderCall, answers, bytes_fed, feeds, finishes, is_finished, items_given}
 use Rattle.script_reader.specs.Items.{AreFirstOf, Item, items}
 use Rattle.script_reader.specs.Reading.{Answers, AnswersBad, Reading, fed_with, fresh, items_left}
 use Rattle.script_reader.specs.declared.next.Next.{Next}
@@ -24,7 +24,7 @@ answer_same_end old (Bad line) new h = bad_same_end old old.stopped line new h
 answer_same_end old End new (passes, told, none, empty) = passes.same_end
 
 -- after the end nothing is fed
-fed_nothing : (calls : List Call) (old now : Reading) → old.ended ≡ true → AreCalls old calls now → bytes_fed calls ≡ []
+fed_nothing : (calls : List ReaderCall) (old now : Reading) → old.ended ≡ true → AreCalls old calls now → bytes_fed calls ≡ []
 fed_nothing [] old now told are = refl
 fed_nothing (feeds bytes ∷ rest) old now told (mid, (open_end, is), are) = absurd (true≢false (sym told ∙ open_end))
 fed_nothing (finishes ∷ rest) old now told (mid, is, are) = fed_nothing rest mid now (ap (λ (r : Reading). r.ended) is) are
@@ -49,7 +49,7 @@ after_item : (item : Item) (front all other : List Item) → all ≡ item ∷ ot
 after_item item front all other same (rest, is) = (rest, same ∙ ap (λ (l : List Item). item ∷ l) is)
 
 -- the answers up to the first bad line are the first of the items that were left
-pub given_first : (calls : List Call) (old now : Reading) → old.stopped ≡ None → AreCalls old calls now
+pub given_first : (calls : List ReaderCall) (old now : Reading) → old.stopped ≡ None → AreCalls old calls now
     → AreFirstOf (items_given calls) (items_left old (bytes_fed calls) (is_finished calls))
 given_first [] old now going are = (items_left old [] false, refl)
 given_first (feeds bytes ∷ rest) old now going (mid, (open_end, is), are) =

@@ -143,12 +143,12 @@ abbrev pub read_in : List (List ℕ) → Option Command
 read_in args = option_map (λ p. Read p.0 p.1 p.2) (id_number_and_length args)
 
 -- q ID
-abbrev pub place_in : List (List ℕ) → Option Command
-place_in args = option_map (λ id. Place id) (one_id args)
+abbrev pub place_command_in : List (List ℕ) → Option Command
+place_command_in args = option_map (λ id. Place id) (one_id args)
 
 -- b ID I
-abbrev pub block_in : List (List ℕ) → Option Command
-block_in args = option_map (λ p. Block p.0 p.1) (id_and_number args)
+abbrev pub block_command_in : List (List ℕ) → Option Command
+block_command_in args = option_map (λ p. Block p.0 p.1) (id_and_number args)
 
 -- p WORD
 abbrev pub peek_in : List (List ℕ) → Option Command
@@ -189,8 +189,8 @@ letter_command letter args =
     else (if letter == byte "f" then free_in args
     else (if letter == byte "w" then write_in args
     else (if letter == byte "r" then read_in args
-    else (if letter == byte "q" then place_in args
-    else (if letter == byte "b" then block_in args
+    else (if letter == byte "q" then place_command_in args
+    else (if letter == byte "b" then block_command_in args
     else (if letter == byte "p" then peek_in args
     else (if letter == byte "k" then bound_command_in args
     else (if letter == byte "z" then resize_in args

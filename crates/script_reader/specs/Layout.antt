@@ -10,7 +10,7 @@ abbrev pub reading_of : Inside → Reading
 reading_of r = record { kept = kept_in r; passed = r.passed; stage = r.stage; ended = r.ended; stopped = r.stopped; fed = r.fed }
 
 -- the kept bytes are an end of the buffer; a front of them was searched; each line passed had a byte
-pub record IsReader (r : Inside) : Type 0 where
+pub record IsValid (r : Inside) : Type 0 where
   pub start : r.start ≤ length r.buffer.items
   pub few : length r.buffer.items ≤ 9000
   pub searched : r.searched ≤ length (kept_in r)

@@ -43,14 +43,14 @@ said_by None = wrong
 said_by (Some order) = said_in order
 
 -- the numbers of the order are in range
-abbrev pub IsSound : ParsedLine → Type 0
-IsSound (order.Read id at len) = len ≤ 4096
-IsSound (order.Bound slot_words k) = (1 ≤ k) × (k ≤ 64)
-IsSound (order.Task task) = task ≤ 15
-IsSound (order.Quota task pages) = task ≤ 15
-IsSound (order.Need task bytes count) = task ≤ 15
-IsSound (order.Admit task) = task ≤ 15
-IsSound _ = Unit {0}
+abbrev pub IsValidLine : ParsedLine → Type 0
+IsValidLine (order.Read id at len) = len ≤ 4096
+IsValidLine (order.Bound slot_words k) = (1 ≤ k) × (k ≤ 64)
+IsValidLine (order.Task task) = task ≤ 15
+IsValidLine (order.Quota task pages) = task ≤ 15
+IsValidLine (order.Need task bytes count) = task ≤ 15
+IsValidLine (order.Admit task) = task ≤ 15
+IsValidLine _ = Unit {0}
 
 -- what an answer says
 abbrev pub saying_of : Next → Saying

@@ -7,30 +7,30 @@ use Rattle.script_reader.specs.declared.next.Next.{Next}
 use Rattle.script_reader.specs.declared.next.Next.TheVariants.{Start, Command, NeedMore, Bad, End}
 
 -- these bytes were taken, the end was told, or this was answered
-pub data Call : Type 0 where
-  feeds : List ℕ → Call
-  finishes : Call
-  answers : Next → Call
+pub data ReaderCall : Type 0 where
+  feeds : List ℕ → ReaderCall
+  finishes : ReaderCall
+  answers : Next → ReaderCall
 
 -- the call leads from the one to the other
-abbrev pub IsCall : Reading → Call → Reading → Type 0
+abbrev pub IsCall : Reading → ReaderCall → Reading → Type 0
 IsCall old (feeds bytes) new = (old.ended ≡ false) × (new ≡ fed_with old bytes)
 IsCall old finishes new = new ≡ record old { ended = true }
 IsCall old (answers next) new = Answers old next new
 
-abbrev pub AreCalls : Reading → List Call → Reading → Type 0
+abbrev pub AreCalls : Reading → List ReaderCall → Reading → Type 0
 AreCalls old [] new = new ≡ old
 AreCalls old (call ∷ rest) new = (mid : Reading) × IsCall old call mid × AreCalls mid rest new
 
 -- all bytes that were taken
-abbrev pub bytes_fed : List Call → List ℕ
+abbrev pub bytes_fed : List ReaderCall → List ℕ
 bytes_fed [] = []
 bytes_fed (feeds bytes ∷ rest) = bytes ++ bytes_fed rest
 bytes_fed (finishes ∷ rest) = bytes_fed rest
 bytes_fed (answers next ∷ rest) = bytes_fed rest
 
 -- whether the end was told
-abbrev pub is_finished : List Call → Bool
+abbrev pub is_finished : List ReaderCall → Bool
 is_finished [] = false
 is_finished (feeds bytes ∷ rest) = is_finished rest
 is_finished (finishes ∷ rest) = true
@@ -45,7 +45,7 @@ given_then (Bad line) after = bad line ∷ []
 given_then End after = after
 
 -- the items that were answered, up to the first bad line
-abbrev pub items_given : List Call → List Item
+abbrev pub items_given : List ReaderCall → List Item
 items_given [] = []
 items_given (feeds bytes ∷ rest) = items_given rest
 items_given (finishes ∷ rest) = items_given rest

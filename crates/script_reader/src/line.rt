@@ -6,7 +6,7 @@ ghost use Rattle.script_reader.specs.Commands as grammar;
 ghost use Rattle.script_reader.specs.Commands.{asked_or_wrong};
 ghost use Rattle.script_reader.specs.declared.command.Command.{Command};
 ghost use Rattle.script_reader.specs.Lines.{is_too_long as too_long, tokens};
-ghost use Rattle.script_reader.specs.ParsedLine.{IsSound, or_wrong, said_by};
+ghost use Rattle.script_reader.specs.ParsedLine.{IsValidLine, or_wrong, said_by};
 
 use crate::fields::{
     four, id_and_number, id_number_and_length, id_number_and_text, is_done, number_and_bound,
@@ -23,7 +23,7 @@ pub const LONGEST: usize = 8_999;
 /// `m ID BYTES`.
 fn malloc(args: &[u8]) -> Option<ParsedLine>
     ensures value { said_by result ≡ asked_or_wrong (grammar.malloc_in (tokens args.now)) }
-    ensures fits { IfSome result IsSound }
+    ensures fits { IfSome result IsValidLine }
 {
     let (id, bytes) = id_and_number(args)?;
     Some(ParsedLine::Malloc { id, bytes })
@@ -32,7 +32,7 @@ fn malloc(args: &[u8]) -> Option<ParsedLine>
 /// `f ID`.
 fn free(args: &[u8]) -> Option<ParsedLine>
     ensures value { said_by result ≡ asked_or_wrong (grammar.free_in (tokens args.now)) }
-    ensures fits { IfSome result IsSound }
+    ensures fits { IfSome result IsValidLine }
 {
     let id = one_id(args)?;
     Some(ParsedLine::Free { id })
@@ -41,7 +41,7 @@ fn free(args: &[u8]) -> Option<ParsedLine>
 /// `w ID AT HEX`.
 fn write(args: &[u8]) -> Option<ParsedLine>
     ensures value { said_by result ≡ asked_or_wrong (grammar.write_in (tokens args.now)) }
-    ensures fits { IfSome result IsSound }
+    ensures fits { IfSome result IsValidLine }
 {
     let (id, at, digits) = id_number_and_text(args)?;
     Some(ParsedLine::Write { id, at, digits })
@@ -50,7 +50,7 @@ fn write(args: &[u8]) -> Option<ParsedLine>
 /// `r ID AT LEN`.
 fn read(args: &[u8]) -> Option<ParsedLine>
     ensures value { said_by result ≡ asked_or_wrong (grammar.read_in (tokens args.now)) }
-    ensures fits { IfSome result IsSound }
+    ensures fits { IfSome result IsValidLine }
 {
     let (id, at, len) = id_number_and_length(args)?;
     Some(ParsedLine::Read { id, at, len })
@@ -59,7 +59,7 @@ fn read(args: &[u8]) -> Option<ParsedLine>
 /// `q ID`.
 fn place(args: &[u8]) -> Option<ParsedLine>
     ensures value { said_by result ≡ asked_or_wrong (grammar.place_in (tokens args.now)) }
-    ensures fits { IfSome result IsSound }
+    ensures fits { IfSome result IsValidLine }
 {
     let id = one_id(args)?;
     Some(ParsedLine::Place { id })
@@ -68,7 +68,7 @@ fn place(args: &[u8]) -> Option<ParsedLine>
 /// `b ID I`.
 fn block(args: &[u8]) -> Option<ParsedLine>
     ensures value { said_by result ≡ asked_or_wrong (grammar.block_in (tokens args.now)) }
-    ensures fits { IfSome result IsSound }
+    ensures fits { IfSome result IsValidLine }
 {
     let (id, i) = id_and_number(args)?;
     Some(ParsedLine::Block { id, i })
@@ -77,7 +77,7 @@ fn block(args: &[u8]) -> Option<ParsedLine>
 /// `p WORD`.
 fn peek(args: &[u8]) -> Option<ParsedLine>
     ensures value { said_by result ≡ asked_or_wrong (grammar.peek_in (tokens args.now)) }
-    ensures fits { IfSome result IsSound }
+    ensures fits { IfSome result IsValidLine }
 {
     let word = one_number(args)?;
     Some(ParsedLine::Peek { word })
@@ -86,7 +86,7 @@ fn peek(args: &[u8]) -> Option<ParsedLine>
 /// `k SLOTWORDS K`.
 fn bound(args: &[u8]) -> Option<ParsedLine>
     ensures value { said_by result ≡ asked_or_wrong (grammar.bound_command_in (tokens args.now)) }
-    ensures fits { IfSome result IsSound }
+    ensures fits { IfSome result IsValidLine }
 {
     let (slot_words, k) = number_and_bound(args)?;
     Some(ParsedLine::Bound { slot_words, k })
@@ -95,7 +95,7 @@ fn bound(args: &[u8]) -> Option<ParsedLine>
 /// `z ID BYTES`.
 fn resize(args: &[u8]) -> Option<ParsedLine>
     ensures value { said_by result ≡ asked_or_wrong (grammar.resize_in (tokens args.now)) }
-    ensures fits { IfSome result IsSound }
+    ensures fits { IfSome result IsValidLine }
 {
     let (id, bytes) = id_and_number(args)?;
     Some(ParsedLine::Resize { id, bytes })
@@ -104,7 +104,7 @@ fn resize(args: &[u8]) -> Option<ParsedLine>
 /// `t TASK`.
 fn task(args: &[u8]) -> Option<ParsedLine>
     ensures value { said_by result ≡ asked_or_wrong (grammar.task_command_in (tokens args.now)) }
-    ensures fits { IfSome result IsSound }
+    ensures fits { IfSome result IsValidLine }
 {
     let task = one_task(args)?;
     Some(ParsedLine::Task { task })
@@ -113,7 +113,7 @@ fn task(args: &[u8]) -> Option<ParsedLine>
 /// `quota TASK PAGES`.
 fn quota(args: &[u8]) -> Option<ParsedLine>
     ensures value { said_by result ≡ asked_or_wrong (grammar.quota_in (tokens args.now)) }
-    ensures fits { IfSome result IsSound }
+    ensures fits { IfSome result IsValidLine }
 {
     let (task, pages) = task_and_number(args)?;
     Some(ParsedLine::Quota { task, pages })
@@ -122,7 +122,7 @@ fn quota(args: &[u8]) -> Option<ParsedLine>
 /// `need TASK BYTES COUNT`.
 fn need(args: &[u8]) -> Option<ParsedLine>
     ensures value { said_by result ≡ asked_or_wrong (grammar.need_in (tokens args.now)) }
-    ensures fits { IfSome result IsSound }
+    ensures fits { IfSome result IsValidLine }
 {
     let (task, bytes, count) = task_and_numbers(args)?;
     Some(ParsedLine::Need { task, bytes, count })
@@ -131,7 +131,7 @@ fn need(args: &[u8]) -> Option<ParsedLine>
 /// `admit TASK`.
 fn admit(args: &[u8]) -> Option<ParsedLine>
     ensures value { said_by result ≡ asked_or_wrong (grammar.admit_in (tokens args.now)) }
-    ensures fits { IfSome result IsSound }
+    ensures fits { IfSome result IsValidLine }
 {
     let task = one_task(args)?;
     Some(ParsedLine::Admit { task })
@@ -140,7 +140,7 @@ fn admit(args: &[u8]) -> Option<ParsedLine>
 /// `s`.
 fn slice(args: &[u8]) -> Option<ParsedLine>
     ensures value { said_by result ≡ asked_or_wrong (grammar.alone_in Command.Slice (tokens args.now)) }
-    ensures fits { IfSome result IsSound }
+    ensures fits { IfSome result IsValidLine }
 {
     if is_done(args) {
         Some(ParsedLine::Slice)
@@ -152,7 +152,7 @@ fn slice(args: &[u8]) -> Option<ParsedLine>
 /// `walk`.
 fn walk(args: &[u8]) -> Option<ParsedLine>
     ensures value { said_by result ≡ asked_or_wrong (grammar.alone_in Command.Walk (tokens args.now)) }
-    ensures fits { IfSome result IsSound }
+    ensures fits { IfSome result IsValidLine }
 {
     if is_done(args) {
         Some(ParsedLine::Walk)
@@ -164,7 +164,7 @@ fn walk(args: &[u8]) -> Option<ParsedLine>
 /// `frag`.
 fn frag(args: &[u8]) -> Option<ParsedLine>
     ensures value { said_by result ≡ asked_or_wrong (grammar.alone_in Command.Frag (tokens args.now)) }
-    ensures fits { IfSome result IsSound }
+    ensures fits { IfSome result IsValidLine }
 {
     if is_done(args) {
         Some(ParsedLine::Frag)
@@ -176,7 +176,7 @@ fn frag(args: &[u8]) -> Option<ParsedLine>
 /// `steps`.
 fn steps(args: &[u8]) -> Option<ParsedLine>
     ensures value { said_by result ≡ asked_or_wrong (grammar.alone_in Command.Steps (tokens args.now)) }
-    ensures fits { IfSome result IsSound }
+    ensures fits { IfSome result IsValidLine }
 {
     if is_done(args) {
         Some(ParsedLine::Steps)
@@ -188,7 +188,7 @@ fn steps(args: &[u8]) -> Option<ParsedLine>
 /// The commands whose word is a letter.
 fn letter_command(letter: u8, args: &[u8]) -> Option<ParsedLine>
     ensures value { said_by result ≡ asked_or_wrong (grammar.letter_command letter (tokens args.now)) }
-    ensures fits { IfSome result IsSound }
+    ensures fits { IfSome result IsValidLine }
 {
     match letter {
         b'm' => malloc(args),
@@ -209,7 +209,7 @@ fn letter_command(letter: u8, args: &[u8]) -> Option<ParsedLine>
 /// The commands whose word is longer.
 fn word_command<'a>(word: &[u8], args: &'a [u8]) -> Option<ParsedLine<'a>>
     ensures value { said_by result ≡ asked_or_wrong (grammar.word_command word.now (tokens args.now)) }
-    ensures fits { IfSome result IsSound }
+    ensures fits { IfSome result IsValidLine }
 {
     if word == b"walk".as_slice() {
         walk(args)
@@ -231,7 +231,7 @@ fn word_command<'a>(word: &[u8], args: &'a [u8]) -> Option<ParsedLine<'a>>
 /// The command of a word and what stands behind it.
 fn command_of<'a>(word: &[u8], args: &'a [u8]) -> Option<ParsedLine<'a>>
     ensures value { said_by result ≡ asked_or_wrong (grammar.command_of word.now (tokens args.now)) }
-    ensures fits { IfSome result IsSound }
+    ensures fits { IfSome result IsValidLine }
 {
     if word.len() == 1 {
         letter_command(word[0], args)
@@ -293,7 +293,7 @@ pub fn is_idle(text: &[u8]) -> bool
 /// What a line orders, without its line feed; None where it is blank, a comment, or not in the grammar.
 pub fn read_line(text: &[u8]) -> Option<ParsedLine>
     ensures value { said_by result ≡ or_wrong (grammar.line_says text.now) }
-    ensures fits { IfSome result IsSound }
+    ensures fits { IfSome result IsValidLine }
 {
     if is_too_long(text) {
         return None;
@@ -308,7 +308,7 @@ pub fn read_line(text: &[u8]) -> Option<ParsedLine>
 fn parse_line<'a>(word: &[u8], args: &'a [u8]) -> Option<ParsedLine<'a>>
     requires { 1 ≤ length word.now }
     ensures value { said_by result ≡ or_wrong (grammar.tokens_say (word.now ∷ tokens args.now)) }
-    ensures fits { IfSome result IsSound }
+    ensures fits { IfSome result IsValidLine }
 {
     if is_comment(word) {
         return None;

@@ -1,7 +1,7 @@
 //! What a line orders, before it is answered. An answer keeps the bytes of a write in place, so that
 //! it is dear to move; an order lends the digits that spell them.
 ghost use Rattle.std.specs.Prelude.{◌≡◌, IfSome};
-ghost use Rattle.script_reader.specs.ParsedLine.{IsInRange, IsSound, said_by, saying_of};
+ghost use Rattle.script_reader.specs.ParsedLine.{IsInRange, IsValidLine, said_by, saying_of};
 
 use crate::command::Command;
 use crate::next::Next;
@@ -33,7 +33,7 @@ pub enum ParsedLine<'a> {
 
 /// The answer to the line of this number, which ordered this.
 pub fn into_next(order: Option<ParsedLine>, line: u32) -> Next
-    requires sound { IfSome order IsSound }
+    requires sound { IfSome order IsValidLine }
     ensures value { saying_of result ≡ said_by order.entry }
     ensures fits { IsInRange result }
 {

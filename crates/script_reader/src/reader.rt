@@ -37,11 +37,11 @@ impl Model for Reader {
 
     ghost Value = { Reading };
 
-    ghost use Rattle.script_reader.specs.Layout.{IsReader, reading_of};
+    ghost use Rattle.script_reader.specs.Layout.{IsValid, reading_of};
 
     ghost view = { reading_of };
 
-    ghost invariant = { IsReader };
+    ghost invariant = { IsValid };
 }
 
 impl Reader {

@@ -14,6 +14,6 @@ abbrev pub table_of : ℕ → Layout → ClassTable
 table_of page_words layout = record { page_words = page_words; sizes = sizes page_words layout }
 
 -- the sizes rise from 4 words to the page, and no page is above 16,384 words
-pub record IsTable (page_words : ℕ) (sizes : List ℕ) : Type 0 where
+pub record IsClassTable (page_words : ℕ) (sizes : List ℕ) : Type 0 where
   pub are_sizes : AreSizes page_words sizes
   pub small : page_words ≤ 16384

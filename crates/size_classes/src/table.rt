@@ -22,13 +22,13 @@ pub struct Classes {
 impl Model for Classes {
     ghost use Rattle.std.specs.Prelude.{◌≤◌};
     ghost use Rattle.cf_base.specs.Rising.{AreSizes};
-    ghost use Rattle.size_classes.specs.Table.{ClassTable, IsTable};
+    ghost use Rattle.size_classes.specs.Table.{ClassTable, IsClassTable};
 
     ghost Value = { ClassTable };
 
     ghost view = { λ c. record { page_words = c.page_words; sizes = c.sizes.items } };
 
-    ghost invariant = { λ c. IsTable c.page_words c.sizes.items };
+    ghost invariant = { λ c. IsClassTable c.page_words c.sizes.items };
 }
 
 impl Classes {

@@ -13,24 +13,24 @@ abbrev pub is_used : List ℕ → ℕ → Bool
 is_used words i = bit_at (slice_index words (i / 64)) (i % 64) == 1
 
 -- n slots, true for used
-unfoldable pub slots_of : List ℕ → ℕ → List Bool
-slots_of words n = map (is_used words) (range_with_len 0 n)
+unfoldable pub slots_told : List ℕ → ℕ → List Bool
+slots_told words n = map (is_used words) (range_with_len 0 n)
 
 -- how many of n slots word j has
-abbrev pub slots_in : ℕ → ℕ → ℕ
-slots_in n j = min (n - 64 * j) 64
+abbrev pub bits_in : ℕ → ℕ → ℕ
+bits_in n j = min (n - 64 * j) 64
 
 -- whether word j, of n slots in all, has a free slot, and whether it has a used one
 abbrev pub has_free : List ℕ → ℕ → ℕ → Bool
-has_free words n j = not (slice_index words j + 1 == 2 ^ slots_in n j)
+has_free words n j = not (slice_index words j + 1 == 2 ^ bits_in n j)
 
 abbrev pub has_used : List ℕ → ℕ → Bool
 has_used words j = not (slice_index words j == 0)
 
 -- no bit past the n slots is set, the summaries say which words have a free slot and which a used one, and the count is right
-pub record IsTidy (words : List ℕ) (with_free with_used n used : ℕ) : Type 0 where
+pub record IsValid (words : List ℕ) (with_free with_used n used : ℕ) : Type 0 where
   pub few : n ≤ 4096
-  pub clean : (j : ℕ) → j < 64 → slice_index words j < 2 ^ slots_in n j
+  pub clean : (j : ℕ) → j < 64 → slice_index words j < 2 ^ bits_in n j
   pub some_free : (j : ℕ) → j < 64 → bit_at with_free j ≡ cond (has_free words n j) 1 0
   pub some_used : (j : ℕ) → j < 64 → bit_at with_used j ≡ cond (has_used words j) 1 0
-  pub counted : used ≡ count_by (λ u. u) (slots_of words n)
+  pub counted : used ≡ count_by (λ u. u) (slots_told words n)

@@ -22,13 +22,13 @@ pub struct SlotMap {
 
 impl Model for SlotMap {
     ghost use Rattle.std.specs.Prelude.{List, Bool};
-    ghost use Rattle.slot_bitmap.specs.Layout.{slots_of, IsTidy};
+    ghost use Rattle.slot_bitmap.specs.Layout.{slots_told, IsValid};
 
     ghost Value = { List Bool };
 
-    ghost view = { λ m. slots_of m.words m.slots };
+    ghost view = { λ m. slots_told m.words m.slots };
 
-    ghost invariant = { λ m. IsTidy m.words m.with_free m.with_used m.slots m.used };
+    ghost invariant = { λ m. IsValid m.words m.with_free m.with_used m.slots m.used };
 }
 
 #[tactic(auto, using(crate::proofs::Slots::slot_rules))]

@@ -1,7 +1,7 @@
 use Rattle.std.proofs.Common.{◌∙◌, ap, refl, codes}
 use Rattle.clap.specs.Words.{app_of, first_of, found_of, one_of}
 use Rattle.clap.proofs.WalkLemmas.{first_value-rows, one_text-rows}
-use Rattle.command_line.specs.Choices.{kind_named, mode_named, number_in}
+use Rattle.command_line.specs.Choices.{kind_named, mode_named, u64_in}
 use Rattle.command_line.proofs.ClapReads.{another_kind_is_found, cf_is_free, cf_is_simple}
 use Rattle.command_line.proofs.reading.read_words.Goals as goal
 
@@ -13,8 +13,8 @@ returns-in-Ok-try_get_matches_from c =
     let f = found_of got.matches in
     let mode = c.mode_named.ensures ∙ ap mode_named (c.get_str.ensures ∙ (first_value-rows f (codes "mode") ∙ ap (first_of (codes "mode")) rows)) in
     let kind = c.kind_named.ensures ∙ ap kind_named (c.get_str-in-Ok-try_get_matches_from.ensures ∙ (first_value-rows f (codes "manager") ∙ ap (first_of (codes "manager")) rows)) in
-    let seed = c.number_in.ensures ∙ ap number_in (one_text-rows f (codes "seed") ∙ ap (one_of (codes "seed")) rows) in
-    let count = c.number_in-in-Ok-try_get_matches_from.ensures ∙ ap number_in (one_text-rows f (codes "count") ∙ ap (one_of (codes "count")) rows) in
+    let seed = c.u64_in.ensures ∙ ap u64_in (one_text-rows f (codes "seed") ∙ ap (one_of (codes "seed")) rows) in
+    let count = c.u64_in-in-Ok-try_get_matches_from.ensures ∙ ap u64_in (one_text-rows f (codes "count") ∙ ap (one_of (codes "count")) rows) in
     record {
       app = app;
       is_app = c.in-Ok.ensures;

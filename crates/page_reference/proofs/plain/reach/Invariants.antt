@@ -1,11 +1,11 @@
 use Rattle.std.proofs.Common.{◌≡◌, ◌≤◌, ◌-◌, ◌+◌, length}
-use Rattle.page_reference.specs.Amounts.{held_in}
+use Rattle.page_reference.specs.Amounts.{held_of}
 use Rattle.page_reference.proofs.plain.reach.Given as goal
 
 -- empty entries are added, up to 65,536 in all
 abbrev pub invariant-entries : goal.invariant-entries
 invariant-entries l = record {
-  held : held_in l.objects.items ≡ held_in l.initial.objects.items;
+  held : held_of l.objects.items ≡ held_of l.initial.objects.items;
   few : length l.objects.items ≤ 65536;
 }
 

@@ -8,7 +8,7 @@ use Rattle.script_loop.proofs.Feeding.{appended_after, appended_none, given_take
 use Rattle.script_loop.proofs.Going.{answered_none, answered_then, cut_then}
 use Rattle.script_loop.proofs.Stages.{stands}
 use Rattle.script_loop.specs.Going.{Answered, IsWaiting}
-use Rattle.script_loop.specs.Outcome.{MOST_BYTES, items_within}
+use Rattle.script_loop.specs.ScriptOutcome.{MOST_BYTES, items_within}
 use Rattle.script_loop.specs.Players.{IsReady, player}
 use Rattle.script_loop.proofs.running.run_script.Goals as goal
 

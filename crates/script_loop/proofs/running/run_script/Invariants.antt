@@ -2,7 +2,7 @@ use Rattle.std.proofs.Common.{◌≡◌, ◌≤◌, ◌+◌, List, ℕ, false, l
 use Rattle.cf_io.specs.Feeds.{HasGiven, appended, preceded}
 use Rattle.script_reader.specs.Reading.{fresh}
 use Rattle.script_loop.specs.Going.{Answered, IsWaiting}
-use Rattle.script_loop.specs.Outcome.{MOST_BYTES}
+use Rattle.script_loop.specs.ScriptOutcome.{MOST_BYTES}
 use Rattle.script_loop.specs.Players.{IsReady, player}
 use Rattle.script_loop.proofs.running.run_script.Given as goal
 

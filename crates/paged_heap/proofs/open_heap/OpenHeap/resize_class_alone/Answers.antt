@@ -4,7 +4,7 @@ use Rattle.page_model.specs.Image.{Clears}
 use Rattle.page_slots.specs.Tables.{AreTables, IsUsed, page_at, slot_at}
 use Rattle.paged_heap.specs.declared.open_heap.OpenHeap.{OpenHeap}
 use Rattle.paged_heap.specs.Heap.{Heap, seen}
-use Rattle.paged_heap.specs.Layout.{IsKept, tables_in}
+use Rattle.paged_heap.specs.Layout.{IsValid, tables_in}
 use Rattle.paged_heap.proofs.ByKind.{framed_of, in_region, laid_same}
 use Rattle.paged_heap.proofs.ResizeClass.{change_kept, change_resized, entered_long, old_used}
 use Rattle.paged_heap.proofs.ResizeClassAlone.{changed_alone, frames_are, keeps, never}
@@ -18,7 +18,7 @@ returns-in_default-clause-step g c = refused (seen g.A.Mapping.kind c.args.self.
 pub returns-in_default-clause-kept : goal.returns-in_default-clause-kept
 returns-in_default-clause-kept g c = record {
   laid = c.in_default.ensures.laid;
-  kept = subst IsKept (sym (unchanged (seen g.A.Mapping.kind c.args.self.now) c.args.x (seen g.A.Mapping.kind c.enter_class.new.self) c.in_default.ensures.entered)) c.requires.kept.kept;
+  kept = subst IsValid (sym (unchanged (seen g.A.Mapping.kind c.args.self.now) c.args.x (seen g.A.Mapping.kind c.enter_class.new.self) c.in_default.ensures.entered)) c.requires.kept.kept;
 }
 
 pub wipe-requires-clause-within : goal.wipe-requires-clause-within

@@ -6,7 +6,7 @@ use Rattle.page_slots.specs.Tables.{AreTables}
 use Rattle.virtual_words.specs.Words.{IsWhole}
 use Rattle.paged_heap.specs.declared.open_heap.OpenHeap.{OpenHeap}
 use Rattle.paged_heap.specs.Heap.{Heap, seen}
-use Rattle.paged_heap.specs.Layout.{IsKept, tables_in}
+use Rattle.paged_heap.specs.Layout.{IsValid, tables_in}
 use Rattle.paged_heap.proofs.ByKind.{framed_of, in_region, laid_same}
 use Rattle.paged_heap.proofs.ResizeClass.{change_kept, change_resized}
 use Rattle.paged_heap.proofs.ResizeClassFilled.{changed_filled, frames_are, keeps, live_still, mover, number_told, place_in, r, slots_apart, some_fills, source_in, target_in, whole_source, whole_target, whole_words}
@@ -19,7 +19,7 @@ returns-in_default-clause-step g c = refused (seen g.A.Mapping.kind c.args.self.
 pub returns-in_default-clause-kept : goal.returns-in_default-clause-kept
 returns-in_default-clause-kept g c = record {
   laid = c.in_default.ensures.laid;
-  kept = subst IsKept (sym (unchanged (seen g.A.Mapping.kind c.args.self.now) c.args.x (seen g.A.Mapping.kind c.enter_class.new.self) c.in_default.ensures.entered)) c.requires.kept.kept;
+  kept = subst IsValid (sym (unchanged (seen g.A.Mapping.kind c.args.self.now) c.args.x (seen g.A.Mapping.kind c.enter_class.new.self) c.in_default.ensures.entered)) c.requires.kept.kept;
 }
 
 pub take_filler-from-requires-clause-tables : goal.take_filler-from-requires-clause-tables

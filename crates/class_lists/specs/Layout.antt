@@ -33,21 +33,21 @@ abbrev pub list_at : List (List ℕ) → ℕ → List ℕ
 list_at lists k = slice_index_or lists k []
 
 -- each list's ring starts and ends at the list's own node
-pub record AreLinked (next previous lens : List ℕ) (pages : ℕ) (lists : List (List ℕ)) : Type 0 where
+pub record AreRings (next previous lens : List ℕ) (pages : ℕ) (lists : List (List ℕ)) : Type 0 where
   pub as_many : length lists ≡ length lens
   pub linked : (k : ℕ) → k < length lens → IsLinked next previous (pages + k) (list_at lists k) (pages + k)
   pub counted : (k : ℕ) → k < length lens → slice_index lens k ≡ length (list_at lists k)
 
 -- the lists' pages are in range, and none stands in two lists, or twice in one
-pub record AreDisjoint (pages : ℕ) (lists : List (List ℕ)) : Type 0 where
+pub record HoldPagesOnce (pages : ℕ) (lists : List (List ℕ)) : Type 0 where
   pub within : (k page : ℕ) → Contains (list_at lists k) page → page < pages
   pub distinct : (k : ℕ) → IsDistinct nat_eq (list_at lists k)
   pub once : (j k page : ℕ) → Contains (list_at lists j) page → Contains (list_at lists k) page → j ≡ k
 
-pub record IsSound (next previous lens : List ℕ) (pages : ℕ) : Type 0 where
+pub record IsValid (next previous lens : List ℕ) (pages : ℕ) : Type 0 where
   pub nodes : pages + length lens ≡ length next
   pub backed : length previous ≡ length next
   pub few : length next < 2 ^ 32
   pub paired : 2 * (length lens / 2) ≡ length lens
-  pub linked : AreLinked next previous lens pages (chains next pages lens)
-  pub disjoint : AreDisjoint pages (chains next pages lens)
+  pub linked : AreRings next previous lens pages (chains next pages lens)
+  pub disjoint : HoldPagesOnce pages (chains next pages lens)

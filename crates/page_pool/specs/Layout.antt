@@ -6,7 +6,7 @@ use Rattle.page_pool.specs.Pool.{Pool, IsPool}
 abbrev pub pool_of : List ℕ → ℕ → Pool
 pool_of stack first = record { pages = length stack; free = drop first stack }
 
-pub record IsLaid (stack : List ℕ) (first : ℕ) : Type 0 where
+pub record IsValid (stack : List ℕ) (first : ℕ) : Type 0 where
   pub within : first ≤ length stack
   pub small : length stack < 2 ^ 32
   pub pool : IsPool (pool_of stack first)

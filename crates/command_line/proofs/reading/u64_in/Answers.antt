@@ -2,7 +2,7 @@ use Rattle.std.proofs.Common.{◌∙◌}
 use Rattle.std.specs.Str.Parse.{ParsesUnsigned, ExplainsUnsignedError, HasUnsignedDigitsIfOk}
 use Rattle.clap.specs.Words.{found_of, one_text}
 use Rattle.command_line.proofs.ClapReads.{number_of_text}
-use Rattle.command_line.proofs.reading.number_in.Goals as goal
+use Rattle.command_line.proofs.reading.u64_in.Goals as goal
 
 pub returns : goal.returns
 returns c = c.unwrap_or.ensures ∙ number_of_text (λ bs r. ParsesUnsigned 64 10 bs r × ExplainsUnsignedError 10 bs r × HasUnsignedDigitsIfOk bs r)

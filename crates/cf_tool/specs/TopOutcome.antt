@@ -14,11 +14,11 @@ use Rattle.command_line.specs.declared.choice.Mode.{Mode}
 use Rattle.command_line.specs.declared.choice.Mode.TheVariants.{Run}
 use Rattle.script_reader.specs.Items.{Item}
 use Rattle.run_model.specs.Texts.{text_of}
-use Rattle.script_loop.specs.Outcome.{Call, MeetsOutcome, items_within}
+use Rattle.script_loop.specs.ScriptOutcome.{Effects, MeetsOutcome, items_within}
 use Rattle.transcript_laws.specs.Transcripts.{ArePlaceless, AskForOne, transcript}
 
 -- nothing was read or written
-pub record IsUntouched (call : Call) : Type 0 where
+pub record IsUntouched (call : Effects) : Type 0 where
   pub unread : call.left ≡ call.had
   pub unwritten : call.after ≡ call.before
 
@@ -28,35 +28,35 @@ pub record ArePlain (wanted : List Item) : Type 0 where
   pub placeless : ArePlaceless wanted
 
 -- the statuses at which every item within the limit was answered
-abbrev pub IsAnswered : Status → Type 0
-IsAnswered Done = ⊤
-IsAnswered BadScript = ⊤
-IsAnswered TooLong = ⊤
-IsAnswered status = ⊥
+abbrev pub AnswersAll : Status → Type 0
+AnswersAll Done = ⊤
+AnswersAll BadScript = ⊤
+AnswersAll TooLong = ⊤
+AnswersAll status = ⊥
 
 -- the output over plain items is their transcript, whatever was chosen and however the source was cut
-abbrev pub TellsTranscript : Kind → Option (List ℕ) → Call → Type 0
+abbrev pub TellsTranscript : Kind → Option (List ℕ) → Effects → Type 0
 TellsTranscript kind None call = ⊤
-TellsTranscript kind (Some all) call = IsAnswered call.status → ArePlain (items_within all) → call.after ≡ appended call.before (text_of [] (transcript kind (items_within all)))
+TellsTranscript kind (Some all) call = AnswersAll call.status → ArePlain (items_within all) → call.after ≡ appended call.before (text_of [] (transcript kind (items_within all)))
 
 -- a manager of the kind that was never open answers the script
-pub record AnswersScript (kind : Kind) (call : Call) : Type 0 where
+pub record AnswersScript (kind : Kind) (call : Effects) : Type 0 where
   pub end : HeapState
   pub outcome : MeetsOutcome (closed_state kind) call end
   pub transcript : IsPaged kind → TellsTranscript kind call.had call
 
 -- by the mode
-abbrev pub InMode : Mode → Kind → Call → Type 0
+abbrev pub InMode : Mode → Kind → Effects → Type 0
 InMode Run kind call = AnswersScript kind call
 
 -- the words choose a mode and a kind, and the call did what they ask
-pub record DoesChosen (words : List Text) (call : Call) : Type 0 where
+pub record DoesChosen (words : List Text) (call : Effects) : Type 0 where
   pub choice : Choice
   pub chosen : Chooses words choice
   pub done : InMode choice.mode choice.kind call
 
 -- by how the call ended
-abbrev pub EndsBy : Status → List Text → Call → Type 0
+abbrev pub EndsBy : Status → List Text → Effects → Type 0
 EndsBy Words words call = AreRefused words × IsUntouched call
 EndsBy OutOfMemory words call = call.after ≡ call.before
 EndsBy Done words call = DoesChosen words call
@@ -66,13 +66,13 @@ EndsBy WriteFault words call = DoesChosen words call
 EndsBy TooLong words call = DoesChosen words call
 EndsBy BadImage words call = ⊥
 
-abbrev pub EndsWell : List Text → Call → Type 0
+abbrev pub EndsWell : List Text → Effects → Type 0
 EndsWell words call = EndsBy call.status words call
 
 -- the command finds no fault in the words
-abbrev pub AreTaken : List Text → Type 0
-AreTaken words = (app : App) → IsCfApp app → fault_of app words ≡ []
+abbrev pub AreAccepted : List Text → Type 0
+AreAccepted words = (app : App) → IsCfApp app → fault_of app words ≡ []
 
 -- the whole script was answered, or memory was wanting
-abbrev pub IsWhole : Status → Type 0
-IsWhole status = (status ≡ Done) ⊎ (status ≡ OutOfMemory)
+abbrev pub EndsWhole : Status → Type 0
+EndsWhole status = (status ≡ Done) ⊎ (status ≡ OutOfMemory)

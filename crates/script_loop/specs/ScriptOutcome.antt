@@ -83,7 +83,7 @@ IsRow kind input Words printed = ⊥
 IsRow kind input BadImage printed = ⊥
 
 -- what a source had and has, what a sink held and holds, where they tell it, and how the call ended
-pub record Call : Type 0 where
+pub record Effects : Type 0 where
   pub had : Option (List ℕ)
   pub left : Option (List ℕ)
   pub before : Option (List ℕ)
@@ -101,19 +101,19 @@ StandsBy OutOfMemory from end to = IsClosed from to
 StandsBy status from end to = StandsAfter from end to
 
 -- a manager answered this input
-pub record HasOutcome (from : HeapState) (input : Input) (call : Call) (to : HeapState) : Type 0 where
+pub record HasOutcome (from : HeapState) (input : Input) (call : Effects) (to : HeapState) : Type 0 where
   pub printed : Printed
   pub row : IsRow from.kind input call.status printed
   pub written : call.after ≡ appended call.before printed.text
   pub stands : StandsBy call.status from printed.end to
 
 -- the same, where the source tells its bytes
-abbrev pub HasOutcomeOf : HeapState → Option (List ℕ) → Option (List ℕ) → Call → HeapState → Type 0
+abbrev pub HasOutcomeOf : HeapState → Option (List ℕ) → Option (List ℕ) → Effects → HeapState → Type 0
 HasOutcomeOf from (Some all) (Some left) call to = HasOutcome from (record { all = all; left = left }) call to
 HasOutcomeOf from (Some all) None call to = ⊥
 HasOutcomeOf from None left call to = ⊤
 
-abbrev pub MeetsOutcome : HeapState → Call → HeapState → Type 0
+abbrev pub MeetsOutcome : HeapState → Effects → HeapState → Type 0
 MeetsOutcome from call to = HasOutcomeOf from call.had call.left call to
 
 -- how a script may end
