@@ -1,8 +1,8 @@
 //! A session: the ids of one manager's objects, and the replies to the commands of a script.
 #![tactic(auto)]
 
-mod dispatch;
 mod changes;
+mod dispatch;
 mod looks;
 mod outcome;
 mod records;

@@ -11,9 +11,9 @@ ghost use Rattle.paged_heap.specs.Free.{IsObjectAt};
 ghost use Rattle.paged_heap.specs.Heap.{seen};
 ghost use Rattle.paged_heap.specs.Layout.{Holds, paging_at, state_at};
 
-use crate::resize_class::Change;
 use crate::header::Header;
 use crate::open_heap::OpenHeap;
+use crate::resize_class::Change;
 use cf_base::{Handle, ResizeFault, Resized};
 use step_ledger::Steps;
 use virtual_words::Mapping;
@@ -109,7 +109,13 @@ impl OpenHeap {
     }
 
     /// Of so many bytes behind a header those from `keep` on become zeros.
-    pub(crate) fn zero_tail<A: Mapping>(&mut self, place: u32, keep: u32, bytes: u32, steps: &mut Steps)
+    pub(crate) fn zero_tail<A: Mapping>(
+        &mut self,
+        place: u32,
+        keep: u32,
+        bytes: u32,
+        steps: &mut Steps,
+    )
         requires laid { AreLaid A.kind self.old.blocks self.old.region }
         requires within { place + 1 + (bytes + 7) / 8 ≤ length self.old.region }
         requires small { place + 1 + (bytes + 7) / 8 < 4294967296 }

@@ -9,8 +9,8 @@ ghost use Rattle.script_reader.specs.Lines.{is_too_long as too_long, tokens};
 ghost use Rattle.script_reader.specs.ParsedLine.{IsValidLine, or_wrong, said_by};
 
 use crate::fields::{
-    four, id_and_number, id_number_and_length, id_number_and_text, is_done, number_and_bound,
-    one_id, one_number, one_task, task_and_number, task_and_numbers,
+    four_tokens, id_and_number, id_number_and_length, id_number_and_text, is_done,
+    number_and_bound, one_id, one_number, one_task, task_and_number, task_and_numbers,
 };
 use crate::parsed_line::ParsedLine;
 use crate::tokens::{split_token, without_return};

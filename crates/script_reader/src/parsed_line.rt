@@ -60,7 +60,11 @@ pub fn into_next(order: Option<ParsedLine>, line: u32) -> Next
         ParsedLine::Slice => Next::Command(Command::Slice),
         ParsedLine::Task { task } => Next::Command(Command::Task { task }),
         ParsedLine::Quota { task, pages } => Next::Command(Command::Quota { task, pages }),
-        ParsedLine::Need { task, bytes, count } => Next::Command(Command::Need { task, bytes, count }),
+        ParsedLine::Need { task, bytes, count } => Next::Command(Command::Need {
+            task,
+            bytes,
+            count,
+        }),
         ParsedLine::Admit { task } => Next::Command(Command::Admit { task }),
     }
 }
