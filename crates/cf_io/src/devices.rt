@@ -82,7 +82,7 @@ impl<T> StdSink<T> {
     }
 }
 
-/// WritesTo once, then flushes. None where either fails, or nothing of the bytes was taken.
+/// Writes once, then flushes. None where either fails, or nothing of the bytes was taken.
 fn write_and_flush<T: Write>(writer: &mut T, bytes: &[u8]) -> Option<usize>
     ensures within { IfSome result (λ n. n ≤ length bytes.now) }
     ensures some { 0 < length bytes.now → IfSome result (λ n. 0 < n) }

@@ -1,4 +1,4 @@
--- Which numbers stand in a list, that none stands twice, and the list without_page one of them.
+-- Which numbers stand in a list, that none stands twice, and the list without one of them.
 use Rattle.std.proofs.Common.{◌≡◌, ◌≢◌, ℕ, zero, suc, true, false, ◌+◌, ◌<◌, ◌≤◌, List, [], ◌∷◌, length, get_or, cond, eqb, arith, refl, sym, ◌∙◌, ap, inl, inr}
 use Rattle.std.specs.Prelude.{◌⊎◌, not, nat_eq, ◌||◌}
 use Rattle.std.specs.List.{Contains, IsDistinct, AllByRecursion, list_any}
@@ -49,7 +49,7 @@ module _ (p : ℕ) where
   pub distinct_cons : (xs : List ℕ) → ¬ Contains xs p → IsDistinct nat_eq xs → IsDistinct nat_eq (p ∷ xs)
   distinct_cons xs out d = IsDistinct-cons eqb p xs (apart_from_all xs out) d
 
-  -- the list without_page p
+  -- the list without p
   pub without_same : (xs : List ℕ) → without_page p (p ∷ xs) ≡ without_page p xs
   without_same xs = ap (λ b. cond (not b) (p ∷ without_page p xs) (without_page p xs)) (eq-eqb p p refl)
 
@@ -65,7 +65,7 @@ without_absent p (x ∷ xs) out =
 pub without_first : (p : ℕ) (xs : List ℕ) → ¬ Contains xs p → without_page p (p ∷ xs) ≡ xs
 without_first p xs out = without_same p xs ∙ without_absent p xs out
 
--- what stands in the list without_page p
+-- what stands in the list without p
 pub contains_without : (p q : ℕ) (xs : List ℕ) → Contains (without_page p xs) q → (q ≢ p) × Contains xs q
 contains_without p q [] h = absurd (contains_nil q h)
 contains_without p q (x ∷ xs) h = elim (cases_eq x p) [

@@ -24,7 +24,7 @@ pub enum Ready {
     Wanting,
 }
 
-/// OpensHeap the manager, as the `heap` line asks.
+/// Opens the manager, as the `heap` line asks.
 fn open_heap<H: Manager, K: Sink>(heap: &mut H, settings: &Settings, sink: &mut K) -> Ready
     ensures opens { OpensHeap (heap_moment (H.state heap.old) (K.written sink.old)) settings.now result
         (heap_moment (H.state heap.new) (K.written sink.new)) }
