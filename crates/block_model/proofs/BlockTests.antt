@@ -1,20 +1,16 @@
 -- What holds of each block of a list, by a test of all of them.
-use Rattle.std.proofs.Common.{◌≡◌, ℕ, Bool, true, false, ◌≤◌, List, [], ◌∷◌, Some, None, arith, inl, inr, refl}
+use Rattle.std.proofs.Common.{◌≡◌, ℕ, Bool, true, ◌≤◌, List, [], ◌∷◌, Some, None, arith, inl, inr}
 use Rattle.std.specs.Prelude.{◌&&◌, ◌||◌, nat_le, nat_lt, is_some}
-use Rattle.std.proofs.lemmas.Bool.{cases_eq}
+use Rattle.std.proofs.lemmas.Bool.{cases_eq, and_parts as both_pass}
 use Rattle.std.proofs.lemmas.Bool.Decides.{nat_tests}
 use Rattle.block_model.specs.Buckets.{FreeLists}
 use Rattle.block_model.specs.Tiling.{Block, block_at, Serves, LacksBlock}
-use Rattle.block_model.proofs.Steps.{eq_yes, eq_no}
+use Rattle.cf_lemmas.proofs.Tests.{eq_yes, eq_no}
 
 -- whether each block passes the test
 abbrev pub all_pass : (Block → Bool) → List Block → Bool
 all_pass f [] = true
 all_pass f (b ∷ bs) = f b && all_pass f bs
-
-both_pass : (x y : Bool) → (x && y) ≡ true → (x ≡ true) × (y ≡ true)
-both_pass true y e = (refl, e)
-both_pass false y e = absurd (let e' : false ≡ true = e in cc)
 
 found_passes : (f : Block → Bool) (blocks : List Block) (a : ℕ) (b : Block) → all_pass f blocks ≡ true → block_at blocks a ≡ Some b → f b ≡ true
 found_passes f [] a b all there = absurd (let t : None ≡ Some b = there in cc)

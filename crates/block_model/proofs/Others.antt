@@ -2,9 +2,10 @@
 use Rattle.std.proofs.Common.{◌≡◌, ◌≢◌, ℕ, Bool, true, false, ◌+◌, ◌-◌, ◌^◌, ◌≤◌, List, [], ◌∷◌, ◌++◌, Some, None, arith, sym, ◌∙◌, inl, inr, ap, refl, subst}
 use Rattle.std.specs.Prelude.{◌&&◌, is_none}
 use Rattle.std.proofs.lemmas.Bool.{cases_lt, cases_eq}
+use Rattle.std.proofs.lemmas.Option.{same_Some as some_injective}
 use Rattle.block_model.specs.Buckets.{FreeLists, AreLawful}
 use Rattle.block_model.specs.Tiling.{Block, is_free, Fill, IsTiling, block_at, Demand, carved, carved_at, Carves, joined, merged, freed_at, released, IsCarvedTo, StaysUsed}
-use Rattle.block_model.proofs.Steps.{eq_yes, eq_no, le_yes, le_no}
+use Rattle.cf_lemmas.proofs.Tests.{eq_yes, eq_no, le_yes, le_no}
 use Rattle.block_model.proofs.Releases.{freed_fill, merged_fill}
 
 pub fill_le : (bs : List Block) (from to : ℕ) → Fill bs from to → from ≤ to
@@ -32,9 +33,6 @@ lies (x ∷ xs) from to a b f there = elim (cases_eq x.address a) [
       let r = lies xs (from + x.size) to a b f.2 there' in
       record { address = r.address; size = r.size; low = omega (arith, r.low); high = r.high })
 ]
-
-some_injective : (x y : Block) → Some x ≡ Some y → x ≡ y
-some_injective x y e = cc
 
 used_is_not_free : (b : Block) (h : ℕ) → b.owner ≡ Some h → b.owner ≡ None → ⊥
 used_is_not_free b h e f = cc

@@ -2,12 +2,8 @@
 use Rattle.std.proofs.Common.{◌≡◌, ℕ, Bool, true, false, ◌+◌, List, [], ◌∷◌, arith, inl, inr, refl, subst}
 use Rattle.std.specs.Prelude.{◌&&◌}
 use Rattle.std.proofs.lemmas.Bool.{cases_eq}
-use Rattle.block_model.proofs.Steps.{eq_yes, eq_no}
+use Rattle.cf_lemmas.proofs.Tests.{eq_yes, eq_no, and_false}
 use Rattle.block_model.specs.Tiling.{Block, is_free, Fill, starts_free, AreMerged, IsTiling, joined, merged, freed_at, released}
-
-and_false : (b : Bool) → (b && false) ≡ false
-and_false true = refl
-and_false false = refl
 
 and_second : (x y : Bool) → (x && y) ≡ true → y ≡ true
 and_second true y e = e

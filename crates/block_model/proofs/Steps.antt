@@ -1,29 +1,13 @@
 -- Mallocs and frees keep a tiling, and leave the other used blocks.
-use Rattle.std.proofs.Common.{◌≡◌, ◌≢◌, ℕ, Bool, true, false, ◌+◌, ◌<◌, ◌≤◌, List, [], ◌∷◌, ◌++◌, Some, None, arith, ◌∙◌, inl, inr, ap, refl, subst}
-use Rattle.std.specs.Prelude.{◌&&◌, nat_le, nat_eq, is_none}
+use Rattle.std.proofs.Common.{◌≡◌, ℕ, Bool, true, false, ◌+◌, ◌≤◌, List, [], ◌∷◌, ◌++◌, Some, None, arith, ◌∙◌, inl, inr, ap, refl, subst}
+use Rattle.std.specs.Prelude.{◌&&◌, is_none}
 use Rattle.std.proofs.lemmas.Bool.{cases_lt, cases_eq}
-use Rattle.std.proofs.lemmas.Bool.Decides.{nat_tests}
+use Rattle.cf_lemmas.proofs.Tests.{eq_yes, eq_no, le_yes, le_no}
 use Rattle.block_model.specs.Buckets.{FreeLists}
 use Rattle.block_model.specs.Tiling.{Block, is_free, Fill, starts_free, AreMerged, IsTiling, block_at, Demand, carved, carved_at, Carves}
 
-pub eq_yes : (a b : ℕ) → a ≡ b → nat_eq a b ≡ true
-eq_yes a b e = grind (arith, nat_tests)
-
-pub eq_no : (a b : ℕ) → a ≢ b → nat_eq a b ≡ false
-eq_no a b e = grind (arith, nat_tests)
-
-pub le_yes : (a b : ℕ) → a ≤ b → nat_le a b ≡ true
-le_yes a b e = grind (arith, nat_tests)
-
-pub le_no : (a b : ℕ) → b < a → nat_le a b ≡ false
-le_no a b e = grind (arith, nat_tests)
-
 free_is : (b : Block) → b.owner ≡ None → is_free b ≡ true
 free_is b e = ap is_none e
-
-and_false : (b : Bool) → (b && false) ≡ false
-and_false true = refl
-and_false false = refl
 
 module _ (d : Demand) (some : 2 ≤ d.need) where
   -- what is carved fills the place of the block

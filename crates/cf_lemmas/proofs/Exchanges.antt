@@ -1,11 +1,12 @@
 -- Two runs of entries that change places: where each number goes, and the entries afterwards.
-use Rattle.std.proofs.Common.{◌≡◌, ℕ, Bool, true, false, ◌+◌, ◌-◌, ◌<◌, ◌≤◌, List, length, get_or, arith, sym, ◌∙◌, inl, inr, ap, refl}
-use Rattle.std.specs.Prelude.{◌⊎◌, ◌&&◌, nat_le, nat_lt}
+use Rattle.std.proofs.Common.{◌≡◌, ℕ, true, false, ◌+◌, ◌-◌, ◌<◌, ◌≤◌, List, length, get_or, arith, sym, ◌∙◌, inl, inr, ap, refl}
+use Rattle.std.specs.Prelude.{◌⊎◌, nat_le, nat_lt}
 use Rattle.std.proofs.lemmas.List.FromFn.{length-map-range_with_len, get_or-map-range_with_len}
 use Rattle.std.proofs.lemmas.Grind.{same_number_lists}
 use Rattle.std.proofs.lemmas.List.{get_or_past}
 use Rattle.std.proofs.lemmas.Bool.{cases_lt}
 use Rattle.std.proofs.lemmas.Bool.Decides.{nat_tests}
+use Rattle.cf_lemmas.proofs.Tests.{and_false}
 use Rattle.cf_lemmas.specs.Exchanges.{is_among, partner, exchanged}
 
 among_yes : (a n v : ℕ) → a ≤ v → v < a + n → is_among a n v ≡ true
@@ -13,11 +14,7 @@ among_yes a n v l h = (let x : nat_le a v ≡ true = grind (arith, nat_tests) in
 
 among_no : (a n v : ℕ) → ((v < a) ⊎ (a + n ≤ v)) → is_among a n v ≡ false
 among_no a n v (inl l) = (let x : nat_le a v ≡ false = grind (arith, nat_tests) in rw x refl)
-among_no a n v (inr h) = (let y : nat_lt v (a + n) ≡ false = grind (arith, nat_tests) in rw y (no_two (nat_le a v)))
-  where
-    no_two : (b : Bool) → (b && false) ≡ false
-    no_two true = refl
-    no_two false = refl
+among_no a n v (inr h) = (let y : nat_lt v (a + n) ≡ false = grind (arith, nat_tests) in rw y (and_false (nat_le a v)))
 
 -- two runs of n numbers that have none in common
 module _ (a b n : ℕ) (apart : (a + n ≤ b) ⊎ (b + n ≤ a)) where

@@ -1,3 +1,4 @@
+pub mod Tests
 pub mod Maps
 pub mod Sums
 pub mod Induction
@@ -7,3 +8,6 @@ pub mod MapValues
 pub mod Positions
 pub mod Values
 pub mod Exchanges
+pub mod Swapping
+pub mod SwappedRuns
+pub mod Permutations

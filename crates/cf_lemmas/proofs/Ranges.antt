@@ -1,4 +1,4 @@
--- Counts over a range, where the test changes at one number.
+-- Counts over a range: where the test changes at one number, and where it passes.
 use Rattle.std.proofs.Common.{◌≡◌, ◌≢◌, ℕ, zero, suc, Bool, cond, ◌+◌, ◌<◌, ◌≤◌, ◌∷◌, arith, ap, refl, inl, inr}
 use Rattle.std.specs.Prelude.{count_by}
 use Rattle.std.specs.List.{range_with_len}
@@ -42,3 +42,13 @@ module _ (f g : ℕ → Bool) where
 -- no more of n numbers pass a test than there are
 pub count_at_most : (f : ℕ → Bool) (a n : ℕ) → count_by f (range_with_len a n) ≤ n
 count_at_most f a n = rw (length-range_with_len a n) at (count_by-le-length f (range_with_len a n))
+
+-- a number of the range that passes is counted
+pub some_in_range : (f : ℕ → Bool) (a n d : ℕ) → a ≤ d → d < a + n → one (f d) ≡ 1 → 0 < count_by f (range_with_len a n)
+some_in_range f a zero d low high is = absurd (omega arith)
+some_in_range f a (suc n) d low high is =
+    let e : count_by f (a ∷ range_with_len (a + 1) n) ≡ one (f a) + count_by f (range_with_len (a + 1) n) = sum_by-cons (λ p. one (f p)) a (range_with_len (a + 1) n) in
+    elim (cases_eq a d) [
+      | inl at ↦ (let first : one (f a) ≡ one (f d) = ap (λ p. one (f p)) at in omega arith)
+      | inr other ↦ (let rest = some_in_range f (a + 1) n d (omega arith) (omega arith) is in omega arith)
+    ]

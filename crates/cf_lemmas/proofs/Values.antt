@@ -1,7 +1,6 @@
 -- How many values a finite map has, and bounds on sums over them.
-use Rattle.std.proofs.Common.{◌≡◌, ℕ, ◌+◌, ◌*◌, ◌≤◌, [], Some, None, map, arith, sym, ◌∙◌, ap, inl, inr}
+use Rattle.std.proofs.Common.{◌≡◌, ◌≢◌, ℕ, ◌+◌, ◌*◌, ◌≤◌, [], Some, None, map, arith, sym, ◌∙◌, ap}
 use Rattle.std.specs.Prelude.{sum_by, option_map}
-use Rattle.std.proofs.lemmas.Bool.{cases_eq}
 use Rattle.std.proofs.lemmas.List.{nil_from_length}
 use Rattle.std.specs.Ordering.{nat_cmp}
 use Rattle.std.specs.FinMap.{FinMap, get, get-empty, insert, len, values, empty, len-empty, len-entries}
@@ -30,12 +29,11 @@ len-map_values {X} {Y} f = map_induction (λ m. len (map_values f m) ≡ len m)
     let c : len (map_values f (insert m h x)) ≡ len (insert (map_values f m) h (f x)) = ap len (map_values-insert f m h x) in
     omega arith))
 
--- what is there stays where a key comes that was not
-still : {V : Type 0} (m : FinMap nat_cmp V) (h : ℕ) (x : V) → get m h ≡ None → (q : ℕ) (y : V) → get m q ≡ Some y → get (insert m h x) q ≡ Some y
-still m h x none q y p = elim (cases_eq q h) [
-  | inl is ↦ absurd (let p' : get m h ≡ Some y = rw is at p in let z : Some y ≡ None = sym p' ∙ none in cc)
-  | inr ne ↦ get_insert_other m h x q ne ∙ p
-]
+-- what is there has another key than one that comes, and stays
+pub still : {V : Type 0} (m : FinMap nat_cmp V) (h : ℕ) (x : V) → get m h ≡ None → (q : ℕ) (y : V) → get m q ≡ Some y → (q ≢ h) × (get (insert m h x) q ≡ Some y)
+still m h x none q y p =
+    let ne : q ≢ h = (λ e. (let p' : get m h ≡ Some y = rw e at p in absurd (let z : Some y ≡ None = sym p' ∙ none in cc))) in
+    (ne, get_insert_other m h x q ne ∙ p)
 
 -- no value above the limit: a sum is at most the limit for each
 pub sum_at_most : {V : Type 0} (f : V → ℕ) (limit : ℕ) (m : FinMap nat_cmp V) → ((q : ℕ) (v : V) → get m q ≡ Some v → f v ≤ limit) → sum_by f (values m) ≤ limit * len m
@@ -45,6 +43,6 @@ sum_at_most {V} f limit = map_induction (λ m. ((q : ℕ) (v : V) → get m q �
     let a = sum_by-inserted f m h x none in
     let l = len_fresh m h x none in
     let here = each h x (get_inserted m h x) in
-    let rest = ih (λ q v e. each q v (still m h x none q v e)) in
+    let rest = ih (λ q v e. each q v (still m h x none q v e).1) in
     let t : limit * len (insert m h x) ≡ limit * (len m + 1) = ap (λ n. limit * n) l in
     omega arith))

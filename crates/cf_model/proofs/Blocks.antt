@@ -1,6 +1,7 @@
 -- The blocks of the objects that a free or a resize leaves.
 use Rattle.std.proofs.Common.{◌≡◌, ◌≢◌, ℕ, ◌+◌, ◌*◌, ◌/◌, ◌%◌, ◌<◌, List, Some, length, get_or, arith, sym, ◌∙◌, subst, ap, refl}
 use Rattle.std.specs.Prelude.{option_map}
+use Rattle.std.proofs.lemmas.Option.{same_Some as some_equal, same_Some as placed_equal}
 use Rattle.std.specs.FinMap.{get}
 use Rattle.cf_lemmas.proofs.Maps.{get_insert_other, get_remove_other}
 use Rattle.cf_lemmas.proofs.MapValues.{get-map_values}
@@ -63,9 +64,6 @@ module _ (old new : HeapState) (o : Framed old) (n : Framed new) (same : paging_
 bytes_of : (m : Held) (q : ℕ) (x : Placed) → get m q ≡ Some x → get (objects m) q ≡ Some x.bytes
 bytes_of m q x e = get-map_values (λ (z : Placed). z.bytes) m q ∙ ap (option_map (λ (z : Placed). z.bytes)) e
 
-some_equal : (u v : List ℕ) → Some u ≡ Some v → u ≡ v
-some_equal u v e = cc
-
 pub blocks_after_free : (old : HeapState) (h : ℕ) (freed : Freed) (new : HeapState) → old.kind ≡ NonMoving → KeepsRules old → KeepsRules new → FreesObject old h freed new → BlocksStay old h new
 blocks_after_free old h freed new is before after f =
     let moved = number_of freed.moved in
@@ -118,6 +116,3 @@ blocks_after_refusal old h new whole is before after =
       words = λ before after ph ph' q x y ne e g i j lt low.
           words_stay old new o n same q x y e g (ap (λ (z : Placed). z.bytes) (equal q x y e g)) before after ph ph' i j lt low (stay q x y e g i);
     }
-  where
-    placed_equal : (u v : Placed) → Some u ≡ Some v → u ≡ v
-    placed_equal u v e = cc

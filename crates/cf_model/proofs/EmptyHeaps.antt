@@ -15,7 +15,8 @@ use Rattle.page_model.specs.Paging.{first_bounds}
 use Rattle.page_model.proofs.Nothing.{sound_empty, image_empty}
 use Rattle.page_model.proofs.Frames.{first_permuted}
 use Rattle.page_model.proofs.Sizes.{first_paged}
-use Rattle.page_model.proofs.Sizes.{sized, in_blocks}
+use Rattle.page_model.proofs.Sizes.{in_blocks}
+use Rattle.cf_base.proofs.CallerLemmas.{are_sizes, size_within}
 use Rattle.cf_base.specs.declared.kind.Layout.TheVariants.{Words}
 use Rattle.std.proofs.lemmas.Nat.{mul-le}
 use Rattle.std.proofs.lemmas.List.FromFn.{length-range_with_len}
@@ -83,9 +84,9 @@ module _ (p : Profile) (ok : AreInRange p) where
 
   large : 2 ≤ region_words p
   large =
-      let sizes = sized p.page_words Words ok.page_size in
+      let sizes = are_sizes p.page_words Words ok.page_size in
       let a = sizes.least 0 sizes.some in
-      let b = sizes.fits 0 sizes.some in
+      let b = size_within p.page_words _ 0 sizes sizes.some in
       let some = ok.some_pages in
       let c = mul-le 1 4 p.pages p.page_words some (omega arith) in
       omega arith

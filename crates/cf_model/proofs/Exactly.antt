@@ -1,11 +1,8 @@
 -- Each answer excludes every other one.
-use Rattle.std.proofs.Common.{◌≡◌, ℕ, zero, suc, Bool, ◌+◌, ◌<◌, ◌≤◌, ◌∷◌, Some, None, length, arith, sym, ◌∙◌, subst, inl, inr, ap, refl}
-use Rattle.std.specs.Prelude.{count_by, nat_lt, ◌&&◌}
-use Rattle.std.specs.List.{range_with_len}
-use Rattle.std.proofs.lemmas.List.Sums.{sum_by-cons}
-use Rattle.std.proofs.lemmas.Bool.{cases_eq}
+use Rattle.std.proofs.Common.{◌≡◌, ℕ, ◌+◌, ◌<◌, ◌≤◌, Some, None, length, arith, sym, ◌∙◌, subst, inl, inr, ap, refl}
+use Rattle.std.specs.Prelude.{nat_lt, ◌&&◌}
 use Rattle.std.specs.FinMap.{get}
-use Rattle.cf_lemmas.proofs.Ranges.{one}
+use Rattle.cf_lemmas.proofs.Ranges.{some_in_range as counted}
 use Rattle.cf_base.specs.declared.answers.AccessFault.{AccessFault}
 use Rattle.cf_base.specs.declared.answers.AccessFault.TheVariants as access
 use Rattle.cf_base.specs.declared.answers.Refusal.{Refusal}
@@ -23,15 +20,6 @@ use Rattle.page_model.proofs.Counting.{part_yes}
 use Rattle.cf_model.specs.State.{HeapState, paging_in}
 use Rattle.cf_model.specs.Rules.{IsPaged, IsTiled}
 use Rattle.cf_model.specs.Steps.{GivesObject, IsPlacedBy, IsRefusedBy, LacksRoomIn, Part, IsFault, ResizesObject, IsResizeFault}
-
-counted : (f : ℕ → Bool) (a n c : ℕ) → a ≤ c → c < a + n → one (f c) ≡ 1 → 0 < count_by f (range_with_len a n)
-counted f a zero c low high holds = absurd (omega arith)
-counted f a (suc n) c low high holds =
-    let e : count_by f (a ∷ range_with_len (a + 1) n) ≡ one (f a) + count_by f (range_with_len (a + 1) n) = sum_by-cons (λ p. one (f p)) a (range_with_len (a + 1) n) in
-    elim (cases_eq c a) [
-      | inl is ↦ (let first : one (f a) ≡ 1 = ap (λ p. one (f p)) (sym is) ∙ holds in omega arith)
-      | inr other ↦ (let rest = counted f (a + 1) n c (omega arith) (omega arith) holds in omega arith)
-    ]
 
 module _ (p : Paging) (m : Held) (n a : ℕ) (free : IsFreePlace p m n a) (lacking : LacksRoom p m (class_for p n)) where
   not_none : 0 < objects_on p m (class_for p n) (page_of p a) → objects_on p m (class_for p n) (page_of p a) < slots_of p (class_for p n) → 0 < not_full_pages p m (class_for p n)

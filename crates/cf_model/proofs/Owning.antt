@@ -2,6 +2,7 @@
 use Rattle.std.proofs.Common.{◌≡◌, ◌≢◌, ℕ, List, Option, Some, None, length, replicate, sym, ◌∙◌, subst, inl, inr, ap}
 use Rattle.std.proofs.lemmas.List.{length-replicate}
 use Rattle.std.proofs.lemmas.Bool.{cases_eq}
+use Rattle.std.proofs.lemmas.Option.{same_Some as some_block, same_Some as some_placed, same_Some as some_number}
 use Rattle.std.specs.FinMap.{get, insert, remove}
 use Rattle.cf_lemmas.proofs.Maps.{get_inserted, get_insert_other, get_removed, get_remove_other}
 use Rattle.page_model.specs.Held.{Held, Placed}
@@ -10,15 +11,6 @@ use Rattle.block_model.specs.Buckets.{FreeLists}
 use Rattle.block_model.specs.Tiling.{Block, Carves, IsTiling, IsCarvedTo, block_at, block_need, released}
 use Rattle.block_model.proofs.Others.{free_stays, malloc_stays, released_is_free}
 use Rattle.cf_model.specs.Rules.{AreOwned, IsBlockOf}
-
-some_block : (x y : Block) → Some x ≡ Some y → x ≡ y
-some_block x y e = cc
-
-some_placed : (x y : Placed) → Some x ≡ Some y → x ≡ y
-some_placed x y e = cc
-
-some_number : (x y : ℕ) → Some x ≡ Some y → x ≡ y
-some_number x y e = cc
 
 no_one : {A : Type 0} (o : Option A) (x : A) → o ≡ None → o ≡ Some x → ⊥
 no_one o x e f = (let g : None ≡ Some x = sym e ∙ f in cc)

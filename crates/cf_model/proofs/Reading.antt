@@ -3,6 +3,7 @@ use Rattle.std.proofs.Common.{◌≡◌, ◌≢◌, ℕ, ◌+◌, ◌≤◌, Lis
 use Rattle.std.specs.Prelude.{option_map}
 use Rattle.std.proofs.Math.Seq.{drop-append_seam, take-append_seam}
 use Rattle.std.proofs.lemmas.Grind.{common_steps}
+use Rattle.std.proofs.lemmas.Option.{same_Some as placed_equal}
 use Rattle.std.specs.FinMap.{get}
 use Rattle.cf_lemmas.proofs.Maps.{get_inserted, get_insert_other, get_removed}
 use Rattle.cf_lemmas.proofs.MapValues.{get-map_values}
@@ -11,9 +12,6 @@ use Rattle.page_model.specs.Held.{Placed, objects}
 use Rattle.page_model.specs.Bytes.{written}
 use Rattle.cf_model.specs.State.{HeapState}
 use Rattle.cf_model.specs.Steps.{Part, WritesBytes, ReadsBytes, FreesObject}
-
-placed_equal : (u v : Placed) → Some u ≡ Some v → u ≡ v
-placed_equal u v e = cc
 
 none_mapped : (o : Option Placed) → option_map (λ (z : Placed). z.bytes) o ≡ None → o ≡ None
 none_mapped None e = refl

@@ -74,11 +74,11 @@ module _ (next previous : List ℕ) where
       ))
 
   -- the node p is passed over, wherever it stands
-  pub unlinked : (start p : ℕ) (xs : List ℕ) (end before after : ℕ) → get_or previous p 0 ≡ before → get_or next p 0 ≡ after → before < length next → after < length previous
+  pub linked_after_unlink : (start p : ℕ) (xs : List ℕ) (end before after : ℕ) → get_or previous p 0 ≡ before → get_or next p 0 ≡ after → before < length next → after < length previous
       → ¬ Contains xs start → ¬ Contains xs end → IsDistinct nat_eq xs → Contains xs p
       → IsLinked next previous start xs end → IsLinked (set next before after) (set previous after before) start (without_page p xs) end
-  unlinked start p [] end before after b a lt lt' out out' d h l = absurd (contains_nil p h)
-  unlinked start p (x ∷ xs) end before after b a lt lt' out out' d h l = elim (cases_eq x p) [
+  linked_after_unlink start p [] end before after b a lt lt' out out' d h l = absurd (contains_nil p h)
+  linked_after_unlink start p (x ∷ xs) end before after b a lt lt' out out' d h l = elim (cases_eq x p) [
     | inl is ↦ (
         let off : ¬ Contains xs p = rw is at (distinct_head x xs d) in
         let e : without_page p (x ∷ xs) ≡ xs = rw is (without_first p xs off) in
@@ -95,15 +95,15 @@ module _ (next previous : List ℕ) where
         rw (without_other p x xs ne) (
           get_or-set_other next before start after 0 off ∙ l.0,
           get_or-set_other previous after x before 0 back ∙ l.1,
-          unlinked x p xs end before after b a lt lt' (distinct_head x xs d) (λ g. out' (contains_tail end x xs g)) (distinct_tail x xs d) rest l.2,
+          linked_after_unlink x p xs end before after b a lt lt' (distinct_head x xs d) (λ g. out' (contains_tail end x xs g)) (distinct_tail x xs d) rest l.2,
         ))
   ]
 
 -- the node p comes first on a ring
-pub pushed : (next previous : List ℕ) (node p : ℕ) (xs : List ℕ) (first : ℕ) → get_or next node 0 ≡ first → node < length next → p < length next → p < length previous → first < length previous
+pub linked_after_push : (next previous : List ℕ) (node p : ℕ) (xs : List ℕ) (first : ℕ) → get_or next node 0 ≡ first → node < length next → p < length next → p < length previous → first < length previous
     → p ≢ node → ¬ Contains xs p → ¬ Contains xs node → IsDistinct nat_eq xs
     → IsLinked next previous node xs node → IsLinked (set (set next node p) p first) (set (set previous p node) first p) node (p ∷ xs) node
-pushed next previous node p [] first is in_node in_p in_p' in_first ne out out' d l =
+linked_after_push next previous node p [] first is in_node in_p in_p' in_first ne out out' d l =
     let e : first ≡ node = sym is ∙ l.0 in
     let longer : length (set next node p) ≡ length next = length-set next node p in
     let longer' : length (set previous p node) ≡ length previous = length-set previous p node in (
@@ -114,7 +114,7 @@ pushed next previous node p [] first is in_node in_p in_p' in_first ne out out' 
         ap (λ q. get_or (set (set previous p node) first p) q 0) (sym e) ∙ get_or-set_same (set previous p node) first p 0 (omega arith),
       ),
     )
-pushed next previous node p (x ∷ xs) first is in_node in_p in_p' in_first ne out out' d l =
+linked_after_push next previous node p (x ∷ xs) first is in_node in_p in_p' in_first ne out out' d l =
     let e : first ≡ x = sym is ∙ l.0 in
     let longer : length (set next node p) ≡ length next = length-set next node p in
     let longer' : length (set previous p node) ≡ length previous = length-set previous p node in

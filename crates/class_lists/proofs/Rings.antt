@@ -7,7 +7,7 @@ use Rattle.std.proofs.lemmas.List.{get_or-set_same, get_or-set_other, length-set
 use Rattle.class_lists.specs.PageLists.{without_page}
 use Rattle.class_lists.specs.Layout.{chain, chains, list_at, IsLinked, AreRings, HoldPagesOnce}
 use Rattle.class_lists.proofs.Members.{contains_head, contains_cases, distinct_cons, contains_without, distinct_without, length-without}
-use Rattle.class_lists.proofs.Chains.{linked_chain, linked_kept, first_in, next_in, previous_in, pushed, unlinked}
+use Rattle.class_lists.proofs.Chains.{linked_chain, linked_kept, first_in, next_in, previous_in, linked_after_push, linked_after_unlink}
 
 -- one list of all is another one
 module _ (lists : List (List ℕ)) (k : ℕ) (list : List ℕ) where
@@ -102,7 +102,7 @@ module _ (next previous lens : List ℕ) (pages : ℕ) (lists : List (List ℕ))
         let within : first < length next = ring_within first nodes in_first in
         let counted : get_or lens k 0 ≡ length (list_at lists k) = l.counted k lt in
         linked_after _ _ (p ∷ list_at lists k) len (omega arith)
-        (pushed next previous (pages + k) p (list_at lists k) first is (omega arith) (omega arith) (omega arith) (omega arith) (omega arith) (out k) (own_node k) (d.distinct k) (l.linked k lt))
+        (linked_after_push next previous (pages + k) p (list_at lists k) first is (omega arith) (omega arith) (omega arith) (omega arith) (omega arith) (out k) (own_node k) (d.distinct k) (l.linked k lt))
         (λ j lj ne. linked_kept (set next (pages + k) p) (set previous p (pages + k)) _ _ _ p first first p (off j) (off_ring j first ne in_first)
         (linked_kept next previous _ _ _ (pages + k) p p (pages + k) (off_ring j (pages + k) ne (contains_head (pages + k) (list_at lists k))) (off j) (l.linked j lj)))
 
@@ -132,7 +132,7 @@ module _ (next previous lens : List ℕ) (pages : ℕ) (lists : List (List ℕ))
           let counted : get_or lens k 0 ≡ length (list_at lists k) = l.counted k lt in
           let shorter : length (without_page p (list_at lists k)) + 1 ≡ length (list_at lists k) = length-without p (list_at lists k) (d.distinct k) h in
           linked_after _ _ (without_page p (list_at lists k)) len (omega arith)
-          (unlinked next previous (pages + k) p (list_at lists k) (pages + k) before after b a before_within (let w = after_within in omega arith) (own_node k) (own_node k) (d.distinct k) h (l.linked k lt))
+          (linked_after_unlink next previous (pages + k) p (list_at lists k) (pages + k) before after b a before_within (let w = after_within in omega arith) (own_node k) (own_node k) (d.distinct k) h (l.linked k lt))
           (λ j lj ne. linked_kept next previous _ _ _ before after after before (off_ring j before ne on_before) (off_ring j after ne on_after) (l.linked j lj))
 
       pub unlink_disjoint : HoldPagesOnce pages (set lists k (without_page p (list_at lists k)))

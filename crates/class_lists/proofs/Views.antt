@@ -1,13 +1,14 @@
 -- What the fields tell of the value, and what the calls do to it.
-use Rattle.std.proofs.Common.{◌≡◌, ◌≢◌, ℕ, zero, suc, ◌+◌, ◌-◌, ◌*◌, ◌/◌, ◌%◌, ◌<◌, ◌≤◌, List, [], ◌∷◌, Some, None, length, get_or, set, replicate, arith, refl, sym, ◌∙◌, ap, subst, inl, inr}
+use Rattle.std.proofs.Common.{◌≡◌, ◌≢◌, ℕ, zero, suc, ◌+◌, ◌-◌, ◌*◌, ◌/◌, ◌%◌, ◌<◌, ◌≤◌, List, [], ◌∷◌, Some, None, length, get_or, set, replicate, arith, refl, sym, ◌∙◌, ap, subst, inl, inr, zero-add}
 use Rattle.std.specs.Prelude.{◌^◌, slice_get}
-use Rattle.std.specs.List.{Contains}
+use Rattle.std.specs.List.{Contains, range_with_len}
 use Rattle.std.proofs.lemmas.Bool.{cases_eq, cases_lt}
 use Rattle.std.proofs.lemmas.List.{get_or_read, get_or-set_same, get_or-set_other, length-set, get_or_past, length-replicate, get_or-replicate}
+use Rattle.std.proofs.lemmas.List.FromFn.{length-range_with_len, get_or-range_with_len}
 use Rattle.class_lists.specs.declared.Which.{Which}
 use Rattle.class_lists.specs.declared.Which.TheVariants.{Full, NotFull}
 use Rattle.class_lists.specs.PageLists.{PageLists, AreApart, AreEmpty, IsUnlisted, KeepsOthers, empty_lists, list_number, pages_in, with_list, without_page}
-use Rattle.class_lists.specs.Layout.{chains, lists_of, list_at, IsLinked, AreRings, HoldPagesOnce, AreAlone, IsValid}
+use Rattle.class_lists.specs.Layout.{chains, lists_of, list_at, IsLinked, AreRings, HoldPagesOnce, IsValid}
 use Rattle.class_lists.proofs.Members.{contains_nil, contains_head, contains_without, contains_cases, distinct_nil, distinct_cons, length-without, length_within}
 use Rattle.class_lists.proofs.Rings.{length-chains, chains_are, first_within, push_linked, push_disjoint, before_within, after_within, unlink_linked, unlink_disjoint}
 
@@ -253,14 +254,21 @@ front_listed (x ∷ xs) p is = (let e : p ≡ x = (let f : Some p ≡ Some x = i
 pub some_not_empty : (xs : List ℕ) (p : ℕ) → Some p ≡ slice_get xs 0 → xs ≢ []
 some_not_empty xs p is e = (let f : Some p ≡ None = is ∙ ap (λ ys. slice_get ys 0) e in cc)
 
-module _ (next previous lens : List ℕ) (classes pages nodes : ℕ) (is : pages + 2 * classes ≡ nodes) (small : nodes < 2 ^ 32) (n : AreAlone next nodes) (b : AreAlone previous nodes) (m : lens ≡ replicate (2 * classes) 0) where
+module _ (next previous lens : List ℕ) (classes pages nodes : ℕ) (is : pages + 2 * classes ≡ nodes) (small : nodes < 2 ^ 32) (n : next ≡ range_with_len 0 nodes) (b : previous ≡ range_with_len 0 nodes) (m : lens ≡ replicate (2 * classes) 0) where
   long : length lens ≡ 2 * classes
   long = ap length m ∙ length-replicate {A = ℕ} (2 * classes) 0
+
+  as_many : (links : List ℕ) → links ≡ range_with_len 0 nodes → length links ≡ nodes
+  as_many links e = ap length e ∙ length-range_with_len 0 nodes
+
+  -- each node is a ring of its own
+  alone : (links : List ℕ) → links ≡ range_with_len 0 nodes → (node : ℕ) → node < nodes → get_or links node 0 ≡ node
+  alone links e node lt = ap (λ (xs : List ℕ). get_or xs node 0) e ∙ get_or-range_with_len 0 nodes node 0 lt ∙ zero-add node
 
   new_linked : AreRings next previous lens pages (replicate (2 * classes) [])
   new_linked = record {
     as_many = length-replicate {A = List ℕ} (2 * classes) [] ∙ sym long;
-    linked = λ k lt. rw (no_list (2 * classes) k) (n.alone (pages + k) (let e = long in omega arith), b.alone (pages + k) (let e = long in omega arith));
+    linked = λ k lt. rw (no_list (2 * classes) k) (alone next n (pages + k) (let e = long in omega arith), alone previous b (pages + k) (let e = long in omega arith));
     counted = λ k lt. rw (no_list (2 * classes) k, m) (get_or-replicate (2 * classes) k 0 0 (let e = long in omega arith));
   }
 
@@ -269,9 +277,9 @@ module _ (next previous lens : List ℕ) (classes pages nodes : ℕ) (is : pages
 
   pub new_sound : IsValid next previous lens pages
   new_sound = record {
-    nodes = (let e = n.long in let f = long in omega arith);
-    backed = (let e = n.long in let f = b.long in omega arith);
-    few = (let e = n.long in omega arith);
+    nodes = (let e = as_many next n in let f = long in omega arith);
+    backed = (let e = as_many next n in let f = as_many previous b in omega arith);
+    few = (let e = as_many next n in omega arith);
     paired = (let e = long in omega arith);
     linked = rw new_chains new_linked;
     disjoint = rw new_chains record {

@@ -23,11 +23,6 @@ IsLinked next previous start [] end =
 IsLinked next previous start (node ∷ nodes) end =
     (slice_index next start ≡ node) × (slice_index previous node ≡ start) × IsLinked next previous node nodes end
 
--- each node is a ring of its own
-pub record AreAlone (links : List ℕ) (nodes : ℕ) : Type 0 where
-  pub long : length links ≡ nodes
-  pub alone : (node : ℕ) → node < nodes → slice_index links node ≡ node
-
 -- list k of all lists
 abbrev pub list_at : List (List ℕ) → ℕ → List ℕ
 list_at lists k = slice_index_or lists k []

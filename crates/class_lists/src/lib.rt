@@ -2,12 +2,11 @@
 #![tactic(auto)]
 
 ghost use Rattle.std.specs.Prelude.{◌≡◌, ℕ, ◌+◌, ◌*◌, ◌<◌, ◌^◌, ◌↔◌, [], ◌∷◌, IfOk, IfSome, IsNone, length, slice_get, slice_set, vec_len};
-ghost use Rattle.std.specs.List.{Contains};
+ghost use Rattle.std.specs.List.{Contains, range_with_len};
 ghost use Rattle.step_ledger.specs.Counting.{RoseBetween, RoseBy};
-ghost use Rattle.class_lists.specs.Layout.{AreAlone};
 ghost use Rattle.class_lists.specs.PageLists.{AreApart, AreEmpty, IsUnlisted, KeepsOthers, empty_lists, list_number, pages_in, with_list, without_page};
 
-use cf_base::OutOfMemory;
+use cf_base::{OutOfMemory, numbers_below};
 use std::alloc::{AllocError, Global};
 use std::marker::Model;
 use step_ledger::Steps;
@@ -143,12 +142,12 @@ impl ClassLists {
 impl Links {
     /// Nodes that each are a ring of their own.
     fn new(alloc: Global, nodes: u32) -> Result<Links, AllocError>
-        ensures next { IfOk result (λ links. AreAlone links.next.items nodes) }
-        ensures previous { IfOk result (λ links. AreAlone links.previous.items nodes) }
+        ensures next { IfOk result (λ links. links.next.items ≡ range_with_len 0 nodes) }
+        ensures previous { IfOk result (λ links. links.previous.items ≡ range_with_len 0 nodes) }
     {
         Ok(Links {
-            next: (0..nodes).collect(alloc)?,
-            previous: (0..nodes).collect(alloc)?,
+            next: numbers_below(alloc, nodes)?,
+            previous: numbers_below(alloc, nodes)?,
         })
     }
 

@@ -1,5 +1,5 @@
 -- What a loan of the whole words of an object leaves.
-use Rattle.std.proofs.Common.{◌≡◌, ℕ, zero, suc, ◌+◌, ◌-◌, ◌*◌, ◌/◌, ◌%◌, ◌^◌, ◌<◌, ◌≤◌, List, ◌++◌, length, get_or, take, drop, Option, Some, None, arith, sym, ◌∙◌, ap, refl, subst, lit<, inl, inr}
+use Rattle.std.proofs.Common.{◌≡◌, ℕ, ◌+◌, ◌-◌, ◌*◌, ◌/◌, ◌%◌, ◌^◌, ◌<◌, ◌≤◌, List, ◌++◌, length, get_or, take, drop, Option, Some, None, arith, sym, ◌∙◌, ap, refl, subst, lit<, inl, inr}
 use Rattle.std.proofs.lemmas.Bool.{cases_lt, false≢true}
 use Rattle.std.proofs.lemmas.List.{get_or_past, get_or_default, length-take}
 use Rattle.std.proofs.lemmas.List.FromFn.{length-map-range_with_len, get_or-map-range_with_len}
@@ -25,16 +25,12 @@ use Rattle.paged_heap.specs.Heap.{seen}
 use Rattle.paged_heap.specs.Layout.{Holds, IsValid, IsValidIn, held_in, state_at, state_in}
 use Rattle.moving_heap.specs.PayloadLoan.{place_in, with_payload_at, with_payload_in, with_payload_of, with_run}
 use Rattle.moving_heap.specs.Payload.{bytes_of_words, lent_back, with_object}
+use Rattle.page_model.proofs.Reading.{byte_below}
 use Rattle.paged_heap.proofs.Preserved.{has_place, no_place}
 use Rattle.paged_heap.proofs.LayoutFacts.{rules_in}
 use Rattle.moving_heap.proofs.PayloadWords.{count_is, run_inside}
 use Rattle.paged_heap.proofs.ReadLemmas.{lies, place_told}
 use Rattle.paged_heap.proofs.WriteLemmas.{wrote, wrote_kept}
-
--- a byte of a word is a byte
-byte_below : (j w : ℕ) → byte_of j w < 256
-byte_below zero w = omega arith
-byte_below (suc j) w = byte_below j (w / 256)
 
 -- the bytes of words
 module _ (ws : List ℕ) where

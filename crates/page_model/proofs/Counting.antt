@@ -1,38 +1,29 @@
 -- Counts over the values of a map, and the pages that they change.
-use Rattle.std.proofs.Common.{◌≡◌, ◌≢◌, ℕ, Bool, true, false, ◌+◌, ◌<◌, ◌≤◌, [], Some, None, arith, sym, ◌∙◌, inl, inr, ap, refl, map}
+use Rattle.std.proofs.Common.{◌≡◌, ◌≢◌, ℕ, Bool, true, false, ◌+◌, ◌<◌, ◌≤◌, Some, None, arith, sym, ◌∙◌, inl, inr, ap, refl}
 use Rattle.std.specs.Prelude.{◌⊎◌, ◌&&◌, nat_lt, nat_eq, count_by}
-use Rattle.std.proofs.lemmas.List.{nil_from_length}
 use Rattle.std.proofs.lemmas.Bool.{cases_eq, false≢true}
 use Rattle.std.proofs.lemmas.Bool.Decides.{nat_tests}
 use Rattle.std.specs.Ordering.{nat_cmp}
-use Rattle.std.specs.FinMap.{FinMap, get, insert, empty, values, len-empty, len-entries}
-use Rattle.cf_lemmas.proofs.Maps.{get_inserted, get_insert_other}
+use Rattle.std.specs.FinMap.{FinMap, get, insert, empty, values}
+use Rattle.cf_lemmas.proofs.Maps.{get_inserted}
 use Rattle.cf_lemmas.proofs.Sums.{sum_by-inserted, sum_by-removed}
 use Rattle.cf_lemmas.proofs.Induction.{map_induction}
+use Rattle.cf_lemmas.proofs.Tests.{eq_yes, eq_no, and_false}
+use Rattle.cf_lemmas.proofs.Values.{no_values, still}
 use Rattle.cf_lemmas.proofs.Ranges.{one, count_same, count_changed}
 use Rattle.page_model.specs.Held.{Held, Placed}
 use Rattle.page_model.specs.Paging.{Paging, slots_of, page_of}
 use Rattle.page_model.specs.Arrangement.{class_at, is_on, objects_on, standing_on, not_full_pages, home_pages}
 
-pub and_false : (b : Bool) → one (b && false) ≡ 0
-and_false true = refl
-and_false false = refl
-
 pub one_le : (b : Bool) → one b ≤ 1
 one_le true = omega arith
 one_le false = omega arith
 
-pub lt_yes : (a b : ℕ) → a < b → one (nat_lt a b) ≡ 1
-lt_yes a b h = (let e : nat_lt a b ≡ true = grind (arith, nat_tests) in rw e)
+pub less_counts : (a b : ℕ) → a < b → one (nat_lt a b) ≡ 1
+less_counts a b h = (let e : nat_lt a b ≡ true = grind (arith, nat_tests) in rw e)
 
-pub lt_no : (a b : ℕ) → b ≤ a → one (nat_lt a b) ≡ 0
-lt_no a b h = (let e : nat_lt a b ≡ false = grind (arith, nat_tests) in rw e)
-
-pub eq_yes : (a b : ℕ) → a ≡ b → nat_eq a b ≡ true
-eq_yes a b is = grind (arith, nat_tests)
-
-pub eq_no : (a b : ℕ) → a ≢ b → nat_eq a b ≡ false
-eq_no a b ne = grind (arith, nat_tests)
+pub not_less_counts_none : (a b : ℕ) → b ≤ a → one (nat_lt a b) ≡ 0
+not_less_counts_none a b h = (let e : nat_lt a b ≡ false = grind (arith, nat_tests) in rw e)
 
 -- whether a page with n objects is neither empty nor full, of s slots
 abbrev pub part_full : ℕ → ℕ → Bool
@@ -48,18 +39,9 @@ pub part_empty : (n m : ℕ) → n ≡ 0 → one (part_full n m) ≡ 0
 part_empty n m e = rw e
 
 pub part_over : (n m : ℕ) → m ≤ n → one (part_full n m) ≡ 0
-part_over n m h = (let b : nat_lt n m ≡ false = grind (arith, nat_tests) in rw b (and_false (nat_lt 0 n)))
-
-pub no_values : {V : Type 0} → values (empty {X = V} {R = nat_cmp}) ≡ []
-no_values {V} = ap (map (λ e. e.1)) (nil_from_length _ (sym (len-entries (empty {X = V} {R = nat_cmp})) ∙ len-empty nat_cmp V))
+part_over n m h = (let b : nat_lt n m ≡ false = grind (arith, nat_tests) in rw b (ap one (and_false (nat_lt 0 n))))
 
 module _ {V : Type 0} where
-  -- what is there is none of the keys that are not
-  pub still : (m : FinMap nat_cmp V) (h : ℕ) (x : V) → get m h ≡ None → (q : ℕ) (y : V) → get m q ≡ Some y → (q ≢ h) × (get (insert m h x) q ≡ Some y)
-  still m h x none q y p =
-      let ne : q ≢ h = (λ e. (let p' : get m h ≡ Some y = rw e at p in absurd (let z : Some y ≡ None = sym p' ∙ none in cc))) in
-      (ne, get_insert_other m h x q ne ∙ p)
-
   -- where values count, there is one that passes
   pub some_counted : (f : V → Bool) (m : FinMap nat_cmp V) → 0 < count_by f (values m) → (q : ℕ) × (y : V) × (get m q ≡ Some y) × (f y ≡ true)
   some_counted f = map_induction (λ m. 0 < count_by f (values m) → (q : ℕ) × (y : V) × (get m q ≡ Some y) × (f y ≡ true))
@@ -91,21 +73,17 @@ module _ (p : Paging) where
   on_parts c page x e = elim (cases_eq (page_of p x.place) page) [
     | inl is ↦ elim (cases_eq (class_at p x) c) [
       | inl is' ↦ (is, is')
-      | inr ne ↦ absurd (let f = eq_no (class_at p x) c ne in false≢true (no (nat_eq (page_of p x.place) page) (rw f at e)))
+      | inr ne ↦ absurd (let f = eq_no (class_at p x) c ne in let e' : (nat_eq (page_of p x.place) page && false) ≡ true = rw f at e in false≢true (sym (and_false _) ∙ e'))
     ]
     | inr ne ↦ absurd (let f = eq_no (page_of p x.place) page ne in false≢true (rw f at e))
   ]
-    where
-      no : (b : Bool) → (b && false) ≡ true → false ≡ true
-      no true p = p
-      no false p = p
 
   pub on_yes : (c page : ℕ) (x : Placed) → page_of p x.place ≡ page → class_at p x ≡ c → is_on p c page x ≡ true
   on_yes c page x a b = (let a' = eq_yes (page_of p x.place) page a in let b' = eq_yes (class_at p x) c b in rw (a', b'))
 
   pub on_no : (c page : ℕ) (x : Placed) → ((page_of p x.place ≢ page) ⊎ (class_at p x ≢ c)) → one (is_on p c page x) ≡ 0
   on_no c page x (inl ne) = (let f = eq_no (page_of p x.place) page ne in rw f)
-  on_no c page x (inr ne) = (let f = eq_no (class_at p x) c ne in rw f (and_false _))
+  on_no c page x (inr ne) = (let f = eq_no (class_at p x) c ne in rw f (ap one (and_false _)))
 
   -- an object that is found stands on its page
   pub here : (m : Held) (q : ℕ) (y : Placed) → get m q ≡ Some y → 0 < objects_on p m (class_at p y) (page_of p y.place)

@@ -1,15 +1,14 @@
 -- The blocks of the objects that stay are the same after each step, and no two objects share one.
 use Rattle.std.proofs.Common.{◌≡◌, ◌≢◌, ℕ, ◌+◌, ◌*◌, ◌/◌, ◌%◌, ◌<◌, ◌≤◌, List, Option, Some, None, length, get_or, arith, sym, ◌∙◌, subst, inl, inr, ap, refl}
 use Rattle.std.specs.Prelude.{◌⊎◌}
-use Rattle.std.specs.List.{range_with_len}
-use Rattle.std.proofs.lemmas.List.FromFn.{get_or-range_with_len, length-range_with_len}
 use Rattle.std.proofs.Math.Nat.{mul-mod_left}
 use Rattle.std.proofs.lemmas.Bool.{cases_eq}
 use Rattle.std.proofs.lemmas.Nat.{div-add-mod'}
 use Rattle.std.specs.FinMap.{get, remove}
 use Rattle.cf_lemmas.proofs.Maps.{get_inserted, get_insert_other, get_remove_other}
-use Rattle.cf_lemmas.specs.Exchanges.{partner, exchanged}
-use Rattle.cf_lemmas.proofs.Exchanges.{partner_second, partner_else, partner_back, partner_below, length-exchanged, get_or-exchanged}
+use Rattle.cf_lemmas.specs.Exchanges.{exchanged}
+use Rattle.cf_lemmas.proofs.Exchanges.{partner_second, partner_else, length-exchanged, get_or-exchanged}
+use Rattle.cf_lemmas.proofs.Permutations.{entry_once, exchanged_permuted, range_permuted}
 use Rattle.page_model.specs.Held.{Held, Placed}
 use Rattle.page_model.specs.Paging.{Paging, IsPaging, slot_words, class_for}
 use Rattle.page_model.specs.Arrangement.{class_at, IsSound}
@@ -19,29 +18,9 @@ use Rattle.page_model.specs.Frames.{first_frames, IsPermuted, frames_after, bloc
 use Rattle.page_model.proofs.FreeSteps.{mover_is_other}
 use Rattle.page_model.proofs.SlotImages.{sound_apart, object_inside}
 
-module _ (frames : List ℕ) (a b n : ℕ) where
-  -- an exchange keeps the permutation one
-  pub permuted_exchanged : IsPermuted frames → IsDisjoint a n b n → a + n ≤ length frames → b + n ≤ length frames → IsPermuted (exchanged frames a b n)
-  permuted_exchanged p apart ea eb =
-      let len = length-exchanged frames a b n in
-      record {
-        below = λ v lt. (let lt' : v < length frames = rw len at lt in rw (get_or-exchanged frames a b n v lt', len) (p.below (partner a b n v) (partner_below a b n apart (length frames) v ea eb lt')));
-        once = λ v w lv lw e.
-            let lv' : v < length frames = rw len at lv in
-            let lw' : w < length frames = rw len at lw in
-            let e' : get_or frames (partner a b n v) 0 ≡ get_or frames (partner a b n w) 0 = sym (get_or-exchanged frames a b n v lv') ∙ e ∙ get_or-exchanged frames a b n w lw' in
-            let same = p.once (partner a b n v) (partner a b n w) (partner_below a b n apart (length frames) v ea eb lv') (partner_below a b n apart (length frames) w ea eb lw') e' in
-            sym (partner_back a b n apart v) ∙ ap (partner a b n) same ∙ partner_back a b n apart w;
-      }
-
 -- the frames of an empty heap
 pub first_permuted : (n : ℕ) → IsPermuted (first_frames n)
-first_permuted n =
-    let len : length (range_with_len 0 n) ≡ n = length-range_with_len 0 n in
-    record {
-      below = λ v lt. (let lt' : v < n = rw len at lt in rw (get_or-range_with_len 0 n v 0 lt', len) (omega arith));
-      once = λ v w lv lw e. (let lv' : v < n = rw len at lv in let lw' : w < n = rw len at lw in let x = get_or-range_with_len 0 n v 0 lv' in let y = get_or-range_with_len 0 n w 0 lw' in omega arith);
-    }
+first_permuted n = range_permuted n
 
 four_apart : (a n b m : ℕ) → a % 4 ≡ 0 → n % 4 ≡ 0 → b % 4 ≡ 0 → m % 4 ≡ 0 → IsDisjoint a n b m → IsDisjoint (a / 4) (n / 4) (b / 4) (m / 4)
 four_apart a n b m pa pn pb pm (inl l) = inl (omega arith)
@@ -94,7 +73,7 @@ module _ (p : Paging) (ok : IsPaging p) (b : AreBlocks p) (m : Held) (s : IsSoun
         let apart = blocks_apart h x q y e f ne in
         let ix = blocks_inside h x e in
         let iy = blocks_inside q y f in
-        let at = perm.once (x.place / 4 + i) (y.place / 4 + j) (omega arith) (omega arith) same in
+        let at = entry_once frames (length frames) refl perm (x.place / 4 + i) (y.place / 4 + j) (omega arith) (omega arith) same in
         elim apart [ inl l ↦ omega arith | inr l ↦ omega arith ]
 
 outside_kept : (frames : List ℕ) (a b n c k i : ℕ) → IsDisjoint a n b n → IsDisjoint a n c k → IsDisjoint b n c k → i < k → c + k ≤ length frames → get_or (exchanged frames a b n) (c + i) 0 ≡ get_or frames (c + i) 0
@@ -163,7 +142,7 @@ module _ (p : Paging) (ok : IsPaging p) (b : AreBlocks p) (m : Held) (s : IsSoun
         let inside_x = blocks_inside p ok b m s h x is-x in
         let inside_y = blocks_inside p ok b m s q y there in
         let size = size_is in
-        rw f (permuted_exchanged frames (y.place / 4) (x.place / 4) (slot_for p (length y.bytes) / 4) perm runs_apart (omega arith) (omega arith))
+        rw f (exchanged_permuted frames (y.place / 4) (x.place / 4) (slot_for p (length y.bytes) / 4) runs_apart (omega arith) (omega arith) perm)
 
     length_by_move : length (frames_after p m after frames) ≡ length frames
     length_by_move = (let f = frames_are in rw f (length-exchanged frames _ _ _))

@@ -11,7 +11,8 @@ use Rattle.page_model.specs.Held.{Held, Placed, objects}
 use Rattle.page_model.specs.Paging.{Paging, IsPaging, classes, slots_of, bound_of, page_of}
 use Rattle.page_model.specs.Counts.{Stand, most_pages}
 use Rattle.page_model.specs.Arrangement.{class_at, live, objects_on, standing_on, home_pages, not_full_pages, used_pages, free_pages, most_pages_besides, IsSound, LacksRoom}
-use Rattle.page_model.proofs.Counting.{lt_yes, lt_no, eq_yes, eq_no, here, stands_here, on_page, standing}
+use Rattle.cf_lemmas.proofs.Tests.{eq_yes, eq_no}
+use Rattle.page_model.proofs.Counting.{less_counts, not_less_counts_none, here, stands_here, on_page, standing}
 use Rattle.page_model.proofs.Totals.{sum_same, sum_plus, sum_zeros, count_at}
 use Rattle.page_model.proofs.PageCounts.{slots_some, sound_stand, sound_can_hold}
 use Rattle.page_model.proofs.PageLaws.{between_multiples, most_pages_least}
@@ -142,8 +143,8 @@ module _ (p : Paging) (m : Held) (s : IsSound p m) where
         let o = standing p m g some in
         of_class o.0 o.1 o.2 o.3 some)
     | inr none ↦ (
-        let e = lt_no 0 (standing_on p m g) none in
-        let z = sum_zeros (λ c. one (nat_lt 0 (objects_on p m c g))) (range_with_len 0 (classes p)) (λ c. lt_no 0 (objects_on p m c g) (elim (cases_lt 0 (objects_on p m c g)) [
+        let e = not_less_counts_none 0 (standing_on p m g) none in
+        let z = sum_zeros (λ c. one (nat_lt 0 (objects_on p m c g))) (range_with_len 0 (classes p)) (λ c. not_less_counts_none 0 (objects_on p m c g) (elim (cases_lt 0 (objects_on p m c g)) [
           | inl some ↦ absurd (let o = on_page p m c g some in let t = stands_here p m o.0 o.1 o.2 in let t' : 0 < standing_on p m g = rw (← o.3) t in omega arith)
           | inr le ↦ le
         ])) in
@@ -153,11 +154,11 @@ module _ (p : Paging) (m : Held) (s : IsSound p m) where
       of_class : (q : ℕ) (y : Placed) → get m q ≡ Some y → page_of p y.place ≡ g → 0 < standing_on p m g
           → one (nat_lt 0 (standing_on p m g)) ≡ sum_by (λ c. one (nat_lt 0 (objects_on p m c g))) (range_with_len 0 (classes p))
       of_class q y f is some =
-          let e = lt_yes 0 (standing_on p m g) some in
+          let e = less_counts 0 (standing_on p m g) some in
           let h : 0 < objects_on p m (class_at p y) g = rw is at (here p m q y f) in
           let same = sum_same (λ c. one (nat_lt 0 (objects_on p m c g))) (λ c. one (nat_eq (class_at p y) c && true)) (range_with_len 0 (classes p)) (λ c. elim (cases_eq (class_at p y) c) [
-            | inl eq ↦ (let a = eq_yes _ _ eq in let h' : 0 < objects_on p m c g = rw eq at h in rw a (lt_yes 0 (objects_on p m c g) h'))
-            | inr ne ↦ (let a = eq_no _ _ ne in rw a (lt_no 0 (objects_on p m c g) (elim (cases_lt 0 (objects_on p m c g)) [
+            | inl eq ↦ (let a = eq_yes _ _ eq in let h' : 0 < objects_on p m c g = rw eq at h in rw a (less_counts 0 (objects_on p m c g) h'))
+            | inr ne ↦ (let a = eq_no _ _ ne in rw a (not_less_counts_none 0 (objects_on p m c g) (elim (cases_lt 0 (objects_on p m c g)) [
               | inl there ↦ absurd (let o = on_page p m c g there in ne (s.one_class q y o.0 o.1 f o.2 (is ∙ sym o.3) ∙ o.4))
               | inr le ↦ le
             ])))
@@ -176,12 +177,12 @@ module _ (p : Paging) (m : Held) (s : IsSound p m) where
 
   -- every page holds an object exactly where none is free
   pub none_free : ((page : ℕ) → page < p.pages → 0 < standing_on p m page) → used_pages p m ≡ p.pages
-  none_free all = used_is ∙ count_all (λ g. nat_lt 0 (standing_on p m g)) 0 p.pages (λ d _ h. lt_yes 0 (standing_on p m d) (all d (omega arith)))
+  none_free all = used_is ∙ count_all (λ g. nat_lt 0 (standing_on p m g)) 0 p.pages (λ d _ h. less_counts 0 (standing_on p m d) (all d (omega arith)))
 
   pub all_taken : used_pages p m ≡ p.pages → (page : ℕ) → page < p.pages → 0 < standing_on p m page
   all_taken is page lt = elim (cases_lt 0 (standing_on p m page)) [
     | inl some ↦ some
-    | inr none ↦ absurd (let e = all_counted (λ g. nat_lt 0 (standing_on p m g)) 0 p.pages (sym used_is ∙ is) page (omega arith) (omega arith) in let z = lt_no 0 (standing_on p m page) none in omega arith)
+    | inr none ↦ absurd (let e = all_counted (λ g. nat_lt 0 (standing_on p m g)) 0 p.pages (sym used_is ∙ is) page (omega arith) (omega arith) in let z = not_less_counts_none 0 (standing_on p m page) none in omega arith)
   ]
 
   -- a class lacks room exactly where none of its pages is not full and no page is free

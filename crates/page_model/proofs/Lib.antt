@@ -21,3 +21,5 @@ pub mod Nothing
 pub mod BlockSteps
 pub mod Adding
 pub mod ResizedWords
+pub mod Enough
+pub mod CallerLemmas

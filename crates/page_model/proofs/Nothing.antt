@@ -9,7 +9,7 @@ use Rattle.page_model.specs.Held.{Placed}
 use Rattle.page_model.specs.Paging.{Paging, classes, slots_of}
 use Rattle.page_model.specs.Arrangement.{objects_on, home_pages, not_full_pages, used_pages, IsSound}
 use Rattle.page_model.specs.Image.{IsImageOver}
-use Rattle.page_model.proofs.Counting.{part_empty, lt_no}
+use Rattle.page_model.proofs.Counting.{part_empty, not_less_counts_none}
 use Rattle.page_model.proofs.Totals.{sum_zeros, on_none}
 
 no_object : (h : ℕ) (x : Placed) → get {R = nat_cmp} empty h ≡ Some x → ⊥
@@ -21,7 +21,7 @@ none_not_full p c = sum_zeros _ (range_with_len 0 p.pages) (λ g. part_empty _ (
 
 pub none_home : (p : Paging) (c : ℕ) → home_pages p empty c ≡ 0
 unfolding home_pages
-none_home p c = sum_zeros _ (range_with_len 0 p.pages) (λ g. (let e = on_none p c g in lt_no 0 (objects_on p empty c g) (omega arith)))
+none_home p c = sum_zeros _ (range_with_len 0 p.pages) (λ g. (let e = on_none p c g in not_less_counts_none 0 (objects_on p empty c g) (omega arith)))
 
 pub none_used : (p : Paging) → used_pages p empty ≡ 0
 unfolding used_pages

@@ -11,8 +11,9 @@ use Rattle.page_model.specs.Held.{Held, objects}
 use Rattle.page_model.specs.Paging.{Paging, IsPaging, classes, slot_words, slots_of, bound_of}
 use Rattle.page_model.specs.Counts.{Stand, CanHold}
 use Rattle.page_model.specs.Arrangement.{objects_on, not_full_pages, home_pages, live, IsSound}
-use Rattle.page_model.proofs.Counting.{part_full, part_yes, part_empty, part_over, lt_yes, lt_no}
+use Rattle.page_model.proofs.Counting.{part_full, part_yes, part_empty, part_over, less_counts, not_less_counts_none}
 use Rattle.page_model.proofs.PageLaws.{can_hold_bound}
+use Rattle.page_model.proofs.Sizes.{slot_fits}
 use Rattle.page_model.proofs.Totals.{page_within, live_by_pages, live_is}
 
 -- m objects fit on a page, and on p objects stand on page p
@@ -41,15 +42,15 @@ module _ (on : ℕ → ℕ) (m : ℕ) (some : 0 < m) where
       let z : sum_by on (a ∷ r) ≡ on a + sum_by on r = sum_by-cons on a r in
       elim (cases_eq (on a) 0) [
         | inl none ↦ (
-            let u = lt_no 0 (on a) (omega arith) in let v = part_empty (on a) m none in
+            let u = not_less_counts_none 0 (on a) (omega arith) in let v = part_empty (on a) m none in
             (s.0, record { all = omega arith; least = omega arith; most = (let e : part a (suc n) ≡ part (a + 1) n = omega arith in rw (z, e) (omega arith)) }))
         | inr ne ↦ elim (cases_lt (on a) m) [
           | inl less ↦ (
-              let u = lt_yes 0 (on a) (omega arith) in let v = part_yes (on a) m (omega arith) less in
+              let u = less_counts 0 (on a) (omega arith) in let v = part_yes (on a) m (omega arith) less in
               let e : part a (suc n) ≡ part (a + 1) n + 1 = omega arith in
               (s.0, record { all = omega arith; least = omega arith; most = rw (z, e) (omega arith) }))
           | inr full ↦ (
-              let u = lt_yes 0 (on a) (omega arith) in let v = part_over (on a) m full in
+              let u = less_counts 0 (on a) (omega arith) in let v = part_over (on a) m full in
               let e : part a (suc n) ≡ part (a + 1) n = omega arith in
               let k : on a ≡ m = omega (arith, few a) in
               (s.0 + 1, record { all = omega arith; least = omega arith; most = rw (z, e) (omega arith) }))
@@ -78,7 +79,7 @@ module _ (p : Paging) (ok : IsPaging p) (c : ℕ) (lt : c < classes p) where
   size_some = (let l = ok.sized.least c lt in omega arith)
 
   pub slots_some : 0 < slots_of p c
-  slots_some = some_slots p.page_words (slot_words p c) size_some (ok.sized.fits c lt)
+  slots_some = some_slots p.page_words (slot_words p c) size_some (slot_fits p ok c lt)
 
   module _ (m : Held) (s : IsSound p m) where
     pub within : (page : ℕ) → objects_on p m c page ≤ slots_of p c

@@ -2,7 +2,7 @@
 use Rattle.std.proofs.Common.{◌≡◌, ℕ, zero, suc, Bool, true, false, ◌+◌, ◌-◌, ◌*◌, ◌/◌, ◌%◌, ◌<◌, ◌≤◌, arith, sym, ◌∙◌, inl, inr, refl}
 use Rattle.std.specs.Prelude.{◌&&◌, ◌||◌, nat_le}
 use Rattle.std.specs.List.{range_with_len, list_any}
-use Rattle.std.proofs.lemmas.Bool.{cases_lt, cases_eq, false≢true}
+use Rattle.std.proofs.lemmas.Bool.{cases_lt, cases_eq, false≢true, and_parts}
 use Rattle.std.proofs.lemmas.Bool.Decides.{nat_tests}
 use Rattle.std.proofs.lemmas.Nat.{div-add-mod', mul-le}
 use Rattle.std.proofs.Math.Nat.{mod-lt}
@@ -92,10 +92,6 @@ in_any f a (suc n) is = go (f a) refl is (λ e. in_any f (a + 1) n e)
     go true e is ih = (a, omega arith, omega arith, e)
     go false e is ih = (let o = ih is in (o.0, omega (arith, o.1), omega (arith, o.2), o.3))
 
-both : (a b : Bool) → (a && b) ≡ true → (a ≡ true) × (b ≡ true)
-both true b e = (refl, e)
-both false b e = absurd (false≢true e)
-
 -- the test passes exactly where so many can stand
 pub tested : (p n m k : ℕ) → CanHold p n m k → can_hold p n m k ≡ true
 tested p n m k (q, s) = any_in (λ q. nat_le q p && nat_le ((p - q) * m + q) n && nat_le n ((p - q) * m + q * (m - 1))) 0 (k + 1) q (omega arith) (omega (arith, s.few))
@@ -111,8 +107,8 @@ test_tells p n m k e =
   where
     told : (q : ℕ) → q < 0 + (k + 1) → (nat_le q p && nat_le ((p - q) * m + q) n && nat_le n ((p - q) * m + q * (m - 1))) ≡ true → CanHold p n m k
     told q below e =
-        let x = both (nat_le q p && nat_le ((p - q) * m + q) n) (nat_le n ((p - q) * m + q * (m - 1))) e in
-        let y = both (nat_le q p) (nat_le ((p - q) * m + q) n) x.0 in
+        let x = and_parts (nat_le q p && nat_le ((p - q) * m + q) n) (nat_le n ((p - q) * m + q * (m - 1))) e in
+        let y = and_parts (nat_le q p) (nat_le ((p - q) * m + q) n) x.0 in
         let a : nat_le q p ≡ true = y.0 in
         let b : nat_le ((p - q) * m + q) n ≡ true = y.1 in
         let c : nat_le n ((p - q) * m + q * (m - 1)) ≡ true = x.1 in

@@ -58,14 +58,14 @@ held_from_image m at words im e good = equal_maps _ _ (λ q. get-map_values (λ 
     go q (Some x) f = (let g = good q x f in ap (λ v. Some (record { place = x.place; bytes = v })) (bytes_of_held words q x.place x.bytes g.0 g.1 (im.held q x f)))
 
 -- bytes of words are bytes
-below_256 : (j w : ℕ) → byte_of j w < 256
-below_256 zero w = omega arith
-below_256 (suc j) w = below_256 j (w / 256)
+pub byte_below : (j w : ℕ) → byte_of j w < 256
+byte_below zero w = omega arith
+byte_below (suc j) w = byte_below j (w / 256)
 
 pub bytes_at-AreBytes : (words : List ℕ) (a : ℕ) → AreBytes (bytes_at words a)
 unfolding bytes_at
 bytes_at-AreBytes words a i = elim (cases_lt i (get_or words a 0 / 2 ^ 32)) [
-  | inl lt ↦ rw (get_or-map-range_with_len (λ i. byte_of (i % 8) (get_or words (a + 1 + i / 8) 0)) 0 (get_or words a 0 / 2 ^ 32) i i 0 lt (omega arith)) (below_256 (i % 8) (get_or words (a + 1 + i / 8) 0))
+  | inl lt ↦ rw (get_or-map-range_with_len (λ i. byte_of (i % 8) (get_or words (a + 1 + i / 8) 0)) 0 (get_or words a 0 / 2 ^ 32) i i 0 lt (omega arith)) (byte_below (i % 8) (get_or words (a + 1 + i / 8) 0))
   | inr past ↦ rw (get_or_past (bytes_at words a) i 0 (simp length-map-range_with_len past)) (lit< tt)
 ]
 

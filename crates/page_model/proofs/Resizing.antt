@@ -9,7 +9,8 @@ use Rattle.page_model.specs.Held.{Held, Placed}
 use Rattle.page_model.specs.Paging.{Paging, IsPaging, page_of, class_for}
 use Rattle.page_model.specs.Arrangement.{class_at, objects_on, not_full_pages, IsSound}
 use Rattle.page_model.specs.Steps.{Request, Leaves, IsFreePlace, MustMove, MayFill, Moves, without, resized, resized_at, ResizesInPlace, ChangesClass, RefitsObject}
-use Rattle.page_model.proofs.Counting.{still, not_full-same}
+use Rattle.cf_lemmas.proofs.Values.{still}
+use Rattle.page_model.proofs.Counting.{not_full-same}
 use Rattle.page_model.proofs.Placing.{sound_placed, objects_on-elsewhere}
 use Rattle.page_model.proofs.Freeing.{sound_exchanged}
 use Rattle.page_model.proofs.FreeSteps.{sound_without, mover_is_other}

@@ -9,7 +9,7 @@ use Rattle.page_model.specs.Held.{Held, Objects, objects}
 use Rattle.page_model.specs.Paging.{Paging, IsPaging, AreOne, classes, slots_of, class_for}
 use Rattle.page_model.specs.Counts.{Stand, CanHold, ceil_div}
 use Rattle.page_model.specs.Arrangement.{live, home_pages, not_full_pages, used_pages, pages_needed, pages_needed_with, IsSound, LacksRoom}
-use Rattle.page_model.proofs.Counting.{eq_yes, eq_no}
+use Rattle.cf_lemmas.proofs.Tests.{eq_yes, eq_no}
 use Rattle.page_model.proofs.Totals.{sum_same}
 use Rattle.page_model.proofs.PageCounts.{slots_some, sound_stand, sound_can_hold}
 use Rattle.page_model.proofs.PageLaws.{between_multiples, can_hold_one}

@@ -1,6 +1,6 @@
 -- The objects of a class are those of its pages, and a page holds no more than its slots.
 use Rattle.std.proofs.Common.{◌≡◌, ◌≢◌, ℕ, Bool, true, false, ◌+◌, ◌*◌, ◌/◌, ◌%◌, ◌<◌, ◌≤◌, List, [], ◌∷◌, Some, None, length, arith, sym, ◌∙◌, inl, inr, ap, refl}
-use Rattle.std.specs.Prelude.{sum_by, count_by, ◌&&◌, nat_eq, option_map}
+use Rattle.std.specs.Prelude.{sum_by, count_by, ◌&&◌, nat_eq}
 use Rattle.std.specs.List.{range_with_len, list_any, IsDistinct, AllByRecursion}
 use Rattle.std.proofs.lemmas.List.Sums.{sum_by-cons}
 use Rattle.std.proofs.lemmas.Bool.{cases_eq, cases_lt, false≢true}
@@ -9,9 +9,11 @@ use Rattle.std.proofs.lemmas.Nat.{div-add-mod', mul-le}
 use Rattle.std.proofs.Math.Nat.{mod-lt}
 use Rattle.std.proofs.lemmas.Map.Steps.{length-le_from_distinct_below}
 use Rattle.std.specs.Ordering.{nat_cmp}
-use Rattle.std.specs.FinMap.{FinMap, get, insert, empty, values, get-empty}
+use Rattle.std.specs.FinMap.{FinMap, get, insert, empty, values}
 use Rattle.cf_lemmas.specs.Maps.{map_values}
-use Rattle.cf_lemmas.proofs.Maps.{get_inserted, equal_maps}
+use Rattle.cf_lemmas.proofs.Maps.{get_inserted}
+use Rattle.cf_lemmas.proofs.Tests.{eq_no}
+use Rattle.cf_lemmas.proofs.Values.{no_values, map_values-empty, still}
 use Rattle.cf_lemmas.proofs.MapValues.{get-map_values, map_values-insert}
 use Rattle.cf_lemmas.proofs.Sums.{sum_by-inserted}
 use Rattle.cf_lemmas.proofs.Ranges.{one, count_changed}
@@ -19,7 +21,7 @@ use Rattle.cf_lemmas.proofs.Induction.{map_induction}
 use Rattle.page_model.specs.Held.{Held, Placed, objects}
 use Rattle.page_model.specs.Paging.{Paging, slot_words, slots_of, page_of, class_for}
 use Rattle.page_model.specs.Arrangement.{class_at, is_on, objects_on, live, IsSound}
-use Rattle.page_model.proofs.Counting.{no_values, still, on_parts, eq_no}
+use Rattle.page_model.proofs.Counting.{on_parts}
 use Rattle.page_model.proofs.Placing.{objects_on-inserted}
 
 pub sum_same : {X : Type 0} (f g : X → ℕ) (xs : List X) → ((x : X) → f x ≡ g x) → sum_by f xs ≡ sum_by g xs
@@ -46,12 +48,9 @@ count_at a n c lt =
 
 -- sums over the values of a map with a function of each
 module _ {X Y : Type 0} (g : X → Y) (f : Y → ℕ) where
-  pub map_values-empty : map_values g (empty {R = nat_cmp}) ≡ empty {R = nat_cmp}
-  map_values-empty = equal_maps _ _ (λ q. get-map_values g (empty {R = nat_cmp}) q ∙ ap (option_map g) (get-empty nat_cmp q) ∙ sym (get-empty nat_cmp q))
-
   pub sum-map_values : (m : FinMap nat_cmp X) → sum_by f (values (map_values g m)) ≡ sum_by (λ x. f (g x)) (values m)
   sum-map_values = map_induction (λ m. sum_by f (values (map_values g m)) ≡ sum_by (λ x. f (g x)) (values m))
-      (ap (λ m. sum_by f (values m)) map_values-empty ∙ ap (sum_by f) no_values ∙ sym (ap (sum_by (λ x. f (g x))) no_values))
+      (ap (λ m. sum_by f (values m)) (map_values-empty g) ∙ ap (sum_by f) no_values ∙ sym (ap (sum_by (λ x. f (g x))) no_values))
       (λ m h x none ih. (
       let a = sum_by-inserted (λ x. f (g x)) m h x none in
       let n : get (map_values g m) h ≡ None = get-map_values g m h ∙ rw none refl in

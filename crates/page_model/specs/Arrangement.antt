@@ -42,13 +42,17 @@ used_pages p m = sum_by (home_pages p m) (range_with_len 0 (classes p))
 abbrev pub free_pages : Paging → Held → ℕ
 free_pages p m = p.pages - used_pages p m
 
--- the pages that the objects need by arithmetic: in each class the objects over the slots, rounded up
+-- the pages that so many objects of each class need: over the slots, rounded up
+abbrev pub pages_for : Paging → (ℕ → ℕ) → ℕ
+pages_for p count = sum_by (λ c. ceil_div (count c) (slots_of p c)) (range_with_len 0 (classes p))
+
+-- the pages that the objects need by arithmetic
 unfoldable pub pages_needed : Paging → Objects → ℕ
-pages_needed p objects = sum_by (λ c. ceil_div (live p objects c) (slots_of p c)) (range_with_len 0 (classes p))
+pages_needed p objects = pages_for p (live p objects)
 
 -- the same with one more object of n bytes
 unfoldable pub pages_needed_with : Paging → Objects → ℕ → ℕ
-pages_needed_with p objects n = sum_by (λ c. ceil_div (live p objects c + cond (nat_eq (class_for p n) c) 1 0) (slots_of p c)) (range_with_len 0 (classes p))
+pages_needed_with p objects n = pages_for p (λ c. live p objects c + cond (nat_eq (class_for p n) c) 1 0)
 
 -- the most pages that the objects of the classes other than c can stand on
 unfoldable pub most_pages_besides : Paging → Objects → ℕ → ℕ

@@ -1,6 +1,7 @@
 -- The block permutation of the non-moving manager. A block is four words; virtual block v stands at physical block `frames[v]`.
 use Rattle.std.specs.Prelude.{◌≡◌, ℕ, ◌+◌, ◌*◌, ◌/◌, ◌%◌, ◌<◌, List, Option, Some, None, length, slice_index}
 use Rattle.std.specs.List.{range_with_len}
+use Rattle.std.specs.List.Sorted.{IsPermutation}
 use Rattle.std.specs.FinMap.{get}
 use Rattle.cf_lemmas.specs.Exchanges.{exchanged}
 use Rattle.page_model.specs.Held.{Held, Placed}
@@ -12,10 +13,9 @@ use Rattle.page_model.specs.Steps.{Leaves}
 abbrev pub first_frames : ℕ → List ℕ
 first_frames n = range_with_len 0 n
 
--- a list of numbers below its length, none of them twice
-pub record IsPermuted (frames : List ℕ) : Type 0 where
-  pub below : (v : ℕ) → v < length frames → slice_index frames v < length frames
-  pub once : (v w : ℕ) → v < length frames → w < length frames → slice_index frames v ≡ slice_index frames w → v ≡ w
+-- a list of the numbers below its length, in some order
+abbrev pub IsPermuted : List ℕ → Type 0
+IsPermuted frames = IsPermutation (first_frames (length frames)) frames
 
 -- an object was at y and is at z: the blocks of its slot have changed places with those where it now stands
 abbrev pub frames_moved : Paging → Option Placed → Option Placed → List ℕ → List ℕ

@@ -1,8 +1,9 @@
 -- Pages and size classes, in numbers. A class is its index in the list of slot sizes.
-use Rattle.std.specs.Prelude.{ℕ, ◌≡◌, ◌+◌, ◌-◌, ◌*◌, ◌/◌, ◌≤◌, ◌<◌, List, length, slice_index, replicate, nat_le}
+use Rattle.std.specs.Prelude.{ℕ, ◌≡◌, ◌+◌, ◌*◌, ◌/◌, ◌≤◌, ◌<◌, List, length, slice_index, replicate, nat_le}
 use Rattle.std.specs.List.{position_or_len}
 use Rattle.cf_base.specs.Settings.{Profile}
 use Rattle.cf_base.specs.Classes.{need, sizes, slots}
+use Rattle.cf_base.specs.Rising.{AreSizes}
 use Rattle.cf_base.specs.declared.kind.Layout.{Layout}
 
 -- how many pages, the words of a page, the words of a slot by class, and by class how many pages may be not full
@@ -47,14 +48,6 @@ page_of p a = a / p.page_words
 -- the address of a slot of class c
 abbrev pub address_of : Paging → ℕ → ℕ → ℕ → ℕ
 address_of p c page slot = page * p.page_words + slot * slot_words p c
-
--- slot sizes rise, from 4 words at least up to a page
-pub record AreSizes (page_words : ℕ) (sizes : List ℕ) : Type 0 where
-  pub some : 1 ≤ length sizes
-  pub least : (c : ℕ) → c < length sizes → 4 ≤ slice_index sizes c
-  pub rising : (c d : ℕ) → c < d → d < length sizes → slice_index sizes c < slice_index sizes d
-  pub fits : (c : ℕ) → c < length sizes → slice_index sizes c ≤ page_words
-  pub last : slice_index sizes (length sizes - 1) ≡ page_words
 
 -- the slot sizes are as they must be, and each class has a bound of at least 1
 pub record IsPaging (p : Paging) : Type 0 where

@@ -46,7 +46,7 @@ pub record MayFill (p : Paging) (m : Held) (x y : Placed) : Type 0 where
 
 -- a free of x moves this object, or none
 abbrev pub Moves : Paging → Held → Placed → Option ℕ → Type 0
-Moves p m x None = MustMove p m x → ⊥
+Moves p m x None = ¬ MustMove p m x
 Moves p m x (Some q) = MustMove p m x × ((y : Placed) × (get m q ≡ Some y) × MayFill p m x y)
 
 -- the same objects, with this one at another place

@@ -27,7 +27,7 @@ pub use figures::{
 };
 pub use room::{
     lack_of_room_is_arithmetic_at_bound_one, lack_of_room_is_no_page_left,
-    pages_are_those_needed_at_bound_one, pages_where_room_is_lacking,
+    objects_need_no_more_pages, pages_are_those_needed_at_bound_one, pages_where_room_is_lacking,
 };
 pub use soundness::{
     a_free_keeps_soundness, a_malloc_keeps_soundness, a_resize_in_two_steps,

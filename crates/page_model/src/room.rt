@@ -20,6 +20,12 @@ pub fn pages_where_room_is_lacking()
         × (p.pages ≤ live p (objects m) c / slots_of p c + most_pages_besides p (objects m) c) }
 {}
 
+/// Whatever the bounds, the objects stand on at least the pages that they need by arithmetic.
+pub fn objects_need_no_more_pages()
+    ensures { (p : Paging) (m : Held) → IsPaging p → IsSound p m
+        → pages_needed p (objects m) ≤ used_pages p m }
+{}
+
 /// Where every bound is 1, the pages in use are those that the objects need by arithmetic.
 pub fn pages_are_those_needed_at_bound_one()
     ensures { (p : Paging) (m : Held) → IsPaging p → AreOne p → IsSound p m

@@ -3,8 +3,8 @@ ghost use Rattle.std.specs.List.{range_with_len};
 ghost use Rattle.step_ledger.specs.Counting.{RoseBy};
 ghost use Rattle.page_pool.specs.Pool.{is_in_pool, IsPool, TakesFront};
 
-use cf_base::OutOfMemory;
-use std::alloc::{AllocError, Global};
+use cf_base::{OutOfMemory, numbers_below};
+use std::alloc::Global;
 use std::marker::Model;
 use step_ledger::Steps;
 
@@ -34,7 +34,7 @@ impl PagePool {
         ensures pool { IfOk result (λ p. p ≡ record { pages = n; free = range_with_len 0 n }) }
         ensures kept { IfOk result (λ p. IsPool p) }
     {
-        match numbers(alloc, n) {
+        match numbers_below(alloc, n) {
             Ok(stack) => Ok(PagePool { stack, first: 0 }),
             Err(_) => Err(OutOfMemory),
         }
@@ -75,13 +75,6 @@ impl PagePool {
         self.first -= 1;
         self.stack[self.first] = page;
     }
-}
-
-/// The numbers below n, in rising order.
-fn numbers(alloc: Global, n: u32) -> Result<Vec<u32>, AllocError>
-    ensures { IfOk result (λ v. v.items ≡ range_with_len 0 n) }
-{
-    (0..n).collect(alloc)
 }
 
 #[cfg(test)]

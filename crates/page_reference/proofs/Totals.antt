@@ -14,7 +14,7 @@ use Rattle.page_model.specs.Held.{Held, Placed, objects}
 use Rattle.page_model.specs.Paging.{Paging, class_for, slot_words}
 use Rattle.page_model.specs.Arrangement.{live, objects_on, standing_on}
 use Rattle.page_model.specs.Figures.{asked_bytes}
-use Rattle.page_model.proofs.Counting.{no_values}
+use Rattle.cf_lemmas.proofs.Values.{no_values}
 use Rattle.page_model.proofs.Totals.{live_is, sum-map_values}
 use Rattle.page_model.proofs.Resizing.{length-resized}
 use Rattle.page_reference.specs.declared.object.Object.{Object}

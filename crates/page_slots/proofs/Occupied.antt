@@ -9,7 +9,8 @@ use Rattle.page_model.specs.Held.{Held, Placed}
 use Rattle.page_model.specs.Paging.{Paging, IsPaging, classes, page_of, address_of}
 use Rattle.page_model.specs.Arrangement.{class_at, objects_on, standing_on, IsSlotAt, IsSound}
 use Rattle.page_model.proofs.Addresses.{address_is_slot, slot_is_address}
-use Rattle.page_model.proofs.Counting.{still, on_page, standing}
+use Rattle.cf_lemmas.proofs.Values.{still}
+use Rattle.page_model.proofs.Counting.{on_page, standing}
 use Rattle.page_model.proofs.Freeing.{objects_on-exchanged}
 use Rattle.page_slots.specs.Tables.{Tables, IsOf, IsUsed, IsFreePage, slot_at, slots_on}
 use Rattle.page_slots.specs.Occupying.{Occupies, Tell, class_table}

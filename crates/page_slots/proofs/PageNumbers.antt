@@ -1,9 +1,10 @@
 -- The numbers of pages, by the lengths of the lists and of the pool.
 use Rattle.std.proofs.Common.{◌≡◌, ℕ, Bool, true, false, ◌+◌, ◌<◌, ◌≤◌, [], length, arith, refl, sym, ◌∙◌, ap, subst, inl, inr}
-use Rattle.std.specs.Prelude.{◌&&◌, nat_lt, count_by}
+use Rattle.std.specs.Prelude.{nat_lt, count_by}
 use Rattle.std.specs.List.{Contains, range_with_len}
 use Rattle.std.proofs.lemmas.Bool.{true≢false}
 use Rattle.std.proofs.lemmas.Bool.Decides.{nat_tests}
+use Rattle.cf_lemmas.proofs.Tests.{and_false as and_no}
 use Rattle.cf_lemmas.proofs.Ranges.{one, count_same}
 use Rattle.class_lists.specs.declared.Which.{Which}
 use Rattle.class_lists.specs.declared.Which.TheVariants.{Full, NotFull}
@@ -12,7 +13,7 @@ use Rattle.page_pool.specs.Pool.{is_in_pool}
 use Rattle.page_model.specs.Held.{Held}
 use Rattle.page_model.specs.Paging.{Paging, IsPaging, slots_of}
 use Rattle.page_model.specs.Arrangement.{objects_on, standing_on, home_pages, not_full_pages, used_pages, free_pages, IsSound, LacksRoom}
-use Rattle.page_model.proofs.Counting.{part_full, lt_yes, lt_no, on_page, stands_here}
+use Rattle.page_model.proofs.Counting.{part_full, less_counts as lt_yes, not_less_counts_none as lt_no, on_page, stands_here}
 use Rattle.page_model.proofs.Totals.{sum_same, sum_plus}
 use Rattle.page_model.proofs.Lacking.{used_is}
 use Rattle.page_slots.specs.Tables.{Tables, HasUsed, IsOf, IsPageOf, slots_on, used_in}
@@ -20,10 +21,6 @@ use Rattle.page_slots.specs.Occupying.{Occupies, Tell, class_table}
 use Rattle.page_slots.proofs.Pages.{placed_in, listed_page, list_of, free_page}
 use Rattle.page_slots.proofs.Counted.{any_contains, contains_no, count_both, count_members, no_repeats}
 use Rattle.page_slots.proofs.Occupied.{free_bare, none_counts}
-
-and_no : (b : Bool) → (b && false) ≡ false
-and_no true = refl
-and_no false = refl
 
 part_is : (n s : ℕ) → 0 < n → n < s → part_full n s ≡ true
 part_is n s some few = (let a : nat_lt 0 n ≡ true = grind (arith, nat_tests) in let b : nat_lt n s ≡ true = grind (arith, nat_tests) in rw (a, b) refl)

@@ -12,7 +12,7 @@ use Rattle.page_model.specs.Figures.{taken_bytes}
 use Rattle.page_model.proofs.Totals.{on_none}
 use Rattle.page_model.proofs.Nothing.{sound_empty}
 use Rattle.cf_lemmas.proofs.Positions.{position_is, position_none}
-use Rattle.page_model.proofs.Counting.{eq_no, eq_yes}
+use Rattle.cf_lemmas.proofs.Tests.{eq_no, eq_yes}
 use Rattle.cf_model.specs.Answers.{bound_put}
 use Rattle.paged_heap.specs.Heap.{Heap}
 use Rattle.paged_heap.specs.Layout.{IsValid, held_in, paging_at, state_of}

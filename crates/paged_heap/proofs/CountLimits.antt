@@ -12,11 +12,11 @@ use Rattle.page_model.specs.Arrangement.{class_at, live, IsSound}
 use Rattle.page_model.specs.Figures.{asked_bytes, taken_bytes}
 use Rattle.page_model.proofs.Adding.{len-objects}
 use Rattle.page_model.proofs.Counting.{one_le}
-use Rattle.page_model.proofs.Sizes.{class_fits, class_holds, class_known, class_none}
+use Rattle.page_model.proofs.Sizes.{class_fits, class_holds, class_known, class_none, slot_fits}
 use Rattle.paged_heap.specs.Heap.{Heap}
 use Rattle.paged_heap.specs.Layout.{IsValid, held_in, paging_at}
 use Rattle.paged_heap.proofs.LayoutFacts.{held_len, paging_ok, sizes_are, table_ok, page_is}
-use Rattle.paged_heap.proofs.Values.{sum_at_most}
+use Rattle.cf_lemmas.proofs.Values.{sum_at_most}
 
 -- an object has the bytes of a page at most, and so has its slot
 module _ (p : Paging) (ok : IsPaging p) (m : Held) (s : IsSound p m) (small : p.page_words ≤ 16384) where
@@ -29,7 +29,7 @@ module _ (p : Paging) (ok : IsPaging p) (m : Held) (s : IsSound p m) (small : p.
           let z : Some x.bytes ≡ Some v = sym (get-map_values (λ (x : Placed). x.bytes) m q ∙ ap (option_map (λ (x : Placed). x.bytes)) f) ∙ e in
           let is : x.bytes ≡ v = cc in
           let class = (s.slots q x f).class in
-          let fits = ok.sized.fits (class_at p x) class in
+          let fits = slot_fits p ok (class_at p x) class in
           let holds = class_holds p ok (length x.bytes) class in
           subst (λ v. (length v ≤ 131072) × (slot_words p (class_for p (length v)) ≤ 16384)) is (omega arith, omega arith)
 

@@ -5,15 +5,14 @@ use Rattle.std.specs.List.{range_with_len}
 use Rattle.std.proofs.lemmas.List.{get_or-replicate, length-replicate, take-replicate}
 use Rattle.std.specs.FinMap.{empty}
 use Rattle.cf_base.specs.Classes.{sizes}
-use Rattle.cf_base.proofs.Rising.{are_sizes, page_size}
+use Rattle.cf_base.proofs.CallerLemmas.{are_sizes, page_size}
 use Rattle.page_model.specs.Held.{Placed, objects}
 use Rattle.page_model.specs.Bytes.{bytes_at, held_at}
 use Rattle.page_model.specs.Paging.{Paging, class_for, slot_words}
 use Rattle.page_model.specs.Arrangement.{IsSound, live}
 use Rattle.page_model.specs.Image.{IsSlotImage, slot_for}
 use Rattle.page_model.specs.Figures.{asked_bytes, taken_bytes}
-use Rattle.page_model.proofs.Counting.{no_values}
-use Rattle.page_model.proofs.Totals.{map_values-empty}
+use Rattle.cf_lemmas.proofs.Values.{no_values, map_values-empty}
 use Rattle.page_model.proofs.Nothing.{sound_empty, image_empty}
 use Rattle.size_classes.specs.Table.{ClassTable, IsClassTable, table_of}
 use Rattle.class_lists.specs.PageLists.{empty_lists}
@@ -31,10 +30,10 @@ use Rattle.paged_heap.proofs.ByKind.{opening_bounds_are, opening_tiling_is, open
 use Rattle.paged_heap.specs.Layout.{IsFramed, IsValid, held_in, paging_at, state_of, tables_in}
 
 pub nothing_held : (words : List ℕ) → held_at words empty ≡ empty
-nothing_held words = map_values-empty (λ a. record { place = a; bytes = bytes_at words a }) (λ v. 0)
+nothing_held words = map_values-empty (λ a. record { place = a; bytes = bytes_at words a })
 
 pub no_objects : objects empty ≡ empty
-no_objects = map_values-empty (λ (x : Placed). x.bytes) (λ v. 0)
+no_objects = map_values-empty (λ (x : Placed). x.bytes)
 
 -- the counts of no objects
 pub none_live : (p : Paging) (c : ℕ) → live p empty c ≡ 0

@@ -13,7 +13,7 @@ use Rattle.class_lists.specs.declared.Which.TheVariants.{Full, NotFull}
 use Rattle.page_slots.proofs.PageNumbers.{not_full_pages_are, home_pages_are, free_pages_are, pages_are}
 use Rattle.paged_heap.specs.Heap.{Heap}
 use Rattle.paged_heap.specs.Layout.{IsValid, held_in, paging_at, tables_in}
-use Rattle.paged_heap.proofs.Values.{count_at_most}
+use Rattle.cf_lemmas.proofs.Ranges.{count_at_most}
 use Rattle.paged_heap.proofs.LayoutFacts.{held_len, paging_ok}
 
 pub home_at_most : (p : Paging) (m : Held) (c : ℕ) → home_pages p m c ≤ p.pages

@@ -15,7 +15,7 @@ use Rattle.page_model.specs.Image.{IsSlotImage, slot_for}
 use Rattle.page_model.specs.Figures.{asked_bytes, taken_bytes}
 use Rattle.page_model.specs.Steps.{Moves, MustMove, without}
 use Rattle.page_model.proofs.Adding.{live_taken, asked_taken, taken_taken}
-use Rattle.page_model.proofs.Counting.{eq_no, eq_yes}
+use Rattle.cf_lemmas.proofs.Tests.{eq_no, eq_yes}
 use Rattle.page_model.proofs.FreeSteps.{sound_without}
 use Rattle.page_model.proofs.Parts.{free_objects}
 use Rattle.page_model.proofs.Writing.{storable_without}

@@ -14,7 +14,7 @@ use Rattle.page_model.specs.Image.{header_word, IsSlotImage}
 use Rattle.page_model.specs.Figures.{asked_bytes, taken_bytes}
 use Rattle.page_model.specs.Steps.{IsFreePlace, zeros_at}
 use Rattle.page_model.proofs.Adding.{live_added, asked_added, taken_added}
-use Rattle.page_model.proofs.Counting.{eq_no, eq_yes}
+use Rattle.cf_lemmas.proofs.Tests.{eq_no, eq_yes}
 use Rattle.page_model.proofs.Parts.{malloc_objects, malloc_places}
 use Rattle.page_model.proofs.Placing.{sound_malloc}
 use Rattle.page_model.proofs.SlotImages.{image_after_malloc}

@@ -12,7 +12,7 @@ use Rattle.page_model.specs.Image.{slot_for}
 use Rattle.page_model.specs.Paging.{class_for}
 use Rattle.page_model.proofs.Reading.{places-held_at}
 use Rattle.page_model.proofs.SlotImages.{object_inside}
-use Rattle.page_model.proofs.Sizes.{class_holds}
+use Rattle.page_model.proofs.Sizes.{class_holds, slot_fits}
 use Rattle.virtual_words.specs.Overwriting.{byte_from}
 use Rattle.cf_model.specs.Answers.{place_of}
 use Rattle.cf_model.specs.Steps.{PassesEnd, ReadsBytes}
@@ -53,7 +53,7 @@ module _ (h : Heap) (k : IsValid h) (q a : ℕ) (some : get h.proxies.places q �
 
   pub slot_small : slot_for (paging_at h) (length bytes) ≤ 16384
   slot_small =
-      let fits = (paging_ok h k).sized.fits (class_for (paging_at h) (length bytes)) (k.sound.slots q (record { place = a; bytes = bytes }) held).class in
+      let fits = slot_fits (paging_at h) (paging_ok h k) (class_for (paging_at h) (length bytes)) (k.sound.slots q (record { place = a; bytes = bytes }) held).class in
       let small = page_small h k in
       omega arith
 

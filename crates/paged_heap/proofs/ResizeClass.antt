@@ -15,7 +15,9 @@ use Rattle.page_model.specs.Arrangement.{class_at, IsSound, live, not_full_pages
 use Rattle.page_model.specs.Image.{Clears, IsDisjoint, IsSlotImage, MovesWords, Rewrites, object_word, slot_for}
 use Rattle.page_model.specs.Figures.{asked_bytes, taken_bytes}
 use Rattle.page_model.specs.Steps.{ChangesClass, IsFreePlace, RefitsObject as IsResizedBy, Moves, MustMove, Request, resized_at, without}
-use Rattle.page_model.proofs.Counting.{eq_no, eq_yes, not_full-same, still}
+use Rattle.cf_lemmas.proofs.Tests.{eq_no, eq_yes}
+use Rattle.cf_lemmas.proofs.Values.{still}
+use Rattle.page_model.proofs.Counting.{not_full-same}
 use Rattle.page_model.proofs.Parts.{free_objects}
 use Rattle.page_model.proofs.Placing.{objects_on-elsewhere, sound_placed}
 use Rattle.page_model.proofs.Resizing.{change_is, class-resized, length-resized, sound_resize}

@@ -11,7 +11,7 @@ use Rattle.page_model.specs.Image.{IsDisjoint, IsOutside, IsSlotImage, MovesWord
 use Rattle.page_model.specs.Paging.{slot_words}
 use Rattle.page_model.specs.Arrangement.{class_at}
 use Rattle.page_model.specs.Steps.{MayFill, Moves, MustMove, without}
-use Rattle.page_model.proofs.Counting.{still}
+use Rattle.cf_lemmas.proofs.Values.{still}
 use Rattle.page_model.proofs.FreeSteps.{mover_is_other}
 use Rattle.page_model.proofs.Parts.{moved_places}
 use Rattle.page_model.proofs.ResizedWords.{image_after_change_and_move}

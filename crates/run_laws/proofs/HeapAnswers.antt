@@ -26,7 +26,7 @@ use Rattle.page_model.specs.Paging.{Paging, class_for}
 use Rattle.page_model.specs.Steps.{IsFreePlace, RemovesObject, RefitsObject as IsResizedBy, Moves, Leaves, Request, resized, resized_at, without, zeros_at}
 use Rattle.page_model.proofs.Adding.{len-objects}
 use Rattle.page_model.proofs.BlockSteps.{free_frames, resize_frames}
-use Rattle.page_model.proofs.Counting.{eq_no}
+use Rattle.cf_lemmas.proofs.Tests.{eq_no}
 use Rattle.page_model.proofs.FreeSteps.{sound_free}
 use Rattle.page_model.proofs.Freeing.{sound_exchanged}
 use Rattle.page_model.proofs.Nothing.{sound_empty}

@@ -7,13 +7,14 @@ use Rattle.std.proofs.lemmas.Bool.Decides.{nat_tests}
 use Rattle.std.proofs.lemmas.List.{get_or_past, length-replicate}
 use Rattle.std.proofs.lemmas.List.FromFn.{get_or-map-range_with_len, length-map-range_with_len}
 use Rattle.std.specs.FinMap.{get}
+use Rattle.cf_lemmas.proofs.Tests.{and_false}
 use Rattle.cf_lemmas.proofs.Induction.{map_induction}
 use Rattle.cf_lemmas.proofs.Maps.{get_inserted}
 use Rattle.page_model.specs.Arrangement.{IsSound}
 use Rattle.page_model.specs.Held.{Held, Placed}
 use Rattle.page_model.specs.Image.{IsApart, IsImageOver, IsOutside, IsSlotImage, Rewrites, object_word, slot_for}
 use Rattle.page_model.specs.Paging.{Paging}
-use Rattle.page_model.proofs.Counting.{still}
+use Rattle.cf_lemmas.proofs.Values.{still}
 use Rattle.page_model.proofs.Images.{image_added}
 use Rattle.page_model.proofs.Nothing.{image_empty}
 use Rattle.page_model.proofs.SlotImages.{object_inside, sound_apart}
@@ -27,11 +28,7 @@ is_in_yes a n i lt = (let x : nat_le a (a + i) ≡ true = grind (arith, nat_test
 
 is_in_no : (a n w : ℕ) → IsOutside a n w → is_in a n w ≡ false
 is_in_no a n w (inl l) = (let x : nat_le a w ≡ false = grind (arith, nat_tests) in rw x refl)
-is_in_no a n w (inr r) = (let y : nat_lt w (a + n) ≡ false = grind (arith, nat_tests) in rw y (no_two (nat_le a w)))
-  where
-    no_two : (b : Bool) → (b && false) ≡ false
-    no_two true = refl
-    no_two false = refl
+is_in_no a n w (inr r) = (let y : nat_lt w (a + n) ≡ false = grind (arith, nat_tests) in rw y (and_false (nat_le a w)))
 
 -- the words with those of a run replaced
 module _ (words : List ℕ) (a n : ℕ) (f : ℕ → ℕ) where

@@ -1,7 +1,7 @@
 -- Where a sound arrangement has room there is a free place, and a free that must move an object can.
 use Rattle.std.proofs.Common.{◌≡◌, ◌≢◌, ℕ, zero, suc, true, ◌+◌, ◌/◌, ◌%◌, ◌<◌, ◌≤◌, Option, Some, None, arith, sym, ◌∙◌, ap, inl, inr}
 use Rattle.std.specs.Prelude.{◌⊎◌, ◌&&◌, count_by, nat_eq, nat_lt}
-use Rattle.std.proofs.lemmas.Bool.{cases_eq, cases_lt, false≢true}
+use Rattle.std.proofs.lemmas.Bool.{cases_eq, cases_lt, false≢true, and_parts as both}
 use Rattle.std.proofs.lemmas.Bool.Decides.{nat_tests}
 use Rattle.std.specs.FinMap.{get, remove, values}
 use Rattle.cf_lemmas.proofs.Maps.{get_remove_other, some_removed}
@@ -10,10 +10,11 @@ use Rattle.page_model.specs.Held.{Held, Placed}
 use Rattle.page_model.specs.Paging.{IsPaging, Paging, address_of, bound_of, class_for, classes, page_of, slot_words, slots_of}
 use Rattle.page_model.specs.Steps.{IsFreePlace, Moves}
 use Rattle.page_model.proofs.Addresses.{address_is_slot}
-use Rattle.page_model.proofs.Counting.{none_counted, nothing_on, on_page, eq_yes, some_counted}
+use Rattle.cf_lemmas.proofs.Tests.{eq_yes}
+use Rattle.page_model.proofs.Counting.{none_counted, nothing_on, on_page, some_counted}
 use Rattle.page_model.proofs.Freeing.{objects_on-left}
 use Rattle.page_model.proofs.PageCounts.{slots_some}
-use Rattle.run_laws.proofs.Counting.{both, counted_in_range, search_below}
+use Rattle.run_laws.proofs.Counting.{counted_in_range, search_below}
 
 -- a page of the class that is neither empty nor full
 record IsOpen (p : Paging) (m : Held) (c page : ℕ) : Type 0 where

@@ -1,9 +1,6 @@
 -- Every step of a run that goes on meets the bound on pages, and refuses mallocs as the arithmetic says.
-use Rattle.std.proofs.Common.{◌≡◌, ℕ, zero, suc, Bool, ◌+◌, ◌<◌, ◌≤◌, Option, Some, None, Result, Ok, Err, arith, sym, ◌∙◌, ap, subst, inl, inr, refl}
-use Rattle.std.specs.Prelude.{count_by, ◌↔◌, codes}
-use Rattle.std.specs.List.{range_with_len}
-use Rattle.std.proofs.lemmas.List.Sums.{sum_by-cons}
-use Rattle.std.proofs.lemmas.Bool.{cases_eq}
+use Rattle.std.proofs.Common.{◌≡◌, ℕ, ◌<◌, ◌≤◌, Option, Some, None, Result, Ok, Err, arith, sym, ◌∙◌, subst, inl, inr, refl}
+use Rattle.std.specs.Prelude.{◌↔◌, codes}
 use Rattle.std.specs.FinMap.{get}
 use Rattle.cf_base.specs.Classes.{need}
 use Rattle.cf_base.specs.declared.answers.Handle.{Handle}
@@ -11,7 +8,7 @@ use Rattle.cf_base.specs.declared.answers.Refusal.{Refusal}
 use Rattle.cf_base.specs.declared.answers.Refusal.TheVariants as refusal
 use Rattle.cf_base.specs.declared.kind.Kind.{Kind}
 use Rattle.cf_base.specs.declared.kind.Kind.TheVariants.{Moving, NonMoving, Tlsf, HalfFit}
-use Rattle.cf_lemmas.proofs.Ranges.{one}
+use Rattle.cf_lemmas.proofs.Ranges.{some_in_range as some_counted}
 use Rattle.page_model.specs.Arrangement.{LacksRoom, not_full_pages, objects_on, pages_needed_with}
 use Rattle.page_model.specs.Held.{Held, objects}
 use Rattle.page_model.specs.Paging.{AreOne, Paging, class_for, page_of, slots_of}
@@ -42,16 +39,6 @@ pages_kept HalfFit s paged rules = absurd paged
 -- a heap with pages that keeps its rules has few pages
 pub few_pages : (s : HeapState) → IsPaged s.kind → KeepsRules s → HasFewPages s
 few_pages s paged rules = (let k = pages_kept s.kind s paged rules.of_kind in λ c lt. sound_few (paging_in s) k.paging c lt s.held k.sound)
-
--- what passes in a range counts
-some_counted : (f : ℕ → Bool) (a n d : ℕ) → a ≤ d → d < a + n → one (f d) ≡ 1 → 0 < count_by f (range_with_len a n)
-some_counted f a zero d low high is = absurd (omega arith)
-some_counted f a (suc n) d low high is =
-    let x : count_by f (range_with_len a (suc n)) ≡ one (f a) + count_by f (range_with_len (a + 1) n) = sum_by-cons (λ p. one (f p)) a (range_with_len (a + 1) n) in
-    elim (cases_eq d a) [
-      | inl same ↦ (let y : one (f a) ≡ 1 = ap (λ k. one (f k)) (sym same) ∙ is in omega arith)
-      | inr ne ↦ (let rest = some_counted f (a + 1) n d (omega arith) (omega arith) is in omega arith)
-    ]
 
 -- a page that is not full counts
 not_full_here : (p : Paging) (m : Held) (c page : ℕ) → page < p.pages → 0 < objects_on p m c page → objects_on p m c page < slots_of p c → 0 < not_full_pages p m c

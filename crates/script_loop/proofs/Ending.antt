@@ -1,7 +1,7 @@
 -- How the parts of a call make its outcome.
 use Rattle.std.proofs.Common.{◌≡◌, ◌≤◌, ◌<◌, ◌+◌, ◌-◌, ◌++◌, ◌∙◌, Bool, true, false, List, [], ◌∷◌, ℕ, Option, Some, None, refl, ap, ap₂, sym, subst, length, take, drop, append_assoc, append-nil, length-append, length-drop, take-append-drop, arith}
 use Rattle.std.proofs.Math.Seq.{take-append-add}
-use Rattle.std.proofs.lemmas.Bool.{le-leb}
+use Rattle.std.proofs.lemmas.Bool.{le-leb, lt-leb as too_many}
 use Rattle.std.proofs.lemmas.List.{take_all, take_at, take-take, length-take-le}
 use Rattle.std.specs.Prelude.{nat_le}
 use Rattle.cf_base.specs.declared.kind.Kind.{Kind}
@@ -120,9 +120,6 @@ pub cut_items : {s : RunState} {new : Player} {t out : List ℕ} (all more : Lis
 cut_items {s} {new} {t} {out} all more c parts fits =
     let after = c.left (take (MOST_BYTES - length t) more) (nat_le (length all) MOST_BYTES) in
     (after.0, within_is all t more parts fits ∙ after.1)
-
-too_many : (m n : ℕ) → n < m → nat_le m n ≡ false
-too_many m n h = grind arith
 
 -- up to the limit
 pub longer : (all t more : List ℕ) → all ≡ t ++ more → length t ≡ MOST_BYTES → 0 < length more → MOST_BYTES < length all

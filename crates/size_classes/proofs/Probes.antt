@@ -7,7 +7,7 @@ use Rattle.std.proofs.lemmas.Bool.{cases_lt, lt-leb, le-leb}
 use Rattle.std.proofs.Math.Nat.{pow-suc}
 use Rattle.cf_base.specs.Classes.{need, class_of}
 use Rattle.cf_base.specs.Rising.{AreSizes}
-use Rattle.cf_base.proofs.Rising.{size_within}
+use Rattle.cf_base.proofs.CallerLemmas.{size_within}
 use Rattle.cf_lemmas.proofs.Positions.{position_is, position_none}
 
 -- half of what lies between is left, on either side

@@ -14,7 +14,8 @@ use Rattle.std.proofs.lemmas.Nat.Bits.{bit_at-zero, bit_at_ones, bit_at_above, b
 use Rattle.std.proofs.lemmas.Option.{slice_get_within, slice_get-get_or}
 use Rattle.cf_lemmas.proofs.Positions.{position_is, position_none}
 use Rattle.slot_bitmap.proofs.CallerLemmas.{counted_set, count-replicate}
-use Rattle.slot_bitmap.specs.Layout.{WritesBit, bits_in, is_used, slots_told, has_free, has_used, IsValid}
+use Rattle.cf_lemmas.specs.Bits.{WritesBit}
+use Rattle.slot_bitmap.specs.Layout.{bits_in, is_used, slots_told, has_free, has_used, IsValid}
 
 -- what the place of the first one tells
 pub found_free : (xs : List Bool) (i : ℕ) → Some i ≡ position (λ u. not u) xs → slice_get xs i ≡ Some false
@@ -87,7 +88,7 @@ tidy_new n full few is = record {
 
 -- ---- one slot is written
 
-module _ (words : List ℕ) (n i w : ℕ) (b : Bool) (count : length words ≡ 64) (few : n ≤ 4096) (lt : i < n) (wrote : WritesBit (get_or words (i / 64) 0) w (i % 64) b) where
+module _ (words : List ℕ) (n i w : ℕ) (b : Bool) (count : length words ≡ 64) (few : n ≤ 4096) (lt : i < n) (wrote : WritesBit 64 (get_or words (i / 64) 0) w (i % 64) b) where
   written_here : is_used (set words (i / 64) w) i ≡ b
   written_here = used_from_bit (set words (i / 64) w) i b (rw (get_or-set_same words (i / 64) w 0 (omega arith)) wrote.at)
 
@@ -113,7 +114,7 @@ pub counted_some : (words : List ℕ) (n i : ℕ) → slice_get (slots_told word
 counted_some words n i h = omega (arith, counted_set (slots_told words n) i true false h)
 
 -- a summary is written at j, where the words are
-summary_kept : (j s s' : ℕ) (on : Bool) (old new : ℕ → Bool) → WritesBit s s' j on → on ≡ new j → ((k : ℕ) → k ≢ j → new k ≡ old k)
+summary_kept : (j s s' : ℕ) (on : Bool) (old new : ℕ → Bool) → WritesBit 64 s s' j on → on ≡ new j → ((k : ℕ) → k ≢ j → new k ≡ old k)
     → ((k : ℕ) → k < 64 → bit_at s k ≡ cond (old k) 1 0) → (k : ℕ) → k < 64 → bit_at s' k ≡ cond (new k) 1 0
 summary_kept j s s' on old new wrote here there was k lt = elim (cases_eq k j) [
   | inl e ↦ rw (e, wrote.at, here) refl
@@ -121,8 +122,8 @@ summary_kept j s s' on old new wrote here there was k lt = elim (cases_eq k j) [
 ]
 
 pub tidy_written : (words : List ℕ) (n i w : ℕ) (old b : Bool) (f f' u u' c c' : ℕ) (bf bu : Bool) → length words ≡ 64 → IsValid words f u n c
-    → slice_get (slots_told words n) i ≡ Some old → WritesBit (get_or words (i / 64) 0) w (i % 64) b → w < 2 ^ bits_in n (i / 64)
-    → WritesBit f f' (i / 64) bf → bf ≡ not (w + 1 == 2 ^ bits_in n (i / 64)) → WritesBit u u' (i / 64) bu → bu ≡ not (w == 0)
+    → slice_get (slots_told words n) i ≡ Some old → WritesBit 64 (get_or words (i / 64) 0) w (i % 64) b → w < 2 ^ bits_in n (i / 64)
+    → WritesBit 64 f f' (i / 64) bf → bf ≡ not (w + 1 == 2 ^ bits_in n (i / 64)) → WritesBit 64 u u' (i / 64) bu → bu ≡ not (w == 0)
     → c' + cond old 1 0 ≡ c + cond b 1 0 → IsValid (set words (i / 64) w) f' u' n c'
 tidy_written words n i w old b f f' u u' c c' bf bu count tidy was wrote below wrote_f is_f wrote_u is_u counted =
     let lt : i < n = slot_within words n i old was in
@@ -162,13 +163,13 @@ module _ (words : List ℕ) (n i w f f' u u' c : ℕ) (count : length words ≡ 
   below : (b : Bool) → slice_get (slots_told words n) i ≡ Some b → w < 2 ^ bits_in n (i / 64)
   below b was = within _ (place b was).1 (tidy.clean (i / 64) (place b was).0)
 
-  pub tidy_set : (full : ℕ) → slice_get (slots_told words n) i ≡ Some false → WritesBit (get_or words (i / 64) 0) w (i % 64) true → full + 1 ≡ 2 ^ bits_in n (i / 64)
-      → WritesBit f f' (i / 64) (not (w == full)) → WritesBit u u' (i / 64) true → IsValid (set words (i / 64) w) f' u' n (c + 1)
+  pub tidy_set : (full : ℕ) → slice_get (slots_told words n) i ≡ Some false → WritesBit 64 (get_or words (i / 64) 0) w (i % 64) true → full + 1 ≡ 2 ^ bits_in n (i / 64)
+      → WritesBit 64 f f' (i / 64) (not (w == full)) → WritesBit 64 u u' (i / 64) true → IsValid (set words (i / 64) w) f' u' n (c + 1)
   tidy_set full was wrote is wrote_f wrote_u =
       tidy_written words n i w false true f f' u u' c (c + 1) _ true count tidy was wrote (below false was) wrote_f (full_word w full _ is) wrote_u (bit_makes_used w (i % 64) wrote.at) (omega arith)
 
-  pub tidy_unset : slice_get (slots_told words n) i ≡ Some true → WritesBit (get_or words (i / 64) 0) w (i % 64) false
-      → WritesBit f f' (i / 64) true → WritesBit u u' (i / 64) (not (w == 0)) → IsValid (set words (i / 64) w) f' u' n (c - 1)
+  pub tidy_unset : slice_get (slots_told words n) i ≡ Some true → WritesBit 64 (get_or words (i / 64) 0) w (i % 64) false
+      → WritesBit 64 f f' (i / 64) true → WritesBit 64 u u' (i / 64) (not (w == 0)) → IsValid (set words (i / 64) w) f' u' n (c - 1)
   tidy_unset was wrote wrote_f wrote_u =
       tidy_written words n i w true false f f' u u' c (c - 1) true _ count tidy was wrote (below true was)
       wrote_f (bit_makes_free w _ (i % 64) (place true was).1 wrote.at) wrote_u refl (omega (arith, tidy.counted, counted_some words n i was))

@@ -1,12 +1,7 @@
 -- How a map keeps its slots in words of 64 bits. No public clause cites this module.
-use Rattle.std.specs.Prelude.{◌≡◌, ◌≢◌, ℕ, ◌+◌, ◌-◌, ◌*◌, ◌/◌, ◌%◌, ◌^◌, ◌<◌, ◌≤◌, ◌==◌, not, min, List, map, Bool, cond, slice_index}
+use Rattle.std.specs.Prelude.{◌≡◌, ℕ, ◌+◌, ◌-◌, ◌*◌, ◌/◌, ◌%◌, ◌^◌, ◌<◌, ◌≤◌, ◌==◌, not, min, List, map, Bool, cond, slice_index}
 use Rattle.std.specs.Int.{bit_at}
 use Rattle.std.specs.List.{range_with_len, count_by}
-
--- one bit of a word is written, and the others stay
-pub record WritesBit (old new bit : ℕ) (on : Bool) : Type 0 where
-  pub at : bit_at new bit ≡ cond on 1 0
-  pub others : (k : ℕ) → k < 64 → k ≢ bit → bit_at new k ≡ bit_at old k
 
 -- whether slot i is used
 abbrev pub is_used : List ℕ → ℕ → Bool

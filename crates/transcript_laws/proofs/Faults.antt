@@ -1,8 +1,7 @@
 -- Where every bound is 1, the cause of each refusal is told by the objects by id.
 use Rattle.std.proofs.Common.{◌≡◌, ◌≢◌, ℕ, Bool, true, false, ◌+◌, ◌<◌, ◌≤◌, List, Some, None, length, arith, sym, ◌∙◌, refl, inl, inr, subst}
-use Rattle.std.specs.Prelude.{◌↔◌, ◌⊎◌, ◌&&◌, nat_le, nat_lt}
+use Rattle.std.specs.Prelude.{◌↔◌, ◌⊎◌, nat_lt}
 use Rattle.std.proofs.lemmas.Bool.{cases_lt}
-use Rattle.std.proofs.lemmas.Bool.Decides.{nat_tests}
 use Rattle.std.specs.FinMap.{get, len}
 use Rattle.cf_base.specs.Classes.{need}
 use Rattle.cf_base.specs.declared.answers.AccessFault.{AccessFault}
@@ -19,7 +18,7 @@ use Rattle.page_model.specs.Paging.{AreOne, class_for}
 use Rattle.page_model.specs.Arrangement.{LacksRoom, class_at, pages_needed_with}
 use Rattle.page_model.specs.Steps.{Request}
 use Rattle.page_model.proofs.Adding.{len-objects}
-use Rattle.page_model.proofs.Counting.{eq_no, eq_yes}
+use Rattle.cf_lemmas.proofs.Tests.{eq_no, eq_yes, lt_yes as lt_true, lt_no as lt_false, le_yes as le_true, le_no as le_false}
 use Rattle.page_model.proofs.RoomAtOne.{lacks_room_at_one}
 use Rattle.page_model.proofs.Sizes.{class_fits}
 use Rattle.cf_model.specs.Rules.{IsPaged, IsTiled, KeepsPages}
@@ -34,18 +33,6 @@ use Rattle.transcript_laws.specs.Replies.{is_in_class, malloc_fault, passes_page
 use Rattle.transcript_laws.proofs.ByIds.{by_id_counts}
 use Rattle.transcript_laws.proofs.PagesAtOne.{needed_with_alike}
 use Rattle.transcript_laws.proofs.Renaming.{CountAlike}
-
-lt_true : (a b : ℕ) → a < b → nat_lt a b ≡ true
-lt_true a b h = grind (arith, nat_tests)
-
-lt_false : (a b : ℕ) → b ≤ a → nat_lt a b ≡ false
-lt_false a b h = grind (arith, nat_tests)
-
-le_true : (a b : ℕ) → a ≤ b → nat_le a b ≡ true
-le_true a b h = grind (arith, nat_tests)
-
-le_false : (a b : ℕ) → b < a → nat_le a b ≡ false
-le_false a b h = grind (arith, nat_tests)
 
 -- lack of room, in a kind with pages
 lacks_page : (k : Kind) (s : HeapState) (bytes : ℕ) → IsPaged k → LacksRoomIn k s bytes → LacksRoom (paging_in s) s.held (class_for (paging_in s) bytes)
@@ -65,10 +52,6 @@ not_tiled Moving paged tiled = tiled
 not_tiled NonMoving paged tiled = tiled
 not_tiled Tlsf paged tiled = paged
 not_tiled HalfFit paged tiled = paged
-
-and_no : (b : Bool) → (b && false) ≡ false
-and_no true = refl
-and_no false = refl
 
 -- a write is refused where it passes the end
 pub write_within : (v : List ℕ) (at count : ℕ) → at + count ≤ length v → write_fault v at count ≡ None

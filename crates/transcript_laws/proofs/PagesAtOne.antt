@@ -10,7 +10,7 @@ use Rattle.page_model.specs.Paging.{Paging, IsPaging, AreOne, classes, slot_word
 use Rattle.page_model.specs.Counts.{Stand, ceil_div}
 use Rattle.page_model.specs.Figures.{asked_bytes, figures_of, taken_bytes, totals_of}
 use Rattle.page_model.specs.Arrangement.{live, home_pages, not_full_pages, pages_needed, pages_needed_with, IsSound}
-use Rattle.page_model.proofs.Counting.{eq_no, eq_yes}
+use Rattle.cf_lemmas.proofs.Tests.{eq_no, eq_yes}
 use Rattle.page_model.proofs.PageCounts.{slots_some, sound_stand}
 use Rattle.page_model.proofs.PageLaws.{can_hold_one}
 use Rattle.page_model.proofs.RoomAtOne.{used_at_one}

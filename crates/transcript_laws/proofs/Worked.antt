@@ -1,7 +1,7 @@
 -- A small script, worked out.
 use Rattle.std.proofs.Common.{◌≡◌, ℕ, true, false, List, [], ◌∷◌, Some, None, length, cond, refl, sym, ◌∙◌, ap, inl, inr}
 use Rattle.std.proofs.lemmas.Bool.{cases_eq, eq-eqb}
-use Rattle.page_model.proofs.Counting.{eq_no}
+use Rattle.cf_lemmas.proofs.Tests.{eq_no}
 use Rattle.std.specs.Prelude.{◌++◌, ◌-◌, codes, count_by, filter, map, nat_eq, not, replicate, sum_by}
 use Rattle.std.specs.List.{range_with_len}
 use Rattle.std.specs.Fmt.{digits}

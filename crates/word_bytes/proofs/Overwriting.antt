@@ -6,6 +6,7 @@ use Rattle.std.proofs.lemmas.Bool.{cases_lt, cases_eq}
 use Rattle.std.proofs.lemmas.Bool.Decides.{nat_tests}
 use Rattle.std.specs.Int.{w64, to_le_bytes, from_le_bytes}
 use Rattle.page_model.specs.Bytes.{byte_of, AreBytes, written}
+use Rattle.page_model.proofs.Reading.{byte_below}
 use Rattle.page_model.proofs.Writing.{length-written, written_before, written_inside, written_behind, written_are_bytes}
 use Rattle.std.proofs.lemmas.Nat.{le_bytes_8}
 use Rattle.word_bytes.specs.Cells.{byte_in, overwritten}
@@ -93,11 +94,6 @@ cell_byte w (suc (suc (suc (suc (suc (suc zero)))))) lt = omega arith
 cell_byte w (suc (suc (suc (suc (suc (suc (suc zero))))))) lt = omega arith
 cell_byte w (suc (suc (suc (suc (suc (suc (suc (suc j)))))))) lt = absurd (omega arith)
 
--- the bytes of a word are bytes
-byte_small : (j w : ℕ) → byte_of j w < 256
-byte_small zero w = omega arith
-byte_small (suc j) w = byte_small j (w / 256)
-
 -- a word whose bytes were written over
 pub word_patched : (word from result : ℕ) (cell part : List ℕ) → word < 2 ^ 64 → from + length part ≤ 8 → AreBytes part → cell ≡ written (to_le_bytes w64 word) from part → result ≡ from_le_bytes w64 cell
     → (j : ℕ) → j < 8 → byte_of j result ≡ overwritten (λ k. byte_of k word) from part j
@@ -118,6 +114,6 @@ word_patched word from result cell part small fits bytes is gives j lt =
   where
     cell_bytes : (w : ℕ) → AreBytes (to_le_bytes w64 w)
     cell_bytes w i = elim (cases_lt i 8) [
-      | inl l ↦ rw (cell_byte w i l) (byte_small i w)
+      | inl l ↦ rw (cell_byte w i l) (byte_below i w)
       | inr past ↦ rw (get_or_past (to_le_bytes w64 w) i 0 past) (lit< tt)
     ]

@@ -1,5 +1,5 @@
 use Rattle.std.proofs.Common.{arith}
-use Rattle.cf_base.proofs.Rising.{are_sizes, page_size}
+use Rattle.cf_base.proofs.CallerLemmas.{are_sizes, page_size}
 use Rattle.page_reference.proofs.pages.Pages.new.Goals as goal
 
 -- settings in range have few pages, of a modest size

@@ -1,0 +1,12 @@
+//! Lists of numbers.
+ghost use Rattle.std.specs.Prelude.{◌≡◌, IfOk};
+ghost use Rattle.std.specs.List.{range_with_len};
+
+use std::alloc::{AllocError, Global};
+
+/// The numbers below n, in rising order.
+pub fn numbers_below(alloc: Global, n: u32) -> Result<Vec<u32>, AllocError>
+    ensures { IfOk result (λ v. v.items ≡ range_with_len 0 n) }
+{
+    (0..n).collect(alloc)
+}

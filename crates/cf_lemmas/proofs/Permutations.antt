@@ -1,0 +1,78 @@
+-- Lists that have each number below their length once.
+use Rattle.std.proofs.Common.{◌≡◌, ◌≢◌, ℕ, zero, suc, ◌+◌, ◌<◌, ◌≤◌, ◌⊎◌, inl, inr, List, length, slice_index, get_or, min, max}
+use Rattle.std.proofs.Common.{arith, sym, subst, ◌∙◌, eqb, eq-eqb, false, zero-add}
+use Rattle.std.proofs.lemmas.Bool.{eqb-false, ne_eqb, cases_eq, cases_order}
+use Rattle.std.proofs.lemmas.Grind.{get_or_default_zero}
+use Rattle.std.proofs.lemmas.List.FromFn.{length-range_with_len, get_or-range_with_len}
+use Rattle.std.proofs.lemmas.List.Sorted.{All-permutation, Contains-permutation, IsPermutation-refl, IsPermutation-trans}
+use Rattle.std.proofs.lemmas.Map.Keys.{IsDistinct-IsPermutation, apart_from_distinct}
+use Rattle.std.specs.List.{AllByRecursion, Contains, IsDistinct, range_with_len}
+use Rattle.std.specs.List.Sorted.{IsPermutation}
+use Rattle.cf_lemmas.specs.Exchanges.{exchanged}
+use Rattle.cf_lemmas.proofs.Exchanges.{length-exchanged}
+use Rattle.cf_lemmas.proofs.Swapping.{swapped_permutation}
+use Rattle.cf_lemmas.proofs.SwappedRuns.{swapped_is}
+
+above_by_test : (a b n : ℕ) → a < b → AllByRecursion (λ q. eqb a q ≡ false) (range_with_len b n)
+above_by_test a b zero lt = tt
+above_by_test a b (suc n) lt = (ne_eqb a b (λ e. omega arith), above_by_test a (b + 1) n (omega arith))
+
+range_distinct : (a n : ℕ) → IsDistinct eqb (range_with_len a n)
+unfolding IsDistinct
+range_distinct a zero = tt
+range_distinct a (suc n) = (above_by_test a (a + 1) n (omega arith), range_distinct (a + 1) n)
+
+test_turned : (x y : ℕ) → eqb x y ≡ eqb y x
+test_turned x y = elim (cases_eq x y) [
+  | inl e ↦ eq-eqb x y e ∙ sym (eq-eqb y x (sym e))
+  | inr ne ↦ ne_eqb x y ne ∙ sym (ne_eqb y x (λ e. ne (sym e)))
+]
+
+module _ (xs : List ℕ) (n : ℕ) (long : length xs ≡ n) (p : IsPermutation (range_with_len 0 n) xs) where
+  -- each entry is below the length
+  pub entry_below : (v : ℕ) → v < n → slice_index xs v < n
+  entry_below v lt =
+      let all : (k d : ℕ) → k < length (range_with_len 0 n) → get_or (range_with_len 0 n) k d < n = λ k d l.
+      let count : length (range_with_len 0 n) ≡ n = length-range_with_len 0 n in
+      let here : get_or (range_with_len 0 n) k d ≡ 0 + k = get_or-range_with_len 0 n k d (omega arith) in
+      omega arith in
+      All-permutation (λ (q : ℕ). q < n) _ _ p all v 0 (omega arith)
+
+  -- two entries differ
+  pub entries_differ : (v w : ℕ) → v < n → w < n → v ≢ w → slice_index xs v ≢ slice_index xs w
+  entries_differ v w lt lt' ne =
+      let distinct = IsDistinct-IsPermutation eqb test_turned _ _ p (range_distinct 0 n) in
+      elim (cases_order v w) [
+        | inl e ↦ absurd (ne e)
+        | inr (inl l) ↦ eqb-false _ _ (apart_from_distinct eqb xs v w 0 distinct l (omega arith))
+        | inr (inr l) ↦ (λ e. eqb-false _ _ (apart_from_distinct eqb xs w v 0 distinct l (omega arith)) (sym e))
+      ]
+
+  pub entry_once : (v w : ℕ) → v < n → w < n → slice_index xs v ≡ slice_index xs w → v ≡ w
+  entry_once v w lt lt' e = elim (cases_eq v w) [ inl is ↦ is | inr ne ↦ absurd (entries_differ v w lt lt' ne e) ]
+
+  -- each number below the length is an entry
+  pub entry_onto : (b : ℕ) → b < n → (v : ℕ) × (v < n) × (slice_index xs v ≡ b)
+  entry_onto b lt =
+      let count : length (range_with_len 0 n) ≡ n = length-range_with_len 0 n in
+      let stands : Contains (range_with_len 0 n) b = (b, omega arith, get_or-range_with_len 0 n b b (omega arith) ∙ zero-add b) in
+      let found = Contains-permutation _ _ b p stands in
+      let within = found.1 in
+      (found.0, omega arith, sym (get_or_default_zero xs found.0 b found.1) ∙ found.2)
+
+-- the numbers themselves
+pub range_permuted : (n : ℕ) → IsPermutation (range_with_len 0 (length (range_with_len 0 n))) (range_with_len 0 n)
+range_permuted n = subst (λ (k : ℕ). IsPermutation (range_with_len 0 k) (range_with_len 0 n)) (sym (length-range_with_len 0 n)) (IsPermutation-refl _)
+
+-- an exchange of two runs leaves the same entries in another order
+pub exchanged_permutation : (s : List ℕ) (a b n : ℕ) → (a + n ≤ b) ⊎ (b + n ≤ a) → a + n ≤ length s → b + n ≤ length s
+    → IsPermutation s (exchanged s a b n)
+exchanged_permutation s a b n apart at_a at_b =
+    rw (← swapped_is s a b n apart at_a at_b) (swapped_permutation s (min a b) (max a b) n (elim apart [ inl l ↦ omega arith | inr l ↦ omega arith ]))
+
+-- so each number still stands there once
+pub exchanged_permuted : (s : List ℕ) (a b n : ℕ) → (a + n ≤ b) ⊎ (b + n ≤ a) → a + n ≤ length s → b + n ≤ length s
+    → IsPermutation (range_with_len 0 (length s)) s → IsPermutation (range_with_len 0 (length (exchanged s a b n))) (exchanged s a b n)
+exchanged_permuted s a b n apart at_a at_b p =
+    subst (λ (k : ℕ). IsPermutation (range_with_len 0 k) (exchanged s a b n)) (sym (length-exchanged s a b n))
+    (IsPermutation-trans _ _ _ p (exchanged_permutation s a b n apart at_a at_b))

@@ -1,0 +1,27 @@
+-- Tests on numbers, where they pass and where they fail.
+use Rattle.std.proofs.Common.{◌≡◌, ◌≢◌, ℕ, Bool, true, false, ◌<◌, ◌≤◌, refl}
+use Rattle.std.specs.Prelude.{◌&&◌, nat_eq, nat_le, nat_lt}
+use Rattle.std.proofs.lemmas.Bool.{eq-eqb, ne_eqb, lt-ltb, le-ltb, le-leb, lt-leb}
+
+pub eq_yes : (a b : ℕ) → a ≡ b → nat_eq a b ≡ true
+eq_yes a b is = eq-eqb a b is
+
+pub eq_no : (a b : ℕ) → a ≢ b → nat_eq a b ≡ false
+eq_no a b ne = ne_eqb a b ne
+
+pub le_yes : (a b : ℕ) → a ≤ b → nat_le a b ≡ true
+le_yes a b le = le-leb a b le
+
+pub le_no : (a b : ℕ) → b < a → nat_le a b ≡ false
+le_no a b lt = lt-leb a b lt
+
+pub lt_yes : (a b : ℕ) → a < b → nat_lt a b ≡ true
+lt_yes a b lt = lt-ltb a b lt
+
+pub lt_no : (a b : ℕ) → b ≤ a → nat_lt a b ≡ false
+lt_no a b le = le-ltb a b le
+
+-- the second test fails
+pub and_false : (b : Bool) → (b && false) ≡ false
+and_false true = refl
+and_false false = refl

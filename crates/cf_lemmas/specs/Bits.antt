@@ -1,0 +1,8 @@
+-- Words of bits.
+use Rattle.std.specs.Prelude.{◌≡◌, ◌≢◌, ℕ, ◌<◌, Bool, cond}
+use Rattle.std.specs.Int.{bit_at}
+
+-- one bit of a word of so many bits is written, and the others stay
+pub record WritesBit (width old new bit : ℕ) (on : Bool) : Type 0 where
+  pub at : bit_at new bit ≡ cond on 1 0
+  pub others : (k : ℕ) → k < width → k ≢ bit → bit_at new k ≡ bit_at old k

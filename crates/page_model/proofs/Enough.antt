@@ -1,0 +1,41 @@
+-- Objects stand on enough pages.
+use Rattle.std.proofs.Common.{◌≡◌, ℕ, zero, suc, ◌+◌, ◌-◌, ◌*◌, ◌%◌, ◌<◌, ◌≤◌, arith}
+use Rattle.std.specs.Prelude.{sum_by}
+use Rattle.std.specs.List.{range_with_len}
+use Rattle.std.proofs.lemmas.List.Sums.{sum_by-cons}
+use Rattle.std.proofs.lemmas.Nat.{div-add-mod', mul-le}
+use Rattle.page_model.specs.Held.{Held, objects}
+use Rattle.page_model.specs.Paging.{Paging, IsPaging, classes, slots_of}
+use Rattle.page_model.specs.Counts.{Stand, ceil_div}
+use Rattle.page_model.specs.Arrangement.{live, home_pages, used_pages, pages_needed, IsSound}
+use Rattle.page_model.proofs.PageCounts.{slots_some, sound_stand}
+use Rattle.std.proofs.lemmas.Bool.{cases_lt}
+use Rattle.std.proofs.Common.{inl, inr, ap}
+
+-- what stands on h pages needs no more
+enough : (h n m k q : ℕ) → 0 < m → Stand h n m k q → ceil_div n m ≤ h
+enough h n m k q pos s =
+    let w = s.within in
+    let most = s.most in
+    let d : ceil_div n m * m + (n + (m - 1)) % m ≡ n + (m - 1) = div-add-mod' (n + (m - 1)) m in
+    let whole : h ≡ (h - q) + q = omega arith in
+    let parts : h * m ≡ ((h - q) + q) * m = ap (λ x. x * m) whole in
+    let less : q * (m - 1) ≤ q * m = mul-le q (m - 1) q m (omega arith) (omega arith) in
+    elim (cases_lt h (ceil_div n m)) [
+      | inl over ↦ (let more : (h + 1) * m ≤ ceil_div n m * m = mul-le (h + 1) m (ceil_div n m) m (omega arith) (omega arith) in absurd (omega arith))
+      | inr fine ↦ fine
+    ]
+
+sum_le : (f g : ℕ → ℕ) (a n : ℕ) → ((d : ℕ) → a ≤ d → d < a + n → f d ≤ g d) → sum_by f (range_with_len a n) ≤ sum_by g (range_with_len a n)
+sum_le f g a zero le = omega arith
+sum_le f g a (suc n) le =
+    let x = sum_by-cons f a (range_with_len (a + 1) n) in
+    let y = sum_by-cons g a (range_with_len (a + 1) n) in
+    let e = le a (omega arith) (omega arith) in
+    let rest = sum_le f g (a + 1) n (λ d l h. le d (omega arith) (omega arith)) in
+    omega arith
+
+pub needed_le_used : (p : Paging) (m : Held) → IsPaging p → IsSound p m → pages_needed p (objects m) ≤ used_pages p m
+unfolding used_pages pages_needed
+needed_le_used p m ok s = sum_le (λ c. ceil_div (live p (objects m) c) (slots_of p c)) (home_pages p m) 0 (classes p) (λ c l h.
+    enough (home_pages p m c) (live p (objects m) c) (slots_of p c) _ _ (slots_some p ok c (omega arith)) (sound_stand p ok c (omega arith) m s))
