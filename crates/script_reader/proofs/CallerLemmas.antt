@@ -1,8 +1,9 @@
 -- What a reader gives over calls of feed, finish and next_command.
 use Rattle.std.proofs.Common.{◌≡◌, ◌∙◌, ◌++◌, ℕ, Bool, true, false, List, [], ◌∷◌, Option, Some, None, refl, sym, ap, subst, append-nil, append_assoc}
 use Rattle.std.proofs.lemmas.Bool.{true≢false}
+use Rattle.cf_base.specs.Settings.{profile_of}
 use Rattle.script_reader.specs.ReaderCalls.{AreCalls, ReaderCall, answers, bytes_fed, feeds, finishes, is_finished, items_given}
-use Rattle.script_reader.specs.Items.{AreFirstOf, Item, items}
+use Rattle.script_reader.specs.Items.{Item, asks, bad, items, starts}
 use Rattle.script_reader.specs.Reading.{Answers, AnswersBad, Reading, fed_with, fresh, items_left}
 use Rattle.script_reader.specs.declared.next.Next.{Next}
 use Rattle.script_reader.specs.declared.next.Next.TheVariants.{Start, Command, NeedMore, Bad, End}
@@ -42,34 +43,49 @@ finished_left old e = go old.ended refl
     go true told = rw told refl
     go false open_end = rw (open_end, append-nil) refl
 
-first_of_same : (front all other : List Item) → all ≡ other → AreFirstOf front other → AreFirstOf front all
-first_of_same front all other same (rest, is) = (rest, same ∙ is)
+-- nothing is left after a bad line
+pub nothing_left : (r : Reading) (line : ℕ) (more : List ℕ) (e : Bool) → r.stopped ≡ Some line → items_left r more e ≡ []
+nothing_left r line more e over = rw over refl
 
-after_item : (item : Item) (front all other : List Item) → all ≡ item ∷ other → AreFirstOf front other → AreFirstOf (item ∷ front) all
-after_item item front all other same (rest, is) = (rest, same ∙ ap (λ (l : List Item). item ∷ l) is)
+bad_stays : (old : Reading) (o : Option ℕ) (before line : ℕ) (new : Reading) → o ≡ Some before → old.stopped ≡ Some before → AnswersBad old o line new → new.stopped ≡ Some before
+bad_stays old None before line new is over h = absurd cc
+bad_stays old (Some b) before line new is over (same, stays) = ap (λ (r : Reading). r.stopped) stays ∙ over
 
--- the answers up to the first bad line are the first of the items that were left
-pub given_first : (calls : List ReaderCall) (old now : Reading) → old.stopped ≡ None → AreCalls old calls now
-    → AreFirstOf (items_given calls) (items_left old (bytes_fed calls) (is_finished calls))
-given_first [] old now going are = (items_left old [] false, refl)
-given_first (feeds bytes ∷ rest) old now going (mid, (open_end, is), are) =
+-- after a bad line a reader gives it again, and nothing else
+still_over : (old : Reading) (next : Next) (new : Reading) (line : ℕ) → old.stopped ≡ Some line → Answers old next new → new.stopped ≡ Some line
+still_over old (Start settings) new line over (advances, first, opening, bounding) = absurd (let e = sym advances.going ∙ over in cc)
+still_over old (Command command) new line over (advances, fits, first, leads) = absurd (let e = sym advances.going ∙ over in cc)
+still_over old NeedMore new line over (passes, open_end, none, few, no_feed) = absurd (let e = sym passes.going ∙ over in cc)
+still_over old (Bad again) new line over h = bad_stays old old.stopped line again new over over h
+still_over old End new line over (passes, told, none, empty) = absurd (let e = sym passes.going ∙ over in cc)
+
+over_then : (calls : List ReaderCall) (old now : Reading) (line : ℕ) → old.stopped ≡ Some line → AreCalls old calls now → now.stopped ≡ Some line
+over_then [] old now line over are = ap (λ (r : Reading). r.stopped) are ∙ over
+over_then (feeds bytes ∷ rest) old now line over (mid, (open_end, is), are) = over_then rest mid now line (ap (λ (r : Reading). r.stopped) is ∙ over) are
+over_then (finishes ∷ rest) old now line over (mid, is, are) = over_then rest mid now line (ap (λ (r : Reading). r.stopped) is ∙ over) are
+over_then (answers next ∷ rest) old now line over (mid, is, are) = over_then rest mid now line (still_over old next mid line over is) are
+
+-- What was given up to the first bad line, and then what is left, are the items that were left.
+pub given_then_left : (calls : List ReaderCall) (old now : Reading) → old.stopped ≡ None → AreCalls old calls now
+    → items_left old (bytes_fed calls) (is_finished calls) ≡ items_given calls ++ items_left now [] false
+given_then_left [] old now going are = ap (λ (r : Reading). items_left r [] false) (sym are)
+given_then_left (feeds bytes ∷ rest) old now going (mid, (open_end, is), are) =
     let are2 = subst (λ (r : Reading). AreCalls r rest now) is are in
-    first_of_same _ _ _ (fed_left old bytes (bytes_fed rest) (is_finished rest) open_end) (given_first rest (fed_with old bytes) now going are2)
-given_first (finishes ∷ rest) old now going (mid, is, are) =
+    fed_left old bytes (bytes_fed rest) (is_finished rest) open_end ∙ given_then_left rest (fed_with old bytes) now going are2
+given_then_left (finishes ∷ rest) old now going (mid, is, are) =
     let are2 = subst (λ (r : Reading). AreCalls r rest now) is are in
     let nothing = fed_nothing rest (record old { ended = true }) now refl are2 in
-    let first = given_first rest (record old { ended = true }) now going are2 in
-    let first2 = subst (λ (more : List ℕ). AreFirstOf (items_given rest) (items_left (record old { ended = true }) more (is_finished rest))) nothing first in
-    subst (λ (more : List ℕ). AreFirstOf (items_given rest) (items_left old more true)) (sym nothing)
-    (first_of_same _ _ _ (finished_left old (is_finished rest)) first2)
-given_first (answers (Start settings) ∷ rest) old now going (mid, (advances, first, opening, bounding), are) =
-    after_item _ _ _ _ (first (bytes_fed rest) (is_finished rest)) (given_first rest mid now advances.still are)
-given_first (answers (Command command) ∷ rest) old now going (mid, (advances, fits, first, leads), are) =
-    after_item _ _ _ _ (first (bytes_fed rest) (is_finished rest)) (given_first rest mid now advances.still are)
-given_first (answers NeedMore ∷ rest) old now going (mid, (passes, open_end, none, few, no_feed), are) =
-    first_of_same _ _ _ (passes.left (bytes_fed rest) (is_finished rest)) (given_first rest mid now passes.still are)
-given_first (answers (Bad line) ∷ rest) old now going (mid, h, are) =
+    let left = given_then_left rest (record old { ended = true }) now going are2 in
+    ap (λ (more : List ℕ). items_left old more true) nothing ∙ finished_left old (is_finished rest)
+    ∙ ap (λ (more : List ℕ). items_left (record old { ended = true }) more (is_finished rest)) (sym nothing) ∙ left
+given_then_left (answers (Start settings) ∷ rest) old now going (mid, (advances, first, opening, bounding), are) =
+    first (bytes_fed rest) (is_finished rest) ∙ ap (λ (l : List Item). starts (profile_of settings) ∷ l) (given_then_left rest mid now advances.still are)
+given_then_left (answers (Command command) ∷ rest) old now going (mid, (advances, fits, first, leads), are) =
+    first (bytes_fed rest) (is_finished rest) ∙ ap (λ (l : List Item). asks command ∷ l) (given_then_left rest mid now advances.still are)
+given_then_left (answers NeedMore ∷ rest) old now going (mid, (passes, open_end, none, few, no_feed), are) =
+    passes.left (bytes_fed rest) (is_finished rest) ∙ given_then_left rest mid now passes.still are
+given_then_left (answers (Bad line) ∷ rest) old now going (mid, h, are) =
     let (first, stopped, number, same_end, same_fed, drops, same_stage) = subst (λ (o : Option ℕ). AnswersBad old o line mid) going h in
-    ([], first (bytes_fed rest) (is_finished rest))
-given_first (answers End ∷ rest) old now going (mid, (passes, told, none, empty), are) =
-    first_of_same _ _ _ (passes.left (bytes_fed rest) (is_finished rest)) (given_first rest mid now passes.still are)
+    first (bytes_fed rest) (is_finished rest) ∙ ap (λ (l : List Item). bad line ∷ l) (sym (nothing_left now line [] false (over_then rest mid now line stopped are)))
+given_then_left (answers End ∷ rest) old now going (mid, (passes, told, none, empty), are) =
+    passes.left (bytes_fed rest) (is_finished rest) ∙ given_then_left rest mid now passes.still are
