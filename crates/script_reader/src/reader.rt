@@ -1,8 +1,7 @@
 //! The reader of scripts.
 ghost use Rattle.std.specs.Prelude.{◌≡◌, ◌≤◌, ◌==◌, false, length, take, drop, position, MatchOption, None, true};
-ghost use Rattle.script_reader.specs.Commands.{is_idle};
 ghost use Rattle.script_reader.specs.Lines.{is_last_line};
-ghost use Rattle.script_reader.specs.Look.{Looks};
+ghost use Rattle.script_reader.specs.Look.{Looks, is_idle};
 ghost use Rattle.script_reader.specs.Reading.{Answers, HasNoLine, IsFirstLine, fed_with, fresh, holds_line_feed, taken};
 
 use crate::line::{LONGEST, is_idle as is_idle_line, read_line};
