@@ -60,7 +60,7 @@ still_over old (Bad again) new line over answer =
     let repeats = subst (λ (o : Option ℕ). AnswersBad old o again new) over answer in ap (λ (r : Reading). r.stopped) repeats.1 ∙ over
 still_over old End new line over answer = absurd (let e = sym answer.passes.reads.going ∙ over in cc)
 
-over_then : (calls : List ReaderCall) (old now : Reading) (line : ℕ) → old.stopped ≡ Some line → AreCalls old calls now → now.stopped ≡ Some line
+pub over_then : (calls : List ReaderCall) (old now : Reading) (line : ℕ) → old.stopped ≡ Some line → AreCalls old calls now → now.stopped ≡ Some line
 over_then [] old now line over are = ap (λ (r : Reading). r.stopped) are ∙ over
 over_then (feeds bytes ∷ rest) old now line over (mid, (open_end, is), are) = over_then rest mid now line (ap (λ (r : Reading). r.stopped) is ∙ over) are
 over_then (finishes ∷ rest) old now line over (mid, is, are) = over_then rest mid now line (ap (λ (r : Reading). r.stopped) is ∙ over) are
