@@ -17,7 +17,7 @@ use Rattle.script_reader.specs.declared.next.Next.TheVariants.{Start, Command, N
 use Rattle.script_reader.specs.declared.parsed_line.ParsedLine.{ParsedLine}
 use Rattle.script_reader.specs.declared.stage.Stage.{Stage}
 use Rattle.script_reader.specs.declared.stage.Stage.TheVariants.{Opening, Bounding, Running}
-use Rattle.script_reader.proofs.ItemLemmas.{behind_line, line_in_place, line_out_of_place, line_passed, lines_alone, lines_closed, no_items}
+use Rattle.script_reader.proofs.ItemLemmas.{behind_line, first_verdict, line_in_place, line_out_of_place, line_passed, lines_alone, lines_closed, no_items}
 
 -- ---- readings that follow one another
 
@@ -89,7 +89,8 @@ alone : (k : List ℕ) → 1 ≤ length k → cond (is_last_line true k) (k ∷ 
 alone [] some = absurd (omega arith)
 alone (x ∷ r) some = refl
 
-first_counted : (kept : List ℕ) (ended : Bool) (len at : ℕ) → IsFirstLine kept ended len at → length (lines kept true) ≡ suc (length (lines (drop at kept) true))
+first_counted : (kept : List ℕ) (ended : Bool) (len at : ℕ) → IsFirstLine kept ended len at
+    → length (lines kept true) ≡ suc (length (lines (drop at kept) true))
 first_counted kept ended len at first = go first.cut
   where
     go : ((kept ≡ take len kept ++ (10 ∷ drop at kept)) × (holds_line_feed (take len kept) ≡ false))
@@ -144,7 +145,8 @@ tokens_told (word ∷ args) told = rw told (some_said (item_in word args))
 told_is_said : (line : List ℕ) → is_idle line ≡ false → line_says line ≡ item_or_wrong (item_said (line_says line))
 told_is_said line told = go (is_too_long line) refl told
   where
-    go : (b : Bool) → is_too_long line ≡ b → cond b false (are_idle (tokens (without_return line))) ≡ false → line_says line ≡ item_or_wrong (item_said (line_says line))
+    go : (b : Bool) → is_too_long line ≡ b → cond b false (are_idle (tokens (without_return line))) ≡ false
+        → line_says line ≡ item_or_wrong (item_said (line_says line))
     go true long told = rw long refl
     go false short told = rw short (tokens_told (tokens (without_return line)) told)
 
@@ -163,7 +165,7 @@ pub step_idle : (old : Reading) (kept : List ℕ) (len at : ℕ) → old.stopped
 step_idle old kept len at going same first idle =
     let first2 = subst (λ (k : List ℕ). IsFirstLine k old.ended len at) same first in
     let idle2 = subst (λ (k : List ℕ). is_idle (take len k) ≡ true) same idle in
-    let is : verdict old.stage (line_says (take len old.kept)) ≡ passes = ap (verdict old.stage) (idle_says_nothing (take len old.kept) idle2) in (
+    let is : first_verdict old len ≡ passes = ap (verdict old.stage) (idle_says_nothing (take len old.kept) idle2) in (
       record {
         reads = one_line old len at going first2 old.stage old.stopped [] (line_passed old len at going first2 is);
         still = going;
@@ -178,21 +180,24 @@ opens_first Opening new leads = (refl, cc)
 opens_first Bounding new leads = absurd cc
 opens_first Running new leads = absurd cc
 
-module _ (old : Reading) (kept : List ℕ) (len at : ℕ) (answer : Next) (going : old.stopped ≡ None) (same : kept ≡ old.kept) (first : IsFirstLine old.kept old.ended len at)
-    (told : is_idle (take len old.kept) ≡ false) (says : item_answered answer ≡ item_said (line_says (take len kept))) where
+module _ (old : Reading) (kept : List ℕ) (len at : ℕ) (answer : Next) (going : old.stopped ≡ None) (same : kept ≡ old.kept)
+    (first : IsFirstLine old.kept old.ended len at) (told : is_idle (take len old.kept) ≡ false) (says : item_answered answer ≡ item_said (line_says (take len kept))) where
   line_is : line_says (take len old.kept) ≡ item_or_wrong (item_answered answer)
-  line_is = told_is_said (take len old.kept) told ∙ ap item_or_wrong (sym (subst (λ (k : List ℕ). item_answered answer ≡ item_said (line_says (take len k))) same says))
+  line_is =
+      let says2 = subst (λ (k : List ℕ). item_answered answer ≡ item_said (line_says (take len k))) same says in
+      told_is_said (take len old.kept) told ∙ ap item_or_wrong (sym says2)
 
   -- the answer to a line that is in its place
-  pub step_in_place : (stage : Stage) → IsInRange answer → Some stage ≡ option_and_then (stage_after old.stage) (item_answered answer) → Answers old answer (behind_line old at stage)
+  pub step_in_place : (stage : Stage) → IsInRange answer → Some stage ≡ option_and_then (stage_after old.stage) (item_answered answer)
+      → Answers old answer (behind_line old at stage)
   step_in_place stage fits place = go answer fits line_is place
     where
       one_item : (i : Item) → line_says (take len old.kept) ≡ item i → Some stage ≡ stage_after old.stage i → Reads old (i ∷ []) (behind_line old at stage)
       one_item i is place = one_line old len at going first stage old.stopped (i ∷ [])
           (line_in_place old len at going first i stage (ap (verdict old.stage) is ∙ ap (gives_or_breaks i) (sym place)))
 
-      go : (n : Next) → IsInRange n → line_says (take len old.kept) ≡ item_or_wrong (item_answered n) → Some stage ≡ option_and_then (stage_after old.stage) (item_answered n)
-          → Answers old n (behind_line old at stage)
+      go : (n : Next) → IsInRange n → line_says (take len old.kept) ≡ item_or_wrong (item_answered n)
+          → Some stage ≡ option_and_then (stage_after old.stage) (item_answered n) → Answers old n (behind_line old at stage)
       go (Start settings) fits is place = let at_stage = opens_first old.stage stage place in record {
         reads = one_item (starts (profile_of settings)) is place;
         still = going;
@@ -215,15 +220,19 @@ module _ (old : Reading) (kept : List ℕ) (len at : ℕ) (answer : Next) (going
   pub step_out_of_place : None ≡ option_and_then (stage_after old.stage) (item_answered answer)
       → AnswersBad old old.stopped (old.passed + 1) (record (behind_line old at old.stage) { stopped = Some (old.passed + 1) })
   step_out_of_place place =
-      subst (λ (o : Option ℕ). AnswersBad old o (old.passed + 1) (record (behind_line old at old.stage) { stopped = Some (old.passed + 1) })) (sym going) (record {
-        reads = one_line old len at going first old.stage (Some (old.passed + 1)) (bad (old.passed + 1) ∷ []) (line_out_of_place old len at going first (go (item_answered answer) line_is place));
+      let line = old.passed + 1 in
+      let new : Reading = record (behind_line old at old.stage) { stopped = Some line } in
+      let broken = go (item_answered answer) line_is place in
+      let stops : StopsAt old line new = record {
+        reads = one_line old len at going first old.stage (Some line) (bad line ∷ []) (line_out_of_place old len at going first broken);
         stopped = refl;
         number = refl;
         same_stage = refl;
-      })
+      } in
+      subst (λ (o : Option ℕ). AnswersBad old o line new) (sym going) stops
     where
       go : (o : Option Item) → line_says (take len old.kept) ≡ item_or_wrong o → None ≡ option_and_then (stage_after old.stage) o
-          → verdict old.stage (line_says (take len old.kept)) ≡ breaks
+          → first_verdict old len ≡ breaks
       go None is place = ap (verdict old.stage) is
       go (Some i) is place = ap (verdict old.stage) is ∙ ap (gives_or_breaks i) (sym place)
 

@@ -80,7 +80,8 @@ given_then_left (finishes ∷ rest) old now going (mid, is, are) =
     ap (λ (more : List ℕ). items_left old more true) nothing ∙ finished_left old (is_finished rest)
     ∙ ap (λ (more : List ℕ). items_left (record old { ended = true }) more (is_finished rest)) (sym nothing) ∙ left
 given_then_left (answers (Start settings) ∷ rest) old now going (mid, answer, are) =
-    answer.reads.left (bytes_fed rest) (is_finished rest) ∙ ap (λ (l : List Item). starts (profile_of settings) ∷ l) (given_then_left rest mid now answer.still are)
+    answer.reads.left (bytes_fed rest) (is_finished rest)
+    ∙ ap (λ (l : List Item). starts (profile_of settings) ∷ l) (given_then_left rest mid now answer.still are)
 given_then_left (answers (Command command) ∷ rest) old now going (mid, answer, are) =
     answer.reads.left (bytes_fed rest) (is_finished rest) ∙ ap (λ (l : List Item). asks command ∷ l) (given_then_left rest mid now answer.still are)
 given_then_left (answers NeedMore ∷ rest) old now going (mid, answer, are) =

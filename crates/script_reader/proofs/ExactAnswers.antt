@@ -31,7 +31,8 @@ stopped_is (finishes ∷ rest) old now going (mid, is, are) = stopped_is rest mi
 stopped_is (answers (Start settings) ∷ rest) old now going (mid, answer, are) = stopped_is rest mid now answer.still are
 stopped_is (answers (Command command) ∷ rest) old now going (mid, answer, are) = stopped_is rest mid now answer.still are
 stopped_is (answers NeedMore ∷ rest) old now going (mid, answer, are) = stopped_is rest mid now answer.passes.still are
-stopped_is (answers (Bad line) ∷ rest) old now going (mid, answer, are) = ap is_some (over_then rest mid now line (bad_now old line mid going answer).stopped are)
+stopped_is (answers (Bad line) ∷ rest) old now going (mid, answer, are) =
+    ap is_some (over_then rest mid now line (bad_now old line mid going answer).stopped are)
 stopped_is (answers End ∷ rest) old now going (mid, answer, are) = stopped_is rest mid now answer.passes.still are
 
 none_is : (o : Option ℕ) → is_some o ≡ false → o ≡ None
@@ -55,7 +56,8 @@ module _ (calls : List ReaderCall) (now new : Reading) (are : AreCalls fresh cal
   none_left : AllGiven calls → items_left now [] false ≡ []
   none_left all = left_is [] (all.given ∙ sym (append-nil (items_given calls)))
 
-  by_answer : (next : Next) → Answers now next new → now.stopped ≡ None → items_left now [] false ≡ [] → (now.ended ≡ false → next ≡ NeedMore) × (now.ended ≡ true → next ≡ End)
+  by_answer : (next : Next) → Answers now next new → now.stopped ≡ None → items_left now [] false ≡ []
+      → (now.ended ≡ false → next ≡ NeedMore) × (now.ended ≡ true → next ≡ End)
   by_answer (Start settings) answer going none = absurd (let e = sym (answer.reads.left [] false) ∙ none in cc)
   by_answer (Command command) answer going none = absurd (let e = sym (answer.reads.left [] false) ∙ none in cc)
   by_answer (Bad line) answer going none = absurd (let e = sym ((bad_now now line new going answer).reads.left [] false) ∙ none in cc)
@@ -100,4 +102,6 @@ module _ (calls : List ReaderCall) (now new : Reading) (are : AreCalls fresh cal
       back (Command command) answer is = absurd (let e = sym (answer.reads.left [] false) ∙ is in cc)
       back (Bad other) answer is = let e = sym ((bad_now now other new (going_on none) answer).reads.left [] false) ∙ is in cc
       back NeedMore answer is = absurd (let e = sym answer.none_left ∙ is in cc)
-      back End answer is = absurd (let same : items_left now [] false ≡ items_left now [] true = rw answer.told refl in let e = sym answer.none_left ∙ sym same ∙ is in cc)
+      back End answer is = absurd (
+          let same : items_left now [] false ≡ items_left now [] true = rw answer.told refl in
+          let e = sym answer.none_left ∙ sym same ∙ is in cc)

@@ -2,7 +2,7 @@
 use Rattle.std.proofs.Common.{◌≡◌, ◌∙◌, ◌+◌, ◌==◌, ◌||◌, ◌++◌, ◌⊎◌, inl, inr, ℕ, Bool, true, false, cond, List, [], ◌∷◌, Some, None, length, take, drop, refl, sym, ap, arith, append_assoc, append-nil, length-append}
 use Rattle.std.proofs.lemmas.Bool.{false≢true, lt-ltb, ltb-true}
 use Rattle.std.proofs.lemmas.List.{take_all, drop_all}
-use Rattle.script_reader.specs.Items.{Item, Saying, bad, breaks, gives, items_at, items_by, line_says, passes, verdict, wrong}
+use Rattle.script_reader.specs.Items.{Item, Verdict, bad, breaks, gives, items_at, items_by, line_says, passes, verdict, wrong}
 use Rattle.script_reader.specs.Lines.{is_last_line, is_too_long, lines, lines_among, onto_first, stretches}
 use Rattle.script_reader.specs.Reading.{HasNoLine, IsFirstLine, Reading, holds_line_feed, items_left, to_come}
 use Rattle.script_reader.specs.declared.stage.Stage.{Stage}
@@ -109,14 +109,18 @@ no_items kept ended h n stage =
 abbrev pub behind_line : Reading → ℕ → Stage → Reading
 behind_line old at next = record old { kept = drop at old.kept; passed = old.passed + 1; stage = next }
 
+-- the verdict on the first line, of this length
+abbrev pub first_verdict : Reading → ℕ → Verdict
+first_verdict old len = verdict old.stage (line_says (take len old.kept))
+
 -- the items from the first line on, by its verdict
 module _ (old : Reading) (len at : ℕ) (going : old.stopped ≡ None) (first : IsFirstLine old.kept old.ended len at) where
-  pub line_passed : verdict old.stage (line_says (take len old.kept)) ≡ passes → (more : List ℕ) (e : Bool) → items_left old more e ≡ items_left (behind_line old at old.stage) more e
+  pub line_passed : first_verdict old len ≡ passes → (more : List ℕ) (e : Bool) → items_left old more e ≡ items_left (behind_line old at old.stage) more e
   line_passed is more e = let items = first_items old.kept old.ended len at first more e old.passed old.stage in rw going (items ∙ rw is refl)
 
-  pub line_in_place : (item : Item) (next : Stage) → verdict old.stage (line_says (take len old.kept)) ≡ gives item next → (more : List ℕ) (e : Bool)
+  pub line_in_place : (item : Item) (next : Stage) → first_verdict old len ≡ gives item next → (more : List ℕ) (e : Bool)
       → items_left old more e ≡ item ∷ items_left (behind_line old at next) more e
   line_in_place item next is more e = let items = first_items old.kept old.ended len at first more e old.passed old.stage in rw going (items ∙ rw is refl)
 
-  pub line_out_of_place : verdict old.stage (line_says (take len old.kept)) ≡ breaks → (more : List ℕ) (e : Bool) → items_left old more e ≡ bad (old.passed + 1) ∷ []
+  pub line_out_of_place : first_verdict old len ≡ breaks → (more : List ℕ) (e : Bool) → items_left old more e ≡ bad (old.passed + 1) ∷ []
   line_out_of_place is more e = let items = first_items old.kept old.ended len at first more e old.passed old.stage in rw going (items ∙ rw is refl)

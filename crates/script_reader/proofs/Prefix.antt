@@ -73,7 +73,8 @@ among_first (l ∷ []) t e n stage = go (is_last_line false l) refl
         let long = long_by_rest l is in
         ([], long_goes_on l t e n stage long ∙ sym (ap (λ (i : List Item). i ++ []) (long_is_bad l [] n stage long)))
 among_first (l ∷ k ∷ ls) t e n stage =
-    let first = by_first (verdict stage (line_says l)) n stage (items_at (lines_among false (k ∷ ls)) (n + 1)) (items_at (lines_among e (glued (k ∷ ls) t)) (n + 1))
+    let first = by_first (verdict stage (line_says l)) n stage
+    (items_at (lines_among false (k ∷ ls)) (n + 1)) (items_at (lines_among e (glued (k ∷ ls) t)) (n + 1))
     (λ next. among_first (k ∷ ls) t e (n + 1) next) in
     (first.0, ap (λ (s : List (List ℕ)). items_at s n stage) (among_more e l (glued (k ∷ ls) t) (some_glued k ls t)) ∙ first.1)
 

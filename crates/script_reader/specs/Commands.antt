@@ -206,7 +206,7 @@ word_command word args =
     else (if bytes_eq word (codes "need") then need_in args
     else (if bytes_eq word (codes "admit") then admit_in args else None)))))
 
--- the command of a word and what stands behind it
+-- the command of a word and the tokens after it
 abbrev pub command_of : List ℕ → List (List ℕ) → Option Command
 command_of (letter ∷ []) args = letter_command letter args
 command_of word args = word_command word args

@@ -36,7 +36,7 @@ is_finished (feeds bytes ∷ rest) = is_finished rest
 is_finished (finishes ∷ rest) = true
 is_finished (answers next ∷ rest) = is_finished rest
 
--- the answer, where it is an item, in front of the items after it; nothing comes after a bad line
+-- the answer, where it is an item, and then the items after it; nothing comes after a bad line
 abbrev pub given_then : Next → List Item → List Item
 given_then (Start settings) after = starts (profile_of settings) ∷ after
 given_then (Command command) after = asks command ∷ after

@@ -1,4 +1,4 @@
--- What the reader still has to say.
+-- What a reader was fed and keeps, which items it still has, and what each answer says of them.
 use Rattle.std.specs.Prelude.{◌≡◌, ◌<◌, ◌≤◌, ◌+◌, ◌-◌, ◌==◌, ◌||◌, ◌⊎◌, ◌++◌, ℕ, Bool, true, false, List, [], ◌∷◌, Option, Some, None, is_some, length, take, drop, min, if◌then◌else◌}
 use Rattle.std.specs.List.{list_any}
 use Rattle.cf_base.specs.Settings.{profile_of}
@@ -54,8 +54,8 @@ items_left r more ended = if is_some r.stopped then []
 abbrev pub holds_line_feed : List ℕ → Bool
 holds_line_feed = list_any (λ x. x == 10)
 
--- A front of the kept bytes was read, in which these items stand. Its lines were counted, and whatever
--- comes next, the items left are these and then those that the new reading has left.
+-- A prefix of the kept bytes was read, which holds these items. Its lines were counted, and whatever comes
+-- next, the items left are these and then those that the new reading has left.
 pub record Reads (old : Reading) (first : List Item) (new : Reading) : Type 0 where
   pub going : old.stopped ≡ None
   pub front : List ℕ

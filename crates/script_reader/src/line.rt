@@ -230,7 +230,7 @@ fn word_command<'a>(word: &[u8], args: &'a [u8]) -> Option<ParsedLine<'a>>
     }
 }
 
-/// The command of a word and what stands behind it.
+/// The command of a word and the tokens after it.
 fn command_of<'a>(word: &[u8], args: &'a [u8]) -> Option<ParsedLine<'a>>
     ensures value { item_if_parsed result ≡ option_map asks (grammar.command_of word.now (tokens args.now)) }
     ensures fits { IfSome result IsValidLine }
