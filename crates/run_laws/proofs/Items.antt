@@ -15,14 +15,14 @@ use Rattle.cf_base.specs.declared.settings.SettingFault.{SettingFault}
 use Rattle.cf_base.specs.declared.settings.SettingFault.TheVariants.{Pages, PageBytes, Bound as BoundFault, Proxies, Region}
 use Rattle.cf_io.specs.Numbers.{number_in}
 use Rattle.cf_model.specs.Rules.{AreInRange}
-use Rattle.script_reader.specs.Commands.{Saying, nothing, opens, asked, wrong, IsWellFormed, admit_in, alone_in, asked_or_wrong, block_command_in, bound_command_in, bound_in, bytes_in, command_of, four_of, free_in, id_and_number, id_in, id_number_and_length, id_number_and_text, is_comment, length_in, letter_command, line_says, malloc_in, need_in, none_of, number_and_bound, number_from, one_id, one_number, one_of, one_task, opens_or_wrong, peek_in, place_command_in, quota_in, read_in, resize_in, settings_if, settings_in, task_and_number, task_and_numbers, task_command_in, task_in, three_of, tokens_say, two_of, word_command, write_in, ◌>>=◌}
-use Rattle.script_reader.specs.Items.{Item, items, items_at, items_by, stage_after}
+use Rattle.script_reader.specs.Commands.{IsWellFormed, admit_in, alone_in, block_command_in, bound_command_in, bound_in, bytes_in, command_of, four_of, free_in, id_and_number, id_in, id_number_and_length, id_number_and_text, length_in, letter_command, malloc_in, need_in, none_of, number_and_bound, number_from, one_id, one_number, one_of, one_task, peek_in, place_command_in, quota_in, read_in, resize_in, settings_if, settings_in, task_and_number, task_and_numbers, task_command_in, task_in, three_of, two_of, word_command, write_in, ◌>>=◌}
+use Rattle.script_reader.specs.Items.{Item, Saying, asks, gives_or_breaks, is_comment, item, item_in, item_or_wrong, items, items_at, items_by, line_says, nothing, stage_after, starts, tokens_say, verdict, wrong}
 use Rattle.script_reader.specs.Lines.{is_too_long, lines, tokens, without_return}
 use Rattle.script_reader.specs.declared.command.Command.{Command}
 use Rattle.script_reader.specs.declared.command.Command.TheVariants.{Malloc, Free, Write, Read, Place, Block, Peek, Walk, Frag, Steps, Bound, Resize, Slice, Task, Quota, Need, Admit}
 use Rattle.script_reader.specs.declared.stage.Stage.{Stage}
 use Rattle.script_reader.specs.declared.stage.Stage.TheVariants.{Opening}
-use Rattle.run_laws.specs.Sayable.{AreSayable, HasBytes, IsSayable}
+use Rattle.run_laws.specs.Sayable.{AreSayable, HasBytes, IsSayable, IsSayableItem}
 
 -- what is there, if something is, is of the sort
 record OfSort {A : Type 0} (P : A → Type 0) (o : Option A) : Type 0 where
@@ -267,17 +267,17 @@ can_open args = bound_any AreInRange _ (four_of args) (λ p. bound_any AreInRang
 
 -- lines
 abbrev CanSay : Saying → Type 0
-CanSay (opens p) = AreInRange p
-CanSay (asked c) = IsSayable c
+CanSay (item i) = IsSayableItem i
 CanSay saying = ⊤
 
-says_settings : (o : Option Profile) → OfSort AreInRange o → CanSay (opens_or_wrong o)
-says_settings None is = tt
-says_settings (Some p) is = is.each p refl
+can_item : (word : List ℕ) (args : List (List ℕ)) → OfSort IsSayableItem (item_in word args)
+can_item word args = either IsSayableItem (bytes_eq word (codes "heap")) (option_map starts (settings_in args)) (option_map asks (command_of word args))
+    (mapped AreInRange IsSayableItem starts (settings_in args) (can_open args) (λ p is. is))
+    (mapped IsSayable IsSayableItem asks (command_of word args) (can_command word args) (λ c is. is))
 
-says_command : (o : Option Command) → Can o → CanSay (asked_or_wrong o)
-says_command None is = tt
-says_command (Some c) is = is.each c refl
+says_item : (o : Option Item) → OfSort IsSayableItem o → CanSay (item_or_wrong o)
+says_item None is = tt
+says_item (Some i) is = is.each i refl
 
 says : (b : Bool) (x y : Saying) → CanSay x → CanSay y → CanSay (cond b x y)
 says true x y first second = first
@@ -285,22 +285,25 @@ says false x y first second = second
 
 can_tokens : (ts : List (List ℕ)) → CanSay (tokens_say ts)
 can_tokens [] = tt
-can_tokens (word ∷ args) = says (is_comment word) nothing _ tt (says (bytes_eq word (codes "heap")) (opens_or_wrong (settings_in args)) (asked_or_wrong (command_of word args)) (says_settings (settings_in args) (can_open args)) (says_command (command_of word args) (can_command word args)))
+can_tokens (word ∷ args) = says (is_comment word) nothing (item_or_wrong (item_in word args)) tt (says_item (item_in word args) (can_item word args))
 
 can_line : (line : List ℕ) → CanSay (line_says line)
 can_line line = says (is_too_long line) wrong (tokens_say (tokens (without_return line))) tt (can_tokens (tokens (without_return line)))
 
 -- items
-can_follow : (o : Option Stage) (saying : Saying) (n : ℕ) (after : Stage → List Item) → CanSay saying → ((next : Stage) → AreSayable (after next)) → AreSayable (items_by o saying n after)
-can_follow None saying n after can rest = (tt, tt)
-can_follow (Some next) nothing n after can rest = rest next
-can_follow (Some next) (opens p) n after can rest = (can, rest next)
-can_follow (Some next) (asked c) n after can rest = (can, rest next)
-can_follow (Some next) wrong n after can rest = rest next
+can_follow : (stage : Stage) (saying : Saying) (n : ℕ) (after : Stage → List Item) → CanSay saying → ((next : Stage) → AreSayable (after next))
+    → AreSayable (items_by (verdict stage saying) n stage after)
+can_follow stage nothing n after can rest = rest stage
+can_follow stage wrong n after can rest = (tt, tt)
+can_follow stage (item i) n after can rest = go (stage_after stage i)
+  where
+    go : (o : Option Stage) → AreSayable (items_by (gives_or_breaks i o) n stage after)
+    go None = (tt, tt)
+    go (Some next) = (can, rest next)
 
 lines_sayable : (all : List (List ℕ)) (n : ℕ) (stage : Stage) → AreSayable (items_at all n stage)
 lines_sayable [] n stage = tt
-lines_sayable (line ∷ rest) n stage = can_follow (stage_after stage (line_says line)) (line_says line) n (items_at rest (n + 1)) (can_line line) (λ next. lines_sayable rest (n + 1) next)
+lines_sayable (line ∷ rest) n stage = can_follow stage (line_says line) n (items_at rest (n + 1)) (can_line line) (λ next. lines_sayable rest (n + 1) next)
 
 -- the items of a script can be said
 pub items_sayable : (g : List ℕ) (ended : Bool) → AreSayable (items g ended)

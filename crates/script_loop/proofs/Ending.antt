@@ -12,7 +12,7 @@ use Rattle.cf_model.specs.State.{HeapState}
 use Rattle.cf_model.specs.Steps.{IsClosed}
 use Rattle.script_reader.specs.Items.{Item, items}
 use Rattle.script_reader.specs.Reading.{Reading, fresh, items_left}
-use Rattle.script_reader.proofs.CallerLemmas.{finished_left}
+use Rattle.script_reader.proofs.CallerLemmas.{finished_left, nothing_left}
 use Rattle.script_reader.specs.declared.stage.Stage.TheVariants.{Opening}
 use Rattle.run_model.specs.Runs.{ItemStep, Run}
 use Rattle.run_model.specs.Sessions.{RunState}
@@ -24,7 +24,7 @@ use Rattle.script_loop.specs.Going.{Answered, CutOff, IsWaiting, WasWanting}
 use Rattle.script_loop.specs.ScriptOutcome.{Effects, HasOutcome, HasOutcomeOf, IsFrontOfWhole, MOST_BYTES, Printed, Prints, PrintsFront, has_bad, items_within}
 use Rattle.script_loop.specs.Players.{Player, progress, run_of}
 use Rattle.script_loop.proofs.Feeding.{appended_none}
-use Rattle.script_loop.proofs.Going.{bad_then, nothing_left, one_run}
+use Rattle.script_loop.proofs.Going.{bad_then, one_run}
 
 -- a player at the start of a script
 abbrev pub starting : RunState → Player

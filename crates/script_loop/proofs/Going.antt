@@ -9,9 +9,9 @@ use Rattle.cf_base.specs.declared.settings.Settings.{Settings}
 use Rattle.cf_io.specs.Feeds.{appended}
 use Rattle.cf_model.specs.State.{HeapState}
 use Rattle.cf_model.specs.Steps.{IsEmptyHeap}
-use Rattle.script_reader.proofs.CallerLemmas.{fed_left}
+use Rattle.script_reader.proofs.CallerLemmas.{bad_now, fed_left, nothing_left}
 use Rattle.script_reader.specs.Items.{Item, asks, bad, is_bound, stage_behind, starts}
-use Rattle.script_reader.specs.Reading.{Answers, AnswersBad, PassesOver, Reading, fed_with, items_left}
+use Rattle.script_reader.specs.Reading.{Answers, PassesOver, Reading, fed_with, items_left}
 use Rattle.script_reader.specs.declared.command.Command.{Command}
 use Rattle.script_reader.specs.declared.next.Next.TheVariants as next
 use Rattle.script_reader.specs.declared.stage.Stage.{Stage}
@@ -108,7 +108,7 @@ answered_blank r r' s passes = record {
   run = (refl, ap (λ (a : Stage). run_in a s) passes.same_stage);
   text_is = refl;
   stops = refl;
-  left = passes.left;
+  left = passes.reads.left;
   kind = refl;
   untouched = λ at. (sym passes.same_stage ∙ at, refl);
   silent = λ is at. refl;
@@ -118,13 +118,13 @@ pub ready_blank : (r r' : Reading) (s : RunState) → PassesOver r r' → IsRead
 ready_blank r r' s passes ready = subst (λ (a : Stage). IsReadyAt a s) (sym passes.same_stage) ready
 
 pub waits_for_more : (r r' : Reading) → Answers r next.NeedMore r' → IsWaiting r'
-waits_for_more r r' (passes, open_end, none, few, no_feed) = record { going = passes.still; quiet = sym (passes.left [] false) ∙ none; room = λ _. few }
+waits_for_more r r' answer = record { going = answer.passes.still; quiet = sym (answer.passes.reads.left [] false) ∙ answer.none_left; room = λ _. answer.few }
 
 pub waits_for_nothing : (r r' : Reading) → Answers r next.End r' → IsWaiting r'
-waits_for_nothing r r' (passes, told, none, empty) = record {
-  going = passes.still;
-  quiet = sym (passes.left [] false) ∙ (let same : items_left r [] false ≡ items_left r [] true = rw told refl in same ∙ none);
-  room = λ is. absurd (true≢false (sym told ∙ sym passes.same_end ∙ is));
+waits_for_nothing r r' answer = record {
+  going = answer.passes.still;
+  quiet = sym (answer.passes.reads.left [] false) ∙ (let same : items_left r [] false ≡ items_left r [] true = rw answer.told refl in same ∙ answer.none_left);
+  room = λ is. absurd (true≢false (sym answer.told ∙ sym answer.passes.reads.same_end ∙ is));
 }
 
 -- the heap line
@@ -150,21 +150,21 @@ bounding_opening b leads at = absurd (let e : Bounding ≡ Opening = sym leads �
 
 pub answered_open : (old new : Player) (settings : Settings) → Answers old.reading (next.Start settings) new.reading → Begins old.state.heap.kind (profile_of settings) new.state
     → Answered old [] new (led [] (said (codes "ok"))) false
-answered_open old new settings (advances, first, opening, bounding) begun = record {
+answered_open old new settings answer begun = record {
   done = starts (profile_of settings) ∷ [];
   replies = said (codes "ok") ∷ [];
-  run = one_run old.state.heap.kind (run_of old) (run_of new) (starts (profile_of settings)) (said (codes "ok")) (open_step old.state.heap.kind _ _ _ old.state new.state opening bounding begun);
+  run = one_run old.state.heap.kind (run_of old) (run_of new) (starts (profile_of settings)) (said (codes "ok")) (open_step old.state.heap.kind _ _ _ old.state new.state answer.opening answer.bounding begun);
   text_is = sym (append-nil (led [] (said (codes "ok"))));
   stops = refl;
-  left = first;
+  left = answer.reads.left;
   kind = ap (λ (h : HeapState). h.kind) begun.heap;
-  untouched = λ at. absurd (bounding_opening _ bounding at);
-  silent = λ is at. absurd (bounding_opening _ bounding at);
+  untouched = λ at. absurd (bounding_opening _ answer.bounding at);
+  silent = λ is at. absurd (bounding_opening _ answer.bounding at);
 }
 
 pub cut_open : (old new : Player) (settings : Settings) (front lost : List ℕ) → Answers old.reading (next.Start settings) new.reading → Begins old.state.heap.kind (profile_of settings) new.state
     → led [] (said (codes "ok")) ≡ front ++ lost → CutOff old [] new front
-cut_open old new settings front lost (advances, first, opening, bounding) begun cut = record {
+cut_open old new settings front lost answer begun cut = record {
   done = [];
   replies = [];
   mid = run_of old;
@@ -173,11 +173,11 @@ cut_open old new settings front lost (advances, first, opening, bounding) begun 
   front = front;
   lost = lost;
   run = (refl, refl);
-  step = open_step old.state.heap.kind _ _ _ old.state new.state opening bounding begun;
+  step = open_step old.state.heap.kind _ _ _ old.state new.state answer.opening answer.bounding begun;
   cut = cut;
   out_is = refl;
-  left = λ more ended. (items_left new.reading more ended, first more ended);
-  untouched = λ at. absurd (bounding_opening _ bounding at);
+  left = λ more ended. (items_left new.reading more ended, answer.reads.left more ended);
+  untouched = λ at. absurd (bounding_opening _ answer.bounding at);
 }
 
 -- a command
@@ -189,21 +189,21 @@ command_step kind c reply a b s t leads turn =
 
 pub answered_command : (old new : Player) (c : Command) (reply : Reply) → Answers old.reading (next.Command c) new.reading → IsReady old → Turn old.state c reply new.state
     → Answered old [] new (led [] reply) false
-answered_command old new c reply (advances, formed, first, leads) ready turn = record {
+answered_command old new c reply answer ready turn = record {
   done = asks c ∷ [];
   replies = reply ∷ [];
-  run = one_run old.state.heap.kind (run_of old) (run_of new) (asks c) reply (command_step old.state.heap.kind c reply _ _ old.state new.state leads turn);
+  run = one_run old.state.heap.kind (run_of old) (run_of new) (asks c) reply (command_step old.state.heap.kind c reply _ _ old.state new.state answer.leads turn);
   text_is = sym (append-nil (led [] reply));
   stops = refl;
-  left = first;
-  kind = (step_same old.state new.state c reply (going_at _ _ _ old.state leads ready).rules turn.step).kind;
-  untouched = λ at. absurd (never_opening _ _ _ leads at);
-  silent = λ is at. absurd (never_opening _ _ _ leads at);
+  left = answer.reads.left;
+  kind = (step_same old.state new.state c reply (going_at _ _ _ old.state answer.leads ready).rules turn.step).kind;
+  untouched = λ at. absurd (never_opening _ _ _ answer.leads at);
+  silent = λ is at. absurd (never_opening _ _ _ answer.leads at);
 }
 
 pub cut_command : (old new : Player) (c : Command) (reply : Reply) (front lost : List ℕ) → Answers old.reading (next.Command c) new.reading → Turn old.state c reply new.state
     → led [] reply ≡ front ++ lost → CutOff old [] new front
-cut_command old new c reply front lost (advances, formed, first, leads) turn cut = record {
+cut_command old new c reply front lost answer turn cut = record {
   done = [];
   replies = [];
   mid = run_of old;
@@ -212,11 +212,11 @@ cut_command old new c reply front lost (advances, formed, first, leads) turn cut
   front = front;
   lost = lost;
   run = (refl, refl);
-  step = command_step old.state.heap.kind c reply _ _ old.state new.state leads turn;
+  step = command_step old.state.heap.kind c reply _ _ old.state new.state answer.leads turn;
   cut = cut;
   out_is = refl;
-  left = λ more ended. (items_left new.reading more ended, first more ended);
-  untouched = λ at. absurd (never_opening _ _ _ leads at);
+  left = λ more ended. (items_left new.reading more ended, answer.reads.left more ended);
+  untouched = λ at. absurd (never_opening _ _ _ answer.leads at);
 }
 
 -- a bad line
@@ -227,32 +227,29 @@ bad_step kind (Some s) n = (refl, refl)
 bad_step_at : (kind : Kind) (a b : Stage) (s : RunState) (n : ℕ) → b ≡ a → ItemStep kind (run_in a s) (bad n) (said (bad_line n)) (run_in b s)
 bad_step_at kind a b s n same = subst (λ (z : Stage). ItemStep kind (run_in a s) (bad n) (said (bad_line n)) (run_in z s)) (sym same) (bad_step kind (run_in a s) n)
 
-pub nothing_left : (r : Reading) (line : ℕ) (more : List ℕ) (ended : Bool) → r.stopped ≡ Some line → items_left r more ended ≡ []
-nothing_left r line more ended over = rw over refl
-
 pub bad_is_over : (r r' : Reading) (line : ℕ) → r.stopped ≡ None → Answers r (next.Bad line) r' → r'.stopped ≡ Some line
-bad_is_over r r' line going h = (subst (λ (o : Option ℕ). AnswersBad r o line r') going h).1
+bad_is_over r r' line going h = (bad_now r line r' going h).stopped
 
 pub answered_bad : (r r' : Reading) (s : RunState) (line : ℕ) → r.stopped ≡ None → Answers r (next.Bad line) r'
     → Answered (record { reading = r; state = s }) [] (record { reading = r'; state = s }) (led [] (said (bad_line line))) true
 answered_bad r r' s line going h =
-    let (first, stopped, number, same_end, same_fed, drops, same_stage) = subst (λ (o : Option ℕ). AnswersBad r o line r') going h in
+    let stops = bad_now r line r' going h in
     record {
       done = bad line ∷ [];
       replies = said (bad_line line) ∷ [];
-      run = one_run s.heap.kind (run_in r.stage s) (run_in r'.stage s) (bad line) (said (bad_line line)) (bad_step_at s.heap.kind _ _ s line same_stage);
+      run = one_run s.heap.kind (run_in r.stage s) (run_in r'.stage s) (bad line) (said (bad_line line)) (bad_step_at s.heap.kind _ _ s line stops.same_stage);
       text_is = sym (append-nil (led [] (said (bad_line line))));
       stops = refl;
-      left = λ more ended. first more ended ∙ ap (λ (l : List Item). bad line ∷ l) (sym (nothing_left r' line more ended stopped));
+      left = stops.reads.left;
       kind = refl;
-      untouched = λ at. (sym same_stage ∙ at, refl);
+      untouched = λ at. (sym stops.same_stage ∙ at, refl);
       silent = λ is at. absurd (true≢false is);
     }
 
 pub cut_bad : (r r' : Reading) (s : RunState) (line : ℕ) (front lost : List ℕ) → r.stopped ≡ None → Answers r (next.Bad line) r' → led [] (said (bad_line line)) ≡ front ++ lost
     → CutOff (record { reading = r; state = s }) [] (record { reading = r'; state = s }) front
 cut_bad r r' s line front lost going h cut =
-    let (first, stopped, number, same_end, same_fed, drops, same_stage) = subst (λ (o : Option ℕ). AnswersBad r o line r') going h in
+    let stops = bad_now r line r' going h in
     record {
       done = [];
       replies = [];
@@ -262,11 +259,11 @@ cut_bad r r' s line front lost going h cut =
       front = front;
       lost = lost;
       run = (refl, refl);
-      step = bad_step_at s.heap.kind _ _ s line same_stage;
+      step = bad_step_at s.heap.kind _ _ s line stops.same_stage;
       cut = cut;
       out_is = refl;
-      left = λ more ended. ([], first more ended);
-      untouched = λ at. (sym same_stage ∙ at, refl);
+      left = λ more ended. (items_left r' more ended, stops.reads.left more ended);
+      untouched = λ at. (sym stops.same_stage ∙ at, refl);
     }
 
 -- a bad line is named

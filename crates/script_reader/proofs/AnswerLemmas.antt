@@ -1,89 +1,96 @@
 -- Answers, one line after the other.
-use Rattle.std.proofs.Common.{◌≡◌, ◌∙◌, ◌<◌, ◌≤◌, ◌+◌, ℕ, Bool, true, false, List, [], ◌∷◌, Option, Some, None, length, take, drop, refl, sym, ap, arith, length-drop, subst, append-nil, append_assoc, ◌++◌, ◌⊎◌, inl, inr, cond, suc, take-append-drop}
+use Rattle.std.proofs.Common.{◌≡◌, ◌∙◌, ◌<◌, ◌≤◌, ◌+◌, ℕ, Bool, true, false, List, [], ◌∷◌, Option, Some, None, length, take, drop, refl, sym, ap, arith, length-append, length-drop, subst, append-nil, append_assoc, ◌++◌, ◌⊎◌, inl, inr, cond, suc, take-append-drop, option_map}
 use Rattle.std.proofs.lemmas.Bool.{false≢true, ltb-false}
-use Rattle.script_reader.specs.Commands.{are_idle, asked_or_wrong, asked, command_of, is_comment, is_idle, line_says, nothing, opens, opens_or_wrong, settings_in, tokens_say}
-use Rattle.script_reader.specs.Items.{is_bound, said_items, stage_after, stage_behind}
 use Rattle.std.proofs.lemmas.List.{drop_all}
+use Rattle.std.specs.Option.{option_and_then}
 use Rattle.std.specs.Prelude.{codes}
 use Rattle.std.specs.Str.{bytes_eq}
-use Rattle.cf_base.specs.Settings.{Profile, profile_of}
-use Rattle.script_reader.specs.declared.command.Command.{Command as CommandType}
+use Rattle.cf_base.specs.Settings.{profile_of}
+use Rattle.script_reader.specs.Commands.{command_of}
+use Rattle.script_reader.specs.Items.{Item, Saying, asks, bad, breaks, gives, gives_or_breaks, is_bound, is_comment, item, item_in, item_or_wrong, line_says, nothing, passes, stage_after, stage_behind, stage_opened, starts, tokens_say, verdict, wrong}
 use Rattle.script_reader.specs.Lines.{is_last_line, is_too_long, lines, tokens, without_return}
-use Rattle.script_reader.specs.Reading.{Advances, Answers, AnswersBad, Drops, HasNoLine, IsFirstLine, PassesOver, Reading, holds_line_feed, items_left}
-use Rattle.script_reader.specs.ParsedLine.{IsInRange, or_wrong, said_by, saying_of}
+use Rattle.script_reader.specs.Look.{are_idle, is_idle}
+use Rattle.script_reader.specs.ParsedLine.{IsInRange, item_answered, item_if_parsed, item_said}
+use Rattle.script_reader.specs.Reading.{Answers, AnswersBad, HasEnded, HasNoLine, IsFirstLine, NeedsMore, PassesOver, Reading, Reads, StopsAt, holds_line_feed, items_left}
 use Rattle.script_reader.specs.declared.next.Next.{Next}
-use Rattle.script_reader.specs.declared.parsed_line.ParsedLine.{ParsedLine}
 use Rattle.script_reader.specs.declared.next.Next.TheVariants.{Start, Command, NeedMore, Bad, End}
+use Rattle.script_reader.specs.declared.parsed_line.ParsedLine.{ParsedLine}
 use Rattle.script_reader.specs.declared.stage.Stage.{Stage}
 use Rattle.script_reader.specs.declared.stage.Stage.TheVariants.{Opening, Bounding, Running}
-use Rattle.script_reader.proofs.ItemLemmas.{behind_line, line_in_place, line_out_of_place, lines_alone, lines_closed, no_items}
+use Rattle.script_reader.proofs.ItemLemmas.{behind_line, first_verdict, line_in_place, line_out_of_place, line_passed, lines_alone, lines_closed, no_items}
+
+-- ---- readings that follow one another
 
 pub passes_none : (a : Reading) → a.stopped ≡ None → PassesOver a a
 passes_none a going = record {
-  going = going;
+  reads = record { going = going; front = []; kept = refl; counted = refl; same_end = refl; same_fed = refl; left = λ more ended. refl };
   still = going;
-  same_end = refl;
-  same_fed = refl;
-  drops = record { front = []; kept = refl; counted = refl };
-  within = omega arith;
   same_stage = refl;
-  left = λ more ended. refl;
 }
 
-drops_then : (a b c : Reading) → Drops a b → Drops b c → Drops a c
-drops_then a b c p q = record {
+reads_then : (a b c : Reading) (first : List Item) → Reads a [] b → Reads b first c → Reads a first c
+reads_then a b c first p q = record {
+  going = p.going;
   front = p.front ++ q.front;
   kept = p.kept ∙ ap (λ (l : List ℕ). p.front ++ l) q.kept ∙ sym (append_assoc p.front q.front c.kept);
   counted = q.counted ∙ p.counted;
-}
-
-pub passes_then : (a b c : Reading) → PassesOver a b → PassesOver b c → PassesOver a c
-passes_then a b c p q = record {
-  going = p.going;
-  still = q.still;
   same_end = q.same_end ∙ p.same_end;
   same_fed = q.same_fed ∙ p.same_fed;
-  drops = drops_then a b c p.drops q.drops;
-  within = omega arith;
-  same_stage = q.same_stage ∙ p.same_stage;
   left = λ more ended. p.left more ended ∙ q.left more ended;
 }
 
-advances_then : (a b c : Reading) → PassesOver a b → Advances b c → Advances a c
-advances_then a b c p q = record {
-  going = p.going;
-  still = q.still;
-  same_end = q.same_end ∙ p.same_end;
-  same_fed = q.same_fed ∙ p.same_fed;
-  drops = drops_then a b c p.drops q.drops;
-  shorter = omega arith;
-}
+pub kept_within : (a b : Reading) (first : List Item) → Reads a first b → length b.kept ≤ length a.kept
+kept_within a b first r = omega (arith, ap length r.kept, length-append r.front b.kept)
+
+pub passes_then : (a b c : Reading) → PassesOver a b → PassesOver b c → PassesOver a c
+passes_then a b c p q = record { reads = reads_then a b c [] p.reads q.reads; still = q.still; same_stage = q.same_stage ∙ p.same_stage }
 
 pub answers_then : (a b c : Reading) (n : Next) → PassesOver a b → Answers b n c → Answers a n c
-answers_then a b c (Start settings) p (advances, first, opening, bounding) =
-    (advances_then a b c p advances, (λ more ended. p.left more ended ∙ first more ended), sym p.same_stage ∙ opening, bounding)
-answers_then a b c (Command command) p (advances, fits, first, leads) = (
-  advances_then a b c p advances,
-  fits,
-  (λ more ended. p.left more ended ∙ first more ended),
-  ap (λ stage. stage_behind stage (is_bound command)) (sym p.same_stage) ∙ leads,
-)
-answers_then a b c NeedMore p (passes, open_end, none, few, no_feed) =
-    (passes_then a b c p passes, sym p.same_end ∙ open_end, p.left [] false ∙ none, few, no_feed)
-answers_then a b c (Bad line) p h =
-    let (first, stopped, number, same_end, same_fed, drops, same_stage) = subst (λ (o : Option ℕ). AnswersBad b o line c) p.still h in
-    subst (λ (o : Option ℕ). AnswersBad a o line c) (sym p.going)
-    ((λ more ended. p.left more ended ∙ first more ended), stopped, number, same_end ∙ p.same_end, same_fed ∙ p.same_fed, drops_then a b c p.drops drops, same_stage ∙ p.same_stage)
-answers_then a b c End p (passes, told, none, empty) = (passes_then a b c p passes, sym p.same_end ∙ told, p.left [] true ∙ none, empty)
+answers_then a b c (Start settings) p answer = record {
+  reads = reads_then a b c _ p.reads answer.reads;
+  still = answer.still;
+  shorter = omega (arith, answer.shorter, kept_within a b [] p.reads);
+  opening = sym p.same_stage ∙ answer.opening;
+  bounding = answer.bounding;
+}
+answers_then a b c (Command command) p answer = record {
+  reads = reads_then a b c _ p.reads answer.reads;
+  still = answer.still;
+  shorter = omega (arith, answer.shorter, kept_within a b [] p.reads);
+  formed = answer.formed;
+  leads = ap (λ stage. stage_behind stage (is_bound command)) (sym p.same_stage) ∙ answer.leads;
+}
+answers_then a b c NeedMore p answer = record {
+  passes = passes_then a b c p answer.passes;
+  open_end = sym p.reads.same_end ∙ answer.open_end;
+  none_left = p.reads.left [] false ∙ answer.none_left;
+  few = answer.few;
+  no_feed = answer.no_feed;
+}
+answers_then a b c (Bad line) p answer =
+    let stops : StopsAt b line c = subst (λ (o : Option ℕ). AnswersBad b o line c) p.still answer in
+    let all : StopsAt a line c = record {
+      reads = reads_then a b c _ p.reads stops.reads;
+      stopped = stops.stopped;
+      number = stops.number;
+      same_stage = stops.same_stage ∙ p.same_stage;
+    } in
+    subst (λ (o : Option ℕ). AnswersBad a o line c) (sym p.reads.going) all
+answers_then a b c End p answer = record {
+  passes = passes_then a b c p answer.passes;
+  told = sym p.reads.same_end ∙ answer.told;
+  none_left = p.reads.left [] true ∙ answer.none_left;
+  empty = answer.empty;
+}
 
-behind_shorter : (old : Reading) (len at : ℕ) (next : Stage) → IsFirstLine old.kept old.ended len at → length (behind_line old at next).kept < length old.kept
-behind_shorter old len at next first = omega (arith, length-drop at old.kept, first.some, first.within)
+-- ---- the first line is read
 
 alone : (k : List ℕ) → 1 ≤ length k → cond (is_last_line true k) (k ∷ []) [] ≡ k ∷ []
 alone [] some = absurd (omega arith)
 alone (x ∷ r) some = refl
 
-first_counted : (kept : List ℕ) (ended : Bool) (len at : ℕ) → IsFirstLine kept ended len at → length (lines kept true) ≡ suc (length (lines (drop at kept) true))
+first_counted : (kept : List ℕ) (ended : Bool) (len at : ℕ) → IsFirstLine kept ended len at
+    → length (lines kept true) ≡ suc (length (lines (drop at kept) true))
 first_counted kept ended len at first = go first.cut
   where
     go : ((kept ≡ take len kept ++ (10 ∷ drop at kept)) × (holds_line_feed (take len kept) ≡ false))
@@ -94,64 +101,63 @@ first_counted kept ended len at first = go first.cut
         let one : lines kept true ≡ kept ∷ [] = lines_alone kept true h.2 ∙ alone kept (omega (arith, first.some)) in
         rw (drop_all at kept (omega arith)) (ap length one)
 
-drops_line : (old : Reading) (len at : ℕ) (next : Stage) → IsFirstLine old.kept old.ended len at → Drops old (behind_line old at next)
-drops_line old len at next first = record {
-  front = take at old.kept;
-  kept = sym (take-append-drop at old.kept);
-  counted = let e = first_counted old.kept old.ended len at first in omega arith;
-}
+-- what is read with the first line, where it leads to this stage, or to its being bad
+module _ (old : Reading) (len at : ℕ) (going : old.stopped ≡ None) (first : IsFirstLine old.kept old.ended len at) where
+  one_line : (next : Stage) (stopped : Option ℕ) (items : List Item)
+      → ((more : List ℕ) (e : Bool) → items_left old more e ≡ items ++ items_left (record (behind_line old at next) { stopped = stopped }) more e)
+      → Reads old items (record (behind_line old at next) { stopped = stopped })
+  one_line next stopped items left = record {
+    going = going;
+    front = take at old.kept;
+    kept = sym (take-append-drop at old.kept);
+    counted = let e = first_counted old.kept old.ended len at first in omega arith;
+    same_end = refl;
+    same_fed = refl;
+    left = left;
+  }
 
-advances_behind : (old : Reading) (len at : ℕ) (next : Stage) → old.stopped ≡ None → IsFirstLine old.kept old.ended len at → Advances old (behind_line old at next)
-advances_behind old len at next going first = record {
-  going = going;
-  still = going;
-  same_end = refl;
-  same_fed = refl;
-  drops = drops_line old len at next first;
-  shorter = behind_shorter old len at next first;
-}
+  fewer : length (drop at old.kept) < length old.kept
+  fewer = omega (arith, length-drop at old.kept, first.some, first.within)
+
+-- ---- what a line says
 
 -- an idle line says nothing
 tokens_idle : (ts : List (List ℕ)) → are_idle ts ≡ true → tokens_say ts ≡ nothing
 tokens_idle [] idle = refl
 tokens_idle (word ∷ args) idle = rw idle refl
 
-pub idle_says_nothing : (line : List ℕ) → is_idle line ≡ true → line_says line ≡ nothing
+idle_says_nothing : (line : List ℕ) → is_idle line ≡ true → line_says line ≡ nothing
 idle_says_nothing line idle = go (is_too_long line) refl idle
   where
     go : (b : Bool) → is_too_long line ≡ b → cond b false (are_idle (tokens (without_return line))) ≡ true → line_says line ≡ nothing
     go true long idle = absurd (false≢true idle)
     go false short idle = rw short (tokens_idle (tokens (without_return line)) idle)
 
--- a line that isn't idle says something
-settings_say : (o : Option Profile) → or_wrong (opens_or_wrong o) ≡ opens_or_wrong o
-settings_say None = refl
-settings_say (Some settings) = refl
+-- a line that isn't idle says an item, or is wrong
+some_said : (o : Option Item) → item_or_wrong o ≡ item_or_wrong (item_said (item_or_wrong o))
+some_said None = refl
+some_said (Some i) = refl
 
-command_says : (o : Option CommandType) → or_wrong (asked_or_wrong o) ≡ asked_or_wrong o
-command_says None = refl
-command_says (Some command) = refl
-
-heap_or_command : (b : Bool) (word : List ℕ) (args : List (List ℕ))
-    → or_wrong (cond b (opens_or_wrong (settings_in args)) (asked_or_wrong (command_of word args))) ≡ cond b (opens_or_wrong (settings_in args)) (asked_or_wrong (command_of word args))
-heap_or_command true word args = settings_say (settings_in args)
-heap_or_command false word args = command_says (command_of word args)
-
-tokens_told : (ts : List (List ℕ)) → are_idle ts ≡ false → or_wrong (tokens_say ts) ≡ tokens_say ts
+tokens_told : (ts : List (List ℕ)) → are_idle ts ≡ false → tokens_say ts ≡ item_or_wrong (item_said (tokens_say ts))
 tokens_told [] told = absurd (false≢true (sym told))
-tokens_told (word ∷ args) told = rw told (heap_or_command (bytes_eq word (codes "heap")) word args)
+tokens_told (word ∷ args) told = rw told (some_said (item_in word args))
 
-pub told_is_said : (line : List ℕ) → is_idle line ≡ false → or_wrong (line_says line) ≡ line_says line
+told_is_said : (line : List ℕ) → is_idle line ≡ false → line_says line ≡ item_or_wrong (item_said (line_says line))
 told_is_said line told = go (is_too_long line) refl told
   where
-    go : (b : Bool) → is_too_long line ≡ b → cond b false (are_idle (tokens (without_return line))) ≡ false → or_wrong (line_says line) ≡ line_says line
+    go : (b : Bool) → is_too_long line ≡ b → cond b false (are_idle (tokens (without_return line))) ≡ false
+        → line_says line ≡ item_or_wrong (item_said (line_says line))
     go true long told = rw long refl
     go false short told = rw short (tokens_told (tokens (without_return line)) told)
 
 -- what a command says
-pub command_said : (word : List ℕ) (args : List (List ℕ)) (order : Option ParsedLine) → is_comment word ≡ false → bytes_eq word (codes "heap") ≡ false
-    → said_by order ≡ asked_or_wrong (command_of word args) → said_by order ≡ or_wrong (tokens_say (word ∷ args))
-command_said word args order told other is = rw (told, other) (is ∙ sym (command_says (command_of word args)))
+said_again : (o : Option Item) → item_said (item_or_wrong o) ≡ o
+said_again None = refl
+said_again (Some i) = refl
+
+pub command_said : (word : List ℕ) (args : List (List ℕ)) (line : Option ParsedLine) → is_comment word ≡ false → bytes_eq word (codes "heap") ≡ false
+    → item_if_parsed line ≡ option_map asks (command_of word args) → item_if_parsed line ≡ item_said (tokens_say (word ∷ args))
+command_said word args line told other is = rw (told, other) (is ∙ sym (said_again (option_map asks (command_of word args))))
 
 -- an idle line is passed
 pub step_idle : (old : Reading) (kept : List ℕ) (len at : ℕ) → old.stopped ≡ None → kept ≡ old.kept → IsFirstLine kept old.ended len at
@@ -159,85 +165,106 @@ pub step_idle : (old : Reading) (kept : List ℕ) (len at : ℕ) → old.stopped
 step_idle old kept len at going same first idle =
     let first2 = subst (λ (k : List ℕ). IsFirstLine k old.ended len at) same first in
     let idle2 = subst (λ (k : List ℕ). is_idle (take len k) ≡ true) same idle in
-    let advances = advances_behind old len at old.stage going first2 in (
+    let is : first_verdict old len ≡ passes = ap (verdict old.stage) (idle_says_nothing (take len old.kept) idle2) in (
       record {
-        going = going;
+        reads = one_line old len at going first2 old.stage old.stopped [] (line_passed old len at going first2 is);
         still = going;
-        same_end = refl;
-        same_fed = refl;
-        drops = advances.drops;
-        within = omega (arith, advances.shorter);
         same_stage = refl;
-        left = λ more e. line_in_place old len at nothing old.stage going first2 (sym (idle_says_nothing (take len old.kept) idle2)) refl more e;
       },
-      advances.shorter,
+      fewer old len at going first2,
     )
 
 -- a heap is opened first, and bounds may follow
-opens_first : (settings : Profile) (old new : Stage) → stage_after old (opens settings) ≡ Some new → (old ≡ Opening) × (new ≡ Bounding)
-opens_first settings Opening new leads = (refl, cc)
-opens_first settings Bounding new leads = absurd cc
-opens_first settings Running new leads = absurd cc
+opens_first : (old new : Stage) → Some new ≡ stage_opened old → (old ≡ Opening) × (new ≡ Bounding)
+opens_first Opening new leads = (refl, cc)
+opens_first Bounding new leads = absurd cc
+opens_first Running new leads = absurd cc
 
-command_leads : (command : CommandType) (old new : Stage) → stage_after old (asked command) ≡ Some new → stage_behind old (is_bound command) ≡ Some new
-command_leads command Opening new leads = leads
-command_leads command Bounding new leads = leads
-command_leads command Running new leads = leads
+module _ (old : Reading) (kept : List ℕ) (len at : ℕ) (answer : Next) (going : old.stopped ≡ None) (same : kept ≡ old.kept)
+    (first : IsFirstLine old.kept old.ended len at) (told : is_idle (take len old.kept) ≡ false) (says : item_answered answer ≡ item_said (line_says (take len kept))) where
+  line_is : line_says (take len old.kept) ≡ item_or_wrong (item_answered answer)
+  line_is =
+      let says2 = subst (λ (k : List ℕ). item_answered answer ≡ item_said (line_says (take len k))) same says in
+      told_is_said (take len old.kept) told ∙ ap item_or_wrong (sym says2)
 
--- the answer to a line that is in its place
-pub step_in_place : (old : Reading) (kept : List ℕ) (len at : ℕ) (answer : Next) (stage : Stage) → old.stopped ≡ None → kept ≡ old.kept
-    → IsFirstLine old.kept old.ended len at → is_idle (take len old.kept) ≡ false → saying_of answer ≡ or_wrong (line_says (take len kept)) → IsInRange answer
-    → Some stage ≡ stage_after old.stage (saying_of answer) → Answers old answer (behind_line old at stage)
-step_in_place old kept len at answer stage going same first told says fits place =
-    let says2 = subst (λ (k : List ℕ). saying_of answer ≡ or_wrong (line_says (take len k))) same says ∙ told_is_said (take len old.kept) told in
-    go answer fits (λ more e. line_in_place old len at (saying_of answer) stage going first says2 (sym place) more e)
-    place (advances_behind old len at stage going first)
-  where
-    go : (n : Next) → IsInRange n
-        → ((more : List ℕ) (e : Bool) → items_left old more e ≡ said_items (saying_of n) (items_left (behind_line old at stage) more e))
-        → Some stage ≡ stage_after old.stage (saying_of n) → Advances old (behind_line old at stage) → Answers old n (behind_line old at stage)
-    go (Start settings) fits left place advances = let at = opens_first (profile_of settings) old.stage stage (sym place) in (advances, left, at.0, at.1)
-    go (Command command) fits left place advances = (advances, fits, left, command_leads command old.stage stage (sym place))
-    go NeedMore fits left place advances = absurd cc
-    go (Bad line) fits left place advances = absurd cc
-    go End fits left place advances = absurd cc
+  -- the answer to a line that is in its place
+  pub step_in_place : (stage : Stage) → IsInRange answer → Some stage ≡ option_and_then (stage_after old.stage) (item_answered answer)
+      → Answers old answer (behind_line old at stage)
+  step_in_place stage fits place = go answer fits line_is place
+    where
+      one_item : (i : Item) → line_says (take len old.kept) ≡ item i → Some stage ≡ stage_after old.stage i → Reads old (i ∷ []) (behind_line old at stage)
+      one_item i is place = one_line old len at going first stage old.stopped (i ∷ [])
+          (line_in_place old len at going first i stage (ap (verdict old.stage) is ∙ ap (gives_or_breaks i) (sym place)))
 
--- the answer to a line that isn't
-pub step_out_of_place : (old : Reading) (kept : List ℕ) (len at : ℕ) (answer : Next) → old.stopped ≡ None → kept ≡ old.kept
-    → IsFirstLine old.kept old.ended len at → is_idle (take len old.kept) ≡ false → saying_of answer ≡ or_wrong (line_says (take len kept))
-    → None ≡ stage_after old.stage (saying_of answer)
-    → AnswersBad old old.stopped (old.passed + 1) (record (behind_line old at old.stage) { stopped = Some (old.passed + 1) })
-step_out_of_place old kept len at answer going same first told says place =
-    let says2 = subst (λ (k : List ℕ). saying_of answer ≡ or_wrong (line_says (take len k))) same says ∙ told_is_said (take len old.kept) told in
-    let drops = drops_line old len at old.stage first in
-    subst (λ (o : Option ℕ). AnswersBad old o (old.passed + 1) (record (behind_line old at old.stage) { stopped = Some (old.passed + 1) })) (sym going) (
-      (λ more e. line_out_of_place old len at (saying_of answer) going first says2 (sym place) more e),
-      refl,
-      refl,
-      refl,
-      refl,
-      record { front = drops.front; kept = drops.kept; counted = drops.counted },
-      refl,
-    )
+      go : (n : Next) → IsInRange n → line_says (take len old.kept) ≡ item_or_wrong (item_answered n)
+          → Some stage ≡ option_and_then (stage_after old.stage) (item_answered n) → Answers old n (behind_line old at stage)
+      go (Start settings) fits is place = let at_stage = opens_first old.stage stage place in record {
+        reads = one_item (starts (profile_of settings)) is place;
+        still = going;
+        shorter = fewer old len at going first;
+        opening = at_stage.0;
+        bounding = at_stage.1;
+      }
+      go (Command command) fits is place = record {
+        reads = one_item (asks command) is place;
+        still = going;
+        shorter = fewer old len at going first;
+        formed = fits;
+        leads = sym place;
+      }
+      go NeedMore fits is place = absurd cc
+      go (Bad line) fits is place = absurd cc
+      go End fits is place = absurd cc
+
+  -- the answer to a line that isn't
+  pub step_out_of_place : None ≡ option_and_then (stage_after old.stage) (item_answered answer)
+      → AnswersBad old old.stopped (old.passed + 1) (record (behind_line old at old.stage) { stopped = Some (old.passed + 1) })
+  step_out_of_place place =
+      let line = old.passed + 1 in
+      let new : Reading = record (behind_line old at old.stage) { stopped = Some line } in
+      let broken = go (item_answered answer) line_is place in
+      let stops : StopsAt old line new = record {
+        reads = one_line old len at going first old.stage (Some line) (bad line ∷ []) (line_out_of_place old len at going first broken);
+        stopped = refl;
+        number = refl;
+        same_stage = refl;
+      } in
+      subst (λ (o : Option ℕ). AnswersBad old o line new) (sym going) stops
+    where
+      go : (o : Option Item) → line_says (take len old.kept) ≡ item_or_wrong o → None ≡ option_and_then (stage_after old.stage) o
+          → first_verdict old len ≡ breaks
+      go None is place = ap (verdict old.stage) is
+      go (Some i) is place = ap (verdict old.stage) is ∙ ap (gives_or_breaks i) (sym place)
+
+-- ---- no line is there
 
 few_kept : (kept : List ℕ) → is_last_line false kept ≡ false → length kept ≤ 8999
 few_kept [] none = omega arith
 few_kept (x ∷ r) none = ltb-false 8999 (length (x ∷ r)) none
 
--- no line is there, and no end was told
-pub step_waits : (old : Reading) (kept : List ℕ) → old.stopped ≡ None → kept ≡ old.kept → HasNoLine kept old.ended → old.ended ≡ false → Answers old NeedMore old
+-- and no end was told
+pub step_waits : (old : Reading) (kept : List ℕ) → old.stopped ≡ None → kept ≡ old.kept → HasNoLine kept old.ended → old.ended ≡ false → NeedsMore old old
 step_waits old kept going same none open_end =
     let none2 = subst (λ (e : Bool). HasNoLine old.kept e) open_end (subst (λ (k : List ℕ). HasNoLine k old.ended) same none) in
-    let left : items_left old [] false ≡ [] = rw (going, open_end, append-nil) (no_items old.kept false none2 old.passed old.stage) in
-    (passes_none old going, open_end, left, few_kept old.kept none2.1, none2.0)
+    record {
+      passes = passes_none old going;
+      open_end = open_end;
+      none_left = rw (going, open_end, append-nil) (no_items old.kept false none2 old.passed old.stage);
+      few = few_kept old.kept none2.1;
+      no_feed = none2.0;
+    }
 
 empty_kept : (kept : List ℕ) → is_last_line true kept ≡ false → kept ≡ []
 empty_kept [] none = refl
 empty_kept (x ∷ r) none = absurd (false≢true (sym none))
 
--- no line is there, and the end was told
-pub step_ends : (old : Reading) (kept : List ℕ) → old.stopped ≡ None → kept ≡ old.kept → HasNoLine kept old.ended → old.ended ≡ true → Answers old End old
+-- and the end was told
+pub step_ends : (old : Reading) (kept : List ℕ) → old.stopped ≡ None → kept ≡ old.kept → HasNoLine kept old.ended → old.ended ≡ true → HasEnded old old
 step_ends old kept going same none told =
     let none2 = subst (λ (e : Bool). HasNoLine old.kept e) told (subst (λ (k : List ℕ). HasNoLine k old.ended) same none) in
-    let left : items_left old [] true ≡ [] = rw (going, told) (no_items old.kept true none2 old.passed old.stage) in
-    (passes_none old going, told, left, empty_kept old.kept none2.1)
+    record {
+      passes = passes_none old going;
+      told = told;
+      none_left = rw (going, told) (no_items old.kept true none2 old.passed old.stage);
+      empty = empty_kept old.kept none2.1;
+    }

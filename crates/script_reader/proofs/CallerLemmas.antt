@@ -1,9 +1,10 @@
 -- What a reader gives over calls of feed, finish and next_command.
 use Rattle.std.proofs.Common.{◌≡◌, ◌∙◌, ◌++◌, ℕ, Bool, true, false, List, [], ◌∷◌, Option, Some, None, refl, sym, ap, subst, append-nil, append_assoc}
 use Rattle.std.proofs.lemmas.Bool.{true≢false}
+use Rattle.cf_base.specs.Settings.{profile_of}
 use Rattle.script_reader.specs.ReaderCalls.{AreCalls, ReaderCall, answers, bytes_fed, feeds, finishes, is_finished, items_given}
-use Rattle.script_reader.specs.Items.{AreFirstOf, Item, items}
-use Rattle.script_reader.specs.Reading.{Answers, AnswersBad, Reading, fed_with, fresh, items_left}
+use Rattle.script_reader.specs.Items.{Item, asks, bad, items, starts}
+use Rattle.script_reader.specs.Reading.{Answers, AnswersBad, Reading, StopsAt, fed_with, fresh, items_left}
 use Rattle.script_reader.specs.declared.next.Next.{Next}
 use Rattle.script_reader.specs.declared.next.Next.TheVariants.{Start, Command, NeedMore, Bad, End}
 
@@ -12,16 +13,16 @@ pub fresh_left : (more : List ℕ) (ended : Bool) → items_left fresh more ende
 fresh_left more ended = refl
 
 bad_same_end : (old : Reading) (before : Option ℕ) (line : ℕ) (new : Reading) → AnswersBad old before line new → new.ended ≡ old.ended
-bad_same_end old None line new (first, stopped, number, same_end, same_fed, drops, same_stage) = same_end
-bad_same_end old (Some before) line new (same, is) = ap (λ (r : Reading). r.ended) is
+bad_same_end old None line new answer = answer.reads.same_end
+bad_same_end old (Some before) line new answer = ap (λ (r : Reading). r.ended) answer.1
 
 -- an answer tells no end
 pub answer_same_end : (old : Reading) (next : Next) (new : Reading) → Answers old next new → new.ended ≡ old.ended
-answer_same_end old (Start settings) new (advances, first, opening, bounding) = advances.same_end
-answer_same_end old (Command command) new (advances, fits, first, leads) = advances.same_end
-answer_same_end old NeedMore new (passes, open_end, none, few, no_feed) = passes.same_end
-answer_same_end old (Bad line) new h = bad_same_end old old.stopped line new h
-answer_same_end old End new (passes, told, none, empty) = passes.same_end
+answer_same_end old (Start settings) new answer = answer.reads.same_end
+answer_same_end old (Command command) new answer = answer.reads.same_end
+answer_same_end old NeedMore new answer = answer.passes.reads.same_end
+answer_same_end old (Bad line) new answer = bad_same_end old old.stopped line new answer
+answer_same_end old End new answer = answer.passes.reads.same_end
 
 -- after the end nothing is fed
 fed_nothing : (calls : List ReaderCall) (old now : Reading) → old.ended ≡ true → AreCalls old calls now → bytes_fed calls ≡ []
@@ -42,34 +43,53 @@ finished_left old e = go old.ended refl
     go true told = rw told refl
     go false open_end = rw (open_end, append-nil) refl
 
-first_of_same : (front all other : List Item) → all ≡ other → AreFirstOf front other → AreFirstOf front all
-first_of_same front all other same (rest, is) = (rest, same ∙ is)
+-- nothing is left after a bad line
+pub nothing_left : (r : Reading) (line : ℕ) (more : List ℕ) (e : Bool) → r.stopped ≡ Some line → items_left r more e ≡ []
+nothing_left r line more e over = rw over refl
 
-after_item : (item : Item) (front all other : List Item) → all ≡ item ∷ other → AreFirstOf front other → AreFirstOf (item ∷ front) all
-after_item item front all other same (rest, is) = (rest, same ∙ ap (λ (l : List Item). item ∷ l) is)
+-- where the reader goes on, a bad line is met now
+pub bad_now : (old : Reading) (line : ℕ) (new : Reading) → old.stopped ≡ None → Answers old (Bad line) new → StopsAt old line new
+bad_now old line new going answer = subst (λ (o : Option ℕ). AnswersBad old o line new) going answer
 
--- the answers up to the first bad line are the first of the items that were left
-pub given_first : (calls : List ReaderCall) (old now : Reading) → old.stopped ≡ None → AreCalls old calls now
-    → AreFirstOf (items_given calls) (items_left old (bytes_fed calls) (is_finished calls))
-given_first [] old now going are = (items_left old [] false, refl)
-given_first (feeds bytes ∷ rest) old now going (mid, (open_end, is), are) =
+-- after a bad line it is answered again, and nothing else is
+still_over : (old : Reading) (next : Next) (new : Reading) (line : ℕ) → old.stopped ≡ Some line → Answers old next new → new.stopped ≡ Some line
+still_over old (Start settings) new line over answer = absurd (let e = sym answer.reads.going ∙ over in cc)
+still_over old (Command command) new line over answer = absurd (let e = sym answer.reads.going ∙ over in cc)
+still_over old NeedMore new line over answer = absurd (let e = sym answer.passes.reads.going ∙ over in cc)
+still_over old (Bad again) new line over answer =
+    let repeats = subst (λ (o : Option ℕ). AnswersBad old o again new) over answer in ap (λ (r : Reading). r.stopped) repeats.1 ∙ over
+still_over old End new line over answer = absurd (let e = sym answer.passes.reads.going ∙ over in cc)
+
+pub over_then : (calls : List ReaderCall) (old now : Reading) (line : ℕ) → old.stopped ≡ Some line → AreCalls old calls now → now.stopped ≡ Some line
+over_then [] old now line over are = ap (λ (r : Reading). r.stopped) are ∙ over
+over_then (feeds bytes ∷ rest) old now line over (mid, (open_end, is), are) = over_then rest mid now line (ap (λ (r : Reading). r.stopped) is ∙ over) are
+over_then (finishes ∷ rest) old now line over (mid, is, are) = over_then rest mid now line (ap (λ (r : Reading). r.stopped) is ∙ over) are
+over_then (answers next ∷ rest) old now line over (mid, is, are) = over_then rest mid now line (still_over old next mid line over is) are
+
+-- What was given up to the first bad line, and then what is left, are the items that were left.
+pub given_then_left : (calls : List ReaderCall) (old now : Reading) → old.stopped ≡ None → AreCalls old calls now
+    → items_left old (bytes_fed calls) (is_finished calls) ≡ items_given calls ++ items_left now [] false
+given_then_left [] old now going are = ap (λ (r : Reading). items_left r [] false) (sym are)
+given_then_left (feeds bytes ∷ rest) old now going (mid, (open_end, is), are) =
     let are2 = subst (λ (r : Reading). AreCalls r rest now) is are in
-    first_of_same _ _ _ (fed_left old bytes (bytes_fed rest) (is_finished rest) open_end) (given_first rest (fed_with old bytes) now going are2)
-given_first (finishes ∷ rest) old now going (mid, is, are) =
+    fed_left old bytes (bytes_fed rest) (is_finished rest) open_end ∙ given_then_left rest (fed_with old bytes) now going are2
+given_then_left (finishes ∷ rest) old now going (mid, is, are) =
     let are2 = subst (λ (r : Reading). AreCalls r rest now) is are in
     let nothing = fed_nothing rest (record old { ended = true }) now refl are2 in
-    let first = given_first rest (record old { ended = true }) now going are2 in
-    let first2 = subst (λ (more : List ℕ). AreFirstOf (items_given rest) (items_left (record old { ended = true }) more (is_finished rest))) nothing first in
-    subst (λ (more : List ℕ). AreFirstOf (items_given rest) (items_left old more true)) (sym nothing)
-    (first_of_same _ _ _ (finished_left old (is_finished rest)) first2)
-given_first (answers (Start settings) ∷ rest) old now going (mid, (advances, first, opening, bounding), are) =
-    after_item _ _ _ _ (first (bytes_fed rest) (is_finished rest)) (given_first rest mid now advances.still are)
-given_first (answers (Command command) ∷ rest) old now going (mid, (advances, fits, first, leads), are) =
-    after_item _ _ _ _ (first (bytes_fed rest) (is_finished rest)) (given_first rest mid now advances.still are)
-given_first (answers NeedMore ∷ rest) old now going (mid, (passes, open_end, none, few, no_feed), are) =
-    first_of_same _ _ _ (passes.left (bytes_fed rest) (is_finished rest)) (given_first rest mid now passes.still are)
-given_first (answers (Bad line) ∷ rest) old now going (mid, h, are) =
-    let (first, stopped, number, same_end, same_fed, drops, same_stage) = subst (λ (o : Option ℕ). AnswersBad old o line mid) going h in
-    ([], first (bytes_fed rest) (is_finished rest))
-given_first (answers End ∷ rest) old now going (mid, (passes, told, none, empty), are) =
-    first_of_same _ _ _ (passes.left (bytes_fed rest) (is_finished rest)) (given_first rest mid now passes.still are)
+    let left = given_then_left rest (record old { ended = true }) now going are2 in
+    ap (λ (more : List ℕ). items_left old more true) nothing ∙ finished_left old (is_finished rest)
+    ∙ ap (λ (more : List ℕ). items_left (record old { ended = true }) more (is_finished rest)) (sym nothing) ∙ left
+given_then_left (answers (Start settings) ∷ rest) old now going (mid, answer, are) =
+    answer.reads.left (bytes_fed rest) (is_finished rest)
+    ∙ ap (λ (l : List Item). starts (profile_of settings) ∷ l) (given_then_left rest mid now answer.still are)
+given_then_left (answers (Command command) ∷ rest) old now going (mid, answer, are) =
+    answer.reads.left (bytes_fed rest) (is_finished rest) ∙ ap (λ (l : List Item). asks command ∷ l) (given_then_left rest mid now answer.still are)
+given_then_left (answers NeedMore ∷ rest) old now going (mid, answer, are) =
+    answer.passes.reads.left (bytes_fed rest) (is_finished rest) ∙ given_then_left rest mid now answer.passes.still are
+given_then_left (answers (Bad line) ∷ rest) old now going (mid, answer, are) =
+    let stops = bad_now old line mid going answer in
+    let over = over_then rest mid now line stops.stopped are in
+    stops.reads.left (bytes_fed rest) (is_finished rest)
+    ∙ ap (λ (l : List Item). bad line ∷ l) (nothing_left mid line (bytes_fed rest) (is_finished rest) stops.stopped ∙ sym (nothing_left now line [] false over))
+given_then_left (answers End ∷ rest) old now going (mid, answer, are) =
+    answer.passes.reads.left (bytes_fed rest) (is_finished rest) ∙ given_then_left rest mid now answer.passes.still are

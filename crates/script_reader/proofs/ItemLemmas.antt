@@ -2,8 +2,7 @@
 use Rattle.std.proofs.Common.{◌≡◌, ◌∙◌, ◌+◌, ◌==◌, ◌||◌, ◌++◌, ◌⊎◌, inl, inr, ℕ, Bool, true, false, cond, List, [], ◌∷◌, Some, None, length, take, drop, refl, sym, ap, arith, append_assoc, append-nil, length-append}
 use Rattle.std.proofs.lemmas.Bool.{false≢true, lt-ltb, ltb-true}
 use Rattle.std.proofs.lemmas.List.{take_all, drop_all}
-use Rattle.script_reader.specs.Commands.{Saying, line_says, wrong}
-use Rattle.script_reader.specs.Items.{Item, bad, items_at, items_by, said_items, stage_after}
+use Rattle.script_reader.specs.Items.{Item, Verdict, bad, breaks, gives, items_at, items_by, line_says, passes, verdict, wrong}
 use Rattle.script_reader.specs.Lines.{is_last_line, is_too_long, lines, lines_among, onto_first, stretches}
 use Rattle.script_reader.specs.Reading.{HasNoLine, IsFirstLine, Reading, holds_line_feed, items_left, to_come}
 use Rattle.script_reader.specs.declared.stage.Stage.{Stage}
@@ -70,14 +69,14 @@ abbrev pub items_come : List ℕ → Bool → List ℕ → Bool → ℕ → Stag
 items_come kept ended more e n stage = items_at (lines (to_come ended kept more) (ended || e)) n stage
 
 closed_items : (kept t d : List ℕ) (ended : Bool) → kept ≡ t ++ (10 ∷ d) → holds_line_feed t ≡ false → (more : List ℕ) (e : Bool) (n : ℕ) (stage : Stage)
-    → items_come kept ended more e n stage ≡ items_by (stage_after stage (line_says t)) (line_says t) n (items_come d ended more e (n + 1))
+    → items_come kept ended more e n stage ≡ items_by (verdict stage (line_says t)) n stage (items_come d ended more e (n + 1))
 closed_items kept t d ended is none more e n stage =
     ap (λ (k : List ℕ). items_come k ended more e n stage) is
     ∙ ap (λ (g : List ℕ). items_at (lines g (ended || e)) n stage) (come_closed ended t d more)
     ∙ ap (λ (ls : List (List ℕ)). items_at ls n stage) (lines_closed t (to_come ended d more) (ended || e) none)
 
 open_items : (kept : List ℕ) (ended : Bool) → holds_line_feed kept ≡ false → is_last_line ended kept ≡ true → (more : List ℕ) (e : Bool) (n : ℕ) (stage : Stage)
-    → items_come kept ended more e n stage ≡ items_by (stage_after stage (line_says kept)) (line_says kept) n (items_come [] ended more e (n + 1))
+    → items_come kept ended more e n stage ≡ items_by (verdict stage (line_says kept)) n stage (items_come [] ended more e (n + 1))
 open_items kept true none last more e n stage =
     let one : cond (is_last_line true kept) (kept ∷ []) [] ≡ kept ∷ [] = rw last refl in
     ap (λ (ls : List (List ℕ)). items_at ls n stage) (lines_alone kept true none ∙ one)
@@ -90,13 +89,13 @@ open_items (x ∷ r) false none last more e n stage =
 -- the items from the first line on
 pub first_items : (kept : List ℕ) (ended : Bool) (len next : ℕ) → IsFirstLine kept ended len next → (more : List ℕ) (e : Bool) (n : ℕ) (stage : Stage)
     → items_come kept ended more e n stage
-    ≡ items_by (stage_after stage (line_says (take len kept))) (line_says (take len kept)) n (items_come (drop next kept) ended more e (n + 1))
+    ≡ items_by (verdict stage (line_says (take len kept))) n stage (items_come (drop next kept) ended more e (n + 1))
 first_items kept ended len next h more e n stage = go h.cut
   where
     go : ((kept ≡ take len kept ++ (10 ∷ drop next kept)) × (holds_line_feed (take len kept) ≡ false))
         ⊎ ((len ≡ length kept) × (next ≡ length kept) × (holds_line_feed kept ≡ false) × (is_last_line ended kept ≡ true))
         → items_come kept ended more e n stage
-        ≡ items_by (stage_after stage (line_says (take len kept))) (line_says (take len kept)) n (items_come (drop next kept) ended more e (n + 1))
+        ≡ items_by (verdict stage (line_says (take len kept))) n stage (items_come (drop next kept) ended more e (n + 1))
     go (inl h) = closed_items kept (take len kept) (drop next kept) ended h.0 h.1 more e n stage
     go (inr h) = rw (take_all len kept (omega arith), drop_all next kept (omega arith)) (open_items kept ended h.2 h.3 more e n stage)
 
@@ -110,18 +109,18 @@ no_items kept ended h n stage =
 abbrev pub behind_line : Reading → ℕ → Stage → Reading
 behind_line old at next = record old { kept = drop at old.kept; passed = old.passed + 1; stage = next }
 
--- the items from a line on that is in its place
-pub line_in_place : (old : Reading) (len at : ℕ) (said : Saying) (next : Stage) → old.stopped ≡ None → IsFirstLine old.kept old.ended len at
-    → said ≡ line_says (take len old.kept) → stage_after old.stage said ≡ Some next → (more : List ℕ) (e : Bool)
-    → items_left old more e ≡ said_items said (items_left (behind_line old at next) more e)
-line_in_place old len at said next going first says place more e =
-    let first = first_items old.kept old.ended len at first more e old.passed old.stage in
-    rw going (first ∙ rw (← says, place) refl)
+-- the verdict on the first line, of this length
+abbrev pub first_verdict : Reading → ℕ → Verdict
+first_verdict old len = verdict old.stage (line_says (take len old.kept))
 
--- the items at a line that isn't
-pub line_out_of_place : (old : Reading) (len at : ℕ) (said : Saying) → old.stopped ≡ None → IsFirstLine old.kept old.ended len at
-    → said ≡ line_says (take len old.kept) → stage_after old.stage said ≡ None → (more : List ℕ) (e : Bool)
-    → items_left old more e ≡ bad (old.passed + 1) ∷ []
-line_out_of_place old len at said going first says place more e =
-    let first = first_items old.kept old.ended len at first more e old.passed old.stage in
-    rw going (first ∙ rw (← says, place) refl)
+-- the items from the first line on, by its verdict
+module _ (old : Reading) (len at : ℕ) (going : old.stopped ≡ None) (first : IsFirstLine old.kept old.ended len at) where
+  pub line_passed : first_verdict old len ≡ passes → (more : List ℕ) (e : Bool) → items_left old more e ≡ items_left (behind_line old at old.stage) more e
+  line_passed is more e = let items = first_items old.kept old.ended len at first more e old.passed old.stage in rw going (items ∙ rw is refl)
+
+  pub line_in_place : (item : Item) (next : Stage) → first_verdict old len ≡ gives item next → (more : List ℕ) (e : Bool)
+      → items_left old more e ≡ item ∷ items_left (behind_line old at next) more e
+  line_in_place item next is more e = let items = first_items old.kept old.ended len at first more e old.passed old.stage in rw going (items ∙ rw is refl)
+
+  pub line_out_of_place : first_verdict old len ≡ breaks → (more : List ℕ) (e : Bool) → items_left old more e ≡ bad (old.passed + 1) ∷ []
+  line_out_of_place is more e = let items = first_items old.kept old.ended len at first more e old.passed old.stage in rw going (items ∙ rw is refl)

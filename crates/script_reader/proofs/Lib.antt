@@ -1,5 +1,6 @@
 pub mod AnswerLemmas
 pub mod CallerLemmas
+pub mod ExactAnswers
 pub mod FieldLemmas
 pub mod FirstLine
 pub mod ItemLemmas

@@ -1,7 +1,6 @@
 -- Items once read stay, whatever comes next.
 use Rattle.std.proofs.Common.{◌≡◌, ◌∙◌, ◌+◌, ◌==◌, ◌++◌, ℕ, Bool, true, false, cond, List, [], ◌∷◌, Option, Some, None, refl, sym, ap}
-use Rattle.script_reader.specs.Commands.{Saying, nothing, opens, asked, wrong, line_says}
-use Rattle.script_reader.specs.Items.{AreFirstOf, Item, asks, bad, items, items_at, items_by, said_items, stage_after, starts}
+use Rattle.script_reader.specs.Items.{AreFirstOf, Item, Verdict, bad, breaks, gives, items, items_at, items_by, line_says, passes, verdict}
 use Rattle.script_reader.specs.Lines.{is_last_line, is_too_long, lines_among, onto_first, stretches}
 use Rattle.script_reader.specs.declared.stage.Stage.{Stage}
 use Rattle.script_reader.specs.declared.stage.Stage.TheVariants.{Opening}
@@ -43,16 +42,11 @@ among_more : (e : Bool) (l : List ℕ) (s : List (List ℕ)) → ((k : List ℕ)
 among_more e l [] some = absurd cc
 among_more e l (k ∷ rest) some = refl
 
-said_first : (said : Saying) (front all : List Item) → AreFirstOf front all → AreFirstOf (said_items said front) (said_items said all)
-said_first nothing front all (rest, is) = (rest, is)
-said_first (opens settings) front all (rest, is) = (rest, ap (λ (l : List Item). starts settings ∷ l) is)
-said_first (asked command) front all (rest, is) = (rest, ap (λ (l : List Item). asks command ∷ l) is)
-said_first wrong front all (rest, is) = (rest, is)
-
-by_first : (place : Option Stage) (said : Saying) (n : ℕ) (front all : Stage → List Item) → ((stage : Stage) → AreFirstOf (front stage) (all stage))
-    → AreFirstOf (items_by place said n front) (items_by place said n all)
-by_first None said n front all rest = ([], refl)
-by_first (Some next) said n front all rest = said_first said (front next) (all next) (rest next)
+by_first : (v : Verdict) (n : ℕ) (stage : Stage) (front all : Stage → List Item) → ((next : Stage) → AreFirstOf (front next) (all next))
+    → AreFirstOf (items_by v n stage front) (items_by v n stage all)
+by_first passes n stage front all rest = rest stage
+by_first (gives item next) n stage front all rest = let first = rest next in (first.0, ap (λ (l : List Item). item ∷ l) first.1)
+by_first breaks n stage front all rest = ([], refl)
 
 long_is_bad : (line : List ℕ) (ls : List (List ℕ)) (n : ℕ) (stage : Stage) → is_too_long line ≡ true → items_at (line ∷ ls) n stage ≡ bad (n + 1) ∷ []
 long_is_bad line ls n stage long = rw (says_wrong line long) refl
@@ -79,7 +73,8 @@ among_first (l ∷ []) t e n stage = go (is_last_line false l) refl
         let long = long_by_rest l is in
         ([], long_goes_on l t e n stage long ∙ sym (ap (λ (i : List Item). i ++ []) (long_is_bad l [] n stage long)))
 among_first (l ∷ k ∷ ls) t e n stage =
-    let first = by_first (stage_after stage (line_says l)) (line_says l) n (items_at (lines_among false (k ∷ ls)) (n + 1)) (items_at (lines_among e (glued (k ∷ ls) t)) (n + 1))
+    let first = by_first (verdict stage (line_says l)) n stage
+    (items_at (lines_among false (k ∷ ls)) (n + 1)) (items_at (lines_among e (glued (k ∷ ls) t)) (n + 1))
     (λ next. among_first (k ∷ ls) t e (n + 1) next) in
     (first.0, ap (λ (s : List (List ℕ)). items_at s n stage) (among_more e l (glued (k ∷ ls) t) (some_glued k ls t)) ∙ first.1)
 

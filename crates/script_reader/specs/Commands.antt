@@ -1,4 +1,4 @@
--- The grammar of one line.
+-- The grammar of a command and its fields.
 use Rattle.std.specs.Prelude.{◌≤◌, ℕ, Bool, true, false, ◌==◌, List, [], ◌∷◌, length, Option, Some, None, option_map, if◌then◌else◌}
 use Rattle.std.specs.Result.{result_ok}
 use Rattle.std.specs.Str.{bytes_eq, byte}
@@ -8,7 +8,6 @@ use Rattle.cf_base.specs.Limits.{is_within}
 use Rattle.cf_base.specs.Settings.{Profile, profile_from, setting_fault}
 use Rattle.cf_base.specs.declared.settings.SettingFault.{SettingFault}
 use Rattle.cf_io.specs.Numbers.{number_in}
-use Rattle.script_reader.specs.Lines.{is_too_long, tokens, without_return}
 use Rattle.script_reader.specs.declared.command.Command.{Command}
 use Rattle.script_reader.specs.declared.command.Command.TheVariants.{Malloc, Free, Write, Read, Place, Block, Peek, Walk, Frag, Steps, Bound, Resize, Slice, Task, Quota, Need, Admit}
 
@@ -207,7 +206,7 @@ word_command word args =
     else (if bytes_eq word (codes "need") then need_in args
     else (if bytes_eq word (codes "admit") then admit_in args else None)))))
 
--- the command of a word and what stands behind it
+-- the command of a word and the tokens after it
 abbrev pub command_of : List ℕ → List (List ℕ) → Option Command
 command_of (letter ∷ []) args = letter_command letter args
 command_of word args = word_command word args
@@ -226,45 +225,6 @@ settings_in args = do
   k ← number_in p.2
   proxies ← number_in p.3
   settings_if (setting_fault pages page_bytes k proxies) (profile_from pages page_bytes k proxies)
-
--- what a line says, wherever it stands
-pub data Saying : Type 0 where
-  nothing : Saying
-  opens : Profile → Saying
-  asked : Command → Saying
-  wrong : Saying
-
-abbrev pub opens_or_wrong : Option Profile → Saying
-opens_or_wrong None = wrong
-opens_or_wrong (Some settings) = opens settings
-
-abbrev pub asked_or_wrong : Option Command → Saying
-asked_or_wrong None = wrong
-asked_or_wrong (Some command) = asked command
-
--- whether the token begins a comment
-abbrev pub is_comment : List ℕ → Bool
-is_comment [] = false
-is_comment (x ∷ rest) = x == byte "#"
-
--- what a line with these tokens says
-abbrev pub tokens_say : List (List ℕ) → Saying
-tokens_say [] = nothing
-tokens_say (word ∷ args) =
-    if is_comment word then nothing
-    else (if bytes_eq word (codes "heap") then opens_or_wrong (settings_in args)
-    else asked_or_wrong (command_of word args))
-
-abbrev pub line_says : List ℕ → Saying
-line_says line = if is_too_long line then wrong else tokens_say (tokens (without_return line))
-
--- whether the line is blank or a comment
-abbrev pub are_idle : List (List ℕ) → Bool
-are_idle [] = true
-are_idle (word ∷ args) = is_comment word
-
-abbrev pub is_idle : List ℕ → Bool
-is_idle line = if is_too_long line then false else are_idle (tokens (without_return line))
 
 -- the numbers of the command are in range: those that their types don't keep
 abbrev pub IsWellFormed : Command → Type 0

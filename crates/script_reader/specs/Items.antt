@@ -1,8 +1,9 @@
 -- A script as items.
-use Rattle.std.specs.Prelude.{◌≡◌, ◌++◌, ℕ, Bool, true, false, ◌+◌, List, [], ◌∷◌, Option, Some, None, if◌then◌else◌}
+use Rattle.std.specs.Prelude.{◌≡◌, ◌++◌, ◌==◌, ℕ, Bool, true, false, ◌+◌, List, [], ◌∷◌, Option, Some, None, codes, option_map, if◌then◌else◌}
+use Rattle.std.specs.Str.{bytes_eq, byte}
 use Rattle.cf_base.specs.Settings.{Profile}
-use Rattle.script_reader.specs.Commands.{Saying, nothing, opens, asked, wrong, line_says}
-use Rattle.script_reader.specs.Lines.{lines}
+use Rattle.script_reader.specs.Commands.{command_of, settings_in}
+use Rattle.script_reader.specs.Lines.{is_too_long, lines, tokens, without_return}
 use Rattle.script_reader.specs.declared.command.Command.{Command}
 use Rattle.script_reader.specs.declared.command.Command.TheVariants.{Bound}
 use Rattle.script_reader.specs.declared.stage.Stage.{Stage}
@@ -14,6 +15,33 @@ pub data Item : Type 0 where
   asks : Command → Item
   bad : ℕ → Item
 
+-- what a line says, wherever it stands
+pub data Saying : Type 0 where
+  nothing : Saying
+  wrong : Saying
+  item : Item → Saying
+
+-- whether the token begins a comment
+abbrev pub is_comment : List ℕ → Bool
+is_comment [] = false
+is_comment (x ∷ rest) = x == byte "#"
+
+-- the item of a line with this first token and those after it, by the grammar
+abbrev pub item_in : List ℕ → List (List ℕ) → Option Item
+item_in word args = if bytes_eq word (codes "heap") then option_map starts (settings_in args) else option_map asks (command_of word args)
+
+abbrev pub item_or_wrong : Option Item → Saying
+item_or_wrong None = wrong
+item_or_wrong (Some i) = item i
+
+-- what a line with these tokens says
+abbrev pub tokens_say : List (List ℕ) → Saying
+tokens_say [] = nothing
+tokens_say (word ∷ args) = if is_comment word then nothing else item_or_wrong (item_in word args)
+
+abbrev pub line_says : List ℕ → Saying
+line_says line = if is_too_long line then wrong else tokens_say (tokens (without_return line))
+
 abbrev pub is_bound : Command → Bool
 is_bound (Bound slot_words k) = true
 is_bound _ = false
@@ -24,32 +52,44 @@ stage_behind Opening bounds = None
 stage_behind Bounding bounds = Some (if bounds then Bounding else Running)
 stage_behind Running bounds = if bounds then None else Some Running
 
--- The stage after a line that says this; none where it breaks a rule at its place. The first command
--- is `heap`, which stands nowhere else.
-abbrev pub stage_after : Stage → Saying → Option Stage
-stage_after stage nothing = Some stage
-stage_after stage wrong = None
-stage_after Opening (opens settings) = Some Bounding
-stage_after Bounding (opens settings) = None
-stage_after Running (opens settings) = None
-stage_after stage (asked command) = stage_behind stage (is_bound command)
+-- the stage after the `heap` line, which is the first command, and stands nowhere else
+abbrev pub stage_opened : Stage → Option Stage
+stage_opened Opening = Some Bounding
+stage_opened Bounding = None
+stage_opened Running = None
 
--- what the line says, in front of the items after it
-abbrev pub said_items : Saying → List Item → List Item
-said_items nothing after = after
-said_items (opens settings) after = starts settings ∷ after
-said_items (asked command) after = asks command ∷ after
-said_items wrong after = after
+-- the stage after an item; none where it breaks a rule at its place
+abbrev pub stage_after : Stage → Item → Option Stage
+stage_after stage (starts settings) = stage_opened stage
+stage_after stage (asks command) = stage_behind stage (is_bound command)
+stage_after stage (bad line) = None
 
--- the items from line n + 1 on, which says this and leads to this stage
-abbrev pub items_by : Option Stage → Saying → ℕ → (Stage → List Item) → List Item
-items_by None said n after = bad (n + 1) ∷ []
-items_by (Some next) said n after = said_items said (after next)
+-- what becomes of a line at its place: it is passed, or gives an item and leads to a stage, or breaks a rule
+pub data Verdict : Type 0 where
+  passes : Verdict
+  gives : Item → Stage → Verdict
+  breaks : Verdict
+
+abbrev pub gives_or_breaks : Item → Option Stage → Verdict
+gives_or_breaks i None = breaks
+gives_or_breaks i (Some next) = gives i next
+
+-- the verdict on a line that says this, where the script stands at this stage
+abbrev pub verdict : Stage → Saying → Verdict
+verdict stage nothing = passes
+verdict stage wrong = breaks
+verdict stage (item i) = gives_or_breaks i (stage_after stage i)
+
+-- the items from line n + 1 on, by its verdict, and by the items after it from each stage
+abbrev pub items_by : Verdict → ℕ → Stage → (Stage → List Item) → List Item
+items_by passes n stage after = after stage
+items_by (gives i next) n stage after = i ∷ after next
+items_by breaks n stage after = bad (n + 1) ∷ []
 
 -- the items of these lines, where n lines came before and the script stands at this stage
 abbrev pub items_at : List (List ℕ) → ℕ → Stage → List Item
 items_at [] n stage = []
-items_at (line ∷ rest) n stage = items_by (stage_after stage (line_says line)) (line_says line) n (items_at rest (n + 1))
+items_at (line ∷ rest) n stage = items_by (verdict stage (line_says line)) n stage (items_at rest (n + 1))
 
 -- the items of these bytes, where `ended` says whether the input ends there
 abbrev pub items : List ℕ → Bool → List Item

@@ -9,7 +9,7 @@ kept_in r = drop r.start r.buffer.items
 abbrev pub reading_of : Inside → Reading
 reading_of r = record { kept = kept_in r; passed = r.passed; stage = r.stage; ended = r.ended; stopped = r.stopped; fed = r.fed }
 
--- the kept bytes are an end of the buffer; a front of them was searched; each line passed had a byte
+-- the kept bytes are a suffix of the buffer; a prefix of them was searched; each line passed had a byte
 pub record IsValid (r : Inside) : Type 0 where
   pub start : r.start ≤ length r.buffer.items
   pub few : length r.buffer.items ≤ 9000

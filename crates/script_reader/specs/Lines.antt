@@ -9,7 +9,7 @@ LONGEST = 8999
 abbrev pub is_too_long : List ℕ → Bool
 is_too_long line = nat_lt LONGEST (length line)
 
--- the byte comes in front of the first text
+-- the byte, and then the first text
 abbrev pub onto_first : ℕ → List (List ℕ) → List (List ℕ)
 onto_first x [] = (x ∷ []) ∷ []
 onto_first x (text ∷ rest) = (x ∷ text) ∷ rest

@@ -1,7 +1,7 @@
 -- Calls of a reader, one after the other, and what they gave.
 use Rattle.std.specs.Prelude.{◌≡◌, ◌++◌, ℕ, Bool, true, false, List, [], ◌∷◌}
 use Rattle.cf_base.specs.Settings.{profile_of}
-use Rattle.script_reader.specs.Items.{Item, asks, bad, starts}
+use Rattle.script_reader.specs.Items.{Item, asks, bad, items, starts}
 use Rattle.script_reader.specs.Reading.{Answers, Reading, fed_with}
 use Rattle.script_reader.specs.declared.next.Next.{Next}
 use Rattle.script_reader.specs.declared.next.Next.TheVariants.{Start, Command, NeedMore, Bad, End}
@@ -36,7 +36,7 @@ is_finished (feeds bytes ∷ rest) = is_finished rest
 is_finished (finishes ∷ rest) = true
 is_finished (answers next ∷ rest) = is_finished rest
 
--- the answer, where it is an item, in front of the items after it; nothing comes after a bad line
+-- the answer, where it is an item, and then the items after it; nothing comes after a bad line
 abbrev pub given_then : Next → List Item → List Item
 given_then (Start settings) after = starts (profile_of settings) ∷ after
 given_then (Command command) after = asks command ∷ after
@@ -50,3 +50,16 @@ items_given [] = []
 items_given (feeds bytes ∷ rest) = items_given rest
 items_given (finishes ∷ rest) = items_given rest
 items_given (answers next ∷ rest) = given_then next (items_given rest)
+
+-- whether a bad line was answered
+abbrev pub is_stopped : List ReaderCall → Bool
+is_stopped [] = false
+is_stopped (feeds bytes ∷ rest) = is_stopped rest
+is_stopped (finishes ∷ rest) = is_stopped rest
+is_stopped (answers (Bad line) ∷ rest) = true
+is_stopped (answers next ∷ rest) = is_stopped rest
+
+-- every item of the bytes fed was given, and none was bad
+pub record AllGiven (calls : List ReaderCall) : Type 0 where
+  pub given : items (bytes_fed calls) (is_finished calls) ≡ items_given calls
+  pub none_bad : is_stopped calls ≡ false

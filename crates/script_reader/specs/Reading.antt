@@ -1,12 +1,14 @@
--- What the reader still has to say.
+-- What a reader was fed and keeps, which items it still has, and what each answer says of them.
 use Rattle.std.specs.Prelude.{◌≡◌, ◌<◌, ◌≤◌, ◌+◌, ◌-◌, ◌==◌, ◌||◌, ◌⊎◌, ◌++◌, ℕ, Bool, true, false, List, [], ◌∷◌, Option, Some, None, is_some, length, take, drop, min, if◌then◌else◌}
 use Rattle.std.specs.List.{list_any}
 use Rattle.cf_base.specs.Settings.{profile_of}
+use Rattle.cf_base.specs.declared.settings.Settings.{Settings}
 use Rattle.script_reader.specs.Commands.{IsWellFormed}
 use Rattle.script_reader.specs.Items.{Item, asks, bad, starts, items_at, is_bound, stage_behind}
 use Rattle.script_reader.specs.Lines.{LONGEST, is_last_line, lines}
+use Rattle.script_reader.specs.declared.command.Command.{Command}
 use Rattle.script_reader.specs.declared.next.Next.{Next}
-use Rattle.script_reader.specs.declared.next.Next.TheVariants.{Start, Command, NeedMore, Bad, End}
+use Rattle.script_reader.specs.declared.next.Next.TheVariants as answer
 use Rattle.script_reader.specs.declared.stage.Stage.{Stage}
 use Rattle.script_reader.specs.declared.stage.Stage.TheVariants.{Opening, Bounding}
 
@@ -52,50 +54,73 @@ items_left r more ended = if is_some r.stopped then []
 abbrev pub holds_line_feed : List ℕ → Bool
 holds_line_feed = list_any (λ x. x == 10)
 
--- a front of the kept bytes was dropped, and its lines were counted
-pub record Drops (old new : Reading) : Type 0 where
+-- A prefix of the kept bytes was read, which holds these items. Its lines were counted, and whatever comes
+-- next, the items left are these and then those that the new reading has left.
+pub record Reads (old : Reading) (first : List Item) (new : Reading) : Type 0 where
+  pub going : old.stopped ≡ None
   pub front : List ℕ
   pub kept : old.kept ≡ front ++ new.kept
   pub counted : new.passed + length (lines new.kept true) ≡ old.passed + length (lines old.kept true)
-
--- an item was read off, and fewer bytes are kept
-pub record Advances (old new : Reading) : Type 0 where
-  pub going : old.stopped ≡ None
-  pub still : new.stopped ≡ None
   pub same_end : new.ended ≡ old.ended
   pub same_fed : new.fed ≡ old.fed
-  pub drops : Drops old new
-  pub shorter : length new.kept < length old.kept
+  pub left : (more : List ℕ) (ended : Bool) → items_left old more ended ≡ first ++ items_left new more ended
 
 -- nothing but blank lines and comments was passed
 pub record PassesOver (old new : Reading) : Type 0 where
-  pub going : old.stopped ≡ None
+  pub reads : Reads old [] new
   pub still : new.stopped ≡ None
-  pub same_end : new.ended ≡ old.ended
-  pub same_fed : new.fed ≡ old.fed
-  pub drops : Drops old new
-  pub within : length new.kept ≤ length old.kept
   pub same_stage : new.stage ≡ old.stage
-  pub left : (more : List ℕ) (ended : Bool) → items_left old more ended ≡ items_left new more ended
 
--- the answer at a bad line, and each one after it
+-- the `heap` line came, with these settings
+pub record AnswersStart (old : Reading) (settings : Settings) (new : Reading) : Type 0 where
+  pub reads : Reads old (starts (profile_of settings) ∷ []) new
+  pub still : new.stopped ≡ None
+  pub shorter : length new.kept < length old.kept
+  pub opening : old.stage ≡ Opening
+  pub bounding : new.stage ≡ Bounding
+
+-- this command came
+pub record AnswersCommand (old : Reading) (command : Command) (new : Reading) : Type 0 where
+  pub reads : Reads old (asks command ∷ []) new
+  pub still : new.stopped ≡ None
+  pub shorter : length new.kept < length old.kept
+  pub formed : IsWellFormed command
+  pub leads : stage_behind old.stage (is_bound command) ≡ Some new.stage
+
+-- no item is left, and more bytes may come
+pub record NeedsMore (old new : Reading) : Type 0 where
+  pub passes : PassesOver old new
+  pub open_end : old.ended ≡ false
+  pub none_left : items_left old [] false ≡ []
+  pub few : length new.kept ≤ LONGEST
+  pub no_feed : holds_line_feed new.kept ≡ false
+
+-- no item is left, and the end was told
+pub record HasEnded (old new : Reading) : Type 0 where
+  pub passes : PassesOver old new
+  pub told : old.ended ≡ true
+  pub none_left : items_left old [] true ≡ []
+  pub empty : new.kept ≡ []
+
+-- the next line with an item is bad, and the script stops there
+pub record StopsAt (old : Reading) (line : ℕ) (new : Reading) : Type 0 where
+  pub reads : Reads old (bad line ∷ []) new
+  pub stopped : new.stopped ≡ Some line
+  pub number : new.passed ≡ line
+  pub same_stage : new.stage ≡ old.stage
+
+-- the answer at a bad line, and the same one ever after
 abbrev pub AnswersBad : Reading → Option ℕ → ℕ → Reading → Type 0
+AnswersBad old None line new = StopsAt old line new
 AnswersBad old (Some before) line new = (line ≡ before) × (new ≡ old)
-AnswersBad old None line new = ((more : List ℕ) (ended : Bool) → items_left old more ended ≡ bad line ∷ [])
-    × (new.stopped ≡ Some line) × (new.passed ≡ line) × (new.ended ≡ old.ended) × (new.fed ≡ old.fed) × Drops old new × (new.stage ≡ old.stage)
 
 -- what the answer says of the items, whatever comes next
 abbrev pub Answers : Reading → Next → Reading → Type 0
-Answers old (Start settings) new = Advances old new
-    × ((more : List ℕ) (ended : Bool) → items_left old more ended ≡ starts (profile_of settings) ∷ items_left new more ended)
-    × (old.stage ≡ Opening) × (new.stage ≡ Bounding)
-Answers old (Command command) new = Advances old new × IsWellFormed command
-    × ((more : List ℕ) (ended : Bool) → items_left old more ended ≡ asks command ∷ items_left new more ended)
-    × (stage_behind old.stage (is_bound command) ≡ Some new.stage)
-Answers old NeedMore new = PassesOver old new × (old.ended ≡ false) × (items_left old [] false ≡ [])
-    × (length new.kept ≤ LONGEST) × (holds_line_feed new.kept ≡ false)
-Answers old (Bad line) new = AnswersBad old old.stopped line new
-Answers old End new = PassesOver old new × (old.ended ≡ true) × (items_left old [] true ≡ []) × (new.kept ≡ [])
+Answers old (answer.Start settings) new = AnswersStart old settings new
+Answers old (answer.Command command) new = AnswersCommand old command new
+Answers old answer.NeedMore new = NeedsMore old new
+Answers old (answer.Bad line) new = AnswersBad old old.stopped line new
+Answers old answer.End new = HasEnded old new
 
 -- where the first line ends, and where the next one begins: behind the line feed, or at the end where the rest counts as a line
 pub record IsFirstLine (kept : List ℕ) (ended : Bool) (len next : ℕ) : Type 0 where

@@ -1,17 +1,33 @@
 //! Laws of scripts, for those who prove what is done with their items.
-ghost use Rattle.std.specs.Prelude.{ℕ, List, Bool, false, ◌++◌};
-ghost use Rattle.script_reader.specs.ReaderCalls.{AreCalls, ReaderCall, bytes_fed, is_finished, items_given};
-ghost use Rattle.script_reader.specs.Items.{AreFirstOf, items};
-ghost use Rattle.script_reader.specs.Reading.{Reading, fresh};
+ghost use Rattle.std.specs.Prelude.{◌≡◌, ◌↔◌, ℕ, List, [], ◌∷◌, Bool, true, false, ◌++◌};
+ghost use Rattle.script_reader.specs.ReaderCalls.{AllGiven, AreCalls, ReaderCall, bytes_fed, is_finished, is_stopped, items_given};
+ghost use Rattle.script_reader.specs.Items.{AreFirstOf, bad, items};
+ghost use Rattle.script_reader.specs.Reading.{Answers, Reading, fresh, items_left};
+ghost use Rattle.script_reader.specs.declared.next.Next.{Next};
+ghost use Rattle.script_reader.specs.declared.next.Next.TheVariants.{NeedMore, Bad, End};
 
 /// Items once read stay, whatever bytes come next.
 pub fn items_stay()
     ensures { (bytes more : List ℕ) (ended : Bool) → AreFirstOf (items bytes false) (items (bytes ++ more) ended) }
 {}
 
-/// However a script is cut into pieces, and whenever the reader is asked, its answers up to the first
-/// bad line are the first items of the bytes fed so far.
+/// However a script is cut into pieces, and whenever the reader is asked: its answers up to the first
+/// bad line, and then what it has left, are the items of the bytes fed so far.
 pub fn answers_are_items()
-    ensures { (calls : List ReaderCall) (now : Reading) → AreCalls fresh calls now
+    ensures first { (calls : List ReaderCall) (now : Reading) → AreCalls fresh calls now
         → AreFirstOf (items_given calls) (items (bytes_fed calls) (is_finished calls)) }
+    ensures rest { (calls : List ReaderCall) (now : Reading) → AreCalls fresh calls now
+        → items (bytes_fed calls) (is_finished calls) ≡ items_given calls ++ items_left now [] false }
+{}
+
+/// Which answer comes after these calls. `NeedMore` comes exactly where no end was told and every item
+/// of the bytes fed was given, none bad; `End` exactly where the end was told and every item was given,
+/// none bad; and as long as none was bad, `Bad` exactly where the next item is bad.
+pub fn answers_come_exactly()
+    ensures need_more { (calls : List ReaderCall) (now new : Reading) (next : Next) → AreCalls fresh calls now → Answers now next new
+        → (next ≡ NeedMore ↔ AllGiven calls × (is_finished calls ≡ false)) }
+    ensures end { (calls : List ReaderCall) (now new : Reading) (next : Next) → AreCalls fresh calls now → Answers now next new
+        → (next ≡ End ↔ AllGiven calls × (is_finished calls ≡ true)) }
+    ensures bad { (calls : List ReaderCall) (now new : Reading) (next : Next) (line : ℕ) → AreCalls fresh calls now → Answers now next new
+        → is_stopped calls ≡ false → (next ≡ Bad line ↔ items (bytes_fed calls) (is_finished calls) ≡ items_given calls ++ bad line ∷ []) }
 {}

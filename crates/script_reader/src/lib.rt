@@ -13,7 +13,7 @@ mod stage;
 mod tokens;
 
 pub use command::Command;
-pub use laws::{answers_are_items, items_stay};
+pub use laws::{answers_are_items, answers_come_exactly, items_stay};
 pub use next::Next;
 pub use payload::Payload;
 pub use reader::Reader;

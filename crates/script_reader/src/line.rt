@@ -1,12 +1,14 @@
-//! What a line orders, by the grammar.
+//! What a line says, by the grammar.
 ghost use Rattle.std.specs.Prelude.{◌≡◌, ◌≤◌, ◌∷◌, IfSome, codes, length, option_map};
 ghost use Rattle.std.specs.Str.{bytes_eq};
 ghost use Rattle.cf_base.specs.Settings.{profile_of};
 ghost use Rattle.script_reader.specs.Commands as grammar;
-ghost use Rattle.script_reader.specs.Commands.{asked_or_wrong};
 ghost use Rattle.script_reader.specs.declared.command.Command.{Command};
+ghost use Rattle.script_reader.specs.Items as script;
+ghost use Rattle.script_reader.specs.Items.{asks, line_says, tokens_say};
 ghost use Rattle.script_reader.specs.Lines.{is_too_long as too_long, tokens};
-ghost use Rattle.script_reader.specs.ParsedLine.{IsValidLine, or_wrong, said_by};
+ghost use Rattle.script_reader.specs.Look as look;
+ghost use Rattle.script_reader.specs.ParsedLine.{IsValidLine, item_if_parsed, item_said};
 
 use crate::fields::{
     four_tokens, id_and_number, id_number_and_length, id_number_and_text, is_done,
@@ -22,7 +24,7 @@ pub const LONGEST: usize = 8_999;
 
 /// `m ID BYTES`.
 fn malloc(args: &[u8]) -> Option<ParsedLine>
-    ensures value { said_by result ≡ asked_or_wrong (grammar.malloc_in (tokens args.now)) }
+    ensures value { item_if_parsed result ≡ option_map asks (grammar.malloc_in (tokens args.now)) }
     ensures fits { IfSome result IsValidLine }
 {
     let (id, bytes) = id_and_number(args)?;
@@ -31,7 +33,7 @@ fn malloc(args: &[u8]) -> Option<ParsedLine>
 
 /// `f ID`.
 fn free(args: &[u8]) -> Option<ParsedLine>
-    ensures value { said_by result ≡ asked_or_wrong (grammar.free_in (tokens args.now)) }
+    ensures value { item_if_parsed result ≡ option_map asks (grammar.free_in (tokens args.now)) }
     ensures fits { IfSome result IsValidLine }
 {
     let id = one_id(args)?;
@@ -40,7 +42,7 @@ fn free(args: &[u8]) -> Option<ParsedLine>
 
 /// `w ID AT HEX`.
 fn write(args: &[u8]) -> Option<ParsedLine>
-    ensures value { said_by result ≡ asked_or_wrong (grammar.write_in (tokens args.now)) }
+    ensures value { item_if_parsed result ≡ option_map asks (grammar.write_in (tokens args.now)) }
     ensures fits { IfSome result IsValidLine }
 {
     let (id, at, digits) = id_number_and_text(args)?;
@@ -49,7 +51,7 @@ fn write(args: &[u8]) -> Option<ParsedLine>
 
 /// `r ID AT LEN`.
 fn read(args: &[u8]) -> Option<ParsedLine>
-    ensures value { said_by result ≡ asked_or_wrong (grammar.read_in (tokens args.now)) }
+    ensures value { item_if_parsed result ≡ option_map asks (grammar.read_in (tokens args.now)) }
     ensures fits { IfSome result IsValidLine }
 {
     let (id, at, len) = id_number_and_length(args)?;
@@ -58,7 +60,7 @@ fn read(args: &[u8]) -> Option<ParsedLine>
 
 /// `q ID`.
 fn place(args: &[u8]) -> Option<ParsedLine>
-    ensures value { said_by result ≡ asked_or_wrong (grammar.place_command_in (tokens args.now)) }
+    ensures value { item_if_parsed result ≡ option_map asks (grammar.place_command_in (tokens args.now)) }
     ensures fits { IfSome result IsValidLine }
 {
     let id = one_id(args)?;
@@ -67,7 +69,7 @@ fn place(args: &[u8]) -> Option<ParsedLine>
 
 /// `b ID I`.
 fn block(args: &[u8]) -> Option<ParsedLine>
-    ensures value { said_by result ≡ asked_or_wrong (grammar.block_command_in (tokens args.now)) }
+    ensures value { item_if_parsed result ≡ option_map asks (grammar.block_command_in (tokens args.now)) }
     ensures fits { IfSome result IsValidLine }
 {
     let (id, i) = id_and_number(args)?;
@@ -76,7 +78,7 @@ fn block(args: &[u8]) -> Option<ParsedLine>
 
 /// `p WORD`.
 fn peek(args: &[u8]) -> Option<ParsedLine>
-    ensures value { said_by result ≡ asked_or_wrong (grammar.peek_in (tokens args.now)) }
+    ensures value { item_if_parsed result ≡ option_map asks (grammar.peek_in (tokens args.now)) }
     ensures fits { IfSome result IsValidLine }
 {
     let word = one_number(args)?;
@@ -85,7 +87,7 @@ fn peek(args: &[u8]) -> Option<ParsedLine>
 
 /// `k SLOTWORDS K`.
 fn bound(args: &[u8]) -> Option<ParsedLine>
-    ensures value { said_by result ≡ asked_or_wrong (grammar.bound_command_in (tokens args.now)) }
+    ensures value { item_if_parsed result ≡ option_map asks (grammar.bound_command_in (tokens args.now)) }
     ensures fits { IfSome result IsValidLine }
 {
     let (slot_words, k) = number_and_bound(args)?;
@@ -94,7 +96,7 @@ fn bound(args: &[u8]) -> Option<ParsedLine>
 
 /// `z ID BYTES`.
 fn resize(args: &[u8]) -> Option<ParsedLine>
-    ensures value { said_by result ≡ asked_or_wrong (grammar.resize_in (tokens args.now)) }
+    ensures value { item_if_parsed result ≡ option_map asks (grammar.resize_in (tokens args.now)) }
     ensures fits { IfSome result IsValidLine }
 {
     let (id, bytes) = id_and_number(args)?;
@@ -103,7 +105,7 @@ fn resize(args: &[u8]) -> Option<ParsedLine>
 
 /// `t TASK`.
 fn task(args: &[u8]) -> Option<ParsedLine>
-    ensures value { said_by result ≡ asked_or_wrong (grammar.task_command_in (tokens args.now)) }
+    ensures value { item_if_parsed result ≡ option_map asks (grammar.task_command_in (tokens args.now)) }
     ensures fits { IfSome result IsValidLine }
 {
     let task = one_task(args)?;
@@ -112,7 +114,7 @@ fn task(args: &[u8]) -> Option<ParsedLine>
 
 /// `quota TASK PAGES`.
 fn quota(args: &[u8]) -> Option<ParsedLine>
-    ensures value { said_by result ≡ asked_or_wrong (grammar.quota_in (tokens args.now)) }
+    ensures value { item_if_parsed result ≡ option_map asks (grammar.quota_in (tokens args.now)) }
     ensures fits { IfSome result IsValidLine }
 {
     let (task, pages) = task_and_number(args)?;
@@ -121,7 +123,7 @@ fn quota(args: &[u8]) -> Option<ParsedLine>
 
 /// `need TASK BYTES COUNT`.
 fn need(args: &[u8]) -> Option<ParsedLine>
-    ensures value { said_by result ≡ asked_or_wrong (grammar.need_in (tokens args.now)) }
+    ensures value { item_if_parsed result ≡ option_map asks (grammar.need_in (tokens args.now)) }
     ensures fits { IfSome result IsValidLine }
 {
     let (task, bytes, count) = task_and_numbers(args)?;
@@ -130,7 +132,7 @@ fn need(args: &[u8]) -> Option<ParsedLine>
 
 /// `admit TASK`.
 fn admit(args: &[u8]) -> Option<ParsedLine>
-    ensures value { said_by result ≡ asked_or_wrong (grammar.admit_in (tokens args.now)) }
+    ensures value { item_if_parsed result ≡ option_map asks (grammar.admit_in (tokens args.now)) }
     ensures fits { IfSome result IsValidLine }
 {
     let task = one_task(args)?;
@@ -139,7 +141,7 @@ fn admit(args: &[u8]) -> Option<ParsedLine>
 
 /// `s`.
 fn slice(args: &[u8]) -> Option<ParsedLine>
-    ensures value { said_by result ≡ asked_or_wrong (grammar.alone_in Command.Slice (tokens args.now)) }
+    ensures value { item_if_parsed result ≡ option_map asks (grammar.alone_in Command.Slice (tokens args.now)) }
     ensures fits { IfSome result IsValidLine }
 {
     if is_done(args) {
@@ -151,7 +153,7 @@ fn slice(args: &[u8]) -> Option<ParsedLine>
 
 /// `walk`.
 fn walk(args: &[u8]) -> Option<ParsedLine>
-    ensures value { said_by result ≡ asked_or_wrong (grammar.alone_in Command.Walk (tokens args.now)) }
+    ensures value { item_if_parsed result ≡ option_map asks (grammar.alone_in Command.Walk (tokens args.now)) }
     ensures fits { IfSome result IsValidLine }
 {
     if is_done(args) {
@@ -163,7 +165,7 @@ fn walk(args: &[u8]) -> Option<ParsedLine>
 
 /// `frag`.
 fn frag(args: &[u8]) -> Option<ParsedLine>
-    ensures value { said_by result ≡ asked_or_wrong (grammar.alone_in Command.Frag (tokens args.now)) }
+    ensures value { item_if_parsed result ≡ option_map asks (grammar.alone_in Command.Frag (tokens args.now)) }
     ensures fits { IfSome result IsValidLine }
 {
     if is_done(args) {
@@ -175,7 +177,7 @@ fn frag(args: &[u8]) -> Option<ParsedLine>
 
 /// `steps`.
 fn steps(args: &[u8]) -> Option<ParsedLine>
-    ensures value { said_by result ≡ asked_or_wrong (grammar.alone_in Command.Steps (tokens args.now)) }
+    ensures value { item_if_parsed result ≡ option_map asks (grammar.alone_in Command.Steps (tokens args.now)) }
     ensures fits { IfSome result IsValidLine }
 {
     if is_done(args) {
@@ -187,7 +189,7 @@ fn steps(args: &[u8]) -> Option<ParsedLine>
 
 /// The commands whose word is a letter.
 fn letter_command(letter: u8, args: &[u8]) -> Option<ParsedLine>
-    ensures value { said_by result ≡ asked_or_wrong (grammar.letter_command letter (tokens args.now)) }
+    ensures value { item_if_parsed result ≡ option_map asks (grammar.letter_command letter (tokens args.now)) }
     ensures fits { IfSome result IsValidLine }
 {
     match letter {
@@ -208,7 +210,7 @@ fn letter_command(letter: u8, args: &[u8]) -> Option<ParsedLine>
 
 /// The commands whose word is longer.
 fn word_command<'a>(word: &[u8], args: &'a [u8]) -> Option<ParsedLine<'a>>
-    ensures value { said_by result ≡ asked_or_wrong (grammar.word_command word.now (tokens args.now)) }
+    ensures value { item_if_parsed result ≡ option_map asks (grammar.word_command word.now (tokens args.now)) }
     ensures fits { IfSome result IsValidLine }
 {
     if word == b"walk".as_slice() {
@@ -228,9 +230,9 @@ fn word_command<'a>(word: &[u8], args: &'a [u8]) -> Option<ParsedLine<'a>>
     }
 }
 
-/// The command of a word and what stands behind it.
+/// The command of a word and the tokens after it.
 fn command_of<'a>(word: &[u8], args: &'a [u8]) -> Option<ParsedLine<'a>>
-    ensures value { said_by result ≡ asked_or_wrong (grammar.command_of word.now (tokens args.now)) }
+    ensures value { item_if_parsed result ≡ option_map asks (grammar.command_of word.now (tokens args.now)) }
     ensures fits { IfSome result IsValidLine }
 {
     if word.len() == 1 {
@@ -265,7 +267,7 @@ fn is_too_long(text: &[u8]) -> bool
 /// Whether the token begins a comment.
 fn is_comment(word: &[u8]) -> bool
     requires { 1 ≤ length word.now }
-    ensures { result ≡ grammar.is_comment word.now }
+    ensures { result ≡ script.is_comment word.now }
 {
     word[0] == b'#'
 }
@@ -279,7 +281,7 @@ fn is_heap(word: &[u8]) -> bool
 
 /// Whether a line without its line feed is blank or a comment.
 pub fn is_idle(text: &[u8]) -> bool
-    ensures { result ≡ grammar.is_idle text.now }
+    ensures { result ≡ look.is_idle text.now }
 {
     if is_too_long(text) {
         return false;
@@ -290,9 +292,9 @@ pub fn is_idle(text: &[u8]) -> bool
     }
 }
 
-/// What a line orders, without its line feed; None where it is blank, a comment, or not in the grammar.
+/// What a line says, without its line feed; None where it is blank, a comment, or not in the grammar.
 pub fn read_line(text: &[u8]) -> Option<ParsedLine>
-    ensures value { said_by result ≡ or_wrong (grammar.line_says text.now) }
+    ensures value { item_if_parsed result ≡ item_said (line_says text.now) }
     ensures fits { IfSome result IsValidLine }
 {
     if is_too_long(text) {
@@ -307,7 +309,7 @@ pub fn read_line(text: &[u8]) -> Option<ParsedLine>
 /// Reads a line by its first token, and what follows it.
 fn parse_line<'a>(word: &[u8], args: &'a [u8]) -> Option<ParsedLine<'a>>
     requires { 1 ≤ length word.now }
-    ensures value { said_by result ≡ or_wrong (grammar.tokens_say (word.now ∷ tokens args.now)) }
+    ensures value { item_if_parsed result ≡ item_said (tokens_say (word.now ∷ tokens args.now)) }
     ensures fits { IfSome result IsValidLine }
 {
     if is_comment(word) {

@@ -1,14 +1,14 @@
-//! What a line orders, before it is answered. An answer keeps the bytes of a write in place, so that
-//! it is dear to move; an order lends the digits that spell them.
+//! What a line says, before it is answered. An answer keeps the bytes of a write in place, so that it
+//! is dear to move; a parsed line borrows the digits that spell them.
 ghost use Rattle.std.specs.Prelude.{◌≡◌, IfSome};
-ghost use Rattle.script_reader.specs.ParsedLine.{IsInRange, IsValidLine, said_by, saying_of};
+ghost use Rattle.script_reader.specs.ParsedLine.{IsInRange, IsValidLine, item_answered, item_if_parsed};
 
 use crate::command::Command;
 use crate::next::Next;
 use crate::payload::Payload;
 use cf_base::Settings;
 
-/// What a line orders: to open the heap, or a command by the same name.
+/// What a line says: that the heap is opened, or a command by the same name.
 #[derive(Clone, Copy)]
 pub enum ParsedLine<'a> {
     Start(Settings),
@@ -31,16 +31,16 @@ pub enum ParsedLine<'a> {
     Admit { task: u32 },
 }
 
-/// The answer to the line of this number, which ordered this.
-pub fn into_next(order: Option<ParsedLine>, line: u32) -> Next
-    requires sound { IfSome order IsValidLine }
-    ensures value { saying_of result ≡ said_by order.entry }
+/// The answer to the line of this number, which says this; None where it is not in the grammar.
+pub fn into_next(parsed: Option<ParsedLine>, line: u32) -> Next
+    requires sound { IfSome parsed IsValidLine }
+    ensures value { item_answered result ≡ item_if_parsed parsed.entry }
     ensures fits { IsInRange result }
 {
-    let Some(order) = order else {
+    let Some(parsed) = parsed else {
         return Next::Bad { line };
     };
-    match order {
+    match parsed {
         ParsedLine::Start(settings) => Next::Start(settings),
         ParsedLine::Malloc { id, bytes } => Next::Command(Command::Malloc { id, bytes }),
         ParsedLine::Free { id } => Next::Command(Command::Free { id }),

@@ -1,8 +1,7 @@
 //! The reader of scripts.
 ghost use Rattle.std.specs.Prelude.{◌≡◌, ◌≤◌, ◌==◌, false, length, take, drop, position, MatchOption, None, true};
-ghost use Rattle.script_reader.specs.Commands.{is_idle};
 ghost use Rattle.script_reader.specs.Lines.{is_last_line};
-ghost use Rattle.script_reader.specs.Look.{Looks};
+ghost use Rattle.script_reader.specs.Look.{Looks, is_idle};
 ghost use Rattle.script_reader.specs.Reading.{Answers, HasNoLine, IsFirstLine, fed_with, fresh, holds_line_feed, taken};
 
 use crate::line::{LONGEST, is_idle as is_idle_line, read_line};
@@ -61,7 +60,7 @@ impl Reader {
         }
     }
 
-    /// Takes the front of the piece, and answers how many bytes: the least of the piece's length, the
+    /// Takes a prefix of the piece, and returns how many bytes: the least of the piece's length, the
     /// room left of 9,000 bytes, and what keeps all bytes ever fed at `2^32 - 1`.
     pub fn feed(&mut self, piece: &[u8]) -> usize
         requires { self.old.ended ≡ false }
@@ -90,7 +89,7 @@ impl Reader {
     /// What comes next. Blank lines and comments are passed over. `NeedMore` comes exactly where no end
     /// was told and the bytes kept after such lines are no whole line, `End` exactly where the end was
     /// told and no line is left, and `Bad` exactly where the next line isn't in the grammar at its
-    /// place; from then on every call answers that same `Bad`.
+    /// place; from then on every call returns that same `Bad`.
     pub fn next_command(&mut self) -> Next
         ensures { Answers self.old result self.new }
     {
@@ -155,7 +154,7 @@ impl Reader {
     }
 }
 
-/// Drops the front of the buffer.
+/// Drops the bytes of the buffer before `start`.
 fn drop_front(buffer: &mut ArrayVec<u8, ROOM>, start: usize)
     requires { start ≤ length buffer.old.items }
     ensures { buffer.new.items ≡ drop start buffer.old.items }
@@ -185,7 +184,7 @@ enum Looked {
     Ended,
 }
 
-/// Where the first line feed is, where none is in front of `from`.
+/// Where the first line feed is, where none is before `from`.
 fn line_feed_from(kept: &[u8], from: usize) -> Option<usize>
     requires within { from ≤ length kept.now }
     requires searched { holds_line_feed (take from kept.now) ≡ false }

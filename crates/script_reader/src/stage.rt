@@ -1,7 +1,8 @@
 //! How far a script has come.
 ghost use Rattle.std.specs.Prelude.{◌≡◌};
+ghost use Rattle.std.specs.Option.{option_and_then};
 ghost use Rattle.script_reader.specs.Items as place;
-ghost use Rattle.script_reader.specs.ParsedLine.{saying_of};
+ghost use Rattle.script_reader.specs.ParsedLine.{item_answered};
 
 use crate::command::Command;
 use crate::next::Next;
@@ -19,7 +20,7 @@ pub enum Stage {
 
 /// The stage after an answer to a line; None where the line breaks a rule at its place.
 pub fn stage_after(stage: Stage, next: &Next) -> Option<Stage>
-    ensures { result ≡ place.stage_after stage (saying_of next.now) }
+    ensures { result ≡ option_and_then (place.stage_after stage) (item_answered next.now) }
 {
     match next {
         Next::Start(_) => match stage {

@@ -32,7 +32,7 @@ fn is_gap(x: u8) -> bool
     x == b' ' || x == b'\t'
 }
 
-/// How many gaps stand in front.
+/// How many gaps the text begins with.
 fn gaps(text: &[u8]) -> usize
     ensures value { result ≡ position_or_len (λ x. not (gap x)) text.now }
     ensures within { result ≤ length text.now }
@@ -40,7 +40,7 @@ fn gaps(text: &[u8]) -> usize
     first_other(text).unwrap_or(text.len())
 }
 
-/// How many bytes stand in front of the first gap.
+/// How many bytes stand before the first gap.
 fn token_length(text: &[u8]) -> usize
     ensures value { result ≡ position_or_len gap text.now }
     ensures within { result ≤ length text.now }

@@ -23,14 +23,14 @@ replies-preserved-in-GoesOn g c =
     let so_far = c.replies.invariant in
     let next = c.in-Start.ensures in
     let opened = c.in-GoesOn.ensures.opens in
-    let begun = begins so_far.answered c.in-Start.settings next.2 so_far.ready opened.0 refl in
+    let begun = begins so_far.answered c.in-Start.settings next.opening so_far.ready opened.0 refl in
     record {
       text = so_far.text ++ led [] (said (codes "ok"));
       answered = answered_then so_far.answered (answered_open _ _ c.in-Start.settings next begun);
-      ready = ready_open _ _ _ _ next.3 begun;
-      going = next.0.still;
-      same_end = next.0.same_end ∙ so_far.same_end;
-      fed = next.0.same_fed ∙ so_far.fed;
+      ready = ready_open _ _ _ _ next.bounding begun;
+      going = next.still;
+      same_end = next.reads.same_end ∙ so_far.same_end;
+      fed = next.reads.same_fed ∙ so_far.fed;
       wrote = appended_after _ _ _ _ _ so_far.wrote opened.1;
       grows = omega arith;
     }
@@ -40,7 +40,7 @@ returns-in-Cut-clause-goes g c =
     let so_far = c.replies.invariant in
     let next = c.in-Start.ensures in
     let opened = c.in-Cut.ensures.opens in
-    let begun = begins so_far.answered c.in-Start.settings next.2 so_far.ready opened.0 refl in
+    let begun = begins so_far.answered c.in-Start.settings next.opening so_far.ready opened.0 refl in
     record {
       out = so_far.text ++ opened.1.front;
       cut = cut_then so_far.answered (cut_open _ _ c.in-Start.settings opened.1.front opened.1.lost next begun opened.1.cut);
@@ -55,11 +55,11 @@ replies-preserved g c =
     record {
       text = so_far.text ++ led [] answer.reply;
       answered = answered_then so_far.answered (answered_command _ _ _ answer.reply next so_far.ready answer.turn);
-      ready = ready_behind _ _ _ _ _ answer.reply next.3 so_far.ready
+      ready = ready_behind _ _ _ _ _ answer.reply next.leads so_far.ready
           (record { opened = c.in-Ok.ensures.open; rules = c.in-Ok.ensures.rules; tied = c.in-Ok.ensures.tied }) answer.turn.step;
-      going = next.0.still;
-      same_end = next.0.same_end ∙ so_far.same_end;
-      fed = next.0.same_fed ∙ so_far.fed;
+      going = next.still;
+      same_end = next.reads.same_end ∙ so_far.same_end;
+      fed = next.reads.same_fed ∙ so_far.fed;
       wrote = appended_after _ _ _ _ _ so_far.wrote answer.written;
       grows = omega arith;
     }

@@ -12,8 +12,8 @@ returns-in-Some c =
     let told = rw (← c.self.view_is) at c.requires.told in
     let same = take_rest c.as_slice.result.now c.self.inside.start ∙ ap (drop c.self.inside.start) c.as_slice.ensures.value in
     rw (← c.self.view_is, ← drop-drop c.args.cut.next c.self.inside.start c.self.inside.buffer.items)
-    (step_in_place (reading_of c.self.inside) _ c.args.cut.len c.args.cut.next _ _ going same first told (c.into_next-next.ensures.value ∙ c.read_line.ensures.value)
-    c.into_next-next.ensures.fits c.in-Some.ensures)
+    (step_in_place (reading_of c.self.inside) _ c.args.cut.len c.args.cut.next _ going same first told
+    (c.into_next-next.ensures.value ∙ c.read_line.ensures.value) _ c.into_next-next.ensures.fits c.in-Some.ensures)
 
 pub returns-in-None : goal.returns-in-None
 returns-in-None c =
@@ -29,5 +29,6 @@ returns-in-None c =
     } in
     let answer : AnswersBad (reading_of c.self.inside) c.self.inside.stopped number later =
     rw (← drop-drop c.args.cut.next c.self.inside.start c.self.inside.buffer.items)
-    (step_out_of_place (reading_of c.self.inside) _ c.args.cut.len c.args.cut.next _ going same first told (c.into_next-next.ensures.value ∙ c.read_line.ensures.value) c.in-None.ensures) in
+    (step_out_of_place (reading_of c.self.inside) _ c.args.cut.len c.args.cut.next _ going same first told
+    (c.into_next-next.ensures.value ∙ c.read_line.ensures.value) c.in-None.ensures) in
     subst (λ (r : Reading). AnswersBad r r.stopped number later) c.self.view_is answer
