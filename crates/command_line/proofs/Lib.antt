@@ -1,2 +1,4 @@
+pub mod Addresses
 pub mod ClapReads
 pub mod KnownWords
+pub mod ReadAlike

@@ -18,7 +18,7 @@ returns-in-Ok-try_get_matches_from c =
     record {
       app = app;
       is_app = c.in-Ok.ensures;
-      taken = got.ensures.kinds (cf_is_free app c.in-Ok.ensures);
+      accepted = got.ensures.kinds (cf_is_free app c.in-Ok.ensures);
       chosen = rw (mode, kind, seed, count) refl;
     }
 
