@@ -1,6 +1,6 @@
 -- Words that are known, read by the command whose names lie at address 0.
-use Rattle.std.proofs.Common.{◌≡◌, ◌≢◌, List, [], ◌∷◌, refl, codes}
-use Rattle.clap.specs.Words.{Text, fault_of, matches_of}
+use Rattle.std.proofs.Common.{◌≡◌, List, [], ◌∷◌, refl, codes}
+use Rattle.clap.specs.Words.{Text}
 use Rattle.clap.specs.declared.error.kind.ErrorKind.TheVariants as kind
 use Rattle.clap.proofs.OnLiterals.{clap_on_literals}
 use Rattle.command_line.proofs.ReadAlike.{app_at_zero, is_app_at_zero}

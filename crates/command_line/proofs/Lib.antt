@@ -1,4 +1,6 @@
-pub mod Addresses
 pub mod ClapReads
+pub mod FaultAddresses
 pub mod KnownWords
 pub mod ReadAlike
+pub mod RuleAddresses
+pub mod WalkAddresses

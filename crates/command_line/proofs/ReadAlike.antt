@@ -1,10 +1,12 @@
 -- Every command that carries our names reads as the one whose names lie at address 0.
-use Rattle.std.proofs.Common.{◌≡◌, ◌≢◌, ◌∙◌, ◌⊎◌, List, [], map, refl, sym, ap, ap₂, inl, inr}
+use Rattle.std.proofs.Common.{◌≡◌, ◌∙◌, ◌⊎◌, List, map, refl, sym, ap, ap₂, inl, inr}
 use Rattle.std.specs.Prelude.{Result, Ok, Err}
 use Rattle.clap.specs.Simple.{argument_words, built, names_of}
 use Rattle.clap.specs.Walk.{nothing_held}
-use Rattle.clap.specs.Words.{App, Row, Text, fault_of, matches_of}
-use Rattle.command_line.proofs.Addresses.{at_zero, faults-rebased, rows-rebased}
+use Rattle.clap.specs.Words.{App, Text, fault_of, matches_of}
+use Rattle.command_line.proofs.FaultAddresses.{faults-rebased}
+use Rattle.command_line.proofs.RuleAddresses.{at_zero}
+use Rattle.command_line.proofs.WalkAddresses.{rows-rebased}
 use Rattle.command_line.specs.Choices.{AreAccepted, AreRefused, Chooses, ReadsAs, choice_of}
 use Rattle.command_line.specs.Command.{IsCfApp, NameList, cf_app, manager_names, mode_names, texts_of}
 use Rattle.command_line.specs.declared.choice.Choice.{Choice}
