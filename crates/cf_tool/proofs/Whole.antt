@@ -11,7 +11,7 @@ use Rattle.cf_base.specs.declared.status.Status.TheVariants.{Done, Words, BadScr
 use Rattle.cf_io.specs.Feeds.{Rose, appended}
 use Rattle.cf_model.specs.Rules.{IsPaged}
 use Rattle.cf_model.specs.State.{HeapState, closed_state}
-use Rattle.command_line.specs.Choices.{AreRefused, Chooses}
+use Rattle.command_line.specs.Choices.{Chooses}
 use Rattle.command_line.specs.declared.choice.Choice.{Choice}
 use Rattle.script_reader.specs.Items.{Item, items}
 use Rattle.run_model.specs.Texts.{text_of}
@@ -19,7 +19,7 @@ use Rattle.script_loop.specs.ScriptOutcome.{IsClean, IsEnding, MOST_BYTES, Meets
 use Rattle.transcript_laws.proofs.Further.{stays_at_one}
 use Rattle.transcript_laws.proofs.Telling.{run_tells}
 use Rattle.transcript_laws.specs.Transcripts.{transcript}
-use Rattle.cf_tool.specs.TopOutcome.{ArePlain, AreAccepted, DoesChosen, EndsBy, InMode, EndsWhole, TellsTranscript}
+use Rattle.cf_tool.specs.TopOutcome.{ArePlain, DoesChosen, EndsBy, InMode, EndsWhole, TellsTranscript}
 
 -- what a run over plain items prints is their transcript
 transcript_printed : (kind : Kind) (wanted : List Item) (printed : Printed) (before after : Option (List ℕ)) → Prints kind wanted printed → after ≡ appended before printed.text → IsPaged kind
@@ -66,10 +66,6 @@ ends_run words choice had left before after BadScript from end chosen closed met
 ends_run words choice had left before after ReadFault from end chosen closed met ends silent = does_run words choice had left before after ReadFault from end chosen closed met
 ends_run words choice had left before after WriteFault from end chosen closed met ends silent = does_run words choice had left before after WriteFault from end chosen closed met
 ends_run words choice had left before after TooLong from end chosen closed met ends silent = does_run words choice had left before after TooLong from end chosen closed met
-
--- words that no command finds a fault in are not refused
-pub not_refused : (words : List Text) → AreAccepted words → AreRefused words → ⊥
-not_refused words taken refused = refused.refused (taken refused.app refused.is_app)
 
 within_all : (all : List ℕ) → length all ≤ MOST_BYTES → items_within all ≡ items all true
 within_all all fits = ap (λ (l : List ℕ). items l (nat_le (length all) MOST_BYTES)) (take_all MOST_BYTES all fits) ∙ ap (items all) (le-leb (length all) MOST_BYTES fits)

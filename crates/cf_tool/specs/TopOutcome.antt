@@ -3,12 +3,11 @@ use Rattle.std.specs.Prelude.{◌≡◌, ◌⊎◌, ⊤, ℕ, List, [], Option, 
 use Rattle.cf_base.specs.declared.kind.Kind.{Kind}
 use Rattle.cf_base.specs.declared.status.Status.{Status}
 use Rattle.cf_base.specs.declared.status.Status.TheVariants.{Done, Words, BadScript, ReadFault, WriteFault, OutOfMemory, TooLong, BadImage}
-use Rattle.clap.specs.Words.{App, Text, fault_of}
+use Rattle.clap.specs.Words.{Text}
 use Rattle.cf_io.specs.Feeds.{appended}
 use Rattle.cf_model.specs.Rules.{IsPaged}
 use Rattle.cf_model.specs.State.{HeapState, closed_state}
 use Rattle.command_line.specs.Choices.{AreRefused, Chooses}
-use Rattle.command_line.specs.Command.{IsCfApp}
 use Rattle.command_line.specs.declared.choice.Choice.{Choice}
 use Rattle.command_line.specs.declared.choice.Mode.{Mode}
 use Rattle.command_line.specs.declared.choice.Mode.TheVariants.{Run}
@@ -68,10 +67,6 @@ EndsBy BadImage words call = ⊥
 
 abbrev pub EndsWell : List Text → Effects → Type 0
 EndsWell words call = EndsBy call.status words call
-
--- the command finds no fault in the words
-abbrev pub AreAccepted : List Text → Type 0
-AreAccepted words = (app : App) → IsCfApp app → fault_of app words ≡ []
 
 -- the whole script was answered, or memory was wanting
 abbrev pub EndsWhole : Status → Type 0

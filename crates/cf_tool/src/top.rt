@@ -1,8 +1,9 @@
 //! The top call.
 ghost use Rattle.std.specs.Prelude.{◌≡◌, ◌<◌, ◌+◌, ◌⊎◌, map, string_bytes};
 ghost use Rattle.cf_io.specs.Feeds.{Rose, last_count};
+ghost use Rattle.command_line.specs.Choices.{AreAccepted};
 ghost use Rattle.script_loop.specs.ScriptOutcome.{IsClean, MOST_BYTES};
-ghost use Rattle.cf_tool.specs.TopOutcome.{AreAccepted, EndsWell, EndsWhole};
+ghost use Rattle.cf_tool.specs.TopOutcome.{EndsWell, EndsWhole};
 
 use cf_base::Status;
 use cf_io::{Sink, Source};

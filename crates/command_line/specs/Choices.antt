@@ -34,11 +34,17 @@ choice_of rows = record {
   count = u64_in (one_of (codes "count") rows);
 }
 
+-- The command finds no fault in the words. Which references to its names it has doesn't matter, here and below: all such commands read alike.
+pub record AreAccepted (words : List Text) : Type 0 where
+  pub app : App
+  pub is_app : IsCfApp app
+  pub accepted : fault_of app words ≡ []
+
 -- the command finds no fault in the words, and they choose this
 pub record Chooses (words : List Text) (choice : Choice) : Type 0 where
   pub app : App
   pub is_app : IsCfApp app
-  pub taken : fault_of app words ≡ []
+  pub accepted : fault_of app words ≡ []
   pub chosen : choice ≡ choice_of (matches_of app words)
 
 -- the command finds a fault in the words
@@ -52,14 +58,6 @@ abbrev pub ReadsAs : List Text → Result Choice WordsFault → Type 0
 ReadsAs words (Ok choice) = Chooses words choice
 ReadsAs words (Err Refused) = AreRefused words
 ReadsAs words (Err OutOfMemory) = ⊤
-
--- whatever references it has, the command finds no fault in the words, and they choose this
-abbrev pub AlwaysChoose : List Text → Choice → Type 0
-AlwaysChoose words choice = (app : App) → IsCfApp app → (fault_of app words ≡ []) × (choice_of (matches_of app words) ≡ choice)
-
--- whatever references it has, the command finds a fault in the words
-abbrev pub AreAlwaysRefused : List Text → Type 0
-AreAlwaysRefused words = (app : App) → IsCfApp app → fault_of app words ≢ []
 
 -- a run of the moving manager, with this seed and this count
 abbrev pub chosen : ℕ → ℕ → Choice

@@ -1,41 +1,61 @@
-//! Laws of words that are known, whichever references stand for the names of the command.
+//! Laws of the words: they are read in one way, whichever references stand for the names of the
+//! command, and words that are known are read so.
 ghost use Rattle.std.specs.Prelude.{◌⊎◌, ◌≡◌, ◌∷◌, [], Err, List, Ok, Result, codes};
-ghost use Rattle.clap.specs.Words.{Text};
-ghost use Rattle.command_line.specs.Choices.{AlwaysChoose, AreAlwaysRefused, ReadsAs, chosen};
+ghost use Rattle.clap.specs.Words.{App, Text, fault_of, matches_of};
+ghost use Rattle.command_line.specs.Choices.{AreAccepted, AreRefused, Chooses, ReadsAs, chosen};
+ghost use Rattle.command_line.specs.Command.{IsCfApp};
 ghost use Rattle.command_line.specs.declared.choice.Choice.{Choice};
 ghost use Rattle.command_line.specs.declared.choice.WordsFault.{WordsFault};
 ghost use Rattle.command_line.specs.declared.choice.WordsFault.TheVariants.{OutOfMemory, Refused};
 
-/// Words of which every such command reads one choice are read as it, where memory is found.
+/// All commands that carry our names find the same faults and the same matches, wherever these names
+/// lie.
+pub fn all_such_commands_read_alike()
+    ensures faults { (a b : App) (words : List Text) → IsCfApp a → IsCfApp b → fault_of b words ≡ fault_of a words }
+    ensures matches { (a b : App) (words : List Text) → IsCfApp a → IsCfApp b → matches_of b words ≡ matches_of a words }
+{}
+
+/// So no words are both refused and accepted,
+pub fn refused_words_are_not_chosen()
+    ensures accepted { (words : List Text) → AreRefused words → ¬ AreAccepted words }
+    ensures chosen { (words : List Text) (choice : Choice) → AreRefused words → ¬ Chooses words choice }
+{}
+
+/// and they choose one thing at most.
+pub fn words_choose_once()
+    ensures { (words : List Text) (one other : Choice) → Chooses words one → Chooses words other → other ≡ one }
+{}
+
+/// Words that choose something are read as it, where memory is found.
 pub fn known_words_are_read()
-    ensures { (words : List Text) (choice : Choice) (result : Result Choice WordsFault) → AlwaysChoose words choice
+    ensures { (words : List Text) (choice : Choice) (result : Result Choice WordsFault) → Chooses words choice
         → ReadsAs words result → (result ≡ Ok choice) ⊎ (result ≡ Err OutOfMemory) }
 {}
 
-/// And words that every such command refuses are refused.
+/// And words that are refused are read so.
 pub fn known_words_are_refused()
-    ensures { (words : List Text) (result : Result Choice WordsFault) → AreAlwaysRefused words
+    ensures { (words : List Text) (result : Result Choice WordsFault) → AreRefused words
         → ReadsAs words result → (result ≡ Err Refused) ⊎ (result ≡ Err OutOfMemory) }
 {}
 
 /// The program's name alone chooses the defaults.
 pub fn no_words_are_taken()
-    ensures { (name : Text) → AlwaysChoose (name ∷ []) (chosen 0 1000) }
+    ensures { (name : Text) → Chooses (name ∷ []) (chosen 0 1000) }
 {}
 
 /// These words choose what they say.
 pub fn words_choose_what_they_say()
-    ensures { (name : Text) → AlwaysChoose
+    ensures { (name : Text) → Chooses
         (name ∷ codes "run" ∷ codes "--manager=cf" ∷ codes "--seed" ∷ codes "5" ∷ codes "--count=7" ∷ [])
         (chosen 5 7) }
 {}
 
 /// A request for help is refused, whatever follows it.
 pub fn help_is_refused()
-    ensures { (name : Text) (rest : List Text) → AreAlwaysRefused (name ∷ codes "--help" ∷ rest) }
+    ensures { (name : Text) (rest : List Text) → AreRefused (name ∷ codes "--help" ∷ rest) }
 {}
 
 /// So is a count past 1,000,000.
 pub fn a_count_too_far_is_refused()
-    ensures { (name : Text) → AreAlwaysRefused (name ∷ codes "--count=1000001" ∷ []) }
+    ensures { (name : Text) → AreRefused (name ∷ codes "--count=1000001" ∷ []) }
 {}

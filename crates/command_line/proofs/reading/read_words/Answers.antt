@@ -12,13 +12,14 @@ returns-in-Ok-try_get_matches_from c =
     let rows = (got.ensures.matches (cf_is_simple app c.in-Ok.ensures)).0 in
     let f = found_of got.matches in
     let mode = c.mode_named.ensures ∙ ap mode_named (c.get_str.ensures ∙ (first_value-rows f (codes "mode") ∙ ap (first_of (codes "mode")) rows)) in
-    let kind = c.kind_named.ensures ∙ ap kind_named (c.get_str-in-Ok-try_get_matches_from.ensures ∙ (first_value-rows f (codes "manager") ∙ ap (first_of (codes "manager")) rows)) in
+    let kind = c.kind_named.ensures
+        ∙ ap kind_named (c.get_str-in-Ok-try_get_matches_from.ensures ∙ (first_value-rows f (codes "manager") ∙ ap (first_of (codes "manager")) rows)) in
     let seed = c.u64_in.ensures ∙ ap u64_in (one_text-rows f (codes "seed") ∙ ap (one_of (codes "seed")) rows) in
     let count = c.u64_in-in-Ok-try_get_matches_from.ensures ∙ ap u64_in (one_text-rows f (codes "count") ∙ ap (one_of (codes "count")) rows) in
     record {
       app = app;
       is_app = c.in-Ok.ensures;
-      taken = got.ensures.kinds (cf_is_free app c.in-Ok.ensures);
+      accepted = got.ensures.kinds (cf_is_free app c.in-Ok.ensures);
       chosen = rw (mode, kind, seed, count) refl;
     }
 
