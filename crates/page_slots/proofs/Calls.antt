@@ -13,6 +13,7 @@ use Rattle.class_lists.specs.declared.Which.TheVariants.{Full, NotFull}
 use Rattle.class_lists.specs.PageLists.{PageLists, IsUnlisted, pages_in}
 use Rattle.page_pool.specs.Pool.{Pool, TakesFront, is_in_pool}
 use Rattle.page_slots.specs.Tables.{Tables, AreTables, IsOf, IsPageOf, JoinsList, slots_in, slots_on, tables, used_in}
+use Rattle.page_slots.specs.Freeing.{HasUsedSlot}
 use Rattle.page_slots.specs.Taking.{FillsPage, TakesOnOpenPage, TakesOnFreePage}
 use Rattle.page_slots.proofs.Pages.{placed_in, listed_page, listed_class, of_list}
 use Rattle.page_slots.proofs.TablesAfterTake.{front_listed, pool_front}
@@ -61,6 +62,9 @@ module _ (k : ClassTable) (t : Tables) (a : AreTables k t) where
 
     pub front_taken : is_in_pool t.pool.free page ≡ false
     front_taken = front_placed.taken
+
+    pub front_used_slot : HasUsedSlot t.maps page
+    front_used_slot = record { within = front_inside; some = front_placed.fills.0 }
 
     module _ (d : List Bool) where
       same_map : get_or t.maps page d ≡ get_or t.maps page []

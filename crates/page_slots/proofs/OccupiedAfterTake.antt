@@ -14,13 +14,13 @@ use Rattle.page_model.proofs.Addresses.{address_is_slot}
 use Rattle.page_model.proofs.Counting.{still, on_yes}
 use Rattle.page_model.proofs.Placing.{objects_on-inserted, objects_on-elsewhere}
 use Rattle.page_slots.specs.Tables.{Tables, IsOf, IsUsed, slot_at, slots_in, slots_on, used_in}
-use Rattle.page_slots.specs.Occupying.{Occupies, Tell, class_table}
+use Rattle.page_slots.specs.Occupying.{Occupies, TellPart, class_table}
 use Rattle.page_slots.proofs.Bits.{set_here, set_there, none_used, not_both}
 use Rattle.page_slots.proofs.Pages.{same_of, was_of, one_class}
 use Rattle.page_slots.proofs.TablesAfterTake.{Gains}
 use Rattle.page_slots.proofs.Occupied.{used_along, free_of_none, none_counts}
 
-module _ (p : Paging) (ok : IsPaging p) (m : Held) (old new : Tables) (tell : Tell p old) (o : Occupies p m old) (c page slot : ℕ) (g : Gains (class_table p) old new c page slot) where
+module _ (p : Paging) (ok : IsPaging p) (m : Held) (old new : Tables) (tell : TellPart p old) (o : Occupies p m old) (c page slot : ℕ) (g : Gains (class_table p) old new c page slot) where
   place : ℕ
   place = address_of p c page slot
 

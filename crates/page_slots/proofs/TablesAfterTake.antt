@@ -13,10 +13,10 @@ use Rattle.class_lists.specs.PageLists.{PageLists, AreApart, pages_in}
 use Rattle.class_lists.proofs.Members.{contains_head}
 use Rattle.page_pool.specs.Pool.{Pool, IsPool, TakesFront, is_in_pool}
 use Rattle.page_pool.proofs.CallerLemmas.{front_gone, front_below}
-use Rattle.page_slots.specs.Tables.{Tables, AreTables, IsOf, IsPageOf, IsFreePage, JoinsList, slots_in, slots_on, used_in}
-use Rattle.page_slots.specs.Taking.{FillsPage, TakesOnOpenPage, TakesOnFreePage}
+use Rattle.page_slots.specs.Tables.{Tables, AreTables, IsOf, IsPageOf, IsFreePage, IsElsewhere, JoinsList, IsWhole, KeepsElsewhere, slots_in, slots_on, used_in}
+use Rattle.page_slots.specs.Taking.{FillsPage, TakesAt, TakesOnOpenPage, TakesOnFreePage}
 use Rattle.page_slots.proofs.Listing.{along, joined_here, joined_comes, joined_stays, joined_pages, joined_classes, left_comes, left_stays, left_pages, left_classes}
-use Rattle.page_slots.proofs.Pages.{IsSame, other_free, map_here, map_there, maps_long, placed_in, listed_page, list_of, free_page, some_slots, tables_after}
+use Rattle.page_slots.proofs.Pages.{IsSame, other_free, map_here, map_there, maps_long, placed_in, listed_page, list_of, free_page, some_slots, free_not_elsewhere, of_not_elsewhere, keeps_elsewhere, still_whole, tables_after}
 
 -- the front of a list stands in it
 pub front_listed : (xs : List ℕ) (page : ℕ) → slice_get xs 0 ≡ Some page → Contains xs page
@@ -50,6 +50,20 @@ pub record Gains (k : ClassTable) (old new : Tables) (c page slot : ℕ) : Type 
   pub class : c < length k.sizes
   pub pages : new.pool.pages ≡ old.pool.pages
   pub kept : AreTables k new
+
+-- the page was not with another owner, nor is it
+module _ (k : ClassTable) (old new : Tables) (c page slot : ℕ) (g : Gains k old new c page slot) where
+  pub gains_others : KeepsElsewhere old new
+  gains_others = keeps_elsewhere old new page was g.others
+    where
+      was : ¬ IsElsewhere old page
+      was = elim g.was [
+        | inl (there, _) ↦ of_not_elsewhere old c page (inr there)
+        | inr (f, _, _) ↦ free_not_elsewhere old page f
+      ]
+
+  pub gains_whole : IsWhole old → IsWhole new
+  gains_whole = still_whole old new page g.pages (of_not_elsewhere new c page g.of) g.others
 
 module _ (k : ClassTable) (old : Tables) (a : AreTables k old) (c page : ℕ) (new : Tables) (apart : AreApart new.lists) where
   -- on a page that is not full
@@ -140,7 +154,7 @@ module _ (k : ClassTable) (old : Tables) (a : AreTables k old) (c page : ℕ) (n
     }
       where
         kept : AreTables k new
-        kept = tables_after k old new page a (maps_long old.maps new.maps page _ t.maps) listed.pages listed.classes (ap (λ (p : Pool). p.pages) t.pool) pool apart same (inr (c, listed.which, listed.here))
+        kept = tables_after k old new page a (maps_long old.maps new.maps page _ t.maps) listed.pages listed.classes (ap (λ (p : Pool). p.pages) t.pool) pool apart same (inr (inr (c, listed.which, listed.here)))
 
   -- on a page of the pool
   module _ (class : c < length k.sizes) (t : TakesOnFreePage k old c page new) where
@@ -228,4 +242,15 @@ module _ (k : ClassTable) (old : Tables) (a : AreTables k old) (c page : ℕ) (n
     }
       where
         kept : AreTables k new
-        kept = tables_after k old new page a (maps_long old.maps new.maps page _ t.maps) (joined_pages _ c joined_free.which page _ joined_free.joins) (joined_classes _ c joined_free.which page _ joined_free.joins) t.front.1 pool apart same_free (inr (c, joined_free.which, joined_free.here))
+        kept = tables_after k old new page a (maps_long old.maps new.maps page _ t.maps) (joined_pages _ c joined_free.which page _ joined_free.joins) (joined_classes _ c joined_free.which page _ joined_free.joins) t.front.1 pool apart same_free (inr (inr (c, joined_free.which, joined_free.here)))
+
+-- whichever slot was taken
+module _ (k : ClassTable) (old : Tables) (a : AreTables k old) (c : ℕ) (class : c < length k.sizes) (place : ℕ) (new : Tables) (t : TakesAt k old c place new) (apart : AreApart new.lists) (pool : IsPool new.pool) where
+  pub taken_gains : Gains k old new c t.page t.slot
+  taken_gains = elim t.taken [
+    | inl on ↦ gains_open k old a c t.page new apart t.slot on pool
+    | inr (first, on) ↦ subst (λ s. Gains k old new c t.page s) (sym first) (gains_free k old a c t.page new apart class on pool)
+  ]
+
+  pub taken_others : KeepsElsewhere old new
+  taken_others = gains_others k old new c t.page t.slot taken_gains

@@ -1,5 +1,5 @@
 -- What it is to free a used slot.
-use Rattle.std.specs.Prelude.{◌≡◌, ◌≢◌, ℕ, Bool, true, false, ◌<◌, List, ◌∷◌, length, Some, slice_get, slice_set}
+use Rattle.std.specs.Prelude.{◌≡◌, ◌≢◌, ℕ, Bool, true, false, ◌<◌, List, [], ◌∷◌, length, Some, slice_get, slice_index_or, slice_set}
 use Rattle.std.specs.List.{Contains, position}
 use Rattle.size_classes.specs.Table.{ClassTable}
 use Rattle.class_lists.specs.declared.Which.{Which}
@@ -25,14 +25,24 @@ pub record Vacates (old : Tables) (c page slot : ℕ) (new : Tables) : Type 0 wh
   pub still : used_in (slots_on new page) ≢ 0 → which ≡ NotFull → new.lists ≡ old.lists
   pub kept : used_in (slots_on new page) ≢ 0 → new.pool ≡ old.pool
 
--- the object that fills a freed slot: the one at the least used slot of the front page of class c that is not full; its slot becomes free
-pub record FillsFrom (k : ClassTable) (old : Tables) (c a : ℕ) (new : Tables) : Type 0 where
+-- the object at address a fills a freed slot of class c: its slot is the least used one of the front page of the class that is not full
+pub record IsFiller (k : ClassTable) (maps : List (List Bool)) (lists : PageLists) (c a : ℕ) : Type 0 where
   pub page : ℕ
   pub slot : ℕ
   pub address : a ≡ address_in k c page slot
-  pub front : slice_get (pages_in old.lists c NotFull) 0 ≡ Some page
-  pub least : position (λ used. used) (slots_on old page) ≡ Some slot
-  pub vacates : Vacates old c page slot new
+  pub front : slice_get (pages_in lists c NotFull) 0 ≡ Some page
+  pub least : position (λ used. used) (slice_index_or maps page []) ≡ Some slot
+  pub used : slice_get (slice_index_or maps page []) slot ≡ Some true
+
+-- a slot of the page is used
+pub record HasUsedSlot (maps : List (List Bool)) (page : ℕ) : Type 0 where
+  pub within : page < length maps
+  pub some : 0 < used_in (slice_index_or maps page [])
+
+-- the object at address a fills a freed slot of class c, and its own slot becomes free
+pub record FillsFrom (k : ClassTable) (old : Tables) (c a : ℕ) (new : Tables) : Type 0 where
+  pub filler : IsFiller k old.maps old.lists c a
+  pub vacates : Vacates old c filler.page filler.slot new
 
 -- a free on a page with these slots moves an object: the page is full and has more than one slot, and the class has as many pages that are not full as it may
 pub record MovesObject (slots : List Bool) (not_full bound : ℕ) : Type 0 where

@@ -19,9 +19,9 @@ use Rattle.size_classes.specs.Table.{ClassTable, IsClassTable, table_of}
 use Rattle.class_lists.specs.PageLists.{empty_lists}
 use Rattle.page_pool.specs.Pool.{Pool}
 use Rattle.proxy_table.specs.Proxies.{Proxies, AreBelowLimit, no_proxies}
-use Rattle.page_slots.specs.Tables.{AreTables, tables}
+use Rattle.page_slots.specs.Tables.{AreTables, IsWhole, tables}
 use Rattle.page_slots.specs.Occupying.{Occupies, Tell, class_table}
-use Rattle.page_slots.proofs.Start.{first_tables, first_occupied}
+use Rattle.page_slots.proofs.Start.{first_occupied, first_tables, first_whole}
 use Rattle.cf_base.specs.Settings.{profile_of}
 use Rattle.cf_model.specs.State.{layout_of}
 use Rattle.cf_model.specs.Steps.{IsEmptyHeap, opening_bounds, opening_frames, opening_tiling}
@@ -81,14 +81,20 @@ module _ (h : Heap) (f : IsFirst h) where
 
   tell : Tell (paging_at h) (tables_in h)
   tell = record {
-    tables =
-        let small = h.settings.small_region in
-        let t : IsClassTable h.settings.page_words (sizes h.settings.page_words (layout_of h.kind)) = record { are_sizes = are_sizes h.settings.page_words (layout_of h.kind) h.settings.page_size; small = (page_size h.settings.page_words h.settings.page_size).small } in
-        let all = first_tables (length h.classes.sizes) h.settings.pages (class_table (paging_at h)) h.maps t (omega arith) f.maps many in
-        let l = subst (λ l. AreTables (class_table (paging_at h)) (tables h.maps l (record { pages = h.settings.pages; free = range_with_len 0 h.settings.pages }))) (sym f.lists) all in
-        subst (λ q. AreTables (class_table (paging_at h)) (tables h.maps h.lists q)) (sym f.pool) l;
-    pages = ap (λ (q : Pool). q.pages) f.pool;
+    part = record { tables = told; pages = ap (λ (q : Pool). q.pages) f.pool };
+    whole = subst IsWhole (sym tables_are) (first_whole (length h.classes.sizes) h.settings.pages h.maps);
   }
+    where
+      told : AreTables (class_table (paging_at h)) (tables_in h)
+      told =
+          let small = h.settings.small_region in
+          let t : IsClassTable h.settings.page_words (sizes h.settings.page_words (layout_of h.kind)) = record { are_sizes = are_sizes h.settings.page_words (layout_of h.kind) h.settings.page_size; small = (page_size h.settings.page_words h.settings.page_size).small } in
+          let all = first_tables (length h.classes.sizes) h.settings.pages (class_table (paging_at h)) h.maps t (omega arith) f.maps many in
+          let l = subst (λ l. AreTables (class_table (paging_at h)) (tables h.maps l (record { pages = h.settings.pages; free = range_with_len 0 h.settings.pages }))) (sym f.lists) all in
+          subst (λ q. AreTables (class_table (paging_at h)) (tables h.maps h.lists q)) (sym f.pool) l
+
+      tables_are : tables_in h ≡ tables h.maps (empty_lists (length h.classes.sizes) h.settings.pages) (record { pages = h.settings.pages; free = range_with_len 0 h.settings.pages })
+      tables_are = ap (λ l. tables h.maps l h.pool) f.lists ∙ ap (tables h.maps (empty_lists (length h.classes.sizes) h.settings.pages)) f.pool
 
   bound : (c : ℕ) → c < 128 → get_or h.bounds c 0 ≡ h.settings.k
   bound c lt = ap (λ b. get_or b c 0) f.bounds ∙ get_or-replicate 128 c h.settings.k 0 lt

@@ -66,9 +66,9 @@ module _ (h : Heap) (k : IsValid h) (q a size c : ℕ) (o : IsObjectAt h q a siz
       (ap length region_is ∙ long)
       (image_after_free (paging_at h) (paging_ok h k) (held_in h) k.sound h.words k.image q (it h k q a size c o) (it_found h k q a size c o) n.words clears)
       framed
-      (vacated_tell (paging_at h) (paging_ok h k) (held_in h) (tables_in h) (tables_in n) k.tell k.occupied kept_tables k.sound q (it h k q a size c o) (it_found h k q a size c o) c _ _ vacates
-      (it_class h k q a size c o) (page_same h k q a size c o) (slot_same h k q a size c o))
-      (vacated_occupied (paging_at h) (paging_ok h k) (held_in h) (tables_in h) (tables_in n) k.tell k.occupied kept_tables k.sound q (it h k q a size c o) (it_found h k q a size c o) c _ _ vacates
+      (vacated_tell (paging_at h) (paging_ok h k) (held_in h) (tables_in h) (tables_in n) k.tell.part k.occupied kept_tables k.sound q (it h k q a size c o) (it_found h k q a size c o) c _ _ vacates
+      (it_class h k q a size c o) (page_same h k q a size c o) (slot_same h k q a size c o) k.tell.whole)
+      (vacated_occupied (paging_at h) (paging_ok h k) (held_in h) (tables_in h) (tables_in n) k.tell.part k.occupied kept_tables k.sound q (it h k q a size c o) (it_found h k q a size c o) c _ _ vacates
       (it_class h k q a size c o) (page_same h k q a size c o) (slot_same h k q a size c o))
       (ap (λ (x : Proxies). x.limit) proxies_are)
       (subst AreBelowLimit (ap (λ (x : Heap). x.proxies) (sym counted) ∙ ap (λ (x : Heap). x.proxies) (sym dropped)) handles)

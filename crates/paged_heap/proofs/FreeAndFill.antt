@@ -43,7 +43,7 @@ module _ (h : Heap) (k : IsValid h) (q a size c : ℕ) (o : IsObjectAt h q a siz
   kept_tables = subst (λ t. AreTables t new) (sym (table_is h k)) tables
 
   other : (r : ℕ) × (y : Placed) × (get (held_in h) r ≡ Some y) × (y.place ≡ b)
-  other = filler (paging_at h) (paging_ok h k) (held_in h) (tables_in h) new k.tell k.occupied kept_tables k.sound q (it h k q a size c o) (it_found h k q a size c o) b fills
+  other = filler (paging_at h) (paging_ok h k) (held_in h) (tables_in h) k.tell.part k.occupied (class_at (paging_at h) (it h k q a size c o)) b fills.filler
 
   pub r : ℕ
   r = other.0
@@ -60,7 +60,7 @@ module _ (h : Heap) (k : IsValid h) (q a size c : ℕ) (o : IsObjectAt h q a siz
   at = other.3
 
   may : MayFill (paging_at h) (held_in h) (it h k q a size c o) y
-  may = filler_may (paging_at h) (paging_ok h k) (held_in h) (tables_in h) new k.tell k.occupied kept_tables k.sound q (it h k q a size c o) (it_found h k q a size c o) b fills r y there at
+  may = filler_may (paging_at h) (paging_ok h k) (held_in h) (tables_in h) k.tell.part k.occupied (it h k q a size c o) b fills.filler k.sound r y there at
 
   is_other : r ≢ q
   is_other = mover_is_other (paging_at h) (paging_ok h k) (held_in h) k.sound q (it h k q a size c o) (it_found h k q a size c o) r y there due may
@@ -151,8 +151,8 @@ module _ (h : Heap) (k : IsValid h) (q a size c : ℕ) (o : IsObjectAt h q a siz
         moved.long
         (image n.words moved.words)
         framed
-        (subst (Tell (paging_at h)) (sym on) (filled_tell (paging_at h) (paging_ok h k) (held_in h) (tables_in h) new k.tell k.occupied kept_tables k.sound q (it h k q a size c o) (it_found h k q a size c o) b fills))
-        (subst (Occupies (paging_at h) (moved_to (remove (held_in h) q) r (get (held_in h) r) a)) (sym on) (filled_occupied (paging_at h) (paging_ok h k) (held_in h) (tables_in h) new k.tell k.occupied kept_tables k.sound q (it h k q a size c o) (it_found h k q a size c o) b fills r y there at due))
+        (subst (Tell (paging_at h)) (sym on) (filled_tell (paging_at h) (paging_ok h k) (held_in h) (tables_in h) new k.tell.part k.occupied kept_tables q (it h k q a size c o) (it_found h k q a size c o) b fills k.tell.whole))
+        (subst (Occupies (paging_at h) (moved_to (remove (held_in h) q) r (get (held_in h) r) a)) (sym on) (filled_occupied (paging_at h) (paging_ok h k) (held_in h) (tables_in h) new k.tell.part k.occupied kept_tables q (it h k q a size c o) (it_found h k q a size c o) b fills k.sound r y there at due))
         (ap (λ (x : Heap). x.proxies.limit) whole)
         handles
 

@@ -37,7 +37,7 @@ module _ (h : Heap) (k : IsValid h) (q a : ℕ) (some : get h.proxies.places q �
 -- its page is one of the tables'
 pub page_there : (h : Heap) (k : IsValid h) (q a size c : ℕ) (o : IsObjectAt h q a size c) → page_at h.classes a < length h.maps
 page_there h k q a size c o =
-    let lt = found_page (paging_at h) (paging_ok h k) (held_in h) (tables_in h) k.tell k.occupied q (it h k q a size c o) (it_found h k q a size c o) in
+    let lt = found_page (paging_at h) (paging_ok h k) (held_in h) (tables_in h) k.tell.part k.occupied q (it h k q a size c o) (it_found h k q a size c o) in
     subst (λ g. g < length h.maps) (page_same h k q a size c o) lt
 
 -- the cost of a free

@@ -82,11 +82,11 @@ module _ (h : Heap) (k : IsValid h) (x : Change) (is : IsChange h x) (b : ℕ) (
   both_sound = sound_placed (paging_at h) (held_in h) spare new unused (paging_ok h k) k.sound new_free
 
   pub both_tell : Tell (paging_at h) (tables_in n)
-  both_tell = taken_tell (paging_at h) (paging_ok h k) (held_in h) (tables_in h) (tables_in n) k.tell k.occupied (of_table h k x is b (tables_in n) en.taken en.tables) x.to b is.in_range (at_table h k x is b (tables_in n) en.taken en.tables)
+  both_tell = taken_tell (paging_at h) (paging_ok h k) (held_in h) (tables_in h) (tables_in n) k.tell.part k.occupied (of_table h k x is b (tables_in n) en.taken en.tables) x.to b is.in_range (at_table h k x is b (tables_in n) en.taken en.tables) k.tell.whole
 
   pub both_occupied : Occupies (paging_at h) both (tables_in n)
   both_occupied =
-      taken_occupied (paging_at h) (paging_ok h k) (held_in h) (tables_in h) (tables_in n) k.tell k.occupied (of_table h k x is b (tables_in n) en.taken en.tables) x.to b is.in_range (at_table h k x is b (tables_in n) en.taken en.tables)
+      taken_occupied (paging_at h) (paging_ok h k) (held_in h) (tables_in h) (tables_in n) k.tell.part k.occupied (of_table h k x is b (tables_in n) en.taken en.tables) x.to b is.in_range (at_table h k x is b (tables_in n) en.taken en.tables)
       spare new unused refl new_class
 
   -- the class of the old one has its objects as before

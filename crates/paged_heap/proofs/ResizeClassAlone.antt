@@ -62,7 +62,7 @@ module _ (h : Heap) (k : IsValid h) (x : Change) (is : IsChange h x) (b : ℕ) (
   vacates = subst (λ (t : ClassTable). Vacates (tables_in n) x.class (page_at t x.place) (slot_at t x.class x.place) (tables_in m)) en.classes freed
 
   less : Occupies (paging_at h) (remove (both h k x is b n en) x.handle.0) (tables_in m)
-  less = vacated_occupied (paging_at h) (paging_ok h k) (both h k x is b n en) (tables_in n) (tables_in m) (both_tell h k x is b n en) (both_occupied h k x is b n en) kept_tables (both_sound h k x is b n en)
+  less = vacated_occupied (paging_at h) (paging_ok h k) (both h k x is b n en) (tables_in n) (tables_in m) (both_tell h k x is b n en).part (both_occupied h k x is b n en) kept_tables (both_sound h k x is b n en)
       x.handle.0 (object h k x is b n en) (found_still h k x is b n en) x.class _ _ vacates
       (it_class h k x.handle.0 x.place x.length x.class is.object) (page_same h k x.handle.0 x.place x.length x.class is.object) (slot_same h k x.handle.0 x.place x.length x.class is.object)
 
@@ -94,8 +94,8 @@ module _ (h : Heap) (k : IsValid h) (x : Change) (is : IsChange h x) (b : ℕ) (
       (ap (λ (o : Heap). o.proxies.places) dropped ∙ ap (λ (o : Proxies). o.places) en.proxies ∙ sym after_places)
       (ap (λ (o : Heap). length o.words) dropped ∙ long ∙ entered_long h k x is b n en)
       (subst (λ ws. IsSlotImage (paging_at h) (after h k x is b n en None never) ws) (sym (ap (λ (o : Heap). o.words) dropped)) image)
-      (vacated_tell (paging_at h) (paging_ok h k) (both h k x is b n en) (tables_in n) (tables_in m) (both_tell h k x is b n en) (both_occupied h k x is b n en) kept_tables (both_sound h k x is b n en)
+      (vacated_tell (paging_at h) (paging_ok h k) (both h k x is b n en) (tables_in n) (tables_in m) (both_tell h k x is b n en).part (both_occupied h k x is b n en) kept_tables (both_sound h k x is b n en)
       x.handle.0 (object h k x is b n en) (found_still h k x is b n en) x.class _ _ vacates
-      (it_class h k x.handle.0 x.place x.length x.class is.object) (page_same h k x.handle.0 x.place x.length x.class is.object) (slot_same h k x.handle.0 x.place x.length x.class is.object))
+      (it_class h k x.handle.0 x.place x.length x.class is.object) (page_same h k x.handle.0 x.place x.length x.class is.object) (slot_same h k x.handle.0 x.place x.length x.class is.object) (both_tell h k x is b n en).whole)
       occupied
       (subst AreBelowLimit (sym (ap (λ (o : Heap). o.proxies) dropped)) en.handles)

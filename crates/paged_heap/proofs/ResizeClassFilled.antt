@@ -59,7 +59,7 @@ module _ (h : Heap) (k : IsValid h) (x : Change) (is : IsChange h x) (b : ℕ) (
   pub some_fills : 1 ≤ length (pages_in n.lists x.class NotFull)
   some_fills =
       let e = it_class h k x.handle.0 x.place x.length x.class is.object in
-      let l = moves_some (paging_at h) (paging_ok h k) (both h k x is b n en) (tables_in n) (both_tell h k x is b n en) (both_occupied h k x is b n en) x.handle.0 (object h k x is b n en) (found_still h k x is b n en) due
+      let l = moves_some (paging_at h) (paging_ok h k) (both h k x is b n en) (tables_in n) (both_tell h k x is b n en).part (both_occupied h k x is b n en) x.handle.0 (object h k x is b n en) (found_still h k x is b n en) due
       (let lt = is.object.in_range in omega arith) in
       subst (λ d. 1 ≤ length (pages_in n.lists d NotFull)) e l
 
@@ -75,8 +75,7 @@ module _ (h : Heap) (k : IsValid h) (x : Change) (is : IsChange h x) (b : ℕ) (
     kept_tables = subst (λ u. AreTables u t) (en.classes ∙ sym (table_is h k)) tables
 
     other : (r : ℕ) × (y : Placed) × (get (both h k x is b n en) r ≡ Some y) × (y.place ≡ f)
-    other = filler (paging_at h) (paging_ok h k) (both h k x is b n en) (tables_in n) t (both_tell h k x is b n en) (both_occupied h k x is b n en) kept_tables (both_sound h k x is b n en)
-        x.handle.0 (object h k x is b n en) (found_still h k x is b n en) f fills
+    other = filler (paging_at h) (paging_ok h k) (both h k x is b n en) (tables_in n) (both_tell h k x is b n en).part (both_occupied h k x is b n en) (class_at (paging_at h) (object h k x is b n en)) f fills.filler
 
     pub r : ℕ
     r = other.0
@@ -93,8 +92,8 @@ module _ (h : Heap) (k : IsValid h) (x : Change) (is : IsChange h x) (b : ℕ) (
     at = other.3
 
     may : MayFill (paging_at h) (both h k x is b n en) (object h k x is b n en) y
-    may = filler_may (paging_at h) (paging_ok h k) (both h k x is b n en) (tables_in n) t (both_tell h k x is b n en) (both_occupied h k x is b n en) kept_tables (both_sound h k x is b n en)
-        x.handle.0 (object h k x is b n en) (found_still h k x is b n en) f fills r y there at
+    may = filler_may (paging_at h) (paging_ok h k) (both h k x is b n en) (tables_in n) (both_tell h k x is b n en).part (both_occupied h k x is b n en)
+        (object h k x is b n en) f fills.filler (both_sound h k x is b n en) r y there at
 
     pub mover : Moves (paging_at h) (both h k x is b n en) (object h k x is b n en) (Some r)
     mover = (due, (y, there, may))
@@ -222,8 +221,8 @@ module _ (h : Heap) (k : IsValid h) (x : Change) (is : IsChange h x) (b : ℕ) (
         ∙ ap (λ g. insert (insert g x.handle.0 b) r x.place) (sym (places_are h k))
 
     refilled : Occupies (paging_at h) (left h k x is b n en (Some r) mover) t
-    refilled = filled_occupied (paging_at h) (paging_ok h k) (both h k x is b n en) (tables_in n) t (both_tell h k x is b n en) (both_occupied h k x is b n en) kept_tables (both_sound h k x is b n en)
-        x.handle.0 (object h k x is b n en) (found_still h k x is b n en) f fills r y there at due
+    refilled = filled_occupied (paging_at h) (paging_ok h k) (both h k x is b n en) (tables_in n) t (both_tell h k x is b n en).part (both_occupied h k x is b n en) kept_tables
+        x.handle.0 (object h k x is b n en) (found_still h k x is b n en) f fills (both_sound h k x is b n en) r y there at due
 
     new_stays : get (left h k x is b n en (Some r) mover) (spare h k x is b n en) ≡ Some (new h k x is b n en)
     new_stays =
@@ -289,7 +288,7 @@ module _ (h : Heap) (k : IsValid h) (x : Change) (is : IsChange h x) (b : ℕ) (
           (ap (λ (o : Heap). o.proxies.places) whole ∙ ap (λ (p : Proxies). insert p.places r x.place) en.proxies ∙ sym after_places)
           (shift.long ∙ entered_long h k x is b n en)
           (image m.words shift.long shift.words)
-          (subst (Tell (paging_at h)) (sym on) (filled_tell (paging_at h) (paging_ok h k) (both h k x is b n en) (tables_in n) t (both_tell h k x is b n en) (both_occupied h k x is b n en) kept_tables (both_sound h k x is b n en)
-          x.handle.0 (object h k x is b n en) (found_still h k x is b n en) f fills))
+          (subst (Tell (paging_at h)) (sym on) (filled_tell (paging_at h) (paging_ok h k) (both h k x is b n en) (tables_in n) t (both_tell h k x is b n en).part (both_occupied h k x is b n en) kept_tables
+          x.handle.0 (object h k x is b n en) (found_still h k x is b n en) f fills (both_tell h k x is b n en).whole))
           (subst (Occupies (paging_at h) (after h k x is b n en (Some r) mover)) (sym on) occupied)
           handles

@@ -45,7 +45,7 @@ none_spare h k = go (get (held_in h) h.settings.proxies) refl
 module _ (h : Heap) (k : IsValid h) (x : Change) (is : IsChange h x) where
   -- where no slot was taken, there is no room
   pub lacks : (new : Tables) → TakesSlot h.classes (tables_in h) x.to None new → LacksRoom (paging_at h) (held_in h) x.to
-  lacks new none = refused_lacks_room (paging_at h) (paging_ok h k) (held_in h) (tables_in h) k.tell k.occupied x.to new (subst (λ t. TakesSlot t (tables_in h) x.to None new) (sym (table_is h k)) none)
+  lacks new none = refused_lacks_room (paging_at h) (paging_ok h k) (held_in h) (tables_in h) k.tell.part k.occupied k.tell.whole x.to new (subst (λ t. TakesSlot t (tables_in h) x.to None new) (sym (table_is h k)) none)
 
   module _ (b : ℕ) (new : Tables) (t : TakesAt h.classes (tables_in h) x.to b new) (tables : AreTables h.classes new) where
     abbrev pub at_table : TakesAt (class_table (paging_at h)) (tables_in h) x.to b new
@@ -55,7 +55,7 @@ module _ (h : Heap) (k : IsValid h) (x : Change) (is : IsChange h x) where
     of_table = subst (λ t. AreTables t new) (sym (table_is h k)) tables
 
     pub is_free : IsFreePlace (paging_at h) (held_in h) x.bytes b
-    is_free = taken_is_free (paging_at h) (paging_ok h k) (held_in h) (tables_in h) new k.tell k.occupied of_table x.to b is.in_range at_table x.bytes is.class
+    is_free = taken_is_free (paging_at h) (paging_ok h k) (held_in h) (tables_in h) new k.tell.part k.occupied of_table x.to b is.in_range at_table x.bytes is.class
 
   module _ (b : ℕ) (free : IsFreePlace (paging_at h) (held_in h) x.bytes b) where
     pub new_inside : b + slot_for (paging_at h) x.bytes ≤ length h.words

@@ -3,7 +3,7 @@ use Rattle.std.proofs.Common.{inl}
 use Rattle.class_lists.specs.PageLists.{pages_in}
 use Rattle.class_lists.specs.declared.Which.TheVariants.{NotFull}
 use Rattle.page_slots.proofs.Calls.{front_none, front_there, front_inside, front_small, front_room, front_slot, took_open}
-use Rattle.page_slots.proofs.TablesAfterTake.{gains_open}
+use Rattle.page_slots.proofs.TablesAfterTake.{taken_gains, taken_others}
 use Rattle.page_slots.proofs.taking.take_slot.Goals as goal
 
 pub bounds-maps-page : goal.bounds-maps-page
@@ -33,8 +33,10 @@ returns-in-Some-clause-taken c = record {
       c.take_least-slot.ensures.least c.take_least-slot.ensures.free c.take_least-slot.ensures.map c.leave_if_filled.ensures.filled c.leave_if_filled.ensures.not_filled);
 }
 
+pub returns-in-Some-clause-others : goal.returns-in-Some-clause-others
+returns-in-Some-clause-others c =
+    taken_others _ _ c.requires.tables c.args.c c.requires.class _ _ (returns-in-Some-clause-taken c) c.leave_if_filled.ensures.kept c.requires.tables.pool
+
 pub returns-in-Some-clause-kept : goal.returns-in-Some-clause-kept
 returns-in-Some-clause-kept c =
-    let t = took_open _ _ c.requires.tables c.args.c c.in-Some.page c.in-Some.ensures.front c.index-maps-page.result c.take_least-slot.result c.take_least-slot.new.map c.leave_if_filled.new.lists
-    c.take_least-slot.ensures.least c.take_least-slot.ensures.free c.take_least-slot.ensures.map c.leave_if_filled.ensures.filled c.leave_if_filled.ensures.not_filled in
-    (gains_open _ _ c.requires.tables c.args.c c.in-Some.page _ c.leave_if_filled.ensures.kept c.take_least-slot.result t c.requires.tables.pool).kept
+    (taken_gains _ _ c.requires.tables c.args.c c.requires.class _ _ (returns-in-Some-clause-taken c) c.leave_if_filled.ensures.kept c.requires.tables.pool).kept
