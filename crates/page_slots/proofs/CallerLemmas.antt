@@ -28,9 +28,9 @@ use Rattle.page_slots.proofs.OccupiedAfterTake.{gained_address, gained_unused, o
 use Rattle.page_slots.proofs.OccupiedAfterFree.{occupied_lost}
 use Rattle.page_slots.proofs.PageNumbers.{lacks_room, not_full_pages_are}
 
-module _ (p : Paging) (ok : IsPaging p) (m : Held) (old new : Tables) (tell : TellPart p old) (o : Occupies p m old) (kept : AreTables (class_table p) new) where
+module _ {p : Paging} (ok : IsPaging p) {m : Held} {old new : Tables} (tell : TellPart p old) (o : Occupies p m old) (kept : AreTables (class_table p) new) where
   -- a slot of class c was taken
-  module _ (c a : ℕ) (class : c < classes p) (t : TakesAt (class_table p) old c a new) where
+  module _ {c a : ℕ} (class : c < classes p) (t : TakesAt (class_table p) old c a new) where
     gains : Gains (class_table p) old new c t.page t.slot
     gains = taken_gains (class_table p) old tell.tables c class a new t kept.lists kept.pool
 
@@ -81,7 +81,8 @@ module _ (p : Paging) (ok : IsPaging p) (m : Held) (old new : Tables) (tell : Te
     taken_occupied h x none at is_c = occupied_gained p ok m old new tell o c t.page t.slot gains h x none (at ∙ t.address) is_c
 
   -- An object went, and its slot is free now.
-  module _ (s : IsSound p m) (h : ℕ) (x : Placed) (some : get m h ≡ Some x) (c page slot : ℕ) (v : Vacates old c page slot new) (is_c : class_at p x ≡ c) (on : page_of p x.place ≡ page) (at : slot_at (class_table p) c x.place ≡ slot) where
+  module _ (s : IsSound p m) (h : ℕ) {x : Placed} (some : get m h ≡ Some x) {c page slot : ℕ} (v : Vacates old c page slot new)
+      (is_c : class_at p x ≡ c) (on : page_of p x.place ≡ page) (at : slot_at (class_table p) c x.place ≡ slot) where
     lost : Loses (class_table p) old new c page slot
     lost = loses (class_table p) old tell.tables c page slot new v kept.lists kept.pool
 
@@ -94,9 +95,9 @@ module _ (p : Paging) (ok : IsPaging p) (m : Held) (old new : Tables) (tell : Te
     pub vacated_occupied : Occupies p (remove m h) new
     vacated_occupied = occupied_lost p ok m s old new tell o c page slot lost h x some is_c on at
 
-module _ (p : Paging) (ok : IsPaging p) (m : Held) (t : Tables) (tell : TellPart p t) (o : Occupies p m t) where
+module _ {p : Paging} (ok : IsPaging p) {m : Held} {t : Tables} (tell : TellPart p t) (o : Occupies p m t) where
   -- the object that fills a freed slot of class c
-  module _ (c a : ℕ) (f : IsFiller (class_table p) t.maps t.lists c a) where
+  module _ {c a : ℕ} (f : IsFiller (class_table p) t.maps t.lists c a) where
     filler_page : Contains (pages_in t.lists c NotFull) f.page
     filler_page = front_listed (pages_in t.lists c NotFull) f.page f.front
 
@@ -108,7 +109,7 @@ module _ (p : Paging) (ok : IsPaging p) (m : Held) (t : Tables) (tell : TellPart
     filler = (let w = stands_at p ok t tell m o c f.page f.slot filler_used in (w.0, w.1, w.2, w.4 ∙ sym f.address))
 
     -- and it alone stands there
-    module _ (s : IsSound p m) (q : ℕ) (y : Placed) (found : get m q ≡ Some y) (at : y.place ≡ a) where
+    module _ (s : IsSound p m) (q : ℕ) {y : Placed} (found : get m q ≡ Some y) (at : y.place ≡ a) where
       pub filler_is : (class_at p y ≡ c) × (page_of p y.place ≡ f.page) × (slot_at (class_table p) c y.place ≡ f.slot)
       filler_is =
           let w = stands_at p ok t tell m o c f.page f.slot filler_used in
@@ -127,11 +128,12 @@ module _ (p : Paging) (ok : IsPaging p) (m : Held) (t : Tables) (tell : TellPart
           let few = placed.fills.1 in
           subst (λ page. objects_on p m c page < slots_of p c) (sym filler_is.1) (omega arith)
 
-  pub filler_may : (x : Placed) (a : ℕ) (f : IsFiller (class_table p) t.maps t.lists (class_at p x) a) → IsSound p m → (q : ℕ) (y : Placed) → get m q ≡ Some y → y.place ≡ a → MayFill p m x y
-  filler_may x a f s q y found at = record { class = (filler_is (class_at p x) a f s q y found at).0; not_full = filler_not_full (class_at p x) a f s q y found at }
+  pub filler_may : (x : Placed) {a : ℕ} (f : IsFiller (class_table p) t.maps t.lists (class_at p x) a)
+      → IsSound p m → (q : ℕ) {y : Placed} → get m q ≡ Some y → y.place ≡ a → MayFill p m x y
+  filler_may x f s q found at = record { class = (filler_is f s q found at).0; not_full = filler_not_full f s q found at }
 
-module _ (p : Paging) (ok : IsPaging p) (m : Held) (old new : Tables) (tell : TellPart p old) (o : Occupies p m old) (kept : AreTables (class_table p) new)
-    (h : ℕ) (x : Placed) (some : get m h ≡ Some x) (a : ℕ) (f : FillsFrom (class_table p) old (class_at p x) a new) where
+module _ {p : Paging} (ok : IsPaging p) {m : Held} {old new : Tables} (tell : TellPart p old) (o : Occupies p m old) (kept : AreTables (class_table p) new)
+    (h : ℕ) {x : Placed} (some : get m h ≡ Some x) {a : ℕ} (f : FillsFrom (class_table p) old (class_at p x) a new) where
   filled_lost : Loses (class_table p) old new (class_at p x) f.filler.page f.filler.slot
   filled_lost = loses (class_table p) old tell.tables (class_at p x) f.filler.page f.filler.slot new f.vacates kept.lists kept.pool
 
@@ -142,10 +144,10 @@ module _ (p : Paging) (ok : IsPaging p) (m : Held) (old new : Tables) (tell : Te
   filled_tell whole = record { part = filled_part; whole = loses_whole (class_table p) old new (class_at p x) f.filler.page f.filler.slot filled_lost whole }
 
   -- x is freed, and the object that fills its slot stands there
-  pub filled_occupied : IsSound p m → (q : ℕ) (y : Placed) → get m q ≡ Some y → y.place ≡ a → MustMove p m x → Occupies p (without m h x.place (Some q)) new
-  filled_occupied s q y found at must =
-      let is = filler_is p ok m old tell o (class_at p x) a f.filler s q y found at in
-      let other = mover_is_other p ok m s h x some q y found must (filler_may p ok m old tell o x a f.filler s q y found at) in
+  pub filled_occupied : IsSound p m → (q : ℕ) {y : Placed} → get m q ≡ Some y → y.place ≡ a → MustMove p m x → Occupies p (without m h x.place (Some q)) new
+  filled_occupied s q {y} found at must =
+      let is = filler_is ok tell o f.filler s q found at in
+      let other = mover_is_other p ok m s h x some q y found must (filler_may ok tell o x f.filler s q found at) in
       let less = occupied_lost p ok m s old new tell o (class_at p x) f.filler.page f.filler.slot filled_lost q y found is.0 is.1 is.2 in
       let x_there : get (remove m q) h ≡ Some x = get_remove_other m q h (λ e. other (sym e)) ∙ some in
       let gone : get (remove (remove m q) h) q ≡ None = get_remove_other (remove m q) h q other ∙ get_removed m q in
@@ -153,13 +155,13 @@ module _ (p : Paging) (ok : IsPaging p) (m : Held) (old new : Tables) (tell : Te
       let once : Occupies p (insert (remove m h) q (record { place = x.place; bytes = y.bytes })) new = subst (λ n. Occupies p n new) (removed_twice m h q (record { place = x.place; bytes = y.bytes })) renamed in
       subst (λ z. Occupies p (moved_to (remove m h) q z x.place) new) (sym found) once
 
-module _ (p : Paging) (ok : IsPaging p) (m : Held) (t : Tables) (tell : TellPart p t) (o : Occupies p m t) where
+module _ {p : Paging} (ok : IsPaging p) {m : Held} {t : Tables} (tell : TellPart p t) (o : Occupies p m t) where
   -- where no slot was taken, there is no room
   pub refused_lacks_room : IsWhole t → (c : ℕ) (new : Tables) → TakesSlot (class_table p) t c None new → LacksRoom p m c
   refused_lacks_room whole c new r = lacks_room p ok m t tell o whole c r.0 r.1
 
   -- an object that is found
-  module _ (h : ℕ) (x : Placed) (some : get m h ≡ Some x) where
+  module _ (h : ℕ) {x : Placed} (some : get m h ≡ Some x) where
     at : IsUsed t (class_at p x) (page_of p x.place) (slot_at (class_table p) (class_at p x) x.place)
     at = o.stands h x some
 
@@ -191,7 +193,7 @@ module _ (p : Paging) (ok : IsPaging p) (m : Held) (t : Tables) (tell : TellPart
         let some = ok.some (class_at p x) lt in
         omega arith
 
-module _ (p : Paging) (m : Held) (t : Tables) (o : Occupies p m t) (h : ℕ) (x : Placed) (some : get m h ≡ Some x) where
+module _ {p : Paging} {m : Held} {t : Tables} (o : Occupies p m t) (h : ℕ) {x : Placed} (some : get m h ≡ Some x) where
   -- other bytes at the same place, in the same class
   pub rewritten_occupied : (bytes : List ℕ) → class_at p (record { place = x.place; bytes = bytes }) ≡ class_at p x → Occupies p (insert m h (record { place = x.place; bytes = bytes })) t
   rewritten_occupied bytes same =

@@ -36,7 +36,7 @@ use Rattle.paged_heap.proofs.LayoutFacts.{as_many, bound_is, few_classes, paged_
 use Rattle.paged_heap.proofs.Preserved.{Becomes, becomes_kept, becomes_state, has_place, held_is, stored, with_parts}
 use Rattle.paged_heap.proofs.ReadLemmas.{slot_there}
 
-module _ (h : Heap) (k : IsValid h) (q a size c : ℕ) (o : IsObjectAt h q a size c) where
+module _ {h : Heap} (k : IsValid h) {q a size c : ℕ} (o : IsObjectAt h q a size c) where
   abbrev pub it : Placed
   it = record { place = a; bytes = bytes_at h.words a }
 
@@ -100,14 +100,14 @@ module _ (h : Heap) (k : IsValid h) (q a size c : ℕ) (o : IsObjectAt h q a siz
 
   -- the test of a move is the model's
   pub must : IsMoving h a c → MustMove (paging_at h) (held_in h) it
-  must v = (moves_is (paging_at h) (paging_ok h k) (held_in h) (tables_in h) k.tell.part k.occupied q it it_found).0 (along _ _ _ _ _ _ (sym page_same) (sym it_class) bound_same v)
+  must v = (moves_is (paging_ok h k) k.tell.part k.occupied q it_found).0 (along _ _ _ _ _ _ (sym page_same) (sym it_class) bound_same v)
 
   pub moving : MustMove (paging_at h) (held_in h) it → IsMoving h a c
-  moving v = along _ _ _ _ _ _ page_same it_class (sym bound_same) ((moves_is (paging_at h) (paging_ok h k) (held_in h) (tables_in h) k.tell.part k.occupied q it it_found).1 v)
+  moving v = along _ _ _ _ _ _ page_same it_class (sym bound_same) ((moves_is (paging_ok h k) k.tell.part k.occupied q it_found).1 v)
 
   pub some_not_full : IsMoving h a c → 1 ≤ length (pages_in h.lists c NotFull)
   some_not_full v =
-      let l = moves_some (paging_at h) (paging_ok h k) (held_in h) (tables_in h) k.tell.part k.occupied q it it_found (must v) (let e = it_class in let lt = o.in_range in omega arith) in
+      let l = moves_some (paging_ok h k) k.tell.part k.occupied q it_found (must v) (let e = it_class in let lt = o.in_range in omega arith) in
       subst (λ d. 1 ≤ length (pages_in h.lists d NotFull)) it_class l
 
   -- what a free leaves, by the other object that moves

@@ -35,10 +35,10 @@ module _ (h : Heap) (k : IsValid h) (q a : ℕ) (some : get h.proxies.places q �
   object_at c found = (let is = class_is h k size c found in record { known = some; long = long; class = is.1; in_range = is.2 })
 
 -- its page is one of the tables'
-pub page_there : (h : Heap) (k : IsValid h) (q a size c : ℕ) (o : IsObjectAt h q a size c) → page_at h.classes a < length h.maps
-page_there h k q a size c o =
-    let lt = found_page (paging_at h) (paging_ok h k) (held_in h) (tables_in h) k.tell.part k.occupied q (it h k q a size c o) (it_found h k q a size c o) in
-    subst (λ g. g < length h.maps) (page_same h k q a size c o) lt
+pub page_there : {h : Heap} (k : IsValid h) {q a size c : ℕ} (o : IsObjectAt h q a size c) → page_at h.classes a < length h.maps
+page_there k o =
+    let lt = found_page (paging_ok h k) k.tell.part k.occupied q (it_found k o) in
+    subst (λ g. g < length h.maps) (page_same k o) lt
 
 -- the cost of a free
 pub free_cost : (o : Heap) (q : ℕ) (r : Result Freed NotLive) (h : Heap) (cost : ℕ) → IsFreeStep (state_of o) q r (state_of h) → IsFreeStep (state_of o) q r (state_of (record h { cost = cost }))

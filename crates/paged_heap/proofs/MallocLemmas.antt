@@ -38,7 +38,7 @@ module _ (h : Heap) (k : IsValid h) (bytes c : ℕ) (found : Some c ≡ class_of
       record {
         fits = is.0;
         few = (let e = held_len h k in let lt = few_proxies ne in omega arith);
-        lacking = lacks_in h.kind (paged_kind h k) (state_of h) bytes (subst (LacksRoom (paging_at h) (held_in h)) (sym is.1) (refused_lacks_room (paging_at h) (paging_ok h k) (held_in h) (tables_in h) k.tell.part k.occupied k.tell.whole c new t));
+        lacking = lacks_in h.kind (paged_kind h k) (state_of h) bytes (subst (LacksRoom (paging_at h) (held_in h)) (sym is.1) (refused_lacks_room (paging_ok h k) k.tell.part k.occupied k.tell.whole c new t));
       }
 
   module _ (new : Tables) (a : ℕ) (t : TakesAt h.classes (tables_in h) c a new) (tables : AreTables h.classes new) where
@@ -53,7 +53,7 @@ module _ (h : Heap) (k : IsValid h) (bytes c : ℕ) (found : Some c ≡ class_of
     place_inside =
         let is = class_is h k bytes c found in
         let lt = is.2 in
-        let free = taken_is_free (paging_at h) (paging_ok h k) (held_in h) (tables_in h) new k.tell.part k.occupied of_table c a lt at_table bytes is.1 in
+        let free = taken_is_free (paging_ok h k) k.tell.part k.occupied of_table lt at_table bytes is.1 in
         let inside = slot_inside (paging_at h) (class_for (paging_at h) bytes) a free.slot in
         let least = (paging_ok h k).sized.least (class_for (paging_at h) bytes) free.slot.class in
         let long = k.words_long in

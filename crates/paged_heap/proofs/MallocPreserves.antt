@@ -61,7 +61,7 @@ module _ (h n : Heap) (k : IsValid h) (c a bytes q : ℕ) (co : Comes h n c a by
   size = length-replicate {A = ℕ} bytes 0
 
   free : IsFreePlace (paging_at h) (held_in h) bytes a
-  free = taken_is_free (paging_at h) (paging_ok h k) (held_in h) (tables_in h) (tables_in n) k.tell.part k.occupied co.tables c a co.in_range co.taken bytes co.class
+  free = taken_is_free (paging_ok h k) k.tell.part k.occupied co.tables co.in_range co.taken bytes co.class
 
   small : q < 2 ^ 32
   small = (let lt = co.below in let e = k.numbers in let few = h.settings.few_proxies in omega arith)
@@ -103,8 +103,8 @@ module _ (h n : Heap) (k : IsValid h) (c a bytes q : ℕ) (co : Comes h n c a by
     image = subst (λ w. IsSlotImage (paging_at h) after w) (sym co.words)
         (image_after_malloc (paging_at h) (paging_ok h k) (held_in h) k.sound h.words k.image q bytes a none k.words_long free);
     sound = sound_malloc (paging_at h) (held_in h) (record { number = q; length = bytes }) after (paging_ok h k) k.sound (record { place = a; unused = none; free = free; placed = refl });
-    tell = taken_tell (paging_at h) (paging_ok h k) (held_in h) (tables_in h) (tables_in n) k.tell.part k.occupied co.tables c a co.in_range co.taken k.tell.whole;
-    occupied = taken_occupied (paging_at h) (paging_ok h k) (held_in h) (tables_in h) (tables_in n) k.tell.part k.occupied co.tables c a co.in_range co.taken q (zeros_at a bytes) none refl class_of_zeros;
+    tell = taken_tell (paging_ok h k) k.tell.part k.occupied co.tables co.in_range co.taken k.tell.whole;
+    occupied = taken_occupied (paging_ok h k) k.tell.part k.occupied co.tables co.in_range co.taken q (zeros_at a bytes) none refl class_of_zeros;
     limit = ap (λ (x : Proxies). x.limit) co.proxies;
     handles = co.handles;
     live_long = ap length co.live ∙ length-set h.live c (get_or h.live c 0 + 1) ∙ k.live_long;

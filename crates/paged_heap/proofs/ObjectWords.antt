@@ -41,18 +41,18 @@ module _ (v : List ℕ) (size : ℕ) where
     | inr past ↦ get_or_past v b 0 past ∙ sym (resized_behind v size b past)
   ]
 
-module _ (h : Heap) (k : IsValid h) (q a m c : ℕ) (o : IsObjectAt h q a m c) where
+module _ {h : Heap} (k : IsValid h) {q a m c : ℕ} (o : IsObjectAt h q a m c) where
   abbrev old : List ℕ
   old = bytes_at h.words a
 
   pub few : q < 2 ^ 32
-  few = (stored h k q _ (it_found h k q a m c o)).0
+  few = (stored h k q _ (it_found k o)).0
 
   old_small : length old < 2 ^ 32
   old_small = (let f = bytes_few h k q a o.known in omega arith)
 
   pub stood : (i : ℕ) → suc i < slot_for (paging_at h) (length old) → get_or h.words (a + suc i) 0 ≡ object_word q old (suc i)
-  stood i lt = k.image.held q (it h k q a m c o) (it_found h k q a m c o) (suc i) lt
+  stood i lt = k.image.held q (it k o) (it_found k o) (suc i) lt
 
   pub was_small : (i : ℕ) → suc i < slot_for (paging_at h) (length old) → get_or h.words (a + suc i) 0 < 2 ^ 64
   was_small i lt = (let e = stood i lt in let s = object_word_small q old (suc i) few old_small (bytes_at-AreBytes h.words a) in omega arith)

@@ -39,18 +39,18 @@ use Rattle.paged_heap.proofs.FreedObject.{asked_some, it, it_class, it_found, it
 use Rattle.paged_heap.proofs.ObjectWords.{few}
 use Rattle.paged_heap.proofs.WriteLemmas.{asked_changed, live_changed, taken_changed}
 
-module _ (h : Heap) (k : IsValid h) (x : Change) (is : IsChange h x) (b : ℕ) (n : Heap) (en : EntersAt h x b n) where
+module _ {h : Heap} (k : IsValid h) {x : Change} (is : IsChange h x) {b : ℕ} {n : Heap} (en : EntersAt h x b n) where
   abbrev pub object : Placed
-  object = it h k x.handle.0 x.place x.length x.class is.object
+  object = it k is.object
 
   pub found : get (held_in h) x.handle.0 ≡ Some object
-  found = it_found h k x.handle.0 x.place x.length x.class is.object
+  found = it_found k is.object
 
   object_class : class_at (paging_at h) object ≡ x.class
-  object_class = it_class h k x.handle.0 x.place x.length x.class is.object
+  object_class = it_class k is.object
 
   pub place_free : IsFreePlace (paging_at h) (held_in h) x.bytes b
-  place_free = is_free h k x is b (tables_in n) en.taken en.tables
+  place_free = is_free k is en.taken en.tables
 
   -- the object as it is to be
   abbrev pub new : Placed
@@ -82,11 +82,11 @@ module _ (h : Heap) (k : IsValid h) (x : Change) (is : IsChange h x) (b : ℕ) (
   both_sound = sound_placed (paging_at h) (held_in h) spare new unused (paging_ok h k) k.sound new_free
 
   pub both_tell : Tell (paging_at h) (tables_in n)
-  both_tell = taken_tell (paging_at h) (paging_ok h k) (held_in h) (tables_in h) (tables_in n) k.tell.part k.occupied (of_table h k x is b (tables_in n) en.taken en.tables) x.to b is.in_range (at_table h k x is b (tables_in n) en.taken en.tables) k.tell.whole
+  both_tell = taken_tell (paging_ok h k) k.tell.part k.occupied (of_table k is en.taken en.tables) is.in_range (at_table k is en.taken en.tables) k.tell.whole
 
   pub both_occupied : Occupies (paging_at h) both (tables_in n)
   both_occupied =
-      taken_occupied (paging_at h) (paging_ok h k) (held_in h) (tables_in h) (tables_in n) k.tell.part k.occupied (of_table h k x is b (tables_in n) en.taken en.tables) x.to b is.in_range (at_table h k x is b (tables_in n) en.taken en.tables)
+      taken_occupied (paging_ok h k) k.tell.part k.occupied (of_table k is en.taken en.tables) is.in_range (at_table k is en.taken en.tables)
       spare new unused refl new_class
 
   -- the class of the old one has its objects as before
@@ -110,29 +110,29 @@ module _ (h : Heap) (k : IsValid h) (x : Change) (is : IsChange h x) (b : ℕ) (
       subst (λ (t : ClassTable). IsUsed (tables_in n) x.class (page_at t x.place) (slot_at t x.class x.place)) (table_is h k ∙ sym en.classes) v
 
   pub entered_long : length n.words ≡ length h.words
-  entered_long = carried_long h k x is b place_free n.words en.words
+  entered_long = carried_long k is place_free en.words
 
   pub new_there : b + slot_for (paging_at h) x.bytes ≤ length n.words
-  new_there = (let l = entered_long in let i = new_inside h k x is b place_free in omega arith)
+  new_there = (let l = entered_long in let i = new_inside k is place_free in omega arith)
 
   -- the words with the new slot written, and the old one not cleared
   abbrev pub middle : List ℕ
-  middle = between h.words n.words b (slot_for (paging_at h) x.bytes) x.place (old_words h x) (new_inside h k x is b place_free) new_there (object_word x.handle.0 new.bytes) (slots_apart h k x is b place_free)
-      (arrived h k x is b place_free n.words en.words) (untouched h k x is b place_free n.words en.words)
+  middle = between h.words n.words b (slot_for (paging_at h) x.bytes) x.place (old_words h x) (new_inside k is place_free) new_there (object_word x.handle.0 new.bytes) (slots_apart k is place_free)
+      (arrived k is place_free en.words) (untouched k is place_free en.words)
 
   pub rewritten : Rewrites h.words middle (record { from = b; count = slot_for (paging_at h) (length new.bytes) }) (object_word x.handle.0 new.bytes)
   rewritten = subst (λ l. Rewrites h.words middle (record { from = b; count = slot_for (paging_at h) l }) (object_word x.handle.0 new.bytes)) (sym (length-resized object.bytes x.bytes))
-      (written_first h.words n.words b (slot_for (paging_at h) x.bytes) x.place (old_words h x) (new_inside h k x is b place_free) new_there (object_word x.handle.0 new.bytes) (slots_apart h k x is b place_free)
-      (arrived h k x is b place_free n.words en.words) (untouched h k x is b place_free n.words en.words))
+      (written_first h.words n.words b (slot_for (paging_at h) x.bytes) x.place (old_words h x) (new_inside k is place_free) new_there (object_word x.handle.0 new.bytes) (slots_apart k is place_free)
+      (arrived k is place_free en.words) (untouched k is place_free en.words))
 
   pub then_cleared : (last : List ℕ) → Clears n.words last (record { from = x.place; count = old_words h x }) → Clears middle last (record { from = x.place; count = slot_for (paging_at h) (length object.bytes) })
-  then_cleared last c = subst (λ l. Clears middle last (record { from = x.place; count = l })) (it_slot h k x.handle.0 x.place x.length x.class is.object)
-      (cleared_then h.words n.words b (slot_for (paging_at h) x.bytes) x.place (old_words h x) (new_inside h k x is b place_free) new_there (object_word x.handle.0 new.bytes) (slots_apart h k x is b place_free)
-      (arrived h k x is b place_free n.words en.words) (untouched h k x is b place_free n.words en.words) last c)
+  then_cleared last c = subst (λ l. Clears middle last (record { from = x.place; count = l })) (it_slot k is.object)
+      (cleared_then h.words n.words b (slot_for (paging_at h) x.bytes) x.place (old_words h x) (new_inside k is place_free) new_there (object_word x.handle.0 new.bytes) (slots_apart k is place_free)
+      (arrived k is place_free en.words) (untouched k is place_free en.words) last c)
 
   pub then_moved : (last : List ℕ) (f : ℕ) → IsDisjoint x.place (old_words h x) f (old_words h x) → MovesWords n.words last (record { from = f; count = old_words h x }) x.place → MovesWords middle last (record { from = f; count = old_words h x }) x.place
-  then_moved = moved_then h.words n.words b (slot_for (paging_at h) x.bytes) x.place (old_words h x) (new_inside h k x is b place_free) new_there (object_word x.handle.0 new.bytes) (slots_apart h k x is b place_free)
-      (arrived h k x is b place_free n.words en.words) (untouched h k x is b place_free n.words en.words)
+  then_moved = moved_then h.words n.words b (slot_for (paging_at h) x.bytes) x.place (old_words h x) (new_inside k is place_free) new_there (object_word x.handle.0 new.bytes) (slots_apart k is place_free)
+      (arrived k is place_free en.words) (untouched k is place_free en.words)
 
   -- by the other object that moves
   module _ (moved : Option ℕ) (mv : Moves (paging_at h) both object moved) where
@@ -182,7 +182,7 @@ module _ (h : Heap) (k : IsValid h) (x : Change) (is : IsChange h x) (b : ℕ) (
     after_storable : AreStorable after
     after_storable = subst AreStorable (sym after_is)
         (storable_added (without (held_in h) x.handle.0 x.place moved) x.handle.0 new (storable_without (held_in h) x.handle.0 x.place moved (stored h k))
-        (few h k x.handle.0 x.place x.length x.class is.object) (are_now h k x is b place_free n.words en.words))
+        (few k is.object) (are_now k is place_free en.words))
 
     counts : (d : ℕ) → d < classes (paging_at h) → get_or n.live d 0 ≡ live (paging_at h) (objects after) d
     counts d lt =
@@ -248,15 +248,15 @@ module _ (h : Heap) (k : IsValid h) (x : Change) (is : IsChange h x) (b : ℕ) (
             let e = asked_changed (paging_at h) (objects (held_in h)) x.handle.0 object.bytes new.bytes old_bytes in
             let all = ap asked_bytes objects_are in let was = k.asked_all in let now = en.asked in let s = same.asked in
             let l = is.object.long in let l' = length-resized object.bytes x.bytes in
-            let some = asked_some h k x.handle.0 x.place x.length x.class is.object in
+            let some = asked_some k is.object in
             omega arith);
         taken_all = (
             let e = taken_changed (paging_at h) (objects (held_in h)) x.handle.0 object.bytes new.bytes old_bytes in
             let all = ap (taken_bytes (paging_at h)) objects_are in let was = k.taken_all in let now = en.all_taken in let s = same.taken in
-            let l = it_slot h k x.handle.0 x.place x.length x.class is.object in
+            let l = it_slot k is.object in
             let l' : slot_words (paging_at h) (class_for (paging_at h) (length new.bytes)) ≡ slot_words (paging_at h) x.to = ap (slot_words (paging_at h)) new_class in
             let l'' : get_or h.classes.sizes x.to 0 ≡ slot_words (paging_at h) x.to = ap (λ xs. get_or xs x.to 0) (sizes_are h k) in
-            let some = taken_some h k x.handle.0 x.place x.length x.class is.object in
+            let some = taken_some k is.object in
             omega arith);
       }
 
@@ -270,7 +270,7 @@ module _ (h : Heap) (k : IsValid h) (x : Change) (is : IsChange h x) (b : ℕ) (
           fits = is.fits;
           object = object;
           found = found;
-          old_slot = was_words ∙ it_slot h k x.handle.0 x.place x.length x.class is.object;
+          old_slot = was_words ∙ it_slot k is.object;
           slot = words ∙ ap (λ xs. get_or xs x.to 0) (sizes_are h k) ∙ ap (slot_words (paging_at h)) (sym is.class);
           step = subst (λ g. IsResizedBy (paging_at h) (held_in h) asked (record { held = g; moved = number_of done.moved })) (sym (held_is h m k after be))
               (subst (λ v. IsResizedBy (paging_at h) (held_in h) asked (record { held = after; moved = v })) (sym none) (inr step));

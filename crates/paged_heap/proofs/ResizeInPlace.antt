@@ -107,10 +107,10 @@ module _ (h t n : Heap) (k : IsValid h) (q a m c : ℕ) (o : IsObjectAt h q a m 
   are = resized_are_bytes old size (bytes_at-AreBytes h.words a)
 
   old_holds : need m ≤ slot_for (paging_at h) (length old)
-  old_holds = (let l = o.long in let r = class_holds (paging_at h) (paging_ok h k) (length old) (k.sound.slots q _ (it_found h k q a m c o)).class in omega arith)
+  old_holds = (let l = o.long in let r = class_holds (paging_at h) (paging_ok h k) (length old) (k.sound.slots q _ (it_found k o)).class in omega arith)
 
   same_slot : slot_words (paging_at h) (class_for (paging_at h) size) ≡ slot_for (paging_at h) (length old)
-  same_slot = ap (slot_words (paging_at h)) (same ∙ sym (it_class h k q a m c o))
+  same_slot = ap (slot_words (paging_at h)) (same ∙ sym (it_class k o))
 
   new_holds : need size ≤ slot_for (paging_at h) (length old)
   new_holds = (let r = class_holds (paging_at h) (paging_ok h k) size (subst (λ d. d < classes (paging_at h)) (sym same) o.in_range) in let e = same_slot in omega arith)
@@ -119,7 +119,7 @@ module _ (h t n : Heap) (k : IsValid h) (q a m c : ℕ) (o : IsObjectAt h q a m 
   size_few = (let r = new_holds in let s = slot_small h k q a o.known in omega arith)
 
   in_slot : a + slot_for (paging_at h) (length old) ≤ length h.words
-  in_slot = (let i = it_inside h k q a m c o in let e = it_slot h k q a m c o in omega arith)
+  in_slot = (let i = it_inside k o in let e = it_slot k o in omega arith)
 
   -- each word behind the header after the cut, as bytes and as a number of 64 bits
   cut_word : size < m → (i : ℕ) → suc i < slot_for (paging_at h) (length old) → ((j : ℕ) → j < 8 → byte_of j (get_or t.words (a + suc i) 0) ≡ get_or new (8 * i + j) 0) × (get_or t.words (a + suc i) 0 < 2 ^ 64)
@@ -128,14 +128,14 @@ module _ (h t n : Heap) (k : IsValid h) (q a m c : ℕ) (o : IsObjectAt h q a m 
       elim (cases_lt i (size / 8)) [
         | inl low ↦ (
             let e : get_or t.words (a + suc i) 0 ≡ get_or h.words (a + suc i) 0 = k'.others (a + suc i) (inl (omega arith)) in
-            ((λ j l. ap (byte_of j) e ∙ was_byte h k q a m c o i j lt l ∙ before old size (8 * i + j) (omega arith)), (let s = was_small h k q a m c o i lt in omega arith)))
+            ((λ j l. ap (byte_of j) e ∙ was_byte k o i j lt l ∙ before old size (8 * i + j) (omega arith)), (let s = was_small k o i lt in omega arith)))
         | inr high ↦ elim (cases_eq i (size / 8)) [
           | inl is ↦ (
               let at : a + suc i ≡ a + 1 + size / 8 = omega arith in
               let e = ap (λ w. get_or t.words w 0) at in
               let f = ap (λ w. get_or h.words w 0) at in (
                 (λ j l. ap (byte_of j) e ∙ elim (cases_lt j (size % 8)) [
-                  | inl first ↦ k'.low j first ∙ sym (ap (byte_of j) f) ∙ was_byte h k q a m c o i j lt l ∙ before old size (8 * i + j) (omega arith)
+                  | inl first ↦ k'.low j first ∙ sym (ap (byte_of j) f) ∙ was_byte k o i j lt l ∙ before old size (8 * i + j) (omega arith)
                   | inr rest ↦ k'.high j rest l ∙ sym (past_new old size (8 * i + j) (omega arith))
                 ]),
                 (let s = k'.small in omega arith),
@@ -148,7 +148,7 @@ module _ (h t n : Heap) (k : IsValid h) (q a m c : ℕ) (o : IsObjectAt h q a m 
                 ((λ j l. ap (byte_of j) e ∙ zero_byte j ∙ sym (past_new old size (8 * i + j) (omega arith))), omega arith))
             | inr behind ↦ (
                 let e : get_or t.words (a + suc i) 0 ≡ get_or h.words (a + suc i) 0 = k'.others (a + suc i) (inr (omega arith)) in
-                ((λ j l. ap (byte_of j) e ∙ was_byte h k q a m c o i j lt l ∙ past_old h k q a m c o (8 * i + j) (omega arith) ∙ sym (past_new old size (8 * i + j) (omega arith))), (let s = was_small h k q a m c o i lt in omega arith)))
+                ((λ j l. ap (byte_of j) e ∙ was_byte k o i j lt l ∙ past_old k o (8 * i + j) (omega arith) ∙ sym (past_new old size (8 * i + j) (omega arith))), (let s = was_small k o i lt in omega arith)))
           ]
         ]
       ]
@@ -158,11 +158,11 @@ module _ (h t n : Heap) (k : IsValid h) (q a m c : ℕ) (o : IsObjectAt h q a m 
     | inl less ↦ cut_word less i lt
     | inr le ↦ (
         let e : get_or t.words (a + suc i) 0 ≡ get_or h.words (a + suc i) 0 = ap (λ (x : Heap). get_or x.words (a + suc i) 0) (kept le) in (
-          (λ j l. ap (byte_of j) e ∙ was_byte h k q a m c o i j lt l ∙ elim (cases_lt (8 * i + j) size) [
+          (λ j l. ap (byte_of j) e ∙ was_byte k o i j lt l ∙ elim (cases_lt (8 * i + j) size) [
             | inl inside ↦ before old size (8 * i + j) inside
-            | inr past ↦ past_old h k q a m c o (8 * i + j) (omega arith) ∙ sym (past_new old size (8 * i + j) past)
+            | inr past ↦ past_old k o (8 * i + j) (omega arith) ∙ sym (past_new old size (8 * i + j) past)
           ]),
-          (let s = was_small h k q a m c o i lt in omega arith),
+          (let s = was_small k o i lt in omega arith),
         ))
   ])
     where
@@ -170,7 +170,7 @@ module _ (h t n : Heap) (k : IsValid h) (q a m c : ℕ) (o : IsObjectAt h q a m 
       new_small = (let l = new_long in let r = size_few in omega arith)
 
       by_bytes : ((j : ℕ) → j < 8 → byte_of j (get_or t.words (a + suc i) 0) ≡ get_or new (8 * i + j) 0) × (get_or t.words (a + suc i) 0 < 2 ^ 64) → get_or t.words (a + suc i) 0 ≡ object_word q new (suc i)
-      by_bytes (each, small) = word_is q new i (get_or t.words (a + suc i) 0) (few h k q a m c o) new_small are small each
+      by_bytes (each, small) = word_is q new i (get_or t.words (a + suc i) 0) (few k o) new_small are small each
 
   long_t : length t.words ≡ length h.words
   long_t = elim (cases_lt size m) [
@@ -208,21 +208,21 @@ module _ (h t n : Heap) (k : IsValid h) (q a m c : ℕ) (o : IsObjectAt h q a m 
       in_word (suc i) lt = ap (λ ws. get_or ws (a + suc i) 0) region_is ∙ get_or-set_other t.words a (a + suc i) (header_word q size) 0 (omega arith) ∙ any_word i lt
 
   class_new : class_for (paging_at h) (length new) ≡ class_for (paging_at h) (length old)
-  class_new = ap (class_for (paging_at h)) new_long ∙ same ∙ sym (it_class h k q a m c o)
+  class_new = ap (class_for (paging_at h)) new_long ∙ same ∙ sym (it_class k o)
 
   image : IsSlotImage (paging_at h) (insert (held_in h) q (record { place = a; bytes = new })) n.words
-  image = image_after_write (paging_at h) (paging_ok h k) (held_in h) k.sound h.words k.image q (record { place = a; bytes = old }) (it_found h k q a m c o) n.words new class_new rewrites
+  image = image_after_write (paging_at h) (paging_ok h k) (held_in h) k.sound h.words k.image q (record { place = a; bytes = old }) (it_found k o) n.words new class_new rewrites
 
   asked_t : t.asked ≡ h.asked
   asked_t = ap (λ (x : Heap). x.asked) et
 
   becomes : Becomes h n (insert (held_in h) q (record { place = a; bytes = new }))
-  becomes = changes h n k q a (it_found h k q a m c o) new class_new are
+  becomes = changes h n k q a (it_found k o) new class_new are
       (en ∙ ap (λ (x : Heap). record x { words = set t.words a (header_word q size); asked = t.asked - m + size }) et
       ∙ ap (λ ws. record h { words = ws; asked = t.asked - m + size }) (sym region_is) ∙ ap (λ x. record h { words = n.words; asked = x }) (sym (ap (λ (x : Heap). x.asked) en)))
       (ap length region_is ∙ length-set t.words a (header_word q size) ∙ long_t)
       image
-      (let e = ap (λ (x : Heap). x.asked) en in let f = asked_t in let s = asked_some h k q a m c o in let l = o.long in let l' = new_long in omega arith)
+      (let e = ap (λ (x : Heap). x.asked) en in let f = asked_t in let s = asked_some k o in let l = o.long in let l' = new_long in omega arith)
 
   frames_still : n.frames ≡ frames_left h.kind (state_of h) (record { held = insert (held_in h) q (record { place = a; bytes = new }); moved = None })
   frames_still = ap (λ (x : Heap). x.frames) en ∙ ap (λ (x : Heap). x.frames) et ∙ sym (frames_stay h.kind (paged_kind h k) (state_of h) (insert (held_in h) q (record { place = a; bytes = new })))
@@ -236,13 +236,13 @@ module _ (h t n : Heap) (k : IsValid h) (q a m c : ℕ) (o : IsObjectAt h q a m 
     pages = paged_kind h k;
     fits = fits;
     object = record { place = a; bytes = old };
-    found = it_found h k q a m c o;
-    old_slot = was_words ∙ it_slot h k q a m c o;
-    slot = words ∙ it_slot h k q a m c o ∙ sym same_slot;
+    found = it_found k o;
+    old_slot = was_words ∙ it_slot k o;
+    slot = words ∙ it_slot k o ∙ sym same_slot;
     step = inl (record {
       object = record { place = a; bytes = old };
-      found = it_found h k q a m c o;
-      same = same ∙ sym (it_class h k q a m c o);
+      found = it_found k o;
+      same = same ∙ sym (it_class k o);
       placed = held_is h n k (insert (held_in h) q (record { place = a; bytes = new })) becomes;
       still = ap number_of none;
     });
@@ -254,12 +254,12 @@ module _ (h t n : Heap) (k : IsValid h) (q a m c : ℕ) (o : IsObjectAt h q a m 
   }
 
 -- its slot has the words of its bytes
-module _ (h : Heap) (k : IsValid h) (q a m c : ℕ) (o : IsObjectAt h q a m c) where
+module _ {h : Heap} (k : IsValid h) {q a m c : ℕ} (o : IsObjectAt h q a m c) where
   pub holds_bytes : 1 + (m + 7) / 8 ≤ get_or h.classes.sizes c 0
-  holds_bytes = (let r = holds h k q a o.known in let e = it_slot h k q a m c o in let l = o.long in omega arith)
+  holds_bytes = (let r = holds h k q a o.known in let e = it_slot k o in let l = o.long in omega arith)
 
   pub bytes_in : a + 1 + (m + 7) / 8 ≤ length h.words
-  bytes_in = (let i = it_inside h k q a m c o in let r = holds_bytes in omega arith)
+  bytes_in = (let i = it_inside k o in let r = holds_bytes in omega arith)
 
   pub bytes_low : a + 1 + (m + 7) / 8 ≤ 2 ^ 23
   bytes_low = (let i = bytes_in in let l = k.words_long in let s = h.settings.small_region in omega arith)

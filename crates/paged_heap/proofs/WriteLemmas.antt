@@ -89,7 +89,7 @@ module _ (h n : Heap) (k : IsValid h) (q a : ℕ) (some : get (held_in h) q ≡ 
     image = image;
     sound = still_sound;
     tell = subst (Tell (paging_at h)) (sym (ap tables_in rest)) k.tell;
-    occupied = subst (Occupies (paging_at h) changed) (sym (ap tables_in rest)) (rewritten_occupied (paging_at h) (held_in h) (tables_in h) k.occupied q (record { place = a; bytes = bytes_at h.words a }) some u class);
+    occupied = subst (Occupies (paging_at h) changed) (sym (ap tables_in rest)) (rewritten_occupied k.occupied q some u class);
     limit = ap (λ (x : Heap). x.proxies.limit) rest;
     handles = subst AreBelowLimit (sym (ap (λ (x : Heap). x.proxies) rest)) k.handles;
     live_long = ap (λ (x : Heap). length x.live) rest ∙ k.live_long;

@@ -34,15 +34,15 @@ pub returns-in-Some-blocks-clause-value : goal.returns-in-Some-blocks-clause-val
 returns-in-Some-blocks-clause-value c =
     let h = seen NonMoving c.args.heap.now in let k = c.requires.kept in
     let o = object_at h k c.args.h.0 c.in-Some.place (sym c.in-Some.ensures.found) c.length_at-length.result c.length_at-length.ensures.value c.in-Some-class_of.c c.in-Some-class_of.ensures.found in
-    let slot = it_slot h k c.args.h.0 c.in-Some.place c.length_at-length.result c.in-Some-class_of.c o in
+    let slot = it_slot k o in
     let w = c.slot_words.ensures.value in let lt = c.if-i-slot_words.true in
-    block_given (state_at NonMoving c.args.heap.now) c.args.h.0 c.args.i (it h k c.args.h.0 c.in-Some.place c.length_at-length.result c.in-Some-class_of.c o) (it_found h k c.args.h.0 c.in-Some.place c.length_at-length.result c.in-Some-class_of.c o)
+    block_given (state_at NonMoving c.args.heap.now) c.args.h.0 c.args.i (it k o) (it_found k o)
     (omega arith) c.block.result (c.block.ensures.value ∙ ap (λ b. get_or (frames_in b) (c.in-Some.place / 4 + c.args.i) 0) (sym c.in-Some-blocks.is))
 
 pub returns-else-i-slot_words-clause-value : goal.returns-else-i-slot_words-clause-value
 returns-else-i-slot_words-clause-value c =
     let h = seen NonMoving c.args.heap.now in let k = c.requires.kept in
     let o = object_at h k c.args.h.0 c.in-Some.place (sym c.in-Some.ensures.found) c.length_at-length.result c.length_at-length.ensures.value c.in-Some-class_of.c c.in-Some-class_of.ensures.found in
-    let slot = it_slot h k c.args.h.0 c.in-Some.place c.length_at-length.result c.in-Some-class_of.c o in
+    let slot = it_slot k o in
     let w = c.slot_words.ensures.value in let le = c.if-i-slot_words.false in
-    block_past (state_at NonMoving c.args.heap.now) c.args.h.0 c.args.i (it h k c.args.h.0 c.in-Some.place c.length_at-length.result c.in-Some-class_of.c o) (it_found h k c.args.h.0 c.in-Some.place c.length_at-length.result c.in-Some-class_of.c o) (omega arith)
+    block_past (state_at NonMoving c.args.heap.now) c.args.h.0 c.args.i (it k o) (it_found k o) (omega arith)

@@ -12,20 +12,20 @@ use Rattle.paged_heap.proofs.open_heap.OpenHeap.resize_in_place.Goals as goal
 pub zero_tail-requires-clause-within : goal.zero_tail-requires-clause-within
 zero_tail-requires-clause-within g c =
     let kind = g.A.Mapping.kind in let h = seen kind c.args.self.now in let k = c.requires.kept.kept in
-    let l = bytes_in h k c.args.h.0 c.args.place c.args.length c.args.c c.requires.object in
+    let l = bytes_in k c.requires.object in
     let e = in_region kind c.args.self.now c.requires.kept.laid in
     omega arith
 
 pub zero_tail-requires-clause-small : goal.zero_tail-requires-clause-small
 zero_tail-requires-clause-small g c =
     let kind = g.A.Mapping.kind in let h = seen kind c.args.self.now in let k = c.requires.kept.kept in
-    let l = bytes_low h k c.args.h.0 c.args.place c.args.length c.args.c c.requires.object in
+    let l = bytes_low k c.requires.object in
     omega arith
 
 pub write-requires-clause-within : goal.write-requires-clause-within
 write-requires-clause-within g c =
     let kind = g.A.Mapping.kind in let h = seen kind c.args.self.now in let k = c.requires.kept.kept in
-    let l = bytes_in h k c.args.h.0 c.args.place c.args.length c.args.c c.requires.object in
+    let l = bytes_in k c.requires.object in
     let e = c.zero_tail.ensures.len in
     let f = in_region kind c.args.self.now c.requires.kept.laid in
     omega arith
@@ -33,7 +33,7 @@ write-requires-clause-within g c =
 pub overflow_sub-self : goal.overflow_sub-self
 overflow_sub-self g c =
     let kind = g.A.Mapping.kind in let h = seen kind c.args.self.now in let k = c.requires.kept.kept in
-    let l = asked_some h k c.args.h.0 c.args.place c.args.length c.args.c c.requires.object in
+    let l = asked_some k c.requires.object in
     let e = ap (λ (x : Heap). x.asked) c.zero_tail.ensures.rest in let f = c.from.ensures in
     omega arith
 
@@ -77,6 +77,6 @@ pub returns-clause-bound : goal.returns-clause-bound
 returns-clause-bound g c =
     let kind = g.A.Mapping.kind in let h = seen kind c.args.self.now in let k = c.requires.kept.kept in
     let a = c.zero_tail.ensures.bound in let b = c.write.ensures.bound in
-    let r = holds_bytes h k c.args.h.0 c.args.place c.args.length c.args.c c.requires.object in let e = c.slot_words-slot_words.ensures.value in
+    let r = holds_bytes k c.requires.object in let e = c.slot_words-slot_words.ensures.value in
     let ak = a.kept in let ab = a.bound in let bk = b.kept in let bb = b.bound in
     record { kept = omega arith; bound = omega arith }
