@@ -5,7 +5,7 @@ use Rattle.std.specs.FinMap.{get}
 use Rattle.std.specs.contracts.option.Option.{the_row as option_row}
 use Rattle.region.specs.Lending.{with_words}
 use Rattle.paged_heap.specs.declared.open_heap.OpenHeap.{OpenHeap}
-use Rattle.paged_heap.specs.contracts.inner.OpenHeap.{the_row}
+use Rattle.paged_heap.specs.contracts.open_heap.OpenHeap.{the_row}
 
 -- the heap, with ws in place of the n words from i on
 abbrev pub with_run : OpenHeap → ℕ → ℕ → List ℕ → OpenHeap
