@@ -95,6 +95,10 @@ module _ {p : Paging} (ok : IsPaging p) {m : Held} {old new : Tables} (tell : Te
     pub vacated_occupied : Occupies p (remove m h) new
     vacated_occupied = occupied_lost p ok m s old new tell o c page slot lost h x some is_c on at
 
+-- what fills a slot is the object that `filler` finds
+abbrev pub filler_in : {k : ClassTable} {old new : Tables} {c a : ℕ} → FillsFrom k old c a new → IsFiller k old.maps old.lists c a
+filler_in f = record { page = f.page; slot = f.slot; address = f.address; front = f.front; least = f.least; used = f.vacates.used }
+
 module _ {p : Paging} (ok : IsPaging p) {m : Held} {t : Tables} (tell : TellPart p t) (o : Occupies p m t) where
   -- the object that fills a freed slot of class c
   module _ {c a : ℕ} (f : IsFiller (class_table p) t.maps t.lists c a) where
@@ -134,21 +138,24 @@ module _ {p : Paging} (ok : IsPaging p) {m : Held} {t : Tables} (tell : TellPart
 
 module _ {p : Paging} (ok : IsPaging p) {m : Held} {old new : Tables} (tell : TellPart p old) (o : Occupies p m old) (kept : AreTables (class_table p) new)
     (h : ℕ) {x : Placed} (some : get m h ≡ Some x) {a : ℕ} (f : FillsFrom (class_table p) old (class_at p x) a new) where
-  filled_lost : Loses (class_table p) old new (class_at p x) f.filler.page f.filler.slot
-  filled_lost = loses (class_table p) old tell.tables (class_at p x) f.filler.page f.filler.slot new f.vacates kept.lists kept.pool
+  abbrev filling : IsFiller (class_table p) old.maps old.lists (class_at p x) a
+  filling = filler_in f
+
+  filled_lost : Loses (class_table p) old new (class_at p x) f.page f.slot
+  filled_lost = loses (class_table p) old tell.tables (class_at p x) f.page f.slot new f.vacates kept.lists kept.pool
 
   pub filled_part : TellPart p new
   filled_part = record { tables = kept; pages = filled_lost.pages ∙ tell.pages }
 
   pub filled_tell : IsWhole old → Tell p new
-  filled_tell whole = record { part = filled_part; whole = loses_whole (class_table p) old new (class_at p x) f.filler.page f.filler.slot filled_lost whole }
+  filled_tell whole = record { part = filled_part; whole = loses_whole (class_table p) old new (class_at p x) f.page f.slot filled_lost whole }
 
   -- x is freed, and the object that fills its slot stands there
   pub filled_occupied : IsSound p m → (q : ℕ) {y : Placed} → get m q ≡ Some y → y.place ≡ a → MustMove p m x → Occupies p (without m h x.place (Some q)) new
   filled_occupied s q {y} found at must =
-      let is = filler_is ok tell o f.filler s q found at in
-      let other = mover_is_other p ok m s h x some q y found must (filler_may ok tell o x f.filler s q found at) in
-      let less = occupied_lost p ok m s old new tell o (class_at p x) f.filler.page f.filler.slot filled_lost q y found is.0 is.1 is.2 in
+      let is = filler_is ok tell o filling s q found at in
+      let other = mover_is_other p ok m s h x some q y found must (filler_may ok tell o x filling s q found at) in
+      let less = occupied_lost p ok m s old new tell o (class_at p x) f.page f.slot filled_lost q y found is.0 is.1 is.2 in
       let x_there : get (remove m q) h ≡ Some x = get_remove_other m q h (λ e. other (sym e)) ∙ some in
       let gone : get (remove (remove m q) h) q ≡ None = get_remove_other (remove m q) h q other ∙ get_removed m q in
       let renamed = occupied_renamed p (remove m q) new less h x x_there q y.bytes gone is.0 in

@@ -41,8 +41,12 @@ pub record HasUsedSlot (maps : List (List Bool)) (page : ℕ) : Type 0 where
 
 -- the object at address a fills a freed slot of class c, and its own slot becomes free
 pub record FillsFrom (k : ClassTable) (old : Tables) (c a : ℕ) (new : Tables) : Type 0 where
-  pub filler : IsFiller k old.maps old.lists c a
-  pub vacates : Vacates old c filler.page filler.slot new
+  pub page : ℕ
+  pub slot : ℕ
+  pub address : a ≡ address_in k c page slot
+  pub front : slice_get (pages_in old.lists c NotFull) 0 ≡ Some page
+  pub least : position (λ used. used) (slots_on old page) ≡ Some slot
+  pub vacates : Vacates old c page slot new
 
 -- a free on a page with these slots moves an object: the page is full and has more than one slot, and the class has as many pages that are not full as it may
 pub record MovesObject (slots : List Bool) (not_full bound : ℕ) : Type 0 where

@@ -18,7 +18,7 @@ use Rattle.cf_model.specs.Steps.{frames_left}
 use Rattle.page_slots.specs.Freeing.{FillsFrom}
 use Rattle.page_slots.specs.Tables.{AreTables, Tables}
 use Rattle.page_slots.specs.Occupying.{Occupies, Tell, class_table}
-use Rattle.page_slots.proofs.CallerLemmas.{filled_occupied, filled_tell, filler, filler_may}
+use Rattle.page_slots.proofs.CallerLemmas.{filled_occupied, filled_tell, filler, filler_in, filler_may}
 use Rattle.virtual_words.specs.Words.{IsWhole}
 use Rattle.paged_heap.specs.Heap.{Heap}
 use Rattle.paged_heap.specs.Layout.{IsFramed, IsValid, held_in, paging_at, state_of, tables_in}
@@ -61,7 +61,7 @@ module _ {h : Heap} {q a size c b : ℕ} {new : Tables} (f : Fills h q a size c 
   kept_tables = subst (λ t. AreTables t new) (sym (table_is h k)) f.tables
 
   other : (r : ℕ) × (y : Placed) × (get (held_in h) r ≡ Some y) × (y.place ≡ b)
-  other = filler (paging_ok h k) k.tell.part k.occupied fills.filler
+  other = filler (paging_ok h k) k.tell.part k.occupied (filler_in fills)
 
   pub r : ℕ
   r = other.0
@@ -78,7 +78,7 @@ module _ {h : Heap} {q a size c b : ℕ} {new : Tables} (f : Fills h q a size c 
   at = other.3
 
   may : MayFill (paging_at h) (held_in h) (it k o) y
-  may = filler_may (paging_ok h k) k.tell.part k.occupied (it k o) fills.filler k.sound r there at
+  may = filler_may (paging_ok h k) k.tell.part k.occupied (it k o) (filler_in fills) k.sound r there at
 
   is_other : r ≢ q
   is_other = mover_is_other (paging_at h) (paging_ok h k) (held_in h) k.sound q (it k o) (it_found k o) r y there due may
@@ -144,7 +144,7 @@ module _ {h : Heap} {q a size c b : ℕ} {new : Tables} (f : Fills h q a size c 
   whole_words = subst (IsWhole h.kind) (sym same_slot) (whole_slot h k r y there).1
 
   -- all but the tables is as it was, with what the free does to it
-  module _ {t n : Heap}
+  module _ (t : Heap) {n : Heap}
       (whole : n ≡ record h {
         maps = t.maps;
         lists = t.lists;

@@ -36,7 +36,7 @@ module _ (h : Heap) (k : IsValid h) (q a : ℕ) (some : get h.proxies.places q �
 
 -- its page is one of the tables'
 pub page_there : {h : Heap} (k : IsValid h) {q a size c : ℕ} (o : IsObjectAt h q a size c) → page_at h.classes a < length h.maps
-page_there k o =
+page_there {h} k {q} o =
     let lt = found_page (paging_ok h k) k.tell.part k.occupied q (it_found k o) in
     subst (λ g. g < length h.maps) (page_same k o) lt
 

@@ -24,7 +24,7 @@ use Rattle.proxy_table.specs.Proxies.{AreBelowLimit, Proxies, with_place}
 use Rattle.page_slots.specs.Freeing.{FillsFrom}
 use Rattle.page_slots.specs.Tables.{AreTables, Tables}
 use Rattle.page_slots.specs.Occupying.{Occupies, Tell, class_table}
-use Rattle.page_slots.proofs.CallerLemmas.{filled_occupied, filled_tell, filler, filler_may, moves_some, renumbered_occupied}
+use Rattle.page_slots.proofs.CallerLemmas.{filled_occupied, filled_tell, filler, filler_in, filler_may, moves_some, renumbered_occupied}
 use Rattle.class_lists.specs.PageLists.{pages_in}
 use Rattle.class_lists.specs.declared.Which.TheVariants.{NotFull}
 use Rattle.paged_heap.specs.Heap.{Heap}
@@ -100,7 +100,7 @@ module _ {h : Heap} {x : Change} {b : ℕ} {n : Heap} {f : ℕ} {t : Tables} (fs
   kept_tables = subst (λ u. AreTables u t) (en.classes ∙ sym (table_is h k)) fs.tables
 
   other : (r : ℕ) × (y : Placed) × (get (both k is en) r ≡ Some y) × (y.place ≡ f)
-  other = filler (paging_ok h k) (both_tell k is en).part (both_occupied k is en) fills.filler
+  other = filler (paging_ok h k) (both_tell k is en).part (both_occupied k is en) (filler_in fills)
 
   pub r : ℕ
   r = other.0
@@ -117,7 +117,7 @@ module _ {h : Heap} {x : Change} {b : ℕ} {n : Heap} {f : ℕ} {t : Tables} (fs
   at = other.3
 
   may : MayFill (paging_at h) (both k is en) (object k is en) y
-  may = filler_may (paging_ok h k) (both_tell k is en).part (both_occupied k is en) (object k is en) fills.filler (both_sound k is en) r there at
+  may = filler_may (paging_ok h k) (both_tell k is en).part (both_occupied k is en) (object k is en) (filler_in fills) (both_sound k is en) r there at
 
   pub mover : Moves (paging_at h) (both k is en) (object k is en) (Some r)
   mover = (due, (y, there, may))

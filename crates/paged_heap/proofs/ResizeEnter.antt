@@ -42,7 +42,7 @@ none_spare h k = go (get (held_in h) h.settings.proxies) refl
     go None e = e
     go (Some y) e = absurd (let lt = number_small h k h.settings.proxies y e in omega arith)
 
-module _ (h : Heap) (k : IsValid h) (x : Change) (is : IsChange h x) where
+module _ {h : Heap} (k : IsValid h) {x : Change} (is : IsChange h x) where
   -- where no slot was taken, there is no room
   pub lacks : (new : Tables) → TakesSlot h.classes (tables_in h) x.to None new → LacksRoom (paging_at h) (held_in h) x.to
   lacks new none = refused_lacks_room (paging_ok h k) k.tell.part k.occupied k.tell.whole x.to new (subst (λ t. TakesSlot t (tables_in h) x.to None new) (sym (table_is h k)) none)

@@ -19,14 +19,11 @@ address_of-requires-clause-small c = front_small _ _ c.requires.tables c.args.c 
 
 pub returns-clause-filled : goal.returns-clause-filled
 returns-clause-filled c = record {
-  filler = record {
-    page = c.filling_slot-page.result.0;
-    slot = c.filling_slot-page.result.1;
-    address = c.address_of.ensures;
-    front = c.filling_slot-page.ensures.front;
-    least = c.filling_slot-page.ensures.least;
-    used = c.filling_slot-page.ensures.used;
-  };
+  page = c.filling_slot-page.result.0;
+  slot = c.filling_slot-page.result.1;
+  address = c.address_of.ensures;
+  front = c.filling_slot-page.ensures.front;
+  least = c.filling_slot-page.ensures.least;
   vacates = c.vacate.ensures.freed;
 }
 

@@ -17,7 +17,7 @@ pub returns-in_default-clause-entered : goal.returns-in_default-clause-entered
 returns-in_default-clause-entered g c =
     let kind = g.A.Mapping.kind in let h = seen kind c.args.self.now in let k = c.requires.kept.kept in let x = c.args.x in let is = c.requires.change in
     record {
-      lacking = lacks h k x is _ c.in_default.ensures.taken;
+      lacking = lacks k is _ c.in_default.ensures.taken;
       tables = c.in_default.ensures.taken.2;
       rest = ap (seen kind) c.take_slot.ensures.rest;
     }

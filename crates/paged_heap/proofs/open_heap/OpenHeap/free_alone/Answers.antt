@@ -57,7 +57,7 @@ returns-clause-step g c =
     let laid = laid_same kind c.erase.new.self c.release_slot.new.self (ap (λ (x : OpenHeap). x.blocks) c.release_slot.ensures.rest ∙ ap (λ (x : OpenHeap). x.blocks) c.count_out.ensures)
     (ap (λ (x : OpenHeap). x.region) c.release_slot.ensures.rest ∙ ap (λ (x : OpenHeap). x.region) c.count_out.ensures) c.erase.ensures.laid in
     let no : MustMove (paging_at h) (held_in h) (it k o) → ⊥ = λ m. c.requires.stays (moving k o m) in
-    let b = alone h k c.args.h.0 c.args.place c.args.length c.args.c o c.requires.stays (seen kind c.erase.new.self) (seen kind c.count_out.new.self) n
+    let b = alone k o c.requires.stays (seen kind c.erase.new.self) (seen kind c.count_out.new.self) n
     e gone long (framed_of kind c.release_slot.new.self laid) c.erase.ensures.handles (ap (seen kind) c.count_out.ensures) c.release_slot.ensures.freed c.release_slot.ensures.tables d in
     goes_freed k o n None no b
     (ap (λ (x : Heap). x.frames) d ∙ ap (λ (x : Heap). x.frames) (ap (seen kind) c.count_out.ensures) ∙ ap (λ (x : Heap). x.frames) e ∙ sym (frames_stay kind (paged_kind h k) (state_of h) (rest_held k o n None no)))
@@ -73,6 +73,6 @@ returns-clause-kept g c =
     let laid = laid_same kind c.erase.new.self c.release_slot.new.self (ap (λ (x : OpenHeap). x.blocks) c.release_slot.ensures.rest ∙ ap (λ (x : OpenHeap). x.blocks) c.count_out.ensures)
     (ap (λ (x : OpenHeap). x.region) c.release_slot.ensures.rest ∙ ap (λ (x : OpenHeap). x.region) c.count_out.ensures) c.erase.ensures.laid in
     let no : MustMove (paging_at h) (held_in h) (it k o) → ⊥ = λ m. c.requires.stays (moving k o m) in
-    let b = alone h k c.args.h.0 c.args.place c.args.length c.args.c o c.requires.stays (seen kind c.erase.new.self) (seen kind c.count_out.new.self) n
+    let b = alone k o c.requires.stays (seen kind c.erase.new.self) (seen kind c.count_out.new.self) n
     (c.erase.ensures.rest) gone long (framed_of kind c.release_slot.new.self laid) c.erase.ensures.handles (ap (seen kind) c.count_out.ensures) c.release_slot.ensures.freed c.release_slot.ensures.tables (ap (seen kind) c.release_slot.ensures.rest) in
     record { laid = laid; kept = goes_kept k o n None no b }

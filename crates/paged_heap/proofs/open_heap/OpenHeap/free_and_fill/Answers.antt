@@ -118,9 +118,9 @@ returns-clause-step g c =
     let whole = whole_is fills left (ap (seen g.A.Mapping.kind) c.move_to.ensures.rest) in
     let moved = moved_is fills left c.move_to.ensures.moves in
     let framed = framed_of g.A.Mapping.kind c.move_to.new.self c.move_to.ensures.laid in
-    let now = refilled fills whole moved framed refl c.move_to.ensures.handles in
-    let frames = frames_are fills whole moved framed refl c.move_to.ensures.handles in
-    goes_freed c.requires.kept.kept c.requires.object (seen g.A.Mapping.kind c.move_to.new.self) (Some (r fills)) (mover fills) now frames _
+    let now = refilled fills (seen g.A.Mapping.kind c.take_filler-from.new.self) whole moved framed refl c.move_to.ensures.handles in
+    let frames = frames_are fills (seen g.A.Mapping.kind c.take_filler-from.new.self) whole moved framed refl c.move_to.ensures.handles in
+    goes_freed fills.valid fills.object (seen g.A.Mapping.kind c.move_to.new.self) (Some (r fills)) (mover fills) now frames _
     c.slot_words-slot_words.ensures.value (ap Some left.is)
 
 pub returns-clause-kept : goal.returns-clause-kept
@@ -132,8 +132,8 @@ returns-clause-kept g c =
     let whole = whole_is fills left (ap (seen g.A.Mapping.kind) c.move_to.ensures.rest) in
     let moved = moved_is fills left c.move_to.ensures.moves in
     let framed = framed_of g.A.Mapping.kind c.move_to.new.self c.move_to.ensures.laid in
-    let now = refilled fills whole moved framed refl c.move_to.ensures.handles in
+    let now = refilled fills (seen g.A.Mapping.kind c.take_filler-from.new.self) whole moved framed refl c.move_to.ensures.handles in
     record {
       laid = c.move_to.ensures.laid;
-      kept = goes_kept c.requires.kept.kept c.requires.object (seen g.A.Mapping.kind c.move_to.new.self) (Some (r fills)) (mover fills) now;
+      kept = goes_kept fills.valid fills.object (seen g.A.Mapping.kind c.move_to.new.self) (Some (r fills)) (mover fills) now;
     }

@@ -123,7 +123,7 @@ returns-clause-step g c =
     let moved = ap (seen kind) c.move_to.ensures.rest in
     let words = c.slot_words-old_slot_words.ensures.value in
     let lands = lands_of fills words told refl found moved c.move_to.ensures.moves framed c.move_to.ensures.handles in
-    change_resized c.requires.kept.kept c.requires.change c.in-Some.ensures.entered (Some (r fills)) (mover fills) (seen kind c.move_to.new.self)
+    change_resized fills.valid fills.change fills.enters (Some (r fills)) (mover fills) (seen kind c.move_to.new.self)
     (keeps fills lands) (changed_filled fills lands) (frames_are fills lands) _ words c.slot_words-slot_words.ensures.value (ap Some told)
 
 pub returns-clause-kept : goal.returns-clause-kept
@@ -139,7 +139,7 @@ returns-clause-kept g c =
     let lands = lands_of fills words told refl found moved c.move_to.ensures.moves framed c.move_to.ensures.handles in
     record {
       laid = c.move_to.ensures.laid;
-      kept = change_kept c.requires.kept.kept c.requires.change c.in-Some.ensures.entered (Some (r fills)) (mover fills) (seen kind c.move_to.new.self)
+      kept = change_kept fills.valid fills.change fills.enters (Some (r fills)) (mover fills) (seen kind c.move_to.new.self)
           (keeps fills lands) (changed_filled fills lands);
     }
 
