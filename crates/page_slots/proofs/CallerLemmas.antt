@@ -26,9 +26,13 @@ use Rattle.page_slots.proofs.TablesAfterFree.{Loses, loses, loses_whole}
 use Rattle.page_slots.proofs.Occupied.{free_bare, occupied_renamed, stands_at}
 use Rattle.page_slots.proofs.OccupiedAfterTake.{gained_address, gained_unused, occupied_gained}
 use Rattle.page_slots.proofs.OccupiedAfterFree.{occupied_lost}
-use Rattle.page_slots.proofs.PageNumbers.{lacks_room, not_full_pages_are}
+use Rattle.page_slots.proofs.PageNumbers.{lacks_room}
+-- passed on: the tables of a heap without objects, and the numbers of pages
+pub use Rattle.page_slots.proofs.Start.{first_occupied, first_table, first_tables, first_whole, no_pages}
+pub use Rattle.page_slots.proofs.PageNumbers.{free_pages_are, home_pages_are, not_full_pages_are, pages_are}
 
-module _ {p : Paging} (ok : IsPaging p) {m : Held} {old new : Tables} (tell : TellPart p old) (o : Occupies p m old) (kept : AreTables (class_table p) new) where
+module _ {p : Paging} (ok : IsPaging p) {m : Held} {old new : Tables} (tell : TellPart p old) (o : Occupies p m old)
+    (kept : AreTables (class_table p) new) where
   -- a slot of class c was taken
   module _ {c a : ℕ} (class : c < classes p) (t : TakesAt (class_table p) old c a new) where
     gains : Gains (class_table p) old new c t.page t.slot
@@ -50,8 +54,10 @@ module _ {p : Paging} (ok : IsPaging p) {m : Held} {old new : Tables} (tell : Te
         let at = (gained_address p ok m old new tell o c t.page t.slot g).0 in record {
           slot = subst (λ d. IsSlotAt p d a) (sym is) (subst (IsSlotAt p c) (sym t.address) at);
           unused = λ q y f e. gained_unused p ok m old new tell o c t.page t.slot g q y f (e ∙ t.address);
-          choice = subst (λ d. ((0 < objects_on p m d (page_of p a)) × (objects_on p m d (page_of p a) < slots_of p d)) ⊎ ((not_full_pages p m d ≡ 0) × (standing_on p m (page_of p a) ≡ 0))) (sym is)
-              (subst (λ page. ((0 < objects_on p m c page) × (objects_on p m c page < slots_of p c)) ⊎ ((not_full_pages p m c ≡ 0) × (standing_on p m page ≡ 0))) (sym on_page_of)
+          choice = subst (λ d. ((0 < objects_on p m d (page_of p a)) × (objects_on p m d (page_of p a) < slots_of p d))
+              ⊎ ((not_full_pages p m d ≡ 0) × (standing_on p m (page_of p a) ≡ 0))) (sym is)
+              (subst (λ page. ((0 < objects_on p m c page) × (objects_on p m c page < slots_of p c))
+              ⊎ ((not_full_pages p m c ≡ 0) × (standing_on p m page ≡ 0))) (sym on_page_of)
               (elim g.was [
                 | inl (there, _) ↦ inl (
                     let q = placed_in (class_table p) old tell.tables c t.page NotFull there in
@@ -120,8 +126,12 @@ module _ {p : Paging} (ok : IsPaging p) {m : Held} {t : Tables} (tell : TellPart
           elim (cases_eq q w.0) [
             | inl is ↦ (
                 let e : Some y ≡ Some w.1 = sym found ∙ ap (get m) is ∙ w.2 in
-                let y_is : y ≡ w.1 = cc in
-                (ap (class_at p) y_is ∙ w.3, ap (λ (z : Placed). page_of p z.place) y_is ∙ w.5, ap (λ (z : Placed). slot_at (class_table p) c z.place) y_is ∙ w.6))
+                let y_is : y ≡ w.1 = cc in (
+                  ap (class_at p) y_is ∙ w.3,
+                  ap (λ (z : Placed). page_of p z.place) y_is
+                      ∙ w.5,
+                  ap (λ (z : Placed). slot_at (class_table p) c z.place) y_is ∙ w.6,
+                ))
             | inr ne ↦ absurd (s.own_place w.0 w.1 q y w.2 found ne (w.4 ∙ sym f.address ∙ sym at))
           ]
 
@@ -159,7 +169,8 @@ module _ {p : Paging} (ok : IsPaging p) {m : Held} {old new : Tables} (tell : Te
       let x_there : get (remove m q) h ≡ Some x = get_remove_other m q h (λ e. other (sym e)) ∙ some in
       let gone : get (remove (remove m q) h) q ≡ None = get_remove_other (remove m q) h q other ∙ get_removed m q in
       let renamed = occupied_renamed p (remove m q) new less h x x_there q y.bytes gone is.0 in
-      let once : Occupies p (insert (remove m h) q (record { place = x.place; bytes = y.bytes })) new = subst (λ n. Occupies p n new) (removed_twice m h q (record { place = x.place; bytes = y.bytes })) renamed in
+      let once : Occupies p (insert (remove m h) q (record { place = x.place; bytes = y.bytes })) new =
+      subst (λ n. Occupies p n new) (removed_twice m h q (record { place = x.place; bytes = y.bytes })) renamed in
       subst (λ z. Occupies p (moved_to (remove m h) q z x.place) new) (sym found) once
 
 module _ {p : Paging} (ok : IsPaging p) {m : Held} {t : Tables} (tell : TellPart p t) (o : Occupies p m t) where
@@ -177,7 +188,9 @@ module _ {p : Paging} (ok : IsPaging p) {m : Held} {t : Tables} (tell : TellPart
 
     -- what the calls require of its address and class
     pub found_page : page_of p x.place < length t.maps
-    found_page = (let lt = listed_page (class_table p) t tell.tables (class_at p x) (page_of p x.place) page.0 page.1.listed in let e = tell.tables.maps in omega arith)
+    found_page =
+        let lt = listed_page (class_table p) t tell.tables (class_at p x) (page_of p x.place) page.0 page.1.listed in
+        let e = tell.tables.maps in omega arith
 
     pub found_class : class_at p x < t.lists.classes
     found_class = tell.tables.lists.class (class_at p x) page.0 (page_of p x.place) page.1.listed
@@ -188,8 +201,10 @@ module _ {p : Paging} (ok : IsPaging p) {m : Held} {t : Tables} (tell : TellPart
         let long = page.1.slots in
         let used = o.counted (class_at p x) (page_of p x.place) at.of in
         let part = not_full_pages_are p ok m t tell o (class_at p x) in (
-          (λ v. (let full = v.full in let several = v.several in let many = v.many in record { full = omega arith; several = omega arith; many = omega arith })),
-          (λ v. (let full = v.full in let several = v.several in let many = v.many in record { full = omega arith; several = omega arith; many = omega arith })),
+          (λ v. (let full = v.full in let several = v.several in let many = v.many in
+              record { full = omega arith; several = omega arith; many = omega arith })),
+          (λ v. (let full = v.full in let several = v.several in let many = v.many in
+              record { full = omega arith; several = omega arith; many = omega arith })),
         )
 
     -- a move finds an object that fills the slot
@@ -202,16 +217,19 @@ module _ {p : Paging} (ok : IsPaging p) {m : Held} {t : Tables} (tell : TellPart
 
 module _ {p : Paging} {m : Held} {t : Tables} (o : Occupies p m t) (h : ℕ) {x : Placed} (some : get m h ≡ Some x) where
   -- other bytes at the same place, in the same class
-  pub rewritten_occupied : (bytes : List ℕ) → class_at p (record { place = x.place; bytes = bytes }) ≡ class_at p x → Occupies p (insert m h (record { place = x.place; bytes = bytes })) t
+  pub rewritten_occupied : (bytes : List ℕ) → class_at p (record { place = x.place; bytes = bytes }) ≡ class_at p x
+      → Occupies p (insert m h (record { place = x.place; bytes = bytes })) t
   rewritten_occupied bytes same =
-      subst (λ n. Occupies p n t) (insert_again m h (record { place = x.place; bytes = bytes })) (occupied_renamed p m t o h x some h bytes (get_removed m h) same)
+      subst (λ n. Occupies p n t) (insert_again m h (record { place = x.place; bytes = bytes }))
+      (occupied_renamed p m t o h x some h bytes (get_removed m h) same)
 
   -- the same object under another number
   pub renumbered_occupied : (q : ℕ) → get (remove m h) q ≡ None → Occupies p (insert (remove m h) q x) t
   renumbered_occupied q none = occupied_renamed p m t o h x some q x.bytes none refl
 
 -- An owner of other pages of the same pool: its tables stay its own in a call that keeps what is elsewhere.
-module _ (k : ClassTable) (old new : Tables) (kept : AreTables k new) (pages : new.pool.pages ≡ old.pool.pages) (keeps : KeepsElsewhere old new) (others : PageLists) (of_others : AreOthers old others)
+module _ (k : ClassTable) (old new : Tables) (kept : AreTables k new) (pages : new.pool.pages ≡ old.pool.pages) (keeps : KeepsElsewhere old new)
+    (others : PageLists) (of_others : AreOthers old others)
     (theirs : AreTables k (tables old.maps others old.pool)) where
   abbrev before : Tables
   before = tables old.maps others old.pool
@@ -236,7 +254,17 @@ module _ (k : ClassTable) (old new : Tables) (kept : AreTables k new) (pages : n
   placed page (inr (inr (c, w, q))) =
       let away = of_others c page w q.listed in
       let same : slots_on after page ≡ slots_on before page = keeps.slots page away in
-      inr (inr (c, w, record { taken = (keeps.still page away).taken; listed = q.listed; slots = ap length same ∙ q.slots; some = q.some; fills = rw same q.fills }))
+      inr (inr (
+        c,
+        w,
+        record {
+          taken = (keeps.still page away).taken;
+          listed = q.listed;
+          slots = ap length same ∙ q.slots;
+          some = q.some;
+          fills = rw same q.fills;
+        },
+      ))
 
   pub others_tables : AreTables k (tables new.maps others new.pool)
   others_tables = record {
@@ -257,7 +285,8 @@ module _ (k : ClassTable) (old new : Tables) (kept : AreTables k new) (pages : n
   -- and its objects occupy its slots
   pub others_occupied : (p : Paging) (m : Held) → Occupies p m (tables old.maps others old.pool) → Occupies p m (tables new.maps others new.pool)
   others_occupied p m o = record {
-    stands = λ h x f. (let u = o.stands h x f in record { of = u.of; used = ap (λ xs. slice_get xs (slot_at (class_table p) (class_at p x) x.place)) (others_slots _ _ u.of) ∙ u.used });
+    stands = λ h x f. (let u = o.stands h x f in
+        record { of = u.of; used = ap (λ xs. slice_get xs (slot_at (class_table p) (class_at p x) x.place)) (others_slots _ _ u.of) ∙ u.used });
     filled = λ c page slot u. o.filled c page slot (record { of = u.of; used = sym (ap (λ xs. slice_get xs slot) (others_slots c page u.of)) ∙ u.used });
     counted = λ c page of. o.counted c page of ∙ sym (ap used_in (others_slots c page of));
   }

@@ -69,14 +69,16 @@ module _ (p : Paging) (ok : IsPaging p) (t : Tables) (tell : TellPart p t) where
 
     -- who stands at a used slot, by page and number
     pub stands_at : (c page slot : ℕ) → IsUsed t c page slot
-        → (h : ℕ) × (x : Placed) × (get m h ≡ Some x) × (class_at p x ≡ c) × (x.place ≡ address_of p c page slot) × (page_of p x.place ≡ page) × (slot_at (class_table p) c x.place ≡ slot)
+        → (h : ℕ) × (x : Placed) × (get m h ≡ Some x) × (class_at p x ≡ c) × (x.place ≡ address_of p c page slot) × (page_of p x.place ≡ page)
+        × (slot_at (class_table p) c x.place ≡ slot)
     stands_at c page slot u =
         let f = o.filled c page slot u in
         let a = used_address c page slot u in
         (f.0, f.1, f.2, f.3, f.4, ap (page_of p) f.4 ∙ a.1, ap (slot_at (class_table p) c) f.4 ∙ a.2)
 
     -- an object's place is the address of its slot
-    pub place_is : (s : IsSound p m) → (h : ℕ) (x : Placed) → get m h ≡ Some x → (c page slot : ℕ) → class_at p x ≡ c → page_of p x.place ≡ page → slot_at (class_table p) c x.place ≡ slot
+    pub place_is : (s : IsSound p m) → (h : ℕ) (x : Placed) → get m h ≡ Some x → (c page slot : ℕ) → class_at p x ≡ c → page_of p x.place ≡ page
+        → slot_at (class_table p) c x.place ≡ slot
         → x.place ≡ address_of p c page slot
     place_is s h x f c page slot is_c is_page is_slot =
         let at : IsSlotAt p c x.place = subst (λ c. IsSlotAt p c x.place) is_c (s.slots h x f) in
@@ -98,8 +100,14 @@ module _ (p : Paging) (m : Held) (t : Tables) (o : Occupies p m t) (h : ℕ) (x 
         elim (cases_eq f.0 h) [
           | inl is ↦ (
               let e : Some f.1 ≡ Some x = sym f.2 ∙ ap (get m) is ∙ some in
-              let y_is : f.1 ≡ x = cc in
-              (q, record { place = x.place; bytes = bytes }, get_inserted (remove m h) q (record { place = x.place; bytes = bytes }), same ∙ sym (ap (class_at p) y_is) ∙ f.3, sym (ap (λ (y : Placed). y.place) y_is) ∙ f.4))
+              let y_is : f.1 ≡ x = cc in (
+                q,
+                record { place = x.place; bytes = bytes },
+                get_inserted (remove m h) q (record { place = x.place; bytes = bytes }),
+                same
+                    ∙ sym (ap (class_at p) y_is) ∙ f.3,
+                sym (ap (λ (y : Placed). y.place) y_is) ∙ f.4,
+              ))
           | inr ne ↦ (f.0, f.1, (still (remove m h) q (record { place = x.place; bytes = bytes }) none f.0 f.1 (get_remove_other m h f.0 ne ∙ f.2)).1, f.3, f.4)
         ];
     counted = λ d g of. objects_on-exchanged p m h x some q bytes none same d g ∙ o.counted d g of;

@@ -99,7 +99,9 @@ module _ (p : Paging) (ok : IsPaging p) (m : Held) (t : Tables) (tell : TellPart
             let u = ap one a in let v = ap one b in omega arith
 
   below : (c : ℕ) (w : Which) (page : ℕ) → is_in_pool (pages_in t.lists c w) page ≡ true → page < p.pages
-  below c w page is = (let lt = listed_page (class_table p) t tell.tables c page w (any_contains page (pages_in t.lists c w) is) in let e = tell.pages in omega arith)
+  below c w page is =
+      let lt = listed_page (class_table p) t tell.tables c page w (any_contains page (pages_in t.lists c w) is) in
+      let e = tell.pages in omega arith
 
   members : (c : ℕ) (w : Which) → count_by (is_in_pool (pages_in t.lists c w)) (range_with_len 0 p.pages) ≡ length (pages_in t.lists c w)
   members c w = count_members p.pages (pages_in t.lists c w) (no_repeats (pages_in t.lists c w) (tell.tables.lists.distinct c w)) (below c w)
@@ -108,14 +110,17 @@ module _ (p : Paging) (ok : IsPaging p) (m : Held) (t : Tables) (tell : TellPart
   pub not_full_pages_are : (c : ℕ) → not_full_pages p m c ≡ length (pages_in t.lists c NotFull)
   unfolding not_full_pages
   not_full_pages_are c =
-      count_same (λ page. part_full (objects_on p m c page) (slots_of p c)) (is_in_pool (pages_in t.lists c NotFull)) 0 p.pages (λ page _. same_part c page) ∙ members c NotFull
+      count_same (λ page. part_full (objects_on p m c page) (slots_of p c)) (is_in_pool (pages_in t.lists c NotFull)) 0 p.pages
+      (λ page _. same_part c page) ∙ members c NotFull
 
   -- the pages of a class are those of its two lists
   pub home_pages_are : (c : ℕ) → home_pages p m c ≡ length (pages_in t.lists c Full) + length (pages_in t.lists c NotFull)
   unfolding home_pages
   home_pages_are c =
-      let e = sum_same (λ page. one (nat_lt 0 (objects_on p m c page))) (λ page. one (is_in_pool (pages_in t.lists c Full) page) + one (is_in_pool (pages_in t.lists c NotFull) page)) (range_with_len 0 p.pages) (split c) in
-      let f = sum_plus (λ page. one (is_in_pool (pages_in t.lists c Full) page)) (λ page. one (is_in_pool (pages_in t.lists c NotFull) page)) (range_with_len 0 p.pages) in
+      let e = sum_same (λ page. one (nat_lt 0 (objects_on p m c page)))
+      (λ page. one (is_in_pool (pages_in t.lists c Full) page) + one (is_in_pool (pages_in t.lists c NotFull) page)) (range_with_len 0 p.pages) (split c) in
+      let f = sum_plus (λ page. one (is_in_pool (pages_in t.lists c Full) page)) (λ page. one (is_in_pool (pages_in t.lists c NotFull) page))
+      (range_with_len 0 p.pages) in
       let a = members c Full in
       let b = members c NotFull in
       omega arith
@@ -149,7 +154,8 @@ module _ (p : Paging) (ok : IsPaging p) (m : Held) (t : Tables) (tell : TellPart
     pub pages_are : IsSound p m → used_pages p m + length t.pool.free ≡ p.pages
     pages_are s =
         let used = used_is p m s in
-        let free = count_members p.pages t.pool.free tell.tables.pool.distinct (λ page is. (let lt = tell.tables.pool.below page is in let e = tell.pages in omega arith)) in
+        let free = count_members p.pages t.pool.free tell.tables.pool.distinct
+        (λ page is. (let lt = tell.tables.pool.below page is in let e = tell.pages in omega arith)) in
         let all = count_both (λ page. nat_lt 0 (standing_on p m page)) (is_in_pool t.pool.free) 0 p.pages (λ page _ lt. free_or_taken page (omega arith)) in
         omega arith
 

@@ -66,7 +66,17 @@ same_placed k old new g s (inl f) = inl (record { free = s.free ∙ f.free; unli
 same_placed k old new g s (inr (inl e)) = inr (inl (same_elsewhere old new g s e))
 same_placed k old new g s (inr (inr (c, w, p))) =
     let e = sym s.slots in
-    inr (inr (c, w, record { taken = s.free ∙ p.taken; listed = s.comes c w p.listed; slots = ap length s.slots ∙ p.slots; some = p.some; fills = rw s.slots p.fills }))
+    inr (inr (
+      c,
+      w,
+      record {
+        taken = s.free ∙ p.taken;
+        listed = s.comes c w p.listed;
+        slots = ap length s.slots ∙ p.slots;
+        some = p.some;
+        fills = rw s.slots p.fills;
+      },
+    ))
 
 -- the pool without or with one page more answers alike for all others
 pub other_free : (free : List ℕ) (page g : ℕ) → g ≢ page → is_in_pool (page ∷ free) g ≡ is_in_pool free g
@@ -132,7 +142,8 @@ module _ (k : ClassTable) (t : Tables) (a : AreTables k t) where
   some_slots c lt = slots_within k.page_words k.sizes c a.table.are_sizes a.table.small lt
 
 -- the tables after one page has changed
-pub tables_after : (k : ClassTable) (old new : Tables) (page : ℕ) → AreTables k old → length new.maps ≡ length old.maps → new.lists.pages ≡ old.lists.pages → new.lists.classes ≡ old.lists.classes
+pub tables_after : (k : ClassTable) (old new : Tables) (page : ℕ) → AreTables k old → length new.maps ≡ length old.maps
+    → new.lists.pages ≡ old.lists.pages → new.lists.classes ≡ old.lists.classes
     → new.pool.pages ≡ old.pool.pages → IsPool new.pool → AreApart new.lists → ((g : ℕ) → g ≢ page → IsSame old new g) → IsPlaced k new page → AreTables k new
 tables_after k old new page a maps pages classes pool is_pool apart others here = record {
   table = a.table;

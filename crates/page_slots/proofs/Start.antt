@@ -1,5 +1,6 @@
 -- The tables of a heap without objects: all pages are free.
-use Rattle.std.proofs.Common.{◌≡◌, ℕ, zero, suc, Bool, true, ◌+◌, ◌*◌, ◌^◌, ◌<◌, ◌≤◌, List, [], ◌∷◌, length, replicate, Some, None, arith, refl, sym, ◌∙◌, ap, subst, inl, inr}
+use Rattle.std.proofs.Common.{◌≡◌, ℕ, zero, suc, Bool, true, ◌+◌, ◌*◌, ◌^◌, ◌<◌, ◌≤◌, List, [], ◌∷◌, length, replicate, Some, None, arith, refl, sym, ◌∙◌, ap}
+use Rattle.std.proofs.Common.{subst, inl, inr}
 use Rattle.std.specs.Prelude.{IsTrue, nat_eq}
 use Rattle.std.specs.List.{Contains, IsDistinct, range_with_len}
 use Rattle.std.proofs.lemmas.Bool.{cases_eq, cases_lt, true≢false}
@@ -61,7 +62,8 @@ module _ (classes pages : ℕ) where
   none_of maps pool c page (inr h) = none_listed c NotFull page h
 
   -- the tables at the start, whatever the maps of the free pages are
-  pub first_tables : (k : ClassTable) (maps : List (List Bool)) → IsClassTable k.page_words k.sizes → pages * k.page_words < 2 ^ 32 → length maps ≡ pages → classes ≡ length k.sizes
+  pub first_tables : (k : ClassTable) (maps : List (List Bool)) → IsClassTable k.page_words k.sizes → pages * k.page_words < 2 ^ 32
+      → length maps ≡ pages → classes ≡ length k.sizes
       → AreTables k (tables maps (empty_lists classes pages) (record { pages = pages; free = range_with_len 0 pages }))
   first_tables k maps table small long all = record {
     table = table;

@@ -13,7 +13,8 @@ pub record OpensPage (old : PageLists) (c page : ℕ) (new : PageLists) : Type 0
   pub leaves : LeavesList old c Full page between
   pub joins : JoinsList between c NotFull page new
 
--- A used slot of a page of class c becomes free. A page that it leaves empty leaves its list and is the front page of the pool; one that was full becomes the front page of those that are not.
+-- A used slot of a page of class c becomes free. A page that it leaves empty leaves its list and is the front page of the pool; one that was full
+-- becomes the front page of those that are not.
 pub record Vacates (old : Tables) (c page slot : ℕ) (new : Tables) : Type 0 where
   pub which : Which
   pub listed : Contains (pages_in old.lists c which) page

@@ -24,5 +24,6 @@ pub record Tell (p : Paging) (t : Tables) : Type 0 where
 -- Each object stands at a used slot of its class, and at each used slot stands an object; so the objects of a class on a page are as many as its used slots.
 pub record Occupies (p : Paging) (m : Held) (t : Tables) : Type 0 where
   pub stands : (h : ℕ) (x : Placed) → get m h ≡ Some x → IsUsed t (class_at p x) (page_of p x.place) (slot_at (class_table p) (class_at p x) x.place)
-  pub filled : (c page slot : ℕ) → IsUsed t c page slot → (h : ℕ) × (x : Placed) × (get m h ≡ Some x) × (class_at p x ≡ c) × (x.place ≡ address_of p c page slot)
+  pub filled : (c page slot : ℕ) → IsUsed t c page slot → (h : ℕ) × (x : Placed) × (get m h ≡ Some x) × (class_at p x ≡ c)
+      × (x.place ≡ address_of p c page slot)
   pub counted : (c page : ℕ) → IsOf t c page → objects_on p m c page ≡ used_in (slots_on t page)

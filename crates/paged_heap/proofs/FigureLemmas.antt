@@ -10,10 +10,10 @@ use Rattle.page_model.specs.Figures.{asked_bytes, taken_bytes, totals_of}
 use Rattle.page_model.proofs.Adding.{len-objects}
 use Rattle.class_lists.specs.PageLists.{pages_in}
 use Rattle.class_lists.specs.declared.Which.TheVariants.{Full, NotFull}
-use Rattle.page_slots.proofs.PageNumbers.{not_full_pages_are, home_pages_are, free_pages_are, pages_are}
+use Rattle.page_slots.proofs.CallerLemmas.{not_full_pages_are, home_pages_are, free_pages_are, pages_are}
 use Rattle.paged_heap.specs.Heap.{Heap}
 use Rattle.paged_heap.specs.Layout.{IsValid, held_in, paging_at, tables_in}
-use Rattle.paged_heap.proofs.Values.{count_at_most}
+use Rattle.cf_lemmas.proofs.Ranges.{count_at_most}
 use Rattle.paged_heap.proofs.LayoutFacts.{held_len, paging_ok}
 
 pub home_at_most : (p : Paging) (m : Held) (c : ℕ) → home_pages p m c ≤ p.pages
@@ -21,8 +21,10 @@ unfolding home_pages
 home_at_most p m c = count_at_most _ 0 p.pages
 
 -- all figures at once
-pub totals_same : (p : Paging) (m : Held) (l a t h u f g : ℕ) → l ≡ len (objects m) → a ≡ asked_bytes (objects m) → t ≡ taken_bytes p (objects m) → h ≡ 8 * p.page_words * used_pages p m → u ≡ used_pages p m → f ≡ free_pages p m
-    → g ≡ (if nat_eq (free_pages p m) 0 then 0 else p.page_words) → ◌≡◌ {A = Totals} (record { live = l; asked = a; taken = t; held = h; used = u; free = f; largest = g }) (totals_of p m)
+pub totals_same : (p : Paging) (m : Held) (l a t h u f g : ℕ) → l ≡ len (objects m) → a ≡ asked_bytes (objects m) → t ≡ taken_bytes p (objects m)
+    → h ≡ 8 * p.page_words * used_pages p m → u ≡ used_pages p m → f ≡ free_pages p m
+    → g ≡ (if nat_eq (free_pages p m) 0 then 0 else p.page_words)
+    → ◌≡◌ {A = Totals} (record { live = l; asked = a; taken = t; held = h; used = u; free = f; largest = g }) (totals_of p m)
 totals_same p m l a t h u f g el ea et eh eu ef eg = rw (el, ea, et, eh, eu, ef, eg) refl
 
 module _ (h : Heap) (k : IsValid h) where

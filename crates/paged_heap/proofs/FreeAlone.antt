@@ -19,15 +19,31 @@ use Rattle.paged_heap.proofs.Preserved.{Becomes, places_are, rest_from}
 use Rattle.paged_heap.proofs.FreedObject.{goes, it, it_class, it_found, it_slot, moving, page_same, rest_held, slot_same}
 
 module _ {h : Heap} (k : IsValid h) {q a size c : ℕ} (o : IsObjectAt h q a size c) (still : IsMoving h a c → ⊥) (e g n : Heap)
-    (erased : e ≡ record h { proxies = without_place h.proxies q; words = e.words }) (gone : Clears h.words e.words (record { from = a; count = get_or h.classes.sizes c 0 })) (long : length e.words ≡ length h.words) (framed : IsFramed h.kind n) (handles : AreBelowLimit e.proxies)
+    (erased : e ≡ record h { proxies = without_place h.proxies q; words = e.words })
+    (gone : Clears h.words e.words (record { from = a; count = get_or h.classes.sizes c 0 })) (long : length e.words ≡ length h.words)
+    (framed : IsFramed h.kind n) (handles : AreBelowLimit e.proxies)
     (counted : g ≡ record e { live = set e.live c (get_or e.live c 0 - 1); asked = e.asked - size; taken = e.taken - 8 * get_or e.classes.sizes c 0 })
     (freed : Vacates (tables_in g) c (page_at g.classes a) (slot_at g.classes c a) (tables_in n)) (tables : AreTables g.classes (tables_in n))
     (dropped : n ≡ record g { maps = n.maps; lists = n.lists; pool = n.pool }) where
   -- all but the tables, by the heap that was
-  from_erased : g ≡ record h { proxies = without_place h.proxies q; words = e.words; live = set h.live c (get_or h.live c 0 - 1); asked = h.asked - size; taken = h.taken - 8 * get_or h.classes.sizes c 0 }
-  from_erased = counted ∙ ap (λ (x : Heap). record x { live = set x.live c (get_or x.live c 0 - 1); asked = x.asked - size; taken = x.taken - 8 * get_or x.classes.sizes c 0 }) erased
+  from_erased : g ≡ record h {
+    proxies = without_place h.proxies q;
+    words = e.words;
+    live = set h.live c (get_or h.live c 0 - 1);
+    asked = h.asked - size;
+    taken = h.taken - 8 * get_or h.classes.sizes c 0;
+  }
+  from_erased = counted ∙ ap
+      (λ (x : Heap). record x { live = set x.live c (get_or x.live c 0 - 1); asked = x.asked - size; taken = x.taken - 8 * get_or x.classes.sizes c 0 }) erased
 
-  stays : (P : Heap → Type 0) → P g → P (record h { proxies = without_place h.proxies q; words = e.words; live = set h.live c (get_or h.live c 0 - 1); asked = h.asked - size; taken = h.taken - 8 * get_or h.classes.sizes c 0 })
+  stays : (P : Heap → Type 0) → P g
+      → P (record h {
+        proxies = without_place h.proxies q;
+        words = e.words;
+        live = set h.live c (get_or h.live c 0 - 1);
+        asked = h.asked - size;
+        taken = h.taken - 8 * get_or h.classes.sizes c 0;
+      })
   stays P p = subst P from_erased p
 
   to_table : ClassTable

@@ -55,7 +55,8 @@ module _ {h : Heap} {q a size c b : ℕ} {new : Tables} (f : Fills h q a size c 
   due = must k o f.moves
 
   fills : FillsFrom (class_table (paging_at h)) (tables_in h) (class_at (paging_at h) (it k o)) b new
-  fills = subst (λ d. FillsFrom (class_table (paging_at h)) (tables_in h) d b new) (sym (it_class k o)) (subst (λ t. FillsFrom t (tables_in h) c b new) (sym (table_is h k)) f.filled)
+  fills = subst (λ d. FillsFrom (class_table (paging_at h)) (tables_in h) d b new) (sym (it_class k o))
+      (subst (λ t. FillsFrom t (tables_in h) c b new) (sym (table_is h k)) f.filled)
 
   kept_tables : AreTables (class_table (paging_at h)) new
   kept_tables = subst (λ t. AreTables t new) (sym (table_is h k)) f.tables
@@ -130,7 +131,8 @@ module _ {h : Heap} {q a size c b : ℕ} {new : Tables} (f : Fills h q a size c 
 
     image : IsSlotImage (paging_at h) (moved_to (remove (held_in h) q) r (get (held_in h) r) a) left_words
     image =
-        let i = image_after_move (paging_at h) (paging_ok h k) (held_in h) k.sound h.words k.image q (it k o) (it_found k o) left_words r y there due may moves_words in
+        let i = image_after_move (paging_at h) (paging_ok h k) (held_in h) k.sound h.words k.image q (it k o) (it_found k o) left_words r y there due
+        may moves_words in
         subst (λ z. IsSlotImage (paging_at h) (moved_to (remove (held_in h) q) r z a) left_words) (sym there) i
 
   -- the places and the words of the slots are those of whole blocks
@@ -163,14 +165,16 @@ module _ {h : Heap} {q a size c b : ℕ} {new : Tables} (f : Fills h q a size c 
     pub refilled : Becomes h n (rest_held k o n (Some r) mover)
     refilled = goes k o n (Some r) mover
         (record { live = ap (λ (x : Heap). x.live) whole; asked = ap (λ (x : Heap). x.asked) whole; taken = ap (λ (x : Heap). x.taken) whole })
-        (rest_from h n (ap (λ (x : Heap). x.kind) whole) (ap (λ (x : Heap). x.settings) whole) (ap (λ (x : Heap). x.classes) whole) (ap (λ (x : Heap). x.bounds) whole))
+        (rest_from h n (ap (λ (x : Heap). x.kind) whole) (ap (λ (x : Heap). x.settings) whole) (ap (λ (x : Heap). x.classes) whole)
+        (ap (λ (x : Heap). x.bounds) whole))
         (ap (λ (x : Heap). x.proxies.places) whole ∙ ap (λ m. insert (remove m q) r a) (places_are h k)
         ∙ sym (moved_places (paging_at h) (paging_ok h k) (held_in h) k.sound q (it k o) (it_found k o) r y there due may))
         moved.long
         (image n.words moved.words)
         framed
         (subst (Tell (paging_at h)) (sym on) (filled_tell (paging_ok h k) k.tell.part k.occupied kept_tables q (it_found k o) fills k.tell.whole))
-        (subst (Occupies (paging_at h) (moved_to (remove (held_in h) q) r (get (held_in h) r) a)) (sym on) (filled_occupied (paging_ok h k) k.tell.part k.occupied kept_tables q (it_found k o) fills k.sound r there at due))
+        (subst (Occupies (paging_at h) (moved_to (remove (held_in h) q) r (get (held_in h) r) a)) (sym on)
+        (filled_occupied (paging_ok h k) k.tell.part k.occupied kept_tables q (it_found k o) fills k.sound r there at due))
         (ap (λ (x : Heap). x.proxies.limit) whole)
         handles
 
@@ -198,7 +202,8 @@ module _ {h : Heap} {q a size c b : ℕ} {new : Tables} (f : Fills h q a size c 
     }
 
   -- it is so where the number is read from the header
-  pub leaves_of : {t g : Heap} {w i word : ℕ} {proxies : Proxies} → t ≡ record h { maps = t.maps; lists = t.lists; pool = t.pool } → word ≡ get_or t.words b 0 → i ≡ word % 2 ^ 32
+  pub leaves_of : {t g : Heap} {w i word : ℕ} {proxies : Proxies} → t ≡ record h { maps = t.maps; lists = t.lists; pool = t.pool }
+      → word ≡ get_or t.words b 0 → i ≡ word % 2 ^ 32
       → w ≡ words → proxies ≡ without_place t.proxies q
       → g ≡ record t {
         proxies = proxies;
@@ -217,13 +222,22 @@ module _ {h : Heap} {q a size c b : ℕ} {new : Tables} (f : Fills h q a size c 
   }
 
   module _ {t g : Heap} {w i : ℕ} (l : Leaves t g w i) where
-    counted_is : g ≡ record h { maps = t.maps; lists = t.lists; pool = t.pool; proxies = without_place h.proxies q; live = set h.live c (get_or h.live c 0 - 1); asked = h.asked - size; taken = h.taken - 8 * words }
+    counted_is : g ≡ record h {
+      maps = t.maps;
+      lists = t.lists;
+      pool = t.pool;
+      proxies = without_place h.proxies q;
+      live = set h.live c (get_or h.live c 0 - 1);
+      asked = h.asked - size;
+      taken = h.taken - 8 * words;
+    }
     counted_is = l.counted
         ∙ ap (λ (x : Heap). record x { live = set x.live c (get_or x.live c 0 - 1); asked = x.asked - size; taken = x.taken - 8 * get_or x.classes.sizes c 0 })
         (l.released_is ∙ ap (λ (x : Heap). record x { proxies = without_place x.proxies q }) l.found)
 
     pub live_there : IsSome (get g.proxies.places i)
-    live_there = ap (λ (x : Heap). is_some (get x.proxies.places i)) counted_is ∙ ap (λ j. is_some (get (remove h.proxies.places q) j)) l.is ∙ ap is_some live_still
+    live_there = ap (λ (x : Heap). is_some (get x.proxies.places i)) counted_is ∙ ap (λ j. is_some (get (remove h.proxies.places q) j)) l.is
+        ∙ ap is_some live_still
 
     pub source_there : b + w ≤ length g.words
     source_there = (let long = ap (λ (x : Heap). length x.words) counted_is in let s = source_in in let z = l.size_w in omega arith)

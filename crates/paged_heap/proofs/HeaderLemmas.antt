@@ -28,7 +28,8 @@ module _ (h : Heap) (k : IsValid h) (q a : ℕ) (some : get h.proxies.places q �
   has_class none =
       let lt = (k.sound.slots q (record { place = a; bytes = bytes_at h.words a }) (held h k q a some)).class in
       let known = class_known (paging_at h) (paging_ok h k) (length (bytes_at h.words a)) lt in
-      let z : None ≡ Some (class_for (paging_at h) (length (bytes_at h.words a))) = none ∙ ap (λ xs. class_of xs size) (sizes_are h k) ∙ ap (class_of (paging_at h).sizes) (sym long) ∙ known in
+      let z : None ≡ Some (class_for (paging_at h) (length (bytes_at h.words a))) = none ∙ ap (λ xs. class_of xs size) (sizes_are h k)
+      ∙ ap (class_of (paging_at h).sizes) (sym long) ∙ known in
       absurd (let w : None ≡ Some (class_for (paging_at h) (length (bytes_at h.words a))) = z in cc)
 
   pub object_at : (c : ℕ) → Some c ≡ class_of h.classes.sizes size → IsObjectAt h q a size c
@@ -41,7 +42,8 @@ page_there {h} k {q} o =
     subst (λ g. g < length h.maps) (page_same k o) lt
 
 -- the cost of a free
-pub free_cost : (o : Heap) (q : ℕ) (r : Result Freed NotLive) (h : Heap) (cost : ℕ) → IsFreeStep (state_of o) q r (state_of h) → IsFreeStep (state_of o) q r (state_of (record h { cost = cost }))
+pub free_cost : (o : Heap) (q : ℕ) (r : Result Freed NotLive) (h : Heap) (cost : ℕ) → IsFreeStep (state_of o) q r (state_of h)
+    → IsFreeStep (state_of o) q r (state_of (record h { cost = cost }))
 free_cost o q (Ok freed) h cost g = record {
   object = g.object;
   found = g.found;

@@ -22,7 +22,7 @@ use Rattle.paged_heap.specs.declared.open_heap.OpenHeap.{OpenHeap}
 use Rattle.paged_heap.specs.Heap.{Heap, seen}
 use Rattle.paged_heap.specs.Layout.{IsValid, IsValidIn, held_in, paging_at, state_in, state_of, tables_in}
 use Rattle.paged_heap.proofs.ByKind.{paged_of, rules_by}
-use Rattle.paged_heap.proofs.Values.{len-map_values}
+use Rattle.cf_lemmas.proofs.Values.{len-map_values}
 
 module _ (h : Heap) (k : IsValid h) where
   -- the classes are those of the paging

@@ -23,8 +23,10 @@ word_byte q v i j lt all =
     sym (ap (λ b. byte_of b (object_word q v (suc ((8 * i + j) / 8)))) r ∙ ap (λ e. byte_of j (object_word q v (suc e))) d) ∙ byte_of_object q v (8 * i + j) all
 
 -- a word of 64 bits with those bytes is that word
-pub word_is : (q : ℕ) (v : List ℕ) (i w : ℕ) → q < 2 ^ 32 → length v < 2 ^ 32 → AreBytes v → w < 2 ^ 64 → ((j : ℕ) → j < 8 → byte_of j w ≡ get_or v (8 * i + j) 0) → w ≡ object_word q v (suc i)
-word_is q v i w few short all small each = word_by_bytes w (object_word q v (suc i)) small (object_word_small q v (suc i) few short all) (λ j l. each j l ∙ sym (word_byte q v i j l all))
+pub word_is : (q : ℕ) (v : List ℕ) (i w : ℕ) → q < 2 ^ 32 → length v < 2 ^ 32 → AreBytes v → w < 2 ^ 64
+    → ((j : ℕ) → j < 8 → byte_of j w ≡ get_or v (8 * i + j) 0) → w ≡ object_word q v (suc i)
+word_is q v i w few short all small each =
+    word_by_bytes w (object_word q v (suc i)) small (object_word_small q v (suc i) few short all) (λ j l. each j l ∙ sym (word_byte q v i j l all))
 
 pub zero_byte : (j : ℕ) → byte_of j 0 ≡ 0
 zero_byte zero = refl

@@ -25,11 +25,15 @@ use Rattle.paged_heap.proofs.ByKind.{frames_stay}
 use Rattle.paged_heap.proofs.LayoutFacts.{paged_kind, paging_ok, table_is}
 use Rattle.paged_heap.proofs.Preserved.{Becomes, places_are}
 use Rattle.paged_heap.proofs.FreedObject.{it_class, moving, page_same, slot_same}
-use Rattle.paged_heap.proofs.ResizeClass.{Keeps, after, after_is, both, both_occupied, both_sound, both_tell, changes, entered_long, found, found_still, middle, must_before, new, new_free, object, rewritten, spare, spare_is_other, then_cleared, unused}
+use Rattle.paged_heap.proofs.ResizeClass.{Keeps, after, after_is, both, both_occupied, both_sound, both_tell, changes, entered_long, found, found_still, middle}
+use Rattle.paged_heap.proofs.ResizeClass.{must_before, new, new_free, object, rewritten, spare, spare_is_other, then_cleared, unused}
 
-module _ {h : Heap} (k : IsValid h) {x : Change} (is : IsChange h x) {b : ℕ} {n : Heap} (en : EntersAt h x b n) (stays : IsMoving h x.place x.class → ⊥) (e m : Heap)
-    (wiped : e ≡ record n { words = e.words }) (gone : Clears n.words e.words (record { from = x.place; count = old_words h x })) (long : length e.words ≡ length n.words) (framed : IsFramed h.kind m)
-    (freed' : Vacates (tables_in e) x.class (page_at e.classes x.place) (slot_at e.classes x.class x.place) (tables_in m)) (tables' : AreTables e.classes (tables_in m))
+module _ {h : Heap} (k : IsValid h) {x : Change} (is : IsChange h x) {b : ℕ} {n : Heap} (en : EntersAt h x b n) (stays : IsMoving h x.place x.class → ⊥)
+    (e m : Heap)
+    (wiped : e ≡ record n { words = e.words }) (gone : Clears n.words e.words (record { from = x.place; count = old_words h x }))
+    (long : length e.words ≡ length n.words) (framed : IsFramed h.kind m)
+    (freed' : Vacates (tables_in e) x.class (page_at e.classes x.place) (slot_at e.classes x.class x.place) (tables_in m))
+    (tables' : AreTables e.classes (tables_in m))
     (dropped' : m ≡ record e { maps = m.maps; lists = m.lists; pool = m.pool }) where
   freed : Vacates (tables_in n) x.class (page_at n.classes x.place) (slot_at n.classes x.class x.place) (tables_in m)
   freed = subst (λ (o : Heap). Vacates (tables_in o) x.class (page_at o.classes x.place) (slot_at o.classes x.class x.place) (tables_in m)) wiped freed'
@@ -62,17 +66,21 @@ module _ {h : Heap} (k : IsValid h) {x : Change} (is : IsChange h x) {b : ℕ} {
   vacates = subst (λ (t : ClassTable). Vacates (tables_in n) x.class (page_at t x.place) (slot_at t x.class x.place) (tables_in m)) en.classes freed
 
   less : Occupies (paging_at h) (remove (both k is en) x.handle.0) (tables_in m)
-  less = vacated_occupied (paging_ok h k) (both_tell k is en).part (both_occupied k is en) kept_tables (both_sound k is en) x.handle.0 (found_still k is en) vacates
+  less = vacated_occupied (paging_ok h k) (both_tell k is en).part (both_occupied k is en) kept_tables (both_sound k is en) x.handle.0
+      (found_still k is en) vacates
       (it_class k is.object) (page_same k is.object) (slot_same k is.object)
 
   occupied : Occupies (paging_at h) (after k is en None never) (tables_in m)
-  occupied = renumbered_occupied less (spare k is en) (get_remove_other (both k is en) x.handle.0 (spare k is en) (spare_is_other k is en) ∙ get_inserted (held_in h) (spare k is en) (new k is en))
+  occupied = renumbered_occupied less (spare k is en)
+      (get_remove_other (both k is en) x.handle.0 (spare k is en) (spare_is_other k is en) ∙ get_inserted (held_in h) (spare k is en) (new k is en))
       x.handle.0
-      (get_remove_other (remove (both k is en) x.handle.0) (spare k is en) x.handle.0 (λ e. spare_is_other k is en (sym e)) ∙ get_removed (both k is en) x.handle.0)
+      (get_remove_other (remove (both k is en) x.handle.0) (spare k is en) x.handle.0 (λ e. spare_is_other k is en (sym e))
+      ∙ get_removed (both k is en) x.handle.0)
 
   image : IsSlotImage (paging_at h) (after k is en None never) e.words
   image = subst (λ g. IsSlotImage (paging_at h) g e.words) (sym (after_is k is en None never))
-      (image_after_change (paging_at h) (paging_ok h k) (held_in h) k.sound h.words (middle k is en) e.words k.image k.words_long (long ∙ entered_long k is en ∙ k.words_long)
+      (image_after_change (paging_at h) (paging_ok h k) (held_in h) k.sound h.words (middle k is en) e.words k.image k.words_long
+      (long ∙ entered_long k is en ∙ k.words_long)
       x.handle.0 (object k is en) (found k is en) b ((new k is en).bytes) (new_free k is en) (spare k is en) (unused k is en)
       (rewritten k is en) (then_cleared k is en e.words gone))
 

@@ -38,7 +38,9 @@ use Rattle.paged_heap.proofs.LayoutFacts.{number_small, paging_ok, place_known, 
 use Rattle.paged_heap.proofs.Preserved.{Becomes, places_are}
 use Rattle.paged_heap.proofs.ResizeCopy.{untouched}
 use Rattle.paged_heap.proofs.FreedObject.{it_class, it_inside, it_slot, must}
-use Rattle.paged_heap.proofs.ResizeClass.{Keeps, after, after_is, both, both_occupied, both_sound, both_tell, changes, entered_long, found, found_still, left, middle, moves_before, must_still, new, new_free, object, place_free, rewritten, spare, spare_is_other, then_moved, unused}
+use Rattle.paged_heap.proofs.ResizeClass.{Keeps, after, after_is, both, both_occupied, both_sound, both_tell, changes, entered_long, found, found_still, left}
+use Rattle.paged_heap.proofs.ResizeClass.{middle, moves_before, must_still, new, new_free, object, place_free, rewritten, spare, spare_is_other, then_moved}
+use Rattle.paged_heap.proofs.ResizeClass.{unused}
 
 -- two places may be given in either order
 pub placed_in_turn : (m : FinMap nat_cmp ℕ) (q r a b : ℕ) → r ≢ q → insert (insert m q b) r a ≡ insert (insert (remove m q) r a) q b
@@ -151,7 +153,8 @@ module _ {h : Heap} {x : Change} {b : ℕ} {n : Heap} {f : ℕ} {t : Tables} (fs
   not_spare = (still (held_in h) (spare k is en) (new k is en) (unused k is en) r stood stood_there).0
 
   is_other : r ≢ x.handle.0
-  is_other = mover_is_other (paging_at h) (paging_ok h k) (held_in h) k.sound x.handle.0 (object k is en) (found k is en) r stood stood_there due_before may_before
+  is_other = mover_is_other (paging_at h) (paging_ok h k) (held_in h) k.sound x.handle.0 (object k is en) (found k is en) r stood stood_there due_before
+      may_before
 
   same_slot : words ≡ slot_for (paging_at h) (length stood.bytes)
   same_slot = it_slot k is.object ∙ sym (ap (slot_words (paging_at h)) may_before.class)
@@ -181,7 +184,8 @@ module _ {h : Heap} {x : Change} {b : ℕ} {n : Heap} {f : ℕ} {t : Tables} (fs
 
   new_apart : IsDisjoint b (slot_for (paging_at h) x.bytes) f words
   new_apart =
-      let d = place_apart (paging_at h) (paging_ok h k) (held_in h) k.sound x.bytes b (place_free k is en) (spare k is en) (unused k is en) r stood stood_there in
+      let d = place_apart (paging_at h) (paging_ok h k) (held_in h) k.sound x.bytes b (place_free k is en) (spare k is en) (unused k is en) r stood
+      stood_there in
       let e = same_slot in let p = stood_at in
       elim d [ inl l ↦ inl (omega arith) | inr l ↦ inr (omega arith) ]
 
@@ -205,13 +209,15 @@ module _ {h : Heap} {x : Change} {b : ℕ} {n : Heap} {f : ℕ} {t : Tables} (fs
 
   -- it is live
   pub live_still : IsSome (get n.proxies.places r)
-  live_still = ap is_some (ap (λ (p : Proxies). get p.places r) en.proxies ∙ get_insert_other h.proxies.places x.handle.0 b r is_other ∙ place_known h k r stood stood_there)
+  live_still = ap is_some (ap (λ (p : Proxies). get p.places r) en.proxies ∙ get_insert_other h.proxies.places x.handle.0 b r is_other
+      ∙ place_known h k r stood stood_there)
 
   far_from : IsDisjoint x.place words f words
   far_from = elim slots_apart [ inl l ↦ inr l | inr l ↦ inl l ]
 
   -- the words after the move
-  module _ (last_words : List ℕ) (long : length last_words ≡ length n.words) (words_move : MovesWords n.words last_words (record { from = f; count = words }) x.place) where
+  module _ (last_words : List ℕ) (long : length last_words ≡ length n.words)
+      (words_move : MovesWords n.words last_words (record { from = f; count = words }) x.place) where
     moves_words : MovesWords (middle k is en) last_words (record { from = stood.place; count = slot_for (paging_at h) (length stood.bytes) }) x.place
     moves_words =
         subst (λ s. MovesWords (middle k is en) last_words (record { from = stood.place; count = s }) x.place) same_slot
@@ -239,13 +245,16 @@ module _ {h : Heap} {x : Change} {b : ℕ} {n : Heap} {f : ℕ} {t : Tables} (fs
 
   after_places : places (after k is en (Some r) mover) ≡ insert (insert h.proxies.places x.handle.0 b) r x.place
   after_places =
-      ap places (after_is k is en (Some r) mover) ∙ map_values-insert (λ (z : Placed). z.place) (without (held_in h) x.handle.0 x.place (Some r)) x.handle.0 (new k is en)
-      ∙ ap (λ g. insert g x.handle.0 b) (moved_places (paging_at h) (paging_ok h k) (held_in h) k.sound x.handle.0 (object k is en) (found k is en) r stood stood_there due_before may_before)
+      ap places (after_is k is en (Some r) mover)
+      ∙ map_values-insert (λ (z : Placed). z.place) (without (held_in h) x.handle.0 x.place (Some r)) x.handle.0 (new k is en)
+      ∙ ap (λ g. insert g x.handle.0 b)
+      (moved_places (paging_at h) (paging_ok h k) (held_in h) k.sound x.handle.0 (object k is en) (found k is en) r stood stood_there due_before may_before)
       ∙ sym (placed_in_turn (places (held_in h)) x.handle.0 r x.place b is_other)
       ∙ ap (λ g. insert (insert g x.handle.0 b) r x.place) (sym (places_are h k))
 
   refilled : Occupies (paging_at h) (left k is en (Some r) mover) t
-  refilled = filled_occupied (paging_ok h k) (both_tell k is en).part (both_occupied k is en) kept_tables x.handle.0 (found_still k is en) fills (both_sound k is en) r there at due
+  refilled = filled_occupied (paging_ok h k) (both_tell k is en).part (both_occupied k is en) kept_tables x.handle.0 (found_still k is en) fills
+      (both_sound k is en) r there at due
 
   new_stays : get (left k is en (Some r) mover) (spare k is en) ≡ Some (new k is en)
   new_stays =
@@ -291,7 +300,14 @@ module _ {h : Heap} {x : Change} {b : ℕ} {n : Heap} {f : ℕ} {t : Tables} (fs
     whole : m ≡ record n { maps = u.maps; lists = u.lists; pool = u.pool; proxies = with_place n.proxies r x.place; words = m.words; frames = m.frames }
     whole = l.moved
         ∙ ap (λ (o : Heap). record o { proxies = with_place o.proxies i x.place; words = m.words; frames = m.frames }) l.found
-        ∙ ap (λ j. record n { maps = u.maps; lists = u.lists; pool = u.pool; proxies = with_place n.proxies j x.place; words = m.words; frames = m.frames }) l.told
+        ∙ ap (λ j. record n {
+          maps = u.maps;
+          lists = u.lists;
+          pool = u.pool;
+          proxies = with_place n.proxies j x.place;
+          words = m.words;
+          frames = m.frames;
+        }) l.told
 
     shift : MovesSlot n m f x.place words
     shift = subst (MovesSlot n m f x.place) l.size_w (record {
@@ -319,8 +335,10 @@ module _ {h : Heap} {x : Change} {b : ℕ} {n : Heap} {f : ℕ} {t : Tables} (fs
     pub frames_are : m.frames ≡ frames_left h.kind (state_of h) (record { held = after k is en (Some r) mover; moved = Some r })
     frames_are =
         let e : get (after k is en (Some r) mover) r ≡ Some (record { place = x.place; bytes = stood.bytes }) =
-        ap (λ g. get g r) (after_is k is en (Some r) mover) ∙ get_insert_other (without (held_in h) x.handle.0 x.place (Some r)) x.handle.0 (new k is en) r is_other
-        ∙ (let g : get (held_in h) r ≡ Some stood = stood_there in rw g (get_inserted (remove (held_in h) x.handle.0) r (record { place = x.place; bytes = stood.bytes }))) in
+        ap (λ g. get g r) (after_is k is en (Some r) mover)
+        ∙ get_insert_other (without (held_in h) x.handle.0 x.place (Some r)) x.handle.0 (new k is en) r is_other
+        ∙ (let g : get (held_in h) r ≡ Some stood = stood_there in
+        rw g (get_inserted (remove (held_in h) x.handle.0) r (record { place = x.place; bytes = stood.bytes }))) in
         shift.frames
         ∙ ap (λ fs. exchanged fs (f / 4) (x.place / 4) (words / 4)) en.frames
         ∙ ap (λ s. exchanged h.frames (f / 4) (x.place / 4) (s / 4)) same_slot
@@ -333,6 +351,8 @@ module _ {h : Heap} {x : Change} {b : ℕ} {n : Heap} {f : ℕ} {t : Tables} (fs
         (ap (λ (o : Heap). o.proxies.places) whole ∙ ap (λ (p : Proxies). insert p.places r x.place) en.proxies ∙ sym after_places)
         (shift.long ∙ entered_long k is en)
         (image m.words shift.long shift.words)
-        (subst (Tell (paging_at h)) (sym on) (filled_tell (paging_ok h k) (both_tell k is en).part (both_occupied k is en) kept_tables x.handle.0 (found_still k is en) fills (both_tell k is en).whole))
+        (subst (Tell (paging_at h)) (sym on)
+        (filled_tell (paging_ok h k) (both_tell k is en).part (both_occupied k is en) kept_tables x.handle.0 (found_still k is en) fills
+        (both_tell k is en).whole))
         (subst (Occupies (paging_at h) (after k is en (Some r) mover)) (sym on) occupied)
         l.handles

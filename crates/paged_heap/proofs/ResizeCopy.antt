@@ -20,7 +20,8 @@ use Rattle.paged_heap.proofs.LayoutFacts.{paging_ok}
 use Rattle.paged_heap.proofs.FreedObject.{it_inside, it_slot}
 use Rattle.paged_heap.proofs.ObjectWords.{before, few, past_new, past_old, was_byte, was_small, word_is, zero_byte}
 
-module _ {h : Heap} (k : IsValid h) {x : Change} (is : IsChange h x) {b : ℕ} (free : IsFreePlace (paging_at h) (held_in h) x.bytes b) {new : List ℕ} (ca : Carries h.words new x b) where
+module _ {h : Heap} (k : IsValid h) {x : Change} (is : IsChange h x) {b : ℕ} (free : IsFreePlace (paging_at h) (held_in h) x.bytes b) {new : List ℕ}
+    (ca : Carries h.words new x b) where
   abbrev old : List ℕ
   old = bytes_at h.words x.place
 
@@ -211,7 +212,8 @@ module _ {h : Heap} (k : IsValid h) {x : Change} (is : IsChange h x) {b : ℕ} (
   arrived zero lt = (
       let at : b + 0 ≡ b = omega arith in
       let inside : b < length cut = (let l = cut_long in let i = z_in in omega arith) in
-      headed (b + 0) ∙ ap (λ v. get_or (set cut b (header_word x.handle.0 x.bytes)) v 0) at ∙ get_or-set_same cut b (header_word x.handle.0 x.bytes) 0 inside ∙ ap (header_word x.handle.0) (sym now_long))
+      headed (b + 0) ∙ ap (λ v. get_or (set cut b (header_word x.handle.0 x.bytes)) v 0) at
+      ∙ get_or-set_same cut b (header_word x.handle.0 x.bytes) 0 inside ∙ ap (header_word x.handle.0) (sym now_long))
   arrived (suc i) lt =
       headed (b + suc i) ∙ get_or-set_other cut b (b + suc i) (header_word x.handle.0 x.bytes) 0 (omega arith) ∙ any_word i lt
 

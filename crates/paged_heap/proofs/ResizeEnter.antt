@@ -45,7 +45,8 @@ none_spare h k = go (get (held_in h) h.settings.proxies) refl
 module _ {h : Heap} (k : IsValid h) {x : Change} (is : IsChange h x) where
   -- where no slot was taken, there is no room
   pub lacks : (new : Tables) → TakesSlot h.classes (tables_in h) x.to None new → LacksRoom (paging_at h) (held_in h) x.to
-  lacks new none = refused_lacks_room (paging_ok h k) k.tell.part k.occupied k.tell.whole x.to new (subst (λ t. TakesSlot t (tables_in h) x.to None new) (sym (table_is h k)) none)
+  lacks new none = refused_lacks_room (paging_ok h k) k.tell.part k.occupied k.tell.whole x.to new
+      (subst (λ t. TakesSlot t (tables_in h) x.to None new) (sym (table_is h k)) none)
 
   module _ {b : ℕ} {new : Tables} (t : TakesAt h.classes (tables_in h) x.to b new) (tables : AreTables h.classes new) where
     abbrev pub at_table : TakesAt (class_table (paging_at h)) (tables_in h) x.to b new
@@ -72,9 +73,11 @@ module _ {h : Heap} (k : IsValid h) {x : Change} (is : IsChange h x) where
     pub new_whole : IsWhole h.kind b
     new_whole =
         let y = resized_at b (it k is.object) x.bytes in
-        let there : IsFreePlace (paging_at h) (held_in h) (length y.bytes) b = subst (λ m. IsFreePlace (paging_at h) (held_in h) m b) (sym (length-resized (bytes_at h.words x.place) x.bytes)) free in
+        let there : IsFreePlace (paging_at h) (held_in h) (length y.bytes) b =
+        subst (λ m. IsFreePlace (paging_at h) (held_in h) m b) (sym (length-resized (bytes_at h.words x.place) x.bytes)) free in
         let sound = sound_placed (paging_at h) (held_in h) h.settings.proxies y (none_spare h k) (paging_ok h k) k.sound there in
-        (whole_by h.kind (paged_kind h k) (profile_of h.settings) (take (length h.classes.sizes) h.bounds) h.settings.page_size (paging_ok h k) (insert (held_in h) h.settings.proxies y) sound h.settings.proxies y (get_inserted (held_in h) h.settings.proxies y)).0
+        (whole_by h.kind (paged_kind h k) (profile_of h.settings) (take (length h.classes.sizes) h.bounds) h.settings.page_size (paging_ok h k)
+        (insert (held_in h) h.settings.proxies y) sound h.settings.proxies y (get_inserted (held_in h) h.settings.proxies y)).0
 
     pub target : b + 1 + (x.bytes + 7) / 8 ≤ length h.words
     target = (let i = new_inside in let r = new_holds in omega arith)
@@ -103,16 +106,23 @@ words_apart a b s z w (inl l) p q = inr (omega arith)
 words_apart a b s z w (inr l) p q = inl (omega arith)
 
 -- a slot is taken, the object brought there, counted out of its old class and into its new one
-pub entered : (h : Heap) (x : Change) → IsChange h x → (b : ℕ) (t c o n : Heap) → TakesAt h.classes (tables_in h) x.to b (tables_in t) → AreTables h.classes (tables_in t)
+pub entered : (h : Heap) (x : Change) → IsChange h x → (b : ℕ) (t c o n : Heap) → TakesAt h.classes (tables_in h) x.to b (tables_in t)
+    → AreTables h.classes (tables_in t)
     → t ≡ record h { maps = t.maps; lists = t.lists; pool = t.pool }
     → c ≡ record t { proxies = with_place t.proxies x.handle.0 b; words = c.words } → Carries t.words c.words x b → AreBelowLimit c.proxies
-    → o ≡ record c { live = set c.live x.class (get_or c.live x.class 0 - 1); asked = c.asked - x.length; taken = c.taken - 8 * get_or c.classes.sizes x.class 0 }
+    → o ≡ record c {
+      live = set c.live x.class (get_or c.live x.class 0 - 1);
+      asked = c.asked - x.length;
+      taken = c.taken - 8 * get_or c.classes.sizes x.class 0;
+    }
     → n ≡ record o { live = set o.live x.to (get_or o.live x.to 0 + 1); asked = o.asked + x.bytes; taken = o.taken + 8 * get_or o.classes.sizes x.to 0 }
     → EntersAt h x b n
 entered h x is b t c o n taken tables et ec carries handles eo en =
     let to_c = ec ∙ ap (λ (z : Heap). record z { proxies = with_place z.proxies x.handle.0 b; words = c.words }) et in
-    let to_o = eo ∙ ap (λ (z : Heap). record z { live = set z.live x.class (get_or z.live x.class 0 - 1); asked = z.asked - x.length; taken = z.taken - 8 * get_or z.classes.sizes x.class 0 }) to_c in
-    let to_n = en ∙ ap (λ (z : Heap). record z { live = set z.live x.to (get_or z.live x.to 0 + 1); asked = z.asked + x.bytes; taken = z.taken + 8 * get_or z.classes.sizes x.to 0 }) to_o in
+    let to_o = eo ∙ ap (λ (z : Heap). record z
+    { live = set z.live x.class (get_or z.live x.class 0 - 1); asked = z.asked - x.length; taken = z.taken - 8 * get_or z.classes.sizes x.class 0 }) to_c in
+    let to_n = en ∙ ap (λ (z : Heap). record z
+    { live = set z.live x.to (get_or z.live x.to 0 + 1); asked = z.asked + x.bytes; taken = z.taken + 8 * get_or z.classes.sizes x.to 0 }) to_o in
     record {
       settings = ap (λ (z : Heap). z.settings) to_n;
       classes = ap (λ (z : Heap). z.classes) to_n;
@@ -120,11 +130,14 @@ entered h x is b t c o n taken tables et ec carries handles eo en =
       taken = subst (TakesAt h.classes (tables_in h) x.to b) (sym (ap tables_in to_n)) taken;
       tables = subst (AreTables h.classes) (sym (ap tables_in to_n)) tables;
       kind = ap (λ (z : Heap). z.kind) to_n;
-      words = subst (λ ws. Carries ws n.words x b) (ap (λ (z : Heap). z.words) et) (subst (λ ws. Carries t.words ws x b) (sym (ap (λ (z : Heap). z.words) en ∙ ap (λ (z : Heap). z.words) eo)) carries);
+      words = subst (λ ws. Carries ws n.words x b) (ap (λ (z : Heap). z.words) et)
+          (subst (λ ws. Carries t.words ws x b) (sym (ap (λ (z : Heap). z.words) en ∙ ap (λ (z : Heap). z.words) eo)) carries);
       frames = ap (λ (z : Heap). z.frames) to_n;
       proxies = ap (λ (z : Heap). z.proxies) to_n;
       handles = subst AreBelowLimit (sym (ap (λ (z : Heap). z.proxies) en ∙ ap (λ (z : Heap). z.proxies) eo)) handles;
-      live = ap (λ (z : Heap). z.live) to_n ∙ ap (λ m. set (set h.live x.class (get_or h.live x.class 0 - 1)) x.to (m + 1)) (get_or-set_other h.live x.class x.to (get_or h.live x.class 0 - 1) 0 is.other);
+      live = ap (λ (z : Heap). z.live) to_n
+          ∙ ap (λ m. set (set h.live x.class (get_or h.live x.class 0 - 1)) x.to (m + 1))
+          (get_or-set_other h.live x.class x.to (get_or h.live x.class 0 - 1) 0 is.other);
       asked = ap (λ (z : Heap). z.asked) to_n;
       all_taken = ap (λ (z : Heap). z.taken) to_n;
     }

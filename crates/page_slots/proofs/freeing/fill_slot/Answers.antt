@@ -12,7 +12,8 @@ vacate-requires-clause-taken c = front_taken _ _ c.requires.tables c.args.c c.fi
 
 pub address_of-requires-clause-slot : goal.address_of-requires-clause-slot
 address_of-requires-clause-slot c =
-    front_slot _ _ c.requires.tables c.args.c c.filling_slot-page.result.0 (sym c.filling_slot-page.ensures.front) _ c.filling_slot-page.result.1 _ c.filling_slot-page.ensures.used
+    front_slot _ _ c.requires.tables c.args.c c.filling_slot-page.result.0 (sym c.filling_slot-page.ensures.front) _ c.filling_slot-page.result.1 _
+    c.filling_slot-page.ensures.used
 
 pub address_of-requires-clause-small : goal.address_of-requires-clause-small
 address_of-requires-clause-small c = front_small _ _ c.requires.tables c.args.c c.filling_slot-page.result.0 (sym c.filling_slot-page.ensures.front)
@@ -29,8 +30,11 @@ returns-clause-filled c = record {
 
 pub returns-clause-others : goal.returns-clause-others
 returns-clause-others c =
-    loses_others _ _ _ _ _ _ (loses _ _ c.requires.tables c.args.c c.filling_slot-page.result.0 c.filling_slot-page.result.1 _ c.vacate.ensures.freed c.vacate.ensures.lists c.vacate.ensures.pool)
+    loses_others _ _ _ _ _ _
+    (loses _ _ c.requires.tables c.args.c c.filling_slot-page.result.0 c.filling_slot-page.result.1 _ c.vacate.ensures.freed c.vacate.ensures.lists
+    c.vacate.ensures.pool)
 
 pub returns-clause-kept : goal.returns-clause-kept
 returns-clause-kept c =
-    (loses _ _ c.requires.tables c.args.c c.filling_slot-page.result.0 c.filling_slot-page.result.1 _ c.vacate.ensures.freed c.vacate.ensures.lists c.vacate.ensures.pool).kept
+    (loses _ _ c.requires.tables c.args.c c.filling_slot-page.result.0 c.filling_slot-page.result.1 _ c.vacate.ensures.freed c.vacate.ensures.lists
+    c.vacate.ensures.pool).kept

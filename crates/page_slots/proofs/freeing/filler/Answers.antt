@@ -8,7 +8,8 @@ filling_slot-page-requires-clause-used c = λ page front. front_used_slot _ _ c.
 
 pub address_of-requires-clause-slot : goal.address_of-requires-clause-slot
 address_of-requires-clause-slot c =
-    front_slot _ _ c.requires.tables.1 c.args.c c.filling_slot-page.result.0 (sym c.filling_slot-page.ensures.front) _ c.filling_slot-page.result.1 _ c.filling_slot-page.ensures.used
+    front_slot _ _ c.requires.tables.1 c.args.c c.filling_slot-page.result.0 (sym c.filling_slot-page.ensures.front) _ c.filling_slot-page.result.1 _
+    c.filling_slot-page.ensures.used
 
 pub address_of-requires-clause-small : goal.address_of-requires-clause-small
 address_of-requires-clause-small c = front_small _ _ c.requires.tables.1 c.args.c c.filling_slot-page.result.0 (sym c.filling_slot-page.ensures.front)

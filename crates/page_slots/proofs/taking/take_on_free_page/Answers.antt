@@ -23,13 +23,16 @@ returns-clause-taken c = record {
   address = c.address_of.ensures;
   taken = inr (
     refl,
-    took_free _ _ c.requires.tables c.in_ok-page.page c.take.new.self c.in_ok-page.ensures.taken c.args.c c.slots-slots.result c.set.new.self c.new-map.result c.join_with_one.new.lists
+    took_free _ _ c.requires.tables c.in_ok-page.page c.take.new.self c.in_ok-page.ensures.taken c.args.c c.slots-slots.result c.set.new.self
+        c.new-map.result c.join_with_one.new.lists
         c.requires.none c.slots-slots.ensures.value c.new-map.ensures c.set.ensures.value c.join_with_one.ensures.filled c.join_with_one.ensures.not_filled,
   );
 }
 
 pub returns-clause-others : goal.returns-clause-others
-returns-clause-others c = taken_others _ _ c.requires.tables c.args.c c.requires.class _ _ (returns-clause-taken c) c.join_with_one.ensures.kept c.take.ensures.kept
+returns-clause-others c =
+    taken_others _ _ c.requires.tables c.args.c c.requires.class _ _ (returns-clause-taken c) c.join_with_one.ensures.kept c.take.ensures.kept
 
 pub returns-clause-kept : goal.returns-clause-kept
-returns-clause-kept c = (taken_gains _ _ c.requires.tables c.args.c c.requires.class _ _ (returns-clause-taken c) c.join_with_one.ensures.kept c.take.ensures.kept).kept
+returns-clause-kept c = (taken_gains _ _ c.requires.tables c.args.c c.requires.class _ _ (returns-clause-taken c) c.join_with_one.ensures.kept
+    c.take.ensures.kept).kept

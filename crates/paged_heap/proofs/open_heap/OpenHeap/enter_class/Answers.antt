@@ -23,7 +23,9 @@ returns-in_default-clause-entered g c =
     }
 
 pub copy_to_slot-requires-clause-laid : goal.copy_to_slot-requires-clause-laid
-copy_to_slot-requires-clause-laid g c = laid_same g.A.Mapping.kind c.args.self.now c.take_slot.new.self (ap (λ (x : OpenHeap). x.blocks) c.take_slot.ensures.rest) (ap (λ (x : OpenHeap). x.region) c.take_slot.ensures.rest) c.requires.kept.laid
+copy_to_slot-requires-clause-laid g c =
+    laid_same g.A.Mapping.kind c.args.self.now c.take_slot.new.self (ap (λ (x : OpenHeap). x.blocks) c.take_slot.ensures.rest)
+    (ap (λ (x : OpenHeap). x.region) c.take_slot.ensures.rest) c.requires.kept.laid
 
 pub copy_to_slot-requires-clause-source : goal.copy_to_slot-requires-clause-source
 copy_to_slot-requires-clause-source g c =
@@ -114,5 +116,7 @@ count_in-requires-clause-taken g c =
 pub returns-clause-entered : goal.returns-clause-entered
 returns-clause-entered g c =
     let kind = g.A.Mapping.kind in let h = seen kind c.args.self.now in let k = c.requires.kept.kept in let x = c.args.x in let is = c.requires.change in
-    entered h x is c.in-Some.to (seen kind c.take_slot.new.self) (seen kind c.copy_to_slot.new.self) (seen kind c.count_out.new.self) (seen kind c.count_in.new.self)
-    c.in-Some.ensures.taken c.take_slot.ensures.tables (ap (seen kind) c.take_slot.ensures.rest) c.copy_to_slot.ensures.rest c.copy_to_slot.ensures.words c.copy_to_slot.ensures.handles (ap (seen kind) c.count_out.ensures) (ap (seen kind) c.count_in.ensures)
+    entered h x is c.in-Some.to (seen kind c.take_slot.new.self) (seen kind c.copy_to_slot.new.self) (seen kind c.count_out.new.self)
+    (seen kind c.count_in.new.self)
+    c.in-Some.ensures.taken c.take_slot.ensures.tables (ap (seen kind) c.take_slot.ensures.rest) c.copy_to_slot.ensures.rest
+    c.copy_to_slot.ensures.words c.copy_to_slot.ensures.handles (ap (seen kind) c.count_out.ensures) (ap (seen kind) c.count_in.ensures)

@@ -4,13 +4,15 @@ use Rattle.paged_heap.specs.declared.open_heap.OpenHeap.{OpenHeap}
 use Rattle.paged_heap.specs.Heap.{seen}
 use Rattle.paged_heap.proofs.ByKind.{framed_of, in_region, laid_same}
 use Rattle.paged_heap.proofs.FreedObject.{asked_some, goes_freed, goes_kept, live_some, taken_some}
-use Rattle.paged_heap.proofs.FreeAndFill.{apart_there, fills_of, frames_are, leaves_of, live_there, moved_is, mover, place_in, r, refilled, source_there, target_there, whole_is, whole_source, whole_target, whole_there}
+use Rattle.paged_heap.proofs.FreeAndFill.{apart_there, fills_of, frames_are, leaves_of, live_there, moved_is, mover, place_in, r, refilled, source_there}
+use Rattle.paged_heap.proofs.FreeAndFill.{target_there, whole_is, whole_source, whole_target, whole_there}
 use Rattle.paged_heap.proofs.open_heap.OpenHeap.free_and_fill.Goals as goal
 
 pub read-requires-clause-laid : goal.read-requires-clause-laid
 read-requires-clause-laid g c =
     let rest = c.take_filler-from.ensures.rest in
-    laid_same g.A.Mapping.kind c.args.self.now c.take_filler-from.new.self (ap (λ (x : OpenHeap). x.blocks) rest) (ap (λ (x : OpenHeap). x.region) rest) c.requires.kept.laid
+    laid_same g.A.Mapping.kind c.args.self.now c.take_filler-from.new.self (ap (λ (x : OpenHeap). x.blocks) rest) (ap (λ (x : OpenHeap). x.region) rest)
+    c.requires.kept.laid
 
 pub read-requires-clause-within : goal.read-requires-clause-within
 read-requires-clause-within g c =
@@ -51,7 +53,8 @@ pub move_to-requires-clause-live : goal.move_to-requires-clause-live
 move_to-requires-clause-live g c =
     let fills = fills_of c.requires.kept.kept c.requires.object c.requires.moves c.take_filler-from.ensures.filled c.take_filler-from.ensures.tables in
     let left =
-    leaves_of fills (ap (seen g.A.Mapping.kind) c.take_filler-from.ensures.rest) c.read.ensures.value c.unpack.ensures.number c.slot_words-slot_words.ensures.value
+    leaves_of fills (ap (seen g.A.Mapping.kind) c.take_filler-from.ensures.rest) c.read.ensures.value c.unpack.ensures.number
+    c.slot_words-slot_words.ensures.value
     c.release.ensures.places (ap (seen g.A.Mapping.kind) c.count_out.ensures) in
     live_there fills left
 
@@ -59,7 +62,8 @@ pub move_to-requires-clause-source : goal.move_to-requires-clause-source
 move_to-requires-clause-source g c =
     let fills = fills_of c.requires.kept.kept c.requires.object c.requires.moves c.take_filler-from.ensures.filled c.take_filler-from.ensures.tables in
     let left =
-    leaves_of fills (ap (seen g.A.Mapping.kind) c.take_filler-from.ensures.rest) c.read.ensures.value c.unpack.ensures.number c.slot_words-slot_words.ensures.value
+    leaves_of fills (ap (seen g.A.Mapping.kind) c.take_filler-from.ensures.rest) c.read.ensures.value c.unpack.ensures.number
+    c.slot_words-slot_words.ensures.value
     c.release.ensures.places (ap (seen g.A.Mapping.kind) c.count_out.ensures) in
     let laid =
     laid_same g.A.Mapping.kind c.args.self.now c.count_out.new.self
@@ -73,7 +77,8 @@ pub move_to-requires-clause-target : goal.move_to-requires-clause-target
 move_to-requires-clause-target g c =
     let fills = fills_of c.requires.kept.kept c.requires.object c.requires.moves c.take_filler-from.ensures.filled c.take_filler-from.ensures.tables in
     let left =
-    leaves_of fills (ap (seen g.A.Mapping.kind) c.take_filler-from.ensures.rest) c.read.ensures.value c.unpack.ensures.number c.slot_words-slot_words.ensures.value
+    leaves_of fills (ap (seen g.A.Mapping.kind) c.take_filler-from.ensures.rest) c.read.ensures.value c.unpack.ensures.number
+    c.slot_words-slot_words.ensures.value
     c.release.ensures.places (ap (seen g.A.Mapping.kind) c.count_out.ensures) in
     let laid =
     laid_same g.A.Mapping.kind c.args.self.now c.count_out.new.self
@@ -87,7 +92,8 @@ pub move_to-requires-clause-apart : goal.move_to-requires-clause-apart
 move_to-requires-clause-apart g c =
     let fills = fills_of c.requires.kept.kept c.requires.object c.requires.moves c.take_filler-from.ensures.filled c.take_filler-from.ensures.tables in
     let left =
-    leaves_of fills (ap (seen g.A.Mapping.kind) c.take_filler-from.ensures.rest) c.read.ensures.value c.unpack.ensures.number c.slot_words-slot_words.ensures.value
+    leaves_of fills (ap (seen g.A.Mapping.kind) c.take_filler-from.ensures.rest) c.read.ensures.value c.unpack.ensures.number
+    c.slot_words-slot_words.ensures.value
     c.release.ensures.places (ap (seen g.A.Mapping.kind) c.count_out.ensures) in
     apart_there fills left
 
@@ -105,7 +111,8 @@ pub move_to-requires-clause-whole : goal.move_to-requires-clause-whole
 move_to-requires-clause-whole g c =
     let fills = fills_of c.requires.kept.kept c.requires.object c.requires.moves c.take_filler-from.ensures.filled c.take_filler-from.ensures.tables in
     let left =
-    leaves_of fills (ap (seen g.A.Mapping.kind) c.take_filler-from.ensures.rest) c.read.ensures.value c.unpack.ensures.number c.slot_words-slot_words.ensures.value
+    leaves_of fills (ap (seen g.A.Mapping.kind) c.take_filler-from.ensures.rest) c.read.ensures.value c.unpack.ensures.number
+    c.slot_words-slot_words.ensures.value
     c.release.ensures.places (ap (seen g.A.Mapping.kind) c.count_out.ensures) in
     whole_there fills left
 
@@ -113,7 +120,8 @@ pub returns-clause-step : goal.returns-clause-step
 returns-clause-step g c =
     let fills = fills_of c.requires.kept.kept c.requires.object c.requires.moves c.take_filler-from.ensures.filled c.take_filler-from.ensures.tables in
     let left =
-    leaves_of fills (ap (seen g.A.Mapping.kind) c.take_filler-from.ensures.rest) c.read.ensures.value c.unpack.ensures.number c.slot_words-slot_words.ensures.value
+    leaves_of fills (ap (seen g.A.Mapping.kind) c.take_filler-from.ensures.rest) c.read.ensures.value c.unpack.ensures.number
+    c.slot_words-slot_words.ensures.value
     c.release.ensures.places (ap (seen g.A.Mapping.kind) c.count_out.ensures) in
     let whole = whole_is fills left (ap (seen g.A.Mapping.kind) c.move_to.ensures.rest) in
     let moved = moved_is fills left c.move_to.ensures.moves in
@@ -127,7 +135,8 @@ pub returns-clause-kept : goal.returns-clause-kept
 returns-clause-kept g c =
     let fills = fills_of c.requires.kept.kept c.requires.object c.requires.moves c.take_filler-from.ensures.filled c.take_filler-from.ensures.tables in
     let left =
-    leaves_of fills (ap (seen g.A.Mapping.kind) c.take_filler-from.ensures.rest) c.read.ensures.value c.unpack.ensures.number c.slot_words-slot_words.ensures.value
+    leaves_of fills (ap (seen g.A.Mapping.kind) c.take_filler-from.ensures.rest) c.read.ensures.value c.unpack.ensures.number
+    c.slot_words-slot_words.ensures.value
     c.release.ensures.places (ap (seen g.A.Mapping.kind) c.count_out.ensures) in
     let whole = whole_is fills left (ap (seen g.A.Mapping.kind) c.move_to.ensures.rest) in
     let moved = moved_is fills left c.move_to.ensures.moves in

@@ -9,21 +9,27 @@ use Rattle.paged_heap.specs.Heap.{Heap, seen}
 use Rattle.paged_heap.specs.Layout.{IsValid, tables_in}
 use Rattle.paged_heap.proofs.ByKind.{framed_of, in_region, laid_same}
 use Rattle.paged_heap.proofs.ResizeClass.{change_kept, change_resized}
-use Rattle.paged_heap.proofs.ResizeClassFilled.{changed_filled, frames_are, keeps, lands_of, live_there, mover, place_in, r, refills_of, slots_apart, some_fills, source_in, target_in, told_by, whole_source, whole_target, whole_words}
+use Rattle.paged_heap.proofs.ResizeClassFilled.{changed_filled, frames_are, keeps, lands_of, live_there, mover, place_in, r, refills_of, slots_apart}
+use Rattle.paged_heap.proofs.ResizeClassFilled.{some_fills, source_in, target_in, told_by, whole_source, whole_target, whole_words}
 use Rattle.paged_heap.proofs.ResizeEnter.{kept_few, refused, unchanged}
 use Rattle.paged_heap.proofs.open_heap.OpenHeap.resize_class_and_fill.Goals as goal
 
 pub returns-in_default-clause-step : goal.returns-in_default-clause-step
-returns-in_default-clause-step g c = refused (seen g.A.Mapping.kind c.args.self.now) c.requires.kept.kept c.args.x c.requires.change (seen g.A.Mapping.kind c.enter_class.new.self) c.in_default.ensures.entered
+returns-in_default-clause-step g c =
+    refused (seen g.A.Mapping.kind c.args.self.now) c.requires.kept.kept c.args.x c.requires.change (seen g.A.Mapping.kind c.enter_class.new.self)
+    c.in_default.ensures.entered
 
 pub returns-in_default-clause-kept : goal.returns-in_default-clause-kept
 returns-in_default-clause-kept g c = record {
   laid = c.in_default.ensures.laid;
-  kept = subst IsValid (sym (unchanged (seen g.A.Mapping.kind c.args.self.now) c.args.x (seen g.A.Mapping.kind c.enter_class.new.self) c.in_default.ensures.entered)) c.requires.kept.kept;
+  kept = subst IsValid (sym
+      (unchanged (seen g.A.Mapping.kind c.args.self.now) c.args.x (seen g.A.Mapping.kind c.enter_class.new.self) c.in_default.ensures.entered))
+      c.requires.kept.kept;
 }
 
 pub take_filler-from-requires-clause-tables : goal.take_filler-from-requires-clause-tables
-take_filler-from-requires-clause-tables g c = subst (λ t. AreTables t (tables_in (seen g.A.Mapping.kind c.enter_class.new.self))) (sym c.in-Some.ensures.entered.classes) c.in-Some.ensures.entered.tables
+take_filler-from-requires-clause-tables g c =
+    subst (λ t. AreTables t (tables_in (seen g.A.Mapping.kind c.enter_class.new.self))) (sym c.in-Some.ensures.entered.classes) c.in-Some.ensures.entered.tables
 
 pub take_filler-from-requires-clause-some : goal.take_filler-from-requires-clause-some
 take_filler-from-requires-clause-some g c =
@@ -35,14 +41,16 @@ pub read-requires-clause-laid : goal.read-requires-clause-laid
 read-requires-clause-laid g c =
     let kind = g.A.Mapping.kind in
     let rest = c.take_filler-from.ensures.rest in
-    let laid = laid_same kind c.enter_class.new.self c.take_filler-from.new.self (ap (λ (o : OpenHeap). o.blocks) rest) (ap (λ (o : OpenHeap). o.region) rest) c.in-Some.ensures.laid in
+    let laid = laid_same kind c.enter_class.new.self c.take_filler-from.new.self (ap (λ (o : OpenHeap). o.blocks) rest)
+    (ap (λ (o : OpenHeap). o.region) rest) c.in-Some.ensures.laid in
     laid
 
 pub read-requires-clause-within : goal.read-requires-clause-within
 read-requires-clause-within g c =
     let kind = g.A.Mapping.kind in
     let fills =
-    refills_of c.requires.kept.kept c.requires.change c.in-Some.ensures.entered c.requires.moves c.take_filler-from.ensures.filled c.take_filler-from.ensures.tables in
+    refills_of c.requires.kept.kept c.requires.change c.in-Some.ensures.entered c.requires.moves c.take_filler-from.ensures.filled
+    c.take_filler-from.ensures.tables in
     let l = place_in fills in
     let i = in_region kind c.enter_class.new.self c.in-Some.ensures.laid in
     let e = ap (λ (o : OpenHeap). length o.region) c.take_filler-from.ensures.rest in
@@ -52,14 +60,16 @@ pub move_to-requires-clause-laid : goal.move_to-requires-clause-laid
 move_to-requires-clause-laid g c =
     let kind = g.A.Mapping.kind in
     let rest = c.take_filler-from.ensures.rest in
-    let laid = laid_same kind c.enter_class.new.self c.take_filler-from.new.self (ap (λ (o : OpenHeap). o.blocks) rest) (ap (λ (o : OpenHeap). o.region) rest) c.in-Some.ensures.laid in
+    let laid = laid_same kind c.enter_class.new.self c.take_filler-from.new.self (ap (λ (o : OpenHeap). o.blocks) rest)
+    (ap (λ (o : OpenHeap). o.region) rest) c.in-Some.ensures.laid in
     laid
 
 pub move_to-requires-clause-live : goal.move_to-requires-clause-live
 move_to-requires-clause-live g c =
     let kind = g.A.Mapping.kind in
     let fills =
-    refills_of c.requires.kept.kept c.requires.change c.in-Some.ensures.entered c.requires.moves c.take_filler-from.ensures.filled c.take_filler-from.ensures.tables in
+    refills_of c.requires.kept.kept c.requires.change c.in-Some.ensures.entered c.requires.moves c.take_filler-from.ensures.filled
+    c.take_filler-from.ensures.tables in
     let found = ap (seen kind) c.take_filler-from.ensures.rest in
     let told = told_by fills found c.read.ensures.value c.unpack.ensures.number in
     live_there fills found told
@@ -68,7 +78,8 @@ pub move_to-requires-clause-source : goal.move_to-requires-clause-source
 move_to-requires-clause-source g c =
     let kind = g.A.Mapping.kind in
     let fills =
-    refills_of c.requires.kept.kept c.requires.change c.in-Some.ensures.entered c.requires.moves c.take_filler-from.ensures.filled c.take_filler-from.ensures.tables in
+    refills_of c.requires.kept.kept c.requires.change c.in-Some.ensures.entered c.requires.moves c.take_filler-from.ensures.filled
+    c.take_filler-from.ensures.tables in
     let l = source_in fills in
     let w = c.slot_words-old_slot_words.ensures.value in
     let i = in_region kind c.enter_class.new.self c.in-Some.ensures.laid in
@@ -79,7 +90,8 @@ pub move_to-requires-clause-target : goal.move_to-requires-clause-target
 move_to-requires-clause-target g c =
     let kind = g.A.Mapping.kind in
     let fills =
-    refills_of c.requires.kept.kept c.requires.change c.in-Some.ensures.entered c.requires.moves c.take_filler-from.ensures.filled c.take_filler-from.ensures.tables in
+    refills_of c.requires.kept.kept c.requires.change c.in-Some.ensures.entered c.requires.moves c.take_filler-from.ensures.filled
+    c.take_filler-from.ensures.tables in
     let l = target_in fills in
     let w = c.slot_words-old_slot_words.ensures.value in
     let i = in_region kind c.enter_class.new.self c.in-Some.ensures.laid in
@@ -89,34 +101,39 @@ move_to-requires-clause-target g c =
 pub move_to-requires-clause-apart : goal.move_to-requires-clause-apart
 move_to-requires-clause-apart g c =
     let fills =
-    refills_of c.requires.kept.kept c.requires.change c.in-Some.ensures.entered c.requires.moves c.take_filler-from.ensures.filled c.take_filler-from.ensures.tables in
+    refills_of c.requires.kept.kept c.requires.change c.in-Some.ensures.entered c.requires.moves c.take_filler-from.ensures.filled
+    c.take_filler-from.ensures.tables in
     let w = sym c.slot_words-old_slot_words.ensures.value in
     subst (λ w. (c.take_filler-from.result + w ≤ c.args.x.place) ⊎ (c.args.x.place + w ≤ c.take_filler-from.result)) w (slots_apart fills)
 
 pub move_to-requires-clause-whole_source : goal.move_to-requires-clause-whole_source
 move_to-requires-clause-whole_source g c =
     let fills =
-    refills_of c.requires.kept.kept c.requires.change c.in-Some.ensures.entered c.requires.moves c.take_filler-from.ensures.filled c.take_filler-from.ensures.tables in
+    refills_of c.requires.kept.kept c.requires.change c.in-Some.ensures.entered c.requires.moves c.take_filler-from.ensures.filled
+    c.take_filler-from.ensures.tables in
     whole_source fills
 
 pub move_to-requires-clause-whole_target : goal.move_to-requires-clause-whole_target
 move_to-requires-clause-whole_target g c =
     let fills =
-    refills_of c.requires.kept.kept c.requires.change c.in-Some.ensures.entered c.requires.moves c.take_filler-from.ensures.filled c.take_filler-from.ensures.tables in
+    refills_of c.requires.kept.kept c.requires.change c.in-Some.ensures.entered c.requires.moves c.take_filler-from.ensures.filled
+    c.take_filler-from.ensures.tables in
     whole_target fills
 
 pub move_to-requires-clause-whole : goal.move_to-requires-clause-whole
 move_to-requires-clause-whole g c =
     let kind = g.A.Mapping.kind in
     let fills =
-    refills_of c.requires.kept.kept c.requires.change c.in-Some.ensures.entered c.requires.moves c.take_filler-from.ensures.filled c.take_filler-from.ensures.tables in
+    refills_of c.requires.kept.kept c.requires.change c.in-Some.ensures.entered c.requires.moves c.take_filler-from.ensures.filled
+    c.take_filler-from.ensures.tables in
     subst (IsWhole kind) (sym c.slot_words-old_slot_words.ensures.value) (whole_words fills)
 
 pub returns-clause-step : goal.returns-clause-step
 returns-clause-step g c =
     let kind = g.A.Mapping.kind in
     let fills =
-    refills_of c.requires.kept.kept c.requires.change c.in-Some.ensures.entered c.requires.moves c.take_filler-from.ensures.filled c.take_filler-from.ensures.tables in
+    refills_of c.requires.kept.kept c.requires.change c.in-Some.ensures.entered c.requires.moves c.take_filler-from.ensures.filled
+    c.take_filler-from.ensures.tables in
     let found = ap (seen kind) c.take_filler-from.ensures.rest in
     let told = told_by fills found c.read.ensures.value c.unpack.ensures.number in
     let framed = framed_of kind c.move_to.new.self c.move_to.ensures.laid in
@@ -130,7 +147,8 @@ pub returns-clause-kept : goal.returns-clause-kept
 returns-clause-kept g c =
     let kind = g.A.Mapping.kind in
     let fills =
-    refills_of c.requires.kept.kept c.requires.change c.in-Some.ensures.entered c.requires.moves c.take_filler-from.ensures.filled c.take_filler-from.ensures.tables in
+    refills_of c.requires.kept.kept c.requires.change c.in-Some.ensures.entered c.requires.moves c.take_filler-from.ensures.filled
+    c.take_filler-from.ensures.tables in
     let found = ap (seen kind) c.take_filler-from.ensures.rest in
     let told = told_by fills found c.read.ensures.value c.unpack.ensures.number in
     let framed = framed_of kind c.move_to.new.self c.move_to.ensures.laid in

@@ -49,28 +49,38 @@ pub returns-clause-step : goal.returns-clause-step
 returns-clause-step g c =
     let kind = g.A.Mapping.kind in let h = seen kind c.args.self.now in let k = c.requires.kept.kept in
     let t = seen kind c.zero_tail.new.self in
-    let n : Heap = record t { words = words_of kind c.zero_tail.new.self.blocks c.write.new.region; asked = c.zero_tail.new.self.asked - c.from.result + c.from-2.result } in
+    let n : Heap = record t {
+      words = words_of kind c.zero_tail.new.self.blocks c.write.new.region;
+      asked = c.zero_tail.new.self.asked - c.from.result + c.from-2.result;
+    } in
     let en : n ≡ record t { words = set t.words c.args.place (header_word c.args.h.0 c.args.bytes); asked = t.asked - c.args.length + c.args.bytes } =
-    (ap (λ ws. record t { words = ws; asked = t.asked - c.from.result + c.from-2.result }) (c.write.ensures.words ∙ ap (set t.words c.args.place) c.pack.ensures)
+    (ap (λ ws. record t { words = ws; asked = t.asked - c.from.result + c.from-2.result })
+    (c.write.ensures.words ∙ ap (set t.words c.args.place) c.pack.ensures)
     ∙ ap (λ x. record t { words = set t.words c.args.place (header_word c.args.h.0 c.args.bytes); asked = t.asked - x + c.from-2.result }) c.from.ensures
     ∙ ap (λ x. record t { words = set t.words c.args.place (header_word c.args.h.0 c.args.bytes); asked = t.asked - c.args.length + x }) c.from-2.ensures) in
     let still : c.args.length ≤ c.args.bytes → t ≡ h = λ le. ap (seen kind) (c.zero_tail.ensures.kept le) in
-    fits_resized h t n k c.args.h.0 c.args.place c.args.length c.args.c c.requires.object c.args.bytes c.requires.same c.zero_tail.ensures.rest c.zero_tail.ensures.cut still en
+    fits_resized h t n k c.args.h.0 c.args.place c.args.length c.args.c c.requires.object c.args.bytes c.requires.same c.zero_tail.ensures.rest
+    c.zero_tail.ensures.cut still en
     _ c.slot_words-slot_words.ensures.value c.slot_words-slot_words.ensures.value refl c.requires.fits
 
 pub returns-clause-kept : goal.returns-clause-kept
 returns-clause-kept g c =
     let kind = g.A.Mapping.kind in let h = seen kind c.args.self.now in let k = c.requires.kept.kept in
     let t = seen kind c.zero_tail.new.self in
-    let n : Heap = record t { words = words_of kind c.zero_tail.new.self.blocks c.write.new.region; asked = c.zero_tail.new.self.asked - c.from.result + c.from-2.result } in
+    let n : Heap = record t {
+      words = words_of kind c.zero_tail.new.self.blocks c.write.new.region;
+      asked = c.zero_tail.new.self.asked - c.from.result + c.from-2.result;
+    } in
     let en : n ≡ record t { words = set t.words c.args.place (header_word c.args.h.0 c.args.bytes); asked = t.asked - c.args.length + c.args.bytes } =
-    (ap (λ ws. record t { words = ws; asked = t.asked - c.from.result + c.from-2.result }) (c.write.ensures.words ∙ ap (set t.words c.args.place) c.pack.ensures)
+    (ap (λ ws. record t { words = ws; asked = t.asked - c.from.result + c.from-2.result })
+    (c.write.ensures.words ∙ ap (set t.words c.args.place) c.pack.ensures)
     ∙ ap (λ x. record t { words = set t.words c.args.place (header_word c.args.h.0 c.args.bytes); asked = t.asked - x + c.from-2.result }) c.from.ensures
     ∙ ap (λ x. record t { words = set t.words c.args.place (header_word c.args.h.0 c.args.bytes); asked = t.asked - c.args.length + x }) c.from-2.ensures) in
     let still : c.args.length ≤ c.args.bytes → t ≡ h = λ le. ap (seen kind) (c.zero_tail.ensures.kept le) in
     record {
       laid = c.write.ensures.laid;
-      kept = fits_kept h t n k c.args.h.0 c.args.place c.args.length c.args.c c.requires.object c.args.bytes c.requires.same c.zero_tail.ensures.rest c.zero_tail.ensures.cut still en;
+      kept = fits_kept h t n k c.args.h.0 c.args.place c.args.length c.args.c c.requires.object c.args.bytes c.requires.same c.zero_tail.ensures.rest
+          c.zero_tail.ensures.cut still en;
     }
 
 pub returns-clause-bound : goal.returns-clause-bound
