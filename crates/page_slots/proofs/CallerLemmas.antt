@@ -1,42 +1,48 @@
 -- What a heap may cite: objects at the used slots, before and after each call.
-use Rattle.std.proofs.Common.{◌≡◌, ℕ, ◌<◌, ◌≤◌, List, length, Some, None, arith, refl, sym, ◌∙◌, ap, subst, inl, inr}
-use Rattle.std.specs.Prelude.{◌⊎◌, ◌↔◌}
+use Rattle.std.proofs.Common.{◌≡◌, ℕ, Bool, true, false, ◌<◌, ◌≤◌, List, length, Some, None, arith, refl, sym, ◌∙◌, ap, subst, inl, inr}
+use Rattle.std.specs.Prelude.{◌⊎◌, ◌↔◌, slice_get}
 use Rattle.std.specs.List.{Contains}
 use Rattle.std.proofs.lemmas.Bool.{cases_eq}
 use Rattle.std.specs.FinMap.{get, insert, remove}
 use Rattle.cf_lemmas.proofs.Maps.{get_removed, get_remove_other}
 use Rattle.cf_lemmas.proofs.Sums.{insert_again}
+use Rattle.page_pool.specs.Pool.{is_in_pool}
+use Rattle.size_classes.specs.Table.{ClassTable}
 use Rattle.class_lists.specs.declared.Which.{Which}
-use Rattle.class_lists.specs.declared.Which.TheVariants.{NotFull}
-use Rattle.class_lists.specs.PageLists.{pages_in}
+use Rattle.class_lists.specs.declared.Which.TheVariants.{Full, NotFull}
+use Rattle.class_lists.specs.PageLists.{PageLists, pages_in}
 use Rattle.page_model.specs.Held.{Held, Placed}
 use Rattle.page_model.specs.Paging.{Paging, IsPaging, bound_of, class_for, classes, page_of, slots_of}
 use Rattle.page_model.specs.Arrangement.{class_at, objects_on, not_full_pages, standing_on, IsSlotAt, IsSound, LacksRoom}
 use Rattle.page_model.specs.Steps.{IsFreePlace, MayFill, MustMove, moved_to, without}
 use Rattle.page_model.proofs.FreeSteps.{mover_is_other, removed_twice}
-use Rattle.page_slots.specs.Tables.{Tables, AreTables, IsPageOf, IsUsed, slot_at, slots_on}
+use Rattle.page_slots.specs.Tables.{Tables, AreOthers, AreTables, IsOf, IsPageOf, IsPlaced, IsUsed, IsWhole, KeepsElsewhere, slot_at, slots_on, tables, used_in}
 use Rattle.page_slots.specs.Taking.{TakesAt, TakesSlot}
-use Rattle.page_slots.specs.Freeing.{FillsFrom, MovesObject, Vacates}
-use Rattle.page_slots.specs.Occupying.{Occupies, Tell, class_table}
+use Rattle.page_slots.specs.Freeing.{FillsFrom, IsFiller, MovesObject, Vacates}
+use Rattle.page_slots.specs.Occupying.{Occupies, Tell, TellPart, class_table}
 use Rattle.page_slots.proofs.Pages.{listed_page, of_list, placed_in}
-use Rattle.page_slots.proofs.TablesAfterTake.{Gains, front_listed, gains_free, gains_open}
-use Rattle.page_slots.proofs.TablesAfterFree.{Loses, loses}
+use Rattle.page_slots.proofs.TablesAfterTake.{Gains, front_listed, gains_whole, taken_gains}
+use Rattle.page_slots.proofs.TablesAfterFree.{Loses, loses, loses_whole}
 use Rattle.page_slots.proofs.Occupied.{free_bare, occupied_renamed, stands_at}
 use Rattle.page_slots.proofs.OccupiedAfterTake.{gained_address, gained_unused, occupied_gained}
 use Rattle.page_slots.proofs.OccupiedAfterFree.{occupied_lost}
-use Rattle.page_slots.proofs.PageNumbers.{lacks_room, not_full_pages_are}
+use Rattle.page_slots.proofs.PageNumbers.{lacks_room}
+-- passed on: the tables of a heap without objects, and the numbers of pages
+pub use Rattle.page_slots.proofs.Start.{first_occupied, first_table, first_tables, first_whole, no_pages}
+pub use Rattle.page_slots.proofs.PageNumbers.{free_pages_are, home_pages_are, not_full_pages_are, pages_are}
 
-module _ (p : Paging) (ok : IsPaging p) (m : Held) (old new : Tables) (tell : Tell p old) (o : Occupies p m old) (kept : AreTables (class_table p) new) where
+module _ {p : Paging} (ok : IsPaging p) {m : Held} {old new : Tables} (tell : TellPart p old) (o : Occupies p m old)
+    (kept : AreTables (class_table p) new) where
   -- a slot of class c was taken
-  module _ (c a : ℕ) (class : c < classes p) (t : TakesAt (class_table p) old c a new) where
+  module _ {c a : ℕ} (class : c < classes p) (t : TakesAt (class_table p) old c a new) where
     gains : Gains (class_table p) old new c t.page t.slot
-    gains = elim t.taken [
-      | inl on ↦ gains_open (class_table p) old tell.tables c t.page new kept.lists t.slot on kept.pool
-      | inr (first, on) ↦ subst (λ s. Gains (class_table p) old new c t.page s) (sym first) (gains_free (class_table p) old tell.tables c t.page new kept.lists class on kept.pool)
-    ]
+    gains = taken_gains (class_table p) old tell.tables c class a new t kept.lists kept.pool
 
-    pub taken_tell : Tell p new
-    taken_tell = record { tables = kept; pages = gains.pages ∙ tell.pages }
+    pub taken_part : TellPart p new
+    taken_part = record { tables = kept; pages = gains.pages ∙ tell.pages }
+
+    pub taken_tell : IsWhole old → Tell p new
+    taken_tell whole = record { part = taken_part; whole = gains_whole (class_table p) old new c t.page t.slot gains whole }
 
     on_page_of : page_of p a ≡ t.page
     on_page_of = ap (page_of p) t.address ∙ (gained_address p ok m old new tell o c t.page t.slot gains).1
@@ -48,8 +54,10 @@ module _ (p : Paging) (ok : IsPaging p) (m : Held) (old new : Tables) (tell : Te
         let at = (gained_address p ok m old new tell o c t.page t.slot g).0 in record {
           slot = subst (λ d. IsSlotAt p d a) (sym is) (subst (IsSlotAt p c) (sym t.address) at);
           unused = λ q y f e. gained_unused p ok m old new tell o c t.page t.slot g q y f (e ∙ t.address);
-          choice = subst (λ d. ((0 < objects_on p m d (page_of p a)) × (objects_on p m d (page_of p a) < slots_of p d)) ⊎ ((not_full_pages p m d ≡ 0) × (standing_on p m (page_of p a) ≡ 0))) (sym is)
-              (subst (λ page. ((0 < objects_on p m c page) × (objects_on p m c page < slots_of p c)) ⊎ ((not_full_pages p m c ≡ 0) × (standing_on p m page ≡ 0))) (sym on_page_of)
+          choice = subst (λ d. ((0 < objects_on p m d (page_of p a)) × (objects_on p m d (page_of p a) < slots_of p d))
+              ⊎ ((not_full_pages p m d ≡ 0) × (standing_on p m (page_of p a) ≡ 0))) (sym is)
+              (subst (λ page. ((0 < objects_on p m c page) × (objects_on p m c page < slots_of p c))
+              ⊎ ((not_full_pages p m c ≡ 0) × (standing_on p m page ≡ 0))) (sym on_page_of)
               (elim g.was [
                 | inl (there, _) ↦ inl (
                     let q = placed_in (class_table p) old tell.tables c t.page NotFull there in
@@ -79,71 +87,99 @@ module _ (p : Paging) (ok : IsPaging p) (m : Held) (old new : Tables) (tell : Te
     taken_occupied h x none at is_c = occupied_gained p ok m old new tell o c t.page t.slot gains h x none (at ∙ t.address) is_c
 
   -- An object went, and its slot is free now.
-  module _ (s : IsSound p m) (h : ℕ) (x : Placed) (some : get m h ≡ Some x) (c page slot : ℕ) (v : Vacates old c page slot new) (is_c : class_at p x ≡ c) (on : page_of p x.place ≡ page) (at : slot_at (class_table p) c x.place ≡ slot) where
+  module _ (s : IsSound p m) (h : ℕ) {x : Placed} (some : get m h ≡ Some x) {c page slot : ℕ} (v : Vacates old c page slot new)
+      (is_c : class_at p x ≡ c) (on : page_of p x.place ≡ page) (at : slot_at (class_table p) c x.place ≡ slot) where
     lost : Loses (class_table p) old new c page slot
     lost = loses (class_table p) old tell.tables c page slot new v kept.lists kept.pool
 
-    pub vacated_tell : Tell p new
-    vacated_tell = record { tables = kept; pages = lost.pages ∙ tell.pages }
+    pub vacated_part : TellPart p new
+    vacated_part = record { tables = kept; pages = lost.pages ∙ tell.pages }
+
+    pub vacated_tell : IsWhole old → Tell p new
+    vacated_tell whole = record { part = vacated_part; whole = loses_whole (class_table p) old new c page slot lost whole }
 
     pub vacated_occupied : Occupies p (remove m h) new
     vacated_occupied = occupied_lost p ok m s old new tell o c page slot lost h x some is_c on at
 
-  -- x is freed, and its slot is filled by the object at the address that was answered
-  module _ (s : IsSound p m) (h : ℕ) (x : Placed) (some : get m h ≡ Some x) (a : ℕ) (f : FillsFrom (class_table p) old (class_at p x) a new) where
-    there : Contains (pages_in old.lists (class_at p x) NotFull) f.page
-    there = front_listed (pages_in old.lists (class_at p x) NotFull) f.page f.front
+-- what fills a slot is the object that `filler` finds
+abbrev pub filler_in : {k : ClassTable} {old new : Tables} {c a : ℕ} → FillsFrom k old c a new → IsFiller k old.maps old.lists c a
+filler_in f = record { page = f.page; slot = f.slot; address = f.address; front = f.front; least = f.least; used = f.vacates.used }
 
-    source : IsUsed old (class_at p x) f.page f.slot
-    source = record { of = inr there; used = f.vacates.used }
+module _ {p : Paging} (ok : IsPaging p) {m : Held} {t : Tables} (tell : TellPart p t) (o : Occupies p m t) where
+  -- the object that fills a freed slot of class c
+  module _ {c a : ℕ} (f : IsFiller (class_table p) t.maps t.lists c a) where
+    filler_page : Contains (pages_in t.lists c NotFull) f.page
+    filler_page = front_listed (pages_in t.lists c NotFull) f.page f.front
+
+    pub filler_used : IsUsed t c f.page f.slot
+    filler_used = record { of = inr filler_page; used = f.used }
 
     -- there is one
     pub filler : (q : ℕ) × (y : Placed) × (get m q ≡ Some y) × (y.place ≡ a)
-    filler = (let w = stands_at p ok old tell m o (class_at p x) f.page f.slot source in (w.0, w.1, w.2, w.4 ∙ sym f.address))
+    filler = (let w = stands_at p ok t tell m o c f.page f.slot filler_used in (w.0, w.1, w.2, w.4 ∙ sym f.address))
 
     -- and it alone stands there
-    module _ (q : ℕ) (y : Placed) (found : get m q ≡ Some y) (at : y.place ≡ a) where
-      filler_is : (class_at p y ≡ class_at p x) × (page_of p y.place ≡ f.page) × (slot_at (class_table p) (class_at p x) y.place ≡ f.slot)
+    module _ (s : IsSound p m) (q : ℕ) {y : Placed} (found : get m q ≡ Some y) (at : y.place ≡ a) where
+      pub filler_is : (class_at p y ≡ c) × (page_of p y.place ≡ f.page) × (slot_at (class_table p) c y.place ≡ f.slot)
       filler_is =
-          let w = stands_at p ok old tell m o (class_at p x) f.page f.slot source in
+          let w = stands_at p ok t tell m o c f.page f.slot filler_used in
           elim (cases_eq q w.0) [
             | inl is ↦ (
                 let e : Some y ≡ Some w.1 = sym found ∙ ap (get m) is ∙ w.2 in
-                let y_is : y ≡ w.1 = cc in
-                (ap (class_at p) y_is ∙ w.3, ap (λ (z : Placed). page_of p z.place) y_is ∙ w.5, ap (λ (z : Placed). slot_at (class_table p) (class_at p x) z.place) y_is ∙ w.6))
+                let y_is : y ≡ w.1 = cc in (
+                  ap (class_at p) y_is ∙ w.3,
+                  ap (λ (z : Placed). page_of p z.place) y_is
+                      ∙ w.5,
+                  ap (λ (z : Placed). slot_at (class_table p) c z.place) y_is ∙ w.6,
+                ))
             | inr ne ↦ absurd (s.own_place w.0 w.1 q y w.2 found ne (w.4 ∙ sym f.address ∙ sym at))
           ]
 
-      pub filler_may : MayFill p m x y
-      filler_may =
-          let q' = placed_in (class_table p) old tell.tables (class_at p x) f.page NotFull there in
-          let e = o.counted (class_at p x) f.page (inr there) in
-          let few = q'.fills.1 in
-          record { class = filler_is.0; not_full = subst (λ page. objects_on p m (class_at p x) page < slots_of p (class_at p x)) (sym filler_is.1) (omega arith) }
+      pub filler_not_full : objects_on p m c (page_of p y.place) < slots_of p c
+      filler_not_full =
+          let placed = placed_in (class_table p) t tell.tables c f.page NotFull filler_page in
+          let e = o.counted c f.page (inr filler_page) in
+          let few = placed.fills.1 in
+          subst (λ page. objects_on p m c page < slots_of p c) (sym filler_is.1) (omega arith)
 
-      filled_lost : Loses (class_table p) old new (class_at p x) f.page f.slot
-      filled_lost = loses (class_table p) old tell.tables (class_at p x) f.page f.slot new f.vacates kept.lists kept.pool
+  pub filler_may : (x : Placed) {a : ℕ} (f : IsFiller (class_table p) t.maps t.lists (class_at p x) a)
+      → IsSound p m → (q : ℕ) {y : Placed} → get m q ≡ Some y → y.place ≡ a → MayFill p m x y
+  filler_may x f s q found at = record { class = (filler_is f s q found at).0; not_full = filler_not_full f s q found at }
 
-      pub filled_occupied : MustMove p m x → Occupies p (without m h x.place (Some q)) new
-      filled_occupied must =
-          let other = mover_is_other p ok m s h x some q y found must filler_may in
-          let less = occupied_lost p ok m s old new tell o (class_at p x) f.page f.slot filled_lost q y found filler_is.0 filler_is.1 filler_is.2 in
-          let x_there : get (remove m q) h ≡ Some x = get_remove_other m q h (λ e. other (sym e)) ∙ some in
-          let gone : get (remove (remove m q) h) q ≡ None = get_remove_other (remove m q) h q other ∙ get_removed m q in
-          let renamed = occupied_renamed p (remove m q) new less h x x_there q y.bytes gone filler_is.0 in
-          let once : Occupies p (insert (remove m h) q (record { place = x.place; bytes = y.bytes })) new = subst (λ n. Occupies p n new) (removed_twice m h q (record { place = x.place; bytes = y.bytes })) renamed in
-          subst (λ z. Occupies p (moved_to (remove m h) q z x.place) new) (sym found) once
+module _ {p : Paging} (ok : IsPaging p) {m : Held} {old new : Tables} (tell : TellPart p old) (o : Occupies p m old) (kept : AreTables (class_table p) new)
+    (h : ℕ) {x : Placed} (some : get m h ≡ Some x) {a : ℕ} (f : FillsFrom (class_table p) old (class_at p x) a new) where
+  abbrev filling : IsFiller (class_table p) old.maps old.lists (class_at p x) a
+  filling = filler_in f
 
-    pub filled_tell : Tell p new
-    filled_tell = (let l = loses (class_table p) old tell.tables (class_at p x) f.page f.slot new f.vacates kept.lists kept.pool in record { tables = kept; pages = l.pages ∙ tell.pages })
+  filled_lost : Loses (class_table p) old new (class_at p x) f.page f.slot
+  filled_lost = loses (class_table p) old tell.tables (class_at p x) f.page f.slot new f.vacates kept.lists kept.pool
 
-module _ (p : Paging) (ok : IsPaging p) (m : Held) (t : Tables) (tell : Tell p t) (o : Occupies p m t) where
+  pub filled_part : TellPart p new
+  filled_part = record { tables = kept; pages = filled_lost.pages ∙ tell.pages }
+
+  pub filled_tell : IsWhole old → Tell p new
+  filled_tell whole = record { part = filled_part; whole = loses_whole (class_table p) old new (class_at p x) f.page f.slot filled_lost whole }
+
+  -- x is freed, and the object that fills its slot stands there
+  pub filled_occupied : IsSound p m → (q : ℕ) {y : Placed} → get m q ≡ Some y → y.place ≡ a → MustMove p m x → Occupies p (without m h x.place (Some q)) new
+  filled_occupied s q {y} found at must =
+      let is = filler_is ok tell o filling s q found at in
+      let other = mover_is_other p ok m s h x some q y found must (filler_may ok tell o x filling s q found at) in
+      let less = occupied_lost p ok m s old new tell o (class_at p x) f.page f.slot filled_lost q y found is.0 is.1 is.2 in
+      let x_there : get (remove m q) h ≡ Some x = get_remove_other m q h (λ e. other (sym e)) ∙ some in
+      let gone : get (remove (remove m q) h) q ≡ None = get_remove_other (remove m q) h q other ∙ get_removed m q in
+      let renamed = occupied_renamed p (remove m q) new less h x x_there q y.bytes gone is.0 in
+      let once : Occupies p (insert (remove m h) q (record { place = x.place; bytes = y.bytes })) new =
+      subst (λ n. Occupies p n new) (removed_twice m h q (record { place = x.place; bytes = y.bytes })) renamed in
+      subst (λ z. Occupies p (moved_to (remove m h) q z x.place) new) (sym found) once
+
+module _ {p : Paging} (ok : IsPaging p) {m : Held} {t : Tables} (tell : TellPart p t) (o : Occupies p m t) where
   -- where no slot was taken, there is no room
-  pub refused_lacks_room : (c : ℕ) (new : Tables) → TakesSlot (class_table p) t c None new → LacksRoom p m c
-  refused_lacks_room c new r = lacks_room p ok m t tell o c r.0 r.1
+  pub refused_lacks_room : IsWhole t → (c : ℕ) (new : Tables) → TakesSlot (class_table p) t c None new → LacksRoom p m c
+  refused_lacks_room whole c new r = lacks_room p ok m t tell o whole c r.0 r.1
 
   -- an object that is found
-  module _ (h : ℕ) (x : Placed) (some : get m h ≡ Some x) where
+  module _ (h : ℕ) {x : Placed} (some : get m h ≡ Some x) where
     at : IsUsed t (class_at p x) (page_of p x.place) (slot_at (class_table p) (class_at p x) x.place)
     at = o.stands h x some
 
@@ -152,7 +188,9 @@ module _ (p : Paging) (ok : IsPaging p) (m : Held) (t : Tables) (tell : Tell p t
 
     -- what the calls require of its address and class
     pub found_page : page_of p x.place < length t.maps
-    found_page = (let lt = listed_page (class_table p) t tell.tables (class_at p x) (page_of p x.place) page.0 page.1.listed in let e = tell.tables.maps in omega arith)
+    found_page =
+        let lt = listed_page (class_table p) t tell.tables (class_at p x) (page_of p x.place) page.0 page.1.listed in
+        let e = tell.tables.maps in omega arith
 
     pub found_class : class_at p x < t.lists.classes
     found_class = tell.tables.lists.class (class_at p x) page.0 (page_of p x.place) page.1.listed
@@ -163,8 +201,10 @@ module _ (p : Paging) (ok : IsPaging p) (m : Held) (t : Tables) (tell : Tell p t
         let long = page.1.slots in
         let used = o.counted (class_at p x) (page_of p x.place) at.of in
         let part = not_full_pages_are p ok m t tell o (class_at p x) in (
-          (λ v. (let full = v.full in let several = v.several in let many = v.many in record { full = omega arith; several = omega arith; many = omega arith })),
-          (λ v. (let full = v.full in let several = v.several in let many = v.many in record { full = omega arith; several = omega arith; many = omega arith })),
+          (λ v. (let full = v.full in let several = v.several in let many = v.many in
+              record { full = omega arith; several = omega arith; many = omega arith })),
+          (λ v. (let full = v.full in let several = v.several in let many = v.many in
+              record { full = omega arith; several = omega arith; many = omega arith })),
         )
 
     -- a move finds an object that fills the slot
@@ -175,12 +215,85 @@ module _ (p : Paging) (ok : IsPaging p) (m : Held) (t : Tables) (tell : Tell p t
         let some = ok.some (class_at p x) lt in
         omega arith
 
-module _ (p : Paging) (m : Held) (t : Tables) (o : Occupies p m t) (h : ℕ) (x : Placed) (some : get m h ≡ Some x) where
+module _ {p : Paging} {m : Held} {t : Tables} (o : Occupies p m t) (h : ℕ) {x : Placed} (some : get m h ≡ Some x) where
   -- other bytes at the same place, in the same class
-  pub rewritten_occupied : (bytes : List ℕ) → class_at p (record { place = x.place; bytes = bytes }) ≡ class_at p x → Occupies p (insert m h (record { place = x.place; bytes = bytes })) t
+  pub rewritten_occupied : (bytes : List ℕ) → class_at p (record { place = x.place; bytes = bytes }) ≡ class_at p x
+      → Occupies p (insert m h (record { place = x.place; bytes = bytes })) t
   rewritten_occupied bytes same =
-      subst (λ n. Occupies p n t) (insert_again m h (record { place = x.place; bytes = bytes })) (occupied_renamed p m t o h x some h bytes (get_removed m h) same)
+      subst (λ n. Occupies p n t) (insert_again m h (record { place = x.place; bytes = bytes }))
+      (occupied_renamed p m t o h x some h bytes (get_removed m h) same)
 
   -- the same object under another number
   pub renumbered_occupied : (q : ℕ) → get (remove m h) q ≡ None → Occupies p (insert (remove m h) q x) t
   renumbered_occupied q none = occupied_renamed p m t o h x some q x.bytes none refl
+
+-- An owner of other pages of the same pool: its tables stay its own in a call that keeps what is elsewhere.
+module _ (k : ClassTable) (old new : Tables) (kept : AreTables k new) (pages : new.pool.pages ≡ old.pool.pages) (keeps : KeepsElsewhere old new)
+    (others : PageLists) (of_others : AreOthers old others)
+    (theirs : AreTables k (tables old.maps others old.pool)) where
+  abbrev before : Tables
+  before = tables old.maps others old.pool
+
+  abbrev after : Tables
+  after = tables new.maps others new.pool
+
+  -- its pages are elsewhere still
+  pub others_elsewhere : AreOthers new others
+  others_elsewhere c page w h = keeps.still page (of_others c page w h)
+
+  unlisted : (page : ℕ) → IsPlaced k before page → ((c : ℕ) (w : Which) → ¬ Contains (pages_in others c w) page) → IsPlaced k after page
+  unlisted page _ none = by_pool (is_in_pool new.pool.free page) refl
+    where
+      by_pool : (free : Bool) → is_in_pool new.pool.free page ≡ free → IsPlaced k after page
+      by_pool true e = inl (record { free = e; unlisted = none })
+      by_pool false e = inr (inl (record { taken = e; unlisted = none }))
+
+  placed : (page : ℕ) → IsPlaced k before page → IsPlaced k after page
+  placed page (inl f) = unlisted page (inl f) f.unlisted
+  placed page (inr (inl e)) = unlisted page (inr (inl e)) e.unlisted
+  placed page (inr (inr (c, w, q))) =
+      let away = of_others c page w q.listed in
+      let same : slots_on after page ≡ slots_on before page = keeps.slots page away in
+      inr (inr (
+        c,
+        w,
+        record {
+          taken = (keeps.still page away).taken;
+          listed = q.listed;
+          slots = ap length same ∙ q.slots;
+          some = q.some;
+          fills = rw same q.fills;
+        },
+      ))
+
+  pub others_tables : AreTables k (tables new.maps others new.pool)
+  others_tables = record {
+    table = theirs.table;
+    small = kept.small;
+    maps = kept.maps;
+    pages = theirs.pages ∙ sym pages;
+    classes = theirs.classes;
+    pool = kept.pool;
+    lists = theirs.lists;
+    placed = λ page lt. placed page (theirs.placed page (omega arith));
+  }
+
+  others_slots : (c page : ℕ) → IsOf (tables old.maps others old.pool) c page → slots_on new page ≡ slots_on old page
+  others_slots c page (inl h) = keeps.slots page (of_others c page Full h)
+  others_slots c page (inr h) = keeps.slots page (of_others c page NotFull h)
+
+  -- and its objects occupy its slots
+  pub others_occupied : (p : Paging) (m : Held) → Occupies p m (tables old.maps others old.pool) → Occupies p m (tables new.maps others new.pool)
+  others_occupied p m o = record {
+    stands = λ h x f. (let u = o.stands h x f in
+        record { of = u.of; used = ap (λ xs. slice_get xs (slot_at (class_table p) (class_at p x) x.place)) (others_slots _ _ u.of) ∙ u.used });
+    filled = λ c page slot u. o.filled c page slot (record { of = u.of; used = sym (ap (λ xs. slice_get xs slot) (others_slots c page u.of)) ∙ u.used });
+    counted = λ c page of. o.counted c page of ∙ sym (ap used_in (others_slots c page of));
+  }
+
+-- the pages of an owner are elsewhere for each other owner
+pub mine_elsewhere : (k : ClassTable) (t : Tables) → AreTables k t → (others : PageLists) → AreOthers t others → AreOthers (tables t.maps others t.pool) t.lists
+mine_elsewhere k t a others of_others c page w h = record {
+  taken = (placed_in k t a c page w h).taken;
+  unlisted = λ d v there. (of_others d page v there).unlisted c w h;
+}

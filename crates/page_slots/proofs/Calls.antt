@@ -1,5 +1,6 @@
 -- What the bodies of the calls need to know of the tables.
-use Rattle.std.proofs.Common.{◌≡◌, ◌≢◌, ℕ, Bool, true, false, not, ◌+◌, ◌*◌, ◌^◌, ◌<◌, ◌≤◌, List, [], ◌∷◌, length, get_or, set, replicate, Some, None, arith, refl, sym, ◌∙◌, ap, subst}
+use Rattle.std.proofs.Common.{◌≡◌, ◌≢◌, ℕ, Bool, true, false, not, ◌+◌, ◌*◌, ◌^◌, ◌<◌, ◌≤◌, List, [], ◌∷◌, length, get_or, set, replicate, Some, None, arith}
+use Rattle.std.proofs.Common.{refl, sym, ◌∙◌, ap, subst}
 use Rattle.std.specs.Prelude.{slice_get, is_some}
 use Rattle.std.specs.List.{Contains, position}
 use Rattle.std.proofs.lemmas.Bool.{false≢true}
@@ -13,6 +14,7 @@ use Rattle.class_lists.specs.declared.Which.TheVariants.{Full, NotFull}
 use Rattle.class_lists.specs.PageLists.{PageLists, IsUnlisted, pages_in}
 use Rattle.page_pool.specs.Pool.{Pool, TakesFront, is_in_pool}
 use Rattle.page_slots.specs.Tables.{Tables, AreTables, IsOf, IsPageOf, JoinsList, slots_in, slots_on, tables, used_in}
+use Rattle.page_slots.specs.Freeing.{HasUsedSlot}
 use Rattle.page_slots.specs.Taking.{FillsPage, TakesOnOpenPage, TakesOnFreePage}
 use Rattle.page_slots.proofs.Pages.{placed_in, listed_page, listed_class, of_list}
 use Rattle.page_slots.proofs.TablesAfterTake.{front_listed, pool_front}
@@ -62,6 +64,9 @@ module _ (k : ClassTable) (t : Tables) (a : AreTables k t) where
     pub front_taken : is_in_pool t.pool.free page ≡ false
     front_taken = front_placed.taken
 
+    pub front_used_slot : HasUsedSlot t.maps page
+    front_used_slot = record { within = front_inside; some = front_placed.fills.0 }
+
     module _ (d : List Bool) where
       same_map : get_or t.maps page d ≡ get_or t.maps page []
       same_map = get_or_default t.maps page d [] front_inside
@@ -82,8 +87,10 @@ module _ (k : ClassTable) (t : Tables) (a : AreTables k t) where
       front_reads slot b is = sym (ap (λ xs. slice_get xs slot) same_map) ∙ is
 
       -- its least free slot was taken
-      pub took_open : (slot : ℕ) (map : List Bool) (lists : PageLists) → position (λ used. not used) (get_or t.maps page d) ≡ Some slot → slice_get (get_or t.maps page d) slot ≡ Some false
-          → map ≡ set (get_or t.maps page d) slot true → (used_in map ≡ length map → FillsPage t.lists c page lists) → (used_in map ≢ length map → lists ≡ t.lists)
+      pub took_open : (slot : ℕ) (map : List Bool) (lists : PageLists) → position (λ used. not used) (get_or t.maps page d) ≡ Some slot
+          → slice_get (get_or t.maps page d) slot ≡ Some false
+          → map ≡ set (get_or t.maps page d) slot true → (used_in map ≡ length map → FillsPage t.lists c page lists)
+          → (used_in map ≢ length map → lists ≡ t.lists)
           → TakesOnOpenPage t c page slot (tables (set t.maps page map) lists t.pool)
       took_open slot map lists least free is filled not_filled =
           let here : get_or (set t.maps page map) page [] ≡ map = get_or-set_same t.maps page map [] front_inside in record {
@@ -111,8 +118,10 @@ module _ (k : ClassTable) (t : Tables) (a : AreTables k t) where
     pool_unlisted = ((pool_front k t a page pool f).1).unlisted
 
     -- its first slot was taken
-    pub took_free : (c n : ℕ) (map fresh : List Bool) (lists : PageLists) → pages_in t.lists c NotFull ≡ [] → n ≡ slots_in k c → fresh ≡ replicate n false → map ≡ set fresh 0 true
-        → (n ≡ 1 → JoinsList t.lists c Full page lists) → (n ≢ 1 → JoinsList t.lists c NotFull page lists) → TakesOnFreePage k t c page (tables (set t.maps page map) lists pool)
+    pub took_free : (c n : ℕ) (map fresh : List Bool) (lists : PageLists) → pages_in t.lists c NotFull ≡ [] → n ≡ slots_in k c
+        → fresh ≡ replicate n false → map ≡ set fresh 0 true
+        → (n ≡ 1 → JoinsList t.lists c Full page lists) → (n ≢ 1 → JoinsList t.lists c NotFull page lists)
+        → TakesOnFreePage k t c page (tables (set t.maps page map) lists pool)
     took_free c n map fresh lists none slots is_fresh is filled not_filled = record {
       none = none;
       front = f;
@@ -136,7 +145,8 @@ module _ (k : ClassTable) (t : Tables) (a : AreTables k t) where
     of_taken = (of_list k t a c page of).1.taken
 
     -- its list is that which its slots tell
-    pub of_listed : (w : Which) (d : List Bool) → (used_in (get_or t.maps page d) ≡ length (get_or t.maps page d) → w ≡ Full) → (used_in (get_or t.maps page d) ≢ length (get_or t.maps page d) → w ≡ NotFull)
+    pub of_listed : (w : Which) (d : List Bool) → (used_in (get_or t.maps page d) ≡ length (get_or t.maps page d) → w ≡ Full)
+        → (used_in (get_or t.maps page d) ≢ length (get_or t.maps page d) → w ≡ NotFull)
         → Contains (pages_in t.lists c w) page
     of_listed w d full not_full = go (of_list k t a c page of).0 (of_list k t a c page of).1
       where

@@ -51,7 +51,8 @@ tail_free x q xs is = elim (cases_eq q x) [
 ]
 
 -- of the numbers below n, those of the list are as many as it is long
-pub count_members : (n : ℕ) (xs : List ℕ) → HasNoRepeats xs → ((q : ℕ) → is_in_pool xs q ≡ true → q < n) → count_by (is_in_pool xs) (range_with_len 0 n) ≡ length xs
+pub count_members : (n : ℕ) (xs : List ℕ) → HasNoRepeats xs → ((q : ℕ) → is_in_pool xs q ≡ true → q < n)
+    → count_by (is_in_pool xs) (range_with_len 0 n) ≡ length xs
 count_members n [] d below = sum_zeros (λ q. one (is_in_pool [] q)) (range_with_len 0 n) (λ _. refl)
 count_members n (x ∷ xs) d below =
     let lt : x < n = below x (free_head x xs) in
@@ -62,11 +63,14 @@ count_members n (x ∷ xs) d below =
     omega arith
 
 -- where of each number one test or the other passes, all are counted
-pub count_both : (f g : ℕ → Bool) (a n : ℕ) → ((d : ℕ) → a ≤ d → d < a + n → one (f d) + one (g d) ≡ 1) → count_by f (range_with_len a n) + count_by g (range_with_len a n) ≡ n
+pub count_both : (f g : ℕ → Bool) (a n : ℕ) → ((d : ℕ) → a ≤ d → d < a + n → one (f d) + one (g d) ≡ 1)
+    → count_by f (range_with_len a n) + count_by g (range_with_len a n) ≡ n
 count_both f g a zero either = refl
 count_both f g a (suc n) either =
-    let x : count_by f (range_with_len a (suc n)) ≡ one (f a) + count_by f (range_with_len (a + 1) n) = sum_by-cons (λ p. one (f p)) a (range_with_len (a + 1) n) in
-    let y : count_by g (range_with_len a (suc n)) ≡ one (g a) + count_by g (range_with_len (a + 1) n) = sum_by-cons (λ p. one (g p)) a (range_with_len (a + 1) n) in
+    let x : count_by f (range_with_len a (suc n)) ≡ one (f a) + count_by f (range_with_len (a + 1) n) =
+    sum_by-cons (λ p. one (f p)) a (range_with_len (a + 1) n) in
+    let y : count_by g (range_with_len a (suc n)) ≡ one (g a) + count_by g (range_with_len (a + 1) n) =
+    sum_by-cons (λ p. one (g p)) a (range_with_len (a + 1) n) in
     let e = either a (omega arith) (omega arith) in
     let rest = count_both f g (a + 1) n (λ d l h. either d (omega arith) (omega arith)) in
     omega arith

@@ -13,7 +13,7 @@ use Rattle.cf_lemmas.proofs.Values.{still}
 use Rattle.page_model.proofs.Counting.{on_page, standing}
 use Rattle.page_model.proofs.Freeing.{objects_on-exchanged}
 use Rattle.page_slots.specs.Tables.{Tables, IsOf, IsUsed, IsFreePage, slot_at, slots_on}
-use Rattle.page_slots.specs.Occupying.{Occupies, Tell, class_table}
+use Rattle.page_slots.specs.Occupying.{Occupies, TellPart, class_table}
 use Rattle.page_slots.proofs.Pages.{listed_page, listed_class, of_list}
 
 pub used_along : (t : Tables) (c d g page s slot : ℕ) → c ≡ d → g ≡ page → s ≡ slot → IsUsed t c g s → IsUsed t d page slot
@@ -25,7 +25,7 @@ pub free_of_none : (t : Tables) (c page : ℕ) → IsFreePage t page → IsOf t 
 free_of_none t c page f (inl h) = f.unlisted c Full h
 free_of_none t c page f (inr h) = f.unlisted c NotFull h
 
-module _ (p : Paging) (ok : IsPaging p) (t : Tables) (tell : Tell p t) where
+module _ (p : Paging) (ok : IsPaging p) (t : Tables) (tell : TellPart p t) where
   -- a page of a class is one of the pages
   pub of_below : (c page : ℕ) → IsOf t c page → (c < classes p) × (page < p.pages)
   of_below c page of =
@@ -70,14 +70,16 @@ module _ (p : Paging) (ok : IsPaging p) (t : Tables) (tell : Tell p t) where
 
     -- who stands at a used slot, by page and number
     pub stands_at : (c page slot : ℕ) → IsUsed t c page slot
-        → (h : ℕ) × (x : Placed) × (get m h ≡ Some x) × (class_at p x ≡ c) × (x.place ≡ address_of p c page slot) × (page_of p x.place ≡ page) × (slot_at (class_table p) c x.place ≡ slot)
+        → (h : ℕ) × (x : Placed) × (get m h ≡ Some x) × (class_at p x ≡ c) × (x.place ≡ address_of p c page slot) × (page_of p x.place ≡ page)
+        × (slot_at (class_table p) c x.place ≡ slot)
     stands_at c page slot u =
         let f = o.filled c page slot u in
         let a = used_address c page slot u in
         (f.0, f.1, f.2, f.3, f.4, ap (page_of p) f.4 ∙ a.1, ap (slot_at (class_table p) c) f.4 ∙ a.2)
 
     -- an object's place is the address of its slot
-    pub place_is : (s : IsSound p m) → (h : ℕ) (x : Placed) → get m h ≡ Some x → (c page slot : ℕ) → class_at p x ≡ c → page_of p x.place ≡ page → slot_at (class_table p) c x.place ≡ slot
+    pub place_is : (s : IsSound p m) → (h : ℕ) (x : Placed) → get m h ≡ Some x → (c page slot : ℕ) → class_at p x ≡ c → page_of p x.place ≡ page
+        → slot_at (class_table p) c x.place ≡ slot
         → x.place ≡ address_of p c page slot
     place_is s h x f c page slot is_c is_page is_slot =
         let at : IsSlotAt p c x.place = subst (λ c. IsSlotAt p c x.place) is_c (s.slots h x f) in
@@ -99,8 +101,14 @@ module _ (p : Paging) (m : Held) (t : Tables) (o : Occupies p m t) (h : ℕ) (x 
         elim (cases_eq f.0 h) [
           | inl is ↦ (
               let e : Some f.1 ≡ Some x = sym f.2 ∙ ap (get m) is ∙ some in
-              let y_is : f.1 ≡ x = cc in
-              (q, record { place = x.place; bytes = bytes }, get_inserted (remove m h) q (record { place = x.place; bytes = bytes }), same ∙ sym (ap (class_at p) y_is) ∙ f.3, sym (ap (λ (y : Placed). y.place) y_is) ∙ f.4))
+              let y_is : f.1 ≡ x = cc in (
+                q,
+                record { place = x.place; bytes = bytes },
+                get_inserted (remove m h) q (record { place = x.place; bytes = bytes }),
+                same
+                    ∙ sym (ap (class_at p) y_is) ∙ f.3,
+                sym (ap (λ (y : Placed). y.place) y_is) ∙ f.4,
+              ))
           | inr ne ↦ (f.0, f.1, (still (remove m h) q (record { place = x.place; bytes = bytes }) none f.0 f.1 (get_remove_other m h f.0 ne ∙ f.2)).1, f.3, f.4)
         ];
     counted = λ d g of. objects_on-exchanged p m h x some q bytes none same d g ∙ o.counted d g of;

@@ -11,14 +11,16 @@ use Rattle.page_model.specs.Paging.{Paging, IsPaging, page_of}
 use Rattle.page_model.specs.Arrangement.{class_at, objects_on, IsSound}
 use Rattle.page_model.proofs.Freeing.{objects_on-away, objects_on-left}
 use Rattle.page_slots.specs.Tables.{Tables, IsOf, IsUsed, slot_at, slots_on, used_in}
-use Rattle.page_slots.specs.Occupying.{Occupies, Tell, class_table}
+use Rattle.page_slots.specs.Occupying.{Occupies, TellPart, class_table}
 use Rattle.page_slots.proofs.Bits.{set_here, set_there, used_some, not_both}
 use Rattle.page_slots.proofs.Pages.{same_of, was_of, one_class}
 use Rattle.page_slots.proofs.TablesAfterFree.{Loses}
 use Rattle.page_slots.proofs.Occupied.{used_along, free_of_none, stands_at, place_is}
 
-module _ (p : Paging) (ok : IsPaging p) (m : Held) (s : IsSound p m) (old new : Tables) (tell : Tell p old) (o : Occupies p m old) (c page slot : ℕ) (l : Loses (class_table p) old new c page slot)
-    (h : ℕ) (x : Placed) (some : get m h ≡ Some x) (is_c : class_at p x ≡ c) (on : page_of p x.place ≡ page) (at : slot_at (class_table p) c x.place ≡ slot) where
+module _ (p : Paging) (ok : IsPaging p) (m : Held) (s : IsSound p m) (old new : Tables) (tell : TellPart p old) (o : Occupies p m old) (c page slot : ℕ)
+    (l : Loses (class_table p) old new c page slot)
+    (h : ℕ) (x : Placed) (some : get m h ≡ Some x) (is_c : class_at p x ≡ c) (on : page_of p x.place ≡ page)
+    (at : slot_at (class_table p) c x.place ≡ slot) where
   inside : slot < length (slots_on old page)
   inside = slice_get_within (slots_on old page) slot true l.used
 
@@ -94,11 +96,13 @@ module _ (p : Paging) (ok : IsPaging p) (m : Held) (s : IsSound p m) (old new : 
       | inl is ↦ (
           let of' : IsOf new d page = subst (λ k. IsOf new d k) is of in
           let is_d = (now_class d of').0 in
-          let less : objects_on p (remove m h) c page + 1 ≡ objects_on p m c page = subst (λ g. objects_on p (remove m h) c g + 1 ≡ objects_on p m c g) on (objects_on-left p m h x some c is_c) in
+          let less : objects_on p (remove m h) c page + 1 ≡ objects_on p m c page =
+          subst (λ g. objects_on p (remove m h) c g + 1 ≡ objects_on p m c g) on (objects_on-left p m h x some c is_c) in
           let before = o.counted c page l.of in
           let after = ap (λ xs. used_in xs + 1) l.after ∙ count-unset (slots_on old page) slot l.used in
           let all : objects_on p (remove m h) c page ≡ used_in (slots_on new page) = omega arith in
           ap (λ d. objects_on p (remove m h) d k) is_d ∙ ap (objects_on p (remove m h) c) is ∙ all ∙ sym (ap (λ k. used_in (slots_on new k)) is))
-      | inr ne ↦ objects_on-away p m h x some d k (inl (λ e. ne (sym e ∙ on))) ∙ o.counted d k (was_of old new k d (l.others k ne) of) ∙ sym (ap used_in (l.others k ne).slots)
+      | inr ne ↦ objects_on-away p m h x some d k (inl (λ e. ne (sym e ∙ on))) ∙ o.counted d k (was_of old new k d (l.others k ne) of)
+          ∙ sym (ap used_in (l.others k ne).slots)
     ];
   }

@@ -15,18 +15,20 @@ use Rattle.cf_lemmas.proofs.Values.{still}
 use Rattle.page_model.proofs.Counting.{on_yes}
 use Rattle.page_model.proofs.Placing.{objects_on-inserted, objects_on-elsewhere}
 use Rattle.page_slots.specs.Tables.{Tables, IsOf, IsUsed, slot_at, slots_in, slots_on, used_in}
-use Rattle.page_slots.specs.Occupying.{Occupies, Tell, class_table}
+use Rattle.page_slots.specs.Occupying.{Occupies, TellPart, class_table}
 use Rattle.page_slots.proofs.Bits.{set_here, set_there, none_used, not_both}
 use Rattle.page_slots.proofs.Pages.{same_of, was_of, one_class}
 use Rattle.page_slots.proofs.TablesAfterTake.{Gains}
 use Rattle.page_slots.proofs.Occupied.{used_along, free_of_none, none_counts}
 
-module _ (p : Paging) (ok : IsPaging p) (m : Held) (old new : Tables) (tell : Tell p old) (o : Occupies p m old) (c page slot : ℕ) (g : Gains (class_table p) old new c page slot) where
+module _ (p : Paging) (ok : IsPaging p) (m : Held) (old new : Tables) (tell : TellPart p old) (o : Occupies p m old) (c page slot : ℕ)
+    (g : Gains (class_table p) old new c page slot) where
   place : ℕ
   place = address_of p c page slot
 
   -- the slot's address
-  pub gained_address : IsSlotAt p c (address_of p c page slot) × (page_of p (address_of p c page slot) ≡ page) × (slot_at (class_table p) c (address_of p c page slot) ≡ slot)
+  pub gained_address : IsSlotAt p c (address_of p c page slot) × (page_of p (address_of p c page slot) ≡ page)
+      × (slot_at (class_table p) c (address_of p c page slot) ≡ slot)
   gained_address = address_is_slot p ok c g.class page slot (let l = g.within in let e = tell.pages in omega arith) g.few
 
   inside : slot < length g.before
@@ -56,7 +58,8 @@ module _ (p : Paging) (ok : IsPaging p) (m : Held) (old new : Tables) (tell : Te
       let on : page_of p y.place ≡ page = ap (page_of p) is ∙ a.1 in
       let of : IsOf old (class_at p y) page = (used_along old (class_at p y) (class_at p y) (page_of p y.place) page _ _ refl on refl u).of in
       let is_c = was_class (class_at p y) of in
-      let at : slot_at (class_table p) (class_at p y) y.place ≡ slot = ap (λ d. slot_at (class_table p) d y.place) is_c ∙ ap (slot_at (class_table p) c) is ∙ a.2 in
+      let at : slot_at (class_table p) (class_at p y) y.place ≡ slot = ap (λ d. slot_at (class_table p) d y.place) is_c
+      ∙ ap (slot_at (class_table p) c) is ∙ a.2 in
       gained_free (class_at p y) (used_along old (class_at p y) (class_at p y) (page_of p y.place) page _ slot refl on at u)
 
   -- what was used is used still
@@ -83,7 +86,8 @@ module _ (p : Paging) (ok : IsPaging p) (m : Held) (old new : Tables) (tell : Te
           | inr ne ↦ inr (
               let used : slice_get g.before s ≡ Some true = sym (set_there g.before slot s true ne) ∙ sym (ap (λ xs. slice_get xs s) g.after) ∙ v.used in
               elim g.was [
-                | inl (there, e) ↦ used_along old c d page h s s (sym is_c) (sym is) refl (record { of = inr there; used = sym (ap (λ xs. slice_get xs s) e) ∙ used })
+                | inl (there, e) ↦ used_along old c d page h s s (sym is_c) (sym is) refl
+                    (record { of = inr there; used = sym (ap (λ xs. slice_get xs s) e) ∙ used })
                 | inr (_, _, e) ↦ absurd (none_used (slots_in (class_table p) c) s (sym (ap (λ xs. slice_get xs s) e) ∙ used))
               ])
         ])
@@ -103,7 +107,8 @@ module _ (p : Paging) (ok : IsPaging p) (m : Held) (old new : Tables) (tell : Te
 
     here : IsUsed new (class_at p x) (page_of p x.place) (slot_at (class_table p) (class_at p x) x.place)
     here =
-        let slot_is : slot_at (class_table p) (class_at p x) x.place ≡ slot = ap (λ d. slot_at (class_table p) d x.place) is_c ∙ ap (slot_at (class_table p) c) at ∙ gained_address.2 in
+        let slot_is : slot_at (class_table p) (class_at p x) x.place ≡ slot = ap (λ d. slot_at (class_table p) d x.place) is_c
+        ∙ ap (slot_at (class_table p) c) at ∙ gained_address.2 in
         used_along new c (class_at p x) page (page_of p x.place) slot _ (sym is_c) (sym on) (sym slot_is)
         (record { of = g.of; used = ap (λ xs. slice_get xs slot) g.after ∙ set_here g.before slot true inside })
 
@@ -114,7 +119,14 @@ module _ (p : Paging) (ok : IsPaging p) (m : Held) (old new : Tables) (tell : Te
         | inr (_, was) ↦ grows _ _ _ (o.stands q y was)
       ];
       filled = λ d k s u. elim (shrinks d k s u) [
-        | inl (a, b, e) ↦ (h, x, get_inserted m h x, is_c ∙ sym a, at ∙ sym (ap (λ d. address_of p d k s) a ∙ ap (λ k. address_of p c k s) b ∙ ap (address_of p c page) e))
+        | inl (a, b, e) ↦ (
+          h,
+          x,
+          get_inserted m h x,
+          is_c ∙ sym a,
+          at
+              ∙ sym (ap (λ d. address_of p d k s) a ∙ ap (λ k. address_of p c k s) b ∙ ap (address_of p c page) e),
+        )
         | inr was ↦ (let f = o.filled d k s was in (f.0, f.1, (still m h x none f.0 f.1 f.2).1, f.3, f.4))
       ];
       counted = λ d k of. elim (cases_eq k page) [
@@ -127,6 +139,7 @@ module _ (p : Paging) (ok : IsPaging p) (m : Held) (old new : Tables) (tell : Te
             let after = ap used_in g.after ∙ count-set g.before slot g.free in
             let all : objects_on p (insert m h x) c page ≡ used_in (slots_on new page) = omega arith in
             ap (λ d. objects_on p (insert m h x) d k) is_d ∙ ap (objects_on p (insert m h x) c) is ∙ all ∙ sym (ap (λ k. used_in (slots_on new k)) is))
-        | inr ne ↦ objects_on-elsewhere p m h x none d k (inl (λ e. ne (sym e ∙ on))) ∙ o.counted d k (was_of old new k d (g.others k ne) of) ∙ sym (ap used_in (g.others k ne).slots)
+        | inr ne ↦ objects_on-elsewhere p m h x none d k (inl (λ e. ne (sym e ∙ on))) ∙ o.counted d k (was_of old new k d (g.others k ne) of)
+            ∙ sym (ap used_in (g.others k ne).slots)
       ];
     }

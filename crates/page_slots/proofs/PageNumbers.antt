@@ -16,9 +16,9 @@ use Rattle.page_model.specs.Arrangement.{objects_on, standing_on, home_pages, no
 use Rattle.page_model.proofs.Counting.{part_full, less_counts as lt_yes, not_less_counts_none as lt_no, on_page, stands_here}
 use Rattle.page_model.proofs.Totals.{sum_same, sum_plus}
 use Rattle.page_model.proofs.Lacking.{used_is}
-use Rattle.page_slots.specs.Tables.{Tables, HasUsed, IsOf, IsPageOf, slots_on, used_in}
-use Rattle.page_slots.specs.Occupying.{Occupies, Tell, class_table}
-use Rattle.page_slots.proofs.Pages.{placed_in, listed_page, list_of, free_page}
+use Rattle.page_slots.specs.Tables.{Tables, HasUsed, IsOf, IsPageOf, IsWhole, slots_on, used_in}
+use Rattle.page_slots.specs.Occupying.{Occupies, TellPart, class_table}
+use Rattle.page_slots.proofs.Pages.{placed_in, listed_page, list_of, free_page, taken_page}
 use Rattle.page_slots.proofs.Counted.{any_contains, contains_no, count_both, count_members, no_repeats}
 use Rattle.page_slots.proofs.Occupied.{free_bare, none_counts}
 
@@ -31,7 +31,7 @@ part_not n s all = (let b : nat_lt n s ≡ false = grind (arith, nat_tests) in r
 part_none : (n s : ℕ) → n ≡ 0 → part_full n s ≡ false
 part_none n s e = rw e refl
 
-module _ (p : Paging) (ok : IsPaging p) (m : Held) (t : Tables) (tell : Tell p t) (o : Occupies p m t) where
+module _ (p : Paging) (ok : IsPaging p) (m : Held) (t : Tables) (tell : TellPart p t) (o : Occupies p m t) where
   listed : (c page : ℕ) (w : Which) → Contains (pages_in t.lists c w) page → IsPageOf (class_table p) t page c w
   listed c page w h = placed_in (class_table p) t tell.tables c page w h
 
@@ -96,7 +96,9 @@ module _ (p : Paging) (ok : IsPaging p) (m : Held) (t : Tables) (tell : Tell p t
             let u = ap one a in let v = ap one b in omega arith
 
   below : (c : ℕ) (w : Which) (page : ℕ) → is_in_pool (pages_in t.lists c w) page ≡ true → page < p.pages
-  below c w page is = (let lt = listed_page (class_table p) t tell.tables c page w (any_contains page (pages_in t.lists c w) is) in let e = tell.pages in omega arith)
+  below c w page is =
+      let lt = listed_page (class_table p) t tell.tables c page w (any_contains page (pages_in t.lists c w) is) in
+      let e = tell.pages in omega arith
 
   members : (c : ℕ) (w : Which) → count_by (is_in_pool (pages_in t.lists c w)) (range_with_len 0 p.pages) ≡ length (pages_in t.lists c w)
   members c w = count_members p.pages (pages_in t.lists c w) (no_repeats (pages_in t.lists c w) (tell.tables.lists.distinct c w)) (below c w)
@@ -105,57 +107,61 @@ module _ (p : Paging) (ok : IsPaging p) (m : Held) (t : Tables) (tell : Tell p t
   pub not_full_pages_are : (c : ℕ) → not_full_pages p m c ≡ length (pages_in t.lists c NotFull)
   unfolding not_full_pages
   not_full_pages_are c =
-      count_same (λ page. part_full (objects_on p m c page) (slots_of p c)) (is_in_pool (pages_in t.lists c NotFull)) 0 p.pages (λ page _. same_part c page) ∙ members c NotFull
+      count_same (λ page. part_full (objects_on p m c page) (slots_of p c)) (is_in_pool (pages_in t.lists c NotFull)) 0 p.pages
+      (λ page _. same_part c page) ∙ members c NotFull
 
   -- the pages of a class are those of its two lists
   pub home_pages_are : (c : ℕ) → home_pages p m c ≡ length (pages_in t.lists c Full) + length (pages_in t.lists c NotFull)
   unfolding home_pages
   home_pages_are c =
-      let e = sum_same (λ page. one (nat_lt 0 (objects_on p m c page))) (λ page. one (is_in_pool (pages_in t.lists c Full) page) + one (is_in_pool (pages_in t.lists c NotFull) page)) (range_with_len 0 p.pages) (split c) in
-      let f = sum_plus (λ page. one (is_in_pool (pages_in t.lists c Full) page)) (λ page. one (is_in_pool (pages_in t.lists c NotFull) page)) (range_with_len 0 p.pages) in
+      let e = sum_same (λ page. one (nat_lt 0 (objects_on p m c page)))
+      (λ page. one (is_in_pool (pages_in t.lists c Full) page) + one (is_in_pool (pages_in t.lists c NotFull) page)) (range_with_len 0 p.pages) (split c) in
+      let f = sum_plus (λ page. one (is_in_pool (pages_in t.lists c Full) page)) (λ page. one (is_in_pool (pages_in t.lists c NotFull) page))
+      (range_with_len 0 p.pages) in
       let a = members c Full in
       let b = members c NotFull in
       omega arith
 
-  -- something stands on each page that isn't free
-  pub taken_stands : (page : ℕ) → page < p.pages → is_in_pool t.pool.free page ≡ false → 0 < standing_on p m page
-  taken_stands page lt not_free = elim (tell.tables.placed page (let e = tell.pages in omega arith)) [
-    | inl f ↦ absurd (true≢false (sym f.free ∙ not_free))
-    | inr (c, w, q) ↦ (
+  -- Where no page is elsewhere:
+  module _ (whole : IsWhole t) where
+    -- something stands on each page that isn't free
+    pub taken_stands : (page : ℕ) → page < p.pages → is_in_pool t.pool.free page ≡ false → 0 < standing_on p m page
+    taken_stands page lt not_free =
+        let (c, w, q) = taken_page (class_table p) t tell.tables whole page (let e = tell.pages in omega arith) not_free in
         let n = counts c page w q.listed in
         let some = used_there w _ _ q.fills q.some in
         let f = on_page p m c page (omega arith) in
-        subst (λ g. 0 < standing_on p m g) f.3 (stands_here p m f.0 f.1 f.2))
-  ]
-    where
-      used_there : (w : Which) (n s : ℕ) → HasUsed w n s → 0 < s → 0 < n
-      used_there Full n s e some = omega arith
-      used_there NotFull n s f some = f.0
+        subst (λ g. 0 < standing_on p m g) f.3 (stands_here p m f.0 f.1 f.2)
+      where
+        used_there : (w : Which) (n s : ℕ) → HasUsed w n s → 0 < s → 0 < n
+        used_there Full n s e some = omega arith
+        used_there NotFull n s f some = f.0
 
-  -- on a free page nothing stands
-  free_or_taken : (page : ℕ) → page < p.pages → one (nat_lt 0 (standing_on p m page)) + one (is_in_pool t.pool.free page) ≡ 1
-  free_or_taken page lt = by_test (is_in_pool t.pool.free page) refl
-    where
-      by_test : (b : Bool) → is_in_pool t.pool.free page ≡ b → one (nat_lt 0 (standing_on p m page)) + one (is_in_pool t.pool.free page) ≡ 1
-      by_test true e =
-          let z = free_bare p ok t tell m o page (free_page (class_table p) t tell.tables page (let f = tell.pages in omega arith) e) in
-          let y = lt_no 0 (standing_on p m page) (omega arith) in let u = ap one e in omega arith
-      by_test false e = (let y = lt_yes 0 (standing_on p m page) (taken_stands page lt e) in let u = ap one e in omega arith)
+    -- on a free page nothing stands
+    free_or_taken : (page : ℕ) → page < p.pages → one (nat_lt 0 (standing_on p m page)) + one (is_in_pool t.pool.free page) ≡ 1
+    free_or_taken page lt = by_test (is_in_pool t.pool.free page) refl
+      where
+        by_test : (b : Bool) → is_in_pool t.pool.free page ≡ b → one (nat_lt 0 (standing_on p m page)) + one (is_in_pool t.pool.free page) ≡ 1
+        by_test true e =
+            let z = free_bare p ok t tell m o page (free_page (class_table p) t tell.tables page (let f = tell.pages in omega arith) e) in
+            let y = lt_no 0 (standing_on p m page) (omega arith) in let u = ap one e in omega arith
+        by_test false e = (let y = lt_yes 0 (standing_on p m page) (taken_stands page lt e) in let u = ap one e in omega arith)
 
-  -- the pages that are not in use are those of the pool
-  pub pages_are : IsSound p m → used_pages p m + length t.pool.free ≡ p.pages
-  pages_are s =
-      let used = used_is p m s in
-      let free = count_members p.pages t.pool.free tell.tables.pool.distinct (λ page is. (let lt = tell.tables.pool.below page is in let e = tell.pages in omega arith)) in
-      let all = count_both (λ page. nat_lt 0 (standing_on p m page)) (is_in_pool t.pool.free) 0 p.pages (λ page _ lt. free_or_taken page (omega arith)) in
-      omega arith
+    -- the pages that are not in use are those of the pool
+    pub pages_are : IsSound p m → used_pages p m + length t.pool.free ≡ p.pages
+    pages_are s =
+        let used = used_is p m s in
+        let free = count_members p.pages t.pool.free tell.tables.pool.distinct
+        (λ page is. (let lt = tell.tables.pool.below page is in let e = tell.pages in omega arith)) in
+        let all = count_both (λ page. nat_lt 0 (standing_on p m page)) (is_in_pool t.pool.free) 0 p.pages (λ page _ lt. free_or_taken page (omega arith)) in
+        omega arith
 
-  pub free_pages_are : IsSound p m → free_pages p m ≡ length t.pool.free
-  free_pages_are s = (let e = pages_are s in omega arith)
+    pub free_pages_are : IsSound p m → free_pages p m ≡ length t.pool.free
+    free_pages_are s = (let e = pages_are s in omega arith)
 
-  -- no room: no page of the class is not full, and the pool is empty
-  pub lacks_room : (c : ℕ) → pages_in t.lists c NotFull ≡ [] → t.pool.free ≡ [] → LacksRoom p m c
-  lacks_room c none empty = record {
-    full = not_full_pages_are c ∙ ap length none;
-    taken = λ page lt. taken_stands page lt (ap (λ free. is_in_pool free page) empty);
-  }
+    -- no room: no page of the class is not full, and the pool is empty
+    pub lacks_room : (c : ℕ) → pages_in t.lists c NotFull ≡ [] → t.pool.free ≡ [] → LacksRoom p m c
+    lacks_room c none empty = record {
+      full = not_full_pages_are c ∙ ap length none;
+      taken = λ page lt. taken_stands page lt (ap (λ free. is_in_pool free page) empty);
+    }

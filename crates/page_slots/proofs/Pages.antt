@@ -1,5 +1,5 @@
 -- What the tables say of one page, and what a change of another page leaves of it.
-use Rattle.std.proofs.Common.{◌≡◌, ◌≢◌, ℕ, Bool, true, false, ◌<◌, ◌≤◌, List, [], ◌∷◌, length, get_or, set, arith, sym, ◌∙◌, ap, subst, inl, inr, eqb}
+use Rattle.std.proofs.Common.{◌≡◌, ◌≢◌, ℕ, Bool, true, false, ◌<◌, ◌≤◌, List, [], ◌∷◌, length, get_or, set, arith, refl, sym, ◌∙◌, ap, subst, inl, inr, eqb}
 use Rattle.std.specs.List.{Contains}
 use Rattle.std.proofs.lemmas.Bool.{cases_eq, true≢false, ne_eqb}
 use Rattle.std.proofs.lemmas.List.{get_or-set_same, get_or-set_other, length-set}
@@ -9,7 +9,7 @@ use Rattle.class_lists.specs.declared.Which.{Which}
 use Rattle.class_lists.specs.declared.Which.TheVariants.{Full, NotFull}
 use Rattle.class_lists.specs.PageLists.{AreApart, pages_in}
 use Rattle.page_pool.specs.Pool.{IsPool, is_in_pool}
-use Rattle.page_slots.specs.Tables.{Tables, AreTables, IsOf, IsPlaced, IsPageOf, IsFreePage, slots_in, slots_on}
+use Rattle.page_slots.specs.Tables.{Tables, AreTables, IsOf, IsPlaced, IsPageOf, IsFreePage, IsElsewhere, IsWhole, KeepsElsewhere, slots_in, slots_on}
 
 -- a page is as it was
 pub record IsSame (old new : Tables) (g : ℕ) : Type 0 where
@@ -26,11 +26,57 @@ pub was_of : (old new : Tables) (g d : ℕ) → IsSame old new g → IsOf new d 
 was_of old new g d s (inl h) = inl (s.stays d Full h)
 was_of old new g d s (inr h) = inr (s.stays d NotFull h)
 
+pub same_elsewhere : (old new : Tables) (g : ℕ) → IsSame old new g → IsElsewhere old g → IsElsewhere new g
+same_elsewhere old new g s e = record { taken = s.free ∙ e.taken; unlisted = λ d v h. e.unlisted d v (s.stays d v h) }
+
+pub was_elsewhere : (old new : Tables) (g : ℕ) → IsSame old new g → IsElsewhere new g → IsElsewhere old g
+was_elsewhere old new g s e = record { taken = sym s.free ∙ e.taken; unlisted = λ d v h. e.unlisted d v (s.comes d v h) }
+
+pub keeps_all : (t : Tables) → KeepsElsewhere t t
+keeps_all t = record { still = λ _ e. e; slots = λ _ _. refl }
+
+-- where one page changed that wasn't elsewhere, those elsewhere stay
+pub keeps_elsewhere : (old new : Tables) (page : ℕ) → ¬ IsElsewhere old page → ((g : ℕ) → g ≢ page → IsSame old new g) → KeepsElsewhere old new
+keeps_elsewhere old new page there others = record {
+  still = λ g e. same_elsewhere old new g (others g (other g e)) e;
+  slots = λ g e. (others g (other g e)).slots;
+}
+  where
+    other : (g : ℕ) → IsElsewhere old g → g ≢ page
+    other g e is = there (subst (IsElsewhere old) is e)
+
+-- where nothing is elsewhere, and the one page that changed isn't, nothing is elsewhere after
+pub still_whole : (old new : Tables) (page : ℕ) → new.pool.pages ≡ old.pool.pages → ¬ IsElsewhere new page → ((g : ℕ) → g ≢ page → IsSame old new g)
+    → IsWhole old → IsWhole new
+still_whole old new page pages there others whole g lt e = elim (cases_eq g page) [
+  | inl is ↦ there (subst (IsElsewhere new) is e)
+  | inr ne ↦ whole g (omega arith) (was_elsewhere old new g (others g ne) e)
+]
+
+-- a page that is free, or one of a class, isn't elsewhere
+pub free_not_elsewhere : (t : Tables) (page : ℕ) → IsFreePage t page → ¬ IsElsewhere t page
+free_not_elsewhere t page f e = true≢false (sym f.free ∙ e.taken)
+
+pub of_not_elsewhere : (t : Tables) (c page : ℕ) → IsOf t c page → ¬ IsElsewhere t page
+of_not_elsewhere t c page (inl h) e = e.unlisted c Full h
+of_not_elsewhere t c page (inr h) e = e.unlisted c NotFull h
+
 pub same_placed : (k : ClassTable) (old new : Tables) (g : ℕ) → IsSame old new g → IsPlaced k old g → IsPlaced k new g
 same_placed k old new g s (inl f) = inl (record { free = s.free ∙ f.free; unlisted = λ d v h. f.unlisted d v (s.stays d v h) })
-same_placed k old new g s (inr (c, w, p)) =
+same_placed k old new g s (inr (inl e)) = inr (inl (same_elsewhere old new g s e))
+same_placed k old new g s (inr (inr (c, w, p))) =
     let e = sym s.slots in
-    inr (c, w, record { taken = s.free ∙ p.taken; listed = s.comes c w p.listed; slots = ap length s.slots ∙ p.slots; some = p.some; fills = rw s.slots p.fills })
+    inr (inr (
+      c,
+      w,
+      record {
+        taken = s.free ∙ p.taken;
+        listed = s.comes c w p.listed;
+        slots = ap length s.slots ∙ p.slots;
+        some = p.some;
+        fills = rw s.slots p.fills;
+      },
+    ))
 
 -- the pool without or with one page more answers alike for all others
 pub other_free : (free : List ℕ) (page g : ℕ) → g ≢ page → is_in_pool (page ∷ free) g ≡ is_in_pool free g
@@ -58,7 +104,8 @@ module _ (k : ClassTable) (t : Tables) (a : AreTables k t) where
   pub placed_in : (c page : ℕ) (w : Which) → Contains (pages_in t.lists c w) page → IsPageOf k t page c w
   placed_in c page w h = elim (a.placed page (listed_page c page w h)) [
     | inl f ↦ absurd (f.unlisted c w h)
-    | inr (d, v, p) ↦ (
+    | inr (inl e) ↦ absurd (e.unlisted c w h)
+    | inr (inr (d, v, p)) ↦ (
         let o = a.lists.once d c v w page p.listed h in
         subst (λ w. IsPageOf k t page c w) o.1 (subst (λ c. IsPageOf k t page c v) o.0 p))
   ]
@@ -80,20 +127,23 @@ module _ (k : ClassTable) (t : Tables) (a : AreTables k t) where
   pub free_page : (page : ℕ) → page < t.pool.pages → is_in_pool t.pool.free page ≡ true → IsFreePage t page
   free_page page lt is = elim (a.placed page lt) [
     | inl f ↦ f
-    | inr (c, w, p) ↦ absurd (true≢false (sym is ∙ p.taken))
+    | inr (inl e) ↦ absurd (true≢false (sym is ∙ e.taken))
+    | inr (inr (c, w, p)) ↦ absurd (true≢false (sym is ∙ p.taken))
   ]
 
-  pub taken_page : (page : ℕ) → page < t.pool.pages → is_in_pool t.pool.free page ≡ false → (c : ℕ) × (w : Which) × IsPageOf k t page c w
-  taken_page page lt is = elim (a.placed page lt) [
+  pub taken_page : IsWhole t → (page : ℕ) → page < t.pool.pages → is_in_pool t.pool.free page ≡ false → (c : ℕ) × (w : Which) × IsPageOf k t page c w
+  taken_page whole page lt is = elim (a.placed page lt) [
     | inl f ↦ absurd (true≢false (sym f.free ∙ is))
-    | inr p ↦ p
+    | inr (inl e) ↦ absurd (whole page lt e)
+    | inr (inr p) ↦ p
   ]
 
   pub some_slots : (c : ℕ) → c < length k.sizes → (1 ≤ slots_in k c) × (slots_in k c ≤ 4096)
   some_slots c lt = slots_within k.page_words k.sizes c a.table.are_sizes a.table.small lt
 
 -- the tables after one page has changed
-pub tables_after : (k : ClassTable) (old new : Tables) (page : ℕ) → AreTables k old → length new.maps ≡ length old.maps → new.lists.pages ≡ old.lists.pages → new.lists.classes ≡ old.lists.classes
+pub tables_after : (k : ClassTable) (old new : Tables) (page : ℕ) → AreTables k old → length new.maps ≡ length old.maps
+    → new.lists.pages ≡ old.lists.pages → new.lists.classes ≡ old.lists.classes
     → new.pool.pages ≡ old.pool.pages → IsPool new.pool → AreApart new.lists → ((g : ℕ) → g ≢ page → IsSame old new g) → IsPlaced k new page → AreTables k new
 tables_after k old new page a maps pages classes pool is_pool apart others here = record {
   table = a.table;

@@ -1,8 +1,9 @@
 -- The tables of a heap without objects: all pages are free.
-use Rattle.std.proofs.Common.{◌≡◌, ℕ, zero, suc, Bool, true, ◌+◌, ◌*◌, ◌^◌, ◌<◌, ◌≤◌, List, [], ◌∷◌, length, replicate, Some, None, arith, refl, sym, ◌∙◌, ap, subst, inl, inr}
+use Rattle.std.proofs.Common.{◌≡◌, ℕ, zero, suc, Bool, true, ◌+◌, ◌*◌, ◌^◌, ◌<◌, ◌≤◌, List, [], ◌∷◌, length, replicate, Some, None, arith, refl, sym, ◌∙◌, ap}
+use Rattle.std.proofs.Common.{subst, inl, inr}
 use Rattle.std.specs.Prelude.{IsTrue, nat_eq}
 use Rattle.std.specs.List.{Contains, IsDistinct, range_with_len}
-use Rattle.std.proofs.lemmas.Bool.{cases_eq, cases_lt}
+use Rattle.std.proofs.lemmas.Bool.{cases_eq, cases_lt, true≢false}
 use Rattle.std.proofs.lemmas.List.{get_or-replicate, get_or_past, length-replicate}
 use Rattle.std.specs.Ordering.{nat_cmp}
 use Rattle.std.specs.FinMap.{get, empty, get-empty}
@@ -19,7 +20,7 @@ use Rattle.page_pool.specs.Pool.{Pool, is_in_pool}
 use Rattle.page_pool.proofs.CallerLemmas.{pooled_range}
 use Rattle.page_model.specs.Held.{Placed}
 use Rattle.page_model.specs.Paging.{Paging}
-use Rattle.page_slots.specs.Tables.{AreTables, IsOf, tables}
+use Rattle.page_slots.specs.Tables.{AreTables, IsOf, IsWhole, tables}
 use Rattle.page_slots.specs.Occupying.{Occupies}
 use Rattle.page_slots.proofs.Listing.{along}
 use Rattle.page_slots.proofs.Pages.{other_free}
@@ -61,7 +62,8 @@ module _ (classes pages : ℕ) where
   none_of maps pool c page (inr h) = none_listed c NotFull page h
 
   -- the tables at the start, whatever the maps of the free pages are
-  pub first_tables : (k : ClassTable) (maps : List (List Bool)) → IsClassTable k.page_words k.sizes → pages * k.page_words < 2 ^ 32 → length maps ≡ pages → classes ≡ length k.sizes
+  pub first_tables : (k : ClassTable) (maps : List (List Bool)) → IsClassTable k.page_words k.sizes → pages * k.page_words < 2 ^ 32
+      → length maps ≡ pages → classes ≡ length k.sizes
       → AreTables k (tables maps (empty_lists classes pages) (record { pages = pages; free = range_with_len 0 pages }))
   first_tables k maps table small long all = record {
     table = table;
@@ -73,6 +75,9 @@ module _ (classes pages : ℕ) where
     lists = apart;
     placed = λ page lt. inl (record { free = range_has 0 pages page (omega arith) (omega arith); unlisted = λ c w. none_listed c w page });
   }
+
+  pub first_whole : (maps : List (List Bool)) → IsWhole (tables maps (empty_lists classes pages) (record { pages = pages; free = range_with_len 0 pages }))
+  first_whole maps page lt e = true≢false (sym (range_has 0 pages page (omega arith) (omega arith)) ∙ e.taken)
 
   -- no object stands there
   pub first_occupied : (p : Paging) (maps : List (List Bool)) (pool : Pool) → Occupies p empty (tables maps (empty_lists classes pages) pool)

@@ -10,10 +10,12 @@ use Rattle.class_lists.specs.declared.Which.{Which}
 use Rattle.class_lists.specs.declared.Which.TheVariants.{Full, NotFull}
 use Rattle.class_lists.specs.PageLists.{PageLists, AreApart, pages_in}
 use Rattle.page_pool.specs.Pool.{Pool, IsPool, is_in_pool}
-use Rattle.page_slots.specs.Tables.{Tables, AreTables, IsOf, IsPlaced, IsPageOf, IsFreePage, slots_in, slots_on, used_in}
+use Rattle.page_slots.specs.Tables.{Tables, AreTables, IsOf, IsPlaced, IsPageOf, IsFreePage, IsElsewhere, IsWhole, KeepsElsewhere, slots_in, slots_on, used_in}
 use Rattle.page_slots.specs.Freeing.{Vacates}
-use Rattle.page_slots.proofs.Listing.{along, joined_here, joined_comes, joined_stays, joined_pages, joined_classes, left_comes, left_stays, left_pages, left_classes, left_unlisted}
-use Rattle.page_slots.proofs.Pages.{IsSame, other_free, map_here, map_there, maps_long, placed_in, listed_page, list_of, tables_after}
+use Rattle.page_slots.proofs.Listing.{along, joined_here, joined_comes, joined_stays, joined_pages, joined_classes, left_comes, left_stays, left_pages}
+use Rattle.page_slots.proofs.Listing.{left_classes, left_unlisted}
+use Rattle.page_slots.proofs.Pages.{IsSame, other_free, map_here, map_there, maps_long, placed_in, listed_page, list_of, free_not_elsewhere, of_not_elsewhere}
+use Rattle.page_slots.proofs.Pages.{keeps_elsewhere, still_whole, tables_after}
 use Rattle.page_slots.proofs.TablesAfterTake.{free_head}
 
 -- What a slot that becomes free changes: its page, on which the other slots stay; it is of the class still, or free and empty.
@@ -26,7 +28,22 @@ pub record Loses (k : ClassTable) (old new : Tables) (c page slot : ℕ) : Type 
   pub pages : new.pool.pages ≡ old.pool.pages
   pub kept : AreTables k new
 
-module _ (k : ClassTable) (old : Tables) (a : AreTables k old) (c page slot : ℕ) (new : Tables) (v : Vacates old c page slot new) (apart : AreApart new.lists) (pool : IsPool new.pool) where
+-- the page was not with another owner, nor is it
+module _ (k : ClassTable) (old new : Tables) (c page slot : ℕ) (l : Loses k old new c page slot) where
+  pub loses_others : KeepsElsewhere old new
+  loses_others = keeps_elsewhere old new page (of_not_elsewhere old c page l.of) l.others
+
+  pub loses_whole : IsWhole old → IsWhole new
+  loses_whole = still_whole old new page l.pages there l.others
+    where
+      there : ¬ IsElsewhere new page
+      there = elim l.now [
+        | inl of ↦ of_not_elsewhere new c page of
+        | inr (f, _) ↦ free_not_elsewhere new page f
+      ]
+
+module _ (k : ClassTable) (old : Tables) (a : AreTables k old) (c page slot : ℕ) (new : Tables) (v : Vacates old c page slot new)
+    (apart : AreApart new.lists) (pool : IsPool new.pool) where
   was : IsPageOf k old page c v.which
   was = placed_in k old a c page v.which v.listed
 
@@ -137,7 +154,7 @@ module _ (k : ClassTable) (old : Tables) (a : AreTables k old) (c page slot : �
   placed : IsPlaced k new page
   placed = elim left.here [
     | inl f ↦ inl f.0
-    | inr (w, p) ↦ inr (c, w, p)
+    | inr (w, p) ↦ inr (inr (c, w, p))
   ]
 
   kept : AreTables k new

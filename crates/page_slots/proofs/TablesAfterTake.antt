@@ -1,5 +1,6 @@
 -- The tables after a slot was taken.
-use Rattle.std.proofs.Common.{◌≡◌, ◌≢◌, ℕ, zero, suc, Bool, true, false, ◌+◌, ◌<◌, ◌≤◌, List, [], ◌∷◌, length, set, replicate, Some, arith, refl, sym, ◌∙◌, ap, subst, inl, inr}
+use Rattle.std.proofs.Common.{◌≡◌, ◌≢◌, ℕ, zero, suc, Bool, true, false, ◌+◌, ◌<◌, ◌≤◌, List, [], ◌∷◌, length, set, replicate, Some, arith, refl, sym, ◌∙◌, ap}
+use Rattle.std.proofs.Common.{subst, inl, inr}
 use Rattle.std.specs.Prelude.{◌⊎◌, slice_get}
 use Rattle.std.specs.List.{Contains}
 use Rattle.std.proofs.lemmas.Bool.{cases_eq, eq-eqb}
@@ -13,15 +14,18 @@ use Rattle.class_lists.specs.PageLists.{PageLists, AreApart, pages_in}
 use Rattle.class_lists.proofs.Members.{contains_head}
 use Rattle.page_pool.specs.Pool.{Pool, IsPool, TakesFront, is_in_pool}
 use Rattle.page_pool.proofs.CallerLemmas.{front_gone, front_below}
-use Rattle.page_slots.specs.Tables.{Tables, AreTables, IsOf, IsPageOf, IsFreePage, JoinsList, slots_in, slots_on, used_in}
-use Rattle.page_slots.specs.Taking.{FillsPage, TakesOnOpenPage, TakesOnFreePage}
-use Rattle.page_slots.proofs.Listing.{along, joined_here, joined_comes, joined_stays, joined_pages, joined_classes, left_comes, left_stays, left_pages, left_classes}
-use Rattle.page_slots.proofs.Pages.{IsSame, other_free, map_here, map_there, maps_long, placed_in, listed_page, list_of, free_page, some_slots, tables_after}
+use Rattle.page_slots.specs.Tables.{Tables, AreTables, IsOf, IsPageOf, IsFreePage, IsElsewhere, JoinsList, IsWhole, KeepsElsewhere, slots_in, slots_on, used_in}
+use Rattle.page_slots.specs.Taking.{FillsPage, TakesAt, TakesOnOpenPage, TakesOnFreePage}
+use Rattle.page_slots.proofs.Listing.{along, joined_here, joined_comes, joined_stays, joined_pages, joined_classes, left_comes, left_stays, left_pages}
+use Rattle.page_slots.proofs.Listing.{left_classes}
+use Rattle.page_slots.proofs.Pages.{IsSame, other_free, map_here, map_there, maps_long, placed_in, listed_page, list_of, free_page, some_slots}
+use Rattle.page_slots.proofs.Pages.{free_not_elsewhere, of_not_elsewhere, keeps_elsewhere, still_whole, tables_after}
 
 -- the front of a list stands in it
 pub front_listed : (xs : List ℕ) (page : ℕ) → slice_get xs 0 ≡ Some page → Contains xs page
 front_listed [] page e = absurd (let lt = slice_get_within [] 0 page e in omega arith)
-front_listed (x ∷ xs) page e = (let same : Some x ≡ Some page = e in let is : x ≡ page = cc in along page _ _ (ap (λ y. y ∷ xs) (sym is)) (contains_head page xs))
+front_listed (x ∷ xs) page e =
+    (let same : Some x ≡ Some page = e in let is : x ≡ page = cc in along page _ _ (ap (λ y. y ∷ xs) (sym is)) (contains_head page xs))
 
 pub free_head : (page : ℕ) (free : List ℕ) → is_in_pool (page ∷ free) page ≡ true
 free_head page free = (let e = eq-eqb page page refl in rw e)
@@ -31,7 +35,8 @@ first_of zero h = absurd (omega arith)
 first_of (suc n) h = refl
 
 -- the front page of the pool is one of the pages, and of no class
-pub pool_front : (k : ClassTable) (t : Tables) → AreTables k t → (page : ℕ) (pool : Pool) → TakesFront t.pool (Some page) pool → (page < t.pool.pages) × IsFreePage t page
+pub pool_front : (k : ClassTable) (t : Tables) → AreTables k t → (page : ℕ) (pool : Pool) → TakesFront t.pool (Some page) pool → (page < t.pool.pages)
+    × IsFreePage t page
 pool_front k t a page pool f =
     let P : List ℕ → Type 0 = λ free. IsPool (record { pages = t.pool.pages; free = free }) in
     let inside = front_below t.pool.pages page pool.free (subst P f.0 a.pool) in
@@ -41,7 +46,8 @@ pool_front k t a page pool f =
 pub record Gains (k : ClassTable) (old new : Tables) (c page slot : ℕ) : Type 0 where
   pub others : (g : ℕ) → g ≢ page → IsSame old new g
   pub before : List Bool
-  pub was : (Contains (pages_in old.lists c NotFull) page × (before ≡ slots_on old page)) ⊎ (IsFreePage old page × (pages_in old.lists c NotFull ≡ []) × (before ≡ replicate (slots_in k c) false))
+  pub was : (Contains (pages_in old.lists c NotFull) page × (before ≡ slots_on old page))
+      ⊎ (IsFreePage old page × (pages_in old.lists c NotFull ≡ []) × (before ≡ replicate (slots_in k c) false))
   pub free : slice_get before slot ≡ Some false
   pub after : slots_on new page ≡ set before slot true
   pub of : IsOf new c page
@@ -50,6 +56,20 @@ pub record Gains (k : ClassTable) (old new : Tables) (c page slot : ℕ) : Type 
   pub class : c < length k.sizes
   pub pages : new.pool.pages ≡ old.pool.pages
   pub kept : AreTables k new
+
+-- the page was not with another owner, nor is it
+module _ (k : ClassTable) (old new : Tables) (c page slot : ℕ) (g : Gains k old new c page slot) where
+  pub gains_others : KeepsElsewhere old new
+  gains_others = keeps_elsewhere old new page was g.others
+    where
+      was : ¬ IsElsewhere old page
+      was = elim g.was [
+        | inl (there, _) ↦ of_not_elsewhere old c page (inr there)
+        | inr (f, _, _) ↦ free_not_elsewhere old page f
+      ]
+
+  pub gains_whole : IsWhole old → IsWhole new
+  gains_whole = still_whole old new page g.pages (of_not_elsewhere new c page g.of) g.others
 
 module _ (k : ClassTable) (old : Tables) (a : AreTables k old) (c page : ℕ) (new : Tables) (apart : AreApart new.lists) where
   -- on a page that is not full
@@ -140,7 +160,8 @@ module _ (k : ClassTable) (old : Tables) (a : AreTables k old) (c page : ℕ) (n
     }
       where
         kept : AreTables k new
-        kept = tables_after k old new page a (maps_long old.maps new.maps page _ t.maps) listed.pages listed.classes (ap (λ (p : Pool). p.pages) t.pool) pool apart same (inr (c, listed.which, listed.here))
+        kept = tables_after k old new page a (maps_long old.maps new.maps page _ t.maps) listed.pages listed.classes (ap (λ (p : Pool). p.pages) t.pool)
+            pool apart same (inr (inr (c, listed.which, listed.here)))
 
   -- on a page of the pool
   module _ (class : c < length k.sizes) (t : TakesOnFreePage k old c page new) where
@@ -190,7 +211,11 @@ module _ (k : ClassTable) (old : Tables) (a : AreTables k old) (c page : ℕ) (n
 
     joined_free : Joined
     joined_free = elim (cases_eq (slots_in k c) 1) [
-      | inl is ↦ record { which = Full; joins = t.filled is; here = record { taken = gone; listed = joined_here _ c Full page _ (t.filled is); slots = long_free; some = some; fills = used_one ∙ sym is } }
+      | inl is ↦ record {
+        which = Full;
+        joins = t.filled is;
+        here = record { taken = gone; listed = joined_here _ c Full page _ (t.filled is); slots = long_free; some = some; fills = used_one ∙ sym is };
+      }
       | inr ne ↦ record {
         which = NotFull;
         joins = t.not_filled ne;
@@ -228,4 +253,17 @@ module _ (k : ClassTable) (old : Tables) (a : AreTables k old) (c page : ℕ) (n
     }
       where
         kept : AreTables k new
-        kept = tables_after k old new page a (maps_long old.maps new.maps page _ t.maps) (joined_pages _ c joined_free.which page _ joined_free.joins) (joined_classes _ c joined_free.which page _ joined_free.joins) t.front.1 pool apart same_free (inr (c, joined_free.which, joined_free.here))
+        kept = tables_after k old new page a (maps_long old.maps new.maps page _ t.maps) (joined_pages _ c joined_free.which page _ joined_free.joins)
+            (joined_classes _ c joined_free.which page _ joined_free.joins) t.front.1 pool apart same_free (inr (inr (c, joined_free.which, joined_free.here)))
+
+-- whichever slot was taken
+module _ (k : ClassTable) (old : Tables) (a : AreTables k old) (c : ℕ) (class : c < length k.sizes) (place : ℕ) (new : Tables)
+    (t : TakesAt k old c place new) (apart : AreApart new.lists) (pool : IsPool new.pool) where
+  pub taken_gains : Gains k old new c t.page t.slot
+  taken_gains = elim t.taken [
+    | inl on ↦ gains_open k old a c t.page new apart t.slot on pool
+    | inr (first, on) ↦ subst (λ s. Gains k old new c t.page s) (sym first) (gains_free k old a c t.page new apart class on pool)
+  ]
+
+  pub taken_others : KeepsElsewhere old new
+  taken_others = gains_others k old new c t.page t.slot taken_gains

@@ -1,5 +1,5 @@
 -- What it is to free a used slot.
-use Rattle.std.specs.Prelude.{◌≡◌, ◌≢◌, ℕ, Bool, true, false, ◌<◌, List, ◌∷◌, length, Some, slice_get, slice_set}
+use Rattle.std.specs.Prelude.{◌≡◌, ◌≢◌, ℕ, Bool, true, false, ◌<◌, List, [], ◌∷◌, length, Some, slice_get, slice_index_or, slice_set}
 use Rattle.std.specs.List.{Contains, position}
 use Rattle.size_classes.specs.Table.{ClassTable}
 use Rattle.class_lists.specs.declared.Which.{Which}
@@ -13,7 +13,8 @@ pub record OpensPage (old : PageLists) (c page : ℕ) (new : PageLists) : Type 0
   pub leaves : LeavesList old c Full page between
   pub joins : JoinsList between c NotFull page new
 
--- A used slot of a page of class c becomes free. A page that it leaves empty leaves its list and is the front page of the pool; one that was full becomes the front page of those that are not.
+-- A used slot of a page of class c becomes free. A page that it leaves empty leaves its list and is the front page of the pool; one that was full
+-- becomes the front page of those that are not.
 pub record Vacates (old : Tables) (c page slot : ℕ) (new : Tables) : Type 0 where
   pub which : Which
   pub listed : Contains (pages_in old.lists c which) page
@@ -25,7 +26,21 @@ pub record Vacates (old : Tables) (c page slot : ℕ) (new : Tables) : Type 0 wh
   pub still : used_in (slots_on new page) ≢ 0 → which ≡ NotFull → new.lists ≡ old.lists
   pub kept : used_in (slots_on new page) ≢ 0 → new.pool ≡ old.pool
 
--- the object that fills a freed slot: the one at the least used slot of the front page of class c that is not full; its slot becomes free
+-- the object at address a fills a freed slot of class c: its slot is the least used one of the front page of the class that is not full
+pub record IsFiller (k : ClassTable) (maps : List (List Bool)) (lists : PageLists) (c a : ℕ) : Type 0 where
+  pub page : ℕ
+  pub slot : ℕ
+  pub address : a ≡ address_in k c page slot
+  pub front : slice_get (pages_in lists c NotFull) 0 ≡ Some page
+  pub least : position (λ used. used) (slice_index_or maps page []) ≡ Some slot
+  pub used : slice_get (slice_index_or maps page []) slot ≡ Some true
+
+-- a slot of the page is used
+pub record HasUsedSlot (maps : List (List Bool)) (page : ℕ) : Type 0 where
+  pub within : page < length maps
+  pub some : 0 < used_in (slice_index_or maps page [])
+
+-- the object at address a fills a freed slot of class c, and its own slot becomes free
 pub record FillsFrom (k : ClassTable) (old : Tables) (c a : ℕ) (new : Tables) : Type 0 where
   pub page : ℕ
   pub slot : ℕ

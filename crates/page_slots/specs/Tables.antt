@@ -1,5 +1,6 @@
 -- The tables of pages: which slots of which pages are used.
-use Rattle.std.specs.Prelude.{◌≡◌, ℕ, Bool, true, false, ◌+◌, ◌*◌, ◌/◌, ◌%◌, ◌^◌, ◌<◌, ◌⊎◌, List, [], ◌∷◌, length, Some, count_by, slice_get, slice_index, slice_index_or}
+use Rattle.std.specs.Prelude.{◌≡◌, ℕ, Bool, true, false, ◌+◌, ◌*◌, ◌/◌, ◌%◌, ◌^◌, ◌<◌, ◌⊎◌, List, [], ◌∷◌, length, Some, count_by, slice_get, slice_index}
+use Rattle.std.specs.Prelude.{slice_index_or}
 use Rattle.std.specs.List.{Contains}
 use Rattle.cf_base.specs.Classes.{slots}
 use Rattle.size_classes.specs.Table.{ClassTable, IsClassTable}
@@ -67,11 +68,16 @@ pub record IsPageOf (k : ClassTable) (t : Tables) (page c : ℕ) (which : Which)
   pub some : 0 < slots_in k c
   pub fills : HasUsed which (used_in (slots_on t page)) (slots_in k c)
 
--- the page is free, or one of a class
-abbrev pub IsPlaced : ClassTable → Tables → ℕ → Type 0
-IsPlaced k t page = IsFreePage t page ⊎ ((c : ℕ) × (which : Which) × IsPageOf k t page c which)
+-- another owner has the page: it is neither free nor in a list
+pub record IsElsewhere (t : Tables) (page : ℕ) : Type 0 where
+  pub taken : is_in_pool t.pool.free page ≡ false
+  pub unlisted : IsUnlisted t.lists page
 
--- Each page has its slots and is in one place: free, or in one list of one class, full or neither full nor empty.
+-- the page is free, or elsewhere, or one of a class
+abbrev pub IsPlaced : ClassTable → Tables → ℕ → Type 0
+IsPlaced k t page = IsFreePage t page ⊎ (IsElsewhere t page ⊎ ((c : ℕ) × (which : Which) × IsPageOf k t page c which))
+
+-- Each page has its slots and is in one place: free, or with another owner, or in one list of one class, full or neither full nor empty.
 pub record AreTables (k : ClassTable) (t : Tables) : Type 0 where
   pub table : IsClassTable k.page_words k.sizes
   pub small : t.pool.pages * k.page_words < 2 ^ 32
@@ -81,6 +87,19 @@ pub record AreTables (k : ClassTable) (t : Tables) : Type 0 where
   pub pool : IsPool t.pool
   pub lists : AreApart t.lists
   pub placed : (page : ℕ) → page < t.pool.pages → IsPlaced k t page
+
+-- no page is elsewhere
+abbrev pub IsWhole : Tables → Type 0
+IsWhole t = (page : ℕ) → page < t.pool.pages → ¬ IsElsewhere t page
+
+-- pages that are elsewhere stay there, and their slots stay
+pub record KeepsElsewhere (old new : Tables) : Type 0 where
+  pub still : (page : ℕ) → IsElsewhere old page → IsElsewhere new page
+  pub slots : (page : ℕ) → IsElsewhere old page → slots_on new page ≡ slots_on old page
+
+-- lists of another owner, who shares the maps and the pool: each of its pages is elsewhere for these tables
+abbrev pub AreOthers : Tables → PageLists → Type 0
+AreOthers t others = (c page : ℕ) (which : Which) → Contains (pages_in others c which) page → IsElsewhere t page
 
 -- a page joins a list in front
 pub record JoinsList (old : PageLists) (c : ℕ) (which : Which) (page : ℕ) (new : PageLists) : Type 0 where

@@ -1,12 +1,12 @@
 //! A used slot becomes free.
-ghost use Rattle.std.specs.Prelude.{◌≡◌, ◌≢◌, ◌<◌, ◌≤◌, [], ◌↔◌, IsTrue, length, false, true, slice_get, slice_index_or};
-ghost use Rattle.std.specs.List.{Contains};
+ghost use Rattle.std.specs.Prelude.{◌≡◌, ◌≢◌, ℕ, ◌<◌, ◌≤◌, [], ◌↔◌, IsTrue, length, false, true, slice_get, slice_index_or};
+ghost use Rattle.std.specs.List.{Contains, position};
 ghost use Rattle.step_ledger.specs.Counting.{RoseAtMost, RoseBy};
 ghost use Rattle.class_lists.specs.PageLists.{AreApart, pages_in};
-ghost use Rattle.page_pool.specs.Pool.{IsPool, is_in_pool};
+ghost use Rattle.page_pool.specs.Pool.{IsPool, Pool, is_in_pool};
 ghost use Rattle.size_classes.specs.Table.{IsClassTable};
-ghost use Rattle.page_slots.specs.Tables.{AreTables, IsUsed, page_at, slot_at, tables, used_in};
-ghost use Rattle.page_slots.specs.Freeing.{FillsFrom, MovesObject, OpensPage, Vacates};
+ghost use Rattle.page_slots.specs.Tables.{AreTables, IsUsed, KeepsElsewhere, page_at, slot_at, tables, used_in};
+ghost use Rattle.page_slots.specs.Freeing.{FillsFrom, HasUsedSlot, IsFiller, MovesObject, OpensPage, Vacates};
 
 use crate::place::{address_of, page_of, slot_of};
 use class_lists::{ClassLists, Which};
@@ -54,6 +54,7 @@ pub fn drop_slot(
         (slot_at classes.now c at) }
     ensures freed { Vacates (tables maps.old lists.old pool.old) c (page_at classes.now at)
         (slot_at classes.now c at) (tables maps.new lists.new pool.new) }
+    ensures others { KeepsElsewhere (tables maps.old lists.old pool.old) (tables maps.new lists.new pool.new) }
     ensures kept { AreTables classes.now (tables maps.new lists.new pool.new) }
     ensures steps { RoseAtMost steps.old steps.new 18 }
 {
@@ -63,9 +64,27 @@ pub fn drop_slot(
     vacate(maps, lists, pool, c, which, page, slot, steps);
 }
 
-/// Answers the address of the object that fills a freed slot of class c, the one at the least used
-/// slot of the front page of the class that is not full. That slot becomes free, and the freed one
-/// stays used. A page that is left empty returns to the pool.
+/// Returns the address of the object that fills a freed slot of class c, the one at the least used
+/// slot of the front page of the class that is not full. Both slots stay used.
+pub fn filler(
+    classes: &Classes,
+    maps: &[SlotMap],
+    lists: &ClassLists,
+    c: u32,
+    steps: &mut Steps,
+) -> u32
+    requires tables { (pool : Pool) × AreTables classes.now (tables maps.now lists.now pool) }
+    requires class { c < length classes.now.sizes }
+    requires some { 1 ≤ length (pages_in lists.now c Which.NotFull) }
+    ensures filler { IsFiller classes.now maps.now lists.now c result }
+    ensures steps { RoseAtMost steps.old steps.new 9 }
+{
+    let (page, slot) = filling_slot(maps, lists, c, steps);
+    address_of(classes, c, page, slot)
+}
+
+/// Returns the address of the object that fills a freed slot of class c, as `filler` does. Its own
+/// slot becomes free, and the freed one stays used. A page that is left empty returns to the pool.
 pub fn fill_slot(
     classes: &Classes,
     maps: &mut [SlotMap],
@@ -79,8 +98,24 @@ pub fn fill_slot(
     requires some { 1 ≤ length (pages_in lists.old c Which.NotFull) }
     ensures filled { FillsFrom classes.now (tables maps.old lists.old pool.old) c result
         (tables maps.new lists.new pool.new) }
+    ensures others { KeepsElsewhere (tables maps.old lists.old pool.old) (tables maps.new lists.new pool.new) }
     ensures kept { AreTables classes.now (tables maps.new lists.new pool.new) }
     ensures steps { RoseAtMost steps.old steps.new 26 }
+{
+    let (page, slot) = filling_slot(maps, lists, c, steps);
+    vacate(maps, lists, pool, c, Which::NotFull, page, slot, steps);
+    address_of(classes, c, page, slot)
+}
+
+/// The front page of class c that is not full, and its least used slot.
+fn filling_slot(maps: &[SlotMap], lists: &ClassLists, c: u32, steps: &mut Steps) -> (u32, u32)
+    requires class { c < lists.now.classes }
+    requires some { 1 ≤ length (pages_in lists.now c Which.NotFull) }
+    requires used { (page : ℕ) → Some page ≡ slice_get (pages_in lists.now c Which.NotFull) 0 → HasUsedSlot maps.now page }
+    ensures front { slice_get (pages_in lists.now c Which.NotFull) 0 ≡ Some result.0 }
+    ensures least { position (λ used. used) (slice_index_or maps.now result.0 []) ≡ Some result.1 }
+    ensures used { slice_get (slice_index_or maps.now result.0 []) result.1 ≡ Some true }
+    ensures steps { RoseAtMost steps.old steps.new 9 }
 {
     let Some(page) = lists.front(c, Which::NotFull, steps) else {
         unreachable!();
@@ -88,8 +123,7 @@ pub fn fill_slot(
     let Some(slot) = maps[page as usize].first_used(steps) else {
         unreachable!();
     };
-    vacate(maps, lists, pool, c, Which::NotFull, page, slot, steps);
-    address_of(classes, c, page, slot)
+    (page, slot)
 }
 
 /// The list that a page with these slots is in.

@@ -7,5 +7,5 @@ mod freeing;
 mod place;
 mod taking;
 
-pub use freeing::{drop_slot, fill_slot, must_move};
+pub use freeing::{drop_slot, fill_slot, filler, must_move};
 pub use taking::take_slot;

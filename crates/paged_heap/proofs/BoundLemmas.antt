@@ -18,17 +18,15 @@ use Rattle.paged_heap.specs.Heap.{Heap}
 use Rattle.paged_heap.specs.Layout.{IsValid, held_in, paging_at, state_of}
 use Rattle.paged_heap.proofs.ByKind.{framed_kept}
 use Rattle.paged_heap.proofs.LayoutFacts.{as_many, few_classes, sizes_are}
-use Rattle.paged_heap.proofs.EmptyHeap.{no_objects, none_live, none_taken}
+use Rattle.paged_heap.proofs.EmptyHeap.{no_objects_in, none_live, none_taken}
 
 abbrev pub rebound : Heap → ℕ → ℕ → Heap
 rebound h c b = record h { bounds = set h.bounds c b }
 
 module _ (h : Heap) (k : IsValid h) (none : held_in h ≡ empty) (c b : ℕ) (lt : c < length h.classes.sizes) (least : 1 ≤ b) (most : b ≤ 64) where
   no_object : (q : ℕ) (x : Placed) → get (held_in h) q ≡ Some x → ⊥
-  no_object q x e = absurd (let n : get {X = Placed} {R = nat_cmp} empty q ≡ None = get-empty nat_cmp q in let z : Some x ≡ None = sym e ∙ ap (λ m. get m q) none ∙ n in cc)
-
-  none_of : objects (held_in h) ≡ empty
-  none_of = ap objects none ∙ no_objects
+  no_object q x e = absurd
+      (let n : get {X = Placed} {R = nat_cmp} empty q ≡ None = get-empty nat_cmp q in let z : Some x ≡ None = sym e ∙ ap (λ m. get m q) none ∙ n in cc)
 
   inside : c < length h.bounds
   inside = (let few = few_classes h k in let e = as_many h k in let long = k.bounds_long in omega arith)
@@ -49,7 +47,7 @@ module _ (h : Heap) (k : IsValid h) (none : held_in h ≡ empty) (c b : ℕ) (lt
       zeros = λ w _. k.image.zeros w (λ q x e. absurd (no_object q x e));
     };
     sound = subst (IsSound (paging_at (rebound h c b))) (sym none) (sound_empty (paging_at (rebound h c b)));
-    tell = record { tables = k.tell.tables; pages = k.tell.pages };
+    tell = record { part = record { tables = k.tell.part.tables; pages = k.tell.part.pages }; whole = k.tell.whole };
     occupied = record {
       stands = λ q x e. absurd (no_object q x e);
       filled = λ d page slot u. absurd (let w = k.occupied.filled d page slot u in no_object w.0 w.1 w.2);
@@ -63,11 +61,11 @@ module _ (h : Heap) (k : IsValid h) (none : held_in h ≡ empty) (c b : ℕ) (lt
     some_bound = λ d l. elim (new_bound d) [ inl (_, e) ↦ omega arith | inr e ↦ (let s = k.some_bound d l in omega arith) ];
     low_bound = λ d l. elim (new_bound d) [ inl (_, e) ↦ omega arith | inr e ↦ (let s = k.low_bound d l in omega arith) ];
     live_long = k.live_long;
-    counted = λ d l. k.counted d l ∙ ap (λ o. live (paging_at h) o d) none_of ∙ none_live (paging_at h) d
-        ∙ sym (ap (λ o. live (paging_at (rebound h c b)) o d) none_of ∙ none_live (paging_at (rebound h c b)) d);
+    counted = λ d l. k.counted d l ∙ ap (λ o. live (paging_at h) o d) (no_objects_in h none) ∙ none_live (paging_at h) d
+        ∙ sym (ap (λ o. live (paging_at (rebound h c b)) o d) (no_objects_in h none) ∙ none_live (paging_at (rebound h c b)) d);
     asked_all = k.asked_all;
-    taken_all = k.taken_all ∙ ap (taken_bytes (paging_at h)) none_of ∙ none_taken (paging_at h)
-        ∙ sym (ap (taken_bytes (paging_at (rebound h c b))) none_of ∙ none_taken (paging_at (rebound h c b)));
+    taken_all = k.taken_all ∙ ap (taken_bytes (paging_at h)) (no_objects_in h none) ∙ none_taken (paging_at h)
+        ∙ sym (ap (taken_bytes (paging_at (rebound h c b))) (no_objects_in h none) ∙ none_taken (paging_at (rebound h c b)));
   }
 
   pub rebound_state : state_of (rebound h c b) ≡ bound_put (state_of h) (Some c) b
@@ -75,7 +73,8 @@ module _ (h : Heap) (k : IsValid h) (none : held_in h ≡ empty) (c b : ℕ) (lt
 
 -- the class whose slots have so many words is the first of that size
 module _ (h : Heap) (k : IsValid h) (words : ℕ) where
-  pub class_found : (c : ℕ) → c < length h.classes.sizes → ((j : ℕ) → j < c → get_or h.classes.sizes j 0 ≢ words) → get_or h.classes.sizes c 0 ≡ words → Some c ≡ position (λ w. nat_eq w words) (paging_at h).sizes
+  pub class_found : (c : ℕ) → c < length h.classes.sizes → ((j : ℕ) → j < c → get_or h.classes.sizes j 0 ≢ words) → get_or h.classes.sizes c 0 ≡ words
+      → Some c ≡ position (λ w. nat_eq w words) (paging_at h).sizes
   class_found c lt before is =
       subst (λ xs. Some c ≡ position (λ w. nat_eq w words) xs) (sizes_are h k)
       (sym (position_is (λ w. nat_eq w words) h.classes.sizes c 0 lt (λ j l. eq_no _ _ (before j l)) (eq_yes _ _ is)))

@@ -71,7 +71,8 @@ module _ (h : Heap) (k : IsValid h) where
   taken_room = (let e = k.taken_all in let l = taken_few (paging_at h) (paging_ok h k) (held_in h) k.sound page_small in let f = len_few in omega arith)
 
   -- a request that has a class fits, and it is that of the model
-  pub class_is : (bytes c : ℕ) → Some c ≡ class_of h.classes.sizes bytes → (need bytes ≤ h.settings.page_words) × (class_for (paging_at h) bytes ≡ c) × (c < classes (paging_at h))
+  pub class_is : (bytes c : ℕ) → Some c ≡ class_of h.classes.sizes bytes → (need bytes ≤ h.settings.page_words) × (class_for (paging_at h) bytes ≡ c)
+      × (c < classes (paging_at h))
   class_is bytes c e =
       let e' : Some c ≡ class_of (paging_at h).sizes bytes = subst (λ xs. Some c ≡ class_of xs bytes) (sizes_are h k) e in
       elim (cases_lt h.settings.page_words (need bytes)) [

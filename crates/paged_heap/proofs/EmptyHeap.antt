@@ -18,9 +18,9 @@ use Rattle.size_classes.specs.Table.{ClassTable, IsClassTable, table_of}
 use Rattle.class_lists.specs.PageLists.{empty_lists}
 use Rattle.page_pool.specs.Pool.{Pool}
 use Rattle.proxy_table.specs.Proxies.{Proxies, AreBelowLimit, no_proxies}
-use Rattle.page_slots.specs.Tables.{AreTables, tables}
+use Rattle.page_slots.specs.Tables.{AreTables, IsWhole, tables}
 use Rattle.page_slots.specs.Occupying.{Occupies, Tell, class_table}
-use Rattle.page_slots.proofs.Start.{first_tables, first_occupied}
+use Rattle.page_slots.proofs.CallerLemmas.{first_occupied, first_tables, first_whole}
 use Rattle.cf_base.specs.Settings.{profile_of}
 use Rattle.cf_model.specs.State.{layout_of}
 use Rattle.cf_model.specs.Steps.{IsEmptyHeap, opening_bounds, opening_frames, opening_tiling}
@@ -65,12 +65,16 @@ pub record IsFirst (h : Heap) : Type 0 where
   pub proxies : h.proxies ≡ no_proxies h.settings.proxies
   pub handles : AreBelowLimit h.proxies
 
+-- a heap that holds nothing has no objects
+pub no_objects_in : (h : Heap) → held_in h ≡ empty → objects (held_in h) ≡ empty
+no_objects_in h none = ap objects none ∙ no_objects
+
 module _ (h : Heap) (f : IsFirst h) where
   none : held_in h ≡ empty
   none = ap (λ (x : Proxies). held_at h.words x.places) f.proxies ∙ nothing_held h.words
 
   none_of : objects (held_in h) ≡ empty
-  none_of = ap objects none ∙ no_objects
+  none_of = no_objects_in h none
 
   many : length h.classes.sizes ≡ length (sizes h.settings.page_words (layout_of h.kind))
   many = ap (λ (t : ClassTable). length t.sizes) f.table
@@ -80,14 +84,26 @@ module _ (h : Heap) (f : IsFirst h) where
 
   tell : Tell (paging_at h) (tables_in h)
   tell = record {
-    tables =
-        let small = h.settings.small_region in
-        let t : IsClassTable h.settings.page_words (sizes h.settings.page_words (layout_of h.kind)) = record { are_sizes = are_sizes h.settings.page_words (layout_of h.kind) h.settings.page_size; small = (page_size h.settings.page_words h.settings.page_size).small } in
-        let all = first_tables (length h.classes.sizes) h.settings.pages (class_table (paging_at h)) h.maps t (omega arith) f.maps many in
-        let l = subst (λ l. AreTables (class_table (paging_at h)) (tables h.maps l (record { pages = h.settings.pages; free = range_with_len 0 h.settings.pages }))) (sym f.lists) all in
-        subst (λ q. AreTables (class_table (paging_at h)) (tables h.maps h.lists q)) (sym f.pool) l;
-    pages = ap (λ (q : Pool). q.pages) f.pool;
+    part = record { tables = told; pages = ap (λ (q : Pool). q.pages) f.pool };
+    whole = subst IsWhole (sym tables_are) (first_whole (length h.classes.sizes) h.settings.pages h.maps);
   }
+    where
+      told : AreTables (class_table (paging_at h)) (tables_in h)
+      told =
+          let small = h.settings.small_region in
+          let t : IsClassTable h.settings.page_words (sizes h.settings.page_words (layout_of h.kind)) =
+          record {
+            are_sizes = are_sizes h.settings.page_words (layout_of h.kind) h.settings.page_size;
+            small = (page_size h.settings.page_words h.settings.page_size).small;
+          } in
+          let all = first_tables (length h.classes.sizes) h.settings.pages (class_table (paging_at h)) h.maps t (omega arith) f.maps many in
+          let l = subst (λ l. AreTables (class_table (paging_at h))
+          (tables h.maps l (record { pages = h.settings.pages; free = range_with_len 0 h.settings.pages }))) (sym f.lists) all in
+          subst (λ q. AreTables (class_table (paging_at h)) (tables h.maps h.lists q)) (sym f.pool) l
+
+      tables_are : tables_in h ≡ tables h.maps (empty_lists (length h.classes.sizes) h.settings.pages)
+          (record { pages = h.settings.pages; free = range_with_len 0 h.settings.pages })
+      tables_are = ap (λ l. tables h.maps l h.pool) f.lists ∙ ap (tables h.maps (empty_lists (length h.classes.sizes) h.settings.pages)) f.pool
 
   bound : (c : ℕ) → c < 128 → get_or h.bounds c 0 ≡ h.settings.k
   bound c lt = ap (λ b. get_or b c 0) f.bounds ∙ get_or-replicate 128 c h.settings.k 0 lt
@@ -98,8 +114,10 @@ module _ (h : Heap) (f : IsFirst h) where
     table = f.table;
     words_long = ap length f.words ∙ length-replicate {A = ℕ} (h.settings.pages * h.settings.page_words) 0;
     image =
-        let at : IsSlotImage (paging_at h) empty (replicate (h.settings.pages * h.settings.page_words) 0) = image_empty (slot_for (paging_at h)) (h.settings.pages * h.settings.page_words) in
-        let held : IsSlotImage (paging_at h) (held_in h) (replicate (h.settings.pages * h.settings.page_words) 0) = subst (λ m. IsSlotImage (paging_at h) m (replicate (h.settings.pages * h.settings.page_words) 0)) (sym none) at in
+        let at : IsSlotImage (paging_at h) empty (replicate (h.settings.pages * h.settings.page_words) 0) =
+        image_empty (slot_for (paging_at h)) (h.settings.pages * h.settings.page_words) in
+        let held : IsSlotImage (paging_at h) (held_in h) (replicate (h.settings.pages * h.settings.page_words) 0) =
+        subst (λ m. IsSlotImage (paging_at h) m (replicate (h.settings.pages * h.settings.page_words) 0)) (sym none) at in
         subst (λ w. IsSlotImage (paging_at h) (held_in h) w) (sym f.words) held;
     sound = subst (IsSound (paging_at h)) (sym none) (sound_empty (paging_at h));
     tell = tell;
@@ -128,12 +146,15 @@ module _ (h : Heap) (f : IsFirst h) where
         let p = profile_of h.settings in
         let bounds : take (length h.classes.sizes) h.bounds ≡ opening_bounds h.kind p = (
         let l = few in let e = many in
-        ap (take (length h.classes.sizes)) f.bounds ∙ take-replicate (length h.classes.sizes) 128 h.settings.k (omega arith) ∙ ap (λ n. replicate n h.settings.k) many ∙ sym (opening_bounds_are h.kind paged p)) in
+        ap (take (length h.classes.sizes)) f.bounds ∙ take-replicate (length h.classes.sizes) 128 h.settings.k (omega arith)
+        ∙ ap (λ n. replicate n h.settings.k) many ∙ sym (opening_bounds_are h.kind paged p)) in
         ap (λ b. record (state_of h) { bounds = b }) bounds
         ∙ ap (λ m. record (state_of h) { bounds = opening_bounds h.kind p; held = m }) none
         ∙ ap (λ fs. record (state_of h) { bounds = opening_bounds h.kind p; held = empty; frames = fs }) f.frames
-        ∙ ap (λ t. record (state_of h) { bounds = opening_bounds h.kind p; held = empty; frames = opening_frames h.kind p; tiling = t }) (sym (opening_tiling_is h.kind paged p))
-        ∙ ap (λ x. record (state_of h) { bounds = opening_bounds h.kind p; held = empty; frames = opening_frames h.kind p; tiling = opening_tiling h.kind p; cost = x }) f.cost;
+        ∙ ap (λ t. record (state_of h) { bounds = opening_bounds h.kind p; held = empty; frames = opening_frames h.kind p; tiling = t })
+        (sym (opening_tiling_is h.kind paged p))
+        ∙ ap (λ x. record (state_of h)
+        { bounds = opening_bounds h.kind p; held = empty; frames = opening_frames h.kind p; tiling = opening_tiling h.kind p; cost = x }) f.cost;
   }
     where
       paged : IsPaged h.kind

@@ -10,7 +10,7 @@ use Rattle.page_model.specs.Figures.{asked_bytes, taken_bytes, totals_of}
 use Rattle.page_model.proofs.Adding.{len-objects}
 use Rattle.class_lists.specs.PageLists.{pages_in}
 use Rattle.class_lists.specs.declared.Which.TheVariants.{Full, NotFull}
-use Rattle.page_slots.proofs.PageNumbers.{not_full_pages_are, home_pages_are, free_pages_are, pages_are}
+use Rattle.page_slots.proofs.CallerLemmas.{not_full_pages_are, home_pages_are, free_pages_are, pages_are}
 use Rattle.paged_heap.specs.Heap.{Heap}
 use Rattle.paged_heap.specs.Layout.{IsValid, held_in, paging_at, tables_in}
 use Rattle.cf_lemmas.proofs.Ranges.{count_at_most}
@@ -21,25 +21,27 @@ unfolding home_pages
 home_at_most p m c = count_at_most _ 0 p.pages
 
 -- all figures at once
-pub totals_same : (p : Paging) (m : Held) (l a t h u f g : ℕ) → l ≡ len (objects m) → a ≡ asked_bytes (objects m) → t ≡ taken_bytes p (objects m) → h ≡ 8 * p.page_words * used_pages p m → u ≡ used_pages p m → f ≡ free_pages p m
-    → g ≡ (if nat_eq (free_pages p m) 0 then 0 else p.page_words) → ◌≡◌ {A = Totals} (record { live = l; asked = a; taken = t; held = h; used = u; free = f; largest = g }) (totals_of p m)
+pub totals_same : (p : Paging) (m : Held) (l a t h u f g : ℕ) → l ≡ len (objects m) → a ≡ asked_bytes (objects m) → t ≡ taken_bytes p (objects m)
+    → h ≡ 8 * p.page_words * used_pages p m → u ≡ used_pages p m → f ≡ free_pages p m
+    → g ≡ (if nat_eq (free_pages p m) 0 then 0 else p.page_words)
+    → ◌≡◌ {A = Totals} (record { live = l; asked = a; taken = t; held = h; used = u; free = f; largest = g }) (totals_of p m)
 totals_same p m l a t h u f g el ea et eh eu ef eg = rw (el, ea, et, eh, eu, ef, eg) refl
 
 module _ (h : Heap) (k : IsValid h) where
   pub home_is : (c : ℕ) → home_pages (paging_at h) (held_in h) c ≡ length (pages_in h.lists c Full) + length (pages_in h.lists c NotFull)
-  home_is c = home_pages_are (paging_at h) (paging_ok h k) (held_in h) (tables_in h) k.tell k.occupied c
+  home_is c = home_pages_are (paging_at h) (paging_ok h k) (held_in h) (tables_in h) k.tell.part k.occupied c
 
   pub home_few : (c : ℕ) → length (pages_in h.lists c Full) + length (pages_in h.lists c NotFull) ≤ 4096
   home_few c = (let e = home_is c in let l = home_at_most (paging_at h) (held_in h) c in let few = h.settings.few_pages in omega arith)
 
   pub not_full_is : (c : ℕ) → not_full_pages (paging_at h) (held_in h) c ≡ length (pages_in h.lists c NotFull)
-  not_full_is c = not_full_pages_are (paging_at h) (paging_ok h k) (held_in h) (tables_in h) k.tell k.occupied c
+  not_full_is c = not_full_pages_are (paging_at h) (paging_ok h k) (held_in h) (tables_in h) k.tell.part k.occupied c
 
   pub free_is : free_pages (paging_at h) (held_in h) ≡ length h.pool.free
-  free_is = free_pages_are (paging_at h) (paging_ok h k) (held_in h) (tables_in h) k.tell k.occupied k.sound
+  free_is = free_pages_are (paging_at h) (paging_ok h k) (held_in h) (tables_in h) k.tell.part k.occupied k.tell.whole k.sound
 
   pub used_is : used_pages (paging_at h) (held_in h) + length h.pool.free ≡ h.settings.pages
-  used_is = pages_are (paging_at h) (paging_ok h k) (held_in h) (tables_in h) k.tell k.occupied k.sound
+  used_is = pages_are (paging_at h) (paging_ok h k) (held_in h) (tables_in h) k.tell.part k.occupied k.tell.whole k.sound
 
   pub live_is : len h.proxies.places ≡ len (objects (held_in h))
   live_is = sym (held_len h k) ∙ sym (len-objects (held_in h))

@@ -18,16 +18,32 @@ use Rattle.paged_heap.proofs.LayoutFacts.{paging_ok, table_is}
 use Rattle.paged_heap.proofs.Preserved.{Becomes, places_are, rest_from}
 use Rattle.paged_heap.proofs.FreedObject.{goes, it, it_class, it_found, it_slot, moving, page_same, rest_held, slot_same}
 
-module _ (h : Heap) (k : IsValid h) (q a size c : ℕ) (o : IsObjectAt h q a size c) (still : IsMoving h a c → ⊥) (e g n : Heap)
-    (erased : e ≡ record h { proxies = without_place h.proxies q; words = e.words }) (gone : Clears h.words e.words (record { from = a; count = get_or h.classes.sizes c 0 })) (long : length e.words ≡ length h.words) (framed : IsFramed h.kind n) (handles : AreBelowLimit e.proxies)
+module _ {h : Heap} (k : IsValid h) {q a size c : ℕ} (o : IsObjectAt h q a size c) (still : IsMoving h a c → ⊥) (e g n : Heap)
+    (erased : e ≡ record h { proxies = without_place h.proxies q; words = e.words })
+    (gone : Clears h.words e.words (record { from = a; count = get_or h.classes.sizes c 0 })) (long : length e.words ≡ length h.words)
+    (framed : IsFramed h.kind n) (handles : AreBelowLimit e.proxies)
     (counted : g ≡ record e { live = set e.live c (get_or e.live c 0 - 1); asked = e.asked - size; taken = e.taken - 8 * get_or e.classes.sizes c 0 })
     (freed : Vacates (tables_in g) c (page_at g.classes a) (slot_at g.classes c a) (tables_in n)) (tables : AreTables g.classes (tables_in n))
     (dropped : n ≡ record g { maps = n.maps; lists = n.lists; pool = n.pool }) where
   -- all but the tables, by the heap that was
-  from_erased : g ≡ record h { proxies = without_place h.proxies q; words = e.words; live = set h.live c (get_or h.live c 0 - 1); asked = h.asked - size; taken = h.taken - 8 * get_or h.classes.sizes c 0 }
-  from_erased = counted ∙ ap (λ (x : Heap). record x { live = set x.live c (get_or x.live c 0 - 1); asked = x.asked - size; taken = x.taken - 8 * get_or x.classes.sizes c 0 }) erased
+  from_erased : g ≡ record h {
+    proxies = without_place h.proxies q;
+    words = e.words;
+    live = set h.live c (get_or h.live c 0 - 1);
+    asked = h.asked - size;
+    taken = h.taken - 8 * get_or h.classes.sizes c 0;
+  }
+  from_erased = counted ∙ ap
+      (λ (x : Heap). record x { live = set x.live c (get_or x.live c 0 - 1); asked = x.asked - size; taken = x.taken - 8 * get_or x.classes.sizes c 0 }) erased
 
-  stays : (P : Heap → Type 0) → P g → P (record h { proxies = without_place h.proxies q; words = e.words; live = set h.live c (get_or h.live c 0 - 1); asked = h.asked - size; taken = h.taken - 8 * get_or h.classes.sizes c 0 })
+  stays : (P : Heap → Type 0) → P g
+      → P (record h {
+        proxies = without_place h.proxies q;
+        words = e.words;
+        live = set h.live c (get_or h.live c 0 - 1);
+        asked = h.asked - size;
+        taken = h.taken - 8 * get_or h.classes.sizes c 0;
+      })
   stays P p = subst P from_erased p
 
   to_table : ClassTable
@@ -47,11 +63,11 @@ module _ (h : Heap) (k : IsValid h) (q a size c : ℕ) (o : IsObjectAt h q a siz
 
   clears : Clears h.words n.words (record { from = a; count = slot_for (paging_at h) (length (bytes_at h.words a)) })
   clears =
-      subst (λ s. Clears h.words n.words (record { from = a; count = s })) (it_slot h k q a size c o)
+      subst (λ s. Clears h.words n.words (record { from = a; count = s })) (it_slot k o)
       (subst (λ w. Clears h.words w (record { from = a; count = get_or h.classes.sizes c 0 })) (sym region_is) gone)
 
-  pub alone : Becomes h n (rest_held h k q a size c o n None (λ m. still (moving h k q a size c o m)))
-  alone = goes h k q a size c o n None (λ m. still (moving h k q a size c o m))
+  pub alone : Becomes h n (rest_held k o n None (λ m. still (moving k o m)))
+  alone = goes k o n None (λ m. still (moving k o m))
       (record {
         live = ap (λ (x : Heap). x.live) dropped ∙ ap (λ (x : Heap). x.live) from_erased;
         asked = ap (λ (x : Heap). x.asked) dropped ∙ ap (λ (x : Heap). x.asked) from_erased;
@@ -64,11 +80,11 @@ module _ (h : Heap) (k : IsValid h) (q a size c : ℕ) (o : IsObjectAt h q a siz
       (ap (λ (x : Heap). x.bounds) dropped ∙ ap (λ (x : Heap). x.bounds) from_erased))
       (ap (λ (x : Proxies). x.places) proxies_are ∙ ap (λ m. remove m q) (places_are h k) ∙ sym (still_places (held_in h) q a))
       (ap length region_is ∙ long)
-      (image_after_free (paging_at h) (paging_ok h k) (held_in h) k.sound h.words k.image q (it h k q a size c o) (it_found h k q a size c o) n.words clears)
+      (image_after_free (paging_at h) (paging_ok h k) (held_in h) k.sound h.words k.image q (it k o) (it_found k o) n.words clears)
       framed
-      (vacated_tell (paging_at h) (paging_ok h k) (held_in h) (tables_in h) (tables_in n) k.tell k.occupied kept_tables k.sound q (it h k q a size c o) (it_found h k q a size c o) c _ _ vacates
-      (it_class h k q a size c o) (page_same h k q a size c o) (slot_same h k q a size c o))
-      (vacated_occupied (paging_at h) (paging_ok h k) (held_in h) (tables_in h) (tables_in n) k.tell k.occupied kept_tables k.sound q (it h k q a size c o) (it_found h k q a size c o) c _ _ vacates
-      (it_class h k q a size c o) (page_same h k q a size c o) (slot_same h k q a size c o))
+      (vacated_tell (paging_ok h k) k.tell.part k.occupied kept_tables k.sound q (it_found k o) vacates
+      (it_class k o) (page_same k o) (slot_same k o) k.tell.whole)
+      (vacated_occupied (paging_ok h k) k.tell.part k.occupied kept_tables k.sound q (it_found k o) vacates
+      (it_class k o) (page_same k o) (slot_same k o))
       (ap (λ (x : Proxies). x.limit) proxies_are)
       (subst AreBelowLimit (ap (λ (x : Heap). x.proxies) (sym counted) ∙ ap (λ (x : Heap). x.proxies) (sym dropped)) handles)

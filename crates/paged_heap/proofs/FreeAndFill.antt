@@ -13,12 +13,12 @@ use Rattle.page_model.proofs.FreeSteps.{mover_is_other}
 use Rattle.page_model.proofs.Parts.{moved_places}
 use Rattle.page_model.proofs.SlotImages.{image_after_move, object_inside, own_words, sound_apart_from}
 use Rattle.page_model.proofs.Writing.{header_told}
-use Rattle.proxy_table.specs.Proxies.{AreBelowLimit, with_place, without_place}
+use Rattle.proxy_table.specs.Proxies.{AreBelowLimit, Proxies, with_place, without_place}
 use Rattle.cf_model.specs.Steps.{frames_left}
 use Rattle.page_slots.specs.Freeing.{FillsFrom}
 use Rattle.page_slots.specs.Tables.{AreTables, Tables}
 use Rattle.page_slots.specs.Occupying.{Occupies, Tell, class_table}
-use Rattle.page_slots.proofs.CallerLemmas.{filled_occupied, filled_tell, filler, filler_may}
+use Rattle.page_slots.proofs.CallerLemmas.{filled_occupied, filled_tell, filler, filler_in, filler_may}
 use Rattle.virtual_words.specs.Words.{IsWhole}
 use Rattle.paged_heap.specs.Heap.{Heap}
 use Rattle.paged_heap.specs.Layout.{IsFramed, IsValid, held_in, paging_at, state_of, tables_in}
@@ -29,21 +29,40 @@ use Rattle.paged_heap.proofs.LayoutFacts.{number_small, paging_ok, place_known, 
 use Rattle.paged_heap.proofs.Preserved.{Becomes, places_are, rest_from}
 use Rattle.paged_heap.proofs.FreedObject.{goes, it, it_class, it_found, it_inside, it_slot, must, rest_held}
 
-module _ (h : Heap) (k : IsValid h) (q a size c : ℕ) (o : IsObjectAt h q a size c) (moves : IsMoving h a c) (b : ℕ) (new : Tables) (filled : FillsFrom h.classes (tables_in h) c b new) (tables : AreTables h.classes new) where
+-- An object goes, and another one is found that moves to its slot: its own slot, at b, is free in the new tables.
+pub record Fills (h : Heap) (q a size c b : ℕ) (new : Tables) : Type 0 where
+  pub valid : IsValid h
+  pub object : IsObjectAt h q a size c
+  pub moves : IsMoving h a c
+  pub filled : FillsFrom h.classes (tables_in h) c b new
+  pub tables : AreTables h.classes new
+
+pub fills_of : {h : Heap} {q a size c b : ℕ} {new : Tables} → IsValid h → IsObjectAt h q a size c → IsMoving h a c → FillsFrom h.classes (tables_in h) c b new
+    → AreTables h.classes new → Fills h q a size c b new
+fills_of valid object moves filled tables = record { valid = valid; object = object; moves = moves; filled = filled; tables = tables }
+
+module _ {h : Heap} {q a size c b : ℕ} {new : Tables} (f : Fills h q a size c b new) where
+  abbrev k : IsValid h
+  k = f.valid
+
+  abbrev o : IsObjectAt h q a size c
+  o = f.object
+
   abbrev pub words : ℕ
   words = get_or h.classes.sizes c 0
 
-  due : MustMove (paging_at h) (held_in h) (it h k q a size c o)
-  due = must h k q a size c o moves
+  due : MustMove (paging_at h) (held_in h) (it k o)
+  due = must k o f.moves
 
-  fills : FillsFrom (class_table (paging_at h)) (tables_in h) (class_at (paging_at h) (it h k q a size c o)) b new
-  fills = subst (λ d. FillsFrom (class_table (paging_at h)) (tables_in h) d b new) (sym (it_class h k q a size c o)) (subst (λ t. FillsFrom t (tables_in h) c b new) (sym (table_is h k)) filled)
+  fills : FillsFrom (class_table (paging_at h)) (tables_in h) (class_at (paging_at h) (it k o)) b new
+  fills = subst (λ d. FillsFrom (class_table (paging_at h)) (tables_in h) d b new) (sym (it_class k o))
+      (subst (λ t. FillsFrom t (tables_in h) c b new) (sym (table_is h k)) f.filled)
 
   kept_tables : AreTables (class_table (paging_at h)) new
-  kept_tables = subst (λ t. AreTables t new) (sym (table_is h k)) tables
+  kept_tables = subst (λ t. AreTables t new) (sym (table_is h k)) f.tables
 
   other : (r : ℕ) × (y : Placed) × (get (held_in h) r ≡ Some y) × (y.place ≡ b)
-  other = filler (paging_at h) (paging_ok h k) (held_in h) (tables_in h) new k.tell k.occupied kept_tables k.sound q (it h k q a size c o) (it_found h k q a size c o) b fills
+  other = filler (paging_ok h k) k.tell.part k.occupied (filler_in fills)
 
   pub r : ℕ
   r = other.0
@@ -59,16 +78,16 @@ module _ (h : Heap) (k : IsValid h) (q a size c : ℕ) (o : IsObjectAt h q a siz
   unfolding y
   at = other.3
 
-  may : MayFill (paging_at h) (held_in h) (it h k q a size c o) y
-  may = filler_may (paging_at h) (paging_ok h k) (held_in h) (tables_in h) new k.tell k.occupied kept_tables k.sound q (it h k q a size c o) (it_found h k q a size c o) b fills r y there at
+  may : MayFill (paging_at h) (held_in h) (it k o) y
+  may = filler_may (paging_ok h k) k.tell.part k.occupied (it k o) (filler_in fills) k.sound r there at
 
   is_other : r ≢ q
-  is_other = mover_is_other (paging_at h) (paging_ok h k) (held_in h) k.sound q (it h k q a size c o) (it_found h k q a size c o) r y there due may
+  is_other = mover_is_other (paging_at h) (paging_ok h k) (held_in h) k.sound q (it k o) (it_found k o) r y there due may
 
   same_slot : words ≡ slot_for (paging_at h) (length y.bytes)
-  same_slot = it_slot h k q a size c o ∙ sym (ap (slot_words (paging_at h)) may.class)
+  same_slot = it_slot k o ∙ sym (ap (slot_words (paging_at h)) may.class)
 
-  pub mover : Moves (paging_at h) (held_in h) (it h k q a size c o) (Some r)
+  pub mover : Moves (paging_at h) (held_in h) (it k o) (Some r)
   mover = (due, (y, there, may))
 
   -- its words are in the region
@@ -81,14 +100,14 @@ module _ (h : Heap) (k : IsValid h) (q a size c : ℕ) (o : IsObjectAt h q a siz
   pub place_in : b < length h.words
   place_in = (
       let s = source_in in
-      let e = it_slot h k q a size c o in
-      let least = (paging_ok h k).sized.least (class_at (paging_at h) (it h k q a size c o)) (k.sound.slots q (it h k q a size c o) (it_found h k q a size c o)).class in
+      let e = it_slot k o in
+      let least = (paging_ok h k).sized.least (class_at (paging_at h) (it k o)) (k.sound.slots q (it k o) (it_found k o)).class in
       omega arith)
 
   pub slots_apart : (b + words ≤ a) ⊎ (a + words ≤ b)
   slots_apart =
-      let d = sound_apart_from (paging_at h) (held_in h) k.sound r y there q (it h k q a size c o) (it_found h k q a size c o) (λ e. is_other (sym e)) in
-      let e = same_slot in let f = it_slot h k q a size c o in let p = at in
+      let d = sound_apart_from (paging_at h) (held_in h) k.sound r y there q (it k o) (it_found k o) (λ e. is_other (sym e)) in
+      let e = same_slot in let f = it_slot k o in let p = at in
       elim d [ inl l ↦ inl (omega arith) | inr l ↦ inr (omega arith) ]
 
   -- its header tells its number
@@ -112,12 +131,13 @@ module _ (h : Heap) (k : IsValid h) (q a size c : ℕ) (o : IsObjectAt h q a siz
 
     image : IsSlotImage (paging_at h) (moved_to (remove (held_in h) q) r (get (held_in h) r) a) left_words
     image =
-        let i = image_after_move (paging_at h) (paging_ok h k) (held_in h) k.sound h.words k.image q (it h k q a size c o) (it_found h k q a size c o) left_words r y there due may moves_words in
+        let i = image_after_move (paging_at h) (paging_ok h k) (held_in h) k.sound h.words k.image q (it k o) (it_found k o) left_words r y there due
+        may moves_words in
         subst (λ z. IsSlotImage (paging_at h) (moved_to (remove (held_in h) q) r z a) left_words) (sym there) i
 
   -- the places and the words of the slots are those of whole blocks
   pub whole_target : IsWhole h.kind a
-  whole_target = (whole_slot h k q (it h k q a size c o) (it_found h k q a size c o)).0
+  whole_target = (whole_slot h k q (it k o) (it_found k o)).0
 
   pub whole_source : IsWhole h.kind b
   whole_source = subst (IsWhole h.kind) at (whole_slot h k r y there).0
@@ -126,7 +146,7 @@ module _ (h : Heap) (k : IsValid h) (q a size c : ℕ) (o : IsObjectAt h q a siz
   whole_words = subst (IsWhole h.kind) (sym same_slot) (whole_slot h k r y there).1
 
   -- all but the tables is as it was, with what the free does to it
-  module _ (t n : Heap)
+  module _ (t : Heap) {n : Heap}
       (whole : n ≡ record h {
         maps = t.maps;
         lists = t.lists;
@@ -142,56 +162,96 @@ module _ (h : Heap) (k : IsValid h) (q a size c : ℕ) (o : IsObjectAt h q a siz
     on : tables_in n ≡ new
     on = ap tables_in whole ∙ same
 
-    pub refilled : Becomes h n (rest_held h k q a size c o n (Some r) mover)
-    refilled = goes h k q a size c o n (Some r) mover
+    pub refilled : Becomes h n (rest_held k o n (Some r) mover)
+    refilled = goes k o n (Some r) mover
         (record { live = ap (λ (x : Heap). x.live) whole; asked = ap (λ (x : Heap). x.asked) whole; taken = ap (λ (x : Heap). x.taken) whole })
-        (rest_from h n (ap (λ (x : Heap). x.kind) whole) (ap (λ (x : Heap). x.settings) whole) (ap (λ (x : Heap). x.classes) whole) (ap (λ (x : Heap). x.bounds) whole))
+        (rest_from h n (ap (λ (x : Heap). x.kind) whole) (ap (λ (x : Heap). x.settings) whole) (ap (λ (x : Heap). x.classes) whole)
+        (ap (λ (x : Heap). x.bounds) whole))
         (ap (λ (x : Heap). x.proxies.places) whole ∙ ap (λ m. insert (remove m q) r a) (places_are h k)
-        ∙ sym (moved_places (paging_at h) (paging_ok h k) (held_in h) k.sound q (it h k q a size c o) (it_found h k q a size c o) r y there due may))
+        ∙ sym (moved_places (paging_at h) (paging_ok h k) (held_in h) k.sound q (it k o) (it_found k o) r y there due may))
         moved.long
         (image n.words moved.words)
         framed
-        (subst (Tell (paging_at h)) (sym on) (filled_tell (paging_at h) (paging_ok h k) (held_in h) (tables_in h) new k.tell k.occupied kept_tables k.sound q (it h k q a size c o) (it_found h k q a size c o) b fills))
-        (subst (Occupies (paging_at h) (moved_to (remove (held_in h) q) r (get (held_in h) r) a)) (sym on) (filled_occupied (paging_at h) (paging_ok h k) (held_in h) (tables_in h) new k.tell k.occupied kept_tables k.sound q (it h k q a size c o) (it_found h k q a size c o) b fills r y there at due))
+        (subst (Tell (paging_at h)) (sym on) (filled_tell (paging_ok h k) k.tell.part k.occupied kept_tables q (it_found k o) fills k.tell.whole))
+        (subst (Occupies (paging_at h) (moved_to (remove (held_in h) q) r (get (held_in h) r) a)) (sym on)
+        (filled_occupied (paging_ok h k) k.tell.part k.occupied kept_tables q (it_found k o) fills k.sound r there at due))
         (ap (λ (x : Heap). x.proxies.limit) whole)
         handles
 
     -- the frames are those that the model has
-    pub frames_are : n.frames ≡ frames_left h.kind (state_of h) (record { held = rest_held h k q a size c o n (Some r) mover; moved = Some r })
+    pub frames_are : n.frames ≡ frames_left h.kind (state_of h) (record { held = rest_held k o n (Some r) mover; moved = Some r })
     frames_are =
-        let e : get (rest_held h k q a size c o n (Some r) mover) r ≡ Some (record { place = a; bytes = y.bytes }) =
+        let e : get (rest_held k o n (Some r) mover) r ≡ Some (record { place = a; bytes = y.bytes }) =
         (let f : get (held_in h) r ≡ Some y = there in rw f (get_inserted (remove (held_in h) q) r (record { place = a; bytes = y.bytes }))) in
         moved.frames
         ∙ ap (λ s. exchanged h.frames (b / 4) (a / 4) (s / 4)) same_slot
         ∙ ap (λ p. exchanged h.frames (p / 4) (a / 4) (slot_for (paging_at h) (length y.bytes) / 4)) (sym at)
-        ∙ sym (frames_change h.kind h k.framed (rest_held h k q a size c o n (Some r) mover) r y (record { place = a; bytes = y.bytes }) there e)
+        ∙ sym (frames_change h.kind h k.framed (rest_held k o n (Some r) mover) r y (record { place = a; bytes = y.bytes }) there e)
 
-  -- the slot was found, the number given back and the object counted no more; w are the slot's words and i is the other's number
-  module _ (t e g : Heap) (w i : ℕ) (size_w : w ≡ words) (is : i ≡ r)
-      (et : t ≡ record h { maps = t.maps; lists = t.lists; pool = t.pool })
-      (released : e ≡ record t { proxies = without_place t.proxies q })
-      (counted : g ≡ record e { live = set e.live c (get_or e.live c 0 - 1); asked = e.asked - size; taken = e.taken - 8 * get_or e.classes.sizes c 0 }) where
-    counted_is : g ≡ record h { maps = t.maps; lists = t.lists; pool = t.pool; proxies = without_place h.proxies q; live = set h.live c (get_or h.live c 0 - 1); asked = h.asked - size; taken = h.taken - 8 * words }
-    counted_is = counted
+  -- The slot was found, the number given back and the object counted no more; w are the slot's words and i is the other's number.
+  pub record Leaves (t g : Heap) (w i : ℕ) : Type 0 where
+    pub size_w : w ≡ words
+    pub is : i ≡ r
+    pub found : t ≡ record h { maps = t.maps; lists = t.lists; pool = t.pool }
+    pub released : Heap
+    pub released_is : released ≡ record t { proxies = without_place t.proxies q }
+    pub counted : g ≡ record released {
+      live = set released.live c (get_or released.live c 0 - 1);
+      asked = released.asked - size;
+      taken = released.taken - 8 * get_or released.classes.sizes c 0;
+    }
+
+  -- it is so where the number is read from the header
+  pub leaves_of : {t g : Heap} {w i word : ℕ} {proxies : Proxies} → t ≡ record h { maps = t.maps; lists = t.lists; pool = t.pool }
+      → word ≡ get_or t.words b 0 → i ≡ word % 2 ^ 32
+      → w ≡ words → proxies ≡ without_place t.proxies q
+      → g ≡ record t {
+        proxies = proxies;
+        live = set t.live c (get_or t.live c 0 - 1);
+        asked = t.asked - size;
+        taken = t.taken - 8 * get_or t.classes.sizes c 0;
+      }
+      → Leaves t g w i
+  leaves_of {t} {g} {w} {i} {word} {proxies} found read number size_w released counted = record {
+    size_w = size_w;
+    is = number ∙ ap (λ v. v % 2 ^ 32) read ∙ ap (λ (x : Heap). get_or x.words b 0 % 2 ^ 32) found ∙ number_told;
+    found = found;
+    released = record t { proxies = proxies };
+    released_is = ap (λ p. record t { proxies = p }) released;
+    counted = counted;
+  }
+
+  module _ {t g : Heap} {w i : ℕ} (l : Leaves t g w i) where
+    counted_is : g ≡ record h {
+      maps = t.maps;
+      lists = t.lists;
+      pool = t.pool;
+      proxies = without_place h.proxies q;
+      live = set h.live c (get_or h.live c 0 - 1);
+      asked = h.asked - size;
+      taken = h.taken - 8 * words;
+    }
+    counted_is = l.counted
         ∙ ap (λ (x : Heap). record x { live = set x.live c (get_or x.live c 0 - 1); asked = x.asked - size; taken = x.taken - 8 * get_or x.classes.sizes c 0 })
-        (released ∙ ap (λ (x : Heap). record x { proxies = without_place x.proxies q }) et)
+        (l.released_is ∙ ap (λ (x : Heap). record x { proxies = without_place x.proxies q }) l.found)
 
     pub live_there : IsSome (get g.proxies.places i)
-    live_there = ap (λ (x : Heap). is_some (get x.proxies.places i)) counted_is ∙ ap (λ j. is_some (get (remove h.proxies.places q) j)) is ∙ ap is_some live_still
+    live_there = ap (λ (x : Heap). is_some (get x.proxies.places i)) counted_is ∙ ap (λ j. is_some (get (remove h.proxies.places q) j)) l.is
+        ∙ ap is_some live_still
 
     pub source_there : b + w ≤ length g.words
-    source_there = (let l = ap (λ (x : Heap). length x.words) counted_is in let s = source_in in let z = size_w in omega arith)
+    source_there = (let long = ap (λ (x : Heap). length x.words) counted_is in let s = source_in in let z = l.size_w in omega arith)
 
     pub target_there : a + w ≤ length g.words
-    target_there = (let l = ap (λ (x : Heap). length x.words) counted_is in let s = it_inside h k q a size c o in let z = size_w in omega arith)
+    target_there = (let long = ap (λ (x : Heap). length x.words) counted_is in let s = it_inside k o in let z = l.size_w in omega arith)
 
     pub apart_there : (b + w ≤ a) ⊎ (a + w ≤ b)
-    apart_there = subst (λ w. (b + w ≤ a) ⊎ (a + w ≤ b)) (sym size_w) slots_apart
+    apart_there = subst (λ w. (b + w ≤ a) ⊎ (a + w ≤ b)) (sym l.size_w) slots_apart
 
     pub whole_there : IsWhole h.kind w
-    whole_there = subst (IsWhole h.kind) (sym size_w) whole_words
+    whole_there = subst (IsWhole h.kind) (sym l.size_w) whole_words
 
-    pub whole_is : (n : Heap) → n ≡ record g { proxies = with_place g.proxies i a; words = n.words; frames = n.frames }
+    pub whole_is : {n : Heap} → n ≡ record g { proxies = with_place g.proxies i a; words = n.words; frames = n.frames }
         → n ≡ record h {
           maps = t.maps;
           lists = t.lists;
@@ -203,7 +263,7 @@ module _ (h : Heap) (k : IsValid h) (q a size c : ℕ) (o : IsObjectAt h q a siz
           asked = h.asked - size;
           taken = h.taken - 8 * words;
         }
-    whole_is n en = en
+    whole_is {n} en = en
         ∙ ap (λ (x : Heap). record x { proxies = with_place x.proxies i a; words = n.words; frames = n.frames }) counted_is
         ∙ ap (λ j. record h {
           maps = t.maps;
@@ -215,10 +275,10 @@ module _ (h : Heap) (k : IsValid h) (q a size c : ℕ) (o : IsObjectAt h q a siz
           live = set h.live c (get_or h.live c 0 - 1);
           asked = h.asked - size;
           taken = h.taken - 8 * words;
-        }) is
+        }) l.is
 
-    pub moved_is : (n : Heap) → MovesSlot g n b a w → MovesSlot h n b a words
-    moved_is n m = subst (MovesSlot h n b a) size_w (record {
+    pub moved_is : {n : Heap} → MovesSlot g n b a w → MovesSlot h n b a words
+    moved_is {n} m = subst (MovesSlot h n b a) l.size_w (record {
       long = m.long ∙ ap (λ (x : Heap). length x.words) counted_is;
       words = subst (λ ws. MovesWords ws n.words (record { from = b; count = w }) a) (ap (λ (x : Heap). x.words) counted_is) m.words;
       frames = m.frames ∙ ap (λ (x : Heap). exchanged x.frames (b / 4) (a / 4) (w / 4)) counted_is;

@@ -33,10 +33,10 @@ use Rattle.paged_heap.specs.Layout.{IsFramed, IsValid, held_in, paging_at, state
 use Rattle.paged_heap.specs.Free.{IsMoving, IsObjectAt}
 use Rattle.paged_heap.proofs.ByKind.{moves_in, slot_in_is, tiling_stays}
 use Rattle.paged_heap.proofs.LayoutFacts.{as_many, bound_is, few_classes, paged_kind, paging_ok, sizes_are, table_is}
-use Rattle.paged_heap.proofs.Preserved.{Becomes, becomes_kept, becomes_state, has_place, held_is, stored, with_parts}
+use Rattle.paged_heap.proofs.Preserved.{Becomes, becomes_kept, becomes_state, bytes_held, has_place, held_is, stored, with_parts}
 use Rattle.paged_heap.proofs.ReadLemmas.{slot_there}
 
-module _ (h : Heap) (k : IsValid h) (q a size c : ℕ) (o : IsObjectAt h q a size c) where
+module _ {h : Heap} (k : IsValid h) {q a size c : ℕ} (o : IsObjectAt h q a size c) where
   abbrev pub it : Placed
   it = record { place = a; bytes = bytes_at h.words a }
 
@@ -55,8 +55,8 @@ module _ (h : Heap) (k : IsValid h) (q a size c : ℕ) (o : IsObjectAt h q a siz
   pub it_inside : a + get_or h.classes.sizes c 0 ≤ length h.words
   it_inside = (let s = slot_there h k q a o.known in let e = it_slot in omega arith)
 
-  it_bytes : get (objects (held_in h)) q ≡ Some (bytes_at h.words a)
-  it_bytes = get-map_values (λ (x : Placed). x.bytes) (held_in h) q ∙ ap (option_map (λ (x : Placed). x.bytes)) it_found
+  pub it_bytes : get (objects (held_in h)) q ≡ Some (bytes_at h.words a)
+  it_bytes = bytes_held (held_in h) q it it_found
 
   pub class_listed : c < length h.classes.sizes
   class_listed = (let lt = o.in_range in let e = as_many h k in omega arith)
@@ -75,7 +75,9 @@ module _ (h : Heap) (k : IsValid h) (q a size c : ℕ) (o : IsObjectAt h q a siz
   asked_some = (let e = k.asked_all in let l = asked_taken (objects (held_in h)) q (bytes_at h.words a) it_bytes in let s = o.long in omega arith)
 
   pub taken_some : 8 * get_or h.classes.sizes c 0 ≤ h.taken
-  taken_some = (let e = k.taken_all in let l = taken_taken (paging_at h) (objects (held_in h)) q (bytes_at h.words a) it_bytes in let s = it_slot in omega arith)
+  taken_some =
+      let e = k.taken_all in let l = taken_taken (paging_at h) (objects (held_in h)) q (bytes_at h.words a) it_bytes in let s = it_slot in
+      omega arith
 
   pub page_same : page_of (paging_at h) a ≡ page_at h.classes a
   page_same = ap (λ (t : ClassTable). page_at t a) (table_is h k)
@@ -86,10 +88,12 @@ module _ (h : Heap) (k : IsValid h) (q a size c : ℕ) (o : IsObjectAt h q a siz
   pub it_used : IsUsed (tables_in h) c (page_at h.classes a) (slot_at h.classes c a)
   it_used =
       let u = k.occupied.stands q it it_found in
-      let v : IsUsed (tables_in h) c (page_of (paging_at h) a) (slot_at (class_table (paging_at h)) c a) = subst (λ d. IsUsed (tables_in h) d (page_of (paging_at h) a) (slot_at (class_table (paging_at h)) d a)) it_class u in
+      let v : IsUsed (tables_in h) c (page_of (paging_at h) a) (slot_at (class_table (paging_at h)) c a) =
+      subst (λ d. IsUsed (tables_in h) d (page_of (paging_at h) a) (slot_at (class_table (paging_at h)) d a)) it_class u in
       subst (λ (t : ClassTable). IsUsed (tables_in h) c (page_at t a) (slot_at t c a)) (table_is h k) v
 
-  along : (g g' d d' b b' : ℕ) → g ≡ g' → d ≡ d' → b ≡ b' → MovesObject (slots_on (tables_in h) g) (length (pages_in h.lists d NotFull)) b → MovesObject (slots_on (tables_in h) g') (length (pages_in h.lists d' NotFull)) b'
+  along : (g g' d d' b b' : ℕ) → g ≡ g' → d ≡ d' → b ≡ b' → MovesObject (slots_on (tables_in h) g) (length (pages_in h.lists d NotFull)) b
+      → MovesObject (slots_on (tables_in h) g') (length (pages_in h.lists d' NotFull)) b'
   along g g' d d' b b' eg ed eb m =
       subst (λ b. MovesObject (slots_on (tables_in h) g') (length (pages_in h.lists d' NotFull)) b) eb
       (subst (λ d. MovesObject (slots_on (tables_in h) g') (length (pages_in h.lists d NotFull)) b) ed
@@ -100,14 +104,14 @@ module _ (h : Heap) (k : IsValid h) (q a size c : ℕ) (o : IsObjectAt h q a siz
 
   -- the test of a move is the model's
   pub must : IsMoving h a c → MustMove (paging_at h) (held_in h) it
-  must v = (moves_is (paging_at h) (paging_ok h k) (held_in h) (tables_in h) k.tell k.occupied q it it_found).0 (along _ _ _ _ _ _ (sym page_same) (sym it_class) bound_same v)
+  must v = (moves_is (paging_ok h k) k.tell.part k.occupied q it_found).0 (along _ _ _ _ _ _ (sym page_same) (sym it_class) bound_same v)
 
   pub moving : MustMove (paging_at h) (held_in h) it → IsMoving h a c
-  moving v = along _ _ _ _ _ _ page_same it_class (sym bound_same) ((moves_is (paging_at h) (paging_ok h k) (held_in h) (tables_in h) k.tell k.occupied q it it_found).1 v)
+  moving v = along _ _ _ _ _ _ page_same it_class (sym bound_same) ((moves_is (paging_ok h k) k.tell.part k.occupied q it_found).1 v)
 
   pub some_not_full : IsMoving h a c → 1 ≤ length (pages_in h.lists c NotFull)
   some_not_full v =
-      let l = moves_some (paging_at h) (paging_ok h k) (held_in h) (tables_in h) k.tell k.occupied q it it_found (must v) (let e = it_class in let lt = o.in_range in omega arith) in
+      let l = moves_some (paging_ok h k) k.tell.part k.occupied q it_found (must v) (let e = it_class in let lt = o.in_range in omega arith) in
       subst (λ d. 1 ≤ length (pages_in h.lists d NotFull)) it_class l
 
   -- what a free leaves, by the other object that moves
@@ -129,11 +133,13 @@ module _ (h : Heap) (k : IsValid h) (q a size c : ℕ) (o : IsObjectAt h q a siz
       counts d lt =
           let less = live_taken (paging_at h) (objects (held_in h)) q (bytes_at h.words a) d it_bytes in
           let was = k.counted d lt in
-          let all : live (paging_at h) (objects rest_held) d ≡ live (paging_at h) (remove (objects (held_in h)) q) d = ap (λ o. live (paging_at h) o d) objects_are in
+          let all : live (paging_at h) (objects rest_held) d ≡ live (paging_at h) (remove (objects (held_in h)) q) d =
+          ap (λ o. live (paging_at h) o d) objects_are in
           let now : get_or n.live d 0 ≡ get_or (set h.live c (get_or h.live c 0 - 1)) d 0 = ap (λ l. get_or l d 0) t.live in
           elim (cases_eq d c) [
             | inl is ↦ (
-                let here : get_or (set h.live c (get_or h.live c 0 - 1)) d 0 ≡ get_or h.live d 0 - 1 = rw is (get_or-set_same h.live c (get_or h.live c 0 - 1) 0 class_live) in
+                let here : get_or (set h.live c (get_or h.live c 0 - 1)) d 0 ≡ get_or h.live d 0 - 1 =
+                rw is (get_or-set_same h.live c (get_or h.live c 0 - 1) 0 class_live) in
                 let e : one (nat_eq (class_for (paging_at h) (length (bytes_at h.words a))) d) ≡ 1 = ap one (eq_yes _ _ (it_class ∙ sym is)) in
                 omega arith)
             | inr ne ↦ (
@@ -143,7 +149,8 @@ module _ (h : Heap) (k : IsValid h) (q a size c : ℕ) (o : IsObjectAt h q a siz
           ]
 
       pub goes : n ≡ with_parts h n → n.proxies.places ≡ places rest_held → length n.words ≡ length h.words → IsSlotImage (paging_at h) rest_held n.words
-          → IsFramed h.kind n → Tell (paging_at h) (tables_in n) → Occupies (paging_at h) rest_held (tables_in n) → n.proxies.limit ≡ h.proxies.limit → AreBelowLimit n.proxies → Becomes h n rest_held
+          → IsFramed h.kind n → Tell (paging_at h) (tables_in n) → Occupies (paging_at h) rest_held (tables_in n) → n.proxies.limit ≡ h.proxies.limit
+          → AreBelowLimit n.proxies → Becomes h n rest_held
       goes rest at long image framed tell occupied limit handles = record {
         rest = rest;
         framed = framed;
@@ -172,14 +179,27 @@ module _ (h : Heap) (k : IsValid h) (q a size c : ℕ) (o : IsObjectAt h q a siz
       pub goes_kept : IsValid n
       goes_kept = becomes_kept h n k rest_held b
 
-      pub goes_freed : n.frames ≡ frames_left h.kind (state_of h) (record { held = rest_held; moved = moved }) → (freed : Freed) → freed.slot_words ≡ get_or h.classes.sizes c 0 → number_of freed.moved ≡ moved → FreesObject (state_of h) q freed (state_of n)
+      pub goes_freed : n.frames ≡ frames_left h.kind (state_of h) (record { held = rest_held; moved = moved }) → (freed : Freed)
+          → freed.slot_words ≡ get_or h.classes.sizes c 0 → number_of freed.moved ≡ moved → FreesObject (state_of h) q freed (state_of n)
       goes_freed frames freed words is = record {
         object = it;
         found = it_found;
         slot = words ∙ it_slot ∙ sym (slot_in_is h.kind (paged_kind h k) (state_of h) it);
         moves = subst (MovesIn h.kind (state_of h) it) (sym is) (moves_in h.kind (paged_kind h k) (state_of h) it moved mv);
         left = ap objects (held_is h n k rest_held b) ∙ objects_are;
-        whole = subst (λ v. state_of n ≡ record (state_of h) { held = without (held_in h) q a v; words = n.words; frames = frames_left h.kind (state_of h) (leaves_of (state_of h) q it v); tiling = tiling_left h.kind (state_of h) a; cost = n.cost }) (sym is)
+        whole = subst (λ v. state_of n ≡ record (state_of h) {
+          held = without (held_in h) q a v;
+          words = n.words;
+          frames = frames_left h.kind (state_of h) (leaves_of (state_of h) q it v);
+          tiling = tiling_left h.kind (state_of h) a;
+          cost = n.cost;
+        }) (sym is)
             (becomes_state h n k rest_held b ∙ ap (λ fs. record (state_of h) { held = rest_held; words = n.words; frames = fs; cost = n.cost }) frames
-            ∙ ap (λ t. record (state_of h) { held = rest_held; words = n.words; frames = frames_left h.kind (state_of h) (record { held = rest_held; moved = moved }); tiling = t; cost = n.cost }) (sym (tiling_stays h.kind (paged_kind h k) (state_of h) a)));
+            ∙ ap (λ t. record (state_of h) {
+              held = rest_held;
+              words = n.words;
+              frames = frames_left h.kind (state_of h) (record { held = rest_held; moved = moved });
+              tiling = t;
+              cost = n.cost;
+            }) (sym (tiling_stays h.kind (paged_kind h k) (state_of h) a)));
       }

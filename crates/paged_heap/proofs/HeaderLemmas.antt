@@ -28,20 +28,22 @@ module _ (h : Heap) (k : IsValid h) (q a : ℕ) (some : get h.proxies.places q �
   has_class none =
       let lt = (k.sound.slots q (record { place = a; bytes = bytes_at h.words a }) (held h k q a some)).class in
       let known = class_known (paging_at h) (paging_ok h k) (length (bytes_at h.words a)) lt in
-      let z : None ≡ Some (class_for (paging_at h) (length (bytes_at h.words a))) = none ∙ ap (λ xs. class_of xs size) (sizes_are h k) ∙ ap (class_of (paging_at h).sizes) (sym long) ∙ known in
+      let z : None ≡ Some (class_for (paging_at h) (length (bytes_at h.words a))) = none ∙ ap (λ xs. class_of xs size) (sizes_are h k)
+      ∙ ap (class_of (paging_at h).sizes) (sym long) ∙ known in
       absurd (let w : None ≡ Some (class_for (paging_at h) (length (bytes_at h.words a))) = z in cc)
 
   pub object_at : (c : ℕ) → Some c ≡ class_of h.classes.sizes size → IsObjectAt h q a size c
   object_at c found = (let is = class_is h k size c found in record { known = some; long = long; class = is.1; in_range = is.2 })
 
 -- its page is one of the tables'
-pub page_there : (h : Heap) (k : IsValid h) (q a size c : ℕ) (o : IsObjectAt h q a size c) → page_at h.classes a < length h.maps
-page_there h k q a size c o =
-    let lt = found_page (paging_at h) (paging_ok h k) (held_in h) (tables_in h) k.tell k.occupied q (it h k q a size c o) (it_found h k q a size c o) in
-    subst (λ g. g < length h.maps) (page_same h k q a size c o) lt
+pub page_there : {h : Heap} (k : IsValid h) {q a size c : ℕ} (o : IsObjectAt h q a size c) → page_at h.classes a < length h.maps
+page_there {h} k {q} o =
+    let lt = found_page (paging_ok h k) k.tell.part k.occupied q (it_found k o) in
+    subst (λ g. g < length h.maps) (page_same k o) lt
 
 -- the cost of a free
-pub free_cost : (o : Heap) (q : ℕ) (r : Result Freed NotLive) (h : Heap) (cost : ℕ) → IsFreeStep (state_of o) q r (state_of h) → IsFreeStep (state_of o) q r (state_of (record h { cost = cost }))
+pub free_cost : (o : Heap) (q : ℕ) (r : Result Freed NotLive) (h : Heap) (cost : ℕ) → IsFreeStep (state_of o) q r (state_of h)
+    → IsFreeStep (state_of o) q r (state_of (record h { cost = cost }))
 free_cost o q (Ok freed) h cost g = record {
   object = g.object;
   found = g.found;

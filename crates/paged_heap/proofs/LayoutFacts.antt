@@ -39,7 +39,7 @@ module _ (h : Heap) (k : IsValid h) where
   as_many = ap (λ (t : ClassTable). length t.sizes) k.table
 
   pub few_classes : classes (paging_at h) ≤ 67
-  few_classes = k.tell.tables.table.are_sizes.few
+  few_classes = k.tell.part.tables.table.are_sizes.few
 
   pub bounds_many : length (take (length h.classes.sizes) h.bounds) ≡ length h.classes.sizes
   bounds_many = length-take-le (length h.classes.sizes) h.bounds (let few = few_classes in let e = as_many in let long = k.bounds_long in omega arith)
@@ -56,10 +56,10 @@ module _ (h : Heap) (k : IsValid h) where
       omega arith))
 
   pub tables_ok : AreTables h.classes (tables_in h)
-  tables_ok = subst (λ t. AreTables t (tables_in h)) table_is k.tell.tables
+  tables_ok = subst (λ t. AreTables t (tables_in h)) table_is k.tell.part.tables
 
   pub table_ok : IsClassTable h.classes.page_words h.classes.sizes
-  table_ok = subst (λ (t : ClassTable). IsClassTable t.page_words t.sizes) table_is k.tell.tables.table
+  table_ok = subst (λ (t : ClassTable). IsClassTable t.page_words t.sizes) table_is k.tell.part.tables.table
 
   pub bounds_low : (c : ℕ) → get_or (take (length h.classes.sizes) h.bounds) c 0 ≤ 64
   bounds_low c = elim (cases_lt c (length h.classes.sizes)) [

@@ -38,7 +38,8 @@ module _ (h : Heap) (k : IsValid h) (bytes c : ℕ) (found : Some c ≡ class_of
       record {
         fits = is.0;
         few = (let e = held_len h k in let lt = few_proxies ne in omega arith);
-        lacking = lacks_in h.kind (paged_kind h k) (state_of h) bytes (subst (LacksRoom (paging_at h) (held_in h)) (sym is.1) (refused_lacks_room (paging_at h) (paging_ok h k) (held_in h) (tables_in h) k.tell k.occupied c new t));
+        lacking = lacks_in h.kind (paged_kind h k) (state_of h) bytes
+            (subst (LacksRoom (paging_at h) (held_in h)) (sym is.1) (refused_lacks_room (paging_ok h k) k.tell.part k.occupied k.tell.whole c new t));
       }
 
   module _ (new : Tables) (a : ℕ) (t : TakesAt h.classes (tables_in h) c a new) (tables : AreTables h.classes new) where
@@ -53,7 +54,7 @@ module _ (h : Heap) (k : IsValid h) (bytes c : ℕ) (found : Some c ≡ class_of
     place_inside =
         let is = class_is h k bytes c found in
         let lt = is.2 in
-        let free = taken_is_free (paging_at h) (paging_ok h k) (held_in h) (tables_in h) new k.tell k.occupied of_table c a lt at_table bytes is.1 in
+        let free = taken_is_free (paging_ok h k) k.tell.part k.occupied of_table lt at_table bytes is.1 in
         let inside = slot_inside (paging_at h) (class_for (paging_at h) bytes) a free.slot in
         let least = (paging_ok h k).sized.least (class_for (paging_at h) bytes) free.slot.class in
         let long = k.words_long in
@@ -91,10 +92,12 @@ module _ (h : Heap) (k : IsValid h) (bytes c : ℕ) (found : Some c ≡ class_of
         words = ap (λ (x : Heap). x.words) en ∙ ap (λ (x : Heap). x.words) eb ∙ ap (λ (x : Heap). set x.words a (header_word q bytes)) et;
         live = ap (λ (x : Heap). x.live) en ∙ ap (λ (x : Heap). set x.live c (get_or x.live c 0 + 1)) (eb' t b q a eb et);
         asked = ap (λ (x : Heap). x.asked) en ∙ ap (λ (x : Heap). x.asked + bytes) (eb' t b q a eb et);
-        all_taken = ap (λ (x : Heap). x.taken) en ∙ ap (λ (x : Heap). x.taken + 8 * get_or x.classes.sizes c 0) (eb' t b q a eb et) ∙ ap (λ xs. h.taken + 8 * get_or xs c 0) (sizes_are h k);
+        all_taken = ap (λ (x : Heap). x.taken) en ∙ ap (λ (x : Heap). x.taken + 8 * get_or x.classes.sizes c 0) (eb' t b q a eb et)
+            ∙ ap (λ xs. h.taken + 8 * get_or xs c 0) (sizes_are h k);
       }
     where
-      eb' : (t b : Heap) (q a : ℕ) → b ≡ record t { proxies = with_place t.proxies q a; words = set t.words a (header_word q bytes) } → t ≡ record h { maps = t.maps; lists = t.lists; pool = t.pool }
+      eb' : (t b : Heap) (q a : ℕ) → b ≡ record t { proxies = with_place t.proxies q a; words = set t.words a (header_word q bytes) }
+          → t ≡ record h { maps = t.maps; lists = t.lists; pool = t.pool }
           → b ≡ record h { maps = t.maps; lists = t.lists; pool = t.pool; proxies = with_place t.proxies q a; words = set t.words a (header_word q bytes) }
       eb' t b q a eb et = eb ∙ ap (λ (x : Heap). record x { proxies = with_place t.proxies q a; words = set t.words a (header_word q bytes) }) et
 
@@ -103,7 +106,8 @@ pub same_state : (h t : Heap) → t ≡ record h { maps = t.maps; lists = t.list
 same_state h t e = ap state_of e ∙ ap (λ x. record (state_of h) { cost = x }) (sym (ap (λ (x : Heap). x.cost) e))
 
 -- the cost of a malloc
-pub malloc_cost : (o : Heap) → IsPaged o.kind → (bytes : ℕ) (r : Result Handle Refusal) (h : Heap) (cost : ℕ) → IsMallocStep (state_of o) bytes r (state_of h) → IsMallocStep (state_of o) bytes r (state_of (record h { cost = cost }))
+pub malloc_cost : (o : Heap) → IsPaged o.kind → (bytes : ℕ) (r : Result Handle Refusal) (h : Heap) (cost : ℕ)
+    → IsMallocStep (state_of o) bytes r (state_of h) → IsMallocStep (state_of o) bytes r (state_of (record h { cost = cost }))
 malloc_cost o p bytes (Ok q) h cost g = record {
   fits = g.fits;
   few = g.few;

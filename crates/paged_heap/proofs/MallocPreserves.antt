@@ -61,7 +61,7 @@ module _ (h n : Heap) (k : IsValid h) (c a bytes q : ℕ) (co : Comes h n c a by
   size = length-replicate {A = ℕ} bytes 0
 
   free : IsFreePlace (paging_at h) (held_in h) bytes a
-  free = taken_is_free (paging_at h) (paging_ok h k) (held_in h) (tables_in h) (tables_in n) k.tell k.occupied co.tables c a co.in_range co.taken bytes co.class
+  free = taken_is_free (paging_ok h k) k.tell.part k.occupied co.tables co.in_range co.taken bytes co.class
 
   small : q < 2 ^ 32
   small = (let lt = co.below in let e = k.numbers in let few = h.settings.few_proxies in omega arith)
@@ -79,17 +79,20 @@ module _ (h n : Heap) (k : IsValid h) (c a bytes q : ℕ) (co : Comes h n c a by
   counts d lt =
       let add = live_added (paging_at h) (objects (held_in h)) q (replicate bytes 0) d no_bytes in
       let was = k.counted d lt in
-      let all : live (paging_at h) (objects after) d ≡ live (paging_at h) (insert (objects (held_in h)) q (replicate bytes 0)) d = ap (λ o. live (paging_at h) o d) objects_are in
+      let all : live (paging_at h) (objects after) d ≡ live (paging_at h) (insert (objects (held_in h)) q (replicate bytes 0)) d =
+      ap (λ o. live (paging_at h) o d) objects_are in
       let now : get_or n.live d 0 ≡ get_or (set h.live c (get_or h.live c 0 + 1)) d 0 = ap (λ l. get_or l d 0) co.live in
       elim (cases_eq d c) [
         | inl is ↦ (
             let inside : c < length h.live = (let few = few_classes h k in let lt' = co.in_range in let long = k.live_long in omega arith) in
-            let here : get_or (set h.live c (get_or h.live c 0 + 1)) d 0 ≡ get_or h.live d 0 + 1 = rw is (get_or-set_same h.live c (get_or h.live c 0 + 1) 0 inside) in
+            let here : get_or (set h.live c (get_or h.live c 0 + 1)) d 0 ≡ get_or h.live d 0 + 1 =
+            rw is (get_or-set_same h.live c (get_or h.live c 0 + 1) 0 inside) in
             let e : one (nat_eq (class_for (paging_at h) (length (replicate {A = ℕ} bytes 0))) d) ≡ 1 = ap one (eq_yes _ _ (class_of_zeros ∙ sym is)) in
             omega arith)
         | inr ne ↦ (
             let here : get_or (set h.live c (get_or h.live c 0 + 1)) d 0 ≡ get_or h.live d 0 = get_or-set_other h.live c d (get_or h.live c 0 + 1) 0 ne in
-            let e : one (nat_eq (class_for (paging_at h) (length (replicate {A = ℕ} bytes 0))) d) ≡ 0 = ap one (eq_no _ _ (λ is. ne (sym is ∙ class_of_zeros))) in
+            let e : one (nat_eq (class_for (paging_at h) (length (replicate {A = ℕ} bytes 0))) d) ≡ 0 =
+            ap one (eq_no _ _ (λ is. ne (sym is ∙ class_of_zeros))) in
             omega arith)
       ]
 
@@ -102,9 +105,10 @@ module _ (h n : Heap) (k : IsValid h) (c a bytes q : ℕ) (co : Comes h n c a by
     long = ap length co.words ∙ length-set h.words a (header_word q bytes);
     image = subst (λ w. IsSlotImage (paging_at h) after w) (sym co.words)
         (image_after_malloc (paging_at h) (paging_ok h k) (held_in h) k.sound h.words k.image q bytes a none k.words_long free);
-    sound = sound_malloc (paging_at h) (held_in h) (record { number = q; length = bytes }) after (paging_ok h k) k.sound (record { place = a; unused = none; free = free; placed = refl });
-    tell = taken_tell (paging_at h) (paging_ok h k) (held_in h) (tables_in h) (tables_in n) k.tell k.occupied co.tables c a co.in_range co.taken;
-    occupied = taken_occupied (paging_at h) (paging_ok h k) (held_in h) (tables_in h) (tables_in n) k.tell k.occupied co.tables c a co.in_range co.taken q (zeros_at a bytes) none refl class_of_zeros;
+    sound = sound_malloc (paging_at h) (held_in h) (record { number = q; length = bytes }) after (paging_ok h k) k.sound
+        (record { place = a; unused = none; free = free; placed = refl });
+    tell = taken_tell (paging_ok h k) k.tell.part k.occupied co.tables co.in_range co.taken k.tell.whole;
+    occupied = taken_occupied (paging_ok h k) k.tell.part k.occupied co.tables co.in_range co.taken q (zeros_at a bytes) none refl class_of_zeros;
     limit = ap (λ (x : Proxies). x.limit) co.proxies;
     handles = co.handles;
     live_long = ap length co.live ∙ length-set h.live c (get_or h.live c 0 + 1) ∙ k.live_long;
@@ -116,7 +120,8 @@ module _ (h n : Heap) (k : IsValid h) (c a bytes q : ℕ) (co : Comes h n c a by
     taken_all = (
         let add = taken_added (paging_at h) (objects (held_in h)) q (replicate bytes 0) no_bytes in
         let all = ap (taken_bytes (paging_at h)) objects_are in let was = k.taken_all in let now = co.all_taken in
-        let s : slot_words (paging_at h) (class_for (paging_at h) (length (replicate {A = ℕ} bytes 0))) ≡ slot_words (paging_at h) c = ap (slot_words (paging_at h)) class_of_zeros in
+        let s : slot_words (paging_at h) (class_for (paging_at h) (length (replicate {A = ℕ} bytes 0))) ≡ slot_words (paging_at h) c =
+        ap (slot_words (paging_at h)) class_of_zeros in
         omega arith);
   }
 

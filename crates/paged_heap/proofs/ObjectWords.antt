@@ -23,8 +23,10 @@ word_byte q v i j lt all =
     sym (ap (λ b. byte_of b (object_word q v (suc ((8 * i + j) / 8)))) r ∙ ap (λ e. byte_of j (object_word q v (suc e))) d) ∙ byte_of_object q v (8 * i + j) all
 
 -- a word of 64 bits with those bytes is that word
-pub word_is : (q : ℕ) (v : List ℕ) (i w : ℕ) → q < 2 ^ 32 → length v < 2 ^ 32 → AreBytes v → w < 2 ^ 64 → ((j : ℕ) → j < 8 → byte_of j w ≡ get_or v (8 * i + j) 0) → w ≡ object_word q v (suc i)
-word_is q v i w few short all small each = word_by_bytes w (object_word q v (suc i)) small (object_word_small q v (suc i) few short all) (λ j l. each j l ∙ sym (word_byte q v i j l all))
+pub word_is : (q : ℕ) (v : List ℕ) (i w : ℕ) → q < 2 ^ 32 → length v < 2 ^ 32 → AreBytes v → w < 2 ^ 64
+    → ((j : ℕ) → j < 8 → byte_of j w ≡ get_or v (8 * i + j) 0) → w ≡ object_word q v (suc i)
+word_is q v i w few short all small each =
+    word_by_bytes w (object_word q v (suc i)) small (object_word_small q v (suc i) few short all) (λ j l. each j l ∙ sym (word_byte q v i j l all))
 
 pub zero_byte : (j : ℕ) → byte_of j 0 ≡ 0
 zero_byte zero = refl
@@ -41,18 +43,18 @@ module _ (v : List ℕ) (size : ℕ) where
     | inr past ↦ get_or_past v b 0 past ∙ sym (resized_behind v size b past)
   ]
 
-module _ (h : Heap) (k : IsValid h) (q a m c : ℕ) (o : IsObjectAt h q a m c) where
+module _ {h : Heap} (k : IsValid h) {q a m c : ℕ} (o : IsObjectAt h q a m c) where
   abbrev old : List ℕ
   old = bytes_at h.words a
 
   pub few : q < 2 ^ 32
-  few = (stored h k q _ (it_found h k q a m c o)).0
+  few = (stored h k q _ (it_found k o)).0
 
   old_small : length old < 2 ^ 32
   old_small = (let f = bytes_few h k q a o.known in omega arith)
 
   pub stood : (i : ℕ) → suc i < slot_for (paging_at h) (length old) → get_or h.words (a + suc i) 0 ≡ object_word q old (suc i)
-  stood i lt = k.image.held q (it h k q a m c o) (it_found h k q a m c o) (suc i) lt
+  stood i lt = k.image.held q (it k o) (it_found k o) (suc i) lt
 
   pub was_small : (i : ℕ) → suc i < slot_for (paging_at h) (length old) → get_or h.words (a + suc i) 0 < 2 ^ 64
   was_small i lt = (let e = stood i lt in let s = object_word_small q old (suc i) few old_small (bytes_at-AreBytes h.words a) in omega arith)

@@ -4,7 +4,7 @@ use Rattle.std.specs.FinMap.{get}
 use Rattle.std.specs.Prelude.{option_map}
 use Rattle.cf_base.specs.declared.kind.Kind.{Kind}
 use Rattle.cf_base.specs.declared.kind.Kind.TheVariants.{Moving, NonMoving, Tlsf, HalfFit}
-use Rattle.page_model.specs.Held.{Held, objects, places}
+use Rattle.page_model.specs.Held.{Held, Placed, objects, places}
 use Rattle.page_model.specs.Bytes.{AreStorable, bytes_at}
 use Rattle.page_model.specs.Paging.{classes}
 use Rattle.page_model.specs.Arrangement.{IsSound, live}
@@ -19,9 +19,24 @@ use Rattle.paged_heap.specs.Heap.{Heap}
 use Rattle.paged_heap.specs.Layout.{IsFramed, IsValid, held_in, paging_at, state_of, tables_in}
 use Rattle.paged_heap.proofs.LayoutFacts.{number_small, paging_ok}
 
+-- an object's bytes are among the objects
+pub bytes_held : (m : Held) (q : ℕ) (x : Placed) → get m q ≡ Some x → get (objects m) q ≡ Some x.bytes
+bytes_held m q x some = get-map_values (λ (y : Placed). y.bytes) m q ∙ ap (option_map (λ (y : Placed). y.bytes)) some
+
 -- h, with all of n that the calls change
 abbrev pub with_parts : Heap → Heap → Heap
-with_parts h n = record h { live = n.live; asked = n.asked; taken = n.taken; cost = n.cost; words = n.words; frames = n.frames; maps = n.maps; lists = n.lists; pool = n.pool; proxies = n.proxies }
+with_parts h n = record h {
+  live = n.live;
+  asked = n.asked;
+  taken = n.taken;
+  cost = n.cost;
+  words = n.words;
+  frames = n.frames;
+  maps = n.maps;
+  lists = n.lists;
+  pool = n.pool;
+  proxies = n.proxies;
+}
 
 -- n has the objects m, and is h in what no call changes
 pub record Becomes (h n : Heap) (m : Held) : Type 0 where
@@ -107,11 +122,13 @@ module _ (h : Heap) (k : IsValid h) where
 
   -- what has no place isn't held
   pub no_place : (q : ℕ) → get h.proxies.places q ≡ None → get (held_in h) q ≡ None
-  no_place q e = get-map_values (λ a. record { place = a; bytes = bytes_at h.words a }) h.proxies.places q ∙ ap (option_map (λ a. record { place = a; bytes = bytes_at h.words a })) e
+  no_place q e = get-map_values (λ a. record { place = a; bytes = bytes_at h.words a }) h.proxies.places q
+      ∙ ap (option_map (λ a. record { place = a; bytes = bytes_at h.words a })) e
 
   -- what has a place is held there
   pub has_place : (q a : ℕ) → get h.proxies.places q ≡ Some a → get (held_in h) q ≡ Some (record { place = a; bytes = bytes_at h.words a })
-  has_place q a e = get-map_values (λ a. record { place = a; bytes = bytes_at h.words a }) h.proxies.places q ∙ ap (option_map (λ a. record { place = a; bytes = bytes_at h.words a })) e
+  has_place q a e = get-map_values (λ a. record { place = a; bytes = bytes_at h.words a }) h.proxies.places q
+      ∙ ap (option_map (λ a. record { place = a; bytes = bytes_at h.words a })) e
 
 -- n is h in what no call changes, where these are the same
 pub rest_from : (h n : Heap) → n.kind ≡ h.kind → n.settings ≡ h.settings → n.classes ≡ h.classes → n.bounds ≡ h.bounds → n ≡ with_parts h n

@@ -107,5 +107,6 @@ module _ (h : Heap) (k : IsValid h) (q at count a : ℕ) (l : Lies h (record { n
         let same : a + 1 + at / 8 + (at % 8 + j) / 8 ≡ a + 1 + (at + j) / 8 = omega arith in
         let rest : (at % 8 + j) % 8 ≡ (at + j) % 8 = omega arith in
         each j less ∙ ap (λ i. byte_of ((at % 8 + j) % 8) (get_or h.words i 0)) same ∙ ap (λ r. byte_of r (get_or h.words (a + 1 + (at + j) / 8) 0)) rest
-        ∙ sym (byte_is h.words a (at + j) (omega arith)) ∙ sym (get_or-drop at (bytes_at h.words a) j 0) ∙ sym (get_or-take count (drop at (bytes_at h.words a)) j 0 (omega arith)));
+        ∙ sym (byte_is h.words a (at + j) (omega arith)) ∙ sym (get_or-drop at (bytes_at h.words a) j 0)
+        ∙ sym (get_or-take count (drop at (bytes_at h.words a)) j 0 (omega arith)));
   }

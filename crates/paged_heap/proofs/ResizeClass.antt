@@ -37,22 +37,22 @@ use Rattle.paged_heap.proofs.Preserved.{Becomes, becomes_kept, becomes_state, he
 use Rattle.paged_heap.proofs.TwoWrites.{between, cleared_then, moved_then, written_first}
 use Rattle.paged_heap.proofs.ResizeCopy.{are_now, arrived, carried_long, untouched}
 use Rattle.paged_heap.proofs.ResizeEnter.{at_table, is_free, new_inside, none_spare, of_table, slots_apart}
-use Rattle.paged_heap.proofs.FreedObject.{asked_some, it, it_class, it_found, it_slot, taken_some}
+use Rattle.paged_heap.proofs.FreedObject.{asked_some, it, it_bytes, it_class, it_found, it_slot, taken_some}
 use Rattle.paged_heap.proofs.ObjectWords.{few}
 use Rattle.paged_heap.proofs.WriteLemmas.{asked_changed, live_changed, taken_changed}
 
-module _ (h : Heap) (k : IsValid h) (x : Change) (is : IsChange h x) (b : ℕ) (n : Heap) (en : EntersAt h x b n) where
+module _ {h : Heap} (k : IsValid h) {x : Change} (is : IsChange h x) {b : ℕ} {n : Heap} (en : EntersAt h x b n) where
   abbrev pub object : Placed
-  object = it h k x.handle.0 x.place x.length x.class is.object
+  object = it k is.object
 
   pub found : get (held_in h) x.handle.0 ≡ Some object
-  found = it_found h k x.handle.0 x.place x.length x.class is.object
+  found = it_found k is.object
 
   object_class : class_at (paging_at h) object ≡ x.class
-  object_class = it_class h k x.handle.0 x.place x.length x.class is.object
+  object_class = it_class k is.object
 
   pub place_free : IsFreePlace (paging_at h) (held_in h) x.bytes b
-  place_free = is_free h k x is b (tables_in n) en.taken en.tables
+  place_free = is_free k is en.taken en.tables
 
   -- the object as it is to be
   abbrev pub new : Placed
@@ -84,16 +84,17 @@ module _ (h : Heap) (k : IsValid h) (x : Change) (is : IsChange h x) (b : ℕ) (
   both_sound = sound_placed (paging_at h) (held_in h) spare new unused (paging_ok h k) k.sound new_free
 
   pub both_tell : Tell (paging_at h) (tables_in n)
-  both_tell = taken_tell (paging_at h) (paging_ok h k) (held_in h) (tables_in h) (tables_in n) k.tell k.occupied (of_table h k x is b (tables_in n) en.taken en.tables) x.to b is.in_range (at_table h k x is b (tables_in n) en.taken en.tables)
+  both_tell = taken_tell (paging_ok h k) k.tell.part k.occupied (of_table k is en.taken en.tables) is.in_range (at_table k is en.taken en.tables) k.tell.whole
 
   pub both_occupied : Occupies (paging_at h) both (tables_in n)
   both_occupied =
-      taken_occupied (paging_at h) (paging_ok h k) (held_in h) (tables_in h) (tables_in n) k.tell k.occupied (of_table h k x is b (tables_in n) en.taken en.tables) x.to b is.in_range (at_table h k x is b (tables_in n) en.taken en.tables)
+      taken_occupied (paging_ok h k) k.tell.part k.occupied (of_table k is en.taken en.tables) is.in_range (at_table k is en.taken en.tables)
       spare new unused refl new_class
 
   -- the class of the old one has its objects as before
   same_on : (g : ℕ) → objects_on (paging_at h) both (class_at (paging_at h) object) g ≡ objects_on (paging_at h) (held_in h) (class_at (paging_at h) object) g
-  same_on g = objects_on-elsewhere (paging_at h) (held_in h) spare new unused (class_at (paging_at h) object) g (inr (λ e. is.other (sym new_class ∙ e ∙ object_class)))
+  same_on g = objects_on-elsewhere (paging_at h) (held_in h) spare new unused (class_at (paging_at h) object) g
+      (inr (λ e. is.other (sym new_class ∙ e ∙ object_class)))
 
   same_not_full : not_full_pages (paging_at h) both (class_at (paging_at h) object) ≡ not_full_pages (paging_at h) (held_in h) (class_at (paging_at h) object)
   same_not_full = not_full-same (paging_at h) (held_in h) both (class_at (paging_at h) object) same_on
@@ -112,29 +113,37 @@ module _ (h : Heap) (k : IsValid h) (x : Change) (is : IsChange h x) (b : ℕ) (
       subst (λ (t : ClassTable). IsUsed (tables_in n) x.class (page_at t x.place) (slot_at t x.class x.place)) (table_is h k ∙ sym en.classes) v
 
   pub entered_long : length n.words ≡ length h.words
-  entered_long = carried_long h k x is b place_free n.words en.words
+  entered_long = carried_long k is place_free en.words
 
   pub new_there : b + slot_for (paging_at h) x.bytes ≤ length n.words
-  new_there = (let l = entered_long in let i = new_inside h k x is b place_free in omega arith)
+  new_there = (let l = entered_long in let i = new_inside k is place_free in omega arith)
 
   -- the words with the new slot written, and the old one not cleared
   abbrev pub middle : List ℕ
-  middle = between h.words n.words b (slot_for (paging_at h) x.bytes) x.place (old_words h x) (new_inside h k x is b place_free) new_there (object_word x.handle.0 new.bytes) (slots_apart h k x is b place_free)
-      (arrived h k x is b place_free n.words en.words) (untouched h k x is b place_free n.words en.words)
+  middle = between h.words n.words b (slot_for (paging_at h) x.bytes) x.place (old_words h x) (new_inside k is place_free) new_there
+      (object_word x.handle.0 new.bytes) (slots_apart k is place_free)
+      (arrived k is place_free en.words) (untouched k is place_free en.words)
 
   pub rewritten : Rewrites h.words middle (record { from = b; count = slot_for (paging_at h) (length new.bytes) }) (object_word x.handle.0 new.bytes)
-  rewritten = subst (λ l. Rewrites h.words middle (record { from = b; count = slot_for (paging_at h) l }) (object_word x.handle.0 new.bytes)) (sym (length-resized object.bytes x.bytes))
-      (written_first h.words n.words b (slot_for (paging_at h) x.bytes) x.place (old_words h x) (new_inside h k x is b place_free) new_there (object_word x.handle.0 new.bytes) (slots_apart h k x is b place_free)
-      (arrived h k x is b place_free n.words en.words) (untouched h k x is b place_free n.words en.words))
+  rewritten = subst (λ l. Rewrites h.words middle (record { from = b; count = slot_for (paging_at h) l }) (object_word x.handle.0 new.bytes))
+      (sym (length-resized object.bytes x.bytes))
+      (written_first h.words n.words b (slot_for (paging_at h) x.bytes) x.place (old_words h x) (new_inside k is place_free) new_there
+      (object_word x.handle.0 new.bytes) (slots_apart k is place_free)
+      (arrived k is place_free en.words) (untouched k is place_free en.words))
 
-  pub then_cleared : (last : List ℕ) → Clears n.words last (record { from = x.place; count = old_words h x }) → Clears middle last (record { from = x.place; count = slot_for (paging_at h) (length object.bytes) })
-  then_cleared last c = subst (λ l. Clears middle last (record { from = x.place; count = l })) (it_slot h k x.handle.0 x.place x.length x.class is.object)
-      (cleared_then h.words n.words b (slot_for (paging_at h) x.bytes) x.place (old_words h x) (new_inside h k x is b place_free) new_there (object_word x.handle.0 new.bytes) (slots_apart h k x is b place_free)
-      (arrived h k x is b place_free n.words en.words) (untouched h k x is b place_free n.words en.words) last c)
+  pub then_cleared : (last : List ℕ) → Clears n.words last (record { from = x.place; count = old_words h x })
+      → Clears middle last (record { from = x.place; count = slot_for (paging_at h) (length object.bytes) })
+  then_cleared last c = subst (λ l. Clears middle last (record { from = x.place; count = l })) (it_slot k is.object)
+      (cleared_then h.words n.words b (slot_for (paging_at h) x.bytes) x.place (old_words h x) (new_inside k is place_free) new_there
+      (object_word x.handle.0 new.bytes) (slots_apart k is place_free)
+      (arrived k is place_free en.words) (untouched k is place_free en.words) last c)
 
-  pub then_moved : (last : List ℕ) (f : ℕ) → IsDisjoint x.place (old_words h x) f (old_words h x) → MovesWords n.words last (record { from = f; count = old_words h x }) x.place → MovesWords middle last (record { from = f; count = old_words h x }) x.place
-  then_moved = moved_then h.words n.words b (slot_for (paging_at h) x.bytes) x.place (old_words h x) (new_inside h k x is b place_free) new_there (object_word x.handle.0 new.bytes) (slots_apart h k x is b place_free)
-      (arrived h k x is b place_free n.words en.words) (untouched h k x is b place_free n.words en.words)
+  pub then_moved : (last : List ℕ) (f : ℕ) → IsDisjoint x.place (old_words h x) f (old_words h x)
+      → MovesWords n.words last (record { from = f; count = old_words h x }) x.place
+      → MovesWords middle last (record { from = f; count = old_words h x }) x.place
+  then_moved = moved_then h.words n.words b (slot_for (paging_at h) x.bytes) x.place (old_words h x) (new_inside k is place_free) new_there
+      (object_word x.handle.0 new.bytes) (slots_apart k is place_free)
+      (arrived k is place_free en.words) (untouched k is place_free en.words)
 
   -- by the other object that moves
   module _ (moved : Option ℕ) (mv : Moves (paging_at h) both object moved) where
@@ -178,19 +187,17 @@ module _ (h : Heap) (k : IsValid h) (x : Change) (is : IsChange h x) (b : ℕ) (
         ∙ ap (λ o. insert o x.handle.0 new.bytes) (free_objects (paging_at h) (paging_ok h k) (held_in h) k.sound x.handle.0 object found moved moves_before)
         ∙ insert_again (objects (held_in h)) x.handle.0 new.bytes
 
-    old_bytes : get (objects (held_in h)) x.handle.0 ≡ Some object.bytes
-    old_bytes = get-map_values (λ (y : Placed). y.bytes) (held_in h) x.handle.0 ∙ ap (option_map (λ (y : Placed). y.bytes)) found
-
     after_storable : AreStorable after
     after_storable = subst AreStorable (sym after_is)
         (storable_added (without (held_in h) x.handle.0 x.place moved) x.handle.0 new (storable_without (held_in h) x.handle.0 x.place moved (stored h k))
-        (few h k x.handle.0 x.place x.length x.class is.object) (are_now h k x is b place_free n.words en.words))
+        (few k is.object) (are_now k is place_free en.words))
 
     counts : (d : ℕ) → d < classes (paging_at h) → get_or n.live d 0 ≡ live (paging_at h) (objects after) d
     counts d lt =
-        let e = live_changed (paging_at h) (objects (held_in h)) x.handle.0 object.bytes new.bytes old_bytes d in
+        let e = live_changed (paging_at h) (objects (held_in h)) x.handle.0 object.bytes new.bytes (it_bytes k is.object) d in
         let was = k.counted d lt in
-        let all : live (paging_at h) (objects after) d ≡ live (paging_at h) (insert (objects (held_in h)) x.handle.0 new.bytes) d = ap (λ o. live (paging_at h) o d) objects_are in
+        let all : live (paging_at h) (objects after) d ≡ live (paging_at h) (insert (objects (held_in h)) x.handle.0 new.bytes) d =
+        ap (λ o. live (paging_at h) o d) objects_are in
         let now = ap (λ l. get_or l d 0) en.live in
         let long : length h.live ≡ 128 = k.live_long in
         let many = few_classes h k in
@@ -199,20 +206,25 @@ module _ (h : Heap) (k : IsValid h) (x : Change) (is : IsChange h x) (b : ℕ) (
         let d_in : x.to < length (set h.live x.class (get_or h.live x.class 0 - 1)) = (let r = is.in_range in omega arith) in
         elim (cases_eq d x.to) [
           | inl to ↦ (
-              let here : get_or (set (set h.live x.class (get_or h.live x.class 0 - 1)) x.to (get_or h.live x.to 0 + 1)) d 0 ≡ get_or h.live d 0 + 1 = rw to (get_or-set_same (set h.live x.class (get_or h.live x.class 0 - 1)) x.to (get_or h.live x.to 0 + 1) 0 d_in) in
+              let here : get_or (set (set h.live x.class (get_or h.live x.class 0 - 1)) x.to (get_or h.live x.to 0 + 1)) d 0 ≡ get_or h.live d 0 + 1 =
+              rw to (get_or-set_same (set h.live x.class (get_or h.live x.class 0 - 1)) x.to (get_or h.live x.to 0 + 1) 0 d_in) in
               let y : one (nat_eq (class_for (paging_at h) (length new.bytes)) d) ≡ 1 = ap one (eq_yes _ _ (new_class ∙ sym to)) in
               let z : one (nat_eq (class_for (paging_at h) (length object.bytes)) d) ≡ 0 = ap one (eq_no _ _ (λ e. is.other (sym to ∙ sym e ∙ object_class))) in
               omega arith)
           | inr nt ↦ (
-              let there : get_or (set (set h.live x.class (get_or h.live x.class 0 - 1)) x.to (get_or h.live x.to 0 + 1)) d 0 ≡ get_or (set h.live x.class (get_or h.live x.class 0 - 1)) d 0 = get_or-set_other (set h.live x.class (get_or h.live x.class 0 - 1)) x.to d (get_or h.live x.to 0 + 1) 0 nt in
+              let there : get_or (set (set h.live x.class (get_or h.live x.class 0 - 1)) x.to (get_or h.live x.to 0 + 1)) d 0 ≡ get_or
+              (set h.live x.class (get_or h.live x.class 0 - 1)) d 0 =
+              get_or-set_other (set h.live x.class (get_or h.live x.class 0 - 1)) x.to d (get_or h.live x.to 0 + 1) 0 nt in
               let y : one (nat_eq (class_for (paging_at h) (length new.bytes)) d) ≡ 0 = ap one (eq_no _ _ (λ e. nt (sym e ∙ new_class))) in
               elim (cases_eq d x.class) [
                 | inl of ↦ (
-                    let here : get_or (set h.live x.class (get_or h.live x.class 0 - 1)) d 0 ≡ get_or h.live d 0 - 1 = rw of (get_or-set_same h.live x.class (get_or h.live x.class 0 - 1) 0 c_in) in
+                    let here : get_or (set h.live x.class (get_or h.live x.class 0 - 1)) d 0 ≡ get_or h.live d 0 - 1 =
+                    rw of (get_or-set_same h.live x.class (get_or h.live x.class 0 - 1) 0 c_in) in
                     let z : one (nat_eq (class_for (paging_at h) (length object.bytes)) d) ≡ 1 = ap one (eq_yes _ _ (object_class ∙ sym of)) in
                     omega arith)
                 | inr off ↦ (
-                    let here : get_or (set h.live x.class (get_or h.live x.class 0 - 1)) d 0 ≡ get_or h.live d 0 = get_or-set_other h.live x.class d (get_or h.live x.class 0 - 1) 0 off in
+                    let here : get_or (set h.live x.class (get_or h.live x.class 0 - 1)) d 0 ≡ get_or h.live d 0 =
+                    get_or-set_other h.live x.class d (get_or h.live x.class 0 - 1) 0 off in
                     let z : one (nat_eq (class_for (paging_at h) (length object.bytes)) d) ≡ 0 = ap one (eq_no _ _ (λ e. off (sym e ∙ object_class))) in
                     omega arith)
               ])
@@ -244,21 +256,24 @@ module _ (h : Heap) (k : IsValid h) (x : Change) (is : IsChange h x) (b : ℕ) (
         occupied = occupied;
         limit = same.limit ∙ ap (λ p. p.limit) en.proxies;
         handles = handles;
-        live_long = ap length same.live ∙ ap length en.live ∙ length-set (set h.live x.class (get_or h.live x.class 0 - 1)) x.to (get_or h.live x.to 0 + 1) ∙ length-set h.live x.class (get_or h.live x.class 0 - 1) ∙ k.live_long;
+        live_long = ap length same.live ∙ ap length en.live
+            ∙ length-set (set h.live x.class (get_or h.live x.class 0 - 1)) x.to (get_or h.live x.to 0 + 1)
+            ∙ length-set h.live x.class (get_or h.live x.class 0 - 1) ∙ k.live_long;
         counted = λ d lt. ap (λ l. get_or l d 0) same.live ∙ counts d lt;
         asked_all = (
-            let e = asked_changed (paging_at h) (objects (held_in h)) x.handle.0 object.bytes new.bytes old_bytes in
+            let e = asked_changed (paging_at h) (objects (held_in h)) x.handle.0 object.bytes new.bytes (it_bytes k is.object) in
             let all = ap asked_bytes objects_are in let was = k.asked_all in let now = en.asked in let s = same.asked in
             let l = is.object.long in let l' = length-resized object.bytes x.bytes in
-            let some = asked_some h k x.handle.0 x.place x.length x.class is.object in
+            let some = asked_some k is.object in
             omega arith);
         taken_all = (
-            let e = taken_changed (paging_at h) (objects (held_in h)) x.handle.0 object.bytes new.bytes old_bytes in
+            let e = taken_changed (paging_at h) (objects (held_in h)) x.handle.0 object.bytes new.bytes (it_bytes k is.object) in
             let all = ap (taken_bytes (paging_at h)) objects_are in let was = k.taken_all in let now = en.all_taken in let s = same.taken in
-            let l = it_slot h k x.handle.0 x.place x.length x.class is.object in
-            let l' : slot_words (paging_at h) (class_for (paging_at h) (length new.bytes)) ≡ slot_words (paging_at h) x.to = ap (slot_words (paging_at h)) new_class in
+            let l = it_slot k is.object in
+            let l' : slot_words (paging_at h) (class_for (paging_at h) (length new.bytes)) ≡ slot_words (paging_at h) x.to =
+            ap (slot_words (paging_at h)) new_class in
             let l'' : get_or h.classes.sizes x.to 0 ≡ slot_words (paging_at h) x.to = ap (λ xs. get_or xs x.to 0) (sizes_are h k) in
-            let some = taken_some h k x.handle.0 x.place x.length x.class is.object in
+            let some = taken_some k is.object in
             omega arith);
       }
 
@@ -266,18 +281,26 @@ module _ (h : Heap) (k : IsValid h) (x : Change) (is : IsChange h x) (b : ℕ) (
         pub change_kept : IsValid m
         change_kept = becomes_kept h m k after be
 
-        pub change_resized : m.frames ≡ frames_left h.kind (state_of h) (record { held = after; moved = moved }) → (done : Resized) → done.old_slot_words ≡ get_or h.classes.sizes x.class 0 → done.slot_words ≡ get_or h.classes.sizes x.to 0 → number_of done.moved ≡ moved → ResizesObject (state_of h) asked done (state_of m)
+        pub change_resized : m.frames ≡ frames_left h.kind (state_of h) (record { held = after; moved = moved }) → (done : Resized)
+            → done.old_slot_words ≡ get_or h.classes.sizes x.class 0 → done.slot_words ≡ get_or h.classes.sizes x.to 0 → number_of done.moved ≡ moved
+            → ResizesObject (state_of h) asked done (state_of m)
         change_resized frames done was_words words none = record {
           pages = paged_kind h k;
           fits = is.fits;
           object = object;
           found = found;
-          old_slot = was_words ∙ it_slot h k x.handle.0 x.place x.length x.class is.object;
+          old_slot = was_words ∙ it_slot k is.object;
           slot = words ∙ ap (λ xs. get_or xs x.to 0) (sizes_are h k) ∙ ap (slot_words (paging_at h)) (sym is.class);
           step = subst (λ g. IsResizedBy (paging_at h) (held_in h) asked (record { held = g; moved = number_of done.moved })) (sym (held_is h m k after be))
               (subst (λ v. IsResizedBy (paging_at h) (held_in h) asked (record { held = after; moved = v })) (sym none) (inr step));
           left = ap objects (held_is h m k after be) ∙ objects_are;
           whole = becomes_state h m k after be
-              ∙ ap (λ fs. record (state_of h) { held = after; words = m.words; frames = fs; cost = m.cost }) (frames ∙ ap (λ v. frames_left h.kind (state_of h) (record { held = after; moved = v })) (sym none))
-              ∙ ap (λ g. record (state_of h) { held = g; words = m.words; frames = frames_left h.kind (state_of h) (record { held = g; moved = number_of done.moved }); cost = m.cost }) (sym (held_is h m k after be));
+              ∙ ap (λ fs. record (state_of h) { held = after; words = m.words; frames = fs; cost = m.cost })
+              (frames ∙ ap (λ v. frames_left h.kind (state_of h) (record { held = after; moved = v })) (sym none))
+              ∙ ap (λ g. record (state_of h) {
+                held = g;
+                words = m.words;
+                frames = frames_left h.kind (state_of h) (record { held = g; moved = number_of done.moved });
+                cost = m.cost;
+              }) (sym (held_is h m k after be));
         }

@@ -25,11 +25,15 @@ use Rattle.paged_heap.proofs.ByKind.{frames_stay}
 use Rattle.paged_heap.proofs.LayoutFacts.{paged_kind, paging_ok, table_is}
 use Rattle.paged_heap.proofs.Preserved.{Becomes, places_are}
 use Rattle.paged_heap.proofs.FreedObject.{it_class, moving, page_same, slot_same}
-use Rattle.paged_heap.proofs.ResizeClass.{Keeps, after, after_is, both, both_occupied, both_sound, both_tell, changes, entered_long, found, found_still, middle, must_before, new, new_free, object, rewritten, spare, spare_is_other, then_cleared, unused}
+use Rattle.paged_heap.proofs.ResizeClass.{Keeps, after, after_is, both, both_occupied, both_sound, both_tell, changes, entered_long, found, found_still, middle}
+use Rattle.paged_heap.proofs.ResizeClass.{must_before, new, new_free, object, rewritten, spare, spare_is_other, then_cleared, unused}
 
-module _ (h : Heap) (k : IsValid h) (x : Change) (is : IsChange h x) (b : ℕ) (n : Heap) (en : EntersAt h x b n) (stays : IsMoving h x.place x.class → ⊥) (e m : Heap)
-    (wiped : e ≡ record n { words = e.words }) (gone : Clears n.words e.words (record { from = x.place; count = old_words h x })) (long : length e.words ≡ length n.words) (framed : IsFramed h.kind m)
-    (freed' : Vacates (tables_in e) x.class (page_at e.classes x.place) (slot_at e.classes x.class x.place) (tables_in m)) (tables' : AreTables e.classes (tables_in m))
+module _ {h : Heap} (k : IsValid h) {x : Change} (is : IsChange h x) {b : ℕ} {n : Heap} (en : EntersAt h x b n) (stays : IsMoving h x.place x.class → ⊥)
+    (e m : Heap)
+    (wiped : e ≡ record n { words = e.words }) (gone : Clears n.words e.words (record { from = x.place; count = old_words h x }))
+    (long : length e.words ≡ length n.words) (framed : IsFramed h.kind m)
+    (freed' : Vacates (tables_in e) x.class (page_at e.classes x.place) (slot_at e.classes x.class x.place) (tables_in m))
+    (tables' : AreTables e.classes (tables_in m))
     (dropped' : m ≡ record e { maps = m.maps; lists = m.lists; pool = m.pool }) where
   freed : Vacates (tables_in n) x.class (page_at n.classes x.place) (slot_at n.classes x.class x.place) (tables_in m)
   freed = subst (λ (o : Heap). Vacates (tables_in o) x.class (page_at o.classes x.place) (slot_at o.classes x.class x.place) (tables_in m)) wiped freed'
@@ -40,10 +44,10 @@ module _ (h : Heap) (k : IsValid h) (x : Change) (is : IsChange h x) (b : ℕ) (
   dropped : m ≡ record n { maps = m.maps; lists = m.lists; pool = m.pool; words = e.words }
   dropped = dropped' ∙ ap (λ (o : Heap). record o { maps = m.maps; lists = m.lists; pool = m.pool }) wiped
 
-  pub never : MustMove (paging_at h) (both h k x is b n en) (object h k x is b n en) → ⊥
-  never must = stays (moving h k x.handle.0 x.place x.length x.class is.object (must_before h k x is b n en must))
+  pub never : MustMove (paging_at h) (both k is en) (object k is en) → ⊥
+  never must = stays (moving k is.object (must_before k is en must))
 
-  pub keeps : Keeps h k x is b n en None never m
+  pub keeps : Keeps k is en None never m
   keeps = record {
     kind = ap (λ (o : Heap). o.kind) dropped;
     settings = ap (λ (o : Heap). o.settings) dropped;
@@ -61,41 +65,42 @@ module _ (h : Heap) (k : IsValid h) (x : Change) (is : IsChange h x) (b : ℕ) (
   vacates : Vacates (tables_in n) x.class (page_at h.classes x.place) (slot_at h.classes x.class x.place) (tables_in m)
   vacates = subst (λ (t : ClassTable). Vacates (tables_in n) x.class (page_at t x.place) (slot_at t x.class x.place) (tables_in m)) en.classes freed
 
-  less : Occupies (paging_at h) (remove (both h k x is b n en) x.handle.0) (tables_in m)
-  less = vacated_occupied (paging_at h) (paging_ok h k) (both h k x is b n en) (tables_in n) (tables_in m) (both_tell h k x is b n en) (both_occupied h k x is b n en) kept_tables (both_sound h k x is b n en)
-      x.handle.0 (object h k x is b n en) (found_still h k x is b n en) x.class _ _ vacates
-      (it_class h k x.handle.0 x.place x.length x.class is.object) (page_same h k x.handle.0 x.place x.length x.class is.object) (slot_same h k x.handle.0 x.place x.length x.class is.object)
+  less : Occupies (paging_at h) (remove (both k is en) x.handle.0) (tables_in m)
+  less = vacated_occupied (paging_ok h k) (both_tell k is en).part (both_occupied k is en) kept_tables (both_sound k is en) x.handle.0
+      (found_still k is en) vacates
+      (it_class k is.object) (page_same k is.object) (slot_same k is.object)
 
-  occupied : Occupies (paging_at h) (after h k x is b n en None never) (tables_in m)
-  occupied = renumbered_occupied (paging_at h) (remove (both h k x is b n en) x.handle.0) (tables_in m) less (spare h k x is b n en) (new h k x is b n en)
-      (get_remove_other (both h k x is b n en) x.handle.0 (spare h k x is b n en) (spare_is_other h k x is b n en) ∙ get_inserted (held_in h) (spare h k x is b n en) (new h k x is b n en))
+  occupied : Occupies (paging_at h) (after k is en None never) (tables_in m)
+  occupied = renumbered_occupied less (spare k is en)
+      (get_remove_other (both k is en) x.handle.0 (spare k is en) (spare_is_other k is en) ∙ get_inserted (held_in h) (spare k is en) (new k is en))
       x.handle.0
-      (get_remove_other (remove (both h k x is b n en) x.handle.0) (spare h k x is b n en) x.handle.0 (λ e. spare_is_other h k x is b n en (sym e)) ∙ get_removed (both h k x is b n en) x.handle.0)
+      (get_remove_other (remove (both k is en) x.handle.0) (spare k is en) x.handle.0 (λ e. spare_is_other k is en (sym e))
+      ∙ get_removed (both k is en) x.handle.0)
 
-  image : IsSlotImage (paging_at h) (after h k x is b n en None never) e.words
-  image = subst (λ g. IsSlotImage (paging_at h) g e.words) (sym (after_is h k x is b n en None never))
-      (image_after_change (paging_at h) (paging_ok h k) (held_in h) k.sound h.words (middle h k x is b n en) e.words k.image k.words_long (long ∙ entered_long h k x is b n en ∙ k.words_long)
-      x.handle.0 (object h k x is b n en) (found h k x is b n en) b ((new h k x is b n en).bytes) (new_free h k x is b n en) (spare h k x is b n en) (unused h k x is b n en)
-      (rewritten h k x is b n en) (then_cleared h k x is b n en e.words gone))
+  image : IsSlotImage (paging_at h) (after k is en None never) e.words
+  image = subst (λ g. IsSlotImage (paging_at h) g e.words) (sym (after_is k is en None never))
+      (image_after_change (paging_at h) (paging_ok h k) (held_in h) k.sound h.words (middle k is en) e.words k.image k.words_long
+      (long ∙ entered_long k is en ∙ k.words_long)
+      x.handle.0 (object k is en) (found k is en) b ((new k is en).bytes) (new_free k is en) (spare k is en) (unused k is en)
+      (rewritten k is en) (then_cleared k is en e.words gone))
 
-  after_places : places (after h k x is b n en None never) ≡ insert h.proxies.places x.handle.0 b
+  after_places : places (after k is en None never) ≡ insert h.proxies.places x.handle.0 b
   after_places =
-      ap places (after_is h k x is b n en None never) ∙ map_values-insert (λ (y : Placed). y.place) (remove (held_in h) x.handle.0) x.handle.0 (new h k x is b n en)
+      ap places (after_is k is en None never) ∙ map_values-insert (λ (y : Placed). y.place) (remove (held_in h) x.handle.0) x.handle.0 (new k is en)
       ∙ ap (λ g. insert g x.handle.0 b) (still_places (held_in h) x.handle.0 x.place)
       ∙ insert_again (places (held_in h)) x.handle.0 b
       ∙ ap (λ g. insert g x.handle.0 b) (sym (places_are h k))
 
-  pub frames_are : m.frames ≡ frames_left h.kind (state_of h) (record { held = after h k x is b n en None never; moved = None })
-  frames_are = ap (λ (o : Heap). o.frames) dropped ∙ en.frames ∙ sym (frames_stay h.kind (paged_kind h k) (state_of h) (after h k x is b n en None never))
+  pub frames_are : m.frames ≡ frames_left h.kind (state_of h) (record { held = after k is en None never; moved = None })
+  frames_are = ap (λ (o : Heap). o.frames) dropped ∙ en.frames ∙ sym (frames_stay h.kind (paged_kind h k) (state_of h) (after k is en None never))
 
-  pub changed_alone : Becomes h m (after h k x is b n en None never)
-  changed_alone = changes h k x is b n en None never m keeps
+  pub changed_alone : Becomes h m (after k is en None never)
+  changed_alone = changes k is en None never m keeps
       framed
       (ap (λ (o : Heap). o.proxies.places) dropped ∙ ap (λ (o : Proxies). o.places) en.proxies ∙ sym after_places)
-      (ap (λ (o : Heap). length o.words) dropped ∙ long ∙ entered_long h k x is b n en)
-      (subst (λ ws. IsSlotImage (paging_at h) (after h k x is b n en None never) ws) (sym (ap (λ (o : Heap). o.words) dropped)) image)
-      (vacated_tell (paging_at h) (paging_ok h k) (both h k x is b n en) (tables_in n) (tables_in m) (both_tell h k x is b n en) (both_occupied h k x is b n en) kept_tables (both_sound h k x is b n en)
-      x.handle.0 (object h k x is b n en) (found_still h k x is b n en) x.class _ _ vacates
-      (it_class h k x.handle.0 x.place x.length x.class is.object) (page_same h k x.handle.0 x.place x.length x.class is.object) (slot_same h k x.handle.0 x.place x.length x.class is.object))
+      (ap (λ (o : Heap). length o.words) dropped ∙ long ∙ entered_long k is en)
+      (subst (λ ws. IsSlotImage (paging_at h) (after k is en None never) ws) (sym (ap (λ (o : Heap). o.words) dropped)) image)
+      (vacated_tell (paging_ok h k) (both_tell k is en).part (both_occupied k is en) kept_tables (both_sound k is en) x.handle.0 (found_still k is en) vacates
+      (it_class k is.object) (page_same k is.object) (slot_same k is.object) (both_tell k is en).whole)
       occupied
       (subst AreBelowLimit (sym (ap (λ (o : Heap). o.proxies) dropped)) en.handles)

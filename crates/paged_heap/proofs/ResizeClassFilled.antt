@@ -24,7 +24,7 @@ use Rattle.proxy_table.specs.Proxies.{AreBelowLimit, Proxies, with_place}
 use Rattle.page_slots.specs.Freeing.{FillsFrom}
 use Rattle.page_slots.specs.Tables.{AreTables, Tables}
 use Rattle.page_slots.specs.Occupying.{Occupies, Tell, class_table}
-use Rattle.page_slots.proofs.CallerLemmas.{filled_occupied, filled_tell, filler, filler_may, moves_some, renumbered_occupied}
+use Rattle.page_slots.proofs.CallerLemmas.{filled_occupied, filled_tell, filler, filler_in, filler_may, moves_some, renumbered_occupied}
 use Rattle.class_lists.specs.PageLists.{pages_in}
 use Rattle.class_lists.specs.declared.Which.TheVariants.{NotFull}
 use Rattle.paged_heap.specs.Heap.{Heap}
@@ -38,7 +38,9 @@ use Rattle.paged_heap.proofs.LayoutFacts.{number_small, paging_ok, place_known, 
 use Rattle.paged_heap.proofs.Preserved.{Becomes, places_are}
 use Rattle.paged_heap.proofs.ResizeCopy.{untouched}
 use Rattle.paged_heap.proofs.FreedObject.{it_class, it_inside, it_slot, must}
-use Rattle.paged_heap.proofs.ResizeClass.{Keeps, after, after_is, both, both_occupied, both_sound, both_tell, changes, entered_long, found, found_still, left, middle, moves_before, must_still, new, new_free, object, place_free, rewritten, spare, spare_is_other, then_moved, unused}
+use Rattle.paged_heap.proofs.ResizeClass.{Keeps, after, after_is, both, both_occupied, both_sound, both_tell, changes, entered_long, found, found_still, left}
+use Rattle.paged_heap.proofs.ResizeClass.{middle, moves_before, must_still, new, new_free, object, place_free, rewritten, spare, spare_is_other, then_moved}
+use Rattle.paged_heap.proofs.ResizeClass.{unused}
 
 -- two places may be given in either order
 pub placed_in_turn : (m : FinMap nat_cmp ℕ) (q r a b : ℕ) → r ≢ q → insert (insert m q b) r a ≡ insert (insert (remove m q) r a) q b
@@ -51,245 +53,306 @@ placed_in_turn m q r a b ne = equal_maps _ _ (λ t. elim (cases_eq t q) [
   ]
 ])
 
-module _ (h : Heap) (k : IsValid h) (x : Change) (is : IsChange h x) (b : ℕ) (n : Heap) (en : EntersAt h x b n) (moves : IsMoving h x.place x.class) where
-  due : MustMove (paging_at h) (both h k x is b n en) (object h k x is b n en)
-  due = must_still h k x is b n en (must h k x.handle.0 x.place x.length x.class is.object moves)
+module _ {h : Heap} (k : IsValid h) {x : Change} (is : IsChange h x) {b : ℕ} {n : Heap} (en : EntersAt h x b n) (moves : IsMoving h x.place x.class) where
+  still_due : MustMove (paging_at h) (both k is en) (object k is en)
+  still_due = must_still k is en (must k is.object moves)
 
   -- there is another object that fills the slot
   pub some_fills : 1 ≤ length (pages_in n.lists x.class NotFull)
   some_fills =
-      let e = it_class h k x.handle.0 x.place x.length x.class is.object in
-      let l = moves_some (paging_at h) (paging_ok h k) (both h k x is b n en) (tables_in n) (both_tell h k x is b n en) (both_occupied h k x is b n en) x.handle.0 (object h k x is b n en) (found_still h k x is b n en) due
+      let e = it_class k is.object in
+      let l = moves_some (paging_ok h k) (both_tell k is en).part (both_occupied k is en) x.handle.0 (found_still k is en) still_due
       (let lt = is.object.in_range in omega arith) in
       subst (λ d. 1 ≤ length (pages_in n.lists d NotFull)) e l
 
-  module _ (f : ℕ) (t : Tables) (filled : FillsFrom n.classes (tables_in n) x.class f t) (tables : AreTables n.classes t) where
-    abbrev pub words : ℕ
-    words = old_words h x
+-- The object is in its new class, and another one is found that moves to its old slot: its own slot, at f, is free in the tables t.
+pub record Refills (h : Heap) (x : Change) (b : ℕ) (n : Heap) (f : ℕ) (t : Tables) : Type 0 where
+  pub valid : IsValid h
+  pub change : IsChange h x
+  pub enters : EntersAt h x b n
+  pub moves : IsMoving h x.place x.class
+  pub filled : FillsFrom n.classes (tables_in n) x.class f t
+  pub tables : AreTables n.classes t
 
-    fills : FillsFrom (class_table (paging_at h)) (tables_in n) (class_at (paging_at h) (object h k x is b n en)) f t
-    fills = subst (λ d. FillsFrom (class_table (paging_at h)) (tables_in n) d f t) (sym (it_class h k x.handle.0 x.place x.length x.class is.object))
-        (subst (λ u. FillsFrom u (tables_in n) x.class f t) (en.classes ∙ sym (table_is h k)) filled)
+pub refills_of : {h : Heap} {x : Change} {b : ℕ} {n : Heap} {f : ℕ} {t : Tables} → IsValid h → IsChange h x → EntersAt h x b n → IsMoving h x.place x.class
+    → FillsFrom n.classes (tables_in n) x.class f t → AreTables n.classes t → Refills h x b n f t
+refills_of valid change enters moves filled tables = record { valid = valid; change = change; enters = enters; moves = moves; filled = filled; tables = tables }
 
-    kept_tables : AreTables (class_table (paging_at h)) t
-    kept_tables = subst (λ u. AreTables u t) (en.classes ∙ sym (table_is h k)) tables
+module _ {h : Heap} {x : Change} {b : ℕ} {n : Heap} {f : ℕ} {t : Tables} (fs : Refills h x b n f t) where
+  abbrev k : IsValid h
+  k = fs.valid
 
-    other : (r : ℕ) × (y : Placed) × (get (both h k x is b n en) r ≡ Some y) × (y.place ≡ f)
-    other = filler (paging_at h) (paging_ok h k) (both h k x is b n en) (tables_in n) t (both_tell h k x is b n en) (both_occupied h k x is b n en) kept_tables (both_sound h k x is b n en)
-        x.handle.0 (object h k x is b n en) (found_still h k x is b n en) f fills
+  abbrev is : IsChange h x
+  is = fs.change
 
-    pub r : ℕ
-    r = other.0
+  abbrev en : EntersAt h x b n
+  en = fs.enters
 
-    y : Placed
-    y = other.1
+  due : MustMove (paging_at h) (both k is en) (object k is en)
+  due = still_due k is en fs.moves
 
-    there : get (both h k x is b n en) r ≡ Some y
-    unfolding r y
-    there = other.2
+  abbrev pub words : ℕ
+  words = old_words h x
 
-    at : y.place ≡ f
-    unfolding y
-    at = other.3
+  fills : FillsFrom (class_table (paging_at h)) (tables_in n) (class_at (paging_at h) (object k is en)) f t
+  fills = subst (λ d. FillsFrom (class_table (paging_at h)) (tables_in n) d f t) (sym (it_class k is.object))
+      (subst (λ u. FillsFrom u (tables_in n) x.class f t) (en.classes ∙ sym (table_is h k)) fs.filled)
 
-    may : MayFill (paging_at h) (both h k x is b n en) (object h k x is b n en) y
-    may = filler_may (paging_at h) (paging_ok h k) (both h k x is b n en) (tables_in n) t (both_tell h k x is b n en) (both_occupied h k x is b n en) kept_tables (both_sound h k x is b n en)
-        x.handle.0 (object h k x is b n en) (found_still h k x is b n en) f fills r y there at
+  kept_tables : AreTables (class_table (paging_at h)) t
+  kept_tables = subst (λ u. AreTables u t) (en.classes ∙ sym (table_is h k)) fs.tables
 
-    pub mover : Moves (paging_at h) (both h k x is b n en) (object h k x is b n en) (Some r)
-    mover = (due, (y, there, may))
+  other : (r : ℕ) × (y : Placed) × (get (both k is en) r ≡ Some y) × (y.place ≡ f)
+  other = filler (paging_ok h k) (both_tell k is en).part (both_occupied k is en) (filler_in fills)
 
-    -- it stood before
-    before : Moves (paging_at h) (held_in h) (object h k x is b n en) (Some r)
-    before = moves_before h k x is b n en (Some r) mover
+  pub r : ℕ
+  r = other.0
 
-    stood : Placed
-    stood = before.1.0
+  y : Placed
+  y = other.1
 
-    stood_there : get (held_in h) r ≡ Some stood
-    unfolding stood
-    stood_there = before.1.1
+  there : get (both k is en) r ≡ Some y
+  unfolding r y
+  there = other.2
 
-    may_before : MayFill (paging_at h) (held_in h) (object h k x is b n en) stood
-    unfolding stood
-    may_before = before.1.2
+  at : y.place ≡ f
+  unfolding y
+  at = other.3
 
-    due_before : MustMove (paging_at h) (held_in h) (object h k x is b n en)
-    due_before = before.0
+  may : MayFill (paging_at h) (both k is en) (object k is en) y
+  may = filler_may (paging_ok h k) (both_tell k is en).part (both_occupied k is en) (object k is en) (filler_in fills) (both_sound k is en) r there at
 
-    stood_at : stood.place ≡ f
-    stood_at =
-        let s = (still (held_in h) (spare h k x is b n en) (new h k x is b n en) (unused h k x is b n en) r stood stood_there).1 in
-        let e : Some stood ≡ Some y = sym s ∙ there in
-        let same : stood ≡ y = cc in
-        ap (λ (z : Placed). z.place) same ∙ at
+  pub mover : Moves (paging_at h) (both k is en) (object k is en) (Some r)
+  mover = (due, (y, there, may))
 
-    not_spare : r ≢ spare h k x is b n en
-    not_spare = (still (held_in h) (spare h k x is b n en) (new h k x is b n en) (unused h k x is b n en) r stood stood_there).0
+  -- it stood before
+  before : Moves (paging_at h) (held_in h) (object k is en) (Some r)
+  before = moves_before k is en (Some r) mover
 
-    is_other : r ≢ x.handle.0
-    is_other = mover_is_other (paging_at h) (paging_ok h k) (held_in h) k.sound x.handle.0 (object h k x is b n en) (found h k x is b n en) r stood stood_there due_before may_before
+  stood : Placed
+  stood = before.1.0
 
-    same_slot : words ≡ slot_for (paging_at h) (length stood.bytes)
-    same_slot = it_slot h k x.handle.0 x.place x.length x.class is.object ∙ sym (ap (slot_words (paging_at h)) may_before.class)
+  stood_there : get (held_in h) r ≡ Some stood
+  unfolding stood
+  stood_there = before.1.1
 
-    -- its words are in the region, and apart from the others
-    pub source_in : f + words ≤ length n.words
-    source_in = (
-        let l = object_inside (paging_at h) (held_in h) k.sound r stood stood_there in
-        let e = same_slot in let p = stood_at in let long = k.words_long in let long' = entered_long h k x is b n en in
-        omega arith)
+  may_before : MayFill (paging_at h) (held_in h) (object k is en) stood
+  unfolding stood
+  may_before = before.1.2
 
-    pub target_in : x.place + words ≤ length n.words
-    target_in = (let i = it_inside h k x.handle.0 x.place x.length x.class is.object in let long = entered_long h k x is b n en in omega arith)
+  due_before : MustMove (paging_at h) (held_in h) (object k is en)
+  due_before = before.0
 
-    pub place_in : f < length n.words
-    place_in = (
-        let s = source_in in
-        let e = it_slot h k x.handle.0 x.place x.length x.class is.object in
-        let least = (paging_ok h k).sized.least (class_at (paging_at h) (object h k x is b n en)) (k.sound.slots x.handle.0 (object h k x is b n en) (found h k x is b n en)).class in
-        omega arith)
+  stood_at : stood.place ≡ f
+  stood_at =
+      let s = (still (held_in h) (spare k is en) (new k is en) (unused k is en) r stood stood_there).1 in
+      let e : Some stood ≡ Some y = sym s ∙ there in
+      let same : stood ≡ y = cc in
+      ap (λ (z : Placed). z.place) same ∙ at
 
-    pub slots_apart : (f + words ≤ x.place) ⊎ (x.place + words ≤ f)
-    slots_apart =
-        let d = sound_apart_from (paging_at h) (held_in h) k.sound r stood stood_there x.handle.0 (object h k x is b n en) (found h k x is b n en) (λ e. is_other (sym e)) in
-        let e = same_slot in let g = it_slot h k x.handle.0 x.place x.length x.class is.object in let p = stood_at in
-        elim d [ inl l ↦ inl (omega arith) | inr l ↦ inr (omega arith) ]
+  not_spare : r ≢ spare k is en
+  not_spare = (still (held_in h) (spare k is en) (new k is en) (unused k is en) r stood stood_there).0
 
-    new_apart : IsDisjoint b (slot_for (paging_at h) x.bytes) f words
-    new_apart =
-        let d = place_apart (paging_at h) (paging_ok h k) (held_in h) k.sound x.bytes b (place_free h k x is b n en) (spare h k x is b n en) (unused h k x is b n en) r stood stood_there in
-        let e = same_slot in let p = stood_at in
-        elim d [ inl l ↦ inl (omega arith) | inr l ↦ inr (omega arith) ]
+  is_other : r ≢ x.handle.0
+  is_other = mover_is_other (paging_at h) (paging_ok h k) (held_in h) k.sound x.handle.0 (object k is en) (found k is en) r stood stood_there due_before
+      may_before
 
-    words_some : 0 < words
-    words_some = (
-        let e = it_slot h k x.handle.0 x.place x.length x.class is.object in
-        let least = (paging_ok h k).sized.least (class_at (paging_at h) (object h k x is b n en)) (k.sound.slots x.handle.0 (object h k x is b n en) (found h k x is b n en)).class in
-        omega arith)
+  same_slot : words ≡ slot_for (paging_at h) (length stood.bytes)
+  same_slot = it_slot k is.object ∙ sym (ap (slot_words (paging_at h)) may_before.class)
 
-    -- its header tells its number
-    pub number_told : get_or n.words f 0 % 2 ^ 32 ≡ r
-    number_told =
-        let small = number_small h k r stood stood_there in
-        let few = h.settings.few_proxies in
-        let some = words_some in
-        let far : IsOutside x.place words f = elim slots_apart [ inl l ↦ inl (omega arith) | inr l ↦ inr l ] in
-        let out : IsOutside b (slot_for (paging_at h) x.bytes) f = elim new_apart [ inl l ↦ inr l | inr l ↦ inl (omega arith) ] in
-        let u = untouched h k x is b (place_free h k x is b n en) n.words en.words f far out in
-        let t = header_told (held_in h) h.words r stood (own_words (paging_at h) (paging_ok h k) (held_in h) k.sound h.words k.image) stood_there (omega arith) in
-        ap (λ w. w % 2 ^ 32) u ∙ ap (λ i. get_or h.words i 0 % 2 ^ 32) (sym stood_at) ∙ t.0
+  -- its words are in the region, and apart from the others
+  pub source_in : f + words ≤ length n.words
+  source_in = (
+      let l = object_inside (paging_at h) (held_in h) k.sound r stood stood_there in
+      let e = same_slot in let p = stood_at in let long = k.words_long in let long' = entered_long k is en in
+      omega arith)
 
-    -- it is live
-    pub live_still : IsSome (get n.proxies.places r)
-    live_still = ap is_some (ap (λ (p : Proxies). get p.places r) en.proxies ∙ get_insert_other h.proxies.places x.handle.0 b r is_other ∙ place_known h k r stood stood_there)
+  pub target_in : x.place + words ≤ length n.words
+  target_in = (let i = it_inside k is.object in let long = entered_long k is en in omega arith)
 
-    far_from : IsDisjoint x.place words f words
-    far_from = elim slots_apart [ inl l ↦ inr l | inr l ↦ inl l ]
+  pub place_in : f < length n.words
+  place_in = (
+      let s = source_in in
+      let e = it_slot k is.object in
+      let least = (paging_ok h k).sized.least (class_at (paging_at h) (object k is en)) (k.sound.slots x.handle.0 (object k is en) (found k is en)).class in
+      omega arith)
 
-    -- the words after the move
-    module _ (last_words : List ℕ) (long : length last_words ≡ length n.words) (words_move : MovesWords n.words last_words (record { from = f; count = words }) x.place) where
-      moves_words : MovesWords (middle h k x is b n en) last_words (record { from = stood.place; count = slot_for (paging_at h) (length stood.bytes) }) x.place
-      moves_words =
-          subst (λ s. MovesWords (middle h k x is b n en) last_words (record { from = stood.place; count = s }) x.place) same_slot
-          (subst (λ p. MovesWords (middle h k x is b n en) last_words (record { from = p; count = words }) x.place) (sym stood_at)
-          (then_moved h k x is b n en last_words f far_from words_move))
+  pub slots_apart : (f + words ≤ x.place) ⊎ (x.place + words ≤ f)
+  slots_apart =
+      let d = sound_apart_from (paging_at h) (held_in h) k.sound r stood stood_there x.handle.0 (object k is en) (found k is en) (λ e. is_other (sym e)) in
+      let e = same_slot in let g = it_slot k is.object in let p = stood_at in
+      elim d [ inl l ↦ inl (omega arith) | inr l ↦ inr (omega arith) ]
 
-      image : IsSlotImage (paging_at h) (after h k x is b n en (Some r) mover) last_words
-      image =
-          let i = image_after_change_and_move (paging_at h) (paging_ok h k) (held_in h) k.sound h.words (middle h k x is b n en) last_words k.image k.words_long
-          (long ∙ entered_long h k x is b n en ∙ k.words_long)
-          x.handle.0 (object h k x is b n en) (found h k x is b n en) b ((new h k x is b n en).bytes) (new_free h k x is b n en) (spare h k x is b n en) (unused h k x is b n en)
-          (rewritten h k x is b n en) r stood stood_there due_before may_before moves_words in
-          let e : get (held_in h) r ≡ Some stood = stood_there in
-          subst (λ g. IsSlotImage (paging_at h) g last_words) (sym (after_is h k x is b n en (Some r) mover)) (rw e i)
+  new_apart : IsDisjoint b (slot_for (paging_at h) x.bytes) f words
+  new_apart =
+      let d = place_apart (paging_at h) (paging_ok h k) (held_in h) k.sound x.bytes b (place_free k is en) (spare k is en) (unused k is en) r stood
+      stood_there in
+      let e = same_slot in let p = stood_at in
+      elim d [ inl l ↦ inl (omega arith) | inr l ↦ inr (omega arith) ]
 
-    -- the slots are those of whole blocks
-    pub whole_target : IsWhole h.kind x.place
-    whole_target = (whole_slot h k x.handle.0 (object h k x is b n en) (found h k x is b n en)).0
+  words_some : 0 < words
+  words_some = (
+      let e = it_slot k is.object in
+      let least = (paging_ok h k).sized.least (class_at (paging_at h) (object k is en)) (k.sound.slots x.handle.0 (object k is en) (found k is en)).class in
+      omega arith)
 
-    pub whole_source : IsWhole h.kind f
-    whole_source = subst (IsWhole h.kind) stood_at (whole_slot h k r stood stood_there).0
+  -- its header tells its number
+  pub number_told : get_or n.words f 0 % 2 ^ 32 ≡ r
+  number_told =
+      let small = number_small h k r stood stood_there in
+      let few = h.settings.few_proxies in
+      let some = words_some in
+      let far : IsOutside x.place words f = elim slots_apart [ inl l ↦ inl (omega arith) | inr l ↦ inr l ] in
+      let out : IsOutside b (slot_for (paging_at h) x.bytes) f = elim new_apart [ inl l ↦ inr l | inr l ↦ inl (omega arith) ] in
+      let u = untouched k is (place_free k is en) en.words f far out in
+      let t = header_told (held_in h) h.words r stood (own_words (paging_at h) (paging_ok h k) (held_in h) k.sound h.words k.image) stood_there (omega arith) in
+      ap (λ w. w % 2 ^ 32) u ∙ ap (λ i. get_or h.words i 0 % 2 ^ 32) (sym stood_at) ∙ t.0
 
-    pub whole_words : IsWhole h.kind words
-    whole_words = subst (IsWhole h.kind) (sym same_slot) (whole_slot h k r stood stood_there).1
+  -- it is live
+  pub live_still : IsSome (get n.proxies.places r)
+  live_still = ap is_some (ap (λ (p : Proxies). get p.places r) en.proxies ∙ get_insert_other h.proxies.places x.handle.0 b r is_other
+      ∙ place_known h k r stood stood_there)
 
-    after_places : places (after h k x is b n en (Some r) mover) ≡ insert (insert h.proxies.places x.handle.0 b) r x.place
-    after_places =
-        ap places (after_is h k x is b n en (Some r) mover) ∙ map_values-insert (λ (z : Placed). z.place) (without (held_in h) x.handle.0 x.place (Some r)) x.handle.0 (new h k x is b n en)
-        ∙ ap (λ g. insert g x.handle.0 b) (moved_places (paging_at h) (paging_ok h k) (held_in h) k.sound x.handle.0 (object h k x is b n en) (found h k x is b n en) r stood stood_there due_before may_before)
-        ∙ sym (placed_in_turn (places (held_in h)) x.handle.0 r x.place b is_other)
-        ∙ ap (λ g. insert (insert g x.handle.0 b) r x.place) (sym (places_are h k))
+  far_from : IsDisjoint x.place words f words
+  far_from = elim slots_apart [ inl l ↦ inr l | inr l ↦ inl l ]
 
-    refilled : Occupies (paging_at h) (left h k x is b n en (Some r) mover) t
-    refilled = filled_occupied (paging_at h) (paging_ok h k) (both h k x is b n en) (tables_in n) t (both_tell h k x is b n en) (both_occupied h k x is b n en) kept_tables (both_sound h k x is b n en)
-        x.handle.0 (object h k x is b n en) (found_still h k x is b n en) f fills r y there at due
+  -- the words after the move
+  module _ (last_words : List ℕ) (long : length last_words ≡ length n.words)
+      (words_move : MovesWords n.words last_words (record { from = f; count = words }) x.place) where
+    moves_words : MovesWords (middle k is en) last_words (record { from = stood.place; count = slot_for (paging_at h) (length stood.bytes) }) x.place
+    moves_words =
+        subst (λ s. MovesWords (middle k is en) last_words (record { from = stood.place; count = s }) x.place) same_slot
+        (subst (λ p. MovesWords (middle k is en) last_words (record { from = p; count = words }) x.place) (sym stood_at)
+        (then_moved k is en last_words f far_from words_move))
 
-    new_stays : get (left h k x is b n en (Some r) mover) (spare h k x is b n en) ≡ Some (new h k x is b n en)
-    new_stays =
-        let e : get (both h k x is b n en) r ≡ Some y = there in
-        rw e (get_insert_other (remove (both h k x is b n en) x.handle.0) r _ (spare h k x is b n en) (λ s. not_spare (sym s))
-        ∙ get_remove_other (both h k x is b n en) x.handle.0 (spare h k x is b n en) (spare_is_other h k x is b n en) ∙ get_inserted (held_in h) (spare h k x is b n en) (new h k x is b n en))
+    image : IsSlotImage (paging_at h) (after k is en (Some r) mover) last_words
+    image =
+        let i = image_after_change_and_move (paging_at h) (paging_ok h k) (held_in h) k.sound h.words (middle k is en) last_words k.image k.words_long
+        (long ∙ entered_long k is en ∙ k.words_long)
+        x.handle.0 (object k is en) (found k is en) b ((new k is en).bytes) (new_free k is en) (spare k is en) (unused k is en)
+        (rewritten k is en) r stood stood_there due_before may_before moves_words in
+        let e : get (held_in h) r ≡ Some stood = stood_there in
+        subst (λ g. IsSlotImage (paging_at h) g last_words) (sym (after_is k is en (Some r) mover)) (rw e i)
 
-    old_gone : get (left h k x is b n en (Some r) mover) x.handle.0 ≡ None
-    old_gone =
-        let e : get (both h k x is b n en) r ≡ Some y = there in
-        rw e (get_insert_other (remove (both h k x is b n en) x.handle.0) r _ x.handle.0 (λ s. is_other (sym s)) ∙ get_removed (both h k x is b n en) x.handle.0)
+  -- the slots are those of whole blocks
+  pub whole_target : IsWhole h.kind x.place
+  whole_target = (whole_slot h k x.handle.0 (object k is en) (found k is en)).0
 
-    occupied : Occupies (paging_at h) (after h k x is b n en (Some r) mover) t
-    occupied = renumbered_occupied (paging_at h) (left h k x is b n en (Some r) mover) t refilled (spare h k x is b n en) (new h k x is b n en) new_stays x.handle.0
-        (get_remove_other (left h k x is b n en (Some r) mover) (spare h k x is b n en) x.handle.0 (λ e. spare_is_other h k x is b n en (sym e)) ∙ old_gone)
+  pub whole_source : IsWhole h.kind f
+  whole_source = subst (IsWhole h.kind) stood_at (whole_slot h k r stood stood_there).0
 
-    -- w are the slot's words, and i is the other's number
-    module _ (u m : Heap) (w i : ℕ) (size_w : w ≡ words) (told : i ≡ r)
-        (same : tables_in u ≡ t) (eu : u ≡ record n { maps = u.maps; lists = u.lists; pool = u.pool })
-        (em : m ≡ record u { proxies = with_place u.proxies i x.place; words = m.words; frames = m.frames }) (shift' : MovesSlot u m f x.place w) (framed : IsFramed h.kind m) (handles : AreBelowLimit m.proxies) where
-      whole : m ≡ record n { maps = u.maps; lists = u.lists; pool = u.pool; proxies = with_place n.proxies r x.place; words = m.words; frames = m.frames }
-      whole = em
-          ∙ ap (λ (o : Heap). record o { proxies = with_place o.proxies i x.place; words = m.words; frames = m.frames }) eu
-          ∙ ap (λ j. record n { maps = u.maps; lists = u.lists; pool = u.pool; proxies = with_place n.proxies j x.place; words = m.words; frames = m.frames }) told
+  pub whole_words : IsWhole h.kind words
+  whole_words = subst (IsWhole h.kind) (sym same_slot) (whole_slot h k r stood stood_there).1
 
-      shift : MovesSlot n m f x.place words
-      shift = subst (MovesSlot n m f x.place) size_w (record {
-        long = shift'.long ∙ ap (λ (o : Heap). length o.words) eu;
-        words = subst (λ ws. MovesWords ws m.words (record { from = f; count = w }) x.place) (ap (λ (o : Heap). o.words) eu) shift'.words;
-        frames = shift'.frames ∙ ap (λ (o : Heap). exchanged o.frames (f / 4) (x.place / 4) (w / 4)) eu;
-      })
+  after_places : places (after k is en (Some r) mover) ≡ insert (insert h.proxies.places x.handle.0 b) r x.place
+  after_places =
+      ap places (after_is k is en (Some r) mover)
+      ∙ map_values-insert (λ (z : Placed). z.place) (without (held_in h) x.handle.0 x.place (Some r)) x.handle.0 (new k is en)
+      ∙ ap (λ g. insert g x.handle.0 b)
+      (moved_places (paging_at h) (paging_ok h k) (held_in h) k.sound x.handle.0 (object k is en) (found k is en) r stood stood_there due_before may_before)
+      ∙ sym (placed_in_turn (places (held_in h)) x.handle.0 r x.place b is_other)
+      ∙ ap (λ g. insert (insert g x.handle.0 b) r x.place) (sym (places_are h k))
 
-      on : tables_in m ≡ t
-      on = ap tables_in whole ∙ same
+  refilled : Occupies (paging_at h) (left k is en (Some r) mover) t
+  refilled = filled_occupied (paging_ok h k) (both_tell k is en).part (both_occupied k is en) kept_tables x.handle.0 (found_still k is en) fills
+      (both_sound k is en) r there at due
 
-      pub keeps : Keeps h k x is b n en (Some r) mover m
-      keeps = record {
-        kind = ap (λ (o : Heap). o.kind) whole;
-        settings = ap (λ (o : Heap). o.settings) whole;
-        classes = ap (λ (o : Heap). o.classes) whole;
-        bounds = ap (λ (o : Heap). o.bounds) whole;
-        live = ap (λ (o : Heap). o.live) whole;
-        asked = ap (λ (o : Heap). o.asked) whole;
-        taken = ap (λ (o : Heap). o.taken) whole;
-        limit = ap (λ (o : Heap). o.proxies.limit) whole;
-      }
+  new_stays : get (left k is en (Some r) mover) (spare k is en) ≡ Some (new k is en)
+  new_stays =
+      let e : get (both k is en) r ≡ Some y = there in
+      rw e (get_insert_other (remove (both k is en) x.handle.0) r _ (spare k is en) (λ s. not_spare (sym s))
+      ∙ get_remove_other (both k is en) x.handle.0 (spare k is en) (spare_is_other k is en) ∙ get_inserted (held_in h) (spare k is en) (new k is en))
 
-      -- the frames are those that the model has
-      pub frames_are : m.frames ≡ frames_left h.kind (state_of h) (record { held = after h k x is b n en (Some r) mover; moved = Some r })
-      frames_are =
-          let e : get (after h k x is b n en (Some r) mover) r ≡ Some (record { place = x.place; bytes = stood.bytes }) =
-          ap (λ g. get g r) (after_is h k x is b n en (Some r) mover) ∙ get_insert_other (without (held_in h) x.handle.0 x.place (Some r)) x.handle.0 (new h k x is b n en) r is_other
-          ∙ (let g : get (held_in h) r ≡ Some stood = stood_there in rw g (get_inserted (remove (held_in h) x.handle.0) r (record { place = x.place; bytes = stood.bytes }))) in
-          shift.frames
-          ∙ ap (λ fs. exchanged fs (f / 4) (x.place / 4) (words / 4)) en.frames
-          ∙ ap (λ s. exchanged h.frames (f / 4) (x.place / 4) (s / 4)) same_slot
-          ∙ ap (λ p. exchanged h.frames (p / 4) (x.place / 4) (slot_for (paging_at h) (length stood.bytes) / 4)) (sym stood_at)
-          ∙ sym (frames_change h.kind h k.framed (after h k x is b n en (Some r) mover) r stood (record { place = x.place; bytes = stood.bytes }) stood_there e)
+  old_gone : get (left k is en (Some r) mover) x.handle.0 ≡ None
+  old_gone =
+      let e : get (both k is en) r ≡ Some y = there in
+      rw e (get_insert_other (remove (both k is en) x.handle.0) r _ x.handle.0 (λ s. is_other (sym s)) ∙ get_removed (both k is en) x.handle.0)
 
-      pub changed_filled : Becomes h m (after h k x is b n en (Some r) mover)
-      changed_filled = changes h k x is b n en (Some r) mover m keeps
-          framed
-          (ap (λ (o : Heap). o.proxies.places) whole ∙ ap (λ (p : Proxies). insert p.places r x.place) en.proxies ∙ sym after_places)
-          (shift.long ∙ entered_long h k x is b n en)
-          (image m.words shift.long shift.words)
-          (subst (Tell (paging_at h)) (sym on) (filled_tell (paging_at h) (paging_ok h k) (both h k x is b n en) (tables_in n) t (both_tell h k x is b n en) (both_occupied h k x is b n en) kept_tables (both_sound h k x is b n en)
-          x.handle.0 (object h k x is b n en) (found_still h k x is b n en) f fills))
-          (subst (Occupies (paging_at h) (after h k x is b n en (Some r) mover)) (sym on) occupied)
-          handles
+  occupied : Occupies (paging_at h) (after k is en (Some r) mover) t
+  occupied = renumbered_occupied refilled (spare k is en) new_stays x.handle.0
+      (get_remove_other (left k is en (Some r) mover) (spare k is en) x.handle.0 (λ e. spare_is_other k is en (sym e)) ∙ old_gone)
+
+  -- the filler has moved: w are the slot's words, and i is the other's number
+  pub record Lands (u m : Heap) (w i : ℕ) : Type 0 where
+    pub size_w : w ≡ words
+    pub told : i ≡ r
+    pub same : tables_in u ≡ t
+    pub found : u ≡ record n { maps = u.maps; lists = u.lists; pool = u.pool }
+    pub moved : m ≡ record u { proxies = with_place u.proxies i x.place; words = m.words; frames = m.frames }
+    pub shift : MovesSlot u m f x.place w
+    pub framed : IsFramed h.kind m
+    pub handles : AreBelowLimit m.proxies
+
+  -- the number that is read from its header is its own
+  pub told_by : {u : Heap} {i word : ℕ} → u ≡ record n { maps = u.maps; lists = u.lists; pool = u.pool } → word ≡ get_or u.words f 0 → i ≡ word % 2 ^ 32 → i ≡ r
+  told_by found read number = number ∙ ap (λ w. w % 2 ^ 32) read ∙ ap (λ (o : Heap). get_or o.words f 0 % 2 ^ 32) found ∙ number_told
+
+  pub live_there : {u : Heap} {i : ℕ} → u ≡ record n { maps = u.maps; lists = u.lists; pool = u.pool } → i ≡ r → IsSome (get u.proxies.places i)
+  live_there {u} {i} found told =
+      subst (λ i. IsSome (get u.proxies.places i)) (sym told) (subst (λ (o : Heap). IsSome (get o.proxies.places r)) (sym found) live_still)
+
+  pub lands_of : {u m : Heap} {w i : ℕ} → w ≡ words → i ≡ r → tables_in u ≡ t → u ≡ record n { maps = u.maps; lists = u.lists; pool = u.pool }
+      → m ≡ record u { proxies = with_place u.proxies i x.place; words = m.words; frames = m.frames } → MovesSlot u m f x.place w
+      → IsFramed h.kind m → AreBelowLimit m.proxies → Lands u m w i
+  lands_of size_w told same found moved shift framed handles =
+      record { size_w = size_w; told = told; same = same; found = found; moved = moved; shift = shift; framed = framed; handles = handles }
+
+  module _ {u m : Heap} {w i : ℕ} (l : Lands u m w i) where
+    whole : m ≡ record n { maps = u.maps; lists = u.lists; pool = u.pool; proxies = with_place n.proxies r x.place; words = m.words; frames = m.frames }
+    whole = l.moved
+        ∙ ap (λ (o : Heap). record o { proxies = with_place o.proxies i x.place; words = m.words; frames = m.frames }) l.found
+        ∙ ap (λ j. record n {
+          maps = u.maps;
+          lists = u.lists;
+          pool = u.pool;
+          proxies = with_place n.proxies j x.place;
+          words = m.words;
+          frames = m.frames;
+        }) l.told
+
+    shift : MovesSlot n m f x.place words
+    shift = subst (MovesSlot n m f x.place) l.size_w (record {
+      long = l.shift.long ∙ ap (λ (o : Heap). length o.words) l.found;
+      words = subst (λ ws. MovesWords ws m.words (record { from = f; count = w }) x.place) (ap (λ (o : Heap). o.words) l.found) l.shift.words;
+      frames = l.shift.frames ∙ ap (λ (o : Heap). exchanged o.frames (f / 4) (x.place / 4) (w / 4)) l.found;
+    })
+
+    on : tables_in m ≡ t
+    on = ap tables_in whole ∙ l.same
+
+    pub keeps : Keeps k is en (Some r) mover m
+    keeps = record {
+      kind = ap (λ (o : Heap). o.kind) whole;
+      settings = ap (λ (o : Heap). o.settings) whole;
+      classes = ap (λ (o : Heap). o.classes) whole;
+      bounds = ap (λ (o : Heap). o.bounds) whole;
+      live = ap (λ (o : Heap). o.live) whole;
+      asked = ap (λ (o : Heap). o.asked) whole;
+      taken = ap (λ (o : Heap). o.taken) whole;
+      limit = ap (λ (o : Heap). o.proxies.limit) whole;
+    }
+
+    -- the frames are those that the model has
+    pub frames_are : m.frames ≡ frames_left h.kind (state_of h) (record { held = after k is en (Some r) mover; moved = Some r })
+    frames_are =
+        let e : get (after k is en (Some r) mover) r ≡ Some (record { place = x.place; bytes = stood.bytes }) =
+        ap (λ g. get g r) (after_is k is en (Some r) mover)
+        ∙ get_insert_other (without (held_in h) x.handle.0 x.place (Some r)) x.handle.0 (new k is en) r is_other
+        ∙ (let g : get (held_in h) r ≡ Some stood = stood_there in
+        rw g (get_inserted (remove (held_in h) x.handle.0) r (record { place = x.place; bytes = stood.bytes }))) in
+        shift.frames
+        ∙ ap (λ fs. exchanged fs (f / 4) (x.place / 4) (words / 4)) en.frames
+        ∙ ap (λ s. exchanged h.frames (f / 4) (x.place / 4) (s / 4)) same_slot
+        ∙ ap (λ p. exchanged h.frames (p / 4) (x.place / 4) (slot_for (paging_at h) (length stood.bytes) / 4)) (sym stood_at)
+        ∙ sym (frames_change h.kind h k.framed (after k is en (Some r) mover) r stood (record { place = x.place; bytes = stood.bytes }) stood_there e)
+
+    pub changed_filled : Becomes h m (after k is en (Some r) mover)
+    changed_filled = changes k is en (Some r) mover m keeps
+        l.framed
+        (ap (λ (o : Heap). o.proxies.places) whole ∙ ap (λ (p : Proxies). insert p.places r x.place) en.proxies ∙ sym after_places)
+        (shift.long ∙ entered_long k is en)
+        (image m.words shift.long shift.words)
+        (subst (Tell (paging_at h)) (sym on)
+        (filled_tell (paging_ok h k) (both_tell k is en).part (both_occupied k is en) kept_tables x.handle.0 (found_still k is en) fills
+        (both_tell k is en).whole))
+        (subst (Occupies (paging_at h) (after k is en (Some r) mover)) (sym on) occupied)
+        l.handles

@@ -20,7 +20,8 @@ use Rattle.paged_heap.proofs.LayoutFacts.{paging_ok}
 use Rattle.paged_heap.proofs.FreedObject.{it_inside, it_slot}
 use Rattle.paged_heap.proofs.ObjectWords.{before, few, past_new, past_old, was_byte, was_small, word_is, zero_byte}
 
-module _ (h : Heap) (k : IsValid h) (x : Change) (is : IsChange h x) (b : ℕ) (free : IsFreePlace (paging_at h) (held_in h) x.bytes b) (new : List ℕ) (ca : Carries h.words new x b) where
+module _ {h : Heap} (k : IsValid h) {x : Change} (is : IsChange h x) {b : ℕ} (free : IsFreePlace (paging_at h) (held_in h) x.bytes b) {new : List ℕ}
+    (ca : Carries h.words new x b) where
   abbrev old : List ℕ
   old = bytes_at h.words x.place
 
@@ -35,7 +36,7 @@ module _ (h : Heap) (k : IsValid h) (x : Change) (is : IsChange h x) (b : ℕ) (
   are_now = resized_are_bytes old x.bytes (bytes_at-AreBytes h.words x.place)
 
   number_few : x.handle.0 < 2 ^ 32
-  number_few = few h k x.handle.0 x.place x.length x.class is.object
+  number_few = few k is.object
 
   -- the slots, and the words that are kept
   abbrev s : ℕ
@@ -48,22 +49,22 @@ module _ (h : Heap) (k : IsValid h) (x : Change) (is : IsChange h x) (b : ℕ) (
   w = kept_words x
 
   s_is : old_words h x ≡ slot_for (paging_at h) (length old)
-  s_is = it_slot h k x.handle.0 x.place x.length x.class is.object
+  s_is = it_slot k is.object
 
   s_in : x.place + s ≤ length h.words
-  s_in = it_inside h k x.handle.0 x.place x.length x.class is.object
+  s_in = it_inside k is.object
 
   s_holds : 1 + (x.length + 7) / 8 ≤ s
-  s_holds = holds_bytes h k x.handle.0 x.place x.length x.class is.object
+  s_holds = holds_bytes k is.object
 
   z_in : b + z ≤ length h.words
-  z_in = new_inside h k x is b free
+  z_in = new_inside k is free
 
   z_holds : 1 + (x.bytes + 7) / 8 ≤ z
-  z_holds = new_holds h k x is b free
+  z_holds = new_holds k is free
 
   apart : (b + z ≤ x.place) ⊎ (x.place + s ≤ b)
-  apart = slots_apart h k x is b free
+  apart = slots_apart k is free
 
   w_old : w ≤ (x.length + 7) / 8
   w_old = omega arith
@@ -131,13 +132,13 @@ module _ (h : Heap) (k : IsValid h) (x : Change) (is : IsChange h x) (b : ℕ) (
   kept_byte : (i j : ℕ) → i < w → j < 8 → byte_of j (get_or mv (b + suc i) 0) ≡ get_or old (8 * i + j) 0
   kept_byte i j lt less = (
       let r = s_holds in let l = w_old in let e = s_is in
-      ap (byte_of j) (moved_kept i lt) ∙ was_byte h k x.handle.0 x.place x.length x.class is.object i j (omega arith) less)
+      ap (byte_of j) (moved_kept i lt) ∙ was_byte k is.object i j (omega arith) less)
 
   kept_small : (i : ℕ) → i < w → get_or mv (b + suc i) 0 < 2 ^ 64
   kept_small i lt = (
       let r = s_holds in let l = w_old in let e = s_is in
       let m = moved_kept i lt in
-      let f = was_small h k x.handle.0 x.place x.length x.class is.object i (omega arith) in
+      let f = was_small k is.object i (omega arith) in
       omega arith)
 
   abbrev IsWord : ℕ → Type 0
@@ -148,7 +149,7 @@ module _ (h : Heap) (k : IsValid h) (x : Change) (is : IsChange h x) (b : ℕ) (
   rest_word i le lt =
       let e : get_or cut (b + suc i) 0 ≡ 0 = cut_elsewhere (b + suc i) (inr (omega arith)) ∙ moved_rest i le lt in (
         (λ j less. ap (byte_of j) e ∙ zero_byte j ∙ elim (cases_lt (8 * i + j) x.bytes) [
-          | inl inside ↦ (let a = w_all.0 (omega arith) in sym (past_old h k x.handle.0 x.place x.length x.class is.object (8 * i + j) (omega arith)) ∙ before old x.bytes (8 * i + j) inside)
+          | inl inside ↦ (let a = w_all.0 (omega arith) in sym (past_old k is.object (8 * i + j) (omega arith)) ∙ before old x.bytes (8 * i + j) inside)
           | inr past ↦ sym (past_new old x.bytes (8 * i + j) past)
         ]),
         omega arith,
@@ -211,7 +212,8 @@ module _ (h : Heap) (k : IsValid h) (x : Change) (is : IsChange h x) (b : ℕ) (
   arrived zero lt = (
       let at : b + 0 ≡ b = omega arith in
       let inside : b < length cut = (let l = cut_long in let i = z_in in omega arith) in
-      headed (b + 0) ∙ ap (λ v. get_or (set cut b (header_word x.handle.0 x.bytes)) v 0) at ∙ get_or-set_same cut b (header_word x.handle.0 x.bytes) 0 inside ∙ ap (header_word x.handle.0) (sym now_long))
+      headed (b + 0) ∙ ap (λ v. get_or (set cut b (header_word x.handle.0 x.bytes)) v 0) at
+      ∙ get_or-set_same cut b (header_word x.handle.0 x.bytes) 0 inside ∙ ap (header_word x.handle.0) (sym now_long))
   arrived (suc i) lt =
       headed (b + suc i) ∙ get_or-set_other cut b (b + suc i) (header_word x.handle.0 x.bytes) 0 (omega arith) ∙ any_word i lt
 

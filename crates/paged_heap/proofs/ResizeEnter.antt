@@ -42,12 +42,13 @@ none_spare h k = go (get (held_in h) h.settings.proxies) refl
     go None e = e
     go (Some y) e = absurd (let lt = number_small h k h.settings.proxies y e in omega arith)
 
-module _ (h : Heap) (k : IsValid h) (x : Change) (is : IsChange h x) where
+module _ {h : Heap} (k : IsValid h) {x : Change} (is : IsChange h x) where
   -- where no slot was taken, there is no room
   pub lacks : (new : Tables) → TakesSlot h.classes (tables_in h) x.to None new → LacksRoom (paging_at h) (held_in h) x.to
-  lacks new none = refused_lacks_room (paging_at h) (paging_ok h k) (held_in h) (tables_in h) k.tell k.occupied x.to new (subst (λ t. TakesSlot t (tables_in h) x.to None new) (sym (table_is h k)) none)
+  lacks new none = refused_lacks_room (paging_ok h k) k.tell.part k.occupied k.tell.whole x.to new
+      (subst (λ t. TakesSlot t (tables_in h) x.to None new) (sym (table_is h k)) none)
 
-  module _ (b : ℕ) (new : Tables) (t : TakesAt h.classes (tables_in h) x.to b new) (tables : AreTables h.classes new) where
+  module _ {b : ℕ} {new : Tables} (t : TakesAt h.classes (tables_in h) x.to b new) (tables : AreTables h.classes new) where
     abbrev pub at_table : TakesAt (class_table (paging_at h)) (tables_in h) x.to b new
     at_table = subst (λ t. TakesAt t (tables_in h) x.to b new) (sym (table_is h k)) t
 
@@ -55,9 +56,9 @@ module _ (h : Heap) (k : IsValid h) (x : Change) (is : IsChange h x) where
     of_table = subst (λ t. AreTables t new) (sym (table_is h k)) tables
 
     pub is_free : IsFreePlace (paging_at h) (held_in h) x.bytes b
-    is_free = taken_is_free (paging_at h) (paging_ok h k) (held_in h) (tables_in h) new k.tell k.occupied of_table x.to b is.in_range at_table x.bytes is.class
+    is_free = taken_is_free (paging_ok h k) k.tell.part k.occupied of_table is.in_range at_table x.bytes is.class
 
-  module _ (b : ℕ) (free : IsFreePlace (paging_at h) (held_in h) x.bytes b) where
+  module _ {b : ℕ} (free : IsFreePlace (paging_at h) (held_in h) x.bytes b) where
     pub new_inside : b + slot_for (paging_at h) x.bytes ≤ length h.words
     new_inside = (let i = slot_inside (paging_at h) (class_for (paging_at h) x.bytes) b free.slot in let long = k.words_long in omega arith)
 
@@ -65,16 +66,18 @@ module _ (h : Heap) (k : IsValid h) (x : Change) (is : IsChange h x) where
     new_holds = class_holds (paging_at h) (paging_ok h k) x.bytes free.slot.class
 
     pub slots_apart : IsDisjoint b (slot_for (paging_at h) x.bytes) x.place (old_words h x)
-    slots_apart = subst (λ n. IsDisjoint b (slot_for (paging_at h) x.bytes) x.place n) (sym (it_slot h k x.handle.0 x.place x.length x.class is.object))
+    slots_apart = subst (λ n. IsDisjoint b (slot_for (paging_at h) x.bytes) x.place n) (sym (it_slot k is.object))
         (place_apart (paging_at h) (paging_ok h k) (held_in h) k.sound x.bytes b free h.settings.proxies (none_spare h k) x.handle.0
-        (it h k x.handle.0 x.place x.length x.class is.object) (it_found h k x.handle.0 x.place x.length x.class is.object))
+        (it k is.object) (it_found k is.object))
 
     pub new_whole : IsWhole h.kind b
     new_whole =
-        let y = resized_at b (it h k x.handle.0 x.place x.length x.class is.object) x.bytes in
-        let there : IsFreePlace (paging_at h) (held_in h) (length y.bytes) b = subst (λ m. IsFreePlace (paging_at h) (held_in h) m b) (sym (length-resized (bytes_at h.words x.place) x.bytes)) free in
+        let y = resized_at b (it k is.object) x.bytes in
+        let there : IsFreePlace (paging_at h) (held_in h) (length y.bytes) b =
+        subst (λ m. IsFreePlace (paging_at h) (held_in h) m b) (sym (length-resized (bytes_at h.words x.place) x.bytes)) free in
         let sound = sound_placed (paging_at h) (held_in h) h.settings.proxies y (none_spare h k) (paging_ok h k) k.sound there in
-        (whole_by h.kind (paged_kind h k) (profile_of h.settings) (take (length h.classes.sizes) h.bounds) h.settings.page_size (paging_ok h k) (insert (held_in h) h.settings.proxies y) sound h.settings.proxies y (get_inserted (held_in h) h.settings.proxies y)).0
+        (whole_by h.kind (paged_kind h k) (profile_of h.settings) (take (length h.classes.sizes) h.bounds) h.settings.page_size (paging_ok h k)
+        (insert (held_in h) h.settings.proxies y) sound h.settings.proxies y (get_inserted (held_in h) h.settings.proxies y)).0
 
     pub target : b + 1 + (x.bytes + 7) / 8 ≤ length h.words
     target = (let i = new_inside in let r = new_holds in omega arith)
@@ -87,11 +90,11 @@ module _ (h : Heap) (k : IsValid h) (x : Change) (is : IsChange h x) (n : Heap) 
   pub refused : IsResizeStep (state_of h) (record { number = x.handle.0; length = x.bytes }) (Err resize.Space) (state_of n)
   refused = (
     record {
-      object = it h k x.handle.0 x.place x.length x.class is.object;
-      found = it_found h k x.handle.0 x.place x.length x.class is.object;
+      object = it k is.object;
+      found = it_found k is.object;
       pages = paged_kind h k;
       fits = is.fits;
-      other = λ e. is.other (sym is.class ∙ e ∙ it_class h k x.handle.0 x.place x.length x.class is.object);
+      other = λ e. is.other (sym is.class ∙ e ∙ it_class k is.object);
       lacking = subst (LacksRoom (paging_at h) (held_in h)) (sym is.class) none.lacking;
     },
     unmoved h.kind (paged_kind h k) (state_of h) (state_of n) (same_state h n none.rest),
@@ -103,16 +106,23 @@ words_apart a b s z w (inl l) p q = inr (omega arith)
 words_apart a b s z w (inr l) p q = inl (omega arith)
 
 -- a slot is taken, the object brought there, counted out of its old class and into its new one
-pub entered : (h : Heap) (x : Change) → IsChange h x → (b : ℕ) (t c o n : Heap) → TakesAt h.classes (tables_in h) x.to b (tables_in t) → AreTables h.classes (tables_in t)
+pub entered : (h : Heap) (x : Change) → IsChange h x → (b : ℕ) (t c o n : Heap) → TakesAt h.classes (tables_in h) x.to b (tables_in t)
+    → AreTables h.classes (tables_in t)
     → t ≡ record h { maps = t.maps; lists = t.lists; pool = t.pool }
     → c ≡ record t { proxies = with_place t.proxies x.handle.0 b; words = c.words } → Carries t.words c.words x b → AreBelowLimit c.proxies
-    → o ≡ record c { live = set c.live x.class (get_or c.live x.class 0 - 1); asked = c.asked - x.length; taken = c.taken - 8 * get_or c.classes.sizes x.class 0 }
+    → o ≡ record c {
+      live = set c.live x.class (get_or c.live x.class 0 - 1);
+      asked = c.asked - x.length;
+      taken = c.taken - 8 * get_or c.classes.sizes x.class 0;
+    }
     → n ≡ record o { live = set o.live x.to (get_or o.live x.to 0 + 1); asked = o.asked + x.bytes; taken = o.taken + 8 * get_or o.classes.sizes x.to 0 }
     → EntersAt h x b n
 entered h x is b t c o n taken tables et ec carries handles eo en =
     let to_c = ec ∙ ap (λ (z : Heap). record z { proxies = with_place z.proxies x.handle.0 b; words = c.words }) et in
-    let to_o = eo ∙ ap (λ (z : Heap). record z { live = set z.live x.class (get_or z.live x.class 0 - 1); asked = z.asked - x.length; taken = z.taken - 8 * get_or z.classes.sizes x.class 0 }) to_c in
-    let to_n = en ∙ ap (λ (z : Heap). record z { live = set z.live x.to (get_or z.live x.to 0 + 1); asked = z.asked + x.bytes; taken = z.taken + 8 * get_or z.classes.sizes x.to 0 }) to_o in
+    let to_o = eo ∙ ap (λ (z : Heap). record z
+    { live = set z.live x.class (get_or z.live x.class 0 - 1); asked = z.asked - x.length; taken = z.taken - 8 * get_or z.classes.sizes x.class 0 }) to_c in
+    let to_n = en ∙ ap (λ (z : Heap). record z
+    { live = set z.live x.to (get_or z.live x.to 0 + 1); asked = z.asked + x.bytes; taken = z.taken + 8 * get_or z.classes.sizes x.to 0 }) to_o in
     record {
       settings = ap (λ (z : Heap). z.settings) to_n;
       classes = ap (λ (z : Heap). z.classes) to_n;
@@ -120,11 +130,14 @@ entered h x is b t c o n taken tables et ec carries handles eo en =
       taken = subst (TakesAt h.classes (tables_in h) x.to b) (sym (ap tables_in to_n)) taken;
       tables = subst (AreTables h.classes) (sym (ap tables_in to_n)) tables;
       kind = ap (λ (z : Heap). z.kind) to_n;
-      words = subst (λ ws. Carries ws n.words x b) (ap (λ (z : Heap). z.words) et) (subst (λ ws. Carries t.words ws x b) (sym (ap (λ (z : Heap). z.words) en ∙ ap (λ (z : Heap). z.words) eo)) carries);
+      words = subst (λ ws. Carries ws n.words x b) (ap (λ (z : Heap). z.words) et)
+          (subst (λ ws. Carries t.words ws x b) (sym (ap (λ (z : Heap). z.words) en ∙ ap (λ (z : Heap). z.words) eo)) carries);
       frames = ap (λ (z : Heap). z.frames) to_n;
       proxies = ap (λ (z : Heap). z.proxies) to_n;
       handles = subst AreBelowLimit (sym (ap (λ (z : Heap). z.proxies) en ∙ ap (λ (z : Heap). z.proxies) eo)) handles;
-      live = ap (λ (z : Heap). z.live) to_n ∙ ap (λ m. set (set h.live x.class (get_or h.live x.class 0 - 1)) x.to (m + 1)) (get_or-set_other h.live x.class x.to (get_or h.live x.class 0 - 1) 0 is.other);
+      live = ap (λ (z : Heap). z.live) to_n
+          ∙ ap (λ m. set (set h.live x.class (get_or h.live x.class 0 - 1)) x.to (m + 1))
+          (get_or-set_other h.live x.class x.to (get_or h.live x.class 0 - 1) 0 is.other);
       asked = ap (λ (z : Heap). z.asked) to_n;
       all_taken = ap (λ (z : Heap). z.taken) to_n;
     }
@@ -138,5 +151,5 @@ pub kept_few : (h : Heap) (k : IsValid h) (x : Change) (is : IsChange h x) → k
 kept_few h k x is =
     let o = holds h k x.handle.0 x.place is.object.known in
     let l = is.object.long in
-    let e = it_slot h k x.handle.0 x.place x.length x.class is.object in
+    let e = it_slot k is.object in
     omega arith

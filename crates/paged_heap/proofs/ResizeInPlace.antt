@@ -1,5 +1,6 @@
 -- An object that gets another length in its slot.
-use Rattle.std.proofs.Common.{◌≡◌, ◌≢◌, ℕ, zero, suc, ◌+◌, ◌-◌, ◌*◌, ◌/◌, ◌%◌, ◌^◌, ◌<◌, ◌≤◌, List, length, get_or, set, take, drop, replicate, None, arith, sym, ◌∙◌, ap, subst, inl, inr}
+use Rattle.std.proofs.Common.{◌≡◌, ◌≢◌, ℕ, zero, suc, ◌+◌, ◌-◌, ◌*◌, ◌/◌, ◌%◌, ◌^◌, ◌<◌, ◌≤◌, List, length, get_or, set, take, drop, replicate, None, arith}
+use Rattle.std.proofs.Common.{sym, ◌∙◌, ap, subst, inl, inr}
 use Rattle.std.proofs.lemmas.Bool.{cases_eq, cases_lt}
 use Rattle.std.proofs.lemmas.List.{get_or-drop, get_or-take, length-take, get_or-replicate, get_or-set_same, get_or-set_other, length-set}
 use Rattle.std.proofs.Common.{length-drop}
@@ -79,12 +80,15 @@ module _ (old mid new : List ℕ) (a n m : ℕ) (less : n < m) (inside : a + 1 +
         omega arith);
     low = λ j lt.
         ap (byte_of j) first ∙ byte j (omega arith) ∙ w.value j (omega arith)
-        ∙ overwritten_before (λ b. byte_of (b % 8) (get_or old (a + 1 + n / 8 + b / 8) 0)) (n % 8) (take (8 - n % 8) (drop (n % 8) (replicate 8 0))) j lt ∙ was j (omega arith);
+        ∙ overwritten_before (λ b. byte_of (b % 8) (get_or old (a + 1 + n / 8 + b / 8) 0)) (n % 8) (take (8 - n % 8) (drop (n % 8) (replicate 8 0))) j
+        lt ∙ was j (omega arith);
     high = λ j le lt.
         let len = zeros_long in
         ap (byte_of j) first ∙ byte j lt ∙ w.value j (omega arith)
-        ∙ overwritten_inside (λ b. byte_of (b % 8) (get_or old (a + 1 + n / 8 + b / 8) 0)) (n % 8) (take (8 - n % 8) (drop (n % 8) (replicate 8 0))) j le (omega arith)
-        ∙ get_or-take (8 - n % 8) (drop (n % 8) (replicate {A = ℕ} 8 0)) (j - n % 8) 0 (omega arith) ∙ get_or-drop (n % 8) (replicate {A = ℕ} 8 0) (j - n % 8) 0 ∙ get_or-replicate {A = ℕ} 8 (n % 8 + (j - n % 8)) 0 0 (omega arith);
+        ∙ overwritten_inside (λ b. byte_of (b % 8) (get_or old (a + 1 + n / 8 + b / 8) 0)) (n % 8) (take (8 - n % 8) (drop (n % 8) (replicate 8 0))) j
+        le (omega arith)
+        ∙ get_or-take (8 - n % 8) (drop (n % 8) (replicate {A = ℕ} 8 0)) (j - n % 8) 0 (omega arith)
+        ∙ get_or-drop (n % 8) (replicate {A = ℕ} 8 0) (j - n % 8) 0 ∙ get_or-replicate {A = ℕ} 8 (n % 8 + (j - n % 8)) 0 0 (omega arith);
     zeros = λ i low high.
         let at : a + 1 + i ≡ a + 1 + n / 8 + 1 + (i - n / 8 - 1) = omega arith in
         ap (λ v. get_or new v 0) at ∙ clear.within (i - n / 8 - 1) (omega arith);
@@ -107,35 +111,38 @@ module _ (h t n : Heap) (k : IsValid h) (q a m c : ℕ) (o : IsObjectAt h q a m 
   are = resized_are_bytes old size (bytes_at-AreBytes h.words a)
 
   old_holds : need m ≤ slot_for (paging_at h) (length old)
-  old_holds = (let l = o.long in let r = class_holds (paging_at h) (paging_ok h k) (length old) (k.sound.slots q _ (it_found h k q a m c o)).class in omega arith)
+  old_holds = (let l = o.long in let r = class_holds (paging_at h) (paging_ok h k) (length old) (k.sound.slots q _ (it_found k o)).class in omega arith)
 
   same_slot : slot_words (paging_at h) (class_for (paging_at h) size) ≡ slot_for (paging_at h) (length old)
-  same_slot = ap (slot_words (paging_at h)) (same ∙ sym (it_class h k q a m c o))
+  same_slot = ap (slot_words (paging_at h)) (same ∙ sym (it_class k o))
 
   new_holds : need size ≤ slot_for (paging_at h) (length old)
-  new_holds = (let r = class_holds (paging_at h) (paging_ok h k) size (subst (λ d. d < classes (paging_at h)) (sym same) o.in_range) in let e = same_slot in omega arith)
+  new_holds =
+      let r = class_holds (paging_at h) (paging_ok h k) size (subst (λ d. d < classes (paging_at h)) (sym same) o.in_range) in
+      let e = same_slot in omega arith
 
   pub size_few : size ≤ 131072
   size_few = (let r = new_holds in let s = slot_small h k q a o.known in omega arith)
 
   in_slot : a + slot_for (paging_at h) (length old) ≤ length h.words
-  in_slot = (let i = it_inside h k q a m c o in let e = it_slot h k q a m c o in omega arith)
+  in_slot = (let i = it_inside k o in let e = it_slot k o in omega arith)
 
   -- each word behind the header after the cut, as bytes and as a number of 64 bits
-  cut_word : size < m → (i : ℕ) → suc i < slot_for (paging_at h) (length old) → ((j : ℕ) → j < 8 → byte_of j (get_or t.words (a + suc i) 0) ≡ get_or new (8 * i + j) 0) × (get_or t.words (a + suc i) 0 < 2 ^ 64)
+  cut_word : size < m → (i : ℕ) → suc i < slot_for (paging_at h) (length old)
+      → ((j : ℕ) → j < 8 → byte_of j (get_or t.words (a + suc i) 0) ≡ get_or new (8 * i + j) 0) × (get_or t.words (a + suc i) 0 < 2 ^ 64)
   cut_word less i lt =
       let k' = cut less in
       elim (cases_lt i (size / 8)) [
         | inl low ↦ (
             let e : get_or t.words (a + suc i) 0 ≡ get_or h.words (a + suc i) 0 = k'.others (a + suc i) (inl (omega arith)) in
-            ((λ j l. ap (byte_of j) e ∙ was_byte h k q a m c o i j lt l ∙ before old size (8 * i + j) (omega arith)), (let s = was_small h k q a m c o i lt in omega arith)))
+            ((λ j l. ap (byte_of j) e ∙ was_byte k o i j lt l ∙ before old size (8 * i + j) (omega arith)), (let s = was_small k o i lt in omega arith)))
         | inr high ↦ elim (cases_eq i (size / 8)) [
           | inl is ↦ (
               let at : a + suc i ≡ a + 1 + size / 8 = omega arith in
               let e = ap (λ w. get_or t.words w 0) at in
               let f = ap (λ w. get_or h.words w 0) at in (
                 (λ j l. ap (byte_of j) e ∙ elim (cases_lt j (size % 8)) [
-                  | inl first ↦ k'.low j first ∙ sym (ap (byte_of j) f) ∙ was_byte h k q a m c o i j lt l ∙ before old size (8 * i + j) (omega arith)
+                  | inl first ↦ k'.low j first ∙ sym (ap (byte_of j) f) ∙ was_byte k o i j lt l ∙ before old size (8 * i + j) (omega arith)
                   | inr rest ↦ k'.high j rest l ∙ sym (past_new old size (8 * i + j) (omega arith))
                 ]),
                 (let s = k'.small in omega arith),
@@ -147,8 +154,11 @@ module _ (h t n : Heap) (k : IsValid h) (q a m c : ℕ) (o : IsObjectAt h q a m 
                 let e : get_or t.words (a + suc i) 0 ≡ 0 = ap (λ w. get_or t.words w 0) (sym at) ∙ z in
                 ((λ j l. ap (byte_of j) e ∙ zero_byte j ∙ sym (past_new old size (8 * i + j) (omega arith))), omega arith))
             | inr behind ↦ (
-                let e : get_or t.words (a + suc i) 0 ≡ get_or h.words (a + suc i) 0 = k'.others (a + suc i) (inr (omega arith)) in
-                ((λ j l. ap (byte_of j) e ∙ was_byte h k q a m c o i j lt l ∙ past_old h k q a m c o (8 * i + j) (omega arith) ∙ sym (past_new old size (8 * i + j) (omega arith))), (let s = was_small h k q a m c o i lt in omega arith)))
+                let e : get_or t.words (a + suc i) 0 ≡ get_or h.words (a + suc i) 0 = k'.others (a + suc i) (inr (omega arith)) in (
+                  (λ j l. ap (byte_of j) e ∙ was_byte k o i j lt l ∙ past_old k o (8 * i + j) (omega arith)
+                      ∙ sym (past_new old size (8 * i + j) (omega arith))),
+                  (let s = was_small k o i lt in omega arith),
+                ))
           ]
         ]
       ]
@@ -158,19 +168,20 @@ module _ (h t n : Heap) (k : IsValid h) (q a m c : ℕ) (o : IsObjectAt h q a m 
     | inl less ↦ cut_word less i lt
     | inr le ↦ (
         let e : get_or t.words (a + suc i) 0 ≡ get_or h.words (a + suc i) 0 = ap (λ (x : Heap). get_or x.words (a + suc i) 0) (kept le) in (
-          (λ j l. ap (byte_of j) e ∙ was_byte h k q a m c o i j lt l ∙ elim (cases_lt (8 * i + j) size) [
+          (λ j l. ap (byte_of j) e ∙ was_byte k o i j lt l ∙ elim (cases_lt (8 * i + j) size) [
             | inl inside ↦ before old size (8 * i + j) inside
-            | inr past ↦ past_old h k q a m c o (8 * i + j) (omega arith) ∙ sym (past_new old size (8 * i + j) past)
+            | inr past ↦ past_old k o (8 * i + j) (omega arith) ∙ sym (past_new old size (8 * i + j) past)
           ]),
-          (let s = was_small h k q a m c o i lt in omega arith),
+          (let s = was_small k o i lt in omega arith),
         ))
   ])
     where
       new_small : length new < 2 ^ 32
       new_small = (let l = new_long in let r = size_few in omega arith)
 
-      by_bytes : ((j : ℕ) → j < 8 → byte_of j (get_or t.words (a + suc i) 0) ≡ get_or new (8 * i + j) 0) × (get_or t.words (a + suc i) 0 < 2 ^ 64) → get_or t.words (a + suc i) 0 ≡ object_word q new (suc i)
-      by_bytes (each, small) = word_is q new i (get_or t.words (a + suc i) 0) (few h k q a m c o) new_small are small each
+      by_bytes : ((j : ℕ) → j < 8 → byte_of j (get_or t.words (a + suc i) 0) ≡ get_or new (8 * i + j) 0) × (get_or t.words (a + suc i) 0 < 2 ^ 64)
+          → get_or t.words (a + suc i) 0 ≡ object_word q new (suc i)
+      by_bytes (each, small) = word_is q new i (get_or t.words (a + suc i) 0) (few k o) new_small are small each
 
   long_t : length t.words ≡ length h.words
   long_t = elim (cases_lt size m) [
@@ -204,62 +215,78 @@ module _ (h t n : Heap) (k : IsValid h) (q a m c : ℕ) (o : IsObjectAt h q a m 
       in_word : (i : ℕ) → i < slot_for (paging_at h) (length old) → get_or n.words (a + i) 0 ≡ object_word q new i
       in_word zero lt =
           let at : a + 0 ≡ a = omega arith in
-          ap (λ w. get_or n.words w 0) at ∙ ap (λ ws. get_or ws a 0) region_is ∙ get_or-set_same t.words a (header_word q size) 0 place_in_t ∙ ap (header_word q) (sym new_long)
-      in_word (suc i) lt = ap (λ ws. get_or ws (a + suc i) 0) region_is ∙ get_or-set_other t.words a (a + suc i) (header_word q size) 0 (omega arith) ∙ any_word i lt
+          ap (λ w. get_or n.words w 0) at ∙ ap (λ ws. get_or ws a 0) region_is ∙ get_or-set_same t.words a (header_word q size) 0 place_in_t
+          ∙ ap (header_word q) (sym new_long)
+      in_word (suc i) lt = ap (λ ws. get_or ws (a + suc i) 0) region_is ∙ get_or-set_other t.words a (a + suc i) (header_word q size) 0 (omega arith)
+          ∙ any_word i lt
 
   class_new : class_for (paging_at h) (length new) ≡ class_for (paging_at h) (length old)
-  class_new = ap (class_for (paging_at h)) new_long ∙ same ∙ sym (it_class h k q a m c o)
+  class_new = ap (class_for (paging_at h)) new_long ∙ same ∙ sym (it_class k o)
 
   image : IsSlotImage (paging_at h) (insert (held_in h) q (record { place = a; bytes = new })) n.words
-  image = image_after_write (paging_at h) (paging_ok h k) (held_in h) k.sound h.words k.image q (record { place = a; bytes = old }) (it_found h k q a m c o) n.words new class_new rewrites
+  image = image_after_write (paging_at h) (paging_ok h k) (held_in h) k.sound h.words k.image q (record { place = a; bytes = old }) (it_found k o)
+      n.words new class_new rewrites
 
   asked_t : t.asked ≡ h.asked
   asked_t = ap (λ (x : Heap). x.asked) et
 
   becomes : Becomes h n (insert (held_in h) q (record { place = a; bytes = new }))
-  becomes = changes h n k q a (it_found h k q a m c o) new class_new are
+  becomes = changes h n k q a (it_found k o) new class_new are
       (en ∙ ap (λ (x : Heap). record x { words = set t.words a (header_word q size); asked = t.asked - m + size }) et
-      ∙ ap (λ ws. record h { words = ws; asked = t.asked - m + size }) (sym region_is) ∙ ap (λ x. record h { words = n.words; asked = x }) (sym (ap (λ (x : Heap). x.asked) en)))
+      ∙ ap (λ ws. record h { words = ws; asked = t.asked - m + size }) (sym region_is)
+      ∙ ap (λ x. record h { words = n.words; asked = x }) (sym (ap (λ (x : Heap). x.asked) en)))
       (ap length region_is ∙ length-set t.words a (header_word q size) ∙ long_t)
       image
-      (let e = ap (λ (x : Heap). x.asked) en in let f = asked_t in let s = asked_some h k q a m c o in let l = o.long in let l' = new_long in omega arith)
+      (let e = ap (λ (x : Heap). x.asked) en in let f = asked_t in let s = asked_some k o in let l = o.long in let l' = new_long in omega arith)
 
   frames_still : n.frames ≡ frames_left h.kind (state_of h) (record { held = insert (held_in h) q (record { place = a; bytes = new }); moved = None })
-  frames_still = ap (λ (x : Heap). x.frames) en ∙ ap (λ (x : Heap). x.frames) et ∙ sym (frames_stay h.kind (paged_kind h k) (state_of h) (insert (held_in h) q (record { place = a; bytes = new })))
+  frames_still = ap (λ (x : Heap). x.frames) en ∙ ap (λ (x : Heap). x.frames) et
+      ∙ sym (frames_stay h.kind (paged_kind h k) (state_of h) (insert (held_in h) q (record { place = a; bytes = new })))
 
   pub fits_kept : IsValid n
   fits_kept = becomes_kept h n k (insert (held_in h) q (record { place = a; bytes = new })) becomes
 
-  pub fits_resized : (done : Resized) → done.old_slot_words ≡ get_or h.classes.sizes c 0 → done.slot_words ≡ get_or h.classes.sizes c 0 → done.moved ≡ None → need size ≤ h.settings.page_words
+  pub fits_resized : (done : Resized) → done.old_slot_words ≡ get_or h.classes.sizes c 0 → done.slot_words ≡ get_or h.classes.sizes c 0
+      → done.moved ≡ None → need size ≤ h.settings.page_words
       → ResizesObject (state_of h) (record { number = q; length = size }) done (state_of n)
   fits_resized done was_words words none fits = record {
     pages = paged_kind h k;
     fits = fits;
     object = record { place = a; bytes = old };
-    found = it_found h k q a m c o;
-    old_slot = was_words ∙ it_slot h k q a m c o;
-    slot = words ∙ it_slot h k q a m c o ∙ sym same_slot;
+    found = it_found k o;
+    old_slot = was_words ∙ it_slot k o;
+    slot = words ∙ it_slot k o ∙ sym same_slot;
     step = inl (record {
       object = record { place = a; bytes = old };
-      found = it_found h k q a m c o;
-      same = same ∙ sym (it_class h k q a m c o);
+      found = it_found k o;
+      same = same ∙ sym (it_class k o);
       placed = held_is h n k (insert (held_in h) q (record { place = a; bytes = new })) becomes;
       still = ap number_of none;
     });
-    left = ap objects (held_is h n k (insert (held_in h) q (record { place = a; bytes = new })) becomes) ∙ map_values-insert (λ (x : Placed). x.bytes) (held_in h) q (record { place = a; bytes = new });
+    left = ap objects (held_is h n k (insert (held_in h) q (record { place = a; bytes = new })) becomes)
+        ∙ map_values-insert (λ (x : Placed). x.bytes) (held_in h) q (record { place = a; bytes = new });
     whole = becomes_state h n k (insert (held_in h) q (record { place = a; bytes = new })) becomes
-        ∙ ap (λ fs. record (state_of h) { held = insert (held_in h) q (record { place = a; bytes = new }); words = n.words; frames = fs; cost = n.cost }) frames_still
-        ∙ ap (λ v. record (state_of h) { held = insert (held_in h) q (record { place = a; bytes = new }); words = n.words; frames = frames_left h.kind (state_of h) (record { held = insert (held_in h) q (record { place = a; bytes = new }); moved = v }); cost = n.cost }) (sym (ap number_of none))
-        ∙ ap (λ m. record (state_of h) { held = m; words = n.words; frames = frames_left h.kind (state_of h) (record { held = m; moved = number_of done.moved }); cost = n.cost }) (sym (held_is h n k (insert (held_in h) q (record { place = a; bytes = new })) becomes));
+        ∙ ap (λ fs. record (state_of h)
+        { held = insert (held_in h) q (record { place = a; bytes = new }); words = n.words; frames = fs; cost = n.cost }) frames_still
+        ∙ ap (λ v. record (state_of h) {
+          held = insert (held_in h) q (record { place = a; bytes = new });
+          words = n.words;
+          frames = frames_left h.kind (state_of h) (record { held = insert (held_in h) q (record { place = a; bytes = new }); moved = v });
+          cost =
+              n.cost;
+        }) (sym (ap number_of none))
+        ∙ ap (λ m. record (state_of h)
+        { held = m; words = n.words; frames = frames_left h.kind (state_of h) (record { held = m; moved = number_of done.moved }); cost = n.cost })
+        (sym (held_is h n k (insert (held_in h) q (record { place = a; bytes = new })) becomes));
   }
 
 -- its slot has the words of its bytes
-module _ (h : Heap) (k : IsValid h) (q a m c : ℕ) (o : IsObjectAt h q a m c) where
+module _ {h : Heap} (k : IsValid h) {q a m c : ℕ} (o : IsObjectAt h q a m c) where
   pub holds_bytes : 1 + (m + 7) / 8 ≤ get_or h.classes.sizes c 0
-  holds_bytes = (let r = holds h k q a o.known in let e = it_slot h k q a m c o in let l = o.long in omega arith)
+  holds_bytes = (let r = holds h k q a o.known in let e = it_slot k o in let l = o.long in omega arith)
 
   pub bytes_in : a + 1 + (m + 7) / 8 ≤ length h.words
-  bytes_in = (let i = it_inside h k q a m c o in let r = holds_bytes in omega arith)
+  bytes_in = (let i = it_inside k o in let r = holds_bytes in omega arith)
 
   pub bytes_low : a + 1 + (m + 7) / 8 ≤ 2 ^ 23
   bytes_low = (let i = bytes_in in let l = k.words_long in let s = h.settings.small_region in omega arith)

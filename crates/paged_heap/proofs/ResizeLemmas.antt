@@ -22,7 +22,8 @@ use Rattle.paged_heap.proofs.CountLimits.{class_is}
 use Rattle.paged_heap.proofs.ReadLemmas.{held}
 
 -- what has no class is too long for a page
-pub passes_page : (h : Heap) (k : IsValid h) (q a n : ℕ) → get h.proxies.places q ≡ Some a → None ≡ class_of h.classes.sizes n → PassesPage (state_of h) (record { number = q; length = n })
+pub passes_page : (h : Heap) (k : IsValid h) (q a n : ℕ) → get h.proxies.places q ≡ Some a → None ≡ class_of h.classes.sizes n
+    → PassesPage (state_of h) (record { number = q; length = n })
 passes_page h k q a n some none = record {
   object = record { place = a; bytes = bytes_at h.words a };
   found = held h k q a some;
@@ -44,7 +45,8 @@ change_at h k q a m n c d o found other =
     record { object = o; fits = is.0; class = is.1; in_range = is.2; other = other }
 
 -- the cost of a resize
-pub resize_cost : (o : Heap) → IsPaged o.kind → (q n : ℕ) (r : Result Resized ResizeFault) (h : Heap) (cost : ℕ) → IsResizeStep (state_of o) (record { number = q; length = n }) r (state_of h)
+pub resize_cost : (o : Heap) → IsPaged o.kind → (q n : ℕ) (r : Result Resized ResizeFault) (h : Heap) (cost : ℕ)
+    → IsResizeStep (state_of o) (record { number = q; length = n }) r (state_of h)
     → IsResizeStep (state_of o) (record { number = q; length = n }) r (state_of (record h { cost = cost }))
 resize_cost o p q n (Ok done) h cost g = record {
   pages = g.pages;

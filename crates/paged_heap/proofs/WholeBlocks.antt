@@ -20,7 +20,8 @@ use Rattle.paged_heap.specs.Heap.{Heap}
 use Rattle.paged_heap.specs.Layout.{IsValid, held_in, paging_at}
 use Rattle.paged_heap.proofs.LayoutFacts.{paged_kind, paging_ok}
 
-pub whole_by : (kind : Kind) → IsPaged kind → (s : Profile) (bounds : List ℕ) → IsTrue (is_page_size s.page_words) → IsPaging (paging_of s (layout_of kind) bounds) → (m : Held) → IsSound (paging_of s (layout_of kind) bounds) m
+pub whole_by : (kind : Kind) → IsPaged kind → (s : Profile) (bounds : List ℕ) → IsTrue (is_page_size s.page_words)
+    → IsPaging (paging_of s (layout_of kind) bounds) → (m : Held) → IsSound (paging_of s (layout_of kind) bounds) m
     → (q : ℕ) (x : Placed) → get m q ≡ Some x → IsWhole kind x.place × IsWhole kind (slot_for (paging_of s (layout_of kind) bounds) (length x.bytes))
 whole_by Moving p s bounds size ok m sound q x e = (tt, tt)
 whole_by NonMoving p s bounds size ok m sound q x e = (
@@ -30,5 +31,7 @@ whole_by Tlsf p s bounds size ok m sound q x e = absurd p
 whole_by HalfFit p s bounds size ok m sound q x e = absurd p
 
 -- the slot of an object
-pub whole_slot : (h : Heap) (k : IsValid h) (q : ℕ) (x : Placed) → get (held_in h) q ≡ Some x → IsWhole h.kind x.place × IsWhole h.kind (slot_for (paging_at h) (length x.bytes))
-whole_slot h k q x e = whole_by h.kind (paged_kind h k) (profile_of h.settings) (take (length h.classes.sizes) h.bounds) h.settings.page_size (paging_ok h k) (held_in h) k.sound q x e
+pub whole_slot : (h : Heap) (k : IsValid h) (q : ℕ) (x : Placed) → get (held_in h) q ≡ Some x → IsWhole h.kind x.place
+    × IsWhole h.kind (slot_for (paging_at h) (length x.bytes))
+whole_slot h k q x e = whole_by h.kind (paged_kind h k) (profile_of h.settings) (take (length h.classes.sizes) h.bounds) h.settings.page_size
+    (paging_ok h k) (held_in h) k.sound q x e

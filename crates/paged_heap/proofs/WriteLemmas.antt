@@ -17,7 +17,8 @@ use Rattle.page_model.proofs.Adding.{asked_added, asked_taken, live_added, live_
 use Rattle.page_model.proofs.Freeing.{sound_exchanged}
 use Rattle.page_model.proofs.Parts.{inserted_there}
 use Rattle.page_model.proofs.Reading.{bytes_at-AreBytes}
-use Rattle.page_model.proofs.Writing.{byte_of_object, image_after_bytes, length-written, object_word_small, storable_added, word_by_bytes, written_are_bytes, written_before, written_behind, written_inside, written_nothing}
+use Rattle.page_model.proofs.Writing.{byte_of_object, image_after_bytes, length-written, object_word_small, storable_added, word_by_bytes, written_are_bytes}
+use Rattle.page_model.proofs.Writing.{written_before, written_behind, written_inside, written_nothing}
 use Rattle.word_bytes.specs.Cells.{overwritten}
 use Rattle.word_bytes.proofs.Overwriting.{overwritten_before, overwritten_behind, overwritten_inside}
 use Rattle.page_slots.specs.Occupying.{Occupies, Tell}
@@ -30,7 +31,7 @@ use Rattle.paged_heap.specs.Access.{Lies}
 use Rattle.virtual_words.specs.Overwriting.{Overwrites}
 use Rattle.paged_heap.proofs.ByKind.{framed_kept, outside_in}
 use Rattle.paged_heap.proofs.LayoutFacts.{paged_kind, paging_ok}
-use Rattle.paged_heap.proofs.Preserved.{Becomes, becomes_kept, becomes_state, places_are, rest_from, stored}
+use Rattle.paged_heap.proofs.Preserved.{bytes_held, Becomes, becomes_kept, becomes_state, places_are, rest_from, stored}
 use Rattle.paged_heap.proofs.ReadLemmas.{bytes_few, holds, lies_place}
 
 -- one object's bytes instead of others
@@ -60,12 +61,13 @@ module _ (p : Paging) (o : Objects) (q : ℕ) (v u : List ℕ) (some : get o q �
 module _ (h n : Heap) (k : IsValid h) (q a : ℕ) (some : get (held_in h) q ≡ Some (record { place = a; bytes = bytes_at h.words a })) (u : List ℕ)
     (class : class_for (paging_at h) (length u) ≡ class_for (paging_at h) (length (bytes_at h.words a))) (are : AreBytes u)
     (rest : n ≡ record h { words = n.words; asked = n.asked }) (long : length n.words ≡ length h.words)
-    (image : IsSlotImage (paging_at h) (insert (held_in h) q (record { place = a; bytes = u })) n.words) (asked : n.asked + length (bytes_at h.words a) ≡ h.asked + length u) where
+    (image : IsSlotImage (paging_at h) (insert (held_in h) q (record { place = a; bytes = u })) n.words)
+    (asked : n.asked + length (bytes_at h.words a) ≡ h.asked + length u) where
   abbrev pub changed : Held
   changed = insert (held_in h) q (record { place = a; bytes = u })
 
   old_bytes : get (objects (held_in h)) q ≡ Some (bytes_at h.words a)
-  old_bytes = get-map_values (λ (x : Placed). x.bytes) (held_in h) q ∙ rw some refl
+  old_bytes = bytes_held (held_in h) q (record { place = a; bytes = bytes_at h.words a }) some
 
   objects_are : objects changed ≡ insert (objects (held_in h)) q u
   objects_are = map_values-insert (λ (x : Placed). x.bytes) (held_in h) q (record { place = a; bytes = u })
@@ -81,7 +83,8 @@ module _ (h n : Heap) (k : IsValid h) (q a : ℕ) (some : get (held_in h) q ≡ 
 
   pub changes : Becomes h n changed
   changes = record {
-    rest = rest_from h n (ap (λ (x : Heap). x.kind) rest) (ap (λ (x : Heap). x.settings) rest) (ap (λ (x : Heap). x.classes) rest) (ap (λ (x : Heap). x.bounds) rest);
+    rest = rest_from h n (ap (λ (x : Heap). x.kind) rest) (ap (λ (x : Heap). x.settings) rest) (ap (λ (x : Heap). x.classes) rest)
+        (ap (λ (x : Heap). x.bounds) rest);
     framed = framed_kept h.kind h n (ap (λ (x : Heap). x.frames) rest) long k.framed;
     places = ap (λ (x : Heap). x.proxies.places) rest ∙ places_are h k ∙ sym same_places;
     storable = storable_added (held_in h) q (record { place = a; bytes = u }) (stored h k) (stored h k q _ some).0 are;
@@ -89,16 +92,18 @@ module _ (h n : Heap) (k : IsValid h) (q a : ℕ) (some : get (held_in h) q ≡ 
     image = image;
     sound = still_sound;
     tell = subst (Tell (paging_at h)) (sym (ap tables_in rest)) k.tell;
-    occupied = subst (Occupies (paging_at h) changed) (sym (ap tables_in rest)) (rewritten_occupied (paging_at h) (held_in h) (tables_in h) k.occupied q (record { place = a; bytes = bytes_at h.words a }) some u class);
+    occupied = subst (Occupies (paging_at h) changed) (sym (ap tables_in rest)) (rewritten_occupied k.occupied q some u class);
     limit = ap (λ (x : Heap). x.proxies.limit) rest;
     handles = subst AreBelowLimit (sym (ap (λ (x : Heap). x.proxies) rest)) k.handles;
     live_long = ap (λ (x : Heap). length x.live) rest ∙ k.live_long;
     counted = λ c lt. (
         let e = live_changed (paging_at h) (objects (held_in h)) q (bytes_at h.words a) u old_bytes c in
-        let s : one (nat_eq (class_for (paging_at h) (length u)) c) ≡ one (nat_eq (class_for (paging_at h) (length (bytes_at h.words a))) c) = ap (λ d. one (nat_eq d c)) class in
+        let s : one (nat_eq (class_for (paging_at h) (length u)) c) ≡ one (nat_eq (class_for (paging_at h) (length (bytes_at h.words a))) c) =
+        ap (λ d. one (nat_eq d c)) class in
         let was = k.counted c lt in
         let now = ap (λ (x : Heap). get_or x.live c 0) rest in
-        let all : live (paging_at h) (objects changed) c ≡ live (paging_at h) (insert (objects (held_in h)) q u) c = ap (λ o. live (paging_at h) o c) objects_are in
+        let all : live (paging_at h) (objects changed) c ≡ live (paging_at h) (insert (objects (held_in h)) q u) c =
+        ap (λ o. live (paging_at h) o c) objects_are in
         omega arith);
     asked_all = (
         let e = asked_changed (paging_at h) (objects (held_in h)) q (bytes_at h.words a) u old_bytes in
@@ -106,7 +111,8 @@ module _ (h n : Heap) (k : IsValid h) (q a : ℕ) (some : get (held_in h) q ≡ 
         omega arith);
     taken_all = (
         let e = taken_changed (paging_at h) (objects (held_in h)) q (bytes_at h.words a) u old_bytes in
-        let s : slot_words (paging_at h) (class_for (paging_at h) (length u)) ≡ slot_words (paging_at h) (class_for (paging_at h) (length (bytes_at h.words a))) = ap (slot_words (paging_at h)) class in
+        let s : slot_words (paging_at h) (class_for (paging_at h) (length u)) ≡ slot_words (paging_at h)
+        (class_for (paging_at h) (length (bytes_at h.words a))) = ap (slot_words (paging_at h)) class in
         let all = ap (taken_bytes (paging_at h)) objects_are in let was = k.taken_all in
         let now = ap (λ (x : Heap). x.taken) rest in
         omega arith);
@@ -116,7 +122,8 @@ module _ (h n : Heap) (k : IsValid h) (q a : ℕ) (some : get (held_in h) q ≡ 
   changed_kept = becomes_kept h n k changed changes
 
 -- the bytes of a part are written
-module _ (h n : Heap) (k : IsValid h) (q at a : ℕ) (bytes : List ℕ) (l : Lies h (record { number = q; from = at }) (length bytes) a) (each : AreBytes bytes) (rest : n ≡ record h { words = n.words })
+module _ (h n : Heap) (k : IsValid h) (q at a : ℕ) (bytes : List ℕ) (l : Lies h (record { number = q; from = at }) (length bytes) a)
+    (each : AreBytes bytes) (rest : n ≡ record h { words = n.words })
     (w : Overwrites h.words n.words (record { from = a + 1 + at / 8; count = (at % 8 + length bytes + 7) / 8 }) (at % 8) bytes) where
   abbrev old : List ℕ
   old = bytes_at h.words a
@@ -138,21 +145,26 @@ module _ (h n : Heap) (k : IsValid h) (q at a : ℕ) (bytes : List ℕ) (l : Lie
       ap (λ i. byte_of (b % 8) (get_or h.words i 0)) place ∙ ap (byte_of (b % 8)) word ∙ byte_of_object q old b (bytes_at-AreBytes h.words a)
 
   -- byte j of the words that are written is that of the new bytes
-  new_byte : (j : ℕ) → j < 8 * ((at % 8 + length bytes + 7) / 8) → overwritten (λ b. byte_of (b % 8) (get_or h.words (a + 1 + at / 8 + b / 8) 0)) (at % 8) bytes j ≡ get_or new (8 * (at / 8) + j) 0
+  new_byte : (j : ℕ) → j < 8 * ((at % 8 + length bytes + 7) / 8)
+      → overwritten (λ b. byte_of (b % 8) (get_or h.words (a + 1 + at / 8 + b / 8) 0)) (at % 8) bytes j ≡ get_or new (8 * (at / 8) + j) 0
   new_byte j lt =
       let fits = l.within in
       let o = holds h k q a (lies_place h k q at (length bytes) a l) in
       let was : byte_of (j % 8) (get_or h.words (a + 1 + at / 8 + j / 8) 0) ≡ get_or old (8 * (at / 8) + j) 0 =
       (let place : a + 1 + at / 8 + j / 8 ≡ a + 1 + (8 * (at / 8) + j) / 8 = omega arith in
       let byte : j % 8 ≡ (8 * (at / 8) + j) % 8 = omega arith in
-      ap (λ i. byte_of (j % 8) (get_or h.words i 0)) place ∙ ap (λ b. byte_of b (get_or h.words (a + 1 + (8 * (at / 8) + j) / 8) 0)) byte ∙ old_byte (8 * (at / 8) + j) (omega arith)) in
+      ap (λ i. byte_of (j % 8) (get_or h.words i 0)) place ∙ ap (λ b. byte_of b (get_or h.words (a + 1 + (8 * (at / 8) + j) / 8) 0)) byte
+      ∙ old_byte (8 * (at / 8) + j) (omega arith)) in
       elim (cases_lt j (at % 8)) [
-        | inl before ↦ overwritten_before (λ b. byte_of (b % 8) (get_or h.words (a + 1 + at / 8 + b / 8) 0)) (at % 8) bytes j before ∙ was ∙ sym (written_before old at bytes fits (8 * (at / 8) + j) (omega arith))
+        | inl before ↦ overwritten_before (λ b. byte_of (b % 8) (get_or h.words (a + 1 + at / 8 + b / 8) 0)) (at % 8) bytes j before ∙ was
+            ∙ sym (written_before old at bytes fits (8 * (at / 8) + j) (omega arith))
         | inr from ↦ elim (cases_lt j (at % 8 + length bytes)) [
           | inl inside ↦ (
               let e : at + (j - at % 8) ≡ 8 * (at / 8) + j = omega arith in
-              overwritten_inside (λ b. byte_of (b % 8) (get_or h.words (a + 1 + at / 8 + b / 8) 0)) (at % 8) bytes j from inside ∙ sym (written_inside old at bytes fits (j - at % 8) (omega arith)) ∙ ap (λ i. get_or new i 0) e)
-          | inr behind ↦ overwritten_behind (λ b. byte_of (b % 8) (get_or h.words (a + 1 + at / 8 + b / 8) 0)) (at % 8) bytes j behind ∙ was ∙ sym (written_behind old at bytes fits (8 * (at / 8) + j) (omega arith))
+              overwritten_inside (λ b. byte_of (b % 8) (get_or h.words (a + 1 + at / 8 + b / 8) 0)) (at % 8) bytes j from inside
+              ∙ sym (written_inside old at bytes fits (j - at % 8) (omega arith)) ∙ ap (λ i. get_or new i 0) e)
+          | inr behind ↦ overwritten_behind (λ b. byte_of (b % 8) (get_or h.words (a + 1 + at / 8 + b / 8) 0)) (at % 8) bytes j behind ∙ was
+              ∙ sym (written_behind old at bytes fits (8 * (at / 8) + j) (omega arith))
         ]
       ]
 
@@ -165,7 +177,8 @@ module _ (h n : Heap) (k : IsValid h) (q at a : ℕ) (bytes : List ℕ) (l : Lie
         let o = holds h k q a (lies_place h k q at (length bytes) a l) in
         let as_suc : 1 + at / 8 + i ≡ suc (at / 8 + i) = omega arith in
         let short = length_small in
-        rw as_suc (word_by_bytes (get_or n.words (a + 1 + at / 8 + i) 0) (object_word q new (suc (at / 8 + i))) (w.small i lt) (object_word_small q new (suc (at / 8 + i)) few (omega arith) are) (λ j less.
+        rw as_suc (word_by_bytes (get_or n.words (a + 1 + at / 8 + i) 0) (object_word q new (suc (at / 8 + i))) (w.small i lt)
+        (object_word_small q new (suc (at / 8 + i)) few (omega arith) are) (λ j less.
         let div : (8 * i + j) / 8 ≡ i = omega arith in
         let rem : (8 * i + j) % 8 ≡ j = omega arith in
         let v = w.value (8 * i + j) (omega arith) ∙ new_byte (8 * i + j) (omega arith) in
@@ -185,8 +198,10 @@ module _ (h n : Heap) (k : IsValid h) (q at a : ℕ) (bytes : List ℕ) (l : Lie
   image : IsSlotImage (paging_at h) (insert (held_in h) q (record { place = a; bytes = new })) n.words
   image =
       let from : a + 1 + at / 8 ≡ a + (1 + at / 8) = omega arith in
-      image_after_bytes (paging_at h) (paging_ok h k) (held_in h) k.sound h.words k.image q (record { place = a; bytes = old }) l.found n.words at bytes l.within
-      (subst (λ f. Rewrites h.words n.words (record { from = f; count = (at % 8 + length bytes + 7) / 8 }) (λ i. object_word q new (1 + at / 8 + i))) from rewrites)
+      image_after_bytes (paging_at h) (paging_ok h k) (held_in h) k.sound h.words k.image q (record { place = a; bytes = old }) l.found n.words at bytes
+      l.within
+      (subst (λ f. Rewrites h.words n.words (record { from = f; count = (at % 8 + length bytes + 7) / 8 }) (λ i. object_word q new (1 + at / 8 + i)))
+      from rewrites)
 
   becomes : Becomes h n (insert (held_in h) q (record { place = a; bytes = new }))
   becomes = changes h n k q a l.found new (ap (class_for (paging_at h)) size) are
@@ -203,12 +218,15 @@ module _ (h n : Heap) (k : IsValid h) (q at a : ℕ) (bytes : List ℕ) (l : Lie
     within = l.within;
     outside = outside_in h.kind (paged_kind h k) (state_of h) (record { place = a; bytes = old }) (state_of n);
     whole = becomes_state h n k (insert (held_in h) q (record { place = a; bytes = new })) becomes
-        ∙ ap (λ fs. record (state_of h) { held = insert (held_in h) q (record { place = a; bytes = new }); words = n.words; frames = fs; cost = n.cost }) (ap (λ (x : Heap). x.frames) rest)
-        ∙ ap (λ x. record (state_of h) { held = insert (held_in h) q (record { place = a; bytes = new }); words = n.words; cost = x }) (ap (λ (x : Heap). x.cost) rest);
+        ∙ ap (λ fs. record (state_of h)
+        { held = insert (held_in h) q (record { place = a; bytes = new }); words = n.words; frames = fs; cost = n.cost }) (ap (λ (x : Heap). x.frames) rest)
+        ∙ ap (λ x. record (state_of h) { held = insert (held_in h) q (record { place = a; bytes = new }); words = n.words; cost = x })
+        (ap (λ (x : Heap). x.cost) rest);
   }
 
 -- to write no bytes changes nothing
-pub wrote_nothing : (h : Heap) → IsValid h → (q at a : ℕ) (bytes : List ℕ) → length bytes ≡ 0 → Lies h (record { number = q; from = at }) (length bytes) a → WritesBytes (state_of h) (record { number = q; from = at }) bytes (state_of h)
+pub wrote_nothing : (h : Heap) → IsValid h → (q at a : ℕ) (bytes : List ℕ) → length bytes ≡ 0
+    → Lies h (record { number = q; from = at }) (length bytes) a → WritesBytes (state_of h) (record { number = q; from = at }) bytes (state_of h)
 wrote_nothing h k q at a [] none l = record {
   object = record { place = a; bytes = bytes_at h.words a };
   found = l.found;
@@ -217,6 +235,8 @@ wrote_nothing h k q at a [] none l = record {
   whole =
       let fits = l.within in
       let same = written_nothing (bytes_at h.words a) at (omega arith) in
-      ap (λ m. record (state_of h) { held = m }) (sym (ap (λ v. insert (held_in h) q (record { place = a; bytes = v })) same ∙ inserted_there (held_in h) q (record { place = a; bytes = bytes_at h.words a }) l.found));
+      ap (λ m. record (state_of h) { held = m })
+      (sym (ap (λ v. insert (held_in h) q (record { place = a; bytes = v })) same
+      ∙ inserted_there (held_in h) q (record { place = a; bytes = bytes_at h.words a }) l.found));
 }
 wrote_nothing h k q at a (x ∷ xs) none l = absurd (omega arith)

@@ -29,7 +29,17 @@ tables_in h = tables h.maps h.lists h.pool
 
 -- an open heap, as callers of a manager see it
 abbrev pub state_of : Heap → HeapState
-state_of h = record { kind = h.kind; is_open = true; profile = profile_of h.settings; bounds = take (length h.classes.sizes) h.bounds; held = held_in h; words = h.words; frames = h.frames; tiling = []; cost = h.cost }
+state_of h = record {
+  kind = h.kind;
+  is_open = true;
+  profile = profile_of h.settings;
+  bounds = take (length h.classes.sizes) h.bounds;
+  held = held_in h;
+  words = h.words;
+  frames = h.frames;
+  tiling = [];
+  cost = h.cost;
+}
 
 -- its pages and classes
 abbrev pub paging_at : Heap → Paging
@@ -47,7 +57,8 @@ IsFramed NonMoving h = AreMapped h
 IsFramed Tlsf h = ⊥
 IsFramed HalfFit h = ⊥
 
--- What an open heap keeps: its classes are those of its pages; the words are the image of the objects, whose arrangement is sound; the tables tell which slots they occupy; each number is one of the proxies'; each class has a bound from 1 to 64; and the counts are those of the objects.
+-- What an open heap keeps: its classes are those of its pages; the words are the image of the objects, whose arrangement is sound; the tables tell
+-- which slots they occupy; each number is one of the proxies'; each class has a bound from 1 to 64; and the counts are those of the objects.
 pub record IsValid (h : Heap) : Type 0 where
   pub framed : IsFramed h.kind h
   pub table : h.classes ≡ table_of h.settings.page_words (layout_of h.kind)

@@ -51,7 +51,8 @@ impl OpenHeap {
     /// The figures of class c; none where there is no such class.
     pub fn figures<A: Mapping>(&self, c: u32) -> Option<Figures>
         requires { Holds A.kind self.now }
-        ensures { result ≡ if nat_lt c (classes (paging_at (seen A.kind self.now))) then Some (figures_of (paging_at (seen A.kind self.now)) (held_in (seen A.kind self.now)) c) else None }
+        ensures { result ≡ if nat_lt c (classes (paging_at (seen A.kind self.now)))
+            then Some (figures_of (paging_at (seen A.kind self.now)) (held_in (seen A.kind self.now)) c) else None }
     {
         if c < self.class_count::<A>() {
             Some(self.figures_of::<A>(c))

@@ -201,7 +201,8 @@ impl OpenHeap {
     pub(crate) fn release_slot(&mut self, c: u32, place: u32, steps: &mut Steps)
         requires tables { AreTables self.old.classes (tables self.old.maps.items self.old.lists self.old.pool) }
         requires used { IsUsed (tables self.old.maps.items self.old.lists self.old.pool) c (page_at self.old.classes place) (slot_at self.old.classes c place) }
-        ensures freed { Vacates (tables self.old.maps.items self.old.lists self.old.pool) c (page_at self.old.classes place) (slot_at self.old.classes c place) (tables self.new.maps.items self.new.lists self.new.pool) }
+        ensures freed { Vacates (tables self.old.maps.items self.old.lists self.old.pool) c (page_at self.old.classes place)
+            (slot_at self.old.classes c place) (tables self.new.maps.items self.new.lists self.new.pool) }
         ensures tables { AreTables self.old.classes (tables self.new.maps.items self.new.lists self.new.pool) }
         ensures rest { self.new ≡ record self.old { maps = self.new.maps; lists = self.new.lists; pool = self.new.pool } }
         ensures bound { RoseAtMost steps.old steps.new 18 }
@@ -222,7 +223,8 @@ impl OpenHeap {
         requires tables { AreTables self.old.classes (tables self.old.maps.items self.old.lists self.old.pool) }
         requires class { c < length self.old.classes.sizes }
         requires some { 1 ≤ length (pages_in self.old.lists c NotFull) }
-        ensures filled { FillsFrom self.old.classes (tables self.old.maps.items self.old.lists self.old.pool) c result (tables self.new.maps.items self.new.lists self.new.pool) }
+        ensures filled { FillsFrom self.old.classes (tables self.old.maps.items self.old.lists self.old.pool) c result
+            (tables self.new.maps.items self.new.lists self.new.pool) }
         ensures tables { AreTables self.old.classes (tables self.new.maps.items self.new.lists self.new.pool) }
         ensures rest { self.new ≡ record self.old { maps = self.new.maps; lists = self.new.lists; pool = self.new.pool } }
         ensures bound { RoseAtMost steps.old steps.new 26 }

@@ -59,7 +59,8 @@ impl OpenHeap {
     pub(crate) fn take_slot(&mut self, c: u32, steps: &mut Steps) -> Option<u32>
         requires tables { AreTables self.old.classes (tables self.old.maps.items self.old.lists self.old.pool) }
         requires class { c < length self.old.classes.sizes }
-        ensures taken { TakesSlot self.old.classes (tables self.old.maps.items self.old.lists self.old.pool) c result (tables self.new.maps.items self.new.lists self.new.pool) }
+        ensures taken { TakesSlot self.old.classes (tables self.old.maps.items self.old.lists self.old.pool) c result
+            (tables self.new.maps.items self.new.lists self.new.pool) }
         ensures tables { AreTables self.old.classes (tables self.new.maps.items self.new.lists self.new.pool) }
         ensures rest { self.new ≡ record self.old { maps = self.new.maps; lists = self.new.lists; pool = self.new.pool } }
         ensures bound { RoseAtMost steps.old steps.new 26 }

@@ -151,7 +151,10 @@ impl OpenHeap {
         requires target { to + 1 + (x.bytes + 7) / 8 ≤ length self.old.region }
         requires apart { IsDisjoint (x.place + 1) (kept_words x) (to + 1) (kept_words x) }
         requires in_step { AreInStep A.kind (x.place + 1) (to + 1) }
-        ensures rest { seen A.kind self.new ≡ record (seen A.kind self.old) { proxies = with_place self.old.proxies x.handle.0 to; words = (seen A.kind self.new).words } }
+        ensures rest { seen A.kind self.new ≡ record (seen A.kind self.old) {
+          proxies = with_place self.old.proxies x.handle.0 to;
+          words = (seen A.kind self.new).words;
+        } }
         ensures words { Carries (seen A.kind self.old).words (seen A.kind self.new).words x to }
         ensures laid { AreLaid A.kind self.new.blocks self.new.region }
         ensures handles { AreBelowLimit self.new.proxies }

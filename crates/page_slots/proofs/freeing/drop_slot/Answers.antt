@@ -2,7 +2,7 @@
 use Rattle.std.proofs.Common.{subst, sym}
 use Rattle.page_slots.specs.Tables.{IsOf, tables}
 use Rattle.page_slots.proofs.Calls.{of_class, of_lists_class, of_taken, of_listed}
-use Rattle.page_slots.proofs.TablesAfterFree.{loses}
+use Rattle.page_slots.proofs.TablesAfterFree.{loses, loses_others}
 use Rattle.page_slots.proofs.freeing.drop_slot.Goals as goal
 
 pub slot_of-slot-requires-clause-class : goal.slot_of-slot-requires-clause-class
@@ -17,7 +17,14 @@ vacate-requires-clause-taken c = rw c.page_of-page.ensures (of_taken _ _ c.requi
 pub vacate-requires-clause-listed : goal.vacate-requires-clause-listed
 vacate-requires-clause-listed c =
     let there = subst (λ g. IsOf (tables c.args.maps.now c.args.lists.now c.args.pool.now) c.args.c g) (sym c.page_of-page.ensures) c.requires.used.of in
-    of_listed _ _ c.requires.tables c.args.c c.page_of-page.result there c.list_of-which.result c.index-maps-page.result c.list_of-which.ensures.full c.list_of-which.ensures.not_full
+    of_listed _ _ c.requires.tables c.args.c c.page_of-page.result there c.list_of-which.result c.index-maps-page.result c.list_of-which.ensures.full
+    c.list_of-which.ensures.not_full
+
+pub returns-clause-others : goal.returns-clause-others
+returns-clause-others c =
+    loses_others _ _ _ _ _ _
+    (loses _ _ c.requires.tables c.args.c c.page_of-page.result c.slot_of-slot.result _ c.vacate.ensures.freed c.vacate.ensures.lists c.vacate.ensures.pool)
 
 pub returns-clause-kept : goal.returns-clause-kept
-returns-clause-kept c = (loses _ _ c.requires.tables c.args.c c.page_of-page.result c.slot_of-slot.result _ c.vacate.ensures.freed c.vacate.ensures.lists c.vacate.ensures.pool).kept
+returns-clause-kept c = (loses _ _ c.requires.tables c.args.c c.page_of-page.result c.slot_of-slot.result _ c.vacate.ensures.freed
+    c.vacate.ensures.lists c.vacate.ensures.pool).kept

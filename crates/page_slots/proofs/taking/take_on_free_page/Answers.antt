@@ -1,6 +1,7 @@
 -- The front page of the pool is in no list.
+use Rattle.std.proofs.Common.{refl, inr}
 use Rattle.page_slots.proofs.Calls.{pool_inside, pool_small, pool_listable, pool_unlisted, took_free}
-use Rattle.page_slots.proofs.TablesAfterTake.{gains_free}
+use Rattle.page_slots.proofs.TablesAfterTake.{taken_gains, taken_others}
 use Rattle.page_slots.proofs.taking.take_on_free_page.Goals as goal
 
 pub bounds-maps-page : goal.bounds-maps-page
@@ -15,8 +16,23 @@ join_with_one-requires-clause-unlisted c = pool_unlisted _ _ c.requires.tables _
 pub address_of-requires-clause-small : goal.address_of-requires-clause-small
 address_of-requires-clause-small c = pool_small _ _ c.requires.tables _ _ c.in_ok-page.ensures.taken
 
+pub returns-clause-taken : goal.returns-clause-taken
+returns-clause-taken c = record {
+  page = c.in_ok-page.page;
+  slot = 0;
+  address = c.address_of.ensures;
+  taken = inr (
+    refl,
+    took_free _ _ c.requires.tables c.in_ok-page.page c.take.new.self c.in_ok-page.ensures.taken c.args.c c.slots-slots.result c.set.new.self
+        c.new-map.result c.join_with_one.new.lists
+        c.requires.none c.slots-slots.ensures.value c.new-map.ensures c.set.ensures.value c.join_with_one.ensures.filled c.join_with_one.ensures.not_filled,
+  );
+}
+
+pub returns-clause-others : goal.returns-clause-others
+returns-clause-others c =
+    taken_others _ _ c.requires.tables c.args.c c.requires.class _ _ (returns-clause-taken c) c.join_with_one.ensures.kept c.take.ensures.kept
+
 pub returns-clause-kept : goal.returns-clause-kept
-returns-clause-kept c =
-    let t = took_free _ _ c.requires.tables c.in_ok-page.page c.take.new.self c.in_ok-page.ensures.taken c.args.c c.slots-slots.result c.set.new.self c.new-map.result c.join_with_one.new.lists
-    c.requires.none c.slots-slots.ensures.value c.new-map.ensures c.set.ensures.value c.join_with_one.ensures.filled c.join_with_one.ensures.not_filled in
-    (gains_free _ _ c.requires.tables c.args.c c.in_ok-page.page _ c.join_with_one.ensures.kept c.requires.class t c.take.ensures.kept).kept
+returns-clause-kept c = (taken_gains _ _ c.requires.tables c.args.c c.requires.class _ _ (returns-clause-taken c) c.join_with_one.ensures.kept
+    c.take.ensures.kept).kept

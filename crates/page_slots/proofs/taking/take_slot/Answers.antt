@@ -3,7 +3,7 @@ use Rattle.std.proofs.Common.{inl}
 use Rattle.class_lists.specs.PageLists.{pages_in}
 use Rattle.class_lists.specs.declared.Which.TheVariants.{NotFull}
 use Rattle.page_slots.proofs.Calls.{front_none, front_there, front_inside, front_small, front_room, front_slot, took_open}
-use Rattle.page_slots.proofs.TablesAfterTake.{gains_open}
+use Rattle.page_slots.proofs.TablesAfterTake.{taken_gains, taken_others}
 use Rattle.page_slots.proofs.taking.take_slot.Goals as goal
 
 pub bounds-maps-page : goal.bounds-maps-page
@@ -16,7 +16,9 @@ pub leave_if_filled-requires-clause-listed : goal.leave_if_filled-requires-claus
 leave_if_filled-requires-clause-listed c = front_there _ _ c.requires.tables c.args.c c.in-Some.page c.in-Some.ensures.front
 
 pub address_of-requires-clause-slot : goal.address_of-requires-clause-slot
-address_of-requires-clause-slot c = front_slot _ _ c.requires.tables c.args.c c.in-Some.page c.in-Some.ensures.front c.index-maps-page.result c.take_least-slot.result _ c.take_least-slot.ensures.free
+address_of-requires-clause-slot c =
+    front_slot _ _ c.requires.tables c.args.c c.in-Some.page c.in-Some.ensures.front c.index-maps-page.result c.take_least-slot.result _
+    c.take_least-slot.ensures.free
 
 pub address_of-requires-clause-small : goal.address_of-requires-clause-small
 address_of-requires-clause-small c = front_small _ _ c.requires.tables c.args.c c.in-Some.page c.in-Some.ensures.front
@@ -29,12 +31,17 @@ returns-in-Some-clause-taken c = record {
   page = c.in-Some.page;
   slot = c.take_least-slot.result;
   address = c.address_of.ensures;
-  taken = inl (took_open _ _ c.requires.tables c.args.c c.in-Some.page c.in-Some.ensures.front c.index-maps-page.result c.take_least-slot.result c.take_least-slot.new.map c.leave_if_filled.new.lists
-      c.take_least-slot.ensures.least c.take_least-slot.ensures.free c.take_least-slot.ensures.map c.leave_if_filled.ensures.filled c.leave_if_filled.ensures.not_filled);
+  taken = inl (took_open _ _ c.requires.tables c.args.c c.in-Some.page c.in-Some.ensures.front c.index-maps-page.result c.take_least-slot.result
+      c.take_least-slot.new.map c.leave_if_filled.new.lists
+      c.take_least-slot.ensures.least c.take_least-slot.ensures.free c.take_least-slot.ensures.map c.leave_if_filled.ensures.filled
+      c.leave_if_filled.ensures.not_filled);
 }
+
+pub returns-in-Some-clause-others : goal.returns-in-Some-clause-others
+returns-in-Some-clause-others c =
+    taken_others _ _ c.requires.tables c.args.c c.requires.class _ _ (returns-in-Some-clause-taken c) c.leave_if_filled.ensures.kept c.requires.tables.pool
 
 pub returns-in-Some-clause-kept : goal.returns-in-Some-clause-kept
 returns-in-Some-clause-kept c =
-    let t = took_open _ _ c.requires.tables c.args.c c.in-Some.page c.in-Some.ensures.front c.index-maps-page.result c.take_least-slot.result c.take_least-slot.new.map c.leave_if_filled.new.lists
-    c.take_least-slot.ensures.least c.take_least-slot.ensures.free c.take_least-slot.ensures.map c.leave_if_filled.ensures.filled c.leave_if_filled.ensures.not_filled in
-    (gains_open _ _ c.requires.tables c.args.c c.in-Some.page _ c.leave_if_filled.ensures.kept c.take_least-slot.result t c.requires.tables.pool).kept
+    (taken_gains _ _ c.requires.tables c.args.c c.requires.class _ _ (returns-in-Some-clause-taken c) c.leave_if_filled.ensures.kept
+    c.requires.tables.pool).kept

@@ -1,7 +1,7 @@
 use Rattle.std.proofs.Common.{subst, sym, ◌∙◌}
 use Rattle.cf_base.specs.declared.kind.Kind.TheVariants.{Moving}
 use Rattle.cf_model.specs.Rules.{KeepsRules}
-use Rattle.paged_heap.proofs.LayoutFacts.{rules_in}
+use Rattle.paged_heap.proofs.CallerLemmas.{rules_in}
 use Rattle.moving_heap.proofs.manager.MovingHeapManager.is_open.Goals as goal
 
 pub returns-clause-rules : goal.returns-clause-rules

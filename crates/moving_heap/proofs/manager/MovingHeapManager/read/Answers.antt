@@ -1,5 +1,5 @@
 use Rattle.cf_base.specs.declared.kind.Kind.TheVariants.{Moving}
-use Rattle.paged_heap.proofs.LayoutFacts.{rules_of}
+use Rattle.paged_heap.proofs.CallerLemmas.{rules_of}
 use Rattle.moving_heap.proofs.manager.MovingHeapManager.read.Goals as goal
 
 pub returns-clause-rules : goal.returns-clause-rules

@@ -1,5 +1,5 @@
 use Rattle.cf_base.specs.declared.kind.Kind.TheVariants.{NonMoving}
-use Rattle.paged_heap.proofs.LayoutFacts.{rules_of}
+use Rattle.paged_heap.proofs.CallerLemmas.{rules_of}
 use Rattle.nonmoving_heap.proofs.manager.NonMovingHeapManager.peek.Goals as goal
 
 pub returns-clause-rules : goal.returns-clause-rules

@@ -18,7 +18,8 @@ returns-clause-words g c =
     record {
       moved = moved;
       moves = subst (λ n. MovesWords old moved (record { from = c.args.x.place + 1; count = n }) (c.args.to + 1)) w c.move_words.ensures.words;
-      long = laid_long kind blocks c.move_words.new.region c.move_words.ensures.laid ∙ c.move_words.ensures.len ∙ sym (laid_long kind blocks c.args.self.now.region c.requires.laid);
+      long = laid_long kind blocks c.move_words.new.region c.move_words.ensures.laid ∙ c.move_words.ensures.len
+          ∙ sym (laid_long kind blocks c.args.self.now.region c.requires.laid);
       cut = cut;
       shorter = subst (λ n. c.args.x.bytes < 8 * n → Cuts moved cut c.args.to c.args.x.bytes (8 * n)) w c.zero_tail.ensures.cut;
       as_long = λ le. ap (λ (o : OpenHeap). (seen kind o).words) (c.zero_tail.ensures.kept (omega arith));

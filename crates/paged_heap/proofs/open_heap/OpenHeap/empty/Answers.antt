@@ -7,7 +7,8 @@ pub returns-clause-kept : goal.returns-clause-kept
 returns-clause-kept g c = record {
   laid = (first_laid g.A.Mapping.kind c.args.s.now c.args.blocks c.args.region c.requires.blocks c.requires.region).0;
   kept = first_kept _ (record {
-    framed = framed_from g.A.Mapping.kind c.args.blocks c.args.region _ (first_laid g.A.Mapping.kind c.args.s.now c.args.blocks c.args.region c.requires.blocks c.requires.region).0 refl refl;
+    framed = framed_from g.A.Mapping.kind c.args.blocks c.args.region _
+        (first_laid g.A.Mapping.kind c.args.s.now c.args.blocks c.args.region c.requires.blocks c.requires.region).0 refl refl;
     frames = first_frames_are g.A.Mapping.kind c.args.s.now c.args.blocks c.requires.blocks;
     words = (first_laid g.A.Mapping.kind c.args.s.now c.args.blocks c.args.region c.requires.blocks c.requires.region).1;
     table = c.requires.classes;
@@ -26,7 +27,8 @@ returns-clause-kept g c = record {
 
 pub returns-clause-empty : goal.returns-clause-empty
 returns-clause-empty g c = first_empty _ (record {
-  framed = framed_from g.A.Mapping.kind c.args.blocks c.args.region _ (first_laid g.A.Mapping.kind c.args.s.now c.args.blocks c.args.region c.requires.blocks c.requires.region).0 refl refl;
+  framed = framed_from g.A.Mapping.kind c.args.blocks c.args.region _
+      (first_laid g.A.Mapping.kind c.args.s.now c.args.blocks c.args.region c.requires.blocks c.requires.region).0 refl refl;
   frames = first_frames_are g.A.Mapping.kind c.args.s.now c.args.blocks c.requires.blocks;
   words = (first_laid g.A.Mapping.kind c.args.s.now c.args.blocks c.args.region c.requires.blocks c.requires.region).1;
   table = c.requires.classes;

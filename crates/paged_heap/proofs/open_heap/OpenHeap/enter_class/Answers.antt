@@ -17,28 +17,30 @@ pub returns-in_default-clause-entered : goal.returns-in_default-clause-entered
 returns-in_default-clause-entered g c =
     let kind = g.A.Mapping.kind in let h = seen kind c.args.self.now in let k = c.requires.kept.kept in let x = c.args.x in let is = c.requires.change in
     record {
-      lacking = lacks h k x is _ c.in_default.ensures.taken;
+      lacking = lacks k is _ c.in_default.ensures.taken;
       tables = c.in_default.ensures.taken.2;
       rest = ap (seen kind) c.take_slot.ensures.rest;
     }
 
 pub copy_to_slot-requires-clause-laid : goal.copy_to_slot-requires-clause-laid
-copy_to_slot-requires-clause-laid g c = laid_same g.A.Mapping.kind c.args.self.now c.take_slot.new.self (ap (λ (x : OpenHeap). x.blocks) c.take_slot.ensures.rest) (ap (λ (x : OpenHeap). x.region) c.take_slot.ensures.rest) c.requires.kept.laid
+copy_to_slot-requires-clause-laid g c =
+    laid_same g.A.Mapping.kind c.args.self.now c.take_slot.new.self (ap (λ (x : OpenHeap). x.blocks) c.take_slot.ensures.rest)
+    (ap (λ (x : OpenHeap). x.region) c.take_slot.ensures.rest) c.requires.kept.laid
 
 pub copy_to_slot-requires-clause-source : goal.copy_to_slot-requires-clause-source
 copy_to_slot-requires-clause-source g c =
     let kind = g.A.Mapping.kind in let h = seen kind c.args.self.now in let k = c.requires.kept.kept in let x = c.args.x in let is = c.requires.change in
-    let i = it_inside h k _ _ _ _ is.object in
+    let i = it_inside k is.object in
     let l = in_region kind c.args.self.now c.requires.kept.laid in
-    let o = holds_bytes h k _ _ _ _ is.object in
+    let o = holds_bytes k is.object in
     let e = ap (λ (x : OpenHeap). length x.region) c.take_slot.ensures.rest in
     omega arith
 
 pub copy_to_slot-requires-clause-target : goal.copy_to_slot-requires-clause-target
 copy_to_slot-requires-clause-target g c =
     let kind = g.A.Mapping.kind in let h = seen kind c.args.self.now in let k = c.requires.kept.kept in let x = c.args.x in let is = c.requires.change in
-    let free = is_free h k x is c.in-Some.to (tables_in (seen kind c.take_slot.new.self)) c.in-Some.ensures.taken c.take_slot.ensures.tables in
-    let t = target h k x is c.in-Some.to free in
+    let free = is_free k is c.in-Some.ensures.taken c.take_slot.ensures.tables in
+    let t = target k is free in
     let l = in_region kind c.args.self.now c.requires.kept.laid in
     let e = ap (λ (x : OpenHeap). length x.region) c.take_slot.ensures.rest in
     omega arith
@@ -46,21 +48,21 @@ copy_to_slot-requires-clause-target g c =
 pub copy_to_slot-requires-clause-apart : goal.copy_to_slot-requires-clause-apart
 copy_to_slot-requires-clause-apart g c =
     let kind = g.A.Mapping.kind in let h = seen kind c.args.self.now in let k = c.requires.kept.kept in let x = c.args.x in let is = c.requires.change in
-    let free = is_free h k x is c.in-Some.to (tables_in (seen kind c.take_slot.new.self)) c.in-Some.ensures.taken c.take_slot.ensures.tables in
-    let o = holds_bytes h k _ _ _ _ is.object in
-    let r = new_holds h k x is c.in-Some.to free in
-    words_apart c.args.x.place c.in-Some.to _ _ (kept_words x) (slots_apart h k x is c.in-Some.to free) (omega arith) (omega arith)
+    let free = is_free k is c.in-Some.ensures.taken c.take_slot.ensures.tables in
+    let o = holds_bytes k is.object in
+    let r = new_holds k is free in
+    words_apart c.args.x.place c.in-Some.to _ _ (kept_words x) (slots_apart k is free) (omega arith) (omega arith)
 
 pub copy_to_slot-requires-clause-in_step : goal.copy_to_slot-requires-clause-in_step
 copy_to_slot-requires-clause-in_step g c =
     let kind = g.A.Mapping.kind in let h = seen kind c.args.self.now in let k = c.requires.kept.kept in let x = c.args.x in let is = c.requires.change in
-    let free = is_free h k x is c.in-Some.to (tables_in (seen kind c.take_slot.new.self)) c.in-Some.ensures.taken c.take_slot.ensures.tables in
-    in_step kind x.place c.in-Some.to (whole_slot h k x.handle.0 (it h k x.handle.0 x.place x.length x.class is.object) (it_found h k x.handle.0 x.place x.length x.class is.object)).0 (new_whole h k x is c.in-Some.to free)
+    let free = is_free k is c.in-Some.ensures.taken c.take_slot.ensures.tables in
+    in_step kind x.place c.in-Some.to (whole_slot h k x.handle.0 (it k is.object) (it_found k is.object)).0 (new_whole k is free)
 
 pub count_out-requires-clause-live : goal.count_out-requires-clause-live
 count_out-requires-clause-live g c =
     let kind = g.A.Mapping.kind in let h = seen kind c.args.self.now in let k = c.requires.kept.kept in let x = c.args.x in let is = c.requires.change in
-    let l = live_some h k _ _ _ _ is.object in
+    let l = live_some k is.object in
     let e = ap (λ (x : Heap). get_or x.live c.args.x.class 0) c.copy_to_slot.ensures.rest in
     let f = ap (λ (x : OpenHeap). get_or x.live c.args.x.class 0) c.take_slot.ensures.rest in
     omega arith
@@ -68,7 +70,7 @@ count_out-requires-clause-live g c =
 pub count_out-requires-clause-asked : goal.count_out-requires-clause-asked
 count_out-requires-clause-asked g c =
     let kind = g.A.Mapping.kind in let h = seen kind c.args.self.now in let k = c.requires.kept.kept in let x = c.args.x in let is = c.requires.change in
-    let l = asked_some h k _ _ _ _ is.object in
+    let l = asked_some k is.object in
     let e = ap (λ (x : Heap). x.asked) c.copy_to_slot.ensures.rest in
     let f = ap (λ (x : OpenHeap). x.asked) c.take_slot.ensures.rest in
     omega arith
@@ -76,7 +78,7 @@ count_out-requires-clause-asked g c =
 pub count_out-requires-clause-taken : goal.count_out-requires-clause-taken
 count_out-requires-clause-taken g c =
     let kind = g.A.Mapping.kind in let h = seen kind c.args.self.now in let k = c.requires.kept.kept in let x = c.args.x in let is = c.requires.change in
-    let l = taken_some h k _ _ _ _ is.object in
+    let l = taken_some k is.object in
     let e = ap (λ (x : Heap). x.taken) c.copy_to_slot.ensures.rest in
     let f = ap (λ (x : OpenHeap). x.taken) c.take_slot.ensures.rest in
     let o = ap (λ (x : Heap). get_or x.classes.sizes c.args.x.class 0) c.copy_to_slot.ensures.rest in
@@ -114,5 +116,7 @@ count_in-requires-clause-taken g c =
 pub returns-clause-entered : goal.returns-clause-entered
 returns-clause-entered g c =
     let kind = g.A.Mapping.kind in let h = seen kind c.args.self.now in let k = c.requires.kept.kept in let x = c.args.x in let is = c.requires.change in
-    entered h x is c.in-Some.to (seen kind c.take_slot.new.self) (seen kind c.copy_to_slot.new.self) (seen kind c.count_out.new.self) (seen kind c.count_in.new.self)
-    c.in-Some.ensures.taken c.take_slot.ensures.tables (ap (seen kind) c.take_slot.ensures.rest) c.copy_to_slot.ensures.rest c.copy_to_slot.ensures.words c.copy_to_slot.ensures.handles (ap (seen kind) c.count_out.ensures) (ap (seen kind) c.count_in.ensures)
+    entered h x is c.in-Some.to (seen kind c.take_slot.new.self) (seen kind c.copy_to_slot.new.self) (seen kind c.count_out.new.self)
+    (seen kind c.count_in.new.self)
+    c.in-Some.ensures.taken c.take_slot.ensures.tables (ap (seen kind) c.take_slot.ensures.rest) c.copy_to_slot.ensures.rest
+    c.copy_to_slot.ensures.words c.copy_to_slot.ensures.handles (ap (seen kind) c.count_out.ensures) (ap (seen kind) c.count_in.ensures)

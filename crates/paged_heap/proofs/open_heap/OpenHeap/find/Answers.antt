@@ -4,7 +4,8 @@ use Rattle.paged_heap.proofs.Preserved.{no_place}
 use Rattle.paged_heap.proofs.ByKind.{in_region}
 use Rattle.paged_heap.proofs.ReadLemmas.{bytes_long, lies, passes, place_in}
 use Rattle.paged_heap.proofs.open_heap.OpenHeap.find.Goals as goal
-use Rattle.paged_heap.proofs.open_heap.OpenHeap.find.Goals.{then-length-count-via-then-length-count, then-length-count-via-else-length-count+then-length-count-2}
+use Rattle.paged_heap.proofs.open_heap.OpenHeap.find.Goals.{then-length-count-via-then-length-count}
+use Rattle.paged_heap.proofs.open_heap.OpenHeap.find.Goals.{then-length-count-via-else-length-count+then-length-count-2}
 
 pub returns-in_default-clause-found : goal.returns-in_default-clause-found
 returns-in_default-clause-found g c = no_place (seen g.A.Mapping.kind c.args.self.now) c.requires.kept c.args.h.0 (sym c.in_default.ensures.found)

@@ -14,36 +14,38 @@ use Rattle.paged_heap.proofs.open_heap.OpenHeap.free_alone.Goals as goal
 
 pub erase-requires-clause-within : goal.erase-requires-clause-within
 erase-requires-clause-within g c =
-    let i = it_inside (seen g.A.Mapping.kind c.args.self.now) c.requires.kept.kept c.args.h.0 c.args.place c.args.length c.args.c c.requires.object in
+    let i = it_inside c.requires.kept.kept c.requires.object in
     let l = in_region g.A.Mapping.kind c.args.self.now c.requires.kept.laid in
     let e = c.slot_words-slot_words.ensures.value in
     omega arith
 
 pub count_out-requires-clause-live : goal.count_out-requires-clause-live
 count_out-requires-clause-live g c =
-    let l = live_some (seen g.A.Mapping.kind c.args.self.now) c.requires.kept.kept c.args.h.0 c.args.place c.args.length c.args.c c.requires.object in
+    let l = live_some c.requires.kept.kept c.requires.object in
     let e = ap (λ (x : Heap). get_or x.live c.args.c 0) c.erase.ensures.rest in
     omega arith
 
 pub count_out-requires-clause-asked : goal.count_out-requires-clause-asked
 count_out-requires-clause-asked g c =
-    let l = asked_some (seen g.A.Mapping.kind c.args.self.now) c.requires.kept.kept c.args.h.0 c.args.place c.args.length c.args.c c.requires.object in
+    let l = asked_some c.requires.kept.kept c.requires.object in
     let e = ap (λ (x : Heap). x.asked) c.erase.ensures.rest in
     omega arith
 
 pub count_out-requires-clause-taken : goal.count_out-requires-clause-taken
 count_out-requires-clause-taken g c =
-    let l = taken_some (seen g.A.Mapping.kind c.args.self.now) c.requires.kept.kept c.args.h.0 c.args.place c.args.length c.args.c c.requires.object in
+    let l = taken_some c.requires.kept.kept c.requires.object in
     let e = ap (λ (x : Heap). x.taken) c.erase.ensures.rest in
     let f = ap (λ (x : Heap). get_or x.classes.sizes c.args.c 0) c.erase.ensures.rest in
     omega arith
 
 pub release_slot-requires-clause-used : goal.release_slot-requires-clause-used
 release_slot-requires-clause-used g c =
-    let u = it_used (seen g.A.Mapping.kind c.args.self.now) c.requires.kept.kept c.args.h.0 c.args.place c.args.length c.args.c c.requires.object in
+    let u = it_used c.requires.kept.kept c.requires.object in
     let kind = g.A.Mapping.kind in
-    subst (λ (x : Heap). IsUsed (tables_in x) c.args.c (page_at x.classes c.args.place) (slot_at x.classes c.args.c c.args.place)) (sym (ap (seen kind) c.count_out.ensures))
-    (subst (λ (x : Heap). IsUsed (tables_in x) c.args.c (page_at x.classes c.args.place) (slot_at x.classes c.args.c c.args.place)) (sym c.erase.ensures.rest) u)
+    subst (λ (x : Heap). IsUsed (tables_in x) c.args.c (page_at x.classes c.args.place) (slot_at x.classes c.args.c c.args.place))
+    (sym (ap (seen kind) c.count_out.ensures))
+    (subst (λ (x : Heap). IsUsed (tables_in x) c.args.c (page_at x.classes c.args.place) (slot_at x.classes c.args.c c.args.place))
+    (sym c.erase.ensures.rest) u)
 
 pub returns-clause-step : goal.returns-clause-step
 returns-clause-step g c =
@@ -54,13 +56,16 @@ returns-clause-step g c =
     let d = ap (seen kind) c.release_slot.ensures.rest in
     let gone = subst (λ s. Clears h.words (seen kind c.erase.new.self).words (record { from = c.args.place; count = s })) w c.erase.ensures.words in
     let long = in_region kind c.erase.new.self c.erase.ensures.laid ∙ c.erase.ensures.len ∙ sym (in_region kind c.args.self.now c.requires.kept.laid) in
-    let laid = laid_same kind c.erase.new.self c.release_slot.new.self (ap (λ (x : OpenHeap). x.blocks) c.release_slot.ensures.rest ∙ ap (λ (x : OpenHeap). x.blocks) c.count_out.ensures)
+    let laid = laid_same kind c.erase.new.self c.release_slot.new.self
+    (ap (λ (x : OpenHeap). x.blocks) c.release_slot.ensures.rest ∙ ap (λ (x : OpenHeap). x.blocks) c.count_out.ensures)
     (ap (λ (x : OpenHeap). x.region) c.release_slot.ensures.rest ∙ ap (λ (x : OpenHeap). x.region) c.count_out.ensures) c.erase.ensures.laid in
-    let no : MustMove (paging_at h) (held_in h) (it h k c.args.h.0 c.args.place c.args.length c.args.c o) → ⊥ = λ m. c.requires.stays (moving h k c.args.h.0 c.args.place c.args.length c.args.c o m) in
-    let b = alone h k c.args.h.0 c.args.place c.args.length c.args.c o c.requires.stays (seen kind c.erase.new.self) (seen kind c.count_out.new.self) n
-    e gone long (framed_of kind c.release_slot.new.self laid) c.erase.ensures.handles (ap (seen kind) c.count_out.ensures) c.release_slot.ensures.freed c.release_slot.ensures.tables d in
-    goes_freed h k c.args.h.0 c.args.place c.args.length c.args.c o n None no b
-    (ap (λ (x : Heap). x.frames) d ∙ ap (λ (x : Heap). x.frames) (ap (seen kind) c.count_out.ensures) ∙ ap (λ (x : Heap). x.frames) e ∙ sym (frames_stay kind (paged_kind h k) (state_of h) (rest_held h k c.args.h.0 c.args.place c.args.length c.args.c o n None no)))
+    let no : MustMove (paging_at h) (held_in h) (it k o) → ⊥ = λ m. c.requires.stays (moving k o m) in
+    let b = alone k o c.requires.stays (seen kind c.erase.new.self) (seen kind c.count_out.new.self) n
+    e gone long (framed_of kind c.release_slot.new.self laid) c.erase.ensures.handles (ap (seen kind) c.count_out.ensures) c.release_slot.ensures.freed
+    c.release_slot.ensures.tables d in
+    goes_freed k o n None no b
+    (ap (λ (x : Heap). x.frames) d ∙ ap (λ (x : Heap). x.frames) (ap (seen kind) c.count_out.ensures) ∙ ap (λ (x : Heap). x.frames) e
+    ∙ sym (frames_stay kind (paged_kind h k) (state_of h) (rest_held k o n None no)))
     _ w refl
 
 pub returns-clause-kept : goal.returns-clause-kept
@@ -70,9 +75,11 @@ returns-clause-kept g c =
     let w = c.slot_words-slot_words.ensures.value in
     let gone = subst (λ s. Clears h.words (seen kind c.erase.new.self).words (record { from = c.args.place; count = s })) w c.erase.ensures.words in
     let long = in_region kind c.erase.new.self c.erase.ensures.laid ∙ c.erase.ensures.len ∙ sym (in_region kind c.args.self.now c.requires.kept.laid) in
-    let laid = laid_same kind c.erase.new.self c.release_slot.new.self (ap (λ (x : OpenHeap). x.blocks) c.release_slot.ensures.rest ∙ ap (λ (x : OpenHeap). x.blocks) c.count_out.ensures)
+    let laid = laid_same kind c.erase.new.self c.release_slot.new.self
+    (ap (λ (x : OpenHeap). x.blocks) c.release_slot.ensures.rest ∙ ap (λ (x : OpenHeap). x.blocks) c.count_out.ensures)
     (ap (λ (x : OpenHeap). x.region) c.release_slot.ensures.rest ∙ ap (λ (x : OpenHeap). x.region) c.count_out.ensures) c.erase.ensures.laid in
-    let no : MustMove (paging_at h) (held_in h) (it h k c.args.h.0 c.args.place c.args.length c.args.c o) → ⊥ = λ m. c.requires.stays (moving h k c.args.h.0 c.args.place c.args.length c.args.c o m) in
-    let b = alone h k c.args.h.0 c.args.place c.args.length c.args.c o c.requires.stays (seen kind c.erase.new.self) (seen kind c.count_out.new.self) n
-    (c.erase.ensures.rest) gone long (framed_of kind c.release_slot.new.self laid) c.erase.ensures.handles (ap (seen kind) c.count_out.ensures) c.release_slot.ensures.freed c.release_slot.ensures.tables (ap (seen kind) c.release_slot.ensures.rest) in
-    record { laid = laid; kept = goes_kept h k c.args.h.0 c.args.place c.args.length c.args.c o n None no b }
+    let no : MustMove (paging_at h) (held_in h) (it k o) → ⊥ = λ m. c.requires.stays (moving k o m) in
+    let b = alone k o c.requires.stays (seen kind c.erase.new.self) (seen kind c.count_out.new.self) n
+    (c.erase.ensures.rest) gone long (framed_of kind c.release_slot.new.self laid) c.erase.ensures.handles (ap (seen kind) c.count_out.ensures)
+    c.release_slot.ensures.freed c.release_slot.ensures.tables (ap (seen kind) c.release_slot.ensures.rest) in
+    record { laid = laid; kept = goes_kept k o n None no b }

@@ -17,13 +17,23 @@ length_at-length-requires-clause-within g c =
     omega arith
 
 pub unreachable-requires : goal.unreachable-requires
-unreachable-requires g c = has_class (seen g.A.Mapping.kind c.args.self.now) c.requires.kept c.args.h.0 c.in-Some.place (sym c.in-Some.ensures.found) c.length_at-length.result c.length_at-length.ensures.value c.in_default-class_of.ensures.found
+unreachable-requires g c =
+    has_class (seen g.A.Mapping.kind c.args.self.now) c.requires.kept c.args.h.0 c.in-Some.place (sym c.in-Some.ensures.found) c.length_at-length.result
+    c.length_at-length.ensures.value c.in_default-class_of.ensures.found
 
 pub must_move-requires-clause-page : goal.must_move-requires-clause-page
-must_move-requires-clause-page g c = rw c.deref.ensures.value (page_there (seen g.A.Mapping.kind c.args.self.now) c.requires.kept c.args.h.0 c.in-Some.place _ _ (object_at (seen g.A.Mapping.kind c.args.self.now) c.requires.kept c.args.h.0 c.in-Some.place (sym c.in-Some.ensures.found) c.length_at-length.result c.length_at-length.ensures.value c.in-Some-class_of.c c.in-Some-class_of.ensures.found))
+must_move-requires-clause-page g c =
+    rw c.deref.ensures.value
+    (page_there c.requires.kept
+    (object_at (seen g.A.Mapping.kind c.args.self.now) c.requires.kept c.args.h.0 c.in-Some.place (sym c.in-Some.ensures.found)
+    c.length_at-length.result c.length_at-length.ensures.value c.in-Some-class_of.c c.in-Some-class_of.ensures.found))
 
 pub free_and_fill-requires-clause-object : goal.free_and_fill-requires-clause-object
-free_and_fill-requires-clause-object g c = object_at (seen g.A.Mapping.kind c.args.self.now) c.requires.kept c.args.h.0 c.in-Some.place (sym c.in-Some.ensures.found) c.length_at-length.result c.length_at-length.ensures.value c.in-Some-class_of.c c.in-Some-class_of.ensures.found
+free_and_fill-requires-clause-object g c =
+    object_at (seen g.A.Mapping.kind c.args.self.now) c.requires.kept c.args.h.0 c.in-Some.place (sym c.in-Some.ensures.found) c.length_at-length.result
+    c.length_at-length.ensures.value c.in-Some-class_of.c c.in-Some-class_of.ensures.found
 
 pub free_alone-requires-clause-object : goal.free_alone-requires-clause-object
-free_alone-requires-clause-object g c = object_at (seen g.A.Mapping.kind c.args.self.now) c.requires.kept c.args.h.0 c.in-Some.place (sym c.in-Some.ensures.found) c.length_at-length.result c.length_at-length.ensures.value c.in-Some-class_of.c c.in-Some-class_of.ensures.found
+free_alone-requires-clause-object g c =
+    object_at (seen g.A.Mapping.kind c.args.self.now) c.requires.kept c.args.h.0 c.in-Some.place (sym c.in-Some.ensures.found) c.length_at-length.result
+    c.length_at-length.ensures.value c.in-Some-class_of.c c.in-Some-class_of.ensures.found

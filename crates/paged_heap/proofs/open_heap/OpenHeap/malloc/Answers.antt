@@ -5,7 +5,13 @@ use Rattle.paged_heap.proofs.MallocLemmas.{malloc_cost}
 use Rattle.paged_heap.proofs.open_heap.OpenHeap.malloc.Goals as goal
 
 pub returns-clause-step : goal.returns-clause-step
-returns-clause-step g c = malloc_cost (seen g.A.Mapping.kind c.args.self.now) (paged_kind (seen g.A.Mapping.kind c.args.self.now) c.requires.kept.kept) c.args.bytes _ (seen g.A.Mapping.kind c.malloc_inner-result.new.self) _ c.malloc_inner-result.ensures.step
+returns-clause-step g c =
+    malloc_cost (seen g.A.Mapping.kind c.args.self.now) (paged_kind (seen g.A.Mapping.kind c.args.self.now) c.requires.kept.kept) c.args.bytes _
+    (seen g.A.Mapping.kind c.malloc_inner-result.new.self) _ c.malloc_inner-result.ensures.step
 
 pub returns-clause-kept : goal.returns-clause-kept
-returns-clause-kept g c = record { laid = c.malloc_inner-result.ensures.kept.laid; kept = cost_kept (seen g.A.Mapping.kind c.malloc_inner-result.new.self) _ c.malloc_inner-result.ensures.kept.kept }
+returns-clause-kept g c =
+    record {
+      laid = c.malloc_inner-result.ensures.kept.laid;
+      kept = cost_kept (seen g.A.Mapping.kind c.malloc_inner-result.new.self) _ c.malloc_inner-result.ensures.kept.kept;
+    }

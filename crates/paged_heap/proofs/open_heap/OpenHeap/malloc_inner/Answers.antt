@@ -9,20 +9,28 @@ use Rattle.paged_heap.proofs.MallocLemmas.{comes, place_inside, same_state, want
 use Rattle.paged_heap.proofs.open_heap.OpenHeap.malloc_inner.Goals as goal
 
 pub returns-then-live-self-clause-step : goal.returns-then-live-self-clause-step
-returns-then-live-self-clause-step g c = (wants_proxy (seen g.A.Mapping.kind c.args.self.now) c.requires.kept c.args.bytes c.in-Some.c c.in-Some.ensures.found (sym c.live.ensures.count ∙ c.if-live-self.true), refl)
+returns-then-live-self-clause-step g c = (
+  wants_proxy (seen g.A.Mapping.kind c.args.self.now) c.requires.kept c.args.bytes c.in-Some.c c.in-Some.ensures.found
+      (sym c.live.ensures.count ∙ c.if-live-self.true),
+  refl,
+)
 
 pub returns-in_default-take_slot-clause-step : goal.returns-in_default-take_slot-clause-step
 returns-in_default-take_slot-clause-step g c = (
-  wants_space (seen g.A.Mapping.kind c.args.self.now) c.requires.kept c.args.bytes c.in-Some.c c.in-Some.ensures.found _ (λ e. c.if-live-self.false (c.live.ensures.count ∙ e)) c.in_default-take_slot.ensures.taken,
+  wants_space (seen g.A.Mapping.kind c.args.self.now) c.requires.kept c.args.bytes c.in-Some.c c.in-Some.ensures.found _
+      (λ e. c.if-live-self.false (c.live.ensures.count ∙ e)) c.in_default-take_slot.ensures.taken,
   same_state (seen g.A.Mapping.kind c.args.self.now) (seen g.A.Mapping.kind c.take_slot.new.self) (ap (seen g.A.Mapping.kind) c.take_slot.ensures.rest),
 )
 
 pub bind-handle-requires-clause-laid : goal.bind-handle-requires-clause-laid
-bind-handle-requires-clause-laid g c = laid_same g.A.Mapping.kind c.args.self.now c.take_slot.new.self (ap (λ (x : OpenHeap). x.blocks) c.take_slot.ensures.rest) (ap (λ (x : OpenHeap). x.region) c.take_slot.ensures.rest) c.requires.laid
+bind-handle-requires-clause-laid g c =
+    laid_same g.A.Mapping.kind c.args.self.now c.take_slot.new.self (ap (λ (x : OpenHeap). x.blocks) c.take_slot.ensures.rest)
+    (ap (λ (x : OpenHeap). x.region) c.take_slot.ensures.rest) c.requires.laid
 
 pub bind-handle-requires-clause-within : goal.bind-handle-requires-clause-within
 bind-handle-requires-clause-within g c =
-    let lt = place_inside (seen g.A.Mapping.kind c.args.self.now) c.requires.kept c.args.bytes c.in-Some.c c.in-Some.ensures.found _ c.in-Some-take_slot.place c.in-Some-take_slot.ensures.taken c.take_slot.ensures.tables in
+    let lt = place_inside (seen g.A.Mapping.kind c.args.self.now) c.requires.kept c.args.bytes c.in-Some.c c.in-Some.ensures.found _
+    c.in-Some-take_slot.place c.in-Some-take_slot.ensures.taken c.take_slot.ensures.tables in
     let l = in_region g.A.Mapping.kind c.args.self.now c.requires.laid in
     let e = ap (λ (x : OpenHeap). length x.region) c.take_slot.ensures.rest in
     omega arith
@@ -53,8 +61,10 @@ pub returns-clause-step : goal.returns-clause-step
 returns-clause-step g c =
     let kind = g.A.Mapping.kind in
     let h = seen kind c.args.self.now in let n = seen kind c.count_in.new.self in
-    let co = comes h c.requires.kept c.args.bytes c.in-Some.c c.in-Some.ensures.found (seen kind c.take_slot.new.self) (seen kind c.bind-handle.new.self) n c.in-Some-take_slot.place c.bind-handle.result.0
-    (λ e. c.if-live-self.false (c.live.ensures.count ∙ e)) c.in-Some-take_slot.ensures.taken c.take_slot.ensures.tables (ap (seen kind) c.take_slot.ensures.rest)
+    let co = comes h c.requires.kept c.args.bytes c.in-Some.c c.in-Some.ensures.found (seen kind c.take_slot.new.self)
+    (seen kind c.bind-handle.new.self) n c.in-Some-take_slot.place c.bind-handle.result.0
+    (λ e. c.if-live-self.false (c.live.ensures.count ∙ e)) c.in-Some-take_slot.ensures.taken c.take_slot.ensures.tables
+    (ap (seen kind) c.take_slot.ensures.rest)
     c.bind-handle.ensures.unused c.bind-handle.ensures.below c.bind-handle.ensures.whole c.bind-handle.ensures.handles (ap (seen kind) c.count_in.ensures) in
     comes_given h n c.requires.kept c.in-Some.c c.in-Some-take_slot.place c.args.bytes c.bind-handle.result.0 co
 
@@ -62,10 +72,13 @@ pub returns-clause-kept : goal.returns-clause-kept
 returns-clause-kept g c =
     let kind = g.A.Mapping.kind in
     let h = seen kind c.args.self.now in let n = seen kind c.count_in.new.self in
-    let co = comes h c.requires.kept c.args.bytes c.in-Some.c c.in-Some.ensures.found (seen kind c.take_slot.new.self) (seen kind c.bind-handle.new.self) n c.in-Some-take_slot.place c.bind-handle.result.0
-    (λ e. c.if-live-self.false (c.live.ensures.count ∙ e)) c.in-Some-take_slot.ensures.taken c.take_slot.ensures.tables (ap (seen kind) c.take_slot.ensures.rest)
+    let co = comes h c.requires.kept c.args.bytes c.in-Some.c c.in-Some.ensures.found (seen kind c.take_slot.new.self)
+    (seen kind c.bind-handle.new.self) n c.in-Some-take_slot.place c.bind-handle.result.0
+    (λ e. c.if-live-self.false (c.live.ensures.count ∙ e)) c.in-Some-take_slot.ensures.taken c.take_slot.ensures.tables
+    (ap (seen kind) c.take_slot.ensures.rest)
     c.bind-handle.ensures.unused c.bind-handle.ensures.below c.bind-handle.ensures.whole c.bind-handle.ensures.handles (ap (seen kind) c.count_in.ensures) in
     record {
-      laid = laid_same kind c.bind-handle.new.self c.count_in.new.self (ap (λ (x : OpenHeap). x.blocks) c.count_in.ensures) (ap (λ (x : OpenHeap). x.region) c.count_in.ensures) c.bind-handle.ensures.laid;
+      laid = laid_same kind c.bind-handle.new.self c.count_in.new.self (ap (λ (x : OpenHeap). x.blocks) c.count_in.ensures)
+          (ap (λ (x : OpenHeap). x.region) c.count_in.ensures) c.bind-handle.ensures.laid;
       kept = comes_kept h n c.requires.kept c.in-Some.c c.in-Some-take_slot.place c.args.bytes c.bind-handle.result.0 co;
     }

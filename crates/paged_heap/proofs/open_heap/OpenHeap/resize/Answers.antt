@@ -5,7 +5,13 @@ use Rattle.paged_heap.proofs.ResizeLemmas.{resize_cost}
 use Rattle.paged_heap.proofs.open_heap.OpenHeap.resize.Goals as goal
 
 pub returns-clause-step : goal.returns-clause-step
-returns-clause-step g c = resize_cost (seen g.A.Mapping.kind c.args.self.now) (paged_kind (seen g.A.Mapping.kind c.args.self.now) c.requires.kept.kept) c.args.h.0 c.args.bytes _ (seen g.A.Mapping.kind c.resize_inner-result.new.self) _ c.resize_inner-result.ensures.step
+returns-clause-step g c =
+    resize_cost (seen g.A.Mapping.kind c.args.self.now) (paged_kind (seen g.A.Mapping.kind c.args.self.now) c.requires.kept.kept) c.args.h.0
+    c.args.bytes _ (seen g.A.Mapping.kind c.resize_inner-result.new.self) _ c.resize_inner-result.ensures.step
 
 pub returns-clause-kept : goal.returns-clause-kept
-returns-clause-kept g c = record { laid = c.resize_inner-result.ensures.kept.laid; kept = cost_kept (seen g.A.Mapping.kind c.resize_inner-result.new.self) _ c.resize_inner-result.ensures.kept.kept }
+returns-clause-kept g c =
+    record {
+      laid = c.resize_inner-result.ensures.kept.laid;
+      kept = cost_kept (seen g.A.Mapping.kind c.resize_inner-result.new.self) _ c.resize_inner-result.ensures.kept.kept;
+    }

@@ -13,20 +13,24 @@ use Rattle.paged_heap.proofs.FreedObject.{it_inside}
 use Rattle.paged_heap.proofs.open_heap.OpenHeap.resize_class_alone.Goals as goal
 
 pub returns-in_default-clause-step : goal.returns-in_default-clause-step
-returns-in_default-clause-step g c = refused (seen g.A.Mapping.kind c.args.self.now) c.requires.kept.kept c.args.x c.requires.change (seen g.A.Mapping.kind c.enter_class.new.self) c.in_default.ensures.entered
+returns-in_default-clause-step g c =
+    refused (seen g.A.Mapping.kind c.args.self.now) c.requires.kept.kept c.args.x c.requires.change (seen g.A.Mapping.kind c.enter_class.new.self)
+    c.in_default.ensures.entered
 
 pub returns-in_default-clause-kept : goal.returns-in_default-clause-kept
 returns-in_default-clause-kept g c = record {
   laid = c.in_default.ensures.laid;
-  kept = subst IsValid (sym (unchanged (seen g.A.Mapping.kind c.args.self.now) c.args.x (seen g.A.Mapping.kind c.enter_class.new.self) c.in_default.ensures.entered)) c.requires.kept.kept;
+  kept = subst IsValid (sym
+      (unchanged (seen g.A.Mapping.kind c.args.self.now) c.args.x (seen g.A.Mapping.kind c.enter_class.new.self) c.in_default.ensures.entered))
+      c.requires.kept.kept;
 }
 
 pub wipe-requires-clause-within : goal.wipe-requires-clause-within
 wipe-requires-clause-within g c =
     let kind = g.A.Mapping.kind in let h = seen kind c.args.self.now in let k = c.requires.kept.kept in let x = c.args.x in let is = c.requires.change in
     let b = c.in-Some._to in let n = seen kind c.enter_class.new.self in let en = c.in-Some.ensures.entered in
-    let i = it_inside h k x.handle.0 x.place x.length x.class is.object in
-    let l = entered_long h k x is b n en in
+    let i = it_inside k is.object in
+    let l = entered_long k is en in
     let r = in_region kind c.enter_class.new.self c.in-Some.ensures.laid in
     let w = c.slot_words-old_slot_words.ensures.value in
     omega arith
@@ -41,39 +45,46 @@ pub release_slot-requires-clause-used : goal.release_slot-requires-clause-used
 release_slot-requires-clause-used g c =
     let kind = g.A.Mapping.kind in let h = seen kind c.args.self.now in let k = c.requires.kept.kept in let x = c.args.x in let is = c.requires.change in
     let b = c.in-Some._to in let n = seen kind c.enter_class.new.self in let en = c.in-Some.ensures.entered in
-    subst (λ (o : Heap). IsUsed (tables_in o) x.class (page_at o.classes x.place) (slot_at o.classes x.class x.place)) (sym c.wipe.ensures.rest) (old_used h k x is b n en)
+    subst (λ (o : Heap). IsUsed (tables_in o) x.class (page_at o.classes x.place) (slot_at o.classes x.class x.place)) (sym c.wipe.ensures.rest)
+    (old_used k is en)
 
 pub returns-clause-step : goal.returns-clause-step
 returns-clause-step g c =
     let kind = g.A.Mapping.kind in let h = seen kind c.args.self.now in let k = c.requires.kept.kept in let x = c.args.x in let is = c.requires.change in
     let b = c.in-Some._to in let n = seen kind c.enter_class.new.self in let en = c.in-Some.ensures.entered in
-    let laid = laid_same kind c.wipe.new.self c.release_slot.new.self (ap (λ (o : OpenHeap). o.blocks) c.release_slot.ensures.rest) (ap (λ (o : OpenHeap). o.region) c.release_slot.ensures.rest) c.wipe.ensures.laid in
+    let laid = laid_same kind c.wipe.new.self c.release_slot.new.self (ap (λ (o : OpenHeap). o.blocks) c.release_slot.ensures.rest)
+    (ap (λ (o : OpenHeap). o.region) c.release_slot.ensures.rest) c.wipe.ensures.laid in
     let e = seen kind c.wipe.new.self in let m = seen kind c.release_slot.new.self in
     let w = c.slot_words-old_slot_words.ensures.value in
     let gone = subst (λ s. Clears n.words e.words (record { from = x.place; count = s })) w c.wipe.ensures.words in
     let long = in_region kind c.wipe.new.self c.wipe.ensures.laid ∙ c.wipe.ensures.len ∙ sym (in_region kind c.enter_class.new.self c.in-Some.ensures.laid) in
     let framed = framed_of kind c.release_slot.new.self laid in
     let dropped = ap (seen kind) c.release_slot.ensures.rest in
-    let no = never h k x is b n en c.requires.stays e m c.wipe.ensures.rest gone long framed c.release_slot.ensures.freed c.release_slot.ensures.tables dropped in
-    let ke = keeps h k x is b n en c.requires.stays e m c.wipe.ensures.rest gone long framed c.release_slot.ensures.freed c.release_slot.ensures.tables dropped in
-    let be = changed_alone h k x is b n en c.requires.stays e m c.wipe.ensures.rest gone long framed c.release_slot.ensures.freed c.release_slot.ensures.tables dropped in
-    change_resized h k x is b n en None no m ke be (frames_are h k x is b n en c.requires.stays e m c.wipe.ensures.rest gone long framed c.release_slot.ensures.freed c.release_slot.ensures.tables dropped) _ w c.slot_words-slot_words.ensures.value refl
+    let no = never k is en c.requires.stays e m c.wipe.ensures.rest gone long framed c.release_slot.ensures.freed c.release_slot.ensures.tables dropped in
+    let ke = keeps k is en c.requires.stays e m c.wipe.ensures.rest gone long framed c.release_slot.ensures.freed c.release_slot.ensures.tables dropped in
+    let be = changed_alone k is en c.requires.stays e m c.wipe.ensures.rest gone long framed c.release_slot.ensures.freed c.release_slot.ensures.tables
+    dropped in
+    change_resized k is en None no m ke be
+    (frames_are k is en c.requires.stays e m c.wipe.ensures.rest gone long framed c.release_slot.ensures.freed c.release_slot.ensures.tables
+    dropped) _ w c.slot_words-slot_words.ensures.value refl
 
 pub returns-clause-kept : goal.returns-clause-kept
 returns-clause-kept g c =
     let kind = g.A.Mapping.kind in let h = seen kind c.args.self.now in let k = c.requires.kept.kept in let x = c.args.x in let is = c.requires.change in
     let b = c.in-Some._to in let n = seen kind c.enter_class.new.self in let en = c.in-Some.ensures.entered in
-    let laid = laid_same kind c.wipe.new.self c.release_slot.new.self (ap (λ (o : OpenHeap). o.blocks) c.release_slot.ensures.rest) (ap (λ (o : OpenHeap). o.region) c.release_slot.ensures.rest) c.wipe.ensures.laid in
+    let laid = laid_same kind c.wipe.new.self c.release_slot.new.self (ap (λ (o : OpenHeap). o.blocks) c.release_slot.ensures.rest)
+    (ap (λ (o : OpenHeap). o.region) c.release_slot.ensures.rest) c.wipe.ensures.laid in
     let e = seen kind c.wipe.new.self in let m = seen kind c.release_slot.new.self in
     let w = c.slot_words-old_slot_words.ensures.value in
     let gone = subst (λ s. Clears n.words e.words (record { from = x.place; count = s })) w c.wipe.ensures.words in
     let long = in_region kind c.wipe.new.self c.wipe.ensures.laid ∙ c.wipe.ensures.len ∙ sym (in_region kind c.enter_class.new.self c.in-Some.ensures.laid) in
     let framed = framed_of kind c.release_slot.new.self laid in
     let dropped = ap (seen kind) c.release_slot.ensures.rest in
-    let no = never h k x is b n en c.requires.stays e m c.wipe.ensures.rest gone long framed c.release_slot.ensures.freed c.release_slot.ensures.tables dropped in
-    let ke = keeps h k x is b n en c.requires.stays e m c.wipe.ensures.rest gone long framed c.release_slot.ensures.freed c.release_slot.ensures.tables dropped in
-    let be = changed_alone h k x is b n en c.requires.stays e m c.wipe.ensures.rest gone long framed c.release_slot.ensures.freed c.release_slot.ensures.tables dropped in
-    record { laid = laid; kept = change_kept h k x is b n en None no m ke be }
+    let no = never k is en c.requires.stays e m c.wipe.ensures.rest gone long framed c.release_slot.ensures.freed c.release_slot.ensures.tables dropped in
+    let ke = keeps k is en c.requires.stays e m c.wipe.ensures.rest gone long framed c.release_slot.ensures.freed c.release_slot.ensures.tables dropped in
+    let be = changed_alone k is en c.requires.stays e m c.wipe.ensures.rest gone long framed c.release_slot.ensures.freed c.release_slot.ensures.tables
+    dropped in
+    record { laid = laid; kept = change_kept k is en None no m ke be }
 
 pub returns-clause-bound : goal.returns-clause-bound
 returns-clause-bound g c =

@@ -9,40 +9,49 @@ use Rattle.paged_heap.specs.Heap.{Heap, seen}
 use Rattle.paged_heap.specs.Layout.{IsValid, tables_in}
 use Rattle.paged_heap.proofs.ByKind.{framed_of, in_region, laid_same}
 use Rattle.paged_heap.proofs.ResizeClass.{change_kept, change_resized}
-use Rattle.paged_heap.proofs.ResizeClassFilled.{changed_filled, frames_are, keeps, live_still, mover, number_told, place_in, r, slots_apart, some_fills, source_in, target_in, whole_source, whole_target, whole_words}
+use Rattle.paged_heap.proofs.ResizeClassFilled.{changed_filled, frames_are, keeps, lands_of, live_there, mover, place_in, r, refills_of, slots_apart}
+use Rattle.paged_heap.proofs.ResizeClassFilled.{some_fills, source_in, target_in, told_by, whole_source, whole_target, whole_words}
 use Rattle.paged_heap.proofs.ResizeEnter.{kept_few, refused, unchanged}
 use Rattle.paged_heap.proofs.open_heap.OpenHeap.resize_class_and_fill.Goals as goal
 
 pub returns-in_default-clause-step : goal.returns-in_default-clause-step
-returns-in_default-clause-step g c = refused (seen g.A.Mapping.kind c.args.self.now) c.requires.kept.kept c.args.x c.requires.change (seen g.A.Mapping.kind c.enter_class.new.self) c.in_default.ensures.entered
+returns-in_default-clause-step g c =
+    refused (seen g.A.Mapping.kind c.args.self.now) c.requires.kept.kept c.args.x c.requires.change (seen g.A.Mapping.kind c.enter_class.new.self)
+    c.in_default.ensures.entered
 
 pub returns-in_default-clause-kept : goal.returns-in_default-clause-kept
 returns-in_default-clause-kept g c = record {
   laid = c.in_default.ensures.laid;
-  kept = subst IsValid (sym (unchanged (seen g.A.Mapping.kind c.args.self.now) c.args.x (seen g.A.Mapping.kind c.enter_class.new.self) c.in_default.ensures.entered)) c.requires.kept.kept;
+  kept = subst IsValid (sym
+      (unchanged (seen g.A.Mapping.kind c.args.self.now) c.args.x (seen g.A.Mapping.kind c.enter_class.new.self) c.in_default.ensures.entered))
+      c.requires.kept.kept;
 }
 
 pub take_filler-from-requires-clause-tables : goal.take_filler-from-requires-clause-tables
-take_filler-from-requires-clause-tables g c = subst (λ t. AreTables t (tables_in (seen g.A.Mapping.kind c.enter_class.new.self))) (sym c.in-Some.ensures.entered.classes) c.in-Some.ensures.entered.tables
+take_filler-from-requires-clause-tables g c =
+    subst (λ t. AreTables t (tables_in (seen g.A.Mapping.kind c.enter_class.new.self))) (sym c.in-Some.ensures.entered.classes) c.in-Some.ensures.entered.tables
 
 pub take_filler-from-requires-clause-some : goal.take_filler-from-requires-clause-some
 take_filler-from-requires-clause-some g c =
     let kind = g.A.Mapping.kind in let h = seen kind c.args.self.now in let k = c.requires.kept.kept in let x = c.args.x in let is = c.requires.change in
     let b = c.in-Some._to in let n = seen kind c.enter_class.new.self in let en = c.in-Some.ensures.entered in
-    some_fills h k x is b n en c.requires.moves
+    some_fills k is en c.requires.moves
 
 pub read-requires-clause-laid : goal.read-requires-clause-laid
 read-requires-clause-laid g c =
     let kind = g.A.Mapping.kind in
-    let laid = laid_same kind c.enter_class.new.self c.take_filler-from.new.self (ap (λ (o : OpenHeap). o.blocks) c.take_filler-from.ensures.rest) (ap (λ (o : OpenHeap). o.region) c.take_filler-from.ensures.rest) c.in-Some.ensures.laid in
+    let rest = c.take_filler-from.ensures.rest in
+    let laid = laid_same kind c.enter_class.new.self c.take_filler-from.new.self (ap (λ (o : OpenHeap). o.blocks) rest)
+    (ap (λ (o : OpenHeap). o.region) rest) c.in-Some.ensures.laid in
     laid
 
 pub read-requires-clause-within : goal.read-requires-clause-within
 read-requires-clause-within g c =
-    let kind = g.A.Mapping.kind in let h = seen kind c.args.self.now in let k = c.requires.kept.kept in let x = c.args.x in let is = c.requires.change in
-    let b = c.in-Some._to in let n = seen kind c.enter_class.new.self in let en = c.in-Some.ensures.entered in
-    let u = seen kind c.take_filler-from.new.self in let eu = ap (seen kind) c.take_filler-from.ensures.rest in
-    let l = place_in h k x is b n en c.requires.moves c.take_filler-from.result (tables_in u) c.take_filler-from.ensures.filled c.take_filler-from.ensures.tables in
+    let kind = g.A.Mapping.kind in
+    let fills =
+    refills_of c.requires.kept.kept c.requires.change c.in-Some.ensures.entered c.requires.moves c.take_filler-from.ensures.filled
+    c.take_filler-from.ensures.tables in
+    let l = place_in fills in
     let i = in_region kind c.enter_class.new.self c.in-Some.ensures.laid in
     let e = ap (λ (o : OpenHeap). length o.region) c.take_filler-from.ensures.rest in
     omega arith
@@ -50,24 +59,28 @@ read-requires-clause-within g c =
 pub move_to-requires-clause-laid : goal.move_to-requires-clause-laid
 move_to-requires-clause-laid g c =
     let kind = g.A.Mapping.kind in
-    let laid = laid_same kind c.enter_class.new.self c.take_filler-from.new.self (ap (λ (o : OpenHeap). o.blocks) c.take_filler-from.ensures.rest) (ap (λ (o : OpenHeap). o.region) c.take_filler-from.ensures.rest) c.in-Some.ensures.laid in
+    let rest = c.take_filler-from.ensures.rest in
+    let laid = laid_same kind c.enter_class.new.self c.take_filler-from.new.self (ap (λ (o : OpenHeap). o.blocks) rest)
+    (ap (λ (o : OpenHeap). o.region) rest) c.in-Some.ensures.laid in
     laid
 
 pub move_to-requires-clause-live : goal.move_to-requires-clause-live
 move_to-requires-clause-live g c =
-    let kind = g.A.Mapping.kind in let h = seen kind c.args.self.now in let k = c.requires.kept.kept in let x = c.args.x in let is = c.requires.change in
-    let b = c.in-Some._to in let n = seen kind c.enter_class.new.self in let en = c.in-Some.ensures.entered in
-    let u = seen kind c.take_filler-from.new.self in let eu = ap (seen kind) c.take_filler-from.ensures.rest in
-    let told = c.unpack.ensures.number ∙ ap (λ w. w % 2 ^ 32) c.read.ensures.value ∙ ap (λ (o : Heap). get_or o.words c.take_filler-from.result 0 % 2 ^ 32) eu
-    ∙ number_told h k x is b n en c.requires.moves c.take_filler-from.result (tables_in u) c.take_filler-from.ensures.filled c.take_filler-from.ensures.tables in
-    subst (λ i. IsSome (get u.proxies.places i)) (sym told) (subst (λ (o : Heap). IsSome (get o.proxies.places (r h k x is b n en c.requires.moves c.take_filler-from.result (tables_in u) c.take_filler-from.ensures.filled c.take_filler-from.ensures.tables))) (sym eu) (live_still h k x is b n en c.requires.moves c.take_filler-from.result (tables_in u) c.take_filler-from.ensures.filled c.take_filler-from.ensures.tables))
+    let kind = g.A.Mapping.kind in
+    let fills =
+    refills_of c.requires.kept.kept c.requires.change c.in-Some.ensures.entered c.requires.moves c.take_filler-from.ensures.filled
+    c.take_filler-from.ensures.tables in
+    let found = ap (seen kind) c.take_filler-from.ensures.rest in
+    let told = told_by fills found c.read.ensures.value c.unpack.ensures.number in
+    live_there fills found told
 
 pub move_to-requires-clause-source : goal.move_to-requires-clause-source
 move_to-requires-clause-source g c =
-    let kind = g.A.Mapping.kind in let h = seen kind c.args.self.now in let k = c.requires.kept.kept in let x = c.args.x in let is = c.requires.change in
-    let b = c.in-Some._to in let n = seen kind c.enter_class.new.self in let en = c.in-Some.ensures.entered in
-    let u = seen kind c.take_filler-from.new.self in let eu = ap (seen kind) c.take_filler-from.ensures.rest in
-    let l = source_in h k x is b n en c.requires.moves c.take_filler-from.result (tables_in u) c.take_filler-from.ensures.filled c.take_filler-from.ensures.tables in
+    let kind = g.A.Mapping.kind in
+    let fills =
+    refills_of c.requires.kept.kept c.requires.change c.in-Some.ensures.entered c.requires.moves c.take_filler-from.ensures.filled
+    c.take_filler-from.ensures.tables in
+    let l = source_in fills in
     let w = c.slot_words-old_slot_words.ensures.value in
     let i = in_region kind c.enter_class.new.self c.in-Some.ensures.laid in
     let e = ap (λ (o : OpenHeap). length o.region) c.take_filler-from.ensures.rest in
@@ -75,10 +88,11 @@ move_to-requires-clause-source g c =
 
 pub move_to-requires-clause-target : goal.move_to-requires-clause-target
 move_to-requires-clause-target g c =
-    let kind = g.A.Mapping.kind in let h = seen kind c.args.self.now in let k = c.requires.kept.kept in let x = c.args.x in let is = c.requires.change in
-    let b = c.in-Some._to in let n = seen kind c.enter_class.new.self in let en = c.in-Some.ensures.entered in
-    let u = seen kind c.take_filler-from.new.self in let eu = ap (seen kind) c.take_filler-from.ensures.rest in
-    let l = target_in h k x is b n en c.requires.moves c.take_filler-from.result (tables_in u) c.take_filler-from.ensures.filled c.take_filler-from.ensures.tables in
+    let kind = g.A.Mapping.kind in
+    let fills =
+    refills_of c.requires.kept.kept c.requires.change c.in-Some.ensures.entered c.requires.moves c.take_filler-from.ensures.filled
+    c.take_filler-from.ensures.tables in
+    let l = target_in fills in
     let w = c.slot_words-old_slot_words.ensures.value in
     let i = in_region kind c.enter_class.new.self c.in-Some.ensures.laid in
     let e = ap (λ (o : OpenHeap). length o.region) c.take_filler-from.ensures.rest in
@@ -86,61 +100,66 @@ move_to-requires-clause-target g c =
 
 pub move_to-requires-clause-apart : goal.move_to-requires-clause-apart
 move_to-requires-clause-apart g c =
-    let kind = g.A.Mapping.kind in let h = seen kind c.args.self.now in let k = c.requires.kept.kept in let x = c.args.x in let is = c.requires.change in
-    let b = c.in-Some._to in let n = seen kind c.enter_class.new.self in let en = c.in-Some.ensures.entered in
-    let u = seen kind c.take_filler-from.new.self in let eu = ap (seen kind) c.take_filler-from.ensures.rest in
-    subst (λ w. (c.take_filler-from.result + w ≤ c.args.x.place) ⊎ (c.args.x.place + w ≤ c.take_filler-from.result)) (sym c.slot_words-old_slot_words.ensures.value) (slots_apart h k x is b n en c.requires.moves c.take_filler-from.result (tables_in u) c.take_filler-from.ensures.filled c.take_filler-from.ensures.tables)
+    let fills =
+    refills_of c.requires.kept.kept c.requires.change c.in-Some.ensures.entered c.requires.moves c.take_filler-from.ensures.filled
+    c.take_filler-from.ensures.tables in
+    let w = sym c.slot_words-old_slot_words.ensures.value in
+    subst (λ w. (c.take_filler-from.result + w ≤ c.args.x.place) ⊎ (c.args.x.place + w ≤ c.take_filler-from.result)) w (slots_apart fills)
 
 pub move_to-requires-clause-whole_source : goal.move_to-requires-clause-whole_source
 move_to-requires-clause-whole_source g c =
-    let kind = g.A.Mapping.kind in let h = seen kind c.args.self.now in let k = c.requires.kept.kept in let x = c.args.x in let is = c.requires.change in
-    let b = c.in-Some._to in let n = seen kind c.enter_class.new.self in let en = c.in-Some.ensures.entered in
-    let u = seen kind c.take_filler-from.new.self in let eu = ap (seen kind) c.take_filler-from.ensures.rest in
-    whole_source h k x is b n en c.requires.moves c.take_filler-from.result (tables_in u) c.take_filler-from.ensures.filled c.take_filler-from.ensures.tables
+    let fills =
+    refills_of c.requires.kept.kept c.requires.change c.in-Some.ensures.entered c.requires.moves c.take_filler-from.ensures.filled
+    c.take_filler-from.ensures.tables in
+    whole_source fills
 
 pub move_to-requires-clause-whole_target : goal.move_to-requires-clause-whole_target
 move_to-requires-clause-whole_target g c =
-    let kind = g.A.Mapping.kind in let h = seen kind c.args.self.now in let k = c.requires.kept.kept in let x = c.args.x in let is = c.requires.change in
-    let b = c.in-Some._to in let n = seen kind c.enter_class.new.self in let en = c.in-Some.ensures.entered in
-    let u = seen kind c.take_filler-from.new.self in let eu = ap (seen kind) c.take_filler-from.ensures.rest in
-    whole_target h k x is b n en c.requires.moves c.take_filler-from.result (tables_in u) c.take_filler-from.ensures.filled c.take_filler-from.ensures.tables
+    let fills =
+    refills_of c.requires.kept.kept c.requires.change c.in-Some.ensures.entered c.requires.moves c.take_filler-from.ensures.filled
+    c.take_filler-from.ensures.tables in
+    whole_target fills
 
 pub move_to-requires-clause-whole : goal.move_to-requires-clause-whole
 move_to-requires-clause-whole g c =
-    let kind = g.A.Mapping.kind in let h = seen kind c.args.self.now in let k = c.requires.kept.kept in let x = c.args.x in let is = c.requires.change in
-    let b = c.in-Some._to in let n = seen kind c.enter_class.new.self in let en = c.in-Some.ensures.entered in
-    let u = seen kind c.take_filler-from.new.self in let eu = ap (seen kind) c.take_filler-from.ensures.rest in
-    subst (IsWhole kind) (sym c.slot_words-old_slot_words.ensures.value) (whole_words h k x is b n en c.requires.moves c.take_filler-from.result (tables_in u) c.take_filler-from.ensures.filled c.take_filler-from.ensures.tables)
+    let kind = g.A.Mapping.kind in
+    let fills =
+    refills_of c.requires.kept.kept c.requires.change c.in-Some.ensures.entered c.requires.moves c.take_filler-from.ensures.filled
+    c.take_filler-from.ensures.tables in
+    subst (IsWhole kind) (sym c.slot_words-old_slot_words.ensures.value) (whole_words fills)
 
 pub returns-clause-step : goal.returns-clause-step
 returns-clause-step g c =
-    let kind = g.A.Mapping.kind in let h = seen kind c.args.self.now in let k = c.requires.kept.kept in let x = c.args.x in let is = c.requires.change in
-    let b = c.in-Some._to in let n = seen kind c.enter_class.new.self in let en = c.in-Some.ensures.entered in
-    let u = seen kind c.take_filler-from.new.self in let eu = ap (seen kind) c.take_filler-from.ensures.rest in
-    let told = c.unpack.ensures.number ∙ ap (λ w. w % 2 ^ 32) c.read.ensures.value ∙ ap (λ (o : Heap). get_or o.words c.take_filler-from.result 0 % 2 ^ 32) eu
-    ∙ number_told h k x is b n en c.requires.moves c.take_filler-from.result (tables_in u) c.take_filler-from.ensures.filled c.take_filler-from.ensures.tables in
-    let m = seen kind c.move_to.new.self in
-    let w = c.slot_words-old_slot_words.ensures.value in
+    let kind = g.A.Mapping.kind in
+    let fills =
+    refills_of c.requires.kept.kept c.requires.change c.in-Some.ensures.entered c.requires.moves c.take_filler-from.ensures.filled
+    c.take_filler-from.ensures.tables in
+    let found = ap (seen kind) c.take_filler-from.ensures.rest in
+    let told = told_by fills found c.read.ensures.value c.unpack.ensures.number in
     let framed = framed_of kind c.move_to.new.self c.move_to.ensures.laid in
-    let em = ap (seen kind) c.move_to.ensures.rest in
-    let ke = keeps h k x is b n en c.requires.moves c.take_filler-from.result (tables_in u) c.take_filler-from.ensures.filled c.take_filler-from.ensures.tables u m _ _ w told refl eu em c.move_to.ensures.moves framed c.move_to.ensures.handles in
-    let be = changed_filled h k x is b n en c.requires.moves c.take_filler-from.result (tables_in u) c.take_filler-from.ensures.filled c.take_filler-from.ensures.tables u m _ _ w told refl eu em c.move_to.ensures.moves framed c.move_to.ensures.handles in
-    change_resized h k x is b n en (Some (r h k x is b n en c.requires.moves c.take_filler-from.result (tables_in u) c.take_filler-from.ensures.filled c.take_filler-from.ensures.tables)) (mover h k x is b n en c.requires.moves c.take_filler-from.result (tables_in u) c.take_filler-from.ensures.filled c.take_filler-from.ensures.tables) m ke be (frames_are h k x is b n en c.requires.moves c.take_filler-from.result (tables_in u) c.take_filler-from.ensures.filled c.take_filler-from.ensures.tables u m _ _ w told refl eu em c.move_to.ensures.moves framed c.move_to.ensures.handles) _ w c.slot_words-slot_words.ensures.value (ap Some told)
+    let moved = ap (seen kind) c.move_to.ensures.rest in
+    let words = c.slot_words-old_slot_words.ensures.value in
+    let lands = lands_of fills words told refl found moved c.move_to.ensures.moves framed c.move_to.ensures.handles in
+    change_resized fills.valid fills.change fills.enters (Some (r fills)) (mover fills) (seen kind c.move_to.new.self)
+    (keeps fills lands) (changed_filled fills lands) (frames_are fills lands) _ words c.slot_words-slot_words.ensures.value (ap Some told)
 
 pub returns-clause-kept : goal.returns-clause-kept
 returns-clause-kept g c =
-    let kind = g.A.Mapping.kind in let h = seen kind c.args.self.now in let k = c.requires.kept.kept in let x = c.args.x in let is = c.requires.change in
-    let b = c.in-Some._to in let n = seen kind c.enter_class.new.self in let en = c.in-Some.ensures.entered in
-    let u = seen kind c.take_filler-from.new.self in let eu = ap (seen kind) c.take_filler-from.ensures.rest in
-    let told = c.unpack.ensures.number ∙ ap (λ w. w % 2 ^ 32) c.read.ensures.value ∙ ap (λ (o : Heap). get_or o.words c.take_filler-from.result 0 % 2 ^ 32) eu
-    ∙ number_told h k x is b n en c.requires.moves c.take_filler-from.result (tables_in u) c.take_filler-from.ensures.filled c.take_filler-from.ensures.tables in
-    let m = seen kind c.move_to.new.self in
-    let w = c.slot_words-old_slot_words.ensures.value in
+    let kind = g.A.Mapping.kind in
+    let fills =
+    refills_of c.requires.kept.kept c.requires.change c.in-Some.ensures.entered c.requires.moves c.take_filler-from.ensures.filled
+    c.take_filler-from.ensures.tables in
+    let found = ap (seen kind) c.take_filler-from.ensures.rest in
+    let told = told_by fills found c.read.ensures.value c.unpack.ensures.number in
     let framed = framed_of kind c.move_to.new.self c.move_to.ensures.laid in
-    let em = ap (seen kind) c.move_to.ensures.rest in
-    let ke = keeps h k x is b n en c.requires.moves c.take_filler-from.result (tables_in u) c.take_filler-from.ensures.filled c.take_filler-from.ensures.tables u m _ _ w told refl eu em c.move_to.ensures.moves framed c.move_to.ensures.handles in
-    let be = changed_filled h k x is b n en c.requires.moves c.take_filler-from.result (tables_in u) c.take_filler-from.ensures.filled c.take_filler-from.ensures.tables u m _ _ w told refl eu em c.move_to.ensures.moves framed c.move_to.ensures.handles in
-    record { laid = c.move_to.ensures.laid; kept = change_kept h k x is b n en (Some (r h k x is b n en c.requires.moves c.take_filler-from.result (tables_in u) c.take_filler-from.ensures.filled c.take_filler-from.ensures.tables)) (mover h k x is b n en c.requires.moves c.take_filler-from.result (tables_in u) c.take_filler-from.ensures.filled c.take_filler-from.ensures.tables) m ke be }
+    let moved = ap (seen kind) c.move_to.ensures.rest in
+    let words = c.slot_words-old_slot_words.ensures.value in
+    let lands = lands_of fills words told refl found moved c.move_to.ensures.moves framed c.move_to.ensures.handles in
+    record {
+      laid = c.move_to.ensures.laid;
+      kept = change_kept fills.valid fills.change fills.enters (Some (r fills)) (mover fills) (seen kind c.move_to.new.self)
+          (keeps fills lands) (changed_filled fills lands);
+    }
 
 pub returns-clause-bound : goal.returns-clause-bound
 returns-clause-bound g c =

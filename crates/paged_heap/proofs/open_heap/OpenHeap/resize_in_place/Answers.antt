@@ -12,20 +12,20 @@ use Rattle.paged_heap.proofs.open_heap.OpenHeap.resize_in_place.Goals as goal
 pub zero_tail-requires-clause-within : goal.zero_tail-requires-clause-within
 zero_tail-requires-clause-within g c =
     let kind = g.A.Mapping.kind in let h = seen kind c.args.self.now in let k = c.requires.kept.kept in
-    let l = bytes_in h k c.args.h.0 c.args.place c.args.length c.args.c c.requires.object in
+    let l = bytes_in k c.requires.object in
     let e = in_region kind c.args.self.now c.requires.kept.laid in
     omega arith
 
 pub zero_tail-requires-clause-small : goal.zero_tail-requires-clause-small
 zero_tail-requires-clause-small g c =
     let kind = g.A.Mapping.kind in let h = seen kind c.args.self.now in let k = c.requires.kept.kept in
-    let l = bytes_low h k c.args.h.0 c.args.place c.args.length c.args.c c.requires.object in
+    let l = bytes_low k c.requires.object in
     omega arith
 
 pub write-requires-clause-within : goal.write-requires-clause-within
 write-requires-clause-within g c =
     let kind = g.A.Mapping.kind in let h = seen kind c.args.self.now in let k = c.requires.kept.kept in
-    let l = bytes_in h k c.args.h.0 c.args.place c.args.length c.args.c c.requires.object in
+    let l = bytes_in k c.requires.object in
     let e = c.zero_tail.ensures.len in
     let f = in_region kind c.args.self.now c.requires.kept.laid in
     omega arith
@@ -33,7 +33,7 @@ write-requires-clause-within g c =
 pub overflow_sub-self : goal.overflow_sub-self
 overflow_sub-self g c =
     let kind = g.A.Mapping.kind in let h = seen kind c.args.self.now in let k = c.requires.kept.kept in
-    let l = asked_some h k c.args.h.0 c.args.place c.args.length c.args.c c.requires.object in
+    let l = asked_some k c.requires.object in
     let e = ap (λ (x : Heap). x.asked) c.zero_tail.ensures.rest in let f = c.from.ensures in
     omega arith
 
@@ -49,34 +49,44 @@ pub returns-clause-step : goal.returns-clause-step
 returns-clause-step g c =
     let kind = g.A.Mapping.kind in let h = seen kind c.args.self.now in let k = c.requires.kept.kept in
     let t = seen kind c.zero_tail.new.self in
-    let n : Heap = record t { words = words_of kind c.zero_tail.new.self.blocks c.write.new.region; asked = c.zero_tail.new.self.asked - c.from.result + c.from-2.result } in
+    let n : Heap = record t {
+      words = words_of kind c.zero_tail.new.self.blocks c.write.new.region;
+      asked = c.zero_tail.new.self.asked - c.from.result + c.from-2.result;
+    } in
     let en : n ≡ record t { words = set t.words c.args.place (header_word c.args.h.0 c.args.bytes); asked = t.asked - c.args.length + c.args.bytes } =
-    (ap (λ ws. record t { words = ws; asked = t.asked - c.from.result + c.from-2.result }) (c.write.ensures.words ∙ ap (set t.words c.args.place) c.pack.ensures)
+    (ap (λ ws. record t { words = ws; asked = t.asked - c.from.result + c.from-2.result })
+    (c.write.ensures.words ∙ ap (set t.words c.args.place) c.pack.ensures)
     ∙ ap (λ x. record t { words = set t.words c.args.place (header_word c.args.h.0 c.args.bytes); asked = t.asked - x + c.from-2.result }) c.from.ensures
     ∙ ap (λ x. record t { words = set t.words c.args.place (header_word c.args.h.0 c.args.bytes); asked = t.asked - c.args.length + x }) c.from-2.ensures) in
     let still : c.args.length ≤ c.args.bytes → t ≡ h = λ le. ap (seen kind) (c.zero_tail.ensures.kept le) in
-    fits_resized h t n k c.args.h.0 c.args.place c.args.length c.args.c c.requires.object c.args.bytes c.requires.same c.zero_tail.ensures.rest c.zero_tail.ensures.cut still en
+    fits_resized h t n k c.args.h.0 c.args.place c.args.length c.args.c c.requires.object c.args.bytes c.requires.same c.zero_tail.ensures.rest
+    c.zero_tail.ensures.cut still en
     _ c.slot_words-slot_words.ensures.value c.slot_words-slot_words.ensures.value refl c.requires.fits
 
 pub returns-clause-kept : goal.returns-clause-kept
 returns-clause-kept g c =
     let kind = g.A.Mapping.kind in let h = seen kind c.args.self.now in let k = c.requires.kept.kept in
     let t = seen kind c.zero_tail.new.self in
-    let n : Heap = record t { words = words_of kind c.zero_tail.new.self.blocks c.write.new.region; asked = c.zero_tail.new.self.asked - c.from.result + c.from-2.result } in
+    let n : Heap = record t {
+      words = words_of kind c.zero_tail.new.self.blocks c.write.new.region;
+      asked = c.zero_tail.new.self.asked - c.from.result + c.from-2.result;
+    } in
     let en : n ≡ record t { words = set t.words c.args.place (header_word c.args.h.0 c.args.bytes); asked = t.asked - c.args.length + c.args.bytes } =
-    (ap (λ ws. record t { words = ws; asked = t.asked - c.from.result + c.from-2.result }) (c.write.ensures.words ∙ ap (set t.words c.args.place) c.pack.ensures)
+    (ap (λ ws. record t { words = ws; asked = t.asked - c.from.result + c.from-2.result })
+    (c.write.ensures.words ∙ ap (set t.words c.args.place) c.pack.ensures)
     ∙ ap (λ x. record t { words = set t.words c.args.place (header_word c.args.h.0 c.args.bytes); asked = t.asked - x + c.from-2.result }) c.from.ensures
     ∙ ap (λ x. record t { words = set t.words c.args.place (header_word c.args.h.0 c.args.bytes); asked = t.asked - c.args.length + x }) c.from-2.ensures) in
     let still : c.args.length ≤ c.args.bytes → t ≡ h = λ le. ap (seen kind) (c.zero_tail.ensures.kept le) in
     record {
       laid = c.write.ensures.laid;
-      kept = fits_kept h t n k c.args.h.0 c.args.place c.args.length c.args.c c.requires.object c.args.bytes c.requires.same c.zero_tail.ensures.rest c.zero_tail.ensures.cut still en;
+      kept = fits_kept h t n k c.args.h.0 c.args.place c.args.length c.args.c c.requires.object c.args.bytes c.requires.same c.zero_tail.ensures.rest
+          c.zero_tail.ensures.cut still en;
     }
 
 pub returns-clause-bound : goal.returns-clause-bound
 returns-clause-bound g c =
     let kind = g.A.Mapping.kind in let h = seen kind c.args.self.now in let k = c.requires.kept.kept in
     let a = c.zero_tail.ensures.bound in let b = c.write.ensures.bound in
-    let r = holds_bytes h k c.args.h.0 c.args.place c.args.length c.args.c c.requires.object in let e = c.slot_words-slot_words.ensures.value in
+    let r = holds_bytes k c.requires.object in let e = c.slot_words-slot_words.ensures.value in
     let ak = a.kept in let ab = a.bound in let bk = b.kept in let bb = b.bound in
     record { kept = omega arith; bound = omega arith }

@@ -18,8 +18,11 @@ returns-in_default-clause-step g c =
 
 pub returns-in_default-class_of-clause-step : goal.returns-in_default-class_of-clause-step
 returns-in_default-class_of-clause-step g c =
-    let h = seen g.A.Mapping.kind c.args.self.now in let k = c.requires.kept in
-    (passes_page h k c.args.h.0 c.in-Some.place c.args.bytes (sym c.in-Some.ensures.found) c.in_default-class_of.ensures.found, unmoved g.A.Mapping.kind (paged_kind h k) (state_of h) (state_of h) refl)
+    let h = seen g.A.Mapping.kind c.args.self.now in let k = c.requires.kept in (
+      passes_page h k c.args.h.0 c.in-Some.place c.args.bytes (sym c.in-Some.ensures.found) c.in_default-class_of.ensures.found,
+      unmoved g.A.Mapping.kind
+          (paged_kind h k) (state_of h) (state_of h) refl,
+    )
 
 pub length_at-length-requires-clause-within : goal.length_at-length-requires-clause-within
 length_at-length-requires-clause-within g c =
@@ -31,12 +34,14 @@ length_at-length-requires-clause-within g c =
 pub unreachable-requires : goal.unreachable-requires
 unreachable-requires g c =
     let h = seen g.A.Mapping.kind c.args.self.now in let k = c.requires.kept in
-    has_class h k c.args.h.0 c.in-Some.place (sym c.in-Some.ensures.found) c.length_at-length.result c.length_at-length.ensures.value c.in_default-class_of-2.ensures.found
+    has_class h k c.args.h.0 c.in-Some.place (sym c.in-Some.ensures.found) c.length_at-length.result c.length_at-length.ensures.value
+    c.in_default-class_of-2.ensures.found
 
 pub resize_in_place-requires-clause-object : goal.resize_in_place-requires-clause-object
 resize_in_place-requires-clause-object g c =
     let h = seen g.A.Mapping.kind c.args.self.now in let k = c.requires.kept in
-    object_at h k c.args.h.0 c.in-Some.place (sym c.in-Some.ensures.found) c.length_at-length.result c.length_at-length.ensures.value c.in-Some-class_of-2.class c.in-Some-class_of-2.ensures.found
+    object_at h k c.args.h.0 c.in-Some.place (sym c.in-Some.ensures.found) c.length_at-length.result c.length_at-length.ensures.value
+    c.in-Some-class_of-2.class c.in-Some-class_of-2.ensures.found
 
 pub resize_in_place-requires-clause-same : goal.resize_in_place-requires-clause-same
 resize_in_place-requires-clause-same g c =
@@ -47,4 +52,5 @@ pub resize_to_class-requires-clause-change : goal.resize_to_class-requires-claus
 resize_to_class-requires-clause-change g c =
     let h = seen g.A.Mapping.kind c.args.self.now in let k = c.requires.kept in
     change_at h k c.args.h c.in-Some.place c.length_at-length.result c.args.bytes c.in-Some-class_of-2.class c.in-Some-class_of.to
-    (object_at h k c.args.h.0 c.in-Some.place (sym c.in-Some.ensures.found) c.length_at-length.result c.length_at-length.ensures.value c.in-Some-class_of-2.class c.in-Some-class_of-2.ensures.found) c.in-Some-class_of.ensures.found c.if-to-class.false
+    (object_at h k c.args.h.0 c.in-Some.place (sym c.in-Some.ensures.found) c.length_at-length.result c.length_at-length.ensures.value
+    c.in-Some-class_of-2.class c.in-Some-class_of-2.ensures.found) c.in-Some-class_of.ensures.found c.if-to-class.false

@@ -3,4 +3,4 @@ use Rattle.paged_heap.proofs.HeaderLemmas.{page_there}
 use Rattle.paged_heap.proofs.open_heap.OpenHeap.resize_to_class.Goals as goal
 
 pub must_move-requires-clause-page : goal.must_move-requires-clause-page
-must_move-requires-clause-page g c = rw c.deref.ensures.value (page_there (seen g.A.Mapping.kind c.args.self.now) c.requires.kept.kept _ _ _ _ c.requires.change.object)
+must_move-requires-clause-page g c = rw c.deref.ensures.value (page_there c.requires.kept.kept c.requires.change.object)

@@ -7,8 +7,14 @@ use Rattle.paged_heap.proofs.open_heap.OpenHeap.set_bound.Goals as goal
 
 pub returns-clause-bound : goal.returns-clause-bound
 returns-clause-bound g c =
-    rebound_state (seen g.A.Mapping.kind c.args.self.now) c.requires.kept.kept c.requires.empty c.in-Some.c c.args.k c.in-Some.ensures.within c.requires.least c.requires.most
+    rebound_state (seen g.A.Mapping.kind c.args.self.now) c.requires.kept.kept c.requires.empty c.in-Some.c c.args.k c.in-Some.ensures.within
+    c.requires.least c.requires.most
     ∙ ap (λ o. bound_put (state_of (seen g.A.Mapping.kind c.args.self.now)) o c.args.k) c.in-Some.ensures.found
 
 pub returns-clause-kept : goal.returns-clause-kept
-returns-clause-kept g c = record { laid = c.requires.kept.laid; kept = rebound_kept (seen g.A.Mapping.kind c.args.self.now) c.requires.kept.kept c.requires.empty c.in-Some.c c.args.k c.in-Some.ensures.within c.requires.least c.requires.most }
+returns-clause-kept g c =
+    record {
+      laid = c.requires.kept.laid;
+      kept = rebound_kept (seen g.A.Mapping.kind c.args.self.now) c.requires.kept.kept c.requires.empty c.in-Some.c c.args.k c.in-Some.ensures.within
+          c.requires.least c.requires.most;
+    }

@@ -7,17 +7,24 @@ use Rattle.paged_heap.proofs.WriteLemmas.{wrote, wrote_kept, wrote_nothing}
 use Rattle.paged_heap.proofs.open_heap.OpenHeap.write.Goals as goal
 
 pub returns-then-len-eq0-clause-step : goal.returns-then-len-eq0-clause-step
-returns-then-len-eq0-clause-step g c = wrote_nothing (seen g.A.Mapping.kind c.args.self.now) c.requires.kept c.args.h.0 c.args.at c.in_ok-place.place c.args.bytes.now c.if-len-eq0.true c.in_ok-place.ensures.found
+returns-then-len-eq0-clause-step g c =
+    wrote_nothing (seen g.A.Mapping.kind c.args.self.now) c.requires.kept c.args.h.0 c.args.at c.in_ok-place.place c.args.bytes.now c.if-len-eq0.true
+    c.in_ok-place.ensures.found
 
 pub overflow_add-first : goal.overflow_add-first
-overflow_add-first g c = (let s = place_small (seen g.A.Mapping.kind c.args.self.now) c.requires.kept c.args.h.0 c.args.at _ c.in_ok-place.place c.in_ok-place.ensures.found (let ne = c.if-len-eq0.false in omega arith) in omega arith)
+overflow_add-first g c =
+    (let s = place_small (seen g.A.Mapping.kind c.args.self.now) c.requires.kept c.args.h.0 c.args.at _ c.in_ok-place.place c.in_ok-place.ensures.found
+    (let ne = c.if-len-eq0.false in omega arith) in omega arith)
 
 pub overflow_add-first-2 : goal.overflow_add-first-2
-overflow_add-first-2 g c = (let s = place_small (seen g.A.Mapping.kind c.args.self.now) c.requires.kept c.args.h.0 c.args.at _ c.in_ok-place.place c.in_ok-place.ensures.found (let ne = c.if-len-eq0.false in omega arith) in omega arith)
+overflow_add-first-2 g c =
+    (let s = place_small (seen g.A.Mapping.kind c.args.self.now) c.requires.kept c.args.h.0 c.args.at _ c.in_ok-place.place c.in_ok-place.ensures.found
+    (let ne = c.if-len-eq0.false in omega arith) in omega arith)
 
 pub write_bytes-requires-clause-within : goal.write_bytes-requires-clause-within
 write_bytes-requires-clause-within g c =
-    let w = words_in (seen g.A.Mapping.kind c.args.self.now) c.requires.kept c.args.h.0 c.args.at _ c.in_ok-place.place c.in_ok-place.ensures.found (let ne = c.if-len-eq0.false in omega arith) in
+    let w = words_in (seen g.A.Mapping.kind c.args.self.now) c.requires.kept c.args.h.0 c.args.at _ c.in_ok-place.place c.in_ok-place.ensures.found
+    (let ne = c.if-len-eq0.false in omega arith) in
     let e = in_region g.A.Mapping.kind c.args.self.now c.requires.laid in
     omega arith
 
@@ -25,7 +32,8 @@ pub returns-clause-step : goal.returns-clause-step
 returns-clause-step g c =
     let h = seen g.A.Mapping.kind c.args.self.now in
     let n : Heap = record h { words = words_of g.A.Mapping.kind c.args.self.now.blocks c.write_bytes.new.region } in
-    wrote h n c.requires.kept c.args.h.0 c.args.at c.in_ok-place.place c.args.bytes.now c.in_ok-place.ensures.found (λ i. (let f = c.type_inv.bytes i in omega arith)) refl c.write_bytes.ensures.words
+    wrote h n c.requires.kept c.args.h.0 c.args.at c.in_ok-place.place c.args.bytes.now c.in_ok-place.ensures.found
+    (λ i. (let f = c.type_inv.bytes i in omega arith)) refl c.write_bytes.ensures.words
 
 pub returns-clause-kept : goal.returns-clause-kept
 returns-clause-kept g c =
@@ -33,5 +41,6 @@ returns-clause-kept g c =
     let n : Heap = record h { words = words_of g.A.Mapping.kind c.args.self.now.blocks c.write_bytes.new.region } in
     record {
       laid = c.write_bytes.ensures.laid;
-      kept = wrote_kept h n c.requires.kept c.args.h.0 c.args.at c.in_ok-place.place c.args.bytes.now c.in_ok-place.ensures.found (λ i. (let f = c.type_inv.bytes i in omega arith)) refl c.write_bytes.ensures.words;
+      kept = wrote_kept h n c.requires.kept c.args.h.0 c.args.at c.in_ok-place.place c.args.bytes.now c.in_ok-place.ensures.found
+          (λ i. (let f = c.type_inv.bytes i in omega arith)) refl c.write_bytes.ensures.words;
     }

@@ -14,9 +14,12 @@ returns-then-keep-bytes-clause-cut g c = λ less. (
     let mid = words_of kind blocks c.write_bytes.new.region in
     let new = words_of kind blocks c.clear.new.region in
     let l = laid_long kind blocks c.args.self.now.region c.requires.laid in
-    let long = laid_long kind blocks c.clear.new.region c.clear.ensures.laid ∙ c.clear.ensures.len ∙ sym (laid_long kind blocks c.write_bytes.new.region c.write_bytes.ensures.laid) in
-    let w = subst (λ n. Overwrites old mid (record { from = c.args.place + 1 + c.args.keep / 8; count = n }) (c.args.keep % 8) (take (8 - c.args.keep % 8) (drop (c.args.keep % 8) (replicate 8 0))))
+    let long = laid_long kind blocks c.clear.new.region c.clear.ensures.laid ∙ c.clear.ensures.len
+    ∙ sym (laid_long kind blocks c.write_bytes.new.region c.write_bytes.ensures.laid) in
+    let w = subst (λ n. Overwrites old mid (record { from = c.args.place + 1 + c.args.keep / 8; count = n }) (c.args.keep % 8)
+    (take (8 - c.args.keep % 8) (drop (c.args.keep % 8) (replicate 8 0))))
     (zero_part (c.args.keep % 8) (omega arith)) c.write_bytes.ensures.words in
     let e : c.div_ceil.result ≡ (c.args.bytes + 7) / 8 = (let f = c.div_ceil.ensures in omega arith) in
-    let clear = subst (λ n. Clears mid new (record { from = c.args.place + 1 + c.args.keep / 8 + 1; count = n - c.args.keep / 8 - 1 })) e c.clear.ensures.words in
+    let clear = subst (λ n. Clears mid new (record { from = c.args.place + 1 + c.args.keep / 8 + 1; count = n - c.args.keep / 8 - 1 })) e
+    c.clear.ensures.words in
     cut_is old mid new c.args.place c.args.keep c.args.bytes less (let i = c.requires.within in omega arith) w long clear)
