@@ -20,7 +20,9 @@ module _ {M : Type 1} {𝓤 : Ura M} {𝓛 : Logic 𝓤} {K : Type 0} {Γ : List
   by_result t holds τ v (Ok p) given none =
       fpick t (λ us. fsplit t $ feq_l t (λ e. fpick t (λ vss. fsplit t $ feq_l t (λ e'. fsplit t $ feq_l t (λ e''. drop t $ fsplit t $
       in_a_block t p (λ z. room_for τ z) (id⊢ 𝓤 (never 𝓤)) (λ b o at. move t (1 ∷ []) $ rewrite t 0 (λ (z : Ptr). ‵ (holds τ z)) at refl $ move t (1 ∷ []) $
-      given b o (ap only e ∙ ap (λ (ws : List Val). live 0 (of_list ws)) (e' ∙ ap (λ (ws : List Val). ws ++ []) (e'' ∙ ap (λ (z : Ptr). ptr_val z ∷ []) at)))))))))
+      given b o (ap only e ∙ ap (λ (ws : List Val). live 0 (of_list ws)) (e'
+      ∙ ap (λ (ws : List Val). ws ++ []) (e'' ∙ ap (λ (z : Ptr). ptr_val z ∷ []) at)))))))))
   by_result t holds τ v (Err n) given none =
-      fpick t (λ us. fsplit t $ feq_l t (λ e. fpick t (λ vss. fsplit t $ feq_l t (λ e'. fsplit t $ fpick t (λ nothing. fsplit t $ feq_l t (λ e''. drop t $ drop t $ drop t $
+      fpick t (λ us. fsplit t $ feq_l t (λ e. fpick t (λ vss. fsplit t $
+      feq_l t (λ e'. fsplit t $ fpick t (λ nothing. fsplit t $ feq_l t (λ e''. drop t $ drop t $ drop t $
       none (ap only e ∙ ap (λ (ws : List Val). live 1 (of_list ws)) (e' ∙ ap (λ (ws : List Val). ws ++ []) e''))))))))

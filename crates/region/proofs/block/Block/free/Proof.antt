@@ -40,8 +40,10 @@ stayed = (stay_dropped (plain (λ _. R)) f.ended.kept.0, (stay_dropped (shr_ref_
 pub free_spec : {M : Type 1} → statement M
 free_spec 𝓤 𝓛 𝓜 𝓡 wired =
     let c = f.clauses 𝓛 𝓜.mem 𝓡.returns in let W = walk_of 𝓛 f.ended stayed c in let 𝓣 = tables 𝓤 𝓛.H 𝓜 𝓡 𝓡.env in
-    proved_at 𝓛 f.ended stayed c 𝓜 𝓡
-    (Goes-dropped 𝓛 1 (plain (λ _. R)) f.ended.kept.0 (λ κs x w. refl), (Goes-dropped 𝓛 1 (shr_ref_to (0 ∷ []) tt (plain (λ _. Heap))) f.ended.kept.1.0 (λ κs x w. refl), tt))
+    proved_at 𝓛 f.ended stayed c 𝓜 𝓡 (
+      Goes-dropped 𝓛 1 (plain (λ _. R)) f.ended.kept.0 (λ κs x w. refl),
+      (Goes-dropped 𝓛 1 (shr_ref_to (0 ∷ []) tt (plain (λ _. Heap))) f.ended.kept.1.0 (λ κs x w. refl), tt),
+    )
     f.Key.name code.function (code.unfolded 𝓤 𝓛.H 𝓜 𝓡 wired) (λ y are.
     let Post : Val → SProp 𝓤 = W.post y in let C = 𝓣.C in let Λ = 𝓣.Λ in
     let κ = y.0.0.0 in let q = y.0.1.0 in let h = y.0.3.0 in let heap = y.0.3.1.0 in let vss = y.0.4 in let n = h.len in
@@ -68,7 +70,16 @@ free_spec 𝓤 𝓛 𝓜 𝓡 wired =
     flt_i ! (n * 8) (2 ^ 64) small $ feq_i ! (List Val) (vint w64 (n * 8) ∷ []) (vint w64 (n * 8) ∷ []) refl $ fjoin ! $ fjoin ! $
     feq_i ! (List Val) (vptr b o ∷ []) (vptr b o ∷ []) refl $ fjoin ! $ move ! (1 ∷ 0 ∷ []) $ fjoin ! $
     let G = triple_of 𝓛 g.signature (g.spec 𝓛 𝓜.mem 𝓡.returns) in
-    let z : G.Ghost = (((κ, tt), (q, tt), tt, (heap, (block_ptr b o, (n * 8, (8, tt)))), (shr_vals heap, (vptr b o ∷ [], (vint w64 (n * 8) ∷ [], (vint w64 8 ∷ [], tt))))), array_of u64 n) in
+    let z : G.Ghost = (
+      (
+        (κ, tt),
+        (q, tt),
+        tt,
+        (heap, (block_ptr b o, (n * 8, (8, tt)))),
+        (shr_vals heap, (vptr b o ∷ [], (vint w64 (n * 8) ∷ [], (vint w64 8 ∷ [], tt)))),
+      ),
+      array_of u64 n,
+    ) in
     move ! (2 ∷ 0 ∷ []) $ join ! $ join ! $ use1 𝓛 (raw (G.pre z)) (id⊢ 𝓤 _) $
     calls_at_last ! (framed 𝓤 𝓛.H 𝓜 𝓣) G (met 𝓤 𝓛 𝓜 𝓡 (code.calls-std_heap::GlobalAllocator::deallocate 𝓡.env wired)) z
     (and_then ! (get ! refl) (and_then ! (get ! refl) (and_then ! (get ! refl) (and_then ! (lit ! tt) (no_more !))))) (λ v.

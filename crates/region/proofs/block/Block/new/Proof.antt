@@ -61,22 +61,27 @@ new_spec 𝓤 𝓛 𝓜 𝓡 wired =
     let y : W.Ghost = ((κs, qs, bounds, a, (shr_vals heap, (uint_vals w64 n, tt))), tt) in
     let Post : Val → SProp 𝓤 = W.post y in
     let τ : Ty = array_of u64 n in
-    qed 𝓛 (((‵ (flft κ q) ⊛ ‵ ftrue) ⊛ ‵ ((ShrRef (named 0) κ Heap).own_val heap (shr_vals heap)) ⊛ ‵ (owns (usize ∷ []) a.1 y.0.4.1)) ∷ raw (fact 𝓤 (n < 2 ^ 32)) ∷ []) ∵
+    qed 𝓛 (((‵ (flft κ q) ⊛ ‵ ftrue) ⊛ ‵ ((ShrRef (named 0) κ Heap).own_val heap (shr_vals heap)) ⊛ ‵ (owns (usize ∷ []) a.1 y.0.4.1)) ∷
+    raw (fact 𝓤 (n < 2 ^ 32)) ∷ []) ∵
     move ! (1 ∷ []) $ heard ! (n < 2 ^ 32) (λ small. let bytes : n * 8 < 2 ^ 64 = omega arith in
     split ! $ move ! (1 ∷ []) $ split ! $ move ! (1 ∷ []) $ drop ! $
     enter ! _ _ _ _ _ $ alloc_all ! (λ l. pass_all ! refl ((tt, tt), ((tt, record { fits = fl }), tt)) $
-    let En = env code.Mir.locals l in let Then : Ends 𝓤 𝓛.H = any_q (after_seq 𝓤 𝓛.H (Wp 𝓤 𝓛.H C Λ En code.Mir.t-4 (at_return 𝓤 𝓛.H En Post)) (at_return 𝓤 𝓛.H En Post)) in
+    let En = env code.Mir.locals l in
+    let Then : Ends 𝓤 𝓛.H = any_q (after_seq 𝓤 𝓛.H (Wp 𝓤 𝓛.H C Λ En code.Mir.t-4 (at_return 𝓤 𝓛.H En Post)) (at_return 𝓤 𝓛.H En Post)) in
     sets ! (bin ! (get ! refl) (lit ! tt) (record { fits = bytes })) refl (tt, record { fits = bytes }) $
     -- what the allocator is called with
     nothing ! $ flt_i ! 8 (2 ^ 64) (lit< tt) $ feq_i ! (List Val) (vint w64 8 ∷ []) (vint w64 8 ∷ []) refl $ fjoin ! $ fjoin ! $
-    flt_i ! (n * 8) (2 ^ 64) bytes $ feq_i ! (List Val) (vint w64 (n * 8) ∷ []) (vint w64 (n * 8) ∷ []) refl $ fjoin ! $ fjoin ! $ move ! (1 ∷ 0 ∷ []) $ fjoin ! $
+    flt_i ! (n * 8) (2 ^ 64) bytes $ feq_i ! (List Val) (vint w64 (n * 8) ∷ []) (vint w64 (n * 8) ∷ []) refl $ fjoin ! $ fjoin ! $ move ! (1 ∷ 0 ∷ []) $
+    fjoin ! $
     use0 𝓛 (raw (fact 𝓤 (HasLayout τ (n * 8) 8))) (fact_i 𝓤 _ (emp 𝓤) (capped_is (n * 8) bytes, refl)) $ move ! (2 ∷ 1 ∷ []) $ join ! $ join ! $
     let G = triple_of 𝓛 g.signature (g.spec 𝓛 𝓜.mem 𝓡.returns) in
     let z : G.Ghost = (((κ, tt), (q, tt), tt, (heap, (n * 8, (8, tt))), (shr_vals heap, (vint w64 (n * 8) ∷ [], (vint w64 8 ∷ [], tt)))), τ) in
     use1 𝓛 (raw (G.pre z)) (id⊢ 𝓤 _) $
-    calls_at ! (framed 𝓤 𝓛.H 𝓜 𝓣) G (met 𝓤 𝓛 𝓜 𝓡 (code.calls-std_heap::GlobalAllocator::allocate 𝓡.env wired)) z (and_then ! (get ! refl) (and_then ! (get ! refl) (and_then ! (lit ! tt) (no_more !)))) (λ v.
+    calls_at ! (framed 𝓤 𝓛.H 𝓜 𝓣) G (met 𝓤 𝓛 𝓜 𝓡 (code.calls-std_heap::GlobalAllocator::allocate 𝓡.env wired)) z
+    (and_then ! (get ! refl) (and_then ! (get ! refl) (and_then ! (lit ! tt) (no_more !)))) (λ v.
     use1 𝓛 (later (some (λ (r : Answer.Denot). ((‵ (flft κ q) ⊛ ‵ ftrue) ⊛ ‵ (Answer.own_val r (v ∷ []))) ⊛
-    some (λ (ws : Unit {0} × (Unit {0} × (Unit {0} × Unit {0}))). ‵ (lasts g.ended (κ, tt) z.0.3 ws) ⊛ ‵ (block_if_ok (ghosts.dealloc_token heap.now) τ r))))) (id⊢ 𝓤 _) $
+    some (λ (ws : Unit {0} × (Unit {0} × (Unit {0} × Unit {0}))). ‵ (lasts g.ended (κ, tt) z.0.3 ws) ⊛
+    ‵ (block_if_ok (ghosts.dealloc_token heap.now) τ r))))) (id⊢ 𝓤 _) $
     await ! tt $ pick ! (λ r. split ! $ split ! $ move ! (2 ∷ []) $ pick ! (λ ws. split ! $ drop ! $ move ! (2 ∷ 0 ∷ []) $
     by_result ! (ghosts.dealloc_token heap.now) τ v r
     (λ b o e.
@@ -91,23 +96,27 @@ new_spec 𝓤 𝓛 𝓜 𝓡 wired =
     let zs : List ℕ = replicate n 0 in
     let x : Z.Ghost = ((tt, tt, tt, (block_ptr b o, (n, tt)), (vptr b o ∷ [], (vint w64 n ∷ [], tt))), tt) in
     use0 𝓛 (raw (fact 𝓤 (n < 2 ^ 32))) (fact_i 𝓤 _ (emp 𝓤) small) $ join ! $
-    nothing ! $ flt_i ! n (2 ^ 64) fl $ feq_i ! (List Val) (vint w64 n ∷ []) (vint w64 n ∷ []) refl $ fjoin ! $ fjoin ! $ feq_i ! (List Val) (vptr b o ∷ []) (vptr b o ∷ []) refl $ fjoin ! $
+    nothing ! $ flt_i ! n (2 ^ 64) fl $ feq_i ! (List Val) (vint w64 n ∷ []) (vint w64 n ∷ []) refl $ fjoin ! $ fjoin ! $
+    feq_i ! (List Val) (vptr b o ∷ []) (vptr b o ∷ []) refl $ fjoin ! $
     nothing ! $ join ! $ join ! $ use1 𝓛 (raw (Z.pre x)) (id⊢ 𝓤 _) $
-    calls_at_last ! (framed 𝓤 𝓛.H 𝓜 𝓣) Z (zeroed.met 𝓤 𝓛 𝓜 𝓡 (code.calls-region::block::zero 𝓡.env wired)) x (and_then ! (get ! refl) (and_then ! (get ! refl) (no_more !))) (λ v'.
+    calls_at_last ! (framed 𝓤 𝓛.H 𝓜 𝓣) Z (zeroed.met 𝓤 𝓛 𝓜 𝓡 (code.calls-region::block::zero 𝓡.env wired)) x
+    (and_then ! (get ! refl) (and_then ! (get ! refl) (no_more !))) (λ v'.
     use1 𝓛 (later (some (λ (u : Unit {0}). (‵ ftrue ⊛ ‵ (unit.own_val u (v' ∷ []))) ⊛
     some (λ (ws' : Unit {0} × (Unit {0} × Unit {0})). ‵ (lasts zeroing.ended tt x.0.3 ws') ⊛ ‵ (words_at (block_ptr b o) n zs))))) (id⊢ 𝓤 _) $
     await ! tt $ pick ! (λ u. split ! $ split ! $ drop ! $ feq_l ! (λ e'. pick ! (λ ws'. split ! $ drop ! $
     lands_last ! refl (subst (λ (w : Val). T (has_ty ty_unit w) × WT w) (sym (ap only e')) (tt, tt)) $
     exec ! C Λ En (after 3 (arm_body 0 (head code.Mir.t-3))) Then $
     sets ! (agg ! (and_then ! (get ! refl) (and_then ! (get ! refl) (no_more !)))) refl (tt, (tt, (record { fits = fl }, tt))) $
-    sets_last ! (agg ! (and_then ! (lit ! tt) (and_then ! (get ! refl) (no_more !)))) refl (tt, (record { fits = lit< tt }, ((tt, (record { fits = fl }, tt)), tt))) $
+    sets_last ! (agg ! (and_then ! (lit ! tt) (and_then ! (get ! refl) (no_more !)))) refl
+    (tt, (record { fits = lit< tt }, ((tt, (record { fits = fl }, tt)), tt))) $
     exec ! C Λ En code.Mir.t-4 (at_ret En Post) $
     sets ! (of_opd ! (get ! refl)) refl (tt, (record { fits = lit< tt }, ((tt, (record { fits = fl }, tt)), tt))) $
     returns ! (look_at ! 0 refl) $ free_all ! refl $
     -- [the words; the right to give them back; the token]
     let made : R.Denot = record { at = block_ptr b o; len = n; items = zs; counted = sym (length-replicate n 0); small = small } in
     let w : Val = block_val b o n in
-    block_made ! made b o n zs refl refl refl fl $ use1 𝓛 (‵ ((type_at f.signature.result κs).own_val (Some made) (live 1 (of_list (w ∷ [])) ∷ []))) (Some-of 𝓛 R made w) $
+    block_made ! made b o n zs refl refl refl fl $
+    use1 𝓛 (‵ ((type_at f.signature.result κs).own_val (Some made) (live 1 (of_list (w ∷ [])) ∷ []))) (Some-of 𝓛 R made w) $
     use0 𝓛 (raw (fact 𝓤 (zs ≡ zs))) (fact_i 𝓤 _ (emp 𝓤) refl) $ nothing ! $ nothing ! $ fjoin ! $ nothing ! $ fjoin ! $ move ! (3 ∷ 0 ∷ 2 ∷ 1 ∷ []) $
     by ! (leaves 𝓛 f.ended stayed c y (live 1 (of_list (w ∷ []))) (Some made) (tt, (tt, tt)) (tt, (tt, tt))))))))
     (λ e.

@@ -45,7 +45,8 @@ room_of h = (let e = h.counted in let s = h.small in (omega arith, omega arith))
 
 -- whatever is left of as many words, the block is put together
 back : {M : Type 1} {𝓤 : Ura M} (𝓛 : Logic 𝓤) (h : R.Denot) (b o rb ro : ℕ) → h.at ≡ block_ptr b o → h.len < 2 ^ 64
-    → (ws : List ℕ) → length ws ≡ length h.items → ent 𝓤 (sep 𝓤 (sem 𝓛 (cells (mem u64) ws b o)) (sem 𝓛 (Rest h b o rb ro))) (sem 𝓛 ((mem R).own_at (with_items h ws) rb ro))
+    → (ws : List ℕ) → length ws ≡ length h.items → ent 𝓤 (sep 𝓤 (sem 𝓛 (cells (mem u64) ws b o)) (sem 𝓛 (Rest h b o rb ro)))
+    (sem 𝓛 ((mem R).own_at (with_items h ws) rb ro))
 unfolding part_of
 back 𝓛 h b o rb ro at fn ws e =
     let long : length ws ≡ h.len = e ∙ sym h.counted in
@@ -81,10 +82,12 @@ words_mut_spec 𝓤 𝓛 𝓜 𝓡 wired =
     let room : Room u64 (length h.items) = room_of h in
     let mend = back 𝓛 h b o rb ro at fn in
     use1 𝓛 (later (some (λ (δ : GName). raw (Elements 𝓛 R u64 (with_items h) (named 0) κ q rb ro b o γ h.items room (sem 𝓛 (Rest h b o rb ro)) mend δ))))
-    (lends_Elements 𝓛 R u64 (with_items h) (named 0) κ q rb ro b o γ h.items room (sem 𝓛 (Rest h b o rb ro)) mend (R.coded.code h) (R.coded.code h)) $ await ! tt $ pick ! (λ δ.
+    (lends_Elements 𝓛 R u64 (with_items h) (named 0) κ q rb ro b o γ h.items room (sem 𝓛 (Rest h b o rb ro)) mend (R.coded.code h) (R.coded.code h)) $
+    await ! tt $ pick ! (λ δ.
     returns ! (look_at ! 0 refl) $ free_all ! refl $ keep ! (0 ∷ []) $
     let r : MutBor (List ℕ) = record { ref_ptr = (b, o); ghost_name = δ; now = h.items } in
-    use1 𝓛 (‵ ((MutSlice (named 0) κ u64).own_val r (slice_val (b, o) (length h.items) ∷ [])) ⊛ ‵ (flft κ q) ⊛ ‵ (follows R (Array u64 0) γ δ (with_items h))) (id⊢ 𝓤 _) $ split3 ! $
+    use1 𝓛 (‵ ((MutSlice (named 0) κ u64).own_val r (slice_val (b, o) (length h.items) ∷ [])) ⊛ ‵ (flft κ q) ⊛
+    ‵ (follows R (Array u64 0) γ δ (with_items h))) (id⊢ 𝓤 _) $ split3 ! $
     rewrite ! 0 (λ (m : ℕ). ‵ ((MutSlice (named 0) κ u64).own_val r (slice_val (b, o) m ∷ []))) (sym h.counted) refl $
     nothing ! $ move ! (2 ∷ 0 ∷ []) $ join ! $ nothing ! $ nothing ! $ fjoin ! $
     use0 𝓛 (raw (fact 𝓤 (r.now ≡ h.items))) (fact_i 𝓤 _ (emp 𝓤) refl) $ move ! (2 ∷ 1 ∷ 3 ∷ 4 ∷ []) $
