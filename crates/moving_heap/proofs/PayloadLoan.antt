@@ -3,7 +3,7 @@ use Rattle.std.proofs.Common.{◌≡◌, ℕ, zero, suc, ◌+◌, ◌-◌, ◌*�
 use Rattle.std.proofs.lemmas.Bool.{cases_lt, false≢true}
 use Rattle.std.proofs.lemmas.List.{get_or_past, get_or_default, length-take}
 use Rattle.std.proofs.lemmas.List.FromFn.{length-map-range_with_len, get_or-map-range_with_len}
-use Rattle.std.specs.Prelude.{is_some, IsSome, IsTrue}
+use Rattle.std.specs.Prelude.{is_some, IsTrue, option_map}
 use Rattle.std.specs.FinMap.{get, insert}
 use Rattle.page_model.specs.Held.{Placed}
 use Rattle.page_model.specs.Bytes.{AreBytes, byte_of, bytes_at, written}
@@ -12,7 +12,6 @@ use Rattle.region.proofs.CallerLemmas.{fit_below, length-with_words}
 use Rattle.region.proofs.Lists.{length-fit, fit-words}
 use Rattle.word_bytes.specs.Cells.{byte_in}
 use Rattle.word_bytes.proofs.Overwriting.{overwritten_behind, overwritten_inside}
-use Rattle.cf_model.specs.Answers.{place_of}
 use Rattle.cf_model.specs.Rules.{KeepsRules}
 use Rattle.cf_model.specs.State.{HeapState}
 use Rattle.cf_model.specs.Steps.{WritesBytes}
@@ -23,12 +22,12 @@ use Rattle.virtual_words.proofs.Bytes.{loan_overwrites}
 use Rattle.paged_heap.specs.Access.{Lies}
 use Rattle.paged_heap.specs.Heap.{seen}
 use Rattle.paged_heap.specs.Layout.{Holds, IsValid, IsValidIn, held_in, state_at, state_in}
-use Rattle.moving_heap.specs.PayloadLoan.{place_in, with_payload_at, with_payload_in, with_payload_of, with_run}
-use Rattle.moving_heap.specs.Payload.{bytes_of_words, lent_back, with_object}
+use Rattle.moving_heap.specs.PayloadLoan.{words_found, with_payload_at, with_payload_in, with_payload_of, with_run}
+use Rattle.moving_heap.specs.Payload.{bytes_of_words, lent_back, payload_of, whole_words, with_object}
 use Rattle.paged_heap.proofs.Preserved.{has_place, no_place}
 use Rattle.paged_heap.proofs.LayoutFacts.{rules_in}
 use Rattle.moving_heap.proofs.PayloadWords.{count_is, run_inside}
-use Rattle.paged_heap.proofs.ReadLemmas.{lies, place_told}
+use Rattle.paged_heap.proofs.ReadLemmas.{lies}
 use Rattle.paged_heap.proofs.WriteLemmas.{wrote, wrote_kept}
 
 -- a byte of a word is a byte
@@ -133,10 +132,14 @@ of_state : (h : OpenHeap) → IsValid (seen Moving h) → (q : ℕ) (p : Option 
 of_state h k q None e ws = rw (no_place (seen Moving h) k q e) refl
 of_state h k q (Some a) e ws = payload_state h k q a e ws
 
--- the same of a heap that may be closed, in the terms of the value
-pub live_there : (o : Option OpenHeap) (s : HeapState) → state_in Moving o ≡ s → IsTrue s.is_open → (q : ℕ) → IsSome (place_of s q) → IsSome (place_in o q)
-live_there None s is open_now q live = absurd (false≢true (ap (λ (t : HeapState). t.is_open) is ∙ open_now))
-live_there (Some h) s is open_now q live = ap is_some (place_told (seen Moving h) q ∙ ap (λ t. place_of t q) is) ∙ live
+-- the run that is found is the payload, and a run of no words is none
+no_run : (words : List ℕ) (ws : List ℕ) → with_words words 0 0 ws ≡ words
+unfolding fit
+no_run words ws = refl
+
+pub found_run : (h : OpenHeap) (p : Option ℕ) (ws : List ℕ) → with_run h (words_found h p).1 (words_found h p).2 ws ≡ with_payload_of h p ws
+found_run h None ws = ap (λ (words : List ℕ). record h { region = words }) (no_run h.region ws)
+found_run h (Some a) ws = refl
 
 -- as many words as before
 payload_laid : (h : OpenHeap) → Holds Moving h → (q : ℕ) (p : Option ℕ) → get h.proxies.places q ≡ p → (ws : List ℕ) → length (with_payload_of h p ws).region ≡ length h.region
@@ -167,3 +170,11 @@ still_open (Some h) s is open_now q ws = refl
 
 pub lent_rules : (o : Option OpenHeap) → IsValidIn Moving o → (s : HeapState) → state_in Moving o ≡ s → IsTrue s.is_open → (q : ℕ) (ws : List ℕ) → KeepsRules (lent_back s q ws)
 lent_rules o k s is open_now q ws = subst KeepsRules (lent_state o k s is open_now q ws) (rules_in Moving (with_payload_in o q ws) (lent_kept o k q ws) (still_open o s is open_now q ws))
+
+-- a number without an object has nothing to be left in
+pub nothing_lent : (s : HeapState) (q : ℕ) (ws : List ℕ) → payload_of s q ≡ None → lent_back s q ws ≡ s
+nothing_lent s q ws none = by_object (get s.held q) refl
+  where
+    by_object : (x : Option Placed) → get s.held q ≡ x → lent_back s q ws ≡ s
+    by_object None e = rw e refl
+    by_object (Some x) e = absurd (false≢true (ap is_some (sym none ∙ ap (option_map (λ (x : Placed). whole_words x.bytes)) e)))
