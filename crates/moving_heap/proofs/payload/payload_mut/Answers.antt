@@ -17,6 +17,7 @@ returns c =
         writes_back = tt;
         value = value;
         bound = subst (λ o. RoseAtMost c.args.steps.now c.run_of.new.steps (payload_bound o)) value
-            (bound_lent h c.requires.kept.kept q r found ws c.args.steps.now c.find_words-live.new.steps c.run_of.new.steps c.run_of.ensures.len c.find_words-live.ensures.bound c.run_of.ensures.steps);
+            (bound_lent h c.requires.kept.kept q r found ws c.args.steps.now c.find_words-live.new.steps c.run_of.new.steps
+            c.run_of.ensures.len c.find_words-live.ensures.bound c.run_of.ensures.steps);
       },
     )

@@ -58,9 +58,13 @@ pub payload_mut_spec : {M : Type 1} → statement M
 unfolding follows_by
 payload_mut_spec 𝓤 𝓛 𝓜 𝓡 wired =
     let c = f.clauses 𝓛 𝓜.mem 𝓡.returns in let W = walk_of 𝓛 f.ended stayed c in let 𝓣 = tables 𝓤 𝓛.H 𝓜 𝓡 𝓡.env in
-    proved 𝓛 f.ended stayed c 𝓜 𝓡 (Goes-spent_ref 𝓛 2 (0 ∷ []) tt (plain (λ _. R)), (Goes-dropped 𝓛 2 (plain (λ _. Handle)) yes (λ κs x w. refl), (Goes-gave_ref 𝓛 2 1 tt (plain (λ _. Steps)), tt)))
+    proved 𝓛 f.ended stayed c 𝓜 𝓡 (
+      Goes-spent_ref 𝓛 2 (0 ∷ []) tt (plain (λ _. R)),
+      (Goes-dropped 𝓛 2 (plain (λ _. Handle)) yes (λ κs x w. refl), (Goes-gave_ref 𝓛 2 1 tt (plain (λ _. Steps)), tt)),
+    )
     f.Key.name code.function (code.unfolded 𝓤 𝓛.H 𝓜 𝓡 wired)
-    (λ κs. (mut_vals, (handle_vals, (mut_vals, tt)))) (λ κs. (mut_Tells (named 0) κs.0 R, (handle.lowers.val_is, (mut_Tells (named 1) κs.1.0 Steps, tt)))) (λ κs qs bounds a _ are.
+    (λ κs. (mut_vals, (handle_vals, (mut_vals, tt)))) (λ κs. (mut_Tells (named 0) κs.0 R, (handle.lowers.val_is, (mut_Tells (named 1) κs.1.0 Steps, tt))))
+    (λ κs qs bounds a _ are.
     let κ = κs.0 in let κ₁ = κs.1.0 in let q = qs.0 in let q₁ = qs.1.0 in let γ = a.0.ghost_name in let s = a.0.now in let h = a.1.0 in let k = a.1.1.0 in
     let words : Option (List ℕ) = payload_of s h.0 in
     let G = triple_of 𝓛 g.signature (g.spec 𝓛 𝓜.mem 𝓡.returns) in
@@ -74,10 +78,12 @@ payload_mut_spec 𝓤 𝓛 𝓜 𝓡 wired =
     (and_then ! (get ! refl) (and_then ! (get ! refl) (and_then ! (get ! refl) (no_more !)))) (λ v.
     use1 𝓛 (later (some (λ (r : Bool × MutBor (List ℕ)). ((‵ (flft κ q) ⊛ ‵ (flft κ₁ q₁) ⊛ ‵ ftrue) ⊛ ‵ ((type_at g.signature.result κs).own_val r (v ∷ []))) ⊛
     some (λ (ws : Unit {0} × (Unit {0} × (ℕ × Unit {0}))). ‵ (lasts g.ended κs a ws) ⊛ ‵ (follows R (Array u64 0) γ r.1.ghost_name (lent_back s h.0)) ⊛
-    raw (fact 𝓤 (words_lent r.0 r.1.now ≡ words)) ⊛ raw (fact 𝓤 ((ws : List ℕ) → KeepsRules (lent_back s h.0 ws))) ⊛ raw (fact 𝓤 (RoseAtMost k.now ws.1.1.0 (payload_bound words))))))) (id⊢ 𝓤 _) $
+    raw (fact 𝓤 (words_lent r.0 r.1.now ≡ words)) ⊛ raw (fact 𝓤 ((ws : List ℕ) → KeepsRules (lent_back s h.0 ws))) ⊛
+    raw (fact 𝓤 (RoseAtMost k.now ws.1.1.0 (payload_bound words))))))) (id⊢ 𝓤 _) $
     await ! tt $ pick ! (λ r. split ! $ split ! $ split3 ! $
     -- [the two tokens; nothing; the pair; what the callee says; the locals]
-    move ! (3 ∷ []) $ fpick ! (λ vss. fsplit ! $ feq_l ! (λ all. fsplit ! $ feq_l ! (λ e₀. fsplit ! $ move ! (1 ∷ []) $ forget ! $ fsplit ! $ pure_l ! (mut_slice_at u64 r.1 vss.1.0) (λ p.
+    move ! (3 ∷ []) $ fpick ! (λ vss. fsplit ! $
+    feq_l ! (λ all. fsplit ! $ feq_l ! (λ e₀. fsplit ! $ move ! (1 ∷ []) $ forget ! $ fsplit ! $ pure_l ! (mut_slice_at u64 r.1 vss.1.0) (λ p.
     let sv : Val = slice_val r.1.ref_ptr (length r.1.now) in
     lands_as ! (ap only all ∙ (λ j. vstruct (of_list (e₀ j ++ (p.0 j ++ []))))) refl (tt, (tt, ((tt, (record { fits = p.1.0 }, tt)), tt))) $
     pure_i ! (mut_slice_at u64 r.1 (sv ∷ [])) (tt, (tt, tt)) (refl, p.1) $ fjoin ! $
@@ -88,8 +94,10 @@ payload_mut_spec 𝓤 𝓛 𝓜 𝓡 wired =
     first ! $ branches ! (get ! refl)
     (λ on.
     sets ! (addr ! (from ! (fld ! refl (fld ! refl (hop ! (look_in_at ! 4 (sub ! 0 refl (sub ! 1 refl (whole !)))) (stop !)))))) refl (tt, tt) $
-    sets ! (agg ! (and_then ! (get ! refl) (and_then ! (get_in ! (fld ! refl (fld ! refl (stop !))) (sub ! 1 refl (sub ! 1 refl (whole !)))) (no_more !)))) refl (tt, (tt, (record { fits = p.1.0 }, tt))) $
-    sets_last ! (agg ! (and_then ! (lit ! tt) (and_then ! (get ! refl) (no_more !)))) refl (tt, (record { fits = lit< tt }, ((tt, (record { fits = p.1.0 }, tt)), tt))) $
+    sets ! (agg ! (and_then ! (get ! refl) (and_then ! (get_in ! (fld ! refl (fld ! refl (stop !))) (sub ! 1 refl (sub ! 1 refl (whole !))))
+    (no_more !)))) refl (tt, (tt, (record { fits = p.1.0 }, tt))) $
+    sets_last ! (agg ! (and_then ! (lit ! tt) (and_then ! (get ! refl) (no_more !)))) refl
+    (tt, (record { fits = lit< tt }, ((tt, (record { fits = p.1.0 }, tt)), tt))) $
     exec ! 𝓣.C 𝓣.Λ En code.Mir.t-6 (at_ret _ (W.post y)) $
     sets ! (of_opd ! (get ! refl)) refl (tt, (record { fits = lit< tt }, ((tt, (record { fits = p.1.0 }, tt)), tt))) $
     returns ! (look_at ! 0 refl) $ free_all ! refl $
@@ -108,7 +116,8 @@ payload_mut_spec 𝓤 𝓛 𝓜 𝓡 wired =
     -- no words are given up
     let none : None ≡ words = ap (λ (b : Bool). words_lent b r.1.now) (sym (T_false r.0 off)) ∙ value in
     let same : lent_back s h.0 r.1.now ≡ s = nothing_lent s h.0 r.1.now (sym none) in
-    move ! (2 ∷ 1 ∷ []) $ use2 𝓛 (later (given (sv ∷ [] ≡ mut_slice_vals r.1) (‵ (fres γ (R.coded.code (lent_back s h.0 r.1.now)))))) (slice_given_up 𝓛 R u64 (lent_back s h.0) (named 0) κ γ r.1 (sv ∷ [])) $ await ! tt $ learn ! (λ _.
+    move ! (2 ∷ 1 ∷ []) $ use2 𝓛 (later (given (sv ∷ [] ≡ mut_slice_vals r.1) (‵ (fres γ (R.coded.code (lent_back s h.0 r.1.now))))))
+    (slice_given_up 𝓛 R u64 (lent_back s h.0) (named 0) κ γ r.1 (sv ∷ [])) $ await ! tt $ learn ! (λ _.
     rewrite ! 0 (λ (t : HeapState). ‵ (fres γ (R.coded.code t))) same refl $
     returns ! (look_at ! 0 refl) $ free_all ! refl $
     use0 𝓛 (‵ ((type_at f.signature.result κs).own_val None (live 0 (of_list []) ∷ []))) (none_of 𝓛 Lent) $
