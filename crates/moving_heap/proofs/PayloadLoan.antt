@@ -3,16 +3,15 @@ use Rattle.std.proofs.Common.{◌≡◌, ℕ, ◌+◌, ◌-◌, ◌*◌, ◌/◌
 use Rattle.std.proofs.lemmas.Bool.{cases_lt, false≢true}
 use Rattle.std.proofs.lemmas.List.{get_or_past, get_or_default, length-take}
 use Rattle.std.proofs.lemmas.List.FromFn.{length-map-range_with_len, get_or-map-range_with_len}
-use Rattle.std.specs.Prelude.{is_some, IsSome, IsTrue}
+use Rattle.std.specs.Prelude.{is_some, IsTrue, option_map}
 use Rattle.std.specs.FinMap.{get, insert}
-use Rattle.page_model.specs.Held.{Placed}
+use Rattle.page_model.specs.Held.{Held, Placed}
 use Rattle.page_model.specs.Bytes.{AreBytes, byte_of, bytes_at, written}
 use Rattle.region.specs.Lending.{fit, with_words}
 use Rattle.region.proofs.CallerLemmas.{fit_below, length-with_words}
 use Rattle.region.proofs.Lists.{length-fit, fit-words}
 use Rattle.word_bytes.specs.Cells.{byte_in}
 use Rattle.word_bytes.proofs.Overwriting.{overwritten_behind, overwritten_inside}
-use Rattle.cf_model.specs.Answers.{place_of}
 use Rattle.cf_model.specs.Rules.{KeepsRules}
 use Rattle.cf_model.specs.State.{HeapState}
 use Rattle.cf_model.specs.Steps.{WritesBytes}
@@ -23,13 +22,13 @@ use Rattle.virtual_words.proofs.Bytes.{loan_overwrites}
 use Rattle.paged_heap.specs.Access.{Lies}
 use Rattle.paged_heap.specs.Heap.{seen}
 use Rattle.paged_heap.specs.Layout.{Holds, IsValid, IsValidIn, held_in, state_at, state_in}
-use Rattle.moving_heap.specs.PayloadLoan.{place_in, with_payload_at, with_payload_in, with_payload_of, with_run}
-use Rattle.moving_heap.specs.Payload.{bytes_of_words, lent_back, with_object}
+use Rattle.moving_heap.specs.PayloadLoan.{words_found, with_payload_at, with_payload_in, with_payload_of, with_run}
+use Rattle.moving_heap.specs.Payload.{bytes_of_words, lent_back, payload_of, whole_words, with_object}
 use Rattle.page_model.proofs.Reading.{byte_below}
 use Rattle.paged_heap.proofs.Preserved.{has_place, no_place}
 use Rattle.paged_heap.proofs.LayoutFacts.{rules_in}
 use Rattle.moving_heap.proofs.PayloadWords.{count_is, run_inside}
-use Rattle.paged_heap.proofs.ReadLemmas.{lies, place_told}
+use Rattle.paged_heap.proofs.ReadLemmas.{lies}
 use Rattle.paged_heap.proofs.WriteLemmas.{wrote, wrote_kept}
 
 -- the bytes of words
@@ -51,14 +50,19 @@ fit_again : (n : ℕ) (ws : List ℕ) → fit n (fit n ws) ≡ fit n ws
 fit_again n ws = fit-words n (fit n ws) (length-fit n ws) (λ i d lt. rw (get_or_default (fit n ws) i d 0 lt) (fit_below n ws i))
 
 -- n words from `first` on, with ws in their place, have its bytes written over theirs
-run_overwritten : (old ws : List ℕ) (first n : ℕ) → first + n ≤ length old → Overwrites old (with_words old first n ws) (record { from = first; count = n }) 0 (bytes_of_words (fit n ws))
+run_overwritten : (old ws : List ℕ) (first n : ℕ) → first + n ≤ length old
+    → Overwrites old (with_words old first n ws) (record { from = first; count = n }) 0 (bytes_of_words (fit n ws))
 run_overwritten old ws first n inside =
     let long = length-fit n ws in
     let many = length-bytes_of_words (fit n ws) in
-    subst (λ l. Overwrites old (take first old ++ (l ++ drop (first + n) old)) (record { from = first; count = n }) 0 (bytes_of_words (fit n ws))) (fit_again n ws)
+    subst (λ l. Overwrites old (take first old ++ (l ++ drop (first + n) old)) (record { from = first; count = n }) 0 (bytes_of_words (fit n ws)))
+    (fit_again n ws)
     (loan_overwrites old (fit n ws) first n 0 (bytes_of_words (fit n ws)) inside long (λ j. elim (cases_lt j (8 * n)) [
-      | inl lt ↦ sym (overwritten_inside (byte_in (take n (drop first old))) 0 (bytes_of_words (fit n ws)) j (omega arith) (omega arith) ∙ ap (λ i. get_or (bytes_of_words (fit n ws)) i 0) (let e : j - 0 ≡ j = omega arith in e) ∙ byte_of_words (fit n ws) j (omega arith))
-      | inr past ↦ ap (byte_of (j % 8)) (get_or_past (fit n ws) (j / 8) 0 (omega arith) ∙ sym (get_or_past (take n (drop first old)) (j / 8) 0 (few (omega arith))))
+      | inl lt ↦
+          sym (overwritten_inside (byte_in (take n (drop first old))) 0 (bytes_of_words (fit n ws)) j (omega arith) (omega arith)
+          ∙ ap (λ i. get_or (bytes_of_words (fit n ws)) i 0) (let e : j - 0 ≡ j = omega arith in e) ∙ byte_of_words (fit n ws) j (omega arith))
+      | inr past ↦
+          ap (byte_of (j % 8)) (get_or_past (fit n ws) (j / 8) 0 (omega arith) ∙ sym (get_or_past (take n (drop first old)) (j / 8) 0 (few (omega arith))))
           ∙ sym (overwritten_behind (byte_in (take n (drop first old))) 0 (bytes_of_words (fit n ws)) j (omega arith))
     ]))
   where
@@ -111,7 +115,9 @@ module _ (h : OpenHeap) (k : IsValid (seen Moving h)) (q a : ℕ) (some : get h.
       same = (let f = w.found in let g = has_place (seen Moving h) k q a some in cc)
 
       whole : state_at Moving left ≡ with_object (state_at Moving h) q (record { place = a; bytes = was }) ws
-      whole = w.whole ∙ ap (λ (x : Placed). record (state_at Moving h) { held = insert (held_in (seen Moving h)) q (record x { bytes = written x.bytes 0 patch }); words = left.region }) same
+      whole =
+          let put : Placed → Held = λ x. insert (held_in (seen Moving h)) q (record x { bytes = written x.bytes 0 patch }) in
+          w.whole ∙ ap (λ (x : Placed). record (state_at Moving h) { held = put x; words = left.region }) same
 
   -- the same of the heap with the payload
   payload_kept : IsValid (seen Moving (with_payload_at h a ws))
@@ -121,23 +127,33 @@ module _ (h : OpenHeap) (k : IsValid (seen Moving h)) (q a : ℕ) (some : get h.
   payload_state = ap (state_at Moving) (sym (left_is many refl)) ∙ left_state
 
 -- the same where there may be no such object
-of_kept : (h : OpenHeap) → IsValid (seen Moving h) → (q : ℕ) (p : Option ℕ) → get h.proxies.places q ≡ p → (ws : List ℕ) → IsValid (seen Moving (with_payload_of h p ws))
+of_kept : (h : OpenHeap) → IsValid (seen Moving h) → (q : ℕ) (p : Option ℕ) → get h.proxies.places q ≡ p → (ws : List ℕ)
+    → IsValid (seen Moving (with_payload_of h p ws))
 of_kept h k q None e ws = k
 of_kept h k q (Some a) e ws = payload_kept h k q a e ws
 
-of_state : (h : OpenHeap) → IsValid (seen Moving h) → (q : ℕ) (p : Option ℕ) → get h.proxies.places q ≡ p → (ws : List ℕ) → state_at Moving (with_payload_of h p ws) ≡ lent_back (state_at Moving h) q ws
+of_state : (h : OpenHeap) → IsValid (seen Moving h) → (q : ℕ) (p : Option ℕ) → get h.proxies.places q ≡ p → (ws : List ℕ)
+    → state_at Moving (with_payload_of h p ws) ≡ lent_back (state_at Moving h) q ws
 of_state h k q None e ws = rw (no_place (seen Moving h) k q e) refl
 of_state h k q (Some a) e ws = payload_state h k q a e ws
 
--- the same of a heap that may be closed, in the terms of the value
-pub live_there : (o : Option OpenHeap) (s : HeapState) → state_in Moving o ≡ s → IsTrue s.is_open → (q : ℕ) → IsSome (place_of s q) → IsSome (place_in o q)
-live_there None s is open_now q live = absurd (false≢true (ap (λ (t : HeapState). t.is_open) is ∙ open_now))
-live_there (Some h) s is open_now q live = ap is_some (place_told (seen Moving h) q ∙ ap (λ t. place_of t q) is) ∙ live
+-- the run that is found is the payload, and a run of no words is none
+no_run : (words : List ℕ) (ws : List ℕ) → with_words words 0 0 ws ≡ words
+unfolding fit
+no_run words ws = refl
+
+pub found_run : (h : OpenHeap) (p : Option ℕ) (ws : List ℕ) → with_run h (words_found h p).1 (words_found h p).2 ws ≡ with_payload_of h p ws
+found_run h None ws = ap (λ (words : List ℕ). record h { region = words }) (no_run h.region ws)
+found_run h (Some a) ws = refl
 
 -- as many words as before
-payload_laid : (h : OpenHeap) → Holds Moving h → (q : ℕ) (p : Option ℕ) → get h.proxies.places q ≡ p → (ws : List ℕ) → length (with_payload_of h p ws).region ≡ length h.region
+payload_laid : (h : OpenHeap) → Holds Moving h → (q : ℕ) (p : Option ℕ) → get h.proxies.places q ≡ p → (ws : List ℕ)
+    → length (with_payload_of h p ws).region ≡ length h.region
 payload_laid h k q None e ws = refl
-payload_laid h k q (Some a) e ws = (let r = run_inside h k.kept q a e in let c = count_is h a (get_or h.region a 0 / 2 ^ 32) refl in length-with_words h.region (a + 1) (get_or h.region a 0 / 2 ^ 32 / 8) (omega arith) ws)
+payload_laid h k q (Some a) e ws =
+    let r = run_inside h k.kept q a e in
+    let c = count_is h a (get_or h.region a 0 / 2 ^ 32) refl in
+    length-with_words h.region (a + 1) (get_or h.region a 0 / 2 ^ 32 / 8) (omega arith) ws
 
 same_blocks : (h : OpenHeap) (p : Option ℕ) (ws : List ℕ) → (with_payload_of h p ws).blocks ≡ h.blocks
 same_blocks h None ws = refl
@@ -153,13 +169,25 @@ lent_kept (Some h) k q ws = record {
   kept = of_kept h k.kept q (get h.proxies.places q) refl ws;
 }
 
-pub lent_state : (o : Option OpenHeap) → IsValidIn Moving o → (s : HeapState) → state_in Moving o ≡ s → IsTrue s.is_open → (q : ℕ) (ws : List ℕ) → state_in Moving (with_payload_in o q ws) ≡ lent_back s q ws
+pub lent_state : (o : Option OpenHeap) → IsValidIn Moving o → (s : HeapState) → state_in Moving o ≡ s → IsTrue s.is_open → (q : ℕ) (ws : List ℕ)
+    → state_in Moving (with_payload_in o q ws) ≡ lent_back s q ws
 lent_state None k s is open_now q ws = absurd (false≢true (ap (λ (t : HeapState). t.is_open) is ∙ open_now))
 lent_state (Some h) k s is open_now q ws = of_state h k.kept q (get h.proxies.places q) refl ws ∙ ap (λ t. lent_back t q ws) is
 
-still_open : (o : Option OpenHeap) (s : HeapState) → state_in Moving o ≡ s → IsTrue s.is_open → (q : ℕ) (ws : List ℕ) → IsTrue (is_some (with_payload_in o q ws))
+still_open : (o : Option OpenHeap) (s : HeapState) → state_in Moving o ≡ s → IsTrue s.is_open → (q : ℕ) (ws : List ℕ)
+    → IsTrue (is_some (with_payload_in o q ws))
 still_open None s is open_now q ws = absurd (false≢true (ap (λ (t : HeapState). t.is_open) is ∙ open_now))
 still_open (Some h) s is open_now q ws = refl
 
-pub lent_rules : (o : Option OpenHeap) → IsValidIn Moving o → (s : HeapState) → state_in Moving o ≡ s → IsTrue s.is_open → (q : ℕ) (ws : List ℕ) → KeepsRules (lent_back s q ws)
-lent_rules o k s is open_now q ws = subst KeepsRules (lent_state o k s is open_now q ws) (rules_in Moving (with_payload_in o q ws) (lent_kept o k q ws) (still_open o s is open_now q ws))
+pub lent_rules : (o : Option OpenHeap) → IsValidIn Moving o → (s : HeapState) → state_in Moving o ≡ s → IsTrue s.is_open → (q : ℕ) (ws : List ℕ)
+    → KeepsRules (lent_back s q ws)
+lent_rules o k s is open_now q ws =
+    subst KeepsRules (lent_state o k s is open_now q ws) (rules_in Moving (with_payload_in o q ws) (lent_kept o k q ws) (still_open o s is open_now q ws))
+
+-- a number without an object has nothing to be left in
+pub nothing_lent : (s : HeapState) (q : ℕ) (ws : List ℕ) → payload_of s q ≡ None → lent_back s q ws ≡ s
+nothing_lent s q ws none = by_object (get s.held q) refl
+  where
+    by_object : (x : Option Placed) → get s.held q ≡ x → lent_back s q ws ≡ s
+    by_object None e = rw e refl
+    by_object (Some x) e = absurd (false≢true (ap is_some (sym none ∙ ap (option_map (λ (x : Placed). whole_words x.bytes)) e)))

@@ -1,5 +1,5 @@
 -- Words of objects that are lent.
-use Rattle.std.proofs.Common.{◌≡◌, ℕ, suc, ◌+◌, ◌*◌, ◌/◌, ◌^◌, ◌<◌, ◌≤◌, List, length, get_or, take, drop, Some, None, arith, sym, ◌∙◌, ap}
+use Rattle.std.proofs.Common.{◌≡◌, ℕ, suc, ◌+◌, ◌*◌, ◌/◌, ◌^◌, ◌<◌, ◌≤◌, Bool, List, length, get_or, take, drop, Option, Some, None, arith, sym, refl, subst, ◌∙◌, ap}
 use Rattle.std.proofs.lemmas.Grind.{same_number_lists}
 use Rattle.std.proofs.lemmas.List.{get_or-take, get_or-drop, length-take-le, length-drop}
 use Rattle.std.proofs.lemmas.List.FromFn.{length-map-range_with_len, get_or-map-range_with_len}
@@ -12,7 +12,9 @@ use Rattle.paged_heap.specs.declared.open_heap.OpenHeap.{OpenHeap}
 use Rattle.cf_base.specs.declared.kind.Kind.TheVariants.{Moving}
 use Rattle.paged_heap.specs.Heap.{seen}
 use Rattle.paged_heap.specs.Layout.{IsValid, state_at}
-use Rattle.moving_heap.specs.Payload.{payload_of, whole_words}
+use Rattle.moving_heap.specs.PayloadLoan.{words_found}
+use Rattle.moving_heap.specs.Payload.{payload_bound, payload_of, whole_words, words_lent}
+use Rattle.step_ledger.specs.Counting.{RoseAtMost, RoseBy}
 use Rattle.paged_heap.proofs.Preserved.{has_place, no_place}
 use Rattle.paged_heap.proofs.ReadLemmas.{bytes_long, holds, slot_there}
 
@@ -44,7 +46,8 @@ module _ (h : OpenHeap) (k : IsValid (seen Moving h)) (q a : ℕ) (some : get h.
       let inside = run_inside in
       let o = holds (seen Moving h) k q a some in
       let left = length-drop (a + 1) h.region in
-      let long : length (take (length bytes / 8) (drop (a + 1) h.region)) ≡ length bytes / 8 = length-take-le (length bytes / 8) (drop (a + 1) h.region) (omega arith) in
+      let words = drop (a + 1) h.region in
+      let long : length (take (length bytes / 8) words) ≡ length bytes / 8 = length-take-le (length bytes / 8) words (omega arith) in
       let whole = length-whole_words bytes in
       same_number_lists (take (length bytes / 8) (drop (a + 1) h.region)) (whole_words bytes) (long ∙ sym whole) (λ j lt.
       let place : a + 1 + j ≡ a + suc j = omega arith in
@@ -58,3 +61,31 @@ module _ (h : OpenHeap) (k : IsValid (seen Moving h)) (q a : ℕ) (some : get h.
   -- so many words from the place on, where their number is read from the header
   pub lent_is : (n : ℕ) → n ≡ length bytes / 8 → (ws : List ℕ) → ws ≡ take n (drop (a + 1) h.region) → Some ws ≡ payload_of (state_at Moving h) q
   lent_is n is ws e = ap Some (e ∙ ap (λ m. take m (drop (a + 1) h.region)) is ∙ words_are) ∙ sym some_lent
+
+-- what is found of a number, where there may be no object
+lent_found : (h : OpenHeap) → IsValid (seen Moving h) → (q : ℕ) (p : Option ℕ) → get h.proxies.places q ≡ p → (ws : List ℕ)
+    → ws ≡ take (words_found h p).2 (drop (words_found h p).1 h.region)
+    → words_lent (words_found h p).0 ws ≡ payload_of (state_at Moving h) q
+lent_found h k q None e ws is = sym (none_lent h k q e)
+lent_found h k q (Some a) e ws is = lent_is h k q a e _ (count_is h a (get_or h.region a 0 / 2 ^ 32) refl) ws is
+
+found_bound : (h : OpenHeap) (p : Option ℕ) (ws : List ℕ) (s t u : ℕ) → length ws ≡ (words_found h p).2 → RoseAtMost s t 2 → RoseBy t u (words_found h p).2
+    → RoseAtMost s u (payload_bound (words_lent (words_found h p).0 ws))
+found_bound h None ws s t u long a b =
+    let x = a.kept in let y = a.bound in let z = b.kept in let w = b.bound in
+    record { kept = omega arith; bound = omega arith }
+found_bound h (Some p) ws s t u long a b =
+    let x = a.kept in let y = a.bound in let z = b.kept in let w = b.bound in
+    record { kept = omega arith; bound = omega arith }
+
+-- the same of what was found
+module _ (h : OpenHeap) (k : IsValid (seen Moving h)) (q : ℕ) (r : Bool × ℕ × ℕ) (found : r ≡ words_found h (get h.proxies.places q)) (ws : List ℕ) where
+  pub value_lent : ws ≡ take r.2 (drop r.1 h.region) → words_lent r.0 ws ≡ payload_of (state_at Moving h) q
+  value_lent =
+      subst (λ (r : Bool × ℕ × ℕ). ws ≡ take r.2 (drop r.1 h.region) → words_lent r.0 ws ≡ payload_of (state_at Moving h) q) (sym found)
+      (lent_found h k q (get h.proxies.places q) refl ws)
+
+  pub bound_lent : (s t u : ℕ) → length ws ≡ r.2 → RoseAtMost s t 2 → RoseBy t u r.2 → RoseAtMost s u (payload_bound (words_lent r.0 ws))
+  bound_lent s t u =
+      subst (λ (r : Bool × ℕ × ℕ). length ws ≡ r.2 → RoseAtMost s t 2 → RoseBy t u r.2 → RoseAtMost s u (payload_bound (words_lent r.0 ws))) (sym found)
+      (found_bound h (get h.proxies.places q) ws s t u)

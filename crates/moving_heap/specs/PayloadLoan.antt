@@ -1,5 +1,5 @@
 -- What an open heap is after a loan of words. No public clause cites this module.
-use Rattle.std.specs.Prelude.{ℕ, ◌+◌, ◌/◌, ◌^◌, List, Option, Some, None, slice_index}
+use Rattle.std.specs.Prelude.{ℕ, ◌+◌, ◌/◌, ◌^◌, Bool, true, false, List, Option, Some, None, slice_index}
 use Rattle.std.specs.Borrow.{Lends, MutBor, Fml, u64, Array}
 use Rattle.std.specs.FinMap.{get}
 use Rattle.std.specs.contracts.option.Option.{the_row as option_row}
@@ -25,16 +25,13 @@ abbrev pub with_payload_in : Option OpenHeap → ℕ → List ℕ → Option Ope
 with_payload_in None q ws = None
 with_payload_in (Some h) q ws = Some (with_payload_of h (get h.proxies.places q) ws)
 
--- where an object stands
-abbrev pub place_in : Option OpenHeap → ℕ → Option ℕ
-place_in None q = None
-place_in (Some h) q = get h.proxies.places q
+-- whether there is an object at a place, where its whole words begin, and how many there are
+abbrev pub words_found : OpenHeap → Option ℕ → Bool × ℕ × ℕ
+words_found h None = (false, 0, 0)
+words_found h (Some place) = (true, place + 1, slice_index h.region place / 2 ^ 32 / 8)
 
 abbrev pub LendsRun : MutBor OpenHeap → ℕ → ℕ → MutBor (List ℕ) → Fml
 LendsRun s i n r = Lends the_row (Array u64 0) s r (with_run s.now i n)
-
-abbrev pub LendsPayloadAt : MutBor OpenHeap → ℕ → MutBor (List ℕ) → Fml
-LendsPayloadAt s place r = Lends the_row (Array u64 0) s r (with_payload_at s.now place)
 
 abbrev pub LendsPayloadOf : MutBor OpenHeap → ℕ → MutBor (List ℕ) → Fml
 LendsPayloadOf s q r = Lends the_row (Array u64 0) s r (with_payload_of s.now (get s.now.proxies.places q))

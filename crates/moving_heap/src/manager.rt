@@ -1,15 +1,15 @@
 //! The heap that a caller holds: closed, or open.
-ghost use Rattle.std.specs.Prelude.{◌≡◌, ℕ, ◌+◌, ◌<◌, List, IsSome, IsTrue, Some, length, option_copied};
+ghost use Rattle.std.specs.Prelude.{◌≡◌, ℕ, ◌<◌, List, IsTrue, option_copied, option_map};
 ghost use Rattle.page_model.specs.Arrangement.{home_pages, not_full_pages, free_pages};
 ghost use Rattle.cf_base.specs.declared.kind.Kind.TheVariants.{Moving};
-ghost use Rattle.cf_model.specs.Answers.{classes_in, place_of};
+ghost use Rattle.cf_model.specs.Answers.{classes_in};
 ghost use Rattle.cf_model.specs.Rules.{KeepsRules};
 ghost use Rattle.cf_model.specs.State.{closed_state, paging_in};
 ghost use Rattle.std.specs.Borrow.{sem};
 ghost use Rattle.step_ledger.specs.Counting.{RoseAtMost};
 ghost use Rattle.paged_heap.specs.Layout.{Holds, state_at};
-ghost use Rattle.moving_heap.specs.Payload.{lent_back, payload_bound, payload_of};
-ghost use Rattle.moving_heap.specs.HeapLoan.{LendsPayload};
+ghost use Rattle.moving_heap.specs.Payload.{lent_back, payload_bound, payload_of, words_lent};
+ghost use Rattle.moving_heap.specs.HeapLoan.{LendsPayload, LendsPayloadIf};
 
 use crate::payload::{payload, words_in};
 use cf_base::{
@@ -186,9 +186,9 @@ impl MovingHeap {
         self.open().free_pages::<Direct>()
     }
 
-    /// Lends the whole words of an object, eight bytes to a word, the least first, without a copy; none
-    /// where the handle isn't live. Bytes behind the last whole word are reached by `read`. At most a
-    /// step for each word, and two.
+    /// The whole words of an object, eight bytes to a word, the least first, borrowed without a copy; none
+    /// where the handle isn't live. Bytes after the last whole word are reached by `read`. At most a step
+    /// for each word, and two.
     pub fn payload(&self, h: Handle, steps: &mut Steps) -> Option<&[u64]>
         requires { IsTrue self.now.is_open }
         ensures value { option_copied result ≡ payload_of self.now h.0 }
@@ -197,15 +197,27 @@ impl MovingHeap {
         payload(self.open(), h, steps)
     }
 
-    /// Lends the whole words of a live object, eight bytes to a word, the least first, to be written
-    /// without a copy. What is left there are the object's bytes afterwards, and all else stays.
-    pub fn payload_mut(&mut self, h: Handle, steps: &mut Steps) -> &mut [u64]
-        requires open { IsTrue self.old.is_open }
-        requires live { IsSome (place_of self.old h.0) }
-        ensures* writes_back { sem 𝓛 (LendsPayload self.entry h.0 result) }
-        ensures value { Some result.now ≡ payload_of self.old h.0 }
+    /// The whole words of an object, as `payload` has them, to be written; none where the handle isn't
+    /// live. What is left there are the object's bytes afterwards, and all else stays.
+    pub fn payload_mut(&mut self, h: Handle, steps: &mut Steps) -> Option<&mut [u64]>
+        requires { IsTrue self.old.is_open }
+        ensures* writes_back { sem 𝓛 (LendsPayloadIf self.entry h.0 result) }
+        ensures value { option_map (λ r. r.now) result ≡ payload_of self.old h.0 }
         ensures rules { (ws : List ℕ) → KeepsRules (lent_back self.old h.0 ws) }
-        ensures bound { RoseAtMost steps.old steps.new (2 + length result.now) }
+        ensures bound { RoseAtMost steps.old steps.new (payload_bound (payload_of self.old h.0)) }
+    {
+        let lent = self.lend(h, steps);
+        if lent.0 { Some(lent.1) } else { None }
+    }
+
+    /// The same words, and whether the handle is live; no words where it isn't. A caller that is to prove
+    /// what the heap is after the borrow calls this one: the checker doesn't follow words inside an `Option`.
+    pub fn lend(&mut self, h: Handle, steps: &mut Steps) -> (bool, &mut [u64])
+        requires { IsTrue self.old.is_open }
+        ensures* writes_back { sem 𝓛 (LendsPayload self.entry h.0 result.1) }
+        ensures value { words_lent result.0 result.1.now ≡ payload_of self.old h.0 }
+        ensures rules { (ws : List ℕ) → KeepsRules (lent_back self.old h.0 ws) }
+        ensures bound { RoseAtMost steps.old steps.new (payload_bound (payload_of self.old h.0)) }
     {
         words_in(&mut self.inner, h, steps)
     }

@@ -1,12 +1,12 @@
-//! The words of an object, lent without a copy.
+//! The whole words of an object, borrowed without a copy.
 ghost use Rattle.std.specs.Prelude.{◌≡◌, ◌+◌, ◌≤◌, IsSome, Some, length, take, drop, option_copied};
 ghost use Rattle.std.specs.Borrow.{sem};
 ghost use Rattle.std.specs.FinMap as map;
 ghost use Rattle.step_ledger.specs.Counting.{RoseAtMost, RoseBy};
 ghost use Rattle.cf_base.specs.declared.kind.Kind.TheVariants.{Moving};
 ghost use Rattle.paged_heap.specs.Layout.{Holds, IsValidIn, state_at, state_in};
-ghost use Rattle.moving_heap.specs.Payload.{payload_bound, payload_of};
-ghost use Rattle.moving_heap.specs.PayloadLoan.{LendsPayloadAt, LendsPayloadIn, LendsPayloadOf, LendsRun, place_in};
+ghost use Rattle.moving_heap.specs.Payload.{payload_bound, payload_of, words_lent};
+ghost use Rattle.moving_heap.specs.PayloadLoan.{LendsPayloadIn, LendsPayloadOf, LendsRun, words_found};
 
 use cf_base::Handle;
 use paged_heap::{Header, OpenHeap};
@@ -25,30 +25,31 @@ pub(crate) fn payload<'a>(heap: &'a OpenHeap, h: Handle, steps: &mut Steps) -> O
     Some(heap.region.payload(place + 1, count, steps))
 }
 
-/// The whole words of a live object, to be written.
-fn payload_mut<'a>(heap: &'a mut OpenHeap, h: Handle, steps: &mut Steps) -> &'a mut [u64]
+/// The whole words of an object, to be written, and whether the handle is live; no words where it isn't.
+fn payload_mut<'a>(heap: &'a mut OpenHeap, h: Handle, steps: &mut Steps) -> (bool, &'a mut [u64])
     requires kept { Holds Moving heap.old }
-    requires live { IsSome (map.get heap.old.proxies.places h.0) }
-    ensures* writes_back { sem 𝓛 (LendsPayloadOf heap.entry h.0 result) }
-    ensures value { Some result.now ≡ payload_of (state_at Moving heap.old) h.0 }
-    ensures bound { RoseAtMost steps.old steps.new (2 + length result.now) }
+    ensures* writes_back { sem 𝓛 (LendsPayloadOf heap.entry h.0 result.1) }
+    ensures value { words_lent result.0 result.1.now ≡ payload_of (state_at Moving heap.old) h.0 }
+    ensures bound { RoseAtMost steps.old steps.new (payload_bound (payload_of (state_at Moving heap.old) h.0)) }
 {
-    let Some(place) = heap.proxies.lookup(h, steps) else {
-        unreachable!();
-    };
-    words_at(heap, h, place, steps)
+    let (live, first, count) = find_words(heap, h, steps);
+    (live, run_of(heap, first, count, steps))
 }
 
-/// The whole words of the object that stands at a place, to be written.
-fn words_at<'a>(heap: &'a mut OpenHeap, h: Handle, place: u32, steps: &mut Steps) -> &'a mut [u64]
-    requires kept { Holds Moving heap.old }
-    requires live { map.get heap.old.proxies.places h.0 ≡ Some place }
-    ensures* writes_back { sem 𝓛 (LendsPayloadAt heap.entry place result) }
-    ensures value { Some result.now ≡ payload_of (state_at Moving heap.old) h.0 }
-    ensures steps { RoseBy steps.old steps.new (1 + length result.now) }
+/// Whether the handle is live, where the whole words of its object begin, and how many there are.
+fn find_words(heap: &OpenHeap, h: Handle, steps: &mut Steps) -> (bool, u32, u32)
+    requires kept { Holds Moving heap.now }
+    ensures found { result ≡ words_found heap.now (map.get heap.now.proxies.places h.0) }
+    ensures within { result.1 + result.2 ≤ length heap.now.region }
+    ensures bound { RoseAtMost steps.old steps.new 2 }
 {
-    let count = Header::unpack(heap.region.read(place, steps)).length / 8;
-    run_of(heap, place + 1, count, steps)
+    match heap.proxies.lookup(h, steps) {
+        Some(place) => {
+            let count = Header::unpack(heap.region.read(place, steps)).length / 8;
+            (true, place + 1, count)
+        }
+        None => (false, 0, 0),
+    }
 }
 
 /// A run of words of the region, to be written.
@@ -62,17 +63,17 @@ fn run_of<'a>(heap: &'a mut OpenHeap, first: u32, count: u32, steps: &mut Steps)
     heap.region.payload_mut(first, count, steps)
 }
 
-/// The whole words of a live object of an open heap, to be written.
+/// The whole words of an object of an open heap, to be written, and whether the handle is live.
 pub(crate) fn words_in<'a>(
     inner: &'a mut Option<OpenHeap>,
     h: Handle,
     steps: &mut Steps,
-) -> &'a mut [u64]
+) -> (bool, &'a mut [u64])
     requires kept { IsValidIn Moving inner.old }
-    requires live { IsSome (place_in inner.old h.0) }
-    ensures* writes_back { sem 𝓛 (LendsPayloadIn inner.entry h.0 result) }
-    ensures value { Some result.now ≡ payload_of (state_in Moving inner.old) h.0 }
-    ensures bound { RoseAtMost steps.old steps.new (2 + length result.now) }
+    requires open { IsSome inner.old }
+    ensures* writes_back { sem 𝓛 (LendsPayloadIn inner.entry h.0 result.1) }
+    ensures value { words_lent result.0 result.1.now ≡ payload_of (state_in Moving inner.old) h.0 }
+    ensures bound { RoseAtMost steps.old steps.new (payload_bound (payload_of (state_in Moving inner.old) h.0)) }
 {
     match inner {
         Some(open) => payload_mut(open, h, steps),

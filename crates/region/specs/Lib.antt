@@ -1,3 +1,5 @@
 pub mod Words
 pub mod Lending
-pub mod RegionLending
+pub mod RegionLoan
+pub mod Layout
+pub mod BlockLoan

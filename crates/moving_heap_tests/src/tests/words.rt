@@ -43,8 +43,9 @@ fn words_that_are_written_are_the_bytes(rt: HostRuntime) -> Result<(), Fail> {
     assert!(rt; desk.malloc(&rt, 1, 24).is_ok());
     assert!(rt; desk.heap.is_open());
     let object = desk.handle(1);
-    assert!(rt; desk.heap.place(object, desk.meter.steps()).is_some());
-    let lent = desk.heap.payload_mut(object, desk.meter.steps());
+    let Some(lent) = desk.heap.payload_mut(object, desk.meter.steps()) else {
+        panic!(rt; "the object isn't live");
+    };
     assert_eq!(rt; lent.len(), 3);
     lent[0] = 0x0807_0605_0403_0201;
     lent[1] = 0x100f_0e0d_0c0b_0a09;
@@ -56,5 +57,8 @@ fn words_that_are_written_are_the_bytes(rt: HostRuntime) -> Result<(), Fail> {
         0x16, 0xff,
     ];
     assert_eq!(rt; out, want);
+    assert!(rt; desk.free(&rt, 1).is_ok());
+    assert!(rt; desk.heap.is_open());
+    assert!(rt; desk.heap.payload_mut(object, desk.meter.steps()).is_none());
     Ok(())
 }

@@ -25,10 +25,12 @@ payload-requires c =
 pub returns-clause-value : goal.returns-clause-value
 returns-clause-value c =
     lent_is c.args.heap.now c.requires.kept.kept c.args.h.0 c.in-Some.place (sym c.in-Some.ensures.found) _
-    (count_is c.args.heap.now c.in-Some.place c.unpack-count.result.length (c.unpack-count.ensures.length ∙ ap (λ w. w / 2 ^ 32) c.read.ensures.value)) c.payload.result.now c.payload.ensures.value
+    (count_is c.args.heap.now c.in-Some.place c.unpack-count.result.length (c.unpack-count.ensures.length
+    ∙ ap (λ w. w / 2 ^ 32) c.read.ensures.value)) c.payload.result.now c.payload.ensures.value
 
 pub returns-clause-bound : goal.returns-clause-bound
 returns-clause-bound c =
     let is = lent_is c.args.heap.now c.requires.kept.kept c.args.h.0 c.in-Some.place (sym c.in-Some.ensures.found) _
-    (count_is c.args.heap.now c.in-Some.place c.unpack-count.result.length (c.unpack-count.ensures.length ∙ ap (λ w. w / 2 ^ 32) c.read.ensures.value)) c.payload.result.now c.payload.ensures.value in
+    (count_is c.args.heap.now c.in-Some.place c.unpack-count.result.length (c.unpack-count.ensures.length
+    ∙ ap (λ w. w / 2 ^ 32) c.read.ensures.value)) c.payload.result.now c.payload.ensures.value in
     subst (λ o. RoseAtMost c.args.steps.now c.payload.new.steps (payload_bound o)) is (search rules)

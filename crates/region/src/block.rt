@@ -1,0 +1,87 @@
+//! One block of memory of a fixed size. No other file of the crate has a raw pointer.
+ghost use Rattle.std.specs.Prelude.{◌≡◌, ℕ, ◌+◌, ◌^◌, ◌<◌, ◌≤◌, List, length, take, drop, replicate, IfSome};
+ghost use Rattle.std.specs.Borrow.{sem, u64, Array, lent_at};
+ghost use Rattle.region.specs.Layout.{block_owns, room_of_words, words_at};
+
+use std::alloc::{Allocator, Global};
+use std::marker::Model;
+
+/// One block of memory, for `len` words of 8 bytes. It doesn't hold its allocator, so its owner calls
+/// `free`: a block that is let go without it is never given back.
+pub(crate) struct Block {
+    at: *mut u64,
+    len: usize,
+    ghost items: { List ℕ },
+    ghost counted: { len ≡ length items },
+    ghost small: { len < 2 ^ 32 },
+}
+
+impl Model for Block {
+    ghost also_owns = { λ b. block_owns b.at b.len b.items };
+
+    ghost also_shares = { λ b _ κ. lent_at (Array u64 b.len) b.at b.items κ };
+}
+
+impl Block {
+    ghost use Rattle.region.specs.BlockLoan.{LendsAll, LendsRun};
+
+    /// A block of `len` words, all zero; none where the allocation fails.
+    pub(crate) fn new(alloc: &Global, len: usize) -> Option<Block>
+        requires { len < 2 ^ 32 }
+        ensures { IfSome result (λ b. b.items ≡ replicate len 0) }
+    {
+        match alloc.allocate(len * 8, 8) {
+            Ok(block) => {
+                let at = block as *mut u64;
+                unsafe { zero(at, len) };
+                Some(Block { at, len })
+            }
+            Err(_) => None,
+        }
+    }
+
+    /// Gives the memory back.
+    pub(crate) fn free(self, alloc: &Global) {
+        let Block { at, len } = self;
+        unsafe { alloc.deallocate(at as *mut u8, len * 8, 8) }
+    }
+
+    /// The words.
+    pub(crate) fn words(&self) -> &[u64]
+        ensures value { result.now ≡ self.now.items }
+        ensures small { length result.now < 2 ^ 32 }
+    {
+        unsafe { std::slice::from_raw_parts(self.at, self.len) }
+    }
+
+    /// The words, to be written.
+    pub(crate) fn words_mut(&mut self) -> &mut [u64]
+        ensures* writes_back { sem 𝓛 (LendsAll self.entry result) }
+        ensures value { result.now ≡ self.old.items }
+    {
+        unsafe { std::slice::from_raw_parts_mut(self.at, self.len) }
+    }
+
+    /// The `n` words from `i` on, to be written.
+    pub(crate) fn run_mut(&mut self, i: usize, n: usize) -> &mut [u64]
+        requires within { i + n ≤ length self.old.items }
+        ensures* writes_back { sem 𝓛 (LendsRun self.entry i n result) }
+        ensures value { result.now ≡ take n (drop i self.old.items) }
+    {
+        unsafe { std::slice::from_raw_parts_mut(self.at.add(i), n) }
+    }
+}
+
+// The allocator has no call for memory that is zero. The compiler makes one `memset` of this loop, which
+// touches every page of the block, so that no later call meets a page fault.
+unsafe fn zero(at: *mut u64, len: usize)
+    requires small { len < 2 ^ 32 }
+    requires* room { sem 𝓛 (room_of_words at len) }
+    ensures* { sem 𝓛 (words_at at len (replicate len 0)) }
+{
+    let mut i = 0;
+    while i < len {
+        *at.add(i) = 0;
+        i += 1;
+    }
+}
