@@ -5,7 +5,7 @@ use Rattle.std.proofs.lemmas.Bool.{cases_lt}
 use Rattle.std.proofs.lemmas.List.{drop_more, drop_all, get_or_past, get_or_append_left, get_or-append_right, get_or-take, get_or-replicate, length-take}
 use Rattle.page_model.specs.Image.{word_of_bytes, object_word}
 use Rattle.page_model.specs.Steps.{resized}
-use Rattle.page_model.proofs.Resizing.{length-resized}
+use Rattle.page_model.proofs.CallerLemmas.{length-resized}
 
 module _ (v : List ℕ) (n i : ℕ) where
   kept : ℕ

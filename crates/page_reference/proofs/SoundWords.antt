@@ -10,7 +10,7 @@ use Rattle.page_model.specs.Held.{Held, Placed}
 use Rattle.page_model.specs.Paging.{Paging, classes, slot_words, class_for}
 use Rattle.page_model.specs.Arrangement.{IsSound}
 use Rattle.page_model.specs.Image.{slot_for, IsDisjoint, IsApart}
-use Rattle.page_model.proofs.SlotImages.{sound_apart, object_inside}
+use Rattle.page_model.proofs.CallerLemmas.{sound_apart, object_inside}
 use Rattle.page_reference.specs.Words.{AreInside}
 
 narrowed : (a n b m k l : ℕ) → k ≤ n → l ≤ m → IsDisjoint a n b m → IsDisjoint a k b l

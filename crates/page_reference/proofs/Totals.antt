@@ -6,7 +6,7 @@ use Rattle.std.specs.FinMap.{values, insert, len, len-empty}
 use Rattle.std.specs.Ordering.{nat_cmp}
 use Rattle.cf_lemmas.proofs.Induction.{map_induction}
 use Rattle.cf_lemmas.proofs.Maps.{len_fresh}
-use Rattle.page_model.proofs.Adding.{len-objects}
+use Rattle.page_model.proofs.CallerLemmas.{len-objects, live_is, sum-map_values, length-resized}
 use Rattle.cf_lemmas.specs.Maps.{numbered}
 use Rattle.cf_lemmas.proofs.Sums.{sum_by-inserted}
 use Rattle.cf_lemmas.proofs.Numbered.{numbered_below}
@@ -15,8 +15,6 @@ use Rattle.page_model.specs.Paging.{Paging, class_for, slot_words}
 use Rattle.page_model.specs.Arrangement.{live, objects_on, standing_on}
 use Rattle.page_model.specs.Figures.{asked_bytes}
 use Rattle.cf_lemmas.proofs.Values.{no_values}
-use Rattle.page_model.proofs.Totals.{live_is, sum-map_values}
-use Rattle.page_model.proofs.Resizing.{length-resized}
 use Rattle.page_reference.specs.declared.object.Object.{Object}
 use Rattle.page_reference.specs.declared.object.Amount.TheVariants.{One, OfClass, OnPage, OfClassOnPage, Length, SlotWords}
 use Rattle.page_reference.specs.Amounts.{placed, held_of, amount_of, amount_in, total_of}

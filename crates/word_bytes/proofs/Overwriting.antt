@@ -6,8 +6,7 @@ use Rattle.std.proofs.lemmas.Bool.{cases_lt, cases_eq}
 use Rattle.std.proofs.lemmas.Bool.Decides.{nat_tests}
 use Rattle.std.specs.Int.{w64, to_le_bytes, from_le_bytes}
 use Rattle.page_model.specs.Bytes.{byte_of, AreBytes, written}
-use Rattle.page_model.proofs.Reading.{byte_below}
-use Rattle.page_model.proofs.Writing.{length-written, written_before, written_inside, written_behind, written_are_bytes}
+use Rattle.page_model.proofs.CallerLemmas.{byte_below, length-written, written_before, written_inside, written_behind, written_are_bytes}
 use Rattle.std.proofs.lemmas.Nat.{le_bytes_8}
 use Rattle.word_bytes.specs.Cells.{byte_in, overwritten}
 
