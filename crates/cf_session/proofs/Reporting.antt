@@ -13,7 +13,7 @@ use Rattle.cf_model.specs.Rules.{KeepsRules}
 use Rattle.cf_model.specs.State.{HeapState, paging_in}
 use Rattle.cf_model.specs.Answers.{totals_in}
 use Rattle.page_model.specs.Figures.{figures_of}
-use Rattle.frag_report.proofs.Putting.{puts_line}
+use Rattle.cf_io.proofs.LineLemmas.{puts_line}
 use Rattle.script_reader.specs.declared.command.Command.{Command}
 use Rattle.script_reader.specs.declared.command.Command.TheVariants.{Walk, Frag}
 use Rattle.run_model.specs.Answering.{Moment}

@@ -12,9 +12,9 @@ use crate::looks::{block, peek, place, read, tell_steps};
 use crate::outcome::Outcome;
 use crate::records::Records;
 use cf_base::Failed;
-use cf_io::{Line, Sink};
+use cf_io::{Line, Sink, begin_line, push_text, put_line};
 use cf_model::Manager;
-use frag_report::{begin_line, frag_line, push_text, put_line, walk_lines};
+use frag_report::{frag_line, walk_lines};
 use script_reader::Command;
 use step_ledger::Steps;
 

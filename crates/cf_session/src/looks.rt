@@ -9,9 +9,8 @@ ghost use Rattle.run_model.specs.Sessions.{AreTied};
 use crate::changes::fault_text;
 use crate::records::Records;
 use cf_base::{Handle, Kind};
-use cf_io::Line;
+use cf_io::{Line, push_field, push_text};
 use cf_model::Manager;
-use frag_report::{push_field, push_text};
 use step_ledger::Steps;
 
 /// The most bytes that are read at once.

@@ -1,4 +1,4 @@
-use Rattle.frag_report.proofs.Putting.{puts_line, five}
+use Rattle.cf_io.proofs.LineLemmas.{puts_line, five}
 use Rattle.frag_report.proofs.reports.put_class.Goals as goal
 
 pub returns-clause-puts : goal.returns-clause-puts

@@ -1,7 +1,7 @@
 use Rattle.std.proofs.Common.{arith, length-append}
 use Rattle.std.specs.Prelude.{decimal}
-use Rattle.frag_report.proofs.Putting.{digits, pushed}
-use Rattle.frag_report.proofs.lines.push_field.Goals as goal
+use Rattle.cf_io.proofs.LineLemmas.{digits, pushed}
+use Rattle.cf_io.proofs.reply_line.push_field.Goals as goal
 
 pub unwrap-requires-2 : goal.unwrap-requires-2
 unwrap-requires-2 c =

@@ -1,4 +1,4 @@
--- Lines of replies, and what is put piece by piece.
+-- For the layers above: what stands on a line, and what is put piece by piece.
 use Rattle.std.proofs.Common.{◌≡◌, ◌∙◌, ℕ, ◌+◌, ◌<◌, ◌≤◌, ◌^◌, ◌++◌, List, [], ◌∷◌, Option, refl, ap, sym, append_assoc, append-nil, subst, arith, length, lit<}
 use Rattle.std.specs.Prelude.{Result, Ok, Err, decimal}
 use Rattle.std.specs.Result.{IsOk}
@@ -8,7 +8,7 @@ use Rattle.std.proofs.lemmas.Fmt.{length-decimal-le}
 use Rattle.cf_base.specs.declared.answers.Failed.{Failed}
 use Rattle.cf_io.specs.Feeds.{appended, Puts}
 use Rattle.cf_io.proofs.Feeding.{appended_then}
-use Rattle.run_model.specs.Texts.{Reply, led, said}
+use Rattle.cf_io.specs.Texts.{Reply, led, said}
 
 -- a number of 64 bits has at most 20 digits
 pub digits : (n : ℕ) → n < 2 ^ 64 → length (decimal n) ≤ 20
