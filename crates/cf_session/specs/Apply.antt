@@ -21,11 +21,6 @@ run_at session heap = record { session = session; heap = heap }
 abbrev pub moment_at : SessionState → HeapState → Option (List ℕ) → Moment
 moment_at session heap written = record { run = run_at session heap; written = written }
 
--- no id is live where a class gets a bound of its own
-abbrev pub MayBound : SessionState → Command → Type 0
-MayBound session (Bound slot_words k) = session.ids ≡ empty
-MayBound session _ = Unit {0}
-
 -- good where the line is `ok` or begins with `=`, refused where it begins with `refused`
 abbrev pub outcome_in : List ℕ → Outcome
 outcome_in text = if bytes_eq text (codes "ok") || starts_with nat_eq text (codes "=") then Good
