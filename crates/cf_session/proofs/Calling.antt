@@ -54,11 +54,13 @@ bound_none (Some c) is = absurd (let e : true ≡ false = is in cc)
 
 -- a class gets a bound
 module _ (session : SessionState) (old : HeapState) where
-  pub bound_step : (slot_words k : ℕ) (text : List ℕ) (new : HeapState) → old.held ≡ empty → new ≡ bound_put old (class_with old.kind old slot_words) k → KeepsRules new → text ≡ bound_text (class_with old.kind old slot_words)
+  pub bound_step : (slot_words k : ℕ) (text : List ℕ) (new : HeapState) → old.held ≡ empty
+      → new ≡ bound_put old (class_with old.kind old slot_words) k → KeepsRules new → text ≡ bound_text (class_with old.kind old slot_words)
       → Step (run_at session old) (Bound slot_words k) (said text) (run_at session new)
   bound_step slot_words k text new none is rules told =
       let n : len old.held ≡ 0 = ap (λ (m : Held). len m) none ∙ len-empty nat_cmp Placed in
-      let here : class_to_bound old slot_words ≡ class_with old.kind old slot_words = ap (λ i. if nat_eq i 0 then class_with old.kind old slot_words else None) n in
+      let here : class_to_bound old slot_words ≡ class_with old.kind old slot_words =
+      ap (λ i. if nat_eq i 0 then class_with old.kind old slot_words else None) n in
       record {
         heap = is ∙ ap (λ (o : Option ℕ). bound_put old o k) (sym here);
         rules = rules;
@@ -80,8 +82,11 @@ bound_refused session heap slot_words k going some =
     }
 
 -- the line on the steps of a heap with pages
-pub steps_line : (k : Kind) (s : SessionState) (cost seen b m w : ℕ) (line after_cost after_bound after_moves after_words : List ℕ) → (k ≡ Moving) ⊎ (k ≡ NonMoving) → seen ≡ cost → b ≡ s.bound → m ≡ s.moves → w ≡ s.words
-    → after_cost ≡ line ++ with_number (codes "steps last ") seen → after_bound ≡ after_cost ++ with_number (codes " bound ") b → after_moves ≡ after_bound ++ with_number (codes " moves ") m
+pub steps_line : (k : Kind) (s : SessionState) (cost seen b m w : ℕ) (line after_cost after_bound after_moves after_words : List ℕ)
+    → (k ≡ Moving) ⊎ (k ≡ NonMoving) → seen ≡ cost → b ≡ s.bound → m ≡ s.moves → w ≡ s.words
+    → after_cost ≡ line ++ with_number (codes "steps last ") seen → after_bound ≡ after_cost ++ with_number (codes " bound ") b
+    → after_moves ≡ after_bound ++ with_number (codes " moves ") m
     → after_words ≡ after_moves ++ with_number (codes " words ") w → after_words ≡ line ++ steps_text k s cost
 steps_line k s cost seen b m w line after_cost after_bound after_moves after_words kind told_cost told_bound told_moves told_words first second third fourth =
-    rw (fourth, third, second, first, told_cost, told_bound, told_moves, told_words) (elim kind [ inl e ↦ rw e (simp append_assoc) | inr e ↦ rw e (simp append_assoc) ])
+    rw (fourth, third, second, first, told_cost, told_bound, told_moves, told_words)
+    (elim kind [ inl e ↦ rw e (simp append_assoc) | inr e ↦ rw e (simp append_assoc) ])

@@ -1,5 +1,6 @@
 -- What the changes of the list of numbers do to the ids that it stands for.
-use Rattle.std.proofs.Common.{◌≡◌, ◌∙◌, ℕ, zero, suc, ◌+◌, ◌-◌, ◌<◌, ◌≤◌, Bool, true, false, List, Option, Some, None, length, get_or, set, refl, ap, sym, arith, inl, inr}
+use Rattle.std.proofs.Common.{◌≡◌, ◌∙◌, ℕ, zero, suc, ◌+◌, ◌-◌, ◌<◌, ◌≤◌, Bool, true, false, List, length, get_or, set}
+use Rattle.std.proofs.Common.{Option, Some, None, refl, ap, sym, arith, inl, inr}
 use Rattle.std.specs.Prelude.{◌↔◌, IsTrue, cond, IsSome, is_some, nat_eq, not}
 use Rattle.std.specs.Cmp.{nat_cmp_total}
 use Rattle.std.specs.FinMap.{empty, empty_of_len, get, get-empty, insert, len, len-empty, len-remove, remove}
@@ -28,6 +29,10 @@ none_live = record {
 some_is_some : (o : Option ℕ) (x : ℕ) → o ≡ Some x → IsSome o
 some_is_some o x is = rw is refl
 
+-- as many are live where the id was not
+len_kept : (ids : Ids) (id : ℕ) → get ids id ≡ None → len (remove ids id) ≡ len ids
+len_kept ids id none = len-remove nat_cmp_total ids id ∙ ap (λ (o : Option ℕ). cond (is_some o) (len ids - 1) (len ids)) none
+
 -- where an id is live, there is one
 pub some_live : (ids : Ids) (id h : ℕ) → get ids id ≡ Some h → 0 < len ids
 some_live ids id h is = elim (cases_lt 0 (len ids)) [
@@ -46,7 +51,12 @@ module _ (numbers : List (Option ℕ)) (ids : Ids) (seen : numbered 0 numbers �
   pub within : length numbers ≡ 65536 → AreWithin ids
   within long = record {
     below = λ id h is. (let lt = numbered_live numbers id (some_is_some _ h (ap (λ (m : Ids). get m id) seen ∙ is)) in omega arith);
-    few = (let e : len ids ≡ len (numbered 0 numbers) = ap len (sym seen) in let c = len-numbered 0 numbers in let l = count_by-le-length is_some numbers in omega arith);
+    few = (
+        let e : len ids ≡ len (numbered 0 numbers) = ap len (sym seen) in
+        let c = len-numbered 0 numbers in
+        let l = count_by-le-length is_some numbers in
+        omega arith
+        );
   }
 
   pub id_bound : (id h : ℕ) → id < length numbers → numbered 0 (set numbers id (Some h)) ≡ insert ids id h
@@ -72,16 +82,25 @@ module _ (numbers : List (Option ℕ)) (live : ℕ) (valid : IsValid numbers liv
     pub live_before : (o : Option ℕ) → o ≡ get_or numbers id None → get (numbered 0 numbers) id ≡ o
     live_before o is = get-numbered numbers id ∙ sym is
 
-    pub bound_live : (h : ℕ) (o : Option ℕ) (fresh : Bool) → o ≡ get_or numbers id None → is_some o ≡ not fresh → IsValid (set numbers id (Some h)) (live + bool_byte fresh)
+    pub bound_live : (h : ℕ) (o : Option ℕ) (fresh : Bool) → o ≡ get_or numbers id None → is_some o ≡ not fresh
+        → IsValid (set numbers id (Some h)) (live + bool_byte fresh)
     bound_live h None false is known = absurd (false≢true known)
     bound_live h (Some w) true is known = absurd (false≢true (sym known))
     bound_live h None true is known = record {
       long = length-set numbers id (Some h) ∙ valid.long;
-      counted = (let s = ap len (numbered-set numbers id h lt) in let l = len_fresh (numbered 0 numbers) id h (live_before None is) in omega (arith, valid.counted));
+      counted = (
+          let s = ap len (numbered-set numbers id h lt) in
+          let l = len_fresh (numbered 0 numbers) id h (live_before None is) in
+          omega (arith, valid.counted)
+          );
     }
     bound_live h (Some w) false is known = record {
       long = length-set numbers id (Some h) ∙ valid.long;
-      counted = (let s = ap len (numbered-set numbers id h lt) in let l = len_rebound (numbered 0 numbers) id h w (live_before (Some w) is) in omega (arith, valid.counted));
+      counted = (
+          let s = ap len (numbered-set numbers id h lt) in
+          let l = len_rebound (numbered 0 numbers) id h w (live_before (Some w) is) in
+          omega (arith, valid.counted)
+          );
     }
 
     pub some_to_free : (o : Option ℕ) → o ≡ get_or numbers id None → bool_byte (is_some o) ≤ live
@@ -91,9 +110,17 @@ module _ (numbers : List (Option ℕ)) (live : ℕ) (valid : IsValid numbers liv
     pub freed_live : (o : Option ℕ) → o ≡ get_or numbers id None → IsValid (set numbers id None) (live - bool_byte (is_some o))
     freed_live None is = record {
       long = length-set numbers id None ∙ valid.long;
-      counted = (let s = ap len (numbered-clear numbers id lt) in let l = len-remove nat_cmp_total (numbered 0 numbers) id ∙ ap (λ (p : Option ℕ). cond (is_some p) (len (numbered 0 numbers) - 1) (len (numbered 0 numbers))) (live_before None is) in omega (arith, valid.counted));
+      counted = (
+          let s = ap len (numbered-clear numbers id lt) in
+          let l = len_kept (numbered 0 numbers) id (live_before None is) in
+          omega (arith, valid.counted)
+          );
     }
     freed_live (Some w) is = record {
       long = length-set numbers id None ∙ valid.long;
-      counted = (let s = ap len (numbered-clear numbers id lt) in let l = len_gone (numbered 0 numbers) id w (live_before (Some w) is) in omega (arith, valid.counted));
+      counted = (
+          let s = ap len (numbered-clear numbers id lt) in
+          let l = len_gone (numbered 0 numbers) id w (live_before (Some w) is) in
+          omega (arith, valid.counted)
+          );
     }

@@ -1,6 +1,5 @@
 use Rattle.std.proofs.Common.{arith, sym}
 use Rattle.std.specs.Prelude.{IsTrue}
-use Rattle.std.specs.FinMap.{empty}
 use Rattle.cf_session.proofs.Calling.{bound_none, bound_ok, bound_refused, bound_step, none_held}
 use Rattle.cf_session.proofs.changes.set_bound.Goals as goal
 
@@ -16,9 +15,11 @@ set_bound-requires-clause-empty g c =
 pub returns-then-set_bound-clause-step : goal.returns-then-set_bound-clause-step
 returns-then-set_bound-clause-step g c =
     let t : IsTrue c.is_empty.result = (let f = c.if-not-is_empty.false in grind (arith, f)) in
-    bound_step _ _ c.args.slot_words c.args.k _ _ (none_held _ _ c.requires.going.tied (c.is_empty.ensures.0 t)) c.set_bound.ensures.bound c.set_bound.ensures.rules (bound_ok _ (sym c.if-set_bound.ensures.value))
+    bound_step _ _ c.args.slot_words c.args.k _ _ (none_held _ _ c.requires.going.tied (c.is_empty.ensures.0 t))
+    c.set_bound.ensures.bound c.set_bound.ensures.rules (bound_ok _ (sym c.if-set_bound.ensures.value))
 
 pub returns-else-set_bound-clause-step : goal.returns-else-set_bound-clause-step
 returns-else-set_bound-clause-step g c =
     let t : IsTrue c.is_empty.result = (let f = c.if-not-is_empty.false in grind (arith, f)) in
-    bound_step _ _ c.args.slot_words c.args.k _ _ (none_held _ _ c.requires.going.tied (c.is_empty.ensures.0 t)) c.set_bound.ensures.bound c.set_bound.ensures.rules (bound_none _ (sym c.if-set_bound.ensures.value))
+    bound_step _ _ c.args.slot_words c.args.k _ _ (none_held _ _ c.requires.going.tied (c.is_empty.ensures.0 t))
+    c.set_bound.ensures.bound c.set_bound.ensures.rules (bound_none _ (sym c.if-set_bound.ensures.value))
