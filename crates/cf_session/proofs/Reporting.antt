@@ -46,8 +46,10 @@ module _ (old new : RunState) (c : Command) (lead : List ℕ) (reply : Reply) (w
       → Applies (at old w) (record { command = c; lead = lead }) (Ok outcome) (at new y)
   applied outcome is put = (record { reply = reply; turn = turn old new c reply going step; written = put }, is)
 
-  pub applied_cut : (e : Failed) → Puts {T = Unit {0}} w (led lead reply) (Err e) y → Applies (at old w) (record { command = c; lead = lead }) (Err e) (at new y)
-  applied_cut e (front, lost, parts, put) = record { reply = reply; front = front; lost = lost; turn = turn old new c reply going step; cut = parts; written = put }
+  pub applied_cut : (e : Failed) → Puts {T = Unit {0}} w (led lead reply) (Err e) y
+      → Applies (at old w) (record { command = c; lead = lead }) (Err e) (at new y)
+  applied_cut e (front, lost, parts, put) =
+      record { reply = reply; front = front; lost = lost; turn = turn old new c reply going step; cut = parts; written = put }
 
 -- a report's outcome is neither good nor a refusal
 pages_other : (f : ℕ → Figures) (t : Totals) (cs : List ℕ) → Other ≡ outcome_of (map (λ c. class_line (f c)) cs ++ said (total_line t))
@@ -89,7 +91,8 @@ reported_frag old lead w y c r answer is going put told =
     subst P (sym is) (reported old Frag lead (frag_of old.heap) w y r answer going (refl, refl) (frag_other old.heap) put told)
 
 -- a line that was begun with its lead, and put
-module _ (old new : RunState) (c : Command) (lead begun line : List ℕ) (w y : Told) (going : IsGoing old) (begins : begun ≡ lead) (says : Says old c new (lines_at begun line)) where
+module _ (old new : RunState) (c : Command) (lead begun line : List ℕ) (w y : Told)
+    (going : IsGoing old) (begins : begun ≡ lead) (says : Says old c new (lines_at begun line)) where
   line_is : line ≡ lead ++ says.text
   line_is = says.pushed ∙ ap (λ (b : List ℕ). b ++ says.text) begins
 
@@ -97,10 +100,13 @@ module _ (old new : RunState) (c : Command) (lead begun line : List ℕ) (w y : 
       → Puts {T = Unit {0}} w (line ++ 10 ∷ []) (Ok tt) y
       → Applies (at old w) (record { command = c; lead = lead }) (Ok outcome) (at new y)
   spoken outcome seen read is put =
-      let text : take (length seen - length lead) (drop (length lead) seen) ≡ says.text = take_rest seen (length lead) ∙ ap (drop (length lead)) (read ∙ line_is) ∙ drop-append_seam lead says.text in
-      applied old new c lead (said says.text) w y going says.step outcome (is ∙ ap outcome_in text) (puts_line {T = Unit {0}} w y lead says.text line (Ok tt) line_is put)
+      let text : take (length seen - length lead) (drop (length lead) seen) ≡ says.text =
+      take_rest seen (length lead) ∙ ap (drop (length lead)) (read ∙ line_is) ∙ drop-append_seam lead says.text in
+      applied old new c lead (said says.text) w y going says.step outcome (is ∙ ap outcome_in text)
+      (puts_line {T = Unit {0}} w y lead says.text line (Ok tt) line_is put)
 
-  pub spoken_cut : (e : Failed) → Puts {T = Unit {0}} w (line ++ 10 ∷ []) (Err e) y → Applies (at old w) (record { command = c; lead = lead }) (Err e) (at new y)
+  pub spoken_cut : (e : Failed) → Puts {T = Unit {0}} w (line ++ 10 ∷ []) (Err e) y
+      → Applies (at old w) (record { command = c; lead = lead }) (Err e) (at new y)
   spoken_cut e put = applied_cut old new c lead (said says.text) w y going says.step e (puts_line {T = Unit {0}} w y lead says.text line (Err e) line_is put)
 
 -- a run that goes on does so after an answer
@@ -112,4 +118,5 @@ applied_going old new c lead w y (Err e) going a = step_going old new c a.reply 
 -- a run goes on where its session is tied to a heap that is open and keeps its rules
 pub going_before : (inside session : SessionState) (heap : HeapState) → IsTrue heap.is_open → KeepsRules heap → inside ≡ session
     → AreTied session heap → IsGoing (run_at inside heap)
-going_before inside session heap opened rules same tied = record { opened = opened; rules = rules; tied = subst (λ (s : SessionState). AreTied s heap) (sym same) tied }
+going_before inside session heap opened rules same tied =
+    record { opened = opened; rules = rules; tied = subst (λ (s : SessionState). AreTied s heap) (sym same) tied }
