@@ -1,4 +1,5 @@
 pub mod CallerLemmas
 pub mod Digits
 pub mod Feeding
+pub mod LineLemmas
 pub mod Looping

@@ -1,5 +1,6 @@
 pub mod Feeds
 pub mod Lines
+pub mod Texts
 pub mod Numbers
 pub mod Schedules
 pub mod Sinks

@@ -1,17 +1,18 @@
 -- The steps of commands, from what the calls of a manager do.
-use Rattle.std.proofs.Common.{◌≡◌, ◌∙◌, ◌++◌, ℕ, true, false, List, Option, Some, None, refl, ap, sym, inl, inr, append_assoc}
+use Rattle.std.proofs.Common.{Bool, ◌≡◌, ◌∙◌, ◌++◌, ℕ, true, false, List, Option, Some, None, refl, ap, sym, inl, inr, append_assoc}
 use Rattle.std.specs.Prelude.{◌⊎◌, codes, if◌then◌else◌, nat_eq, is_some}
 use Rattle.std.specs.Ordering.{nat_cmp}
-use Rattle.std.specs.FinMap.{get, len, empty, get-empty, len-empty}
+use Rattle.std.specs.FinMap.{get, len, empty, empty_of_len, get-empty, len-empty}
 use Rattle.cf_base.specs.declared.kind.Kind.{Kind}
 use Rattle.cf_base.specs.declared.kind.Kind.TheVariants.{Moving, NonMoving}
 use Rattle.cf_lemmas.proofs.Maps.{equal_maps}
 use Rattle.page_model.specs.Held.{Held, Placed}
+use Rattle.page_model.proofs.Counting.{eq_no}
 use Rattle.cf_model.specs.Answers.{bound_put, class_with}
 use Rattle.cf_model.specs.Rules.{KeepsRules}
 use Rattle.cf_model.specs.State.{HeapState}
 use Rattle.script_reader.specs.declared.command.Command.TheVariants.{Bound}
-use Rattle.run_model.specs.Sessions.{AreTied, SessionState}
+use Rattle.run_model.specs.Sessions.{AreTied, IsGoing, SessionState}
 use Rattle.run_model.specs.Steps.{Step, bound_text, class_to_bound}
 use Rattle.run_model.specs.Texts.{said, with_number}
 use Rattle.run_model.specs.Replies.{steps_text}
@@ -30,6 +31,19 @@ module _ (session : SessionState) (heap : HeapState) (tied : AreTied session hea
   pub none_held : heap.held ≡ empty
   none_held = equal_maps heap.held empty (λ q. no_object (get heap.held q) q refl ∙ sym (get-empty nat_cmp q))
 
+-- and no id is live where no object is
+module _ (session : SessionState) (heap : HeapState) (tied : AreTied session heap) (none : heap.held ≡ empty) where
+  no_id : (o : Option ℕ) (id : ℕ) → get session.ids id ≡ o → o ≡ None
+  no_id None id is = refl
+  no_id (Some h) id is = absurd (
+      let object = tied.named id h is in
+      let e : get heap.held h ≡ None = ap (λ i. get i h) none ∙ get-empty nat_cmp h in
+      let s = object.1 in
+      cc)
+
+  pub none_named : session.ids ≡ empty
+  none_named = equal_maps session.ids empty (λ q. no_id (get session.ids q) q refl ∙ sym (get-empty nat_cmp q))
+
 pub bound_ok : (o : Option ℕ) → is_some o ≡ true → codes "ok" ≡ bound_text o
 bound_ok None is = absurd (let e : false ≡ true = is in cc)
 bound_ok (Some c) is = refl
@@ -40,11 +54,13 @@ bound_none (Some c) is = absurd (let e : true ≡ false = is in cc)
 
 -- a class gets a bound
 module _ (session : SessionState) (old : HeapState) where
-  pub bound_step : (slot_words k : ℕ) (text : List ℕ) (new : HeapState) → old.held ≡ empty → new ≡ bound_put old (class_with old.kind old slot_words) k → KeepsRules new → text ≡ bound_text (class_with old.kind old slot_words)
+  pub bound_step : (slot_words k : ℕ) (text : List ℕ) (new : HeapState) → old.held ≡ empty
+      → new ≡ bound_put old (class_with old.kind old slot_words) k → KeepsRules new → text ≡ bound_text (class_with old.kind old slot_words)
       → Step (run_at session old) (Bound slot_words k) (said text) (run_at session new)
   bound_step slot_words k text new none is rules told =
       let n : len old.held ≡ 0 = ap (λ (m : Held). len m) none ∙ len-empty nat_cmp Placed in
-      let here : class_to_bound old slot_words ≡ class_with old.kind old slot_words = ap (λ i. if nat_eq i 0 then class_with old.kind old slot_words else None) n in
+      let here : class_to_bound old slot_words ≡ class_with old.kind old slot_words =
+      ap (λ i. if nat_eq i 0 then class_with old.kind old slot_words else None) n in
       record {
         heap = is ∙ ap (λ (o : Option ℕ). bound_put old o k) (sym here);
         rules = rules;
@@ -52,9 +68,25 @@ module _ (session : SessionState) (old : HeapState) where
         reply_is = ap said (told ∙ ap bound_text (sym here));
       }
 
+-- an id is live, so no class gets a bound
+pub bound_refused : (session : SessionState) (heap : HeapState) (slot_words k : ℕ) → IsGoing (run_at session heap) → (session.ids ≡ empty → ⊥)
+    → Step (run_at session heap) (Bound slot_words k) (said (codes "none")) (run_at session heap)
+bound_refused session heap slot_words k going some =
+    let none : nat_eq (len heap.held) 0 ≡ false = eq_no (len heap.held) 0 (λ e. some (none_named session heap going.tied (empty_of_len heap.held e))) in
+    let here : class_to_bound heap slot_words ≡ None = ap (λ (b : Bool). if b then class_with heap.kind heap slot_words else None) none in
+    record {
+      heap = ap (λ (o : Option ℕ). bound_put heap o k) (sym here);
+      rules = going.rules;
+      session = refl;
+      reply_is = ap (λ (o : Option ℕ). said (bound_text o)) (sym here);
+    }
+
 -- the line on the steps of a heap with pages
-pub steps_line : (k : Kind) (s : SessionState) (cost seen b m w : ℕ) (line after_cost after_bound after_moves after_words : List ℕ) → (k ≡ Moving) ⊎ (k ≡ NonMoving) → seen ≡ cost → b ≡ s.bound → m ≡ s.moves → w ≡ s.words
-    → after_cost ≡ line ++ with_number (codes "steps last ") seen → after_bound ≡ after_cost ++ with_number (codes " bound ") b → after_moves ≡ after_bound ++ with_number (codes " moves ") m
+pub steps_line : (k : Kind) (s : SessionState) (cost seen b m w : ℕ) (line after_cost after_bound after_moves after_words : List ℕ)
+    → (k ≡ Moving) ⊎ (k ≡ NonMoving) → seen ≡ cost → b ≡ s.bound → m ≡ s.moves → w ≡ s.words
+    → after_cost ≡ line ++ with_number (codes "steps last ") seen → after_bound ≡ after_cost ++ with_number (codes " bound ") b
+    → after_moves ≡ after_bound ++ with_number (codes " moves ") m
     → after_words ≡ after_moves ++ with_number (codes " words ") w → after_words ≡ line ++ steps_text k s cost
 steps_line k s cost seen b m w line after_cost after_bound after_moves after_words kind told_cost told_bound told_moves told_words first second third fourth =
-    rw (fourth, third, second, first, told_cost, told_bound, told_moves, told_words) (elim kind [ inl e ↦ rw e (simp append_assoc) | inr e ↦ rw e (simp append_assoc) ])
+    rw (fourth, third, second, first, told_cost, told_bound, told_moves, told_words)
+    (elim kind [ inl e ↦ rw e (simp append_assoc) | inr e ↦ rw e (simp append_assoc) ])

@@ -13,7 +13,7 @@ use Rattle.cf_model.specs.Rules.{KeepsRules}
 use Rattle.cf_model.specs.State.{HeapState, paging_in}
 use Rattle.cf_model.specs.Answers.{totals_in}
 use Rattle.page_model.specs.Figures.{figures_of}
-use Rattle.frag_report.proofs.Putting.{puts_line}
+use Rattle.cf_io.proofs.LineLemmas.{puts_line}
 use Rattle.script_reader.specs.declared.command.Command.{Command}
 use Rattle.script_reader.specs.declared.command.Command.TheVariants.{Walk, Frag}
 use Rattle.run_model.specs.Answering.{Moment}
@@ -42,11 +42,14 @@ at run written = record { run = run; written = written }
 
 -- the reply of a step was put, and its outcome told
 module _ (old new : RunState) (c : Command) (lead : List ℕ) (reply : Reply) (w y : Told) (going : IsGoing old) (step : Step old c reply new) where
-  pub applied : (outcome : Outcome) → outcome ≡ outcome_of reply → y ≡ appended w (led lead reply) → Applies (at old w) (record { command = c; lead = lead }) (Ok outcome) (at new y)
+  pub applied : (outcome : Outcome) → outcome ≡ outcome_of reply → y ≡ appended w (led lead reply)
+      → Applies (at old w) (record { command = c; lead = lead }) (Ok outcome) (at new y)
   applied outcome is put = (record { reply = reply; turn = turn old new c reply going step; written = put }, is)
 
-  pub applied_cut : (e : Failed) → Puts {T = Unit {0}} w (led lead reply) (Err e) y → Applies (at old w) (record { command = c; lead = lead }) (Err e) (at new y)
-  applied_cut e (front, lost, parts, put) = record { reply = reply; front = front; lost = lost; turn = turn old new c reply going step; cut = parts; written = put }
+  pub applied_cut : (e : Failed) → Puts {T = Unit {0}} w (led lead reply) (Err e) y
+      → Applies (at old w) (record { command = c; lead = lead }) (Err e) (at new y)
+  applied_cut e (front, lost, parts, put) =
+      record { reply = reply; front = front; lost = lost; turn = turn old new c reply going step; cut = parts; written = put }
 
 -- a report's outcome is neither good nor a refusal
 pages_other : (f : ℕ → Figures) (t : Totals) (cs : List ℕ) → Other ≡ outcome_of (map (λ c. class_line (f c)) cs ++ said (total_line t))
@@ -62,7 +65,8 @@ walk_other HalfFit s = refl
 frag_other : (s : HeapState) → Other ≡ outcome_of (frag_of s)
 frag_other s = refl
 
-reported : (old : RunState) (c : Command) (lead : List ℕ) (reply : Reply) (w y : Told) (r : Result Unit Failed) (answer : Result Outcome Failed) → IsGoing old → Step old c reply old → Other ≡ outcome_of reply
+reported : (old : RunState) (c : Command) (lead : List ℕ) (reply : Reply) (w y : Told) (r : Result Unit Failed) (answer : Result Outcome Failed)
+    → IsGoing old → Step old c reply old → Other ≡ outcome_of reply
     → Puts w (led lead reply) r y → IsReported r answer → Applies (at old w) (record { command = c; lead = lead }) answer (at old y)
 reported old c lead reply w y (Ok u) answer going step other put is =
     let P : Result Outcome Failed → Type 0 = λ a. Applies (at old w) (record { command = c; lead = lead }) a (at old y) in
@@ -71,37 +75,48 @@ reported old c lead reply w y (Err e) answer going step other put is =
     let P : Result Outcome Failed → Type 0 = λ a. Applies (at old w) (record { command = c; lead = lead }) a (at old y) in
     subst P (sym is) (applied_cut old old c lead reply w y going step e put)
 
-pub reported_walk : (old : RunState) (lead : List ℕ) (w y : Told) (c : Command) (r : Result Unit Failed) (answer : Result Outcome Failed) → c ≡ Walk → IsGoing old
-    → Puts w (led lead (walk_of old.heap.kind old.heap)) r y → IsReported r answer → Applies (at old w) (record { command = c; lead = lead }) answer (at old y)
+pub reported_walk : (old : RunState) (lead : List ℕ) (w y : Told) (c : Command) (r : Result Unit Failed) (answer : Result Outcome Failed) → c ≡ Walk
+    → IsGoing old
+    → Puts w (led lead (walk_of old.heap.kind old.heap)) r y → IsReported r answer
+    → Applies (at old w) (record { command = c; lead = lead }) answer (at old y)
 reported_walk old lead w y c r answer is going put told =
     let P : Command → Type 0 = λ k. Applies (at old w) (record { command = k; lead = lead }) answer (at old y) in
     subst P (sym is) (reported old Walk lead (walk_of old.heap.kind old.heap) w y r answer going (refl, refl) (walk_other old.heap.kind old.heap) put told)
 
-pub reported_frag : (old : RunState) (lead : List ℕ) (w y : Told) (c : Command) (r : Result Unit Failed) (answer : Result Outcome Failed) → c ≡ Frag → IsGoing old
+pub reported_frag : (old : RunState) (lead : List ℕ) (w y : Told) (c : Command) (r : Result Unit Failed) (answer : Result Outcome Failed) → c ≡ Frag
+    → IsGoing old
     → Puts w (led lead (frag_of old.heap)) r y → IsReported r answer → Applies (at old w) (record { command = c; lead = lead }) answer (at old y)
 reported_frag old lead w y c r answer is going put told =
     let P : Command → Type 0 = λ k. Applies (at old w) (record { command = k; lead = lead }) answer (at old y) in
     subst P (sym is) (reported old Frag lead (frag_of old.heap) w y r answer going (refl, refl) (frag_other old.heap) put told)
 
 -- a line that was begun with its lead, and put
-module _ (old new : RunState) (c : Command) (lead begun line : List ℕ) (w y : Told) (going : IsGoing old) (begins : begun ≡ lead) (says : Says old c new (lines_at begun line)) where
+module _ (old new : RunState) (c : Command) (lead begun line : List ℕ) (w y : Told)
+    (going : IsGoing old) (begins : begun ≡ lead) (says : Says old c new (lines_at begun line)) where
   line_is : line ≡ lead ++ says.text
   line_is = says.pushed ∙ ap (λ (b : List ℕ). b ++ says.text) begins
 
-  pub spoken : (outcome : Outcome) (seen : List ℕ) → seen ≡ line → outcome ≡ outcome_in (take (length seen - length lead) (drop (length lead) seen)) → Puts {T = Unit {0}} w (line ++ 10 ∷ []) (Ok tt) y
+  pub spoken : (outcome : Outcome) (seen : List ℕ) → seen ≡ line → outcome ≡ outcome_in (take (length seen - length lead) (drop (length lead) seen))
+      → Puts {T = Unit {0}} w (line ++ 10 ∷ []) (Ok tt) y
       → Applies (at old w) (record { command = c; lead = lead }) (Ok outcome) (at new y)
   spoken outcome seen read is put =
-      let text : take (length seen - length lead) (drop (length lead) seen) ≡ says.text = take_rest seen (length lead) ∙ ap (drop (length lead)) (read ∙ line_is) ∙ drop-append_seam lead says.text in
-      applied old new c lead (said says.text) w y going says.step outcome (is ∙ ap outcome_in text) (puts_line {T = Unit {0}} w y lead says.text line (Ok tt) line_is put)
+      let text : take (length seen - length lead) (drop (length lead) seen) ≡ says.text =
+      take_rest seen (length lead) ∙ ap (drop (length lead)) (read ∙ line_is) ∙ drop-append_seam lead says.text in
+      applied old new c lead (said says.text) w y going says.step outcome (is ∙ ap outcome_in text)
+      (puts_line {T = Unit {0}} w y lead says.text line (Ok tt) line_is put)
 
-  pub spoken_cut : (e : Failed) → Puts {T = Unit {0}} w (line ++ 10 ∷ []) (Err e) y → Applies (at old w) (record { command = c; lead = lead }) (Err e) (at new y)
+  pub spoken_cut : (e : Failed) → Puts {T = Unit {0}} w (line ++ 10 ∷ []) (Err e) y
+      → Applies (at old w) (record { command = c; lead = lead }) (Err e) (at new y)
   spoken_cut e put = applied_cut old new c lead (said says.text) w y going says.step e (puts_line {T = Unit {0}} w y lead says.text line (Err e) line_is put)
 
 -- a run that goes on does so after an answer
-pub applied_going : (old new : RunState) (c : Command) (lead : List ℕ) (w y : Told) (answer : Result Outcome Failed) → IsGoing old → Applies (at old w) (record { command = c; lead = lead }) answer (at new y) → IsGoing new
+pub applied_going : (old new : RunState) (c : Command) (lead : List ℕ) (w y : Told) (answer : Result Outcome Failed) → IsGoing old
+    → Applies (at old w) (record { command = c; lead = lead }) answer (at new y) → IsGoing new
 applied_going old new c lead w y (Ok outcome) going a = step_going old new c a.0.reply going a.0.turn.step
 applied_going old new c lead w y (Err e) going a = step_going old new c a.reply going a.turn.step
 
 -- a run goes on where its session is tied to a heap that is open and keeps its rules
-pub going_before : (inside session : SessionState) (heap : HeapState) → IsTrue heap.is_open → KeepsRules heap → inside ≡ session → AreTied session heap → IsGoing (run_at inside heap)
-going_before inside session heap opened rules same tied = record { opened = opened; rules = rules; tied = subst (λ (s : SessionState). AreTied s heap) (sym same) tied }
+pub going_before : (inside session : SessionState) (heap : HeapState) → IsTrue heap.is_open → KeepsRules heap → inside ≡ session
+    → AreTied session heap → IsGoing (run_at inside heap)
+going_before inside session heap opened rules same tied =
+    record { opened = opened; rules = rules; tied = subst (λ (s : SessionState). AreTied s heap) (sym same) tied }

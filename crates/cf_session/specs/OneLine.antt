@@ -4,7 +4,7 @@ use Rattle.cf_base.specs.declared.answers.Failed.{Failed}
 use Rattle.cf_session.specs.declared.outcome.Outcome.{Outcome}
 use Rattle.cf_session.specs.declared.outcome.Outcome.TheVariants.{Other}
 use Rattle.script_reader.specs.declared.command.Command.{Command}
-use Rattle.script_reader.specs.declared.command.Command.TheVariants.{Malloc, Free, Write, Resize, Bound, Walk, Frag}
+use Rattle.script_reader.specs.declared.command.Command.TheVariants.{Walk, Frag}
 use Rattle.run_model.specs.Sessions.{RunState}
 use Rattle.run_model.specs.Steps.{Step}
 use Rattle.run_model.specs.Texts.{said}
@@ -28,17 +28,6 @@ abbrev pub IsOneLine : Command → Type 0
 IsOneLine Walk = ⊥
 IsOneLine Frag = ⊥
 IsOneLine _ = Unit {0}
-
--- the command changes nothing, and its reply is one line
-abbrev pub OnlyLooks : Command → Type 0
-OnlyLooks (Malloc id bytes) = ⊥
-OnlyLooks (Free id) = ⊥
-OnlyLooks (Write id at bytes) = ⊥
-OnlyLooks (Resize id bytes) = ⊥
-OnlyLooks (Bound slot_words k) = ⊥
-OnlyLooks Walk = ⊥
-OnlyLooks Frag = ⊥
-OnlyLooks _ = Unit {0}
 
 -- a report was written, or not
 abbrev pub IsReported : {T : Type 0} → Result T Failed → Result Outcome Failed → Type 0

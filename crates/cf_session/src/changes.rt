@@ -1,10 +1,9 @@
 //! The commands that change objects: each does its call, and answers the text of its reply.
 ghost use Rattle.std.specs.Prelude.{◌≡◌, ◌^◌, ◌≤◌, IsTrue, Err, codes, length};
-ghost use Rattle.std.specs.FinMap as map;
-ghost use Rattle.cf_session.specs.Apply.{run_at};
+ghost use Rattle.cf_session.specs.Records.{run_of, session_of};
 ghost use Rattle.script_reader.specs.declared.command.Command.TheVariants.{Malloc, Free, Write, Resize, Bound};
 ghost use Rattle.run_model.specs.Replies.{malloc_text, resize_text, write_text};
-ghost use Rattle.run_model.specs.Sessions.{AreTied};
+ghost use Rattle.run_model.specs.Sessions.{AreTied, IsGoing};
 ghost use Rattle.run_model.specs.Steps.{Step};
 ghost use Rattle.run_model.specs.Texts.{said};
 
@@ -23,17 +22,17 @@ pub(crate) fn malloc<H: Manager>(
 ) -> &'static [u8]
     requires open { IsTrue (H.state heap.old).is_open }
     requires room { steps.old ≤ 2 ^ 63 }
-    ensures step { Step (run_at records.old (H.state heap.old)) (Malloc id bytes)
-        (said result.now) (run_at records.new (H.state heap.new)) }
+    ensures step { Step (run_of records.old (H.state heap.old)) (Malloc id bytes)
+        (said result.now) (run_of records.new (H.state heap.new)) }
     ensures short { length result.now ≤ 20 }
 {
-    if records.handle(id).is_some() {
+    if records.ids.handle(id).is_some() {
         return b"live";
     }
-    records.set_step_bound(64);
+    records.counters.bound = 64;
     match heap.malloc(bytes, steps) {
         Ok(h) => {
-            records.bind(id, h);
+            records.ids.bind(id, h);
             b"ok"
         }
         Err(refusal) => refusal_text(refusal),
@@ -60,21 +59,21 @@ pub(crate) fn free<H: Manager>(
     steps: &mut Steps,
 ) -> &'static [u8]
     requires open { IsTrue (H.state heap.old).is_open }
-    requires tied { AreTied records.old (H.state heap.old) }
+    requires tied { AreTied (session_of records.old) (H.state heap.old) }
     requires room { steps.old ≤ 2 ^ 63 }
-    ensures step { Step (run_at records.old (H.state heap.old)) (Free id)
-        (said result.now) (run_at records.new (H.state heap.new)) }
+    ensures step { Step (run_of records.old (H.state heap.old)) (Free id)
+        (said result.now) (run_of records.new (H.state heap.new)) }
     ensures short { length result.now ≤ 20 }
 {
-    let Some(h) = records.handle(id) else {
+    let Some(h) = records.ids.handle(id) else {
         return b"unknown";
     };
     let Ok(freed) = heap.free(h, steps) else {
         unreachable!();
     };
-    records.unbind(id);
-    records.set_step_bound(96 + 2 * freed.slot_words as u64);
-    records.count_move(freed.moved, freed.slot_words);
+    records.ids.unbind(id);
+    records.counters.bound = 96 + 2 * freed.slot_words as u64;
+    records.counters.count_move(freed.moved, freed.slot_words);
     b"ok"
 }
 
@@ -89,11 +88,11 @@ pub(crate) fn write<H: Manager>(
 ) -> &'static [u8]
     requires open { IsTrue (H.state heap.old).is_open }
     requires room { steps.old ≤ 2 ^ 63 }
-    ensures step { Step (run_at records.now (H.state heap.old)) (Write id at bytes.now)
-        (said result.now) (run_at records.now (H.state heap.new)) }
+    ensures step { Step (run_of records.now (H.state heap.old)) (Write id at bytes.now)
+        (said result.now) (run_of records.now (H.state heap.new)) }
     ensures short { length result.now ≤ 20 }
 {
-    let Some(h) = records.handle(id) else {
+    let Some(h) = records.ids.handle(id) else {
         return b"unknown";
     };
     match heap.write(h, at, bytes, steps) {
@@ -123,21 +122,21 @@ pub(crate) fn resize<H: Manager>(
 ) -> &'static [u8]
     requires open { IsTrue (H.state heap.old).is_open }
     requires room { steps.old ≤ 2 ^ 63 }
-    ensures step { Step (run_at records.old (H.state heap.old)) (Resize id bytes)
-        (said result.now) (run_at records.new (H.state heap.new)) }
+    ensures step { Step (run_of records.old (H.state heap.old)) (Resize id bytes)
+        (said result.now) (run_of records.new (H.state heap.new)) }
     ensures short { length result.now ≤ 20 }
 {
-    let Some(h) = records.handle(id) else {
+    let Some(h) = records.ids.handle(id) else {
         return b"unknown";
     };
     match heap.resize(h, bytes, steps) {
         Ok(done) => {
-            records.set_step_bound(160 + 3 * done.old_slot_words.max(done.slot_words) as u64);
-            records.count_move(done.moved, done.old_slot_words);
+            records.counters.bound = 160 + 3 * done.old_slot_words.max(done.slot_words) as u64;
+            records.counters.count_move(done.moved, done.old_slot_words);
             b"ok"
         }
         Err(fault) => {
-            records.set_step_bound(160);
+            records.counters.bound = 160;
             resize_fault_text(fault)
         }
     }
@@ -163,15 +162,16 @@ pub(crate) fn set_bound<H: Manager>(
     slot_words: u32,
     k: u32,
 ) -> &'static [u8]
-    requires open { IsTrue (H.state heap.old).is_open }
-    requires tied { AreTied records.now (H.state heap.old) }
-    requires empty { records.now.ids ≡ map.empty }
+    requires going { IsGoing (run_of records.now (H.state heap.old)) }
     requires least { 1 ≤ k }
     requires most { k ≤ 64 }
-    ensures step { Step (run_at records.now (H.state heap.old)) (Bound slot_words k)
-        (said result.now) (run_at records.now (H.state heap.new)) }
+    ensures step { Step (run_of records.now (H.state heap.old)) (Bound slot_words k)
+        (said result.now) (run_of records.now (H.state heap.new)) }
     ensures short { length result.now ≤ 20 }
 {
+    if !records.ids.is_empty() {
+        return b"none";
+    }
     if heap.set_bound(slot_words, k) {
         b"ok"
     } else {

@@ -2,8 +2,9 @@
 ghost use Rattle.std.specs.Prelude.{◌≡◌, ◌^◌, ◌<◌, ◌≤◌, OnErr, length};
 ghost use Rattle.cf_io.specs.Feeds.{Rose};
 ghost use Rattle.cf_io.specs.Lines.{line_room};
-ghost use Rattle.cf_session.specs.Apply.{Applies, MayBound, moment_at, run_at};
-ghost use Rattle.cf_session.specs.OneLine.{IsOneLine, IsReported, OnlyLooks, Says, lines_at};
+ghost use Rattle.cf_session.specs.Apply.{Applies, moment_at};
+ghost use Rattle.cf_session.specs.OneLine.{IsOneLine, IsReported, Says, lines_at};
+ghost use Rattle.cf_session.specs.Records.{run_of, session_of};
 ghost use Rattle.script_reader.specs.Commands.{IsWellFormed};
 ghost use Rattle.run_model.specs.Sessions.{IsGoing};
 
@@ -12,9 +13,9 @@ use crate::looks::{block, peek, place, read, tell_steps};
 use crate::outcome::Outcome;
 use crate::records::Records;
 use cf_base::Failed;
-use cf_io::{Line, Sink};
+use cf_io::{Line, Sink, begin_line, push_text, put_line};
 use cf_model::Manager;
-use frag_report::{begin_line, frag_line, push_text, put_line, walk_lines};
+use frag_report::{frag_line, walk_lines};
 use script_reader::Command;
 use step_ledger::Steps;
 
@@ -29,14 +30,13 @@ pub(crate) fn answer<H: Manager, K: Sink>(
     out: &mut K,
     steps: &mut Steps,
 ) -> Result<Outcome, Failed>
-    requires going { IsGoing (run_at records.old (H.state heap.old)) }
+    requires going { IsGoing (run_of records.old (H.state heap.old)) }
     requires formed { IsWellFormed c.now }
-    requires bound { MayBound records.old c.now }
     requires lead { length lead.now ≤ 8 }
     requires room { steps.old ≤ 2 ^ 63 }
-    ensures answers { Applies (moment_at records.old (H.state heap.old) (K.written out.old))
+    ensures answers { Applies (moment_at (session_of records.old) (H.state heap.old) (K.written out.old))
         (record { command = c.now; lead = lead.now })
-        result (moment_at records.new (H.state heap.new) (K.written out.new)) }
+        result (moment_at (session_of records.new) (H.state heap.new) (K.written out.new)) }
     ensures grows { K.faults out.old ≤ K.faults out.new }
     ensures failed { OnErr result (Rose (K.faults out.old) (K.faults out.new)) }
 {
@@ -73,14 +73,13 @@ fn one_line_reply<H: Manager>(
     line: &mut Line,
     steps: &mut Steps,
 )
-    requires going { IsGoing (run_at records.old (H.state heap.old)) }
+    requires going { IsGoing (run_of records.old (H.state heap.old)) }
     requires formed { IsWellFormed c.now }
-    requires bound { MayBound records.old c.now }
     requires one { IsOneLine c.now }
     requires room { steps.old ≤ 2 ^ 63 }
     requires begun { length line.old ≤ 8 }
-    ensures said { Says (run_at records.old (H.state heap.old))
-        c.now (run_at records.new (H.state heap.new))
+    ensures said { Says (run_of records.old (H.state heap.old))
+        c.now (run_of records.new (H.state heap.new))
         (lines_at line.old line.new) }
     ensures short { length line.new < line_room }
 {
@@ -98,23 +97,6 @@ fn one_line_reply<H: Manager>(
         Command::Bound { slot_words, k } => {
             push_text(line, set_bound(records, heap, *slot_words, *k))
         }
-        _ => look(records, heap, c, line, steps),
-    }
-}
-
-/// Writes the text of the reply of a command that only looks.
-fn look<H: Manager>(records: &Records, heap: &H, c: &Command, line: &mut Line, steps: &mut Steps)
-    requires going { IsGoing (run_at records.now (H.state heap.now)) }
-    requires formed { IsWellFormed c.now }
-    requires looks { OnlyLooks c.now }
-    requires room { steps.old ≤ 2 ^ 63 }
-    requires begun { length line.old ≤ 8 }
-    ensures said { Says (run_at records.now (H.state heap.now))
-        c.now (run_at records.now (H.state heap.now))
-        (lines_at line.old line.new) }
-    ensures short { length line.new < line_room }
-{
-    match c {
         Command::Read { id, at, len } => read(records, heap, *id, *at, *len, line, steps),
         Command::Place { id } => place(records, heap, *id, line, steps),
         Command::Block { id, i } => block(records, heap, *id, *i, line, steps),

@@ -2,16 +2,15 @@
 ghost use Rattle.std.specs.Prelude.{◌≡◌, ◌^◌, ◌<◌, ◌≤◌, ◌++◌, IsTrue, length, slice_get};
 ghost use Rattle.std.specs.FinMap as map;
 ghost use Rattle.cf_io.specs.Lines.{line_room};
-ghost use Rattle.cf_session.specs.Apply.{run_at};
+ghost use Rattle.cf_session.specs.Records.{run_of, session_of};
 ghost use Rattle.run_model.specs.Replies.{block_text_at, object_of, peek_text, place_text, read_text, steps_text};
 ghost use Rattle.run_model.specs.Sessions.{AreTied};
 
 use crate::changes::fault_text;
 use crate::records::Records;
 use cf_base::{Handle, Kind};
-use cf_io::Line;
+use cf_io::{Line, push_field, push_text};
 use cf_model::Manager;
-use frag_report::{push_field, push_text};
 use step_ledger::Steps;
 
 /// The most bytes that are read at once.
@@ -32,10 +31,10 @@ pub(crate) fn read<H: Manager>(
     requires few { len ≤ 4096 }
     requires begun { length line.old ≤ 8 }
     ensures text { line.new
-        ≡ line.old ++ read_text (object_of (run_at records.now (H.state heap.now)) id) at len }
+        ≡ line.old ++ read_text (object_of (run_of records.now (H.state heap.now)) id) at len }
     ensures short { length line.new < line_room }
 {
-    let Some(h) = records.handle(id) else {
+    let Some(h) = records.ids.handle(id) else {
         return push_text(line, b"unknown");
     };
     let mut room = [0; MOST];
@@ -79,10 +78,10 @@ pub(crate) fn place<H: Manager>(
     requires open { IsTrue (H.state heap.now).is_open }
     requires begun { length line.old ≤ 8 }
     ensures text { line.new
-        ≡ line.old ++ place_text (object_of (run_at records.now (H.state heap.now)) id) }
+        ≡ line.old ++ place_text (object_of (run_of records.now (H.state heap.now)) id) }
     ensures short { length line.new < line_room }
 {
-    let Some(h) = records.handle(id) else {
+    let Some(h) = records.ids.handle(id) else {
         return push_text(line, b"unknown");
     };
     match heap.place(h, steps) {
@@ -101,13 +100,13 @@ pub(crate) fn block<H: Manager>(
     steps: &mut Steps,
 )
     requires open { IsTrue (H.state heap.now).is_open }
-    requires tied { AreTied records.now (H.state heap.now) }
+    requires tied { AreTied (session_of records.now) (H.state heap.now) }
     requires begun { length line.old ≤ 8 }
     ensures text { line.new
-        ≡ line.old ++ block_text_at (H.state heap.now) (object_of (run_at records.now (H.state heap.now)) id) i }
+        ≡ line.old ++ block_text_at (H.state heap.now) (object_of (run_of records.now (H.state heap.now)) id) i }
     ensures short { length line.new < line_room }
 {
-    let Some(h) = records.handle(id) else {
+    let Some(h) = records.ids.handle(id) else {
         return push_text(line, b"unknown");
     };
     match heap.kind() {
@@ -137,15 +136,15 @@ pub(crate) fn tell_steps<H: Manager>(records: &Records, heap: &H, line: &mut Lin
     requires open { IsTrue (H.state heap.now).is_open }
     requires begun { length line.old ≤ 8 }
     ensures text { line.new
-        ≡ line.old ++ steps_text (H.state heap.now).kind records.now (H.state heap.now).cost }
+        ≡ line.old ++ steps_text (H.state heap.now).kind (session_of records.now) (H.state heap.now).cost }
     ensures short { length line.new < line_room }
 {
     push_field(line, b"steps last ", heap.cost());
     match heap.kind() {
         Kind::Moving | Kind::NonMoving => {
-            push_field(line, b" bound ", records.bound());
-            push_field(line, b" moves ", records.moves());
-            push_field(line, b" words ", records.words());
+            push_field(line, b" bound ", records.counters.bound);
+            push_field(line, b" moves ", records.counters.moves);
+            push_field(line, b" words ", records.counters.words);
         }
         Kind::Tlsf | Kind::HalfFit => {}
     }

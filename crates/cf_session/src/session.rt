@@ -4,7 +4,8 @@ ghost use Rattle.std.specs.FinMap as map;
 ghost use Rattle.cf_io.specs.Feeds.{Rose};
 ghost use Rattle.cf_model.specs.Rules.{KeepsRules};
 ghost use Rattle.cf_model.specs.Steps.{number_of};
-ghost use Rattle.cf_session.specs.Apply.{Applies, MayBound, moment_at};
+ghost use Rattle.cf_session.specs.Apply.{Applies, moment_at};
+ghost use Rattle.id_table.specs.Ids.{AreWithin};
 ghost use Rattle.script_reader.specs.Commands.{IsWellFormed};
 ghost use Rattle.run_model.specs.Sessions.{AreTied, fresh_session};
 
@@ -29,13 +30,14 @@ pub struct Session {
 }
 
 impl Model for Session {
+    ghost use Rattle.cf_session.specs.Records.{session_of};
     ghost use Rattle.run_model.specs.Sessions.{SessionState, session_code};
 
     ghost Value = { SessionState };
 
     ghost coded = { session_code };
 
-    ghost view = { λ s. s.records };
+    ghost view = { λ s. session_of s.records };
 }
 
 impl Session {
@@ -63,7 +65,6 @@ impl Session {
         requires open { IsTrue (H.state heap.old).is_open }
         requires tied { AreTied self.old (H.state heap.old) }
         requires formed { IsWellFormed c.now }
-        requires bound { MayBound self.old c.now }
         requires lead { length lead.now ≤ 8 }
         ensures answers { Applies (moment_at self.old (H.state heap.old) (K.written out.old))
             (record { command = c.now; lead = lead.now })
@@ -92,20 +93,21 @@ impl Session {
     pub fn moves(&self) -> u64
         ensures { result ≡ self.now.moves }
     {
-        self.records.moves()
+        self.records.counters.moves
     }
 
     /// The words of the slots of the objects that changed their place; at most `2^64 - 1`.
     pub fn words(&self) -> u64
         ensures { result ≡ self.now.words }
     {
-        self.records.words()
+        self.records.counters.words
     }
 
     /// The handle of an id; none where the id isn't live.
     pub fn handle(&self, id: u16) -> Option<Handle>
-        ensures { number_of result ≡ map.get self.now.ids id }
+        ensures found { number_of result ≡ map.get self.now.ids id }
+        ensures within { AreWithin self.now.ids }
     {
-        self.records.handle(id)
+        self.records.ids.handle(id)
     }
 }

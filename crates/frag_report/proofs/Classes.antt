@@ -16,7 +16,7 @@ use Rattle.cf_model.specs.Answers.{classes_in, totals_in}
 use Rattle.run_model.specs.Reports.{class_line, pages_report, total_line}
 use Rattle.run_model.specs.Texts.{led, said}
 use Rattle.frag_report.specs.Classes.{lines_of, classes_below, class_if_live}
-use Rattle.frag_report.proofs.Putting.{led-append, puts_then, puts_cut}
+use Rattle.cf_io.proofs.LineLemmas.{led-append, puts_then, puts_cut}
 
 -- the numbers up to n begin with those up to c
 range_from : (a n m : ℕ) → range_with_len a (n + m) ≡ range_with_len a n ++ range_with_len (a + n) m
@@ -42,9 +42,11 @@ Told = Option (List ℕ)
 
 module _ (s : HeapState) (lead : List ℕ) where
   -- the lines of all classes below c are put, and then that of c
-  pub class_put : (c : ℕ) (w x y : Told) → x ≡ appended w (led lead (classes_below s c)) → y ≡ appended x (led lead (class_if_live s c)) → y ≡ appended w (led lead (classes_below s (c + 1)))
+  pub class_put : (c : ℕ) (w x y : Told) → x ≡ appended w (led lead (classes_below s c)) → y ≡ appended x (led lead (class_if_live s c))
+      → y ≡ appended w (led lead (classes_below s (c + 1)))
   class_put c w x y first next =
-      next ∙ ap (λ (o : Told). appended o (led lead (class_if_live s c))) first ∙ appended_then w (led lead (classes_below s c)) (led lead (class_if_live s c)) ∙ ap (appended w) (sym (below_more s lead c))
+      next ∙ ap (λ (o : Told). appended o (led lead (class_if_live s c))) first ∙ appended_then w (led lead (classes_below s c)) (led lead (class_if_live s c))
+      ∙ ap (appended w) (sym (below_more s lead c))
 
   -- the classes from c on, after that of c
   lines_rest : (c n : ℕ) → c < n → (more : List ℕ) × (led lead (classes_below s n) ≡ led lead (classes_below s (c + 1)) ++ more)
@@ -55,21 +57,26 @@ module _ (s : HeapState) (lead : List ℕ) where
             ∙ ap (led lead) (lines-append s (range_with_len 0 (c + 1)) _) ∙ led-append lead (classes_below s (c + 1)) _,
       )
 
-  pub class_cut : (c n : ℕ) (w x y : Told) (e : Failed) → c < n → x ≡ appended w (led lead (classes_below s c)) → Puts {T = Unit {0}} x (led lead (class_if_live s c)) (Err e) y → Puts {T = Unit {0}} w (led lead (classes_below s n)) (Err e) y
+  pub class_cut : (c n : ℕ) (w x y : Told) (e : Failed) → c < n → x ≡ appended w (led lead (classes_below s c))
+      → Puts {T = Unit {0}} x (led lead (class_if_live s c)) (Err e) y → Puts {T = Unit {0}} w (led lead (classes_below s n)) (Err e) y
   class_cut c n w x y e lt first cut =
       let rest = lines_rest c n lt in
       let P : List ℕ → Type 0 = λ bytes. Puts {T = Unit {0}} w bytes (Err e) y in
-      subst P (ap (λ (b : List ℕ). b ++ rest.0) (sym (below_more s lead c)) ∙ sym rest.1) (puts_cut w y _ rest.0 e (puts_then {T = Unit {0}} w x y (led lead (classes_below s c)) (led lead (class_if_live s c)) (Err e) first cut))
+      subst P (ap (λ (b : List ℕ). b ++ rest.0) (sym (below_more s lead c)) ∙ sym rest.1)
+      (puts_cut w y _ rest.0 e (puts_then {T = Unit {0}} w x y (led lead (classes_below s c)) (led lead (class_if_live s c)) (Err e) first cut))
 
   -- the lines of all classes are put, and then the last line
-  pub pages_put : {T : Type 0} (t : Totals) (w x y : Told) (r : Result T Failed) → t ≡ totals_in s.kind s → x ≡ appended w (led lead (classes_below s (classes_in s.kind s)))
+  pub pages_put : {T : Type 0} (t : Totals) (w x y : Told) (r : Result T Failed) → t ≡ totals_in s.kind s
+      → x ≡ appended w (led lead (classes_below s (classes_in s.kind s)))
       → Puts x (led lead (said (total_line t))) r y → Puts w (led lead (pages_report s)) r y
   pages_put {T = T} t w x y r is first next =
       let P : List ℕ → Type 0 = λ bytes. Puts {T = T} w bytes r y in
-      subst P (ap (λ (u : Totals). led lead (classes_below s (classes_in s.kind s)) ++ led lead (said (total_line u))) is ∙ sym (led-append lead (classes_below s (classes_in s.kind s)) (said (total_line (totals_in s.kind s)))))
+      subst P (ap (λ (u : Totals). led lead (classes_below s (classes_in s.kind s)) ++ led lead (said (total_line u))) is
+      ∙ sym (led-append lead (classes_below s (classes_in s.kind s)) (said (total_line (totals_in s.kind s)))))
       (puts_then w x y _ _ r first next)
 
-  pub pages_cut : (w y : Told) (e : Failed) → Puts {T = Unit {0}} w (led lead (classes_below s (classes_in s.kind s))) (Err e) y → Puts {T = Unit {0}} w (led lead (pages_report s)) (Err e) y
+  pub pages_cut : (w y : Told) (e : Failed) → Puts {T = Unit {0}} w (led lead (classes_below s (classes_in s.kind s))) (Err e) y
+      → Puts {T = Unit {0}} w (led lead (pages_report s)) (Err e) y
   pages_cut w y e cut =
       let P : List ℕ → Type 0 = λ bytes. Puts {T = Unit {0}} w bytes (Err e) y in
       subst P (sym (led-append lead (classes_below s (classes_in s.kind s)) (said (total_line (totals_in s.kind s))))) (puts_cut w y _ _ e cut)

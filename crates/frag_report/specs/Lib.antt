@@ -1,1 +1,2 @@
 pub mod Classes
+pub use Rattle.run_model.specs.Reports

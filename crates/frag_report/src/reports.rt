@@ -7,9 +7,8 @@ ghost use Rattle.frag_report.specs.Classes.{classes_below, class_if_live};
 ghost use Rattle.run_model.specs.Reports.{blocks_line, class_line, frag_line as frag_text, frag_of, pages_report, total_line, walk_of};
 ghost use Rattle.run_model.specs.Texts.{led, said};
 
-use crate::lines::{begin_line, push_field, put_line};
 use cf_base::{Failed, Figures, Kind, Totals};
-use cf_io::{Line, Sink};
+use cf_io::{Line, Sink, begin_line, push_field, put_line};
 use cf_model::Manager;
 use step_ledger::Steps;
 

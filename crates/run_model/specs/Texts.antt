@@ -1,27 +1,6 @@
 -- What replies are made of.
-use Rattle.std.specs.Prelude.{ℕ, List, [], ◌∷◌, ◌++◌, codes, decimal}
-
--- a reply: its lines, without their line feeds
-abbrev pub Reply : Type 0
-Reply = List (List ℕ)
-
--- a reply of one line
-abbrev pub said : List ℕ → Reply
-said text = text ∷ []
-
--- the lines of a reply as bytes, each after the lead and with a line feed behind it
-abbrev pub led : List ℕ → Reply → List ℕ
-led lead [] = []
-led lead (text ∷ rest) = (lead ++ (text ++ 10 ∷ [])) ++ led lead rest
-
--- the bytes of the replies, one after the other
-abbrev pub text_of : List ℕ → List Reply → List ℕ
-text_of lead [] = []
-text_of lead (reply ∷ rest) = led lead reply ++ text_of lead rest
-
--- a text, and behind it a number in decimal
-abbrev pub with_number : List ℕ → ℕ → List ℕ
-with_number text n = text ++ decimal n
+pub use Rattle.cf_io.specs.Texts.{Reply, led, said, text_of, with_number}
+use Rattle.std.specs.Prelude.{ℕ, List, codes}
 
 -- the line that names a bad line of the script
 abbrev pub bad_line : ℕ → List ℕ

@@ -143,7 +143,7 @@ open_step kind p a b s t is leads begun =
     (subst (λ (z : Stage). ItemStep kind None (starts p) (said (codes "ok")) (run_in z t)) (sym leads) (t, begun, refl, refl))
 
 pub ready_open : (kind : Kind) (p : Profile) (b : Stage) (t : RunState) → b ≡ Bounding → Begins kind p t → IsReadyAt b t
-ready_open kind p b t leads begun = subst (λ (a : Stage). IsReadyAt a t) (sym leads) (begins_going kind p t begun, ap (λ z. z.ids) begun.session)
+ready_open kind p b t leads begun = subst (λ (a : Stage). IsReadyAt a t) (sym leads) (begins_going kind p t begun)
 
 bounding_opening : (b : Stage) → b ≡ Bounding → b ≡ Opening → ⊥
 bounding_opening b leads at = absurd (let e : Bounding ≡ Opening = sym leads ∙ at in cc)

@@ -1,6 +1,5 @@
 -- Who answers a script.
 use Rattle.std.specs.Prelude.{◌≡◌, ℕ, List, Option, Some, None}
-use Rattle.std.specs.FinMap as map
 use Rattle.cf_model.specs.State.{HeapState}
 use Rattle.script_reader.specs.Reading.{Reading}
 use Rattle.script_reader.specs.declared.stage.Stage.{Stage}
@@ -24,10 +23,10 @@ run_in Running s = Some s
 abbrev pub run_of : Player → Option RunState
 run_of p = run_in p.reading.stage p.state
 
--- Before the `heap` line the session is a fresh one. Behind it the run goes on, and no id is live as long as bounds may be given.
+-- before the `heap` line the session is a fresh one, and behind it the run goes on
 abbrev pub IsReadyAt : Stage → RunState → Type 0
 IsReadyAt Opening s = s.session ≡ fresh_session
-IsReadyAt Bounding s = IsGoing s × (s.session.ids ≡ map.empty)
+IsReadyAt Bounding s = IsGoing s
 IsReadyAt Running s = IsGoing s
 
 abbrev pub IsReady : Player → Type 0

@@ -1,5 +1,5 @@
 use Rattle.std.proofs.Common.{arith, length-append}
-use Rattle.frag_report.proofs.Putting.{pushed}
+use Rattle.cf_io.proofs.LineLemmas.{pushed}
 use Rattle.cf_io.proofs.CallerLemmas.{length_of_word}
 use Rattle.cf_io.specs.Lines.{word_text}
 use Rattle.cf_session.proofs.looks.peek.Goals as goal

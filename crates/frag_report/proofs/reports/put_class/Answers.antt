@@ -1,8 +1,9 @@
-use Rattle.frag_report.proofs.Putting.{puts_line, five}
+use Rattle.cf_io.proofs.LineLemmas.{puts_line, five}
 use Rattle.frag_report.proofs.reports.put_class.Goals as goal
 
 pub returns-clause-puts : goal.returns-clause-puts
 returns-clause-puts g c =
     puts_line _ _ c.args.lead.now _ _ c.put_line.result
-    (five c.args.lead.now _ _ _ _ _ _ _ _ _ _ _ c.begin_line.ensures c.push_field.ensures.text c.push_field-2.ensures.text c.push_field-3.ensures.text c.push_field-4.ensures.text c.push_field-5.ensures.text)
+    (five c.args.lead.now _ _ _ _ _ _ _ _ _ _ _ c.begin_line.ensures c.push_field.ensures.text c.push_field-2.ensures.text
+    c.push_field-3.ensures.text c.push_field-4.ensures.text c.push_field-5.ensures.text)
     c.put_line.ensures.puts

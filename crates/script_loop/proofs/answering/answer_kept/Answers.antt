@@ -55,8 +55,7 @@ replies-preserved g c =
     record {
       text = so_far.text ++ led [] answer.reply;
       answered = answered_then so_far.answered (answered_command _ _ _ answer.reply next so_far.ready answer.turn);
-      ready = ready_behind _ _ _ _ _ answer.reply next.leads so_far.ready
-          (record { opened = c.in-Ok.ensures.open; rules = c.in-Ok.ensures.rules; tied = c.in-Ok.ensures.tied }) answer.turn.step;
+      ready = ready_behind _ _ _ _ next.leads (record { opened = c.in-Ok.ensures.open; rules = c.in-Ok.ensures.rules; tied = c.in-Ok.ensures.tied });
       going = next.still;
       same_end = next.reads.same_end ∙ so_far.same_end;
       fed = next.reads.same_fed ∙ so_far.fed;

@@ -1,4 +1,4 @@
--- Lines of replies, and what is put piece by piece.
+-- For the layers above: what stands on a line, and what is put piece by piece.
 use Rattle.std.proofs.Common.{◌≡◌, ◌∙◌, ℕ, ◌+◌, ◌<◌, ◌≤◌, ◌^◌, ◌++◌, List, [], ◌∷◌, Option, refl, ap, sym, append_assoc, append-nil, subst, arith, length, lit<}
 use Rattle.std.specs.Prelude.{Result, Ok, Err, decimal}
 use Rattle.std.specs.Result.{IsOk}
@@ -8,7 +8,7 @@ use Rattle.std.proofs.lemmas.Fmt.{length-decimal-le}
 use Rattle.cf_base.specs.declared.answers.Failed.{Failed}
 use Rattle.cf_io.specs.Feeds.{appended, Puts}
 use Rattle.cf_io.proofs.Feeding.{appended_then}
-use Rattle.run_model.specs.Texts.{Reply, led, said}
+use Rattle.cf_io.specs.Texts.{Reply, led, said}
 
 -- a number of 64 bits has at most 20 digits
 pub digits : (n : ℕ) → n < 2 ^ 64 → length (decimal n) ≤ 20
@@ -20,7 +20,9 @@ led_said lead text = append-nil (lead ++ (text ++ 10 ∷ [])) ∙ sym (append_as
 
 pub led-append : (lead : List ℕ) (some more : Reply) → led lead (some ++ more) ≡ led lead some ++ led lead more
 led-append lead [] more = refl
-led-append lead (text ∷ rest) more = ap (λ xs. (lead ++ (text ++ 10 ∷ [])) ++ xs) (led-append lead rest more) ∙ sym (append_assoc (lead ++ (text ++ 10 ∷ [])) (led lead rest) (led lead more))
+led-append lead (text ∷ rest) more =
+    ap (λ xs. (lead ++ (text ++ 10 ∷ [])) ++ xs) (led-append lead rest more)
+    ∙ sym (append_assoc (lead ++ (text ++ 10 ∷ [])) (led lead rest) (led lead more))
 
 abbrev Told : Type 0
 Told = Option (List ℕ)
@@ -36,7 +38,8 @@ pub puts_cut : (w y : Told) (a b : List ℕ) (e : Failed) → Puts {T = Unit {0}
 puts_cut w y a b e (front, lost, parts, is) = (front, lost ++ b, ap (λ xs. xs ++ b) parts ∙ append_assoc front lost b, is)
 
 -- a line that was built behind its lead
-pub puts_line : {T : Type 0} (w y : Told) (lead text line : List ℕ) (r : Result T Failed) → line ≡ lead ++ text → Puts w (line ++ 10 ∷ []) r y → Puts w (led lead (said text)) r y
+pub puts_line : {T : Type 0} (w y : Told) (lead text line : List ℕ) (r : Result T Failed) → line ≡ lead ++ text → Puts w (line ++ 10 ∷ []) r y
+    → Puts w (led lead (said text)) r y
 puts_line {T = T} w y lead text line r is put =
     let P : List ℕ → Type 0 = λ bytes. Puts {T = T} w bytes r y in
     subst P (ap (λ (l : List ℕ). l ++ 10 ∷ []) is ∙ sym (led_said lead text)) put
@@ -46,10 +49,12 @@ pub three : (lead l m n o a b c : List ℕ) → l ≡ lead → m ≡ l ++ a → 
 three lead l m n o a b c first second third fourth = rw (fourth, third, second, first) (simp append_assoc)
 
 -- five texts behind a lead
-pub five : (lead l m n o p q a b c d e : List ℕ) → l ≡ lead → m ≡ l ++ a → n ≡ m ++ b → o ≡ n ++ c → p ≡ o ++ d → q ≡ p ++ e → q ≡ lead ++ (a ++ (b ++ (c ++ (d ++ e))))
+pub five : (lead l m n o p q a b c d e : List ℕ) → l ≡ lead → m ≡ l ++ a → n ≡ m ++ b → o ≡ n ++ c → p ≡ o ++ d → q ≡ p ++ e
+    → q ≡ lead ++ (a ++ (b ++ (c ++ (d ++ e))))
 five lead l m n o p q a b c d e first second third fourth fifth sixth = rw (sixth, fifth, fourth, third, second, first) (simp append_assoc)
 
 -- a text stands on the line where there was room for it
-pub pushed : {T : Type 0} (old text new : List ℕ) (r : Result T Full) → Pushes old text r new → length old + length text ≤ line_room → IsOk r × (new ≡ old ++ text)
+pub pushed : {T : Type 0} (old text new : List ℕ) (r : Result T Full) → Pushes old text r new → length old + length text ≤ line_room
+    → IsOk r × (new ≡ old ++ text)
 pushed old text new (Ok u) p room = (refl, p.0)
 pushed old text new (Err e) p room = absurd (omega arith)

@@ -2,10 +2,12 @@
 ghost use Rattle.std.specs.Prelude.{◌≡◌, ◌+◌, ◌<◌, ◌≤◌, ◌++◌, ◌∷◌, [], OnErr, length};
 ghost use Rattle.cf_io.specs.Feeds.{Rose, Puts};
 ghost use Rattle.cf_io.specs.Lines.{line_room};
-ghost use Rattle.run_model.specs.Texts.{with_number};
+ghost use Rattle.cf_io.specs.Texts.{with_number};
 
+use crate::line::Line;
+use crate::sink::Sink;
+use crate::writing::put_all;
 use cf_base::Failed;
-use cf_io::{Line, Sink, put_all};
 
 /// The most bytes that lead a line.
 pub const MOST_LEAD: usize = 8;

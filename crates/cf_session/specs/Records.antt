@@ -1,0 +1,12 @@
+-- The session that the records stand for. No public clause cites this module.
+use Rattle.cf_model.specs.State.{HeapState}
+use Rattle.run_model.specs.Sessions.{RunState, SessionState}
+use Rattle.cf_session.specs.Apply.{run_at}
+use Rattle.cf_session.specs.declared.records.Records.{Records}
+
+abbrev pub session_of : Records → SessionState
+session_of r = record { ids = r.ids; bound = r.counters.bound; moves = r.counters.moves; words = r.counters.words }
+
+-- the run of a session that keeps these records, and of its manager
+abbrev pub run_of : Records → HeapState → RunState
+run_of records heap = run_at (session_of records) heap

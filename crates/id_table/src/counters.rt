@@ -1,0 +1,41 @@
+//! What a session counts.
+ghost use Rattle.std.specs.Prelude.{◌≡◌};
+ghost use Rattle.id_table.specs.Counters.{no_counts, with_move};
+
+use cf_base::Handle;
+
+/// What a session keeps of the calls that it made.
+#[derive(Clone, Copy, Debug, PartialEq, Eq)]
+pub struct Counters {
+    /// The bound on the steps of the last call that changed the objects' addresses or lengths; 0
+    /// before one.
+    pub bound: u64,
+    /// How many objects moved, at most `2^64 - 1`.
+    pub moves: u64,
+    /// The words of the slots of the objects that moved, at most `2^64 - 1`.
+    pub words: u64,
+}
+
+impl Counters {
+    /// Those of a session that was just begun.
+    pub fn new() -> Counters
+        ensures { result ≡ no_counts }
+    {
+        Counters {
+            bound: 0,
+            moves: 0,
+            words: 0,
+        }
+    }
+
+    /// Counts an object that moved, if one did, from a slot of so many words. Both counts stay at
+    /// `2^64 - 1`.
+    pub fn count_move(&mut self, moved: Option<Handle>, slot_words: u32)
+        ensures { self.new ≡ with_move self.old moved slot_words }
+    {
+        if moved.is_some() {
+            self.moves = self.moves.saturating_add(1);
+            self.words = self.words.saturating_add(slot_words as u64);
+        }
+    }
+}

@@ -1,0 +1,124 @@
+//! Ids to handles.
+ghost use Rattle.std.specs.Prelude.{◌≡◌, ◌↔◌, IfOk, IsTrue, option_map};
+ghost use Rattle.std.specs.FinMap as map;
+ghost use Rattle.cf_base.specs.declared.answers.Handle.{Handle as AHandle};
+ghost use Rattle.id_table.specs.Ids.{AreWithin};
+ghost use Rattle.id_table.specs.Layout.{vacant};
+
+use cf_base::{Handle, OutOfMemory};
+use std::alloc::{AllocError, Global};
+use std::marker::Model;
+
+/// How many ids there are.
+const IDS: usize = 65_536;
+
+/// The live ids, each with the handle of the object that it names: a finite map from the ids 0 to
+/// 65,535 to numbers of handles. Each call but `new` takes constant time.
+#[derive(Drop)]
+pub struct IdTable {
+    numbers: Vec<Option<u32>>,
+    live: u32,
+}
+
+impl Model for IdTable {
+    ghost use Rattle.cf_lemmas.specs.Maps.{numbered};
+    ghost use Rattle.id_table.specs.Ids.{Ids, ids_code};
+    ghost use Rattle.id_table.specs.Layout.{IsValid};
+
+    ghost Value = { Ids };
+
+    ghost coded = { ids_code };
+
+    ghost view = { λ t. numbered 0 t.numbers.items };
+
+    ghost invariant = { λ t. IsValid t.numbers.items t.live };
+}
+
+impl IdTable {
+    /// A table in which no id is live. All memory is taken here.
+    pub fn new(alloc: Global) -> Result<IdTable, OutOfMemory>
+        ensures { IfOk result (λ ids. ids ≡ map.empty) }
+    {
+        match vacancies(alloc, IDS) {
+            Ok(numbers) => Ok(IdTable { numbers, live: 0 }),
+            Err(_) => Err(OutOfMemory),
+        }
+    }
+
+    /// How many ids are live.
+    pub fn live(&self) -> u32
+        ensures count { result ≡ map.len self.now }
+        ensures kept { AreWithin self.now }
+    {
+        self.live
+    }
+
+    /// Whether no id is live.
+    pub fn is_empty(&self) -> bool
+        ensures { IsTrue result ↔ (self.now ≡ map.empty) }
+    {
+        self.live == 0
+    }
+
+    /// The handle of an id; none where the id isn't live.
+    pub fn handle(&self, id: u16) -> Option<Handle>
+        ensures found { option_map (λ (h : AHandle). h.0) result ≡ map.get self.now id }
+        ensures kept { AreWithin self.now }
+    {
+        match self.numbers[id as usize] {
+            Some(number) => Some(Handle(number)),
+            None => None,
+        }
+    }
+
+    /// Gives an id a handle, in place of the one that it had.
+    pub fn bind(&mut self, id: u16, h: Handle)
+        ensures { self.new ≡ map.insert self.old id h.0 }
+    {
+        let fresh = self.numbers[id as usize].is_none();
+        self.live += fresh as u32;
+        self.numbers[id as usize] = Some(h.0);
+    }
+
+    /// Takes an id's handle away, where it has one.
+    pub fn unbind(&mut self, id: u16)
+        ensures { self.new ≡ map.remove self.old id }
+    {
+        let gone = self.numbers[id as usize].is_some();
+        self.live -= gone as u32;
+        self.numbers[id as usize] = None;
+    }
+}
+
+/// The numbers of n ids that aren't live.
+fn vacancies(alloc: Global, n: usize) -> Result<Vec<Option<u32>>, AllocError>
+    ensures { IfOk result (λ numbers. numbers.items ≡ vacant n) }
+{
+    vec![in alloc; None; n]
+}
+
+#[cfg(test)]
+mod tests {
+    use super::*;
+    use std::test::Fail;
+
+    #[test]
+    fn an_id_names_what_it_was_last_bound_to(rt: HostRuntime) -> Result<(), Fail> {
+        let Ok(mut ids) = IdTable::new(rt.alloc()) else {
+            panic!(rt; "no memory");
+        };
+        assert!(rt; ids.is_empty());
+        for (id, number, live) in [(0, 7, 1), (65_535, 8, 2), (0, 9, 2)] {
+            ids.bind(id, Handle(number));
+            assert_eq!(rt; ids.handle(id), Some(Handle(number)));
+            assert_eq!(rt; ids.live(), live);
+        }
+        for (id, live) in [(1, 2), (0, 1), (0, 1), (65_535, 0)] {
+            ids.unbind(id);
+            assert_eq!(rt; ids.handle(id), None);
+            assert_eq!(rt; ids.live(), live);
+        }
+        assert!(rt; ids.is_empty());
+        Ok(())
+    }
+}

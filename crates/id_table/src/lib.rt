@@ -1,0 +1,8 @@
+//! The ids of a session, and what it counts of its calls.
+#![tactic(auto)]
+
+mod counters;
+mod ids;
+
+pub use counters::Counters;
+pub use ids::IdTable;
