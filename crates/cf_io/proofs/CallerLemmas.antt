@@ -30,7 +30,7 @@ spells text n h = grind (arith, h)
 pub number_spelled : (text : List ℕ) (n : ℕ) → Spells text n → number_in text ≡ Some n
 number_spelled text n h = grind (arith, h)
 
--- a zero in front changes nothing
+-- a leading zero changes nothing
 pub number_behind_zero : (text : List ℕ) → 0 < length text → number_in (48 ∷ text) ≡ number_in text
 number_behind_zero text some = grind (arith, some)
 

@@ -1,4 +1,4 @@
--- For the layers above: what stands on a line, and what is put piece by piece.
+-- For the layers above: what stands on a line, and what is put chunk by chunk.
 use Rattle.std.proofs.Common.{◌≡◌, ◌∙◌, ℕ, ◌+◌, ◌<◌, ◌≤◌, ◌^◌, ◌++◌, List, [], ◌∷◌, Option, refl, ap, sym, append_assoc, append-nil, subst, arith, length, lit<}
 use Rattle.std.specs.Prelude.{Result, Ok, Err, decimal}
 use Rattle.std.specs.Result.{IsOk}
@@ -37,18 +37,18 @@ puts_then w x y a b (Err e) first (front, lost, parts, is) =
 pub puts_cut : (w y : Told) (a b : List ℕ) (e : Failed) → Puts {T = Unit {0}} w a (Err e) y → Puts {T = Unit {0}} w (a ++ b) (Err e) y
 puts_cut w y a b e (front, lost, parts, is) = (front, lost ++ b, ap (λ xs. xs ++ b) parts ∙ append_assoc front lost b, is)
 
--- a line that was built behind its lead
+-- a line that was built after its lead
 pub puts_line : {T : Type 0} (w y : Told) (lead text line : List ℕ) (r : Result T Failed) → line ≡ lead ++ text → Puts w (line ++ 10 ∷ []) r y
     → Puts w (led lead (said text)) r y
 puts_line {T = T} w y lead text line r is put =
     let P : List ℕ → Type 0 = λ bytes. Puts {T = T} w bytes r y in
     subst P (ap (λ (l : List ℕ). l ++ 10 ∷ []) is ∙ sym (led_said lead text)) put
 
--- three texts behind a lead
+-- three texts after a lead
 pub three : (lead l m n o a b c : List ℕ) → l ≡ lead → m ≡ l ++ a → n ≡ m ++ b → o ≡ n ++ c → o ≡ lead ++ (a ++ (b ++ c))
 three lead l m n o a b c first second third fourth = rw (fourth, third, second, first) (simp append_assoc)
 
--- five texts behind a lead
+-- five texts after a lead
 pub five : (lead l m n o p q a b c d e : List ℕ) → l ≡ lead → m ≡ l ++ a → n ≡ m ++ b → o ≡ n ++ c → p ≡ o ++ d → q ≡ p ++ e
     → q ≡ lead ++ (a ++ (b ++ (c ++ (d ++ e))))
 five lead l m n o p q a b c d e first second third fourth fifth sixth = rw (sixth, fifth, fourth, third, second, first) (simp append_assoc)

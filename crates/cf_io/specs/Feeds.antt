@@ -6,7 +6,7 @@ use Rattle.cf_base.specs.declared.answers.Failed.{Failed}
 abbrev pub last_count : ℕ
 last_count = 18446744073709551615
 
--- the count is greater, or stands at its last value
+-- the count is greater, or saturated
 abbrev pub Rose : ℕ → ℕ → Type 0
 Rose old new = (old < new) ⊎ (new ≡ last_count)
 
@@ -22,11 +22,11 @@ appended written piece = option_map (λ all. all ++ piece) written
 abbrev pub IsSpent : Option (List ℕ) → Type 0
 IsSpent rest = IfSome rest (λ bytes. bytes ≡ [])
 
--- the bytes were put, or a front of them
+-- the bytes were put, or a prefix of them
 abbrev pub Puts : {T : Type 0} → Option (List ℕ) → List ℕ → Result T Failed → Option (List ℕ) → Type 0
 Puts old bytes (Ok u) new = new ≡ appended old bytes
 Puts old bytes (Err e) new = (front : List ℕ) × (lost : List ℕ) × (bytes ≡ front ++ lost) × (new ≡ appended old front)
 
--- at least n more were handed out, or the count stands at its last value
+-- at least n more were handed out, or the count is saturated
 abbrev pub HasGiven : ℕ → ℕ → ℕ → Type 0
 HasGiven old n new = (old + n ≤ new) ⊎ (new ≡ last_count)

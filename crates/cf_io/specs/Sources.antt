@@ -34,7 +34,7 @@ loop_source piece = record { piece = piece; at = 0; given = 0 }
 abbrev pub more_given : ℕ → ℕ → ℕ
 more_given given n = min (given + n) last_count
 
--- a buffer whose front was filled with the first n of these bytes
+-- a buffer whose start was filled with the first n of these bytes
 abbrev pub filled : ℕ → List ℕ → List ℕ → List ℕ
 filled n bytes buf = take n bytes ++ drop n buf
 
@@ -50,7 +50,7 @@ sure_after s n = record { left = drop n s.left; given = more_given s.given n }
 abbrev pub mem_count : MemSource → ℕ → ℕ
 mem_count s room = moved s.schedule (min room (length s.left))
 
--- what the next call answers: none where it fails
+-- what the next call returns: none where it fails
 abbrev pub mem_answer : MemSource → ℕ → Option ℕ
 mem_answer s room = if is_due s.schedule then None else Some (mem_count s room)
 

@@ -9,7 +9,7 @@ Reply = List (List ℕ)
 abbrev pub said : List ℕ → Reply
 said text = text ∷ []
 
--- the lines of a reply as bytes, each after the lead and with a line feed behind it
+-- the lines of a reply as bytes, each after the lead and with a line feed after it
 abbrev pub led : List ℕ → Reply → List ℕ
 led lead [] = []
 led lead (text ∷ rest) = (lead ++ (text ++ 10 ∷ [])) ++ led lead rest
@@ -19,6 +19,6 @@ abbrev pub text_of : List ℕ → List Reply → List ℕ
 text_of lead [] = []
 text_of lead (reply ∷ rest) = led lead reply ++ text_of lead rest
 
--- a text, and behind it a number in decimal
+-- a text, and after it a number in decimal
 abbrev pub with_number : List ℕ → ℕ → List ℕ
 with_number text n = text ++ decimal n

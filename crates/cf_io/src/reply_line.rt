@@ -39,7 +39,7 @@ pub fn push_field(line: &mut Line, text: &[u8], n: u64)
     line.push_number(n).unwrap();
 }
 
-/// Ends the line with a line feed, and puts it. At `Failed` a front of it was put.
+/// Ends the line with a line feed, and puts it. At `Failed` a prefix of it was put.
 pub fn put_line<K: Sink>(line: &mut Line, out: &mut K) -> Result<(), Failed>
     requires { length line.old < line_room }
     ensures puts { Puts (K.written out.old) (line.old ++ 10 ∷ []) result (K.written out.new) }

@@ -4,15 +4,15 @@ ghost use Rattle.cf_io.specs.Feeds.{Rose, appended};
 
 use cf_base::Failed;
 
-/// Where bytes go, piece by piece.
+/// Where bytes go, chunk by chunk.
 pub trait Sink {
-    /// The bytes written, where it tells them.
+    /// The bytes written, where they are observable.
     ghost written: { Self → Option (List ℕ) };
 
     /// How often it has failed; this never falls.
     ghost faults: { Self → ℕ };
 
-    /// Appends a front of the bytes and answers how many: at least one, where there are any.
+    /// Appends a prefix of the bytes and returns how many: at least one, where there are any.
     fn put(&mut self, bytes: &[u8]) -> Result<usize, Failed>
         ensures grows { faults self.old ≤ faults self.new }
         ensures within { IfOk result (λ n. n ≤ length bytes.now) }

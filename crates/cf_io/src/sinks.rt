@@ -9,7 +9,7 @@ use cf_base::{Failed, OutOfMemory};
 use std::alloc::Global;
 use std::marker::Model;
 
-/// Takes everything, and tells nothing of it.
+/// Takes everything, and nothing of it is observable.
 #[derive(Clone, Copy, Debug)]
 pub struct NullSink;
 

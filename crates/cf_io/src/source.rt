@@ -4,18 +4,18 @@ ghost use Rattle.cf_io.specs.Feeds.{Rose, preceded, IsSpent, last_count};
 
 use cf_base::Failed;
 
-/// Where bytes come from, piece by piece.
+/// Where bytes come from, chunk by chunk.
 pub trait Source {
-    /// The bytes left, where it tells them.
+    /// The bytes left, where they are observable.
     ghost rest: { Self → Option (List ℕ) };
 
-    /// How many bytes it has handed out; this stays at the last value of a u64.
+    /// How many bytes it has handed out; this saturates at the last value of a u64.
     ghost given: { Self → ℕ };
 
     /// How often it has failed; this never falls.
     ghost faults: { Self → ℕ };
 
-    /// Fills the front of the buffer and answers how many bytes. For a buffer that isn't empty, 0
+    /// Fills the start of the buffer and returns how many bytes. For a buffer that isn't empty, 0
     /// means the end of the input.
     fn take(&mut self, buf: &mut [u8]) -> Result<usize, Failed>
         ensures grows { faults self.old ≤ faults self.new }

@@ -10,7 +10,7 @@ use crate::source::Source;
 use cf_base::Failed;
 use std::marker::Model;
 
-/// Gives its bytes and never fails; it tells what is left.
+/// Gives its bytes and never fails; what is left is observable.
 #[derive(Drop)]
 pub struct SureSource {
     bytes: Vec<u8>,
@@ -63,7 +63,7 @@ impl Source for SureSource {
     }
 }
 
-/// Gives its bytes, and fails when it is told to; it tells what is left.
+/// Gives its bytes, and fails when it is told to; what is left is observable.
 ///
 /// Its calls are numbered from 0; the number, and the count of the calls that failed, stay at
 /// `2^64 - 1` once they reach it. Call j fails exactly where j is in `fails`. Else it gives as many
@@ -182,7 +182,7 @@ impl Source for LoopSource {
     }
 }
 
-/// Fills the front of the buffer with the first n of these bytes.
+/// Fills the start of the buffer with the first n of these bytes.
 fn hand(bytes: &[u8], n: usize, buf: &mut [u8])
     requires some { n ≤ length bytes.now }
     requires room { n ≤ length buf.old }
@@ -191,7 +191,7 @@ fn hand(bytes: &[u8], n: usize, buf: &mut [u8])
     buf[..n].copy_from_slice(&bytes[..n]);
 }
 
-/// Fills the buffer with the piece over and over, from its byte `at` on, and answers where the
+/// Fills the buffer with the piece over and over, from its byte `at` on, and returns where the
 /// piece goes on.
 fn fill_over(piece: &[u8], at: usize, buf: &mut [u8]) -> usize
     requires { at < length piece.now }

@@ -103,7 +103,7 @@ fn a_sink_fails_and_is_cut_as_told(rt: HostRuntime) -> Result<(), Fail> {
     Ok(())
 }
 
-/// Gives or takes so many bytes at each call, and fails at none; a flush fails where it is told to.
+/// Gives or takes `len` bytes at each call, and fails at none; a flush fails where it is told to.
 #[derive(Drop)]
 struct Pipe {
     moves: Option<usize>,

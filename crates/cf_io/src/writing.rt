@@ -5,8 +5,8 @@ ghost use Rattle.cf_io.specs.Feeds.{Rose, Puts};
 use crate::sink::Sink;
 use cf_base::Failed;
 
-/// Hands over the whole piece, then what is left, until all is taken. At `Failed` a front of the
-/// piece was appended.
+/// Hands over all the bytes, then what is left, until all are taken. At `Failed` a prefix of the
+/// bytes was appended.
 pub fn put_all<K: Sink>(sink: &mut K, bytes: &[u8]) -> Result<(), Failed>
     ensures grows { K.faults sink.old ≤ K.faults sink.new }
     ensures puts { Puts (K.written sink.old) bytes.now result (K.written sink.new) }

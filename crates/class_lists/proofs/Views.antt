@@ -115,7 +115,7 @@ module _ (next previous lens : List ℕ) (pages : ℕ) (s : IsValid next previou
     follower : (first : ℕ) → first ≡ get_or next (pages + k) first → first ≡ get_or next (pages + k) 0
     follower first read = get_or_read next (pages + k) first (let e = s.nodes in let f = within in omega arith) read 0
 
-    -- what follows a list's own node is its front, where it is a page
+    -- what follows a list's own node is its head, where it is a page
     pub front_some : (first : ℕ) → first ≡ get_or next (pages + k) first → first < pages → Some first ≡ slice_get (pages_in v c w) 0
     front_some first read below = rw list_k (go (list_at (chains next pages lens) k) (s.linked.linked k within))
       where
@@ -246,7 +246,7 @@ no_list (suc n) (suc k) = no_list n k
 pub empty_are_empty : (classes pages : ℕ) → AreEmpty (empty_lists classes pages)
 empty_are_empty classes pages c w = no_list (2 * classes) (list_number c w)
 
--- a front stands in its list
+-- a head stands in its list
 pub front_listed : (xs : List ℕ) (p : ℕ) → Some p ≡ slice_get xs 0 → Contains xs p
 front_listed [] p is = absurd (let f : Some p ≡ None = is in cc)
 front_listed (x ∷ xs) p is = (let e : p ≡ x = (let f : Some p ≡ Some x = is in cc) in rw e (contains_head x xs))

@@ -1,4 +1,4 @@
--- How the lists are linked: rings of nodes, each through a node of its own behind those of the pages. No public clause cites this module.
+-- How the lists are linked: rings of nodes, each through a node of its own after those of the pages. No public clause cites this module.
 use Rattle.std.specs.Prelude.{◌≡◌, ℕ, zero, suc, ◌+◌, ◌*◌, ◌/◌, ◌^◌, ◌<◌, List, [], ◌∷◌, length, slice_index, slice_index_or, nat_eq}
 use Rattle.std.specs.List.{Contains, IsDistinct}
 use Rattle.class_lists.specs.PageLists.{PageLists}

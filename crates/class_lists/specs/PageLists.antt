@@ -16,7 +16,7 @@ abbrev pub list_number : ℕ → Which → ℕ
 list_number c Full = 2 * c
 list_number c NotFull = 2 * c + 1
 
--- the pages of one list, the front first
+-- the pages of one list, the head first
 abbrev pub pages_in : PageLists → ℕ → Which → List ℕ
 pages_in v c which = slice_index_or v.lists (list_number c which) []
 

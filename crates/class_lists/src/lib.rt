@@ -1,4 +1,4 @@
-//! The pages of each class, full and not full, in lists that a page joins and leaves at once.
+//! The pages of each class, full and partly full, in lists that a page joins and leaves at once.
 #![tactic(auto)]
 
 ghost use Rattle.std.specs.Prelude.{◌≡◌, ℕ, ◌+◌, ◌*◌, ◌<◌, ◌^◌, ◌↔◌, [], ◌∷◌, IfOk, IfSome, IsNone, length, slice_get, slice_set, vec_len};
@@ -23,7 +23,7 @@ pub enum Which {
 /// One list of pages for each class and `Which`. No page stands in two lists, or twice in one.
 #[derive(Drop)]
 pub struct ClassLists {
-    // Each list is a ring through a node of its own, behind those of the pages.
+    // Each list is a ring through a node of its own, after those of the pages.
     links: Links,
     lens: Vec<u32>,
     pages: u32,
@@ -51,7 +51,7 @@ impl Model for ClassLists {
 }
 
 impl ClassLists {
-    /// The lists of so many classes for so many pages, all empty. Nodes are numbered in 32 bits, and
+    /// The lists of `classes` classes for `pages` pages, all empty. Nodes are numbered in 32 bits, and
     /// more than these number are refused as out of memory.
     pub fn new(alloc: Global, classes: u32, pages: u32) -> Result<ClassLists, OutOfMemory>
         ensures lists { IfOk result (λ lists. lists ≡ empty_lists classes pages) }
@@ -71,7 +71,7 @@ impl ClassLists {
         Ok(ClassLists { links, lens, pages })
     }
 
-    /// The front of a list; none where the list is empty.
+    /// The head of a list; none where the list is empty.
     pub fn front(&self, c: u32, which: Which, steps: &mut Steps) -> Option<u32>
         requires class { c < self.now.classes }
         ensures front { result ≡ slice_get (pages_in self.now c which) 0 }
@@ -99,7 +99,7 @@ impl ClassLists {
         self.lens[number_of(c, which) as usize]
     }
 
-    /// Makes a page that is in no list the front of this one.
+    /// Makes a page that is in no list the head of this one.
     pub fn push(&mut self, c: u32, which: Which, page: u32, steps: &mut Steps)
         requires class { c < self.old.classes }
         requires page { page < self.old.pages }

@@ -48,7 +48,7 @@ cf_is_simple app h = rw h.app_is (simple_shape h.modes h.managers)
 pub cf_is_free : (app : _) → IsCfApp app → is_simple_and_free app ≡ true
 cf_is_free app h = rw h.app_is (free_shape h.modes h.managers)
 
--- an error of another kind than want of memory comes only where a fault is found
+-- an error other than out of memory comes only where a fault is found
 pub another_kind_is_found : (kinds : Kinds) (e : Error) → HasKind kinds e → (kind_of e ≡ kind.OutOfMemory → ⊥) → kinds ≢ []
 another_kind_is_found [] e (inl wanting) other none = other wanting
 another_kind_is_found [] e (inr among) other none = among

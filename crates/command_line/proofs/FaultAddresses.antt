@@ -1,4 +1,4 @@
--- Where the names of an argument lie changes no fault that is found in the words.
+-- Where the names of an argument lie changes no fault that is found in the arguments.
 use Rattle.std.proofs.Common.{◌≡◌, ◌∙◌, ◌&&◌, ℕ, Bool, zero, suc, not, List, [], ◌∷◌, map, length, refl, ap, ap₂, Option, Some, None, is_some}
 use Rattle.std.proofs.Common.{if◌then◌else◌}
 use Rattle.std.specs.List.{list_any}
@@ -57,12 +57,12 @@ module _ (c : List Rule) (again : Bool) where
 
   bundle_step_fault-rebased : (o : Option ℕ) (flags : Text) (skip : ℕ) (h : Held) (f g : Text → ℕ → Held → Kinds)
       → ((t : Text) (n : ℕ) (x : Held) → f t n x ≡ g t n x) → bundle_step_fault (map rebased c) again o flags skip h f
-          ≡ bundle_step_fault c again o flags skip h g
+      ≡ bundle_step_fault c again o flags skip h g
   bundle_step_fault-rebased None flags skip h f g same = refl
   bundle_step_fault-rebased (Some x) flags zero h f g same =
       let rest : Text = drop (length (encode_utf8 x)) flags in
       ap (λ o. short_fault (map rebased c) again o rest h (f rest 0)) (by_short c x)
-          ∙ short_fault-rebased (arg_by_short c x) rest h (f rest 0) (g rest 0) (same rest 0)
+      ∙ short_fault-rebased (arg_by_short c x) rest h (f rest 0) (g rest 0) (same rest 0)
   bundle_step_fault-rebased (Some x) flags (suc skip) h f g same = same (drop (length (encode_utf8 x)) flags) skip h
 
   flags_fault-rebased : (k : ℕ) (flags : Text) (skip : ℕ) (h : Held) → flags_fault (map rebased c) again k flags skip h ≡ flags_fault c again k flags skip h
@@ -115,8 +115,8 @@ module _ (s : Shape) where
   turn_fault-rebased names w word =
       let met = word_met (map rebased s.rules) names w.is_trailing w.waiting w.position word w.held in
       ap₂ (λ x y. if is_some w.stopped then [] else or_else x y) (word_fault-rebased names w.is_trailing w.waiting word w.held)
-          (step_fault-rebased w.position met.0 met.1
-          ∙ ap (λ (p : Held × Step). step_fault s w.position p.0 p.1) (word_met-rebased s.rules names w.is_trailing w.waiting w.position word w.held))
+      (step_fault-rebased w.position met.0 met.1
+      ∙ ap (λ (p : Held × Step). step_fault s w.position p.0 p.1) (word_met-rebased s.rules names w.is_trailing w.waiting w.position word w.held))
 
   walk_fault-rebased : (names : Names) (w : Walk) (words : List Text) → walk_fault (rebased_shape s) names w words ≡ walk_fault s names w words
   unfolding walk_fault
@@ -137,14 +137,14 @@ end_fault s has below h = or_else below (or_else (settle_fault s.rules s.args_ov
 end_fault-rebased : (s : Shape) (has : Bool) (below : Kinds) (h : Held) → end_fault (rebased_shape s) has below h ≡ end_fault s has below h
 end_fault-rebased s has below h = ap (or_else below) (ap₂ or_else (settle_fault-rebased s.rules s.args_override_self h) (ap₂ or_else
     (defaults_fault-rebased s.rules (settled (map rebased s.rules) h).rows
-        ∙ ap (λ rows. defaults_fault rows s.rules) (settled_rows-rebased s.rules h.pending h.rows))
+    ∙ ap (λ rows. defaults_fault rows s.rules) (settled_rows-rebased s.rules h.pending h.rows))
     (check_fault-rebased s (finished (map rebased s.rules) h) has ∙ ap (λ rows. check_fault s rows has) (finished-rebased s.rules h))))
 
 level_fault-rebased : (s : Shape) (names : Names) (h : Held) (words : List Text) (has : Bool) (below : Kinds)
     → level_fault (rebased_shape s) names h words has below ≡ level_fault s names h words has below
 level_fault-rebased s names h words has below = ap₂ or_else (walk_fault-rebased s names (walk_from h) words)
     (end_fault-rebased s has below (walk (map rebased s.rules) names h words).held
-        ∙ ap (λ (w : Walk). end_fault s has below w.held) (walk-rebased s.rules names (walk_from h) words))
+    ∙ ap (λ (w : Walk). end_fault s has below w.held) (walk-rebased s.rules names (walk_from h) words))
 
 -- the command, with the names of its own arguments at address 0
 abbrev pub rebased_app : App → App
@@ -155,4 +155,4 @@ faults-rebased a h words =
     let stop = (walk (map rebased a.top.rules) (names_of a) h words).stopped in
     level_fault-rebased a.top (names_of a) h words (is_some (entered a stop)) (entered_fault a stop)
     ∙ ap (λ (w : Walk). level_fault a.top (names_of a) h words (is_some (entered a w.stopped)) (entered_fault a w.stopped))
-        (walk-rebased a.top.rules (names_of a) (walk_from h) words)
+    (walk-rebased a.top.rules (names_of a) (walk_from h) words)

@@ -1,4 +1,4 @@
--- Words that are known, read by the command whose names lie at address 0.
+-- Arguments that are known, read by the command whose names lie at address 0.
 use Rattle.std.proofs.Common.{◌≡◌, List, [], ◌∷◌, refl, codes}
 use Rattle.clap.specs.Words.{Text}
 use Rattle.clap.specs.declared.error.kind.ErrorKind.TheVariants as kind

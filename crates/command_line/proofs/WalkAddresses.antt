@@ -1,4 +1,4 @@
--- Where the names of an argument lie changes nothing in the walk over the words.
+-- Where the names of an argument lie changes nothing in the walk over the arguments.
 use Rattle.std.proofs.Common.{◌≡◌, ◌∙◌, ◌&&◌, ◌||◌, ℕ, Bool, zero, suc, false, not, List, [], ◌∷◌, map, length, refl, sym, ap, ap₂, Option, Some, None}
 use Rattle.std.proofs.Common.{is_some, if◌then◌else◌}
 use Rattle.std.specs.List.{fold}
@@ -73,12 +73,12 @@ module _ (c : List Rule) where
 
   bundle_step-rebased : (o : Option ℕ) (flags : Text) (skip : ℕ) (so_far : Outcome) (h : Held) (f g : Text → ℕ → Outcome → Held → Held × Outcome)
       → ((t : Text) (n : ℕ) (x : Outcome) (y : Held) → f t n x y ≡ g t n x y) → bundle_step (map rebased c) o flags skip so_far h f
-          ≡ bundle_step c o flags skip so_far h g
+      ≡ bundle_step c o flags skip so_far h g
   bundle_step-rebased None flags skip so_far h f g same = refl
   bundle_step-rebased (Some x) flags zero so_far h f g same =
       let rest : Text = drop (length (encode_utf8 x)) flags in
       ap (λ o. short_met (map rebased c) o rest h (f rest 0 done)) (by_short x)
-          ∙ short_met-rebased (arg_by_short c x) rest h (f rest 0 done) (g rest 0 done) (same rest 0 done)
+      ∙ short_met-rebased (arg_by_short c x) rest h (f rest 0 done) (g rest 0 done) (same rest 0 done)
   bundle_step-rebased (Some x) flags (suc skip) so_far h f g same = same (drop (length (encode_utf8 x)) flags) skip so_far h
 
   bundle_met-rebased : (k : ℕ) (flags : Text) (skip : ℕ) (so_far : Outcome) (h : Held) → bundle_met (map rebased c) k flags skip so_far h

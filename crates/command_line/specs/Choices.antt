@@ -1,4 +1,4 @@
--- What the words choose, by `clap`'s definitions of the matches.
+-- What the arguments choose, by `clap`'s definitions of the matches.
 use Rattle.std.specs.Prelude.{◌≡◌, ◌≢◌, ⊤, ℕ, List, [], Option, Some, None, Result, Ok, Err, codes, false, if◌then◌else◌}
 use Rattle.std.specs.Str.Parse.{digits_value, without_leading_plus}
 use Rattle.cf_base.specs.declared.kind.Kind.{Kind}
@@ -34,26 +34,26 @@ choice_of rows = record {
   count = u64_in (one_of (codes "count") rows);
 }
 
--- The command finds no fault in the words. Which references to its names it has doesn't matter, here and below: all such commands read alike.
+-- The command finds no fault in the arguments. Which references to its names it has doesn't matter, here and below: all such commands read alike.
 pub record AreAccepted (words : List Text) : Type 0 where
   pub app : App
   pub is_app : IsCfApp app
   pub accepted : fault_of app words ≡ []
 
--- the command finds no fault in the words, and they choose this
+-- the command finds no fault in the arguments, and they choose this
 pub record Chooses (words : List Text) (choice : Choice) : Type 0 where
   pub app : App
   pub is_app : IsCfApp app
   pub accepted : fault_of app words ≡ []
   pub chosen : choice ≡ choice_of (matches_of app words)
 
--- the command finds a fault in the words
+-- the command finds a fault in the arguments
 pub record AreRefused (words : List Text) : Type 0 where
   pub app : App
   pub is_app : IsCfApp app
   pub refused : fault_of app words ≢ []
 
--- the words choose this, or are refused; want of memory may always come
+-- the arguments choose this, or are refused; out of memory may always come
 abbrev pub ReadsAs : List Text → Result Choice WordsFault → Type 0
 ReadsAs words (Ok choice) = Chooses words choice
 ReadsAs words (Err Refused) = AreRefused words

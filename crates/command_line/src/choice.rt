@@ -1,4 +1,4 @@
-//! What the words choose.
+//! What the arguments choose.
 
 use cf_base::Kind;
 
@@ -9,7 +9,7 @@ pub enum Mode {
     Run,
 }
 
-/// What the words chose: the mode, the manager's kind, and the seed and the number of commands of a
+/// What the arguments chose: the mode, the manager's kind, and the seed and the number of commands of a
 /// generated script.
 #[derive(Clone, Copy, Debug, PartialEq, Eq)]
 pub struct Choice {
@@ -22,8 +22,8 @@ pub struct Choice {
 /// Why there is no choice.
 #[derive(Clone, Copy, Debug, PartialEq, Eq)]
 pub enum WordsFault {
-    /// `clap` refuses the words; a request for help is refused too.
+    /// `clap` refuses the arguments; a request for help is refused too.
     Refused,
-    /// Memory was wanting.
+    /// Out of memory.
     OutOfMemory,
 }

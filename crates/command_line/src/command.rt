@@ -1,4 +1,4 @@
-//! The one command that reads the words, and its arguments.
+//! The one command that reads the arguments, and its arguments.
 ghost use Rattle.std.specs.Prelude.{◌≡◌, IfOk, codes, false};
 ghost use Rattle.clap.specs.Words.{app_of, rule_of};
 ghost use Rattle.command_line.specs.Command.{IsCfApp, count_rule, manager_rule, mode_rule, seed_rule};

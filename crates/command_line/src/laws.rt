@@ -1,5 +1,5 @@
-//! Laws of the words: they are read in one way, whichever references stand for the names of the
-//! command, and words that are known are read so.
+//! Laws of the arguments: they are read in one way, whichever references stand for the names of the
+//! command, and arguments that are known are read so.
 ghost use Rattle.std.specs.Prelude.{◌⊎◌, ◌≡◌, ◌∷◌, [], Err, List, Ok, Result, codes};
 ghost use Rattle.clap.specs.Words.{App, Text, fault_of, matches_of};
 ghost use Rattle.command_line.specs.Choices.{AreAccepted, AreRefused, Chooses, ReadsAs, chosen};
@@ -15,7 +15,7 @@ pub fn all_such_commands_read_alike()
     ensures matches { (a b : App) (words : List Text) → IsCfApp a → IsCfApp b → matches_of b words ≡ matches_of a words }
 {}
 
-/// So no words are both refused and accepted,
+/// So no arguments are both refused and accepted,
 pub fn refused_words_are_not_chosen()
     ensures accepted { (words : List Text) → AreRefused words → ¬ AreAccepted words }
     ensures chosen { (words : List Text) (choice : Choice) → AreRefused words → ¬ Chooses words choice }
@@ -26,13 +26,13 @@ pub fn words_choose_once()
     ensures { (words : List Text) (one other : Choice) → Chooses words one → Chooses words other → other ≡ one }
 {}
 
-/// Words that choose something are read as it, where memory is found.
+/// Arguments that choose something are read as it, where memory is found.
 pub fn known_words_are_read()
     ensures { (words : List Text) (choice : Choice) (result : Result Choice WordsFault) → Chooses words choice
         → ReadsAs words result → (result ≡ Ok choice) ⊎ (result ≡ Err OutOfMemory) }
 {}
 
-/// And words that are refused are read so.
+/// And arguments that are refused are read so.
 pub fn known_words_are_refused()
     ensures { (words : List Text) (result : Result Choice WordsFault) → AreRefused words
         → ReadsAs words result → (result ≡ Err Refused) ⊎ (result ≡ Err OutOfMemory) }
@@ -43,7 +43,7 @@ pub fn no_words_are_taken()
     ensures { (name : Text) → Chooses (name ∷ []) (chosen 0 1000) }
 {}
 
-/// These words choose what they say.
+/// These arguments choose what they say.
 pub fn words_choose_what_they_say()
     ensures { (name : Text) → Chooses
         (name ∷ codes "run" ∷ codes "--manager=cf" ∷ codes "--seed" ∷ codes "5" ∷ codes "--count=7" ∷ [])

@@ -1,4 +1,4 @@
-//! The words of the command line to a choice.
+//! The arguments of the command line to a choice.
 ghost use Rattle.std.specs.Prelude.{◌≡◌, map, option_map, string_bytes};
 ghost use Rattle.clap.specs.Words.{found_of, one_text};
 ghost use Rattle.command_line.specs.Choices.{ReadsAs, kind_named as kind_by, mode_named as mode_by};
@@ -35,7 +35,7 @@ fn u64_in(matches: &ArgMatches<'_>, id: &str) -> u64
     matches.get_one::<u64>(id).unwrap_or(0)
 }
 
-/// What the words of the command line choose, of which the first is the program's name. They are
+/// What the arguments of the command line choose, of which the first is the program's name. They are
 /// refused exactly where `clap` refuses them for another cause than memory.
 // a goal that no proof answers is refused at once: a search for a command would be long
 #[tactic(none)]

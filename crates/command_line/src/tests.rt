@@ -1,4 +1,4 @@
-//! Words that are taken, with what they choose, and words that are refused.
+//! Arguments that are taken, with what they choose, and arguments that are refused.
 use crate::{Choice, Mode, WordsFault, read_words};
 use cf_base::Kind;
 use std::alloc::{AllocError, Global};

@@ -7,7 +7,7 @@ use Rattle.cf_lemmas.specs.Maps.{numbered}
 abbrev pub vacant : ℕ → List (Option ℕ)
 vacant n = replicate n None
 
--- each id has its place, and as many as are live were counted
+-- each id has its address, and as many as are live were counted
 pub record IsValid (numbers : List (Option ℕ)) (live : ℕ) : Type 0 where
   pub long : length numbers ≡ 2 ^ 16
   pub counted : live ≡ len (numbered 0 numbers)

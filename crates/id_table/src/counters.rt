@@ -28,7 +28,7 @@ impl Counters {
         }
     }
 
-    /// Counts an object that moved, if one did, from a slot of so many words. Both counts stay at
+    /// Counts an object that moved, if one did, from a slot of `slot_words` words. Both counts stay at
     /// `2^64 - 1`.
     pub fn count_move(&mut self, moved: Option<Handle>, slot_words: u32)
         ensures { self.new ≡ with_move self.old moved slot_words }

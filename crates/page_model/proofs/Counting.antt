@@ -118,7 +118,7 @@ module _ (p : Paging) where
 
 -- Two arrangements whose objects of the class are the same on all pages but one.
 module _ (p : Paging) (m n : Held) (c page : ℕ) (others : (g : ℕ) → g ≢ page → objects_on p n c g ≡ objects_on p m c g) where
-  -- the pages that are not full
+  -- the partly full pages
   pub not_full-changed : page < p.pages → not_full_pages p n c + one (part_full (objects_on p m c page) (slots_of p c)) ≡ not_full_pages p m c + one (part_full (objects_on p n c page) (slots_of p c))
   unfolding not_full_pages
   not_full-changed lt =

@@ -27,7 +27,7 @@ module _ (p : Paging) (m : Held) (h : ℕ) (x : Placed) (some : get m h ≡ Some
       let i = objects_on-removed c (page_of p x.place) in
       omega arith
 
-  -- what a free without a move asks: the page wasn't full, or it has one slot, or its class may have one more page that is not full
+  -- what a free without a move asks: the page wasn't full, or it has one slot, or its class may have one more partly full page
   unfoldable pub MayLeave : Type 0
   MayLeave = (objects_on p m (class_at p x) (page_of p x.place) < slots_of p (class_at p x))
       ⊎ ((slots_of p (class_at p x) ≤ 1) ⊎ (not_full_pages p m (class_at p x) < bound_of p (class_at p x)))
@@ -66,7 +66,7 @@ module _ (p : Paging) (m : Held) (h : ℕ) (x : Placed) (some : get m h ≡ Some
     few_not_full = few_after_free ((s.slots h x some).page) s.few_not_full may;
   }
 
-  -- another object of the class at the same place, instead of x
+  -- another object of the class at the same address, instead of x
   module _ (q : ℕ) (bytes : List ℕ) (free : get (remove m h) q ≡ None) (class : class_at p (record { place = x.place; bytes = bytes }) ≡ class_at p x) where
     pub objects_on-exchanged : (c page : ℕ) → objects_on p (insert (remove m h) q (record { place = x.place; bytes = bytes })) c page ≡ objects_on p m c page
     objects_on-exchanged c page =

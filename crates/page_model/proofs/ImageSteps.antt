@@ -39,7 +39,7 @@ module _ (extent : ℕ → ℕ) (m : Held) (words : List ℕ) (im : IsImageOver 
       written (suc i) l = get_or-set_other words a (a + suc i) (header_word h n) 0 (omega arith) ∙ free_words a (extent n) free (suc i) l ∙ sym (fresh_word h n i)
 
   module _ (words' : List ℕ) where
-    -- other bytes at the same place, in as many words
+    -- other bytes at the same address, in as many words
     pub image_written : (x : Placed) (bytes : List ℕ) → get m h ≡ Some x → IsApartFrom extent m h x → extent (length bytes) ≡ extent (length x.bytes) → Rewrites words words' (record { from = x.place; count = extent (length x.bytes) }) (object_word h bytes) → IsImageOver extent (insert m h (record { place = x.place; bytes = bytes })) words'
     image_written x bytes is-x free len re =
         image_replaced extent m words words' im h x (record { place = x.place; bytes = bytes }) is-x free (λ q y p ne. rw len (free q y p ne))
@@ -47,7 +47,7 @@ module _ (extent : ℕ → ℕ) (m : Held) (words : List ℕ) (im : IsImageOver 
         (λ i l out. absurd (let out' : IsOutside x.place (extent (length x.bytes)) (x.place + i) = rw len at out in elim out' [ inl z ↦ omega arith | inr z ↦ omega arith ]))
         (λ w out _. re.others w out)
 
-    -- the same bytes at another place
+    -- the same bytes at another address
     pub image_moved : (x : Placed) (b : ℕ) → get m h ≡ Some x → IsApartFrom extent m h x → IsApartFrom extent m h (record { place = b; bytes = x.bytes }) → MovesWords words words' (record { from = x.place; count = extent (length x.bytes) }) b → IsImageOver extent (insert m h (record { place = b; bytes = x.bytes })) words'
     image_moved x b is-x free_x free_y mo =
         image_replaced extent m words words' im h x (record { place = b; bytes = x.bytes }) is-x free_x free_y

@@ -54,7 +54,7 @@ module _ (extent : ℕ → ℕ) (m : Held) (words words' : List ℕ) (im : IsIma
     ]);
   }
 
-  -- an object keeps its number and gets another place or other bytes
+  -- an object keeps its number and gets another address or other bytes
   pub image_replaced : (x y : Placed) → get m h ≡ Some x → IsApartFrom extent m h x → IsApartFrom extent m h y
       → ((i : ℕ) → i < extent (length y.bytes) → get_or words' (y.place + i) 0 ≡ object_word h y.bytes i)
       → ((i : ℕ) → i < extent (length x.bytes) → IsOutsideOf extent y (x.place + i) → get_or words' (x.place + i) 0 ≡ 0)

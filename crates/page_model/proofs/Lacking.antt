@@ -185,7 +185,7 @@ module _ (p : Paging) (m : Held) (s : IsSound p m) where
     | inr none ↦ absurd (let e = all_counted (λ g. nat_lt 0 (standing_on p m g)) 0 p.pages (sym used_is ∙ is) page (omega arith) (omega arith) in let z = not_less_counts_none 0 (standing_on p m page) none in omega arith)
   ]
 
-  -- a class lacks room exactly where none of its pages is not full and no page is free
+  -- a class lacks room exactly where none of its pages is partly full and no page is free
   pub lacks_room_is : (c : ℕ) → LacksRoom p m c ↔ ((not_full_pages p m c ≡ 0) × (free_pages p m ≡ 0))
   lacks_room_is c = (
     (λ l. (l.full, (let e = none_free l.taken in omega arith))),

@@ -85,7 +85,7 @@ module _ (p : Paging) (ok : IsPaging p) (c : ℕ) (lt : c < classes p) where
     pub within : (page : ℕ) → objects_on p m c page ≤ slots_of p c
     within page = page_within p c page m size_some s
 
-    -- the pages of the class are those that are not full and those that are
+    -- the pages of the class are the partly full ones and the full ones
     pub sound_stand : Stand (home_pages p m c) (live p (objects m) c) (slots_of p c) (bound_of p c) (not_full_pages p m c)
     unfolding home_pages not_full_pages
     sound_stand =

@@ -36,7 +36,7 @@ can_hold_bound p n m k pos (q, s) = elim (cases_lt (n / m) (p - q)) [
   | inr less ↦ omega (arith, s.few)
 ]
 
--- with one page not full there is one number of pages
+-- with one page partly full there is one number of pages
 pub can_hold_one : (p n m : ℕ) → 0 < m → CanHold p n m 1 → p ≡ ceil_div n m
 can_hold_one p n m pos (zero, s) =
     let low = s.least in let high = s.most in

@@ -1,4 +1,4 @@
--- What the steps do to the bytes alone, to the places alone, and to the objects on each page.
+-- What the steps do to the bytes alone, to the addresses alone, and to the objects on each page.
 use Rattle.std.proofs.Common.{◌≡◌, ◌≢◌, ℕ, ◌+◌, List, Option, Some, None, length, replicate, arith, sym, ◌∙◌, inl, inr, ap}
 use Rattle.std.specs.Prelude.{option_map}
 use Rattle.std.proofs.lemmas.Bool.{cases_eq}
@@ -28,7 +28,7 @@ malloc_objects m h a n = map_values-insert (λ (x : Placed). x.bytes) m h (zeros
 pub malloc_places : (m : Held) (h a n : ℕ) → places (insert m h (zeros_at a n)) ≡ insert (places m) h a
 malloc_places m h a n = map_values-insert (λ (x : Placed). x.place) m h (zeros_at a n)
 
--- a free that moves nothing changes no other place
+-- a free that moves nothing changes no other address
 pub still_places : (m : Held) (h a : ℕ) → places (without m h a None) ≡ remove (places m) h
 still_places m h a = map_values-remove (λ (x : Placed). x.place) m h
 

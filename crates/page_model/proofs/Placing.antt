@@ -30,7 +30,7 @@ module _ (p : Paging) (m : Held) (h : ℕ) (x : Placed) (none : get m h ≡ None
     | inr bare ↦ absurd (nothing_on p m (page_of p x.place) bare.1 q y e is)
   ]
 
-  -- the pages that are not full, after one object more
+  -- the partly full pages, after one object more
   few_after : IsPaging p → IsFreePlace p m (length x.bytes) x.place → ((c : ℕ) → c < classes p → not_full_pages p m c ≤ bound_of p c)
       → (c : ℕ) → c < classes p → not_full_pages p (insert m h x) c ≤ bound_of p c
   few_after ok f few c lt = elim (cases_eq (class_at p x) c) [

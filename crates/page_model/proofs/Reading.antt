@@ -1,4 +1,4 @@
--- The bytes that stand at a place are those of the object there.
+-- The bytes that stand at an address are those of the object there.
 use Rattle.std.proofs.Common.{◌≡◌, ℕ, zero, suc, ◌+◌, ◌*◌, ◌/◌, ◌%◌, ◌^◌, ◌<◌, List, [], ◌∷◌, Option, Some, None, length, get_or, take, drop, arith, lit<, sym, ◌∙◌, inl, inr, ap, refl}
 use Rattle.std.specs.Prelude.{option_map}
 use Rattle.std.proofs.lemmas.List.{get_or-take, get_or-drop, get_or_past, length-take}
@@ -30,7 +30,7 @@ bytes_part m n v b i = elim (cases_lt i m) [
   | inr past ↦ rw (get_or_past (take m (drop n v)) i 0 (simp length-take (omega arith))) (lit< tt)
 ]
 
--- the bytes at a place are those of the object whose words stand there
+-- the bytes at an address are those of the object whose words stand there
 pub bytes_of_held : (words : List ℕ) (h a : ℕ) (v : List ℕ) → h < 2 ^ 32 → AreBytes v → ((i : ℕ) → i < need (length v) → get_or words (a + i) 0 ≡ object_word h v i) → bytes_at words a ≡ v
 unfolding bytes_at
 bytes_of_held words h a v small bytes held =
@@ -49,7 +49,7 @@ bytes_of_held words h a v small bytes held =
     ∙ byte_of_word (take 8 (drop (8 * (k / 8)) v)) (k % 8) (bytes_part 8 (8 * (k / 8)) v bytes)
     ∙ get_or-take 8 (drop (8 * (k / 8)) v) (k % 8) 0 (omega arith) ∙ get_or-drop (8 * (k / 8)) v (k % 8) 0 ∙ ap (λ x. get_or v x 0) back)
 
--- what is held is determined by the words and the places
+-- what is held is determined by the words and the addresses
 pub held_from_image : (m : Held) (at : FinMap nat_cmp ℕ) (words : List ℕ) → IsImageOver need m words → at ≡ places m → AreStorable m → held_at words at ≡ m
 held_from_image m at words im e good = equal_maps _ _ (λ q. get-map_values (λ a. record { place = a; bytes = bytes_at words a }) at q ∙ ap (λ p. option_map (λ a. record { place = a; bytes = bytes_at words a }) (get p q)) e ∙ ap (option_map (λ a. record { place = a; bytes = bytes_at words a })) (get-map_values (λ (x : Placed). x.place) m q) ∙ go q (get m q) refl)
   where
@@ -69,7 +69,7 @@ bytes_at-AreBytes words a i = elim (cases_lt i (get_or words a 0 / 2 ^ 32)) [
   | inr past ↦ rw (get_or_past (bytes_at words a) i 0 (simp length-map-range_with_len past)) (lit< tt)
 ]
 
--- what stands at the places has these places, and bytes
+-- what stands at the addresses has these addresses, and bytes
 pub places-held_at : (words : List ℕ) (at : FinMap nat_cmp ℕ) → places (held_at words at) ≡ at
 places-held_at words at = equal_maps _ _ (λ q. get-map_values (λ (x : Placed). x.place) (held_at words at) q ∙ ap (option_map (λ (x : Placed). x.place)) (get-map_values (λ a. record { place = a; bytes = bytes_at words a }) at q) ∙ go (get at q))
   where

@@ -26,7 +26,7 @@ multiples_apart s x y p q lt =
       | inr above ↦ absurd (let m : y / s * s ≤ x / s * s = mul-le (y / s) s (x / s) s above (omega arith) in omega arith)
     ]
 
--- the same with the page in front
+-- the same with the page first
 page_apart : (P a b : ℕ) → a / P < b / P → (n : ℕ) → a % P + n ≤ P → a + n ≤ b
 page_apart P a b lt n fits =
     let ea : a / P * P + a % P ≡ a = div-add-mod' a P in
@@ -80,7 +80,7 @@ object_inside p m s h x e = slot_inside p (class_at p x) x.place (s.slots h x e)
 pub sound_apart_from : (p : Paging) (m : Held) → IsSound p m → (h : ℕ) (x : Placed) → get m h ≡ Some x → IsApartFrom (slot_for p) m h x
 sound_apart_from p m s h x e q y f ne = (sound_apart p m s).pairs h x q y e f ne
 
--- y goes from its place to that of x, which goes
+-- y goes from its address to that of x, which goes
 pub image_exchanged : (extent : ℕ → ℕ) (m : Held) (words words' : List ℕ) → IsImageOver extent m words → (h q : ℕ) (x y : Placed) → get m h ≡ Some x → get m q ≡ Some y → q ≢ h
     → IsApartFrom extent m h x → IsApartFrom extent m q y → extent (length y.bytes) ≡ extent (length x.bytes)
     → MovesWords words words' (record { from = y.place; count = extent (length y.bytes) }) x.place

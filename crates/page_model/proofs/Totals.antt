@@ -100,7 +100,7 @@ absent j (y ∷ js) never = go (nat_eq j y) refl (λ n. absent j js n)
     go true e ih = absurd (never (rw e))
     go false e ih = (e, ih (λ p. never (rw e p)))
 
--- places whose page, class and slot agree are one
+-- addresses whose page, class and slot agree are one
 one_place : (P size a b : ℕ) → a / P ≡ b / P → a % P % size ≡ 0 → b % P % size ≡ 0 → a % P / size ≡ b % P / size → a ≡ b
 one_place P size a b page p q slot =
     let ea = div-add-mod' a P in
@@ -119,7 +119,7 @@ slot_below P size a pos p fits =
       | inr le ↦ absurd (let x : P / size * size ≤ a % P / size * size = mul-le (P / size) size (a % P / size) size le (omega arith) in omega arith)
     ]
 
--- what the places of a class need: slots of that size, and no place twice
+-- what the addresses of a class need: slots of that size, and no address twice
 record HasSlots (p : Paging) (c : ℕ) (m : Held) : Type 0 where
   aligned : (q : ℕ) (x : Placed) (page : ℕ) → get m q ≡ Some x → is_on p c page x ≡ true → x.place % p.page_words % slot_words p c ≡ 0
   fits : (q : ℕ) (x : Placed) (page : ℕ) → get m q ≡ Some x → is_on p c page x ≡ true → x.place % p.page_words + slot_words p c ≤ p.page_words

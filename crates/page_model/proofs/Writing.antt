@@ -84,7 +84,7 @@ module _ (v : List ℕ) (at : ℕ) (bytes : List ℕ) (fits : at + length bytes 
       let d = length-drop (at + length bytes) v in
       omega arith
 
-  -- the bytes before, those that are written, and the bytes behind
+  -- the bytes before, those that are written, and the bytes after
   pub written_before : (k : ℕ) → k < at → get_or (written v at bytes) k 0 ≡ get_or v k 0
   written_before k lt = (let c = length-take at v in get_or_append_left (take at v) (bytes ++ drop (at + length bytes) v) 0 k (omega arith) ∙ get_or-take at v k 0 lt)
 

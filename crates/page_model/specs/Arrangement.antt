@@ -65,14 +65,14 @@ pub record IsSlotAt (p : Paging) (c a : ℕ) : Type 0 where
   pub aligned : a % p.page_words % slot_words p c ≡ 0
   pub fits : a % p.page_words + slot_words p c ≤ p.page_words
 
--- Each object stands in a slot of its class, no two at one place, those of one page in one class; and no class has more pages that are not full than its bound.
+-- Each object stands in a slot of its class, no two at one address, those of one page in one class; and no class has more partly full pages than its bound.
 pub record IsSound (p : Paging) (m : Held) : Type 0 where
   pub slots : (h : ℕ) (x : Placed) → get m h ≡ Some x → IsSlotAt p (class_at p x) x.place
   pub own_place : (h : ℕ) (x : Placed) (q : ℕ) (y : Placed) → get m h ≡ Some x → get m q ≡ Some y → q ≢ h → x.place ≢ y.place
   pub one_class : (h : ℕ) (x : Placed) (q : ℕ) (y : Placed) → get m h ≡ Some x → get m q ≡ Some y → page_of p x.place ≡ page_of p y.place → class_at p x ≡ class_at p y
   pub few_not_full : (c : ℕ) → c < classes p → not_full_pages p m c ≤ bound_of p c
 
--- there is no room for class c: none of its pages is not full, and every page holds an object
+-- there is no room for class c: none of its pages is partly full, and every page holds an object
 pub record LacksRoom (p : Paging) (m : Held) (c : ℕ) : Type 0 where
   pub full : not_full_pages p m c ≡ 0
   pub taken : (page : ℕ) → page < p.pages → 0 < standing_on p m page

@@ -2,7 +2,7 @@
 use Rattle.std.specs.Prelude.{ℕ, zero, suc, Bool, true, false, ◌&&◌, ◌+◌, ◌-◌, ◌*◌, ◌/◌, ◌≤◌, nat_le}
 use Rattle.std.specs.List.{range_with_len, list_any}
 
--- n objects stand on p pages of m slots, q of them not full, and no page is empty
+-- n objects stand on p pages of m slots, q of them partly full, and no page is empty
 pub record Stand (p n m k q : ℕ) : Type 0 where
   pub few : q ≤ k
   pub within : q ≤ p
@@ -26,6 +26,6 @@ abbrev pub greatest : (ℕ → Bool) → ℕ → ℕ
 greatest test zero = 0
 greatest test (suc p) = elim (test (suc p)) [ true ↦ suc p | false ↦ greatest test p ]
 
--- the most pages of m slots on which n objects can stand, at most k of them not full
+-- the most pages of m slots on which n objects can stand, at most k of them partly full
 unfoldable pub most_pages : ℕ → ℕ → ℕ → ℕ
 most_pages n m k = greatest (λ p. can_hold p n m k) (n / m + k)

@@ -32,7 +32,7 @@ found m (Some q) = get m q
 abbrev pub frames_after : Paging → Held → Leaves → List ℕ → List ℕ
 frames_after p old after frames = frames_moved p (found old after.moved) (found after.held after.moved) frames
 
--- the physical block of block i of an object at a place
+-- the physical block of block i of an object at an address
 abbrev pub block_of : List ℕ → ℕ → ℕ → ℕ
 block_of frames a i = slice_index frames (a / 4 + i)
 

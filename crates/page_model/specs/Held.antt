@@ -1,4 +1,4 @@
--- What a manager holds: its objects by number, each with its place.
+-- What a manager holds: its objects by number, each with its address.
 use Rattle.std.specs.Prelude.{ℕ, List, refl}
 use Rattle.std.specs.Ordering.{nat_cmp}
 use Rattle.std.specs.FinMap.{FinMap}
@@ -14,14 +14,14 @@ pub record Placed : Type 0 where
 abbrev pub Held : Type 0
 Held = FinMap nat_cmp Placed
 
--- the bytes by number, without the places
+-- the bytes by number, without the addresses
 abbrev pub Objects : Type 0
 Objects = FinMap nat_cmp (List ℕ)
 
 abbrev pub objects : Held → Objects
 objects m = map_values (λ (x : Placed). x.bytes) m
 
--- the places by number, in words
+-- the addresses by number, in words
 abbrev pub places : Held → FinMap nat_cmp ℕ
 places m = map_values (λ (x : Placed). x.place) m
 

@@ -6,7 +6,7 @@ use Rattle.cf_base.specs.Classes.{need, sizes, slots}
 use Rattle.cf_base.specs.Rising.{AreSizes}
 use Rattle.cf_base.specs.declared.kind.Layout.{Layout}
 
--- how many pages, the words of a page, the words of a slot by class, and by class how many pages may be not full
+-- how many pages, the words of a page, the words of a slot by class, and by class how many pages may be partly full
 pub record Paging : Type 0 where
   pub pages : ℕ
   pub page_words : ℕ
@@ -33,7 +33,7 @@ slot_words p c = slice_index p.sizes c
 abbrev pub slots_of : Paging → ℕ → ℕ
 slots_of p c = slots p.page_words p.sizes c
 
--- how many pages of class c may be not full
+-- how many pages of class c may be partly full
 abbrev pub bound_of : Paging → ℕ → ℕ
 bound_of p c = slice_index p.bounds c
 
@@ -55,6 +55,6 @@ pub record IsPaging (p : Paging) : Type 0 where
   pub bounded : length p.bounds ≡ length p.sizes
   pub some : (c : ℕ) → c < classes p → 1 ≤ bound_of p c
 
--- in each class one page at most may be not full
+-- in each class one page at most may be partly full
 abbrev pub AreOne : Paging → Type 0
 AreOne p = (c : ℕ) → c < classes p → bound_of p c ≡ 1

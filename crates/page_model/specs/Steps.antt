@@ -15,14 +15,14 @@ pub record Leaves : Type 0 where
   pub held : Held
   pub moved : Option ℕ
 
--- An object of n bytes may be placed at the address: in a slot that is free, on a page of its class that is not full, or where there is none on a page that holds nothing.
+-- An object of n bytes may be placed at the address: in a slot that is free, on a page of its class that is partly full, or where there is none on a page that holds nothing.
 pub record IsFreePlace (p : Paging) (m : Held) (n a : ℕ) : Type 0 where
   pub slot : IsSlotAt p (class_for p n) a
   pub unused : (q : ℕ) (y : Placed) → get m q ≡ Some y → y.place ≢ a
   pub choice : ((0 < objects_on p m (class_for p n) (page_of p a)) × (objects_on p m (class_for p n) (page_of p a) < slots_of p (class_for p n)))
       ⊎ ((not_full_pages p m (class_for p n) ≡ 0) × (standing_on p m (page_of p a) ≡ 0))
 
--- so many zeros at a place
+-- so many zeros at an address
 abbrev pub zeros_at : ℕ → ℕ → Placed
 zeros_at a n = record { place = a; bytes = replicate n 0 }
 
@@ -33,13 +33,13 @@ pub record PlacesObject (p : Paging) (old : Held) (asked : Request) (new : Held)
   pub free : IsFreePlace p old asked.length place
   pub placed : new ≡ insert old asked.number (zeros_at place asked.length)
 
--- A free of x moves an object: its page is full and has more than one slot, and its class has as many pages that are not full as it may.
+-- A free of x moves an object: its page is full and has more than one slot, and its class has as many partly full pages as it may.
 pub record MustMove (p : Paging) (m : Held) (x : Placed) : Type 0 where
   pub full : objects_on p m (class_at p x) (page_of p x.place) ≡ slots_of p (class_at p x)
   pub several : 1 < slots_of p (class_at p x)
   pub many : not_full_pages p m (class_at p x) ≡ bound_of p (class_at p x)
 
--- y is of the class of x, on a page that is not full
+-- y is of the class of x, on a partly full page
 pub record MayFill (p : Paging) (m : Held) (x y : Placed) : Type 0 where
   pub class : class_at p y ≡ class_at p x
   pub not_full : objects_on p m (class_at p x) (page_of p y.place) < slots_of p (class_at p x)
@@ -49,12 +49,12 @@ abbrev pub Moves : Paging → Held → Placed → Option ℕ → Type 0
 Moves p m x None = ¬ MustMove p m x
 Moves p m x (Some q) = MustMove p m x × ((y : Placed) × (get m q ≡ Some y) × MayFill p m x y)
 
--- the same objects, with this one at another place
+-- the same objects, with this one at another address
 abbrev pub moved_to : Held → ℕ → Option Placed → ℕ → Held
 moved_to m q None a = m
 moved_to m q (Some y) a = insert m q (record { place = a; bytes = y.bytes })
 
--- without object h, whose place is then that of the object that moved
+-- without object h, whose address is then that of the object that moved
 abbrev pub without : Held → ℕ → ℕ → Option ℕ → Held
 without m h a None = remove m h
 without m h a (Some q) = moved_to (remove m h) q (get m q) a
@@ -70,11 +70,11 @@ pub record RemovesObject (p : Paging) (old : Held) (h : ℕ) (after : Leaves) : 
 abbrev pub resized : List ℕ → ℕ → List ℕ
 resized v n = take n v ++ replicate (n - length v) 0
 
--- the object that a resize gives, at a place
+-- the object that a resize gives, at an address
 abbrev pub resized_at : ℕ → Placed → ℕ → Placed
 resized_at a x n = record { place = a; bytes = resized x.bytes n }
 
--- A resize within the class: the place stays.
+-- A resize within the class: the address stays.
 pub record ResizesInPlace (p : Paging) (old : Held) (asked : Request) (after : Leaves) : Type 0 where
   pub object : Placed
   pub found : get old asked.number ≡ Some object

@@ -19,7 +19,7 @@ pub fn frames_stay_permuted()
 {}
 
 /// Each block of an object stays the same while other objects are freed or resized, also where it
-/// moves, and while it is itself resized within its class. A malloc changes no frame and no place.
+/// moves, and while it is itself resized within its class. A malloc changes no frame and no address.
 pub fn blocks_of_others_stay()
     ensures free { (p : Paging) (old : Held) (frames : List ℕ) (h : ℕ) (after : Leaves)
         → AreFramed p old frames → RemovesObject p old h after

@@ -2,13 +2,13 @@
 ghost use Rattle.std.specs.Prelude.{ℕ, ◌≡◌, ◌+◌, ◌/◌, ◌<◌, ◌≤◌, ◌↔◌, IsTrue};
 ghost use Rattle.page_model.specs.Counts.{CanHold, can_hold, ceil_div, most_pages};
 
-/// With at most one page not full and none empty, n objects, m to a page, stand on just one number
+/// With at most one page partly full and none empty, n objects, m to a page, stand on just one number
 /// of pages: n over m, rounded up.
 pub fn one_page_count_at_bound_one()
     ensures { (p n m : ℕ) → 0 < m → CanHold p n m 1 ↔ (p ≡ ceil_div n m) }
 {}
 
-/// With at most k pages not full, they stand on no more pages than they fill, and k.
+/// With at most k pages partly full, they stand on no more pages than they fill, and k.
 pub fn pages_are_within_the_bound()
     ensures { (p n m k : ℕ) → 0 < m → CanHold p n m k → p ≤ n / m + k }
 {}

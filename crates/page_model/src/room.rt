@@ -5,7 +5,7 @@ ghost use Rattle.page_model.specs.Arrangement.{IsSound, LacksRoom, free_pages, l
 ghost use Rattle.page_model.specs.Held.{Held, Objects, objects};
 ghost use Rattle.page_model.specs.Paging.{AreOne, IsPaging, Paging, class_for, classes, slots_of};
 
-/// A class lacks room exactly where none of its pages is not full, and no page is free.
+/// A class lacks room exactly where none of its pages is partly full, and no page is free.
 pub fn lack_of_room_is_no_page_left()
     ensures { (p : Paging) (m : Held) (c : ℕ) → IsSound p m
         → LacksRoom p m c ↔ ((not_full_pages p m c ≡ 0) × (free_pages p m ≡ 0)) }

@@ -48,7 +48,7 @@ pub fn a_resize_keeps_soundness()
 {}
 
 /// A resize to another class is this: the object stands at a free place under its own number, and
-/// the rest is what a free of its old place leaves. `spare` is any number that isn't in use.
+/// the rest is what a free of its old address leaves. `spare` is any number that isn't in use.
 pub fn a_resize_in_two_steps()
     ensures given { (p : Paging) (m : Held) (h n a spare : ℕ) (x : Placed) (moved : Option ℕ)
         → IsPaging p → IsSound p m → get m h ≡ Some x → class_for p n ≢ class_at p x
@@ -63,7 +63,7 @@ pub fn a_resize_in_two_steps()
         (resized_at r.place r.object asked.length)) }
 {}
 
-/// What each step does to the bytes alone, and to the places alone.
+/// What each step does to the bytes alone, and to the addresses alone.
 pub fn objects_after_a_step()
     ensures malloc { (m : Held) (h a n : ℕ)
         → (objects (insert m h (zeros_at a n)) ≡ insert (objects m) h (replicate n 0))
@@ -98,7 +98,7 @@ pub fn counts_after_a_free()
 {}
 
 /// Where the objects of a class have changed on one page alone, its pages and its pages that are
-/// not full change as that page does.
+/// partly full change as that page does.
 pub fn page_counts_follow_one_page()
     ensures pages { (p : Paging) (old new : Held) (c page : ℕ) → page < p.pages
         → ((g : ℕ) → g ≢ page → objects_on p new c g ≡ objects_on p old c g)

@@ -106,13 +106,13 @@ pub fn headers_tell()
         ≡ length x.bytes) }
 {}
 
-/// The objects can be read back from the words and the places.
+/// The objects can be read back from the words and the addresses.
 pub fn words_tell_what_is_held()
     ensures { (m : Held) (at : FinMap nat_cmp ℕ) (words : List ℕ) → IsImage m words → at ≡ places m
         → AreStorable m → held_at words at ≡ m }
 {}
 
-/// What stands at the places has these places, and the bytes that the words tell.
+/// What stands at the addresses has these addresses, and the bytes that the words tell.
 pub fn what_stands_at_places()
     ensures places { (words : List ℕ) (at : FinMap nat_cmp ℕ) → places (held_at words at) ≡ at }
     ensures found { (words : List ℕ) (at : FinMap nat_cmp ℕ) (h : ℕ) (x : Placed)

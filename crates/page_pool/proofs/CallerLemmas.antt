@@ -24,11 +24,11 @@ both_false false b h k = k
 abbrev pub Pooled : ℕ → List ℕ → Type 0
 Pooled n free = IsPool (record { pages = n; free = free })
 
--- the page in front isn't among the rest
+-- the first page isn't among the rest
 pub front_gone : (n page : ℕ) (free : List ℕ) → Pooled n (page ∷ free) → is_in_pool free page ≡ false
 front_gone n page free h = h.distinct.0
 
--- the page in front is one of the pages
+-- the first page is one of the pages
 pub front_below : (n page : ℕ) (free : List ℕ) → Pooled n (page ∷ free) → page < n
 front_below n page free h = h.below page (rw (eq-eqb page page refl) refl)
 

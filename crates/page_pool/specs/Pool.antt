@@ -3,7 +3,7 @@ use Rattle.std.specs.Prelude.{◌≡◌, ℕ, ◌<◌, Bool, true, false, List, 
 use Rattle.std.specs.List.{list_any}
 use Rattle.std.specs.Coded.{Coded, code_by, coded×, coded_list, coded_ℕ}
 
--- how many pages there are, and those that are free, the front first
+-- how many pages there are, and those that are free, the head first
 pub record Pool : Type 0 where
   pub pages : ℕ
   pub free : List ℕ
@@ -26,7 +26,7 @@ pub record IsPool (p : Pool) : Type 0 where
   pub distinct : HasNoRepeats p.free
   pub below : (page : ℕ) → is_in_pool p.free page ≡ true → page < p.pages
 
--- the front is taken, where there is one
+-- the first page is taken, where there is one
 abbrev pub TakesFront : Pool → Option ℕ → Pool → Type 0
 TakesFront old None new = (old.free ≡ []) × (new ≡ old)
 TakesFront old (Some page) new = (old.free ≡ page ∷ new.free) × (new.pages ≡ old.pages)

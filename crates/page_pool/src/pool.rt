@@ -29,7 +29,7 @@ impl Model for PagePool {
 }
 
 impl PagePool {
-    /// The pages 0 to n - 1, all free, with 0 in front. It alone takes memory.
+    /// The pages 0 to n - 1, all free, with 0 first. It alone takes memory.
     pub fn new(alloc: Global, n: u32) -> Result<PagePool, OutOfMemory>
         ensures pool { IfOk result (λ p. p ≡ record { pages = n; free = range_with_len 0 n }) }
         ensures kept { IfOk result (λ p. IsPool p) }
@@ -48,7 +48,7 @@ impl PagePool {
         (self.stack.len() - self.first) as u32
     }
 
-    /// Takes the front page, for one step. There is none where no page is free.
+    /// Takes the first page, for one step. There is none where no page is free.
     pub fn take(&mut self, steps: &mut Steps) -> Option<u32>
         ensures taken { TakesFront self.old result self.new }
         ensures steps { RoseBy steps.old steps.new 1 }
@@ -63,7 +63,7 @@ impl PagePool {
         Some(page)
     }
 
-    /// Puts a page that isn't free in front, for one step.
+    /// Puts a page that isn't free at the head, for one step.
     pub fn give(&mut self, page: u32, steps: &mut Steps)
         requires within { page < self.old.pages }
         requires taken { is_in_pool self.old.free page ≡ false }

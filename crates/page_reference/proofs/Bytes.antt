@@ -53,7 +53,7 @@ eight v k =
     let h : word_of_bytes (take 1 (drop (k + 7) v)) ≡ get_or v (k + 7) 0 + 0 = next v (k + 7) (k + 8) 0 (omega arith) in
     omega arith
 
--- a word behind the header
+-- a word after the header
 pub word_behind : (h : ℕ) (v : List ℕ) (i : ℕ) → 0 < i → word_of_bytes (take 8 (drop (8 * (i - 1)) v)) ≡ object_word h v i
 word_behind h v zero some = absurd (omega arith)
 word_behind h v (suc i) some = ap (λ j. word_of_bytes (take 8 (drop (8 * j) v))) (omega arith)

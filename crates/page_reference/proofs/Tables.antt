@@ -46,7 +46,7 @@ module _ (os : List (Option Object)) where
 pub get_there : (os : List (Option Object)) (h : ℕ) (d e : Option Object) → h < length os → get_or os h d ≡ e → get (held_of os) h ≡ option_map placed e
 get_there os h d e lt is = get_held os h ∙ get_or-map (option_map placed) os h d None lt ∙ ap (option_map placed) is
 
--- behind the table there is nothing
+-- after the table there is nothing
 pub get_past : (os : List (Option Object)) (h : ℕ) → length os ≤ h → get (held_of os) h ≡ None
 get_past os h past = (
     let past' : length (map (option_map placed) os) ≤ h = rw (length-map os (option_map placed)) past in
@@ -59,6 +59,6 @@ held-moved os h a d None lt is =
     rw (get_there os h d None lt is) (ap held_of same)
 held-moved os h a d (Some o) lt is = rw (get_there os h d (Some o) lt is) (held-set os h (at_place a o) lt)
 
--- behind the table nothing moves
+-- after the table nothing moves
 pub held-unmoved : (os : List (Option Object)) (h a : ℕ) → length os ≤ h → held_of os ≡ moved_to (held_of os) h (get (held_of os) h) a
 held-unmoved os h a past = rw (get_past os h past) refl

@@ -49,7 +49,7 @@ module _ (os : List (Option Object)) where
   pub entry_is : (h : ℕ) (e : Option Object) → h < length os → e ≡ get_or os h e → option_map placed e ≡ get (held_of os) h
   entry_is h e lt is = ap (option_map placed) is ∙ sym (get_held os h ∙ get_or-map (option_map placed) os h e None lt)
 
-  -- behind the table there is nothing
+  -- after the table there is nothing
   pub missed_past : (h w : ℕ) → length os ≤ h → Misses (get (held_of os) h) w
   missed_past h w past x is = absurd (
       let past' : length (map (option_map placed) os) ≤ h = rw (length-map os (option_map placed)) past in

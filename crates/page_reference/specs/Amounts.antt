@@ -1,4 +1,4 @@
--- What is added up over objects: numbers that depend on an object's place and length. No public clause cites this module.
+-- What is added up over objects: numbers that depend on an object's address and length. No public clause cites this module.
 use Rattle.std.specs.Prelude.{ℕ, ◌&&◌, ◌^◌, ◌<◌, List, Option, Some, None, cond, nat_eq, map, option_map, sum_by}
 use Rattle.cf_lemmas.specs.Maps.{numbered}
 use Rattle.page_model.specs.Held.{Held, Placed}
@@ -13,7 +13,7 @@ use Rattle.page_reference.specs.declared.object.Amount.TheVariants.{One, OfClass
 abbrev pub placed : Object → Placed
 placed o = record { place = o.place; bytes = resized o.bytes.items o.length }
 
--- the same object at another place
+-- the same object at another address
 abbrev pub at_place : ℕ → Object → Object
 at_place a o = record o { place = a }
 

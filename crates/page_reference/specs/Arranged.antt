@@ -1,4 +1,4 @@
--- What the plain program stands for: pages, and the objects on them.
+-- What the reference implementation stands for: pages, and the objects on them.
 use Rattle.std.specs.Prelude.{◌≡◌, ℕ, ◌≤◌, List, length, refl}
 use Rattle.std.specs.FinMap as map
 use Rattle.std.specs.Coded.{Coded, code_by, coded×, coded_ℕ, coded_list}

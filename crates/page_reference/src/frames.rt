@@ -49,7 +49,7 @@ fn partner_of(a: u32, b: u32, n: u32, v: u32) -> u32
     }
 }
 
-/// The physical block of block i of an object at a place.
+/// The physical block of block i of an object at an address.
 pub fn block_of(frames: &[u32], place: u32, i: u32) -> u32
     requires { place / 4 + i < length frames.now }
     ensures { result ≡ physical_block frames.now place i }

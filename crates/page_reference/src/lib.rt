@@ -1,4 +1,4 @@
-//! A plain and slow program that computes what objects on pages mean: counts, figures, the pages
+//! A slow reference implementation of what objects on pages mean: counts, figures, the pages
 //! that are needed, and the words of the region, each by its definition. The fast managers are held
 //! against it in tests.
 #![tactic(auto)]

@@ -9,7 +9,7 @@ use cf_base::{Layout, OutOfMemory, Settings, class_in, slot_sizes};
 use std::alloc::{AllocError, Global};
 use std::marker::Model;
 
-/// Pages, and by class the words of a slot and how many pages may be not full.
+/// Pages, and by class the words of a slot and how many pages may be partly full.
 #[derive(Drop)]
 pub struct Pages {
     pages: u32,
@@ -97,7 +97,7 @@ impl Pages {
         self.page_words / self.sizes[c as usize]
     }
 
-    /// How many pages of a class may be not full.
+    /// How many pages of a class may be partly full.
     pub fn bound(&self, c: u32) -> u32
         requires { c < classes self.now }
         ensures { result ≡ bound_of self.now c }
@@ -105,7 +105,7 @@ impl Pages {
         self.bounds[c as usize]
     }
 
-    /// The class of an object of so many bytes; the number of classes where none holds it.
+    /// The class of an object of `bytes` bytes; the number of classes where none holds it.
     pub fn class_for(&self, bytes: u32) -> u32
         ensures value { result ≡ class_for self.now bytes }
         ensures within { result ≤ classes self.now }
@@ -123,7 +123,7 @@ impl Pages {
         place / self.page_words
     }
 
-    /// What is added for an object at a place, of so many bytes.
+    /// What is added for an object at an address, of `length` bytes.
     pub fn amount(&self, which: Amount, place: u32, length: u32) -> u64
         ensures value { result ≡ amount_of self.now which place length }
         ensures within { result ≤ most_of which }

@@ -94,7 +94,7 @@ impl Plain {
         }
     }
 
-    /// The object under this number, where there is one, stands at another place.
+    /// The object under this number, where there is one, stands at another address.
     pub fn move_to(&mut self, number: u16, place: u32)
         ensures paging { self.new.paging ≡ self.old.paging }
         ensures held { self.new.held ≡ moved_to self.old.held number (map.get self.old.held number) place }
@@ -145,7 +145,7 @@ impl Plain {
         self.pages.slots(c)
     }
 
-    /// The class of an object of so many bytes; the number of classes where none holds it.
+    /// The class of an object of `bytes` bytes; the number of classes where none holds it.
     pub fn class_for(&self, bytes: u32) -> u32
         ensures { result ≡ class_for self.now.paging bytes }
     {
@@ -252,7 +252,7 @@ impl Plain {
         pages
     }
 
-    /// How many pages they would need with one more object of so many bytes.
+    /// How many pages they would need with one more object of `bytes` bytes.
     pub fn pages_needed_with(&self, bytes: u32) -> u32
         ensures { result ≡ pages_needed_with self.now.paging (objects self.now.held) bytes }
     {
@@ -266,7 +266,7 @@ impl Plain {
     }
 
     /// Whether a free of the object under this number, where there is one, moves another: its page is
-    /// full and has more than one slot, and its class has as many pages that are not full as it may.
+    /// full and has more than one slot, and its class has as many partly full pages as it may.
     pub fn must_move(&self, number: u16) -> bool
         ensures { IsTrue result ↔ MovesOne self.now.paging self.now.held (map.get self.now.held number) }
     {
@@ -299,7 +299,7 @@ impl Plain {
         fills_several(on_page, self.slots(class)) && self.is_at_bound(class)
     }
 
-    /// Whether class c has as many pages that are not full as it may.
+    /// Whether class c has as many partly full pages as it may.
     fn is_at_bound(&self, c: u32) -> bool
         requires { c < classes self.now.paging }
         ensures { IsTrue result ↔ (not_full_pages self.now.paging self.now.held c ≡ bound_of self.now.paging c) }
@@ -307,7 +307,7 @@ impl Plain {
         self.not_full_pages(c) == self.pages.bound(c)
     }
 
-    /// Whether there is no room for class c: none of its pages is not full, and every page holds an
+    /// Whether there is no room for class c: none of its pages is partly full, and every page holds an
     /// object.
     pub fn lacks_room(&self, c: u32) -> bool
         requires { c < classes self.now.paging }
@@ -425,7 +425,7 @@ fn fills_several(objects: u32, slots: u32) -> bool
     objects == slots && 1 < slots
 }
 
-/// How many pages of so many slots that many objects need: the quotient, rounded up.
+/// How many pages of `slots` slots that many objects need: the quotient, rounded up.
 fn pages_for(objects: u32, slots: u32) -> u32
     requires some { 1 ≤ slots }
     requires few { objects ≤ 65537 }
@@ -436,7 +436,7 @@ fn pages_for(objects: u32, slots: u32) -> u32
     (objects + (slots - 1)) / slots
 }
 
-/// The object of the entry, where there is one, stands at another place.
+/// The object of the entry, where there is one, stands at another address.
 fn move_entry(entry: &mut Option<Object>, place: u32)
     ensures { entry.new ≡ option_map (at_place place) entry.old }
 {

@@ -21,7 +21,7 @@ struct Numbers {
     lacks: bool,
 }
 
-/// The number, the place and the length of an object.
+/// The number, the address and the length of an object.
 type Entry = (u16, u32, u32);
 
 /// How many pages of 64 words, the objects on them, and their numbers.

@@ -15,7 +15,7 @@ use Rattle.page_model.specs.Held.{Held, Placed}
 use Rattle.page_model.specs.Paging.{Paging, IsPaging, bound_of, class_for, classes, page_of, slots_of}
 use Rattle.page_model.specs.Arrangement.{class_at, objects_on, not_full_pages, standing_on, IsSlotAt, IsSound, LacksRoom}
 use Rattle.page_model.specs.Steps.{IsFreePlace, MayFill, MustMove, moved_to, without}
-use Rattle.page_model.proofs.FreeSteps.{mover_is_other, removed_twice}
+use Rattle.page_model.proofs.CallerLemmas.{mover_is_other, removed_twice}
 use Rattle.page_slots.specs.Tables.{Tables, AreOthers, AreTables, IsOf, IsPageOf, IsPlaced, IsUsed, IsWhole, KeepsElsewhere, slot_at, slots_on, tables, used_in}
 use Rattle.page_slots.specs.Taking.{TakesAt, TakesSlot}
 use Rattle.page_slots.specs.Freeing.{FillsFrom, IsFiller, MovesObject, Vacates}
@@ -216,7 +216,7 @@ module _ {p : Paging} (ok : IsPaging p) {m : Held} {t : Tables} (tell : TellPart
         omega arith
 
 module _ {p : Paging} {m : Held} {t : Tables} (o : Occupies p m t) (h : ℕ) {x : Placed} (some : get m h ≡ Some x) where
-  -- other bytes at the same place, in the same class
+  -- other bytes at the same address, in the same class
   pub rewritten_occupied : (bytes : List ℕ) → class_at p (record { place = x.place; bytes = bytes }) ≡ class_at p x
       → Occupies p (insert m h (record { place = x.place; bytes = bytes })) t
   rewritten_occupied bytes same =

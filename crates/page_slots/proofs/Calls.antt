@@ -26,7 +26,7 @@ finds_free xs some none = false≢true (ap is_some none ∙ some_free xs some)
 pub finds_used : (xs : List Bool) → 0 < used_in xs → None ≡ position (λ used. used) xs → ⊥
 finds_used xs some none = false≢true (ap is_some none ∙ some_used xs some)
 
--- a list with a front isn't empty, and one without is
+-- a list with a head isn't empty, and one without is
 pub front_none : (xs : List ℕ) → None ≡ slice_get xs 0 → xs ≡ []
 front_none [] e = refl
 front_none (x ∷ xs) e = absurd (let none : is_some (slice_get (x ∷ xs) 0) ≡ false = ap is_some (sym e) in false≢true (sym none))
@@ -44,7 +44,7 @@ module _ (k : ClassTable) (t : Tables) (a : AreTables k t) where
   pub page_inside : (page : ℕ) → page < t.pool.pages → page < length t.maps
   page_inside page lt = (let e = a.maps in omega arith)
 
-  -- the front page of those that are not full
+  -- the first partly full page
   module _ (c page : ℕ) (front : Some page ≡ slice_get (pages_in t.lists c NotFull) 0) where
     pub front_there : Contains (pages_in t.lists c NotFull) page
     front_there = front_listed (pages_in t.lists c NotFull) page (sym front)
@@ -103,7 +103,7 @@ module _ (k : ClassTable) (t : Tables) (a : AreTables k t) where
             not_filled = λ ne. not_filled (λ e. ne (ap used_in here ∙ e ∙ sym (ap length here)));
           }
 
-  -- the front page of the pool
+  -- the first page of the pool
   module _ (page : ℕ) (pool : Pool) (f : TakesFront t.pool (Some page) pool) where
     pub pool_inside : page < length t.maps
     pool_inside = page_inside page (pool_front k t a page pool f).0

@@ -6,7 +6,7 @@ use Rattle.std.proofs.lemmas.Bool.{cases_eq}
 use Rattle.class_lists.specs.declared.Which.{Which}
 use Rattle.class_lists.specs.declared.Which.TheVariants.{Full, NotFull}
 use Rattle.class_lists.specs.PageLists.{PageLists, AreApart, IsUnlisted, pages_in, without_page}
-use Rattle.class_lists.proofs.Members.{contains_head, contains_tail, contains_cases, contains_without, without_contains}
+use Rattle.class_lists.proofs.CallerLemmas.{contains_head, contains_tail, contains_cases, contains_without, without_contains}
 use Rattle.page_slots.specs.Tables.{JoinsList, LeavesList}
 
 pub along : (q : ℕ) (xs ys : List ℕ) → xs ≡ ys → Contains xs q → Contains ys q

@@ -8,10 +8,8 @@ use Rattle.class_lists.specs.declared.Which.TheVariants.{Full, NotFull}
 use Rattle.page_model.specs.Held.{Held, Placed}
 use Rattle.page_model.specs.Paging.{Paging, IsPaging, classes, page_of, address_of}
 use Rattle.page_model.specs.Arrangement.{class_at, objects_on, standing_on, IsSlotAt, IsSound}
-use Rattle.page_model.proofs.Addresses.{address_is_slot, slot_is_address}
+use Rattle.page_model.proofs.CallerLemmas.{address_is_slot, slot_is_address, on_page, standing, objects_on-exchanged}
 use Rattle.cf_lemmas.proofs.Values.{still}
-use Rattle.page_model.proofs.Counting.{on_page, standing}
-use Rattle.page_model.proofs.Freeing.{objects_on-exchanged}
 use Rattle.page_slots.specs.Tables.{Tables, IsOf, IsUsed, IsFreePage, slot_at, slots_on}
 use Rattle.page_slots.specs.Occupying.{Occupies, TellPart, class_table}
 use Rattle.page_slots.proofs.Pages.{listed_page, listed_class, of_list}
@@ -77,7 +75,7 @@ module _ (p : Paging) (ok : IsPaging p) (t : Tables) (tell : TellPart p t) where
         let a = used_address c page slot u in
         (f.0, f.1, f.2, f.3, f.4, ap (page_of p) f.4 ∙ a.1, ap (slot_at (class_table p) c) f.4 ∙ a.2)
 
-    -- an object's place is the address of its slot
+    -- an object's address is the address of its slot
     pub place_is : (s : IsSound p m) → (h : ℕ) (x : Placed) → get m h ≡ Some x → (c page slot : ℕ) → class_at p x ≡ c → page_of p x.place ≡ page
         → slot_at (class_table p) c x.place ≡ slot
         → x.place ≡ address_of p c page slot
@@ -86,7 +84,7 @@ module _ (p : Paging) (ok : IsPaging p) (t : Tables) (tell : TellPart p t) where
         let e = (slot_is_address p ok c at.class x.place at).0 in
         e ∙ ap (λ g. address_of p c g (slot_at (class_table p) c x.place)) is_page ∙ ap (address_of p c page) is_slot
 
--- an object under another number, of the same class at the same place, with other bytes or the same
+-- an object under another number, of the same class at the same address, with other bytes or the same
 module _ (p : Paging) (m : Held) (t : Tables) (o : Occupies p m t) (h : ℕ) (x : Placed) (some : get m h ≡ Some x)
     (q : ℕ) (bytes : List ℕ) (none : get (remove m h) q ≡ None) (same : class_at p (record { place = x.place; bytes = bytes }) ≡ class_at p x) where
   pub occupied_renamed : Occupies p (insert (remove m h) q (record { place = x.place; bytes = bytes })) t

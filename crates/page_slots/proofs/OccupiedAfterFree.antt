@@ -9,7 +9,7 @@ use Rattle.slot_bitmap.proofs.CallerLemmas.{count-unset}
 use Rattle.page_model.specs.Held.{Held, Placed}
 use Rattle.page_model.specs.Paging.{Paging, IsPaging, page_of}
 use Rattle.page_model.specs.Arrangement.{class_at, objects_on, IsSound}
-use Rattle.page_model.proofs.Freeing.{objects_on-away, objects_on-left}
+use Rattle.page_model.proofs.CallerLemmas.{objects_on-away, objects_on-left}
 use Rattle.page_slots.specs.Tables.{Tables, IsOf, IsUsed, slot_at, slots_on, used_in}
 use Rattle.page_slots.specs.Occupying.{Occupies, TellPart, class_table}
 use Rattle.page_slots.proofs.Bits.{set_here, set_there, used_some, not_both}

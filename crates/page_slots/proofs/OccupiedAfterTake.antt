@@ -10,10 +10,8 @@ use Rattle.slot_bitmap.proofs.CallerLemmas.{count-set, count-replicate}
 use Rattle.page_model.specs.Held.{Held, Placed}
 use Rattle.page_model.specs.Paging.{Paging, IsPaging, page_of, address_of}
 use Rattle.page_model.specs.Arrangement.{class_at, is_on, objects_on, IsSlotAt}
-use Rattle.page_model.proofs.Addresses.{address_is_slot}
+use Rattle.page_model.proofs.CallerLemmas.{address_is_slot, on_yes, objects_on-inserted, objects_on-elsewhere}
 use Rattle.cf_lemmas.proofs.Values.{still}
-use Rattle.page_model.proofs.Counting.{on_yes}
-use Rattle.page_model.proofs.Placing.{objects_on-inserted, objects_on-elsewhere}
 use Rattle.page_slots.specs.Tables.{Tables, IsOf, IsUsed, slot_at, slots_in, slots_on, used_in}
 use Rattle.page_slots.specs.Occupying.{Occupies, TellPart, class_table}
 use Rattle.page_slots.proofs.Bits.{set_here, set_there, none_used, not_both}

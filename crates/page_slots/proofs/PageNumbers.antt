@@ -13,9 +13,7 @@ use Rattle.page_pool.specs.Pool.{is_in_pool}
 use Rattle.page_model.specs.Held.{Held}
 use Rattle.page_model.specs.Paging.{Paging, IsPaging, slots_of}
 use Rattle.page_model.specs.Arrangement.{objects_on, standing_on, home_pages, not_full_pages, used_pages, free_pages, IsSound, LacksRoom}
-use Rattle.page_model.proofs.Counting.{part_full, less_counts as lt_yes, not_less_counts_none as lt_no, on_page, stands_here}
-use Rattle.page_model.proofs.Totals.{sum_same, sum_plus}
-use Rattle.page_model.proofs.Lacking.{used_is}
+use Rattle.page_model.proofs.CallerLemmas.{part_full, less_counts as lt_yes, not_less_counts_none as lt_no, on_page, stands_here, sum_same, sum_plus, used_is}
 use Rattle.page_slots.specs.Tables.{Tables, HasUsed, IsOf, IsPageOf, IsWhole, slots_on, used_in}
 use Rattle.page_slots.specs.Occupying.{Occupies, TellPart, class_table}
 use Rattle.page_slots.proofs.Pages.{placed_in, listed_page, list_of, free_page, taken_page}
@@ -103,7 +101,7 @@ module _ (p : Paging) (ok : IsPaging p) (m : Held) (t : Tables) (tell : TellPart
   members : (c : ℕ) (w : Which) → count_by (is_in_pool (pages_in t.lists c w)) (range_with_len 0 p.pages) ≡ length (pages_in t.lists c w)
   members c w = count_members p.pages (pages_in t.lists c w) (no_repeats (pages_in t.lists c w) (tell.tables.lists.distinct c w)) (below c w)
 
-  -- the pages of a class that are not full are those of its list
+  -- the pages of a class that are partly full are those of its list
   pub not_full_pages_are : (c : ℕ) → not_full_pages p m c ≡ length (pages_in t.lists c NotFull)
   unfolding not_full_pages
   not_full_pages_are c =
@@ -159,7 +157,7 @@ module _ (p : Paging) (ok : IsPaging p) (m : Held) (t : Tables) (tell : TellPart
     pub free_pages_are : IsSound p m → free_pages p m ≡ length t.pool.free
     free_pages_are s = (let e = pages_are s in omega arith)
 
-    -- no room: no page of the class is not full, and the pool is empty
+    -- no room: no page of the class is partly full, and the pool is empty
     pub lacks_room : (c : ℕ) → pages_in t.lists c NotFull ≡ [] → t.pool.free ≡ [] → LacksRoom p m c
     lacks_room c none empty = record {
       full = not_full_pages_are c ∙ ap length none;

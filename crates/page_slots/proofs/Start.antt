@@ -15,7 +15,7 @@ use Rattle.size_classes.specs.Table.{ClassTable, IsClassTable}
 use Rattle.class_lists.specs.declared.Which.{Which}
 use Rattle.class_lists.specs.declared.Which.TheVariants.{Full, NotFull}
 use Rattle.class_lists.specs.PageLists.{AreApart, empty_lists, list_number, pages_in}
-use Rattle.class_lists.proofs.Members.{contains_nil, distinct_nil}
+use Rattle.class_lists.proofs.CallerLemmas.{contains_nil, distinct_nil}
 use Rattle.page_pool.specs.Pool.{Pool, is_in_pool}
 use Rattle.page_pool.proofs.CallerLemmas.{pooled_range}
 use Rattle.page_model.specs.Held.{Placed}

@@ -11,7 +11,7 @@ use Rattle.size_classes.specs.Table.{ClassTable}
 use Rattle.class_lists.specs.declared.Which.{Which}
 use Rattle.class_lists.specs.declared.Which.TheVariants.{Full, NotFull}
 use Rattle.class_lists.specs.PageLists.{PageLists, AreApart, pages_in}
-use Rattle.class_lists.proofs.Members.{contains_head}
+use Rattle.class_lists.proofs.CallerLemmas.{contains_head}
 use Rattle.page_pool.specs.Pool.{Pool, IsPool, TakesFront, is_in_pool}
 use Rattle.page_pool.proofs.CallerLemmas.{front_gone, front_below}
 use Rattle.page_slots.specs.Tables.{Tables, AreTables, IsOf, IsPageOf, IsFreePage, IsElsewhere, JoinsList, IsWhole, KeepsElsewhere, slots_in, slots_on, used_in}
@@ -21,7 +21,7 @@ use Rattle.page_slots.proofs.Listing.{left_classes}
 use Rattle.page_slots.proofs.Pages.{IsSame, other_free, map_here, map_there, maps_long, placed_in, listed_page, list_of, free_page, some_slots}
 use Rattle.page_slots.proofs.Pages.{free_not_elsewhere, of_not_elsewhere, keeps_elsewhere, still_whole, tables_after}
 
--- the front of a list stands in it
+-- the head of a list stands in it
 pub front_listed : (xs : List ℕ) (page : ℕ) → slice_get xs 0 ≡ Some page → Contains xs page
 front_listed [] page e = absurd (let lt = slice_get_within [] 0 page e in omega arith)
 front_listed (x ∷ xs) page e =
@@ -34,7 +34,7 @@ first_of : (n : ℕ) → 1 ≤ n → slice_get (replicate n false) 0 ≡ Some fa
 first_of zero h = absurd (omega arith)
 first_of (suc n) h = refl
 
--- the front page of the pool is one of the pages, and of no class
+-- the first page of the pool is one of the pages, and of no class
 pub pool_front : (k : ClassTable) (t : Tables) → AreTables k t → (page : ℕ) (pool : Pool) → TakesFront t.pool (Some page) pool → (page < t.pool.pages)
     × IsFreePage t page
 pool_front k t a page pool f =
@@ -42,7 +42,7 @@ pool_front k t a page pool f =
     let inside = front_below t.pool.pages page pool.free (subst P f.0 a.pool) in
     (inside, free_page k t a page inside (ap (λ free. is_in_pool free page) f.0 ∙ free_head page pool.free))
 
--- What a slot that becomes used changes: its page, on which the other slots stay, and which was not full, or free where the class had no such page.
+-- What a slot that becomes used changes: its page, on which the other slots stay, and which was partly full, or free where the class had no such page.
 pub record Gains (k : ClassTable) (old new : Tables) (c page slot : ℕ) : Type 0 where
   pub others : (g : ℕ) → g ≢ page → IsSame old new g
   pub before : List Bool
@@ -72,7 +72,7 @@ module _ (k : ClassTable) (old new : Tables) (c page slot : ℕ) (g : Gains k ol
   gains_whole = still_whole old new page g.pages (of_not_elsewhere new c page g.of) g.others
 
 module _ (k : ClassTable) (old : Tables) (a : AreTables k old) (c page : ℕ) (new : Tables) (apart : AreApart new.lists) where
-  -- on a page that is not full
+  -- on a partly full page
   module _ (slot : ℕ) (t : TakesOnOpenPage old c page slot new) where
     there : Contains (pages_in old.lists c NotFull) page
     there = front_listed (pages_in old.lists c NotFull) page t.front

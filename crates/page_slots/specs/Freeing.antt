@@ -7,14 +7,14 @@ use Rattle.class_lists.specs.declared.Which.TheVariants.{Full, NotFull}
 use Rattle.class_lists.specs.PageLists.{PageLists, pages_in}
 use Rattle.page_slots.specs.Tables.{Tables, JoinsList, LeavesList, address_in, slots_on, used_in}
 
--- a page of which a slot becomes free goes to the list of the pages that are not full
+-- a page of which a slot becomes free goes to the list of the partly full pages
 pub record OpensPage (old : PageLists) (c page : ℕ) (new : PageLists) : Type 0 where
   pub between : PageLists
   pub leaves : LeavesList old c Full page between
   pub joins : JoinsList between c NotFull page new
 
--- A used slot of a page of class c becomes free. A page that it leaves empty leaves its list and is the front page of the pool; one that was full
--- becomes the front page of those that are not.
+-- A used slot of a page of class c becomes free. A page that it leaves empty leaves its list and is the first page of the pool; one that was full
+-- becomes the head page of those that are not.
 pub record Vacates (old : Tables) (c page slot : ℕ) (new : Tables) : Type 0 where
   pub which : Which
   pub listed : Contains (pages_in old.lists c which) page
@@ -26,7 +26,7 @@ pub record Vacates (old : Tables) (c page slot : ℕ) (new : Tables) : Type 0 wh
   pub still : used_in (slots_on new page) ≢ 0 → which ≡ NotFull → new.lists ≡ old.lists
   pub kept : used_in (slots_on new page) ≢ 0 → new.pool ≡ old.pool
 
--- the object at address a fills a freed slot of class c: its slot is the least used one of the front page of the class that is not full
+-- the object at address a fills a freed slot of class c: its slot is the least used one of the head page of the class that is partly full
 pub record IsFiller (k : ClassTable) (maps : List (List Bool)) (lists : PageLists) (c a : ℕ) : Type 0 where
   pub page : ℕ
   pub slot : ℕ
@@ -49,7 +49,7 @@ pub record FillsFrom (k : ClassTable) (old : Tables) (c a : ℕ) (new : Tables) 
   pub least : position (λ used. used) (slots_on old page) ≡ Some slot
   pub vacates : Vacates old c page slot new
 
--- a free on a page with these slots moves an object: the page is full and has more than one slot, and the class has as many pages that are not full as it may
+-- a free on a page with these slots moves an object: the page is full and has more than one slot, and the class has as many partly full pages as it may
 pub record MovesObject (slots : List Bool) (not_full bound : ℕ) : Type 0 where
   pub full : used_in slots ≡ length slots
   pub several : 1 < length slots

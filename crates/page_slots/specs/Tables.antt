@@ -101,7 +101,7 @@ pub record KeepsElsewhere (old new : Tables) : Type 0 where
 abbrev pub AreOthers : Tables → PageLists → Type 0
 AreOthers t others = (c page : ℕ) (which : Which) → Contains (pages_in others c which) page → IsElsewhere t page
 
--- a page joins a list in front
+-- a page joins a list at its head
 pub record JoinsList (old : PageLists) (c : ℕ) (which : Which) (page : ℕ) (new : PageLists) : Type 0 where
   pub value : new ≡ with_list old c which (page ∷ pages_in old c which)
   pub list : pages_in new c which ≡ page ∷ pages_in old c which

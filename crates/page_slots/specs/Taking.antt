@@ -7,13 +7,13 @@ use Rattle.class_lists.specs.PageLists.{PageLists, pages_in}
 use Rattle.page_pool.specs.Pool.{TakesFront}
 use Rattle.page_slots.specs.Tables.{Tables, JoinsList, LeavesList, address_in, slots_in, slots_on, used_in}
 
--- a page that is filled goes from the list of the pages that are not full to that of the full ones
+-- a page that is filled goes from the list of the partly full pages to that of the full ones
 pub record FillsPage (old : PageLists) (c page : ℕ) (new : PageLists) : Type 0 where
   pub between : PageLists
   pub leaves : LeavesList old c NotFull page between
   pub joins : JoinsList between c Full page new
 
--- the least free slot of the front page of class c that is not full
+-- the least free slot of the first partly full page of class c
 pub record TakesOnOpenPage (old : Tables) (c page slot : ℕ) (new : Tables) : Type 0 where
   pub front : slice_get (pages_in old.lists c NotFull) 0 ≡ Some page
   pub least : position (λ used. not used) (slots_on old page) ≡ Some slot
@@ -23,7 +23,7 @@ pub record TakesOnOpenPage (old : Tables) (c page slot : ℕ) (new : Tables) : T
   pub filled : used_in (slots_on new page) ≡ length (slots_on new page) → FillsPage old.lists c page new.lists
   pub not_filled : used_in (slots_on new page) ≢ length (slots_on new page) → new.lists ≡ old.lists
 
--- the first slot of the front page of the pool, where class c has no page that is not full
+-- the first slot of the first page of the pool, where class c has no partly full page
 pub record TakesOnFreePage (k : ClassTable) (old : Tables) (c page : ℕ) (new : Tables) : Type 0 where
   pub none : pages_in old.lists c NotFull ≡ []
   pub front : TakesFront old.pool (Some page) new.pool
@@ -38,7 +38,7 @@ pub record TakesAt (k : ClassTable) (old : Tables) (c a : ℕ) (new : Tables) : 
   pub address : a ≡ address_in k c page slot
   pub taken : TakesOnOpenPage old c page slot new ⊎ ((slot ≡ 0) × TakesOnFreePage k old c page new)
 
--- a slot of class c is taken, or there is none: no page of the class is not full, and no page is free
+-- a slot of class c is taken, or there is none: no page of the class is partly full, and no page is free
 abbrev pub TakesSlot : ClassTable → Tables → ℕ → Option ℕ → Tables → Type 0
 TakesSlot k old c None new = (pages_in old.lists c NotFull ≡ []) × (old.pool.free ≡ []) × (new ≡ old)
 TakesSlot k old c (Some a) new = TakesAt k old c a new

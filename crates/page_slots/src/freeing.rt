@@ -16,7 +16,7 @@ use slot_bitmap::SlotMap;
 use step_ledger::Steps;
 
 /// Whether a free at this address moves an object: the page is full and has more than one slot, and
-/// its class has as many pages that are not full as it may.
+/// its class has as many partly full pages as it may.
 pub fn must_move(
     classes: &Classes,
     maps: &[SlotMap],
@@ -39,7 +39,7 @@ pub fn must_move(
 }
 
 /// The used slot of class c at this address becomes free, and no object moves. A page that it leaves
-/// empty returns to the pool; one that was full becomes the front page of those that are not.
+/// empty returns to the pool; one that was full becomes the first of the partly full pages.
 pub fn drop_slot(
     classes: &Classes,
     maps: &mut [SlotMap],
@@ -65,7 +65,7 @@ pub fn drop_slot(
 }
 
 /// Returns the address of the object that fills a freed slot of class c, the one at the least used
-/// slot of the front page of the class that is not full. Both slots stay used.
+/// slot of the head page of the class that is partly full. Both slots stay used.
 pub fn filler(
     classes: &Classes,
     maps: &[SlotMap],
@@ -107,7 +107,7 @@ pub fn fill_slot(
     address_of(classes, c, page, slot)
 }
 
-/// The front page of class c that is not full, and its least used slot.
+/// The head page of class c that is partly full, and its least used slot.
 fn filling_slot(maps: &[SlotMap], lists: &ClassLists, c: u32, steps: &mut Steps) -> (u32, u32)
     requires class { c < lists.now.classes }
     requires some { 1 ≤ length (pages_in lists.now c Which.NotFull) }
@@ -173,7 +173,7 @@ fn vacate(
     }
 }
 
-/// A page of which a slot became free goes to the pages that are not full.
+/// A page of which a slot became free goes to the partly full pages.
 fn open_if_full(lists: &mut ClassLists, c: u32, which: Which, page: u32, steps: &mut Steps)
     requires class { c < lists.old.classes }
     requires apart { AreApart lists.old }

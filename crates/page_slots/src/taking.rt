@@ -13,9 +13,9 @@ use size_classes::Classes;
 use slot_bitmap::SlotMap;
 use step_ledger::Steps;
 
-/// Takes a free slot of class c, and answers its address: the least free slot of the front page of
-/// the class that is not full, else the first slot of the front page of the pool. There is none
-/// where the class has no page that is not full and no page is free, and then nothing changes.
+/// Takes a free slot of class c, and returns its address: the least free slot of the first partly full
+/// page of the class, else the first slot of the first page of the pool. There is none
+/// where the class has no partly full page and no page is free, and then nothing changes.
 pub fn take_slot(
     classes: &Classes,
     maps: &mut [SlotMap],
@@ -74,7 +74,7 @@ fn leave_if_filled(map: &SlotMap, lists: &mut ClassLists, c: u32, page: u32, ste
     }
 }
 
-/// Takes the first slot of the front page of the pool, which becomes a page of class c.
+/// Takes the first slot of the first page of the pool, which becomes a page of class c.
 fn take_on_free_page(
     classes: &Classes,
     maps: &mut [SlotMap],
@@ -101,7 +101,7 @@ fn take_on_free_page(
     Some(address_of(classes, c, page, 0))
 }
 
-/// A page of class c with so many slots, of which one is used, joins its list.
+/// A page of class c with `slots` slots, of which one is used, joins its list.
 fn join_with_one(lists: &mut ClassLists, c: u32, page: u32, slots: u32, steps: &mut Steps)
     requires class { c < lists.old.classes }
     requires page { page < lists.old.pages }

@@ -1,4 +1,4 @@
--- What the changes of the list of places do to the proxies that it stands for.
+-- What the changes of the list of addresses do to the proxies that it stands for.
 use Rattle.std.proofs.Common.{◌≡◌, ℕ, zero, suc, ◌+◌, ◌<◌, List, Option, Some, None, length, get_or, set, arith, refl, sym, ◌∙◌, ap, subst}
 use Rattle.std.specs.Prelude.{IsSome, is_some, count_by}
 use Rattle.std.proofs.lemmas.List.{length-set, length-replicate}
@@ -12,7 +12,7 @@ use Rattle.proxy_table.specs.Layout.{proxies_of, vacant}
 some_is_some : {X : Type 0} (o : Option X) (x : X) → o ≡ Some x → IsSome o
 some_is_some o x is = rw is refl
 
--- what a list of places stands for is below its length
+-- what a list of addresses stands for is below its length
 pub places_below : (places : List (Option ℕ)) → AreBelowLimit (proxies_of places)
 places_below places = record {
   below = λ number place is. numbered_live places number (some_is_some _ place is);

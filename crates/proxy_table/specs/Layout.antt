@@ -3,11 +3,11 @@ use Rattle.std.specs.Prelude.{◌≡◌, ◌≢◌, ℕ, ◌+◌, ◌-◌, ◌^�
 use Rattle.cf_lemmas.specs.Maps.{numbered}
 use Rattle.proxy_table.specs.Proxies.{Proxies}
 
--- the proxies whose places stand in a list by number
+-- the proxies whose addresses stand in a list by number
 abbrev pub proxies_of : List (Option ℕ) → Proxies
 proxies_of places = record { limit = length places; places = numbered 0 places }
 
--- the places of n numbers that are not live
+-- the addresses of n numbers that are not live
 abbrev pub vacant : ℕ → List (Option ℕ)
 vacant n = replicate n None
 

@@ -126,7 +126,7 @@ impl ProxyTable {
     }
 }
 
-/// The places of n numbers that aren't live.
+/// The addresses of n numbers that aren't live.
 fn vacancies(alloc: Global, n: u32) -> Result<Vec<Option<u32>>, AllocError>
     ensures { IfOk result (λ places. places.items ≡ vacant n) }
 {

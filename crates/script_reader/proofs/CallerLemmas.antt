@@ -31,7 +31,7 @@ fed_nothing (feeds bytes ∷ rest) old now told (mid, (open_end, is), are) = abs
 fed_nothing (finishes ∷ rest) old now told (mid, is, are) = fed_nothing rest mid now (ap (λ (r : Reading). r.ended) is) are
 fed_nothing (answers next ∷ rest) old now told (mid, is, are) = fed_nothing rest mid now (answer_same_end old next mid is ∙ told) are
 
--- bytes that were fed come in front of those to come
+-- bytes that were fed come before those to come
 pub fed_left : (old : Reading) (bytes more : List ℕ) (e : Bool) → old.ended ≡ false → items_left old (bytes ++ more) e ≡ items_left (fed_with old bytes) more e
 fed_left old bytes more e open_end = rw (open_end, append_assoc) refl
 

@@ -51,7 +51,7 @@ by_first breaks n stage front all rest = ([], refl)
 long_is_bad : (line : List ℕ) (ls : List (List ℕ)) (n : ℕ) (stage : Stage) → is_too_long line ≡ true → items_at (line ∷ ls) n stage ≡ bad (n + 1) ∷ []
 long_is_bad line ls n stage long = rw (says_wrong line long) refl
 
--- a last stretch that is too long, with more behind it
+-- a last stretch that is too long, with more after it
 long_goes_on : (l : List ℕ) (t : List (List ℕ)) (e : Bool) (n : ℕ) (stage : Stage) → is_too_long l ≡ true
     → items_at (lines_among e (glued (l ∷ []) t)) n stage ≡ bad (n + 1) ∷ []
 long_goes_on l [] e n stage long = rw (long_last e l long) (long_is_bad l [] n stage long)

@@ -1,4 +1,4 @@
--- Tokens from the front on.
+-- Tokens from the start on.
 use Rattle.std.proofs.Common.{◌≡◌, ◌∙◌, ◌-◌, ◌<◌, ◌≤◌, ◌+◌, ℕ, suc, Bool, true, false, cond, not, List, [], ◌∷◌, length, take, drop, refl, sym, ap, arith}
 use Rattle.std.specs.List.{position_or_len}
 use Rattle.std.proofs.lemmas.List.Sums.{prefix_len-le-length}
@@ -7,11 +7,11 @@ use Rattle.std.specs.Prelude.{position, unwrap_or, nat_lt, Some, None}
 use Rattle.std.proofs.lemmas.Bool.{ltb-false}
 use Rattle.script_reader.specs.Lines.{is_gap, onto_first, tokens}
 
--- how many gaps stand in front
+-- how many gaps come first
 abbrev pub gaps_in : List ℕ → ℕ
 gaps_in t = position_or_len (λ x. not (is_gap x)) t
 
--- gaps in front change no token
+-- leading gaps change no token
 pub past_gaps : (t : List ℕ) → tokens (drop (gaps_in t) t) ≡ tokens t
 past_gaps [] = refl
 past_gaps (x ∷ r) = go (is_gap x) refl (past_gaps r)
@@ -21,7 +21,7 @@ past_gaps (x ∷ r) = go (is_gap x) refl (past_gaps r)
     go false isnt rest = refl
     go true is rest = let e : 1 + gaps_in r ≡ suc (gaps_in r) = omega arith in rw (e, is) rest
 
--- behind the gaps stands no gap
+-- after the gaps stands no gap
 pub no_gap_left : (t : List ℕ) → gaps_in (drop (gaps_in t) t) ≡ 0
 no_gap_left [] = refl
 no_gap_left (x ∷ r) = go (is_gap x) refl (no_gap_left r)

@@ -34,7 +34,7 @@ ROOM = 9000
 abbrev pub MOST_FED : ℕ
 MOST_FED = 4294967295
 
--- how many bytes of a piece are taken
+-- how many bytes of a chunk are taken
 abbrev pub taken : Reading → List ℕ → ℕ
 taken r piece = min (length piece) (min (ROOM - length r.kept) (MOST_FED - r.fed))
 
@@ -122,7 +122,7 @@ Answers old answer.NeedMore new = NeedsMore old new
 Answers old (answer.Bad line) new = AnswersBad old old.stopped line new
 Answers old answer.End new = HasEnded old new
 
--- where the first line ends, and where the next one begins: behind the line feed, or at the end where the rest counts as a line
+-- where the first line ends, and where the next one begins: after the line feed, or at the end where the rest counts as a line
 pub record IsFirstLine (kept : List ℕ) (ended : Bool) (len next : ℕ) : Type 0 where
   pub some : 1 ≤ next
   pub within : next ≤ length kept

@@ -15,7 +15,7 @@ pub enum Command {
     Read { id: u16, at: u32, len: u16 },
     /// `q ID`: where the object is.
     Place { id: u16 },
-    /// `b ID I`: the physical block behind a block of the object.
+    /// `b ID I`: the physical block of a block of the object.
     Block { id: u16, i: u32 },
     /// `p WORD`: a word of the region.
     Peek { word: u32 },

@@ -11,7 +11,7 @@ pub fn items_stay()
     ensures { (bytes more : List ℕ) (ended : Bool) → AreFirstOf (items bytes false) (items (bytes ++ more) ended) }
 {}
 
-/// However a script is cut into pieces, and whenever the reader is asked: its answers up to the first
+/// However a script is cut into chunks, and whenever the reader is asked: its answers up to the first
 /// bad line, and then what it has left, are the items of the bytes fed so far.
 pub fn answers_are_items()
     ensures first { (calls : List ReaderCall) (now : Reading) → AreCalls fresh calls now

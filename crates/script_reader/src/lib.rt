@@ -1,4 +1,4 @@
-//! Bytes to commands, by the grammar of scripts, however the bytes are cut into pieces.
+//! Bytes to commands, by the grammar of scripts, however the bytes are chunked.
 #![tactic(auto)]
 
 mod command;

@@ -15,7 +15,7 @@ use std::marker::Model;
 /// The most bytes that are kept.
 const ROOM: usize = 9_000;
 
-/// Reads a script from bytes that come in pieces. It keeps at most 9,000 bytes in place, and takes no
+/// Reads a script from bytes that come in chunks. It keeps at most 9,000 bytes in place, and takes no
 /// memory.
 #[derive(Drop)]
 pub struct Reader {
@@ -60,7 +60,7 @@ impl Reader {
         }
     }
 
-    /// Takes a prefix of the piece, and returns how many bytes: the least of the piece's length, the
+    /// Takes a prefix of the chunk, and returns how many bytes: the least of the chunk's length, the
     /// room left of 9,000 bytes, and what keeps all bytes ever fed at `2^32 - 1`.
     pub fn feed(&mut self, piece: &[u8]) -> usize
         requires { self.old.ended ≡ false }

@@ -4,7 +4,7 @@ use crate::{Command, Next, Payload, Reader};
 use std::alloc::{AllocError, Global};
 use std::test::Fail;
 
-/// Scripts, and their items with `;` behind each.
+/// Scripts, and their items with `;` after each.
 static SCRIPTS: [(&str, &str); 60] = [
     ("", "end;"),
     (
@@ -198,7 +198,7 @@ fn drain(alloc: Global, reader: &mut Reader, text: &mut String) -> Result<bool, 
     Ok(false)
 }
 
-/// What a reader answers to the script in pieces of this size.
+/// What a reader returns for the script in chunks of this size.
 fn read(alloc: Global, script: &[u8], size: usize) -> Result<String, AllocError>
     requires { 0 < size }
 {

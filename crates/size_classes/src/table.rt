@@ -32,7 +32,7 @@ impl Model for Classes {
 }
 
 impl Classes {
-    /// The classes of pages with so many words, by one of the two sequences.
+    /// The classes of pages with `page_words` words, by one of the two sequences.
     pub fn new(alloc: Global, page_words: u32, layout: Layout) -> Result<Classes, OutOfMemory>
         requires { IsTrue (is_page_size page_words) }
         ensures { IfOk result (λ t. t ≡ table_of page_words layout) }
@@ -70,7 +70,7 @@ impl Classes {
         self.page_words / self.slot_words(c)
     }
 
-    /// The least class that holds an object of so many bytes; none where it needs more than a page.
+    /// The least class that holds an object of `bytes` bytes; none where it needs more than a page.
     pub fn class_of(&self, bytes: u32, steps: &mut Steps) -> Option<u32>
         ensures found { result ≡ class_of self.now.sizes bytes }
         ensures none { IsNone result ↔ (self.now.page_words < need bytes) }

@@ -26,7 +26,7 @@ module _ (f : ℕ → ℕ) (at : ℕ) (part : List ℕ) (k : ℕ) where
       let b : nat_lt k (at + length part) ≡ false = grind (arith, nat_tests) in
       rw (a, b) refl
 
--- what the first `done` bytes do, and those behind them
+-- what the first `done` bytes do, and those after them
 module _ (f : ℕ → ℕ) (at done n : ℕ) (bytes : List ℕ) (fits : done + n ≤ length bytes) (k : ℕ) where
   len_done : length (take done bytes) ≡ done
   len_done = (let l = length-take done bytes in omega arith)

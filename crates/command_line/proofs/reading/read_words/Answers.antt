@@ -13,7 +13,7 @@ returns-in-Ok-try_get_matches_from c =
     let f = found_of got.matches in
     let mode = c.mode_named.ensures ∙ ap mode_named (c.get_str.ensures ∙ (first_value-rows f (codes "mode") ∙ ap (first_of (codes "mode")) rows)) in
     let kind = c.kind_named.ensures
-        ∙ ap kind_named (c.get_str-in-Ok-try_get_matches_from.ensures ∙ (first_value-rows f (codes "manager") ∙ ap (first_of (codes "manager")) rows)) in
+    ∙ ap kind_named (c.get_str-in-Ok-try_get_matches_from.ensures ∙ (first_value-rows f (codes "manager") ∙ ap (first_of (codes "manager")) rows)) in
     let seed = c.u64_in.ensures ∙ ap u64_in (one_text-rows f (codes "seed") ∙ ap (one_of (codes "seed")) rows) in
     let count = c.u64_in-in-Ok-try_get_matches_from.ensures ∙ ap u64_in (one_text-rows f (codes "count") ∙ ap (one_of (codes "count")) rows) in
     record {
@@ -23,7 +23,7 @@ returns-in-Ok-try_get_matches_from c =
       chosen = rw (mode, kind, seed, count) refl;
     }
 
--- another kind than want of memory is among those that `clap` finds
+-- an error other than out of memory is among those that `clap` finds
 pub returns : goal.returns
 returns c =
     let app = app_of c.in-Ok.command in

@@ -1,4 +1,4 @@
--- The front page of those that are not full has a used slot.
+-- The first partly full page has a used slot.
 use Rattle.std.proofs.Common.{sym}
 use Rattle.page_slots.proofs.Calls.{front_slot, front_small, front_used_slot}
 use Rattle.page_slots.proofs.freeing.filler.Goals as goal

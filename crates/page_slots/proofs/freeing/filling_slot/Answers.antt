@@ -1,4 +1,4 @@
--- The front page has a used slot.
+-- The head page has a used slot.
 use Rattle.std.proofs.Common.{[], ◌<◌, ap, arith, ◌∙◌}
 use Rattle.std.proofs.lemmas.List.{get_or_default}
 use Rattle.page_slots.specs.Tables.{used_in}

@@ -1,4 +1,4 @@
--- The front page of the pool is in no list.
+-- The first page of the pool is in no list.
 use Rattle.std.proofs.Common.{refl, inr}
 use Rattle.page_slots.proofs.Calls.{pool_inside, pool_small, pool_listable, pool_unlisted, took_free}
 use Rattle.page_slots.proofs.TablesAfterTake.{taken_gains, taken_others}

@@ -1,4 +1,4 @@
--- The front page of those that are not full has a free slot.
+-- The first partly full page has a free slot.
 use Rattle.std.proofs.Common.{inl}
 use Rattle.class_lists.specs.PageLists.{pages_in}
 use Rattle.class_lists.specs.declared.Which.TheVariants.{NotFull}

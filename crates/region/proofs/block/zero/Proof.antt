@@ -100,7 +100,7 @@ module _ {M : Type 1} {𝓤 : Ura M} (𝓛 : Logic 𝓤) (𝓣 : Tables 𝓤 �
       sets ! (bin ! (get ! refl) (lit ! tt) (record { fits = offset })) refl (tt, record { fits = offset }) $
       sets ! (bin ! (get ! refl) (get ! refl) tt) refl (tt, tt) $
       move ! (1 ∷ []) $ use1 𝓛 (‵ (froom (ty_int w64) b (i * 8 + o)) ⊛ ‵ (froom (ty_array (ty_int w64) (n - suc i)) b (suc i * 8 + o))) (took i lt) $ split ! $
-      -- [the next place; those behind it; the zeros; the locals]
+      -- [the next place; those after it; the zeros; the locals]
       assigns ! (of_opd ! (lit ! tt)) (through ! refl (stop !)) (init ! 0 refl (tt, record { fits = lit< tt })) $
       sets_last ! (bin ! (get ! refl) (lit ! tt) (record { fits = more })) refl (tt, record { fits = more }) $
       move ! (2 ∷ 0 ∷ []) $ use2 𝓛 (‵ (cells (mem u64) (zeros (suc i)) b o)) (grown i) $

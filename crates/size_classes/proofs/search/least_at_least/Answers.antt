@@ -4,7 +4,7 @@ use Rattle.size_classes.proofs.Probes.{halved, below_probe, found_at}
 use Rattle.size_classes.proofs.search.least_at_least.Goals as goal
 use Rattle.size_classes.proofs.search.least_at_least.Goals.{then-numbers-middle, else-numbers-middle}
 
--- where the probe finds too small a number, it is not the last, and the place lies behind it
+-- where the probe finds too small a number, it is not the last, and the place lies after it
 pub halves-preserved : goal.halves-preserved
 halves-preserved c =
     let was = c.halves.invariant in

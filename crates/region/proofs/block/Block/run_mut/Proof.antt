@@ -43,7 +43,7 @@ use Rattle.region.proofs.CallerLemmas.{length-with_words}
 use Rattle.region.proofs.Lists.{as_many, cut_run, fit-words, length-part}
 use Rattle.region.proofs.LayoutFacts.{block_val, block_had, block_made, row_out, row_in}
 
--- the words before the run and behind it, and how a block ends
+-- the words before the run and after it, and how a block ends
 module _ (h : R.Denot) (i n : ℕ) where
   abbrev front : List ℕ
   front = take i h.items
@@ -158,7 +158,7 @@ run_mut_spec 𝓤 𝓛 𝓜 𝓡 wired =
     row_out ! h.len h.items b o (λ _.
     use1 𝓛 (‵ (cells (mem u64) (run h i n) b (i * 8 + o)) ⊛ ‵ (cells (mem u64) (front h i n) b o) ⊛
     ‵ (cells (mem u64) (rear h i n) b (at (i * 8 + o) 8 n))) (cut h i n within b o rb ro 𝓛) $ split3 ! $
-    -- [the run; the words before it; the words behind it; the right to give them back; the block; the open borrow, in three entries]
+    -- [the run; the words before it; the words after it; the right to give them back; the block; the open borrow, in three entries]
     move ! (3 ∷ 4 ∷ []) $ fjoin ! $ move ! (3 ∷ 0 ∷ []) $ fjoin ! $ move ! (2 ∷ 0 ∷ []) $ fjoin ! $ move ! (2 ∷ 3 ∷ 4 ∷ 1 ∷ 0 ∷ []) $ group ! 5 $
     let room = room_of h i n within in let mend = back h i n within b o rb ro 𝓛 at_b fn in let rest = sem 𝓛 (Rest h i n within b o rb ro) in
     use1 𝓛 (later (some (λ (δ : GName). raw (Elements 𝓛 R u64 (ended h i n) (named 0) κ q rb ro b (i * 8 + o) γ (run h i n) room rest mend δ))))
