@@ -4,3 +4,4 @@ pub mod KnownWords
 pub mod ReadAlike
 pub mod RuleAddresses
 pub mod WalkAddresses
+pub mod CallerLemmas

@@ -1,3 +1,0 @@
--- What upper crates may cite, passed on from one place. Declares nothing.
-pub use Rattle.transcript_laws.proofs.Further.{stays_at_one}
-pub use Rattle.transcript_laws.proofs.Telling.{run_tells}
