@@ -13,21 +13,9 @@ use Rattle.page_model.specs.Image.{IsImage, IsSlotImage, object_word}
 use Rattle.page_model.specs.Frames.{IsPermuted}
 use Rattle.block_model.specs.Tiling.{Block, IsTiling, block_at, block_need}
 use Rattle.block_model.specs.Words.{AreTilingWords}
+use Rattle.cf_model.specs.Families.{paged, tiled, family_of}
+pub use Rattle.cf_model.specs.Families.{IsPaged, IsTiled}
 use Rattle.cf_model.specs.State.{HeapState, paging_in, region_words}
-
--- whether the kind cuts its memory into pages
-abbrev pub IsPaged : Kind → Type 0
-IsPaged Moving = Unit {0}
-IsPaged NonMoving = Unit {0}
-IsPaged Tlsf = ⊥
-IsPaged HalfFit = ⊥
-
--- whether the kind cuts its memory into blocks
-abbrev pub IsTiled : Kind → Type 0
-IsTiled Moving = ⊥
-IsTiled NonMoving = ⊥
-IsTiled Tlsf = Unit {0}
-IsTiled HalfFit = Unit {0}
 
 -- the settings are in their ranges
 pub record AreInRange (p : Profile) : Type 0 where
@@ -91,12 +79,16 @@ pub record KeepsTiling (s : HeapState) : Type 0 where
   pub no_frames : s.frames ≡ []
   pub no_bounds : s.bounds ≡ []
 
+-- what each kind keeps of a block table: only one has such a table
+abbrev pub KeepsTable : Kind → HeapState → Type 0
+KeepsTable Moving s = HasNoFrames s
+KeepsTable NonMoving s = KeepsFrames s
+KeepsTable Tlsf s = HasNoFrames s
+KeepsTable HalfFit s = HasNoFrames s
+
 -- what each kind keeps besides
 abbrev pub KeepsRulesOf : Kind → HeapState → Type 0
-KeepsRulesOf Moving s = KeepsPages s × HasNoFrames s
-KeepsRulesOf NonMoving s = KeepsPages s × KeepsFrames s
-KeepsRulesOf Tlsf s = KeepsTiling s
-KeepsRulesOf HalfFit s = KeepsTiling s
+KeepsRulesOf kind s = elim (family_of kind) [ paged ↦ KeepsPages s × KeepsTable kind s | tiled ↦ KeepsTiling s ]
 
 -- The rules of an open manager.
 pub record KeepsRules (s : HeapState) : Type 0 where
