@@ -15,6 +15,7 @@ use Rattle.cf_base.specs.declared.kind.Kind.TheVariants.{Moving, NonMoving, Tlsf
 use Rattle.page_model.specs.Held.{Placed}
 use Rattle.cf_io.specs.Lines.{word_text}
 use Rattle.cf_model.specs.Answers.{block_of_object}
+use Rattle.cf_model.specs.Families.{Family, paged, tiled, family_of}
 use Rattle.cf_model.specs.State.{HeapState}
 use Rattle.script_reader.specs.declared.command.Command.{Command}
 use Rattle.script_reader.specs.declared.command.Command.TheVariants.{Read, Place, Block, Peek, Walk, Frag, Steps}
@@ -80,10 +81,11 @@ peek_text (Some word) = word_text word
 
 -- steps: the cost of the last call; with pages also its bound, and how many objects moved, with the words of their slots
 abbrev pub steps_text : Kind → SessionState → ℕ → List ℕ
-steps_text Moving s cost = with_number (codes "steps last ") cost ++ (with_number (codes " bound ") s.bound ++ (with_number (codes " moves ") s.moves ++ with_number (codes " words ") s.words))
-steps_text NonMoving s cost = with_number (codes "steps last ") cost ++ (with_number (codes " bound ") s.bound ++ (with_number (codes " moves ") s.moves ++ with_number (codes " words ") s.words))
-steps_text Tlsf s cost = with_number (codes "steps last ") cost
-steps_text HalfFit s cost = with_number (codes "steps last ") cost
+steps_text kind s cost = elim (family_of kind) [
+  | paged ↦ with_number (codes "steps last ") cost ++ (with_number (codes " bound ") s.bound
+      ++ (with_number (codes " moves ") s.moves ++ with_number (codes " words ") s.words))
+  | tiled ↦ with_number (codes "steps last ") cost
+]
 
 -- the reply of a command that changes nothing; `none` to the words of the modes that do more
 abbrev pub told : RunState → Command → Reply
