@@ -16,11 +16,11 @@ ghost use Rattle.block_model.specs.Buckets.{FreeLists};
 ghost use Rattle.block_model.specs.Tiling.{Block, Carves, IsCarvedTo, IsTiling, block_at, block_need, released};
 ghost use Rattle.block_model.specs.ReadWords.{read_blocks};
 ghost use Rattle.block_model.specs.Words.{AreCleared, AreTilingWords, HaveHeaders};
-ghost use Rattle.page_model.specs.Steps.{Request, zeros_at};
+ghost use Rattle.page_model.specs.Steps.{PlacesObject, RefitsObject, RemovesObject, Request, zeros_at};
 ghost use Rattle.cf_model.specs.ReadObjects.{read_objects};
 ghost use Rattle.cf_model.specs.Rules.{AreInRange, AreObjects, AreOwned, IsPaged, IsTiled, KeepsRules, KeepsTiling, content_word};
-ghost use Rattle.cf_model.specs.State.{HeapState, region_words};
-ghost use Rattle.cf_model.specs.Steps.{BlocksStay, ChangesCost, FreesObject, GivesObject, IsFault, IsOpeningWords, IsRefusedBy, IsResizeFault, Part, ReadsBytes, ResizesObject, WritesBytes, empty_heap};
+ghost use Rattle.cf_model.specs.State.{HeapState, paging_in, region_words};
+ghost use Rattle.cf_model.specs.Steps.{BlocksStay, ChangesCost, FreesObject, GivesObject, IsFault, IsOpeningWords, IsRefusedBy, IsResizeFault, Part, ReadsBytes, ResizesObject, WritesBytes, empty_heap, number_of};
 
 /// An empty heap of each kind keeps the rules. With blocks, its words are the size of the one free
 /// block, an open word, and zeros. So a manager of each kind can be opened.
@@ -114,4 +114,15 @@ pub fn a_carve_keeps_the_words()
         → ((b : Block) → block_at new place ≡ Some b → (i : ℕ) → 2 + i < b.size → slice_index now (place + 2 + i) ≡ 0)
         → (b : Block) → block_at new place ≡ Some b → b.owner ≡ Some h
         → AreTilingWords (content_word (insert m h (zeros_at place n))) new now }
+{}
+
+/// With pages, a malloc, a free and a resize of a manager are the steps that objects on pages make:
+/// an object is placed, is removed, and gets another length.
+pub fn calls_are_the_steps_of_pages()
+    ensures malloc { (old new : HeapState) (asked : Request) → IsPaged old.kind → GivesObject old asked new
+        → PlacesObject (paging_in old) old.held asked new.held }
+    ensures free { (old new : HeapState) (h : ℕ) (freed : Freed) → IsPaged old.kind → FreesObject old h freed new
+        → RemovesObject (paging_in old) old.held h (record { held = new.held; moved = number_of freed.moved }) }
+    ensures resize { (old new : HeapState) (asked : Request) (done : Resized) → ResizesObject old asked done new
+        → RefitsObject (paging_in old) old.held asked (record { held = new.held; moved = number_of done.moved }) }
 {}

@@ -18,7 +18,7 @@ use Rattle.cf_model.specs.Answers.{block_of_object}
 use Rattle.cf_model.specs.Families.{Family, paged, tiled, family_of}
 use Rattle.cf_model.specs.State.{HeapState}
 use Rattle.script_reader.specs.declared.command.Command.{Command}
-use Rattle.script_reader.specs.declared.command.Command.TheVariants.{Read, Place, Block, Peek, Walk, Frag, Steps}
+use Rattle.script_reader.specs.declared.command.Command.TheVariants.{Read, Place, Block, Peek, Walk, Frag, Steps, Slice, Task, Quota, Need, Admit}
 use Rattle.run_model.specs.Reports.{frag_of, walk_of}
 use Rattle.run_model.specs.Sessions.{RunState, SessionState}
 use Rattle.run_model.specs.Texts.{Reply, said, with_number}
@@ -87,7 +87,8 @@ steps_text kind s cost = elim (family_of kind) [
   | tiled ↦ with_number (codes "steps last ") cost
 ]
 
--- the reply of a command that changes nothing; `none` to the words of the modes that do more
+-- The reply of a command that changes nothing; `none` to the words of the modes that do more. The last row is of commands that have a step of their own:
+-- no run asks for a reply to them here.
 abbrev pub told : RunState → Command → Reply
 told s (Read id at count) = said (read_text (object_of s id) at count)
 told s (Place id) = said (place_text (object_of s id))
@@ -96,4 +97,9 @@ told s (Peek word) = said (peek_text (slice_get s.heap.words word))
 told s Walk = walk_of s.heap.kind s.heap
 told s Frag = frag_of s.heap
 told s Steps = said (steps_text s.heap.kind s.session s.heap.cost)
+told s Slice = said (codes "none")
+told s (Task task) = said (codes "none")
+told s (Quota task pages) = said (codes "none")
+told s (Need task bytes count) = said (codes "none")
+told s (Admit task) = said (codes "none")
 told s command = said (codes "none")
