@@ -27,7 +27,8 @@ behind x xs from to a b f there =
     rw (eq_no x.address a (λ is. omega arith)) there
 
 -- blocks at two addresses share no word
-pub apart : (bs : List Block) (from to a c : ℕ) (b d : Block) → Fill bs from to → block_at bs a ≡ Some b → block_at bs c ≡ Some d → a ≢ c → (a + b.size ≤ c) ⊎ (c + d.size ≤ a)
+pub apart : (bs : List Block) (from to a c : ℕ) (b d : Block) → Fill bs from to → block_at bs a ≡ Some b → block_at bs c ≡ Some d → a ≢ c
+    → (a + b.size ≤ c) ⊎ (c + d.size ≤ a)
 apart [] from to a c b d f x y ne = cc
 apart (z ∷ zs) from to a c b d f x y ne = elim (cases_eq z.address a) [
   | inl is ↦ (
@@ -55,7 +56,8 @@ apart (z ∷ zs) from to a c b d f x y ne = elim (cases_eq z.address a) [
 ]
 
 -- headers that stay are headers
-headers_stay : (old new : List ℕ) (bs : List Block) (from to before : ℕ) → Fill bs from to → ((a : ℕ) (b : Block) → block_at bs a ≡ Some b → get_or new a 0 ≡ get_or old a 0) → HaveHeaders old bs before → HaveHeaders new bs before
+headers_stay : (old new : List ℕ) (bs : List Block) (from to before : ℕ) → Fill bs from to
+    → ((a : ℕ) (b : Block) → block_at bs a ≡ Some b → get_or new a 0 ≡ get_or old a 0) → HaveHeaders old bs before → HaveHeaders new bs before
 headers_stay old new [] from to before f same heads = tt
 headers_stay old new (b ∷ bs) from to before f same heads = (
   same b.address b (rw (eq_yes b.address b.address refl) refl) ∙ heads.0,
@@ -83,11 +85,14 @@ module _ (f : ℕ → ℕ) (from n : ℕ) (words : List ℕ) where
   pub replaced_inside : (i : ℕ) → i < n → from + n ≤ length words → get_or (replaced f from n words) (from + i) 0 ≡ f i
   replaced_inside i lt fits =
       let e : from + i - from ≡ i = omega arith in
-      get_or-map-range_with_len _ 0 (length words) (from + i) (from + i) 0 (omega arith) (omega arith) ∙ rw (le_yes from (from + i) (omega arith), lt_yes (from + i) (from + n) (omega arith), e) refl
+      get_or-map-range_with_len _ 0 (length words) (from + i) (from + i) 0 (omega arith) (omega arith)
+      ∙ rw (le_yes from (from + i) (omega arith), lt_yes (from + i) (from + n) (omega arith), e) refl
 
 -- a used block of a tiling gets other contents
-module _ (content now : ℕ → ℕ → ℕ) (count : ℕ) (bs : List Block) (words : List ℕ) (place : ℕ) (b : Block) (h : ℕ) (t : IsTiling count bs) (are : AreTilingWords content bs words) (long : length words ≡ count)
-    (there : block_at bs place ≡ Some b) (used : b.owner ≡ Some h) (others : (a : ℕ) (c : Block) (q : ℕ) → a ≢ place → block_at bs a ≡ Some c → c.owner ≡ Some q → (i : ℕ) → now q i ≡ content q i) where
+module _ (content now : ℕ → ℕ → ℕ) (count : ℕ) (bs : List Block) (words : List ℕ) (place : ℕ) (b : Block) (h : ℕ) (t : IsTiling count bs)
+    (are : AreTilingWords content bs words) (long : length words ≡ count)
+    (there : block_at bs place ≡ Some b) (used : b.owner ≡ Some h)
+    (others : (a : ℕ) (c : Block) (q : ℕ) → a ≢ place → block_at bs a ≡ Some c → c.owner ≡ Some q → (i : ℕ) → now q i ≡ content q i) where
   abbrev pub refilled : List ℕ
   refilled = replaced (now h) (place + 1) (b.size - 1) words
 
@@ -113,13 +118,15 @@ module _ (content now : ℕ → ℕ → ℕ) (count : ℕ) (bs : List Block) (wo
   refilled_long = length-replaced (now h) (place + 1) (b.size - 1) words ∙ long
 
   pub refilled_outside : (w : ℕ) → ((w < place) ⊎ (place + b.size ≤ w)) → get_or refilled w 0 ≡ get_or words w 0
-  refilled_outside w out = (let size = mine.size in replaced_outside (now h) (place + 1) (b.size - 1) words w (elim out [ inl low ↦ inl (omega arith) | inr high ↦ inr (omega arith) ]))
+  refilled_outside w out = (let size = mine.size in
+      replaced_outside (now h) (place + 1) (b.size - 1) words w (elim out [ inl low ↦ inl (omega arith) | inr high ↦ inr (omega arith) ]))
 
   pub refilled_words : AreTilingWords now bs refilled
   refilled_words = record {
     headers = headers_stay words refilled bs 0 count 0 t.fill header_stays are.headers;
     cleared = λ a c at free i low high. (
-        let ne : a ≢ place = λ is. (let same : Some c ≡ Some b = sym at ∙ ap (block_at bs) is ∙ there in let o : c.owner ≡ b.owner = ap (λ (x : Block). x.owner) (same_block c b same) in let z : None ≡ Some h = sym free ∙ o ∙ used in cc) in
+        let ne : a ≢ place = λ is. (let same : Some c ≡ Some b = sym at ∙ ap (block_at bs) is
+        ∙ there in let o : c.owner ≡ b.owner = ap (λ (x : Block). x.owner) (same_block c b same) in let z : None ≡ Some h = sym free ∙ o ∙ used in cc) in
         outside a c (a + i) at ne (omega arith) (omega arith) ∙ are.cleared a c at free i low high);
     contents = λ a c q at by i lt. elim (cases_eq a place) [
       | inl is ↦ (

@@ -64,14 +64,16 @@ module _ (rule : FreeLists) (need : ℕ) where
           found = found.found;
           there = behind x xs from to found.place found.found f found.there;
           serves = found.serves;
-          least = λ a b at serves. elim (first_or_later x xs a b at) [ inl is ↦ (let e = ap (λ (y : Block). rule.bucket y.size) is in omega arith) | inr later ↦ found.least a b later serves ];
+          least = λ a b at serves. elim (first_or_later x xs a b at)
+              [ inl is ↦ (let e = ap (λ (y : Block). rule.bucket y.size) is in omega arith) | inr later ↦ found.least a b later serves ];
         })
         | inr le ↦ inl (record {
           place = x.address;
           found = x;
           there = first_at x xs;
           serves = does;
-          least = λ a b at serves. elim (first_or_later x xs a b at) [ inl is ↦ rw is (omega arith) | inr later ↦ (let m = found.least a b later serves in omega arith) ];
+          least = λ a b at serves. elim (first_or_later x xs a b at)
+              [ inl is ↦ rw is (omega arith) | inr later ↦ (let m = found.least a b later serves in omega arith) ];
         })
       ]
     ]

@@ -1,5 +1,6 @@
 -- The blocks that the words of a region tell, and words that a list of blocks may have.
-use Rattle.std.specs.Prelude.{◌≡◌, ℕ, zero, suc, ◌+◌, ◌-◌, ◌/◌, ◌%◌, ◌^◌, List, [], ◌∷◌, ◌++◌, Option, Some, None, if◌then◌else◌, map, nat_eq, nat_lt, slice_index}
+use Rattle.std.specs.Prelude.{◌≡◌, ℕ, zero, suc, ◌+◌, ◌-◌, ◌/◌, ◌%◌, ◌^◌, List, [], ◌∷◌, ◌++◌, Option, Some, None, if◌then◌else◌, map, nat_eq, nat_lt}
+use Rattle.std.specs.Prelude.{slice_index}
 use Rattle.std.specs.List.{range_with_len}
 use Rattle.block_model.specs.Tiling.{Block, block_at}
 use Rattle.block_model.specs.Words.{block_header}
@@ -29,4 +30,5 @@ inner_word (Some h) content i = content h i
 -- words of these blocks, one after the other, the first after a block of `before` words
 abbrev pub tiling_words : (ℕ → ℕ → ℕ) → List Block → ℕ → List ℕ
 tiling_words content [] before = []
-tiling_words content (b ∷ bs) before = (block_header before b ∷ map (inner_word b.owner content) (range_with_len 0 (b.size - 1))) ++ tiling_words content bs b.size
+tiling_words content (b ∷ bs) before = (block_header before b ∷ map (inner_word b.owner content) (range_with_len 0 (b.size - 1)))
+    ++ tiling_words content bs b.size

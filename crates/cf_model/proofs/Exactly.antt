@@ -53,7 +53,8 @@ placed_is_room k old new asked place placed lacking = by_family (family_of k) re
     by_family : (f : Family) → family_of k ≡ f → ⊥
     by_family paged is = place_is_room (paging_in old) old.held asked.length place (rw (is, IsPlacedBy) at placed) (rw (is, LacksRoomIn) at lacking)
     by_family tiled is =
-        let carves : Carves (lists_of k) old.tiling (record { need = block_need asked.length; owner = asked.number }) place new.tiling = rw (is, IsPlacedBy) at placed in
+        let carves : Carves (lists_of k) old.tiling (record { need = block_need asked.length; owner = asked.number }) place new.tiling =
+        rw (is, IsPlacedBy) at placed in
         let none : LacksBlock (lists_of k) old.tiling (block_need asked.length) = rw (is, LacksRoomIn) at lacking in
         none place carves.found carves.there carves.serves
 

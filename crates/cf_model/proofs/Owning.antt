@@ -81,7 +81,8 @@ owned_free words m old h x t owned found =
     }
 
 -- other bytes, as many, in the same block
-pub owned_replaced : (m : Held) (blocks : List Block) (h : ℕ) (x y : Placed) → AreOwned m blocks → get m h ≡ Some x → y.place ≡ x.place → length y.bytes ≡ length x.bytes → AreOwned (insert m h y) blocks
+pub owned_replaced : (m : Held) (blocks : List Block) (h : ℕ) (x y : Placed) → AreOwned m blocks → get m h ≡ Some x → y.place ≡ x.place
+    → length y.bytes ≡ length x.bytes → AreOwned (insert m h y) blocks
 owned_replaced m blocks h x y owned found same long = record {
   placed = λ q z e. elim (cases_eq q h) [
     | inl is ↦ (

@@ -1,5 +1,6 @@
 -- The words of a heap with blocks tell its objects, and what a carve leaves of the words gives those of the objects after a malloc.
-use Rattle.std.proofs.Common.{◌≡◌, ◌≢◌, ℕ, zero, suc, ◌+◌, ◌-◌, ◌*◌, ◌<◌, List, Option, Some, None, length, get_or, take, replicate, arith, sym, ◌∙◌, subst, inl, inr, ap, refl}
+use Rattle.std.proofs.Common.{◌≡◌, ◌≢◌, ℕ, zero, suc, ◌+◌, ◌-◌, ◌*◌, ◌<◌, List, Option, Some, None, length, get_or, take, replicate, arith, sym, ◌∙◌, subst}
+use Rattle.std.proofs.Common.{inl, inr, ap, refl}
 use Rattle.std.specs.Prelude.{option_map}
 use Rattle.std.proofs.lemmas.Bool.{cases_eq}
 use Rattle.std.proofs.lemmas.List.{drop-replicate, length-replicate}
@@ -36,13 +37,19 @@ tags_of s range objects k a b h there used =
     let most = range.few_proxies in
     omega arith
 
-pub blocks_told : (s : HeapState) → AreInRange s.profile → AreObjects s → KeepsTiling s → read_blocks (region_words s.profile) s.words 0 (region_words s.profile) ≡ s.tiling
-blocks_told s range objects k = (let few = range.small_region in blocks_read (region_words s.profile) s.tiling s.words (omega arith) k.tiling k.words.headers (tags_of s range objects k))
+pub blocks_told : (s : HeapState) → AreInRange s.profile → AreObjects s → KeepsTiling s
+    → read_blocks (region_words s.profile) s.words 0 (region_words s.profile) ≡ s.tiling
+blocks_told s range objects k = (let few = range.small_region in
+    blocks_read (region_words s.profile) s.tiling s.words (omega arith) k.tiling k.words.headers (tags_of s range objects k))
 
 pub objects_told : (s : HeapState) → AreInRange s.profile → AreObjects s → KeepsTiling s → read_objects s.words (places s.held) ≡ s.held
-objects_told s range objects k = equal_maps _ _ (λ q. get-map_values (λ a. record { place = a; bytes = bytes_at s.words (a + 1) }) (places s.held) q ∙ ap (option_map (λ a. record { place = a; bytes = bytes_at s.words (a + 1) })) (get-map_values (λ (x : Placed). x.place) s.held q) ∙ go q (get s.held q) refl)
+objects_told s range objects k = equal_maps _ _
+    (λ q. get-map_values (λ a. record { place = a; bytes = bytes_at s.words (a + 1) }) (places s.held) q
+    ∙ ap (option_map (λ a. record { place = a; bytes = bytes_at s.words (a + 1) })) (get-map_values (λ (x : Placed). x.place) s.held q)
+    ∙ go q (get s.held q) refl)
   where
-    go : (q : ℕ) (o : Option Placed) → get s.held q ≡ o → option_map (λ a. record { place = a; bytes = bytes_at s.words (a + 1) }) (option_map (λ (x : Placed). x.place) o) ≡ o
+    go : (q : ℕ) (o : Option Placed) → get s.held q ≡ o
+        → option_map (λ a. record { place = a; bytes = bytes_at s.words (a + 1) }) (option_map (λ (x : Placed). x.place) o) ≡ o
     go q None f = refl
     go q (Some x) f =
         let own = k.owned.placed q x f in
@@ -79,7 +86,8 @@ pub carve_words : (rule : FreeLists) (count : ℕ) (m : Held) (old new : List Bl
     → Carves rule old (record { need = block_need n; owner = h }) place new
     → AreTilingWords (content_word m) old was
     → HaveHeaders now new 0 → AreCleared now new
-    → ((a q : ℕ) (b : Block) → a ≢ place → block_at new a ≡ Some b → b.owner ≡ Some q → (i : ℕ) → 1 + i < b.size → get_or now (a + 1 + i) 0 ≡ get_or was (a + 1 + i) 0)
+    → ((a q : ℕ) (b : Block) → a ≢ place → block_at new a ≡ Some b → b.owner ≡ Some q → (i : ℕ) → 1 + i < b.size
+    → get_or now (a + 1 + i) 0 ≡ get_or was (a + 1 + i) 0)
     → get_or now (place + 1) 0 ≡ header_word h n
     → ((b : Block) → block_at new place ≡ Some b → (i : ℕ) → 2 + i < b.size → get_or now (place + 2 + i) 0 ≡ 0)
     → (b : Block) → block_at new place ≡ Some b → b.owner ≡ Some h
@@ -92,7 +100,8 @@ carve_words rule count m old new h n place was now t owned none step words heads
         let at' : block_at new place ≡ Some b = rw is at at in
         let same : mine ≡ b = some_block mine b (sym there ∙ at') in
         let who : h ≡ q = some_number h q (sym used ∙ ap (λ (c : Block). c.owner) same ∙ by) in
-        let got : get (insert m h (zeros_at place n)) q ≡ Some (zeros_at place n) = subst (λ k. get (insert m h (zeros_at place n)) k ≡ Some (zeros_at place n)) who (get_inserted m h (zeros_at place n)) in
+        let got : get (insert m h (zeros_at place n)) q ≡ Some (zeros_at place n) =
+        subst (λ k. get (insert m h (zeros_at place n)) k ≡ Some (zeros_at place n)) who (get_inserted m h (zeros_at place n)) in
         rw (is, got) (inside b at' q who i lt))
     | inr away ↦ (
         let stays = malloc_stays rule count old new (record { need = block_need n; owner = h }) place t step in
@@ -103,7 +112,8 @@ carve_words rule count m old new h n place was now t owned none step words heads
   ];
 }
   where
-    inside : (b : Block) → block_at new place ≡ Some b → (q : ℕ) → h ≡ q → (i : ℕ) → 1 + i < b.size → get_or now (place + 1 + i) 0 ≡ object_word q (replicate n 0) i
+    inside : (b : Block) → block_at new place ≡ Some b → (q : ℕ) → h ≡ q → (i : ℕ) → 1 + i < b.size
+        → get_or now (place + 1 + i) 0 ≡ object_word q (replicate n 0) i
     inside b at q who zero lt =
         let len : length (replicate {A = ℕ} n 0) ≡ n = length-replicate n 0 in
         let e : place + 1 + 0 ≡ place + 1 = omega arith in

@@ -20,7 +20,8 @@ ghost use Rattle.page_model.specs.Steps.{PlacesObject, RefitsObject, RemovesObje
 ghost use Rattle.cf_model.specs.ReadObjects.{read_objects};
 ghost use Rattle.cf_model.specs.Rules.{AreInRange, AreObjects, AreOwned, IsPaged, IsTiled, KeepsRules, KeepsTiling, content_word};
 ghost use Rattle.cf_model.specs.State.{HeapState, paging_in, region_words};
-ghost use Rattle.cf_model.specs.Steps.{BlocksStay, ChangesCost, FreesObject, GivesObject, IsFault, IsOpeningWords, IsRefusedBy, IsResizeFault, Part, ReadsBytes, ResizesObject, WritesBytes, empty_heap, number_of};
+ghost use Rattle.cf_model.specs.Steps.{BlocksStay, ChangesCost, FreesObject, GivesObject, IsFault, IsOpeningWords, IsRefusedBy, IsResizeFault, Part};
+ghost use Rattle.cf_model.specs.Steps.{ReadsBytes, ResizesObject, WritesBytes, empty_heap, number_of};
 
 /// An empty heap of each kind keeps the rules. With blocks, its words are the size of the one free
 /// block, an open word, and zeros. So a manager of each kind can be opened.

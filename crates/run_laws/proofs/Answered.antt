@@ -1,5 +1,6 @@
 -- What it is for a call of a heap to have an answer, and a state after it that keeps the rules.
-use Rattle.std.proofs.Common.{◌≡◌, ◌≢◌, ℕ, ◌+◌, ◌<◌, ◌≤◌, List, Option, Some, None, Result, Ok, Err, length, get_or, set, replicate, arith, sym, ◌∙◌, ap, refl, subst, inl, inr}
+use Rattle.std.proofs.Common.{◌≡◌, ◌≢◌, ℕ, ◌+◌, ◌<◌, ◌≤◌, List, Option, Some, None, Result, Ok, Err, length, get_or, set, replicate, arith, sym, ◌∙◌, ap, refl}
+use Rattle.std.proofs.Common.{subst, inl, inr}
 use Rattle.std.specs.Prelude.{◌⊎◌, option_map}
 use Rattle.std.proofs.lemmas.Bool.{cases_eq, cases_lt}
 use Rattle.std.proofs.lemmas.List.{get_or-set_same, get_or-set_other, length-set, set_past}

@@ -1,5 +1,6 @@
 -- Every call of a heap with blocks has an answer, and a state after it that keeps the rules.
-use Rattle.std.proofs.Common.{◌≡◌, ◌≢◌, ℕ, ◌+◌, ◌*◌, ◌^◌, ◌<◌, ◌≤◌, List, Option, Some, None, Result, Ok, Err, length, get_or, replicate, arith, sym, ◌∙◌, ap, refl, subst, inl, inr}
+use Rattle.std.proofs.Common.{◌≡◌, ◌≢◌, ℕ, ◌+◌, ◌*◌, ◌^◌, ◌<◌, ◌≤◌, List, Option, Some, None, Result, Ok, Err, length, get_or, replicate, arith, sym, ◌∙◌, ap}
+use Rattle.std.proofs.Common.{refl, subst, inl, inr}
 use Rattle.std.specs.Prelude.{◌⊎◌}
 use Rattle.std.proofs.lemmas.Bool.{cases_eq, cases_lt}
 use Rattle.std.specs.FinMap.{get, insert, len, remove}
@@ -53,13 +54,16 @@ module _ (old : HeapState) (rules : KeepsRules old) (with_blocks : IsTiled old.k
   cost_any cost bound = rw (with_blocks, CostsAtMost) tt
 
   -- the rules, with other objects in other blocks
-  rules_with : (m : Held) (blocks : List Block) (words : List ℕ) (cost : ℕ) → IsTiling (region_words old.profile) blocks → AreOwned m blocks → AreTilingWords (content_word m) blocks words
-      → length words ≡ region_words old.profile → AreFew old.profile.proxies (objects m) → KeepsRules (record old { held = m; words = words; tiling = blocks; cost = cost })
+  rules_with : (m : Held) (blocks : List Block) (words : List ℕ) (cost : ℕ) → IsTiling (region_words old.profile) blocks → AreOwned m blocks
+      → AreTilingWords (content_word m) blocks words
+      → length words ≡ region_words old.profile → AreFew old.profile.proxies (objects m)
+      → KeepsRules (record old { held = m; words = words; tiling = blocks; cost = cost })
   rules_with m blocks words cost tiles owned are count few = record {
     settings = rules.settings;
     region = count;
     numbers = objects_in (record old { held = m; words = words; tiling = blocks; cost = cost }) few;
-    of_kind = rw (with_blocks, KeepsRulesOf) (record { tiling = tiles; owned = owned; words = are; no_frames = tiling.no_frames; no_bounds = tiling.no_bounds });
+    of_kind = rw (with_blocks, KeepsRulesOf)
+        (record { tiling = tiles; owned = owned; words = are; no_frames = tiling.no_frames; no_bounds = tiling.no_bounds });
   }
 
   -- the words of other objects in other blocks
@@ -67,16 +71,22 @@ module _ (old : HeapState) (rules : KeepsRules old) (with_blocks : IsTiled old.k
     words : List ℕ
     kept : KeepsRules (record old { held = m; words = words; tiling = blocks; cost = 0 })
 
-  becomes : (m : Held) (blocks : List Block) → IsTiling (region_words old.profile) blocks → AreOwned m blocks → AreFew old.profile.proxies (objects m) → Becomes m blocks
+  becomes : (m : Held) (blocks : List Block) → IsTiling (region_words old.profile) blocks → AreOwned m blocks → AreFew old.profile.proxies (objects m)
+      → Becomes m blocks
   becomes m blocks tiles owned few =
       let are = made (content_word m) (region_words old.profile) blocks tiles in
-      record { words = tiling_words (content_word m) blocks 0; kept = rules_with m blocks (tiling_words (content_word m) blocks 0) 0 tiles owned are.0 are.1 few }
+      record {
+        words = tiling_words (content_word m) blocks 0;
+        kept =
+            rules_with m blocks (tiling_words (content_word m) blocks 0) 0 tiles owned are.0 are.1 few;
+      }
 
   -- nothing changes but the cost
   rules_still : KeepsRules (record old { cost = 0 })
   rules_still = rules_with old.held old.tiling old.words 0 tiling.tiling tiling.owned tiling.words rules.region few_old
 
-  malloc_given : (n place h : ℕ) (new : List Block) → need n ≤ old.profile.page_words → len old.held < old.profile.proxies → h < old.profile.proxies → get old.held h ≡ None
+  malloc_given : (n place h : ℕ) (new : List Block) → need n ≤ old.profile.page_words → len old.held < old.profile.proxies → h < old.profile.proxies
+      → get old.held h ≡ None
       → Carves (lists_of old.kind) old.tiling (record { need = block_need n; owner = h }) place new → HasMalloc old n
   malloc_given n place h new fits few low unused carves =
       let d : Demand = record { need = block_need n; owner = h } in
@@ -84,10 +94,14 @@ module _ (old : HeapState) (rules : KeepsRules old) (with_blocks : IsTiled old.k
       let none : get (objects old.held) h ≡ None = bytes_missing old.held h unused in
       let room : len (objects old.held) < old.profile.proxies = (let same = len-objects old.held in omega arith) in
       let law = lawful old.kind in
-      let given = malloc_gives (lists_of old.kind) law.0 (region_words old.profile) old.tiling new d place law.1 rules.settings.small_region (omega arith) (need_is_small old.profile rules.settings n fits) tiling.tiling carves in
+      let given = malloc_gives (lists_of old.kind) law.0 (region_words old.profile) old.tiling new d place law.1 rules.settings.small_region (omega arith)
+      (need_is_small old.profile rules.settings n fits) tiling.tiling carves in
       let tiles = malloc_keeps_tiling (lists_of old.kind) (region_words old.profile) old.tiling new d place (omega arith) tiling.tiling carves in
-      let owned = owned_malloc (lists_of old.kind) (region_words old.profile) old.held old.tiling new h n place tiling.tiling tiling.owned unused carves given in
-      let added : AreFew old.profile.proxies (objects m) = subst (AreFew old.profile.proxies) (sym (malloc_objects old.held h place n)) (few_added old.profile.proxies (objects old.held) few_old h (replicate n 0) none low room (zeros_are_bytes n)) in
+      let owned = owned_malloc (lists_of old.kind)
+      (region_words old.profile) old.held old.tiling new h n place tiling.tiling tiling.owned unused carves given in
+      let added : AreFew old.profile.proxies (objects m) =
+      subst (AreFew old.profile.proxies) (sym (malloc_objects old.held h place n))
+      (few_added old.profile.proxies (objects old.held) few_old h (replicate n 0) none low room (zeros_are_bytes n)) in
       let after = becomes m new tiles owned added in
       record {
         answer = Ok (record { 0 = h });
@@ -139,7 +153,8 @@ module _ (old : HeapState) (rules : KeepsRules old) (with_blocks : IsTiled old.k
   free_done h x there =
       let left : Held = remove old.held h in
       let gone : objects left ≡ remove (objects old.held) h = map_values-remove (λ (z : Placed). z.bytes) old.held h in
-      let few : AreFew old.profile.proxies (objects left) = subst (AreFew old.profile.proxies) (sym gone) (few_left old.profile.proxies (objects old.held) few_old h x.bytes (bytes_held old.held h x there)) in
+      let few : AreFew old.profile.proxies (objects left) =
+      subst (AreFew old.profile.proxies) (sym gone) (few_left old.profile.proxies (objects old.held) few_old h x.bytes (bytes_held old.held h x there)) in
       let next = becomes left (released old.tiling x.place) (free_keeps_tiling (region_words old.profile) old.tiling x.place tiling.tiling)
       (owned_free (region_words old.profile) old.held old.tiling h x tiling.tiling tiling.owned there) few in
       record {
@@ -152,7 +167,8 @@ module _ (old : HeapState) (rules : KeepsRules old) (with_blocks : IsTiled old.k
           moves = rw (with_blocks, MovesIn) refl;
           left = gone;
           whole = ap (λ t. record old { held = left; words = next.words; tiling = t; cost = 0 }) (rw (with_blocks, tiling_left) refl)
-          ∙ ap (λ f. record old { held = left; words = next.words; frames = f; tiling = tiling_left old.kind old x.place; cost = 0 }) (sym (frames_stay (leaves_of old h x None)));
+              ∙ ap (λ f. record old { held = left; words = next.words; frames = f; tiling = tiling_left old.kind old x.place; cost = 0 })
+              (sym (frames_stay (leaves_of old h x None)));
         };
         kept = next.kept;
         cost = cost_any 0;
@@ -170,14 +186,17 @@ module _ (old : HeapState) (rules : KeepsRules old) (with_blocks : IsTiled old.k
         let long : length v ≡ length x.bytes = length-written x.bytes part.from bytes within in
         let own = tiling.owned.placed h x there in
         let b = own.0 in
-        let others : (a : ℕ) (c : Block) (q : ℕ) → a ≢ x.place → block_at old.tiling a ≡ Some c → c.owner ≡ Some q → (i : ℕ) → content_word m q i ≡ content_word old.held q i = λ a c q ne at by i. (
-            let mine = tiling.owned.live a c q at by in
-            let other : q ≢ h = λ is. ne (sym mine.2 ∙ ap (λ (z : Placed). z.place) (same_object mine.0 x (sym mine.1 ∙ ap (get old.held) is ∙ there))) in
-            let e = get_insert_other old.held h y q other in
-            rw e refl) in
-        let words = refilled (content_word old.held) (content_word m) (region_words old.profile) old.tiling old.words x.place b h tiling.tiling tiling.words rules.region own.1 own.2.owner others in
+        let others : (a : ℕ) (c : Block) (q : ℕ) → a ≢ x.place → block_at old.tiling a ≡ Some c → c.owner ≡ Some q → (i : ℕ)
+        → content_word m q i ≡ content_word old.held q i = λ a c q ne at by i. (
+        let mine = tiling.owned.live a c q at by in
+        let other : q ≢ h = λ is. ne (sym mine.2 ∙ ap (λ (z : Placed). z.place) (same_object mine.0 x (sym mine.1 ∙ ap (get old.held) is ∙ there))) in
+        let e = get_insert_other old.held h y q other in
+        rw e refl) in
+        let words = refilled (content_word old.held) (content_word m)
+        (region_words old.profile) old.tiling old.words x.place b h tiling.tiling tiling.words rules.region own.1 own.2.owner others in
         let few : AreFew old.profile.proxies (objects m) = subst (AreFew old.profile.proxies) (sym (map_values-insert (λ (z : Placed). z.bytes) old.held h y))
-        (few_changed old.profile.proxies (objects old.held) few_old h x.bytes v (bytes_held old.held h x there) (written_are_bytes x.bytes part.from bytes within (rules.numbers.bytes h x there) are)) in
+        (few_changed old.profile.proxies (objects old.held) few_old h x.bytes v (bytes_held old.held h x there)
+        (written_are_bytes x.bytes part.from bytes within (rules.numbers.bytes h x there) are)) in
         let size : size_at old.tiling x.place ≡ b.size = ap size_of own.1 in
         record {
           answer = Ok tt;
@@ -186,12 +205,17 @@ module _ (old : HeapState) (rules : KeepsRules old) (with_blocks : IsTiled old.k
             object = x;
             found = there;
             within = within;
-            outside = rw (with_blocks, StaysOutside) (λ w out. refilled_outside (content_word old.held) (content_word m) (region_words old.profile) old.tiling old.words x.place b h tiling.tiling tiling.words rules.region own.1 own.2.owner others w (rw size at out));
+            outside = rw (with_blocks, StaysOutside)
+                (λ w out. refilled_outside (content_word old.held) (content_word m)
+                (region_words old.profile) old.tiling old.words x.place b h tiling.tiling tiling.words rules.region own.1 own.2.owner others w
+                (rw size at out));
             whole = refl;
           };
           kept = rules_with m old.tiling words old.cost tiling.tiling (owned_replaced old.held old.tiling h x y tiling.owned there refl long)
-          (refilled_words (content_word old.held) (content_word m) (region_words old.profile) old.tiling old.words x.place b h tiling.tiling tiling.words rules.region own.1 own.2.owner others)
-          (refilled_long (content_word old.held) (content_word m) (region_words old.profile) old.tiling old.words x.place b h tiling.tiling tiling.words rules.region own.1 own.2.owner others) few;
+              (refilled_words (content_word old.held) (content_word m)
+              (region_words old.profile) old.tiling old.words x.place b h tiling.tiling tiling.words rules.region own.1 own.2.owner others)
+              (refilled_long (content_word old.held) (content_word m)
+              (region_words old.profile) old.tiling old.words x.place b h tiling.tiling tiling.words rules.region own.1 own.2.owner others) few;
         })
   ]
     where

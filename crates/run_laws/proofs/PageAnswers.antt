@@ -1,5 +1,6 @@
 -- Every call of a heap with pages has an answer, and a state after it that keeps the rules.
-use Rattle.std.proofs.Common.{◌≡◌, ◌≢◌, ℕ, ◌+◌, ◌<◌, ◌≤◌, List, Option, Some, None, Result, Ok, Err, length, get_or, set, replicate, arith, sym, ◌∙◌, ap, refl, subst, inl, inr}
+use Rattle.std.proofs.Common.{◌≡◌, ◌≢◌, ℕ, ◌+◌, ◌<◌, ◌≤◌, List, Option, Some, None, Result, Ok, Err, length, get_or, set, replicate, arith, sym, ◌∙◌, ap, refl}
+use Rattle.std.proofs.Common.{subst, inl, inr}
 use Rattle.std.specs.Prelude.{◌⊎◌, option_map}
 use Rattle.std.proofs.lemmas.Bool.{cases_eq, cases_lt}
 use Rattle.std.proofs.lemmas.List.{get_or-set_same, get_or-set_other, length-set, set_past}
@@ -39,7 +40,8 @@ use Rattle.page_model.proofs.Writing.{length-written, resized_are_bytes, written
 use Rattle.cf_model.specs.Answers.{bound_put}
 use Rattle.cf_model.specs.Rules.{AreObjects, IsPaged, KeepsPages, KeepsRules, KeepsRulesOf, KeepsTable}
 use Rattle.cf_model.specs.State.{HeapState, paging_in, region_words}
-use Rattle.cf_model.specs.Steps.{FreesObject, IsMallocStep, IsPlacedBy, IsResizeStep, IsUnmoved, IsWriteStep, LacksRoomIn, MovesIn, Part, StaysOutside, tiling_left, frames_left, number_of, leaves_of, slot_in}
+use Rattle.cf_model.specs.Steps.{FreesObject, IsMallocStep, IsPlacedBy, IsResizeStep, IsUnmoved, IsWriteStep, LacksRoomIn, MovesIn, Part, StaysOutside}
+use Rattle.cf_model.specs.Steps.{tiling_left, frames_left, number_of, leaves_of, slot_in}
 use Rattle.run_model.specs.Sessions.{CostsAtMost}
 use Rattle.run_model.specs.Steps.{class_to_bound}
 use Rattle.run_model.proofs.Going.{costs_nothing}
@@ -80,19 +82,23 @@ module _ (old : HeapState) (rules : KeepsRules old) (paged : IsPaged old.kind) w
 
   -- the rules, with other objects in other words
   rules_with : (m : Held) (words frames : List ℕ) (cost : ℕ) → IsSound p m → length words ≡ region_words old.profile → IsSlotImage p m words
-      → AreFew old.profile.proxies (objects m) → KeepsTable old.kind (record old { frames = frames }) → KeepsRules (record old { held = m; words = words; frames = frames; cost = cost })
+      → AreFew old.profile.proxies (objects m) → KeepsTable old.kind (record old { frames = frames })
+      → KeepsRules (record old { held = m; words = words; frames = frames; cost = cost })
   rules_with m words frames cost sound count slots few kept = record {
     settings = rules.settings;
     region = count;
     numbers = objects_in (record old { held = m; words = words; frames = frames; cost = cost }) few;
-    of_kind = rw (paged, KeepsRulesOf) (record {
-      paging = pages.paging;
-      low_bounds = pages.low_bounds;
-      sound = sound;
-      image = own_words p pages.paging m sound words slots;
-      slots = slots;
-      no_tiling = pages.no_tiling;
-    }, table_moved old.kind (record old { frames = frames }) (record old { held = m; words = words; frames = frames; cost = cost }) refl refl kept);
+    of_kind = rw (paged, KeepsRulesOf) (
+      record {
+        paging = pages.paging;
+        low_bounds = pages.low_bounds;
+        sound = sound;
+        image = own_words p pages.paging m sound words slots;
+        slots = slots;
+        no_tiling = pages.no_tiling;
+      },
+      table_moved old.kind (record old { frames = frames }) (record old { held = m; words = words; frames = frames; cost = cost }) refl refl kept,
+    );
   }
 
   -- the words of other objects
@@ -100,7 +106,8 @@ module _ (old : HeapState) (rules : KeepsRules old) (paged : IsPaged old.kind) w
     words : List ℕ
     kept : KeepsRules (record old { held = m; words = words; frames = frames; cost = cost })
 
-  becomes : (m : Held) (frames : List ℕ) (cost : ℕ) → IsSound p m → AreFew old.profile.proxies (objects m) → KeepsTable old.kind (record old { frames = frames }) → Becomes m frames cost
+  becomes : (m : Held) (frames : List ℕ) (cost : ℕ) → IsSound p m → AreFew old.profile.proxies (objects m)
+      → KeepsTable old.kind (record old { frames = frames }) → Becomes m frames cost
   becomes m frames cost sound few kept =
       let image = sound_image p m sound in
       record { words = image.0; kept = rules_with m image.0 frames cost sound image.1 image.2 few kept }
@@ -116,8 +123,11 @@ module _ (old : HeapState) (rules : KeepsRules old) (paged : IsPaged old.kind) w
       let none : get (objects old.held) h ≡ None = bytes_missing old.held h key.2 in
       let room : len (objects old.held) < old.profile.proxies = (let same = len-objects old.held in omega arith) in
       let m : Held = insert old.held h (zeros_at a n) in
-      let sound = sound_malloc p old.held (record { number = h; length = n }) m pages.paging pages.sound (record { place = a; unused = key.2; free = free; placed = refl }) in
-      let added : AreFew old.profile.proxies (objects m) = subst (AreFew old.profile.proxies) (sym (malloc_objects old.held h a n)) (few_added old.profile.proxies (objects old.held) few_old h (replicate n 0) none key.1 room (zeros_are_bytes n)) in
+      let sound = sound_malloc p old.held (record { number = h; length = n }) m pages.paging pages.sound
+      (record { place = a; unused = key.2; free = free; placed = refl }) in
+      let added : AreFew old.profile.proxies (objects m) =
+      subst (AreFew old.profile.proxies) (sym (malloc_objects old.held h a n))
+      (few_added old.profile.proxies (objects old.held) few_old h (replicate n 0) none key.1 room (zeros_are_bytes n)) in
       let after = becomes m old.frames 0 sound added table_old in
       record {
         answer = Ok (record { 0 = h });
@@ -167,8 +177,11 @@ module _ (old : HeapState) (rules : KeepsRules old) (paged : IsPaged old.kind) w
       let step : RemovesObject p old.held h after = record { freed = x; found = there; moves = moves; left = refl } in
       let gone = free_objects p pages.paging old.held pages.sound h x there (number_of moved) moves in
       let frames = frames_left old.kind old after in
-      let kept : KeepsTable old.kind (record old { frames = frames }) = table_stepped old.kind old after refl paged rules table_old (λ blocks count permuted. free_frames p old.held old.frames pages.paging blocks pages.sound count h after step permuted) in
-      let few : AreFew old.profile.proxies (objects left) = subst (AreFew old.profile.proxies) (sym gone) (few_left old.profile.proxies (objects old.held) few_old h x.bytes (bytes_held old.held h x there)) in
+      let kept : KeepsTable old.kind (record old { frames = frames }) =
+      table_stepped old.kind old after refl paged rules table_old
+      (λ blocks count permuted. free_frames p old.held old.frames pages.paging blocks pages.sound count h after step permuted) in
+      let few : AreFew old.profile.proxies (objects left) =
+      subst (AreFew old.profile.proxies) (sym gone) (few_left old.profile.proxies (objects old.held) few_old h x.bytes (bytes_held old.held h x there)) in
       let next = becomes left frames 0 (sound_free p old.held h after pages.paging pages.sound step) few kept in
       record {
         freed = record { slot_words = slot_in old.kind old x; moved = moved };
@@ -192,11 +205,14 @@ module _ (old : HeapState) (rules : KeepsRules old) (paged : IsPaged old.kind) w
       free_with h x there (handle_of move.0) (subst (Moves p old.held x) (sym (number_of_handle move.0)) move.1)
 
   -- other bytes of the same number in the object's slot
-  sound_written : (h : ℕ) (x : Placed) (v : List ℕ) → get old.held h ≡ Some x → length v ≡ length x.bytes → IsSound p (insert old.held h (record x { bytes = v }))
-  sound_written h x v there same = subst (IsSound p) (insert_again old.held h (record x { bytes = v })) (sound_exchanged p old.held h x there h v (get_removed old.held h) (ap (class_for p) same) pages.sound)
+  sound_written : (h : ℕ) (x : Placed) (v : List ℕ) → get old.held h ≡ Some x → length v ≡ length x.bytes
+      → IsSound p (insert old.held h (record x { bytes = v }))
+  sound_written h x v there same = subst (IsSound p) (insert_again old.held h (record x { bytes = v }))
+      (sound_exchanged p old.held h x there h v (get_removed old.held h) (ap (class_for p) same) pages.sound)
 
   few_replaced : (h : ℕ) (x y : Placed) → get old.held h ≡ Some x → AreBytes y.bytes → AreFew old.profile.proxies (objects (insert old.held h y))
-  few_replaced h x y there bytes = subst (AreFew old.profile.proxies) (sym (map_values-insert (λ (z : Placed). z.bytes) old.held h y)) (few_changed old.profile.proxies (objects old.held) few_old h x.bytes y.bytes (bytes_held old.held h x there) bytes)
+  few_replaced h x y there bytes = subst (AreFew old.profile.proxies) (sym (map_values-insert (λ (z : Placed). z.bytes) old.held h y))
+      (few_changed old.profile.proxies (objects old.held) few_old h x.bytes y.bytes (bytes_held old.held h x there) bytes)
 
   -- every write into a live object is answered
   pub write_done : (part : Part) (bytes : List ℕ) (x : Placed) → AreBytes bytes → get old.held part.number ≡ Some x → HasWrite old part bytes
@@ -205,7 +221,8 @@ module _ (old : HeapState) (rules : KeepsRules old) (paged : IsPaged old.kind) w
     | inr within ↦ (
         let v = written x.bytes part.from bytes in
         let sound = sound_written part.number x v there (length-written x.bytes part.from bytes within) in
-        let few = few_replaced part.number x (record x { bytes = v }) there (written_are_bytes x.bytes part.from bytes within (rules.numbers.bytes part.number x there) are) in
+        let few = few_replaced part.number x (record x { bytes = v }) there
+        (written_are_bytes x.bytes part.from bytes within (rules.numbers.bytes part.number x there) are) in
         let next = becomes (insert old.held part.number (record x { bytes = v })) old.frames old.cost sound few table_old in
         record {
           answer = Ok tt;
@@ -221,14 +238,19 @@ module _ (old : HeapState) (rules : KeepsRules old) (paged : IsPaged old.kind) w
         })
   ]
 
-  resize_with : (asked : Request) (x : Placed) → get old.held asked.number ≡ Some x → need asked.length ≤ old.profile.page_words → (m : Held) (moved : Option Handle)
-      → IsResizedBy p old.held asked (record { held = m; moved = number_of moved }) → objects m ≡ insert (objects old.held) asked.number (resized x.bytes asked.length) → HasResize old asked
+  resize_with : (asked : Request) (x : Placed) → get old.held asked.number ≡ Some x → need asked.length ≤ old.profile.page_words
+      → (m : Held) (moved : Option Handle)
+      → IsResizedBy p old.held asked (record { held = m; moved = number_of moved })
+      → objects m ≡ insert (objects old.held) asked.number (resized x.bytes asked.length) → HasResize old asked
   resize_with asked x there fits m moved step left =
       let after : Leaves = record { held = m; moved = number_of moved } in
       let frames = frames_left old.kind old after in
-      let kept : KeepsTable old.kind (record old { frames = frames }) = table_stepped old.kind old after refl paged rules table_old (λ blocks count permuted. resize_frames p old.held old.frames pages.paging blocks pages.sound count asked after step permuted) in
+      let kept : KeepsTable old.kind (record old { frames = frames }) =
+      table_stepped old.kind old after refl paged rules table_old
+      (λ blocks count permuted. resize_frames p old.held old.frames pages.paging blocks pages.sound count asked after step permuted) in
       let few : AreFew old.profile.proxies (objects m) = subst (AreFew old.profile.proxies) (sym left)
-      (few_changed old.profile.proxies (objects old.held) few_old asked.number x.bytes (resized x.bytes asked.length) (bytes_held old.held asked.number x there) (resized_are_bytes x.bytes asked.length (rules.numbers.bytes asked.number x there))) in
+      (few_changed old.profile.proxies (objects old.held) few_old asked.number x.bytes (resized x.bytes asked.length)
+      (bytes_held old.held asked.number x there) (resized_are_bytes x.bytes asked.length (rules.numbers.bytes asked.number x there))) in
       let next = becomes m frames 0 (sound_resize p old.held asked after pages.paging pages.sound step) few kept in
       record {
         answer = Ok (record { old_slot_words = slot_for p (length x.bytes); slot_words = slot_for p asked.length; moved = moved });
@@ -238,7 +260,8 @@ module _ (old : HeapState) (rules : KeepsRules old) (paged : IsPaged old.kind) w
         cost = cost_none;
       }
 
-  resize_moved : (asked : Request) (x : Placed) → get old.held asked.number ≡ Some x → need asked.length ≤ old.profile.page_words → class_for p asked.length ≢ class_at p x → (a : ℕ) → IsFreePlace p old.held asked.length a
+  resize_moved : (asked : Request) (x : Placed) → get old.held asked.number ≡ Some x → need asked.length ≤ old.profile.page_words
+      → class_for p asked.length ≢ class_at p x → (a : ℕ) → IsFreePlace p old.held asked.length a
       → (moved : Option Handle) → Moves p old.held x (number_of moved) → HasResize old asked
   resize_moved asked x there fits other a free moved moves =
       let unused : get old.held old.profile.proxies ≡ None = elim (there_or_not old.held old.profile.proxies) [
@@ -248,8 +271,10 @@ module _ (old : HeapState) (rules : KeepsRules old) (paged : IsPaged old.kind) w
       let y : Placed = resized_at a x asked.length in
       let rest : Held = without old.held asked.number x.place (number_of moved) in
       resize_with asked x there fits (insert rest asked.number y) moved
-      (inr (changes_class p pages.paging old.held pages.sound asked.number asked.length a old.profile.proxies x (number_of moved) there other unused free moves))
-      (map_values-insert (λ (z : Placed). z.bytes) rest asked.number y ∙ ap (λ o. insert o asked.number y.bytes) (free_objects p pages.paging old.held pages.sound asked.number x there (number_of moved) moves)
+      (inr (changes_class p pages.paging old.held pages.sound asked.number asked.length a old.profile.proxies x
+      (number_of moved) there other unused free moves))
+      (map_values-insert (λ (z : Placed). z.bytes) rest asked.number y
+      ∙ ap (λ o. insert o asked.number y.bytes) (free_objects p pages.paging old.held pages.sound asked.number x there (number_of moved) moves)
       ∙ insert_again (objects old.held) asked.number y.bytes)
 
   -- every resize of a live object is answered
@@ -300,21 +325,24 @@ module _ (old : HeapState) (rules : KeepsRules old) (paged : IsPaged old.kind) w
       settings = rules.settings;
       region = rules.region;
       numbers = record { handles = rules.numbers.handles; bytes = rules.numbers.bytes; few = rules.numbers.few };
-      of_kind = rw (paged, KeepsRulesOf) (record {
-        paging = record {
-          sized = pages.paging.sized;
-          bounded = length-set old.bounds c k ∙ pages.paging.bounded;
-          some = λ d lt. elim (one_bound d) [ inl is ↦ rw is some | inr is ↦ rw is (pages.paging.some d lt) ];
-        };
-        low_bounds = λ d. elim (one_bound d) [ inl is ↦ rw is low | inr is ↦ rw is (pages.low_bounds d) ];
-        sound = subst (IsSound (paging_in next)) (sym (no_keys_empty old.held none)) (sound_empty (paging_in next));
-        image = pages.image;
-        slots = record {
-          held = λ h x there. absurd (no_keys old.held none h x there);
-          zeros = λ w out. pages.slots.zeros w (λ h x there. absurd (no_keys old.held none h x there));
-        };
-        no_tiling = pages.no_tiling;
-      }, table_moved old.kind old next refl refl table_old);
+      of_kind = rw (paged, KeepsRulesOf) (
+        record {
+          paging = record {
+            sized = pages.paging.sized;
+            bounded = length-set old.bounds c k ∙ pages.paging.bounded;
+            some = λ d lt. elim (one_bound d) [ inl is ↦ rw is some | inr is ↦ rw is (pages.paging.some d lt) ];
+          };
+          low_bounds = λ d. elim (one_bound d) [ inl is ↦ rw is low | inr is ↦ rw is (pages.low_bounds d) ];
+          sound = subst (IsSound (paging_in next)) (sym (no_keys_empty old.held none)) (sound_empty (paging_in next));
+          image = pages.image;
+          slots = record {
+            held = λ h x there. absurd (no_keys old.held none h x there);
+            zeros = λ w out. pages.slots.zeros w (λ h x there. absurd (no_keys old.held none h x there));
+          };
+          no_tiling = pages.no_tiling;
+        },
+        table_moved old.kind old next refl refl table_old,
+      );
     }
 
   -- every bound is set, or no class gets it

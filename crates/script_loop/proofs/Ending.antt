@@ -206,7 +206,8 @@ prints_front_then {s} {mid} {new} {t} {text} {out} all a c same fits =
       cut = c.cut;
       text_is = text_is;
       whole = subst (IsFrontOfWhole s.heap.kind (items_within all)) (sym text_is)
-          (front_of_whole s.heap.kind all (a.done ++ c.done) after.0 c.item (a.replies ++ c.replies) c.reply c.mid (run_of new) c.front c.lost parts run step c.cut);
+          (front_of_whole s.heap.kind all (a.done ++ c.done) after.0 c.item (a.replies ++ c.replies) c.reply c.mid
+          (run_of new) c.front c.lost parts run step c.cut);
     }
 
 pub cut_untouched_then : {s : RunState} {mid new : Player} {t text out : List ℕ} (a : Answered (starting s) t mid text false) (c : CutOff (ending mid) [] new out)
