@@ -148,7 +148,7 @@ module _ (old : HeapState) (rules : KeepsRules old) (paged : IsPaged old.kind) w
   -- every malloc is answered
   pub malloc_done : (n : ℕ) → HasMalloc old n
   malloc_done n = elim (cases_lt old.profile.page_words (need n)) [
-    | inl large ↦ record { answer = Err refusal.Size; heap = record old { cost = 0 }; step = (large, refl); kept = rules_still; cost = refl }
+    | inl large ↦ record { answer = Err refusal.Size; heap = record old { cost = 0 }; step = (large, refl); kept = rules_still; cost = cost_none }
     | inr fits ↦ elim (cases_lt (len old.held) old.profile.proxies) [
       | inr all ↦ record {
         answer = Err refusal.Proxy;
