@@ -4,3 +4,7 @@ pub mod Steps
 pub mod Releases
 pub mod Others
 pub mod BlockTests
+pub mod TilingWords
+pub mod ReadBlocks
+pub mod Rewriting
+pub mod Serving

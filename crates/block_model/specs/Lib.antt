@@ -1,4 +1,5 @@
 pub mod Tiling
 pub mod Words
+pub mod ReadWords
 pub mod Buckets
 pub mod Worked

@@ -1,8 +1,10 @@
 //! Laws of tilings, which show the definitions to be the right ones. The functions do nothing: what
 //! each ensures is the law.
-ghost use Rattle.std.specs.Prelude.{ℕ, ◌^◌, ◌≤◌, List};
+ghost use Rattle.std.specs.Prelude.{◌≡◌, ◌≢◌, ℕ, ◌⊎◌, ◌+◌, ◌^◌, ◌<◌, ◌≤◌, List, Some, length, slice_index};
 ghost use Rattle.block_model.specs.Buckets.{FreeLists, AreLawful, tlsf, half_fit};
-ghost use Rattle.block_model.specs.Tiling.{Block, Demand, IsTiling, Carves, IsCarvedTo, StaysUsed, one_free_block, released};
+ghost use Rattle.block_model.specs.ReadWords.{HaveTags, read_blocks, tiling_words};
+ghost use Rattle.block_model.specs.Tiling.{Block, Demand, IsTiling, Carves, IsCarvedTo, LacksBlock, StaysUsed, block_at, one_free_block, released};
+ghost use Rattle.block_model.specs.Words.{AreTilingWords, HaveHeaders};
 
 /// The region that is one free block is a tiling.
 pub fn one_block_is_a_tiling()
@@ -38,4 +40,32 @@ pub fn other_blocks_stay()
 pub fn free_lists_are_lawful()
     ensures tlsf { AreLawful tlsf 336 }
     ensures half_fit { AreLawful half_fit 24 }
+{}
+
+/// A malloc is done where a block serves.
+pub fn a_malloc_is_done_or_lacks_a_block()
+    ensures { (rule : FreeLists) (words : ℕ) (old : List Block) (d : Demand) → IsTiling words old
+        → ((place : ℕ) × (new : List Block) × Carves rule old d place new) ⊎ LacksBlock rule old d.need }
+{}
+
+/// Each tiling has words, whatever the owners of its blocks have.
+pub fn a_tiling_has_words()
+    ensures { (content : ℕ → ℕ → ℕ) (count : ℕ) (blocks : List Block) → IsTiling count blocks
+        → AreTilingWords content blocks (tiling_words content blocks 0) × (length (tiling_words content blocks 0) ≡ count) }
+{}
+
+/// The words tell the blocks, with no use of word 1 of a free one.
+pub fn blocks_are_told()
+    ensures { (count : ℕ) (blocks : List Block) (words : List ℕ) → count < 2 ^ 31 → IsTiling count blocks
+        → HaveHeaders words blocks 0 → HaveTags words blocks → read_blocks count words 0 count ≡ blocks }
+{}
+
+/// A used block can get other contents, while every word outside it stays.
+pub fn a_block_gets_other_contents()
+    ensures { (content now : ℕ → ℕ → ℕ) (count : ℕ) (blocks : List Block) (words : List ℕ) (place : ℕ) (b : Block) (h : ℕ)
+        → IsTiling count blocks → AreTilingWords content blocks words → length words ≡ count
+        → block_at blocks place ≡ Some b → b.owner ≡ Some h
+        → ((a : ℕ) (c : Block) (q : ℕ) → a ≢ place → block_at blocks a ≡ Some c → c.owner ≡ Some q → (i : ℕ) → now q i ≡ content q i)
+        → (new : List ℕ) × AreTilingWords now blocks new × (length new ≡ count)
+        × ((w : ℕ) → ((w < place) ⊎ (place + b.size ≤ w)) → slice_index new w ≡ slice_index words w) }
 {}

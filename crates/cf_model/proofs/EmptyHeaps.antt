@@ -1,5 +1,6 @@
 -- The state in which opening leaves a manager keeps the rules.
-use Rattle.std.proofs.Common.{◌≡◌, ℕ, true, false, ◌+◌, ◌*◌, ◌/◌, ◌≤◌, List, [], Option, Some, None, length, get_or, replicate, arith, sym, ◌∙◌, inl, inr, ap, refl}
+use Rattle.std.proofs.Common.{◌≡◌, ℕ, zero, suc, true, false, ◌+◌, ◌*◌, ◌/◌, ◌-◌, ◌≤◌, List, [], ◌∷◌, Option, Some, None, length, get_or, replicate, arith, sym}
+use Rattle.std.proofs.Common.{◌∙◌, inl, inr, ap, refl}
 use Rattle.std.specs.Prelude.{nat_eq}
 use Rattle.std.proofs.lemmas.List.{get_or-replicate, get_or_past, length-replicate}
 use Rattle.cf_base.specs.Classes.{sizes}
@@ -22,8 +23,9 @@ use Rattle.std.proofs.lemmas.Nat.{mul-le}
 use Rattle.std.proofs.lemmas.List.FromFn.{length-range_with_len}
 use Rattle.block_model.specs.Tiling.{Block, block_at, one_free_block}
 use Rattle.cf_model.specs.State.{HeapState, layout_of, region_words}
-use Rattle.cf_model.specs.Rules.{AreInRange, AreObjects, KeepsPages, KeepsRules, KeepsTiling}
-use Rattle.cf_model.specs.Steps.{empty_heap}
+use Rattle.cf_model.specs.Families.{Family, paged, tiled, family_of}
+use Rattle.cf_model.specs.Rules.{AreInRange, AreObjects, IsPaged, IsTiled, KeepsPages, KeepsRules, KeepsTable, KeepsTiling}
+use Rattle.cf_model.specs.Steps.{IsOpeningWords, empty_heap, opening_bounds, opening_frames, opening_tiling}
 
 no_object : (h : ℕ) (x : Placed) → get (empty {X = Placed} {R = nat_cmp}) h ≡ Some x → ⊥
 no_object h x e = (let g : Some x ≡ None = sym e ∙ get-empty nat_cmp h in cc)
@@ -34,6 +36,13 @@ no_objects s none = record {
   bytes = λ h x e. absurd (no_object h x (ap (λ m. get m h) (sym none) ∙ e));
   few = (let e : len s.held ≡ 0 = ap (λ m. len m) none ∙ len-empty nat_cmp Placed in omega arith);
 }
+
+-- no kind with blocks has a block table
+no_table : (k : Kind) (p : Profile) → IsTiled k → opening_frames k p ≡ []
+no_table Moving p is = refl
+no_table NonMoving p is = (let e : paged ≡ tiled = is in cc)
+no_table Tlsf p is = refl
+no_table HalfFit p is = refl
 
 module _ (p : Profile) (ok : AreInRange p) where
   zeros_are_many : length (replicate {A = ℕ} (region_words p) 0) ≡ region_words p
@@ -55,10 +64,6 @@ module _ (p : Profile) (ok : AreInRange p) where
         | inr past ↦ (let len : length (replicate {A = ℕ} n p.k) ≡ n = length-replicate n p.k in rw (get_or_past {X = ℕ} (replicate n p.k) c 0 (omega arith)) (omega arith))
       ])
 
-  -- the moving manager
-  pub moving_empty : KeepsRules (empty_heap Moving p (replicate (region_words p) 0))
-  moving_empty = record { settings = ok; region = zeros_are_many; numbers = no_objects (empty_heap Moving p (replicate (region_words p) 0)) refl; of_kind = (pages_kept Moving (empty_heap Moving p (replicate (region_words p) 0)) refl, refl) }
-
   quarters : 4 * (region_words p / 4) ≡ region_words p
   quarters =
       let whole = (in_blocks p [] ok.page_size).page in
@@ -67,19 +72,23 @@ module _ (p : Profile) (ok : AreInRange p) where
       let h : p.pages * p.page_words ≡ 4 * (p.pages * (p.page_words / 4)) = omega arith in
       omega arith
 
-  -- the non-moving manager
-  pub nonmoving_empty : KeepsRules (empty_heap NonMoving p (replicate (region_words p) 0))
-  nonmoving_empty = record {
+  -- the table of an empty heap
+  first_table : (k : Kind) → KeepsTable k (empty_heap k p (replicate (region_words p) 0))
+  first_table Moving = refl
+  first_table NonMoving = record {
+    count = ap (λ n. 4 * n) (length-range_with_len 0 (region_words p / 4)) ∙ quarters;
+    permuted = first_permuted (region_words p / 4);
+  }
+  first_table Tlsf = refl
+  first_table HalfFit = refl
+
+  -- a manager with pages
+  pub paged_empty : (k : Kind) → IsPaged k → KeepsRules (empty_heap k p (replicate (region_words p) 0))
+  paged_empty k is = record {
     settings = ok;
     region = zeros_are_many;
-    numbers = no_objects (empty_heap NonMoving p (replicate (region_words p) 0)) refl;
-    of_kind = (
-      pages_kept NonMoving (empty_heap NonMoving p (replicate (region_words p) 0)) refl,
-      record {
-        count = ap (λ n. 4 * n) (length-range_with_len 0 (region_words p / 4)) ∙ quarters;
-        permuted = first_permuted (region_words p / 4);
-      },
-    );
+    numbers = no_objects (empty_heap k p (replicate (region_words p) 0)) refl;
+    of_kind = rw is (pages_kept k (empty_heap k p (replicate (region_words p) 0)) (rw (is, opening_bounds, opening_tiling) refl), first_table k);
   }
 
   large : 2 ≤ region_words p
@@ -124,8 +133,32 @@ module _ (p : Profile) (ok : AreInRange p) where
           no_bounds = bounds;
         }
 
-    pub tlsf_empty : KeepsRules (empty_heap Tlsf p words)
-    tlsf_empty = record { settings = ok; region = count; numbers = no_objects (empty_heap Tlsf p words) refl; of_kind = tiling_kept (empty_heap Tlsf p words) refl refl refl refl refl refl }
+    pub tiled_empty : (k : Kind) → IsTiled k → KeepsRules (empty_heap k p words)
+    tiled_empty k is = record {
+      settings = ok;
+      region = count;
+      numbers = no_objects (empty_heap k p words) refl;
+      of_kind = rw is (tiling_kept (empty_heap k p words) refl (rw (is, opening_tiling) refl) refl refl (no_table k p is) (rw (is, opening_bounds) refl));
+    }
 
-    pub half_fit_empty : KeepsRules (empty_heap HalfFit p words)
-    half_fit_empty = record { settings = ok; region = count; numbers = no_objects (empty_heap HalfFit p words) refl; of_kind = tiling_kept (empty_heap HalfFit p words) refl refl refl refl refl refl }
+  -- words of one free block
+  abbrev free_words : List ℕ
+  free_words = region_words p ∷ replicate (region_words p - 1) 0
+
+  free_words_long : length free_words ≡ region_words p
+  free_words_long = (let l = large in let e = length-replicate {A = ℕ} (region_words p - 1) 0 in omega arith)
+
+  free_words_zero : (w : ℕ) → 2 ≤ w → get_or free_words w 0 ≡ 0
+  free_words_zero zero low = absurd (omega arith)
+  free_words_zero (suc w) low = elim (cases_lt w (region_words p - 1)) [
+    | inl lt ↦ get_or-replicate {A = ℕ} (region_words p - 1) w 0 0 lt
+    | inr past ↦ (let len = length-replicate {A = ℕ} (region_words p - 1) 0 in get_or_past {X = ℕ} (replicate (region_words p - 1) 0) w 0 (omega arith))
+  ]
+
+  -- a manager of each kind can be opened
+  pub empty_there : (k : Kind) → (words : List ℕ) × IsOpeningWords k p words × KeepsRules (empty_heap k p words)
+  empty_there k = by_family (family_of k) refl
+    where
+      by_family : (f : Family) → family_of k ≡ f → (words : List ℕ) × IsOpeningWords k p words × KeepsRules (empty_heap k p words)
+      by_family paged is = (replicate (region_words p) 0, rw (is, IsOpeningWords) refl, paged_empty k is)
+      by_family tiled is = (free_words, rw (is, IsOpeningWords) tt, tiled_empty free_words free_words_long refl free_words_zero k is)

@@ -11,12 +11,13 @@ use Rattle.cf_base.specs.declared.answers.Resized.{Resized}
 use Rattle.cf_base.specs.declared.answers.ResizeFault.{ResizeFault}
 use Rattle.cf_base.specs.declared.answers.ResizeFault.TheVariants as resize
 use Rattle.cf_base.specs.declared.kind.Kind.{Kind}
-use Rattle.cf_base.specs.declared.kind.Kind.TheVariants.{Moving, NonMoving, Tlsf, HalfFit}
 use Rattle.page_model.specs.Held.{Held, Placed}
 use Rattle.page_model.specs.Paging.{Paging, class_for, page_of, slots_of}
 use Rattle.page_model.specs.Arrangement.{class_at, objects_on, not_full_pages, LacksRoom}
 use Rattle.page_model.specs.Steps.{Request, IsFreePlace}
 use Rattle.page_model.proofs.Counting.{part_yes}
+use Rattle.block_model.specs.Tiling.{Carves, LacksBlock, block_need}
+use Rattle.cf_model.specs.Families.{Family, paged, tiled, family_of, lists_of}
 use Rattle.cf_model.specs.State.{HeapState, paging_in}
 use Rattle.cf_model.specs.Rules.{IsPaged, IsTiled}
 use Rattle.cf_model.specs.Steps.{GivesObject, IsPlacedBy, IsRefusedBy, LacksRoomIn, Part, IsFault, ResizesObject, IsResizeFault}
@@ -35,10 +36,15 @@ module _ (p : Paging) (m : Held) (n a : ℕ) (free : IsFreePlace p m n a) (lacki
   ]
 
 placed_is_room : (k : Kind) (old new : HeapState) (asked : Request) (place : ℕ) → IsPlacedBy k old asked place new → LacksRoomIn k old asked.length → ⊥
-placed_is_room Moving old new asked place free lacking = place_is_room (paging_in old) old.held asked.length place free lacking
-placed_is_room NonMoving old new asked place free lacking = place_is_room (paging_in old) old.held asked.length place free lacking
-placed_is_room Tlsf old new asked place carves lacking = lacking place carves.found carves.there carves.serves
-placed_is_room HalfFit old new asked place carves lacking = lacking place carves.found carves.there carves.serves
+placed_is_room k old new asked place placed lacking = by_family (family_of k) refl
+  where
+    by_family : (f : Family) → family_of k ≡ f → ⊥
+    by_family paged is = place_is_room (paging_in old) old.held asked.length place (rw (is, IsPlacedBy) at placed) (rw (is, LacksRoomIn) at lacking)
+    by_family tiled is =
+        let carves : Carves (lists_of k) old.tiling (record { need = block_need asked.length; owner = asked.number }) place new.tiling =
+        rw (is, IsPlacedBy) at placed in
+        let none : LacksBlock (lists_of k) old.tiling (block_need asked.length) = rw (is, LacksRoomIn) at lacking in
+        none place carves.found carves.there carves.serves
 
 -- a malloc that gives an object has no cause for a refusal
 pub given_is_not_refused : (old new : HeapState) (asked : Request) → GivesObject old asked new → (e : Refusal) → IsRefusedBy old asked.length e → ⊥
@@ -72,11 +78,9 @@ part_is_not_refused s part count x found within access.Range cause =
     let past : length x.bytes < part.from + count = subst (λ (z : Placed). length z.bytes < part.from + count) same cause.past in
     omega arith
 
-both_kinds : (k : Kind) → IsPaged k → IsTiled k → ⊥
-both_kinds Moving p t = t
-both_kinds NonMoving p t = t
-both_kinds Tlsf p t = p
-both_kinds HalfFit p t = p
+-- no kind is of both families
+pub both_kinds : (k : Kind) → IsPaged k → IsTiled k → ⊥
+both_kinds k p t = (let e : paged ≡ tiled = sym p ∙ t in cc)
 
 -- a resize that is done has no cause for a refusal
 pub resized_is_not_refused : (old new : HeapState) (asked : Request) (done : Resized) → ResizesObject old asked done new → (e : ResizeFault) → IsResizeFault old asked e → ⊥

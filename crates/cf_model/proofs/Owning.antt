@@ -71,3 +71,26 @@ owned_free words m old h x t owned found =
             (mine.0, get_remove_other m h q other ∙ mine.1, mine.2))
       ];
     }
+
+-- other bytes, as many, in the same block
+pub owned_replaced : (m : Held) (blocks : List Block) (h : ℕ) (x y : Placed) → AreOwned m blocks → get m h ≡ Some x → y.place ≡ x.place
+    → length y.bytes ≡ length x.bytes → AreOwned (insert m h y) blocks
+owned_replaced m blocks h x y owned found same long = record {
+  placed = λ q z e. elim (cases_eq q h) [
+    | inl is ↦ (
+        let it : y ≡ z = some_placed y z (sym (get_inserted m h y) ∙ ap (get (insert m h y)) (sym is) ∙ e) in
+        let mine = owned.placed h x found in
+        let block : IsBlockOf mine.0 q y = record { owner = mine.2.owner ∙ ap Some (sym is); least = rw long mine.2.least; most = rw long mine.2.most } in
+        subst (λ (w : Placed). (b : Block) × (block_at blocks w.place ≡ Some b) × IsBlockOf b q w) it (mine.0, ap (block_at blocks) same ∙ mine.1, block))
+    | inr other ↦ owned.placed q z (sym (get_insert_other m h y q other) ∙ e)
+  ];
+  live = λ a b q there used. elim (cases_eq q h) [
+    | inl is ↦ (
+        let mine = owned.live a b q there used in
+        let it : mine.0 ≡ x = some_placed mine.0 x (sym mine.1 ∙ ap (get m) is ∙ found) in
+        (y, ap (get (insert m h y)) is ∙ get_inserted m h y, same ∙ ap (λ (w : Placed). w.place) (sym it) ∙ mine.2))
+    | inr other ↦ (
+        let mine = owned.live a b q there used in
+        (mine.0, get_insert_other m h y q other ∙ mine.1, mine.2))
+  ];
+}

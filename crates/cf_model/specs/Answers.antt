@@ -11,6 +11,7 @@ use Rattle.page_model.specs.Frames.{block_of}
 use Rattle.page_model.specs.Image.{slot_for}
 use Rattle.page_model.specs.Paging.{classes}
 use Rattle.block_model.specs.Tiling.{used_words, used_blocks, free_blocks, largest_free}
+use Rattle.cf_model.specs.Families.{paged, tiled, family_of}
 use Rattle.cf_model.specs.State.{HeapState, paging_in, region_words}
 
 -- the first word of an object's slot or block
@@ -31,10 +32,7 @@ block_in HalfFit s h i = None
 
 -- the number of classes; there are none with blocks
 abbrev pub classes_in : Kind → HeapState → ℕ
-classes_in Moving s = classes (paging_in s)
-classes_in NonMoving s = classes (paging_in s)
-classes_in Tlsf s = 0
-classes_in HalfFit s = 0
+classes_in kind s = elim (family_of kind) [ paged ↦ classes (paging_in s) | tiled ↦ 0 ]
 
 -- the figures of a class
 abbrev pub figures_in : HeapState → ℕ → Option Figures
@@ -54,17 +52,11 @@ block_totals s = record {
 
 -- the figures of the whole heap
 abbrev pub totals_in : Kind → HeapState → Totals
-totals_in Moving s = totals_of (paging_in s) s.held
-totals_in NonMoving s = totals_of (paging_in s) s.held
-totals_in Tlsf s = block_totals s
-totals_in HalfFit s = block_totals s
+totals_in kind s = elim (family_of kind) [ paged ↦ totals_of (paging_in s) s.held | tiled ↦ block_totals s ]
 
 -- the class whose slots have so many words
 abbrev pub class_with : Kind → HeapState → ℕ → Option ℕ
-class_with Moving s words = position (λ w. nat_eq w words) (paging_in s).sizes
-class_with NonMoving s words = position (λ w. nat_eq w words) (paging_in s).sizes
-class_with Tlsf s words = None
-class_with HalfFit s words = None
+class_with kind s words = elim (family_of kind) [ paged ↦ position (λ w. nat_eq w words) (paging_in s).sizes | tiled ↦ None ]
 
 -- the class, where there is one, has this bound
 abbrev pub bound_put : HeapState → Option ℕ → ℕ → HeapState

@@ -1,19 +1,16 @@
 -- How many steps the calls may take. With blocks no bound is claimed.
-use Rattle.std.specs.Prelude.{◌≡◌, ℕ, ◌+◌, ◌*◌, ◌/◌, ◌%◌, ◌≤◌, Result, Ok, Err, if◌then◌else◌, nat_eq, max}
+use Rattle.std.specs.Prelude.{◌≡◌, ℕ, ◌+◌, ◌*◌, ◌/◌, ◌%◌, ◌≤◌, ⊤, Result, Ok, Err, if◌then◌else◌, nat_eq, max}
 use Rattle.step_ledger.specs.Counting.{RoseAtMost}
 use Rattle.cf_base.specs.declared.answers.Freed.{Freed}
 use Rattle.cf_base.specs.declared.answers.NotLive.{NotLive}
 use Rattle.cf_base.specs.declared.answers.Resized.{Resized}
 use Rattle.cf_base.specs.declared.answers.ResizeFault.{ResizeFault}
 use Rattle.cf_base.specs.declared.kind.Kind.{Kind}
-use Rattle.cf_base.specs.declared.kind.Kind.TheVariants.{Moving, NonMoving, Tlsf, HalfFit}
+use Rattle.cf_model.specs.Families.{paged, tiled, family_of}
 
 -- the count of steps rose by at most n, where the kind has pages
 abbrev pub TakesAtMost : Kind → ℕ → ℕ → ℕ → Type 0
-TakesAtMost Moving old new n = RoseAtMost old new n
-TakesAtMost NonMoving old new n = RoseAtMost old new n
-TakesAtMost Tlsf old new n = old ≤ new
-TakesAtMost HalfFit old new n = old ≤ new
+TakesAtMost kind old new n = elim (family_of kind) [ paged ↦ RoseAtMost old new n | tiled ↦ old ≤ new ]
 
 -- a free: twice the words of the slot
 abbrev pub free_bound : Result Freed NotLive → ℕ
@@ -35,7 +32,4 @@ access_bound from count = 16 + 3 * words_touched from count
 
 -- with pages the cost is that of a resize too
 abbrev pub TellsCost : Kind → ℕ → ℕ → ℕ → Type 0
-TellsCost Moving old new cost = new ≡ old + cost
-TellsCost NonMoving old new cost = new ≡ old + cost
-TellsCost Tlsf old new cost = Unit {0}
-TellsCost HalfFit old new cost = Unit {0}
+TellsCost kind old new cost = elim (family_of kind) [ paged ↦ new ≡ old + cost | tiled ↦ ⊤ ]

@@ -13,21 +13,9 @@ use Rattle.page_model.specs.Image.{IsImage, IsSlotImage, object_word}
 use Rattle.page_model.specs.Frames.{IsPermuted}
 use Rattle.block_model.specs.Tiling.{Block, IsTiling, block_at, block_need}
 use Rattle.block_model.specs.Words.{AreTilingWords}
+use Rattle.cf_model.specs.Families.{paged, tiled, family_of}
+pub use Rattle.cf_model.specs.Families.{IsPaged, IsTiled}
 use Rattle.cf_model.specs.State.{HeapState, paging_in, region_words}
-
--- whether the kind cuts its memory into pages
-abbrev pub IsPaged : Kind → Type 0
-IsPaged Moving = Unit {0}
-IsPaged NonMoving = Unit {0}
-IsPaged Tlsf = ⊥
-IsPaged HalfFit = ⊥
-
--- whether the kind cuts its memory into blocks
-abbrev pub IsTiled : Kind → Type 0
-IsTiled Moving = ⊥
-IsTiled NonMoving = ⊥
-IsTiled Tlsf = Unit {0}
-IsTiled HalfFit = Unit {0}
 
 -- the settings are in their ranges
 pub record AreInRange (p : Profile) : Type 0 where
@@ -46,12 +34,17 @@ pub record AreObjects (s : HeapState) : Type 0 where
   pub bytes : (h : ℕ) (x : Placed) → get s.held h ≡ Some x → AreBytes x.bytes
   pub few : len s.held ≤ s.profile.proxies
 
--- With pages: each class has a bound from 1 to 64, the arrangement is sound with them, and the words are the image of the objects, where zeros follow in each slot. So no class has more pages that are not full than its bound, and no page of a class is empty.
+-- What a manager with pages keeps. So no class has more partly full pages than its bound, and no page of a class is empty.
 pub record KeepsPages (s : HeapState) : Type 0 where
+  -- the sizes of the classes rise up to a page, and each class has a bound of 1 at least
   pub paging : IsPaging (paging_in s)
+  -- and of 64 at most
   pub low_bounds : (c : ℕ) → slice_index s.bounds c ≤ 64
+  -- the objects lie in slots of their classes, each in one of its own, within the bounds
   pub sound : IsSound (paging_in s) s.held
+  -- the words are those of the objects, and zeros
   pub image : IsImage s.held s.words
+  -- and zeros fill up each slot
   pub slots : IsSlotImage (paging_in s) s.held s.words
   pub no_tiling : s.tiling ≡ []
 
@@ -83,24 +76,35 @@ content_word m h i = content (get m h) h i
     content None h i = 0
     content (Some x) h i = object_word h x.bytes i
 
--- With blocks: they tile the region, those in use are the objects', and the words are theirs.
+-- What a manager with blocks keeps.
 pub record KeepsTiling (s : HeapState) : Type 0 where
+  -- the blocks fill the region, and no two neighbours are both free
   pub tiling : IsTiling (region_words s.profile) s.tiling
+  -- the used blocks are the objects'
   pub owned : AreOwned s.held s.tiling
+  -- the words are those of the blocks and of the objects in them
   pub words : AreTilingWords (content_word s.held) s.tiling s.words
   pub no_frames : s.frames ≡ []
   pub no_bounds : s.bounds ≡ []
 
+-- what each kind keeps of a block table: only one has such a table
+abbrev pub KeepsTable : Kind → HeapState → Type 0
+KeepsTable Moving s = HasNoFrames s
+KeepsTable NonMoving s = KeepsFrames s
+KeepsTable Tlsf s = HasNoFrames s
+KeepsTable HalfFit s = HasNoFrames s
+
 -- what each kind keeps besides
 abbrev pub KeepsRulesOf : Kind → HeapState → Type 0
-KeepsRulesOf Moving s = KeepsPages s × HasNoFrames s
-KeepsRulesOf NonMoving s = KeepsPages s × KeepsFrames s
-KeepsRulesOf Tlsf s = KeepsTiling s
-KeepsRulesOf HalfFit s = KeepsTiling s
+KeepsRulesOf kind s = elim (family_of kind) [ paged ↦ KeepsPages s × KeepsTable kind s | tiled ↦ KeepsTiling s ]
 
 -- The rules of an open manager.
 pub record KeepsRules (s : HeapState) : Type 0 where
+  -- the settings are in their ranges
   pub settings : AreInRange s.profile
+  -- the region has the words that they ask for
   pub region : length s.words ≡ region_words s.profile
+  -- there are no more objects than proxies, and they are lists of bytes
   pub numbers : AreObjects s
+  -- and what managers with pages, or with blocks, keep of their memory
   pub of_kind : KeepsRulesOf s.kind s

@@ -12,16 +12,23 @@ use Rattle.page_model.specs.Held.{Held, placed_code}
 use Rattle.page_model.specs.Paging.{Paging, paging_of}
 use Rattle.block_model.specs.Tiling.{Block}
 
--- The kind, whether it is open, the settings; by class how many pages may be not full; the objects by number, each with its place and its bytes; the words of the region; by virtual block its physical block; the blocks that tile the region; and the cost of the last call. What doesn't apply to a kind is the empty list.
+-- What contracts see of a manager. What doesn't apply to a kind is the empty list.
 pub record HeapState : Type 0 where
   pub kind : Kind
   pub is_open : Bool
+  -- the settings
   pub profile : Profile
+  -- by class, how many pages may be partly full
   pub bounds : List ℕ
+  -- the objects by number, each with its place and its bytes
   pub held : Held
+  -- the words of the region; where blocks are mapped, the virtual words
   pub words : List ℕ
+  -- by virtual block, its physical block
   pub frames : List ℕ
+  -- the blocks that tile the region
   pub tiling : List Block
+  -- the steps of the last call that changed the objects' places or lengths
   pub cost : ℕ
 
 -- the settings of a manager that was never open

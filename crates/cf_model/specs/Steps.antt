@@ -1,5 +1,6 @@
 -- The steps of a manager, from its state before to its state after.
-use Rattle.std.specs.Prelude.{◌≡◌, ◌≢◌, ℕ, ◌+◌, ◌*◌, ◌/◌, ◌≤◌, ◌<◌, List, [], Option, Some, None, Result, Ok, Err, true, false, length, take, drop, replicate, slice_index, option_map}
+use Rattle.std.specs.Prelude.{◌≡◌, ◌≢◌, ℕ, ◌+◌, ◌*◌, ◌/◌, ◌≤◌, ◌<◌, List, [], Option, Some, None, Result, Ok, Err, ⊤, true, false, length, take, drop}
+use Rattle.std.specs.Prelude.{replicate, slice_index, option_map}
 use Rattle.std.specs.FinMap.{get, insert, remove, len, empty}
 use Rattle.cf_base.specs.Classes.{need}
 use Rattle.cf_base.specs.Settings.{Profile, profile_of}
@@ -23,8 +24,8 @@ use Rattle.page_model.specs.Bytes.{written}
 use Rattle.page_model.specs.Frames.{first_frames, frames_after, block_of, IsPhysical}
 use Rattle.page_model.specs.Image.{IsOutside, slot_for}
 use Rattle.page_model.specs.Steps.{Request, Leaves, IsFreePlace, zeros_at, Moves, without, resized, RefitsObject as IsResizedBy}
-use Rattle.block_model.specs.Buckets.{tlsf, half_fit}
 use Rattle.block_model.specs.Tiling.{Block, LacksBlock, Carves, released, one_free_block, block_need, size_at}
+use Rattle.cf_model.specs.Families.{paged, tiled, family_of, lists_of}
 use Rattle.cf_model.specs.State.{HeapState, paging_in, layout_of, region_words}
 use Rattle.cf_model.specs.Rules.{IsPaged, IsTiled}
 
@@ -45,10 +46,7 @@ pub record IsClosed (old new : HeapState) : Type 0 where
 
 -- the bounds that the classes begin with
 abbrev pub opening_bounds : Kind → Profile → List ℕ
-opening_bounds Moving p = first_bounds p (layout_of Moving)
-opening_bounds NonMoving p = first_bounds p (layout_of NonMoving)
-opening_bounds Tlsf p = []
-opening_bounds HalfFit p = []
+opening_bounds kind p = elim (family_of kind) [ paged ↦ first_bounds p (layout_of kind) | tiled ↦ [] ]
 
 -- each block at its own place, where there is a block table
 abbrev pub opening_frames : Kind → Profile → List ℕ
@@ -59,17 +57,11 @@ opening_frames HalfFit p = []
 
 -- one free block, where there are blocks
 abbrev pub opening_tiling : Kind → Profile → List Block
-opening_tiling Moving p = []
-opening_tiling NonMoving p = []
-opening_tiling Tlsf p = one_free_block (region_words p)
-opening_tiling HalfFit p = one_free_block (region_words p)
+opening_tiling kind p = elim (family_of kind) [ paged ↦ [] | tiled ↦ one_free_block (region_words p) ]
 
 -- the words of an empty heap with pages are zeros; those of one free block are told by the rules
 abbrev pub IsOpeningWords : Kind → Profile → List ℕ → Type 0
-IsOpeningWords Moving p words = words ≡ replicate (region_words p) 0
-IsOpeningWords NonMoving p words = words ≡ replicate (region_words p) 0
-IsOpeningWords Tlsf p words = Unit {0}
-IsOpeningWords HalfFit p words = Unit {0}
+IsOpeningWords kind p words = elim (family_of kind) [ paged ↦ words ≡ replicate (region_words p) 0 | tiled ↦ ⊤ ]
 
 -- an open heap without objects, under these settings
 abbrev pub empty_heap : Kind → Profile → List ℕ → HeapState
@@ -82,20 +74,20 @@ pub record IsEmptyHeap (kind : Kind) (s : Settings) (new : HeapState) : Type 0 w
 
 -- There is no room for an object of so many bytes: no page of its class is not full and none is free, or no free block serves.
 abbrev pub LacksRoomIn : Kind → HeapState → ℕ → Type 0
-LacksRoomIn Moving s bytes = LacksRoom (paging_in s) s.held (class_for (paging_in s) bytes)
-LacksRoomIn NonMoving s bytes = LacksRoom (paging_in s) s.held (class_for (paging_in s) bytes)
-LacksRoomIn Tlsf s bytes = LacksBlock tlsf s.tiling (block_need bytes)
-LacksRoomIn HalfFit s bytes = LacksBlock half_fit s.tiling (block_need bytes)
+LacksRoomIn kind s bytes = elim (family_of kind) [
+  | paged ↦ LacksRoom (paging_in s) s.held (class_for (paging_in s) bytes)
+  | tiled ↦ LacksBlock (lists_of kind) s.tiling (block_need bytes)
+]
 
 abbrev pub lacks_room : HeapState → ℕ → Type 0
 lacks_room s bytes = LacksRoomIn s.kind s bytes
 
 -- where an object that is asked for may be placed
 abbrev pub IsPlacedBy : Kind → HeapState → Request → ℕ → HeapState → Type 0
-IsPlacedBy Moving old asked place new = IsFreePlace (paging_in old) old.held asked.length place
-IsPlacedBy NonMoving old asked place new = IsFreePlace (paging_in old) old.held asked.length place
-IsPlacedBy Tlsf old asked place new = Carves tlsf old.tiling (record { need = block_need asked.length; owner = asked.number }) place new.tiling
-IsPlacedBy HalfFit old asked place new = Carves half_fit old.tiling (record { need = block_need asked.length; owner = asked.number }) place new.tiling
+IsPlacedBy kind old asked place new = elim (family_of kind) [
+  | paged ↦ IsFreePlace (paging_in old) old.held asked.length place
+  | tiled ↦ Carves (lists_of kind) old.tiling (record { need = block_need asked.length; owner = asked.number }) place new.tiling
+]
 
 -- A number that wasn't live is given to so many zeros.
 pub record GivesObject (old : HeapState) (asked : Request) (new : HeapState) : Type 0 where
@@ -131,17 +123,11 @@ IsMallocStep old bytes (Err e) new = IsRefusedBy old bytes e × ChangesCost old 
 
 -- the words of the slot or block of an object
 abbrev pub slot_in : Kind → HeapState → Placed → ℕ
-slot_in Moving s x = slot_for (paging_in s) (length x.bytes)
-slot_in NonMoving s x = slot_for (paging_in s) (length x.bytes)
-slot_in Tlsf s x = size_at s.tiling x.place
-slot_in HalfFit s x = size_at s.tiling x.place
+slot_in kind s x = elim (family_of kind) [ paged ↦ slot_for (paging_in s) (length x.bytes) | tiled ↦ size_at s.tiling x.place ]
 
 -- which object a free of x moves: with pages one where it must, with blocks never one
 abbrev pub MovesIn : Kind → HeapState → Placed → Option ℕ → Type 0
-MovesIn Moving s x moved = Moves (paging_in s) s.held x moved
-MovesIn NonMoving s x moved = Moves (paging_in s) s.held x moved
-MovesIn Tlsf s x moved = moved ≡ None
-MovesIn HalfFit s x moved = moved ≡ None
+MovesIn kind s x moved = elim (family_of kind) [ paged ↦ Moves (paging_in s) s.held x moved | tiled ↦ moved ≡ None ]
 
 -- the block table after a step; only an object that moves exchanges blocks
 abbrev pub frames_left : Kind → HeapState → Leaves → List ℕ
@@ -152,10 +138,7 @@ frames_left HalfFit s after = s.frames
 
 -- the blocks after the one at the place is released
 abbrev pub tiling_left : Kind → HeapState → ℕ → List Block
-tiling_left Moving s place = s.tiling
-tiling_left NonMoving s place = s.tiling
-tiling_left Tlsf s place = released s.tiling place
-tiling_left HalfFit s place = released s.tiling place
+tiling_left kind s place = elim (family_of kind) [ paged ↦ s.tiling | tiled ↦ released s.tiling place ]
 
 -- the number of a handle, where there is one
 abbrev pub number_of : Option Handle → Option ℕ
@@ -197,10 +180,10 @@ IsFault s part count access.Range = PassesEnd s part count
 
 -- with blocks, no word outside the object's block changes
 abbrev pub StaysOutside : Kind → HeapState → Placed → HeapState → Type 0
-StaysOutside Moving old x new = Unit {0}
-StaysOutside NonMoving old x new = Unit {0}
-StaysOutside Tlsf old x new = (w : ℕ) → IsOutside x.place (size_at old.tiling x.place) w → slice_index new.words w ≡ slice_index old.words w
-StaysOutside HalfFit old x new = (w : ℕ) → IsOutside x.place (size_at old.tiling x.place) w → slice_index new.words w ≡ slice_index old.words w
+StaysOutside kind old x new = elim (family_of kind) [
+  | paged ↦ ⊤
+  | tiled ↦ (w : ℕ) → IsOutside x.place (size_at old.tiling x.place) w → slice_index new.words w ≡ slice_index old.words w
+]
 
 -- The bytes stand in the object from `from` on, and nothing else changes.
 pub record WritesBytes (old : HeapState) (part : Part) (bytes : List ℕ) (new : HeapState) : Type 0 where
@@ -270,10 +253,7 @@ IsResizeFault s asked resize.Space = WantsSlot s asked
 
 -- a refused resize changes the cost alone, and with blocks nothing at all
 abbrev pub IsUnmoved : Kind → HeapState → HeapState → Type 0
-IsUnmoved Moving old new = ChangesCost old new
-IsUnmoved NonMoving old new = ChangesCost old new
-IsUnmoved Tlsf old new = new ≡ old
-IsUnmoved HalfFit old new = new ≡ old
+IsUnmoved kind old new = elim (family_of kind) [ paged ↦ ChangesCost old new | tiled ↦ new ≡ old ]
 
 -- a resize gives an object another length, or is refused
 abbrev pub IsResizeStep : HeapState → Request → Result Resized ResizeFault → HeapState → Type 0

@@ -1,33 +1,38 @@
 //! What the clauses of `Manager` say together. The functions do nothing: what each ensures is the
 //! law.
-ghost use Rattle.std.specs.Prelude.{◌≡◌, ◌≢◌, ℕ, ◌≤◌, List, None, Some, length, replicate, slice_index};
+ghost use Rattle.std.specs.Prelude.{◌≡◌, ◌≢◌, ℕ, ◌+◌, ◌<◌, ◌≤◌, List, None, Some, length, replicate, slice_index};
 ghost use Rattle.std.specs.FinMap.{get, insert, remove};
 ghost use Rattle.cf_base.specs.declared.answers.AccessFault.{AccessFault};
 ghost use Rattle.cf_base.specs.declared.answers.Freed.{Freed};
 ghost use Rattle.cf_base.specs.declared.answers.Refusal.{Refusal};
 ghost use Rattle.cf_base.specs.declared.answers.ResizeFault.{ResizeFault};
 ghost use Rattle.cf_base.specs.declared.answers.Resized.{Resized};
-ghost use Rattle.cf_base.specs.declared.kind.Kind.TheVariants.{Moving, NonMoving, Tlsf, HalfFit};
+ghost use Rattle.cf_base.specs.declared.kind.Kind.{Kind};
+ghost use Rattle.cf_base.specs.declared.kind.Kind.TheVariants.{NonMoving};
 ghost use Rattle.cf_base.specs.Settings.{Profile};
-ghost use Rattle.page_model.specs.Held.{Held, Placed};
+ghost use Rattle.page_model.specs.Held.{Held, Placed, places};
+ghost use Rattle.page_model.specs.Image.{header_word};
 ghost use Rattle.block_model.specs.Buckets.{FreeLists};
-ghost use Rattle.block_model.specs.Tiling.{Block, Carves, IsCarvedTo, IsTiling, block_need, released};
-ghost use Rattle.page_model.specs.Steps.{Request, zeros_at};
-ghost use Rattle.cf_model.specs.Rules.{AreInRange, AreOwned, KeepsRules};
-ghost use Rattle.cf_model.specs.State.{HeapState, region_words};
-ghost use Rattle.cf_model.specs.Steps.{BlocksStay, ChangesCost, FreesObject, GivesObject, IsFault, IsRefusedBy, IsResizeFault, Part, ReadsBytes, ResizesObject, WritesBytes, empty_heap};
+ghost use Rattle.block_model.specs.Tiling.{Block, Carves, IsCarvedTo, IsTiling, block_at, block_need, released};
+ghost use Rattle.block_model.specs.ReadWords.{read_blocks};
+ghost use Rattle.block_model.specs.Words.{AreCleared, AreTilingWords, HaveHeaders};
+ghost use Rattle.page_model.specs.Steps.{PlacesObject, RefitsObject, RemovesObject, Request, zeros_at};
+ghost use Rattle.cf_model.specs.ReadObjects.{read_objects};
+ghost use Rattle.cf_model.specs.Rules.{AreInRange, AreObjects, AreOwned, IsPaged, IsTiled, KeepsRules, KeepsTiling, content_word};
+ghost use Rattle.cf_model.specs.State.{HeapState, paging_in, region_words};
+ghost use Rattle.cf_model.specs.Steps.{BlocksStay, ChangesCost, FreesObject, GivesObject, IsFault, IsOpeningWords, IsRefusedBy, IsResizeFault, Part};
+ghost use Rattle.cf_model.specs.Steps.{ReadsBytes, ResizesObject, WritesBytes, empty_heap, number_of};
 
 /// An empty heap of each kind keeps the rules. With blocks, its words are the size of the one free
-/// block, an open word, and zeros.
+/// block, an open word, and zeros. So a manager of each kind can be opened.
 pub fn an_empty_heap_keeps_the_rules()
-    ensures moving { (p : Profile) → AreInRange p → KeepsRules (empty_heap Moving p (replicate (region_words p) 0)) }
-    ensures nonmoving { (p : Profile) → AreInRange p → KeepsRules (empty_heap NonMoving p (replicate (region_words p) 0)) }
-    ensures tlsf { (p : Profile) (words : List ℕ) → AreInRange p → length words ≡ region_words p
+    ensures pages { (kind : Kind) (p : Profile) → IsPaged kind → AreInRange p
+        → KeepsRules (empty_heap kind p (replicate (region_words p) 0)) }
+    ensures blocks { (kind : Kind) (p : Profile) (words : List ℕ) → IsTiled kind → AreInRange p → length words ≡ region_words p
         → slice_index words 0 ≡ region_words p → ((w : ℕ) → 2 ≤ w → slice_index words w ≡ 0)
-        → KeepsRules (empty_heap Tlsf p words) }
-    ensures half_fit { (p : Profile) (words : List ℕ) → AreInRange p → length words ≡ region_words p
-        → slice_index words 0 ≡ region_words p → ((w : ℕ) → 2 ≤ w → slice_index words w ≡ 0)
-        → KeepsRules (empty_heap HalfFit p words) }
+        → KeepsRules (empty_heap kind p words) }
+    ensures there { (kind : Kind) (p : Profile) → AreInRange p
+        → (words : List ℕ) × IsOpeningWords kind p words × KeepsRules (empty_heap kind p words) }
 {}
 
 /// The bytes that were written are read again, and no other object changes.
@@ -84,4 +89,41 @@ pub fn blocks_stay_owned()
     ensures free { (words : ℕ) (m : Held) (old : List Block) (h : ℕ) (x : Placed)
         → IsTiling words old → AreOwned m old → get m h ≡ Some x
         → AreOwned (remove m h) (released old x.place) }
+{}
+
+/// With blocks, the words tell the blocks, with no use of word 1 of a free one; and the places of
+/// the objects and the words tell the objects.
+pub fn the_words_tell_blocks_and_objects()
+    ensures blocks { (s : HeapState) → AreInRange s.profile → AreObjects s → KeepsTiling s
+        → read_blocks (region_words s.profile) s.words 0 (region_words s.profile) ≡ s.tiling }
+    ensures objects { (s : HeapState) → AreInRange s.profile → AreObjects s → KeepsTiling s
+        → read_objects s.words (places s.held) ≡ s.held }
+{}
+
+/// After a malloc the words are those of the objects where the headers stand, free blocks are
+/// cleared, the contents of the other used blocks are as before, and the new block has its object's
+/// header in word 1 and zeros after it.
+pub fn a_carve_keeps_the_words()
+    ensures { (rule : FreeLists) (count : ℕ) (m : Held) (old new : List Block) (h n place : ℕ) (was now : List ℕ)
+        → IsTiling count old → AreOwned m old → get m h ≡ None
+        → Carves rule old (record { need = block_need n; owner = h }) place new
+        → AreTilingWords (content_word m) old was
+        → HaveHeaders now new 0 → AreCleared now new
+        → ((a q : ℕ) (b : Block) → a ≢ place → block_at new a ≡ Some b → b.owner ≡ Some q → (i : ℕ) → 1 + i < b.size
+        → slice_index now (a + 1 + i) ≡ slice_index was (a + 1 + i))
+        → slice_index now (place + 1) ≡ header_word h n
+        → ((b : Block) → block_at new place ≡ Some b → (i : ℕ) → 2 + i < b.size → slice_index now (place + 2 + i) ≡ 0)
+        → (b : Block) → block_at new place ≡ Some b → b.owner ≡ Some h
+        → AreTilingWords (content_word (insert m h (zeros_at place n))) new now }
+{}
+
+/// With pages, a malloc, a free and a resize of a manager are the steps that objects on pages make:
+/// an object is placed, is removed, and gets another length.
+pub fn calls_are_the_steps_of_pages()
+    ensures malloc { (old new : HeapState) (asked : Request) → IsPaged old.kind → GivesObject old asked new
+        → PlacesObject (paging_in old) old.held asked new.held }
+    ensures free { (old new : HeapState) (h : ℕ) (freed : Freed) → IsPaged old.kind → FreesObject old h freed new
+        → RemovesObject (paging_in old) old.held h (record { held = new.held; moved = number_of freed.moved }) }
+    ensures resize { (old new : HeapState) (asked : Request) (done : Resized) → ResizesObject old asked done new
+        → RefitsObject (paging_in old) old.held asked (record { held = new.held; moved = number_of done.moved }) }
 {}

@@ -7,7 +7,7 @@ use Rattle.cf_base.specs.declared.kind.Kind.{Kind}
 use Rattle.cf_base.specs.declared.kind.Kind.TheVariants.{Moving, NonMoving}
 use Rattle.cf_lemmas.proofs.Maps.{equal_maps}
 use Rattle.page_model.specs.Held.{Held, Placed}
-use Rattle.page_model.proofs.Counting.{eq_no}
+use Rattle.cf_lemmas.proofs.Tests.{eq_no}
 use Rattle.cf_model.specs.Answers.{bound_put, class_with}
 use Rattle.cf_model.specs.Rules.{KeepsRules}
 use Rattle.cf_model.specs.State.{HeapState}

@@ -27,8 +27,8 @@ whole_by Moving p s bounds size ok m sound q x e = (tt, tt)
 whole_by NonMoving p s bounds size ok m sound q x e = (
     let b = in_blocks s bounds size in
     (place_is_block (paging_of s Blocks bounds) ok b m sound q x e, b.slot (class_for (paging_of s Blocks bounds) (length x.bytes))))
-whole_by Tlsf p s bounds size ok m sound q x e = absurd p
-whole_by HalfFit p s bounds size ok m sound q x e = absurd p
+whole_by Tlsf p s bounds size ok m sound q x e = (tt, tt)
+whole_by HalfFit p s bounds size ok m sound q x e = (tt, tt)
 
 -- the slot of an object
 pub whole_slot : (h : Heap) (k : IsValid h) (q : ℕ) (x : Placed) → get (held_in h) q ≡ Some x → IsWhole h.kind x.place

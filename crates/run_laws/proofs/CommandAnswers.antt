@@ -1,4 +1,4 @@
--- Every command is answered, where the heap has pages.
+-- Every command is answered.
 use Rattle.std.proofs.Common.{◌≡◌, ℕ, ◌+◌, ◌*◌, List, Option, Some, None, replicate, refl}
 use Rattle.std.specs.Prelude.{codes}
 use Rattle.std.specs.FinMap.{get, remove}
@@ -12,7 +12,7 @@ use Rattle.cf_model.specs.Costs.{resize_bound}
 use Rattle.cf_model.specs.Rules.{AreInRange, IsPaged}
 use Rattle.cf_model.specs.State.{region_words}
 use Rattle.cf_model.specs.Steps.{empty_heap}
-use Rattle.cf_model.proofs.EmptyHeaps.{moving_empty, nonmoving_empty}
+use Rattle.cf_model.proofs.EmptyHeaps.{empty_there}
 use Rattle.script_reader.specs.declared.command.Command.{Command}
 use Rattle.script_reader.specs.declared.command.Command.TheVariants.{Malloc, Free, Write, Bound, Resize}
 use Rattle.run_model.specs.Replies.{malloc_text, resize_text, told, write_text}
@@ -23,7 +23,7 @@ use Rattle.run_model.specs.Texts.{Reply, said}
 use Rattle.run_model.proofs.Bounded.{step_meets_bounds}
 use Rattle.run_model.proofs.Going.{costs_nothing}
 use Rattle.run_laws.specs.Sayable.{IsSayable}
-use Rattle.run_laws.proofs.HeapAnswers.{bound_done, free_done, malloc_done, resize_done, write_done}
+use Rattle.run_laws.proofs.HeapAnswers.{HasAnswers, answers}
 
 -- a reply, and the state after it
 record HasAnswer (R : Reply → RunState → Type 0) : Type 0 where
@@ -31,33 +31,36 @@ record HasAnswer (R : Reply → RunState → Type 0) : Type 0 where
   new : RunState
   done : R reply new
 
-module _ (old : RunState) (going : IsGoing old) (paged : IsPaged old.heap.kind) where
+module _ (old : RunState) (going : IsGoing old) where
+  heap : HasAnswers old.heap
+  heap = answers old.heap going.rules
+
   malloc_at : (o : Option ℕ) (asked : Request) → HasAnswer (MallocsAt o old asked)
   malloc_at (Some h) asked = record { reply = said (codes "live"); new = old; done = (refl, refl) }
   malloc_at None asked =
-      let m = malloc_done old.heap going.rules paged asked.length in
+      let m = heap.malloc asked.length in
       record {
         reply = said (malloc_text m.answer);
         new = record { session = record old.session { ids = ids_given old.session.ids asked.number m.answer; bound = 64 }; heap = m.heap };
-        done = record { answer = m.answer; step = m.step; rules = m.kept; cost = costs_nothing m.heap.kind m.heap.cost 64 m.cost; session = refl; reply_is = refl };
+        done = record { answer = m.answer; step = m.step; rules = m.kept; cost = m.cost 64; session = refl; reply_is = refl };
       }
 
   free_at : (o : Option ℕ) (id : ℕ) → get old.session.ids id ≡ o → HasAnswer (FreesAt o old id)
   free_at None id is = record { reply = said (codes "unknown"); new = old; done = (refl, refl) }
   free_at (Some h) id is =
       let x = going.tied.named id h is in
-      let f = free_done old.heap going.rules paged h x.0 x.1 in
+      let f = heap.free h x.0 x.1 in
       record {
         reply = said (codes "ok");
         new = record { session = counted (record old.session { ids = remove old.session.ids id; bound = 96 + 2 * f.freed.slot_words }) f.freed.moved f.freed.slot_words; heap = f.heap };
-        done = record { freed = f.freed; step = f.step; rules = f.kept; cost = costs_nothing f.heap.kind f.heap.cost (96 + 2 * f.freed.slot_words) f.cost; session = refl; reply_is = refl };
+        done = record { freed = f.freed; step = f.step; rules = f.kept; cost = f.cost (96 + 2 * f.freed.slot_words); session = refl; reply_is = refl };
       }
 
   write_at : (o : Option ℕ) (id at : ℕ) (bytes : List ℕ) → AreBytes bytes → get old.session.ids id ≡ o → HasAnswer (WritesAt o old at bytes)
   write_at None id at bytes are is = record { reply = said (codes "unknown"); new = old; done = (refl, refl) }
   write_at (Some h) id at bytes are is =
       let x = going.tied.named id h is in
-      let w = write_done old.heap going.rules paged (record { number = h; from = at }) bytes x.0 are x.1 in
+      let w = heap.write (record { number = h; from = at }) bytes x.0 are x.1 in
       record {
         reply = said (write_text w.answer);
         new = record { session = old.session; heap = w.heap };
@@ -68,11 +71,11 @@ module _ (old : RunState) (going : IsGoing old) (paged : IsPaged old.heap.kind) 
   resize_at None id bytes is = record { reply = said (codes "unknown"); new = old; done = (refl, refl) }
   resize_at (Some h) id bytes is =
       let x = going.tied.named id h is in
-      let r = resize_done old.heap going.rules paged (record { number = h; length = bytes }) x.0 x.1 in
+      let r = heap.resize (record { number = h; length = bytes }) x.0 x.1 in
       record {
         reply = said (resize_text r.answer);
         new = record { session = session_resized (record old.session { bound = resize_bound r.answer }) r.answer; heap = r.heap };
-        done = record { answer = r.answer; step = r.step; rules = r.kept; cost = costs_nothing r.heap.kind r.heap.cost (resize_bound r.answer) r.cost; session = refl; reply_is = refl };
+        done = record { answer = r.answer; step = r.step; rules = r.kept; cost = r.cost (resize_bound r.answer); session = refl; reply_is = refl };
       }
 
   step_there : (c : Command) → IsSayable c → HasAnswer (Step old c)
@@ -83,19 +86,18 @@ module _ (old : RunState) (going : IsGoing old) (paged : IsPaged old.heap.kind) 
   step_there (Bound slot_words k) can = record {
     reply = said (bound_text (class_to_bound old.heap slot_words));
     new = record { session = old.session; heap = bound_put old.heap (class_to_bound old.heap slot_words) k };
-    done = record { heap = refl; rules = bound_done old.heap going.rules paged slot_words k can.formed.0 can.formed.1; session = refl; reply_is = refl };
+    done = record { heap = refl; rules = heap.bound slot_words k can.formed.0 can.formed.1; session = refl; reply_is = refl };
   }
   step_there c can = record { reply = told old c; new = old; done = (refl, refl) }
 
 -- every command that can be said is answered
-pub turn_there : (old : RunState) (c : Command) → IsGoing old → IsPaged old.heap.kind → IsSayable c → (reply : Reply) × (new : RunState) × Turn old c reply new
-turn_there old c going paged can =
-    let s = step_there old going paged c can in
+pub turn_there : (old : RunState) (c : Command) → IsGoing old → IsSayable c → (reply : Reply) × (new : RunState) × Turn old c reply new
+turn_there old c going can =
+    let s = step_there old going c can in
     (s.reply, s.new, record { step = s.done; bounds = step_meets_bounds old s.new c s.reply going s.done })
 
 -- a run begins under any settings in their ranges
-pub begins_there : (kind : Kind) (p : Profile) → IsPaged kind → AreInRange p → (s : RunState) × Begins kind p s
-begins_there Moving p paged ok = (record { session = fresh_session; heap = empty_heap Moving p (replicate (region_words p) 0) }, record { session = refl; words = refl; heap = refl; rules = moving_empty p ok })
-begins_there NonMoving p paged ok = (record { session = fresh_session; heap = empty_heap NonMoving p (replicate (region_words p) 0) }, record { session = refl; words = refl; heap = refl; rules = nonmoving_empty p ok })
-begins_there Tlsf p paged ok = absurd paged
-begins_there HalfFit p paged ok = absurd paged
+pub begins_there : (kind : Kind) (p : Profile) → AreInRange p → (s : RunState) × Begins kind p s
+begins_there kind p ok =
+    let first = empty_there p ok kind in
+    (record { session = fresh_session; heap = empty_heap kind p first.0 }, record { session = refl; words = first.1; heap = refl; rules = first.2 })

@@ -26,20 +26,22 @@ run_keeps kind old [] replies new on run = subst (IsUnderWay kind) (sym run.1) o
 run_keeps kind old (item ∷ rest) replies new on run = run_keeps kind run.0 rest run.2 new (item_keeps kind old item run.1 run.0 on run.3) run.5
 
 -- an item that can be said gets a reply
-pub item_there : (kind : Kind) (old : Option RunState) (item : Item) → IsPaged kind → IsUnderWay kind old → IsSayableItem item → (reply : Reply) × (new : Option RunState) × ItemStep kind old item reply new
-item_there kind old (starts p) paged on can = (let b = begins_there kind p paged can in (said (codes "ok"), Some b.0, (b.0, b.1, refl, refl)))
-item_there kind None (asks c) paged on can = ([], None, (refl, refl))
-item_there kind (Some old) (asks c) paged on can =
-    let t = turn_there old c on.1 (subst IsPaged (sym on.0) paged) can in
+pub item_there : (kind : Kind) (old : Option RunState) (item : Item) → IsUnderWay kind old → IsSayableItem item
+    → (reply : Reply) × (new : Option RunState) × ItemStep kind old item reply new
+item_there kind old (starts p) on can = (let b = begins_there kind p can in (said (codes "ok"), Some b.0, (b.0, b.1, refl, refl)))
+item_there kind None (asks c) on can = ([], None, (refl, refl))
+item_there kind (Some old) (asks c) on can =
+    let t = turn_there old c on.1 can in
     (t.0, Some t.1, (t.1, t.2, refl))
-item_there kind old (bad n) paged on can = (said (bad_line n), old, (refl, refl))
+item_there kind old (bad n) on can = (said (bad_line n), old, (refl, refl))
 
 -- and so do items
-pub run_there : (kind : Kind) (old : Option RunState) (items : List Item) → IsPaged kind → IsUnderWay kind old → AreSayable items → (replies : List Reply) × (end : Option RunState) × Run kind old items replies end
-run_there kind old [] paged on can = ([], old, (refl, refl))
-run_there kind old (item ∷ rest) paged on can =
-    let first = item_there kind old item paged on can.0 in
-    let after = run_there kind first.1 rest paged (item_keeps kind old item first.0 first.1 on first.2) can.1 in
+pub run_there : (kind : Kind) (old : Option RunState) (items : List Item) → IsUnderWay kind old → AreSayable items
+    → (replies : List Reply) × (end : Option RunState) × Run kind old items replies end
+run_there kind old [] on can = ([], old, (refl, refl))
+run_there kind old (item ∷ rest) on can =
+    let first = item_there kind old item on can.0 in
+    let after = run_there kind first.1 rest (item_keeps kind old item first.0 first.1 on first.2) can.1 in
     (first.0 ∷ after.0, after.1, (first.1, first.0, after.0, first.2, refl, after.2))
 
 -- one run after the other
@@ -55,10 +57,11 @@ sayable_behind [] after can = can
 sayable_behind (item ∷ rest) after can = sayable_behind rest after can.1
 
 -- a run over a front of items that can be said goes on over all of them
-pub run_goes_on : (kind : Kind) (items done after : List Item) (replies : List Reply) (mid : Option RunState) → IsPaged kind → AreSayable items → items ≡ done ++ after → Run kind None done replies mid
+pub run_goes_on : (kind : Kind) (items done after : List Item) (replies : List Reply) (mid : Option RunState) → AreSayable items → items ≡ done ++ after
+    → Run kind None done replies mid
     → (more : List Reply) × (end : Option RunState) × Run kind None items (replies ++ more) end
-run_goes_on kind items done after replies mid paged can is run =
-    let rest = run_there kind mid after paged (run_keeps kind None done replies mid tt run) (sayable_behind done after (subst AreSayable is can)) in
+run_goes_on kind items done after replies mid can is run =
+    let rest = run_there kind mid after (run_keeps kind None done replies mid tt run) (sayable_behind done after (subst AreSayable is can)) in
     (rest.0, rest.1, subst (λ i. Run kind None i (replies ++ rest.0) rest.1) (sym is) (run_joined kind None done after replies rest.0 mid rest.1 run rest.2))
 
 -- the text of replies, one after the other
@@ -67,8 +70,9 @@ text_joined lead [] more = refl
 text_joined lead (reply ∷ rest) more = ap (λ t. led lead reply ++ t) (text_joined lead rest more) ∙ sym (append_assoc (led lead reply) (text_of lead rest) (text_of lead more))
 
 -- a front of the text of a front is a front of the text of all
-pub front_written : (kind : Kind) (items done after : List Item) (replies : List Reply) (mid : Option RunState) (lead written lost : List ℕ) → IsPaged kind → AreSayable items → items ≡ done ++ after → Run kind None done replies mid
+pub front_written : (kind : Kind) (items done after : List Item) (replies : List Reply) (mid : Option RunState) (lead written lost : List ℕ) → AreSayable items
+    → items ≡ done ++ after → Run kind None done replies mid
     → text_of lead replies ≡ written ++ lost → (all : List Reply) × (end : Option RunState) × (rest : List ℕ) × Run kind None items all end × (text_of lead all ≡ written ++ rest)
-front_written kind items done after replies mid lead written lost paged can is run cut =
-    let on = run_goes_on kind items done after replies mid paged can is run in
+front_written kind items done after replies mid lead written lost can is run cut =
+    let on = run_goes_on kind items done after replies mid can is run in
     (replies ++ on.0, on.1, lost ++ text_of lead on.0, on.2, text_joined lead replies on.0 ∙ ap (λ t. t ++ text_of lead on.0) cut ∙ append_assoc written lost (text_of lead on.0))

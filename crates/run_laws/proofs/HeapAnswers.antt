@@ -1,398 +1,43 @@
--- Every call of a heap with pages has an answer and a state after it that keeps the rules.
-use Rattle.std.proofs.Common.{◌≡◌, ◌≢◌, ℕ, ◌+◌, ◌<◌, ◌≤◌, List, Option, Some, None, Result, Ok, Err, length, get_or, set, replicate, arith, sym, ◌∙◌, ap, refl, subst, inl, inr}
-use Rattle.std.specs.Prelude.{◌⊎◌, option_map}
-use Rattle.std.proofs.lemmas.Bool.{cases_eq, cases_lt}
-use Rattle.std.proofs.lemmas.List.{get_or-set_same, get_or-set_other, length-set, set_past}
-use Rattle.std.specs.Ordering.{nat_cmp}
-use Rattle.std.specs.FinMap.{empty, get, get-empty, insert, len, remove}
-use Rattle.cf_base.specs.Classes.{need}
-use Rattle.cf_base.specs.declared.answers.AccessFault.{AccessFault}
-use Rattle.cf_base.specs.declared.answers.AccessFault.TheVariants as access
-use Rattle.cf_base.specs.declared.answers.Freed.{Freed}
-use Rattle.cf_base.specs.declared.answers.Handle.{Handle}
-use Rattle.cf_base.specs.declared.answers.Refusal.{Refusal}
-use Rattle.cf_base.specs.declared.answers.Refusal.TheVariants as refusal
-use Rattle.cf_base.specs.declared.answers.Resized.{Resized}
-use Rattle.cf_base.specs.declared.answers.ResizeFault.{ResizeFault}
-use Rattle.cf_base.specs.declared.answers.ResizeFault.TheVariants as resize
-use Rattle.cf_lemmas.proofs.Maps.{equal_maps, get_removed, len_fresh, len_rebound, some_inserted, some_removed}
-use Rattle.cf_lemmas.proofs.MapValues.{get-map_values, map_values-insert}
-use Rattle.cf_lemmas.proofs.Sums.{insert_again}
-use Rattle.page_model.specs.Arrangement.{IsSound, class_at}
-use Rattle.page_model.specs.Bytes.{AreBytes, written}
-use Rattle.page_model.specs.Held.{Held, Objects, Placed, objects}
-use Rattle.page_model.specs.Image.{IsSlotImage, slot_for}
-use Rattle.page_model.specs.Paging.{Paging, class_for}
-use Rattle.page_model.specs.Steps.{IsFreePlace, RemovesObject, RefitsObject as IsResizedBy, Moves, Leaves, Request, resized, resized_at, without, zeros_at}
-use Rattle.page_model.proofs.Adding.{len-objects}
-use Rattle.page_model.proofs.BlockSteps.{free_frames, resize_frames}
-use Rattle.cf_lemmas.proofs.Tests.{eq_no}
-use Rattle.page_model.proofs.FreeSteps.{sound_free}
-use Rattle.page_model.proofs.Freeing.{sound_exchanged}
-use Rattle.page_model.proofs.Nothing.{sound_empty}
-use Rattle.page_model.proofs.Parts.{free_objects, malloc_objects}
-use Rattle.page_model.proofs.Placing.{sound_malloc}
-use Rattle.page_model.proofs.Resizing.{changes_class, sound_resize}
-use Rattle.page_model.proofs.Sizes.{class_fits}
-use Rattle.page_model.proofs.SlotImages.{own_words}
-use Rattle.page_model.proofs.Writing.{length-written, resized_are_bytes, written_are_bytes, zeros_are_bytes}
+-- Every call of a heap of any kind has an answer, and a state after it that keeps the rules.
+use Rattle.std.proofs.Common.{◌≡◌, ℕ, ◌≤◌, List, Some, refl}
+use Rattle.std.specs.FinMap.{get}
+use Rattle.page_model.specs.Bytes.{AreBytes}
+use Rattle.page_model.specs.Held.{Placed}
+use Rattle.page_model.specs.Steps.{Request}
 use Rattle.cf_model.specs.Answers.{bound_put}
-use Rattle.cf_model.specs.Rules.{AreObjects, IsPaged, KeepsPages, KeepsRules}
-use Rattle.cf_model.specs.State.{HeapState, paging_in, region_words}
-use Rattle.cf_model.specs.Steps.{FreesObject, IsMallocStep, IsResizeStep, IsWriteStep, Part, frames_left, number_of, leaves_of, slot_in}
+use Rattle.cf_model.specs.Families as family
+use Rattle.cf_model.specs.Families.{Family, family_of}
+use Rattle.cf_model.specs.Rules.{KeepsRules}
+use Rattle.cf_model.specs.State.{HeapState}
+use Rattle.cf_model.specs.Steps.{Part}
 use Rattle.run_model.specs.Steps.{class_to_bound}
-use Rattle.run_model.proofs.Bounded.{pages_kept}
-use Rattle.run_model.proofs.Tied.{bytes_held, bytes_missing}
-use Rattle.run_laws.proofs.Counting.{fresh_key, len_without, there_or_not}
-use Rattle.run_laws.proofs.Images.{sound_image}
-use Rattle.run_laws.proofs.ByKind.{FramesKept, frames_by, frames_stepped, handle_of, lacking_by, moves_by, number_of_handle, outside_by, place_by, rules_by, tiling_by, unmoved_by}
-use Rattle.run_laws.proofs.Room.{room_or_not, some_move}
+use Rattle.run_laws.proofs.Answered.{HasFree, HasMalloc, HasResize, HasWrite}
+use Rattle.run_laws.proofs.BlockAnswers as blocks
+use Rattle.run_laws.proofs.PageAnswers as pages
 
--- bytes under numbers below n, no more than n of them
-record AreFew (n : ℕ) (o : Objects) : Type 0 where
-  handles : (h : ℕ) (v : List ℕ) → get o h ≡ Some v → h < n
-  bytes : (h : ℕ) (v : List ℕ) → get o h ≡ Some v → AreBytes v
-  few : len o ≤ n
+-- what the calls of a heap have
+pub record HasAnswers (s : HeapState) : Type 0 where
+  pub malloc : (n : ℕ) → HasMalloc s n
+  pub free : (h : ℕ) (x : Placed) → get s.held h ≡ Some x → HasFree s h
+  pub write : (part : Part) (bytes : List ℕ) (x : Placed) → AreBytes bytes → get s.held part.number ≡ Some x → HasWrite s part bytes
+  pub resize : (asked : Request) (x : Placed) → get s.held asked.number ≡ Some x → HasResize s asked
+  pub bound : (slot_words k : ℕ) → 1 ≤ k → k ≤ 64 → KeepsRules (bound_put s (class_to_bound s slot_words) k)
 
-object_behind : (o : Option Placed) (v : List ℕ) → option_map (λ (z : Placed). z.bytes) o ≡ Some v → (x : Placed) × (o ≡ Some x) × (x.bytes ≡ v)
-object_behind None v is = absurd (let e : ◌≡◌ {A = Option (List ℕ)} None (Some v) = is in cc)
-object_behind (Some x) v is = (x, refl, (let e : Some x.bytes ≡ Some v = is in cc))
-
-few_in : (s : HeapState) → AreObjects s → AreFew s.profile.proxies (objects s.held)
-few_in s are = record {
-  handles = λ h v e. (let x = behind h v e in are.handles h x.0 x.1);
-  bytes = λ h v e. (let x = behind h v e in subst AreBytes x.2 (are.bytes h x.0 x.1));
-  few = (let same = len-objects s.held in let l = are.few in omega arith);
-}
+pub answers : (s : HeapState) → KeepsRules s → HasAnswers s
+answers s rules = by_family (family_of s.kind) refl
   where
-    behind : (h : ℕ) (v : List ℕ) → get (objects s.held) h ≡ Some v → (x : Placed) × (get s.held h ≡ Some x) × (x.bytes ≡ v)
-    behind h v e = object_behind (get s.held h) v (sym (get-map_values (λ (z : Placed). z.bytes) s.held h) ∙ e)
-
-objects_in : (s : HeapState) → AreFew s.profile.proxies (objects s.held) → AreObjects s
-objects_in s few = record {
-  handles = λ h x e. few.handles h x.bytes (bytes_held s.held h x e);
-  bytes = λ h x e. few.bytes h x.bytes (bytes_held s.held h x e);
-  few = (let same = len-objects s.held in let l = few.few in omega arith);
-}
-
-module _ (n : ℕ) (o : Objects) (few : AreFew n o) (h : ℕ) where
-  few_added : (v : List ℕ) → get o h ≡ None → h < n → len o < n → AreBytes v → AreFew n (insert o h v)
-  few_added v none low room bytes = record {
-    handles = λ q w e. elim (some_inserted o h v q w e) [ inl is ↦ rw is.0 low | inr was ↦ few.handles q w was.1 ];
-    bytes = λ q w e. elim (some_inserted o h v q w e) [ inl is ↦ subst AreBytes is.1 bytes | inr was ↦ few.bytes q w was.1 ];
-    few = (let more = len_fresh o h v none in omega arith);
-  }
-
-  few_changed : (u v : List ℕ) → get o h ≡ Some u → AreBytes v → AreFew n (insert o h v)
-  few_changed u v some bytes = record {
-    handles = λ q w e. elim (some_inserted o h v q w e) [ inl is ↦ rw is.0 (few.handles h u some) | inr was ↦ few.handles q w was.1 ];
-    bytes = λ q w e. elim (some_inserted o h v q w e) [ inl is ↦ subst AreBytes is.1 bytes | inr was ↦ few.bytes q w was.1 ];
-    few = (let same = len_rebound o h v u some in let l = few.few in omega arith);
-  }
-
-  few_left : (u : List ℕ) → get o h ≡ Some u → AreFew n (remove o h)
-  few_left u some = record {
-    handles = λ q w e. few.handles q w (some_removed o h q w e).1;
-    bytes = λ q w e. few.bytes q w (some_removed o h q w e).1;
-    few = (let less = len_without o h u some in let l = few.few in omega arith);
-  }
-
--- a map without keys is the empty one
-no_keys : (m : Held) → len m ≡ 0 → (h : ℕ) (x : Placed) → get m h ≡ Some x → ⊥
-no_keys m none h x there = (let l = len_without m h x there in omega arith)
-
-no_keys_empty : (m : Held) → len m ≡ 0 → m ≡ empty
-no_keys_empty m none = equal_maps _ _ (λ q. elim (there_or_not m q) [
-  | inl is ↦ absurd (no_keys m none q is.0 is.1)
-  | inr is ↦ is ∙ sym (get-empty nat_cmp q)
-])
-
-module _ (old : HeapState) (rules : KeepsRules old) (paged : IsPaged old.kind) where
-  abbrev p : Paging
-  p = paging_in old
-
-  pages : KeepsPages old
-  pages = pages_kept old.kind old paged rules.of_kind
-
-  few_old : AreFew old.profile.proxies (objects old.held)
-  few_old = few_in old rules.numbers
-
-  frames_old : FramesKept old.kind old.profile old.frames
-  frames_old = frames_by old.kind old paged rules.of_kind
-
-  -- the rules, with other objects in other words
-  rules_with : (m : Held) (words frames : List ℕ) (cost : ℕ) → IsSound p m → length words ≡ region_words old.profile → IsSlotImage p m words
-      → AreFew old.profile.proxies (objects m) → FramesKept old.kind old.profile frames → KeepsRules (record old { held = m; words = words; frames = frames; cost = cost })
-  rules_with m words frames cost sound count slots few kept = record {
-    settings = rules.settings;
-    region = count;
-    numbers = objects_in (record old { held = m; words = words; frames = frames; cost = cost }) few;
-    of_kind = rules_by old.kind (record old { held = m; words = words; frames = frames; cost = cost }) paged (record {
-      paging = pages.paging;
-      low_bounds = pages.low_bounds;
-      sound = sound;
-      image = own_words p pages.paging m sound words slots;
-      slots = slots;
-      no_tiling = pages.no_tiling;
-    }) kept;
-  }
-
-  -- the words of other objects
-  record Becomes (m : Held) (frames : List ℕ) (cost : ℕ) : Type 0 where
-    words : List ℕ
-    kept : KeepsRules (record old { held = m; words = words; frames = frames; cost = cost })
-
-  becomes : (m : Held) (frames : List ℕ) (cost : ℕ) → IsSound p m → AreFew old.profile.proxies (objects m) → FramesKept old.kind old.profile frames → Becomes m frames cost
-  becomes m frames cost sound few kept =
-      let image = sound_image p m sound in
-      record { words = image.0; kept = rules_with m image.0 frames cost sound image.1 image.2 few kept }
-
-  -- nothing changes but the cost
-  rules_still : KeepsRules (record old { cost = 0 })
-  rules_still = rules_with old.held old.words old.frames 0 pages.sound rules.region pages.slots few_old frames_old
-
-  pub record HasMalloc (n : ℕ) : Type 0 where
-    pub answer : Result Handle Refusal
-    pub heap : HeapState
-    pub step : IsMallocStep old n answer heap
-    pub kept : KeepsRules heap
-    pub cost : heap.cost ≡ 0
-
-  malloc_given : (n a : ℕ) → need n ≤ old.profile.page_words → len old.held < old.profile.proxies → IsFreePlace p old.held n a → HasMalloc n
-  malloc_given n a fits few free =
-      let key = fresh_key old.profile.proxies old.held few in
-      let h = key.0 in
-      let none : get (objects old.held) h ≡ None = bytes_missing old.held h key.2 in
-      let room : len (objects old.held) < old.profile.proxies = (let same = len-objects old.held in omega arith) in
-      let m : Held = insert old.held h (zeros_at a n) in
-      let sound = sound_malloc p old.held (record { number = h; length = n }) m pages.paging pages.sound (record { place = a; unused = key.2; free = free; placed = refl }) in
-      let added : AreFew old.profile.proxies (objects m) = subst (AreFew old.profile.proxies) (sym (malloc_objects old.held h a n)) (few_added old.profile.proxies (objects old.held) few_old h (replicate n 0) none key.1 room (zeros_are_bytes n)) in
-      let after = becomes m old.frames 0 sound added frames_old in
-      record {
-        answer = Ok (record { 0 = h });
-        heap = record old { held = m; words = after.words; cost = 0 };
-        step = record {
-          fits = fits;
-          few = few;
-          in_range = key.1;
-          unused = key.2;
-          place = a;
-          placed = place_by old old.kind (record { number = h; length = n }) a (record old { held = m; words = after.words; cost = 0 }) paged free;
-          whole = refl;
-        };
-        kept = after.kept;
-        cost = refl;
-      }
-
-  -- every malloc is answered
-  pub malloc_done : (n : ℕ) → HasMalloc n
-  malloc_done n = elim (cases_lt old.profile.page_words (need n)) [
-    | inl large ↦ record { answer = Err refusal.Size; heap = record old { cost = 0 }; step = (large, refl); kept = rules_still; cost = refl }
-    | inr fits ↦ elim (cases_lt (len old.held) old.profile.proxies) [
-      | inr all ↦ record {
-        answer = Err refusal.Proxy;
-        heap = record old { cost = 0 };
-        step = (record { fits = fits; all = (let few = rules.numbers.few in omega arith) }, refl);
-        kept = rules_still;
-        cost = refl;
-      }
-      | inl few ↦ elim (room_or_not p pages.paging old.held pages.sound n (class_fits p pages.paging n fits)) [
-        | inl lacks ↦ record {
-          answer = Err refusal.Space;
-          heap = record old { cost = 0 };
-          step = (record { fits = fits; few = few; lacking = lacking_by old old.kind n paged lacks }, refl);
-          kept = rules_still;
-          cost = refl;
-        }
-        | inr at ↦ malloc_given n at.0 fits few at.1
-      ]
-    ]
-  ]
-
-  pub record HasFree (h : ℕ) : Type 0 where
-    pub freed : Freed
-    pub heap : HeapState
-    pub step : FreesObject old h freed heap
-    pub kept : KeepsRules heap
-    pub cost : heap.cost ≡ 0
-
-  free_with : (h : ℕ) (x : Placed) → get old.held h ≡ Some x → (moved : Option Handle) → Moves p old.held x (number_of moved) → HasFree h
-  free_with h x there moved moves =
-      let left : Held = without old.held h x.place (number_of moved) in
-      let after : Leaves = leaves_of old h x (number_of moved) in
-      let step : RemovesObject p old.held h after = record { freed = x; found = there; moves = moves; left = refl } in
-      let gone = free_objects p pages.paging old.held pages.sound h x there (number_of moved) moves in
-      let frames = frames_left old.kind old after in
-      let kept : FramesKept old.kind old.profile frames = frames_stepped old.kind old after refl paged rules frames_old (λ blocks count permuted. free_frames p old.held old.frames pages.paging blocks pages.sound count h after step permuted) in
-      let few : AreFew old.profile.proxies (objects left) = subst (AreFew old.profile.proxies) (sym gone) (few_left old.profile.proxies (objects old.held) few_old h x.bytes (bytes_held old.held h x there)) in
-      let next = becomes left frames 0 (sound_free p old.held h after pages.paging pages.sound step) few kept in
-      record {
-        freed = record { slot_words = slot_in old.kind old x; moved = moved };
-        heap = record old { held = left; words = next.words; frames = frames; cost = 0 };
-        step = record {
-          object = x;
-          found = there;
-          slot = refl;
-          moves = moves_by old old.kind x (number_of moved) paged moves;
-          left = gone;
-          whole = ap (λ t. record old { held = left; words = next.words; frames = frames; tiling = t; cost = 0 }) (sym (tiling_by old old.kind x.place paged));
-        };
-        kept = next.kept;
-        cost = refl;
-      }
-
-  -- every free of a live object is done
-  pub free_done : (h : ℕ) (x : Placed) → get old.held h ≡ Some x → HasFree h
-  free_done h x there =
-      let move = some_move p pages.paging old.held pages.sound h x there in
-      free_with h x there (handle_of move.0) (subst (Moves p old.held x) (sym (number_of_handle move.0)) move.1)
-
-  pub record HasWrite (part : Part) (bytes : List ℕ) : Type 0 where
-    pub answer : Result Unit AccessFault
-    pub heap : HeapState
-    pub step : IsWriteStep old part bytes answer heap
-    pub kept : KeepsRules heap
-
-  -- other bytes of the same number in the object's slot
-  sound_written : (h : ℕ) (x : Placed) (v : List ℕ) → get old.held h ≡ Some x → length v ≡ length x.bytes → IsSound p (insert old.held h (record x { bytes = v }))
-  sound_written h x v there same = subst (IsSound p) (insert_again old.held h (record x { bytes = v })) (sound_exchanged p old.held h x there h v (get_removed old.held h) (ap (class_for p) same) pages.sound)
-
-  few_replaced : (h : ℕ) (x y : Placed) → get old.held h ≡ Some x → AreBytes y.bytes → AreFew old.profile.proxies (objects (insert old.held h y))
-  few_replaced h x y there bytes = subst (AreFew old.profile.proxies) (sym (map_values-insert (λ (z : Placed). z.bytes) old.held h y)) (few_changed old.profile.proxies (objects old.held) few_old h x.bytes y.bytes (bytes_held old.held h x there) bytes)
-
-  -- every write into a live object is answered
-  pub write_done : (part : Part) (bytes : List ℕ) (x : Placed) → AreBytes bytes → get old.held part.number ≡ Some x → HasWrite part bytes
-  write_done part bytes x are there = elim (cases_lt (length x.bytes) (part.from + length bytes)) [
-    | inl past ↦ record { answer = Err access.Range; heap = old; step = (record { object = x; found = there; past = past }, refl); kept = rules }
-    | inr within ↦ (
-        let v = written x.bytes part.from bytes in
-        let sound = sound_written part.number x v there (length-written x.bytes part.from bytes within) in
-        let few = few_replaced part.number x (record x { bytes = v }) there (written_are_bytes x.bytes part.from bytes within (rules.numbers.bytes part.number x there) are) in
-        let next = becomes (insert old.held part.number (record x { bytes = v })) old.frames old.cost sound few frames_old in
-        record {
-          answer = Ok tt;
-          heap = record old { held = insert old.held part.number (record x { bytes = v }); words = next.words };
-          step = record {
-            object = x;
-            found = there;
-            within = within;
-            outside = outside_by old old.kind x (record old { held = insert old.held part.number (record x { bytes = v }); words = next.words }) paged;
-            whole = refl;
-          };
-          kept = next.kept;
-        })
-  ]
-
-  pub record HasResize (asked : Request) : Type 0 where
-    pub answer : Result Resized ResizeFault
-    pub heap : HeapState
-    pub step : IsResizeStep old asked answer heap
-    pub kept : KeepsRules heap
-    pub cost : heap.cost ≡ 0
-
-  resize_with : (asked : Request) (x : Placed) → get old.held asked.number ≡ Some x → need asked.length ≤ old.profile.page_words → (m : Held) (moved : Option Handle)
-      → IsResizedBy p old.held asked (record { held = m; moved = number_of moved }) → objects m ≡ insert (objects old.held) asked.number (resized x.bytes asked.length) → HasResize asked
-  resize_with asked x there fits m moved step left =
-      let after : Leaves = record { held = m; moved = number_of moved } in
-      let frames = frames_left old.kind old after in
-      let kept : FramesKept old.kind old.profile frames = frames_stepped old.kind old after refl paged rules frames_old (λ blocks count permuted. resize_frames p old.held old.frames pages.paging blocks pages.sound count asked after step permuted) in
-      let few : AreFew old.profile.proxies (objects m) = subst (AreFew old.profile.proxies) (sym left)
-      (few_changed old.profile.proxies (objects old.held) few_old asked.number x.bytes (resized x.bytes asked.length) (bytes_held old.held asked.number x there) (resized_are_bytes x.bytes asked.length (rules.numbers.bytes asked.number x there))) in
-      let next = becomes m frames 0 (sound_resize p old.held asked after pages.paging pages.sound step) few kept in
-      record {
-        answer = Ok (record { old_slot_words = slot_for p (length x.bytes); slot_words = slot_for p asked.length; moved = moved });
-        heap = record old { held = m; words = next.words; frames = frames; cost = 0 };
-        step = record { pages = paged; fits = fits; object = x; found = there; old_slot = refl; slot = refl; step = step; left = left; whole = refl };
-        kept = next.kept;
-        cost = refl;
-      }
-
-  resize_moved : (asked : Request) (x : Placed) → get old.held asked.number ≡ Some x → need asked.length ≤ old.profile.page_words → class_for p asked.length ≢ class_at p x → (a : ℕ) → IsFreePlace p old.held asked.length a
-      → (moved : Option Handle) → Moves p old.held x (number_of moved) → HasResize asked
-  resize_moved asked x there fits other a free moved moves =
-      let unused : get old.held old.profile.proxies ≡ None = elim (there_or_not old.held old.profile.proxies) [
-        | inl is ↦ absurd (let l = rules.numbers.handles old.profile.proxies is.0 is.1 in omega arith)
-        | inr none ↦ none
-      ] in
-      let y : Placed = resized_at a x asked.length in
-      let rest : Held = without old.held asked.number x.place (number_of moved) in
-      resize_with asked x there fits (insert rest asked.number y) moved
-      (inr (changes_class p pages.paging old.held pages.sound asked.number asked.length a old.profile.proxies x (number_of moved) there other unused free moves))
-      (map_values-insert (λ (z : Placed). z.bytes) rest asked.number y ∙ ap (λ o. insert o asked.number y.bytes) (free_objects p pages.paging old.held pages.sound asked.number x there (number_of moved) moves)
-      ∙ insert_again (objects old.held) asked.number y.bytes)
-
-  -- every resize of a live object is answered
-  pub resize_done : (asked : Request) (x : Placed) → get old.held asked.number ≡ Some x → HasResize asked
-  resize_done asked x there = elim (cases_lt old.profile.page_words (need asked.length)) [
-    | inl large ↦ record {
-      answer = Err resize.Size;
-      heap = record old { cost = 0 };
-      step = (record { object = x; found = there; pages = paged; large = large }, unmoved_by old old.kind (record old { cost = 0 }) paged refl);
-      kept = rules_still;
-      cost = refl;
+    by_family : (f : Family) → family_of s.kind ≡ f → HasAnswers s
+    by_family family.paged is = record {
+      malloc = pages.malloc_done s rules is;
+      free = pages.free_done s rules is;
+      write = pages.write_done s rules is;
+      resize = pages.resize_done s rules is;
+      bound = pages.bound_done s rules is;
     }
-    | inr fits ↦ elim (cases_eq (class_for p asked.length) (class_at p x)) [
-      | inl same ↦ resize_with asked x there fits (insert old.held asked.number (resized_at x.place x asked.length)) None
-          (inl (record { object = x; found = there; same = same; placed = refl; still = refl }))
-          (map_values-insert (λ (z : Placed). z.bytes) old.held asked.number (resized_at x.place x asked.length))
-      | inr other ↦ elim (room_or_not p pages.paging old.held pages.sound asked.length (class_fits p pages.paging asked.length fits)) [
-        | inl lacks ↦ record {
-          answer = Err resize.Space;
-          heap = record old { cost = 0 };
-          step = (record { object = x; found = there; pages = paged; fits = fits; other = other; lacking = lacks }, unmoved_by old old.kind (record old { cost = 0 }) paged refl);
-          kept = rules_still;
-          cost = refl;
-        }
-        | inr at ↦ (
-            let move = some_move p pages.paging old.held pages.sound asked.number x there in
-            resize_moved asked x there fits other at.0 at.1 (handle_of move.0) (subst (Moves p old.held x) (sym (number_of_handle move.0)) move.1))
-      ]
-    ]
-  ]
-
-  -- one bound of a class, where nothing is held
-  module _ (none : len old.held ≡ 0) (c k : ℕ) (some : 1 ≤ k) (low : k ≤ 64) where
-    abbrev next : HeapState
-    next = record old { bounds = set old.bounds c k }
-
-    one_bound : (d : ℕ) → ((get_or (set old.bounds c k) d 0 ≡ k) ⊎ (get_or (set old.bounds c k) d 0 ≡ get_or old.bounds d 0))
-    one_bound d = elim (cases_eq d c) [
-      | inr ne ↦ inr (get_or-set_other old.bounds c d k 0 ne)
-      | inl is ↦ elim (cases_lt c (length old.bounds)) [
-        | inl lt ↦ inl (ap (λ i. get_or (set old.bounds c k) i 0) is ∙ get_or-set_same old.bounds c k 0 lt)
-        | inr past ↦ inr (ap (λ v. get_or v d 0) (set_past old.bounds c k past))
-      ]
-    ]
-
-    rules_bounded : KeepsRules next
-    rules_bounded = record {
-      settings = rules.settings;
-      region = rules.region;
-      numbers = record { handles = rules.numbers.handles; bytes = rules.numbers.bytes; few = rules.numbers.few };
-      of_kind = rules_by old.kind next paged (record {
-        paging = record {
-          sized = pages.paging.sized;
-          bounded = length-set old.bounds c k ∙ pages.paging.bounded;
-          some = λ d lt. elim (one_bound d) [ inl is ↦ rw is some | inr is ↦ rw is (pages.paging.some d lt) ];
-        };
-        low_bounds = λ d. elim (one_bound d) [ inl is ↦ rw is low | inr is ↦ rw is (pages.low_bounds d) ];
-        sound = subst (IsSound (paging_in next)) (sym (no_keys_empty old.held none)) (sound_empty (paging_in next));
-        image = pages.image;
-        slots = record {
-          held = λ h x there. absurd (no_keys old.held none h x there);
-          zeros = λ w out. pages.slots.zeros w (λ h x there. absurd (no_keys old.held none h x there));
-        };
-        no_tiling = pages.no_tiling;
-      }) frames_old;
+    by_family family.tiled is = record {
+      malloc = blocks.malloc_done s rules is;
+      free = blocks.free_done s rules is;
+      write = blocks.write_done s rules is;
+      resize = blocks.resize_done s rules is;
+      bound = λ slot_words k some low. blocks.bound_done s rules is slot_words k;
     }
-
-  -- every bound is set, or no class gets it
-  pub bound_done : (slot_words k : ℕ) → 1 ≤ k → k ≤ 64 → KeepsRules (bound_put old (class_to_bound old slot_words) k)
-  bound_done slot_words k some low = elim (cases_eq (len old.held) 0) [
-    | inl none ↦ go none (class_to_bound old slot_words)
-    | inr ne ↦ (let e = eq_no (len old.held) 0 ne in rw e rules)
-  ]
-    where
-      go : len old.held ≡ 0 → (o : Option ℕ) → KeepsRules (bound_put old o k)
-      go none None = rules
-      go none (Some c) = rules_bounded none c k some low

@@ -2,6 +2,9 @@ pub mod Counting
 pub mod Images
 pub mod Room
 pub mod ByKind
+pub mod Answered
+pub mod PageAnswers
+pub mod BlockAnswers
 pub mod HeapAnswers
 pub mod CommandAnswers
 pub mod Items

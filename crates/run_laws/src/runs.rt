@@ -2,7 +2,7 @@
 ghost use Rattle.std.specs.Prelude.{ℕ, ◌≡◌, Bool, List, ◌++◌, Option, None};
 ghost use Rattle.cf_base.specs.Settings.{Profile};
 ghost use Rattle.cf_base.specs.declared.kind.Kind.{Kind};
-ghost use Rattle.cf_model.specs.Rules.{AreInRange, IsPaged};
+ghost use Rattle.cf_model.specs.Rules.{AreInRange};
 ghost use Rattle.script_reader.specs.Items.{Item, items};
 ghost use Rattle.script_reader.specs.declared.command.Command.{Command};
 ghost use Rattle.run_model.specs.Runs.{Begins, Run, Turn};
@@ -10,12 +10,12 @@ ghost use Rattle.run_model.specs.Sessions.{IsGoing, RunState};
 ghost use Rattle.run_model.specs.Texts.{Reply, text_of};
 ghost use Rattle.run_laws.specs.Sayable.{AreSayable, IsSayable, IsUnderWay};
 
-/// With pages a run begins under any settings in their ranges, and from each state of a run that
+/// A run begins under any settings in their ranges, and from each state of a run that
 /// goes on every command that a script can say gets a reply, within the bounds.
 pub fn a_command_is_always_answered()
-    ensures begins { (kind : Kind) (p : Profile) → IsPaged kind → AreInRange p
+    ensures begins { (kind : Kind) (p : Profile) → AreInRange p
         → (new : RunState) × Begins kind p new }
-    ensures answered { (old : RunState) (command : Command) → IsGoing old → IsPaged old.heap.kind
+    ensures answered { (old : RunState) (command : Command) → IsGoing old
         → IsSayable command → (reply : Reply) × (new : RunState) × Turn old command reply new }
 {}
 
@@ -40,27 +40,27 @@ pub fn runs_are_joined()
         → Run kind old (done ++ after) (replies ++ more) new }
 {}
 
-/// With pages there is a run over the items of any bytes, and each run over a front of them can go
+/// There is a run over the items of any bytes, and each run over a front of them can go
 /// on to the end.
 pub fn a_run_can_always_go_on()
-    ensures there { (kind : Kind) (given : List ℕ) (ended : Bool) → IsPaged kind
+    ensures there { (kind : Kind) (given : List ℕ) (ended : Bool)
         → (replies : List Reply) × (new : Option RunState)
         × Run kind None (items given ended) replies new }
     ensures on { (kind : Kind) (given : List ℕ) (ended : Bool) (done after : List Item)
         (replies : List Reply) (mid : Option RunState)
-        → IsPaged kind → items given ended ≡ done ++ after → Run kind None done replies mid
+        → items given ended ≡ done ++ after → Run kind None done replies mid
         → (more : List Reply) × (new : Option RunState)
         × Run kind None (items given ended) (replies ++ more) new }
 {}
 
-/// With pages, a front of the text of a run over a front of a script's items is a front of the text
+/// A front of the text of a run over a front of a script's items is a front of the text
 /// of a run over all of them, wherever the text was cut.
 pub fn what_was_written_is_a_front()
     ensures joined { (lead : List ℕ) (replies more : List Reply)
         → text_of lead (replies ++ more) ≡ text_of lead replies ++ text_of lead more }
     ensures front { (kind : Kind) (given : List ℕ) (ended : Bool) (done after : List Item)
         (replies : List Reply) (mid : Option RunState) (lead written lost : List ℕ)
-        → IsPaged kind → items given ended ≡ done ++ after → Run kind None done replies mid
+        → items given ended ≡ done ++ after → Run kind None done replies mid
         → text_of lead replies ≡ written ++ lost
         → (all : List Reply) × (new : Option RunState) × (rest : List ℕ)
         × Run kind None (items given ended) all new × (text_of lead all ≡ written ++ rest) }

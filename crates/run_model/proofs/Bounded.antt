@@ -7,8 +7,7 @@ use Rattle.cf_base.specs.declared.answers.Handle.{Handle}
 use Rattle.cf_base.specs.declared.answers.Refusal.{Refusal}
 use Rattle.cf_base.specs.declared.answers.Refusal.TheVariants as refusal
 use Rattle.cf_base.specs.declared.kind.Kind.{Kind}
-use Rattle.cf_base.specs.declared.kind.Kind.TheVariants.{Moving, NonMoving, Tlsf, HalfFit}
-use Rattle.cf_lemmas.proofs.Ranges.{some_in_range as some_counted}
+use Rattle.cf_lemmas.proofs.Ranges.{one, some_in_range as some_counted}
 use Rattle.page_model.specs.Arrangement.{LacksRoom, not_full_pages, objects_on, pages_needed_with}
 use Rattle.page_model.specs.Held.{Held, objects}
 use Rattle.page_model.specs.Paging.{AreOne, Paging, class_for, page_of, slots_of}
@@ -17,7 +16,9 @@ use Rattle.page_model.proofs.Counting.{part_full, part_yes}
 use Rattle.page_model.proofs.PageCounts.{sound_few}
 use Rattle.page_model.proofs.RoomAtOne.{lacks_room_at_one}
 use Rattle.page_model.proofs.Sizes.{class_fits}
-use Rattle.cf_model.specs.Rules.{IsPaged, KeepsPages, KeepsRules, KeepsRulesOf}
+use Rattle.cf_model.specs.Families as family
+use Rattle.cf_model.specs.Families.{Family, family_of}
+use Rattle.cf_model.specs.Rules.{IsPaged, KeepsPages, KeepsTable, KeepsRules, KeepsRulesOf}
 use Rattle.cf_model.specs.State.{HeapState, paging_in}
 use Rattle.cf_model.specs.Steps.{IsMallocStep, IsPlacedBy, LacksRoomIn}
 use Rattle.script_reader.specs.declared.command.Command.{Command}
@@ -31,10 +32,7 @@ use Rattle.run_model.proofs.Going.{step_rules, step_same}
 
 -- the rules of a kind with pages
 pub pages_kept : (k : Kind) (s : HeapState) → IsPaged k → KeepsRulesOf k s → KeepsPages s
-pages_kept Moving s paged rules = rules.0
-pages_kept NonMoving s paged rules = rules.0
-pages_kept Tlsf s paged rules = absurd paged
-pages_kept HalfFit s paged rules = absurd paged
+pages_kept k s is rules = (let kept : KeepsPages s × KeepsTable k s = rw (is, KeepsRulesOf) at rules in kept.0)
 
 -- a heap with pages that keeps its rules has few pages
 pub few_pages : (s : HeapState) → IsPaged s.kind → KeepsRules s → HasFewPages s
@@ -62,16 +60,10 @@ module _ (k : Kind) (paged : IsPaged k) (s : HeapState) (rules : KeepsRules s) (
   by_need = lacks_room_at_one (paging_in s) pages.paging ones s.held pages.sound bytes (class_fits (paging_in s) pages.paging bytes fits)
 
   lacking_in : (j : Kind) → IsPaged j → LacksRoomIn j s bytes → LacksRoom (paging_in s) s.held (class_for (paging_in s) bytes)
-  lacking_in Moving p l = l
-  lacking_in NonMoving p l = l
-  lacking_in Tlsf p l = absurd p
-  lacking_in HalfFit p l = absurd p
+  lacking_in j p l = rw (p, LacksRoomIn) at l
 
   placed_in : (j : Kind) (asked : Request) (place : ℕ) (new : HeapState) → IsPaged j → IsPlacedBy j s asked place new → IsFreePlace (paging_in s) s.held asked.length place
-  placed_in Moving asked place new p at = at
-  placed_in NonMoving asked place new p at = at
-  placed_in Tlsf asked place new p at = absurd p
-  placed_in HalfFit asked place new p at = absurd p
+  placed_in j asked place new p there = rw (p, IsPlacedBy) at there
 
   refused_exactly : (answer : Result Handle Refusal) (new : HeapState) (reply : Reply) → IsMallocStep s bytes answer new → reply ≡ said (malloc_text answer) → RefusesForWant reply ↔ IsWanting s bytes
   refused_exactly (Ok h) new reply step told = (
@@ -98,10 +90,11 @@ step_refuses old new (Malloc id bytes) reply paged rules step = refuses_at old.h
 step_refuses old new _ reply paged rules step = tt
 
 meets : (k : Kind) (old new : RunState) (c : Command) (reply : Reply) → (IsPaged k → HasFewPages new.heap) → (IsPaged k → Refuses old c reply) → MeetsBounds k old c reply new
-meets Moving old new c reply few refuses = (few tt, refuses tt)
-meets NonMoving old new c reply few refuses = (few tt, refuses tt)
-meets Tlsf old new c reply few refuses = tt
-meets HalfFit old new c reply few refuses = tt
+meets k old new c reply few refuses = by_family (family_of k) refl
+  where
+    by_family : (f : Family) → family_of k ≡ f → MeetsBounds k old c reply new
+    by_family family.paged is = rw (is, MeetsBounds) (few is, refuses is)
+    by_family family.tiled is = rw (is, MeetsBounds) tt
 
 -- every step of a run that goes on meets the bounds
 pub step_meets_bounds : (old new : RunState) (c : Command) (reply : Reply) → IsGoing old → Step old c reply new → MeetsBounds old.heap.kind old c reply new

@@ -9,10 +9,10 @@ use Rattle.cf_base.specs.declared.answers.Refusal.{Refusal}
 use Rattle.cf_base.specs.declared.answers.Resized.{Resized}
 use Rattle.cf_base.specs.declared.answers.ResizeFault.{ResizeFault}
 use Rattle.cf_base.specs.declared.kind.Kind.{Kind}
-use Rattle.cf_base.specs.declared.kind.Kind.TheVariants.{Moving, NonMoving, Tlsf, HalfFit}
 use Rattle.page_model.specs.Held.{Placed}
 use Rattle.page_model.specs.Steps.{Request}
 use Rattle.cf_model.specs.Answers.{bound_put}
+use Rattle.cf_model.specs.Families.{Family, paged, tiled, family_of}
 use Rattle.cf_model.specs.Rules.{KeepsRules}
 use Rattle.cf_model.specs.State.{HeapState}
 use Rattle.cf_model.specs.Steps.{IsMallocStep, IsResizeStep, IsUnmoved, IsWriteStep, Part}
@@ -22,7 +22,7 @@ use Rattle.run_model.specs.Runs.{Begins}
 use Rattle.run_model.specs.Sessions.{CostsAtMost, IsGoing, RunState, SessionState}
 use Rattle.run_model.specs.Steps.{FreesAt, MallocsAt, ResizesAt, Step, WritesAt, class_to_bound}
 use Rattle.run_model.specs.Texts.{Reply}
-use Rattle.run_model.proofs.Tied.{step_tied}
+use Rattle.run_model.proofs.Tied.{step_tied, unmoved_changes_cost}
 
 -- the kind, the settings, and that it is open
 pub record IsSame (old new : HeapState) : Type 0 where
@@ -44,10 +44,7 @@ module _ (old new : HeapState) where
   write_same part bytes (Err e) step = same_as old new _ step.1 (record { kind = refl; opened = refl; profile = refl })
 
   unmoved_same : (k : Kind) → IsUnmoved k old new → IsSame old new
-  unmoved_same Moving is = same_as old new _ is (record { kind = refl; opened = refl; profile = refl })
-  unmoved_same NonMoving is = same_as old new _ is (record { kind = refl; opened = refl; profile = refl })
-  unmoved_same Tlsf is = same_as old new _ is (record { kind = refl; opened = refl; profile = refl })
-  unmoved_same HalfFit is = same_as old new _ is (record { kind = refl; opened = refl; profile = refl })
+  unmoved_same k is = same_as old new _ (unmoved_changes_cost k old new is) (record { kind = refl; opened = refl; profile = refl })
 
   resize_same : (asked : Request) (answer : Result Resized ResizeFault) → IsResizeStep old asked answer new → IsSame old new
   resize_same asked (Ok done) step = same_as old new _ step.whole (record { kind = refl; opened = refl; profile = refl })
@@ -108,10 +105,11 @@ step_going old new c reply going step = record {
 
 -- a call that cost nothing is within every bound
 pub costs_nothing : (k : Kind) (cost bound : ℕ) → cost ≡ 0 → CostsAtMost k cost bound
-costs_nothing Moving cost bound none = omega arith
-costs_nothing NonMoving cost bound none = omega arith
-costs_nothing Tlsf cost bound none = tt
-costs_nothing HalfFit cost bound none = tt
+costs_nothing k cost bound none = by_family (family_of k) refl
+  where
+    by_family : (f : Family) → family_of k ≡ f → CostsAtMost k cost bound
+    by_family paged is = rw (is, CostsAtMost) (omega arith)
+    by_family tiled is = rw (is, CostsAtMost) tt
 
 -- a run goes on when it has begun
 pub begins_going : (kind : Kind) (p : Profile) (s : RunState) → Begins kind p s → IsGoing s

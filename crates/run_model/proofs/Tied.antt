@@ -10,14 +10,14 @@ use Rattle.cf_base.specs.declared.answers.Refusal.{Refusal}
 use Rattle.cf_base.specs.declared.answers.Resized.{Resized}
 use Rattle.cf_base.specs.declared.answers.ResizeFault.{ResizeFault}
 use Rattle.cf_base.specs.declared.kind.Kind.{Kind}
-use Rattle.cf_base.specs.declared.kind.Kind.TheVariants.{Moving, NonMoving, Tlsf, HalfFit}
 use Rattle.cf_lemmas.proofs.Maps.{get_inserted, get_insert_other, get_remove_other, some_inserted, some_removed}
 use Rattle.cf_lemmas.proofs.MapValues.{get-map_values}
 use Rattle.page_model.specs.Held.{Held, Placed, objects}
 use Rattle.page_model.specs.Steps.{Request}
 use Rattle.cf_model.specs.Answers.{bound_put}
+use Rattle.cf_model.specs.Families.{Family, paged, tiled, family_of}
 use Rattle.cf_model.specs.State.{HeapState}
-use Rattle.cf_model.specs.Steps.{IsMallocStep, IsResizeStep, IsUnmoved, IsWriteStep, Part}
+use Rattle.cf_model.specs.Steps.{ChangesCost, IsMallocStep, IsResizeStep, IsUnmoved, IsWriteStep, Part}
 use Rattle.script_reader.specs.declared.command.Command.{Command}
 use Rattle.script_reader.specs.declared.command.Command.TheVariants.{Malloc, Free, Write, Bound, Resize}
 use Rattle.run_model.specs.Sessions.{AreTied, CostsAtMost, Ids, RunState, SessionState, counted}
@@ -146,12 +146,17 @@ resized_bound : (s : SessionState) (answer : Result Resized ResizeFault) → (se
 resized_bound s (Ok done) = counted_bound s done.moved done.old_slot_words
 resized_bound s (Err e) = refl
 
+-- a refused resize changes the cost at most
+pub unmoved_changes_cost : (k : Kind) (old new : HeapState) → IsUnmoved k old new → ChangesCost old new
+unmoved_changes_cost k old new is = by_family (family_of k) refl
+  where
+    by_family : (f : Family) → family_of k ≡ f → ChangesCost old new
+    by_family paged e = rw (e, IsUnmoved) at is
+    by_family tiled e = (let same : new ≡ old = rw (e, IsUnmoved) at is in rw same refl)
+
 -- a refused resize leaves the objects
 pub unmoved_held : (k : Kind) (old new : HeapState) → IsUnmoved k old new → new.held ≡ old.held
-unmoved_held Moving old new is = ap (λ (s : HeapState). s.held) is
-unmoved_held NonMoving old new is = ap (λ (s : HeapState). s.held) is
-unmoved_held Tlsf old new is = ap (λ (s : HeapState). s.held) is
-unmoved_held HalfFit old new is = ap (λ (s : HeapState). s.held) is
+unmoved_held k old new is = ap (λ (s : HeapState). s.held) (unmoved_changes_cost k old new is)
 
 module _ (old new : RunState) (tied : AreTied old.session old.heap) where
   abbrev names : AreNames old.session.ids old.heap.held

@@ -1,6 +1,5 @@
 -- One command answered to a sink.
-use Rattle.std.specs.Prelude.{◌≡◌, ℕ, List, ◌++◌, Option, Result, Ok, Err}
-use Rattle.cf_base.specs.declared.answers.Failed.{Failed}
+use Rattle.std.specs.Prelude.{◌≡◌, ℕ, List, ◌++◌, Option}
 use Rattle.cf_io.specs.Feeds.{appended}
 use Rattle.script_reader.specs.declared.command.Command.{Command}
 use Rattle.run_model.specs.Runs.{Turn}
@@ -31,8 +30,3 @@ pub record IsCutShort (old : Moment) (asked : Asked) (new : Moment) : Type 0 whe
   pub turn : Turn old.run asked.command reply new.run
   pub cut : led asked.lead reply ≡ front ++ lost
   pub written : new.written ≡ appended old.written front
-
--- by whether the sink failed
-abbrev pub IsAnsweredBy : {T : Type 0} → Moment → Asked → Result T Failed → Moment → Type 0
-IsAnsweredBy old asked (Ok t) new = IsAnswered old asked new
-IsAnsweredBy old asked (Err e) new = IsCutShort old asked new

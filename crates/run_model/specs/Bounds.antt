@@ -3,10 +3,10 @@ use Rattle.std.specs.Prelude.{◌≡◌, ℕ, ⊤, ◌⊎◌, ◌↔◌, ◌+◌
 use Rattle.std.specs.FinMap.{get, len}
 use Rattle.cf_base.specs.Classes.{need}
 use Rattle.cf_base.specs.declared.kind.Kind.{Kind}
-use Rattle.cf_base.specs.declared.kind.Kind.TheVariants.{Moving, NonMoving, Tlsf, HalfFit}
 use Rattle.page_model.specs.Arrangement.{home_pages, live, pages_needed_with}
 use Rattle.page_model.specs.Held.{objects}
 use Rattle.page_model.specs.Paging.{AreOne, bound_of, classes, slots_of}
+use Rattle.cf_model.specs.Families.{Family, paged, tiled, family_of}
 use Rattle.cf_model.specs.State.{HeapState, paging_in}
 use Rattle.script_reader.specs.declared.command.Command.{Command}
 use Rattle.script_reader.specs.declared.command.Command.TheVariants.{Malloc}
@@ -36,7 +36,4 @@ Refuses old command reply = ⊤
 
 -- both, where the kind has pages
 abbrev pub MeetsBounds : Kind → RunState → Command → Reply → RunState → Type 0
-MeetsBounds Moving old command reply new = HasFewPages new.heap × Refuses old command reply
-MeetsBounds NonMoving old command reply new = HasFewPages new.heap × Refuses old command reply
-MeetsBounds Tlsf old command reply new = ⊤
-MeetsBounds HalfFit old command reply new = ⊤
+MeetsBounds kind old command reply new = elim (family_of kind) [ paged ↦ HasFewPages new.heap × Refuses old command reply | tiled ↦ ⊤ ]

@@ -15,9 +15,10 @@ use Rattle.cf_base.specs.declared.kind.Kind.TheVariants.{Moving, NonMoving, Tlsf
 use Rattle.page_model.specs.Held.{Placed}
 use Rattle.cf_io.specs.Lines.{word_text}
 use Rattle.cf_model.specs.Answers.{block_of_object}
+use Rattle.cf_model.specs.Families.{Family, paged, tiled, family_of}
 use Rattle.cf_model.specs.State.{HeapState}
 use Rattle.script_reader.specs.declared.command.Command.{Command}
-use Rattle.script_reader.specs.declared.command.Command.TheVariants.{Read, Place, Block, Peek, Walk, Frag, Steps}
+use Rattle.script_reader.specs.declared.command.Command.TheVariants.{Read, Place, Block, Peek, Walk, Frag, Steps, Slice, Task, Quota, Need, Admit}
 use Rattle.run_model.specs.Reports.{frag_of, walk_of}
 use Rattle.run_model.specs.Sessions.{RunState, SessionState}
 use Rattle.run_model.specs.Texts.{Reply, said, with_number}
@@ -80,12 +81,14 @@ peek_text (Some word) = word_text word
 
 -- steps: the cost of the last call; with pages also its bound, and how many objects moved, with the words of their slots
 abbrev pub steps_text : Kind → SessionState → ℕ → List ℕ
-steps_text Moving s cost = with_number (codes "steps last ") cost ++ (with_number (codes " bound ") s.bound ++ (with_number (codes " moves ") s.moves ++ with_number (codes " words ") s.words))
-steps_text NonMoving s cost = with_number (codes "steps last ") cost ++ (with_number (codes " bound ") s.bound ++ (with_number (codes " moves ") s.moves ++ with_number (codes " words ") s.words))
-steps_text Tlsf s cost = with_number (codes "steps last ") cost
-steps_text HalfFit s cost = with_number (codes "steps last ") cost
+steps_text kind s cost = elim (family_of kind) [
+  | paged ↦ with_number (codes "steps last ") cost ++ (with_number (codes " bound ") s.bound
+      ++ (with_number (codes " moves ") s.moves ++ with_number (codes " words ") s.words))
+  | tiled ↦ with_number (codes "steps last ") cost
+]
 
--- the reply of a command that changes nothing; `none` to the words of the modes that do more
+-- The reply of a command that changes nothing; `none` to the words of the modes that do more. The last row is of commands that have a step of their own:
+-- no run asks for a reply to them here.
 abbrev pub told : RunState → Command → Reply
 told s (Read id at count) = said (read_text (object_of s id) at count)
 told s (Place id) = said (place_text (object_of s id))
@@ -94,4 +97,9 @@ told s (Peek word) = said (peek_text (slice_get s.heap.words word))
 told s Walk = walk_of s.heap.kind s.heap
 told s Frag = frag_of s.heap
 told s Steps = said (steps_text s.heap.kind s.session s.heap.cost)
+told s Slice = said (codes "none")
+told s (Task task) = said (codes "none")
+told s (Quota task pages) = said (codes "none")
+told s (Need task bytes count) = said (codes "none")
+told s (Admit task) = said (codes "none")
 told s command = said (codes "none")

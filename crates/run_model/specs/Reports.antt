@@ -4,11 +4,11 @@ use Rattle.std.specs.List.{range_with_len}
 use Rattle.cf_base.specs.declared.answers.Figures.{Figures}
 use Rattle.cf_base.specs.declared.answers.Totals.{Totals}
 use Rattle.cf_base.specs.declared.kind.Kind.{Kind}
-use Rattle.cf_base.specs.declared.kind.Kind.TheVariants.{Moving, NonMoving, Tlsf, HalfFit}
 use Rattle.page_model.specs.Arrangement.{live}
 use Rattle.page_model.specs.Figures.{figures_of}
 use Rattle.page_model.specs.Held.{objects}
 use Rattle.cf_model.specs.Answers.{classes_in, totals_in}
+use Rattle.cf_model.specs.Families.{Family, paged, tiled, family_of}
 use Rattle.cf_model.specs.State.{HeapState, paging_in}
 use Rattle.run_model.specs.Texts.{Reply, said, with_number}
 
@@ -36,10 +36,7 @@ pages_report s = map (λ c. class_line (figures_of (paging_in s) s.held c)) (liv
 
 -- the report on classes and pages, or on blocks
 abbrev pub walk_of : Kind → HeapState → Reply
-walk_of Moving s = pages_report s
-walk_of NonMoving s = pages_report s
-walk_of Tlsf s = said (blocks_line (totals_in s.kind s))
-walk_of HalfFit s = said (blocks_line (totals_in s.kind s))
+walk_of kind s = elim (family_of kind) [ paged ↦ pages_report s | tiled ↦ said (blocks_line (totals_in s.kind s)) ]
 
 -- the report on the bytes asked for, taken by slots or blocks, and held in pages or in the region
 abbrev pub frag_line : Totals → List ℕ

@@ -23,7 +23,9 @@ pub record Turn (old : RunState) (command : Command) (reply : Reply) (new : RunS
   pub step : Step old command reply new
   pub bounds : MeetsBounds old.heap.kind old command reply new
 
--- One item: its reply, and the state after it. Before the `heap` line there is no state, and no script has a command there.
+-- One item: its reply, and the state after it.
+-- A `heap` line begins a run whatever came before it; but no script has a second one, so that it is met without a state alone.
+-- Before the `heap` line there is no state, and no script has a command there.
 abbrev pub ItemStep : Kind → Option RunState → Item → Reply → Option RunState → Type 0
 ItemStep kind old (starts p) reply new = (s : RunState) × Begins kind p s × (reply ≡ said (codes "ok")) × (new ≡ Some s)
 ItemStep kind None (asks command) reply new = (reply ≡ []) × (new ≡ None)

@@ -4,9 +4,9 @@ use Rattle.std.specs.Ordering.{nat_cmp}
 use Rattle.std.specs.FinMap as map
 use Rattle.std.specs.Coded.{Coded, code_by, coded×, coded_ℕ}
 use Rattle.cf_base.specs.declared.kind.Kind.{Kind}
-use Rattle.cf_base.specs.declared.kind.Kind.TheVariants.{Moving, NonMoving, Tlsf, HalfFit}
 use Rattle.page_model.specs.Held.{Placed}
 use Rattle.cf_io.specs.Feeds.{last_count}
+use Rattle.cf_model.specs.Families.{Family, paged, tiled, family_of}
 use Rattle.cf_model.specs.Rules.{KeepsRules}
 use Rattle.cf_model.specs.State.{HeapState}
 
@@ -45,10 +45,7 @@ pub record RunState : Type 0 where
 
 -- with pages, a call costs at most so many steps
 abbrev pub CostsAtMost : Kind → ℕ → ℕ → Type 0
-CostsAtMost Moving cost n = cost ≤ n
-CostsAtMost NonMoving cost n = cost ≤ n
-CostsAtMost Tlsf cost n = ⊤
-CostsAtMost HalfFit cost n = ⊤
+CostsAtMost kind cost n = elim (family_of kind) [ paged ↦ cost ≤ n | tiled ↦ ⊤ ]
 
 -- The live ids name just the live handles, each once; and with pages the last cost is within its bound.
 pub record AreTied (session : SessionState) (heap : HeapState) : Type 0 where

@@ -7,7 +7,6 @@ use Rattle.std.specs.Prelude.{nat_le}
 use Rattle.cf_base.specs.declared.kind.Kind.{Kind}
 use Rattle.cf_base.specs.declared.status.Status.TheVariants.{OutOfMemory}
 use Rattle.cf_io.specs.Feeds.{appended, preceded}
-use Rattle.cf_model.specs.Rules.{IsPaged}
 use Rattle.cf_model.specs.State.{HeapState}
 use Rattle.cf_model.specs.Steps.{IsClosed}
 use Rattle.script_reader.specs.Items.{Item, items}
@@ -62,14 +61,14 @@ bads {s} {new} {t} {text} {stop} a wanted same = ap has_bad same ∙ a.stops
 
 -- a front of what a run over all the items prints
 front_of_whole : (kind : Kind) (all : List ℕ) (before after : List Item) (item : Item) (replies : List Reply) (reply : Reply) (mid end : Option RunState) (front lost : List ℕ)
-    → items_within all ≡ before ++ item ∷ after → Run kind None before replies mid → ItemStep kind mid item reply end → led [] reply ≡ front ++ lost → IsPaged kind
+    → items_within all ≡ before ++ item ∷ after → Run kind None before replies mid → ItemStep kind mid item reply end → led [] reply ≡ front ++ lost
     → IsFrontOfWhole kind (items_within all) (text_of [] replies ++ front)
-front_of_whole kind all before after item replies reply mid end front lost parts run step cut paged =
+front_of_whole kind all before after item replies reply mid end front lost parts run step cut =
     let parts2 : items_within all ≡ (before ++ item ∷ []) ++ after = parts ∙ sym (append_assoc before (item ∷ []) after) in
     let run2 = run_joined kind None before (item ∷ []) replies (reply ∷ []) mid end run (one_run kind mid end item reply step) in
     let cut2 : text_of [] (replies ++ reply ∷ []) ≡ (text_of [] replies ++ front) ++ lost =
     text_joined [] replies (reply ∷ []) ∙ ap (λ (l : List ℕ). text_of [] replies ++ l) (append-nil (led [] reply) ∙ cut) ∙ sym (append_assoc (text_of [] replies) front lost) in
-    let whole = front_written kind (items_within all) (before ++ item ∷ []) after (replies ++ reply ∷ []) end [] (text_of [] replies ++ front) lost paged
+    let whole = front_written kind (items_within all) (before ++ item ∷ []) after (replies ++ reply ∷ []) end [] (text_of [] replies ++ front) lost
     (items_sayable (take MOST_BYTES all) (nat_le (length all) MOST_BYTES)) parts2 run2 cut2 in
     record { whole = record { text = text_of [] whole.0; end = whole.1 }; prints = printing kind (items_within all) whole.0 whole.1 (text_of [] whole.0) whole.3 refl; missing = whole.2; front = whole.4 }
 
@@ -88,8 +87,8 @@ prints_front {s} {new} {t} {out} c all after parts = record {
   lost = c.lost;
   cut = c.cut;
   text_is = c.out_is;
-  whole = λ paged. subst (IsFrontOfWhole s.heap.kind (items_within all)) (sym c.out_is)
-      (front_of_whole s.heap.kind all c.done after c.item c.replies c.reply c.mid (run_of new) c.front c.lost parts c.run c.step c.cut paged);
+  whole = subst (IsFrontOfWhole s.heap.kind (items_within all)) (sym c.out_is)
+      (front_of_whole s.heap.kind all c.done after c.item c.replies c.reply c.mid (run_of new) c.front c.lost parts c.run c.step c.cut);
 }
 
 -- ---- the items of the bytes so far
@@ -203,8 +202,9 @@ prints_front_then {s} {mid} {new} {t} {text} {out} all a c same fits =
       lost = c.lost;
       cut = c.cut;
       text_is = text_is;
-      whole = λ paged. subst (IsFrontOfWhole s.heap.kind (items_within all)) (sym text_is)
-          (front_of_whole s.heap.kind all (a.done ++ c.done) after.0 c.item (a.replies ++ c.replies) c.reply c.mid (run_of new) c.front c.lost parts run step c.cut paged);
+      whole = subst (IsFrontOfWhole s.heap.kind (items_within all)) (sym text_is)
+          (front_of_whole s.heap.kind all (a.done ++ c.done) after.0 c.item (a.replies ++ c.replies) c.reply c.mid
+          (run_of new) c.front c.lost parts run step c.cut);
     }
 
 pub cut_untouched_then : {s : RunState} {mid new : Player} {t text out : List ℕ} (a : Answered (starting s) t mid text false) (c : CutOff (ending mid) [] new out)

@@ -5,7 +5,6 @@ use Rattle.cf_base.specs.declared.kind.Kind.{Kind}
 use Rattle.cf_base.specs.declared.status.Status.{Status}
 use Rattle.cf_base.specs.declared.status.Status.TheVariants.{Done, Words, BadScript, ReadFault, WriteFault, OutOfMemory, TooLong, BadImage}
 use Rattle.cf_io.specs.Feeds.{appended}
-use Rattle.cf_model.specs.Rules.{IsPaged}
 use Rattle.cf_model.specs.State.{HeapState}
 use Rattle.cf_model.specs.Steps.{IsClosed}
 use Rattle.script_reader.specs.Items.{Item, asks, bad, items, starts}
@@ -50,7 +49,7 @@ pub record IsFrontOfWhole (kind : Kind) (wanted : List Item) (text : List ℕ) :
   pub missing : List ℕ
   pub front : whole.text ≡ text ++ missing
 
--- A run over the items up to one of them prints this, but for a part of that one's reply; with pages it is a front of what a run over all of them prints.
+-- A run over the items up to one of them prints this, but for a part of that one's reply; and it is a front of what a run over all of them prints.
 pub record PrintsFront (kind : Kind) (wanted : List Item) (printed : Printed) : Type 0 where
   pub before : List Item
   pub item : Item
@@ -64,7 +63,7 @@ pub record PrintsFront (kind : Kind) (wanted : List Item) (printed : Printed) : 
   pub lost : List ℕ
   pub cut : led [] reply ≡ front ++ lost
   pub text_is : printed.text ≡ so_far.text ++ front
-  pub whole : IsPaged kind → IsFrontOfWhole kind wanted printed.text
+  pub whole : IsFrontOfWhole kind wanted printed.text
 
 -- the bytes that a source had, and those that it has left
 pub record Input : Type 0 where

@@ -12,7 +12,6 @@ use Rattle.cf_base.specs.declared.answers.Resized.{Resized}
 use Rattle.cf_base.specs.declared.answers.ResizeFault.{ResizeFault}
 use Rattle.cf_base.specs.declared.answers.ResizeFault.TheVariants as resize
 use Rattle.cf_base.specs.declared.kind.Kind.{Kind}
-use Rattle.cf_base.specs.declared.kind.Kind.TheVariants.{Moving, NonMoving, Tlsf, HalfFit}
 use Rattle.page_model.specs.Held.{Placed, objects}
 use Rattle.page_model.specs.Paging.{AreOne, class_for}
 use Rattle.page_model.specs.Arrangement.{LacksRoom, class_at, pages_needed_with}
@@ -22,6 +21,7 @@ use Rattle.cf_lemmas.proofs.Tests.{eq_no, eq_yes, lt_yes as lt_true, lt_no as lt
 use Rattle.page_model.proofs.RoomAtOne.{lacks_room_at_one}
 use Rattle.page_model.proofs.Sizes.{class_fits}
 use Rattle.cf_model.specs.Rules.{IsPaged, IsTiled, KeepsPages}
+use Rattle.cf_model.proofs.Exactly.{both_kinds}
 use Rattle.cf_model.specs.State.{HeapState, paging_in}
 use Rattle.cf_model.specs.Steps.{GivesObject, IsFault, IsRefusedBy, IsResizeFault, LacksRoomIn, Part, ResizesObject}
 use Rattle.cf_model.proofs.Exactly.{given_is_not_refused, not_none_found, resized_is_not_refused}
@@ -36,22 +36,10 @@ use Rattle.transcript_laws.proofs.Renaming.{CountAlike}
 
 -- lack of room, in a kind with pages
 lacks_page : (k : Kind) (s : HeapState) (bytes : ℕ) → IsPaged k → LacksRoomIn k s bytes → LacksRoom (paging_in s) s.held (class_for (paging_in s) bytes)
-lacks_page Moving s bytes paged lacks = lacks
-lacks_page NonMoving s bytes paged lacks = lacks
-lacks_page Tlsf s bytes paged lacks = absurd paged
-lacks_page HalfFit s bytes paged lacks = absurd paged
+lacks_page k s bytes paged lacks = rw (paged, LacksRoomIn) at lacks
 
 lacks_in : (k : Kind) (s : HeapState) (bytes : ℕ) → IsPaged k → LacksRoom (paging_in s) s.held (class_for (paging_in s) bytes) → LacksRoomIn k s bytes
-lacks_in Moving s bytes paged lacks = lacks
-lacks_in NonMoving s bytes paged lacks = lacks
-lacks_in Tlsf s bytes paged lacks = absurd paged
-lacks_in HalfFit s bytes paged lacks = absurd paged
-
-not_tiled : (k : Kind) → IsPaged k → IsTiled k → ⊥
-not_tiled Moving paged tiled = tiled
-not_tiled NonMoving paged tiled = tiled
-not_tiled Tlsf paged tiled = paged
-not_tiled HalfFit paged tiled = paged
+lacks_in k s bytes paged lacks = rw (paged, LacksRoomIn) lacks
 
 -- a write is refused where it passes the end
 pub write_within : (v : List ℕ) (at count : ℕ) → at + count ≤ length v → write_fault v at count ≡ None
@@ -121,7 +109,7 @@ module _ (s : RunState) (going : IsGoing s) (paged : IsPaged s.heap.kind) (ones 
     -- a refused resize has the cause that is told
     pub resize_refused : (e : ResizeFault) → IsResizeFault s.heap asked e → resize_fault (by_id s) x.bytes asked.length ≡ Some e
     resize_refused resize.Unknown none = absurd (not_none_found s.heap.held asked.number x found none)
-    resize_refused resize.Kind cause = absurd (not_tiled s.heap.kind paged cause.blocks)
+    resize_refused resize.Kind cause = absurd (both_kinds s.heap.kind paged cause.blocks)
     resize_refused resize.Size cause = (let e = lt_true s.heap.profile.page_words (need asked.length) cause.large in rw e)
     resize_refused resize.Space cause =
         let same : Some cause.object ≡ Some x = sym cause.found ∙ found in

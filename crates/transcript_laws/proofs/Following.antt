@@ -12,7 +12,6 @@ use Rattle.cf_base.specs.declared.answers.Refusal.{Refusal}
 use Rattle.cf_base.specs.declared.answers.Resized.{Resized}
 use Rattle.cf_base.specs.declared.answers.ResizeFault.{ResizeFault}
 use Rattle.cf_base.specs.declared.kind.Kind.{Kind}
-use Rattle.cf_base.specs.declared.kind.Kind.TheVariants.{Moving, NonMoving, Tlsf, HalfFit}
 use Rattle.page_model.specs.Held.{Objects, Placed, objects}
 use Rattle.page_model.specs.Paging.{AreOne}
 use Rattle.page_model.specs.Steps.{resized}
@@ -29,7 +28,7 @@ use Rattle.run_model.specs.Sessions.{Ids, IsGoing, RunState, SessionState, count
 use Rattle.run_model.specs.Steps.{Bounds, FreesAt, MallocsAt, ResizesAt, Step, WritesAt, bound_text, class_to_bound, ids_given, session_resized}
 use Rattle.run_model.specs.Texts.{Reply, said}
 use Rattle.run_model.proofs.Going.{step_same}
-use Rattle.run_model.proofs.Tied.{AreNames, names_in, names_of_objects}
+use Rattle.run_model.proofs.Tied.{AreNames, names_in, names_of_objects, unmoved_changes_cost, unmoved_held}
 use Rattle.transcript_laws.specs.ById.{ById}
 use Rattle.transcript_laws.specs.Histories.{by_id, objects_by_id}
 use Rattle.transcript_laws.specs.Replies.{after_by_id, bounds_with, class_bounded, free_said, malloc_leaves, malloc_said, ok_or, put_unless, read_said, reply_by_id, resize_leaves, resize_said, write_fault, write_leaves, write_said}
@@ -53,24 +52,12 @@ resized_ids s (Ok done) = counted_ids s done.moved done.old_slot_words
 resized_ids s (Err e) = refl
 
 -- what a refused resize leaves
-unmoved_held : (k : Kind) (old new : HeapState) → IsUnmoved k old new → new.held ≡ old.held
-unmoved_held Moving old new is = ap (λ (s : HeapState). s.held) is
-unmoved_held NonMoving old new is = ap (λ (s : HeapState). s.held) is
-unmoved_held Tlsf old new is = ap (λ (s : HeapState). s.held) is
-unmoved_held HalfFit old new is = ap (λ (s : HeapState). s.held) is
-
 unmoved_bounds : (k : Kind) (old new : HeapState) → IsUnmoved k old new → new.bounds ≡ old.bounds
-unmoved_bounds Moving old new is = ap (λ (s : HeapState). s.bounds) is
-unmoved_bounds NonMoving old new is = ap (λ (s : HeapState). s.bounds) is
-unmoved_bounds Tlsf old new is = ap (λ (s : HeapState). s.bounds) is
-unmoved_bounds HalfFit old new is = ap (λ (s : HeapState). s.bounds) is
+unmoved_bounds k old new is = ap (λ (s : HeapState). s.bounds) (unmoved_changes_cost k old new is)
 
 -- the class that gets a bound
 class_with_is : (k : Kind) (s : HeapState) (words : ℕ) → IsPaged k → class_with k s words ≡ position (λ w. nat_eq w words) (paging_in s).sizes
-class_with_is Moving s words paged = refl
-class_with_is NonMoving s words paged = refl
-class_with_is Tlsf s words paged = absurd paged
-class_with_is HalfFit s words paged = absurd paged
+class_with_is k s words paged = rw (paged, class_with) refl
 
 put_bounds : (s : HeapState) (c : Option ℕ) (k : ℕ) → (bound_put s c k).bounds ≡ bounds_with s.bounds c k
 put_bounds s None k = refl

@@ -10,12 +10,12 @@ use Rattle.cf_lemmas.proofs.MapValues.{get-map_values}
 use Rattle.cf_base.specs.Classes.{sizes}
 use Rattle.cf_base.specs.Settings.{Profile}
 use Rattle.cf_base.specs.declared.kind.Kind.{Kind}
-use Rattle.cf_base.specs.declared.kind.Kind.TheVariants.{Moving, NonMoving, Tlsf, HalfFit}
 use Rattle.page_model.specs.Held.{Placed, objects}
 use Rattle.page_model.specs.Paging.{AreOne}
 use Rattle.page_model.proofs.Sizes.{first_ones}
 use Rattle.cf_model.specs.Rules.{IsPaged}
 use Rattle.cf_model.specs.State.{layout_of, paging_in}
+use Rattle.cf_model.specs.Steps.{opening_bounds}
 use Rattle.script_reader.specs.Items.{Item, asks, bad, starts}
 use Rattle.script_reader.specs.declared.command.Command.{Command}
 use Rattle.script_reader.specs.declared.command.Command.TheVariants.{Place, Block, Peek, Steps, Bound}
@@ -50,10 +50,7 @@ IsOne None = ⊤
 IsOne (Some t) = AreOne (paging_by_id t)
 
 begun_at_one : (k : Kind) (p : Profile) → IsPaged k → p.k ≡ 1 → AreOne (paging_by_id (begun k p))
-begun_at_one Moving p paged one = first_ones p (layout_of Moving) one
-begun_at_one NonMoving p paged one = first_ones p (layout_of NonMoving) one
-begun_at_one Tlsf p paged one = absurd paged
-begun_at_one HalfFit p paged one = absurd paged
+begun_at_one k p paged one = rw (paged, opening_bounds) (first_ones p (layout_of k) one)
 
 command_at_one : (t : ById) (c : Command) → AreOne (paging_by_id t) → AsksForOne (asks c) → IsItemAtOne (Some t) (asks c) × AreOne (paging_by_id (after_by_id t c))
 command_at_one t (Bound words k) ones one =

@@ -3,7 +3,6 @@ use Rattle.std.proofs.Common.{◌≡◌, ℕ, zero, suc, ◌+◌, ◌<◌, Bool,
 use Rattle.std.specs.Prelude.{◌++◌, filter, nat_eq, not}
 use Rattle.std.specs.List.{range_with_len}
 use Rattle.cf_base.specs.declared.kind.Kind.{Kind}
-use Rattle.cf_base.specs.declared.kind.Kind.TheVariants.{Moving, NonMoving, Tlsf, HalfFit}
 use Rattle.page_model.specs.Held.{objects}
 use Rattle.page_model.specs.Paging.{AreOne, Paging, classes}
 use Rattle.page_model.specs.Arrangement.{live}
@@ -34,22 +33,13 @@ module _ {X : Type 0} (f g : ℕ → X) (t u : ℕ → Bool) where
 
 -- a kind with pages
 walk_is : (k : Kind) (s : HeapState) → IsPaged k → walk_of k s ≡ pages_report s
-walk_is Moving s paged = refl
-walk_is NonMoving s paged = refl
-walk_is Tlsf s paged = absurd paged
-walk_is HalfFit s paged = absurd paged
+walk_is k s paged = rw (paged, walk_of) refl
 
 classes_are : (k : Kind) (s : HeapState) → IsPaged k → classes_in k s ≡ classes (paging_in s)
-classes_are Moving s paged = refl
-classes_are NonMoving s paged = refl
-classes_are Tlsf s paged = absurd paged
-classes_are HalfFit s paged = absurd paged
+classes_are k s paged = rw (paged, classes_in) refl
 
 totals_in_are : (k : Kind) (s : HeapState) → IsPaged k → totals_in k s ≡ totals_of (paging_in s) s.held
-totals_in_are Moving s paged = refl
-totals_in_are NonMoving s paged = refl
-totals_in_are Tlsf s paged = absurd paged
-totals_in_are HalfFit s paged = absurd paged
+totals_in_are k s paged = rw (paged, totals_in) refl
 
 module _ (s : RunState) (going : IsGoing s) (paged : IsPaged s.heap.kind) (ones : AreOne (paging_in s.heap)) where
   abbrev p : Paging

@@ -1,14 +1,11 @@
-use Rattle.cf_model.proofs.EmptyHeaps.{moving_empty, nonmoving_empty, tlsf_empty, half_fit_empty}
+use Rattle.cf_model.proofs.EmptyHeaps.{empty_there, paged_empty, tiled_empty}
 use Rattle.cf_model.proofs.laws.an_empty_heap_keeps_the_rules.Goals as goal
 
-pub returns-clause-moving : goal.returns-clause-moving
-returns-clause-moving c = moving_empty
+pub returns-clause-pages : goal.returns-clause-pages
+returns-clause-pages c = λ kind p paged ok. paged_empty p ok kind paged
 
-pub returns-clause-nonmoving : goal.returns-clause-nonmoving
-returns-clause-nonmoving c = nonmoving_empty
+pub returns-clause-blocks : goal.returns-clause-blocks
+returns-clause-blocks c = λ kind p words tiled ok long header zeros. tiled_empty p ok words long header zeros kind tiled
 
-pub returns-clause-tlsf : goal.returns-clause-tlsf
-returns-clause-tlsf c = λ p words ok. tlsf_empty p ok words
-
-pub returns-clause-half_fit : goal.returns-clause-half_fit
-returns-clause-half_fit c = λ p words ok. half_fit_empty p ok words
+pub returns-clause-there : goal.returns-clause-there
+returns-clause-there c = λ kind p ok. empty_there p ok kind

@@ -5,7 +5,8 @@ use Rattle.std.proofs.Common.{None}
 use Rattle.run_laws.proofs.runs.a_run_can_always_go_on.Goals as goal
 
 pub returns-clause-there : goal.returns-clause-there
-returns-clause-there c = λ kind given ended paged. run_there kind None (items given ended) paged tt (items_sayable given ended)
+returns-clause-there c = λ kind given ended. run_there kind None (items given ended) tt (items_sayable given ended)
 
 pub returns-clause-on : goal.returns-clause-on
-returns-clause-on c = λ kind given ended done after replies mid paged is run. run_goes_on kind (items given ended) done after replies mid paged (items_sayable given ended) is run
+returns-clause-on c = λ kind given ended done after replies mid is run. run_goes_on kind (items given ended) done after replies mid
+    (items_sayable given ended) is run

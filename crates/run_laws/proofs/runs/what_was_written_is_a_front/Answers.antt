@@ -7,4 +7,5 @@ pub returns-clause-joined : goal.returns-clause-joined
 returns-clause-joined c = text_joined
 
 pub returns-clause-front : goal.returns-clause-front
-returns-clause-front c = λ kind given ended done after replies mid lead written lost paged is run cut. front_written kind (items given ended) done after replies mid lead written lost paged (items_sayable given ended) is run cut
+returns-clause-front c = λ kind given ended done after replies mid lead written lost is run cut. front_written kind
+    (items given ended) done after replies mid lead written lost (items_sayable given ended) is run cut

@@ -1,0 +1,34 @@
+-- The blocks that the words of a region tell, and words that a list of blocks may have.
+use Rattle.std.specs.Prelude.{◌≡◌, ℕ, zero, suc, ◌+◌, ◌-◌, ◌/◌, ◌%◌, ◌^◌, List, [], ◌∷◌, ◌++◌, Option, Some, None, if◌then◌else◌, map, nat_eq, nat_lt}
+use Rattle.std.specs.Prelude.{slice_index}
+use Rattle.std.specs.List.{range_with_len}
+use Rattle.block_model.specs.Tiling.{Block, block_at}
+use Rattle.block_model.specs.Words.{block_header}
+
+-- word 1 of each used block has its owner's number in its low half
+abbrev pub HaveTags : List ℕ → List Block → Type 0
+HaveTags words blocks = (a : ℕ) (b : Block) (h : ℕ) → block_at blocks a ≡ Some b → b.owner ≡ Some h → slice_index words (a + 1) % 2 ^ 32 ≡ h
+
+-- the owner that a header and the word after it tell
+abbrev pub read_owner : ℕ → ℕ → Option ℕ
+read_owner header tag = if nat_eq (header / 2 ^ 31 % 2) 1 then Some (tag % 2 ^ 32) else None
+
+-- the block that the words at the address tell
+abbrev pub read_block : List ℕ → ℕ → Block
+read_block words a = record { address = a; size = slice_index words a % 2 ^ 31; owner = read_owner (slice_index words a) (slice_index words (a + 1)) }
+
+-- the blocks from `a` up to `to`, each told by its words, at most so many
+abbrev pub read_blocks : ℕ → List ℕ → ℕ → ℕ → List Block
+read_blocks zero words a to = []
+read_blocks (suc most) words a to = if nat_lt a to then read_block words a ∷ read_blocks most words (a + slice_index words a % 2 ^ 31) to else []
+
+-- word i after the header: the contents of the owner, zeros in a free block
+abbrev pub inner_word : Option ℕ → (ℕ → ℕ → ℕ) → ℕ → ℕ
+inner_word None content i = 0
+inner_word (Some h) content i = content h i
+
+-- words of these blocks, one after the other, the first after a block of `before` words
+abbrev pub tiling_words : (ℕ → ℕ → ℕ) → List Block → ℕ → List ℕ
+tiling_words content [] before = []
+tiling_words content (b ∷ bs) before = (block_header before b ∷ map (inner_word b.owner content) (range_with_len 0 (b.size - 1)))
+    ++ tiling_words content bs b.size

@@ -1,0 +1,23 @@
+-- The needs and the free lists of the kinds with blocks.
+use Rattle.std.proofs.Common.{◌≡◌, ℕ, ◌+◌, ◌^◌, ◌≤◌, arith}
+use Rattle.cf_base.specs.Classes.{need}
+use Rattle.cf_base.specs.Settings.{Profile}
+use Rattle.cf_base.specs.declared.kind.Kind.{Kind}
+use Rattle.cf_base.specs.declared.kind.Kind.TheVariants.{Moving, NonMoving, Tlsf, HalfFit}
+use Rattle.cf_base.proofs.Rising.{page_size}
+use Rattle.block_model.specs.Buckets.{AreLawful}
+use Rattle.block_model.specs.Tiling.{block_need}
+use Rattle.block_model.proofs.BucketLaws.{half_fit_lawful, tlsf_lawful}
+use Rattle.cf_model.specs.Families.{lists_of}
+use Rattle.cf_model.specs.Rules.{AreInRange}
+
+-- the free lists of each kind are lawful
+pub lawful : (k : Kind) → (count : ℕ) × AreLawful (lists_of k) count
+lawful Moving = (336, tlsf_lawful)
+lawful NonMoving = (336, tlsf_lawful)
+lawful Tlsf = (336, tlsf_lawful)
+lawful HalfFit = (24, half_fit_lawful)
+
+-- what fits a page needs few words of a block
+pub need_is_small : (p : Profile) (ok : AreInRange p) (n : ℕ) → need n ≤ p.page_words → block_need n ≤ 2 ^ 23
+need_is_small p ok n fits = (let most = (page_size p.page_words ok.page_size).small in omega arith)

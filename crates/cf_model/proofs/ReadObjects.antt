@@ -1,0 +1,123 @@
+-- The words of a heap with blocks tell its objects, and what a carve leaves of the words gives those of the objects after a malloc.
+use Rattle.std.proofs.Common.{◌≡◌, ◌≢◌, ℕ, zero, suc, ◌+◌, ◌-◌, ◌*◌, ◌<◌, List, Option, Some, None, length, get_or, take, replicate, arith, sym, ◌∙◌, subst}
+use Rattle.std.proofs.Common.{inl, inr, ap, refl}
+use Rattle.std.specs.Prelude.{option_map}
+use Rattle.std.proofs.lemmas.Bool.{cases_eq}
+use Rattle.std.proofs.lemmas.List.{drop-replicate, length-replicate}
+use Rattle.std.specs.FinMap.{get, insert}
+use Rattle.cf_lemmas.proofs.Maps.{equal_maps, get_inserted, get_insert_other}
+use Rattle.cf_lemmas.proofs.MapValues.{get-map_values}
+use Rattle.page_model.specs.Held.{Held, Placed, places}
+use Rattle.page_model.specs.Bytes.{bytes_at}
+use Rattle.page_model.specs.Image.{object_word, word_of_bytes, header_word}
+use Rattle.page_model.specs.Steps.{zeros_at}
+use Rattle.page_model.proofs.Reading.{bytes_of_held}
+use Rattle.block_model.specs.Buckets.{FreeLists}
+use Rattle.block_model.specs.ReadWords.{HaveTags, read_blocks}
+use Rattle.block_model.specs.Tiling.{Block, Carves, IsTiling, block_at, block_need}
+use Rattle.block_model.specs.Words.{AreTilingWords, AreCleared, HaveHeaders}
+use Rattle.block_model.proofs.Others.{lies, malloc_stays}
+use Rattle.block_model.proofs.ReadBlocks.{blocks_read}
+use Rattle.cf_model.specs.State.{HeapState, region_words}
+use Rattle.cf_model.specs.ReadObjects.{read_objects}
+use Rattle.cf_model.specs.Rules.{AreInRange, AreObjects, AreOwned, KeepsTiling, content_word}
+
+-- word 1 of each used block is the header of its object
+tags_of : (s : HeapState) → AreInRange s.profile → AreObjects s → KeepsTiling s → HaveTags s.words s.tiling
+tags_of s range objects k a b h there used =
+    let own = k.owned.live a b h there used in
+    let l = lies s.tiling 0 (region_words s.profile) a b k.tiling.fill there in
+    let size = l.size in
+    let word = k.words.contents a b h there used 0 (omega arith) in
+    let x = own.0 in
+    let e : get s.held h ≡ Some x = own.1 in
+    let at : a + 1 + 0 ≡ a + 1 = omega arith in
+    let head : get_or s.words (a + 1) 0 ≡ header_word h (length x.bytes) = rw (at, e) at word in
+    let below = objects.handles h x e in
+    let most = range.few_proxies in
+    omega arith
+
+pub blocks_told : (s : HeapState) → AreInRange s.profile → AreObjects s → KeepsTiling s
+    → read_blocks (region_words s.profile) s.words 0 (region_words s.profile) ≡ s.tiling
+blocks_told s range objects k = (let few = range.small_region in
+    blocks_read (region_words s.profile) s.tiling s.words (omega arith) k.tiling k.words.headers (tags_of s range objects k))
+
+pub objects_told : (s : HeapState) → AreInRange s.profile → AreObjects s → KeepsTiling s → read_objects s.words (places s.held) ≡ s.held
+objects_told s range objects k = equal_maps _ _
+    (λ q. get-map_values (λ a. record { place = a; bytes = bytes_at s.words (a + 1) }) (places s.held) q
+    ∙ ap (option_map (λ a. record { place = a; bytes = bytes_at s.words (a + 1) })) (get-map_values (λ (x : Placed). x.place) s.held q)
+    ∙ go q (get s.held q) refl)
+  where
+    go : (q : ℕ) (o : Option Placed) → get s.held q ≡ o
+        → option_map (λ a. record { place = a; bytes = bytes_at s.words (a + 1) }) (option_map (λ (x : Placed). x.place) o) ≡ o
+    go q None f = refl
+    go q (Some x) f =
+        let own = k.owned.placed q x f in
+        let b = own.0 in
+        let least = own.2.least in
+        let below = objects.handles q x f in
+        let most = range.few_proxies in
+        ap (λ v. Some (record { place = x.place; bytes = v })) (bytes_of_held s.words q (x.place + 1) x.bytes (omega arith) (objects.bytes q x f) (λ i lt.
+        let word = k.words.contents x.place b q own.1 own.2.owner i (omega arith) in
+        rw f at word))
+
+take_zeros : (m n : ℕ) → word_of_bytes (take m (replicate n 0)) ≡ 0
+take_zeros zero n = refl
+take_zeros (suc m) zero = refl
+take_zeros (suc m) (suc n) = rw (take_zeros m n) refl
+
+fresh_word : (h n i : ℕ) → object_word h (replicate n 0) (suc i) ≡ 0
+fresh_word h n i = ap (λ xs. word_of_bytes (take 8 xs)) (drop-replicate (8 * i) n 0) ∙ take_zeros 8 (n - 8 * i)
+
+same_content : (m : Held) (h q i : ℕ) (x : Placed) → q ≢ h → content_word (insert m h x) q i ≡ content_word m q i
+same_content m h q i x ne = rw (get_insert_other m h x q ne) refl
+
+no_one : {A : Type 0} (o : Option A) (x : A) → o ≡ None → o ≡ Some x → ⊥
+no_one o x e f = (let g : None ≡ Some x = sym e ∙ f in cc)
+
+some_number : (x y : ℕ) → Some x ≡ Some y → x ≡ y
+some_number x y e = cc
+
+some_block : (x y : Block) → Some x ≡ Some y → x ≡ y
+some_block x y e = cc
+
+pub carve_words : (rule : FreeLists) (count : ℕ) (m : Held) (old new : List Block) (h n place : ℕ) (was now : List ℕ)
+    → IsTiling count old → AreOwned m old → get m h ≡ None
+    → Carves rule old (record { need = block_need n; owner = h }) place new
+    → AreTilingWords (content_word m) old was
+    → HaveHeaders now new 0 → AreCleared now new
+    → ((a q : ℕ) (b : Block) → a ≢ place → block_at new a ≡ Some b → b.owner ≡ Some q → (i : ℕ) → 1 + i < b.size
+    → get_or now (a + 1 + i) 0 ≡ get_or was (a + 1 + i) 0)
+    → get_or now (place + 1) 0 ≡ header_word h n
+    → ((b : Block) → block_at new place ≡ Some b → (i : ℕ) → 2 + i < b.size → get_or now (place + 2 + i) 0 ≡ 0)
+    → (b : Block) → block_at new place ≡ Some b → b.owner ≡ Some h
+    → AreTilingWords (content_word (insert m h (zeros_at place n))) new now
+carve_words rule count m old new h n place was now t owned none step words heads clear others tag zeros mine there used = record {
+  headers = heads;
+  cleared = clear;
+  contents = λ a b q at by i lt. elim (cases_eq a place) [
+    | inl is ↦ (
+        let at' : block_at new place ≡ Some b = rw is at at in
+        let same : mine ≡ b = some_block mine b (sym there ∙ at') in
+        let who : h ≡ q = some_number h q (sym used ∙ ap (λ (c : Block). c.owner) same ∙ by) in
+        let got : get (insert m h (zeros_at place n)) q ≡ Some (zeros_at place n) =
+        subst (λ k. get (insert m h (zeros_at place n)) k ≡ Some (zeros_at place n)) who (get_inserted m h (zeros_at place n)) in
+        rw (is, got) (inside b at' q who i lt))
+    | inr away ↦ (
+        let stays = malloc_stays rule count old new (record { need = block_need n; owner = h }) place t step in
+        let before = stays.no_other a b q away by at in
+        let own = owned.live a b q before by in
+        let ne : q ≢ h = λ is. no_one (get m h) own.0 none (ap (get m) (sym is) ∙ own.1) in
+        others a q b away at by i lt ∙ words.contents a b q before by i lt ∙ sym (same_content m h q i (zeros_at place n) ne))
+  ];
+}
+  where
+    inside : (b : Block) → block_at new place ≡ Some b → (q : ℕ) → h ≡ q → (i : ℕ) → 1 + i < b.size
+        → get_or now (place + 1 + i) 0 ≡ object_word q (replicate n 0) i
+    inside b at q who zero lt =
+        let len : length (replicate {A = ℕ} n 0) ≡ n = length-replicate n 0 in
+        let e : place + 1 + 0 ≡ place + 1 = omega arith in
+        rw (e, len, ← who) tag
+    inside b at q who (suc i) lt =
+        let e : place + 1 + suc i ≡ place + 2 + i = omega arith in
+        ap (λ w. get_or now w 0) e ∙ zeros b at i (omega arith) ∙ sym (fresh_word q n i)

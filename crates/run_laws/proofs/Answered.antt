@@ -1,0 +1,125 @@
+-- What it is for a call of a heap to have an answer, and a state after it that keeps the rules.
+use Rattle.std.proofs.Common.{◌≡◌, ◌≢◌, ℕ, ◌+◌, ◌<◌, ◌≤◌, List, Option, Some, None, Result, Ok, Err, length, get_or, set, replicate, arith, sym, ◌∙◌, ap, refl}
+use Rattle.std.proofs.Common.{subst, inl, inr}
+use Rattle.std.specs.Prelude.{◌⊎◌, option_map}
+use Rattle.std.proofs.lemmas.Bool.{cases_eq, cases_lt}
+use Rattle.std.proofs.lemmas.List.{get_or-set_same, get_or-set_other, length-set, set_past}
+use Rattle.std.specs.Ordering.{nat_cmp}
+use Rattle.std.specs.FinMap.{empty, get, get-empty, insert, len, remove}
+use Rattle.cf_base.specs.Classes.{need}
+use Rattle.cf_base.specs.declared.answers.AccessFault.{AccessFault}
+use Rattle.cf_base.specs.declared.answers.AccessFault.TheVariants as access
+use Rattle.cf_base.specs.declared.answers.Freed.{Freed}
+use Rattle.cf_base.specs.declared.answers.Handle.{Handle}
+use Rattle.cf_base.specs.declared.answers.Refusal.{Refusal}
+use Rattle.cf_base.specs.declared.answers.Refusal.TheVariants as refusal
+use Rattle.cf_base.specs.declared.answers.Resized.{Resized}
+use Rattle.cf_base.specs.declared.answers.ResizeFault.{ResizeFault}
+use Rattle.cf_base.specs.declared.answers.ResizeFault.TheVariants as resize
+use Rattle.cf_lemmas.proofs.Maps.{equal_maps, get_removed, len_fresh, len_rebound, some_inserted, some_removed}
+use Rattle.cf_lemmas.proofs.MapValues.{get-map_values, map_values-insert}
+use Rattle.cf_lemmas.proofs.Sums.{insert_again}
+use Rattle.page_model.specs.Arrangement.{IsSound, class_at}
+use Rattle.page_model.specs.Bytes.{AreBytes, written}
+use Rattle.page_model.specs.Held.{Held, Objects, Placed, objects}
+use Rattle.page_model.specs.Image.{IsSlotImage, slot_for}
+use Rattle.page_model.specs.Paging.{Paging, class_for}
+use Rattle.page_model.specs.Steps.{IsFreePlace, RemovesObject, RefitsObject as IsResizedBy, Moves, Leaves, Request, resized, resized_at, without, zeros_at}
+use Rattle.page_model.proofs.Adding.{len-objects}
+use Rattle.page_model.proofs.BlockSteps.{free_frames, resize_frames}
+use Rattle.cf_lemmas.proofs.Tests.{eq_no}
+use Rattle.page_model.proofs.FreeSteps.{sound_free}
+use Rattle.page_model.proofs.Freeing.{sound_exchanged}
+use Rattle.page_model.proofs.Nothing.{sound_empty}
+use Rattle.page_model.proofs.Parts.{free_objects, malloc_objects}
+use Rattle.page_model.proofs.Placing.{sound_malloc}
+use Rattle.page_model.proofs.Resizing.{changes_class, sound_resize}
+use Rattle.page_model.proofs.Sizes.{class_fits}
+use Rattle.page_model.proofs.SlotImages.{own_words}
+use Rattle.page_model.proofs.Writing.{length-written, resized_are_bytes, written_are_bytes, zeros_are_bytes}
+use Rattle.cf_model.specs.Answers.{bound_put}
+use Rattle.cf_model.specs.Rules.{AreObjects, IsPaged, KeepsPages, KeepsRules}
+use Rattle.cf_model.specs.State.{HeapState, paging_in, region_words}
+use Rattle.cf_model.specs.Steps.{FreesObject, IsMallocStep, IsResizeStep, IsWriteStep, Part, frames_left, number_of, leaves_of, slot_in}
+use Rattle.run_model.specs.Sessions.{CostsAtMost}
+use Rattle.run_model.proofs.Bounded.{pages_kept}
+use Rattle.run_model.proofs.Tied.{bytes_held, bytes_missing}
+use Rattle.run_laws.proofs.Counting.{fresh_key, len_without, there_or_not}
+
+-- bytes under numbers below n, no more than n of them
+pub record AreFew (n : ℕ) (o : Objects) : Type 0 where
+  pub handles : (h : ℕ) (v : List ℕ) → get o h ≡ Some v → h < n
+  pub bytes : (h : ℕ) (v : List ℕ) → get o h ≡ Some v → AreBytes v
+  pub few : len o ≤ n
+
+object_behind : (o : Option Placed) (v : List ℕ) → option_map (λ (z : Placed). z.bytes) o ≡ Some v → (x : Placed) × (o ≡ Some x) × (x.bytes ≡ v)
+object_behind None v is = absurd (let e : ◌≡◌ {A = Option (List ℕ)} None (Some v) = is in cc)
+object_behind (Some x) v is = (x, refl, (let e : Some x.bytes ≡ Some v = is in cc))
+
+pub few_in : (s : HeapState) → AreObjects s → AreFew s.profile.proxies (objects s.held)
+few_in s are = record {
+  handles = λ h v e. (let x = behind h v e in are.handles h x.0 x.1);
+  bytes = λ h v e. (let x = behind h v e in subst AreBytes x.2 (are.bytes h x.0 x.1));
+  few = (let same = len-objects s.held in let l = are.few in omega arith);
+}
+  where
+    behind : (h : ℕ) (v : List ℕ) → get (objects s.held) h ≡ Some v → (x : Placed) × (get s.held h ≡ Some x) × (x.bytes ≡ v)
+    behind h v e = object_behind (get s.held h) v (sym (get-map_values (λ (z : Placed). z.bytes) s.held h) ∙ e)
+
+pub objects_in : (s : HeapState) → AreFew s.profile.proxies (objects s.held) → AreObjects s
+objects_in s few = record {
+  handles = λ h x e. few.handles h x.bytes (bytes_held s.held h x e);
+  bytes = λ h x e. few.bytes h x.bytes (bytes_held s.held h x e);
+  few = (let same = len-objects s.held in let l = few.few in omega arith);
+}
+
+module _ (n : ℕ) (o : Objects) (few : AreFew n o) (h : ℕ) where
+  pub few_added : (v : List ℕ) → get o h ≡ None → h < n → len o < n → AreBytes v → AreFew n (insert o h v)
+  few_added v none low room bytes = record {
+    handles = λ q w e. elim (some_inserted o h v q w e) [ inl is ↦ rw is.0 low | inr was ↦ few.handles q w was.1 ];
+    bytes = λ q w e. elim (some_inserted o h v q w e) [ inl is ↦ subst AreBytes is.1 bytes | inr was ↦ few.bytes q w was.1 ];
+    few = (let more = len_fresh o h v none in omega arith);
+  }
+
+  pub few_changed : (u v : List ℕ) → get o h ≡ Some u → AreBytes v → AreFew n (insert o h v)
+  few_changed u v some bytes = record {
+    handles = λ q w e. elim (some_inserted o h v q w e) [ inl is ↦ rw is.0 (few.handles h u some) | inr was ↦ few.handles q w was.1 ];
+    bytes = λ q w e. elim (some_inserted o h v q w e) [ inl is ↦ subst AreBytes is.1 bytes | inr was ↦ few.bytes q w was.1 ];
+    few = (let same = len_rebound o h v u some in let l = few.few in omega arith);
+  }
+
+  pub few_left : (u : List ℕ) → get o h ≡ Some u → AreFew n (remove o h)
+  few_left u some = record {
+    handles = λ q w e. few.handles q w (some_removed o h q w e).1;
+    bytes = λ q w e. few.bytes q w (some_removed o h q w e).1;
+    few = (let less = len_without o h u some in let l = few.few in omega arith);
+  }
+
+-- every call has an answer, and a state after it that keeps the rules
+module _ (old : HeapState) where
+  pub record HasMalloc (n : ℕ) : Type 0 where
+    pub answer : Result Handle Refusal
+    pub heap : HeapState
+    pub step : IsMallocStep old n answer heap
+    pub kept : KeepsRules heap
+    pub cost : (bound : ℕ) → CostsAtMost heap.kind heap.cost bound
+
+  pub record HasFree (h : ℕ) : Type 0 where
+    pub freed : Freed
+    pub heap : HeapState
+    pub step : FreesObject old h freed heap
+    pub kept : KeepsRules heap
+    pub cost : (bound : ℕ) → CostsAtMost heap.kind heap.cost bound
+
+  pub record HasWrite (part : Part) (bytes : List ℕ) : Type 0 where
+    pub answer : Result Unit AccessFault
+    pub heap : HeapState
+    pub step : IsWriteStep old part bytes answer heap
+    pub kept : KeepsRules heap
+
+  pub record HasResize (asked : Request) : Type 0 where
+    pub answer : Result Resized ResizeFault
+    pub heap : HeapState
+    pub step : IsResizeStep old asked answer heap
+    pub kept : KeepsRules heap
+    pub cost : (bound : ℕ) → CostsAtMost heap.kind heap.cost bound
