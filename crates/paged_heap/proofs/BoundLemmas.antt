@@ -6,7 +6,7 @@ use Rattle.std.proofs.lemmas.List.{length-set, get_or-set_same, get_or-set_other
 use Rattle.std.proofs.Math.Seq.{take-set-lt}
 use Rattle.std.specs.Ordering.{nat_cmp}
 use Rattle.std.specs.FinMap.{get, empty, get-empty}
-use Rattle.page_model.specs.Held.{Placed, objects}
+use Rattle.page_model.specs.Held.{Placed}
 use Rattle.page_model.specs.Arrangement.{IsSound, live, objects_on}
 use Rattle.page_model.specs.Figures.{taken_bytes}
 use Rattle.page_model.proofs.Totals.{on_none}

@@ -1,11 +1,9 @@
 -- An object goes: what is known of it, and what a free leaves.
-use Rattle.std.proofs.Common.{◌≡◌, ℕ, ◌+◌, ◌-◌, ◌*◌, ◌<◌, ◌≤◌, length, get_or, set, Option, Some, arith, sym, ◌∙◌, ap, subst, inl, inr}
-use Rattle.std.specs.Prelude.{nat_eq, option_map}
-use Rattle.std.proofs.lemmas.Bool.{cases_eq}
-use Rattle.std.proofs.lemmas.List.{length-set, get_or-set_same, get_or-set_other}
+use Rattle.std.proofs.Common.{◌≡◌, ℕ, ◌+◌, ◌-◌, ◌*◌, ◌<◌, ◌≤◌, length, get_or, set, Option, Some, arith, sym, ◌∙◌, ap, subst}
+use Rattle.std.specs.Prelude.{nat_eq}
+use Rattle.std.proofs.lemmas.List.{length-set}
 use Rattle.std.specs.FinMap.{get, remove}
 use Rattle.cf_base.specs.declared.answers.Freed.{Freed}
-use Rattle.cf_lemmas.proofs.MapValues.{get-map_values}
 use Rattle.cf_lemmas.proofs.Ranges.{one}
 use Rattle.page_model.specs.Held.{Held, Placed, objects, places}
 use Rattle.page_model.specs.Bytes.{bytes_at}
@@ -15,7 +13,7 @@ use Rattle.page_model.specs.Image.{IsSlotImage, slot_for}
 use Rattle.page_model.specs.Figures.{asked_bytes, taken_bytes}
 use Rattle.page_model.specs.Steps.{Moves, MustMove, without}
 use Rattle.page_model.proofs.Adding.{live_taken, asked_taken, taken_taken}
-use Rattle.cf_lemmas.proofs.Tests.{eq_no, eq_yes}
+use Rattle.cf_lemmas.proofs.Tests.{eq_yes}
 use Rattle.page_model.proofs.FreeSteps.{sound_without}
 use Rattle.page_model.proofs.Parts.{free_objects}
 use Rattle.page_model.proofs.Writing.{storable_without}
@@ -31,6 +29,7 @@ use Rattle.cf_model.specs.Steps.{FreesObject, MovesIn, frames_left, number_of, l
 use Rattle.paged_heap.specs.Heap.{Heap}
 use Rattle.paged_heap.specs.Layout.{IsFramed, IsValid, held_in, paging_at, state_of, tables_in}
 use Rattle.paged_heap.specs.Free.{IsMoving, IsObjectAt}
+use Rattle.paged_heap.proofs.ClassCounts.{counted_out}
 use Rattle.paged_heap.proofs.ByKind.{moves_in, slot_in_is, tiling_stays}
 use Rattle.paged_heap.proofs.LayoutFacts.{as_many, bound_is, few_classes, paged_kind, paging_ok, sizes_are, table_is}
 use Rattle.paged_heap.proofs.Preserved.{Becomes, becomes_kept, becomes_state, bytes_held, has_place, held_is, stored, with_parts}
@@ -136,17 +135,9 @@ module _ {h : Heap} (k : IsValid h) {q a size c : ℕ} (o : IsObjectAt h q a siz
           let all : live (paging_at h) (objects rest_held) d ≡ live (paging_at h) (remove (objects (held_in h)) q) d =
           ap (λ o. live (paging_at h) o d) objects_are in
           let now : get_or n.live d 0 ≡ get_or (set h.live c (get_or h.live c 0 - 1)) d 0 = ap (λ l. get_or l d 0) t.live in
-          elim (cases_eq d c) [
-            | inl is ↦ (
-                let here : get_or (set h.live c (get_or h.live c 0 - 1)) d 0 ≡ get_or h.live d 0 - 1 =
-                rw is (get_or-set_same h.live c (get_or h.live c 0 - 1) 0 class_live) in
-                let e : one (nat_eq (class_for (paging_at h) (length (bytes_at h.words a))) d) ≡ 1 = ap one (eq_yes _ _ (it_class ∙ sym is)) in
-                omega arith)
-            | inr ne ↦ (
-                let here : get_or (set h.live c (get_or h.live c 0 - 1)) d 0 ≡ get_or h.live d 0 = get_or-set_other h.live c d (get_or h.live c 0 - 1) 0 ne in
-                let e : one (nat_eq (class_for (paging_at h) (length (bytes_at h.words a))) d) ≡ 0 = ap one (eq_no _ _ (λ is. ne (sym is ∙ it_class))) in
-                omega arith)
-          ]
+          let out = counted_out h.live c d class_live live_some in
+          let same : one (nat_eq (class_for (paging_at h) (length (bytes_at h.words a))) d) ≡ one (nat_eq c d) = ap (λ e. one (nat_eq e d)) it_class in
+          omega arith
 
       pub goes : n ≡ with_parts h n → n.proxies.places ≡ places rest_held → length n.words ≡ length h.words → IsSlotImage (paging_at h) rest_held n.words
           → IsFramed h.kind n → Tell (paging_at h) (tables_in n) → Occupies (paging_at h) rest_held (tables_in n) → n.proxies.limit ≡ h.proxies.limit

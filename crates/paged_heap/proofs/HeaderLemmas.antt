@@ -12,12 +12,12 @@ use Rattle.page_model.proofs.Sizes.{class_known}
 use Rattle.page_slots.specs.Tables.{page_at}
 use Rattle.page_slots.proofs.CallerLemmas.{found_page}
 use Rattle.paged_heap.specs.Heap.{Heap}
-use Rattle.paged_heap.specs.Layout.{IsValid, held_in, paging_at, state_of, tables_in}
+use Rattle.paged_heap.specs.Layout.{IsValid, paging_at, state_of}
 use Rattle.paged_heap.specs.Free.{IsObjectAt}
 use Rattle.paged_heap.proofs.LayoutFacts.{paging_ok, sizes_are}
 use Rattle.paged_heap.proofs.CountLimits.{class_is}
 use Rattle.paged_heap.proofs.ReadLemmas.{bytes_long, held}
-use Rattle.paged_heap.proofs.FreedObject.{it, it_found, page_same}
+use Rattle.paged_heap.proofs.FreedObject.{it_found, page_same}
 
 module _ (h : Heap) (k : IsValid h) (q a : ℕ) (some : get h.proxies.places q ≡ Some a) (size : ℕ) (told : size ≡ get_or h.words a 0 / 2 ^ 32) where
   long : length (bytes_at h.words a) ≡ size

@@ -1,8 +1,7 @@
 -- An object comes to a free slot: a malloc.
-use Rattle.std.proofs.Common.{◌≡◌, ℕ, ◌+◌, ◌*◌, ◌^◌, ◌<◌, ◌≤◌, length, get_or, set, replicate, None, arith, refl, sym, ◌∙◌, ap, subst, inl, inr}
+use Rattle.std.proofs.Common.{◌≡◌, ℕ, ◌+◌, ◌*◌, ◌^◌, ◌<◌, ◌≤◌, length, get_or, set, replicate, None, arith, refl, sym, ◌∙◌, ap, subst}
 use Rattle.std.specs.Prelude.{nat_eq, option_map}
-use Rattle.std.proofs.lemmas.Bool.{cases_eq}
-use Rattle.std.proofs.lemmas.List.{length-set, length-replicate, get_or-set_same, get_or-set_other}
+use Rattle.std.proofs.lemmas.List.{length-set, length-replicate}
 use Rattle.std.specs.FinMap.{get, insert, len}
 use Rattle.cf_base.specs.Classes.{need}
 use Rattle.cf_lemmas.proofs.MapValues.{get-map_values}
@@ -14,7 +13,6 @@ use Rattle.page_model.specs.Image.{header_word, IsSlotImage}
 use Rattle.page_model.specs.Figures.{asked_bytes, taken_bytes}
 use Rattle.page_model.specs.Steps.{IsFreePlace, zeros_at}
 use Rattle.page_model.proofs.Adding.{live_added, asked_added, taken_added}
-use Rattle.cf_lemmas.proofs.Tests.{eq_no, eq_yes}
 use Rattle.page_model.proofs.Parts.{malloc_objects, malloc_places}
 use Rattle.page_model.proofs.Placing.{sound_malloc}
 use Rattle.page_model.proofs.SlotImages.{image_after_malloc}
@@ -27,6 +25,7 @@ use Rattle.page_slots.proofs.CallerLemmas.{taken_is_free, taken_occupied, taken_
 use Rattle.cf_model.specs.Steps.{GivesObject}
 use Rattle.paged_heap.specs.Heap.{Heap}
 use Rattle.paged_heap.specs.Layout.{IsValid, held_in, paging_at, state_of, tables_in}
+use Rattle.paged_heap.proofs.ClassCounts.{counted_in}
 use Rattle.paged_heap.proofs.ByKind.{framed_kept, placed_in}
 use Rattle.paged_heap.proofs.LayoutFacts.{few_classes, held_len, paged_kind, paging_ok}
 use Rattle.paged_heap.proofs.Preserved.{Becomes, becomes_kept, becomes_state, no_place, places_are, stored, with_parts}
@@ -82,19 +81,10 @@ module _ (h n : Heap) (k : IsValid h) (c a bytes q : ℕ) (co : Comes h n c a by
       let all : live (paging_at h) (objects after) d ≡ live (paging_at h) (insert (objects (held_in h)) q (replicate bytes 0)) d =
       ap (λ o. live (paging_at h) o d) objects_are in
       let now : get_or n.live d 0 ≡ get_or (set h.live c (get_or h.live c 0 + 1)) d 0 = ap (λ l. get_or l d 0) co.live in
-      elim (cases_eq d c) [
-        | inl is ↦ (
-            let inside : c < length h.live = (let few = few_classes h k in let lt' = co.in_range in let long = k.live_long in omega arith) in
-            let here : get_or (set h.live c (get_or h.live c 0 + 1)) d 0 ≡ get_or h.live d 0 + 1 =
-            rw is (get_or-set_same h.live c (get_or h.live c 0 + 1) 0 inside) in
-            let e : one (nat_eq (class_for (paging_at h) (length (replicate {A = ℕ} bytes 0))) d) ≡ 1 = ap one (eq_yes _ _ (class_of_zeros ∙ sym is)) in
-            omega arith)
-        | inr ne ↦ (
-            let here : get_or (set h.live c (get_or h.live c 0 + 1)) d 0 ≡ get_or h.live d 0 = get_or-set_other h.live c d (get_or h.live c 0 + 1) 0 ne in
-            let e : one (nat_eq (class_for (paging_at h) (length (replicate {A = ℕ} bytes 0))) d) ≡ 0 =
-            ap one (eq_no _ _ (λ is. ne (sym is ∙ class_of_zeros))) in
-            omega arith)
-      ]
+      let inside : c < length h.live = (let few = few_classes h k in let lt' = co.in_range in let long = k.live_long in omega arith) in
+      let more = counted_in h.live c d inside in
+      let same : one (nat_eq (class_for (paging_at h) (length (replicate {A = ℕ} bytes 0))) d) ≡ one (nat_eq c d) = ap (λ e. one (nat_eq e d)) class_of_zeros in
+      omega arith
 
   becomes : Becomes h n after
   becomes = record {

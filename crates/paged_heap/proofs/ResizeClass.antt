@@ -1,11 +1,10 @@
 -- An object with its new length in another class: what is known of the heap where its old slot isn't free yet, and of the one that a change leaves.
-use Rattle.std.proofs.Common.{◌≡◌, ◌≢◌, ℕ, ◌+◌, ◌-◌, ◌<◌, ◌≤◌, List, length, get_or, set, Option, Some, None, arith, refl, sym, ◌∙◌, ap, subst, inl, inr}
-use Rattle.std.specs.Prelude.{nat_eq, option_map}
-use Rattle.std.proofs.lemmas.Bool.{cases_eq}
-use Rattle.std.proofs.lemmas.List.{get_or-set_same, get_or-set_other, length-set}
+use Rattle.std.proofs.Common.{◌≡◌, ◌≢◌, ℕ, ◌+◌, ◌-◌, ◌<◌, ◌≤◌, List, length, get_or, set, Option, Some, None, arith, refl, sym, ◌∙◌, ap, subst, inr}
+use Rattle.std.specs.Prelude.{nat_eq}
+use Rattle.std.proofs.lemmas.List.{get_or-set_other, length-set}
 use Rattle.std.specs.FinMap.{get, insert, remove}
 use Rattle.cf_base.specs.declared.answers.Resized.{Resized}
-use Rattle.cf_lemmas.proofs.MapValues.{get-map_values, map_values-insert}
+use Rattle.cf_lemmas.proofs.MapValues.{map_values-insert}
 use Rattle.cf_lemmas.proofs.Ranges.{one}
 use Rattle.cf_lemmas.proofs.Sums.{insert_again}
 use Rattle.page_model.specs.Held.{Held, Placed, objects, places}
@@ -15,7 +14,6 @@ use Rattle.page_model.specs.Arrangement.{class_at, IsSound, live, not_full_pages
 use Rattle.page_model.specs.Image.{Clears, IsDisjoint, IsSlotImage, MovesWords, Rewrites, object_word, slot_for}
 use Rattle.page_model.specs.Figures.{asked_bytes, taken_bytes}
 use Rattle.page_model.specs.Steps.{ChangesClass, IsFreePlace, RefitsObject as IsResizedBy, Moves, MustMove, Request, resized_at, without}
-use Rattle.cf_lemmas.proofs.Tests.{eq_no, eq_yes}
 use Rattle.cf_lemmas.proofs.Values.{still}
 use Rattle.page_model.proofs.Counting.{not_full-same}
 use Rattle.page_model.proofs.Parts.{free_objects}
@@ -34,10 +32,11 @@ use Rattle.paged_heap.specs.ResizeClass.{EntersAt, IsChange, old_words}
 use Rattle.paged_heap.specs.Layout.{IsFramed, IsValid, held_in, paging_at, state_of, tables_in}
 use Rattle.paged_heap.proofs.LayoutFacts.{few_classes, paged_kind, paging_ok, sizes_are, table_is}
 use Rattle.paged_heap.proofs.Preserved.{Becomes, becomes_kept, becomes_state, held_is, rest_from, stored}
+use Rattle.paged_heap.proofs.ClassCounts.{counted_in, counted_out}
 use Rattle.paged_heap.proofs.TwoWrites.{between, cleared_then, moved_then, written_first}
 use Rattle.paged_heap.proofs.ResizeCopy.{are_now, arrived, carried_long, untouched}
 use Rattle.paged_heap.proofs.ResizeEnter.{at_table, is_free, new_inside, none_spare, of_table, slots_apart}
-use Rattle.paged_heap.proofs.FreedObject.{asked_some, it, it_bytes, it_class, it_found, it_slot, taken_some}
+use Rattle.paged_heap.proofs.FreedObject.{asked_some, it, it_bytes, it_class, it_found, it_slot, live_some, taken_some}
 use Rattle.paged_heap.proofs.ObjectWords.{few}
 use Rattle.paged_heap.proofs.WriteLemmas.{asked_changed, live_changed, taken_changed}
 
@@ -204,31 +203,15 @@ module _ {h : Heap} (k : IsValid h) {x : Change} (is : IsChange h x) {b : ℕ} {
         let c_in : x.class < length h.live = (let r = is.object.in_range in omega arith) in
         let long' = length-set h.live x.class (get_or h.live x.class 0 - 1) in
         let d_in : x.to < length (set h.live x.class (get_or h.live x.class 0 - 1)) = (let r = is.in_range in omega arith) in
-        elim (cases_eq d x.to) [
-          | inl to ↦ (
-              let here : get_or (set (set h.live x.class (get_or h.live x.class 0 - 1)) x.to (get_or h.live x.to 0 + 1)) d 0 ≡ get_or h.live d 0 + 1 =
-              rw to (get_or-set_same (set h.live x.class (get_or h.live x.class 0 - 1)) x.to (get_or h.live x.to 0 + 1) 0 d_in) in
-              let y : one (nat_eq (class_for (paging_at h) (length new.bytes)) d) ≡ 1 = ap one (eq_yes _ _ (new_class ∙ sym to)) in
-              let z : one (nat_eq (class_for (paging_at h) (length object.bytes)) d) ≡ 0 = ap one (eq_no _ _ (λ e. is.other (sym to ∙ sym e ∙ object_class))) in
-              omega arith)
-          | inr nt ↦ (
-              let there : get_or (set (set h.live x.class (get_or h.live x.class 0 - 1)) x.to (get_or h.live x.to 0 + 1)) d 0 ≡ get_or
-              (set h.live x.class (get_or h.live x.class 0 - 1)) d 0 =
-              get_or-set_other (set h.live x.class (get_or h.live x.class 0 - 1)) x.to d (get_or h.live x.to 0 + 1) 0 nt in
-              let y : one (nat_eq (class_for (paging_at h) (length new.bytes)) d) ≡ 0 = ap one (eq_no _ _ (λ e. nt (sym e ∙ new_class))) in
-              elim (cases_eq d x.class) [
-                | inl of ↦ (
-                    let here : get_or (set h.live x.class (get_or h.live x.class 0 - 1)) d 0 ≡ get_or h.live d 0 - 1 =
-                    rw of (get_or-set_same h.live x.class (get_or h.live x.class 0 - 1) 0 c_in) in
-                    let z : one (nat_eq (class_for (paging_at h) (length object.bytes)) d) ≡ 1 = ap one (eq_yes _ _ (object_class ∙ sym of)) in
-                    omega arith)
-                | inr off ↦ (
-                    let here : get_or (set h.live x.class (get_or h.live x.class 0 - 1)) d 0 ≡ get_or h.live d 0 =
-                    get_or-set_other h.live x.class d (get_or h.live x.class 0 - 1) 0 off in
-                    let z : one (nat_eq (class_for (paging_at h) (length object.bytes)) d) ≡ 0 = ap one (eq_no _ _ (λ e. off (sym e ∙ object_class))) in
-                    omega arith)
-              ])
-        ]
+        let left = set h.live x.class (get_or h.live x.class 0 - 1) in
+        let out = counted_out h.live x.class d c_in (live_some k is.object) in
+        let same : get_or left x.to 0 ≡ get_or h.live x.to 0 = get_or-set_other h.live x.class x.to (get_or h.live x.class 0 - 1) 0 is.other in
+        let more = counted_in left x.to d d_in in
+        let at : get_or (set left x.to (get_or left x.to 0 + 1)) d 0 ≡ get_or (set left x.to (get_or h.live x.to 0 + 1)) d 0 =
+        ap (λ v. get_or (set left x.to (v + 1)) d 0) same in
+        let y : one (nat_eq (class_for (paging_at h) (length new.bytes)) d) ≡ one (nat_eq x.to d) = ap (λ e. one (nat_eq e d)) new_class in
+        let z : one (nat_eq (class_for (paging_at h) (length object.bytes)) d) ≡ one (nat_eq x.class d) = ap (λ e. one (nat_eq e d)) object_class in
+        omega arith
 
     -- m is that heap but for its tables, its words and its proxies
     pub record Keeps (m : Heap) : Type 0 where

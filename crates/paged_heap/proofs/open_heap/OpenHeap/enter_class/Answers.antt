@@ -4,7 +4,6 @@ use Rattle.std.proofs.lemmas.List.{get_or-set_other}
 use Rattle.paged_heap.specs.declared.open_heap.OpenHeap.{OpenHeap}
 use Rattle.paged_heap.specs.ResizeClass.{kept_words}
 use Rattle.paged_heap.specs.Heap.{Heap, seen}
-use Rattle.paged_heap.specs.Layout.{tables_in}
 use Rattle.paged_heap.proofs.ByKind.{in_region, in_step, laid_same}
 use Rattle.paged_heap.proofs.ResizeInPlace.{holds_bytes}
 use Rattle.paged_heap.proofs.ResizeEnter.{entered, is_free, lacks, new_holds, new_whole, slots_apart, target, words_apart}

@@ -1,11 +1,10 @@
 -- The object enters its new class, and another one comes to its old slot.
-use Rattle.std.proofs.Common.{◌%◌, ◌^◌, ◌+◌, ◌≤◌, get_or, length, Some, arith, refl, sym, ◌∙◌, ap, subst}
-use Rattle.std.specs.Prelude.{◌⊎◌, IsSome}
-use Rattle.std.specs.FinMap.{get}
+use Rattle.std.proofs.Common.{◌%◌, ◌^◌, ◌+◌, ◌≤◌, length, Some, arith, refl, sym, ◌∙◌, ap, subst}
+use Rattle.std.specs.Prelude.{◌⊎◌}
 use Rattle.page_slots.specs.Tables.{AreTables}
 use Rattle.virtual_words.specs.Words.{IsWhole}
 use Rattle.paged_heap.specs.declared.open_heap.OpenHeap.{OpenHeap}
-use Rattle.paged_heap.specs.Heap.{Heap, seen}
+use Rattle.paged_heap.specs.Heap.{seen}
 use Rattle.paged_heap.specs.Layout.{IsValid, tables_in}
 use Rattle.paged_heap.proofs.ByKind.{framed_of, in_region, laid_same}
 use Rattle.paged_heap.proofs.ResizeClass.{change_kept, change_resized}

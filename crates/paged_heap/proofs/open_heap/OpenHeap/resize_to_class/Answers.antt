@@ -1,4 +1,3 @@
-use Rattle.paged_heap.specs.Heap.{seen}
 use Rattle.paged_heap.proofs.HeaderLemmas.{page_there}
 use Rattle.paged_heap.proofs.open_heap.OpenHeap.resize_to_class.Goals as goal
 
