@@ -8,3 +8,4 @@ pub mod TilingWords
 pub mod ReadBlocks
 pub mod Rewriting
 pub mod Serving
+pub mod CallerLemmas

@@ -11,7 +11,7 @@ pub record Block : Type 0 where
 abbrev pub is_free : Block → Bool
 is_free b = is_none b.owner
 
--- the blocks lie one behind the other from `from` to `to`, each with two words at least
+-- the blocks lie one after the other from `from` to `to`, each with two words at least
 abbrev pub Fill : List Block → ℕ → ℕ → Type 0
 Fill [] from to = from ≡ to
 Fill (b ∷ bs) from to = (b.address ≡ from) × (2 ≤ b.size) × Fill bs (from + b.size) to
@@ -58,18 +58,18 @@ pub record Serves (rule : FreeLists) (need : ℕ) (b : Block) : Type 0 where
 abbrev pub LacksBlock : FreeLists → List Block → ℕ → Type 0
 LacksBlock rule blocks need = (a : ℕ) (b : Block) → block_at blocks a ≡ Some b → Serves rule need b → ⊥
 
--- The front of a block becomes used, and the rest becomes a free block; where less than two words are over they stay with the front.
+-- The first words of a block become used, and the rest becomes a free block; where less than two words are over they stay with the first.
 abbrev pub carved : Block → Demand → List Block
 carved b d = if nat_le (d.need + 2) b.size
     then record { address = b.address; size = d.need; owner = Some d.owner } ∷ record { address = b.address + d.need; size = b.size - d.need; owner = None } ∷ []
     else (record { address = b.address; size = b.size; owner = Some d.owner } ∷ [])
 
--- the block at the address is carved
+-- the block at the address is split
 abbrev pub carved_at : List Block → ℕ → Demand → List Block
 carved_at [] a d = []
 carved_at (b ∷ bs) a d = if nat_eq b.address a then carved b d ++ bs else b ∷ carved_at bs a d
 
--- A malloc: of the free blocks that serve, one of the least bucket is carved.
+-- A malloc: of the free blocks that serve, one of the least bucket is split.
 pub record Carves (rule : FreeLists) (old : List Block) (d : Demand) (place : ℕ) (new : List Block) : Type 0 where
   pub found : Block
   pub there : block_at old place ≡ Some found
@@ -92,7 +92,7 @@ abbrev pub freed_at : List Block → ℕ → List Block
 freed_at [] a = []
 freed_at (b ∷ bs) a = if nat_eq b.address a then record { address = b.address; size = b.size; owner = None } ∷ bs else b ∷ freed_at bs a
 
--- a free: the block at the address becomes free, and is joined with each free neighbour
+-- a free: the block at the address becomes free, and is coalesced with each free neighbour
 abbrev pub released : List Block → ℕ → List Block
 released blocks a = merged (freed_at blocks a)
 
@@ -120,7 +120,7 @@ size_of (Some b) = b.size
 abbrev pub size_at : List Block → ℕ → ℕ
 size_at blocks a = size_of (block_at blocks a)
 
--- the used block at the place has the words of the demand, or one more, and its owner
+-- the used block at the address has the words of the demand, or one more, and its owner
 pub record IsCarvedTo (blocks : List Block) (place : ℕ) (d : Demand) : Type 0 where
   pub block : Block
   pub there : block_at blocks place ≡ Some block
@@ -128,7 +128,7 @@ pub record IsCarvedTo (blocks : List Block) (place : ℕ) (d : Demand) : Type 0 
   pub least : d.need ≤ block.size
   pub most : block.size ≤ d.need + 1
 
--- each used block but the one at the place is the same in both lists
+-- each used block but the one at the address is the same in both lists
 pub record StaysUsed (old : List Block) (place : ℕ) (new : List Block) : Type 0 where
   pub kept : (a : ℕ) (b : Block) (h : ℕ) → a ≢ place → b.owner ≡ Some h → block_at old a ≡ Some b → block_at new a ≡ Some b
   pub no_other : (a : ℕ) (b : Block) (h : ℕ) → a ≢ place → b.owner ≡ Some h → block_at new a ≡ Some b → block_at old a ≡ Some b

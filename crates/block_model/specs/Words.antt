@@ -6,7 +6,7 @@ use Rattle.block_model.specs.Tiling.{Block, is_free, block_at}
 abbrev pub block_header : ℕ → Block → ℕ
 block_header before b = b.size + 2 ^ 31 * cond (is_free b) 0 1 + 2 ^ 32 * before
 
--- each block has its header, the first behind a block of `before` words
+-- each block has its header, the first after a block of `before` words
 abbrev pub HaveHeaders : List ℕ → List Block → ℕ → Type 0
 HaveHeaders words [] before = Unit {0}
 HaveHeaders words (b ∷ bs) before = (slice_index words b.address ≡ block_header before b) × HaveHeaders words bs b.size

@@ -32,7 +32,7 @@ pub fn half_fit_refuses_what_tlsf_serves()
     ensures half_fit_second { LacksBlock half_fit (used 0 34 1 ∷ free 34 30 ∷ []) 24 }
 {}
 
-/// A block that is freed is joined with each free neighbour, and a used one parts them.
+/// A block that is freed is coalesced with each free neighbour, and a used one parts them.
 pub fn free_neighbours_are_joined()
     ensures alone { released (used 0 31 1 ∷ used 31 33 2 ∷ []) 0 ≡ free 0 31 ∷ used 31 33 2 ∷ [] }
     ensures before { released (free 0 31 ∷ used 31 33 2 ∷ []) 31 ≡ one_free_block 64 }

@@ -14,9 +14,7 @@ use Rattle.page_model.specs.Arrangement.{IsSound}
 use Rattle.page_model.specs.Frames.{AreBlocks, IsPhysical, block_of, frames_after}
 use Rattle.page_model.specs.Image.{IsSlotImage, object_word, slot_for}
 use Rattle.page_model.specs.Steps.{Request, Leaves, Moves, RemovesObject as IsFreedBy}
-use Rattle.page_model.proofs.BlockSteps.{free_blocks, resize_blocks}
-use Rattle.page_model.proofs.Frames.{physical_word}
-use Rattle.page_model.proofs.Sizes.{in_blocks}
+use Rattle.page_model.proofs.CallerLemmas.{free_blocks, resize_blocks, physical_word, in_blocks}
 use Rattle.cf_model.specs.State.{HeapState, paging_in, layout_of}
 use Rattle.cf_model.specs.Rules.{KeepsRules, KeepsRulesOf}
 use Rattle.cf_model.specs.Steps.{FreesObject, ResizesObject, BlocksStay, MovesIn, frames_left, leaves_of, number_of}

@@ -13,10 +13,7 @@ use Rattle.cf_base.specs.declared.kind.Kind.{Kind}
 use Rattle.cf_base.specs.declared.kind.Kind.TheVariants.{Moving, NonMoving, Tlsf, HalfFit}
 use Rattle.page_model.specs.Held.{Placed}
 use Rattle.page_model.specs.Paging.{first_bounds}
-use Rattle.page_model.proofs.Nothing.{sound_empty, image_empty}
-use Rattle.page_model.proofs.Frames.{first_permuted}
-use Rattle.page_model.proofs.Sizes.{first_paged}
-use Rattle.page_model.proofs.Sizes.{in_blocks}
+use Rattle.page_model.proofs.CallerLemmas.{sound_empty, image_empty, first_permuted, first_paged, in_blocks}
 use Rattle.cf_base.proofs.CallerLemmas.{are_sizes, size_within}
 use Rattle.cf_base.specs.declared.kind.Layout.TheVariants.{Words}
 use Rattle.std.proofs.lemmas.Nat.{mul-le}

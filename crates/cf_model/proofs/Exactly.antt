@@ -15,7 +15,7 @@ use Rattle.page_model.specs.Held.{Held, Placed}
 use Rattle.page_model.specs.Paging.{Paging, class_for, page_of, slots_of}
 use Rattle.page_model.specs.Arrangement.{class_at, objects_on, not_full_pages, LacksRoom}
 use Rattle.page_model.specs.Steps.{Request, IsFreePlace}
-use Rattle.page_model.proofs.Counting.{part_yes}
+use Rattle.page_model.proofs.CallerLemmas.{part_yes}
 use Rattle.block_model.specs.Tiling.{Carves, LacksBlock, block_need}
 use Rattle.cf_model.specs.Families.{Family, paged, tiled, family_of, lists_of}
 use Rattle.cf_model.specs.State.{HeapState, paging_in}

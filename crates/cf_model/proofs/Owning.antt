@@ -9,7 +9,7 @@ use Rattle.page_model.specs.Held.{Held, Placed}
 use Rattle.page_model.specs.Steps.{zeros_at}
 use Rattle.block_model.specs.Buckets.{FreeLists}
 use Rattle.block_model.specs.Tiling.{Block, Carves, IsTiling, IsCarvedTo, block_at, block_need, released}
-use Rattle.block_model.proofs.Others.{free_stays, malloc_stays, released_is_free}
+use Rattle.block_model.proofs.CallerLemmas.{free_stays, malloc_stays, released_is_free}
 use Rattle.cf_model.specs.Rules.{AreOwned, IsBlockOf}
 
 no_one : {A : Type 0} (o : Option A) (x : A) → o ≡ None → o ≡ Some x → ⊥

@@ -11,13 +11,12 @@ use Rattle.page_model.specs.Held.{Held, Placed, places}
 use Rattle.page_model.specs.Bytes.{bytes_at}
 use Rattle.page_model.specs.Image.{object_word, word_of_bytes, header_word}
 use Rattle.page_model.specs.Steps.{zeros_at}
-use Rattle.page_model.proofs.Reading.{bytes_of_held}
+use Rattle.page_model.proofs.CallerLemmas.{bytes_of_held}
 use Rattle.block_model.specs.Buckets.{FreeLists}
 use Rattle.block_model.specs.ReadWords.{HaveTags, read_blocks}
 use Rattle.block_model.specs.Tiling.{Block, Carves, IsTiling, block_at, block_need}
 use Rattle.block_model.specs.Words.{AreTilingWords, AreCleared, HaveHeaders}
-use Rattle.block_model.proofs.Others.{lies, malloc_stays}
-use Rattle.block_model.proofs.ReadBlocks.{blocks_read}
+use Rattle.block_model.proofs.CallerLemmas.{lies, malloc_stays, blocks_read}
 use Rattle.cf_model.specs.State.{HeapState, region_words}
 use Rattle.cf_model.specs.ReadObjects.{read_objects}
 use Rattle.cf_model.specs.Rules.{AreInRange, AreObjects, AreOwned, KeepsTiling, content_word}

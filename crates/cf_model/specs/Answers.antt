@@ -1,4 +1,4 @@
--- What the calls that only look answer, and the bounds of the classes.
+-- What the calls that only look return, and the bounds of the classes.
 use Rattle.std.specs.Prelude.{ℕ, ◌*◌, ◌/◌, Option, Some, None, if◌then◌else◌, length, nat_eq, nat_lt, position, option_map, slice_set}
 use Rattle.std.specs.FinMap.{get, len}
 use Rattle.cf_base.specs.declared.answers.Figures.{Figures}

@@ -16,7 +16,7 @@ pub record Sweep {X : Type 0} (R : X → X → Type 0) (xs ys : List X) (i : ℕ
   pub done : (k : ℕ) (d e : X) → k < i → R (slice_index_or xs k d) (slice_index_or ys k e)
   pub rest : (k : ℕ) (d : X) → i ≤ k → slice_index_or ys k d ≡ slice_index_or xs k d
 
--- a loop over the list stopped at an item: R holds of those before it, S of the item, and those behind it are as they were
+-- a loop over the list stopped at an item: R holds of those before it, S of the item, and those after it are as they were
 pub record Stops {X : Type 0} (R S : X → X → Type 0) (xs ys : List X) : Type 0 where
   pub count : length ys ≡ length xs
   pub at : ℕ

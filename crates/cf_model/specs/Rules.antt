@@ -63,7 +63,7 @@ pub record IsBlockOf (b : Block) (h : ℕ) (x : Placed) : Type 0 where
   pub least : block_need (length x.bytes) ≤ b.size
   pub most : b.size ≤ block_need (length x.bytes) + 1
 
--- each object has the block at its place, and each used block has its object
+-- each object has the block at its address, and each used block has its object
 pub record AreOwned (m : Held) (blocks : List Block) : Type 0 where
   pub placed : (h : ℕ) (x : Placed) → get m h ≡ Some x → (b : Block) × (block_at blocks x.place ≡ Some b) × IsBlockOf b h x
   pub live : (a : ℕ) (b : Block) (h : ℕ) → block_at blocks a ≡ Some b → b.owner ≡ Some h → (x : Placed) × (get m h ≡ Some x) × (x.place ≡ a)

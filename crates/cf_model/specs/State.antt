@@ -20,7 +20,7 @@ pub record HeapState : Type 0 where
   pub profile : Profile
   -- by class, how many pages may be partly full
   pub bounds : List ℕ
-  -- the objects by number, each with its place and its bytes
+  -- the objects by number, each with its address and its bytes
   pub held : Held
   -- the words of the region; where blocks are mapped, the virtual words
   pub words : List ℕ
@@ -28,7 +28,7 @@ pub record HeapState : Type 0 where
   pub frames : List ℕ
   -- the blocks that tile the region
   pub tiling : List Block
-  -- the steps of the last call that changed the objects' places or lengths
+  -- the steps of the last call that changed the objects' addresses or lengths
   pub cost : ℕ
 
 -- the settings of a manager that was never open

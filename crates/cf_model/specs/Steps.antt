@@ -72,7 +72,7 @@ pub record IsEmptyHeap (kind : Kind) (s : Settings) (new : HeapState) : Type 0 w
   pub words : IsOpeningWords kind (profile_of s) new.words
   pub whole : new ≡ empty_heap kind (profile_of s) new.words
 
--- There is no room for an object of so many bytes: no page of its class is not full and none is free, or no free block serves.
+-- There is no room for an object of so many bytes: no page of its class is partly full and none is free, or no free block serves.
 abbrev pub LacksRoomIn : Kind → HeapState → ℕ → Type 0
 LacksRoomIn kind s bytes = elim (family_of kind) [
   | paged ↦ LacksRoom (paging_in s) s.held (class_for (paging_in s) bytes)
@@ -136,7 +136,7 @@ frames_left NonMoving s after = frames_after (paging_in s) s.held after s.frames
 frames_left Tlsf s after = s.frames
 frames_left HalfFit s after = s.frames
 
--- the blocks after the one at the place is released
+-- the blocks after the one at the address is released
 abbrev pub tiling_left : Kind → HeapState → ℕ → List Block
 tiling_left kind s place = elim (family_of kind) [ paged ↦ s.tiling | tiled ↦ released s.tiling place ]
 
@@ -148,7 +148,7 @@ number_of moved = option_map (λ (h : Handle). h.0) moved
 abbrev pub leaves_of : HeapState → ℕ → Placed → Option ℕ → Leaves
 leaves_of old h x moved = record { held = without old.held h x.place moved; moved = moved }
 
--- An object goes, and the one that moved has its place. All others keep their bytes.
+-- An object goes, and the one that moved has its address. All others keep their bytes.
 pub record FreesObject (old : HeapState) (h : ℕ) (freed : Freed) (new : HeapState) : Type 0 where
   pub object : Placed
   pub found : get old.held h ≡ Some object
@@ -210,7 +210,7 @@ abbrev pub IsReadAnswer : HeapState → Part → List ℕ → Result Unit Access
 IsReadAnswer s part room (Ok u) out = ReadsBytes s part (length room) out
 IsReadAnswer s part room (Err e) out = IsFault s part (length room) e × (out ≡ room)
 
--- An object has another length: its first bytes stay, and zeros are added. In another class it goes to a new place, as a malloc and a free do.
+-- An object has another length: its first bytes stay, and zeros are added. In another class it goes to a new address, as a malloc and a free do.
 pub record ResizesObject (old : HeapState) (asked : Request) (done : Resized) (new : HeapState) : Type 0 where
   pub pages : IsPaged old.kind
   pub fits : need asked.length ≤ old.profile.page_words

@@ -91,7 +91,7 @@ pub fn blocks_stay_owned()
         → AreOwned (remove m h) (released old x.place) }
 {}
 
-/// With blocks, the words tell the blocks, with no use of word 1 of a free one; and the places of
+/// With blocks, the words tell the blocks, with no use of word 1 of a free one; and the addresses of
 /// the objects and the words tell the objects.
 pub fn the_words_tell_blocks_and_objects()
     ensures blocks { (s : HeapState) → AreInRange s.profile → AreObjects s → KeepsTiling s

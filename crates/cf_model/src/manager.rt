@@ -1,5 +1,5 @@
 //! The interface of the managers.
-ghost use Rattle.std.specs.Prelude.{◌≡◌, ℕ, ◌+◌, ◌^◌, ◌≤◌, IsTrue, OnOk, OnErr, is_some, length, slice_get};
+ghost use Rattle.std.specs.Prelude.{◌≡◌, ◌+◌, ◌^◌, ◌≤◌, IsTrue, OnOk, OnErr, is_some, length, slice_get};
 ghost use Rattle.std.specs.FinMap as map;
 ghost use Rattle.cf_model.specs.Answers.{place_of, block_in, classes_in, figures_in, totals_in, class_with, bound_put};
 ghost use Rattle.cf_model.specs.Costs.{TakesAtMost, free_bound, resize_bound, access_bound, TellsCost};
@@ -48,7 +48,7 @@ pub trait Manager: Drop {
         ensures rules { OnOk result (KeepsRules (state self.new)) }
         ensures err { OnErr result (IsClosed (state self.old) (state self.new)) };
 
-    /// Adds an object of so many bytes, all zero, under a handle that wasn't live. It is refused for
+    /// Adds an object of `bytes` bytes, all zero, under a handle that wasn't live. It is refused for
     /// `Size` where it needs more than a page, then for `Proxy` where every proxy is in use, then for
     /// `Space` where there is no room; a refusal changes the cost alone. At most 64 steps with pages.
     fn malloc(&mut self, bytes: u32, steps: &mut Steps) -> Result<Handle, Refusal>
@@ -60,8 +60,8 @@ pub trait Manager: Drop {
         ensures bound { TakesAtMost (state self.old).kind steps.old steps.new 64 }
         ensures told { steps.new ≡ steps.old + (state self.new).cost };
 
-    /// Takes an object away, and answers the words of its slot or block. With pages another object
-    /// moves to its place where its page was full and its class has as many pages that are not full
+    /// Takes an object away, and returns the words of its slot or block. With pages another object
+    /// moves to its address where its page was full and its class has as many partly full pages
     /// as it may; `moved` is that object. A refusal changes the cost alone. At most 96 steps with
     /// pages, and twice the words of the slot.
     fn free(&mut self, h: Handle, steps: &mut Steps) -> Result<Freed, NotLive>
@@ -115,8 +115,8 @@ pub trait Manager: Drop {
         ensures told { TellsCost (state self.old).kind steps.old steps.new (state self.new).cost }
         ensures blocks { BlocksStayIn (state self.old).kind (state self.old) h.0 (state self.new) };
 
-    /// Gives the class whose slots have so many words a bound of its own, from 1 to 64, for its pages
-    /// that are not full, while no object is live. False where there is no such class.
+    /// Gives the class whose slots have `slot_words` words a bound of its own, from 1 to 64, for its pages
+    /// that are partly full, while no object is live. False where there is no such class.
     fn set_bound(&mut self, slot_words: u32, k: u32) -> bool
         requires open { IsTrue (state self.old).is_open }
         requires empty { (state self.old).held ≡ map.empty }

@@ -13,7 +13,7 @@ use Rattle.cf_model.specs.Rules.{KeepsRules}
 use Rattle.cf_model.specs.State.{HeapState, paging_in}
 use Rattle.cf_model.specs.Answers.{totals_in}
 use Rattle.page_model.specs.Figures.{figures_of}
-use Rattle.cf_io.proofs.LineLemmas.{puts_line}
+use Rattle.cf_io.proofs.CallerLemmas.{puts_line}
 use Rattle.script_reader.specs.declared.command.Command.{Command}
 use Rattle.script_reader.specs.declared.command.Command.TheVariants.{Walk, Frag}
 use Rattle.run_model.specs.Answering.{Moment}
@@ -23,8 +23,7 @@ use Rattle.run_model.specs.Runs.{Turn}
 use Rattle.run_model.specs.Sessions.{AreTied, IsGoing, RunState, SessionState}
 use Rattle.run_model.specs.Steps.{Step}
 use Rattle.run_model.specs.Texts.{Reply, led, said}
-use Rattle.run_model.proofs.Bounded.{step_meets_bounds}
-use Rattle.run_model.proofs.Going.{step_going}
+use Rattle.run_model.proofs.CallerLemmas.{step_meets_bounds, step_going}
 use Rattle.cf_session.specs.Apply.{Applies, outcome_in, outcome_of, run_at}
 use Rattle.cf_session.specs.OneLine.{IsReported, Says, lines_at}
 use Rattle.cf_session.specs.declared.outcome.Outcome.{Outcome}
@@ -115,7 +114,7 @@ pub applied_going : (old new : RunState) (c : Command) (lead : List ℕ) (w y : 
 applied_going old new c lead w y (Ok outcome) going a = step_going old new c a.0.reply going a.0.turn.step
 applied_going old new c lead w y (Err e) going a = step_going old new c a.reply going a.turn.step
 
--- a run goes on where its session is tied to a heap that is open and keeps its rules
+-- a run goes on where its session is consistent with a heap that is open and keeps its rules
 pub going_before : (inside session : SessionState) (heap : HeapState) → IsTrue heap.is_open → KeepsRules heap → inside ≡ session
     → AreTied session heap → IsGoing (run_at inside heap)
 going_before inside session heap opened rules same tied =

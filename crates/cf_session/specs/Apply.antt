@@ -28,7 +28,7 @@ abbrev pub outcome_of : Reply → Outcome
 outcome_of [] = Other
 outcome_of (text ∷ rest) = outcome_in text
 
--- The command took effect, and its reply was written: the whole of it, and the outcome is its; or a front of it.
+-- The command took effect, and its reply was written: the whole of it, and the outcome is its; or a prefix of it.
 abbrev pub Applies : Moment → Asked → Result Outcome Failed → Moment → Type 0
 Applies old asked (Ok outcome) new = (a : IsAnswered old asked new) × (outcome ≡ outcome_of a.reply)
 Applies old asked (Err failed) new = IsCutShort old asked new

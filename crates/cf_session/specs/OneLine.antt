@@ -17,7 +17,7 @@ pub record Lines : Type 0 where
 abbrev pub lines_at : List ℕ → List ℕ → Lines
 lines_at before after = record { before = before; after = after }
 
--- the command takes effect, and the text of its reply stands behind what stood on the line
+-- the command takes effect, and the text of its reply stands after what stood on the line
 pub record Says (old : RunState) (command : Command) (new : RunState) (line : Lines) : Type 0 where
   pub text : List ℕ
   pub step : Step old command (said text) new

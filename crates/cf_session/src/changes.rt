@@ -1,5 +1,5 @@
-//! The commands that change objects: each does its call, and answers the text of its reply.
-ghost use Rattle.std.specs.Prelude.{◌≡◌, ◌^◌, ◌≤◌, IsTrue, Err, codes, length};
+//! The commands that change objects: each does its call, and returns the text of its reply.
+ghost use Rattle.std.specs.Prelude.{◌≡◌, ◌^◌, ◌≤◌, IsTrue, Err, length};
 ghost use Rattle.cf_session.specs.Records.{run_of, session_of};
 ghost use Rattle.script_reader.specs.declared.command.Command.TheVariants.{Malloc, Free, Write, Resize, Bound};
 ghost use Rattle.run_model.specs.Replies.{malloc_text, resize_text, write_text};

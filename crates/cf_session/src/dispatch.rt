@@ -20,7 +20,7 @@ use script_reader::Command;
 use step_ledger::Steps;
 
 /// Does the command, and writes its reply: each line after the lead, built in `line` and put in one
-/// piece.
+/// chunk.
 pub(crate) fn answer<H: Manager, K: Sink>(
     records: &mut Records,
     heap: &mut H,

@@ -90,7 +90,7 @@ pub(crate) fn place<H: Manager>(
     }
 }
 
-/// `b`: the physical block behind block i of a live id's object.
+/// `b`: the physical block of block i of a live id's object.
 pub(crate) fn block<H: Manager>(
     records: &Records,
     heap: &H,

@@ -52,8 +52,8 @@ impl Session {
         })
     }
 
-    /// Does the command on the heap, and writes its reply: each line after the lead, in one piece.
-    /// `Failed` only where the sink failed; the command has taken effect then, and a front of its
+    /// Does the command on the heap, and writes its reply: each line after the lead, in one call.
+    /// `Failed` only where the sink failed; the command has taken effect then, and a prefix of its
     /// reply was written.
     pub fn apply<H: Manager, K: Sink>(
         &mut self,
@@ -89,14 +89,14 @@ impl Session {
         )
     }
 
-    /// How many objects changed their place since the start; at most `2^64 - 1`.
+    /// How many objects changed their address since the start; at most `2^64 - 1`.
     pub fn moves(&self) -> u64
         ensures { result ≡ self.now.moves }
     {
         self.records.counters.moves
     }
 
-    /// The words of the slots of the objects that changed their place; at most `2^64 - 1`.
+    /// The words of the slots of the objects that changed their address; at most `2^64 - 1`.
     pub fn words(&self) -> u64
         ensures { result ≡ self.now.words }
     {

@@ -1,5 +1,5 @@
 //! The one command that reads the arguments, and its arguments.
-ghost use Rattle.std.specs.Prelude.{◌≡◌, IfOk, codes, false};
+ghost use Rattle.std.specs.Prelude.{◌≡◌, IfOk, false};
 ghost use Rattle.clap.specs.Words.{app_of, rule_of};
 ghost use Rattle.command_line.specs.Command.{IsCfApp, count_rule, manager_rule, mode_rule, seed_rule};
 ghost use Rattle.command_line.specs.Command.{manager_names, mode_names, texts_of};

@@ -11,12 +11,11 @@ use Rattle.cf_model.specs.State.{HeapState, paging_in}
 use Rattle.cf_base.specs.declared.answers.Failed.{Failed}
 use Rattle.cf_base.specs.declared.answers.Totals.{Totals}
 use Rattle.cf_io.specs.Feeds.{appended, Puts}
-use Rattle.cf_io.proofs.Feeding.{appended_then}
+use Rattle.cf_io.proofs.CallerLemmas.{appended_then, led-append, puts_then, puts_cut}
 use Rattle.cf_model.specs.Answers.{classes_in, totals_in}
 use Rattle.run_model.specs.Reports.{class_line, pages_report, total_line}
 use Rattle.run_model.specs.Texts.{led, said}
 use Rattle.frag_report.specs.Classes.{lines_of, classes_below, class_if_live}
-use Rattle.cf_io.proofs.LineLemmas.{led-append, puts_then, puts_cut}
 
 -- the numbers up to n begin with those up to c
 range_from : (a n m : ℕ) → range_with_len a (n + m) ≡ range_with_len a n ++ range_with_len (a + n) m

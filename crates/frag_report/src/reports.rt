@@ -1,7 +1,6 @@
 //! The reports on a heap.
 ghost use Rattle.std.specs.Prelude.{◌≡◌, ◌<◌, ◌≤◌, ◌++◌, IsTrue, OnErr, length};
 ghost use Rattle.cf_io.specs.Feeds.{Rose, Puts};
-ghost use Rattle.cf_io.specs.Lines.{line_room};
 ghost use Rattle.cf_model.specs.Answers.{classes_in, totals_in};
 ghost use Rattle.frag_report.specs.Classes.{classes_below, class_if_live};
 ghost use Rattle.run_model.specs.Reports.{blocks_line, class_line, frag_line as frag_text, frag_of, pages_report, total_line, walk_of};
@@ -13,7 +12,7 @@ use cf_model::Manager;
 use step_ledger::Steps;
 
 /// Writes the report on classes and pages, or on blocks: each of its lines after the lead, built in
-/// `line` and put in one piece. `Failed` only where the sink failed; then a front of the report was
+/// `line` and put in one call. `Failed` only where the sink failed; then a prefix of the report was
 /// put.
 pub fn walk_lines<H: Manager, K: Sink>(
     heap: &H,
@@ -39,7 +38,7 @@ pub fn walk_lines<H: Manager, K: Sink>(
 }
 
 /// Writes the report on the bytes asked for, taken and held: one line after the lead, built in `line`
-/// and put in one piece. `Failed` only where the sink failed; then a front of the line was put.
+/// and put in one call. `Failed` only where the sink failed; then a prefix of the line was put.
 pub fn frag_line<H: Manager, K: Sink>(
     heap: &H,
     lead: &[u8],

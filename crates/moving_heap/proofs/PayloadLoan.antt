@@ -1,4 +1,4 @@
--- What a loan of the whole words of an object leaves.
+-- What a borrow of the whole words of an object leaves.
 use Rattle.std.proofs.Common.{◌≡◌, ℕ, ◌+◌, ◌-◌, ◌*◌, ◌/◌, ◌%◌, ◌^◌, ◌<◌, ◌≤◌, List, ◌++◌, length, get_or, take, drop, Option, Some, None, arith, sym, ◌∙◌, ap, refl, subst, lit<, inl, inr}
 use Rattle.std.proofs.lemmas.Bool.{cases_lt, false≢true}
 use Rattle.std.proofs.lemmas.List.{get_or_past, get_or_default, length-take}
@@ -8,28 +8,24 @@ use Rattle.std.specs.FinMap.{get, insert}
 use Rattle.page_model.specs.Held.{Held, Placed}
 use Rattle.page_model.specs.Bytes.{AreBytes, byte_of, bytes_at, written}
 use Rattle.region.specs.Lending.{fit, with_words}
-use Rattle.region.proofs.CallerLemmas.{fit_below, length-with_words}
-use Rattle.region.proofs.Lists.{length-fit, fit-words}
+use Rattle.region.proofs.CallerLemmas.{fit_below, length-with_words, length-fit, fit-words}
 use Rattle.word_bytes.specs.Cells.{byte_in}
-use Rattle.word_bytes.proofs.Overwriting.{overwritten_behind, overwritten_inside}
+use Rattle.word_bytes.proofs.CallerLemmas.{overwritten_behind, overwritten_inside}
 use Rattle.cf_model.specs.Rules.{KeepsRules}
 use Rattle.cf_model.specs.State.{HeapState}
 use Rattle.cf_model.specs.Steps.{WritesBytes}
 use Rattle.paged_heap.specs.declared.open_heap.OpenHeap.{OpenHeap}
 use Rattle.cf_base.specs.declared.kind.Kind.TheVariants.{Moving}
 use Rattle.virtual_words.specs.Overwriting.{Overwrites}
-use Rattle.virtual_words.proofs.Bytes.{loan_overwrites}
+use Rattle.virtual_words.proofs.CallerLemmas.{loan_overwrites}
 use Rattle.paged_heap.specs.Access.{Lies}
 use Rattle.paged_heap.specs.Heap.{seen}
 use Rattle.paged_heap.specs.Layout.{Holds, IsValid, IsValidIn, held_in, state_at, state_in}
 use Rattle.moving_heap.specs.PayloadLoan.{words_found, with_payload_at, with_payload_in, with_payload_of, with_run}
 use Rattle.moving_heap.specs.Payload.{bytes_of_words, lent_back, payload_of, whole_words, with_object}
-use Rattle.page_model.proofs.Reading.{byte_below}
-use Rattle.paged_heap.proofs.Preserved.{has_place, no_place}
-use Rattle.paged_heap.proofs.LayoutFacts.{rules_in}
+use Rattle.page_model.proofs.CallerLemmas.{byte_below}
+use Rattle.paged_heap.proofs.CallerLemmas.{has_place, no_place, rules_in, lies, wrote, wrote_kept}
 use Rattle.moving_heap.proofs.PayloadWords.{count_is, run_inside}
-use Rattle.paged_heap.proofs.ReadLemmas.{lies}
-use Rattle.paged_heap.proofs.WriteLemmas.{wrote, wrote_kept}
 
 -- the bytes of words
 module _ (ws : List ℕ) where
@@ -69,7 +65,7 @@ run_overwritten old ws first n inside =
     few : {j : ℕ} → n ≤ j → length (take n (drop first old)) ≤ j
     few le = (let l = length-take n (drop first old) in omega arith)
 
--- what a loan of the whole words of an object leaves
+-- what a borrow of the whole words of an object leaves
 module _ (h : OpenHeap) (k : IsValid (seen Moving h)) (q a : ℕ) (some : get h.proxies.places q ≡ Some a) (ws : List ℕ) where
   abbrev was : List ℕ
   was = bytes_at h.region a

@@ -1,4 +1,4 @@
--- Words of objects that are lent.
+-- Words of objects that are borrowed.
 use Rattle.std.proofs.Common.{◌≡◌, ℕ, suc, ◌+◌, ◌*◌, ◌/◌, ◌^◌, ◌<◌, ◌≤◌, Bool, List, length, get_or, take, drop, Option, Some, None, arith, sym, refl, subst, ◌∙◌, ap}
 use Rattle.std.proofs.lemmas.Grind.{same_number_lists}
 use Rattle.std.proofs.lemmas.List.{get_or-take, get_or-drop, length-take-le, length-drop}
@@ -15,13 +15,12 @@ use Rattle.paged_heap.specs.Layout.{IsValid, state_at}
 use Rattle.moving_heap.specs.PayloadLoan.{words_found}
 use Rattle.moving_heap.specs.Payload.{payload_bound, payload_of, whole_words, words_lent}
 use Rattle.step_ledger.specs.Counting.{RoseAtMost, RoseBy}
-use Rattle.paged_heap.proofs.Preserved.{has_place, no_place}
-use Rattle.paged_heap.proofs.ReadLemmas.{bytes_long, holds, slot_there}
+use Rattle.paged_heap.proofs.CallerLemmas.{has_place, no_place, bytes_long, holds, slot_there}
 
 pub length-whole_words : (v : List ℕ) → length (whole_words v) ≡ length v / 8
 length-whole_words v = length-map-range_with_len _ 0 _
 
--- a number without a place has no words
+-- a number without an address has no words
 pub none_lent : (h : OpenHeap) → IsValid (seen Moving h) → (q : ℕ) → get h.proxies.places q ≡ None → payload_of (state_at Moving h) q ≡ None
 none_lent h k q none = ap (option_map (λ (x : Placed). whole_words x.bytes)) (no_place (seen Moving h) k q none)
 
@@ -29,7 +28,7 @@ none_lent h k q none = ap (option_map (λ (x : Placed). whole_words x.bytes)) (n
 pub count_is : (h : OpenHeap) (a read : ℕ) → read ≡ get_or h.region a 0 / 2 ^ 32 → read / 8 ≡ length (bytes_at h.region a) / 8
 count_is h a read is = (let long = bytes_long h.region a in omega arith)
 
--- an object with its place
+-- an object with its address
 module _ (h : OpenHeap) (k : IsValid (seen Moving h)) (q a : ℕ) (some : get h.proxies.places q ≡ Some a) where
   abbrev bytes : List ℕ
   bytes = bytes_at h.region a
@@ -40,7 +39,7 @@ module _ (h : OpenHeap) (k : IsValid (seen Moving h)) (q a : ℕ) (some : get h.
   pub run_small : a + 1 < 2 ^ 32
   run_small = (let r = run_inside in let long = k.words_long in let small = h.settings.small_region in omega arith)
 
-  -- the words behind the header are the whole words of the bytes
+  -- the words after the header are the whole words of the bytes
   pub words_are : take (length bytes / 8) (drop (a + 1) h.region) ≡ whole_words bytes
   words_are =
       let inside = run_inside in
@@ -58,7 +57,7 @@ module _ (h : OpenHeap) (k : IsValid (seen Moving h)) (q a : ℕ) (some : get h.
   pub some_lent : payload_of (state_at Moving h) q ≡ Some (whole_words bytes)
   some_lent = ap (option_map (λ (x : Placed). whole_words x.bytes)) (has_place (seen Moving h) k q a some)
 
-  -- so many words from the place on, where their number is read from the header
+  -- so many words from the address on, where their number is read from the header
   pub lent_is : (n : ℕ) → n ≡ length bytes / 8 → (ws : List ℕ) → ws ≡ take n (drop (a + 1) h.region) → Some ws ≡ payload_of (state_at Moving h) q
   lent_is n is ws e = ap Some (e ∙ ap (λ m. take m (drop (a + 1) h.region)) is ∙ words_are) ∙ sym some_lent
 

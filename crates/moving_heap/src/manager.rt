@@ -169,7 +169,7 @@ impl MovingHeap {
         self.open().pages_of::<Direct>(c)
     }
 
-    /// The pages of class c that are not full.
+    /// The pages of class c that are partly full.
     pub fn not_full(&self, c: u32) -> u32
         requires open { IsTrue self.now.is_open }
         requires class { c < classes_in self.now.kind self.now }

@@ -1,5 +1,5 @@
 //! The heap that a caller holds: closed, or open.
-ghost use Rattle.std.specs.Prelude.{◌≡◌, ℕ, ◌<◌, ◌≤◌, IfOk, IsTrue};
+ghost use Rattle.std.specs.Prelude.{◌≡◌, ◌<◌, ◌≤◌, IfOk, IsTrue};
 ghost use Rattle.page_model.specs.Arrangement.{home_pages, not_full_pages, free_pages};
 ghost use Rattle.cf_base.specs.declared.kind.Kind.TheVariants.{NonMoving};
 ghost use Rattle.cf_model.specs.Answers.{classes_in};
@@ -8,7 +8,6 @@ ghost use Rattle.cf_model.specs.State.{closed_state, paging_in};
 ghost use Rattle.page_model.specs.Frames.{block_of};
 ghost use Rattle.cf_model.specs.Answers.{block_in};
 ghost use Rattle.paged_heap.specs.Layout.{Holds, state_at};
-ghost use Rattle.paged_heap.specs.FirstTable.{IsFirstTable};
 
 use block_table::BlockTable;
 use cf_base::{
@@ -167,7 +166,7 @@ impl NonMovingHeap {
         self.open().pages_of::<Mapped>(c)
     }
 
-    /// The pages of class c that are not full.
+    /// The pages of class c that are partly full.
     pub fn not_full(&self, c: u32) -> u32
         requires open { IsTrue self.now.is_open }
         requires class { c < classes_in self.now.kind self.now }

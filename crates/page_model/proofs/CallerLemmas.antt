@@ -25,3 +25,4 @@ pub use Rattle.page_model.proofs.Nothing.{sound_empty, image_empty}
 pub use Rattle.page_model.proofs.BlockSteps.{free_blocks, free_frames, resize_blocks, resize_frames}
 pub use Rattle.page_model.proofs.Adding.{len-objects, live_added, live_taken, taken_added, taken_taken, asked_added, asked_taken}
 pub use Rattle.page_model.proofs.ResizedWords.{image_after_change, image_after_change_and_move}
+pub use Rattle.page_model.proofs.Reading.{bytes_of_held}

@@ -4,7 +4,7 @@ ghost use Rattle.std.specs.FinMap.{empty, get, insert, remove};
 ghost use Rattle.page_model.specs.Arrangement.{IsSound, class_at, home_pages, is_on, live, not_full_pages, objects_on};
 ghost use Rattle.page_model.specs.Counts.{CanHold, Stand};
 ghost use Rattle.page_model.specs.Held.{Held, Placed, objects, places};
-ghost use Rattle.page_model.specs.Paging.{IsPaging, Paging, bound_of, class_for, classes, page_of, slots_of};
+ghost use Rattle.page_model.specs.Paging.{IsPaging, Paging, bound_of, class_for, classes, slots_of};
 ghost use Rattle.page_model.specs.Steps.{ChangesClass, IsFreePlace, RemovesObject, PlacesObject, RefitsObject, MayFill, Moves, MustMove, Leaves, Request, resized_at, without, zeros_at};
 
 /// Without objects an arrangement is sound, whatever the bounds, and has no pages.

@@ -1,5 +1,5 @@
 //! Pages and size classes.
-ghost use Rattle.std.specs.Prelude.{◌≡◌, ◌*◌, ◌<◌, ◌≤◌, ◌^◌, IfOk, length, slice_set, position};
+ghost use Rattle.std.specs.Prelude.{◌≡◌, ◌*◌, ◌<◌, ◌≤◌, ◌^◌, IfOk, length};
 ghost use Rattle.page_model.specs.Paging.{classes, slot_words, slots_of, bound_of, class_for, page_of, paging_of, first_bounds};
 ghost use Rattle.cf_base.specs.Settings.{profile_of};
 ghost use Rattle.page_reference.specs.Amounts.{amount_of, most_of, amount_in, total_of};

@@ -9,8 +9,7 @@ use Rattle.std.specs.FinMap.{get, empty, get-empty}
 use Rattle.page_model.specs.Held.{Placed}
 use Rattle.page_model.specs.Arrangement.{IsSound, live, objects_on}
 use Rattle.page_model.specs.Figures.{taken_bytes}
-use Rattle.page_model.proofs.Totals.{on_none}
-use Rattle.page_model.proofs.Nothing.{sound_empty}
+use Rattle.page_model.proofs.CallerLemmas.{on_none, sound_empty}
 use Rattle.cf_lemmas.proofs.Positions.{position_is, position_none}
 use Rattle.cf_lemmas.proofs.Tests.{eq_no, eq_yes}
 use Rattle.cf_model.specs.Answers.{bound_put}

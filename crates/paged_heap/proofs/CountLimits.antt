@@ -10,9 +10,7 @@ use Rattle.page_model.specs.Held.{Held, Placed, objects}
 use Rattle.page_model.specs.Paging.{Paging, IsPaging, class_for, classes, slot_words}
 use Rattle.page_model.specs.Arrangement.{class_at, live, IsSound}
 use Rattle.page_model.specs.Figures.{asked_bytes, taken_bytes}
-use Rattle.page_model.proofs.Adding.{len-objects}
-use Rattle.page_model.proofs.Counting.{one_le}
-use Rattle.page_model.proofs.Sizes.{class_fits, class_holds, class_known, class_none, slot_fits}
+use Rattle.page_model.proofs.CallerLemmas.{len-objects, one_le, class_fits, class_holds, class_known, class_none, slot_fits}
 use Rattle.paged_heap.specs.Heap.{Heap}
 use Rattle.paged_heap.specs.Layout.{IsValid, held_in, paging_at}
 use Rattle.paged_heap.proofs.LayoutFacts.{held_len, paging_ok, sizes_are, table_ok, page_is}

@@ -13,7 +13,7 @@ use Rattle.page_model.specs.Arrangement.{IsSound, live}
 use Rattle.page_model.specs.Image.{IsSlotImage, slot_for}
 use Rattle.page_model.specs.Figures.{asked_bytes, taken_bytes}
 use Rattle.cf_lemmas.proofs.Values.{no_values, map_values-empty}
-use Rattle.page_model.proofs.Nothing.{sound_empty, image_empty}
+use Rattle.page_model.proofs.CallerLemmas.{sound_empty, image_empty}
 use Rattle.size_classes.specs.Table.{ClassTable, IsClassTable, table_of}
 use Rattle.class_lists.specs.PageLists.{empty_lists}
 use Rattle.page_pool.specs.Pool.{Pool}

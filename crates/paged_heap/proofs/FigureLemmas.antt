@@ -7,7 +7,7 @@ use Rattle.page_model.specs.Held.{Held, objects}
 use Rattle.page_model.specs.Paging.{Paging}
 use Rattle.page_model.specs.Arrangement.{home_pages, not_full_pages, used_pages, free_pages}
 use Rattle.page_model.specs.Figures.{asked_bytes, taken_bytes, totals_of}
-use Rattle.page_model.proofs.Adding.{len-objects}
+use Rattle.page_model.proofs.CallerLemmas.{len-objects}
 use Rattle.class_lists.specs.PageLists.{pages_in}
 use Rattle.class_lists.specs.declared.Which.TheVariants.{Full, NotFull}
 use Rattle.page_slots.proofs.CallerLemmas.{not_full_pages_are, home_pages_are, free_pages_are, pages_are}

@@ -3,8 +3,7 @@ use Rattle.std.proofs.Common.{◌≡◌, ℕ, ◌-◌, ◌*◌, length, get_or, 
 use Rattle.std.specs.FinMap.{remove}
 use Rattle.page_model.specs.Bytes.{bytes_at}
 use Rattle.page_model.specs.Image.{Clears, slot_for}
-use Rattle.page_model.proofs.Parts.{still_places}
-use Rattle.page_model.proofs.SlotImages.{image_after_free}
+use Rattle.page_model.proofs.CallerLemmas.{still_places, image_after_free}
 use Rattle.size_classes.specs.Table.{ClassTable}
 use Rattle.proxy_table.specs.Proxies.{Proxies, AreBelowLimit, without_place}
 use Rattle.page_slots.specs.Freeing.{Vacates}

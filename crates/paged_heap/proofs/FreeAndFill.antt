@@ -9,10 +9,7 @@ use Rattle.page_model.specs.Image.{IsSlotImage, MovesWords, slot_for}
 use Rattle.page_model.specs.Paging.{slot_words}
 use Rattle.page_model.specs.Arrangement.{class_at}
 use Rattle.page_model.specs.Steps.{MayFill, MustMove, Moves, moved_to}
-use Rattle.page_model.proofs.FreeSteps.{mover_is_other}
-use Rattle.page_model.proofs.Parts.{moved_places}
-use Rattle.page_model.proofs.SlotImages.{image_after_move, object_inside, own_words, sound_apart_from}
-use Rattle.page_model.proofs.Writing.{header_told}
+use Rattle.page_model.proofs.CallerLemmas.{mover_is_other, moved_places, image_after_move, object_inside, own_words, sound_apart_from, header_told}
 use Rattle.proxy_table.specs.Proxies.{AreBelowLimit, Proxies, with_place, without_place}
 use Rattle.cf_model.specs.Steps.{frames_left}
 use Rattle.page_slots.specs.Freeing.{FillsFrom}
@@ -135,7 +132,7 @@ module _ {h : Heap} {q a size c b : ℕ} {new : Tables} (f : Fills h q a size c 
         may moves_words in
         subst (λ z. IsSlotImage (paging_at h) (moved_to (remove (held_in h) q) r z a) left_words) (sym there) i
 
-  -- the places and the words of the slots are those of whole blocks
+  -- the addresses and the words of the slots are those of whole blocks
   pub whole_target : IsWhole h.kind a
   whole_target = (whole_slot h k q (it k o) (it_found k o)).0
 

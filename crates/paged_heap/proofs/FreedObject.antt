@@ -12,11 +12,8 @@ use Rattle.page_model.specs.Arrangement.{class_at, live}
 use Rattle.page_model.specs.Image.{IsSlotImage, slot_for}
 use Rattle.page_model.specs.Figures.{asked_bytes, taken_bytes}
 use Rattle.page_model.specs.Steps.{Moves, MustMove, without}
-use Rattle.page_model.proofs.Adding.{live_taken, asked_taken, taken_taken}
+use Rattle.page_model.proofs.CallerLemmas.{live_taken, asked_taken, taken_taken, sound_without, free_objects, storable_without}
 use Rattle.cf_lemmas.proofs.Tests.{eq_yes}
-use Rattle.page_model.proofs.FreeSteps.{sound_without}
-use Rattle.page_model.proofs.Parts.{free_objects}
-use Rattle.page_model.proofs.Writing.{storable_without}
 use Rattle.size_classes.specs.Table.{ClassTable}
 use Rattle.class_lists.specs.PageLists.{pages_in}
 use Rattle.class_lists.specs.declared.Which.TheVariants.{NotFull}

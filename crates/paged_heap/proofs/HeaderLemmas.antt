@@ -1,4 +1,4 @@
--- The object at a live number's place, by its header.
+-- The object at a live number's address, by its header.
 use Rattle.std.proofs.Common.{◌≡◌, ℕ, ◌/◌, ◌^◌, ◌<◌, length, get_or, Some, None, Result, Ok, Err, sym, ◌∙◌, ap, subst}
 use Rattle.std.specs.FinMap.{get}
 use Rattle.cf_base.specs.Classes.{class_of}
@@ -8,7 +8,7 @@ use Rattle.cf_model.specs.State.{HeapState}
 use Rattle.cf_model.specs.Steps.{IsFreeStep}
 use Rattle.page_model.specs.Bytes.{bytes_at}
 use Rattle.page_model.specs.Paging.{class_for}
-use Rattle.page_model.proofs.Sizes.{class_known}
+use Rattle.page_model.proofs.CallerLemmas.{class_known}
 use Rattle.page_slots.specs.Tables.{page_at}
 use Rattle.page_slots.proofs.CallerLemmas.{found_page}
 use Rattle.paged_heap.specs.Heap.{Heap}

@@ -9,9 +9,7 @@ use Rattle.cf_base.specs.Settings.{profile_of}
 use Rattle.page_model.specs.Held.{Placed}
 use Rattle.page_model.specs.Bytes.{bytes_at}
 use Rattle.page_model.specs.Paging.{IsPaging, classes}
-use Rattle.page_model.proofs.Reading.{held_at_is, held_at_bytes}
-use Rattle.page_model.proofs.SlotImages.{own_words}
-use Rattle.page_model.proofs.Sizes.{paged}
+use Rattle.page_model.proofs.CallerLemmas.{held_at_is, held_at_bytes, own_words, paged}
 use Rattle.size_classes.specs.Table.{ClassTable, IsClassTable}
 use Rattle.page_slots.specs.Tables.{AreTables}
 use Rattle.page_slots.specs.Occupying.{class_table}
@@ -71,7 +69,7 @@ module _ (h : Heap) (k : IsValid h) where
     | inr past ↦ (let l = bounds_many in let e = get_or_past (take (length h.classes.sizes) h.bounds) c 0 (omega arith) in omega arith)
   ]
 
-  -- a number that is held has its place in the proxies
+  -- a number that is held has its address in the proxies
   pub place_known : (q : ℕ) (x : Placed) → get (held_in h) q ≡ Some x → get h.proxies.places q ≡ Some x.place
   place_known q x e = (held_at_is h.words h.proxies.places q x e).0
 

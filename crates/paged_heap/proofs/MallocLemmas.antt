@@ -7,7 +7,7 @@ use Rattle.cf_base.specs.declared.answers.Refusal.{Refusal}
 use Rattle.page_model.specs.Arrangement.{LacksRoom}
 use Rattle.page_model.specs.Image.{header_word}
 use Rattle.page_model.specs.Paging.{class_for}
-use Rattle.page_model.proofs.SlotImages.{slot_inside}
+use Rattle.page_model.proofs.CallerLemmas.{slot_inside}
 use Rattle.proxy_table.specs.Proxies.{Proxies, AreBelowLimit, with_place}
 use Rattle.page_slots.specs.Tables.{AreTables, Tables}
 use Rattle.page_slots.specs.Taking.{TakesAt, TakesSlot}
@@ -49,7 +49,7 @@ module _ (h : Heap) (k : IsValid h) (bytes c : ℕ) (found : Some c ≡ class_of
     abbrev of_table : AreTables (class_table (paging_at h)) new
     of_table = subst (λ t. AreTables t new) (sym (table_is h k)) tables
 
-    -- the place is in the region
+    -- the address is in the region
     pub place_inside : a < length h.words
     place_inside =
         let is = class_is h k bytes c found in

@@ -12,11 +12,8 @@ use Rattle.page_model.specs.Arrangement.{class_at, live}
 use Rattle.page_model.specs.Image.{header_word, IsSlotImage}
 use Rattle.page_model.specs.Figures.{asked_bytes, taken_bytes}
 use Rattle.page_model.specs.Steps.{IsFreePlace, zeros_at}
-use Rattle.page_model.proofs.Adding.{live_added, asked_added, taken_added}
-use Rattle.page_model.proofs.Parts.{malloc_objects, malloc_places}
-use Rattle.page_model.proofs.Placing.{sound_malloc}
-use Rattle.page_model.proofs.SlotImages.{image_after_malloc}
-use Rattle.page_model.proofs.Writing.{storable_added, zeros_are_bytes}
+use Rattle.page_model.proofs.CallerLemmas.{live_added, asked_added, taken_added, malloc_objects, malloc_places, sound_malloc, image_after_malloc}
+use Rattle.page_model.proofs.CallerLemmas.{storable_added, zeros_are_bytes}
 use Rattle.proxy_table.specs.Proxies.{Proxies, AreBelowLimit, with_place}
 use Rattle.page_slots.specs.Tables.{AreTables}
 use Rattle.page_slots.specs.Taking.{TakesAt}
@@ -30,7 +27,7 @@ use Rattle.paged_heap.proofs.ByKind.{framed_kept, placed_in}
 use Rattle.paged_heap.proofs.LayoutFacts.{few_classes, held_len, paged_kind, paging_ok}
 use Rattle.paged_heap.proofs.Preserved.{Becomes, becomes_kept, becomes_state, no_place, places_are, stored, with_parts}
 
--- in n an object of so many bytes has come to the free slot of class c at the place a, under number q
+-- in n an object of so many bytes has come to the free slot of class c at the address a, under number q
 pub record Comes (h n : Heap) (c a bytes q : ℕ) : Type 0 where
   pub rest : n ≡ with_parts h n
   pub fits : need bytes ≤ h.settings.page_words

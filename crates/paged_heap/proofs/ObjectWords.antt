@@ -5,9 +5,7 @@ use Rattle.std.proofs.lemmas.List.{get_or_past}
 use Rattle.page_model.specs.Bytes.{AreBytes, byte_of, bytes_at}
 use Rattle.page_model.specs.Image.{object_word, slot_for}
 use Rattle.page_model.specs.Steps.{resized}
-use Rattle.page_model.proofs.Reading.{bytes_at-AreBytes}
-use Rattle.page_model.proofs.Resizing.{length-resized}
-use Rattle.page_model.proofs.Writing.{byte_of_object, object_word_small, resized_before, resized_behind, word_by_bytes}
+use Rattle.page_model.proofs.CallerLemmas.{bytes_at-AreBytes, length-resized, byte_of_object, object_word_small, resized_before, resized_behind, word_by_bytes}
 use Rattle.paged_heap.specs.Heap.{Heap}
 use Rattle.paged_heap.specs.Layout.{IsValid, paging_at}
 use Rattle.paged_heap.specs.Free.{IsObjectAt}
@@ -15,7 +13,7 @@ use Rattle.paged_heap.proofs.Preserved.{stored}
 use Rattle.paged_heap.proofs.FreedObject.{it, it_found}
 use Rattle.paged_heap.proofs.ReadLemmas.{bytes_few}
 
--- byte j of word i behind the header
+-- byte j of word i after the header
 pub word_byte : (q : ℕ) (v : List ℕ) (i j : ℕ) → j < 8 → AreBytes v → byte_of j (object_word q v (suc i)) ≡ get_or v (8 * i + j) 0
 word_byte q v i j lt all =
     let r : (8 * i + j) % 8 ≡ j = omega arith in

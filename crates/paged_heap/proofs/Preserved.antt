@@ -10,8 +10,7 @@ use Rattle.page_model.specs.Paging.{classes}
 use Rattle.page_model.specs.Arrangement.{IsSound, live}
 use Rattle.page_model.specs.Image.{IsSlotImage}
 use Rattle.page_model.specs.Figures.{asked_bytes, taken_bytes}
-use Rattle.page_model.proofs.Reading.{held_from_image, held_at_bytes, places-held_at}
-use Rattle.page_model.proofs.SlotImages.{own_words}
+use Rattle.page_model.proofs.CallerLemmas.{held_from_image, held_at_bytes, places-held_at, own_words}
 use Rattle.cf_lemmas.proofs.MapValues.{get-map_values}
 use Rattle.proxy_table.specs.Proxies.{AreBelowLimit}
 use Rattle.page_slots.specs.Occupying.{Occupies, Tell}
@@ -120,12 +119,12 @@ module _ (h : Heap) (k : IsValid h) where
   pub places_are : h.proxies.places ≡ places (held_in h)
   places_are = sym (places-held_at h.words h.proxies.places)
 
-  -- what has no place isn't held
+  -- what has no address isn't held
   pub no_place : (q : ℕ) → get h.proxies.places q ≡ None → get (held_in h) q ≡ None
   no_place q e = get-map_values (λ a. record { place = a; bytes = bytes_at h.words a }) h.proxies.places q
       ∙ ap (option_map (λ a. record { place = a; bytes = bytes_at h.words a })) e
 
-  -- what has a place is held there
+  -- what has an address is held there
   pub has_place : (q a : ℕ) → get h.proxies.places q ≡ Some a → get (held_in h) q ≡ Some (record { place = a; bytes = bytes_at h.words a })
   has_place q a e = get-map_values (λ a. record { place = a; bytes = bytes_at h.words a }) h.proxies.places q
       ∙ ap (option_map (λ a. record { place = a; bytes = bytes_at h.words a })) e

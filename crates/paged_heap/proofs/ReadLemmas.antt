@@ -1,4 +1,4 @@
--- What stands at a place, and the parts of objects that are read.
+-- What stands at an address, and the parts of objects that are read.
 use Rattle.std.proofs.Common.{◌≡◌, ℕ, ◌+◌, ◌/◌, ◌%◌, ◌^◌, ◌<◌, ◌≤◌, List, length, get_or, take, drop, Some, arith, sym, ◌∙◌, ap}
 use Rattle.std.specs.Prelude.{option_map}
 use Rattle.std.proofs.lemmas.Grind.{same_number_lists}
@@ -10,9 +10,7 @@ use Rattle.page_model.specs.Held.{Placed}
 use Rattle.page_model.specs.Bytes.{byte_of, bytes_at}
 use Rattle.page_model.specs.Image.{slot_for}
 use Rattle.page_model.specs.Paging.{class_for}
-use Rattle.page_model.proofs.Reading.{places-held_at}
-use Rattle.page_model.proofs.SlotImages.{object_inside}
-use Rattle.page_model.proofs.Sizes.{class_holds, slot_fits}
+use Rattle.page_model.proofs.CallerLemmas.{places-held_at, object_inside, class_holds, slot_fits}
 use Rattle.virtual_words.specs.Overwriting.{byte_from}
 use Rattle.cf_model.specs.Answers.{place_of}
 use Rattle.cf_model.specs.Steps.{PassesEnd, ReadsBytes}
@@ -33,7 +31,7 @@ byte_is words a i lt =
     let len : length (bytes_at words a) ≡ get_or words a 0 / 2 ^ 32 = bytes_long words a in
     get_or-map-range_with_len (λ i. byte_of (i % 8) (get_or words (a + 1 + i / 8) 0)) 0 (get_or words a 0 / 2 ^ 32) i i 0 (omega arith) (omega arith)
 
--- the place of a handle is that of its proxy
+-- the address of a handle is that of its proxy
 pub place_told : (h : Heap) (q : ℕ) → get h.proxies.places q ≡ place_of (state_of h) q
 place_told h q = ap (λ m. get m q) (sym (places-held_at h.words h.proxies.places)) ∙ get-map_values (λ (x : Placed). x.place) (held_in h) q
 

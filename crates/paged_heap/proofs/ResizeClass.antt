@@ -15,11 +15,8 @@ use Rattle.page_model.specs.Image.{Clears, IsDisjoint, IsSlotImage, MovesWords, 
 use Rattle.page_model.specs.Figures.{asked_bytes, taken_bytes}
 use Rattle.page_model.specs.Steps.{ChangesClass, IsFreePlace, RefitsObject as IsResizedBy, Moves, MustMove, Request, resized_at, without}
 use Rattle.cf_lemmas.proofs.Values.{still}
-use Rattle.page_model.proofs.Counting.{not_full-same}
-use Rattle.page_model.proofs.Parts.{free_objects}
-use Rattle.page_model.proofs.Placing.{objects_on-elsewhere, sound_placed}
-use Rattle.page_model.proofs.Resizing.{change_is, class-resized, length-resized, sound_resize}
-use Rattle.page_model.proofs.Writing.{storable_added, storable_without}
+use Rattle.page_model.proofs.CallerLemmas.{not_full-same, free_objects, objects_on-elsewhere, sound_placed}
+use Rattle.page_model.proofs.CallerLemmas.{change_is, class-resized, length-resized, sound_resize, storable_added, storable_without}
 use Rattle.size_classes.specs.Table.{ClassTable}
 use Rattle.proxy_table.specs.Proxies.{AreBelowLimit}
 use Rattle.page_slots.specs.Tables.{IsUsed, page_at, slot_at}

@@ -7,8 +7,7 @@ use Rattle.cf_lemmas.proofs.Sums.{insert_again}
 use Rattle.page_model.specs.Held.{Placed, places}
 use Rattle.page_model.specs.Image.{Clears, IsSlotImage}
 use Rattle.page_model.specs.Steps.{MustMove}
-use Rattle.page_model.proofs.Parts.{still_places}
-use Rattle.page_model.proofs.ResizedWords.{image_after_change}
+use Rattle.page_model.proofs.CallerLemmas.{still_places, image_after_change}
 use Rattle.proxy_table.specs.Proxies.{AreBelowLimit, Proxies}
 use Rattle.size_classes.specs.Table.{ClassTable}
 use Rattle.page_slots.specs.Freeing.{Vacates}

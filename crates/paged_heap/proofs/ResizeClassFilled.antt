@@ -12,11 +12,8 @@ use Rattle.page_model.specs.Paging.{slot_words}
 use Rattle.page_model.specs.Arrangement.{class_at}
 use Rattle.page_model.specs.Steps.{MayFill, Moves, MustMove, without}
 use Rattle.cf_lemmas.proofs.Values.{still}
-use Rattle.page_model.proofs.FreeSteps.{mover_is_other}
-use Rattle.page_model.proofs.Parts.{moved_places}
-use Rattle.page_model.proofs.ResizedWords.{image_after_change_and_move}
-use Rattle.page_model.proofs.SlotImages.{object_inside, own_words, place_apart, sound_apart_from}
-use Rattle.page_model.proofs.Writing.{header_told}
+use Rattle.page_model.proofs.CallerLemmas.{mover_is_other, moved_places, image_after_change_and_move, object_inside, own_words, place_apart, sound_apart_from}
+use Rattle.page_model.proofs.CallerLemmas.{header_told}
 use Rattle.cf_lemmas.specs.Exchanges.{exchanged}
 use Rattle.cf_model.specs.Steps.{frames_left}
 use Rattle.virtual_words.specs.Words.{IsWhole}
@@ -42,7 +39,7 @@ use Rattle.paged_heap.proofs.ResizeClass.{Keeps, after, after_is, both, both_occ
 use Rattle.paged_heap.proofs.ResizeClass.{middle, moves_before, must_still, new, new_free, object, place_free, rewritten, spare, spare_is_other, then_moved}
 use Rattle.paged_heap.proofs.ResizeClass.{unused}
 
--- two places may be given in either order
+-- two addresses may be given in either order
 pub placed_in_turn : (m : FinMap nat_cmp ℕ) (q r a b : ℕ) → r ≢ q → insert (insert m q b) r a ≡ insert (insert (remove m q) r a) q b
 placed_in_turn m q r a b ne = equal_maps _ _ (λ t. elim (cases_eq t q) [
   | inl is ↦ rw is (get_insert_other (insert m q b) r a q (λ e. ne (sym e)) ∙ get_inserted m q b ∙ sym (get_inserted (insert (remove m q) r a) q b))

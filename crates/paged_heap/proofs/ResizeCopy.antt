@@ -6,10 +6,7 @@ use Rattle.std.proofs.lemmas.List.{get_or-set_same, get_or-set_other, length-set
 use Rattle.page_model.specs.Bytes.{AreBytes, byte_of, bytes_at}
 use Rattle.page_model.specs.Image.{IsOutside, header_word, object_word, slot_for}
 use Rattle.page_model.specs.Steps.{IsFreePlace, resized}
-use Rattle.page_model.proofs.Reading.{bytes_at-AreBytes}
-use Rattle.page_model.proofs.Resizing.{length-resized}
-use Rattle.page_model.proofs.SlotImages.{place_is_zeros}
-use Rattle.page_model.proofs.Writing.{resized_are_bytes}
+use Rattle.page_model.proofs.CallerLemmas.{bytes_at-AreBytes, length-resized, place_is_zeros, resized_are_bytes}
 use Rattle.paged_heap.specs.Heap.{Heap}
 use Rattle.paged_heap.specs.declared.resize_class.Change.{Change}
 use Rattle.paged_heap.specs.ResizeClass.{Carries, IsChange, kept_words, old_words}
@@ -144,7 +141,7 @@ module _ {h : Heap} (k : IsValid h) {x : Change} (is : IsChange h x) {b : ℕ} (
   abbrev IsWord : ℕ → Type 0
   IsWord i = ((j : ℕ) → j < 8 → byte_of j (get_or cut (b + suc i) 0) ≡ get_or bytes_now (8 * i + j) 0) × (get_or cut (b + suc i) 0 < 2 ^ 64)
 
-  -- a word behind the kept ones
+  -- a word after the kept ones
   rest_word : (i : ℕ) → w ≤ i → suc i < z → IsWord i
   rest_word i le lt =
       let e : get_or cut (b + suc i) 0 ≡ 0 = cut_elsewhere (b + suc i) (inr (omega arith)) ∙ moved_rest i le lt in (

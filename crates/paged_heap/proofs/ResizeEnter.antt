@@ -7,8 +7,7 @@ use Rattle.std.specs.FinMap.{get, insert}
 use Rattle.cf_lemmas.proofs.Maps.{get_inserted}
 use Rattle.cf_base.specs.Settings.{profile_of}
 use Rattle.page_model.specs.Bytes.{bytes_at}
-use Rattle.page_model.proofs.Placing.{sound_placed}
-use Rattle.page_model.proofs.Resizing.{length-resized}
+use Rattle.page_model.proofs.CallerLemmas.{sound_placed, length-resized, class_holds, place_apart, slot_inside}
 use Rattle.virtual_words.specs.Words.{IsWhole}
 use Rattle.paged_heap.proofs.WholeBlocks.{whole_by}
 use Rattle.cf_base.specs.declared.answers.ResizeFault.TheVariants as resize
@@ -18,8 +17,6 @@ use Rattle.page_model.specs.Arrangement.{LacksRoom}
 use Rattle.page_model.specs.Image.{IsDisjoint, slot_for}
 use Rattle.page_model.specs.Paging.{class_for}
 use Rattle.page_model.specs.Steps.{IsFreePlace, resized_at}
-use Rattle.page_model.proofs.Sizes.{class_holds}
-use Rattle.page_model.proofs.SlotImages.{place_apart, slot_inside}
 use Rattle.page_slots.specs.Tables.{AreTables, Tables}
 use Rattle.page_slots.specs.Taking.{TakesAt, TakesSlot}
 use Rattle.page_slots.specs.Occupying.{class_table}
@@ -100,7 +97,7 @@ module _ (h : Heap) (k : IsValid h) (x : Change) (is : IsChange h x) (n : Heap) 
     unmoved h.kind (paged_kind h k) (state_of h) (state_of n) (same_state h n none.rest),
   )
 
--- words behind the headers of two slots are apart
+-- words after the headers of two slots are apart
 pub words_apart : (a b s z w : ℕ) → IsDisjoint b z a s → 1 + w ≤ s → 1 + w ≤ z → IsDisjoint (a + 1) w (b + 1) w
 words_apart a b s z w (inl l) p q = inr (omega arith)
 words_apart a b s z w (inr l) p q = inl (omega arith)

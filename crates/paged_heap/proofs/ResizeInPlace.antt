@@ -13,12 +13,8 @@ use Rattle.page_model.specs.Bytes.{AreBytes, byte_of, bytes_at}
 use Rattle.page_model.specs.Image.{Clears, IsOutside, IsSlotImage, Rewrites, header_word, object_word, slot_for}
 use Rattle.page_model.specs.Paging.{class_for, classes, slot_words}
 use Rattle.page_model.specs.Steps.{resized}
-use Rattle.page_model.proofs.Reading.{bytes_at-AreBytes}
-use Rattle.page_model.proofs.Resizing.{length-resized}
-use Rattle.page_model.proofs.SlotImages.{image_after_write}
-use Rattle.page_model.proofs.Writing.{resized_are_bytes}
-use Rattle.page_model.proofs.Sizes.{class_holds}
-use Rattle.word_bytes.proofs.Overwriting.{overwritten_before, overwritten_inside}
+use Rattle.page_model.proofs.CallerLemmas.{bytes_at-AreBytes, length-resized, image_after_write, resized_are_bytes, class_holds}
+use Rattle.word_bytes.proofs.CallerLemmas.{overwritten_before, overwritten_inside}
 use Rattle.cf_model.specs.Steps.{ResizesObject, frames_left, number_of}
 use Rattle.paged_heap.specs.Heap.{Heap}
 use Rattle.paged_heap.specs.Layout.{IsValid, held_in, paging_at, state_of}
@@ -40,7 +36,7 @@ zero_part n lt =
     let d : length (drop n (replicate {A = ℕ} 8 0)) ≡ 8 - n = length-drop n (replicate {A = ℕ} 8 0) in
     omega arith
 
--- the first word is cut, and those behind it are cleared
+-- the first word is cut, and those after it are cleared
 module _ (old mid new : List ℕ) (a n m : ℕ) (less : n < m) (inside : a + 1 + (m + 7) / 8 ≤ length old)
     (w : Overwrites old mid (record { from = a + 1 + n / 8; count = 1 }) (n % 8) (take (8 - n % 8) (drop (n % 8) (replicate 8 0))))
     (long : length new ≡ length mid) (clear : Clears mid new (record { from = a + 1 + n / 8 + 1; count = (m + 7) / 8 - n / 8 - 1 })) where
@@ -127,7 +123,7 @@ module _ (h t n : Heap) (k : IsValid h) (q a m c : ℕ) (o : IsObjectAt h q a m 
   in_slot : a + slot_for (paging_at h) (length old) ≤ length h.words
   in_slot = (let i = it_inside k o in let e = it_slot k o in omega arith)
 
-  -- each word behind the header after the cut, as bytes and as a number of 64 bits
+  -- each word after the header after the cut, as bytes and as a number of 64 bits
   cut_word : size < m → (i : ℕ) → suc i < slot_for (paging_at h) (length old)
       → ((j : ℕ) → j < 8 → byte_of j (get_or t.words (a + suc i) 0) ≡ get_or new (8 * i + j) 0) × (get_or t.words (a + suc i) 0 < 2 ^ 64)
   cut_word less i lt =

@@ -8,7 +8,7 @@ use Rattle.cf_base.specs.declared.answers.Resized.{Resized}
 use Rattle.cf_base.specs.declared.answers.ResizeFault.{ResizeFault}
 use Rattle.page_model.specs.Bytes.{bytes_at}
 use Rattle.page_model.specs.Paging.{class_for}
-use Rattle.page_model.proofs.Sizes.{class_fits, class_known}
+use Rattle.page_model.proofs.CallerLemmas.{class_fits, class_known}
 use Rattle.cf_model.specs.Rules.{IsPaged}
 use Rattle.cf_model.specs.State.{HeapState}
 use Rattle.cf_model.specs.Steps.{IsResizeStep, PassesPage}

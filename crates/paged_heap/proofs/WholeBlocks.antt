@@ -11,8 +11,7 @@ use Rattle.page_model.specs.Held.{Held, Placed}
 use Rattle.page_model.specs.Paging.{IsPaging, class_for, paging_of}
 use Rattle.page_model.specs.Arrangement.{IsSound}
 use Rattle.page_model.specs.Image.{slot_for}
-use Rattle.page_model.proofs.Frames.{place_is_block}
-use Rattle.page_model.proofs.Sizes.{in_blocks}
+use Rattle.page_model.proofs.CallerLemmas.{place_is_block, in_blocks}
 use Rattle.cf_model.specs.Rules.{IsPaged}
 use Rattle.cf_model.specs.State.{layout_of}
 use Rattle.virtual_words.specs.Words.{IsWhole}

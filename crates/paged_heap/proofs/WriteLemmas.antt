@@ -13,14 +13,12 @@ use Rattle.page_model.specs.Paging.{Paging, class_for, slot_words}
 use Rattle.page_model.specs.Arrangement.{IsSound, live}
 use Rattle.page_model.specs.Figures.{asked_bytes, taken_bytes}
 use Rattle.page_model.specs.Image.{IsSlotImage, Rewrites, object_word, slot_for}
-use Rattle.page_model.proofs.Adding.{asked_added, asked_taken, live_added, live_taken, taken_added, taken_taken}
-use Rattle.page_model.proofs.Freeing.{sound_exchanged}
-use Rattle.page_model.proofs.Parts.{inserted_there}
-use Rattle.page_model.proofs.Reading.{bytes_at-AreBytes}
-use Rattle.page_model.proofs.Writing.{byte_of_object, image_after_bytes, length-written, object_word_small, storable_added, word_by_bytes, written_are_bytes}
-use Rattle.page_model.proofs.Writing.{written_before, written_behind, written_inside, written_nothing}
+use Rattle.page_model.proofs.CallerLemmas.{asked_added, asked_taken, live_added, live_taken, taken_added, taken_taken, sound_exchanged, inserted_there}
+use Rattle.page_model.proofs.CallerLemmas.{bytes_at-AreBytes}
+use Rattle.page_model.proofs.CallerLemmas.{byte_of_object, image_after_bytes, length-written, object_word_small, storable_added, word_by_bytes, written_are_bytes}
+use Rattle.page_model.proofs.CallerLemmas.{written_before, written_behind, written_inside, written_nothing}
 use Rattle.word_bytes.specs.Cells.{overwritten}
-use Rattle.word_bytes.proofs.Overwriting.{overwritten_before, overwritten_behind, overwritten_inside}
+use Rattle.word_bytes.proofs.CallerLemmas.{overwritten_before, overwritten_behind, overwritten_inside}
 use Rattle.page_slots.specs.Occupying.{Occupies, Tell}
 use Rattle.page_slots.proofs.CallerLemmas.{rewritten_occupied}
 use Rattle.proxy_table.specs.Proxies.{AreBelowLimit}
@@ -57,7 +55,7 @@ module _ (p : Paging) (o : Objects) (q : ℕ) (v u : List ℕ) (some : get o q �
       let e : taken_bytes p (insert (remove o q) q u) ≡ taken_bytes p (insert o q u) = ap (taken_bytes p) (insert_again o q u) in
       omega arith
 
--- An object has other bytes of the same class, at the same place: all but the image, which is to be shown, and the counts.
+-- An object has other bytes of the same class, at the same address: all but the image, which is to be shown, and the counts.
 module _ (h n : Heap) (k : IsValid h) (q a : ℕ) (some : get (held_in h) q ≡ Some (record { place = a; bytes = bytes_at h.words a })) (u : List ℕ)
     (class : class_for (paging_at h) (length u) ≡ class_for (paging_at h) (length (bytes_at h.words a))) (are : AreBytes u)
     (rest : n ≡ record h { words = n.words; asked = n.asked }) (long : length n.words ≡ length h.words)

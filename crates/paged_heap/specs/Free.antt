@@ -12,14 +12,14 @@ use Rattle.page_slots.specs.Tables.{page_at, slots_on}
 use Rattle.paged_heap.specs.Heap.{Heap}
 use Rattle.paged_heap.specs.Layout.{paging_at, tables_in}
 
--- the object of number q stands at the place, and has so many bytes, in class c
+-- the object of number q stands at the address, and has so many bytes, in class c
 pub record IsObjectAt (h : Heap) (q place bytes c : ℕ) : Type 0 where
   pub known : get h.proxies.places q ≡ Some place
   pub long : length (bytes_at h.words place) ≡ bytes
   pub class : class_for (paging_at h) bytes ≡ c
   pub in_range : c < classes (paging_at h)
 
--- a free at the place moves an object of class c
+-- a free at the address moves an object of class c
 abbrev pub IsMoving : Heap → ℕ → ℕ → Type 0
 IsMoving h place c = MovesObject (slots_on (tables_in h) (page_at h.classes place)) (length (pages_in h.lists c NotFull)) (slice_index h.bounds c)
 

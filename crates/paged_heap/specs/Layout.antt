@@ -19,7 +19,7 @@ use Rattle.virtual_words.specs.Words.{AreLaid}
 use Rattle.paged_heap.specs.declared.open_heap.OpenHeap.{OpenHeap}
 use Rattle.paged_heap.specs.Heap.{Heap, seen}
 
--- the objects, by the words at their places
+-- the objects, by the words at their addresses
 abbrev pub held_in : Heap → Held
 held_in h = held_at h.words h.proxies.places
 

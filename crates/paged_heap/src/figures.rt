@@ -30,7 +30,7 @@ impl OpenHeap {
         self.lists.len(c, Which::Full) + self.lists.len(c, Which::NotFull)
     }
 
-    /// The pages of class c that are not full.
+    /// The pages of class c that are partly full.
     pub fn not_full<A: Mapping>(&self, c: u32) -> u32
         requires kept { Holds A.kind self.now }
         requires class { c < classes (paging_at (seen A.kind self.now)) }
@@ -94,7 +94,7 @@ impl OpenHeap {
         }
     }
 
-    /// The bytes of so many pages.
+    /// The bytes of `pages` pages.
     fn bytes_of<A: Mapping>(&self, pages: u32) -> u64
         requires kept { Holds A.kind self.now }
         requires few { pages ≤ self.now.settings.pages }

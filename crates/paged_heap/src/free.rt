@@ -1,5 +1,5 @@
 //! An object goes.
-ghost use Rattle.std.specs.Prelude.{◌≡◌, ◌≢◌, ℕ, ◌+◌, ◌-◌, ◌*◌, ◌/◌, ◌^◌, ◌<◌, ◌≤◌, None, Some, IsSome, length, slice_index, slice_set};
+ghost use Rattle.std.specs.Prelude.{◌≡◌, ◌≢◌, ◌+◌, ◌-◌, ◌*◌, ◌/◌, ◌^◌, ◌<◌, ◌≤◌, None, Some, IsSome, length, slice_index, slice_set};
 ghost use Rattle.std.specs.FinMap as map;
 ghost use Rattle.step_ledger.specs.Counting.{RoseAtMost};
 ghost use Rattle.page_model.specs.Image.{Clears, IsDisjoint};
@@ -7,8 +7,8 @@ ghost use Rattle.cf_model.specs.Costs.{free_bound};
 ghost use Rattle.cf_model.specs.Steps.{FreesObject, IsFreeStep};
 ghost use Rattle.class_lists.specs.PageLists.{pages_in};
 ghost use Rattle.class_lists.specs.declared.Which.TheVariants.{NotFull};
-ghost use Rattle.page_slots.specs.Freeing.{FillsFrom, MovesObject, Vacates};
-ghost use Rattle.page_slots.specs.Tables.{AreTables, IsUsed, page_at, slot_at, slots_on, tables};
+ghost use Rattle.page_slots.specs.Freeing.{FillsFrom, Vacates};
+ghost use Rattle.page_slots.specs.Tables.{AreTables, IsUsed, page_at, slot_at, tables};
 ghost use Rattle.proxy_table.specs.Proxies.{AreBelowLimit, with_place, without_place};
 ghost use Rattle.virtual_words.specs.Words.{AreLaid, IsWhole, run_bound};
 ghost use Rattle.paged_heap.specs.Free.{IsObjectAt, IsMoving, MovesSlot};
@@ -122,7 +122,7 @@ impl OpenHeap {
         }
     }
 
-    /// The number of the object at a place is given back, and the words of its slot are cleared.
+    /// The number of the object at an address is given back, and the words of its slot are cleared.
     fn erase<A: Mapping>(&mut self, h: Handle, place: u32, slot_words: u32, steps: &mut Steps)
         requires laid { AreLaid A.kind self.old.blocks self.old.region }
         requires live { IsSome (map.get self.old.proxies.places h.0) }
@@ -141,7 +141,7 @@ impl OpenHeap {
         A::clear(&mut self.region, &self.blocks, place, slot_words, steps);
     }
 
-    /// An object of class c moves to another place.
+    /// An object of class c moves to another address.
     pub(crate) fn move_to<A: Mapping>(
         &mut self,
         h: Handle,
@@ -179,7 +179,7 @@ impl OpenHeap {
         self.proxies.rebind(h, to, steps);
     }
 
-    /// Counts an object of so many bytes in class c no more.
+    /// Counts an object of `bytes` bytes in class c no more.
     pub(crate) fn count_out(&mut self, c: u32, bytes: u32)
         requires class { c < length self.old.classes.sizes }
         requires listed { c < length self.old.live }
@@ -197,7 +197,7 @@ impl OpenHeap {
         self.taken -= 8 * u64::from(self.classes.slot_words(c));
     }
 
-    /// The used slot of class c at a place becomes free.
+    /// The used slot of class c at an address becomes free.
     pub(crate) fn release_slot(&mut self, c: u32, place: u32, steps: &mut Steps)
         requires tables { AreTables self.old.classes (tables self.old.maps.items self.old.lists self.old.pool) }
         requires used { IsUsed (tables self.old.maps.items self.old.lists self.old.pool) c (page_at self.old.classes place) (slot_at self.old.classes c place) }
@@ -218,7 +218,7 @@ impl OpenHeap {
         );
     }
 
-    /// The place of the object of class c that fills a freed slot; its own slot becomes free.
+    /// The address of the object of class c that fills a freed slot; its own slot becomes free.
     pub(crate) fn take_filler(&mut self, c: u32, steps: &mut Steps) -> u32
         requires tables { AreTables self.old.classes (tables self.old.maps.items self.old.lists self.old.pool) }
         requires class { c < length self.old.classes.sizes }

@@ -19,7 +19,7 @@ use step_ledger::Steps;
 use virtual_words::Mapping;
 
 impl OpenHeap {
-    /// Adds an object of so many bytes, all zero, and notes the cost.
+    /// Adds an object of `bytes` bytes, all zero, and notes the cost.
     pub fn malloc<A: Mapping>(&mut self, bytes: u32, steps: &mut Steps) -> Result<Handle, Refusal>
         requires kept { Holds A.kind self.old }
         requires room { steps.old ≤ 2 ^ 63 }
@@ -34,7 +34,7 @@ impl OpenHeap {
         result
     }
 
-    /// Adds an object of so many bytes, all zero.
+    /// Adds an object of `bytes` bytes, all zero.
     fn malloc_inner<A: Mapping>(&mut self, bytes: u32, steps: &mut Steps) -> Result<Handle, Refusal>
         requires { Holds A.kind self.old }
         ensures step { IsMallocStep (state_at A.kind self.old) bytes result (state_at A.kind self.new) }
@@ -75,7 +75,7 @@ impl OpenHeap {
         )
     }
 
-    /// Gives an object of so many zeros at a place its number and its header.
+    /// Gives an object of so many zeros at an address its number and its header.
     fn bind<A: Mapping>(&mut self, place: u32, bytes: u32, steps: &mut Steps) -> Handle
         requires laid { AreLaid A.kind self.old.blocks self.old.region }
         requires some { map.len self.old.proxies.places ≢ self.old.proxies.limit }
@@ -101,7 +101,7 @@ impl OpenHeap {
         handle
     }
 
-    /// Counts an object of so many bytes in class c.
+    /// Counts an object of `bytes` bytes in class c.
     pub(crate) fn count_in(&mut self, c: u32, bytes: u32)
         requires class { c < length self.old.classes.sizes }
         requires listed { c < length self.old.live }

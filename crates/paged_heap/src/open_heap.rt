@@ -1,5 +1,5 @@
 //! An open heap: its tables, and the words of its region.
-ghost use Rattle.std.specs.Prelude.{◌≡◌, ℕ, ◌*◌, length, replicate, IfOk};
+ghost use Rattle.std.specs.Prelude.{◌≡◌, ◌*◌, length, replicate, IfOk};
 ghost use Rattle.std.specs.List.{range_with_len};
 ghost use Rattle.cf_base.specs.declared.kind.Layout.{Layout};
 ghost use Rattle.cf_model.specs.State.{layout_of};
@@ -24,7 +24,7 @@ use virtual_words::Mapping;
 /// No heap has more size classes.
 pub const CLASSES: usize = 128;
 
-/// An open heap. By class it has the bound of the pages that are not full, and how many objects are
+/// An open heap. By class it has the bound of the partly full pages, and how many objects are
 /// live; `asked` and `taken` are the bytes of all objects and of their slots. There is a table of
 /// blocks where words aren't moved.
 #[derive(Drop)]

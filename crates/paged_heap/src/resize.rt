@@ -1,5 +1,5 @@
 //! An object gets another length.
-ghost use Rattle.std.specs.Prelude.{◌≡◌, ℕ, ◌+◌, ◌-◌, ◌*◌, ◌/◌, ◌^◌, ◌<◌, ◌≤◌, length};
+ghost use Rattle.std.specs.Prelude.{◌≡◌, ◌+◌, ◌-◌, ◌*◌, ◌/◌, ◌^◌, ◌<◌, ◌≤◌, length};
 ghost use Rattle.step_ledger.specs.Counting.{RoseAtMost};
 ghost use Rattle.page_model.specs.Paging.{class_for};
 ghost use Rattle.cf_base.specs.Classes.{need};
@@ -108,7 +108,7 @@ impl OpenHeap {
         }
     }
 
-    /// Of so many bytes behind a header those from `keep` on become zeros.
+    /// Of `bytes` bytes after a header those from `keep` on become zeros.
     pub(crate) fn zero_tail<A: Mapping>(
         &mut self,
         place: u32,

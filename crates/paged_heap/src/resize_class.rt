@@ -1,12 +1,12 @@
 //! An object gets a length of another class.
-ghost use Rattle.std.specs.Prelude.{◌≡◌, ◌+◌, ◌-◌, ◌*◌, ◌/◌, ◌^◌, ◌<◌, ◌≤◌, IsNone, IsSome, length, slice_index};
+ghost use Rattle.std.specs.Prelude.{◌≡◌, ◌+◌, ◌-◌, ◌*◌, ◌/◌, ◌^◌, ◌<◌, ◌≤◌, IsNone, IsSome, length};
 ghost use Rattle.std.specs.FinMap as map;
 ghost use Rattle.step_ledger.specs.Counting.{RoseAtMost};
 ghost use Rattle.page_model.specs.Image.{Clears, IsDisjoint};
 ghost use Rattle.cf_model.specs.Steps.{IsResizeStep};
 ghost use Rattle.proxy_table.specs.Proxies.{AreBelowLimit, with_place};
 ghost use Rattle.virtual_words.specs.Words.{AreInStep, AreLaid, run_bound};
-ghost use Rattle.paged_heap.specs.ResizeClass.{Carries, Enters, IsChange, changing_bound, kept_words, old_words};
+ghost use Rattle.paged_heap.specs.ResizeClass.{Carries, Enters, IsChange, changing_bound, kept_words};
 ghost use Rattle.paged_heap.specs.Free.{IsMoving};
 ghost use Rattle.paged_heap.specs.Heap.{seen};
 ghost use Rattle.paged_heap.specs.Layout.{Holds, state_at};

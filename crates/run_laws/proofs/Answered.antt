@@ -1,12 +1,8 @@
 -- What it is for a call of a heap to have an answer, and a state after it that keeps the rules.
-use Rattle.std.proofs.Common.{◌≡◌, ◌≢◌, ℕ, ◌+◌, ◌<◌, ◌≤◌, List, Option, Some, None, Result, Ok, Err, length, get_or, set, replicate, arith, sym, ◌∙◌, ap, refl}
+use Rattle.std.proofs.Common.{◌≡◌, ◌≢◌, ℕ, ◌+◌, ◌<◌, ◌≤◌, List, Option, Some, None, Result, arith, sym, ◌∙◌, refl}
 use Rattle.std.proofs.Common.{subst, inl, inr}
 use Rattle.std.specs.Prelude.{◌⊎◌, option_map}
-use Rattle.std.proofs.lemmas.Bool.{cases_eq, cases_lt}
-use Rattle.std.proofs.lemmas.List.{get_or-set_same, get_or-set_other, length-set, set_past}
-use Rattle.std.specs.Ordering.{nat_cmp}
-use Rattle.std.specs.FinMap.{empty, get, get-empty, insert, len, remove}
-use Rattle.cf_base.specs.Classes.{need}
+use Rattle.std.specs.FinMap.{get, insert, len, remove}
 use Rattle.cf_base.specs.declared.answers.AccessFault.{AccessFault}
 use Rattle.cf_base.specs.declared.answers.AccessFault.TheVariants as access
 use Rattle.cf_base.specs.declared.answers.Freed.{Freed}
@@ -16,35 +12,18 @@ use Rattle.cf_base.specs.declared.answers.Refusal.TheVariants as refusal
 use Rattle.cf_base.specs.declared.answers.Resized.{Resized}
 use Rattle.cf_base.specs.declared.answers.ResizeFault.{ResizeFault}
 use Rattle.cf_base.specs.declared.answers.ResizeFault.TheVariants as resize
-use Rattle.cf_lemmas.proofs.Maps.{equal_maps, get_removed, len_fresh, len_rebound, some_inserted, some_removed}
-use Rattle.cf_lemmas.proofs.MapValues.{get-map_values, map_values-insert}
-use Rattle.cf_lemmas.proofs.Sums.{insert_again}
-use Rattle.page_model.specs.Arrangement.{IsSound, class_at}
-use Rattle.page_model.specs.Bytes.{AreBytes, written}
-use Rattle.page_model.specs.Held.{Held, Objects, Placed, objects}
-use Rattle.page_model.specs.Image.{IsSlotImage, slot_for}
-use Rattle.page_model.specs.Paging.{Paging, class_for}
-use Rattle.page_model.specs.Steps.{IsFreePlace, RemovesObject, RefitsObject as IsResizedBy, Moves, Leaves, Request, resized, resized_at, without, zeros_at}
-use Rattle.page_model.proofs.Adding.{len-objects}
-use Rattle.page_model.proofs.BlockSteps.{free_frames, resize_frames}
-use Rattle.cf_lemmas.proofs.Tests.{eq_no}
-use Rattle.page_model.proofs.FreeSteps.{sound_free}
-use Rattle.page_model.proofs.Freeing.{sound_exchanged}
-use Rattle.page_model.proofs.Nothing.{sound_empty}
-use Rattle.page_model.proofs.Parts.{free_objects, malloc_objects}
-use Rattle.page_model.proofs.Placing.{sound_malloc}
-use Rattle.page_model.proofs.Resizing.{changes_class, sound_resize}
-use Rattle.page_model.proofs.Sizes.{class_fits}
-use Rattle.page_model.proofs.SlotImages.{own_words}
-use Rattle.page_model.proofs.Writing.{length-written, resized_are_bytes, written_are_bytes, zeros_are_bytes}
-use Rattle.cf_model.specs.Answers.{bound_put}
-use Rattle.cf_model.specs.Rules.{AreObjects, IsPaged, KeepsPages, KeepsRules}
-use Rattle.cf_model.specs.State.{HeapState, paging_in, region_words}
-use Rattle.cf_model.specs.Steps.{FreesObject, IsMallocStep, IsResizeStep, IsWriteStep, Part, frames_left, number_of, leaves_of, slot_in}
+use Rattle.cf_lemmas.proofs.Maps.{len_fresh, len_rebound, some_inserted, some_removed}
+use Rattle.cf_lemmas.proofs.MapValues.{get-map_values}
+use Rattle.page_model.specs.Bytes.{AreBytes}
+use Rattle.page_model.specs.Held.{Objects, Placed, objects}
+use Rattle.page_model.specs.Steps.{Request}
+use Rattle.page_model.proofs.CallerLemmas.{len-objects}
+use Rattle.cf_model.specs.Rules.{AreObjects, KeepsRules}
+use Rattle.cf_model.specs.State.{HeapState}
+use Rattle.cf_model.specs.Steps.{FreesObject, IsMallocStep, IsResizeStep, IsWriteStep, Part}
 use Rattle.run_model.specs.Sessions.{CostsAtMost}
-use Rattle.run_model.proofs.Bounded.{pages_kept}
-use Rattle.run_model.proofs.Tied.{bytes_held, bytes_missing}
-use Rattle.run_laws.proofs.Counting.{fresh_key, len_without, there_or_not}
+use Rattle.run_model.proofs.CallerLemmas.{bytes_held}
+use Rattle.run_laws.proofs.Counting.{len_without}
 
 -- bytes under numbers below n, no more than n of them
 pub record AreFew (n : ℕ) (o : Objects) : Type 0 where

@@ -1,5 +1,5 @@
 -- Every call of a heap with blocks has an answer, and a state after it that keeps the rules.
-use Rattle.std.proofs.Common.{◌≡◌, ◌≢◌, ℕ, ◌+◌, ◌*◌, ◌^◌, ◌<◌, ◌≤◌, List, Option, Some, None, Result, Ok, Err, length, get_or, replicate, arith, sym, ◌∙◌, ap}
+use Rattle.std.proofs.Common.{◌≡◌, ◌≢◌, ℕ, ◌+◌, ◌*◌, ◌^◌, ◌<◌, ◌≤◌, List, Some, None, Ok, Err, length, replicate, arith, sym, ◌∙◌, ap}
 use Rattle.std.proofs.Common.{refl, subst, inl, inr}
 use Rattle.std.specs.Prelude.{◌⊎◌}
 use Rattle.std.proofs.lemmas.Bool.{cases_eq, cases_lt}
@@ -10,35 +10,28 @@ use Rattle.cf_base.specs.declared.kind.Kind.TheVariants.{Moving, NonMoving, Tlsf
 use Rattle.cf_base.specs.declared.answers.AccessFault.TheVariants as access
 use Rattle.cf_base.specs.declared.answers.Refusal.TheVariants as refusal
 use Rattle.cf_base.specs.declared.answers.ResizeFault.TheVariants as resize
-use Rattle.cf_lemmas.proofs.Maps.{get_inserted, get_insert_other, some_inserted}
+use Rattle.cf_lemmas.proofs.Maps.{get_insert_other}
 use Rattle.cf_lemmas.proofs.MapValues.{map_values-insert, map_values-remove}
 use Rattle.page_model.specs.Bytes.{AreBytes, written}
-use Rattle.page_model.specs.Held.{Held, Objects, Placed, objects}
+use Rattle.page_model.specs.Held.{Held, Placed, objects}
 use Rattle.page_model.specs.Steps.{Leaves, Request, zeros_at}
-use Rattle.page_model.proofs.Adding.{len-objects}
+use Rattle.page_model.proofs.CallerLemmas.{len-objects, malloc_objects, length-written, written_are_bytes, zeros_are_bytes}
 use Rattle.cf_lemmas.proofs.Tests.{eq_no}
-use Rattle.page_model.proofs.Parts.{malloc_objects}
-use Rattle.page_model.proofs.Writing.{length-written, written_are_bytes, zeros_are_bytes}
 use Rattle.block_model.specs.Tiling.{Block, Carves, Demand, IsTiling, block_at, block_need, released, size_at, size_of}
 use Rattle.block_model.specs.Words.{AreTilingWords}
 use Rattle.block_model.specs.ReadWords.{tiling_words}
-use Rattle.block_model.proofs.Others.{malloc_gives}
-use Rattle.block_model.proofs.Releases.{free_keeps_tiling}
-use Rattle.block_model.proofs.Rewriting.{refilled, refilled_long, refilled_outside, refilled_words}
-use Rattle.block_model.proofs.Serving.{carved_or_lacking}
-use Rattle.block_model.proofs.Steps.{malloc_keeps_tiling}
-use Rattle.block_model.proofs.TilingWords.{made}
+use Rattle.block_model.proofs.CallerLemmas.{malloc_gives, free_keeps_tiling, refilled, refilled_long, refilled_outside, refilled_words, carved_or_lacking}
+use Rattle.block_model.proofs.CallerLemmas.{malloc_keeps_tiling, made}
 use Rattle.cf_model.specs.Answers.{bound_put, class_with}
 use Rattle.cf_model.specs.Families as family
 use Rattle.cf_model.specs.Families.{IsTiled, lists_of}
-use Rattle.cf_model.specs.Rules.{AreOwned, IsBlockOf, KeepsRules, KeepsRulesOf, KeepsTiling, content_word}
+use Rattle.cf_model.specs.Rules.{AreOwned, KeepsRules, KeepsRulesOf, KeepsTiling, content_word}
 use Rattle.cf_model.specs.State.{HeapState, region_words}
 use Rattle.cf_model.specs.Steps.{IsPlacedBy, IsUnmoved, LacksRoomIn, MovesIn, Part, StaysOutside, frames_left, leaves_of, slot_in, tiling_left}
-use Rattle.cf_model.proofs.BlockNeeds.{lawful, need_is_small}
-use Rattle.cf_model.proofs.Owning.{owned_free, owned_malloc, owned_replaced}
+use Rattle.cf_model.proofs.CallerLemmas.{lawful, need_is_small, owned_free, owned_malloc, owned_replaced}
 use Rattle.run_model.specs.Sessions.{CostsAtMost}
 use Rattle.run_model.specs.Steps.{class_to_bound}
-use Rattle.run_model.proofs.Tied.{bytes_held, bytes_missing}
+use Rattle.run_model.proofs.CallerLemmas.{bytes_held, bytes_missing}
 use Rattle.run_laws.proofs.Answered.{AreFew, HasFree, HasMalloc, HasResize, HasWrite, few_added, few_changed, few_in, few_left, objects_in}
 use Rattle.run_laws.proofs.Counting.{fresh_key}
 

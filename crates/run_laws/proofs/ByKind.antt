@@ -1,14 +1,14 @@
 -- What kinds with pages keep of the block table.
-use Rattle.std.proofs.Common.{◌≡◌, ℕ, ◌*◌, ◌/◌, List, [], Option, Some, None, length, arith, sym, ◌∙◌, ap, refl, subst}
+use Rattle.std.proofs.Common.{◌≡◌, ℕ, ◌*◌, ◌/◌, [], Option, Some, None, length, arith, sym, ◌∙◌, refl, subst}
 use Rattle.cf_base.specs.declared.answers.Handle.{Handle}
 use Rattle.cf_base.specs.declared.kind.Kind.{Kind}
 use Rattle.cf_base.specs.declared.kind.Kind.TheVariants.{Moving, NonMoving, Tlsf, HalfFit}
 use Rattle.page_model.specs.Frames.{AreBlocks, IsPermuted, frames_after}
 use Rattle.page_model.specs.Paging.{paging_of}
 use Rattle.page_model.specs.Steps.{Leaves}
-use Rattle.page_model.proofs.Sizes.{in_blocks}
+use Rattle.page_model.proofs.CallerLemmas.{in_blocks}
 use Rattle.cf_model.specs.Rules.{IsPaged, KeepsPages, KeepsRules, KeepsRulesOf, KeepsTable}
-use Rattle.cf_model.specs.State.{HeapState, layout_of, paging_in, region_words}
+use Rattle.cf_model.specs.State.{HeapState, layout_of, paging_in}
 use Rattle.cf_model.specs.Steps.{frames_left, number_of}
 
 pub table_kept : (k : Kind) (s : HeapState) → IsPaged k → KeepsRulesOf k s → KeepsTable k s

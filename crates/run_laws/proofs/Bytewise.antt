@@ -5,8 +5,7 @@ use Rattle.cf_lemmas.proofs.Maps.{get_inserted, get_insert_other}
 use Rattle.page_model.specs.Bytes.{written}
 use Rattle.page_model.specs.Image.{IsOutside}
 use Rattle.page_model.specs.Steps.{resized}
-use Rattle.page_model.proofs.Resizing.{length-resized}
-use Rattle.page_model.proofs.Writing.{length-written, resized_before, resized_behind, written_before, written_behind, written_inside}
+use Rattle.page_model.proofs.CallerLemmas.{length-resized, length-written, resized_before, resized_behind, written_before, written_behind, written_inside}
 use Rattle.script_reader.specs.declared.command.Command.TheVariants.{Write, Resize}
 use Rattle.run_laws.specs.Told.{Told, changed, done_by}
 use Rattle.run_laws.proofs.ReadBack.{changed_is}

@@ -1,18 +1,16 @@
 -- Every command is answered.
-use Rattle.std.proofs.Common.{◌≡◌, ℕ, ◌+◌, ◌*◌, List, Option, Some, None, replicate, refl}
+use Rattle.std.proofs.Common.{◌≡◌, ℕ, ◌+◌, ◌*◌, List, Option, Some, None, refl}
 use Rattle.std.specs.Prelude.{codes}
 use Rattle.std.specs.FinMap.{get, remove}
 use Rattle.cf_base.specs.Settings.{Profile}
 use Rattle.cf_base.specs.declared.kind.Kind.{Kind}
-use Rattle.cf_base.specs.declared.kind.Kind.TheVariants.{Moving, NonMoving, Tlsf, HalfFit}
 use Rattle.page_model.specs.Bytes.{AreBytes}
 use Rattle.page_model.specs.Steps.{Request}
 use Rattle.cf_model.specs.Answers.{bound_put}
 use Rattle.cf_model.specs.Costs.{resize_bound}
-use Rattle.cf_model.specs.Rules.{AreInRange, IsPaged}
-use Rattle.cf_model.specs.State.{region_words}
+use Rattle.cf_model.specs.Rules.{AreInRange}
 use Rattle.cf_model.specs.Steps.{empty_heap}
-use Rattle.cf_model.proofs.EmptyHeaps.{empty_there}
+use Rattle.cf_model.proofs.CallerLemmas.{empty_there}
 use Rattle.script_reader.specs.declared.command.Command.{Command}
 use Rattle.script_reader.specs.declared.command.Command.TheVariants.{Malloc, Free, Write, Bound, Resize}
 use Rattle.run_model.specs.Replies.{malloc_text, resize_text, told, write_text}
@@ -20,8 +18,7 @@ use Rattle.run_model.specs.Runs.{Begins, Turn}
 use Rattle.run_model.specs.Sessions.{IsGoing, RunState, counted, fresh_session}
 use Rattle.run_model.specs.Steps.{FreesAt, MallocsAt, ResizesAt, Step, WritesAt, bound_text, class_to_bound, ids_given, session_resized}
 use Rattle.run_model.specs.Texts.{Reply, said}
-use Rattle.run_model.proofs.Bounded.{step_meets_bounds}
-use Rattle.run_model.proofs.Going.{costs_nothing}
+use Rattle.run_model.proofs.CallerLemmas.{step_meets_bounds}
 use Rattle.run_laws.specs.Sayable.{IsSayable}
 use Rattle.run_laws.proofs.HeapAnswers.{HasAnswers, answers}
 

@@ -2,13 +2,12 @@
 use Rattle.std.proofs.Common.{◌≡◌, ℕ, append_assoc, List, [], ◌∷◌, ◌++◌, Option, Some, None, sym, ◌∙◌, ap, refl, subst}
 use Rattle.std.specs.Prelude.{codes}
 use Rattle.cf_base.specs.declared.kind.Kind.{Kind}
-use Rattle.cf_model.specs.Rules.{IsPaged}
 use Rattle.cf_model.specs.State.{HeapState}
 use Rattle.script_reader.specs.Items.{Item, asks, bad, starts}
 use Rattle.run_model.specs.Runs.{ItemStep, Run}
 use Rattle.run_model.specs.Sessions.{RunState}
 use Rattle.run_model.specs.Texts.{Reply, bad_line, led, said, text_of}
-use Rattle.run_model.proofs.Going.{begins_going, step_going, step_same}
+use Rattle.run_model.proofs.CallerLemmas.{begins_going, step_going, step_same}
 use Rattle.run_laws.specs.Sayable.{AreSayable, IsSayableItem, IsUnderWay}
 use Rattle.run_laws.proofs.CommandAnswers.{begins_there, turn_there}
 
@@ -56,7 +55,7 @@ pub sayable_behind : (done after : List Item) → AreSayable (done ++ after) →
 sayable_behind [] after can = can
 sayable_behind (item ∷ rest) after can = sayable_behind rest after can.1
 
--- a run over a front of items that can be said goes on over all of them
+-- a run over a prefix of items that can be said goes on over all of them
 pub run_goes_on : (kind : Kind) (items done after : List Item) (replies : List Reply) (mid : Option RunState) → AreSayable items → items ≡ done ++ after
     → Run kind None done replies mid
     → (more : List Reply) × (end : Option RunState) × Run kind None items (replies ++ more) end
@@ -69,7 +68,7 @@ pub text_joined : (lead : List ℕ) (replies more : List Reply) → text_of lead
 text_joined lead [] more = refl
 text_joined lead (reply ∷ rest) more = ap (λ t. led lead reply ++ t) (text_joined lead rest more) ∙ sym (append_assoc (led lead reply) (text_of lead rest) (text_of lead more))
 
--- a front of the text of a front is a front of the text of all
+-- a prefix of the text of a prefix is a prefix of the text of all
 pub front_written : (kind : Kind) (items done after : List Item) (replies : List Reply) (mid : Option RunState) (lead written lost : List ℕ) → AreSayable items
     → items ≡ done ++ after → Run kind None done replies mid
     → text_of lead replies ≡ written ++ lost → (all : List Reply) × (end : Option RunState) × (rest : List ℕ) × Run kind None items all end × (text_of lead all ≡ written ++ rest)

@@ -15,9 +15,7 @@ use Rattle.page_model.specs.Held.{Held, Placed}
 use Rattle.page_model.specs.Image.{IsApart, IsImageOver, IsOutside, IsSlotImage, Rewrites, object_word, slot_for}
 use Rattle.page_model.specs.Paging.{Paging}
 use Rattle.cf_lemmas.proofs.Values.{still}
-use Rattle.page_model.proofs.Images.{image_added}
-use Rattle.page_model.proofs.Nothing.{image_empty}
-use Rattle.page_model.proofs.SlotImages.{object_inside, sound_apart}
+use Rattle.page_model.proofs.CallerLemmas.{image_added, image_empty, object_inside, sound_apart}
 
 -- whether w is one of the n words from a on
 abbrev is_in : ℕ → ℕ → ℕ → Bool

@@ -10,7 +10,7 @@ use Rattle.hex.specs.declared.error.FromHexError.{FromHexError}
 use Rattle.hex.proofs.HexLemmas.{decode_of-ok}
 use Rattle.page_model.specs.Bytes.{AreBytes}
 use Rattle.cf_base.specs.Limits.{is_page_bytes, is_page_size, is_within}
-use Rattle.cf_base.specs.Settings.{Profile, profile_from, setting_fault}
+use Rattle.cf_base.specs.Settings.{profile_from, setting_fault}
 use Rattle.cf_base.specs.declared.settings.SettingFault.{SettingFault}
 use Rattle.cf_base.specs.declared.settings.SettingFault.TheVariants.{Pages, PageBytes, Bound as BoundFault, Proxies, Region}
 use Rattle.cf_io.specs.Numbers.{number_in}

@@ -19,7 +19,7 @@ use Rattle.cf_lemmas.proofs.MapValues.{get-map_values, map_values-insert}
 use Rattle.page_model.specs.Bytes.{written}
 use Rattle.page_model.specs.Held.{Objects, Placed, objects}
 use Rattle.page_model.specs.Steps.{resized}
-use Rattle.page_model.proofs.Parts.{malloc_objects}
+use Rattle.page_model.proofs.CallerLemmas.{malloc_objects}
 use Rattle.cf_model.specs.Answers.{bound_put}
 use Rattle.cf_model.specs.State.{HeapState}
 use Rattle.cf_model.specs.Steps.{IsMallocStep, IsResizeStep, IsWriteStep}
@@ -31,8 +31,8 @@ use Rattle.run_model.specs.Runs.{Begins, ItemStep, Run}
 use Rattle.run_model.specs.Sessions.{Ids, IsGoing, RunState, SessionState}
 use Rattle.run_model.specs.Steps.{FreesAt, MallocsAt, ResizesAt, Step, WritesAt, class_to_bound, ids_given}
 use Rattle.run_model.specs.Texts.{Reply, said}
-use Rattle.run_model.proofs.Going.{begins_going, step_going}
-use Rattle.run_model.proofs.Tied.{AreNames, bytes_held, bytes_missing, counted_ids, names_in, names_of_objects, resized_ids, unmoved_held}
+use Rattle.run_model.proofs.CallerLemmas.{begins_going, step_going}
+use Rattle.run_model.proofs.CallerLemmas.{AreNames, bytes_held, bytes_missing, counted_ids, names_in, names_of_objects, resized_ids, unmoved_held}
 use Rattle.run_laws.specs.Told.{AreReadsOf, IsReadOf, Told, changed, done_by, is_ok, read_told, told_after}
 
 -- the bytes under the number that an id names

@@ -9,11 +9,8 @@ use Rattle.page_model.specs.Arrangement.{IsSound, LacksRoom, class_at, not_full_
 use Rattle.page_model.specs.Held.{Held, Placed}
 use Rattle.page_model.specs.Paging.{IsPaging, Paging, address_of, bound_of, class_for, classes, page_of, slot_words, slots_of}
 use Rattle.page_model.specs.Steps.{IsFreePlace, Moves}
-use Rattle.page_model.proofs.Addresses.{address_is_slot}
+use Rattle.page_model.proofs.CallerLemmas.{address_is_slot, none_counted, nothing_on, on_page, some_counted, objects_on-left, slots_some}
 use Rattle.cf_lemmas.proofs.Tests.{eq_yes}
-use Rattle.page_model.proofs.Counting.{none_counted, nothing_on, on_page, some_counted}
-use Rattle.page_model.proofs.Freeing.{objects_on-left}
-use Rattle.page_model.proofs.PageCounts.{slots_some}
 use Rattle.run_laws.proofs.Counting.{counted_in_range, search_below}
 
 -- a page of the class that is neither empty nor full
@@ -22,7 +19,7 @@ record IsOpen (p : Paging) (m : Held) (c page : ℕ) : Type 0 where
   some : 0 < objects_on p m c page
   less : objects_on p m c page < slots_of p c
 
--- where pages are not full there is one
+-- where pages are partly full there is one
 open_page : (p : Paging) (m : Held) (c : ℕ) → 0 < not_full_pages p m c → (page : ℕ) × IsOpen p m c page
 unfolding not_full_pages
 open_page p m c some =
@@ -32,7 +29,7 @@ open_page p m c some =
     let second = tests.1 in
     (at.0, record { within = omega (arith, at.2); some = grind (arith, nat_tests); less = grind (arith, nat_tests) })
 
--- an object stands at the place, or none
+-- an object stands at the address, or none
 place_taken : (m : Held) (a : ℕ) → ((q : ℕ) × (y : Placed) × (get m q ≡ Some y) × (y.place ≡ a)) ⊎ ((q : ℕ) (y : Placed) → get m q ≡ Some y → y.place ≢ a)
 place_taken m a = elim (cases_eq (count_by (λ (x : Placed). nat_eq x.place a) (values m)) 0) [
   | inl none ↦ inr (λ q y there is. false≢true (sym (none_counted (λ (x : Placed). nat_eq x.place a) m q y there none) ∙ eq_yes y.place a is))
@@ -82,7 +79,7 @@ module _ (p : Paging) (ok : IsPaging p) (c : ℕ) (lt : c < classes p) (page : �
           (used.0, used.1, get_remove_other m h used.0 ne ∙ used.2, used.3)
 
   module _ (m : Held) (s : IsSound p m) where
-    -- a page that is not full has a free slot
+    -- a partly full page has a free slot
     free_slot : IsOpen p m c page → (k : ℕ) × (k < slots_of p c) × ((q : ℕ) (y : Placed) → get m q ≡ Some y → y.place ≢ address_of p c page k)
     free_slot opened = elim (search_below (IsUsed p m c page) (λ k. (q : ℕ) (y : Placed) → get m q ≡ Some y → y.place ≢ address_of p c page k) (λ k. place_taken m (address_of p c page k)) (slots_of p c)) [
       | inr found ↦ found
@@ -100,7 +97,7 @@ bare_or_not p m page = elim (cases_lt 0 (standing_on p m page)) [
 ]
 
 module _ (p : Paging) (ok : IsPaging p) (m : Held) (s : IsSound p m) where
-  -- on a page that is not full
+  -- on a partly full page
   place_beside : (n : ℕ) → class_for p n < classes p → (page : ℕ) → IsOpen p m (class_for p n) page → (a : ℕ) × IsFreePlace p m n a
   place_beside n lt page opened =
       let free = free_slot p ok (class_for p n) lt page opened.within m s opened in

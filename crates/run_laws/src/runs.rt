@@ -40,7 +40,7 @@ pub fn runs_are_joined()
         → Run kind old (done ++ after) (replies ++ more) new }
 {}
 
-/// There is a run over the items of any bytes, and each run over a front of them can go
+/// There is a run over the items of any bytes, and each run over a prefix of them can go
 /// on to the end.
 pub fn a_run_can_always_go_on()
     ensures there { (kind : Kind) (given : List ℕ) (ended : Bool)
@@ -53,7 +53,7 @@ pub fn a_run_can_always_go_on()
         × Run kind None (items given ended) (replies ++ more) new }
 {}
 
-/// A front of the text of a run over a front of a script's items is a front of the text
+/// A prefix of the text of a run over a prefix of a script's items is a prefix of the text
 /// of a run over all of them, wherever the text was cut.
 pub fn what_was_written_is_a_front()
     ensures joined { (lead : List ℕ) (replies more : List Reply)

@@ -7,15 +7,12 @@ use Rattle.cf_base.specs.declared.answers.Handle.{Handle}
 use Rattle.cf_base.specs.declared.answers.Refusal.{Refusal}
 use Rattle.cf_base.specs.declared.answers.Refusal.TheVariants as refusal
 use Rattle.cf_base.specs.declared.kind.Kind.{Kind}
-use Rattle.cf_lemmas.proofs.Ranges.{one, some_in_range as some_counted}
+use Rattle.cf_lemmas.proofs.Ranges.{some_in_range as some_counted}
 use Rattle.page_model.specs.Arrangement.{LacksRoom, not_full_pages, objects_on, pages_needed_with}
 use Rattle.page_model.specs.Held.{Held, objects}
 use Rattle.page_model.specs.Paging.{AreOne, Paging, class_for, page_of, slots_of}
 use Rattle.page_model.specs.Steps.{IsFreePlace, Request}
-use Rattle.page_model.proofs.Counting.{part_full, part_yes}
-use Rattle.page_model.proofs.PageCounts.{sound_few}
-use Rattle.page_model.proofs.RoomAtOne.{lacks_room_at_one}
-use Rattle.page_model.proofs.Sizes.{class_fits}
+use Rattle.page_model.proofs.CallerLemmas.{part_full, part_yes, sound_few, lacks_room_at_one, class_fits}
 use Rattle.cf_model.specs.Families as family
 use Rattle.cf_model.specs.Families.{Family, family_of}
 use Rattle.cf_model.specs.Rules.{IsPaged, KeepsPages, KeepsTable, KeepsRules, KeepsRulesOf}
@@ -38,7 +35,7 @@ pages_kept k s is rules = (let kept : KeepsPages s × KeepsTable k s = rw (is, K
 pub few_pages : (s : HeapState) → IsPaged s.kind → KeepsRules s → HasFewPages s
 few_pages s paged rules = (let k = pages_kept s.kind s paged rules.of_kind in λ c lt. sound_few (paging_in s) k.paging c lt s.held k.sound)
 
--- a page that is not full counts
+-- a partly full page counts
 not_full_here : (p : Paging) (m : Held) (c page : ℕ) → page < p.pages → 0 < objects_on p m c page → objects_on p m c page < slots_of p c → 0 < not_full_pages p m c
 unfolding not_full_pages
 not_full_here p m c page lt some less = some_counted (λ g. part_full (objects_on p m c g) (slots_of p c)) 0 p.pages page (omega arith) (omega arith) (part_yes _ _ some less)

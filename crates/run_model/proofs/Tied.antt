@@ -1,4 +1,4 @@
--- The ids stay tied to the handles by every step.
+-- The ids stay consistent with the handles through every step.
 use Rattle.std.proofs.Common.{◌≡◌, ◌≢◌, ℕ, List, Option, Some, None, Result, Ok, Err, sym, ◌∙◌, ap, subst, inl, inr, refl}
 use Rattle.std.specs.Prelude.{◌⊎◌, option_map}
 use Rattle.std.proofs.lemmas.Bool.{cases_eq}
@@ -108,7 +108,7 @@ bytes_held m h x there = get-map_values (λ (y : Placed). y.bytes) m h ∙ ap (o
 pub bytes_missing : (m : Held) (h : ℕ) → get m h ≡ None → get (objects m) h ≡ None
 bytes_missing m h none = get-map_values (λ (y : Placed). y.bytes) m h ∙ ap (option_map (λ (y : Placed). y.bytes)) none
 
--- the same of the objects without their places
+-- the same of the objects without their addresses
 module _ (ids : Ids) (m : Held) where
   pub names_of_objects : AreNames ids m → AreNames ids (objects m)
   names_of_objects names = record {
@@ -162,7 +162,7 @@ module _ (old new : RunState) (tied : AreTied old.session old.heap) where
   abbrev names : AreNames old.session.ids old.heap.held
   names = names_in old.session old.heap tied
 
-  -- a tie, from its names and its cost, at equal parts
+  -- session and heap are consistent, from the names and the cost, at equal parts
   tied_with : (session : SessionState) (ids : Ids) (m : Held) (bound : ℕ) → new.session ≡ session → session.ids ≡ ids → session.bound ≡ bound → new.heap.held ≡ m → AreNames ids m → CostsAtMost new.heap.kind new.heap.cost bound → AreTied new.session new.heap
   tied_with session ids m bound e i b f names cost =
       let a : new.session.ids ≡ ids = ap (λ (s : SessionState). s.ids) e ∙ i in

@@ -11,7 +11,7 @@ pub record Asked : Type 0 where
   pub command : Command
   pub lead : List ℕ
 
--- a run at one moment, and the bytes written by then, where the sink tells them
+-- a run at one moment, and the bytes written by then, where the sink is observable
 pub record Moment : Type 0 where
   pub run : RunState
   pub written : Option (List ℕ)
@@ -22,7 +22,7 @@ pub record IsAnswered (old : Moment) (asked : Asked) (new : Moment) : Type 0 whe
   pub turn : Turn old.run asked.command reply new.run
   pub written : new.written ≡ appended old.written (led asked.lead reply)
 
--- the command took effect, and a front of its reply was written
+-- the command took effect, and a prefix of its reply was written
 pub record IsCutShort (old : Moment) (asked : Asked) (new : Moment) : Type 0 where
   pub reply : Reply
   pub front : List ℕ

@@ -6,7 +6,7 @@ use Rattle.cf_base.specs.declared.kind.Kind.{Kind}
 use Rattle.page_model.specs.Arrangement.{home_pages, live, pages_needed_with}
 use Rattle.page_model.specs.Held.{objects}
 use Rattle.page_model.specs.Paging.{AreOne, bound_of, classes, slots_of}
-use Rattle.cf_model.specs.Families.{Family, paged, tiled, family_of}
+use Rattle.cf_model.specs.Families.{paged, tiled, family_of}
 use Rattle.cf_model.specs.State.{HeapState, paging_in}
 use Rattle.script_reader.specs.declared.command.Command.{Command}
 use Rattle.script_reader.specs.declared.command.Command.TheVariants.{Malloc}
@@ -25,7 +25,7 @@ IsWanting s bytes = (len s.held ≡ s.profile.proxies) ⊎ (s.profile.pages < pa
 abbrev pub RefusesForWant : Reply → Type 0
 RefusesForWant reply = (reply ≡ said (codes "refused proxy")) ⊎ (reply ≡ said (codes "refused space"))
 
--- where every bound is 1, a malloc that fits a page is refused exactly for want by arithmetic
+-- where every bound is 1, a malloc that fits a page is refused exactly where the arithmetic says so
 abbrev pub RefusesByNeed : Option ℕ → HeapState → ℕ → Reply → Type 0
 RefusesByNeed (Some h) s bytes reply = ⊤
 RefusesByNeed None s bytes reply = AreOne (paging_in s) → need bytes ≤ s.profile.page_words → RefusesForWant reply ↔ IsWanting s bytes

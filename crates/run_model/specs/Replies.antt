@@ -15,7 +15,7 @@ use Rattle.cf_base.specs.declared.kind.Kind.TheVariants.{Moving, NonMoving, Tlsf
 use Rattle.page_model.specs.Held.{Placed}
 use Rattle.cf_io.specs.Lines.{word_text}
 use Rattle.cf_model.specs.Answers.{block_of_object}
-use Rattle.cf_model.specs.Families.{Family, paged, tiled, family_of}
+use Rattle.cf_model.specs.Families.{paged, tiled, family_of}
 use Rattle.cf_model.specs.State.{HeapState}
 use Rattle.script_reader.specs.declared.command.Command.{Command}
 use Rattle.script_reader.specs.declared.command.Command.TheVariants.{Read, Place, Block, Peek, Walk, Frag, Steps, Slice, Task, Quota, Need, Admit}

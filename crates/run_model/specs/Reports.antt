@@ -8,11 +8,11 @@ use Rattle.page_model.specs.Arrangement.{live}
 use Rattle.page_model.specs.Figures.{figures_of}
 use Rattle.page_model.specs.Held.{objects}
 use Rattle.cf_model.specs.Answers.{classes_in, totals_in}
-use Rattle.cf_model.specs.Families.{Family, paged, tiled, family_of}
+use Rattle.cf_model.specs.Families.{paged, tiled, family_of}
 use Rattle.cf_model.specs.State.{HeapState, paging_in}
 use Rattle.run_model.specs.Texts.{Reply, said, with_number}
 
--- the line of a class: the words of a slot, the slots of a page, the live objects, the pages, and those that are not full
+-- the line of a class: the words of a slot, the slots of a page, the live objects, the pages, and those that are partly full
 abbrev pub class_line : Figures → List ℕ
 class_line f =
     with_number (codes "class ") f.slot_words ++ (with_number (codes " slots ") f.slots ++ (with_number (codes " live ") f.live

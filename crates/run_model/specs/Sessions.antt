@@ -6,7 +6,7 @@ use Rattle.std.specs.Coded.{Coded, code_by, coded×, coded_ℕ}
 use Rattle.cf_base.specs.declared.kind.Kind.{Kind}
 use Rattle.page_model.specs.Held.{Placed}
 use Rattle.cf_io.specs.Feeds.{last_count}
-use Rattle.cf_model.specs.Families.{Family, paged, tiled, family_of}
+use Rattle.cf_model.specs.Families.{paged, tiled, family_of}
 use Rattle.cf_model.specs.Rules.{KeepsRules}
 use Rattle.cf_model.specs.State.{HeapState}
 
@@ -14,7 +14,7 @@ use Rattle.cf_model.specs.State.{HeapState}
 abbrev pub Ids : Type 0
 Ids = map.FinMap nat_cmp ℕ
 
--- The live ids; the bound on the steps of the last call that changed the objects' places or lengths, 0 before one; how many objects moved, and the words of their slots.
+-- The live ids; the bound on the steps of the last call that changed the objects' addresses or lengths, 0 before one; how many objects moved, and the words of their slots.
 pub record SessionState : Type 0 where
   pub ids : Ids
   pub bound : ℕ
@@ -54,7 +54,7 @@ pub record AreTied (session : SessionState) (heap : HeapState) : Type 0 where
   pub all : (h : ℕ) (x : Placed) → map.get heap.held h ≡ Some x → (id : ℕ) × (map.get session.ids id ≡ Some h)
   pub cost : CostsAtMost heap.kind heap.cost session.bound
 
--- the run goes on: its manager is open and keeps its rules, and its session is tied to it
+-- the run goes on: its manager is open and keeps its rules, and its session is consistent with it
 pub record IsGoing (s : RunState) : Type 0 where
   pub opened : IsTrue s.heap.is_open
   pub rules : KeepsRules s.heap

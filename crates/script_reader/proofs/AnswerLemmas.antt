@@ -7,7 +7,7 @@ use Rattle.std.specs.Prelude.{codes}
 use Rattle.std.specs.Str.{bytes_eq}
 use Rattle.cf_base.specs.Settings.{profile_of}
 use Rattle.script_reader.specs.Commands.{command_of}
-use Rattle.script_reader.specs.Items.{Item, Saying, asks, bad, breaks, gives, gives_or_breaks, is_bound, is_comment, item, item_in, item_or_wrong, line_says, nothing, passes, stage_after, stage_behind, stage_opened, starts, tokens_say, verdict, wrong}
+use Rattle.script_reader.specs.Items.{Item, asks, bad, breaks, gives_or_breaks, is_bound, is_comment, item, item_in, item_or_wrong, line_says, nothing, passes, stage_after, stage_behind, stage_opened, starts, tokens_say, verdict, wrong}
 use Rattle.script_reader.specs.Lines.{is_last_line, is_too_long, lines, tokens, without_return}
 use Rattle.script_reader.specs.Look.{are_idle, is_idle}
 use Rattle.script_reader.specs.ParsedLine.{IsInRange, item_answered, item_if_parsed, item_said}

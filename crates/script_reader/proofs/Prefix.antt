@@ -1,5 +1,5 @@
 -- Items once read stay, whatever comes next.
-use Rattle.std.proofs.Common.{◌≡◌, ◌∙◌, ◌+◌, ◌==◌, ◌++◌, ℕ, Bool, true, false, cond, List, [], ◌∷◌, Option, Some, None, refl, sym, ap}
+use Rattle.std.proofs.Common.{◌≡◌, ◌∙◌, ◌+◌, ◌==◌, ◌++◌, ℕ, Bool, true, false, cond, List, [], ◌∷◌, refl, sym, ap}
 use Rattle.script_reader.specs.Items.{AreFirstOf, Item, Verdict, bad, breaks, gives, items, items_at, items_by, line_says, passes, verdict}
 use Rattle.script_reader.specs.Lines.{is_last_line, is_too_long, lines_among, onto_first, stretches}
 use Rattle.script_reader.specs.declared.stage.Stage.{Stage}

@@ -8,7 +8,7 @@ use Rattle.cf_lemmas.proofs.Maps.{equal_maps, get_inserted, get_insert_other, ge
 use Rattle.cf_lemmas.proofs.MapValues.{get-map_values}
 use Rattle.page_model.specs.Held.{Objects}
 use Rattle.run_model.specs.Sessions.{Ids}
-use Rattle.run_model.proofs.Tied.{AreNames}
+use Rattle.run_model.proofs.CallerLemmas.{AreNames}
 use Rattle.transcript_laws.specs.Histories.{objects_by_id}
 use Rattle.transcript_laws.proofs.Renaming.{AreRenamed, CountAlike, counted_alike}
 

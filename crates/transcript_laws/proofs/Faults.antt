@@ -16,18 +16,14 @@ use Rattle.page_model.specs.Held.{Placed, objects}
 use Rattle.page_model.specs.Paging.{AreOne, class_for}
 use Rattle.page_model.specs.Arrangement.{LacksRoom, class_at, pages_needed_with}
 use Rattle.page_model.specs.Steps.{Request}
-use Rattle.page_model.proofs.Adding.{len-objects}
+use Rattle.page_model.proofs.CallerLemmas.{len-objects, lacks_room_at_one, class_fits}
 use Rattle.cf_lemmas.proofs.Tests.{eq_no, eq_yes, lt_yes as lt_true, lt_no as lt_false, le_yes as le_true, le_no as le_false}
-use Rattle.page_model.proofs.RoomAtOne.{lacks_room_at_one}
-use Rattle.page_model.proofs.Sizes.{class_fits}
-use Rattle.cf_model.specs.Rules.{IsPaged, IsTiled, KeepsPages}
-use Rattle.cf_model.proofs.Exactly.{both_kinds}
+use Rattle.cf_model.specs.Rules.{IsPaged, KeepsPages}
+use Rattle.cf_model.proofs.CallerLemmas.{both_kinds, given_is_not_refused, not_none_found, resized_is_not_refused}
 use Rattle.cf_model.specs.State.{HeapState, paging_in}
 use Rattle.cf_model.specs.Steps.{GivesObject, IsFault, IsRefusedBy, IsResizeFault, LacksRoomIn, Part, ResizesObject}
-use Rattle.cf_model.proofs.Exactly.{given_is_not_refused, not_none_found, resized_is_not_refused}
 use Rattle.run_model.specs.Sessions.{IsGoing, RunState}
-use Rattle.run_model.proofs.Bounded.{pages_kept}
-use Rattle.run_model.proofs.Tied.{names_in, names_of_objects}
+use Rattle.run_model.proofs.CallerLemmas.{pages_kept, names_in, names_of_objects}
 use Rattle.transcript_laws.specs.Histories.{by_id}
 use Rattle.transcript_laws.specs.Replies.{is_in_class, malloc_fault, passes_pages, resize_fault, write_fault}
 use Rattle.transcript_laws.proofs.ByIds.{by_id_counts}

@@ -16,7 +16,7 @@ use Rattle.page_model.specs.Held.{Objects, Placed, objects}
 use Rattle.page_model.specs.Paging.{AreOne}
 use Rattle.page_model.specs.Steps.{resized}
 use Rattle.page_model.specs.Bytes.{written}
-use Rattle.page_model.proofs.Parts.{malloc_objects}
+use Rattle.page_model.proofs.CallerLemmas.{malloc_objects}
 use Rattle.cf_model.specs.Answers.{bound_put, class_with}
 use Rattle.cf_model.specs.Rules.{IsPaged}
 use Rattle.cf_model.specs.State.{HeapState, paging_in}
@@ -27,8 +27,7 @@ use Rattle.run_model.specs.Replies.{malloc_text, read_text, resize_text, write_t
 use Rattle.run_model.specs.Sessions.{Ids, IsGoing, RunState, SessionState, counted}
 use Rattle.run_model.specs.Steps.{Bounds, FreesAt, MallocsAt, ResizesAt, Step, WritesAt, bound_text, class_to_bound, ids_given, session_resized}
 use Rattle.run_model.specs.Texts.{Reply, said}
-use Rattle.run_model.proofs.Going.{step_same}
-use Rattle.run_model.proofs.Tied.{AreNames, names_in, names_of_objects, unmoved_changes_cost, unmoved_held}
+use Rattle.run_model.proofs.CallerLemmas.{step_same, AreNames, names_in, names_of_objects, unmoved_changes_cost, unmoved_held}
 use Rattle.transcript_laws.specs.ById.{ById}
 use Rattle.transcript_laws.specs.Histories.{by_id, objects_by_id}
 use Rattle.transcript_laws.specs.Replies.{after_by_id, bounds_with, class_bounded, free_said, malloc_leaves, malloc_said, ok_or, put_unless, read_said, reply_by_id, resize_leaves, resize_said, write_fault, write_leaves, write_said}
@@ -239,7 +238,7 @@ module _ (old new : RunState) (going : IsGoing old) (paged : IsPaged old.heap.ki
   same_parts : (c : Command) (reply : Reply) → Step old c reply new → (new.heap.kind ≡ old.heap.kind) × (new.heap.profile ≡ old.heap.profile)
   same_parts c reply step = (let s = step_same old new c reply going.rules step in (s.kind, s.profile))
 
-  -- where every bound is 1, each command but those that tell places and costs is answered by the objects by id
+  -- where every bound is 1, each command but those that tell addresses and costs is answered by the objects by id
   pub step_follows : (c : Command) (reply : Reply) → IsAtOne (by_id old) c → TellsNoPlace c → Step old c reply new → Follows old c reply new
   step_follows (Malloc id bytes) reply ones none step = (let s = same_parts (Malloc id bytes) reply step in malloc_at old going new paged ones (get old.session.ids id) id bytes reply refl s.0 s.1 step)
   step_follows (Free id) reply ones none step = (let s = same_parts (Free id) reply step in free_at old going new (get old.session.ids id) id reply refl s.0 s.1 step)

@@ -12,7 +12,7 @@ use Rattle.cf_base.specs.Settings.{Profile}
 use Rattle.cf_base.specs.declared.kind.Kind.{Kind}
 use Rattle.page_model.specs.Held.{Placed, objects}
 use Rattle.page_model.specs.Paging.{AreOne}
-use Rattle.page_model.proofs.Sizes.{first_ones}
+use Rattle.page_model.proofs.CallerLemmas.{first_ones}
 use Rattle.cf_model.specs.Rules.{IsPaged}
 use Rattle.cf_model.specs.State.{layout_of, paging_in}
 use Rattle.cf_model.specs.Steps.{opening_bounds}
@@ -22,7 +22,7 @@ use Rattle.script_reader.specs.declared.command.Command.TheVariants.{Place, Bloc
 use Rattle.run_model.specs.Runs.{Run}
 use Rattle.run_model.specs.Sessions.{IsGoing, RunState}
 use Rattle.run_model.specs.Texts.{Reply}
-use Rattle.run_model.proofs.Bounded.{pages_kept}
+use Rattle.run_model.proofs.CallerLemmas.{pages_kept}
 use Rattle.transcript_laws.specs.ById.{ById, begun, paging_by_id}
 use Rattle.transcript_laws.specs.Histories.{AreAlike, AreFurther, IsFurther, by_id, bytes_of}
 use Rattle.transcript_laws.specs.Replies.{after_by_id, bounds_with, class_bounded}
@@ -73,7 +73,7 @@ module _ (kind : Kind) (paged : IsPaged kind) where
       let now = item_at_one t item ones asked.0 in
       (now.0, stays_at_one rest (after_at kind t item) now.1 asked.1)
 
--- what may follow asks for no bound, and no place
+-- what may follow asks for no bound, and no address
 further_command : (c : Command) → IsFurther (asks c) → AsksForOne (asks c) × IsPlaceless (asks c)
 further_command (Bound words k) may = absurd may
 further_command (Place id) may = absurd may

@@ -11,10 +11,7 @@ use Rattle.page_model.specs.Counts.{Stand, ceil_div}
 use Rattle.page_model.specs.Figures.{asked_bytes, figures_of, taken_bytes, totals_of}
 use Rattle.page_model.specs.Arrangement.{live, home_pages, not_full_pages, pages_needed, pages_needed_with, IsSound}
 use Rattle.cf_lemmas.proofs.Tests.{eq_no, eq_yes}
-use Rattle.page_model.proofs.PageCounts.{slots_some, sound_stand}
-use Rattle.page_model.proofs.PageLaws.{can_hold_one}
-use Rattle.page_model.proofs.RoomAtOne.{used_at_one}
-use Rattle.page_model.proofs.Totals.{sum_same}
+use Rattle.page_model.proofs.CallerLemmas.{slots_some, sound_stand, can_hold_one, used_at_one, sum_same}
 use Rattle.transcript_laws.specs.AtOne.{figures_at_one, part_pages, totals_at_one}
 use Rattle.transcript_laws.proofs.Renaming.{CountAlike}
 
@@ -24,7 +21,7 @@ divides n m is = (let e = eq_yes (n % m) 0 is in rw e)
 leaves : (n m : ℕ) → 0 < n % m → part_pages n m ≡ 1
 leaves n m some = (let e = eq_no (n % m) 0 (λ is. omega arith) in rw e)
 
--- of the pages at most one is not full, and none where the objects fill them
+-- of the pages at most one is partly full, and none where the objects fill them
 part_is : (h n m q : ℕ) → 0 < m → Stand h n m 1 q → q ≡ part_pages n m
 part_is h n m zero pos s =
     let e : h - 0 ≡ h = omega arith in

@@ -13,7 +13,7 @@ use Rattle.cf_model.specs.State.{HeapState, paging_in}
 use Rattle.run_model.specs.Reports.{class_line, frag_line, frag_of, live_classes, pages_report, total_line, walk_of}
 use Rattle.run_model.specs.Sessions.{IsGoing, RunState}
 use Rattle.run_model.specs.Texts.{said}
-use Rattle.run_model.proofs.Bounded.{pages_kept}
+use Rattle.run_model.proofs.CallerLemmas.{pages_kept}
 use Rattle.transcript_laws.specs.AtOne.{figures_at_one, totals_at_one, walk_at_one}
 use Rattle.transcript_laws.specs.Histories.{by_id}
 use Rattle.transcript_laws.proofs.Faults.{objects_alike}

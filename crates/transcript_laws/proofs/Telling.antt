@@ -13,7 +13,7 @@ use Rattle.script_reader.specs.Items.{Item, asks, bad, starts}
 use Rattle.run_model.specs.Runs.{Begins, ItemStep, Run}
 use Rattle.run_model.specs.Sessions.{IsGoing, RunState, SessionState}
 use Rattle.run_model.specs.Texts.{Reply}
-use Rattle.run_model.proofs.Going.{begins_going, step_going, step_same}
+use Rattle.run_model.proofs.CallerLemmas.{begins_going, step_going, step_same}
 use Rattle.transcript_laws.specs.ById.{ById, begun}
 use Rattle.transcript_laws.specs.Histories.{by_id, objects_by_id}
 use Rattle.transcript_laws.specs.Transcripts.{ArePlaceless, StaysAtOne, IsItemAtOne, IsPlaceless, after_at, replies_from, reply_at}

@@ -185,11 +185,11 @@ reported = refl
 walked : reply_by_id (with o8) Walk ≡ codes "class 23 slots 2 live 2 pages 1 notfull 0" ∷ codes "class 64 slots 1 live 1 pages 1 notfull 0" ∷ codes "total live 3 pages 2 free 0" ∷ []
 walked = report_is o8 ∙ (λ i. report (λ c. alive o8 left_is c i) ((counted o8 ∙ ap length left_is) i)) ∙ reported
 
--- one command of a transcript, in front of the rest
+-- one command of a transcript, before the rest
 before : (old : Objects) (c : Command) (text : List ℕ) (new : Objects) (rest : List Item) (replies : List Reply) → Steps old c text new → replies_from Moving (Some (with new)) rest ≡ replies → replies_from Moving (Some (with old)) (asks c ∷ rest) ≡ said text ∷ replies
 before old c text new rest replies step more = (λ i. step.0 i ∷ replies_from Moving (Some (step.1 i)) rest) ∙ ap (λ l. said text ∷ l) more
 
--- what is left of the script behind each command
+-- what is left of the script after each command
 abbrev rest11 : List Item
 rest11 = asks Walk ∷ []
 

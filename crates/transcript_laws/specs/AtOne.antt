@@ -12,7 +12,7 @@ use Rattle.page_model.specs.Paging.{Paging, classes, slot_words, slots_of}
 use Rattle.run_model.specs.Reports.{class_line, total_line}
 use Rattle.run_model.specs.Texts.{Reply, said}
 
--- how many of the pages of n objects, m to a page, are not full: one, but none where m divides n
+-- how many of the pages of n objects, m to a page, are partly full: one, but none where m divides n
 abbrev pub part_pages : ℕ → ℕ → ℕ
 part_pages n m = if nat_eq (n % m) 0 then 0 else 1
 

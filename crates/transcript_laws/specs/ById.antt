@@ -1,4 +1,4 @@
--- What a script leaves where it is not asked for places: the objects by the ids of the script.
+-- What a script leaves where it is not asked for addresses: the objects by the ids of the script.
 use Rattle.std.specs.Prelude.{ℕ, List}
 use Rattle.std.specs.FinMap.{empty}
 use Rattle.cf_base.specs.Settings.{Profile}
@@ -8,7 +8,7 @@ use Rattle.page_model.specs.Paging.{Paging, paging_of}
 use Rattle.cf_model.specs.State.{layout_of}
 use Rattle.cf_model.specs.Steps.{opening_bounds}
 
--- The kind, the settings, the bounds of the classes, and the bytes of each live id. There are no handles, places, words and costs.
+-- The kind, the settings, the bounds of the classes, and the bytes of each live id. There are no handles, addresses, words and costs.
 pub record ById : Type 0 where
   pub kind : Kind
   pub profile : Profile

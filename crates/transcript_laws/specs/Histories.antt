@@ -1,4 +1,4 @@
--- What is left of a run where the places are left out, and what may follow it.
+-- What is left of a run where the addresses are left out, and what may follow it.
 use Rattle.std.specs.Prelude.{◌≡◌, ⊤, ℕ, List, [], ◌∷◌, Option, option_map}
 use Rattle.std.specs.Option.{unwrap_or}
 use Rattle.std.specs.FinMap.{get}
@@ -15,7 +15,7 @@ use Rattle.transcript_laws.specs.Transcripts.{IsPlaceless}
 abbrev pub objects_by_id : Ids → Objects → Objects
 objects_by_id ids m = map_values (λ h. unwrap_or (get m h) []) ids
 
--- a run at one moment, without places and numbers
+-- a run at one moment, without addresses and numbers
 abbrev pub by_id : RunState → ById
 by_id s = record { kind = s.heap.kind; profile = s.heap.profile; bounds = s.heap.bounds; objects = objects_by_id s.session.ids (objects s.heap.held) }
 
@@ -29,7 +29,7 @@ pub record AreAlike (one other : RunState) : Type 0 where
   pub profile : other.heap.profile ≡ one.heap.profile
   pub objects : (id : ℕ) → bytes_of other id ≡ bytes_of one id
 
--- an item that may follow: no `heap` line, and no command that sets a bound, or asks for a place or a cost
+-- an item that may follow: no `heap` line, and no command that sets a bound, or asks for an address or a cost
 abbrev pub IsFurther : Item → Type 0
 IsFurther (starts p) = ⊥
 IsFurther (asks (Bound slot_words k)) = ⊥

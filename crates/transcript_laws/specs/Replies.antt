@@ -80,7 +80,7 @@ resize_said None t bytes = codes "unknown"
 abbrev pub class_bounded : ById → ℕ → Option ℕ
 class_bounded t slot_words = if nat_eq (len t.objects) 0 then position (λ w. nat_eq w slot_words) (paging_by_id t).sizes else None
 
--- The reply of a command; `none` to the words of the modes that do more. It says nothing of `q`, `b`, `p` and `steps`, which tell of places and costs.
+-- The reply of a command; `none` to the words of the modes that do more. It says nothing of `q`, `b`, `p` and `steps`, which tell of addresses and costs.
 abbrev pub reply_by_id : ById → Command → Reply
 reply_by_id t (Malloc id bytes) = said (malloc_said (get t.objects id) t bytes)
 reply_by_id t (Free id) = said (free_said (get t.objects id))

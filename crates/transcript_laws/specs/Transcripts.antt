@@ -56,7 +56,7 @@ abbrev pub AskForOne : List Item → Type 0
 AskForOne [] = ⊤
 AskForOne (item ∷ rest) = AsksForOne item × AskForOne rest
 
--- the command asks for no place and no cost: it isn't `q`, `b`, `p` and `steps`
+-- the command asks for no address and no cost: it isn't `q`, `b`, `p` and `steps`
 abbrev pub TellsNoPlace : Command → Type 0
 TellsNoPlace (Place id) = ⊥
 TellsNoPlace (Block id i) = ⊥
@@ -68,7 +68,7 @@ abbrev pub IsPlaceless : Item → Type 0
 IsPlaceless (asks command) = TellsNoPlace command
 IsPlaceless item = ⊤
 
--- none of the items asks for a place or a cost
+-- none of the items asks for an address or a cost
 abbrev pub ArePlaceless : List Item → Type 0
 ArePlaceless [] = ⊤
 ArePlaceless (item ∷ rest) = IsPlaceless item × ArePlaceless rest

@@ -17,7 +17,7 @@ ghost use Rattle.transcript_laws.specs.Small.{small_replies, small_script};
 ghost use Rattle.transcript_laws.specs.Transcripts.{ArePlaceless, AskForOne, StaysAtOne, transcript};
 
 /// Of a kind with pages, all runs over these items have one list of replies, where every bound is 1
-/// and no item asks for a place or a cost: whichever slot, page, number or object was chosen.
+/// and no item asks for an address or a cost: whichever slot, page, number or object was chosen.
 pub fn one_transcript()
     ensures { (kind : Kind) (items : List Item) (replies : List Reply) (last : Option RunState)
         → IsPaged kind → StaysAtOne kind None items → ArePlaceless items

@@ -1,4 +1,4 @@
-//! Long runs of calls, against a plain program that computes each answer from the objects.
+//! Long runs of calls, against a reference implementation that computes each answer from the objects.
 ghost use Rattle.std.specs.Prelude.{◌≤◌, ◌<◌};
 
 use cf_base::{Handle, Layout, Refusal, Settings};
@@ -25,7 +25,7 @@ const MOST: usize = 504;
 /// How many calls a run has.
 const CALLS: u32 = 1500;
 
-/// The heap and the plain program, and by number the bytes of each live object.
+/// The heap and the reference implementation, and by number the bytes of each live object.
 #[derive(Drop)]
 struct Pair {
     heap: MovingHeap,
@@ -96,7 +96,7 @@ impl Pair {
         }
     }
 
-    /// Why the plain program would refuse so many bytes.
+    /// Why the reference implementation would refuse `length` bytes.
     fn refusal(&self, _rt: &impl Abort, length: u32) -> Option<Refusal> {
         let class = self.plain.class_for(length);
         if class >= self.plain.classes() {
@@ -131,7 +131,7 @@ impl Pair {
         Ok(())
     }
 
-    /// A free; the object that moved has the place of the one that went.
+    /// A free; the object that moved has the address of the one that went.
     fn free(&mut self, rt: &impl Abort, handle: Handle) -> Result<(), Fail> {
         let number = handle.0 as usize;
         assert!(rt; number < self.bytes.len());
@@ -185,7 +185,7 @@ impl Pair {
         Ok(())
     }
 
-    /// The plain program gets the bytes of an object anew.
+    /// The reference implementation gets the bytes of an object anew.
     fn mirror(&mut self, rt: &impl Abort, alloc: Global, handle: Handle) -> Result<(), Fail> {
         assert!(rt; self.heap.is_open());
         let place = self.heap.place(handle, self.meter.steps());
@@ -224,7 +224,7 @@ impl Pair {
         Ok(())
     }
 
-    /// Compares the figures of the class of so many bytes, and those of the heap.
+    /// Compares the figures of the class of `length` bytes, and those of the heap.
     fn compare_class(&mut self, rt: &impl Abort, length: u32) {
         self.compare_figures(rt, self.plain.class_for(length));
         assert!(rt; self.heap.is_open());
@@ -235,7 +235,7 @@ impl Pair {
         }
     }
 
-    /// Compares the figures of a class, which has at most as many pages not full as it may.
+    /// Compares the figures of a class, which has at most as many pages partly full as it may.
     fn compare_figures(&self, rt: &impl Abort, class: u32) {
         assert!(rt; self.heap.is_open());
         let figures = self.heap.figures(class);

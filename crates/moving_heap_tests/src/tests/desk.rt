@@ -134,7 +134,7 @@ impl Desk {
         self.heap.read(handle, at, out, self.meter.steps())
     }
 
-    /// The place of an object.
+    /// The address of an object.
     pub fn place(&mut self, rt: &impl Abort, id: usize) -> Option<u32> {
         let handle = self.handle(id);
         assert!(rt; self.heap.is_open());
@@ -147,7 +147,7 @@ impl Desk {
         self.heap.peek(word, self.meter.steps())
     }
 
-    /// The figures of the class with slots of so many words.
+    /// The figures of the class with slots of `slot_words` words.
     pub fn figures(&self, rt: &impl Abort, slot_words: u32) -> Option<Figures> {
         assert!(rt; self.heap.is_open());
         for c in 0..self.heap.classes() {

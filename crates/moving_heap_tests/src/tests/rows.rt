@@ -1,11 +1,11 @@
-//! Runs of calls, each with what it answers.
+//! Runs of calls, each with what it returns.
 use super::desk::Desk;
 use cf_base::{AccessFault, Figures, Handle, NotLive, Refusal, ResizeFault, Totals};
 use std::process::Abort;
 use std::test::Fail;
 use step_ledger::Meter;
 
-/// A call, and what it answers. Objects go by ids from 0 to 9.
+/// A call, and what it returns. Objects go by ids from 0 to 9.
 enum Act {
     /// So many bytes are given to the id.
     Malloc(usize, u32),
@@ -17,9 +17,9 @@ enum Act {
     Resize(usize, u32, Option<usize>),
     /// The object doesn't get another length.
     NotResized(usize, u32, ResizeFault),
-    /// There is no such object: it isn't freed, has no place and no words, and can't be read or written.
+    /// There is no such object: it isn't freed, has no address and no words, and can't be read or written.
     Unknown(usize),
-    /// The place of an object.
+    /// The address of an object.
     At(usize, u32),
     /// Bytes are written from one on.
     Write(usize, u32, &'static [u8]),
@@ -31,7 +31,7 @@ enum Act {
     NotRead(usize, u32, bool),
     /// A word of the region.
     Word(u32, Option<u64>),
-    /// Of a class: slot words, slots, live, pages, pages not full.
+    /// Of a class: slot words, slots, live, pages, pages partly full.
     Class([u32; 5]),
     /// Of the heap: live, used, free; asked, taken, held.
     Whole([u32; 3], [u64; 3]),
@@ -203,7 +203,7 @@ const LAST_OUT_FIRST: [Act; 16] = [
     Act::At(8, 64),
 ];
 
-/// A page that joins the pages that are not full is the first that is used.
+/// A page that joins the partly full pages is the first that is used.
 const FRONT: [Act; 10] = [
     Act::Malloc(1, 176),
     Act::Malloc(2, 176),
@@ -217,7 +217,7 @@ const FRONT: [Act; 10] = [
     Act::At(6, 23),
 ];
 
-/// The object of the least used slot moves, from a page that is not full before the free.
+/// The object of the least used slot moves, from a partly full page before the free.
 const LEAST_USED: [Act; 13] = [
     Act::Malloc(0, 80),
     Act::Malloc(1, 80),

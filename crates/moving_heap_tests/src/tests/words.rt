@@ -1,10 +1,10 @@
-//! Words that are lent.
+//! Words that are borrowed.
 use super::desk::Desk;
 use cf_model::Manager;
 use std::test::Fail;
 use step_ledger::Meter;
 
-/// An object of 21 bytes has two whole words; its last five bytes are no part of the loan.
+/// An object of 21 bytes has two whole words; its last five bytes are no part of the borrow.
 #[test]
 fn whole_words_are_lent(rt: HostRuntime) -> Result<(), Fail> {
     let mut desk = Desk::new(rt.alloc(), Meter::new(&rt))?;
@@ -34,8 +34,8 @@ fn whole_words_are_lent(rt: HostRuntime) -> Result<(), Fail> {
     Ok(())
 }
 
-/// Three words are written through a loan, and read as the 24 bytes of the object; so is what
-/// `write` put behind the whole words of another one.
+/// Three words are written through a borrow, and read as the 24 bytes of the object; so is what
+/// `write` put after the whole words of another one.
 #[test]
 fn words_that_are_written_are_the_bytes(rt: HostRuntime) -> Result<(), Fail> {
     let mut desk = Desk::new(rt.alloc(), Meter::new(&rt))?;

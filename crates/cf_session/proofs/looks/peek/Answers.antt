@@ -1,6 +1,5 @@
 use Rattle.std.proofs.Common.{arith, length-append}
-use Rattle.cf_io.proofs.LineLemmas.{pushed}
-use Rattle.cf_io.proofs.CallerLemmas.{length_of_word}
+use Rattle.cf_io.proofs.CallerLemmas.{pushed, length_of_word}
 use Rattle.cf_io.specs.Lines.{word_text}
 use Rattle.cf_session.proofs.looks.peek.Goals as goal
 

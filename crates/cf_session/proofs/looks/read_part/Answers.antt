@@ -1,7 +1,6 @@
 use Rattle.std.proofs.Common.{◌≤◌, arith, length, length-append}
 use Rattle.hex.specs.Hex.{encode_lower}
-use Rattle.cf_io.proofs.CallerLemmas.{length_in_hex}
-use Rattle.cf_io.proofs.LineLemmas.{pushed}
+use Rattle.cf_io.proofs.CallerLemmas.{length_in_hex, pushed}
 use Rattle.cf_session.proofs.looks.read_part.Goals as goal
 
 pub unwrap-requires : goal.unwrap-requires

@@ -1,4 +1,4 @@
-use Rattle.cf_io.proofs.LineLemmas.{puts_line, five}
+use Rattle.cf_io.proofs.CallerLemmas.{puts_line, five}
 use Rattle.frag_report.proofs.reports.put_class.Goals as goal
 
 pub returns-clause-puts : goal.returns-clause-puts

@@ -1,4 +1,4 @@
-use Rattle.cf_io.proofs.LineLemmas.{puts_line, three}
+use Rattle.cf_io.proofs.CallerLemmas.{puts_line, three}
 use Rattle.frag_report.proofs.reports.put_total.Goals as goal
 
 pub returns-clause-puts : goal.returns-clause-puts

@@ -1,6 +1,6 @@
 use Rattle.std.proofs.Common.{◌/◌, ◌^◌, sym, arith, ap, ◌∙◌}
 use Rattle.moving_heap.proofs.PayloadWords.{count_is, run_inside, run_small}
-use Rattle.paged_heap.proofs.ReadLemmas.{place_in}
+use Rattle.paged_heap.proofs.CallerLemmas.{place_in}
 use Rattle.cf_base.specs.declared.kind.Kind.TheVariants.{Moving}
 use Rattle.paged_heap.specs.Heap.{seen}
 use Rattle.moving_heap.proofs.payload.find_words.Goals as goal

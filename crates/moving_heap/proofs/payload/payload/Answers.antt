@@ -2,7 +2,7 @@ use Rattle.std.proofs.Common.{◌/◌, ◌^◌, sym, arith, ap, subst, rules, �
 use Rattle.step_ledger.specs.Counting.{RoseAtMost}
 use Rattle.moving_heap.specs.Payload.{payload_bound}
 use Rattle.moving_heap.proofs.PayloadWords.{count_is, lent_is, none_lent, run_inside, run_small}
-use Rattle.paged_heap.proofs.ReadLemmas.{place_in}
+use Rattle.paged_heap.proofs.CallerLemmas.{place_in}
 use Rattle.cf_base.specs.declared.kind.Kind.TheVariants.{Moving}
 use Rattle.paged_heap.specs.Heap.{seen}
 use Rattle.moving_heap.proofs.payload.payload.Goals as goal

@@ -1,4 +1,4 @@
--- The first word is cut, and those behind it are cleared.
+-- The first word is cut, and those after it are cleared.
 use Rattle.std.proofs.Common.{◌≡◌, ◌+◌, ◌-◌, ◌/◌, ◌%◌, take, drop, replicate, arith, sym, ◌∙◌, subst}
 use Rattle.page_model.specs.Image.{Clears}
 use Rattle.virtual_words.specs.Overwriting.{Overwrites}

@@ -1,0 +1,5 @@
+-- What upper crates may cite, passed on from one address. Declares nothing.
+pub use Rattle.run_model.proofs.Bounded.{pages_kept, step_meets_bounds}
+pub use Rattle.run_model.proofs.Going.{begins_going, costs_nothing, step_going, step_same}
+pub use Rattle.run_model.proofs.Tied.{AreNames, bytes_held, bytes_missing, counted_ids, names_in, names_of_objects, resized_ids, unmoved_changes_cost}
+pub use Rattle.run_model.proofs.Tied.{unmoved_held}
