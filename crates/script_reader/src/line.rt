@@ -58,7 +58,7 @@ fn read(args: &[u8]) -> Option<ParsedLine>
 
 /// `q ID`.
 fn place(args: &[u8]) -> Option<ParsedLine>
-    ensures value { said_by result ≡ asked_or_wrong (grammar.place_in (tokens args.now)) }
+    ensures value { said_by result ≡ asked_or_wrong (grammar.place_command_in (tokens args.now)) }
     ensures fits { IfSome result IsValidLine }
 {
     let id = one_id(args)?;
@@ -67,7 +67,7 @@ fn place(args: &[u8]) -> Option<ParsedLine>
 
 /// `b ID I`.
 fn block(args: &[u8]) -> Option<ParsedLine>
-    ensures value { said_by result ≡ asked_or_wrong (grammar.block_in (tokens args.now)) }
+    ensures value { said_by result ≡ asked_or_wrong (grammar.block_command_in (tokens args.now)) }
     ensures fits { IfSome result IsValidLine }
 {
     let (id, i) = id_and_number(args)?;
