@@ -1,34 +1,34 @@
 -- The steps of commands, from what the calls of a manager do.
-use Rattle.std.proofs.Common.{◌≡◌, ◌∙◌, ◌++◌, ℕ, true, false, List, Option, Some, None, refl, ap, sym, inl, inr, append_assoc}
+use Rattle.std.proofs.Common.{◌≡◌, ◌≢◌, ◌∙◌, ◌++◌, ℕ, true, false, List, Option, Some, None, refl, ap, sym, inl, inr, append_assoc, arith}
 use Rattle.std.specs.Prelude.{◌⊎◌, codes, if◌then◌else◌, nat_eq, is_some}
 use Rattle.std.specs.Ordering.{nat_cmp}
-use Rattle.std.specs.FinMap.{get, len, empty, get-empty, len-empty}
+use Rattle.std.specs.FinMap.{len, empty, empty_of_len, len-empty}
 use Rattle.cf_base.specs.declared.kind.Kind.{Kind}
-use Rattle.cf_base.specs.declared.kind.Kind.TheVariants.{Moving, NonMoving}
-use Rattle.cf_lemmas.proofs.Maps.{equal_maps}
+use Rattle.cf_base.specs.declared.kind.Kind.TheVariants.{Moving, NonMoving, Tlsf, HalfFit}
+use Rattle.page_model.proofs.Adding.{len-objects}
 use Rattle.page_model.specs.Held.{Held, Placed}
-use Rattle.cf_model.specs.Answers.{bound_put, class_with}
+use Rattle.cf_model.specs.Answers.{bound_put, class_with, totals_in}
 use Rattle.cf_model.specs.Rules.{KeepsRules}
 use Rattle.cf_model.specs.State.{HeapState}
 use Rattle.script_reader.specs.declared.command.Command.TheVariants.{Bound}
-use Rattle.run_model.specs.Sessions.{AreTied, SessionState}
+use Rattle.run_model.specs.Sessions.{SessionState}
 use Rattle.run_model.specs.Steps.{Step, bound_text, class_to_bound}
 use Rattle.run_model.specs.Texts.{said, with_number}
 use Rattle.run_model.specs.Replies.{steps_text}
 use Rattle.cf_session.specs.Apply.{run_at}
 
--- no object is live where no id is
-module _ (session : SessionState) (heap : HeapState) (tied : AreTied session heap) (none : session.ids ≡ empty) where
-  no_object : (o : Option Placed) (q : ℕ) → get heap.held q ≡ o → o ≡ None
-  no_object None q is = refl
-  no_object (Some x) q is = absurd (
-      let id = tied.all q x is in
-      let e : get session.ids id.0 ≡ None = ap (λ i. get i id.0) none ∙ get-empty nat_cmp id.0 in
-      let s = id.1 in
-      cc)
+-- how many objects are live, by the figures of the heap
+pub live_of : (k : Kind) (s : HeapState) → (totals_in k s).live ≡ len s.held
+live_of Moving s = len-objects s.held
+live_of NonMoving s = len-objects s.held
+live_of Tlsf s = refl
+live_of HalfFit s = refl
 
-  pub none_held : heap.held ≡ empty
-  none_held = equal_maps heap.held empty (λ q. no_object (get heap.held q) q refl ∙ sym (get-empty nat_cmp q))
+pub none_held : (s : HeapState) → (totals_in s.kind s).live ≡ 0 → s.held ≡ empty
+none_held s none = empty_of_len s.held (sym (live_of s.kind s) ∙ none)
+
+nat_eq_not : (n : ℕ) → n ≢ 0 → nat_eq n 0 ≡ false
+nat_eq_not n h = grind arith
 
 pub bound_ok : (o : Option ℕ) → is_some o ≡ true → codes "ok" ≡ bound_text o
 bound_ok None is = absurd (let e : false ≡ true = is in cc)
@@ -50,6 +50,18 @@ module _ (session : SessionState) (old : HeapState) where
         rules = rules;
         session = refl;
         reply_is = ap said (told ∙ ap bound_text (sym here));
+      }
+
+  -- no class gets one while an object is live
+  pub bound_held : (slot_words k : ℕ) → (totals_in old.kind old).live ≢ 0 → KeepsRules old → Step (run_at session old) (Bound slot_words k) (said (codes "none")) (run_at session old)
+  bound_held slot_words k some rules =
+      let n : nat_eq (len old.held) 0 ≡ false = nat_eq_not (len old.held) (λ is. some (live_of old.kind old ∙ is)) in
+      let here : class_to_bound old slot_words ≡ None = ap (λ b. if b then class_with old.kind old slot_words else None) n in
+      record {
+        heap = sym (ap (λ (o : Option ℕ). bound_put old o k) here);
+        rules = rules;
+        session = refl;
+        reply_is = ap said (sym (ap bound_text here));
       }
 
 -- the line on the steps of a heap with pages

@@ -1,14 +1,12 @@
 -- What applying a command does.
 use Rattle.std.specs.Prelude.{◌≡◌, ℕ, ◌||◌, List, [], ◌∷◌, Option, Result, Ok, Err, codes, nat_eq, if◌then◌else◌}
 use Rattle.std.specs.List.{starts_with}
-use Rattle.std.specs.FinMap.{empty}
 use Rattle.std.specs.Str.{bytes_eq}
 use Rattle.cf_base.specs.declared.answers.Failed.{Failed}
 use Rattle.cf_model.specs.State.{HeapState}
 use Rattle.cf_session.specs.declared.outcome.Outcome.{Outcome}
 use Rattle.cf_session.specs.declared.outcome.Outcome.TheVariants.{Good, Refused, Other}
 use Rattle.script_reader.specs.declared.command.Command.{Command}
-use Rattle.script_reader.specs.declared.command.Command.TheVariants.{Bound}
 use Rattle.run_model.specs.Answering.{Asked, IsAnswered, IsCutShort, Moment}
 use Rattle.run_model.specs.Sessions.{RunState, SessionState}
 use Rattle.run_model.specs.Texts.{Reply}
@@ -20,11 +18,6 @@ run_at session heap = record { session = session; heap = heap }
 -- the same, and the bytes written by then
 abbrev pub moment_at : SessionState → HeapState → Option (List ℕ) → Moment
 moment_at session heap written = record { run = run_at session heap; written = written }
-
--- no id is live where a class gets a bound of its own
-abbrev pub MayBound : SessionState → Command → Type 0
-MayBound session (Bound slot_words k) = session.ids ≡ empty
-MayBound session _ = Unit {0}
 
 -- good where the line is `ok` or begins with `=`, refused where it begins with `refused`
 abbrev pub outcome_in : List ℕ → Outcome

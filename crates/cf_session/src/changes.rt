@@ -1,6 +1,6 @@
 //! The commands that change objects: each does its call, and answers the text of its reply.
 ghost use Rattle.std.specs.Prelude.{◌≡◌, ◌^◌, ◌≤◌, IsTrue, Err, codes, length};
-ghost use Rattle.std.specs.FinMap as map;
+ghost use Rattle.cf_model.specs.Rules.{KeepsRules};
 ghost use Rattle.cf_session.specs.Apply.{run_at};
 ghost use Rattle.script_reader.specs.declared.command.Command.TheVariants.{Malloc, Free, Write, Resize, Bound};
 ghost use Rattle.run_model.specs.Replies.{malloc_text, resize_text, write_text};
@@ -162,16 +162,19 @@ pub(crate) fn set_bound<H: Manager>(
     heap: &mut H,
     slot_words: u32,
     k: u32,
+    steps: &mut Steps,
 ) -> &'static [u8]
     requires open { IsTrue (H.state heap.old).is_open }
-    requires tied { AreTied records.now (H.state heap.old) }
-    requires empty { records.now.ids ≡ map.empty }
+    requires rules { KeepsRules (H.state heap.old) }
     requires least { 1 ≤ k }
     requires most { k ≤ 64 }
     ensures step { Step (run_at records.now (H.state heap.old)) (Bound slot_words k)
         (said result.now) (run_at records.now (H.state heap.new)) }
     ensures short { length result.now ≤ 20 }
 {
+    if heap.totals(steps).live != 0 {
+        return b"none";
+    }
     if heap.set_bound(slot_words, k) {
         b"ok"
     } else {

@@ -2,7 +2,7 @@
 ghost use Rattle.std.specs.Prelude.{◌≡◌, ◌^◌, ◌<◌, ◌≤◌, OnErr, length};
 ghost use Rattle.cf_io.specs.Feeds.{Rose};
 ghost use Rattle.cf_io.specs.Lines.{line_room};
-ghost use Rattle.cf_session.specs.Apply.{Applies, MayBound, moment_at, run_at};
+ghost use Rattle.cf_session.specs.Apply.{Applies, moment_at, run_at};
 ghost use Rattle.cf_session.specs.OneLine.{IsOneLine, IsReported, OnlyLooks, Says, lines_at};
 ghost use Rattle.script_reader.specs.Commands.{IsWellFormed};
 ghost use Rattle.run_model.specs.Sessions.{IsGoing};
@@ -31,7 +31,6 @@ pub(crate) fn answer<H: Manager, K: Sink>(
 ) -> Result<Outcome, Failed>
     requires going { IsGoing (run_at records.old (H.state heap.old)) }
     requires formed { IsWellFormed c.now }
-    requires bound { MayBound records.old c.now }
     requires lead { length lead.now ≤ 8 }
     requires room { steps.old ≤ 2 ^ 63 }
     ensures answers { Applies (moment_at records.old (H.state heap.old) (K.written out.old))
@@ -75,7 +74,6 @@ fn one_line_reply<H: Manager>(
 )
     requires going { IsGoing (run_at records.old (H.state heap.old)) }
     requires formed { IsWellFormed c.now }
-    requires bound { MayBound records.old c.now }
     requires one { IsOneLine c.now }
     requires room { steps.old ≤ 2 ^ 63 }
     requires begun { length line.old ≤ 8 }
@@ -96,7 +94,7 @@ fn one_line_reply<H: Manager>(
             push_text(line, resize(records, heap, *id, *bytes, steps))
         }
         Command::Bound { slot_words, k } => {
-            push_text(line, set_bound(records, heap, *slot_words, *k))
+            push_text(line, set_bound(records, heap, *slot_words, *k, steps))
         }
         _ => look(records, heap, c, line, steps),
     }

@@ -4,7 +4,7 @@ ghost use Rattle.std.specs.FinMap as map;
 ghost use Rattle.cf_io.specs.Feeds.{Rose};
 ghost use Rattle.cf_model.specs.Rules.{KeepsRules};
 ghost use Rattle.cf_model.specs.Steps.{number_of};
-ghost use Rattle.cf_session.specs.Apply.{Applies, MayBound, moment_at};
+ghost use Rattle.cf_session.specs.Apply.{Applies, moment_at};
 ghost use Rattle.script_reader.specs.Commands.{IsWellFormed};
 ghost use Rattle.run_model.specs.Sessions.{AreTied, fresh_session};
 
@@ -63,7 +63,6 @@ impl Session {
         requires open { IsTrue (H.state heap.old).is_open }
         requires tied { AreTied self.old (H.state heap.old) }
         requires formed { IsWellFormed c.now }
-        requires bound { MayBound self.old c.now }
         requires lead { length lead.now ≤ 8 }
         ensures answers { Applies (moment_at self.old (H.state heap.old) (K.written out.old))
             (record { command = c.now; lead = lead.now })
