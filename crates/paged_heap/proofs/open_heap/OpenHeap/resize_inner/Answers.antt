@@ -43,8 +43,8 @@ resize_in_place-requires-clause-same g c =
     let h = seen g.A.Mapping.kind c.args.self.now in let k = c.requires.kept in
     (class_is h k c.args.bytes c.in-Some-class_of.to c.in-Some-class_of.ensures.found).1 ∙ c.if-to-class.true
 
-pub resize_to_class-requires-clause-resize_to_class : goal.resize_to_class-requires-clause-resize_to_class
-resize_to_class-requires-clause-resize_to_class g c =
+pub resize_to_class-requires-clause-change : goal.resize_to_class-requires-clause-change
+resize_to_class-requires-clause-change g c =
     let h = seen g.A.Mapping.kind c.args.self.now in let k = c.requires.kept in
     change_at h k c.args.h c.in-Some.place c.length_at-length.result c.args.bytes c.in-Some-class_of-2.class c.in-Some-class_of.to
     (object_at h k c.args.h.0 c.in-Some.place (sym c.in-Some.ensures.found) c.length_at-length.result c.length_at-length.ensures.value c.in-Some-class_of-2.class c.in-Some-class_of-2.ensures.found) c.in-Some-class_of.ensures.found c.if-to-class.false

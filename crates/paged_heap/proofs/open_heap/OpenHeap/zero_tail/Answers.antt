@@ -7,8 +7,8 @@ use Rattle.virtual_words.proofs.CallerLemmas.{laid_long}
 use Rattle.paged_heap.proofs.ResizeInPlace.{cut_is, zero_part}
 use Rattle.paged_heap.proofs.open_heap.OpenHeap.zero_tail.Goals as goal
 
-pub returns-then-keep-bytes-clause-zero_tail : goal.returns-then-keep-bytes-clause-zero_tail
-returns-then-keep-bytes-clause-zero_tail g c = λ less. (
+pub returns-then-keep-bytes-clause-cut : goal.returns-then-keep-bytes-clause-cut
+returns-then-keep-bytes-clause-cut g c = λ less. (
     let kind = g.A.Mapping.kind in let blocks = c.args.self.now.blocks in
     let old = words_of kind blocks c.args.self.now.region in
     let mid = words_of kind blocks c.write_bytes.new.region in
