@@ -1,3 +1,4 @@
 pub mod Tied
 pub mod Going
 pub mod Bounded
+pub mod Plays

@@ -1,50 +1,40 @@
--- Who answers a script.
+-- A script that is being played. No public clause cites this module.
 use Rattle.std.specs.Prelude.{◌≡◌, ℕ, List, Option, Some, None}
-use Rattle.std.specs.FinMap as map
-use Rattle.cf_model.specs.State.{HeapState}
 use Rattle.script_reader.specs.Reading.{Reading}
 use Rattle.script_reader.specs.declared.stage.Stage.{Stage}
 use Rattle.script_reader.specs.declared.stage.Stage.TheVariants.{Opening, Bounding, Running}
-use Rattle.run_model.specs.Sessions.{IsGoing, RunState, SessionState, fresh_session}
+use Rattle.script_loop.specs.Semantics.{Semantics}
 
--- what is read, and a session with its manager that answers it
-pub record Player : Type 0 where
+-- what is read, and the state that the answers led to
+pub record Playing (S : Type 0) : Type 0 where
   pub reading : Reading
-  pub state : RunState
+  pub state : S
 
-abbrev pub player : Reading → SessionState → HeapState → Player
-player reading session heap = record { reading = reading; state = record { session = session; heap = heap } }
+abbrev pub playing : {S : Type 0} → Reading → S → Playing S
+playing reading state = record { reading = reading; state = state }
 
 -- the run that the script has come to: none before its `heap` line
-abbrev pub run_in : Stage → RunState → Option RunState
+abbrev pub run_in : {S : Type 0} → Stage → S → Option S
 run_in Opening s = None
 run_in Bounding s = Some s
 run_in Running s = Some s
 
-abbrev pub run_of : Player → Option RunState
+abbrev pub run_of : {S : Type 0} → Playing S → Option S
 run_of p = run_in p.reading.stage p.state
 
--- Before the `heap` line the session is a fresh one. Behind it the run goes on, and no id is live as long as bounds may be given.
-abbrev pub IsReadyAt : Stage → RunState → Type 0
-IsReadyAt Opening s = s.session ≡ fresh_session
-IsReadyAt Bounding s = IsGoing s × (s.session.ids ≡ map.empty)
-IsReadyAt Running s = IsGoing s
+-- The state is fresh before the `heap` line, and goes on after it.
+abbrev pub IsReadyAt : {S P : Type 0} → Semantics S P → Stage → S → Type 0
+IsReadyAt m Opening s = m.is_fresh s
+IsReadyAt m Bounding s = m.is_going s
+IsReadyAt m Running s = m.is_going s
 
-abbrev pub IsReady : Player → Type 0
-IsReady p = IsReadyAt p.reading.stage p.state
+abbrev pub IsReady : {S P : Type 0} → Semantics S P → Playing S → Type 0
+IsReady m p = IsReadyAt m p.reading.stage p.state
 
--- a player at one moment, and the bytes written by then, where the sink tells them
-pub record Progress : Type 0 where
-  pub player : Player
+-- the same, and the bytes written by then, where the sink tells them
+pub record Progress (S : Type 0) : Type 0 where
+  pub playing : Playing S
   pub written : Option (List ℕ)
 
-abbrev pub progress : Player → Option (List ℕ) → Progress
-progress p written = record { player = p; written = written }
-
--- a manager at one moment, and the bytes written by then, where the sink tells them
-pub record HeapMoment : Type 0 where
-  pub heap : HeapState
-  pub written : Option (List ℕ)
-
-abbrev pub heap_moment : HeapState → Option (List ℕ) → HeapMoment
-heap_moment heap written = record { heap = heap; written = written }
+abbrev pub progress : {S : Type 0} → Playing S → Option (List ℕ) → Progress S
+progress p written = record { playing = p; written = written }
