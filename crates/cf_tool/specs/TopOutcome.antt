@@ -1,50 +1,31 @@
 -- How the top call may end.
-use Rattle.std.specs.Prelude.{◌≡◌, ◌⊎◌, ⊤, ℕ, List, [], Option, Some, None}
+use Rattle.std.specs.Prelude.{◌≡◌, ◌⊎◌, List}
 use Rattle.cf_base.specs.declared.kind.Kind.{Kind}
 use Rattle.cf_base.specs.declared.status.Status.{Status}
-use Rattle.cf_base.specs.declared.status.Status.TheVariants.{Done, Words, BadScript, ReadFault, WriteFault, OutOfMemory, TooLong, BadImage}
+use Rattle.cf_base.specs.declared.status.Status.TheVariants.{Done, Words, OutOfMemory}
 use Rattle.clap.specs.Words.{Text}
-use Rattle.cf_io.specs.Feeds.{appended}
-use Rattle.cf_model.specs.Rules.{IsPaged}
-use Rattle.cf_model.specs.State.{HeapState, closed_state}
+use Rattle.cf_model.specs.State.{closed_state}
+use Rattle.cf_session.specs.Apply.{run_at}
 use Rattle.command_line.specs.Choices.{AreRefused, Chooses}
 use Rattle.command_line.specs.declared.choice.Choice.{Choice}
 use Rattle.command_line.specs.declared.choice.Mode.{Mode}
 use Rattle.command_line.specs.declared.choice.Mode.TheVariants.{Run}
-use Rattle.script_reader.specs.Items.{Item}
-use Rattle.run_model.specs.Texts.{text_of}
-use Rattle.script_loop.specs.ScriptOutcome.{Effects, MeetsOutcome, items_within}
-use Rattle.transcript_laws.specs.Transcripts.{ArePlaceless, AskForOne, transcript}
+use Rattle.run_model.specs.Sessions.{RunState, fresh_session}
+use Rattle.script_loop.specs.Consequences.{AnswersAll, TellsTranscript}
+use Rattle.script_loop.specs.OneManager.{one_manager}
+use Rattle.script_loop.specs.ScriptOutcome.{Effects, MeetsOutcome}
 
 -- nothing was read or written
 pub record IsUntouched (call : Effects) : Type 0 where
   pub unread : call.left ≡ call.had
   pub unwritten : call.after ≡ call.before
 
--- the items ask for no other bound than 1, and for no place and no cost
-pub record ArePlain (wanted : List Item) : Type 0 where
-  pub ones : AskForOne wanted
-  pub placeless : ArePlaceless wanted
-
--- the statuses at which every item within the limit was answered
-abbrev pub AnswersAll : Status → Type 0
-AnswersAll Done = ⊤
-AnswersAll BadScript = ⊤
-AnswersAll TooLong = ⊤
-AnswersAll status = ⊥
-
--- the output over plain items is their transcript, whatever was chosen and however the source was cut
-abbrev pub TellsTranscript : Kind → Option (List ℕ) → Effects → Type 0
-TellsTranscript kind None call = ⊤
-TellsTranscript kind (Some all) call = AnswersAll call.status → ArePlain (items_within all) → call.after ≡ appended call.before (text_of [] (transcript kind (items_within all)))
-
--- a manager of the kind that was never open answers the script
+-- a manager of the kind that was never open answers the script, in a session of its own
 pub record AnswersScript (kind : Kind) (call : Effects) : Type 0 where
-  pub end : HeapState
-  pub outcome : MeetsOutcome (closed_state kind) call end
-  pub transcript : IsPaged kind → TellsTranscript kind call.had call
+  pub end : RunState
+  pub outcome : MeetsOutcome one_manager (run_at fresh_session (closed_state kind)) call end
 
--- by the mode
+-- by the mode, whatever the statuses that it has
 abbrev pub InMode : Mode → Kind → Effects → Type 0
 InMode Run kind call = AnswersScript kind call
 
@@ -54,20 +35,29 @@ pub record DoesChosen (words : List Text) (call : Effects) : Type 0 where
   pub chosen : Chooses words choice
   pub done : InMode choice.mode choice.kind call
 
--- by how the call ended
+-- the words are refused, an allocation failed before anything was written, or by the mode
 abbrev pub EndsBy : Status → List Text → Effects → Type 0
 EndsBy Words words call = AreRefused words × IsUntouched call
 EndsBy OutOfMemory words call = call.after ≡ call.before
-EndsBy Done words call = DoesChosen words call
-EndsBy BadScript words call = DoesChosen words call
-EndsBy ReadFault words call = DoesChosen words call
-EndsBy WriteFault words call = DoesChosen words call
-EndsBy TooLong words call = DoesChosen words call
-EndsBy BadImage words call = ⊥
+EndsBy status words call = DoesChosen words call
 
 abbrev pub EndsWell : List Text → Effects → Type 0
 EndsWell words call = EndsBy call.status words call
 
--- the whole script was answered, or memory was wanting
+-- by the mode: what is printed over plain items is their transcript
+abbrev pub TellsInMode : Mode → Kind → Effects → Type 0
+TellsInMode Run kind call = TellsTranscript kind call.had call
+
+-- the same, of what the words choose
+pub record TellsChosen (words : List Text) (call : Effects) : Type 0 where
+  pub choice : Choice
+  pub chosen : Chooses words choice
+  pub tells : TellsInMode choice.mode choice.kind call
+
+-- where every item within the limit was answered, the output over plain items is their transcript, however the source was cut
+abbrev pub TellsPlainly : List Text → Effects → Type 0
+TellsPlainly words call = AnswersAll call.status → TellsChosen words call
+
+-- the whole script was answered, or it ran out of memory
 abbrev pub EndsWhole : Status → Type 0
 EndsWhole status = (status ≡ Done) ⊎ (status ≡ OutOfMemory)

@@ -1,9 +1,9 @@
 //! The top call.
 ghost use Rattle.std.specs.Prelude.{◌≡◌, ◌<◌, ◌+◌, ◌⊎◌, map, string_bytes};
 ghost use Rattle.cf_io.specs.Feeds.{Rose, last_count};
-ghost use Rattle.command_line.specs.Choices.{AreAccepted};
 ghost use Rattle.script_loop.specs.ScriptOutcome.{IsClean, MOST_BYTES};
-ghost use Rattle.cf_tool.specs.TopOutcome.{EndsWell, EndsWhole};
+ghost use Rattle.command_line.specs.Choices.{AreAccepted};
+ghost use Rattle.cf_tool.specs.TopOutcome.{EndsWell, EndsWhole, TellsPlainly};
 
 use cf_base::Status;
 use cf_io::{Sink, Source};
@@ -36,6 +36,14 @@ pub fn cf_main<R: Runtime, S: Source, K: Sink>(
       after = K.written sink.new;
       status = result;
     }) }
+    // Where every bound is 1, the text is computed from the script.
+    ensures plain { TellsPlainly (map (λ word. string_bytes word) words.now) (record {
+      had = S.rest source.old;
+      left = S.rest source.new;
+      before = K.written sink.old;
+      after = K.written sink.new;
+      status = result;
+    }) }
     ensures complete { AreAccepted (map (λ word. string_bytes word) words.now) → IsClean (S.rest source.old)
         → ¬ Rose (S.faults source.old) (S.faults source.new) → ¬ Rose (K.faults sink.old) (K.faults sink.new) → EndsWhole result }
     // The causes, over every source and sink.
@@ -51,13 +59,13 @@ pub fn cf_main<R: Runtime, S: Source, K: Sink>(
             WordsFault::OutOfMemory => return Status::OutOfMemory,
         },
     };
-    let Ok(session) = Session::start(rt, alloc) else {
+    let Ok(mut session) = Session::start(rt, alloc) else {
         return Status::OutOfMemory;
     };
     match choice.mode {
         Mode::Run => {
             let mut heap = MovingHeap::closed(alloc);
-            run_script(session, &mut heap, source, sink)
+            run_script(&mut session, &mut heap, source, sink)
         }
     }
 }

@@ -4,16 +4,17 @@ use Rattle.std.specs.Prelude.{codes}
 use Rattle.cf_base.specs.declared.kind.Kind.{Kind}
 use Rattle.cf_model.specs.State.{HeapState}
 use Rattle.script_reader.specs.Items.{Item, asks, bad, starts}
-use Rattle.run_model.specs.Runs.{ItemStep, Run}
+use Rattle.run_model.specs.Runs.{BeginsOne, ItemStep, Run, Turn}
 use Rattle.run_model.specs.Sessions.{RunState}
 use Rattle.run_model.specs.Texts.{Reply, bad_line, led, said, text_of}
 use Rattle.run_model.proofs.CallerLemmas.{begins_going, step_going, step_same}
+use Rattle.run_model.proofs.Plays.{run_joined, text_joined}
 use Rattle.run_laws.specs.Sayable.{AreSayable, IsSayableItem, IsUnderWay}
 use Rattle.run_laws.proofs.CommandAnswers.{begins_there, turn_there}
 
 -- an item leaves a run that goes on
 pub item_keeps : (kind : Kind) (old : Option RunState) (item : Item) (reply : Reply) (new : Option RunState) → IsUnderWay kind old → ItemStep kind old item reply new → IsUnderWay kind new
-item_keeps kind old (starts p) reply new on step = subst (IsUnderWay kind) (sym step.3) (ap (λ (h : HeapState). h.kind) (step.1).heap, begins_going kind p step.0 step.1)
+item_keeps kind old (starts p) reply new on step = subst (IsUnderWay kind) (sym step.2) (ap (λ (h : HeapState). h.kind) (step.1.0).heap, begins_going kind p step.0 step.1.0)
 item_keeps kind None (asks c) reply new on step = subst (IsUnderWay kind) (sym step.1) tt
 item_keeps kind (Some old) (asks c) reply new on step = subst (IsUnderWay kind) (sym step.2)
     ((step_same old step.0 c reply (on.1).rules (step.1).step).kind ∙ on.0, step_going old step.0 c reply on.1 (step.1).step)
@@ -27,7 +28,7 @@ run_keeps kind old (item ∷ rest) replies new on run = run_keeps kind run.0 res
 -- an item that can be said gets a reply
 pub item_there : (kind : Kind) (old : Option RunState) (item : Item) → IsUnderWay kind old → IsSayableItem item
     → (reply : Reply) × (new : Option RunState) × ItemStep kind old item reply new
-item_there kind old (starts p) on can = (let b = begins_there kind p can in (said (codes "ok"), Some b.0, (b.0, b.1, refl, refl)))
+item_there kind old (starts p) on can = (let b = begins_there kind p can in (said (codes "ok"), Some b.0, (b.0, (b.1, refl), refl)))
 item_there kind None (asks c) on can = ([], None, (refl, refl))
 item_there kind (Some old) (asks c) on can =
     let t = turn_there old c on.1 can in
@@ -43,14 +44,6 @@ run_there kind old (item ∷ rest) on can =
     let after = run_there kind first.1 rest (item_keeps kind old item first.0 first.1 on first.2) can.1 in
     (first.0 ∷ after.0, after.1, (first.1, first.0, after.0, first.2, refl, after.2))
 
--- one run after the other
-pub run_joined : (kind : Kind) (old : Option RunState) (done after : List Item) (replies more : List Reply) (mid end : Option RunState) → Run kind old done replies mid → Run kind mid after more end → Run kind old (done ++ after) (replies ++ more) end
-run_joined kind old [] after replies more mid end first second =
-    let e = first.0 in
-    rw e (subst (λ s. Run kind s after more end) first.1 second)
-run_joined kind old (item ∷ rest) after replies more mid end first second =
-    (first.0, first.1, first.2 ++ more, first.3, ap (λ r. r ++ more) first.4, run_joined kind first.0 rest after first.2 more mid end first.5 second)
-
 pub sayable_behind : (done after : List Item) → AreSayable (done ++ after) → AreSayable after
 sayable_behind [] after can = can
 sayable_behind (item ∷ rest) after can = sayable_behind rest after can.1
@@ -61,12 +54,7 @@ pub run_goes_on : (kind : Kind) (items done after : List Item) (replies : List R
     → (more : List Reply) × (end : Option RunState) × Run kind None items (replies ++ more) end
 run_goes_on kind items done after replies mid can is run =
     let rest = run_there kind mid after (run_keeps kind None done replies mid tt run) (sayable_behind done after (subst AreSayable is can)) in
-    (rest.0, rest.1, subst (λ i. Run kind None i (replies ++ rest.0) rest.1) (sym is) (run_joined kind None done after replies rest.0 mid rest.1 run rest.2))
-
--- the text of replies, one after the other
-pub text_joined : (lead : List ℕ) (replies more : List Reply) → text_of lead (replies ++ more) ≡ text_of lead replies ++ text_of lead more
-text_joined lead [] more = refl
-text_joined lead (reply ∷ rest) more = ap (λ t. led lead reply ++ t) (text_joined lead rest more) ∙ sym (append_assoc (led lead reply) (text_of lead rest) (text_of lead more))
+    (rest.0, rest.1, subst (λ i. Run kind None i (replies ++ rest.0) rest.1) (sym is) (run_joined (BeginsOne kind) Turn None done after replies rest.0 mid rest.1 run rest.2))
 
 -- a prefix of the text of a prefix is a prefix of the text of all
 pub front_written : (kind : Kind) (items done after : List Item) (replies : List Reply) (mid : Option RunState) (lead written lost : List ℕ) → AreSayable items

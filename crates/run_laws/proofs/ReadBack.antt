@@ -203,7 +203,7 @@ fresh_told : (kind : Kind) (p : Profile) (s : RunState) → Begins kind p s → 
 fresh_told kind p s begins q = get-empty nat_cmp q ∙ sym (ap (through (objects s.heap.held)) (ap (λ (t : SessionState). get t.ids q) begins.session ∙ get-empty nat_cmp q))
 
 item_told : (kind : Kind) (old : Option RunState) (t : Option Told) (item : Item) (reply : Reply) (new : Option RunState) → AreTogether old t → ItemStep kind old item reply new → AreTogether new (told_after t item reply) × IsReadOf t item reply
-item_told kind old t (starts p) reply new with_it step = (subst (λ s. AreTogether s (Some empty)) (sym step.3) (begins_going kind p step.0 step.1, fresh_told kind p step.0 step.1), no_read t)
+item_told kind old t (starts p) reply new with_it step = (subst (λ s. AreTogether s (Some empty)) (sym step.2) (begins_going kind p step.0 step.1.0, fresh_told kind p step.0 step.1.0), no_read t)
   where
     no_read : (t : Option Told) → IsReadOf t (starts p) reply
     no_read None = tt

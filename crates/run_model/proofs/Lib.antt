@@ -2,3 +2,4 @@ pub mod Tied
 pub mod Going
 pub mod Bounded
 pub mod CallerLemmas
+pub mod Plays

@@ -4,5 +4,6 @@ pub mod Sessions
 pub mod Replies
 pub mod Steps
 pub mod Bounds
+pub mod Plays
 pub mod Runs
 pub mod Answering

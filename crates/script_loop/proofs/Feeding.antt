@@ -1,5 +1,6 @@
 -- Pieces that are put or taken one after the other.
-use Rattle.std.proofs.Common.{◌≡◌, ◌++◌, ◌∙◌, List, ℕ, Option, None, Some, refl, ap, sym, ◌+◌, append_assoc, append-nil, take, min, arith, length, length-append}
+use Rattle.std.proofs.Common.{◌≡◌, ◌++◌, ◌∙◌, List, ℕ, Option, None, Some, refl, ap, sym, ◌+◌, append_assoc, append-nil, take, min, arith, length}
+use Rattle.std.proofs.Common.{length-append}
 use Rattle.std.specs.Prelude.{[]}
 use Rattle.cf_io.proofs.Feeding.{appended_then}
 use Rattle.cf_io.specs.Feeds.{HasGiven, IsSpent, appended, last_count, preceded}

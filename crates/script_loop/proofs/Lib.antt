@@ -3,3 +3,7 @@ pub mod Feeding
 pub mod Going
 pub mod Naming
 pub mod Stages
+pub mod Consequences
+pub mod OneManager
+pub mod Prefix
+pub mod Settling

@@ -1,13 +1,13 @@
 -- What the stage of a script tells of its run.
-use Rattle.std.proofs.Common.{◌≡◌, Bool, true, false, Some, refl, ap}
+use Rattle.std.proofs.Common.{◌≡◌, Bool, true, false, Some, refl, subst}
 use Rattle.script_reader.specs.Items.{stage_behind}
 use Rattle.script_reader.specs.declared.stage.Stage.{Stage}
 use Rattle.script_reader.specs.declared.stage.Stage.TheVariants.{Opening, Bounding, Running}
-use Rattle.run_model.specs.Sessions.{IsGoing, RunState}
+use Rattle.script_loop.specs.Progress.{IsReadyAt, run_in}
 use Rattle.script_loop.specs.ScriptOutcome.{StandsAfter}
-use Rattle.script_loop.specs.Players.{IsReadyAt, run_in}
+use Rattle.script_loop.specs.Semantics.{Semantics}
 
--- behind a command the heap is open
+-- after a command the heap is open
 pub never_opening : (a b : Stage) (k : Bool) → stage_behind a k ≡ Some b → b ≡ Opening → ⊥
 never_opening Opening b k leads is = absurd cc
 never_opening Bounding b true leads is = absurd cc
@@ -16,29 +16,28 @@ never_opening Running b true leads is = absurd cc
 never_opening Running b false leads is = absurd cc
 
 -- and before it
-pub run_before : (a b : Stage) (k : Bool) → stage_behind a k ≡ Some b → (s : RunState) → run_in a s ≡ Some s
+pub run_before : {S : Type 0} (a b : Stage) (k : Bool) → stage_behind a k ≡ Some b → (s : S) → run_in a s ≡ Some s
 run_before Opening b k leads s = absurd cc
 run_before Bounding b k leads s = refl
 run_before Running b k leads s = refl
 
-pub run_behind : (a b : Stage) (k : Bool) → stage_behind a k ≡ Some b → (s : RunState) → run_in b s ≡ Some s
+pub run_behind : {S : Type 0} (a b : Stage) (k : Bool) → stage_behind a k ≡ Some b → (s : S) → run_in b s ≡ Some s
 run_behind a Opening k leads s = absurd (never_opening a Opening k leads refl)
 run_behind a Bounding k leads s = refl
 run_behind a Running k leads s = refl
 
-pub going_at : (a b : Stage) (k : Bool) (s : RunState) → stage_behind a k ≡ Some b → IsReadyAt a s → IsGoing s
-going_at Opening b k s leads ready = absurd cc
-going_at Bounding b k s leads ready = ready
-going_at Running b k s leads ready = ready
+pub going_at : {S P : Type 0} (m : Semantics S P) (a b : Stage) (k : Bool) (s : S) → stage_behind a k ≡ Some b → IsReadyAt m a s → m.is_going s
+going_at m Opening b k s leads ready = absurd cc
+going_at m Bounding b k s leads ready = ready
+going_at m Running b k s leads ready = ready
 
--- a player is ready behind a command that was answered
-pub ready_behind : (a b : Stage) (k : Bool) (t : RunState) → stage_behind a k ≡ Some b → IsGoing t → IsReadyAt b t
-ready_behind a Opening k t leads going = absurd (never_opening a Opening k leads refl)
-ready_behind a Bounding k t leads going = going
-ready_behind a Running k t leads going = going
+pub going_behind : {S P : Type 0} (m : Semantics S P) (a b : Stage) (k : Bool) (s : S) → stage_behind a k ≡ Some b → m.is_going s → IsReadyAt m b s
+going_behind m a Opening k s leads going = absurd (never_opening a Opening k leads refl)
+going_behind m a Bounding k s leads going = going
+going_behind m a Running k s leads going = going
 
--- where a manager stands behind its run
-pub stands : (a : Stage) (s t : RunState) → (a ≡ Opening → t ≡ s) → StandsAfter s.heap (run_in a t) t.heap
-stands Opening s t untouched = ap (λ (z : RunState). z.heap) (untouched refl)
+-- where a state stands after its run
+pub stands : {S : Type 0} (a : Stage) (s t : S) → (a ≡ Opening → t ≡ s) → StandsAfter s (run_in a t) t
+stands Opening s t untouched = untouched refl
 stands Bounding s t untouched = refl
 stands Running s t untouched = refl

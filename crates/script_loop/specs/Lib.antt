@@ -1,3 +1,7 @@
+pub mod Semantics
 pub mod ScriptOutcome
-pub mod Players
+pub mod OneManager
+pub mod WithSettings
+pub mod Consequences
+pub mod Progress
 pub mod Going

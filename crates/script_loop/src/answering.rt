@@ -2,13 +2,11 @@
 ghost use Rattle.std.specs.Prelude.{◌≡◌, ◌≤◌, ◌+◌, [], length, false, None};
 ghost use Rattle.cf_io.specs.Feeds.{Rose};
 ghost use Rattle.script_reader.specs.Reading.{MOST_FED};
-ghost use Rattle.script_loop.specs.Going.{Goes, IsWaiting, NamesBad, OpensHeap};
-ghost use Rattle.script_loop.specs.Players.{IsReady, heap_moment, player, progress};
+ghost use Rattle.script_loop.specs.Going.{Goes, IsWaiting, NamesBad};
+ghost use Rattle.script_loop.specs.Progress.{IsReady, playing, progress};
 
-use cf_base::Settings;
+use crate::player::{OpenFault, Player};
 use cf_io::{Line, Sink, put_all};
-use cf_model::Manager;
-use cf_session::Session;
 use script_reader::{Next, Reader};
 
 /// How far the answers came.
@@ -20,25 +18,8 @@ pub enum Ready {
     Stopped,
     /// To where the sink failed.
     Cut,
-    /// To the `heap` line, for which memory was wanting.
+    /// To the `heap` line, at which an allocation failed.
     Wanting,
-}
-
-/// Opens the manager, as the `heap` line asks.
-fn open_heap<H: Manager, K: Sink>(heap: &mut H, settings: &Settings, sink: &mut K) -> Ready
-    ensures opens { OpensHeap (heap_moment (H.state heap.old) (K.written sink.old)) settings.now result
-        (heap_moment (H.state heap.new) (K.written sink.new)) }
-    ensures grows { K.faults sink.old ≤ K.faults sink.new }
-    ensures failed { result ≡ Ready.Cut → Rose (K.faults sink.old) (K.faults sink.new) }
-{
-    match heap.open_heap(settings) {
-        Ok(()) => {}
-        Err(_) => return Ready::Wanting,
-    }
-    match put_all(sink, b"ok\n") {
-        Ok(()) => Ready::GoesOn,
-        Err(_) => Ready::Cut,
-    }
 }
 
 /// Names the bad line.
@@ -58,29 +39,28 @@ fn name_bad<K: Sink>(number: u32, sink: &mut K) -> Ready
 }
 
 /// Answers what the reader has, until it needs more, has ended, or is at a bad line.
-pub fn answer_kept<H: Manager, K: Sink>(
+pub fn answer_kept<H, A: Player<H>, K: Sink>(
     reader: &mut Reader,
-    session: &mut Session,
+    player: &mut A,
     heap: &mut H,
     sink: &mut K,
 ) -> Ready
     requires going { reader.old.stopped ≡ None }
-    requires ready { IsReady (player reader.old session.old (H.state heap.old)) }
-    ensures goes { Goes (progress (player reader.old session.old (H.state heap.old)) (K.written sink.old)) [] result
-        (progress (player reader.new session.new (H.state heap.new)) (K.written sink.new)) }
+    requires ready { IsReady A.semantics (playing reader.old (A.state player.old heap.old)) }
+    ensures goes { Goes A.semantics (progress (playing reader.old (A.state player.old heap.old)) (K.written sink.old)) [] result
+        (progress (playing reader.new (A.state player.new heap.new)) (K.written sink.new)) }
     ensures grows { K.faults sink.old ≤ K.faults sink.new }
     ensures failed { result ≡ Ready.Cut → Rose (K.faults sink.old) (K.faults sink.new) }
 {
     'replies: loop {
         match reader.next_command() {
-            Next::Start(settings) => match open_heap(heap, &settings, sink) {
-                Ready::GoesOn => {}
-                Ready::Stopped => return Ready::Stopped,
-                Ready::Cut => return Ready::Cut,
-                Ready::Wanting => return Ready::Wanting,
+            Next::Start(settings) => match player.open(heap, &settings, sink) {
+                Ok(()) => {}
+                Err(OpenFault::Failed) => return Ready::Cut,
+                Err(OpenFault::OutOfMemory) => return Ready::Wanting,
             },
-            Next::Command(ref command) => match session.apply(heap, command, b"", sink) {
-                Ok(_) => {}
+            Next::Command(ref command) => match player.answer(heap, command, sink) {
+                Ok(()) => {}
                 Err(_) => return Ready::Cut,
             },
             Next::NeedMore | Next::End => return Ready::GoesOn,
@@ -90,9 +70,9 @@ pub fn answer_kept<H: Manager, K: Sink>(
 }
 
 /// Answers what the piece completes.
-pub fn answer_piece<H: Manager, K: Sink>(
+pub fn answer_piece<H, A: Player<H>, K: Sink>(
     reader: &mut Reader,
-    session: &mut Session,
+    player: &mut A,
     heap: &mut H,
     sink: &mut K,
     piece: &[u8],
@@ -100,16 +80,16 @@ pub fn answer_piece<H: Manager, K: Sink>(
     requires waiting { IsWaiting reader.old }
     requires open { reader.old.ended ≡ false }
     requires few { reader.old.fed + length piece.now ≤ MOST_FED }
-    requires ready { IsReady (player reader.old session.old (H.state heap.old)) }
-    ensures goes { Goes (progress (player reader.old session.old (H.state heap.old)) (K.written sink.old)) piece.now result
-        (progress (player reader.new session.new (H.state heap.new)) (K.written sink.new)) }
+    requires ready { IsReady A.semantics (playing reader.old (A.state player.old heap.old)) }
+    ensures goes { Goes A.semantics (progress (playing reader.old (A.state player.old heap.old)) (K.written sink.old)) piece.now result
+        (progress (playing reader.new (A.state player.new heap.new)) (K.written sink.new)) }
     ensures grows { K.faults sink.old ≤ K.faults sink.new }
     ensures failed { result ≡ Ready.Cut → Rose (K.faults sink.old) (K.faults sink.new) }
 {
     let mut at = 0;
     'feeds: while at < piece.len() {
         at += reader.feed(&piece[at..]);
-        match answer_kept(reader, session, heap, sink) {
+        match answer_kept(reader, player, heap, sink) {
             Ready::GoesOn => {}
             Ready::Stopped => return Ready::Stopped,
             Ready::Cut => return Ready::Cut,

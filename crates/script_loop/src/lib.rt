@@ -2,6 +2,17 @@
 #![tactic(auto)]
 
 mod answering;
+mod laws;
+mod one_manager;
+mod player;
 mod running;
+mod with_settings;
 
-pub use running::{LIMIT, run_script};
+pub use laws::{
+    cuts_never_matter, every_read_gives_what_was_written, plain_scripts_print_their_transcript,
+    settings_are_kept, what_was_cut_is_a_prefix,
+};
+pub use one_manager::run_script;
+pub use player::{OpenFault, Player};
+pub use running::{LIMIT, play_script};
+pub use with_settings::WithSettings;

@@ -1,38 +1,36 @@
 //! The loop over the pieces of a script.
 ghost use Rattle.std.specs.Prelude.{◌≡◌, ◌<◌, ◌+◌, ◌⊎◌};
 ghost use Rattle.cf_io.specs.Feeds.{Rose, last_count};
-ghost use Rattle.run_model.specs.Sessions.{fresh_session};
-ghost use Rattle.script_loop.specs.ScriptOutcome.{IsEnding, MOST_BYTES, MeetsOutcome};
+ghost use Rattle.script_loop.specs.ScriptOutcome.{MOST_BYTES, MeetsOutcome};
 
 use crate::answering::{Ready, answer_kept, answer_piece};
+use crate::player::Player;
 use cf_base::Status;
 use cf_io::{Sink, Source};
-use cf_model::Manager;
-use cf_session::Session;
 use script_reader::Reader;
 
 /// The most bytes of a script that are answered.
 pub const LIMIT: usize = 268_435_455;
 
-/// Answers each line of a script before it takes the next piece of it: its `heap` line opens the
-/// manager, and each command is answered on it. It stops at a bad line, at a fault of the source or
-/// the sink, where memory is wanting for the manager, and past 268,435,455 bytes.
-pub fn run_script<H: Manager, S: Source, K: Sink>(
-    mut session: Session,
+/// Lets the player answer each line of a script before it takes the next piece of it. It stops at a
+/// bad line, at a fault of the source or the sink, where an allocation fails at the `heap` line, and
+/// past 268,435,455 bytes.
+pub fn play_script<H, A: Player<H>, S: Source, K: Sink>(
+    player: &mut A,
     heap: &mut H,
     source: &mut S,
     sink: &mut K,
 ) -> Status
-    requires { session ≡ fresh_session }
-    ensures outcome { MeetsOutcome (H.state heap.old) (record {
+    requires { A.semantics.is_fresh (A.state player.old heap.old) }
+    ensures outcome { MeetsOutcome A.semantics (A.state player.old heap.old) (record {
       had = S.rest source.old;
       left = S.rest source.new;
       before = K.written sink.old;
       after = K.written sink.new;
       status = result;
-    }) (H.state heap.new) }
+    }) (A.state player.new heap.new) }
+    ensures plan { A.semantics.plan (A.state player.new heap.new) ≡ A.semantics.plan (A.state player.old heap.old) }
     // The causes, also where the source tells nothing of its bytes.
-    ensures ends { IsEnding result }
     ensures silent { result ≡ Status.OutOfMemory → K.written sink.new ≡ K.written sink.old }
     ensures read_fault { result ≡ Status.ReadFault → Rose (S.faults source.old) (S.faults source.new) }
     ensures write_fault { result ≡ Status.WriteFault → Rose (K.faults sink.old) (K.faults sink.new) }
@@ -51,7 +49,7 @@ pub fn run_script<H: Manager, S: Source, K: Sink>(
             break;
         }
         let within = n.min(room);
-        match answer_piece(&mut reader, &mut session, heap, sink, &buffer[..within]) {
+        match answer_piece(&mut reader, player, heap, sink, &buffer[..within]) {
             Ready::GoesOn => {}
             Ready::Stopped => return Status::BadScript,
             Ready::Cut => return Status::WriteFault,
@@ -63,7 +61,7 @@ pub fn run_script<H: Manager, S: Source, K: Sink>(
         room -= n;
     }
     reader.finish();
-    match answer_kept(&mut reader, &mut session, heap, sink) {
+    match answer_kept(&mut reader, player, heap, sink) {
         Ready::GoesOn => Status::Done,
         Ready::Stopped => Status::BadScript,
         Ready::Cut => Status::WriteFault,

@@ -47,11 +47,11 @@ begun_is kind p s b = λ i. record {
 }
 
 module _ (kind : Kind) (paged : IsPaged kind) where
-  begins : (old : Option RunState) (p : Profile) (reply : Reply) (new : Option RunState) → (s : RunState) × Begins kind p s × (reply ≡ reply_at (at_id old) (starts p)) × (new ≡ Some s) → Tells kind old (starts p) reply new
+  begins : (old : Option RunState) (p : Profile) (reply : Reply) (new : Option RunState) → (s : RunState) × (Begins kind p s × (reply ≡ reply_at (at_id old) (starts p))) × (new ≡ Some s) → Tells kind old (starts p) reply new
   begins old p reply new step = record {
-    reply_is = step.2;
-    state_is = ap at_id step.3 ∙ ap (λ t. Some t) (begun_is kind p step.0 step.1);
-    goes = subst Goes (sym step.3) (begins_going kind p step.0 step.1, subst IsPaged (sym (ap (λ (h : HeapState). h.kind) step.1.heap)) paged);
+    reply_is = step.1.1;
+    state_is = ap at_id step.2 ∙ ap (λ t. Some t) (begun_is kind p step.0 step.1.0);
+    goes = subst Goes (sym step.2) (begins_going kind p step.0 step.1.0, subst IsPaged (sym (ap (λ (h : HeapState). h.kind) step.1.0.heap)) paged);
   }
 
   tells : (old : Option RunState) (item : Item) (reply : Reply) (new : Option RunState) → Goes old → IsItemAtOne (at_id old) item → IsPlaceless item → ItemStep kind old item reply new → Tells kind old item reply new

@@ -1,15 +1,15 @@
 use Rattle.std.proofs.Common.{◌∙◌, ◌++◌, [], arith, refl}
-use Rattle.std.specs.Prelude.{codes}
-use Rattle.run_model.specs.Texts.{led, said}
+use Rattle.run_model.specs.Texts.{led}
 use Rattle.script_loop.proofs.Feeding.{appended_after, appended_none}
-use Rattle.script_loop.proofs.Going.{answered_command, answered_none, answered_open, answered_then, begins, cut_command, cut_open, cut_then, named, ready_open}
-use Rattle.script_loop.proofs.Stages.{ready_behind}
+use Rattle.script_loop.proofs.Going.{answered_command, answered_none, answered_open, answered_then, bad_at, cut_command, cut_open, cut_then, fresh_at, named}
+use Rattle.script_loop.proofs.Going.{ready_command, ready_open}
+use Rattle.script_loop.proofs.Stages.{going_at}
 use Rattle.script_loop.proofs.answering.answer_kept.Goals as goal
 
 pub replies-init : goal.replies-init
 replies-init g c = record {
   text = [];
-  answered = answered_none _;
+  answered = answered_none g.A.Player.semantics _;
   ready = c.requires.ready;
   going = c.requires.going;
   same_end = refl;
@@ -18,44 +18,44 @@ replies-init g c = record {
   grows = omega arith;
 }
 
-pub replies-preserved-in-GoesOn : goal.replies-preserved-in-GoesOn
-replies-preserved-in-GoesOn g c =
+pub replies-preserved-in-Ok : goal.replies-preserved-in-Ok
+replies-preserved-in-Ok g c =
+    let m = g.A.Player.semantics in
     let so_far = c.replies.invariant in
     let next = c.in-Start.ensures in
-    let opened = c.in-GoesOn.ensures.opens in
-    let begun = begins so_far.answered c.in-Start.settings next.opening so_far.ready opened.0 refl in
+    let opened = c.in-Ok.ensures.opens in
     record {
-      text = so_far.text ++ led [] (said (codes "ok"));
-      answered = answered_then so_far.answered (answered_open _ _ c.in-Start.settings next begun);
-      ready = ready_open _ _ _ _ next.bounding begun;
+      text = so_far.text ++ led [] opened.reply;
+      answered = answered_then m so_far.answered (answered_open m _ _ c.in-Start.settings _ _ next opened c.in-Ok.ensures.plan);
+      ready = ready_open m _ _ next.bounding c.in-Ok.ensures.going;
       going = next.still;
       same_end = next.reads.same_end ∙ so_far.same_end;
       fed = next.reads.same_fed ∙ so_far.fed;
-      wrote = appended_after _ _ _ _ _ so_far.wrote opened.1;
+      wrote = appended_after _ _ _ _ _ so_far.wrote opened.written;
       grows = omega arith;
     }
 
-pub returns-in-Cut-clause-goes : goal.returns-in-Cut-clause-goes
-returns-in-Cut-clause-goes g c =
+pub returns-in-Err-Failed-clause-goes : goal.returns-in-Err-Failed-clause-goes
+returns-in-Err-Failed-clause-goes g c =
+    let m = g.A.Player.semantics in
     let so_far = c.replies.invariant in
-    let next = c.in-Start.ensures in
-    let opened = c.in-Cut.ensures.opens in
-    let begun = begins so_far.answered c.in-Start.settings next.opening so_far.ready opened.0 refl in
+    let opened = rw c.in-Err-Failed.field-0-is at c.in-Err-Failed.ensures.opens in
     record {
-      out = so_far.text ++ opened.1.front;
-      cut = cut_then so_far.answered (cut_open _ _ c.in-Start.settings opened.1.front opened.1.lost next begun opened.1.cut);
-      wrote = appended_after _ _ _ _ _ so_far.wrote opened.1.wrote;
+      out = so_far.text ++ opened.front;
+      cut = cut_then m so_far.answered (cut_open m _ _ c.in-Start.settings _ _ c.in-Start.ensures opened c.in-Err-Failed.ensures.plan);
+      wrote = appended_after _ _ _ _ _ so_far.wrote opened.written;
     }
 
 pub replies-preserved : goal.replies-preserved
 replies-preserved g c =
+    let m = g.A.Player.semantics in
     let so_far = c.replies.invariant in
     let next = c.in-Command.ensures in
-    let answer = c.in-Ok.ensures.answers.0 in
+    let answer = c.in-Ok-answer.ensures.answers in
     record {
       text = so_far.text ++ led [] answer.reply;
-      answered = answered_then so_far.answered (answered_command _ _ _ answer.reply next so_far.ready answer.turn);
-      ready = ready_behind _ _ _ _ next.leads (record { opened = c.in-Ok.ensures.open; rules = c.in-Ok.ensures.rules; tied = c.in-Ok.ensures.tied });
+      answered = answered_then m so_far.answered (answered_command m _ _ _ answer.reply next answer.turns c.in-Ok-answer.ensures.plan);
+      ready = ready_command m _ _ _ _ next c.in-Ok-answer.ensures.going;
       going = next.still;
       same_end = next.reads.same_end ∙ so_far.same_end;
       fed = next.reads.same_fed ∙ so_far.fed;
@@ -65,15 +65,16 @@ replies-preserved g c =
 
 pub returns-in-Err-clause-goes : goal.returns-in-Err-clause-goes
 returns-in-Err-clause-goes g c =
+    let m = g.A.Player.semantics in
     let so_far = c.replies.invariant in
     let answer = c.in-Err.ensures.answers in
     record {
-      out = so_far.text ++ answer.front;
-      cut = cut_then so_far.answered (cut_command _ _ _ answer.reply answer.front answer.lost c.in-Command.ensures answer.turn answer.cut);
+      out = so_far.text ++ answer.out;
+      cut = cut_then m so_far.answered (cut_command m _ _ _ answer.out c.in-Command.ensures answer.turns c.in-Err.ensures.plan);
       wrote = appended_after _ _ _ _ _ so_far.wrote answer.written;
     }
 
 pub returns-in-Bad-clause-goes : goal.returns-in-Bad-clause-goes
 returns-in-Bad-clause-goes g c =
     let so_far = c.replies.invariant in
-    named _ _ _ _ _ _ _ so_far.text _ so_far.answered so_far.wrote so_far.going c.in-Bad.ensures c.name_bad.ensures.names
+    named g.A.Player.semantics _ _ _ _ _ _ _ so_far.text _ so_far.answered so_far.wrote (bad_at _ _ _ so_far.going c.in-Bad.ensures) c.name_bad.ensures.names

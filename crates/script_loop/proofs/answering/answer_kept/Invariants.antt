@@ -1,15 +1,15 @@
 use Rattle.std.proofs.Common.{◌≡◌, ◌≤◌, List, ℕ, [], false, length, None}
 use Rattle.cf_io.specs.Feeds.{appended}
 use Rattle.script_loop.specs.Going.{Answered}
-use Rattle.script_loop.specs.Players.{IsReady, player}
+use Rattle.script_loop.specs.Progress.{IsReady, playing}
 use Rattle.script_loop.proofs.answering.answer_kept.Given as goal
 
 abbrev pub invariant-replies : goal.invariant-replies
 invariant-replies g l = record {
   text : List ℕ;
-  answered : Answered (player l.initial.reader l.initial.session (g.H.Manager.state l.initial.heap)) []
-      (player l.reader l.session (g.H.Manager.state l.heap)) text false;
-  ready : IsReady (player l.reader l.session (g.H.Manager.state l.heap));
+  answered : Answered g.A.Player.semantics (playing l.initial.reader (g.A.Player.state l.initial.player l.initial.heap)) []
+      (playing l.reader (g.A.Player.state l.player l.heap)) text false;
+  ready : IsReady g.A.Player.semantics (playing l.reader (g.A.Player.state l.player l.heap));
   going : l.reader.stopped ≡ None;
   same_end : l.reader.ended ≡ l.initial.reader.ended;
   fed : l.reader.fed ≡ l.initial.reader.fed;

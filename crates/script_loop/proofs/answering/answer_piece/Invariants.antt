@@ -1,15 +1,15 @@
 use Rattle.std.proofs.Common.{◌≡◌, ◌≤◌, ◌+◌, ◌-◌, List, ℕ, false, length, take}
 use Rattle.cf_io.specs.Feeds.{appended}
 use Rattle.script_loop.specs.Going.{Answered, IsWaiting}
-use Rattle.script_loop.specs.Players.{IsReady, player}
+use Rattle.script_loop.specs.Progress.{IsReady, playing}
 use Rattle.script_loop.proofs.answering.answer_piece.Given as goal
 
 abbrev pub invariant-feeds : goal.invariant-feeds
 invariant-feeds g l = record {
   text : List ℕ;
-  answered : Answered (player l.initial.reader l.initial.session (g.H.Manager.state l.initial.heap)) (take l.at l.piece)
-      (player l.reader l.session (g.H.Manager.state l.heap)) text false;
-  ready : IsReady (player l.reader l.session (g.H.Manager.state l.heap));
+  answered : Answered g.A.Player.semantics (playing l.initial.reader (g.A.Player.state l.initial.player l.initial.heap)) (take l.at l.piece)
+      (playing l.reader (g.A.Player.state l.player l.heap)) text false;
+  ready : IsReady g.A.Player.semantics (playing l.reader (g.A.Player.state l.player l.heap));
   waiting : IsWaiting l.reader;
   same_end : l.reader.ended ≡ false;
   fed : l.reader.fed ≡ l.initial.reader.fed + l.at;

@@ -3,16 +3,16 @@ use Rattle.cf_io.specs.Feeds.{HasGiven, appended, preceded}
 use Rattle.script_reader.specs.Reading.{fresh}
 use Rattle.script_loop.specs.Going.{Answered, IsWaiting}
 use Rattle.script_loop.specs.ScriptOutcome.{MOST_BYTES}
-use Rattle.script_loop.specs.Players.{IsReady, player}
-use Rattle.script_loop.proofs.running.run_script.Given as goal
+use Rattle.script_loop.specs.Progress.{IsReady, playing}
+use Rattle.script_loop.proofs.running.play_script.Given as goal
 
 abbrev pub invariant-pieces : goal.invariant-pieces
 invariant-pieces g l = record {
   taken : List ℕ;
   text : List ℕ;
-  answered : Answered (player fresh l.initial.session (g.H.Manager.state l.initial.heap)) taken
-      (player l.reader l.session (g.H.Manager.state l.heap)) text false;
-  ready : IsReady (player l.reader l.session (g.H.Manager.state l.heap));
+  answered : Answered g.A.Player.semantics (playing fresh (g.A.Player.state l.initial.player l.initial.heap)) taken
+      (playing l.reader (g.A.Player.state l.player l.heap)) text false;
+  ready : IsReady g.A.Player.semantics (playing l.reader (g.A.Player.state l.player l.heap));
   waiting : IsWaiting l.reader;
   same_end : l.reader.ended ≡ false;
   fed : l.reader.fed ≡ length taken;

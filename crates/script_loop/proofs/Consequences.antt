@@ -1,0 +1,184 @@
+-- What follows from the outcome of a script on one manager.
+use Rattle.std.proofs.Common.{◌≡◌, ◌≤◌, ◌<◌, ◌++◌, ◌∙◌, Bool, ℕ, List, [], Option, Some, None, true, false, refl, sym, ap, subst, length, arith}
+use Rattle.cf_base.specs.Settings.{Profile}
+use Rattle.cf_base.specs.declared.kind.Kind.{Kind}
+use Rattle.cf_base.specs.declared.status.Status.{Status}
+use Rattle.cf_base.specs.declared.status.Status.TheVariants.{Done, Words, BadScript, ReadFault, WriteFault, OutOfMemory, TooLong, BadImage}
+use Rattle.cf_io.specs.Feeds.{appended}
+use Rattle.cf_model.specs.Rules.{AreInRange, IsPaged}
+use Rattle.cf_model.specs.State.{HeapState}
+use Rattle.script_reader.specs.Items.{Item}
+use Rattle.script_reader.specs.declared.command.Command.{Command}
+use Rattle.run_laws.proofs.CommandAnswers.{begins_there, turn_there}
+use Rattle.run_laws.proofs.Items.{items_sayable}
+use Rattle.run_laws.proofs.ReadBack.{reads_are_told}
+use Rattle.run_laws.specs.Sayable.{IsSayable}
+use Rattle.run_laws.specs.Told.{AreReadsOf}
+use Rattle.run_model.proofs.Going.{begins_going, step_going, step_same}
+use Rattle.run_model.specs.Runs.{BeginsOne, Turn}
+use Rattle.run_model.specs.Sessions.{IsGoing, RunState}
+use Rattle.run_model.specs.Texts.{Reply, led, said, text_of}
+use Rattle.std.specs.Prelude.{codes, nat_le, take}
+use Rattle.script_loop.proofs.Prefix.{part_is_prefix}
+use Rattle.script_loop.specs.Consequences.{AnswersAll, ArePlain, IsPrefixOfRun, PrintsReads, TellsTranscript}
+use Rattle.script_loop.specs.OneManager.{TurnInPart, one_manager}
+use Rattle.script_loop.specs.ScriptOutcome.{Effects, IsRow, IsRowOf, MOST_BYTES, MeetsOutcome, Wrote, WroteInPart, has_bad, items_within}
+use Rattle.transcript_laws.proofs.Telling.{run_tells}
+use Rattle.transcript_laws.specs.Transcripts.{transcript}
+
+-- where all was answered, a run over all the items led to the end
+row_wrote : (from to : RunState) (all left : List ℕ) (call : Effects) (st : Status) → IsRow one_manager st from all left call to → AnswersAll st
+    → Wrote one_manager from (items_within all) call to
+row_wrote from to all left call Done row is = row.3
+row_wrote from to all left call BadScript row is = row.1
+row_wrote from to all left call TooLong row is = row.2
+row_wrote from to all left call Words row is = absurd is
+row_wrote from to all left call ReadFault row is = absurd is
+row_wrote from to all left call WriteFault row is = absurd is
+row_wrote from to all left call OutOfMemory row is = absurd is
+row_wrote from to all left call BadImage row is = absurd is
+
+outcome_wrote : (from to : RunState) (call : Effects) (had left : Option (List ℕ)) (all : List ℕ) → had ≡ Some all → IsRowOf one_manager from had left call to
+    → AnswersAll call.status
+    → Wrote one_manager from (items_within all) call to
+outcome_wrote from to call None left all told met is = absurd (let e : None ≡ Some all = told in cc)
+outcome_wrote from to call (Some other) None all told met is = absurd met
+outcome_wrote from to call (Some other) (Some left) all told met is =
+    let same : other ≡ all = cc in
+    subst (λ (l : List ℕ). Wrote one_manager from (items_within l) call to) same (row_wrote from to other left call call.status met is)
+
+pub wrote_all : (from to : RunState) (call : Effects) (all : List ℕ) → call.had ≡ Some all → MeetsOutcome one_manager from call to → AnswersAll call.status
+    → Wrote one_manager from (items_within all) call to
+wrote_all from to call all told met is = outcome_wrote from to call call.had call.left all told met is
+
+pub prints_reads : (from to : RunState) (wanted : List Item) (call : Effects) → Wrote one_manager from wanted call to → PrintsReads wanted call
+prints_reads from to wanted call w = record { replies = w.replies; reads = reads_are_told from.heap.kind wanted w.replies w.end w.run; written = w.written }
+
+-- ---- what one manager owes, and its prefix
+
+module _ (kind : Kind) where
+  abbrev OfKind : RunState → Type 0
+  OfKind s = (s.heap.kind ≡ kind) × IsGoing s
+
+  begins_on : (p : Profile) (reply : Reply) (s : RunState) → BeginsOne kind p reply s → OfKind s
+  begins_on p reply s begins = (ap (λ (h : HeapState). h.kind) begins.0.heap, begins_going kind p s begins.0)
+
+  turns_on : (old : RunState) (c : Command) (reply : Reply) (new : RunState) → OfKind old → Turn old c reply new → OfKind new
+  turns_on old c reply new on turn = ((step_same old new c reply (on.1).rules turn.step).kind ∙ on.0, step_going old new c reply on.1 turn.step)
+
+  opens_there : (p : Profile) → AreInRange p → (reply : Reply) × (s : RunState) × BeginsOne kind p reply s
+  opens_there p can = let b = begins_there kind p can in (said (codes "ok"), b.0, (b.1, refl))
+
+  turns_there : (old : RunState) (c : Command) → OfKind old → IsSayable c → (reply : Reply) × (new : RunState) × Turn old c reply new
+  turns_there old c on can = turn_there old c on.1 can
+
+  cut_whole : (old : RunState) (c : Command) (out : List ℕ) (new : RunState) → OfKind old → IsSayable c → TurnInPart old c out new
+      → (reply : Reply) × (mid : RunState) × (lost : List ℕ) × Turn old c reply mid × (led [] reply ≡ out ++ lost)
+  cut_whole old c out new on can part = (part.reply, new, part.lost, part.turn, part.cut)
+
+pub cut_is_prefix : (from to : RunState) (call : Effects) (all : List ℕ)
+    → (w : WroteInPart one_manager from (items_within all) call to)
+    → IsPrefixOfRun from.heap.kind (items_within all) (text_of [] w.replies ++ w.front)
+cut_is_prefix from to call all w =
+    let kind = from.heap.kind in
+    let p = part_is_prefix one_manager from (OfKind kind) (begins_on kind) (turns_on kind) (opens_there kind) (turns_there kind) (cut_whole kind)
+    (items_within all) w.before w.after w.item w.replies w.mid w.end w.front
+    (items_sayable (take MOST_BYTES all) (nat_le (length all) MOST_BYTES)) w.parts w.run w.part in
+    record { replies = p.0; end = p.1; run = p.3; missing = p.2; prefix = p.4 }
+
+-- ---- transcripts
+
+pub tells : (from to : RunState) (wanted : List Item) (call : Effects) → Wrote one_manager from wanted call to → ArePlain from.heap.kind wanted
+    → call.after ≡ appended call.before (text_of [] (transcript from.heap.kind wanted))
+tells from to wanted call w plain =
+    w.written ∙ ap (λ (r : List Reply). appended call.before (text_of [] r))
+    (run_tells from.heap.kind plain.paged wanted None w.end w.replies tt plain.ones plain.placeless w.run)
+
+tells_of : (from to : RunState) (call : Effects) (had : Option (List ℕ)) → had ≡ call.had → MeetsOutcome one_manager from call to → AnswersAll call.status
+    → TellsTranscript from.heap.kind had call
+tells_of from to call None told met is = tt
+tells_of from to call (Some all) told met is = tells from to (items_within all) call (wrote_all from to call all (sym told) met is)
+
+pub transcript_told : (from to : RunState) (call : Effects) → MeetsOutcome one_manager from call to → AnswersAll call.status
+    → TellsTranscript from.heap.kind call.had call
+transcript_told from to call met is = tells_of from to call call.had refl met is
+
+-- ---- cuts
+
+-- what the rows say of the bytes alone
+abbrev BytesSay : Status → List ℕ → Type 0
+BytesSay Done all = (length all ≤ MOST_BYTES) × (has_bad (items_within all) ≡ false)
+BytesSay BadScript all = has_bad (items_within all) ≡ true
+BytesSay TooLong all = (MOST_BYTES < length all) × (has_bad (items_within all) ≡ false)
+BytesSay status all = ⊥
+
+row_says : (from to : RunState) (all left : List ℕ) (call : Effects) (st : Status) → IsRow one_manager st from all left call to → AnswersAll st
+    → BytesSay st all
+row_says from to all left call Done row is = (row.0, row.2)
+row_says from to all left call BadScript row is = row.0
+row_says from to all left call TooLong row is = (row.0, row.1)
+row_says from to all left call Words row is = absurd is
+row_says from to all left call ReadFault row is = absurd is
+row_says from to all left call WriteFault row is = absurd is
+row_says from to all left call OutOfMemory row is = absurd is
+row_says from to all left call BadImage row is = absurd is
+
+says_of : (from to : RunState) (call : Effects) (had left : Option (List ℕ)) (all : List ℕ) → had ≡ Some all → IsRowOf one_manager from had left call to
+    → AnswersAll call.status → BytesSay call.status all
+says_of from to call None left all told met is = absurd (let e : None ≡ Some all = told in cc)
+says_of from to call (Some other) None all told met is = absurd met
+says_of from to call (Some other) (Some left) all told met is =
+    let same : other ≡ all = cc in
+    subst (BytesSay call.status) same (row_says from to other left call call.status met is)
+
+both_ways : (b : Bool) → b ≡ true → b ≡ false → ⊥
+both_ways b t f = absurd (let e : true ≡ false = sym t ∙ f in cc)
+
+one_status : (a b : Status) (all : List ℕ) → BytesSay a all → BytesSay b all → b ≡ a
+one_status Done Done all x y = refl
+one_status Done BadScript all x y = absurd (both_ways _ y x.1)
+one_status Done TooLong all x y = absurd (let few = x.0 in let past = y.0 in omega arith)
+one_status BadScript Done all x y = absurd (both_ways _ x y.1)
+one_status BadScript BadScript all x y = refl
+one_status BadScript TooLong all x y = absurd (both_ways _ x y.1)
+one_status TooLong Done all x y = absurd (let few = y.0 in let past = x.0 in omega arith)
+one_status TooLong BadScript all x y = absurd (both_ways _ y x.1)
+one_status TooLong TooLong all x y = refl
+one_status Words b all x y = absurd x
+one_status ReadFault b all x y = absurd x
+one_status WriteFault b all x y = absurd x
+one_status OutOfMemory b all x y = absurd x
+one_status BadImage b all x y = absurd x
+one_status Done Words all x y = absurd y
+one_status Done ReadFault all x y = absurd y
+one_status Done WriteFault all x y = absurd y
+one_status Done OutOfMemory all x y = absurd y
+one_status Done BadImage all x y = absurd y
+one_status BadScript Words all x y = absurd y
+one_status BadScript ReadFault all x y = absurd y
+one_status BadScript WriteFault all x y = absurd y
+one_status BadScript OutOfMemory all x y = absurd y
+one_status BadScript BadImage all x y = absurd y
+one_status TooLong Words all x y = absurd y
+one_status TooLong ReadFault all x y = absurd y
+one_status TooLong WriteFault all x y = absurd y
+one_status TooLong OutOfMemory all x y = absurd y
+one_status TooLong BadImage all x y = absurd y
+
+pub same_status : (from other to there : RunState) (one two : Effects) (all : List ℕ) → one.had ≡ Some all → two.had ≡ Some all
+    → MeetsOutcome one_manager from one to
+    → MeetsOutcome one_manager other two there → AnswersAll one.status → AnswersAll two.status → two.status ≡ one.status
+same_status from other to there one two all told told2 met met2 is is2 =
+    one_status one.status two.status all (says_of from to one one.had one.left all told met is) (says_of other there two two.had two.left all told2 met2 is2)
+
+pub same_output : (from other to there : RunState) (one two : Effects) (all : List ℕ) → one.had ≡ Some all → two.had ≡ Some all
+    → MeetsOutcome one_manager from one to
+    → MeetsOutcome one_manager other two there → AnswersAll one.status → AnswersAll two.status → other.heap.kind ≡ from.heap.kind
+    → ArePlain from.heap.kind (items_within all)
+    → two.before ≡ one.before → two.after ≡ one.after
+same_output from other to there one two all told told2 met met2 is is2 kinds plain before =
+    let first = tells from to (items_within all) one (wrote_all from to one all told met is) plain in
+    let second = tells other there (items_within all) two (wrote_all other there two all told2 met2 is2)
+    (subst (λ (k : Kind). ArePlain k (items_within all)) (sym kinds) plain) in
+    second ∙ ap (λ (k : Kind). appended two.before (text_of [] (transcript k (items_within all)))) kinds
+    ∙ ap (λ (w : Option (List ℕ)). appended w (text_of [] (transcript from.heap.kind (items_within all)))) before ∙ sym first

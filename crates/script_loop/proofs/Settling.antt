@@ -1,0 +1,81 @@
+-- A run that keeps the settings of the `heap` line.
+use Rattle.std.proofs.Common.{◌≡◌, ◌∙◌, ℕ, List, [], ◌∷◌, Option, Some, None, Result, Ok, Err, refl, sym, ap, subst}
+use Rattle.std.specs.Prelude.{⊤, option_map}
+use Rattle.cf_base.specs.Settings.{profile_of}
+use Rattle.cf_base.specs.declared.settings.Settings.{Settings}
+use Rattle.cf_model.specs.State.{HeapState}
+use Rattle.run_model.proofs.Going.{begins_going, step_going, step_same}
+use Rattle.run_model.specs.Sessions.{IsGoing, RunState}
+use Rattle.run_model.specs.Texts.{Reply}
+use Rattle.script_loop.specs.OneManager.{one_manager}
+use Rattle.script_loop.specs.ScriptOutcome.{Effects, StandsAfter, Wrote}
+use Rattle.script_loop.specs.Semantics.{AnswersBy, OpensBy, RunBy, Semantics, StepBy, snapshot}
+use Rattle.script_loop.specs.WithSettings.{IsOpenWith, Settled, settled, with_settings}
+use Rattle.script_loop.specs.declared.player.OpenFault.{OpenFault}
+use Rattle.script_loop.specs.declared.player.OpenFault.TheVariants as fault
+use Rattle.cf_base.specs.declared.answers.Failed.{Failed}
+use Rattle.script_reader.specs.declared.command.Command.{Command}
+use Rattle.script_reader.specs.Items.{Item, asks, bad, starts}
+
+-- one item, with the settings beside it
+module _ {S P T : Type 0} (m : Semantics S P) (old new : S) (before : Option Settings) (w w' : Option (List ℕ)) where
+  pub opens_settled : (settings : Settings) (r : Result T OpenFault) → OpensBy m (snapshot old w) settings r (snapshot new w')
+      → OpensBy (with_settings m) (snapshot (settled old before) w) settings r (snapshot (settled new (Some settings)) w')
+  opens_settled settings (Ok u) o = record { reply = o.reply; begins = (o.begins, refl); written = o.written }
+  opens_settled settings (Err fault.Failed) o =
+      record { reply = o.reply; front = o.front; lost = o.lost; begins = (o.begins, refl); cut = o.cut; written = o.written }
+  opens_settled settings (Err fault.OutOfMemory) o = o
+
+  pub answers_settled : (c : Command) (r : Result T Failed) → AnswersBy m (snapshot old w) c r (snapshot new w')
+      → AnswersBy (with_settings m) (snapshot (settled old before) w) c r (snapshot (settled new before) w')
+  answers_settled c (Ok u) a = record { reply = a.reply; turns = (a.turns, refl); written = a.written }
+  answers_settled c (Err e) a = record { out = a.out; turns = (a.turns, refl); written = a.written }
+
+-- it goes on with the settings that it keeps
+abbrev GoesWith : Option (Settled RunState) → Type 0
+GoesWith None = ⊤
+GoesWith (Some s) = IsGoing s.state × (option_map profile_of s.settings ≡ Some s.state.heap.profile)
+
+abbrev seen : Option (Settled RunState) → Option RunState
+seen = option_map (λ (s : Settled RunState). s.state)
+
+module _ (from : Settled RunState) where
+  step_settled : (old : Option (Settled RunState)) (item : Item) (reply : Reply) (new : Option (Settled RunState)) → GoesWith old
+      → StepBy (with_settings one_manager) from old item reply new
+      → StepBy one_manager from.state (seen old) item reply (seen new) × GoesWith new
+  step_settled old (starts p) reply new on (s, (begins, kept), is) = (
+    (s.state, begins, ap seen is),
+    subst GoesWith (sym is) (begins_going from.state.heap.kind p s.state begins.0, kept ∙ ap Some (sym (ap (λ (h : HeapState). h.profile) begins.0.heap))),
+  )
+  step_settled None (asks c) reply new on (none, is) = ((none, ap seen is), subst GoesWith (sym is) tt)
+  step_settled (Some old) (asks c) reply new on (s, (turn, kept), is) = (
+    (s.state, turn, ap seen is),
+    subst GoesWith (sym is) (
+      step_going old.state s.state c reply on.0 turn.step,
+      ap (option_map profile_of) kept ∙ on.1 ∙ ap Some (sym (step_same old.state s.state c reply (on.0).rules turn.step).profile),
+    ),
+  )
+  step_settled old (bad n) reply new on (named, is) = ((named, ap seen is), subst GoesWith (sym is) on)
+
+  run_settled : (old : Option (Settled RunState)) (items : List Item) (replies : List Reply) (new : Option (Settled RunState)) → GoesWith old
+      → RunBy (with_settings one_manager) from old items replies new
+      → RunBy one_manager from.state (seen old) items replies (seen new) × GoesWith new
+  run_settled old [] replies new on (none, is) = ((none, ap seen is), subst GoesWith (sym is) on)
+  run_settled old (item ∷ items) replies new on (mid, reply, more, step, are, run) =
+      let first = step_settled old item reply mid on step in
+      let rest = run_settled mid items more new first.1 run in
+      ((seen mid, reply, more, first.0, are, rest.0), rest.1)
+
+  open_with : (s : Option (Settled RunState)) → GoesWith s → IsOpenWith s
+  open_with None on = tt
+  open_with (Some s) on = on.1
+
+  stands_seen : (end : Option (Settled RunState)) (to : Settled RunState) → StandsAfter from end to → StandsAfter from.state (seen end) to.state
+  stands_seen None to is = ap (λ (s : Settled RunState). s.state) is
+  stands_seen (Some s) to is = ap (λ (s : Settled RunState). s.state) is
+
+  pub wrote_settled : (to : Settled RunState) (wanted : List Item) (call : Effects) (w : Wrote (with_settings one_manager) from wanted call to)
+      → Wrote one_manager from.state wanted call to.state × IsOpenWith w.end
+  wrote_settled to wanted call w =
+      let run = run_settled None wanted w.replies w.end tt w.run in
+      (record { replies = w.replies; end = seen w.end; run = run.0; written = w.written; stands = stands_seen w.end to w.stands }, open_with w.end run.1)

@@ -1,0 +1,6 @@
+use Rattle.run_model.proofs.Going.{step_same}
+use Rattle.script_loop.proofs.one_manager.SessionPlayer.answer.Goals as goal
+
+pub returns-in-Ok-clause-plan : goal.returns-in-Ok-clause-plan
+returns-in-Ok-clause-plan g c =
+    (step_same _ _ c.args.command.now c.in-Ok.ensures.answers.0.reply c.requires.going.rules c.in-Ok.ensures.answers.0.turn.step).kind

@@ -1,0 +1,46 @@
+-- What follows from the outcome of a script on one manager.
+use Rattle.std.specs.Prelude.{◌≡◌, ◌++◌, ⊤, ℕ, List, [], Option, Some, None}
+use Rattle.cf_base.specs.declared.kind.Kind.{Kind}
+use Rattle.cf_base.specs.declared.status.Status.{Status}
+use Rattle.cf_base.specs.declared.status.Status.TheVariants.{Done, BadScript, TooLong}
+use Rattle.cf_io.specs.Feeds.{appended}
+use Rattle.cf_model.specs.Rules.{IsPaged}
+use Rattle.script_reader.specs.Items.{Item}
+use Rattle.run_laws.specs.Told.{AreReadsOf}
+use Rattle.run_model.specs.Runs.{Run}
+use Rattle.run_model.specs.Sessions.{RunState}
+use Rattle.run_model.specs.Texts.{Reply, text_of}
+use Rattle.script_loop.specs.ScriptOutcome.{Effects, items_within}
+use Rattle.transcript_laws.specs.Transcripts.{ArePlaceless, StaysAtOne, transcript}
+
+-- the statuses at which every item within the limit was answered
+abbrev pub AnswersAll : Status → Type 0
+AnswersAll Done = ⊤
+AnswersAll BadScript = ⊤
+AnswersAll TooLong = ⊤
+AnswersAll status = ⊥
+
+-- replies to these items were printed, and each read among them gives the bytes last written
+pub record PrintsReads (wanted : List Item) (call : Effects) : Type 0 where
+  pub replies : List Reply
+  pub reads : AreReadsOf None wanted replies
+  pub written : call.after ≡ appended call.before (text_of [] replies)
+
+-- the text is a prefix of what some run over all the items prints
+pub record IsPrefixOfRun (kind : Kind) (wanted : List Item) (text : List ℕ) : Type 0 where
+  pub replies : List Reply
+  pub end : Option RunState
+  pub run : Run kind None wanted replies end
+  pub missing : List ℕ
+  pub prefix : text_of [] replies ≡ text ++ missing
+
+-- with pages, every bound is 1 at each command but `k`, and none asks for a place or a cost
+pub record ArePlain (kind : Kind) (wanted : List Item) : Type 0 where
+  pub paged : IsPaged kind
+  pub ones : StaysAtOne kind None wanted
+  pub placeless : ArePlaceless wanted
+
+-- what is printed over plain items is their transcript
+abbrev pub TellsTranscript : Kind → Option (List ℕ) → Effects → Type 0
+TellsTranscript kind None call = ⊤
+TellsTranscript kind (Some all) call = ArePlain kind (items_within all) → call.after ≡ appended call.before (text_of [] (transcript kind (items_within all)))

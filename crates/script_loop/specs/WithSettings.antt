@@ -1,0 +1,31 @@
+-- A player that keeps the settings of the `heap` line.
+use Rattle.std.specs.Prelude.{◌≡◌, ⊤, Option, Some, None, option_map}
+use Rattle.cf_base.specs.Settings.{profile_of}
+use Rattle.cf_base.specs.declared.settings.Settings.{Settings}
+use Rattle.run_model.specs.Sessions.{RunState}
+use Rattle.script_loop.specs.Semantics.{Semantics}
+
+-- a state of another player, and the settings that were met
+pub record Settled (S : Type 0) : Type 0 where
+  pub state : S
+  pub settings : Option Settings
+
+abbrev pub settled : {S : Type 0} → S → Option Settings → Settled S
+settled state settings = record { state = state; settings = settings }
+
+-- it answers as the other player does; the `heap` line gives the settings, and nothing changes them
+abbrev pub with_settings : {S P : Type 0} → Semantics S P → Semantics (Settled S) P
+with_settings m = record {
+  plan = λ s. m.plan s.state;
+  is_fresh = λ s. m.is_fresh s.state × (s.settings ≡ None);
+  is_going = λ s. m.is_going s.state;
+  begins = λ plan p reply s. m.begins plan p reply s.state × (option_map profile_of s.settings ≡ Some p);
+  turns = λ old command reply new. m.turns old.state command reply new.state × (new.settings ≡ old.settings);
+  turns_in_part = λ old command out new. m.turns_in_part old.state command out new.state × (new.settings ≡ old.settings);
+  lacks = λ old new. m.lacks old.state new.state;
+}
+
+-- the manager is open with the settings that are kept
+abbrev pub IsOpenWith : Option (Settled RunState) → Type 0
+IsOpenWith None = ⊤
+IsOpenWith (Some s) = option_map profile_of s.settings ≡ Some s.state.heap.profile

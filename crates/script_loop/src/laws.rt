@@ -1,0 +1,59 @@
+//! Laws of the outcome of a script on one manager.
+ghost use Rattle.std.specs.Prelude.{◌≡◌, ◌++◌, ℕ, List, [], None, Some};
+ghost use Rattle.run_laws.specs.Told.{AreReadsOf};
+ghost use Rattle.run_model.specs.Sessions.{RunState};
+ghost use Rattle.run_model.specs.Texts.{text_of};
+ghost use Rattle.script_reader.specs.Items.{Item};
+ghost use Rattle.script_loop.specs.Consequences.{AnswersAll, ArePlain, IsPrefixOfRun, PrintsReads, TellsTranscript};
+ghost use Rattle.script_loop.specs.OneManager.{one_manager};
+ghost use Rattle.script_loop.specs.ScriptOutcome.{Effects, MeetsOutcome, Wrote, WroteInPart, items_within};
+ghost use Rattle.script_loop.specs.WithSettings.{IsOpenWith, Settled, with_settings};
+
+/// From the outcome of a script: each read that was answered gives the bytes last written through its
+/// id, on any kind of manager.
+pub fn every_read_gives_what_was_written()
+    ensures printed { (from to : RunState) (call : Effects) (all : List ℕ) → call.had ≡ Some all
+        → MeetsOutcome one_manager from call to → AnswersAll call.status
+        → PrintsReads (items_within all) call }
+    ensures whole { (from to : RunState) (wanted : List Item) (call : Effects)
+        (w : Wrote one_manager from wanted call to) → AreReadsOf None wanted w.replies }
+    ensures in_part { (from to : RunState) (wanted : List Item) (call : Effects)
+        (w : WroteInPart one_manager from wanted call to) → AreReadsOf None w.before w.replies }
+{}
+
+/// What was written before the sink failed is a prefix of what a run over the whole script prints, on
+/// any kind of manager.
+pub fn what_was_cut_is_a_prefix()
+    ensures { (from to : RunState) (call : Effects) (all : List ℕ)
+        → (w : WroteInPart one_manager from (items_within all) call to)
+        → IsPrefixOfRun from.heap.kind (items_within all) (text_of [] w.replies ++ w.front) }
+{}
+
+/// Where all was answered, the output over plain items is their transcript.
+pub fn plain_scripts_print_their_transcript()
+    ensures { (from to : RunState) (call : Effects) → MeetsOutcome one_manager from call to
+        → AnswersAll call.status → TellsTranscript from.heap.kind call.had call }
+{}
+
+/// How a source cuts its bytes never matters: two calls over the same bytes that answered all end
+/// alike, and over plain items on managers of one kind they print the same.
+pub fn cuts_never_matter()
+    ensures status { (from other to there : RunState) (one two : Effects) (all : List ℕ)
+        → one.had ≡ Some all → two.had ≡ Some all
+        → MeetsOutcome one_manager from one to → MeetsOutcome one_manager other two there
+        → AnswersAll one.status → AnswersAll two.status → two.status ≡ one.status }
+    ensures output { (from other to there : RunState) (one two : Effects) (all : List ℕ)
+        → one.had ≡ Some all → two.had ≡ Some all
+        → MeetsOutcome one_manager from one to → MeetsOutcome one_manager other two there
+        → AnswersAll one.status → AnswersAll two.status
+        → other.heap.kind ≡ from.heap.kind → ArePlain from.heap.kind (items_within all)
+        → two.before ≡ one.before → two.after ≡ one.after }
+{}
+
+/// A player that keeps the settings answers as the session does, and where its run began the manager
+/// is open with the settings that are kept.
+pub fn settings_are_kept()
+    ensures { (from to : Settled RunState) (wanted : List Item) (call : Effects)
+        (w : Wrote (with_settings one_manager) from wanted call to)
+        → Wrote one_manager from.state wanted call to.state × IsOpenWith w.end }
+{}

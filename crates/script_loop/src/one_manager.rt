@@ -1,0 +1,83 @@
+//! A script on one manager.
+ghost use Rattle.std.specs.Prelude.{◌≡◌, ◌<◌, ◌+◌, ◌⊎◌};
+ghost use Rattle.cf_base.specs.declared.kind.Kind.{Kind};
+ghost use Rattle.cf_io.specs.Feeds.{Rose, last_count};
+ghost use Rattle.cf_session.specs.Apply.{run_at};
+ghost use Rattle.run_model.specs.Sessions.{RunState, fresh_session};
+ghost use Rattle.script_loop.specs.OneManager.{one_manager};
+ghost use Rattle.script_loop.specs.ScriptOutcome.{MOST_BYTES, MeetsOutcome};
+
+use crate::player::{OpenFault, Player};
+use crate::running::play_script;
+use cf_base::{Failed, Settings, Status};
+use cf_io::{Sink, Source, put_all};
+use cf_model::Manager;
+use cf_session::Session;
+use script_reader::Command;
+
+impl<H: Manager> Player<H> for Session {
+    ghost State = { RunState };
+
+    ghost Plan = { Kind };
+
+    ghost state = { λ session heap. run_at session (H.state heap) };
+
+    ghost semantics = { one_manager };
+
+    fn open<K: Sink>(
+        &mut self,
+        heap: &mut H,
+        settings: &Settings,
+        sink: &mut K,
+    ) -> Result<(), OpenFault> {
+        match heap.open_heap(settings) {
+            Ok(()) => {}
+            Err(_) => return Err(OpenFault::OutOfMemory),
+        }
+        match put_all(sink, b"ok\n") {
+            Ok(()) => Ok(()),
+            Err(_) => Err(OpenFault::Failed),
+        }
+    }
+
+    fn answer<K: Sink>(
+        &mut self,
+        heap: &mut H,
+        command: &Command,
+        sink: &mut K,
+    ) -> Result<(), Failed> {
+        match self.apply(heap, command, b"", sink) {
+            Ok(_) => Ok(()),
+            Err(failed) => Err(failed),
+        }
+    }
+}
+
+/// Answers each line of a script before it takes the next piece of it: its `heap` line opens the
+/// manager, and each command is answered on it. It stops at a bad line, at a fault of the source or
+/// the sink, where an allocation fails at the `heap` line, and past 268,435,455 bytes. Session and
+/// manager are then at the end of that run, and go on from there.
+pub fn run_script<H: Manager, S: Source, K: Sink>(
+    session: &mut Session,
+    heap: &mut H,
+    source: &mut S,
+    sink: &mut K,
+) -> Status
+    requires { session.old ≡ fresh_session }
+    ensures outcome { MeetsOutcome one_manager (run_at session.old (H.state heap.old)) (record {
+      had = S.rest source.old;
+      left = S.rest source.new;
+      before = K.written sink.old;
+      after = K.written sink.new;
+      status = result;
+    }) (run_at session.new (H.state heap.new)) }
+    ensures kind { (H.state heap.new).kind ≡ (H.state heap.old).kind }
+    // The causes, also where the source tells nothing of its bytes.
+    ensures silent { result ≡ Status.OutOfMemory → K.written sink.new ≡ K.written sink.old }
+    ensures read_fault { result ≡ Status.ReadFault → Rose (S.faults source.old) (S.faults source.new) }
+    ensures write_fault { result ≡ Status.WriteFault → Rose (K.faults sink.old) (K.faults sink.new) }
+    ensures too_long { result ≡ Status.TooLong
+        → (S.given source.old + MOST_BYTES < S.given source.new) ⊎ (S.given source.new ≡ last_count) }
+{
+    play_script(session, heap, source, sink)
+}

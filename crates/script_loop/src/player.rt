@@ -1,0 +1,64 @@
+//! Who answers the items of a script.
+ghost use Rattle.std.specs.Prelude.{◌≡◌, ◌≤◌, Err, OnErr, OnOk};
+ghost use Rattle.cf_io.specs.Feeds.{Rose};
+ghost use Rattle.script_reader.specs.Commands.{IsWellFormed};
+ghost use Rattle.script_loop.specs.Semantics.{AnswersBy, OpensBy, Semantics, snapshot};
+
+use cf_base::{Failed, Settings};
+use cf_io::Sink;
+use script_reader::Command;
+
+/// Why a `heap` line wasn't answered whole.
+#[derive(Clone, Copy, Debug, Drop, PartialEq, Eq)]
+pub enum OpenFault {
+    /// The sink failed; the line has taken effect, and a prefix of its reply was written.
+    Failed,
+    /// An allocation failed, and nothing was written.
+    OutOfMemory,
+}
+
+/// Answers the items of a script on a heap: on one manager, on a list of managers, or on another
+/// heap. Each mode that reads a script is a player, and `play_script` is the loop of all.
+pub trait Player<H> {
+    /// A run at one moment: what the player keeps, and its heap.
+    ghost State: { Type 0 };
+
+    /// What no item changes.
+    ghost Plan: { Type 0 };
+
+    ghost state: { Self → H → State };
+
+    ghost semantics: { Semantics State Plan };
+
+    /// Answers the `heap` line, which comes once and first.
+    fn open<K: Sink>(
+        &mut self,
+        heap: &mut H,
+        settings: &Settings,
+        sink: &mut K,
+    ) -> Result<(), OpenFault>
+        requires { semantics.is_fresh (state self.old heap.old) }
+        ensures opens { OpensBy semantics (snapshot (state self.old heap.old) (K.written sink.old)) settings.now
+            result (snapshot (state self.new heap.new) (K.written sink.new)) }
+        ensures going { OnOk result (semantics.is_going (state self.new heap.new)) }
+        ensures plan { semantics.plan (state self.new heap.new) ≡ semantics.plan (state self.old heap.old) }
+        ensures grows { K.faults sink.old ≤ K.faults sink.new }
+        ensures failed { result ≡ Err OpenFault.Failed → Rose (K.faults sink.old) (K.faults sink.new) };
+
+    /// Answers a command. At `Failed` the command has taken effect, and a part of its reply was
+    /// written.
+    fn answer<K: Sink>(
+        &mut self,
+        heap: &mut H,
+        command: &Command,
+        sink: &mut K,
+    ) -> Result<(), Failed>
+        requires going { semantics.is_going (state self.old heap.old) }
+        requires formed { IsWellFormed command.now }
+        ensures answers { AnswersBy semantics (snapshot (state self.old heap.old) (K.written sink.old)) command.now
+            result (snapshot (state self.new heap.new) (K.written sink.new)) }
+        ensures going { semantics.is_going (state self.new heap.new) }
+        ensures plan { semantics.plan (state self.new heap.new) ≡ semantics.plan (state self.old heap.old) }
+        ensures grows { K.faults sink.old ≤ K.faults sink.new }
+        ensures failed { OnErr result (Rose (K.faults sink.old) (K.faults sink.new)) };
+}

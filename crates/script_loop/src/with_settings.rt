@@ -1,0 +1,44 @@
+//! A player that keeps the settings of the `heap` line.
+ghost use Rattle.script_loop.specs.WithSettings.{Settled, settled, with_settings};
+
+use crate::player::{OpenFault, Player};
+use cf_base::{Failed, Settings};
+use cf_io::Sink;
+use script_reader::Command;
+
+/// A player, and the settings of the `heap` line that it met, so that they can be told with what its
+/// heap holds at the end of a script.
+#[derive(Drop)]
+pub struct WithSettings<A> {
+    pub player: A,
+    pub settings: Option<Settings>,
+}
+
+impl<H, A: Player<H>> Player<H> for WithSettings<A> {
+    ghost State = { Settled A.State };
+
+    ghost Plan = { A.Plan };
+
+    ghost state = { λ w heap. settled (A.state w.player heap) w.settings };
+
+    ghost semantics = { with_settings A.semantics };
+
+    fn open<K: Sink>(
+        &mut self,
+        heap: &mut H,
+        settings: &Settings,
+        sink: &mut K,
+    ) -> Result<(), OpenFault> {
+        self.settings = Some(*settings);
+        self.player.open(heap, settings, sink)
+    }
+
+    fn answer<K: Sink>(
+        &mut self,
+        heap: &mut H,
+        command: &Command,
+        sink: &mut K,
+    ) -> Result<(), Failed> {
+        self.player.answer(heap, command, sink)
+    }
+}

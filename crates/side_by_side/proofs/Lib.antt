@@ -1,0 +1,9 @@
+pub mod Answering
+pub mod Zipping
+pub mod Passing
+pub mod Naming
+pub mod Begun
+pub mod Oks
+pub mod Unzipping
+pub mod Standing
+pub mod Outcomes

@@ -1,0 +1,47 @@
+-- Replies of which each line comes after a name.
+use Rattle.std.proofs.Common.{◌≡◌, ◌++◌, ◌∙◌, ℕ, List, [], ◌∷◌, refl, sym, ap, append_assoc}
+use Rattle.cf_io.specs.Feeds.{appended}
+use Rattle.run_model.specs.Texts.{Reply, led}
+use Rattle.side_by_side.specs.Many.{lead_of}
+use Rattle.script_reader.specs.declared.command.Command.{Command}
+use Rattle.run_model.proofs.Going.{step_same}
+use Rattle.run_model.specs.Answering.{IsAnswered, IsCutShort, Moment}
+use Rattle.run_model.specs.Runs.{Turn}
+use Rattle.run_model.specs.Sessions.{IsGoing, RunState}
+use Rattle.cf_base.specs.declared.kind.Kind.{Kind}
+use Rattle.side_by_side.specs.Going.{TurnNamed, TurnNamedInPart}
+use Rattle.side_by_side.specs.Many.{named}
+
+-- the lead of each line, or its name
+led_named : (kind : Kind) (reply : Reply) → led (lead_of kind) reply ≡ led [] (named kind reply)
+led_named kind [] = refl
+led_named kind (line ∷ rest) = ap (λ l. l ++ led (lead_of kind) rest) (sym (append_assoc (lead_of kind) line (10 ∷ [])))
+    ∙ ap (λ l. ((lead_of kind ++ line) ++ 10 ∷ []) ++ l) (led_named kind rest)
+
+pub named_whole : (old : Moment) (c : Command) (lead : List ℕ) (new : Moment) → lead ≡ lead_of old.run.heap.kind
+    → IsAnswered old (record { command = c; lead = lead }) new
+    → (reply : Reply) × TurnNamed old.run c reply new.run × (new.written ≡ appended old.written (led [] reply))
+named_whole old c lead new is a = (
+  named old.run.heap.kind a.reply,
+  record { own = a.reply; turn = a.turn; reply_is = refl },
+  a.written ∙ ap (λ l. appended old.written (led l a.reply)) is ∙ ap (λ l. appended old.written l) (led_named old.run.heap.kind a.reply),
+)
+
+pub named_cut : (old : Moment) (c : Command) (lead : List ℕ) (new : Moment) → lead ≡ lead_of old.run.heap.kind
+    → IsCutShort old (record { command = c; lead = lead }) new
+    → (out : List ℕ) × TurnNamedInPart old.run c out new.run × (new.written ≡ appended old.written out)
+named_cut old c lead new is a = (
+  a.front,
+  record {
+    own = a.reply;
+    lost = a.lost;
+    turn = a.turn;
+    cut = sym (led_named old.run.heap.kind a.reply) ∙ ap (λ l. led l a.reply) (sym is)
+        ∙ a.cut;
+  },
+  a.written,
+)
+
+-- the kind stays
+pub turn_kind : (old new : RunState) (c : Command) (reply : Reply) → IsGoing old → Turn old c reply new → new.heap.kind ≡ old.heap.kind
+turn_kind old new c reply going turn = (step_same old new c reply going.rules turn.step).kind

@@ -1,0 +1,11 @@
+use Rattle.std.proofs.Common.{◌∙◌, sym}
+use Rattle.side_by_side.proofs.Answering.{each_answers}
+use Rattle.side_by_side.proofs.Zipping.{mapped_twice}
+use Rattle.side_by_side.proofs.each.SessionsPlayerVec.answer.Goals as goal
+
+pub returns-clause-plan : goal.returns-clause-plan
+returns-clause-plan g c = mapped_twice (λ h. h.kind) (λ m. g.H.Manager.state m) c.answer_each.new.managers.items ∙ c.answer_each.ensures.kinds
+    ∙ sym (mapped_twice (λ h. h.kind) (λ m. g.H.Manager.state m) c.args.heap.now.items)
+
+pub returns-clause-answers : goal.returns-clause-answers
+returns-clause-answers g c = each_answers _ _ _ _ c.args.command.now _ c.answer_each.ensures.answers

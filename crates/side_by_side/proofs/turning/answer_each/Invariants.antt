@@ -1,0 +1,21 @@
+use Rattle.std.proofs.Common.{◌≡◌, ◌≤◌, map, length, []}
+use Rattle.std.specs.List.{All}
+use Rattle.cf_io.specs.Feeds.{appended}
+use Rattle.run_model.specs.Texts.{Reply, led}
+use Rattle.run_model.specs.Sessions.{IsGoing}
+use Rattle.side_by_side.specs.Going.{Swept}
+use Rattle.side_by_side.specs.Many.{zipped}
+use Rattle.side_by_side.proofs.turning.answer_each.Given as goal
+
+abbrev pub invariant-loop-i : goal.invariant-loop-i
+invariant-loop-i g l = record {
+  reply : Reply;
+  swept : Swept (zipped l.initial.sessions.items (map (λ m. g.H.Manager.state m) l.initial.managers.items)) l.i l.command reply
+      (zipped l.sessions.items (map (λ m. g.H.Manager.state m) l.managers.items));
+  sessions : length l.sessions.items ≡ length l.initial.sessions.items;
+  managers : length l.managers.items ≡ length l.initial.managers.items;
+  going : All IsGoing (zipped l.sessions.items (map (λ m. g.H.Manager.state m) l.managers.items));
+  kinds : map (λ m. (g.H.Manager.state m).kind) l.managers.items ≡ map (λ m. (g.H.Manager.state m).kind) l.initial.managers.items;
+  wrote : g.K.Sink.written l.sink ≡ appended (g.K.Sink.written l.initial.sink) (led [] reply);
+  grows : g.K.Sink.faults l.initial.sink ≤ g.K.Sink.faults l.sink;
+}

@@ -1,0 +1,110 @@
+-- Many managers side by side, each with its session.
+use Rattle.std.specs.Prelude.{◌≡◌, ◌++◌, ◌⊎◌, ℕ, List, [], ◌∷◌, Option, codes, length, map}
+use Rattle.std.specs.List.{All}
+use Rattle.run_model.specs.Texts.{Reply, led, said}
+use Rattle.cf_base.specs.Kind.{kind_name}
+use Rattle.cf_base.specs.Settings.{Profile}
+use Rattle.cf_base.specs.declared.kind.Kind.{Kind}
+use Rattle.cf_model.specs.Loops.{Opens, Stops}
+use Rattle.cf_model.specs.State.{HeapState}
+use Rattle.cf_model.specs.Steps.{IsClosed}
+use Rattle.cf_base.specs.declared.settings.Settings.{Settings}
+use Rattle.cf_session.specs.Apply.{run_at}
+use Rattle.script_reader.specs.declared.command.Command.{Command}
+use Rattle.run_model.specs.Runs.{BeginsOne, Turn}
+use Rattle.script_loop.specs.Semantics.{Semantics}
+use Rattle.run_model.specs.Sessions.{IsGoing, RunState, SessionState, fresh_session}
+
+-- the sessions, and the managers
+pub record Many : Type 0 where
+  pub sessions : List SessionState
+  pub heaps : List HeapState
+
+abbrev pub many_at : List SessionState → List HeapState → Many
+many_at sessions heaps = record { sessions = sessions; heaps = heaps }
+
+-- the runs, one of each session with its manager
+abbrev pub zipped : List SessionState → List HeapState → List RunState
+zipped [] heaps = []
+zipped (s ∷ ss) [] = []
+zipped (s ∷ ss) (h ∷ hs) = run_at s h ∷ zipped ss hs
+
+abbrev pub runs_of : Many → List RunState
+runs_of m = zipped m.sessions m.heaps
+
+abbrev pub kinds_of : Many → List Kind
+kinds_of m = map (λ h. h.kind) m.heaps
+
+-- so many sessions, which were just begun
+pub record AreFresh (count : ℕ) (sessions : List SessionState) : Type 0 where
+  pub many : length sessions ≡ count
+  pub fresh : All (λ s. s ≡ fresh_session) sessions
+
+-- each manager has a session, which was just begun
+pub record IsEachFresh (m : Many) : Type 0 where
+  pub count : length m.sessions ≡ length m.heaps
+  pub fresh : All (λ s. s ≡ fresh_session) m.sessions
+
+-- each manager has a session, and their run goes on
+pub record IsEachGoing (m : Many) : Type 0 where
+  pub count : length m.sessions ≡ length m.heaps
+  pub going : All IsGoing (runs_of m)
+
+-- what leads each line of a reply: the name of the kind, and a space
+abbrev pub lead_of : Kind → List ℕ
+lead_of kind = kind_name kind ++ 32 ∷ []
+
+-- each line of a reply after the name of its kind
+abbrev pub named : Kind → Reply → Reply
+named kind reply = map (λ line. lead_of kind ++ line) reply
+
+-- the reply of managers of these kinds that were opened
+abbrev pub oks : List Kind → Reply
+oks kinds = map (λ kind. lead_of kind ++ codes "ok") kinds
+
+-- managers of these kinds are opened, each with its own reply
+abbrev pub EachBegins : List Kind → Profile → Reply → List RunState → Type 0
+EachBegins [] p reply news = (reply ≡ []) × (news ≡ [])
+EachBegins (kind ∷ kinds) p reply news = (first : Reply) × (more : Reply) × (new : RunState) × (rest : List RunState)
+    × BeginsOne kind p first new × EachBegins kinds p more rest × (reply ≡ named kind first ++ more) × (news ≡ new ∷ rest)
+
+-- a command is answered by each, in order
+abbrev pub EachTurn : List RunState → Command → Reply → List RunState → Type 0
+EachTurn [] c reply news = (reply ≡ []) × (news ≡ [])
+EachTurn (old ∷ olds) c reply news = (first : Reply) × (more : Reply) × (new : RunState) × (rest : List RunState)
+    × Turn old c first new × EachTurn olds c more rest × (reply ≡ named old.heap.kind first ++ more) × (news ≡ new ∷ rest)
+
+-- the command took effect on the first one, of whose reply a front was written; the others are as they were
+pub record IsCutHere (old : RunState) (olds : List RunState) (c : Command) (out : List ℕ) (news : List RunState) : Type 0 where
+  pub reply : Reply
+  pub lost : List ℕ
+  pub new : RunState
+  pub turn : Turn old c reply new
+  pub cut : led [] (named old.heap.kind reply) ≡ out ++ lost
+  pub are : news ≡ new ∷ olds
+
+-- a command is answered by each in order up to one of them, of whose reply a front was written
+abbrev pub EachInPart : List RunState → Command → List ℕ → List RunState → Type 0
+EachInPart [] c out news = ⊥
+EachInPart (old ∷ olds) c out news =
+    IsCutHere old olds c out news
+    ⊎ ((first : Reply) × (more : List ℕ) × (new : RunState) × (rest : List RunState)
+    × Turn old c first new × EachInPart olds c more rest × (out ≡ led [] (named old.heap.kind first) ++ more) × (news ≡ new ∷ rest))
+
+-- memory was wanting: some are open and empty, then one is closed, and those behind it are as they were
+pub record LacksSome (old new : Many) : Type 0 where
+  pub settings : Settings
+  pub stops : Stops (Opens settings) IsClosed old.heaps new.heaps
+  pub sessions : new.sessions ≡ old.sessions
+
+-- the managers of a list, each with its session, as one player
+abbrev pub many_managers : Semantics Many (List Kind)
+many_managers = record {
+  plan = kinds_of;
+  is_fresh = IsEachFresh;
+  is_going = IsEachGoing;
+  begins = λ kinds p reply new. EachBegins kinds p reply (runs_of new);
+  turns = λ old c reply new. EachTurn (runs_of old) c reply (runs_of new);
+  turns_in_part = λ old c out new. EachInPart (runs_of old) c out (runs_of new);
+  lacks = LacksSome;
+}

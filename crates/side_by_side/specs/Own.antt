@@ -1,0 +1,68 @@
+-- The own runs of many managers that answer side by side.
+use Rattle.std.specs.Prelude.{◌≡◌, ◌++◌, ◌⊎◌, ⊤, ℕ, List, [], ◌∷◌, Option, Some, None, map}
+use Rattle.script_reader.specs.Items.{Item, asks, bad, starts}
+use Rattle.script_reader.specs.declared.command.Command.{Command}
+use Rattle.run_model.specs.Texts.{Reply, bad_line, led, said}
+use Rattle.cf_base.specs.declared.kind.Kind.{Kind}
+use Rattle.cf_model.specs.State.{HeapState}
+use Rattle.run_model.specs.Runs.{Run}
+use Rattle.run_model.specs.Sessions.{RunState}
+use Rattle.side_by_side.specs.Many.{named}
+
+-- what is printed of an item by no manager: a bad line is named
+abbrev pub alone : Item → Reply
+alone (starts p) = []
+alone (asks c) = []
+alone (bad n) = said (bad_line n)
+
+-- One manager's reply to an item, each line after its name, and behind it that of the others. A bad line is named once, without a name before it.
+abbrev pub woven : Kind → Item → Reply → Reply → Reply
+woven kind (starts p) own others = named kind own ++ others
+woven kind (asks c) own others = named kind own ++ others
+woven kind (bad n) own others = others
+
+-- the same, item by item
+abbrev pub beside : Kind → List Item → List Reply → List Reply → List Reply
+beside kind [] owns others = []
+beside kind (item ∷ items) [] others = []
+beside kind (item ∷ items) (own ∷ owns) [] = []
+beside kind (item ∷ items) (own ∷ owns) (other ∷ others) = woven kind item own other ∷ beside kind items owns others
+
+-- the state of one manager and those of the others make the states of all; none has one before the `heap` line
+abbrev pub AreTogether : Option RunState → Option (List RunState) → Option (List RunState) → Type 0
+AreTogether None None all = all ≡ None
+AreTogether None (Some others) all = ⊥
+AreTogether (Some own) None all = ⊥
+AreTogether (Some own) (Some others) all = all ≡ Some (own ∷ others)
+
+abbrev pub IsOfNone : Option (List RunState) → Type 0
+IsOfNone None = ⊤
+IsOfNone (Some all) = all ≡ []
+
+-- The replies are woven of those of a run of each manager's own over the items, which led it where it stands.
+abbrev pub OwnRuns : List Kind → List Item → List Reply → Option (List RunState) → Type 0
+OwnRuns [] items replies end = (replies ≡ map alone items) × IsOfNone end
+OwnRuns (kind ∷ kinds) items replies end = (owns : List Reply) × (others : List Reply) × (own : Option RunState) × (rest : Option (List RunState))
+    × Run kind None items owns own × OwnRuns kinds items others rest × (replies ≡ beside kind items owns others) × AreTogether own rest end
+
+-- The same over the items before a command, of whose reply `front` was written: the managers up to the one whose reply was cut are at the end of their runs
+-- over the items with the command, those behind it over the items before.
+abbrev pub OwnRunsUpTo : List Kind → List Item → Command → List Reply → List ℕ → List RunState → Type 0
+OwnRunsUpTo [] before c replies front news = ⊥
+OwnRunsUpTo (kind ∷ kinds) before c replies front news = (owns : List Reply) × (others : List Reply) × (own : Reply) × (new : RunState)
+    × (rest : List RunState)
+    × Run kind None (before ++ asks c ∷ []) (owns ++ own ∷ []) (Some new) × (replies ≡ beside kind before owns others) × (news ≡ new ∷ rest)
+    × (((lost : List ℕ) × (led [] (named kind own) ≡ front ++ lost) × OwnRuns kinds before others (Some rest))
+    ⊎ ((more : List ℕ) × (front ≡ led [] (named kind own) ++ more) × OwnRunsUpTo kinds before c others more rest))
+
+-- the items before one of them were answered by each, and of the reply to that one just `front` was written
+abbrev pub OwnRunsInPart : List Kind → List Item → Item → List Reply → List ℕ → Option (List RunState) → Type 0
+OwnRunsInPart kinds before (starts p) replies front end = (reply : Reply) × (lost : List ℕ)
+    × OwnRuns kinds (before ++ starts p ∷ []) (replies ++ reply ∷ []) end × (led [] reply ≡ front ++ lost)
+OwnRunsInPart kinds before (asks c) replies front end = (news : List RunState) × OwnRunsUpTo kinds before c replies front news × (end ≡ Some news)
+OwnRunsInPart kinds before (bad n) replies front end = (lost : List ℕ) × OwnRuns kinds before replies end × (led [] (said (bad_line n)) ≡ front ++ lost)
+
+-- each manager stands where its run led it; none was touched where none began
+abbrev pub StandEach : List HeapState → Option (List RunState) → List HeapState → Type 0
+StandEach olds None news = news ≡ olds
+StandEach olds (Some runs) news = news ≡ map (λ r. r.heap) runs

@@ -1,0 +1,73 @@
+//! A session for each of many managers.
+ghost use Rattle.std.specs.Prelude.{◌≡◌, IfOk, List, map};
+ghost use Rattle.cf_base.specs.declared.kind.Kind.{Kind as TheKind};
+ghost use Rattle.side_by_side.specs.Many.{AreFresh, Many, many_at, many_managers};
+
+use crate::telling::tell_open;
+use crate::turning::answer_each;
+use cf_base::{Failed, OutOfMemory, Settings};
+use cf_io::Sink;
+use cf_model::{Manager, open_all};
+use cf_session::Session;
+use script_loop::{OpenFault, Player};
+use script_reader::Command;
+use std::alloc::Global;
+use std::rt::Runtime;
+
+/// A session for each of many managers.
+#[derive(Drop)]
+pub struct Sessions {
+    pub each: Vec<Session>,
+}
+
+impl Sessions {
+    /// So many sessions, in which no id is live.
+    pub fn start<R: Runtime>(rt: &R, alloc: Global, count: usize) -> Result<Sessions, OutOfMemory>
+        ensures { IfOk result (λ s. AreFresh count s.each.items) }
+    {
+        let mut each = Vec::new(alloc);
+        for _i in 0..count {
+            let session = Session::start(rt, alloc)?;
+            match each.push(session) {
+                Ok(()) => {}
+                Err(_) => return Err(OutOfMemory),
+            }
+        }
+        Ok(Sessions { each })
+    }
+}
+
+impl<H: Manager> Player<Vec<H>> for Sessions {
+    ghost State = { Many };
+
+    ghost Plan = { List TheKind };
+
+    ghost state = { λ sessions heaps. many_at sessions.each.items (map (λ m. H.state m) heaps.items) };
+
+    ghost semantics = { many_managers };
+
+    fn open<K: Sink>(
+        &mut self,
+        heap: &mut Vec<H>,
+        settings: &Settings,
+        sink: &mut K,
+    ) -> Result<(), OpenFault> {
+        match open_all(heap, settings) {
+            Ok(()) => {}
+            Err(_) => return Err(OpenFault::OutOfMemory),
+        }
+        match tell_open(heap, sink) {
+            Ok(()) => Ok(()),
+            Err(_) => Err(OpenFault::Failed),
+        }
+    }
+
+    fn answer<K: Sink>(
+        &mut self,
+        heap: &mut Vec<H>,
+        command: &Command,
+        sink: &mut K,
+    ) -> Result<(), Failed> {
+        answer_each(&mut self.each, heap, command, sink)
+    }
+}

@@ -1,0 +1,45 @@
+//! Laws of many runs side by side.
+ghost use Rattle.std.specs.Prelude.{◌≡◌, ℕ, List, Option, None, option_map};
+ghost use Rattle.cf_base.specs.declared.kind.Kind.{Kind};
+ghost use Rattle.script_reader.specs.Items.{Item};
+ghost use Rattle.run_model.specs.Sessions.{RunState};
+ghost use Rattle.run_model.specs.Texts.{Reply};
+ghost use Rattle.run_model.specs.Plays.{PlayPart, PlayRun};
+ghost use Rattle.script_loop.specs.ScriptOutcome.{Effects, Wrote, WroteInPart};
+ghost use Rattle.side_by_side.specs.Many.{EachBegins, EachInPart, EachTurn, Many, kinds_of, many_managers, runs_of};
+ghost use Rattle.side_by_side.specs.Own.{OwnRuns, OwnRunsInPart, StandEach};
+
+/// What many managers answer side by side is woven of a run of each manager's own over the same
+/// items.
+pub fn each_has_its_own_run()
+    ensures { (kinds : List Kind) (items : List Item) (replies : List Reply) (end : Option (List RunState))
+        → PlayRun (EachBegins kinds) EachTurn None items replies end
+        → OwnRuns kinds items replies end }
+{}
+
+/// Where an item's reply was cut, the managers up to the one whose reply it was stand after the item,
+/// and those after that one before it.
+pub fn a_cut_stops_between_two_managers()
+    ensures { (kinds : List Kind) (before : List Item) (replies : List Reply) (mid : Option (List RunState))
+        (item : Item) (front : List ℕ) (end : Option (List RunState))
+        → PlayRun (EachBegins kinds) EachTurn None before replies mid
+        → PlayPart (EachBegins kinds) EachInPart mid item front end
+        → OwnRunsInPart kinds before item replies front end }
+{}
+
+/// The same from the outcome of a script on many managers; and each manager stands where its own run
+/// led it.
+pub fn outcomes_are_of_each()
+    ensures whole { (from to : Many) (wanted : List Item) (call : Effects)
+        (w : Wrote many_managers from wanted call to)
+        → OwnRuns (kinds_of from) wanted w.replies (option_map runs_of w.end) }
+    ensures stand { (from to : Many) (wanted : List Item) (call : Effects) → kinds_of to ≡ kinds_of from
+        → (w : Wrote many_managers from wanted call to)
+        → StandEach from.heaps (option_map runs_of w.end) to.heaps }
+    ensures in_part { (from to : Many) (wanted : List Item) (call : Effects)
+        (w : WroteInPart many_managers from wanted call to)
+        → OwnRunsInPart (kinds_of from) w.before w.item w.replies w.front (option_map runs_of w.end) }
+    ensures stand_in_part { (from to : Many) (wanted : List Item) (call : Effects) → kinds_of to ≡ kinds_of from
+        → (w : WroteInPart many_managers from wanted call to)
+        → StandEach from.heaps (option_map runs_of w.end) to.heaps }
+{}
