@@ -12,13 +12,13 @@ use Rattle.cf_model.specs.State.{HeapState, closed_state}
 use Rattle.cf_session.specs.Apply.{run_at}
 use Rattle.command_line.specs.Choices.{Chooses}
 use Rattle.command_line.specs.declared.choice.Choice.{Choice}
-use Rattle.script_reader.specs.Items.{Item, items}
+use Rattle.script_reader.specs.Items.{items}
 use Rattle.run_model.specs.Sessions.{RunState, SessionState, fresh_session}
-use Rattle.script_loop.proofs.Consequences.{transcript_told}
+use Rattle.script_loop.proofs.CallerLemmas.{transcript_told}
 use Rattle.script_loop.specs.Consequences.{AnswersAll}
 use Rattle.script_loop.specs.OneManager.{one_manager}
 use Rattle.script_loop.specs.ScriptOutcome.{Effects, IsClean, IsEnding, IsRow, IsRowOf, MOST_BYTES, MeetsOutcome, has_bad, items_within}
-use Rattle.cf_tool.specs.TopOutcome.{AnswersScript, DoesChosen, EndsBy, EndsWhole, InMode, TellsChosen, TellsInMode}
+use Rattle.cf_tool.specs.TopOutcome.{DoesChosen, EndsBy, EndsWhole, InMode, TellsChosen, TellsInMode}
 
 -- a session that was just begun, and a manager that was never open
 begun_closed : (session : SessionState) (heap : HeapState) → session ≡ fresh_session → heap ≡ closed_state Moving

@@ -23,7 +23,7 @@ fn command_line(rt: &HostRuntime, words: &[&str]) -> Result<Vec<String>, AllocEr
     Ok(line)
 }
 
-/// A sink that takes every piece whole.
+/// A sink that takes every chunk whole.
 fn plain_sink(rt: &HostRuntime) -> Result<MemSink, Fail> {
     let alloc = rt.alloc();
     let sink = MemSink::new(alloc, ROOM, Vec::new(alloc), Vec::new(alloc)).map_err(|_| "room")?;

@@ -17,10 +17,10 @@ use std::rt::Runtime;
 /// Reads the words, of which the first is the program's name, and does what they choose.
 ///
 /// In mode `run` a manager of the chosen kind answers a script of at most 268,435,455 bytes: its
-/// `heap` line opens the manager, and each command is answered before the next piece is taken from
+/// `heap` line opens the manager, and each command is answered before the next chunk is taken from
 /// the source. The call ends at the end of the script with `Done`; at a line that isn't in the
 /// grammar at its place with `BadScript`; where more bytes come with `TooLong`; at a fault with
-/// `ReadFault` or `WriteFault`; and where memory is wanting with `OutOfMemory`, before any reply. It
+/// `ReadFault` or `WriteFault`; and out of memory with `OutOfMemory`, before any reply. It
 /// answers `Words` exactly where `clap` refuses the words for another cause than memory.
 pub fn cf_main<R: Runtime, S: Source, K: Sink>(
     rt: &R,

@@ -6,7 +6,7 @@ use Rattle.cf_model.specs.State.{HeapState}
 use Rattle.script_reader.specs.Items.{Item, asks, bad, starts}
 use Rattle.run_model.specs.Runs.{BeginsOne, ItemStep, Run, Turn}
 use Rattle.run_model.specs.Sessions.{RunState}
-use Rattle.run_model.specs.Texts.{Reply, bad_line, led, said, text_of}
+use Rattle.run_model.specs.Texts.{Reply, bad_line, said, text_of}
 use Rattle.run_model.proofs.CallerLemmas.{begins_going, step_going, step_same}
 use Rattle.run_model.proofs.Plays.{run_joined, text_joined}
 use Rattle.run_laws.specs.Sayable.{AreSayable, IsSayableItem, IsUnderWay}

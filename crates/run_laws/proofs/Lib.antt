@@ -11,3 +11,4 @@ pub mod Items
 pub mod GoingOn
 pub mod ReadBack
 pub mod Bytewise
+pub mod CallerLemmas

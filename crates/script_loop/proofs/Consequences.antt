@@ -5,16 +5,13 @@ use Rattle.cf_base.specs.declared.kind.Kind.{Kind}
 use Rattle.cf_base.specs.declared.status.Status.{Status}
 use Rattle.cf_base.specs.declared.status.Status.TheVariants.{Done, Words, BadScript, ReadFault, WriteFault, OutOfMemory, TooLong, BadImage}
 use Rattle.cf_io.specs.Feeds.{appended}
-use Rattle.cf_model.specs.Rules.{AreInRange, IsPaged}
+use Rattle.cf_model.specs.Rules.{AreInRange}
 use Rattle.cf_model.specs.State.{HeapState}
 use Rattle.script_reader.specs.Items.{Item}
 use Rattle.script_reader.specs.declared.command.Command.{Command}
-use Rattle.run_laws.proofs.CommandAnswers.{begins_there, turn_there}
-use Rattle.run_laws.proofs.Items.{items_sayable}
-use Rattle.run_laws.proofs.ReadBack.{reads_are_told}
+use Rattle.run_laws.proofs.CallerLemmas.{begins_there, turn_there, items_sayable, reads_are_told}
 use Rattle.run_laws.specs.Sayable.{IsSayable}
-use Rattle.run_laws.specs.Told.{AreReadsOf}
-use Rattle.run_model.proofs.Going.{begins_going, step_going, step_same}
+use Rattle.run_model.proofs.CallerLemmas.{begins_going, step_going, step_same}
 use Rattle.run_model.specs.Runs.{BeginsOne, Turn}
 use Rattle.run_model.specs.Sessions.{IsGoing, RunState}
 use Rattle.run_model.specs.Texts.{Reply, led, said, text_of}
@@ -23,7 +20,7 @@ use Rattle.script_loop.proofs.Prefix.{part_is_prefix}
 use Rattle.script_loop.specs.Consequences.{AnswersAll, ArePlain, IsPrefixOfRun, PrintsReads, TellsTranscript}
 use Rattle.script_loop.specs.OneManager.{TurnInPart, one_manager}
 use Rattle.script_loop.specs.ScriptOutcome.{Effects, IsRow, IsRowOf, MOST_BYTES, MeetsOutcome, Wrote, WroteInPart, has_bad, items_within}
-use Rattle.transcript_laws.proofs.Telling.{run_tells}
+use Rattle.transcript_laws.proofs.CallerLemmas.{run_tells}
 use Rattle.transcript_laws.specs.Transcripts.{transcript}
 
 -- where all was answered, a run over all the items led to the end

@@ -9,8 +9,7 @@ use Rattle.cf_io.specs.Feeds.{appended, preceded}
 use Rattle.script_reader.specs.Items.{Item, items}
 use Rattle.script_reader.specs.Reading.{Reading, fresh, items_left}
 use Rattle.script_reader.proofs.CallerLemmas.{finished_left}
-use Rattle.script_reader.specs.declared.stage.Stage.TheVariants.{Opening}
-use Rattle.run_model.proofs.Plays.{run_joined, text_joined}
+use Rattle.run_model.proofs.CallerLemmas.{run_joined, text_joined}
 use Rattle.run_model.specs.Plays.{PlayPart, PlayRun}
 use Rattle.run_model.specs.Texts.{text_of}
 use Rattle.script_loop.specs.Going.{Answered, CutOff, IsWaiting, WasWanting}
@@ -48,7 +47,7 @@ too_many m n h = grind arith
 pub longer : (all t more : List ℕ) → all ≡ t ++ more → length t ≡ MOST_BYTES → 0 < length more → MOST_BYTES < length all
 longer all t more parts full some = rw (parts, length-append) (omega arith)
 
--- ---- the piece that a call handed out, of which a prefix was read
+-- ---- the chunk that a call handed out, of which a prefix was read
 
 pub split_at : (all taken buf left : List ℕ) (k n : ℕ) → k ≤ n → all ≡ (taken ++ take n buf) ++ left
     → all ≡ (taken ++ take k buf) ++ (drop k (take n buf) ++ left)
@@ -231,7 +230,7 @@ module _ {S P : Type 0} (m : Semantics S P) where
     unwritten = silent_at_end a went put;
   }
 
-  -- ---- where the source tells its bytes
+  -- ---- where the source is observable
 
   pub told : (from : S) (had left : Option (List ℕ)) (call : Effects) (to : S) (t : List ℕ) → had ≡ preceded t left → IsEnding call.status
       → ((all rest : List ℕ) → left ≡ Some rest → all ≡ t ++ rest → IsRow m call.status from all rest call to) → IsRowOf m from had left call to

@@ -2,7 +2,7 @@
 use Rattle.std.proofs.Common.{◌≡◌, ◌++◌, ◌∙◌, List, ℕ, Option, None, Some, refl, ap, sym, ◌+◌, append_assoc, append-nil, take, min, arith, length}
 use Rattle.std.proofs.Common.{length-append}
 use Rattle.std.specs.Prelude.{[]}
-use Rattle.cf_io.proofs.Feeding.{appended_then}
+use Rattle.cf_io.proofs.CallerLemmas.{appended_then}
 use Rattle.cf_io.specs.Feeds.{HasGiven, IsSpent, appended, last_count, preceded}
 
 preceded_then : (a b : List ℕ) (r : Option (List ℕ)) → preceded a (preceded b r) ≡ preceded (a ++ b) r
@@ -19,7 +19,7 @@ appended_none (Some w) = ap Some (sym (append-nil w))
 given_more : (g0 g1 g2 a n b : ℕ) → HasGiven g0 a g1 → g2 ≡ min (g1 + n) last_count → b ≡ a + n → HasGiven g0 b g2
 given_more g0 g1 g2 a n b so_far next sum = grind arith
 
--- n more bytes, a front of what a call handed out
+-- n more bytes, a prefix of what a call handed out
 pub given_taken : (g0 g1 g2 n : ℕ) (t p : List ℕ) → HasGiven g0 (length t) g1 → g2 ≡ min (g1 + n) last_count → length p ≡ n → HasGiven g0 (length (t ++ p)) g2
 given_taken g0 g1 g2 n t p so_far next long = given_more g0 g1 g2 (length t) n _ so_far next (length-append t p ∙ ap (λ m. length t + m) long)
 

@@ -1,5 +1,5 @@
 -- Answers that follow one another.
-use Rattle.std.proofs.Common.{◌≡◌, ◌++◌, ◌∙◌, ◌+◌, Bool, true, false, List, [], ◌∷◌, ℕ, Option, Some, None, Result, Ok, Err, refl, ap, ap₂, sym, subst}
+use Rattle.std.proofs.Common.{◌≡◌, ◌++◌, ◌∙◌, ◌+◌, Bool, true, false, List, [], ◌∷◌, ℕ, Option, Some, None, refl, ap, ap₂, sym, subst}
 use Rattle.std.proofs.Common.{append_assoc, append-nil, take, drop, take-append-drop}
 use Rattle.std.proofs.Math.Seq.{take-add}
 use Rattle.std.proofs.lemmas.Bool.{true≢false}
@@ -13,13 +13,13 @@ use Rattle.script_reader.specs.declared.command.Command.{Command}
 use Rattle.script_reader.specs.declared.next.Next.TheVariants as next
 use Rattle.script_reader.specs.declared.stage.Stage.{Stage}
 use Rattle.script_reader.specs.declared.stage.Stage.TheVariants.{Opening, Bounding}
-use Rattle.run_model.proofs.Plays.{one_run, run_joined, text_joined}
+use Rattle.run_model.proofs.CallerLemmas.{one_run, run_joined, text_joined}
 use Rattle.run_model.specs.Plays.{PlayRun, PlayPart}
 use Rattle.run_model.specs.Texts.{Reply, bad_line, led, said, text_of}
 use Rattle.script_loop.specs.Going.{Answered, CutOff, Goes, IsWaiting, NamesBad}
-use Rattle.script_loop.specs.Progress.{IsReady, IsReadyAt, Playing, Progress, progress, run_in, run_of}
+use Rattle.script_loop.specs.Progress.{IsReadyAt, Playing, Progress, progress, run_in, run_of}
 use Rattle.script_loop.specs.ScriptOutcome.{has_bad}
-use Rattle.script_loop.specs.Semantics.{IsOpened, IsOpenedInPart, PartBy, RunBy, Semantics, Snapshot, StepBy}
+use Rattle.script_loop.specs.Semantics.{IsOpened, IsOpenedInPart, PartBy, RunBy, Semantics, StepBy}
 use Rattle.script_loop.specs.declared.answering.Ready.{Ready}
 use Rattle.script_loop.specs.declared.answering.Ready.TheVariants.{GoesOn, Stopped, Cut, Wanting}
 use Rattle.script_loop.proofs.Feeding.{appended_after}

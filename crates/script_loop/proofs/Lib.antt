@@ -7,3 +7,4 @@ pub mod Consequences
 pub mod OneManager
 pub mod Prefix
 pub mod Settling
+pub mod CallerLemmas

@@ -6,7 +6,7 @@ use Rattle.cf_model.specs.Rules.{KeepsRules}
 use Rattle.cf_model.specs.State.{HeapState}
 use Rattle.cf_model.specs.Steps.{IsEmptyHeap}
 use Rattle.cf_session.specs.Apply.{run_at}
-use Rattle.run_model.proofs.Going.{begins_going}
+use Rattle.run_model.proofs.CallerLemmas.{begins_going}
 use Rattle.run_model.specs.Sessions.{IsGoing, SessionState, fresh_session}
 
 pub opens_going : (settings : Settings) (session : SessionState) (old new : HeapState) → session ≡ fresh_session → IsEmptyHeap old.kind settings new

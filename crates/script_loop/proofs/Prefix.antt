@@ -1,13 +1,13 @@
 -- What a cut call wrote is a prefix of what a whole run prints, for any player whose commands always have a turn.
-use Rattle.std.proofs.Common.{◌≡◌, ◌++◌, ◌∙◌, ℕ, List, [], ◌∷◌, Option, Some, None, refl, sym, ap, subst, append_assoc, append-nil}
+use Rattle.std.proofs.Common.{◌≡◌, ◌++◌, ◌∙◌, ℕ, List, [], ◌∷◌, Option, Some, None, refl, sym, ap, subst, append_assoc}
 use Rattle.std.specs.Prelude.{⊤}
 use Rattle.cf_base.specs.Settings.{Profile}
 use Rattle.cf_model.specs.Rules.{AreInRange}
 use Rattle.script_reader.specs.Items.{Item, asks, bad, starts}
 use Rattle.script_reader.specs.declared.command.Command.{Command}
-use Rattle.run_laws.proofs.GoingOn.{sayable_behind}
+use Rattle.run_laws.proofs.CallerLemmas.{sayable_behind}
 use Rattle.run_laws.specs.Sayable.{AreSayable, IsSayable, IsSayableItem}
-use Rattle.run_model.proofs.Plays.{one_run, run_joined, text_joined}
+use Rattle.run_model.proofs.CallerLemmas.{run_joined, text_joined}
 use Rattle.run_model.specs.Texts.{Reply, bad_line, led, said, text_of}
 use Rattle.script_loop.specs.Semantics.{PartBy, RunBy, Semantics, StepBy}
 

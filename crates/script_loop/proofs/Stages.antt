@@ -1,5 +1,5 @@
 -- What the stage of a script tells of its run.
-use Rattle.std.proofs.Common.{◌≡◌, Bool, true, false, Some, refl, subst}
+use Rattle.std.proofs.Common.{◌≡◌, Bool, true, false, Some, refl}
 use Rattle.script_reader.specs.Items.{stage_behind}
 use Rattle.script_reader.specs.declared.stage.Stage.{Stage}
 use Rattle.script_reader.specs.declared.stage.Stage.TheVariants.{Opening, Bounding, Running}

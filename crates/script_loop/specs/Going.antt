@@ -44,7 +44,7 @@ pub record IsWaiting (r : Reading) : Type 0 where
   pub quiet : items_left r [] false ≡ []
   pub room : r.ended ≡ false → length r.kept ≤ LONGEST
 
--- the items of the piece were answered
+-- the items of the chunk were answered
 pub record WentOn {S P : Type 0} (m : Semantics S P) (old : Progress S) (piece : List ℕ) (new : Progress S) : Type 0 where
   pub text : List ℕ
   pub answered : Answered m old.playing piece new.playing text false

@@ -31,7 +31,7 @@ IsReadyAt m Running s = m.is_going s
 abbrev pub IsReady : {S P : Type 0} → Semantics S P → Playing S → Type 0
 IsReady m p = IsReadyAt m p.reading.stage p.state
 
--- the same, and the bytes written by then, where the sink tells them
+-- the same, and the bytes written by then, where the sink is observable
 pub record Progress (S : Type 0) : Type 0 where
   pub playing : Playing S
   pub written : Option (List ℕ)

@@ -25,7 +25,7 @@ has_bad = list_any is_bad
 abbrev pub items_within : List ℕ → List Item
 items_within all = items (take MOST_BYTES all) (nat_le (length all) MOST_BYTES)
 
--- what a source had and has, what a sink held and holds, where they tell it, and how the call ended
+-- what a source had and has, what a sink held and holds, where they are observable, and how the call ended
 pub record Effects : Type 0 where
   pub had : Option (List ℕ)
   pub left : Option (List ℕ)
@@ -93,7 +93,7 @@ IsRowOf m from None left call to = IsEnding call.status
 abbrev pub MeetsOutcome : {S P : Type 0} → Semantics S P → S → Effects → S → Type 0
 MeetsOutcome m from call to = IsRowOf m from call.had call.left call to
 
--- the source tells its bytes, which are within the limit and have no bad line
+-- the source is observable, its bytes are within the limit and have no bad line
 abbrev pub IsClean : Option (List ℕ) → Type 0
 IsClean None = ⊥
 IsClean (Some all) = (length all ≤ MOST_BYTES) × (has_bad (items all true) ≡ false)

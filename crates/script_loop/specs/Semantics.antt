@@ -35,7 +35,7 @@ RunBy m from old items replies new = PlayRun (m.begins (m.plan from)) m.turns ol
 abbrev pub PartBy : {S P : Type 0} → Semantics S P → S → Option S → Item → List ℕ → Option S → Type 0
 PartBy m from old item out new = PlayPart (m.begins (m.plan from)) m.turns_in_part old item out new
 
--- a state, and the bytes written by then, where the sink tells them
+-- a state, and the bytes written by then, where the sink is observable
 pub record Snapshot (S : Type 0) : Type 0 where
   pub state : S
   pub written : Option (List ℕ)

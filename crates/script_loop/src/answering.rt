@@ -69,7 +69,7 @@ pub fn answer_kept<H, A: Player<H>, K: Sink>(
     }
 }
 
-/// Answers what the piece completes.
+/// Answers what the chunk completes.
 pub fn answer_piece<H, A: Player<H>, K: Sink>(
     reader: &mut Reader,
     player: &mut A,

@@ -53,7 +53,7 @@ impl<H: Manager> Player<H> for Session {
     }
 }
 
-/// Answers each line of a script before it takes the next piece of it: its `heap` line opens the
+/// Answers each line of a script before it takes the next chunk of it: its `heap` line opens the
 /// manager, and each command is answered on it. It stops at a bad line, at a fault of the source or
 /// the sink, where an allocation fails at the `heap` line, and past 268,435,455 bytes. Session and
 /// manager are then at the end of that run, and go on from there.
@@ -72,7 +72,7 @@ pub fn run_script<H: Manager, S: Source, K: Sink>(
       status = result;
     }) (run_at session.new (H.state heap.new)) }
     ensures kind { (H.state heap.new).kind ≡ (H.state heap.old).kind }
-    // The causes, also where the source tells nothing of its bytes.
+    // The causes, also where the source isn't observable.
     ensures silent { result ≡ Status.OutOfMemory → K.written sink.new ≡ K.written sink.old }
     ensures read_fault { result ≡ Status.ReadFault → Rose (S.faults source.old) (S.faults source.new) }
     ensures write_fault { result ≡ Status.WriteFault → Rose (K.faults sink.old) (K.faults sink.new) }

@@ -1,4 +1,4 @@
-//! The loop over the pieces of a script.
+//! The loop over the chunks of a script.
 ghost use Rattle.std.specs.Prelude.{◌≡◌, ◌<◌, ◌+◌, ◌⊎◌};
 ghost use Rattle.cf_io.specs.Feeds.{Rose, last_count};
 ghost use Rattle.script_loop.specs.ScriptOutcome.{MOST_BYTES, MeetsOutcome};
@@ -12,7 +12,7 @@ use script_reader::Reader;
 /// The most bytes of a script that are answered.
 pub const LIMIT: usize = 268_435_455;
 
-/// Lets the player answer each line of a script before it takes the next piece of it. It stops at a
+/// Lets the player answer each line of a script before it takes the next chunk of it. It stops at a
 /// bad line, at a fault of the source or the sink, where an allocation fails at the `heap` line, and
 /// past 268,435,455 bytes.
 pub fn play_script<H, A: Player<H>, S: Source, K: Sink>(
@@ -30,7 +30,7 @@ pub fn play_script<H, A: Player<H>, S: Source, K: Sink>(
       status = result;
     }) (A.state player.new heap.new) }
     ensures plan { A.semantics.plan (A.state player.new heap.new) ≡ A.semantics.plan (A.state player.old heap.old) }
-    // The causes, also where the source tells nothing of its bytes.
+    // The causes, also where the source isn't observable.
     ensures silent { result ≡ Status.OutOfMemory → K.written sink.new ≡ K.written sink.old }
     ensures read_fault { result ≡ Status.ReadFault → Rose (S.faults source.old) (S.faults source.new) }
     ensures write_fault { result ≡ Status.WriteFault → Rose (K.faults sink.old) (K.faults sink.new) }

@@ -11,7 +11,7 @@ use Rattle.cf_base.specs.declared.settings.Settings.{Settings}
 use Rattle.cf_model.specs.Loops.{Opens, Pairwise, Stops}
 use Rattle.cf_model.specs.State.{HeapState}
 use Rattle.cf_model.specs.Steps.{IsClosed}
-use Rattle.run_model.proofs.Going.{begins_going}
+use Rattle.run_model.proofs.CallerLemmas.{begins_going}
 use Rattle.run_model.specs.Sessions.{IsGoing, RunState, SessionState, fresh_session}
 use Rattle.cf_session.specs.Apply.{run_at}
 use Rattle.cf_base.specs.declared.kind.Kind.{Kind}

@@ -4,7 +4,7 @@ use Rattle.cf_io.specs.Feeds.{appended}
 use Rattle.run_model.specs.Texts.{Reply, led}
 use Rattle.side_by_side.specs.Many.{lead_of}
 use Rattle.script_reader.specs.declared.command.Command.{Command}
-use Rattle.run_model.proofs.Going.{step_same}
+use Rattle.run_model.proofs.CallerLemmas.{step_same}
 use Rattle.run_model.specs.Answering.{IsAnswered, IsCutShort, Moment}
 use Rattle.run_model.specs.Runs.{Turn}
 use Rattle.run_model.specs.Sessions.{IsGoing, RunState}

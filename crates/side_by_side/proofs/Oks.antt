@@ -1,9 +1,9 @@
--- The replies of managers that were opened, one behind the other.
+-- The replies of managers that were opened, one after the other.
 use Rattle.std.proofs.Common.{◌≡◌, ◌++◌, ◌∙◌, ◌+◌, ◌<◌, ℕ, List, [], ◌∷◌, sym, ap, length, take, drop, get_or, map, append_assoc, append-nil, arith}
 use Rattle.std.proofs.Common.{take-append-drop}
 use Rattle.std.proofs.lemmas.List.{get_or-map, length-map, map-append, take_more}
 use Rattle.std.specs.Prelude.{codes}
-use Rattle.run_model.proofs.Plays.{led_joined}
+use Rattle.run_model.proofs.CallerLemmas.{led_joined}
 use Rattle.run_model.specs.Texts.{led}
 use Rattle.side_by_side.specs.Many.{lead_of}
 use Rattle.cf_base.specs.declared.kind.Kind.{Kind}

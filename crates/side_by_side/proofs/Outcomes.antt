@@ -1,8 +1,7 @@
 -- From the outcome of a script on many managers to a run of each.
-use Rattle.std.proofs.Common.{◌≡◌, List, Option, Some, None, subst}
+use Rattle.std.proofs.Common.{◌≡◌, List, None, subst}
 use Rattle.std.specs.Prelude.{option_map}
-use Rattle.run_model.proofs.Plays.{part_seen, run_seen}
-use Rattle.run_model.specs.Sessions.{RunState}
+use Rattle.run_model.proofs.CallerLemmas.{part_seen, run_seen}
 use Rattle.script_loop.specs.ScriptOutcome.{Effects, Wrote, WroteInPart}
 use Rattle.script_reader.specs.Items.{Item}
 use Rattle.side_by_side.proofs.Standing.{own_counts, part_counts, stand_each}
@@ -28,7 +27,7 @@ pub stand_of : (from to : Many) (wanted : List Item) (call : Effects) → kinds_
 stand_of from to wanted call kinds w =
     stand_each from to w.end kinds
     (λ all is. own_counts (kinds_of from) wanted w.replies all (subst (λ r. OwnRuns (kinds_of from) wanted w.replies r) is (own_of from to wanted call w)))
-        w.stands
+    w.stands
 
 pub stand_part_of : (from to : Many) (wanted : List Item) (call : Effects) → kinds_of to ≡ kinds_of from → (w : WroteInPart many_managers from wanted call to)
     → StandEach from.heaps (option_map runs_of w.end) to.heaps

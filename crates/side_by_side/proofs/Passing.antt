@@ -1,8 +1,8 @@
--- A loop that turns runs, one behind the other.
+-- A loop that turns runs, one after the other.
 use Rattle.std.proofs.Common.{◌≡◌, ◌++◌, ◌∙◌, ◌+◌, ◌<◌, ◌≤◌, ℕ, List, [], ◌∷◌, refl, sym, ap, subst, inl, inr, length, set, get_or, map, append_assoc}
 use Rattle.std.proofs.Common.{append-nil, length-append, arith}
 use Rattle.std.proofs.lemmas.List.{get_or_at, length-map, set_at, length_push}
-use Rattle.run_model.proofs.Plays.{led_joined}
+use Rattle.run_model.proofs.CallerLemmas.{led_joined}
 use Rattle.run_model.specs.Texts.{Reply, led}
 use Rattle.std.specs.List.{All}
 use Rattle.std.proofs.lemmas.List.Elements.{All-set}

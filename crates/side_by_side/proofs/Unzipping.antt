@@ -1,12 +1,11 @@
 -- Runs side by side, taken apart.
 use Rattle.std.proofs.Common.{◌≡◌, ◌++◌, ◌∙◌, ℕ, List, [], ◌∷◌, Option, Some, None, refl, sym, ap, subst, inl, inr, map}
 use Rattle.std.specs.Prelude.{⊤}
-use Rattle.run_model.proofs.Plays.{one_run, run_joined}
+use Rattle.run_model.proofs.CallerLemmas.{one_run, run_joined, step_rules, step_same}
 use Rattle.cf_model.specs.Rules.{KeepsRules}
 use Rattle.cf_model.specs.State.{HeapState}
 use Rattle.script_reader.specs.Items.{Item, asks, bad, starts}
 use Rattle.script_reader.specs.declared.command.Command.{Command}
-use Rattle.run_model.proofs.Going.{step_rules, step_same}
 use Rattle.run_model.specs.Plays.{PlayPart, PlayRun, PlayStep}
 use Rattle.run_model.specs.Texts.{Reply, bad_line, led, said}
 use Rattle.cf_base.specs.declared.kind.Kind.{Kind}

@@ -29,7 +29,7 @@ AnswersWith turns in_part old before c (Err e) new after = (out : List ℕ) × i
 abbrev pub AnswersNamed : {T E : Type 0} → RunState → Option (List ℕ) → Command → Result T E → RunState → Option (List ℕ) → Type 0
 AnswersNamed old before c r new after = AnswersWith TurnNamed TurnNamedInPart old before c r new after
 
--- The first i of the runs were turned, with this reply, and those behind are as they were.
+-- The first i of the runs were turned, with this reply, and those after are as they were.
 pub record Swept (olds : List RunState) (i : ℕ) (c : Command) (reply : Reply) (news : List RunState) : Type 0 where
   pub done : List RunState
   pub turned : List RunState

@@ -1,7 +1,7 @@
 -- Many managers side by side, each with its session.
-use Rattle.std.specs.Prelude.{◌≡◌, ◌++◌, ◌⊎◌, ℕ, List, [], ◌∷◌, Option, codes, length, map}
+use Rattle.std.specs.Prelude.{◌≡◌, ◌++◌, ◌⊎◌, ℕ, List, [], ◌∷◌, codes, length, map}
 use Rattle.std.specs.List.{All}
-use Rattle.run_model.specs.Texts.{Reply, led, said}
+use Rattle.run_model.specs.Texts.{Reply, led}
 use Rattle.cf_base.specs.Kind.{kind_name}
 use Rattle.cf_base.specs.Settings.{Profile}
 use Rattle.cf_base.specs.declared.kind.Kind.{Kind}
@@ -91,7 +91,7 @@ EachInPart (old ∷ olds) c out news =
     ⊎ ((first : Reply) × (more : List ℕ) × (new : RunState) × (rest : List RunState)
     × Turn old c first new × EachInPart olds c more rest × (out ≡ led [] (named old.heap.kind first) ++ more) × (news ≡ new ∷ rest))
 
--- memory was wanting: some are open and empty, then one is closed, and those behind it are as they were
+-- memory was wanting: some are open and empty, then one is closed, and those after it are as they were
 pub record LacksSome (old new : Many) : Type 0 where
   pub settings : Settings
   pub stops : Stops (Opens settings) IsClosed old.heaps new.heaps

@@ -15,7 +15,7 @@ alone (starts p) = []
 alone (asks c) = []
 alone (bad n) = said (bad_line n)
 
--- One manager's reply to an item, each line after its name, and behind it that of the others. A bad line is named once, without a name before it.
+-- One manager's reply to an item, each line after its name, and after it that of the others. A bad line is named once, without a name before it.
 abbrev pub woven : Kind → Item → Reply → Reply → Reply
 woven kind (starts p) own others = named kind own ++ others
 woven kind (asks c) own others = named kind own ++ others
@@ -46,7 +46,7 @@ OwnRuns (kind ∷ kinds) items replies end = (owns : List Reply) × (others : Li
     × Run kind None items owns own × OwnRuns kinds items others rest × (replies ≡ beside kind items owns others) × AreTogether own rest end
 
 -- The same over the items before a command, of whose reply `front` was written: the managers up to the one whose reply was cut are at the end of their runs
--- over the items with the command, those behind it over the items before.
+-- over the items with the command, those after it over the items before.
 abbrev pub OwnRunsUpTo : List Kind → List Item → Command → List Reply → List ℕ → List RunState → Type 0
 OwnRunsUpTo [] before c replies front news = ⊥
 OwnRunsUpTo (kind ∷ kinds) before c replies front news = (owns : List Reply) × (others : List Reply) × (own : Reply) × (new : RunState)

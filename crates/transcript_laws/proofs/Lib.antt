@@ -7,3 +7,4 @@ pub mod Following
 pub mod Telling
 pub mod Further
 pub mod Worked
+pub mod CallerLemmas

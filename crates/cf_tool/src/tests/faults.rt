@@ -15,7 +15,7 @@ const WRITTEN: [usize; 20] = [
     0, 3, 6, 9, 12, 15, 20, 25, 29, 32, 35, 40, 41, 46, 47, 50, 55, 56, 59, 64,
 ];
 
-/// The script in pieces of 7 bytes, and one call of the source fails: the whole lines taken by then
+/// The script in chunks of 7 bytes, and one call of the source fails: the whole lines taken by then
 /// are answered.
 #[test]
 fn a_read_fault_leaves_the_replies_of_the_whole_lines(rt: HostRuntime) -> Result<(), Fail> {

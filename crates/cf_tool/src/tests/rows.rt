@@ -190,7 +190,7 @@ pub const ROWS: [(&str, &[u8], Status, &[u8]); 30] = [
 ];
 
 /// Scripts, what stands before a count of steps, its least and its greatest value, and what stands
-/// behind it. A slot of 23 words is cleared in the first and the last; so many steps they take.
+/// after it. A slot of 23 words is cleared in the first and the last; so many steps they take.
 pub const STEPS: [(&[u8], &[u8], u32, u32, &[u8]); 3] = [
     (
         b"heap 2 512 1 8\nm 1 176\nm 2 176\nm 3 176\nm 4 176\nm 5 176\nw 2 0 a1b2\nf 1\nq 2\nq 3\nf 3\nsteps\np 23\np 64\np 65\n",

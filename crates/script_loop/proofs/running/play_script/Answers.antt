@@ -4,7 +4,7 @@ use Rattle.cf_io.specs.Feeds.{preceded}
 use Rattle.script_reader.specs.Reading.{Reading, fresh}
 use Rattle.script_reader.specs.Items.{items}
 use Rattle.script_loop.proofs.Ending.{bad_end_items, bad_items, bads, bads_then, cut_at_end, cut_items, full_items, length_read, longer, quiet_items}
-use Rattle.script_loop.proofs.Ending.{silent_at_end, silent_before, split_at, told, unread_left, wants_at_end, wants_memory, whole_items, wrote}
+use Rattle.script_loop.proofs.Ending.{silent_before, split_at, told, unread_left, wants_at_end, wants_memory, whole_items, wrote}
 use Rattle.script_loop.proofs.Ending.{wrote_in_part, wrote_then}
 use Rattle.script_loop.proofs.Feeding.{appended_after, appended_none, given_taken, nothing_taken, preceded_after, preceded_none, spent_left}
 use Rattle.script_loop.proofs.Going.{answered_none, answered_then, cut_then}

@@ -1,6 +1,6 @@
 use Rattle.std.proofs.Common.{◌∙◌, ◌++◌, ◌+◌, [], ap, arith, map, take, drop}
 use Rattle.std.proofs.lemmas.List.{length-map, take_all}
-use Rattle.cf_io.proofs.Feeding.{appended_then}
+use Rattle.cf_io.proofs.CallerLemmas.{appended_then}
 use Rattle.cf_io.specs.Feeds.{appended}
 use Rattle.run_model.specs.Texts.{led}
 use Rattle.std.specs.Prelude.{codes}

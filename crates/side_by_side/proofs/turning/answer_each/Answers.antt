@@ -1,8 +1,8 @@
 use Rattle.std.proofs.Common.{◌∙◌, ◌++◌, [], refl, sym, ap, arith}
 use Rattle.std.proofs.lemmas.List.{length-set}
-use Rattle.cf_io.proofs.Feeding.{appended_then}
-use Rattle.run_model.proofs.Plays.{led_joined}
-use Rattle.script_loop.proofs.Feeding.{appended_none}
+use Rattle.cf_io.proofs.CallerLemmas.{appended_then}
+use Rattle.run_model.proofs.CallerLemmas.{led_joined}
+use Rattle.script_loop.proofs.CallerLemmas.{appended_none}
 use Rattle.cf_io.specs.Feeds.{appended}
 use Rattle.run_model.specs.Texts.{led}
 use Rattle.side_by_side.proofs.Passing.{seat_goes, seats_cut, seats_go, seats_more, seats_whole, swept_none}

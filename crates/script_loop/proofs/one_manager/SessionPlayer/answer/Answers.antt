@@ -1,4 +1,4 @@
-use Rattle.run_model.proofs.Going.{step_same}
+use Rattle.run_model.proofs.CallerLemmas.{step_same}
 use Rattle.script_loop.proofs.one_manager.SessionPlayer.answer.Goals as goal
 
 pub returns-in-Ok-clause-plan : goal.returns-in-Ok-clause-plan
