@@ -66,13 +66,13 @@ pub blocks_after_free : (old : HeapState) (h : ℕ) (freed : Freed) (new : HeapS
 blocks_after_free old h freed new is before after f =
     let moved = number_of freed.moved in
     let o = framed old is before in
-    let n = framed new (ap (λ (s : HeapState). s.kind) f.whole ∙ is) after in
-    let same : paging_in new ≡ paging_in old = ap paging_in f.whole in
+    let n = framed new (f.rest.kind ∙ is) after in
+    let same : paging_in new ≡ paging_in old = λ i. paging_of (f.rest.profile i) (layout_of (f.rest.kind i)) (f.rest.bounds i) in
     let out : Leaves = leaves_of old h f.object moved in
     let moves : Moves (paging_in old) old.held f.object moved = subst (λ k. MovesIn k old f.object moved) is f.moves in
     let step : IsFreedBy (paging_in old) old.held h out = record { freed = f.object; found = f.found; moves = moves; left = refl } in
-    let frames : new.frames ≡ frames_after (paging_in old) old.held out old.frames = ap (λ (s : HeapState). s.frames) f.whole ∙ ap (λ k. frames_left k old out) is in
-    let held : new.held ≡ out.held = ap (λ (s : HeapState). s.held) f.whole in
+    let frames : new.frames ≡ frames_after (paging_in old) old.held out old.frames = f.frames ∙ ap (λ k. frames_left k old out) is in
+    let held : new.held ≡ out.held = f.held in
     let stay : (q : ℕ) (x y : Placed) → q ≢ h → get old.held q ≡ Some x → get new.held q ≡ Some y → (i : ℕ) → i < slot_for (paging_in old) (length x.bytes) / 4 → block_of new.frames y.place i ≡ block_of old.frames x.place i
     = λ q x y ne e g i lt. rw frames (free_blocks (paging_in old) old.held old.frames o.paging o.blocks o.sound o.count h out step q x y ne e (ap (λ m. get m q) (sym held) ∙ g) i lt) in
     record {

@@ -21,5 +21,5 @@ free_removes old new h freed is frees = record {
   freed = frees.object;
   found = frees.found;
   moves = rw (is, MovesIn) at frees.moves;
-  left = ap (λ (s : HeapState). s.held) frees.whole;
+  left = frees.held;
 }

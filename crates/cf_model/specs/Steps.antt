@@ -35,6 +35,13 @@ pub record StaysOpen (old new : HeapState) : Type 0 where
   pub open_now : new.is_open ≡ true
   pub profile : new.profile ≡ old.profile
 
+-- the same manager under the same settings, with the same bounds of its classes
+pub record KeepsSettings (old new : HeapState) : Type 0 where
+  pub kind : new.kind ≡ old.kind
+  pub opened : new.is_open ≡ old.is_open
+  pub profile : new.profile ≡ old.profile
+  pub bounds : new.bounds ≡ old.bounds
+
 -- nothing changes but the cost
 abbrev pub ChangesCost : HeapState → HeapState → Type 0
 ChangesCost old new = new ≡ record old { cost = new.cost }
@@ -148,14 +155,17 @@ number_of moved = option_map (λ (h : Handle). h.0) moved
 abbrev pub leaves_of : HeapState → ℕ → Placed → Option ℕ → Leaves
 leaves_of old h x moved = record { held = without old.held h x.place moved; moved = moved }
 
--- An object goes, and the one that moved has its address. All others keep their bytes.
+-- Object h goes, and the one that moved, if one did, has its address. All others keep their bytes.
 pub record FreesObject (old : HeapState) (h : ℕ) (freed : Freed) (new : HeapState) : Type 0 where
   pub object : Placed
   pub found : get old.held h ≡ Some object
   pub slot : freed.slot_words ≡ slot_in old.kind old object
   pub moves : MovesIn old.kind old object (number_of freed.moved)
+  pub held : new.held ≡ without old.held h object.place (number_of freed.moved)
   pub left : objects new.held ≡ remove (objects old.held) h
-  pub whole : new ≡ record old { held = without old.held h object.place (number_of freed.moved); words = new.words; frames = frames_left old.kind old (leaves_of old h object (number_of freed.moved)); tiling = tiling_left old.kind old object.place; cost = new.cost }
+  pub frames : new.frames ≡ frames_left old.kind old (leaves_of old h object (number_of freed.moved))
+  pub tiling : new.tiling ≡ tiling_left old.kind old object.place
+  pub rest : KeepsSettings old new
 
 -- a free takes an object away, or is refused and changes the cost alone
 abbrev pub IsFreeStep : HeapState → ℕ → Result Freed NotLive → HeapState → Type 0

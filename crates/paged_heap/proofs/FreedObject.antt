@@ -22,7 +22,8 @@ use Rattle.page_slots.specs.Freeing.{MovesObject}
 use Rattle.page_slots.specs.Tables.{IsUsed, page_at, slot_at, slots_on}
 use Rattle.page_slots.specs.Occupying.{Occupies, Tell, class_table}
 use Rattle.page_slots.proofs.CallerLemmas.{moves_is, moves_some}
-use Rattle.cf_model.specs.Steps.{FreesObject, MovesIn, frames_left, number_of, leaves_of, tiling_left}
+use Rattle.cf_model.specs.State.{HeapState}
+use Rattle.cf_model.specs.Steps.{FreesObject, MovesIn, frames_left, number_of, leaves_of}
 use Rattle.paged_heap.specs.Heap.{Heap}
 use Rattle.paged_heap.specs.Layout.{IsFramed, IsValid, held_in, paging_at, state_of, tables_in}
 use Rattle.paged_heap.specs.Free.{IsMoving, IsObjectAt}
@@ -169,25 +170,21 @@ module _ {h : Heap} (k : IsValid h) {q a size c : ℕ} (o : IsObjectAt h q a siz
 
       pub goes_freed : n.frames ≡ frames_left h.kind (state_of h) (record { held = rest_held; moved = moved }) → (freed : Freed)
           → freed.slot_words ≡ get_or h.classes.sizes c 0 → number_of freed.moved ≡ moved → FreesObject (state_of h) q freed (state_of n)
-      goes_freed frames freed words is = record {
-        object = it;
-        found = it_found;
-        slot = words ∙ it_slot ∙ sym (slot_in_is h.kind (paged_kind h k) (state_of h) it);
-        moves = subst (MovesIn h.kind (state_of h) it) (sym is) (moves_in h.kind (paged_kind h k) (state_of h) it moved mv);
-        left = ap objects (held_is h n k rest_held b) ∙ objects_are;
-        whole = subst (λ v. state_of n ≡ record (state_of h) {
-          held = without (held_in h) q a v;
-          words = n.words;
-          frames = frames_left h.kind (state_of h) (leaves_of (state_of h) q it v);
-          tiling = tiling_left h.kind (state_of h) a;
-          cost = n.cost;
-        }) (sym is)
-            (becomes_state h n k rest_held b ∙ ap (λ fs. record (state_of h) { held = rest_held; words = n.words; frames = fs; cost = n.cost }) frames
-            ∙ ap (λ t. record (state_of h) {
-              held = rest_held;
-              words = n.words;
-              frames = frames_left h.kind (state_of h) (record { held = rest_held; moved = moved });
-              tiling = t;
-              cost = n.cost;
-            }) (sym (tiling_stays h.kind (paged_kind h k) (state_of h) a)));
-      }
+      goes_freed frames freed words is =
+          let same = becomes_state h n k rest_held b in
+          record {
+            object = it;
+            found = it_found;
+            slot = words ∙ it_slot ∙ sym (slot_in_is h.kind (paged_kind h k) (state_of h) it);
+            moves = subst (MovesIn h.kind (state_of h) it) (sym is) (moves_in h.kind (paged_kind h k) (state_of h) it moved mv);
+            held = held_is h n k rest_held b ∙ ap (without (held_in h) q a) (sym is);
+            left = ap objects (held_is h n k rest_held b) ∙ objects_are;
+            frames = frames ∙ ap (λ v. frames_left h.kind (state_of h) (leaves_of (state_of h) q it v)) (sym is);
+            tiling = ap (λ (s : HeapState). s.tiling) same ∙ sym (tiling_stays h.kind (paged_kind h k) (state_of h) a);
+            rest = record {
+              kind = ap (λ (s : HeapState). s.kind) same;
+              opened = ap (λ (s : HeapState). s.is_open) same;
+              profile = ap (λ (s : HeapState). s.profile) same;
+              bounds = ap (λ (s : HeapState). s.bounds) same;
+            };
+          }

@@ -49,7 +49,10 @@ free_cost o q (Ok freed) h cost g = record {
   found = g.found;
   slot = g.slot;
   moves = g.moves;
+  held = g.held;
   left = g.left;
-  whole = ap (λ (t : HeapState). record t { cost = cost }) g.whole;
+  frames = g.frames;
+  tiling = g.tiling;
+  rest = (let rest = g.rest in record { kind = rest.kind; opened = rest.opened; profile = rest.profile; bounds = rest.bounds });
 }
 free_cost o q (Err e) h cost (cause, same) = (cause, ap (λ (t : HeapState). record t { cost = cost }) same)

@@ -158,10 +158,11 @@ module _ (old : HeapState) (rules : KeepsRules old) (with_blocks : IsTiled old.k
           found = there;
           slot = refl;
           moves = rw (with_blocks, MovesIn) refl;
+          held = refl;
           left = gone;
-          whole = ap (λ t. record old { held = left; words = next.words; tiling = t; cost = 0 }) (rw (with_blocks, tiling_left) refl)
-              ∙ ap (λ f. record old { held = left; words = next.words; frames = f; tiling = tiling_left old.kind old x.place; cost = 0 })
-              (sym (frames_stay (leaves_of old h x None)));
+          frames = sym (frames_stay (leaves_of old h x None));
+          tiling = rw (with_blocks, tiling_left) refl;
+          rest = record { kind = refl; opened = refl; profile = refl; bounds = refl };
         };
         kept = next.kept;
         cost = cost_any 0;

@@ -179,8 +179,11 @@ module _ (old : HeapState) (rules : KeepsRules old) (paged : IsPaged old.kind) w
           found = there;
           slot = refl;
           moves = rw (paged, MovesIn) moves;
+          held = refl;
           left = gone;
-          whole = ap (λ t. record old { held = left; words = next.words; frames = frames; tiling = t; cost = 0 }) (rw (paged, tiling_left) refl);
+          frames = refl;
+          tiling = rw (paged, tiling_left) refl;
+          rest = record { kind = refl; opened = refl; profile = refl; bounds = refl };
         };
         kept = next.kept;
         cost = cost_none;

@@ -69,7 +69,10 @@ module _ (old new : RunState) (rules : KeepsRules old.heap) where
 
   kept_free : (o : Option ℕ) (id : ℕ) (reply : Reply) → FreesAt o old id reply new → Kept old.heap new.heap
   kept_free None id reply step = still step.1
-  kept_free (Some h) id reply step = record { same = same_as old.heap new.heap _ step.step.whole (record { kind = refl; opened = refl; profile = refl }); rules = step.rules }
+  kept_free (Some h) id reply step = record {
+    same = (let rest = step.step.rest in record { kind = rest.kind; opened = rest.opened; profile = rest.profile });
+    rules = step.rules;
+  }
 
   kept_write : (o : Option ℕ) (at : ℕ) (bytes : List ℕ) (reply : Reply) → WritesAt o old at bytes reply new → Kept old.heap new.heap
   kept_write None at bytes reply step = still step.1

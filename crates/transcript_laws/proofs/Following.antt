@@ -180,7 +180,7 @@ module _ (old : RunState) (going : IsGoing old) where
         let o : objects_by_id new.session.ids (objects new.heap.held) ≡ remove t.objects id = (λ i. objects_by_id (e i) (left i)) ∙ by_id_gone ids m names id h named in
         record {
           reply_is = step.reply_is ∙ ap (λ o. said (free_said o)) (sym x.2);
-          state_is = becomes t.bounds _ k p (ap (λ (s : HeapState). s.bounds) step.step.whole) o;
+          state_is = becomes t.bounds _ k p step.step.rest.bounds o;
         }
 
     -- w
