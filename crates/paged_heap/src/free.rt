@@ -141,7 +141,7 @@ impl OpenHeap {
         A::clear(&mut self.region, &self.blocks, place, slot_words, steps);
     }
 
-    /// An object of class c moves to another address.
+    /// The object in a slot of `slot_words` words moves to another slot.
     pub(crate) fn move_to<A: Mapping>(
         &mut self,
         h: Handle,
