@@ -64,7 +64,8 @@ not_below s f t is le within =
       | inl less ↦ omega arith
       | inr same ↦ (
           let is' : log t ≡ f = omega arith in
-          let b' : tlsf_bucket t ≡ 16 + 16 * (f - 4) + (t - 2 ^ f) / 2 ^ (f - 4) = subst (λ n. tlsf_bucket t ≡ 16 + 16 * (n - 4) + (t - 2 ^ n) / 2 ^ (n - 4)) is' b in
+          let b' : tlsf_bucket t ≡ 16 + 16 * (f - 4) + (t - 2 ^ f) / 2 ^ (f - 4) =
+          subst (λ n. tlsf_bucket t ≡ 16 + 16 * (n - 4) + (t - 2 ^ n) / 2 ^ (n - 4)) is' b in
           let down = div-mul-le_self (s - 2 ^ f) (2 ^ (f - 4)) in
           let up = le-div ((s - 2 ^ f) / 2 ^ (f - 4)) (t - 2 ^ f) (2 ^ (f - 4)) (pow_pos (f - 4)) (omega arith) in
           omega arith)

@@ -4,7 +4,8 @@ use Rattle.std.specs.Prelude.{◌&&◌, is_none}
 use Rattle.std.proofs.lemmas.Bool.{cases_lt, cases_eq}
 use Rattle.std.proofs.lemmas.Option.{same_Some as some_injective}
 use Rattle.block_model.specs.Buckets.{FreeLists, AreLawful}
-use Rattle.block_model.specs.Tiling.{Block, is_free, Fill, IsTiling, block_at, Demand, carved, carved_at, Carves, joined, merged, freed_at, released, IsCarvedTo, StaysUsed}
+use Rattle.block_model.specs.Tiling.{Block, is_free, Fill, IsTiling, block_at, Demand, carved, carved_at, Carves, joined, merged, freed_at, released}
+use Rattle.block_model.specs.Tiling.{IsCarvedTo, StaysUsed}
 use Rattle.cf_lemmas.proofs.Tests.{eq_yes, eq_no, le_yes, le_no}
 use Rattle.block_model.proofs.Releases.{freed_fill, merged_fill}
 
@@ -47,21 +48,26 @@ module _ (d : Demand) (place a : ℕ) (b : Block) (h : ℕ) (away : a ≢ place)
   carved_kept : (x : Block) (xs : List Block) → x.address ≡ place → ((x.address + d.need ≡ a) → d.need + 2 ≤ x.size → block_at xs a ≡ Some b → ⊥)
       → block_at xs a ≡ Some b → block_at (carved x d ++ xs) a ≡ Some b
   carved_kept x xs is clear there = elim (cases_lt x.size (d.need + 2)) [
-    | inl small ↦ rw (le_no (d.need + 2) x.size small) (skip (record { address = x.address; size = x.size; owner = Some d.owner }) xs a (λ e. away (sym e ∙ is)) ∙ there)
+    | inl small ↦ rw (le_no (d.need + 2) x.size small) (skip (record { address = x.address; size = x.size; owner = Some d.owner }) xs a (λ e. away (sym e ∙ is))
+        ∙ there)
     | inr large ↦ rw (le_yes (d.need + 2) x.size large) (
-        skip (record { address = x.address; size = d.need; owner = Some d.owner }) (record { address = x.address + d.need; size = x.size - d.need; owner = None } ∷ xs) a (λ e. away (sym e ∙ is))
+        skip (record { address = x.address; size = d.need; owner = Some d.owner })
+        (record { address = x.address + d.need; size = x.size - d.need; owner = None } ∷ xs) a (λ e. away (sym e ∙ is))
         ∙ skip (record { address = x.address + d.need; size = x.size - d.need; owner = None }) xs a (λ e. clear e large there) ∙ there)
   ]
 
   carved_no_other : (x : Block) (xs : List Block) → x.address ≡ place → block_at (carved x d ++ xs) a ≡ Some b → block_at xs a ≡ Some b
   carved_no_other x xs is there = elim (cases_lt x.size (d.need + 2)) [
     | inl small ↦ (
-        let t : block_at (record { address = x.address; size = x.size; owner = Some d.owner } ∷ xs) a ≡ Some b = rw (le_no (d.need + 2) x.size small) at there in
+        let t : block_at (record { address = x.address; size = x.size; owner = Some d.owner } ∷ xs) a ≡ Some b =
+        rw (le_no (d.need + 2) x.size small) at there in
         sym (skip (record { address = x.address; size = x.size; owner = Some d.owner }) xs a (λ e. away (sym e ∙ is))) ∙ t)
     | inr large ↦ (
-        let t : block_at (record { address = x.address; size = d.need; owner = Some d.owner } ∷ record { address = x.address + d.need; size = x.size - d.need; owner = None } ∷ xs) a ≡ Some b = rw (le_yes (d.need + 2) x.size large) at there in
+        let t : block_at (record { address = x.address; size = d.need; owner = Some d.owner } ∷ record
+        { address = x.address + d.need; size = x.size - d.need; owner = None } ∷ xs) a ≡ Some b = rw (le_yes (d.need + 2) x.size large) at there in
         let rest : Block = record { address = x.address + d.need; size = x.size - d.need; owner = None } in
-        let u : block_at (rest ∷ xs) a ≡ Some b = sym (skip (record { address = x.address; size = d.need; owner = Some d.owner }) (rest ∷ xs) a (λ e. away (sym e ∙ is))) ∙ t in
+        let u : block_at (rest ∷ xs) a ≡ Some b = sym (skip (record { address = x.address; size = d.need; owner = Some d.owner }) (rest ∷ xs) a
+        (λ e. away (sym e ∙ is))) ∙ t in
         elim (cases_eq rest.address a) [
           | inl same ↦ absurd (used_is_not_free b h used (sym (ap (λ (y : Block). y.owner) (some_injective rest b (sym (take_first rest xs a same) ∙ u)))))
           | inr other ↦ sym (skip rest xs a other) ∙ u
@@ -172,7 +178,8 @@ module _ (d : Demand) (place a : ℕ) (b : Block) (h : ℕ) (away : a ≢ place)
   free_no_other bs from to f there = sym (freed_other bs) ∙ merged_no_other (freed_at bs place) from to (freed_fill bs place from to f) there
 
 -- a malloc leaves every other used block
-pub malloc_stays : (rule : FreeLists) (words : ℕ) (old new : List Block) (d : Demand) (place : ℕ) → IsTiling words old → Carves rule old d place new → StaysUsed old place new
+pub malloc_stays : (rule : FreeLists) (words : ℕ) (old new : List Block) (d : Demand) (place : ℕ) → IsTiling words old → Carves rule old d place new
+    → StaysUsed old place new
 malloc_stays rule words old new d place t step = (let e = step.carved in rw e (record {
   kept = λ a b h away used there. malloc_kept d place a b h away used old 0 words t.fill there;
   no_other = λ a b h away used there. malloc_no_other d place a b h away used old there;
@@ -188,8 +195,24 @@ free_stays words old place t = record {
 module _ (d : Demand) (place : ℕ) where
   carved_to : (x : Block) (xs : List Block) → x.address ≡ place → d.need ≤ x.size → IsCarvedTo (carved x d ++ xs) place d
   carved_to x xs is enough = elim (cases_lt x.size (d.need + 2)) [
-    | inl small ↦ rw (le_no (d.need + 2) x.size small) (record { block = record { address = x.address; size = x.size; owner = Some d.owner }; there = take_first (record { address = x.address; size = x.size; owner = Some d.owner }) xs place is; owner = refl; least = enough; most = omega arith })
-    | inr large ↦ rw (le_yes (d.need + 2) x.size large) (record { block = record { address = x.address; size = d.need; owner = Some d.owner }; there = take_first (record { address = x.address; size = d.need; owner = Some d.owner }) (record { address = x.address + d.need; size = x.size - d.need; owner = None } ∷ xs) place is; owner = refl; least = omega arith; most = omega arith })
+    | inl small ↦ rw (le_no (d.need + 2) x.size small) (record {
+      block = record { address = x.address; size = x.size; owner = Some d.owner };
+      there =
+          take_first (record { address = x.address; size = x.size; owner = Some d.owner }) xs place is;
+      owner = refl;
+      least = enough;
+      most = omega arith;
+    })
+    | inr large ↦ rw (le_yes (d.need + 2) x.size large) (record {
+      block = record { address = x.address; size = d.need; owner = Some d.owner };
+      there =
+          take_first (record { address = x.address; size = d.need; owner = Some d.owner })
+          (record { address = x.address + d.need; size = x.size - d.need; owner = None } ∷ xs) place is;
+      owner = refl;
+      least = omega arith;
+      most =
+          omega arith;
+    })
   ]
 
   given_block : (bs : List Block) (found : Block) → block_at bs place ≡ Some found → d.need ≤ found.size → IsCarvedTo (carved_at bs place d) place d
@@ -200,11 +223,19 @@ module _ (d : Demand) (place : ℕ) where
         rw (eq_yes x.address place is) (carved_to x xs is (rw same enough)))
     | inr other ↦ (
         let r = given_block xs found (sym (skip x xs place other) ∙ there) enough in
-        rw (eq_no x.address place other) (record { block = r.block; there = skip x (carved_at xs place d) place other ∙ r.there; owner = r.owner; least = r.least; most = r.most }))
+        rw (eq_no x.address place other) (record {
+          block = r.block;
+          there = skip x (carved_at xs place d) place other
+              ∙ r.there;
+          owner = r.owner;
+          least = r.least;
+          most = r.most;
+        }))
   ]
 
 -- a malloc gives the words that are needed
-pub malloc_gives : (rule : FreeLists) (count words : ℕ) (old new : List Block) (d : Demand) (place : ℕ) → AreLawful rule count → words ≤ 2 ^ 23 → 2 ≤ d.need → d.need ≤ 2 ^ 23
+pub malloc_gives : (rule : FreeLists) (count words : ℕ) (old new : List Block) (d : Demand) (place : ℕ) → AreLawful rule count → words ≤ 2 ^ 23 → 2 ≤ d.need
+    → d.need ≤ 2 ^ 23
     → IsTiling words old → Carves rule old d place new → IsCarvedTo new place d
 malloc_gives rule count words old new d place lawful small some few t step =
     let l = lies old 0 words place step.found t.fill step.there in
@@ -214,9 +245,11 @@ malloc_gives rule count words old new d place lawful small some few t step =
     rw e (given_block d place old step.found step.there enough)
 
 -- no used block begins where one was released
-pub released_is_free : (words : ℕ) (old : List Block) (place : ℕ) (b : Block) (h : ℕ) → IsTiling words old → block_at (released old place) place ≡ Some b → b.owner ≡ Some h → ⊥
+pub released_is_free : (words : ℕ) (old : List Block) (place : ℕ) (b : Block) (h : ℕ) → IsTiling words old → block_at (released old place) place ≡ Some b
+    → b.owner ≡ Some h → ⊥
 released_is_free words old place b h t there used =
-    let before = merged_no_other (record { need = 0; owner = 0 }) (place + 1) place b h (omega arith) used (freed_at old place) 0 words (freed_fill old place 0 words t.fill) there in
+    let before = merged_no_other (record { need = 0; owner = 0 }) (place + 1) place b h (omega arith) used (freed_at old place) 0 words
+    (freed_fill old place 0 words t.fill) there in
     used_is_not_free b h used (freed_owner old before)
   where
     freed_owner : (bs : List Block) → block_at (freed_at bs place) place ≡ Some b → b.owner ≡ None

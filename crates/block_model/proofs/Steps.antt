@@ -50,7 +50,8 @@ carved_merged b bs d free (apart, rest) =
       | inr large ↦ rw (le_yes (d.need + 2) b.size large) (refl, (next, rest))
     ]
 
-pub merged_carved : (blocks : List Block) (a : ℕ) (d : Demand) (b : Block) → block_at blocks a ≡ Some b → b.owner ≡ None → AreMerged blocks → AreMerged (carved_at blocks a d)
+pub merged_carved : (blocks : List Block) (a : ℕ) (d : Demand) (b : Block) → block_at blocks a ≡ Some b → b.owner ≡ None → AreMerged blocks
+    → AreMerged (carved_at blocks a d)
 merged_carved [] a d b there free m = m
 merged_carved (x ∷ xs) a d b there free m = elim (cases_eq x.address a) [
   | inl is ↦ (
@@ -58,11 +59,15 @@ merged_carved (x ∷ xs) a d b there free m = elim (cases_eq x.address a) [
       rw (eq_yes x.address a is) (carved_merged x xs d (ap (λ (y : Block). y.owner) same ∙ free) m))
   | inr other ↦ (
       let t : block_at xs a ≡ Some b = rw (eq_no x.address a other) at there in
-      rw (eq_no x.address a other) (both (is_free x) (starts_free xs) (starts_free (carved_at xs a d)) m.0 (starts_carved xs a d), merged_carved xs a d b t free m.1))
+      rw (eq_no x.address a other) (
+        both (is_free x) (starts_free xs) (starts_free (carved_at xs a d)) m.0 (starts_carved xs a d),
+        merged_carved xs a d b t free m.1,
+      ))
 ]
 
 -- a malloc keeps the tiling
-pub malloc_keeps_tiling : (rule : FreeLists) (words : ℕ) (old new : List Block) (d : Demand) (place : ℕ) → 2 ≤ d.need → IsTiling words old → Carves rule old d place new → IsTiling words new
+pub malloc_keeps_tiling : (rule : FreeLists) (words : ℕ) (old new : List Block) (d : Demand) (place : ℕ) → 2 ≤ d.need → IsTiling words old
+    → Carves rule old d place new → IsTiling words new
 malloc_keeps_tiling rule words old new d place some t step = (let e = step.carved in rw e (record {
   fill = fill_carved d some old place 0 words t.fill;
   merged = merged_carved old place d step.found step.there step.serves.free t.merged;

@@ -1,5 +1,6 @@
 -- A region cut into blocks, used and free ones, without a gap. Addresses and sizes are in words.
-use Rattle.std.specs.Prelude.{◌≡◌, ◌≢◌, ℕ, Bool, false, ◌&&◌, ◌+◌, ◌-◌, ◌/◌, ◌≤◌, List, [], ◌∷◌, ◌++◌, Option, Some, None, if◌then◌else◌, is_none, is_some, nat_eq, nat_le, max, count_by, sum_by, cond}
+use Rattle.std.specs.Prelude.{◌≡◌, ◌≢◌, ℕ, Bool, false, ◌&&◌, ◌+◌, ◌-◌, ◌/◌, ◌≤◌, List, [], ◌∷◌, ◌++◌, Option, Some, None, if◌then◌else◌, is_none, is_some}
+use Rattle.std.specs.Prelude.{nat_eq, nat_le, max, count_by, sum_by, cond}
 use Rattle.block_model.specs.Buckets.{FreeLists}
 
 -- a block: where it begins, how many words it has, and the number that owns it; none owns a free one
@@ -61,7 +62,8 @@ LacksBlock rule blocks need = (a : ℕ) (b : Block) → block_at blocks a ≡ So
 -- The first words of a block become used, and the rest becomes a free block; where less than two words are over they stay with the first.
 abbrev pub carved : Block → Demand → List Block
 carved b d = if nat_le (d.need + 2) b.size
-    then record { address = b.address; size = d.need; owner = Some d.owner } ∷ record { address = b.address + d.need; size = b.size - d.need; owner = None } ∷ []
+    then record { address = b.address; size = d.need; owner = Some d.owner } ∷ record
+    { address = b.address + d.need; size = b.size - d.need; owner = None } ∷ []
     else (record { address = b.address; size = b.size; owner = Some d.owner } ∷ [])
 
 -- the block at the address is split

@@ -17,7 +17,8 @@ AreCleared words blocks = (a : ℕ) (b : Block) → block_at blocks a ≡ Some b
 
 -- from word 1 on, a block has the contents of its owner
 abbrev pub HaveContents : (ℕ → ℕ → ℕ) → List ℕ → List Block → Type 0
-HaveContents content words blocks = (a : ℕ) (b : Block) (h : ℕ) → block_at blocks a ≡ Some b → b.owner ≡ Some h → (i : ℕ) → 1 + i < b.size → slice_index words (a + 1 + i) ≡ content h i
+HaveContents content words blocks = (a : ℕ) (b : Block) (h : ℕ) → block_at blocks a ≡ Some b → b.owner ≡ Some h → (i : ℕ) → 1 + i < b.size
+    → slice_index words (a + 1 + i) ≡ content h i
 
 -- The words of a tiling: word 0 of each block is its header, a free one is cleared, and a used one holds what its owner has, `content h 0` and on.
 pub record AreTilingWords (content : ℕ → ℕ → ℕ) (blocks : List Block) (words : List ℕ) : Type 0 where

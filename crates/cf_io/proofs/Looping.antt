@@ -30,7 +30,8 @@ kept : (piece buf new : List ℕ) (next full n : ℕ) → next + n ≤ length pi
 kept piece buf new next full n some room is k h = rw is (grind (arith, common_steps))
 
 copied : (piece buf new : List ℕ) (next full n : ℕ) → next + n ≤ length piece → full + n ≤ length buf
-    → new ≡ take full buf ++ take n (drop next piece) ++ drop (full + n) buf → (k : ℕ) → full ≤ k → k < full + n → get_or new k 0 ≡ get_or piece (next + (k - full)) 0
+    → new ≡ take full buf ++ take n (drop next piece) ++ drop (full + n) buf → (k : ℕ) → full ≤ k → k < full + n
+    → get_or new k 0 ≡ get_or piece (next + (k - full)) 0
 copied piece buf new next full n some room is k h below = rw is (grind (arith, common_steps))
 
 pub loops_more : (piece buf new : List ℕ) (at next full n : ℕ) → next ≡ (at + full) % length piece → next + n ≤ length piece → full + n ≤ length buf

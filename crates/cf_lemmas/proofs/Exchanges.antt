@@ -77,10 +77,12 @@ module _ (xs : List ℕ) (a b n : ℕ) where
 -- the entries of two runs that changed places
 module _ (xs : List ℕ) (a b n : ℕ) (apart : (a + n ≤ b) ⊎ (b + n ≤ a)) (at_a : a + n ≤ length xs) (at_b : b + n ≤ length xs) where
   pub exchanged_at_a : (k : ℕ) → k < n → get_or (exchanged xs a b n) (a + k) 0 ≡ get_or xs (b + k) 0
-  exchanged_at_a k lt = get_or-exchanged xs a b n (a + k) (omega arith) ∙ ap (λ v. get_or xs v 0) (partner_first a b n apart (a + k) (omega arith) (omega arith) ∙ omega arith)
+  exchanged_at_a k lt = get_or-exchanged xs a b n (a + k) (omega arith)
+      ∙ ap (λ v. get_or xs v 0) (partner_first a b n apart (a + k) (omega arith) (omega arith) ∙ omega arith)
 
   pub exchanged_at_b : (k : ℕ) → k < n → get_or (exchanged xs a b n) (b + k) 0 ≡ get_or xs (a + k) 0
-  exchanged_at_b k lt = get_or-exchanged xs a b n (b + k) (omega arith) ∙ ap (λ v. get_or xs v 0) (partner_second a b n apart (b + k) (omega arith) (omega arith) ∙ omega arith)
+  exchanged_at_b k lt = get_or-exchanged xs a b n (b + k) (omega arith)
+      ∙ ap (λ v. get_or xs v 0) (partner_second a b n apart (b + k) (omega arith) (omega arith) ∙ omega arith)
 
   pub exchanged_others : (w : ℕ) → (w < a) ⊎ (a + n ≤ w) → (w < b) ⊎ (b + n ≤ w) → get_or (exchanged xs a b n) w 0 ≡ get_or xs w 0
   exchanged_others w p q = elim (cases_lt w (length xs)) [
@@ -98,7 +100,9 @@ module _ (xs : List ℕ) (a b n : ℕ) (apart : (a + n ≤ b) ⊎ (b + n ≤ a))
       (λ v lt. (
       let here = get_or-exchanged xs a b n v (omega arith) in
       elim (where_is a b n apart v) [
-        | first l h e ↦ (let at : a + (v - a) ≡ v = omega arith in ap (λ w. get_or ys w 0) (sym at) ∙ of_a (v - a) (omega arith) ∙ ap (λ w. get_or xs w 0) (sym e) ∙ sym here)
-        | second l h e ↦ (let at : b + (v - b) ≡ v = omega arith in ap (λ w. get_or ys w 0) (sym at) ∙ of_b (v - b) (omega arith) ∙ ap (λ w. get_or xs w 0) (sym e) ∙ sym here)
+        | first l h e ↦ (let at : a + (v - a) ≡ v = omega arith in ap (λ w. get_or ys w 0) (sym at) ∙ of_a (v - a) (omega arith)
+            ∙ ap (λ w. get_or xs w 0) (sym e) ∙ sym here)
+        | second l h e ↦ (let at : b + (v - b) ≡ v = omega arith in ap (λ w. get_or ys w 0) (sym at) ∙ of_b (v - b) (omega arith)
+            ∙ ap (λ w. get_or xs w 0) (sym e) ∙ sym here)
         | neither p q e ↦ others v p q ∙ ap (λ w. get_or xs w 0) (sym e) ∙ sym here
       ]))

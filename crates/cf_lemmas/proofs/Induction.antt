@@ -33,7 +33,8 @@ module _ {V : Type 0} where
   module _ (P : FinMap nat_cmp V → Type 0) (base : P empty) (step : (m : FinMap nat_cmp V) (h : ℕ) (x : V) → get m h ≡ None → P m → P (insert m h x)) where
     over_entries : (es : List (ℕ × V)) → T (is_sorted nat_cmp es) → P (from_entries {R = nat_cmp} es)
     over_entries [] s = base
-    over_entries (e ∷ es) s = step (from_entries es) e.0 e.1 (get-from_entries nat_cmp_total es e.0 ∙ not_found e.0 es (first _ _ s)) (over_entries es (second _ _ s))
+    over_entries (e ∷ es) s = step (from_entries es) e.0 e.1 (get-from_entries nat_cmp_total es e.0 ∙ not_found e.0 es (first _ _ s))
+        (over_entries es (second _ _ s))
 
     pub map_induction : (m : FinMap nat_cmp V) → P m
     map_induction m = subst P (from_entries-entries m) (over_entries (entries m) (entries_sorted m))

@@ -19,7 +19,8 @@ module _ {X Y : Type 0} (f : X → Y) where
 
   find_map : (q : ℕ) (es : List (ℕ × X)) → find nat_cmp q (map (λ e. (e.0, f e.1)) es) ≡ option_map f (find nat_cmp q es)
   find_map q [] = refl
-  find_map q (e ∷ es) = elim (eq_by_cmp nat_cmp q e.0) as (λ b. cond b (Some (f e.1)) (find nat_cmp q (map (λ e. (e.0, f e.1)) es)) ≡ option_map f (cond b (Some e.1) (find nat_cmp q es))) [ true ↦ refl | false ↦ find_map q es ]
+  find_map q (e ∷ es) = elim (eq_by_cmp nat_cmp q e.0) as (λ b. cond b (Some (f e.1)) (find nat_cmp q (map (λ e. (e.0, f e.1)) es)) ≡ option_map f
+      (cond b (Some e.1) (find nat_cmp q es))) [ true ↦ refl | false ↦ find_map q es ]
 
   pub get-map_values : (m : FinMap nat_cmp X) (q : ℕ) → get (map_values f m) q ≡ option_map f (get m q)
   unfolding map_values
@@ -31,12 +32,14 @@ module _ {X Y : Type 0} (f : X → Y) where
 pub map_values-insert : {X Y : Type 0} (f : X → Y) (m : FinMap nat_cmp X) (h : ℕ) (x : X) → map_values f (insert m h x) ≡ insert (map_values f m) h (f x)
 map_values-insert f m h x = equal_maps _ _ (λ q. elim (cases_eq q h) [
   | inl is ↦ rw is (get-map_values f (insert m h x) h ∙ ap (option_map f) (get_inserted m h x) ∙ sym (get_inserted (map_values f m) h (f x)))
-  | inr ne ↦ get-map_values f (insert m h x) q ∙ ap (option_map f) (get_insert_other m h x q ne) ∙ sym (get-map_values f m q) ∙ sym (get_insert_other (map_values f m) h (f x) q ne)
+  | inr ne ↦ get-map_values f (insert m h x) q ∙ ap (option_map f) (get_insert_other m h x q ne) ∙ sym (get-map_values f m q)
+      ∙ sym (get_insert_other (map_values f m) h (f x) q ne)
 ])
 
 -- f of each value, after a removal
 pub map_values-remove : {X Y : Type 0} (f : X → Y) (m : FinMap nat_cmp X) (h : ℕ) → map_values f (remove m h) ≡ remove (map_values f m) h
 map_values-remove f m h = equal_maps _ _ (λ q. elim (cases_eq q h) [
   | inl is ↦ rw is (get-map_values f (remove m h) h ∙ ap (option_map f) (get_removed m h) ∙ sym (get_removed (map_values f m) h))
-  | inr ne ↦ get-map_values f (remove m h) q ∙ ap (option_map f) (get_remove_other m h q ne) ∙ sym (get-map_values f m q) ∙ sym (get_remove_other (map_values f m) h q ne)
+  | inr ne ↦ get-map_values f (remove m h) q ∙ ap (option_map f) (get_remove_other m h q ne) ∙ sym (get-map_values f m q)
+      ∙ sym (get_remove_other (map_values f m) h q ne)
 ])

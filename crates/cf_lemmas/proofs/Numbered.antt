@@ -29,7 +29,8 @@ module _ {X : Type 0} where
   pub numbered-set : (xs : List (Option X)) (h : ℕ) (x : X) → h < length xs → numbered 0 (set xs h (Some x)) ≡ insert (numbered 0 xs) h x
   numbered-set xs h x lt = equal_maps _ _ (λ q. elim (cases_eq q h) [
     | inl is ↦ rw is (get-numbered (set xs h (Some x)) h ∙ get_or-set_same xs h (Some x) None lt ∙ sym (get_inserted (numbered 0 xs) h x))
-    | inr ne ↦ get-numbered (set xs h (Some x)) q ∙ get_or-set_other xs h q (Some x) None ne ∙ sym (get-numbered xs q) ∙ sym (get_insert_other (numbered 0 xs) h x q ne)
+    | inr ne ↦ get-numbered (set xs h (Some x)) q ∙ get_or-set_other xs h q (Some x) None ne ∙ sym (get-numbered xs q)
+        ∙ sym (get_insert_other (numbered 0 xs) h x q ne)
   ])
 
   pub numbered-clear : (xs : List (Option X)) (h : ℕ) → h < length xs → numbered 0 (set xs h None) ≡ remove (numbered 0 xs) h
@@ -51,5 +52,6 @@ module _ {X : Type 0} where
   pub numbered_live : (xs : List (Option X)) (h : ℕ) → IsSome (get (numbered 0 xs) h) → h < length xs
   numbered_live xs h live = elim (cases_lt h (length xs)) [
     | inl lt ↦ lt
-    | inr past ↦ absurd (let none : get (numbered 0 xs) h ≡ None = get-numbered xs h ∙ get_or_past xs h None past in let none' : IsSome {T = X} None = rw none at live in false≢true none')
+    | inr past ↦ absurd (let none : get (numbered 0 xs) h ≡ None = get-numbered xs h
+        ∙ get_or_past xs h None past in let none' : IsSome {T = X} None = rw none at live in false≢true none')
   ]

@@ -21,7 +21,8 @@ module _ (f g : ℕ → Bool) where
       let rest = count_same (a + 1) n (λ p l. same p (omega arith)) in
       omega arith
 
-  pub count_changed : (a n c : ℕ) → a ≤ c → c < a + n → ((p : ℕ) → p ≢ c → f p ≡ g p) → count_by f (range_with_len a n) + one (g c) ≡ count_by g (range_with_len a n) + one (f c)
+  pub count_changed : (a n c : ℕ) → a ≤ c → c < a + n → ((p : ℕ) → p ≢ c → f p ≡ g p)
+      → count_by f (range_with_len a n) + one (g c) ≡ count_by g (range_with_len a n) + one (f c)
   count_changed a zero c low high same = absurd (omega arith)
   count_changed a (suc n) c low high same =
       let r = range_with_len (a + 1) n in
@@ -47,7 +48,8 @@ count_at_most f a n = rw (length-range_with_len a n) at (count_by-le-length f (r
 pub some_in_range : (f : ℕ → Bool) (a n d : ℕ) → a ≤ d → d < a + n → one (f d) ≡ 1 → 0 < count_by f (range_with_len a n)
 some_in_range f a zero d low high is = absurd (omega arith)
 some_in_range f a (suc n) d low high is =
-    let e : count_by f (a ∷ range_with_len (a + 1) n) ≡ one (f a) + count_by f (range_with_len (a + 1) n) = sum_by-cons (λ p. one (f p)) a (range_with_len (a + 1) n) in
+    let e : count_by f (a ∷ range_with_len (a + 1) n) ≡ one (f a) + count_by f (range_with_len (a + 1) n) =
+    sum_by-cons (λ p. one (f p)) a (range_with_len (a + 1) n) in
     elim (cases_eq a d) [
       | inl at ↦ (let first : one (f a) ≡ one (f d) = ap (λ p. one (f p)) at in omega arith)
       | inr other ↦ (let rest = some_in_range f (a + 1) n d (omega arith) (omega arith) is in omega arith)

@@ -33,7 +33,8 @@ module _ {V : Type 0} (f : V → ℕ) where
   total-put k v [] none = omega arith
   total-put k v (e ∷ es) none = go (nat_cmp k e.0) none (λ n. total-put k v es n)
     where
-      go : (r : Ordering) → cond (is_eq r) (Some e.1) (find nat_cmp k es) ≡ None → (find nat_cmp k es ≡ None → total (put nat_cmp k v es) ≡ total es + f v) → total (by_order r ((k, v) ∷ e ∷ es) ((e.0, v) ∷ es) (e ∷ put nat_cmp k v es)) ≡ total (e ∷ es) + f v
+      go : (r : Ordering) → cond (is_eq r) (Some e.1) (find nat_cmp k es) ≡ None → (find nat_cmp k es ≡ None → total (put nat_cmp k v es) ≡ total es + f v)
+          → total (by_order r ((k, v) ∷ e ∷ es) ((e.0, v) ∷ es) (e ∷ put nat_cmp k v es)) ≡ total (e ∷ es) + f v
       go Less n ih = (let s : total ((k, v) ∷ e ∷ es) ≡ f v + total (e ∷ es) = sum_by-cons f v (map (λ x. x.1) (e ∷ es)) in omega arith)
       go Equal n ih = absurd (let n' : Some e.1 ≡ None = n in cc)
       go Greater n ih = (

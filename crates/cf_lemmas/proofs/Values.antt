@@ -30,13 +30,15 @@ len-map_values {X} {Y} f = map_induction (λ m. len (map_values f m) ≡ len m)
     omega arith))
 
 -- what is there has another key than one that comes, and stays
-pub still : {V : Type 0} (m : FinMap nat_cmp V) (h : ℕ) (x : V) → get m h ≡ None → (q : ℕ) (y : V) → get m q ≡ Some y → (q ≢ h) × (get (insert m h x) q ≡ Some y)
+pub still : {V : Type 0} (m : FinMap nat_cmp V) (h : ℕ) (x : V) → get m h ≡ None → (q : ℕ) (y : V) → get m q ≡ Some y
+    → (q ≢ h) × (get (insert m h x) q ≡ Some y)
 still m h x none q y p =
     let ne : q ≢ h = (λ e. (let p' : get m h ≡ Some y = rw e at p in absurd (let z : Some y ≡ None = sym p' ∙ none in cc))) in
     (ne, get_insert_other m h x q ne ∙ p)
 
 -- no value above the limit: a sum is at most the limit for each
-pub sum_at_most : {V : Type 0} (f : V → ℕ) (limit : ℕ) (m : FinMap nat_cmp V) → ((q : ℕ) (v : V) → get m q ≡ Some v → f v ≤ limit) → sum_by f (values m) ≤ limit * len m
+pub sum_at_most : {V : Type 0} (f : V → ℕ) (limit : ℕ) (m : FinMap nat_cmp V) → ((q : ℕ) (v : V) → get m q ≡ Some v → f v ≤ limit)
+    → sum_by f (values m) ≤ limit * len m
 sum_at_most {V} f limit = map_induction (λ m. ((q : ℕ) (v : V) → get m q ≡ Some v → f v ≤ limit) → sum_by f (values m) ≤ limit * len m)
     (λ _. (let e : sum_by f (values (empty {X = V} {R = nat_cmp})) ≡ 0 = ap (sum_by f) no_values in omega arith))
     (λ m h x none ih each. (

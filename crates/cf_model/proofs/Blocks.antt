@@ -50,7 +50,8 @@ module _ (old new : HeapState) (o : Framed old) (n : Framed new) (same : paging_
       let at : (4 * i + j) / 4 ≡ i = omega arith in
       let rest : (4 * i + j) % 4 ≡ j = omega arith in
       let inside : 4 * i + j < slot_for (paging_in old) (length x.bytes) = omega arith in
-      let inside' : 4 * i + j < slot_for (paging_in new) (length y.bytes) = subst (λ p. 4 * i + j < slot_for p (length y.bytes)) (sym same) (subst (λ v. 4 * i + j < slot_for (paging_in old) (length v)) (sym bytes) inside) in
+      let inside' : 4 * i + j < slot_for (paging_in new) (length y.bytes) =
+      subst (λ p. 4 * i + j < slot_for p (length y.bytes)) (sym same) (subst (λ v. 4 * i + j < slot_for (paging_in old) (length v)) (sym bytes) inside) in
       let a = physical_word (paging_in old) o.paging o.blocks old.held o.sound old.frames old.words before o.count o.slots is q x e (4 * i + j) inside in
       let b = physical_word (paging_in new) n.paging n.blocks new.held n.sound new.frames new.words after n.count n.slots is' q y f (4 * i + j) inside' in
       let a' : get_or before (4 * block_of old.frames x.place i + j) 0 ≡ object_word q x.bytes (4 * i + j) = rw (at, rest) at a in
@@ -62,7 +63,8 @@ module _ (old new : HeapState) (o : Framed old) (n : Framed new) (same : paging_
 bytes_of : (m : Held) (q : ℕ) (x : Placed) → get m q ≡ Some x → get (objects m) q ≡ Some x.bytes
 bytes_of m q x e = get-map_values (λ (z : Placed). z.bytes) m q ∙ ap (option_map (λ (z : Placed). z.bytes)) e
 
-pub blocks_after_free : (old : HeapState) (h : ℕ) (freed : Freed) (new : HeapState) → old.kind ≡ NonMoving → KeepsRules old → KeepsRules new → FreesObject old h freed new → BlocksStay old h new
+pub blocks_after_free : (old : HeapState) (h : ℕ) (freed : Freed) (new : HeapState) → old.kind ≡ NonMoving → KeepsRules old → KeepsRules new
+    → FreesObject old h freed new → BlocksStay old h new
 blocks_after_free old h freed new is before after f =
     let moved = number_of freed.moved in
     let o = framed old is before in
@@ -73,41 +75,51 @@ blocks_after_free old h freed new is before after f =
     let step : IsFreedBy (paging_in old) old.held h out = record { freed = f.object; found = f.found; moves = moves; left = refl } in
     let frames : new.frames ≡ frames_after (paging_in old) old.held out old.frames = f.frames ∙ ap (λ k. frames_left k old out) is in
     let held : new.held ≡ out.held = f.held in
-    let stay : (q : ℕ) (x y : Placed) → q ≢ h → get old.held q ≡ Some x → get new.held q ≡ Some y → (i : ℕ) → i < slot_for (paging_in old) (length x.bytes) / 4 → block_of new.frames y.place i ≡ block_of old.frames x.place i
-    = λ q x y ne e g i lt. rw frames (free_blocks (paging_in old) old.held old.frames o.paging o.blocks o.sound o.count h out step q x y ne e (ap (λ m. get m q) (sym held) ∙ g) i lt) in
+    let stay : (q : ℕ) (x y : Placed) → q ≢ h → get old.held q ≡ Some x → get new.held q ≡ Some y → (i : ℕ) → i < slot_for (paging_in old) (length x.bytes) / 4
+    → block_of new.frames y.place i ≡ block_of old.frames x.place i
+    = λ q x y ne e g i lt. rw frames (free_blocks (paging_in old) old.held old.frames o.paging o.blocks o.sound o.count h out step q x y ne e
+    (ap (λ m. get m q) (sym held) ∙ g) i lt) in
     record {
       blocks = stay;
       words = λ before after ph ph' q x y ne e g i j lt low.
-          let bytes = some_equal y.bytes x.bytes (sym (bytes_of new.held q y g) ∙ ap (λ m. get m q) f.left ∙ get_remove_other (objects old.held) h q ne ∙ bytes_of old.held q x e) in
+          let bytes = some_equal y.bytes x.bytes (sym (bytes_of new.held q y g) ∙ ap (λ m. get m q) f.left ∙ get_remove_other (objects old.held) h q ne
+          ∙ bytes_of old.held q x e) in
           words_stay old new o n same q x y e g bytes before after ph ph' i j lt low (stay q x y ne e g i lt);
     }
 
-pub blocks_after_resize : (old : HeapState) (asked : Request) (done : Resized) (new : HeapState) → old.kind ≡ NonMoving → KeepsRules old → KeepsRules new → ResizesObject old asked done new → BlocksStay old asked.number new
+pub blocks_after_resize : (old : HeapState) (asked : Request) (done : Resized) (new : HeapState) → old.kind ≡ NonMoving → KeepsRules old → KeepsRules new
+    → ResizesObject old asked done new → BlocksStay old asked.number new
 blocks_after_resize old asked done new is before after f =
     let o = framed old is before in
     let n = framed new (ap (λ (s : HeapState). s.kind) f.whole ∙ is) after in
     let same : paging_in new ≡ paging_in old = ap paging_in f.whole in
     let out : Leaves = record { held = new.held; moved = number_of done.moved } in
-    let frames : new.frames ≡ frames_after (paging_in old) old.held out old.frames = ap (λ (s : HeapState). s.frames) f.whole ∙ ap (λ k. frames_left k old out) is in
-    let stay : (q : ℕ) (x y : Placed) → q ≢ asked.number → get old.held q ≡ Some x → get new.held q ≡ Some y → (i : ℕ) → i < slot_for (paging_in old) (length x.bytes) / 4 → block_of new.frames y.place i ≡ block_of old.frames x.place i
+    let frames : new.frames ≡ frames_after (paging_in old) old.held out old.frames = ap (λ (s : HeapState). s.frames) f.whole
+    ∙ ap (λ k. frames_left k old out) is in
+    let stay : (q : ℕ) (x y : Placed) → q ≢ asked.number → get old.held q ≡ Some x → get new.held q ≡ Some y → (i : ℕ)
+    → i < slot_for (paging_in old) (length x.bytes) / 4 → block_of new.frames y.place i ≡ block_of old.frames x.place i
     = λ q x y ne e g i lt. rw frames (resize_blocks (paging_in old) old.held old.frames o.paging o.blocks o.sound o.count asked out f.step q x y ne e g i lt) in
     record {
       blocks = stay;
       words = λ before after ph ph' q x y ne e g i j lt low.
-          let bytes = some_equal y.bytes x.bytes (sym (bytes_of new.held q y g) ∙ ap (λ m. get m q) f.left ∙ get_insert_other (objects old.held) asked.number _ q ne ∙ bytes_of old.held q x e) in
+          let bytes = some_equal y.bytes x.bytes (sym (bytes_of new.held q y g) ∙ ap (λ m. get m q) f.left
+          ∙ get_insert_other (objects old.held) asked.number _ q ne ∙ bytes_of old.held q x e) in
           words_stay old new o n same q x y e g bytes before after ph ph' i j lt low (stay q x y ne e g i lt);
     }
 
 -- where nothing but the cost changes, no block does
-pub blocks_after_refusal : (old : HeapState) (h : ℕ) (new : HeapState) → new ≡ record old { cost = new.cost } → old.kind ≡ NonMoving → KeepsRules old → KeepsRules new → BlocksStay old h new
+pub blocks_after_refusal : (old : HeapState) (h : ℕ) (new : HeapState) → new ≡ record old { cost = new.cost } → old.kind ≡ NonMoving → KeepsRules old
+    → KeepsRules new → BlocksStay old h new
 blocks_after_refusal old h new whole is before after =
     let o = framed old is before in
     let n = framed new (ap (λ (s : HeapState). s.kind) whole ∙ is) after in
     let same : paging_in new ≡ paging_in old = ap paging_in whole in
     let held : new.held ≡ old.held = ap (λ (s : HeapState). s.held) whole in
     let frames : new.frames ≡ old.frames = ap (λ (s : HeapState). s.frames) whole in
-    let equal : (q : ℕ) (x y : Placed) → get old.held q ≡ Some x → get new.held q ≡ Some y → y ≡ x = λ q x y e g. placed_equal y x (sym g ∙ ap (λ m. get m q) held ∙ e) in
-    let stay : (q : ℕ) (x y : Placed) → get old.held q ≡ Some x → get new.held q ≡ Some y → (i : ℕ) → block_of new.frames y.place i ≡ block_of old.frames x.place i
+    let equal : (q : ℕ) (x y : Placed) → get old.held q ≡ Some x → get new.held q ≡ Some y
+    → y ≡ x = λ q x y e g. placed_equal y x (sym g ∙ ap (λ m. get m q) held ∙ e) in
+    let stay : (q : ℕ) (x y : Placed) → get old.held q ≡ Some x → get new.held q ≡ Some y → (i : ℕ)
+    → block_of new.frames y.place i ≡ block_of old.frames x.place i
     = λ q x y e g i. (let s = equal q x y e g in rw (frames, s) refl) in
     record {
       blocks = λ q x y ne e g i lt. stay q x y e g i;

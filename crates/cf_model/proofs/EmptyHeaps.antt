@@ -45,7 +45,8 @@ module _ (p : Profile) (ok : AreInRange p) where
   zeros_are_many : length (replicate {A = ℕ} (region_words p) 0) ≡ region_words p
   zeros_are_many = length-replicate (region_words p) 0
 
-  pages_kept : (k : Kind) (s : HeapState) → s ≡ record (empty_heap k p (replicate (region_words p) 0)) { bounds = first_bounds p (layout_of k); tiling = [] } → KeepsPages s
+  pages_kept : (k : Kind) (s : HeapState) → s ≡ record (empty_heap k p (replicate (region_words p) 0)) { bounds = first_bounds p (layout_of k); tiling = [] }
+      → KeepsPages s
   pages_kept k s is = rw is (record {
     paging = first_paged p (layout_of k) ok.page_size ok.some_bound;
     low_bounds = λ c. few (length (sizes p.page_words (layout_of k))) c;
@@ -58,7 +59,8 @@ module _ (p : Profile) (ok : AreInRange p) where
       few : (n c : ℕ) → get_or (replicate n p.k) c 0 ≤ 64
       few n c = (let low = ok.low_bound in elim (cases_lt c n) [
         | inl lt ↦ rw (get_or-replicate {A = ℕ} n c p.k 0 lt) low
-        | inr past ↦ (let len : length (replicate {A = ℕ} n p.k) ≡ n = length-replicate n p.k in rw (get_or_past {X = ℕ} (replicate n p.k) c 0 (omega arith)) (omega arith))
+        | inr past ↦ (let len : length (replicate {A = ℕ} n p.k) ≡ n =
+            length-replicate n p.k in rw (get_or_past {X = ℕ} (replicate n p.k) c 0 (omega arith)) (omega arith))
       ])
 
   quarters : 4 * (region_words p / 4) ≡ region_words p
@@ -98,7 +100,8 @@ module _ (p : Profile) (ok : AreInRange p) where
       omega arith
 
   -- one free block: its header, an open word, and zeros
-  module _ (words : List ℕ) (count : length words ≡ region_words p) (header : get_or words 0 0 ≡ region_words p) (zeros : (w : ℕ) → 2 ≤ w → get_or words w 0 ≡ 0) where
+  module _ (words : List ℕ) (count : length words ≡ region_words p) (header : get_or words 0 0 ≡ region_words p) (zeros : (w : ℕ) → 2 ≤ w
+      → get_or words w 0 ≡ 0) where
     only_block : (a : ℕ) (b : Block) → block_at (one_free_block (region_words p)) a ≡ Some b → (a ≡ 0) × (b.owner ≡ None)
     only_block a b there = elim (cases_eq 0 a) [
       | inl is ↦ (
@@ -112,7 +115,8 @@ module _ (p : Profile) (ok : AreInRange p) where
           absurd (let z : ⊥ = cc in z))
     ]
 
-    tiling_kept : (s : HeapState) → s.profile ≡ p → s.tiling ≡ one_free_block (region_words p) → s.held ≡ empty → s.words ≡ words → s.frames ≡ [] → s.bounds ≡ [] → KeepsTiling s
+    tiling_kept : (s : HeapState) → s.profile ≡ p → s.tiling ≡ one_free_block (region_words p) → s.held ≡ empty → s.words ≡ words → s.frames ≡ []
+        → s.bounds ≡ [] → KeepsTiling s
     tiling_kept s is tiles none w frames bounds =
         let l = large in
         record {

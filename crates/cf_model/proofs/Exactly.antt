@@ -23,9 +23,11 @@ use Rattle.cf_model.specs.Rules.{IsPaged, IsTiled}
 use Rattle.cf_model.specs.Steps.{GivesObject, IsPlacedBy, IsRefusedBy, LacksRoomIn, Part, IsFault, ResizesObject, IsResizeFault}
 
 module _ (p : Paging) (m : Held) (n a : ℕ) (free : IsFreePlace p m n a) (lacking : LacksRoom p m (class_for p n)) where
-  not_none : 0 < objects_on p m (class_for p n) (page_of p a) → objects_on p m (class_for p n) (page_of p a) < slots_of p (class_for p n) → 0 < not_full_pages p m (class_for p n)
+  not_none : 0 < objects_on p m (class_for p n) (page_of p a) → objects_on p m (class_for p n) (page_of p a) < slots_of p (class_for p n)
+      → 0 < not_full_pages p m (class_for p n)
   unfolding not_full_pages
-  not_none some less = counted (λ page. nat_lt 0 (objects_on p m (class_for p n) page) && nat_lt (objects_on p m (class_for p n) page) (slots_of p (class_for p n))) 0 p.pages (page_of p a) (omega arith) (let h = free.slot.page in omega arith)
+  not_none some less = counted (λ page. nat_lt 0 (objects_on p m (class_for p n) page) && nat_lt (objects_on p m (class_for p n) page)
+      (slots_of p (class_for p n))) 0 p.pages (page_of p a) (omega arith) (let h = free.slot.page in omega arith)
       (part_yes (objects_on p m (class_for p n) (page_of p a)) (slots_of p (class_for p n)) some less)
 
   -- where an object may be placed there is room
@@ -71,7 +73,8 @@ same_found : (m : Held) (h : ℕ) (x y : Placed) → get m h ≡ Some x → get 
 same_found m h x y e f = (let g : Some x ≡ Some y = sym e ∙ f in cc)
 
 -- a part of an object has no cause for a refusal
-pub part_is_not_refused : (s : HeapState) (part : Part) (count : ℕ) (x : Placed) → get s.held part.number ≡ Some x → part.from + count ≤ length x.bytes → (e : AccessFault) → IsFault s part count e → ⊥
+pub part_is_not_refused : (s : HeapState) (part : Part) (count : ℕ) (x : Placed) → get s.held part.number ≡ Some x → part.from + count ≤ length x.bytes
+    → (e : AccessFault) → IsFault s part count e → ⊥
 part_is_not_refused s part count x found within access.Unknown cause = not_none_found s.held part.number x found cause
 part_is_not_refused s part count x found within access.Range cause =
     let same = same_found s.held part.number cause.object x cause.found found in
@@ -83,11 +86,13 @@ pub both_kinds : (k : Kind) → IsPaged k → IsTiled k → ⊥
 both_kinds k p t = (let e : paged ≡ tiled = sym p ∙ t in cc)
 
 -- a resize that is done has no cause for a refusal
-pub resized_is_not_refused : (old new : HeapState) (asked : Request) (done : Resized) → ResizesObject old asked done new → (e : ResizeFault) → IsResizeFault old asked e → ⊥
+pub resized_is_not_refused : (old new : HeapState) (asked : Request) (done : Resized) → ResizesObject old asked done new → (e : ResizeFault)
+    → IsResizeFault old asked e → ⊥
 resized_is_not_refused old new asked done r resize.Unknown cause = not_none_found old.held asked.number r.object r.found cause
 resized_is_not_refused old new asked done r resize.Kind cause = both_kinds old.kind r.pages cause.blocks
 resized_is_not_refused old new asked done r resize.Size cause = (let fits = r.fits in let large = cause.large in omega arith)
 resized_is_not_refused old new asked done r resize.Space cause = elim r.step [
-  | inl within ↦ cause.other (within.same ∙ ap (class_at (paging_in old)) (same_found old.held asked.number within.object cause.object within.found cause.found))
+  | inl within ↦ cause.other (within.same ∙ ap (class_at (paging_in old))
+      (same_found old.held asked.number within.object cause.object within.found cause.found))
   | inr other ↦ place_is_room (paging_in old) old.held asked.length other.place other.free cause.lacking
 ]

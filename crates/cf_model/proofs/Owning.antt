@@ -17,14 +17,16 @@ no_one o x e f = (let g : None ≡ Some x = sym e ∙ f in cc)
 
 -- a malloc: the new object owns the block that was carved
 pub owned_malloc : (rule : FreeLists) (words : ℕ) (m : Held) (old new : List Block) (h n place : ℕ) → IsTiling words old → AreOwned m old → get m h ≡ None
-    → Carves rule old (record { need = block_need n; owner = h }) place new → IsCarvedTo new place (record { need = block_need n; owner = h }) → AreOwned (insert m h (zeros_at place n)) new
+    → Carves rule old (record { need = block_need n; owner = h }) place new → IsCarvedTo new place (record { need = block_need n; owner = h })
+    → AreOwned (insert m h (zeros_at place n)) new
 owned_malloc rule words m old new h n place t owned none step given =
     let stays = malloc_stays rule words old new (record { need = block_need n; owner = h }) place t step in
     let len : length (replicate {A = ℕ} n 0) ≡ n = length-replicate n 0 in
     record {
       placed = λ q x e. elim (cases_eq q h) [
         | inl is ↦ (
-            let same : zeros_at place n ≡ x = some_placed (zeros_at place n) x (sym (get_inserted m h (zeros_at place n)) ∙ ap (get (insert m h (zeros_at place n))) (sym is) ∙ e) in
+            let same : zeros_at place n ≡ x = some_placed (zeros_at place n) x
+            (sym (get_inserted m h (zeros_at place n)) ∙ ap (get (insert m h (zeros_at place n))) (sym is) ∙ e) in
             let block : IsBlockOf given.block q (zeros_at place n) = record {
               owner = given.owner ∙ ap Some (sym is);
               least = rw len given.least;
@@ -34,7 +36,8 @@ owned_malloc rule words m old new h n place t owned none step given =
         | inr other ↦ (
             let was : get m q ≡ Some x = sym (get_insert_other m h (zeros_at place n) q other) ∙ e in
             let mine = owned.placed q x was in
-            let away : x.place ≢ place = λ is. no_one mine.0.owner q (ap (λ (b : Block). b.owner) (some_block mine.0 step.found (sym mine.1 ∙ ap (block_at old) is ∙ step.there)) ∙ step.serves.free) mine.2.owner in
+            let away : x.place ≢ place = λ is. no_one mine.0.owner q
+            (ap (λ (b : Block). b.owner) (some_block mine.0 step.found (sym mine.1 ∙ ap (block_at old) is ∙ step.there)) ∙ step.serves.free) mine.2.owner in
             (mine.0, stays.kept x.place mine.0 q away mine.2.owner mine.1, mine.2))
       ];
       live = λ a b q there used. elim (cases_eq a place) [
@@ -50,7 +53,8 @@ owned_malloc rule words m old new h n place t owned none step given =
     }
 
 -- a free: the object and its block go
-pub owned_free : (words : ℕ) (m : Held) (old : List Block) (h : ℕ) (x : Placed) → IsTiling words old → AreOwned m old → get m h ≡ Some x → AreOwned (remove m h) (released old x.place)
+pub owned_free : (words : ℕ) (m : Held) (old : List Block) (h : ℕ) (x : Placed) → IsTiling words old → AreOwned m old → get m h ≡ Some x
+    → AreOwned (remove m h) (released old x.place)
 owned_free words m old h x t owned found =
     let stays = free_stays words old x.place t in
     let own = owned.placed h x found in
@@ -60,7 +64,8 @@ owned_free words m old h x t owned found =
         | inr other ↦ (
             let was : get m q ≡ Some y = sym (get_remove_other m h q other) ∙ e in
             let mine = owned.placed q y was in
-            let away : y.place ≢ x.place = λ is. other (some_number q h (sym mine.2.owner ∙ ap (λ (b : Block). b.owner) (some_block mine.0 own.0 (sym mine.1 ∙ ap (block_at old) is ∙ own.1)) ∙ own.2.owner)) in
+            let away : y.place ≢ x.place = λ is. other (some_number q h
+            (sym mine.2.owner ∙ ap (λ (b : Block). b.owner) (some_block mine.0 own.0 (sym mine.1 ∙ ap (block_at old) is ∙ own.1)) ∙ own.2.owner)) in
             (mine.0, stays.kept y.place mine.0 q away mine.2.owner mine.1, mine.2))
       ];
       live = λ a b q there used. elim (cases_eq a x.place) [

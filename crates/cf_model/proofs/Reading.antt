@@ -23,23 +23,28 @@ part_written v at bytes within =
     let rest = drop (at + length bytes) v in
     let len : length (take at v) ≡ at = length_front v at (omega arith) in
     let behind : drop at (take at v ++ (bytes ++ drop (at + length bytes) v)) ≡ bytes ++ drop (at + length bytes) v =
-    subst (λ n. drop n (take at v ++ (bytes ++ drop (at + length bytes) v)) ≡ bytes ++ drop (at + length bytes) v) len (drop-append_seam (take at v) (bytes ++ drop (at + length bytes) v)) in
+    subst (λ n. drop n (take at v ++ (bytes ++ drop (at + length bytes) v)) ≡ bytes ++ drop (at + length bytes) v) len
+    (drop-append_seam (take at v) (bytes ++ drop (at + length bytes) v)) in
     ap (take (length bytes)) behind ∙ take-append_seam bytes (drop (at + length bytes) v)
   where
     length_front : (v : List ℕ) (n : ℕ) → n ≤ length v → length (take n v) ≡ n
     length_front v n le = grind (arith, common_steps)
 
 -- what is written is read
-pub read_back : (old : HeapState) (part : Part) (bytes out : List ℕ) (new : HeapState) → WritesBytes old part bytes new → ReadsBytes new part (length bytes) out → out ≡ bytes
+pub read_back : (old : HeapState) (part : Part) (bytes out : List ℕ) (new : HeapState) → WritesBytes old part bytes new → ReadsBytes new part (length bytes) out
+    → out ≡ bytes
 read_back old part bytes out new w r =
-    let there : get new.held part.number ≡ Some (record w.object { bytes = written w.object.bytes part.from bytes }) = ap (λ (s : HeapState). get s.held part.number) w.whole ∙ get_inserted old.held part.number _ in
+    let there : get new.held part.number ≡ Some (record w.object { bytes = written w.object.bytes part.from bytes }) =
+    ap (λ (s : HeapState). get s.held part.number) w.whole ∙ get_inserted old.held part.number _ in
     let same = placed_equal r.object (record w.object { bytes = written w.object.bytes part.from bytes }) (sym r.found ∙ there) in
     r.value ∙ ap (λ (z : Placed). take (length bytes) (drop part.from z.bytes)) same ∙ part_written w.object.bytes part.from bytes w.within
 
 -- a write changes no other object
-pub others_kept : (old : HeapState) (part : Part) (bytes : List ℕ) (new : HeapState) → WritesBytes old part bytes new → (q : ℕ) → q ≢ part.number → get new.held q ≡ get old.held q
+pub others_kept : (old : HeapState) (part : Part) (bytes : List ℕ) (new : HeapState) → WritesBytes old part bytes new → (q : ℕ) → q ≢ part.number
+    → get new.held q ≡ get old.held q
 others_kept old part bytes new w q ne = ap (λ (s : HeapState). get s.held q) w.whole ∙ get_insert_other old.held part.number _ q ne
 
 -- what is freed is gone
 pub freed_is_gone : (old : HeapState) (h : ℕ) (freed : Freed) (new : HeapState) → FreesObject old h freed new → get new.held h ≡ None
-freed_is_gone old h freed new f = none_mapped (get new.held h) (sym (get-map_values (λ (z : Placed). z.bytes) new.held h) ∙ ap (λ m. get m h) f.left ∙ get_removed (objects old.held) h)
+freed_is_gone old h freed new f = none_mapped (get new.held h)
+    (sym (get-map_values (λ (z : Placed). z.bytes) new.held h) ∙ ap (λ m. get m h) f.left ∙ get_removed (objects old.held) h)

@@ -73,5 +73,16 @@ parts_code = coded× kind.the_row.coded (coded× coded_bool (coded× profile_cod
 abbrev pub state_code : Coded HeapState
 state_code = code_by StateParts parts_code
     (λ s. (s.kind, (s.is_open, (s.profile, (s.bounds, (s.held, (s.words, (s.frames, (s.tiling, s.cost)))))))))
-    (λ q. record { kind = q.0; is_open = q.1.0; profile = q.1.1.0; bounds = q.1.1.1.0; held = q.1.1.1.1.0; words = q.1.1.1.1.1.0; frames = q.1.1.1.1.1.1.0; tiling = q.1.1.1.1.1.1.1.0; cost = q.1.1.1.1.1.1.1.1 })
+    (λ q. record {
+      kind = q.0;
+      is_open = q.1.0;
+      profile = q.1.1.0;
+      bounds = q.1.1.1.0;
+      held = q.1.1.1.1.0;
+      words = q.1.1.1.1.1.0;
+      frames =
+          q.1.1.1.1.1.1.0;
+      tiling = q.1.1.1.1.1.1.1.0;
+      cost = q.1.1.1.1.1.1.1.1;
+    })
     (λ _. refl)

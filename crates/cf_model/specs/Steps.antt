@@ -72,7 +72,18 @@ IsOpeningWords kind p words = elim (family_of kind) [ paged ↦ words ≡ replic
 
 -- an open heap without objects, under these settings
 abbrev pub empty_heap : Kind → Profile → List ℕ → HeapState
-empty_heap kind p words = record { kind = kind; is_open = true; profile = p; bounds = opening_bounds kind p; held = empty; words = words; frames = opening_frames kind p; tiling = opening_tiling kind p; cost = 0 }
+empty_heap kind p words = record {
+  kind = kind;
+  is_open = true;
+  profile = p;
+  bounds = opening_bounds kind p;
+  held = empty;
+  words = words;
+  frames =
+      opening_frames kind p;
+  tiling = opening_tiling kind p;
+  cost = 0;
+}
 
 -- An open heap without objects. Each class has the bound of the settings.
 pub record IsEmptyHeap (kind : Kind) (s : Settings) (new : HeapState) : Type 0 where
@@ -230,7 +241,13 @@ pub record ResizesObject (old : HeapState) (asked : Request) (done : Resized) (n
   pub slot : done.slot_words ≡ slot_for (paging_in old) asked.length
   pub step : IsResizedBy (paging_in old) old.held asked (record { held = new.held; moved = number_of done.moved })
   pub left : objects new.held ≡ insert (objects old.held) asked.number (resized object.bytes asked.length)
-  pub whole : new ≡ record old { held = new.held; words = new.words; frames = frames_left old.kind old (record { held = new.held; moved = number_of done.moved }); cost = new.cost }
+  pub whole : new ≡ record old {
+    held = new.held;
+    words = new.words;
+    frames =
+        frames_left old.kind old (record { held = new.held; moved = number_of done.moved });
+    cost = new.cost;
+  }
 
 -- the number is live, and the kind has no resize
 pub record HasNoResize (s : HeapState) (h : ℕ) : Type 0 where
@@ -275,7 +292,8 @@ pub record BlocksStay (old : HeapState) (h : ℕ) (new : HeapState) : Type 0 whe
   pub blocks : (q : ℕ) (x y : Placed) → q ≢ h → get old.held q ≡ Some x → get new.held q ≡ Some y → (i : ℕ) → i < slot_for (paging_in old) (length x.bytes) / 4
       → block_of new.frames y.place i ≡ block_of old.frames x.place i
   pub words : (before after : List ℕ) → IsPhysical old.frames old.words before → IsPhysical new.frames new.words after
-      → (q : ℕ) (x y : Placed) → q ≢ h → get old.held q ≡ Some x → get new.held q ≡ Some y → (i j : ℕ) → i < slot_for (paging_in old) (length x.bytes) / 4 → j < 4
+      → (q : ℕ) (x y : Placed) → q ≢ h → get old.held q ≡ Some x → get new.held q ≡ Some y → (i j : ℕ) → i < slot_for (paging_in old) (length x.bytes) / 4
+      → j < 4
       → slice_index after (4 * block_of old.frames x.place i + j) ≡ slice_index before (4 * block_of old.frames x.place i + j)
 
 -- what a free or a resize of h leaves of the other objects' blocks

@@ -74,7 +74,8 @@ module _ (next previous : List ℕ) where
       ))
 
   -- the node p is passed over, wherever it stands
-  pub linked_after_unlink : (start p : ℕ) (xs : List ℕ) (end before after : ℕ) → get_or previous p 0 ≡ before → get_or next p 0 ≡ after → before < length next → after < length previous
+  pub linked_after_unlink : (start p : ℕ) (xs : List ℕ) (end before after : ℕ) → get_or previous p 0 ≡ before → get_or next p 0 ≡ after → before < length next
+      → after < length previous
       → ¬ Contains xs start → ¬ Contains xs end → IsDistinct nat_eq xs → Contains xs p
       → IsLinked next previous start xs end → IsLinked (set next before after) (set previous after before) start (without_page p xs) end
   linked_after_unlink start p [] end before after b a lt lt' out out' d h l = absurd (contains_nil p h)
@@ -100,7 +101,8 @@ module _ (next previous : List ℕ) where
   ]
 
 -- the node p comes first on a ring
-pub linked_after_push : (next previous : List ℕ) (node p : ℕ) (xs : List ℕ) (first : ℕ) → get_or next node 0 ≡ first → node < length next → p < length next → p < length previous → first < length previous
+pub linked_after_push : (next previous : List ℕ) (node p : ℕ) (xs : List ℕ) (first : ℕ) → get_or next node 0 ≡ first → node < length next → p < length next
+    → p < length previous → first < length previous
     → p ≢ node → ¬ Contains xs p → ¬ Contains xs node → IsDistinct nat_eq xs
     → IsLinked next previous node xs node → IsLinked (set (set next node p) p first) (set (set previous p node) first p) node (p ∷ xs) node
 linked_after_push next previous node p [] first is in_node in_p in_p' in_first ne out out' d l =

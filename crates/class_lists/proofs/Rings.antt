@@ -42,7 +42,8 @@ module _ (lists : List (List ℕ)) (k : ℕ) (list : List ℕ) where
     ];
   }
 
-module _ (next previous lens : List ℕ) (pages : ℕ) (lists : List (List ℕ)) (k : ℕ) (lt : k < length lens) (l : AreRings next previous lens pages lists) (d : HoldPagesOnce pages lists) where
+module _ (next previous lens : List ℕ) (pages : ℕ) (lists : List (List ℕ)) (k : ℕ) (lt : k < length lens) (l : AreRings next previous lens pages lists)
+    (d : HoldPagesOnce pages lists) where
   -- the nodes of a ring
   abbrev ring : ℕ → List ℕ
   ring j = (pages + j) ∷ list_at lists j
@@ -98,13 +99,16 @@ module _ (next previous lens : List ℕ) (pages : ℕ) (lists : List (List ℕ))
         → AreRings (set (set next (pages + k) p) p first) (set (set previous p (pages + k)) first p) (set lens k len) pages (set lists k (p ∷ list_at lists k))
     push_linked p first len in_p out is counts =
         let in_first : Contains (ring k) first = rw (sym is) (first_in next previous _ _ _ (l.linked k lt)) in
-        let off : (j : ℕ) → ¬ Contains (ring j) p = λ j h. elim (contains_cases p (pages + j) (list_at lists j) h) [ inl at ↦ absurd (omega arith) | inr in' ↦ out j in' ] in
+        let off : (j : ℕ) → ¬ Contains (ring j) p = λ j h. elim
+        (contains_cases p (pages + j) (list_at lists j) h) [ inl at ↦ absurd (omega arith) | inr in' ↦ out j in' ] in
         let within : first < length next = ring_within first nodes in_first in
         let counted : get_or lens k 0 ≡ length (list_at lists k) = l.counted k lt in
         linked_after _ _ (p ∷ list_at lists k) len (omega arith)
-        (linked_after_push next previous (pages + k) p (list_at lists k) first is (omega arith) (omega arith) (omega arith) (omega arith) (omega arith) (out k) (own_node k) (d.distinct k) (l.linked k lt))
+        (linked_after_push next previous (pages + k) p (list_at lists k) first is (omega arith) (omega arith) (omega arith) (omega arith) (omega arith) (out k)
+        (own_node k) (d.distinct k) (l.linked k lt))
         (λ j lj ne. linked_kept (set next (pages + k) p) (set previous p (pages + k)) _ _ _ p first first p (off j) (off_ring j first ne in_first)
-        (linked_kept next previous _ _ _ (pages + k) p p (pages + k) (off_ring j (pages + k) ne (contains_head (pages + k) (list_at lists k))) (off j) (l.linked j lj)))
+        (linked_kept next previous _ _ _ (pages + k) p p (pages + k) (off_ring j (pages + k) ne (contains_head (pages + k) (list_at lists k))) (off j)
+        (l.linked j lj)))
 
     pub push_disjoint : (p : ℕ) → p < pages → ((j : ℕ) → ¬ Contains (list_at lists j) p) → HoldPagesOnce pages (set lists k (p ∷ list_at lists k))
     push_disjoint p in_p out =
@@ -132,7 +136,8 @@ module _ (next previous lens : List ℕ) (pages : ℕ) (lists : List (List ℕ))
           let counted : get_or lens k 0 ≡ length (list_at lists k) = l.counted k lt in
           let shorter : length (without_page p (list_at lists k)) + 1 ≡ length (list_at lists k) = length-without p (list_at lists k) (d.distinct k) h in
           linked_after _ _ (without_page p (list_at lists k)) len (omega arith)
-          (linked_after_unlink next previous (pages + k) p (list_at lists k) (pages + k) before after b a before_within (let w = after_within in omega arith) (own_node k) (own_node k) (d.distinct k) h (l.linked k lt))
+          (linked_after_unlink next previous (pages + k) p (list_at lists k) (pages + k) before after b a before_within (let w = after_within in omega arith)
+          (own_node k) (own_node k) (d.distinct k) h (l.linked k lt))
           (λ j lj ne. linked_kept next previous _ _ _ before after after before (off_ring j before ne on_before) (off_ring j after ne on_after) (l.linked j lj))
 
       pub unlink_disjoint : HoldPagesOnce pages (set lists k (without_page p (list_at lists k)))
@@ -147,7 +152,8 @@ pub length-chains : (next : List ℕ) (node : ℕ) (lens : List ℕ) → length 
 length-chains next node [] = refl
 length-chains next node (len ∷ lens) = ap suc (length-chains next (node + 1) lens)
 
-pub list_at-chains : (next : List ℕ) (node : ℕ) (lens : List ℕ) (k : ℕ) → k < length lens → list_at (chains next node lens) k ≡ chain next (get_or lens k 0) (get_or next (node + k) 0)
+pub list_at-chains : (next : List ℕ) (node : ℕ) (lens : List ℕ) (k : ℕ) → k < length lens
+    → list_at (chains next node lens) k ≡ chain next (get_or lens k 0) (get_or next (node + k) 0)
 list_at-chains next node [] k lt = absurd (omega arith)
 list_at-chains next node (len ∷ lens) zero lt = (let e : node ≡ node + 0 = omega arith in ap (λ n. chain next len (get_or next n 0)) e)
 list_at-chains next node (len ∷ lens) (suc k) lt =

@@ -1,5 +1,6 @@
 -- What the fields tell of the value, and what the calls do to it.
-use Rattle.std.proofs.Common.{◌≡◌, ◌≢◌, ℕ, zero, suc, ◌+◌, ◌-◌, ◌*◌, ◌/◌, ◌%◌, ◌<◌, ◌≤◌, List, [], ◌∷◌, Some, None, length, get_or, set, replicate, arith, refl, sym, ◌∙◌, ap, subst, inl, inr, zero-add}
+use Rattle.std.proofs.Common.{◌≡◌, ◌≢◌, ℕ, zero, suc, ◌+◌, ◌-◌, ◌*◌, ◌/◌, ◌%◌, ◌<◌, ◌≤◌, List, [], ◌∷◌, Some, None, length, get_or, set, replicate, arith, refl}
+use Rattle.std.proofs.Common.{sym, ◌∙◌, ap, subst, inl, inr, zero-add}
 use Rattle.std.specs.Prelude.{◌^◌, slice_get}
 use Rattle.std.specs.List.{Contains, range_with_len}
 use Rattle.std.proofs.lemmas.Bool.{cases_eq, cases_lt}
@@ -9,8 +10,10 @@ use Rattle.class_lists.specs.declared.Which.{Which}
 use Rattle.class_lists.specs.declared.Which.TheVariants.{Full, NotFull}
 use Rattle.class_lists.specs.PageLists.{PageLists, AreApart, AreEmpty, IsUnlisted, KeepsOthers, empty_lists, list_number, pages_in, with_list, without_page}
 use Rattle.class_lists.specs.Layout.{chains, lists_of, list_at, IsLinked, AreRings, HoldPagesOnce, IsValid}
-use Rattle.class_lists.proofs.Members.{contains_nil, contains_head, contains_without, contains_cases, distinct_nil, distinct_cons, length-without, length_within}
-use Rattle.class_lists.proofs.Rings.{length-chains, chains_are, first_within, push_linked, push_disjoint, before_within, after_within, unlink_linked, unlink_disjoint}
+use Rattle.class_lists.proofs.Members.{contains_nil, contains_head, contains_without, contains_cases, distinct_nil, distinct_cons, length-without}
+use Rattle.class_lists.proofs.Members.{length_within}
+use Rattle.class_lists.proofs.Rings.{length-chains, chains_are, first_within, push_linked, push_disjoint, before_within, after_within, unlink_linked}
+use Rattle.class_lists.proofs.Rings.{unlink_disjoint}
 
 -- the number tells the class and which list
 pub same_list : (c d : ℕ) (w u : Which) → list_number c w ≡ list_number d u → (c ≡ d) × (w ≡ u)
@@ -43,10 +46,12 @@ pub unlisted_then : (v : PageLists) (c : ℕ) (w : Which) (p : ℕ) → list_num
     → IsUnlisted (with_list v c w (without_page p (pages_in v c w))) p
 unlisted_then v c w p lt a h d u g = elim (cases_eq (list_number d u) (list_number c w)) [
   | inl is ↦ (
-      let there : Contains (without_page p (pages_in v c w)) p = rw (is, get_or-set_same v.lists (list_number c w) (without_page p (pages_in v c w)) [] lt) at g in
+      let there : Contains (without_page p (pages_in v c w)) p =
+      rw (is, get_or-set_same v.lists (list_number c w) (without_page p (pages_in v c w)) [] lt) at g in
       (contains_without p p (pages_in v c w) there).0 refl)
   | inr ne ↦ (
-      let there : Contains (pages_in v d u) p = rw (get_or-set_other v.lists (list_number c w) (list_number d u) (without_page p (pages_in v c w)) [] ne) at g in
+      let there : Contains (pages_in v d u) p = rw (get_or-set_other v.lists (list_number c w) (list_number d u) (without_page p (pages_in v c w)) [] ne) at g
+      in
       let is = a.once d c u w p there h in
       ne (ap (λ e. list_number e u) is.0 ∙ ap (list_number c) is.1))
 ]
@@ -68,7 +73,8 @@ module _ (next previous lens : List ℕ) (pages : ℕ) (s : IsValid next previou
   }
 
   -- other arrays that are linked through the lists
-  pub sound_after : (next' previous' lens' : List ℕ) (lists : List (List ℕ)) → length next' ≡ length next → length previous' ≡ length previous → length lens' ≡ length lens
+  pub sound_after : (next' previous' lens' : List ℕ) (lists : List (List ℕ)) → length next' ≡ length next → length previous' ≡ length previous
+      → length lens' ≡ length lens
       → AreRings next' previous' lens' pages lists → HoldPagesOnce pages lists → IsValid next' previous' lens' pages
   sound_after next' previous' lens' lists n p m l d =
       let e : lists ≡ chains next' pages lens' = sym (chains_are next' previous' lens' pages lists l) in
@@ -145,7 +151,8 @@ module _ (next previous lens : List ℕ) (pages : ℕ) (s : IsValid next previou
         omega arith
 
     -- other arrays that are linked through the lists, one of which is another
-    changed : (next' previous' lens' : List ℕ) (list list' : List ℕ) → list ≡ list' → length next' ≡ length next → length previous' ≡ length previous → length lens' ≡ length lens
+    changed : (next' previous' lens' : List ℕ) (list list' : List ℕ) → list ≡ list' → length next' ≡ length next → length previous' ≡ length previous
+        → length lens' ≡ length lens
         → AreRings next' previous' lens' pages (set (chains next pages lens) k list) → HoldPagesOnce pages (set (chains next pages lens) k list)
         → Changes next' previous' lens' pages v c w list'
     changed next' previous' lens' list list' e n p m l d =
@@ -231,8 +238,10 @@ module _ (next previous lens : List ℕ) (pages : ℕ) (s : IsValid next previou
         unlinked len next' previous' lens' counts n r m =
             let fewer : len - 1 ≡ get_or lens k 0 - 1 = ap (λ q. q - 1) (get_or_read lens k len within counts 0) in
             let linked : AreRings next' previous' lens' pages (set (chains next pages lens) k (without_page p (list_at (chains next pages lens) k))) =
-            rw (n, r, m) (unlink_linked next previous lens pages _ k within s.linked s.disjoint s.nodes s.backed p before after at_list at_before at_after (len - 1) fewer) in
-            changed next' previous' lens' (without_page p (list_at (chains next pages lens) k)) (without_page p (pages_in v c w)) (ap (without_page p) (sym list_k))
+            rw (n, r, m) (unlink_linked next previous lens pages _ k within s.linked s.disjoint s.nodes s.backed p before after at_list at_before at_after
+            (len - 1) fewer) in
+            changed next' previous' lens' (without_page p (list_at (chains next pages lens) k)) (without_page p (pages_in v c w))
+            (ap (without_page p) (sym list_k))
             (ap length n ∙ length-set next before after) (ap length r ∙ length-set previous after before)
             (ap length m ∙ length-set lens k (len - 1)) linked
             (unlink_disjoint next previous lens pages _ k within s.linked s.disjoint s.nodes s.backed p before after at_list at_before at_after)
@@ -254,7 +263,8 @@ front_listed (x ∷ xs) p is = (let e : p ≡ x = (let f : Some p ≡ Some x = i
 pub some_not_empty : (xs : List ℕ) (p : ℕ) → Some p ≡ slice_get xs 0 → xs ≢ []
 some_not_empty xs p is e = (let f : Some p ≡ None = is ∙ ap (λ ys. slice_get ys 0) e in cc)
 
-module _ (next previous lens : List ℕ) (classes pages nodes : ℕ) (is : pages + 2 * classes ≡ nodes) (small : nodes < 2 ^ 32) (n : next ≡ range_with_len 0 nodes) (b : previous ≡ range_with_len 0 nodes) (m : lens ≡ replicate (2 * classes) 0) where
+module _ (next previous lens : List ℕ) (classes pages nodes : ℕ) (is : pages + 2 * classes ≡ nodes) (small : nodes < 2 ^ 32) (n : next ≡ range_with_len 0 nodes)
+    (b : previous ≡ range_with_len 0 nodes) (m : lens ≡ replicate (2 * classes) 0) where
   long : length lens ≡ 2 * classes
   long = ap length m ∙ length-replicate {A = ℕ} (2 * classes) 0
 
@@ -268,7 +278,10 @@ module _ (next previous lens : List ℕ) (classes pages nodes : ℕ) (is : pages
   new_linked : AreRings next previous lens pages (replicate (2 * classes) [])
   new_linked = record {
     as_many = length-replicate {A = List ℕ} (2 * classes) [] ∙ sym long;
-    linked = λ k lt. rw (no_list (2 * classes) k) (alone next n (pages + k) (let e = long in omega arith), alone previous b (pages + k) (let e = long in omega arith));
+    linked = λ k lt. rw (no_list (2 * classes) k) (
+      alone next n (pages + k) (let e = long in omega arith),
+      alone previous b (pages + k) (let e = long in omega arith),
+    );
     counted = λ k lt. rw (no_list (2 * classes) k, m) (get_or-replicate (2 * classes) k 0 0 (let e = long in omega arith));
   }
 
@@ -292,4 +305,5 @@ module _ (next previous lens : List ℕ) (classes pages nodes : ℕ) (is : pages
   pub new_view : lists_of next lens pages ≡ empty_lists classes pages
   new_view =
       (λ i. record { pages = pages; classes = length lens / 2; lists = new_chains i })
-      ∙ (let e : length lens / 2 ≡ classes = (let f = long in omega arith) in ap (λ q. record { pages = pages; classes = q; lists = replicate (2 * classes) [] }) e)
+      ∙ (let e : length lens / 2 ≡ classes = (let f = long in omega arith) in ap
+      (λ q. record { pages = pages; classes = q; lists = replicate (2 * classes) [] }) e)

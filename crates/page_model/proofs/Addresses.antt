@@ -23,7 +23,8 @@ slot_ends P size slot lt =
 module _ (p : Paging) (ok : IsPaging p) (c : ℕ) (lt : c < classes p) where
   -- the address of a slot: its page, and its number on the page
   pub address_is_slot : (page slot : ℕ) → page < p.pages → slot < slots_of p c
-      → IsSlotAt p c (address_of p c page slot) × (page_of p (address_of p c page slot) ≡ page) × (address_of p c page slot % p.page_words / slot_words p c ≡ slot)
+      → IsSlotAt p c (address_of p c page slot) × (page_of p (address_of p c page slot) ≡ page)
+      × (address_of p c page slot % p.page_words / slot_words p c ≡ slot)
   address_is_slot page slot page_in slot_in =
       let size : 4 ≤ slot_words p c = ok.sized.least c lt in
       let ends = slot_ends p.page_words (slot_words p c) slot slot_in in
@@ -34,7 +35,8 @@ module _ (p : Paging) (ok : IsPaging p) (c : ℕ) (lt : c < classes p) where
       (record { class = lt; page = rw by_page page_in; aligned = rw rest aligned; fits = rw rest ends }, by_page, rw rest number)
 
   -- an address of a slot is that of its page and number
-  pub slot_is_address : (a : ℕ) → IsSlotAt p c a → (a ≡ address_of p c (page_of p a) (a % p.page_words / slot_words p c)) × (a % p.page_words / slot_words p c < slots_of p c)
+  pub slot_is_address : (a : ℕ) → IsSlotAt p c a → (a ≡ address_of p c (page_of p a) (a % p.page_words / slot_words p c))
+      × (a % p.page_words / slot_words p c < slots_of p c)
   slot_is_address a s =
       let size : 4 ≤ slot_words p c = ok.sized.least c lt in
       let e = div-add-mod' a p.page_words in

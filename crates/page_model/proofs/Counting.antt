@@ -73,7 +73,8 @@ module _ (p : Paging) where
   on_parts c page x e = elim (cases_eq (page_of p x.place) page) [
     | inl is ↦ elim (cases_eq (class_at p x) c) [
       | inl is' ↦ (is, is')
-      | inr ne ↦ absurd (let f = eq_no (class_at p x) c ne in let e' : (nat_eq (page_of p x.place) page && false) ≡ true = rw f at e in false≢true (sym (and_false _) ∙ e'))
+      | inr ne ↦ absurd (let f = eq_no (class_at p x) c ne in let e' : (nat_eq (page_of p x.place) page && false) ≡ true =
+          rw f at e in false≢true (sym (and_false _) ∙ e'))
     ]
     | inr ne ↦ absurd (let f = eq_no (page_of p x.place) page ne in false≢true (rw f at e))
   ]
@@ -95,7 +96,8 @@ module _ (p : Paging) where
   stands_here m q y f = counted (λ (x : Placed). nat_eq (page_of p x.place) (page_of p y.place)) m q y f (eq_yes _ _ refl)
 
   -- a page that holds an object of the class
-  pub on_page : (m : Held) (c page : ℕ) → 0 < objects_on p m c page → (q : ℕ) × (y : Placed) × (get m q ≡ Some y) × (page_of p y.place ≡ page) × (class_at p y ≡ c)
+  pub on_page : (m : Held) (c page : ℕ) → 0 < objects_on p m c page
+      → (q : ℕ) × (y : Placed) × (get m q ≡ Some y) × (page_of p y.place ≡ page) × (class_at p y ≡ c)
   unfolding objects_on
   on_page m c page lt = (let o = some_counted (is_on p c page) m lt in let e = on_parts c page o.1 o.3 in (o.0, o.1, o.2, e.0, e.1))
 
@@ -119,10 +121,12 @@ module _ (p : Paging) where
 -- Two arrangements whose objects of the class are the same on all pages but one.
 module _ (p : Paging) (m n : Held) (c page : ℕ) (others : (g : ℕ) → g ≢ page → objects_on p n c g ≡ objects_on p m c g) where
   -- the partly full pages
-  pub not_full-changed : page < p.pages → not_full_pages p n c + one (part_full (objects_on p m c page) (slots_of p c)) ≡ not_full_pages p m c + one (part_full (objects_on p n c page) (slots_of p c))
+  pub not_full-changed : page < p.pages → not_full_pages p n c + one (part_full (objects_on p m c page) (slots_of p c)) ≡ not_full_pages p m c + one
+      (part_full (objects_on p n c page) (slots_of p c))
   unfolding not_full_pages
   not_full-changed lt =
-      count_changed (λ g. part_full (objects_on p n c g) (slots_of p c)) (λ g. part_full (objects_on p m c g) (slots_of p c)) 0 p.pages page (omega arith) (omega arith)
+      count_changed (λ g. part_full (objects_on p n c g) (slots_of p c)) (λ g. part_full (objects_on p m c g) (slots_of p c)) 0 p.pages page (omega arith)
+      (omega arith)
       (λ g ne. ap (λ k. part_full k (slots_of p c)) (others g ne))
 
   -- the pages that hold one

@@ -52,7 +52,8 @@ module _ (p : Paging) (ok : IsPaging p) (b : AreBlocks p) (m : Held) (s : IsSoun
   pub blocks_apart : (h : ℕ) (x : Placed) (q : ℕ) (y : Placed) → get m h ≡ Some x → get m q ≡ Some y → q ≢ h
       → IsDisjoint (x.place / 4) (slot_for p (length x.bytes) / 4) (y.place / 4) (slot_for p (length y.bytes) / 4)
   blocks_apart h x q y e f ne = four_apart x.place (slot_for p (length x.bytes)) y.place (slot_for p (length y.bytes))
-      (place_is_block h x e) (size_is_blocks (length x.bytes)) (place_is_block q y f) (size_is_blocks (length y.bytes)) ((sound_apart p m s).pairs h x q y e f ne)
+      (place_is_block h x e) (size_is_blocks (length x.bytes)) (place_is_block q y f) (size_is_blocks (length y.bytes))
+      ((sound_apart p m s).pairs h x q y e f ne)
 
   -- the blocks of an object are in the table
   pub blocks_inside : (h : ℕ) (x : Placed) → get m h ≡ Some x → x.place / 4 + slot_for p (length x.bytes) / 4 ≤ p.pages * p.page_words / 4
@@ -76,7 +77,8 @@ module _ (p : Paging) (ok : IsPaging p) (b : AreBlocks p) (m : Held) (s : IsSoun
         let at = entry_once frames (length frames) refl perm (x.place / 4 + i) (y.place / 4 + j) (omega arith) (omega arith) same in
         elim apart [ inl l ↦ omega arith | inr l ↦ omega arith ]
 
-outside_kept : (frames : List ℕ) (a b n c k i : ℕ) → IsDisjoint a n b n → IsDisjoint a n c k → IsDisjoint b n c k → i < k → c + k ≤ length frames → get_or (exchanged frames a b n) (c + i) 0 ≡ get_or frames (c + i) 0
+outside_kept : (frames : List ℕ) (a b n c k i : ℕ) → IsDisjoint a n b n → IsDisjoint a n c k → IsDisjoint b n c k → i < k → c + k ≤ length frames
+    → get_or (exchanged frames a b n) (c + i) 0 ≡ get_or frames (c + i) 0
 outside_kept frames a b n c k i apart ac bc lt inside =
     get_or-exchanged frames a b n (c + i) (omega arith) ∙ ap (λ v. get_or frames v 0) (partner_else a b n apart (c + i) (away a n ac) (away b n bc))
   where
@@ -84,9 +86,11 @@ outside_kept frames a b n c k i apart ac bc lt inside =
     away a n (inl l) = inr (omega arith)
     away a n (inr l) = inl (omega arith)
 
-moved_kept : (frames : List ℕ) (a b n i : ℕ) → IsDisjoint a n b n → i < n → b + n ≤ length frames → get_or (exchanged frames a b n) (b + i) 0 ≡ get_or frames (a + i) 0
+moved_kept : (frames : List ℕ) (a b n i : ℕ) → IsDisjoint a n b n → i < n → b + n ≤ length frames
+    → get_or (exchanged frames a b n) (b + i) 0 ≡ get_or frames (a + i) 0
 moved_kept frames a b n i apart lt inside =
-    get_or-exchanged frames a b n (b + i) (omega arith) ∙ ap (λ v. get_or frames v 0) (partner_second a b n apart (b + i) (omega arith) (omega arith) ∙ omega arith)
+    get_or-exchanged frames a b n (b + i) (omega arith) ∙ ap (λ v. get_or frames v 0)
+    (partner_second a b n apart (b + i) (omega arith) (omega arith) ∙ omega arith)
 
 -- A free step, or that of a resize, of object h: what is held afterwards is, but for h, what the free leaves.
 module _ (p : Paging) (ok : IsPaging p) (b : AreBlocks p) (m : Held) (s : IsSound p m) (h : ℕ) (x : Placed) (is-x : get m h ≡ Some x)
@@ -107,7 +111,8 @@ module _ (p : Paging) (ok : IsPaging p) (b : AreBlocks p) (m : Held) (s : IsSoun
     size_is = ap (λ c. slot_words p c / 4) may.class
 
     runs_apart : IsDisjoint (y.place / 4) (slot_for p (length y.bytes) / 4) (x.place / 4) (slot_for p (length y.bytes) / 4)
-    runs_apart = (let e = size_is in subst (λ n. IsDisjoint (y.place / 4) (slot_for p (length y.bytes) / 4) (x.place / 4) n) (sym e) (blocks_apart p ok b m s q y h x there is-x (λ e. other (sym e))))
+    runs_apart = (let e = size_is in subst (λ n. IsDisjoint (y.place / 4) (slot_for p (length y.bytes) / 4) (x.place / 4) n) (sym e)
+        (blocks_apart p ok b m s q y h x there is-x (λ e. other (sym e))))
 
     kept_by_move : (r : ℕ) (z z' : Placed) → r ≢ h → get m r ≡ Some z → get after.held r ≡ Some z' → (i : ℕ) → i < slot_for p (length z.bytes) / 4
         → block_of (frames_after p m after frames) z'.place i ≡ block_of frames z.place i
@@ -124,7 +129,8 @@ module _ (p : Paging) (ok : IsPaging p) (b : AreBlocks p) (m : Held) (s : IsSoun
           let f = frames_are in
           rw (f, ← same, ← same') (moved_kept frames (y.place / 4) (x.place / 4) (slot_for p (length y.bytes) / 4) i runs_apart lt' (omega arith)))
       | inr nq ↦ (
-          let at : get (without m h x.place after.moved) r ≡ Some z = rw (moved, there) (get_insert_other (remove m h) q _ r nq ∙ get_remove_other m h r ne ∙ e) in
+          let at : get (without m h x.place after.moved) r ≡ Some z =
+          rw (moved, there) (get_insert_other (remove m h) q _ r nq ∙ get_remove_other m h r ne ∙ e) in
           let l = left r ne in
           let same : z ≡ z' = cc in
           let f = frames_are in
@@ -132,7 +138,8 @@ module _ (p : Paging) (ok : IsPaging p) (b : AreBlocks p) (m : Held) (s : IsSoun
           let size = size_is in
           let bx : IsDisjoint (x.place / 4) (slot_for p (length y.bytes) / 4) (z.place / 4) (slot_for p (length z.bytes) / 4) =
           subst (λ n. IsDisjoint (x.place / 4) n (z.place / 4) (slot_for p (length z.bytes) / 4)) (sym size) (blocks_apart p ok b m s h x r z is-x e ne) in
-          rw (f, ← same) (outside_kept frames (y.place / 4) (x.place / 4) (slot_for p (length y.bytes) / 4) (z.place / 4) (slot_for p (length z.bytes) / 4) i runs_apart
+          rw (f, ← same) (outside_kept frames (y.place / 4) (x.place / 4) (slot_for p (length y.bytes) / 4) (z.place / 4)
+          (slot_for p (length z.bytes) / 4) i runs_apart
           (blocks_apart p ok b m s q y r z there e nq) bx lt (omega arith)))
     ]
 
@@ -148,7 +155,8 @@ module _ (p : Paging) (ok : IsPaging p) (b : AreBlocks p) (m : Held) (s : IsSoun
     length_by_move = (let f = frames_are in rw f (length-exchanged frames _ _ _))
 
   -- each block of another object is the same afterwards
-  pub blocks_kept : (moved : Option ℕ) → after.moved ≡ moved → Moves p m x moved → (r : ℕ) (z z' : Placed) → r ≢ h → get m r ≡ Some z → get after.held r ≡ Some z' → (i : ℕ) → i < slot_for p (length z.bytes) / 4
+  pub blocks_kept : (moved : Option ℕ) → after.moved ≡ moved → Moves p m x moved → (r : ℕ) (z z' : Placed) → r ≢ h → get m r ≡ Some z
+      → get after.held r ≡ Some z' → (i : ℕ) → i < slot_for p (length z.bytes) / 4
       → block_of (frames_after p m after frames) z'.place i ≡ block_of frames z.place i
   blocks_kept None is never r z z' ne e e' i lt =
       let l = left r ne in
@@ -166,7 +174,8 @@ module _ (p : Paging) (ok : IsPaging p) (b : AreBlocks p) (m : Held) (s : IsSoun
   frames_as_many (Some q) is (must, (y, there, may)) = length_by_move q y is there must may
 
 -- each word of a slot stands in its physical block
-pub physical_word : (p : Paging) → IsPaging p → AreBlocks p → (m : Held) → IsSound p m → (frames words physical : List ℕ) → length frames ≡ p.pages * p.page_words / 4
+pub physical_word : (p : Paging) → IsPaging p → AreBlocks p → (m : Held) → IsSound p m → (frames words physical : List ℕ)
+    → length frames ≡ p.pages * p.page_words / 4
     → IsSlotImage p m words → IsPhysical frames words physical → (h : ℕ) (x : Placed) → get m h ≡ Some x → (i : ℕ) → i < slot_for p (length x.bytes)
     → get_or physical (4 * block_of frames x.place (i / 4) + i % 4) 0 ≡ object_word h x.bytes i
 physical_word p ok b m s frames words physical len im ph h x e i lt =

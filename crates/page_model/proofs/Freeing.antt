@@ -43,11 +43,13 @@ module _ (p : Paging) (m : Held) (h : ℕ) (x : Placed) (some : get m h ≡ Some
         let here = objects_on-left c is in
         elim may [
           | inl less ↦ (
-              let y : one (part_full (objects_on p m c (page_of p x.place)) (slots_of p c)) ≡ 1 = part_yes (objects_on p m c (page_of p x.place)) (slots_of p c) (omega arith) (rw is at less) in
+              let y : one (part_full (objects_on p m c (page_of p x.place)) (slots_of p c)) ≡ 1 =
+              part_yes (objects_on p m c (page_of p x.place)) (slots_of p c) (omega arith) (rw is at less) in
               omega arith)
           | inr (inl single) ↦ (
               let s : slots_of p c ≤ 1 = rw is at single in
-              let z : one (part_full (objects_on p (remove m h) c (page_of p x.place)) (slots_of p c)) ≡ 0 = elim (cases_eq (objects_on p (remove m h) c (page_of p x.place)) 0) [
+              let z : one (part_full (objects_on p (remove m h) c (page_of p x.place)) (slots_of p c)) ≡ 0 =
+              elim (cases_eq (objects_on p (remove m h) c (page_of p x.place)) 0) [
                 | inl none ↦ part_empty _ _ none
                 | inr ne ↦ part_over (objects_on p (remove m h) c (page_of p x.place)) (slots_of p c) (omega arith)
               ] in
@@ -72,7 +74,8 @@ module _ (p : Paging) (m : Held) (h : ℕ) (x : Placed) (some : get m h ≡ Some
     objects_on-exchanged c page =
         let i = objects_on-inserted p (remove m h) q (record { place = x.place; bytes = bytes }) free c page in
         let r = objects_on-removed c page in
-        let c : one (is_on p c page (record { place = x.place; bytes = bytes })) ≡ one (is_on p c page x) = ap (λ s. one (nat_eq (page_of p x.place) page && nat_eq s c)) class in
+        let c : one (is_on p c page (record { place = x.place; bytes = bytes })) ≡ one (is_on p c page x) =
+        ap (λ s. one (nat_eq (page_of p x.place) page && nat_eq s c)) class in
         omega arith
 
     pub sound_exchanged : IsSound p m → IsSound p (insert (remove m h) q (record { place = x.place; bytes = bytes }))
@@ -101,5 +104,6 @@ module _ (p : Paging) (m : Held) (h : ℕ) (x : Placed) (some : get m h ≡ Some
           | inr (_, was') ↦ s.one_class r y t z (some_removed m h r y was).1 (some_removed m h t z was').1
         ]
       ];
-      few_not_full = λ c lt. (let same = not_full-same p m (insert (remove m h) q (record { place = x.place; bytes = bytes })) c (objects_on-exchanged c) in rw same (s.few_not_full c lt));
+      few_not_full = λ c lt. (let same = not_full-same p m (insert (remove m h) q (record { place = x.place; bytes = bytes })) c
+          (objects_on-exchanged c) in rw same (s.few_not_full c lt));
     }

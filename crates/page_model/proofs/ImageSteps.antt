@@ -1,5 +1,6 @@
 -- The image after each kind of step, in the terms of the region's calls.
-use Rattle.std.proofs.Common.{◌≡◌, ℕ, zero, suc, ◌+◌, ◌-◌, ◌*◌, ◌<◌, ◌≤◌, List, Some, None, length, get_or, set, replicate, take, arith, sym, ◌∙◌, subst, inl, inr, ap, refl}
+use Rattle.std.proofs.Common.{◌≡◌, ℕ, zero, suc, ◌+◌, ◌-◌, ◌*◌, ◌<◌, ◌≤◌, List, Some, None, length, get_or, set, replicate, take, arith, sym, ◌∙◌, subst, inl}
+use Rattle.std.proofs.Common.{inr, ap, refl}
 use Rattle.std.proofs.lemmas.List.{get_or-set_same, get_or-set_other, drop-replicate, drop_all, length-replicate}
 use Rattle.std.proofs.lemmas.Bool.{cases_eq}
 use Rattle.std.proofs.lemmas.Grind.{same_number_lists}
@@ -20,35 +21,45 @@ fresh_word h n i = ap (λ xs. word_of_bytes (take 8 xs)) (drop-replicate (8 * i)
 
 module _ (extent : ℕ → ℕ) (m : Held) (words : List ℕ) (im : IsImageOver extent m words) (h : ℕ) where
   -- words that no object has are zeros
-  pub free_words : (a n : ℕ) → ((q : ℕ) (y : Placed) → get m q ≡ Some y → IsDisjoint a n y.place (extent (length y.bytes))) → (i : ℕ) → i < n → get_or words (a + i) 0 ≡ 0
+  pub free_words : (a n : ℕ) → ((q : ℕ) (y : Placed) → get m q ≡ Some y → IsDisjoint a n y.place (extent (length y.bytes))) → (i : ℕ) → i < n
+      → get_or words (a + i) 0 ≡ 0
   free_words a n free i l = im.zeros (a + i) (λ q y p. disjoint_outside y.place (extent (length y.bytes)) a n i (turned _ _ _ _ (free q y p)) l)
 
   -- a malloc writes the header alone
-  pub image_malloc : (a n : ℕ) → get m h ≡ None → a < length words → 0 < extent n → ((q : ℕ) (y : Placed) → get m q ≡ Some y → IsDisjoint a (extent n) y.place (extent (length y.bytes))) → IsImageOver extent (insert m h (record { place = a; bytes = replicate n 0 })) (set words a (header_word h n))
+  pub image_malloc : (a n : ℕ) → get m h ≡ None → a < length words → 0 < extent n
+      → ((q : ℕ) (y : Placed) → get m q ≡ Some y → IsDisjoint a (extent n) y.place (extent (length y.bytes)))
+      → IsImageOver extent (insert m h (record { place = a; bytes = replicate n 0 })) (set words a (header_word h n))
   image_malloc a n none lt some free =
       let size : length (replicate {A = ℕ} n 0) ≡ n = length-replicate {A = ℕ} n 0 in
       image_added extent m words (set words a (header_word h n)) im h (record { place = a; bytes = replicate n 0 }) none
       (λ q y p ne. rw length-replicate (free q y p))
       (record {
         within = λ i l. written i (rw size at l);
-        others = λ w out. get_or-set_other words a w (header_word h n) 0 (let out' : IsOutside a (extent n) w = rw size at out in elim out' [ inl x ↦ omega arith | inr y ↦ omega arith ]);
+        others = λ w out. get_or-set_other words a w (header_word h n) 0
+            (let out' : IsOutside a (extent n) w = rw size at out in elim out' [ inl x ↦ omega arith | inr y ↦ omega arith ]);
       })
     where
       written : (i : ℕ) → i < extent n → get_or (set words a (header_word h n)) (a + i) 0 ≡ object_word h (replicate n 0) i
       written zero l = (let e : a + 0 ≡ a = omega arith in rw (e, length-replicate {A = ℕ} n 0) (get_or-set_same words a (header_word h n) 0 lt))
-      written (suc i) l = get_or-set_other words a (a + suc i) (header_word h n) 0 (omega arith) ∙ free_words a (extent n) free (suc i) l ∙ sym (fresh_word h n i)
+      written (suc i) l = get_or-set_other words a (a + suc i) (header_word h n) 0 (omega arith) ∙ free_words a (extent n) free (suc i) l
+          ∙ sym (fresh_word h n i)
 
   module _ (words' : List ℕ) where
     -- other bytes at the same address, in as many words
-    pub image_written : (x : Placed) (bytes : List ℕ) → get m h ≡ Some x → IsApartFrom extent m h x → extent (length bytes) ≡ extent (length x.bytes) → Rewrites words words' (record { from = x.place; count = extent (length x.bytes) }) (object_word h bytes) → IsImageOver extent (insert m h (record { place = x.place; bytes = bytes })) words'
+    pub image_written : (x : Placed) (bytes : List ℕ) → get m h ≡ Some x → IsApartFrom extent m h x → extent (length bytes) ≡ extent (length x.bytes)
+        → Rewrites words words' (record { from = x.place; count = extent (length x.bytes) }) (object_word h bytes)
+        → IsImageOver extent (insert m h (record { place = x.place; bytes = bytes })) words'
     image_written x bytes is-x free len re =
         image_replaced extent m words words' im h x (record { place = x.place; bytes = bytes }) is-x free (λ q y p ne. rw len (free q y p ne))
         (λ i l. re.within i (rw len at l))
-        (λ i l out. absurd (let out' : IsOutside x.place (extent (length x.bytes)) (x.place + i) = rw len at out in elim out' [ inl z ↦ omega arith | inr z ↦ omega arith ]))
+        (λ i l out. absurd (let out' : IsOutside x.place (extent (length x.bytes)) (x.place + i) =
+        rw len at out in elim out' [ inl z ↦ omega arith | inr z ↦ omega arith ]))
         (λ w out _. re.others w out)
 
     -- the same bytes at another address
-    pub image_moved : (x : Placed) (b : ℕ) → get m h ≡ Some x → IsApartFrom extent m h x → IsApartFrom extent m h (record { place = b; bytes = x.bytes }) → MovesWords words words' (record { from = x.place; count = extent (length x.bytes) }) b → IsImageOver extent (insert m h (record { place = b; bytes = x.bytes })) words'
+    pub image_moved : (x : Placed) (b : ℕ) → get m h ≡ Some x → IsApartFrom extent m h x → IsApartFrom extent m h (record { place = b; bytes = x.bytes })
+        → MovesWords words words' (record { from = x.place; count = extent (length x.bytes) }) b
+        → IsImageOver extent (insert m h (record { place = b; bytes = x.bytes })) words'
     image_moved x b is-x free_x free_y mo =
         image_replaced extent m words words' im h x (record { place = b; bytes = x.bytes }) is-x free_x free_y
         (λ i l. mo.arrived i l ∙ im.held h x is-x i l)
@@ -61,7 +72,8 @@ past_object h v zero l = absurd (omega arith)
 past_object h v (suc i) l = ap (λ xs. word_of_bytes (take 8 xs)) (drop_all (8 * i) v (omega arith))
 
 -- the image by slots is the image by the objects' own words
-pub image_narrowed : (extent : ℕ → ℕ) (m : Held) (words : List ℕ) → ((h : ℕ) (x : Placed) → get m h ≡ Some x → need (length x.bytes) ≤ extent (length x.bytes)) → IsImageOver extent m words → IsImageOver need m words
+pub image_narrowed : (extent : ℕ → ℕ) (m : Held) (words : List ℕ) → ((h : ℕ) (x : Placed) → get m h ≡ Some x → need (length x.bytes) ≤ extent (length x.bytes))
+    → IsImageOver extent m words → IsImageOver need m words
 image_narrowed extent m words wide im = record {
   held = λ h x p i lt. im.held h x p i (omega (arith, wide h x p));
   zeros = λ w out. elim (cases_eq (get_or words w 0) 0) [
@@ -77,7 +89,8 @@ image_narrowed extent m words wide im = record {
 }
 
 -- the image is one list: two lists of one length that are images are equal
-pub image_unique : (extent : ℕ → ℕ) (m : Held) (words words' : List ℕ) → length words ≡ length words' → IsImageOver extent m words → IsImageOver extent m words' → words ≡ words'
+pub image_unique : (extent : ℕ → ℕ) (m : Held) (words words' : List ℕ) → length words ≡ length words' → IsImageOver extent m words → IsImageOver extent m words'
+    → words ≡ words'
 image_unique extent m words words' len im im' = same_number_lists words words' len (λ w _. elim (cases_eq (get_or words w 0) (get_or words' w 0)) [
   | inl is ↦ is
   | inr ne ↦ absurd (

@@ -27,11 +27,13 @@ turned a n b m (inr y) = inl y
 
 module _ (extent : ℕ → ℕ) (m : Held) (words words' : List ℕ) (im : IsImageOver extent m words) (h : ℕ) where
   -- an object goes, and its words are cleared
-  pub image_removed : (x : Placed) → get m h ≡ Some x → IsApartFrom extent m h x → Clears words words' (record { from = x.place; count = extent (length x.bytes) }) → IsImageOver extent (remove m h) words'
+  pub image_removed : (x : Placed) → get m h ≡ Some x → IsApartFrom extent m h x
+      → Clears words words' (record { from = x.place; count = extent (length x.bytes) }) → IsImageOver extent (remove m h) words'
   image_removed x is-x free re = record {
     held = λ q y p i lt.
         let was = some_removed m h q y p in
-        re.others (y.place + i) (disjoint_outside x.place (extent (length x.bytes)) y.place (extent (length y.bytes)) i (free q y was.1 was.0) lt) ∙ im.held q y was.1 i lt;
+        re.others (y.place + i) (disjoint_outside x.place (extent (length x.bytes)) y.place (extent (length y.bytes)) i (free q y was.1 was.0) lt)
+        ∙ im.held q y was.1 i lt;
     zeros = λ w out. elim (within_or x.place (extent (length x.bytes)) w) [
       | inl (i, lt, at) ↦ subst (λ z. get_or words' z 0 ≡ 0) at (re.within i lt)
       | inr outside ↦ re.others w outside ∙ im.zeros w (λ q y p. elim (cases_eq q h) [
@@ -42,11 +44,13 @@ module _ (extent : ℕ → ℕ) (m : Held) (words words' : List ℕ) (im : IsIma
   }
 
   -- an object comes to words that are free
-  pub image_added : (x : Placed) → get m h ≡ None → IsApartFrom extent m h x → Rewrites words words' (record { from = x.place; count = extent (length x.bytes) }) (object_word h x.bytes) → IsImageOver extent (insert m h x) words'
+  pub image_added : (x : Placed) → get m h ≡ None → IsApartFrom extent m h x
+      → Rewrites words words' (record { from = x.place; count = extent (length x.bytes) }) (object_word h x.bytes) → IsImageOver extent (insert m h x) words'
   image_added x none free re = record {
     held = λ q y p i lt. elim (some_inserted m h x q y p) [
       | inl (is, same) ↦ (let l : i < extent (length x.bytes) = rw same lt in rw (is, ← same) (re.within i l))
-      | inr (ne, p') ↦ re.others (y.place + i) (disjoint_outside x.place (extent (length x.bytes)) y.place (extent (length y.bytes)) i (free q y p' ne) lt) ∙ im.held q y p' i lt
+      | inr (ne, p') ↦ re.others (y.place + i) (disjoint_outside x.place (extent (length x.bytes)) y.place (extent (length y.bytes)) i (free q y p' ne) lt)
+          ∙ im.held q y p' i lt
     ];
     zeros = λ w out. re.others w (out h x (get_inserted m h x)) ∙ im.zeros w (λ q y p. elim (cases_eq q h) [
       | inl is ↦ absurd (let p' : get m h ≡ Some y = rw is at p in cc)

@@ -1,5 +1,6 @@
 -- When a sound arrangement lacks room for a class.
-use Rattle.std.proofs.Common.{◌≡◌, ◌≢◌, ℕ, zero, suc, Bool, true, false, ◌+◌, ◌-◌, ◌*◌, ◌/◌, ◌%◌, ◌<◌, ◌≤◌, List, [], ◌∷◌, Some, arith, sym, ◌∙◌, inl, inr, ap, refl}
+use Rattle.std.proofs.Common.{◌≡◌, ◌≢◌, ℕ, zero, suc, Bool, true, false, ◌+◌, ◌-◌, ◌*◌, ◌/◌, ◌%◌, ◌<◌, ◌≤◌, List, [], ◌∷◌, Some, arith, sym, ◌∙◌, inl, inr, ap}
+use Rattle.std.proofs.Common.{refl}
 use Rattle.std.specs.Prelude.{sum_by, count_by, ◌&&◌, ◌↔◌, nat_eq, nat_lt, filter, not}
 use Rattle.std.specs.List.{range_with_len}
 use Rattle.std.proofs.lemmas.List.Sums.{sum_by-cons}
@@ -10,7 +11,8 @@ use Rattle.cf_lemmas.proofs.Ranges.{one}
 use Rattle.page_model.specs.Held.{Held, Placed, objects}
 use Rattle.page_model.specs.Paging.{Paging, IsPaging, classes, slots_of, bound_of, page_of}
 use Rattle.page_model.specs.Counts.{Stand, most_pages}
-use Rattle.page_model.specs.Arrangement.{class_at, live, objects_on, standing_on, home_pages, not_full_pages, used_pages, free_pages, most_pages_besides, IsSound, LacksRoom}
+use Rattle.page_model.specs.Arrangement.{class_at, live, objects_on, standing_on, home_pages, not_full_pages, used_pages, free_pages, most_pages_besides}
+use Rattle.page_model.specs.Arrangement.{IsSound, LacksRoom}
 use Rattle.cf_lemmas.proofs.Tests.{eq_yes, eq_no}
 use Rattle.page_model.proofs.Counting.{less_counts, not_less_counts_none, here, stands_here, on_page, standing}
 use Rattle.page_model.proofs.Totals.{sum_same, sum_plus, sum_zeros, count_at}
@@ -38,7 +40,8 @@ module _ (f g : ℕ → ℕ) where
       omega arith
 
   -- sums that differ at one number
-  pub sum_changed : (a n c : ℕ) → a ≤ c → c < a + n → ((d : ℕ) → a ≤ d → d < a + n → d ≢ c → f d ≡ g d) → sum_by f (range_with_len a n) + g c ≡ sum_by g (range_with_len a n) + f c
+  pub sum_changed : (a n c : ℕ) → a ≤ c → c < a + n → ((d : ℕ) → a ≤ d → d < a + n → d ≢ c → f d ≡ g d)
+      → sum_by f (range_with_len a n) + g c ≡ sum_by g (range_with_len a n) + f c
   sum_changed a zero c low high same = absurd (omega arith)
   sum_changed a (suc n) c low high same =
       let x = sum_by-cons f a (range_with_len (a + 1) n) in
@@ -52,7 +55,8 @@ module _ (f g : ℕ → ℕ) where
             let e = same a (omega arith) (omega arith) ne in omega arith)
       ]
 
-  sum_kept : (keep : ℕ → Bool) (a n : ℕ) → ((d : ℕ) → a ≤ d → d < a + n → f d ≤ g d) → sum_by f (filter keep (range_with_len a n)) ≤ sum_by g (filter keep (range_with_len a n))
+  sum_kept : (keep : ℕ → Bool) (a n : ℕ) → ((d : ℕ) → a ≤ d → d < a + n → f d ≤ g d)
+      → sum_by f (filter keep (range_with_len a n)) ≤ sum_by g (filter keep (range_with_len a n))
   sum_kept keep a zero le = omega arith
   sum_kept keep a (suc n) le = go (keep a) refl (sum_kept keep (a + 1) n (λ d l h. le d (omega arith) (omega arith))) (le a (omega arith) (omega arith))
     where
@@ -144,8 +148,10 @@ module _ (p : Paging) (m : Held) (s : IsSound p m) where
         of_class o.0 o.1 o.2 o.3 some)
     | inr none ↦ (
         let e = not_less_counts_none 0 (standing_on p m g) none in
-        let z = sum_zeros (λ c. one (nat_lt 0 (objects_on p m c g))) (range_with_len 0 (classes p)) (λ c. not_less_counts_none 0 (objects_on p m c g) (elim (cases_lt 0 (objects_on p m c g)) [
-          | inl some ↦ absurd (let o = on_page p m c g some in let t = stands_here p m o.0 o.1 o.2 in let t' : 0 < standing_on p m g = rw (← o.3) t in omega arith)
+        let z = sum_zeros (λ c. one (nat_lt 0 (objects_on p m c g))) (range_with_len 0 (classes p))
+        (λ c. not_less_counts_none 0 (objects_on p m c g) (elim (cases_lt 0 (objects_on p m c g)) [
+          | inl some ↦ absurd (let o = on_page p m c g some in let t = stands_here p m o.0 o.1 o.2 in let t' : 0 < standing_on p m g =
+              rw (← o.3) t in omega arith)
           | inr le ↦ le
         ])) in
         omega arith)
@@ -156,7 +162,8 @@ module _ (p : Paging) (m : Held) (s : IsSound p m) where
       of_class q y f is some =
           let e = less_counts 0 (standing_on p m g) some in
           let h : 0 < objects_on p m (class_at p y) g = rw is at (here p m q y f) in
-          let same = sum_same (λ c. one (nat_lt 0 (objects_on p m c g))) (λ c. one (nat_eq (class_at p y) c && true)) (range_with_len 0 (classes p)) (λ c. elim (cases_eq (class_at p y) c) [
+          let same = sum_same (λ c. one (nat_lt 0 (objects_on p m c g))) (λ c. one (nat_eq (class_at p y) c && true)) (range_with_len 0 (classes p))
+          (λ c. elim (cases_eq (class_at p y) c) [
             | inl eq ↦ (let a = eq_yes _ _ eq in let h' : 0 < objects_on p m c g = rw eq at h in rw a (less_counts 0 (objects_on p m c g) h'))
             | inr ne ↦ (let a = eq_no _ _ ne in rw a (not_less_counts_none 0 (objects_on p m c g) (elim (cases_lt 0 (objects_on p m c g)) [
               | inl there ↦ absurd (let o = on_page p m c g there in ne (s.one_class q y o.0 o.1 f o.2 (is ∙ sym o.3) ∙ o.4))
@@ -169,7 +176,8 @@ module _ (p : Paging) (m : Held) (s : IsSound p m) where
   -- the pages in use are those that hold an object
   pub used_is : used_pages p m ≡ standing_pages
   unfolding used_pages home_pages
-  used_is = sym (sum_same (λ g. one (nat_lt 0 (standing_on p m g))) (λ g. sum_by (λ c. one (nat_lt 0 (objects_on p m c g))) (range_with_len 0 (classes p))) (range_with_len 0 p.pages) one_home
+  used_is = sym (sum_same (λ g. one (nat_lt 0 (standing_on p m g))) (λ g. sum_by (λ c. one (nat_lt 0 (objects_on p m c g))) (range_with_len 0 (classes p)))
+      (range_with_len 0 p.pages) one_home
       ∙ swap_sums (λ g c. one (nat_lt 0 (objects_on p m c g))) (range_with_len 0 p.pages) (range_with_len 0 (classes p)))
 
   pub used_le : used_pages p m ≤ p.pages
@@ -182,7 +190,8 @@ module _ (p : Paging) (m : Held) (s : IsSound p m) where
   pub all_taken : used_pages p m ≡ p.pages → (page : ℕ) → page < p.pages → 0 < standing_on p m page
   all_taken is page lt = elim (cases_lt 0 (standing_on p m page)) [
     | inl some ↦ some
-    | inr none ↦ absurd (let e = all_counted (λ g. nat_lt 0 (standing_on p m g)) 0 p.pages (sym used_is ∙ is) page (omega arith) (omega arith) in let z = not_less_counts_none 0 (standing_on p m page) none in omega arith)
+    | inr none ↦ absurd (let e = all_counted (λ g. nat_lt 0 (standing_on p m g)) 0 p.pages (sym used_is ∙ is) page (omega arith) (omega arith) in let z =
+        not_less_counts_none 0 (standing_on p m page) none in omega arith)
   ]
 
   -- a class lacks room exactly where none of its pages is partly full and no page is free
@@ -200,13 +209,15 @@ module _ (p : Paging) (m : Held) (s : IsSound p m) where
     lacking c lt l =
         let some = slots_some p ok c lt in
         let filled : live p (objects m) c ≡ home_pages p m c * slots_of p c = from_stand _ _ _ _ _ (sound_stand p ok c lt m s) l.full in
-        let quotient : live p (objects m) c / slots_of p c ≡ home_pages p m c = between_multiples (live p (objects m) c) (home_pages p m c) (slots_of p c) some (omega arith) (omega arith) in
+        let quotient : live p (objects m) c / slots_of p c ≡ home_pages p m c =
+        between_multiples (live p (objects m) c) (home_pages p m c) (slots_of p c) some (omega arith) (omega arith) in
         let split = div-add-mod' (live p (objects m) c) (slots_of p c) in
         let product : live p (objects m) c / slots_of p c * slots_of p c ≡ home_pages p m c * slots_of p c = ap (λ x. x * slots_of p c) quotient in
         let used = none_free l.taken in
         let sum = sum_others (home_pages p m) c 0 (classes p) (omega arith) (omega arith) in
         let le = sum_kept (home_pages p m) (λ d. most_pages (live p (objects m) d) (slots_of p d) (bound_of p d)) (λ d. not (nat_eq d c)) 0 (classes p)
-        (λ d _ h. most_pages_least (home_pages p m d) (live p (objects m) d) (slots_of p d) (bound_of p d) (slots_some p ok d (omega arith)) (sound_can_hold p ok d (omega arith) m s)) in
+        (λ d _ h. most_pages_least (home_pages p m d) (live p (objects m) d) (slots_of p d) (bound_of p d) (slots_some p ok d (omega arith))
+        (sound_can_hold p ok d (omega arith) m s)) in
         (omega arith, omega arith)
       where
         from_stand : (h n k q b : ℕ) → Stand h n k b q → q ≡ 0 → n ≡ h * k

@@ -57,7 +57,8 @@ module _ (on : ℕ → ℕ) (m : ℕ) (some : 0 < m) where
         ]
       ]
 
-stand_from : (home part full total live m k : ℕ) → home ≡ full + part → full * m + part ≤ total → total ≤ full * m + part * (m - 1) → total ≡ live → part ≤ k → Stand home live m k part
+stand_from : (home part full total live m k : ℕ) → home ≡ full + part → full * m + part ≤ total → total ≤ full * m + part * (m - 1) → total ≡ live → part ≤ k
+    → Stand home live m k part
 stand_from home part full total live m k all least most is few =
     let e : home - part ≡ full = omega arith in
     record { few = few; within = omega arith; least = rw (e, ← is) least; most = rw (e, ← is) most }

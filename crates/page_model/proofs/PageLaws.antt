@@ -88,13 +88,15 @@ in_any f a zero is = absurd (false≢true is)
 in_any f a (suc n) is = go (f a) refl is (λ e. in_any f (a + 1) n e)
   where
     go : (b : Bool) → f a ≡ b → (b || list_any f (range_with_len (a + 1) n)) ≡ true
-        → (list_any f (range_with_len (a + 1) n) ≡ true → (q : ℕ) × (a + 1 ≤ q) × (q < a + 1 + n) × (f q ≡ true)) → (q : ℕ) × (a ≤ q) × (q < a + suc n) × (f q ≡ true)
+        → (list_any f (range_with_len (a + 1) n) ≡ true → (q : ℕ) × (a + 1 ≤ q) × (q < a + 1 + n) × (f q ≡ true))
+        → (q : ℕ) × (a ≤ q) × (q < a + suc n) × (f q ≡ true)
     go true e is ih = (a, omega arith, omega arith, e)
     go false e is ih = (let o = ih is in (o.0, omega (arith, o.1), omega (arith, o.2), o.3))
 
 -- the test passes exactly where so many can stand
 pub tested : (p n m k : ℕ) → CanHold p n m k → can_hold p n m k ≡ true
-tested p n m k (q, s) = any_in (λ q. nat_le q p && nat_le ((p - q) * m + q) n && nat_le n ((p - q) * m + q * (m - 1))) 0 (k + 1) q (omega arith) (omega (arith, s.few))
+tested p n m k (q, s) = any_in (λ q. nat_le q p && nat_le ((p - q) * m + q) n && nat_le n ((p - q) * m + q * (m - 1))) 0 (k + 1) q (omega arith)
+    (omega (arith, s.few))
     (let a : nat_le q p ≡ true = grind (arith, nat_tests, s.within) in
     let b : nat_le ((p - q) * m + q) n ≡ true = grind (arith, nat_tests, s.least) in
     let c : nat_le n ((p - q) * m + q * (m - 1)) ≡ true = grind (arith, nat_tests, s.most) in

@@ -38,13 +38,16 @@ module _ (p : Paging) (ok : IsPaging p) (m : Held) (s : IsSound p m) (h : ℕ) (
   free_objects None never = map_values-remove (λ (x : Placed). x.bytes) m h
   free_objects (Some q) (must, (y, there, may)) =
       let ne = mover_is_other p ok m s h x found q y there must may in
-      let still : get (remove (objects m) h) q ≡ Some y.bytes = get_remove_other (objects m) h q ne ∙ get-map_values (λ (x : Placed). x.bytes) m q ∙ ap (option_map (λ (x : Placed). x.bytes)) there in
-      rw there (map_values-insert (λ (x : Placed). x.bytes) (remove m h) q _ ∙ ap (λ o. insert o q y.bytes) (map_values-remove (λ (x : Placed). x.bytes) m h) ∙ inserted_there (remove (objects m) h) q y.bytes still)
+      let still : get (remove (objects m) h) q ≡ Some y.bytes = get_remove_other (objects m) h q ne ∙ get-map_values (λ (x : Placed). x.bytes) m q
+      ∙ ap (option_map (λ (x : Placed). x.bytes)) there in
+      rw there (map_values-insert (λ (x : Placed). x.bytes) (remove m h) q _ ∙ ap (λ o. insert o q y.bytes) (map_values-remove (λ (x : Placed). x.bytes) m h)
+      ∙ inserted_there (remove (objects m) h) q y.bytes still)
 
   module _ (q : ℕ) (y : Placed) (there : get m q ≡ Some y) (must : MustMove p m x) (may : MayFill p m x y) where
     -- what moves takes the freed place, and no other place changes
     pub moved_places : places (without m h x.place (Some q)) ≡ insert (remove (places m) h) q x.place
-    moved_places = rw there (map_values-insert (λ (x : Placed). x.place) (remove m h) q _ ∙ ap (λ o. insert o q x.place) (map_values-remove (λ (x : Placed). x.place) m h))
+    moved_places = rw there (map_values-insert (λ (x : Placed). x.place) (remove m h) q _
+        ∙ ap (λ o. insert o q x.place) (map_values-remove (λ (x : Placed). x.place) m h))
 
     -- the page of the object that moves loses one
     pub moved_counts : (c page : ℕ) → objects_on p (without m h x.place (Some q)) c page + one (is_on p c page y) ≡ objects_on p m c page
@@ -56,7 +59,8 @@ module _ (p : Paging) (ok : IsPaging p) (m : Held) (s : IsSound p m) (h : ℕ) (
         let a = objects_on-exchanged p (remove m q) h x there' q y.bytes gone may.class c page in
         let b = objects_on-removed p m q y there c page in
         let same = removed_twice m h q (record { place = x.place; bytes = y.bytes }) in
-        let e : objects_on p (insert (remove (remove m q) h) q (record { place = x.place; bytes = y.bytes })) c page ≡ objects_on p (insert (remove m h) q (record { place = x.place; bytes = y.bytes })) c page = ap (λ n. objects_on p n c page) same in
+        let e : objects_on p (insert (remove (remove m q) h) q (record { place = x.place; bytes = y.bytes })) c page ≡ objects_on p
+        (insert (remove m h) q (record { place = x.place; bytes = y.bytes })) c page = ap (λ n. objects_on p n c page) same in
         rw there (omega arith)
 
   -- a free that moves nothing takes one from its own page

@@ -24,7 +24,8 @@ module _ (p : Paging) (m : Held) (h : ℕ) (x : Placed) (none : get m h ≡ None
   objects_on-elsewhere c page away = (let e = on_no p c page x away in let i = objects_on-inserted c page in omega arith)
 
   -- all objects of the page are of the new one's class
-  pub page_class : IsSound p m → IsFreePlace p m (length x.bytes) x.place → (q : ℕ) (y : Placed) → get m q ≡ Some y → page_of p y.place ≡ page_of p x.place → class_at p y ≡ class_at p x
+  pub page_class : IsSound p m → IsFreePlace p m (length x.bytes) x.place → (q : ℕ) (y : Placed) → get m q ≡ Some y → page_of p y.place ≡ page_of p x.place
+      → class_at p y ≡ class_at p x
   page_class s f q y e is = elim f.choice [
     | inl there ↦ (let o = on_page p m (class_at p x) (page_of p x.place) there.0 in s.one_class q y o.0 o.1 e o.2 (is ∙ sym o.3) ∙ o.4)
     | inr bare ↦ absurd (nothing_on p m (page_of p x.place) bare.1 q y e is)

@@ -1,5 +1,6 @@
 -- The bytes that stand at an address are those of the object there.
-use Rattle.std.proofs.Common.{◌≡◌, ℕ, zero, suc, ◌+◌, ◌*◌, ◌/◌, ◌%◌, ◌^◌, ◌<◌, List, [], ◌∷◌, Option, Some, None, length, get_or, take, drop, arith, lit<, sym, ◌∙◌, inl, inr, ap, refl}
+use Rattle.std.proofs.Common.{◌≡◌, ℕ, zero, suc, ◌+◌, ◌*◌, ◌/◌, ◌%◌, ◌^◌, ◌<◌, List, [], ◌∷◌, Option, Some, None, length, get_or, take, drop, arith, lit<, sym}
+use Rattle.std.proofs.Common.{◌∙◌, inl, inr, ap, refl}
 use Rattle.std.specs.Prelude.{option_map}
 use Rattle.std.proofs.lemmas.List.{get_or-take, get_or-drop, get_or_past, length-take}
 use Rattle.std.proofs.lemmas.List.FromFn.{length-map-range_with_len, get_or-map-range_with_len}
@@ -31,7 +32,8 @@ bytes_part m n v b i = elim (cases_lt i m) [
 ]
 
 -- the bytes at an address are those of the object whose words stand there
-pub bytes_of_held : (words : List ℕ) (h a : ℕ) (v : List ℕ) → h < 2 ^ 32 → AreBytes v → ((i : ℕ) → i < need (length v) → get_or words (a + i) 0 ≡ object_word h v i) → bytes_at words a ≡ v
+pub bytes_of_held : (words : List ℕ) (h a : ℕ) (v : List ℕ) → h < 2 ^ 32 → AreBytes v
+    → ((i : ℕ) → i < need (length v) → get_or words (a + i) 0 ≡ object_word h v i) → bytes_at words a ≡ v
 unfolding bytes_at
 bytes_of_held words h a v small bytes held =
     let at : a + 0 ≡ a = omega arith in
@@ -51,11 +53,15 @@ bytes_of_held words h a v small bytes held =
 
 -- what is held is determined by the words and the addresses
 pub held_from_image : (m : Held) (at : FinMap nat_cmp ℕ) (words : List ℕ) → IsImageOver need m words → at ≡ places m → AreStorable m → held_at words at ≡ m
-held_from_image m at words im e good = equal_maps _ _ (λ q. get-map_values (λ a. record { place = a; bytes = bytes_at words a }) at q ∙ ap (λ p. option_map (λ a. record { place = a; bytes = bytes_at words a }) (get p q)) e ∙ ap (option_map (λ a. record { place = a; bytes = bytes_at words a })) (get-map_values (λ (x : Placed). x.place) m q) ∙ go q (get m q) refl)
+held_from_image m at words im e good = equal_maps _ _ (λ q. get-map_values (λ a. record { place = a; bytes = bytes_at words a }) at q
+    ∙ ap (λ p. option_map (λ a. record { place = a; bytes = bytes_at words a }) (get p q)) e
+    ∙ ap (option_map (λ a. record { place = a; bytes = bytes_at words a })) (get-map_values (λ (x : Placed). x.place) m q) ∙ go q (get m q) refl)
   where
-    go : (q : ℕ) (o : Option Placed) → get m q ≡ o → option_map (λ a. record { place = a; bytes = bytes_at words a }) (option_map (λ (x : Placed). x.place) o) ≡ o
+    go : (q : ℕ) (o : Option Placed) → get m q ≡ o → option_map (λ a. record { place = a; bytes = bytes_at words a })
+        (option_map (λ (x : Placed). x.place) o) ≡ o
     go q None f = refl
-    go q (Some x) f = (let g = good q x f in ap (λ v. Some (record { place = x.place; bytes = v })) (bytes_of_held words q x.place x.bytes g.0 g.1 (im.held q x f)))
+    go q (Some x) f = (let g = good q x f in ap (λ v. Some (record { place = x.place; bytes = v }))
+        (bytes_of_held words q x.place x.bytes g.0 g.1 (im.held q x f)))
 
 -- bytes of words are bytes
 pub byte_below : (j w : ℕ) → byte_of j w < 256
@@ -65,22 +71,26 @@ byte_below (suc j) w = byte_below j (w / 256)
 pub bytes_at-AreBytes : (words : List ℕ) (a : ℕ) → AreBytes (bytes_at words a)
 unfolding bytes_at
 bytes_at-AreBytes words a i = elim (cases_lt i (get_or words a 0 / 2 ^ 32)) [
-  | inl lt ↦ rw (get_or-map-range_with_len (λ i. byte_of (i % 8) (get_or words (a + 1 + i / 8) 0)) 0 (get_or words a 0 / 2 ^ 32) i i 0 lt (omega arith)) (byte_below (i % 8) (get_or words (a + 1 + i / 8) 0))
+  | inl lt ↦ rw (get_or-map-range_with_len (λ i. byte_of (i % 8) (get_or words (a + 1 + i / 8) 0)) 0 (get_or words a 0 / 2 ^ 32) i i 0 lt (omega arith))
+      (byte_below (i % 8) (get_or words (a + 1 + i / 8) 0))
   | inr past ↦ rw (get_or_past (bytes_at words a) i 0 (simp length-map-range_with_len past)) (lit< tt)
 ]
 
 -- what stands at the addresses has these addresses, and bytes
 pub places-held_at : (words : List ℕ) (at : FinMap nat_cmp ℕ) → places (held_at words at) ≡ at
-places-held_at words at = equal_maps _ _ (λ q. get-map_values (λ (x : Placed). x.place) (held_at words at) q ∙ ap (option_map (λ (x : Placed). x.place)) (get-map_values (λ a. record { place = a; bytes = bytes_at words a }) at q) ∙ go (get at q))
+places-held_at words at = equal_maps _ _ (λ q. get-map_values (λ (x : Placed). x.place) (held_at words at) q
+    ∙ ap (option_map (λ (x : Placed). x.place)) (get-map_values (λ a. record { place = a; bytes = bytes_at words a }) at q) ∙ go (get at q))
   where
     go : (o : Option ℕ) → option_map (λ (x : Placed). x.place) (option_map (λ a. record { place = a; bytes = bytes_at words a }) o) ≡ o
     go None = refl
     go (Some a) = refl
 
-pub held_at_is : (words : List ℕ) (at : FinMap nat_cmp ℕ) (q : ℕ) (y : Placed) → get (held_at words at) q ≡ Some y → (get at q ≡ Some y.place) × (y.bytes ≡ bytes_at words y.place)
+pub held_at_is : (words : List ℕ) (at : FinMap nat_cmp ℕ) (q : ℕ) (y : Placed) → get (held_at words at) q ≡ Some y
+    → (get at q ≡ Some y.place) × (y.bytes ≡ bytes_at words y.place)
 held_at_is words at q y e = go (get at q) refl (sym (get-map_values (λ a. record { place = a; bytes = bytes_at words a }) at q) ∙ e)
   where
-    go : (o : Option ℕ) → get at q ≡ o → option_map (λ a. record { place = a; bytes = bytes_at words a }) o ≡ Some y → (get at q ≡ Some y.place) × (y.bytes ≡ bytes_at words y.place)
+    go : (o : Option ℕ) → get at q ≡ o → option_map (λ a. record { place = a; bytes = bytes_at words a }) o ≡ Some y
+        → (get at q ≡ Some y.place) × (y.bytes ≡ bytes_at words y.place)
     go None e f = absurd (let f' : ◌≡◌ {A = Option Placed} None (Some y) = f in cc)
     go (Some a) e f = (let same : ◌≡◌ {A = Placed} (record { place = a; bytes = bytes_at words a }) y = cc in (rw (← same) e, rw (← same) refl))
 

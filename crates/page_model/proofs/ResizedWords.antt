@@ -36,14 +36,17 @@ module _ (old new : List ℕ) (a n : ℕ) (inside : a + n ≤ length old) (insid
   back_others w (inr r) = (let le : a + length (take n (drop a old)) ≤ w = rw length-part r in written_behind new a (take n (drop a old)) fits_back w le)
 
 -- what is rewritten first and what happens elsewhere afterwards may be taken the other way round
-module _ (old mid new : List ℕ) (a n : ℕ) (f : ℕ → ℕ) (re : Rewrites old mid (record { from = a; count = n }) f) (inside : a + n ≤ length old) (inside' : a + n ≤ length new) where
-  first_last : ((i : ℕ) → i < n → get_or new (a + i) 0 ≡ get_or mid (a + i) 0) → Rewrites (put_back old new a n inside inside') new (record { from = a; count = n }) f
+module _ (old mid new : List ℕ) (a n : ℕ) (f : ℕ → ℕ) (re : Rewrites old mid (record { from = a; count = n }) f) (inside : a + n ≤ length old)
+    (inside' : a + n ≤ length new) where
+  first_last : ((i : ℕ) → i < n → get_or new (a + i) 0 ≡ get_or mid (a + i) 0)
+      → Rewrites (put_back old new a n inside inside') new (record { from = a; count = n }) f
   first_last kept = record {
     within = λ i lt. kept i lt ∙ re.within i lt;
     others = λ w out. sym (back_others old new a n inside inside' w out);
   }
 
-  clears_first : (b k : ℕ) → IsDisjoint a n b k → Clears mid new (record { from = b; count = k }) → Clears old (put_back old new a n inside inside') (record { from = b; count = k })
+  clears_first : (b k : ℕ) → IsDisjoint a n b k → Clears mid new (record { from = b; count = k })
+      → Clears old (put_back old new a n inside inside') (record { from = b; count = k })
   clears_first b k apart c = record {
     within = λ i lt. back_others old new a n inside inside' (b + i) (disjoint_outside a n b k i apart lt) ∙ c.within i lt;
     others = λ w out. elim (within_or a n w) [
@@ -52,9 +55,11 @@ module _ (old mid new : List ℕ) (a n : ℕ) (f : ℕ → ℕ) (re : Rewrites o
     ];
   }
 
-  moves_first : (b c k : ℕ) → IsDisjoint a n b k → IsDisjoint a n c k → MovesWords mid new (record { from = b; count = k }) c → MovesWords old (put_back old new a n inside inside') (record { from = b; count = k }) c
+  moves_first : (b c k : ℕ) → IsDisjoint a n b k → IsDisjoint a n c k → MovesWords mid new (record { from = b; count = k }) c
+      → MovesWords old (put_back old new a n inside inside') (record { from = b; count = k }) c
   moves_first b c k ab ac m = record {
-    arrived = λ i lt. back_others old new a n inside inside' (c + i) (disjoint_outside a n c k i ac lt) ∙ m.arrived i lt ∙ re.others (b + i) (disjoint_outside a n b k i ab lt);
+    arrived = λ i lt. back_others old new a n inside inside' (c + i) (disjoint_outside a n c k i ac lt) ∙ m.arrived i lt
+        ∙ re.others (b + i) (disjoint_outside a n b k i ab lt);
     left_zeros = λ i lt. back_others old new a n inside inside' (b + i) (disjoint_outside a n b k i ab lt) ∙ m.left_zeros i lt;
     others = λ w ob oc. elim (within_or a n w) [
       | inl (i, lt, is) ↦ subst (λ v. get_or (put_back old new a n inside inside') v 0 ≡ get_or old v 0) is (back_within old new a n inside inside' i lt)
@@ -62,7 +67,8 @@ module _ (old mid new : List ℕ) (a n : ℕ) (f : ℕ → ℕ) (re : Rewrites o
     ];
   }
 
-module _ (p : Paging) (ok : IsPaging p) (m : Held) (s : IsSound p m) (old mid new : List ℕ) (im : IsSlotImage p m old) (len : length old ≡ p.pages * p.page_words) (len' : length new ≡ p.pages * p.page_words)
+module _ (p : Paging) (ok : IsPaging p) (m : Held) (s : IsSound p m) (old mid new : List ℕ) (im : IsSlotImage p m old)
+    (len : length old ≡ p.pages * p.page_words) (len' : length new ≡ p.pages * p.page_words)
     (h : ℕ) (x : Placed) (is-x : get m h ≡ Some x) (a : ℕ) (bytes : List ℕ) (free : IsFreePlace p m (length bytes) a)
     (spare : ℕ) (unused : get m spare ≡ None)
     (re : Rewrites old mid (record { from = a; count = slot_for p (length bytes) }) (object_word h bytes)) where
@@ -80,9 +86,12 @@ module _ (p : Paging) (ok : IsPaging p) (m : Held) (s : IsSound p m) (old mid ne
   pub image_after_change : Clears mid new (record { from = x.place; count = slot_for p (length x.bytes) })
       → IsSlotImage p (insert (remove m h) h (record { place = a; bytes = bytes })) new
   image_after_change c =
-      let first = image_removed (slot_for p) m old (put_back old new a (slot_for p (length bytes)) within_old within_new) im h x is-x (sound_apart_from p m s h x is-x)
-      (clears_first old mid new a (slot_for p (length bytes)) (object_word h bytes) re within_old within_new x.place (slot_for p (length x.bytes)) (apart h x is-x) c) in
-      image_added (slot_for p) (remove m h) (put_back old new a (slot_for p (length bytes)) within_old within_new) new first h (record { place = a; bytes = bytes }) (get_removed m h)
+      let first = image_removed (slot_for p) m old (put_back old new a (slot_for p (length bytes)) within_old within_new) im h x is-x
+      (sound_apart_from p m s h x is-x)
+      (clears_first old mid new a (slot_for p (length bytes)) (object_word h bytes) re within_old within_new x.place (slot_for p (length x.bytes))
+      (apart h x is-x) c) in
+      image_added (slot_for p) (remove m h) (put_back old new a (slot_for p (length bytes)) within_old within_new) new first h
+      (record { place = a; bytes = bytes }) (get_removed m h)
       (λ q y e ne. apart q y (some_removed m h q y e).1)
       (first_last old mid new a (slot_for p (length bytes)) (object_word h bytes) re within_old within_new
       (λ i lt. c.others (a + i) (disjoint_outside x.place (slot_for p (length x.bytes)) a (slot_for p (length bytes)) i (turned _ _ _ _ (apart h x is-x)) lt)))
@@ -94,13 +103,17 @@ module _ (p : Paging) (ok : IsPaging p) (m : Held) (s : IsSound p m) (old mid ne
   image_after_change_and_move q y is-y must may mo =
       let ne : q ≢ h = mover_is_other p ok m s h x is-x q y is-y must may in
       let size : slot_for p (length y.bytes) ≡ slot_for p (length x.bytes) = ap (slot_words p) may.class in
-      let ax : IsDisjoint a (slot_for p (length bytes)) x.place (slot_for p (length y.bytes)) = subst (λ n. IsDisjoint a (slot_for p (length bytes)) x.place n) (sym size) (apart h x is-x) in
+      let ax : IsDisjoint a (slot_for p (length bytes)) x.place (slot_for p (length y.bytes)) =
+      subst (λ n. IsDisjoint a (slot_for p (length bytes)) x.place n) (sym size) (apart h x is-x) in
       let ay = apart q y is-y in
       let first = image_exchanged (slot_for p) m old (put_back old new a (slot_for p (length bytes)) within_old within_new) im h q x y is-x is-y ne
       (sound_apart_from p m s h x is-x) (sound_apart_from p m s q y is-y) size
-      (moves_first old mid new a (slot_for p (length bytes)) (object_word h bytes) re within_old within_new y.place x.place (slot_for p (length y.bytes)) ay ax mo) in
-      let gone : get (insert (remove m h) q (record { place = x.place; bytes = y.bytes })) h ≡ None = get_insert_other (remove m h) q _ h (λ e. ne (sym e)) ∙ get_removed m h in
-      image_added (slot_for p) (insert (remove m h) q (record { place = x.place; bytes = y.bytes })) (put_back old new a (slot_for p (length bytes)) within_old within_new) new first h (record { place = a; bytes = bytes }) gone
+      (moves_first old mid new a (slot_for p (length bytes)) (object_word h bytes) re within_old within_new y.place x.place
+      (slot_for p (length y.bytes)) ay ax mo) in
+      let gone : get (insert (remove m h) q (record { place = x.place; bytes = y.bytes })) h ≡ None = get_insert_other (remove m h) q _ h (λ e. ne (sym e))
+      ∙ get_removed m h in
+      image_added (slot_for p) (insert (remove m h) q (record { place = x.place; bytes = y.bytes }))
+      (put_back old new a (slot_for p (length bytes)) within_old within_new) new first h (record { place = a; bytes = bytes }) gone
       (λ r z e nh. elim (some_inserted (remove m h) q (record { place = x.place; bytes = y.bytes }) r z e) [
         | inl (_, same) ↦ rw (← same) ax
         | inr (_, was) ↦ apart r z (some_removed m h r z was).1

@@ -8,7 +8,8 @@ use Rattle.cf_lemmas.proofs.Sums.{insert_again}
 use Rattle.page_model.specs.Held.{Held, Placed}
 use Rattle.page_model.specs.Paging.{Paging, IsPaging, page_of, class_for}
 use Rattle.page_model.specs.Arrangement.{class_at, objects_on, not_full_pages, IsSound}
-use Rattle.page_model.specs.Steps.{Request, Leaves, IsFreePlace, MustMove, MayFill, Moves, without, resized, resized_at, ResizesInPlace, ChangesClass, RefitsObject}
+use Rattle.page_model.specs.Steps.{Request, Leaves, IsFreePlace, MustMove, MayFill, Moves, without, resized, resized_at, ResizesInPlace, ChangesClass}
+use Rattle.page_model.specs.Steps.{RefitsObject}
 use Rattle.cf_lemmas.proofs.Values.{still}
 use Rattle.page_model.proofs.Counting.{not_full-same}
 use Rattle.page_model.proofs.Placing.{sound_placed, objects_on-elsewhere}
@@ -16,7 +17,8 @@ use Rattle.page_model.proofs.Freeing.{sound_exchanged}
 use Rattle.page_model.proofs.FreeSteps.{sound_without, mover_is_other}
 
 pub length-resized : (v : List ℕ) (n : ℕ) → length (resized v n) ≡ n
-length-resized v n = length-append (take n v) (replicate (n - length v) 0) ∙ (let a : length (replicate (n - length v) 0) ≡ n - length v = length-replicate {A = ℕ} (n - length v) 0 in let b = length-take n v in omega arith)
+length-resized v n = length-append (take n v) (replicate (n - length v) 0)
+    ∙ (let a : length (replicate (n - length v) 0) ≡ n - length v = length-replicate {A = ℕ} (n - length v) 0 in let b = length-take n v in omega arith)
 
 -- the class of what a resize gives is that of its new length
 pub class-resized : (p : Paging) (a n : ℕ) (x : Placed) → class_at p (resized_at a x n) ≡ class_for p n
@@ -25,13 +27,15 @@ class-resized p a n x = ap (class_for p) (length-resized x.bytes n)
 sound_in_place : (p : Paging) (old : Held) (asked : Request) (after : Leaves) → IsSound p old → ResizesInPlace p old asked after → IsSound p after.held
 sound_in_place p old asked after s r =
     let x : Placed = r.object in
-    let class : class_at p (resized_at r.object.place r.object asked.length) ≡ class_at p r.object = class-resized p r.object.place asked.length r.object ∙ r.same in
+    let class : class_at p (resized_at r.object.place r.object asked.length) ≡ class_at p r.object = class-resized p r.object.place asked.length r.object
+    ∙ r.same in
     let e = sound_exchanged p old asked.number r.object r.found asked.number (resized r.object.bytes asked.length) (get_removed old asked.number) class s in
     let again = insert_again old asked.number (resized_at r.object.place r.object asked.length) in
     let placed = r.placed in
     rw (placed, ← again) e
 
-module _ (p : Paging) (ok : IsPaging p) (old : Held) (s : IsSound p old) (h n a spare : ℕ) (x : Placed) (found : get old h ≡ Some x) (other : class_for p n ≢ class_at p x)
+module _ (p : Paging) (ok : IsPaging p) (old : Held) (s : IsSound p old) (h n a spare : ℕ) (x : Placed) (found : get old h ≡ Some x)
+    (other : class_for p n ≢ class_at p x)
     (unused : get old spare ≡ None) where
   abbrev new : Placed
   new = resized_at a x n
@@ -72,8 +76,15 @@ module _ (p : Paging) (ok : IsPaging p) (old : Held) (s : IsSound p old) (h n a 
       let there' : get with_both spare ≡ Some y = rw e at there in
       let z : Some new ≡ Some y = sym (get_inserted old spare new) ∙ there' in
       let same : ◌≡◌ {A = Placed} new y = cc in
-      sym (class-resized p a n x) ∙ ap (class_at p) same ∙ may.class)) in
-      (must_before must, (y, sym (get_insert_other old spare new q ne) ∙ there, record { class = may.class; not_full = (let e = same_on (page_of p y.place) in rw e at may.not_full) }))
+      sym (class-resized p a n x) ∙ ap (class_at p) same ∙ may.class)) in (
+        must_before must,
+        (
+          y,
+          sym (get_insert_other old spare new q ne)
+              ∙ there,
+          record { class = may.class; not_full = (let e = same_on (page_of p y.place) in rw e at may.not_full) },
+        ),
+      )
 
   -- what a move leaves of the new object, and of the number that is free
   new_stays : IsFreePlace p old n a → (moved : Option ℕ) → Moves p with_both x moved
@@ -92,17 +103,20 @@ module _ (p : Paging) (ok : IsPaging p) (old : Held) (s : IsSound p old) (h n a 
         get_insert_other (remove with_both h) q _ h (λ e. q_is_other (sym e)) ∙ get_removed with_both h,
       )
 
-  sound_changed : IsFreePlace p old n a → (moved : Option ℕ) → Moves p with_both x moved → IsSound p (insert (remove (without with_both h x.place moved) spare) h new)
+  sound_changed : IsFreePlace p old n a → (moved : Option ℕ) → Moves p with_both x moved
+      → IsSound p (insert (remove (without with_both h x.place moved) spare) h new)
   sound_changed free moved moves =
       let sound : IsSound p with_both = sound_placed p old spare new unused ok s (let e = length-resized x.bytes n in rw e free) in
       let left = sound_without p ok with_both sound h x found_still moved moves in
       let stays = new_stays free moved moves in
-      let gone : get (remove (without with_both h x.place moved) spare) h ≡ None = get_remove_other (without with_both h x.place moved) spare h (λ e. spare_is_other (sym e)) ∙ stays.1 in
+      let gone : get (remove (without with_both h x.place moved) spare) h ≡ None =
+      get_remove_other (without with_both h x.place moved) spare h (λ e. spare_is_other (sym e)) ∙ stays.1 in
       sound_exchanged p (without with_both h x.place moved) spare new stays.0 h (resized x.bytes n) gone refl left
 
   -- the spare number leaves no trace
   module _ (q : ℕ) where
-    no_trace : (moved : Option ℕ) → Moves p old x moved → get (insert (remove (without with_both h x.place moved) spare) h new) q ≡ get (insert (without old h x.place moved) h new) q
+    no_trace : (moved : Option ℕ) → Moves p old x moved → get (insert (remove (without with_both h x.place moved) spare) h new) q ≡ get
+        (insert (without old h x.place moved) h new) q
     no_trace moved moves = elim (cases_eq q h) [
       | inl is ↦ rw is (get_inserted _ h new ∙ sym (get_inserted _ h new))
       | inr ne ↦ get_insert_other _ h new q ne ∙ elim (cases_eq q spare) [
@@ -123,11 +137,13 @@ module _ (p : Paging) (ok : IsPaging p) (old : Held) (s : IsSound p old) (h n a 
             let there' : get with_both r ≡ Some y = (still old spare new unused r y there).1 in
             rw (there, there') (elim (cases_eq q r) [
               | inl is ↦ rw is (get_inserted _ r _ ∙ sym (get_inserted _ r _))
-              | inr nr ↦ get_insert_other _ r _ q nr ∙ get_remove_other with_both h q ne ∙ get_insert_other old spare new q ne' ∙ sym (get_remove_other old h q ne) ∙ sym (get_insert_other _ r _ q nr)
+              | inr nr ↦ get_insert_other _ r _ q nr ∙ get_remove_other with_both h q ne ∙ get_insert_other old spare new q ne'
+                  ∙ sym (get_remove_other old h q ne) ∙ sym (get_insert_other _ r _ q nr)
             ])
 
 -- In the terms of a manager: the object at a free place, and what a free of its old place leaves.
-pub changes_class : (p : Paging) → IsPaging p → (old : Held) → IsSound p old → (h n a spare : ℕ) (x : Placed) (moved : Option ℕ) → get old h ≡ Some x → class_for p n ≢ class_at p x → get old spare ≡ None
+pub changes_class : (p : Paging) → IsPaging p → (old : Held) → IsSound p old → (h n a spare : ℕ) (x : Placed) (moved : Option ℕ) → get old h ≡ Some x
+    → class_for p n ≢ class_at p x → get old spare ≡ None
     → IsFreePlace p old n a → Moves p old x moved
     → ChangesClass p old (record { number = h; length = n }) (record { held = insert (without old h x.place moved) h (resized_at a x n); moved = moved })
 changes_class p ok old s h n a spare x moved found other unused free moves = record {
@@ -150,14 +166,17 @@ changes_class p ok old s h n a spare x moved found other unused free moves = rec
 
 -- and every resize to another class is of this kind
 pub change_is : (p : Paging) → IsPaging p → (old : Held) → IsSound p old → (asked : Request) (after : Leaves) (r : ChangesClass p old asked after)
-    → Moves p old r.object after.moved × (after.held ≡ insert (without old asked.number r.object.place after.moved) asked.number (resized_at r.place r.object asked.length))
+    → Moves p old r.object after.moved × (after.held ≡ insert (without old asked.number r.object.place after.moved) asked.number
+    (resized_at r.place r.object asked.length))
 change_is p ok old s asked after r =
     let f = r.freed in
     let still' = found_still p ok old s asked.number asked.length r.place r.spare r.object r.found r.other r.unused in
     let same : Some f.freed ≡ Some r.object = sym f.found ∙ still' in
     let is : f.freed ≡ r.object = cc in
-    let moves : Moves p (insert old r.spare (resized_at r.place r.object asked.length)) r.object after.moved = subst (λ y. Moves p (insert old r.spare (resized_at r.place r.object asked.length)) y after.moved) is f.moves in
-    let left : r.left ≡ without (insert old r.spare (resized_at r.place r.object asked.length)) asked.number r.object.place after.moved = f.left ∙ ap (λ (y : Placed). without (insert old r.spare (resized_at r.place r.object asked.length)) asked.number y.place after.moved) is in
+    let moves : Moves p (insert old r.spare (resized_at r.place r.object asked.length)) r.object after.moved =
+    subst (λ y. Moves p (insert old r.spare (resized_at r.place r.object asked.length)) y after.moved) is f.moves in
+    let left : r.left ≡ without (insert old r.spare (resized_at r.place r.object asked.length)) asked.number r.object.place after.moved = f.left
+    ∙ ap (λ (y : Placed). without (insert old r.spare (resized_at r.place r.object asked.length)) asked.number y.place after.moved) is in
     let before = moves_before p ok old s asked.number asked.length r.place r.spare r.object r.found r.other r.unused after.moved moves in (
       before,
       r.renamed ∙ ap (λ l. insert (remove l r.spare) asked.number (resized_at r.place r.object asked.length)) left
@@ -165,14 +184,17 @@ change_is p ok old s asked after r =
     )
 
 -- a resize keeps the arrangement sound
-pub sound_resize : (p : Paging) (old : Held) (asked : Request) (after : Leaves) → IsPaging p → IsSound p old → RefitsObject p old asked after → IsSound p after.held
+pub sound_resize : (p : Paging) (old : Held) (asked : Request) (after : Leaves) → IsPaging p → IsSound p old → RefitsObject p old asked after
+    → IsSound p after.held
 sound_resize p old asked after ok s (inl r) = sound_in_place p old asked after s r
 sound_resize p old asked after ok s (inr r) =
     let f = r.freed in
     let still' = found_still p ok old s asked.number asked.length r.place r.spare r.object r.found r.other r.unused in
     let same : Some f.freed ≡ Some r.object = sym f.found ∙ still' in
     let is : f.freed ≡ r.object = cc in
-    let moves : Moves p (insert old r.spare (resized_at r.place r.object asked.length)) r.object after.moved = subst (λ y. Moves p (insert old r.spare (resized_at r.place r.object asked.length)) y after.moved) is f.moves in
-    let left : r.left ≡ without (insert old r.spare (resized_at r.place r.object asked.length)) asked.number r.object.place after.moved = f.left ∙ ap (λ (y : Placed). without (insert old r.spare (resized_at r.place r.object asked.length)) asked.number y.place after.moved) is in
+    let moves : Moves p (insert old r.spare (resized_at r.place r.object asked.length)) r.object after.moved =
+    subst (λ y. Moves p (insert old r.spare (resized_at r.place r.object asked.length)) y after.moved) is f.moves in
+    let left : r.left ≡ without (insert old r.spare (resized_at r.place r.object asked.length)) asked.number r.object.place after.moved = f.left
+    ∙ ap (λ (y : Placed). without (insert old r.spare (resized_at r.place r.object asked.length)) asked.number y.place after.moved) is in
     let e = r.renamed in
     rw (e, left) (sound_changed p ok old s asked.number asked.length r.place r.spare r.object r.found r.other r.unused r.free after.moved moves)

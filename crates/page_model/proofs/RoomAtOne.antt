@@ -32,20 +32,23 @@ next_page h n m (suc (suc q)) pos s = absurd (omega (arith, s.few))
 
 module _ (p : Paging) where
   -- one object more counts in its class
-  live-inserted : (objs : Objects) (r : ℕ) (v : List ℕ) (c : ℕ) → get objs r ≡ None → live p (insert objs r v) c ≡ live p objs c + one (nat_eq (class_for p (length v)) c)
+  live-inserted : (objs : Objects) (r : ℕ) (v : List ℕ) (c : ℕ) → get objs r ≡ None
+      → live p (insert objs r v) c ≡ live p objs c + one (nat_eq (class_for p (length v)) c)
   unfolding live
   live-inserted objs r v c none = sum_by-inserted (λ v. one (nat_eq (class_for p (length v)) c)) objs r v none
 
   pub needed_with_is : (objs : Objects) (r : ℕ) (v : List ℕ) → get objs r ≡ None → pages_needed p (insert objs r v) ≡ pages_needed_with p objs (length v)
   unfolding pages_needed pages_needed_with
-  needed_with_is objs r v none = sum_same (λ c. ceil_div (live p (insert objs r v) c) (slots_of p c)) (λ c. ceil_div (live p objs c + one (nat_eq (class_for p (length v)) c)) (slots_of p c)) (range_with_len 0 (classes p))
+  needed_with_is objs r v none = sum_same (λ c. ceil_div (live p (insert objs r v) c) (slots_of p c))
+      (λ c. ceil_div (live p objs c + one (nat_eq (class_for p (length v)) c)) (slots_of p c)) (range_with_len 0 (classes p))
       (λ c. ap (λ n. ceil_div n (slots_of p c)) (live-inserted objs r v c none))
 
 module _ (p : Paging) (ok : IsPaging p) (ones : AreOne p) (m : Held) (s : IsSound p m) where
   home_at_one : (c : ℕ) → c < classes p → home_pages p m c ≡ ceil_div (live p (objects m) c) (slots_of p c)
   home_at_one c lt =
       let some = slots_some p ok c lt in
-      let one_page : CanHold (home_pages p m c) (live p (objects m) c) (slots_of p c) 1 = subst (CanHold (home_pages p m c) (live p (objects m) c) (slots_of p c)) (ones c lt) (sound_can_hold p ok c lt m s) in
+      let one_page : CanHold (home_pages p m c) (live p (objects m) c) (slots_of p c) 1 =
+      subst (CanHold (home_pages p m c) (live p (objects m) c) (slots_of p c)) (ones c lt) (sound_can_hold p ok c lt m s) in
       can_hold_one (home_pages p m c) (live p (objects m) c) (slots_of p c) some one_page
 
   -- the pages in use are those that arithmetic asks for
@@ -58,12 +61,17 @@ module _ (p : Paging) (ok : IsPaging p) (ones : AreOne p) (m : Held) (s : IsSoun
     unfolding used_pages pages_needed_with
     needed_next =
         let c : ℕ = class_for p n in
-        let one_page : Stand (home_pages p m (class_for p n)) (live p (objects m) (class_for p n)) (slots_of p (class_for p n)) 1 (not_full_pages p m (class_for p n)) = subst (λ k. Stand (home_pages p m (class_for p n)) (live p (objects m) (class_for p n)) (slots_of p (class_for p n)) k (not_full_pages p m (class_for p n))) (ones (class_for p n) fits) (sound_stand p ok (class_for p n) fits m s) in
+        let one_page : Stand (home_pages p m (class_for p n)) (live p (objects m) (class_for p n)) (slots_of p (class_for p n)) 1
+        (not_full_pages p m (class_for p n)) = subst (λ k. Stand (home_pages p m (class_for p n)) (live p (objects m) (class_for p n))
+        (slots_of p (class_for p n)) k (not_full_pages p m (class_for p n))) (ones (class_for p n) fits) (sound_stand p ok (class_for p n) fits m s) in
         let next = next_page _ _ _ _ (slots_some p ok (class_for p n) fits) one_page in
         let e = eq_yes (class_for p n) (class_for p n) refl in
-        let at : ceil_div (live p (objects m) (class_for p n) + one (nat_eq (class_for p n) (class_for p n))) (slots_of p (class_for p n)) ≡ home_pages p m (class_for p n) + (1 - not_full_pages p m (class_for p n)) = rw e next in
-        let sum = sum_changed (λ d. ceil_div (live p (objects m) d + one (nat_eq (class_for p n) d)) (slots_of p d)) (home_pages p m) 0 (classes p) (class_for p n) (omega arith) (omega arith)
-        (λ d _ h ne. (let f = eq_no (class_for p n) d (λ e. ne (sym e)) in let z : live p (objects m) d + 0 ≡ live p (objects m) d = omega arith in rw (f, z) (sym (home_at_one d (omega arith))))) in
+        let at : ceil_div (live p (objects m) (class_for p n) + one (nat_eq (class_for p n) (class_for p n))) (slots_of p (class_for p n)) ≡ home_pages p m
+        (class_for p n) + (1 - not_full_pages p m (class_for p n)) = rw e next in
+        let sum = sum_changed (λ d. ceil_div (live p (objects m) d + one (nat_eq (class_for p n) d)) (slots_of p d)) (home_pages p m) 0 (classes p)
+        (class_for p n) (omega arith) (omega arith)
+        (λ d _ h ne. (let f = eq_no (class_for p n) d (λ e. ne (sym e)) in let z : live p (objects m) d + 0 ≡ live p (objects m) d =
+        omega arith in rw (f, z) (sym (home_at_one d (omega arith))))) in
         omega arith
 
     -- there is no room exactly where the pages that are needed with one more object are more than there are

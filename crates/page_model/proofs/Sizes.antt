@@ -18,13 +18,15 @@ use Rattle.page_model.specs.Frames.{AreBlocks}
 use Rattle.page_model.specs.Paging.{Paging, IsPaging, AreOne, classes, slot_words, slots_of, class_for, paging_of, first_bounds}
 
 -- pages with any bounds from 1 on, as many as there are classes
-pub paged : (s : Profile) (layout : Layout) (bounds : List ℕ) → IsTrue (is_page_size s.page_words) → length bounds ≡ length (sizes s.page_words layout) → ((c : ℕ) → c < length bounds → 1 ≤ get_or bounds c 0) → IsPaging (paging_of s layout bounds)
+pub paged : (s : Profile) (layout : Layout) (bounds : List ℕ) → IsTrue (is_page_size s.page_words) → length bounds ≡ length (sizes s.page_words layout)
+    → ((c : ℕ) → c < length bounds → 1 ≤ get_or bounds c 0) → IsPaging (paging_of s layout bounds)
 paged s layout bounds h len some = record { sized = are_sizes s.page_words layout h; bounded = len; some = λ c lt. some c (rw len lt) }
 
 pub first_paged : (s : Profile) (layout : Layout) → IsTrue (is_page_size s.page_words) → 1 ≤ s.k → IsPaging (paging_of s layout (first_bounds s layout))
 first_paged s layout h k =
     let len = length-replicate {A = ℕ} (length (sizes s.page_words layout)) s.k in
-    paged s layout (first_bounds s layout) h len (λ c lt. (let lt' : c < length (sizes s.page_words layout) = rw len at lt in let e = get_or-replicate {A = ℕ} (length (sizes s.page_words layout)) c s.k 0 lt' in omega arith))
+    paged s layout (first_bounds s layout) h len (λ c lt. (let lt' : c < length (sizes s.page_words layout) = rw len at lt in let e =
+    get_or-replicate {A = ℕ} (length (sizes s.page_words layout)) c s.k 0 lt' in omega arith))
 
 -- what passes is found no later
 found_by : (f : ℕ → Bool) (xs : List ℕ) (i : ℕ) → i < length xs → f (get_or xs i 0) ≡ true → position_or_len f xs ≤ i
@@ -47,11 +49,13 @@ module _ (p : Paging) (ok : IsPaging p) (n : ℕ) where
   -- an object has its class's slot, and no slot of a smaller class
   pub class_holds : class_for p n < classes p → need n ≤ slot_words p (class_for p n)
   unfolding class_for
-  class_holds lt = (let pass : nat_le (need n) (get_or p.sizes (position_or_len (λ s. nat_le (need n) s) p.sizes) 0) ≡ true = passes_at_first (λ s. nat_le (need n) s) p.sizes 0 lt in grind (arith, nat_tests))
+  class_holds lt = (let pass : nat_le (need n) (get_or p.sizes (position_or_len (λ s. nat_le (need n) s) p.sizes) 0) ≡ true =
+      passes_at_first (λ s. nat_le (need n) s) p.sizes 0 lt in grind (arith, nat_tests))
 
   pub class_least : (c : ℕ) → c < class_for p n → slot_words p c < need n
   unfolding class_for
-  class_least c lt = (let fails : nat_le (need n) (get_or p.sizes c 0) ≡ false = fails_before_first (λ s. nat_le (need n) s) p.sizes c 0 lt in grind (arith, nat_tests))
+  class_least c lt = (let fails : nat_le (need n) (get_or p.sizes c 0) ≡ false =
+      fails_before_first (λ s. nat_le (need n) s) p.sizes c 0 lt in grind (arith, nat_tests))
 
   pub class_known : class_for p n < classes p → class_of p.sizes n ≡ Some (class_for p n)
   unfolding class_for
@@ -60,7 +64,8 @@ module _ (p : Paging) (ok : IsPaging p) (n : ℕ) where
   pub class_none : p.page_words < need n → class_of p.sizes n ≡ None
   unfolding class_for
   class_none more = elim (cases_lt (position_or_len (λ s. nat_le (need n) s) p.sizes) (length p.sizes)) [
-    | inl lt ↦ absurd (let h = class_holds lt in let f = size_within p.page_words p.sizes (position_or_len (λ s. nat_le (need n) s) p.sizes) ok.sized lt in omega arith)
+    | inl lt ↦ absurd (let h = class_holds lt in let f = size_within p.page_words p.sizes
+        (position_or_len (λ s. nat_le (need n) s) p.sizes) ok.sized lt in omega arith)
     | inr past ↦ (let e : nat_lt (position_or_len (λ s. nat_le (need n) s) p.sizes) (length p.sizes) ≡ false = grind (arith, nat_tests) in rw e refl)
   ]
 

@@ -9,7 +9,8 @@ use Rattle.page_model.specs.Held.{Held, Placed}
 use Rattle.page_model.specs.Paging.{Paging, IsPaging, slot_words, page_of, class_for}
 use Rattle.page_model.specs.Arrangement.{class_at, IsSlotAt, IsSound}
 use Rattle.page_model.specs.Steps.{IsFreePlace, MustMove, MayFill, zeros_at}
-use Rattle.page_model.specs.Image.{object_word, header_word, slot_for, IsOutside, IsDisjoint, IsImageOver, IsImage, IsSlotImage, IsApart, IsApartFrom, Rewrites, Clears, MovesWords}
+use Rattle.page_model.specs.Image.{object_word, header_word, slot_for, IsOutside, IsDisjoint, IsImageOver, IsImage, IsSlotImage, IsApart, IsApartFrom, Rewrites}
+use Rattle.page_model.specs.Image.{Clears, MovesWords}
 use Rattle.page_model.proofs.Images.{image_removed, within_or, disjoint_outside}
 use Rattle.page_model.proofs.ImageSteps.{image_malloc, image_written, image_narrowed, free_words}
 use Rattle.page_model.proofs.Placing.{sound_placed}
@@ -51,7 +52,8 @@ pub slot_inside : (p : Paging) (c a : ℕ) → IsSlotAt p c a → a + slot_words
 slot_inside p c a s =
     let e : a / p.page_words * p.page_words + a % p.page_words ≡ a = div-add-mod' a p.page_words in
     let page : a / p.page_words + 1 ≤ p.pages = omega (arith, s.page) in
-    let m : (a / p.page_words + 1) * p.page_words ≤ p.pages * p.page_words = mul-le (a / p.page_words + 1) p.page_words p.pages p.page_words page (omega arith) in
+    let m : (a / p.page_words + 1) * p.page_words ≤ p.pages * p.page_words =
+    mul-le (a / p.page_words + 1) p.page_words p.pages p.page_words page (omega arith) in
     let fits = s.fits in
     omega arith
 
@@ -73,7 +75,8 @@ sound_apart p m s = record {
 }
 
 -- an object's words are in the region
-pub object_inside : (p : Paging) (m : Held) → IsSound p m → (h : ℕ) (x : Placed) → get m h ≡ Some x → x.place + slot_for p (length x.bytes) ≤ p.pages * p.page_words
+pub object_inside : (p : Paging) (m : Held) → IsSound p m → (h : ℕ) (x : Placed) → get m h ≡ Some x
+    → x.place + slot_for p (length x.bytes) ≤ p.pages * p.page_words
 object_inside p m s h x e = slot_inside p (class_at p x) x.place (s.slots h x e)
 
 -- an object stands apart from all others
@@ -81,7 +84,8 @@ pub sound_apart_from : (p : Paging) (m : Held) → IsSound p m → (h : ℕ) (x 
 sound_apart_from p m s h x e q y f ne = (sound_apart p m s).pairs h x q y e f ne
 
 -- y goes from its address to that of x, which goes
-pub image_exchanged : (extent : ℕ → ℕ) (m : Held) (words words' : List ℕ) → IsImageOver extent m words → (h q : ℕ) (x y : Placed) → get m h ≡ Some x → get m q ≡ Some y → q ≢ h
+pub image_exchanged : (extent : ℕ → ℕ) (m : Held) (words words' : List ℕ) → IsImageOver extent m words → (h q : ℕ) (x y : Placed) → get m h ≡ Some x
+    → get m q ≡ Some y → q ≢ h
     → IsApartFrom extent m h x → IsApartFrom extent m q y → extent (length y.bytes) ≡ extent (length x.bytes)
     → MovesWords words words' (record { from = y.place; count = extent (length y.bytes) }) x.place
     → IsImageOver extent (insert (remove m h) q (record { place = x.place; bytes = y.bytes })) words'
@@ -96,11 +100,13 @@ image_exchanged extent m words words' im h q x y is-x is-y ne free_x free_y size
         ∙ im.held r z was.1 i lt)
   ];
   zeros = λ w out.
-      let at_x : IsOutside x.place (extent (length y.bytes)) w = out q (record { place = x.place; bytes = y.bytes }) (get_inserted (remove m h) q (record { place = x.place; bytes = y.bytes })) in
+      let at_x : IsOutside x.place (extent (length y.bytes)) w =
+      out q (record { place = x.place; bytes = y.bytes }) (get_inserted (remove m h) q (record { place = x.place; bytes = y.bytes })) in
       elim (within_or y.place (extent (length y.bytes)) w) [
         | inl (i, lt, at) ↦ subst (λ v. get_or words' v 0 ≡ 0) at (mo.left_zeros i lt)
         | inr at_y ↦ mo.others w at_y at_x ∙ im.zeros w (λ r z p. elim (cases_eq r h) [
-          | inl is ↦ (let same : x ≡ z = (let p' : get m h ≡ Some z = rw is at p in cc) in let at_x' : IsOutside x.place (extent (length x.bytes)) w = rw size at at_x in rw same at at_x')
+          | inl is ↦ (let same : x ≡ z = (let p' : get m h ≡ Some z = rw is at p in cc) in let at_x' : IsOutside x.place (extent (length x.bytes)) w =
+              rw size at at_x in rw same at at_x')
           | inr nh ↦ elim (cases_eq r q) [
             | inl is ↦ (let same : y ≡ z = (let p' : get m q ≡ Some z = rw is at p in cc) in rw same at at_y)
             | inr nq ↦ out r z (get_insert_other (remove m h) q (record { place = x.place; bytes = y.bytes }) r nq ∙ get_remove_other m h r nh ∙ p)
@@ -116,7 +122,8 @@ place_apart p ok m s n a f h none q y e =
     let len : length (replicate {A = ℕ} n 0) ≡ n = length-replicate {A = ℕ} n 0 in
     let sound : IsSound p (insert m h (zeros_at a n)) = sound_placed p m h (zeros_at a n) none ok s (rw len f) in
     let ne : q ≢ h = (λ is. (let e' : get m h ≡ Some y = rw is at e in absurd (let z : Some y ≡ None = sym e' ∙ none in cc))) in
-    let d = sound_apart_from p (insert m h (zeros_at a n)) sound h (zeros_at a n) (get_inserted m h (zeros_at a n)) q y (get_insert_other m h (zeros_at a n) q ne ∙ e) ne in
+    let d = sound_apart_from p (insert m h (zeros_at a n)) sound h (zeros_at a n) (get_inserted m h (zeros_at a n)) q y
+    (get_insert_other m h (zeros_at a n) q ne ∙ e) ne in
     rw len at d
 
 module _ (p : Paging) (ok : IsPaging p) (m : Held) (s : IsSound p m) (words : List ℕ) (im : IsSlotImage p m words) where
@@ -125,7 +132,8 @@ module _ (p : Paging) (ok : IsPaging p) (m : Held) (s : IsSound p m) (words : Li
   place_is_zeros n a f h none = free_words (slot_for p) m words im h a (slot_for p n) (λ q y e. place_apart p ok m s n a f h none q y e)
 
   -- a malloc writes the header, into zeros
-  pub image_after_malloc : (h n a : ℕ) → get m h ≡ None → length words ≡ p.pages * p.page_words → IsFreePlace p m n a → IsSlotImage p (insert m h (zeros_at a n)) (set words a (header_word h n))
+  pub image_after_malloc : (h n a : ℕ) → get m h ≡ None → length words ≡ p.pages * p.page_words → IsFreePlace p m n a
+      → IsSlotImage p (insert m h (zeros_at a n)) (set words a (header_word h n))
   image_after_malloc h n a none len f =
       let inside = slot_inside p (class_for p n) a f.slot in
       let least = ok.sized.least (class_for p n) f.slot.class in
@@ -133,7 +141,8 @@ module _ (p : Paging) (ok : IsPaging p) (m : Held) (s : IsSound p m) (words : Li
       let sound : IsSound p (insert m h (zeros_at a n)) = sound_placed p m h (zeros_at a n) none ok s (rw same f) in
       image_malloc (slot_for p) m words im h a n none (omega arith) (omega arith) (λ q y e. (
       let ne : q ≢ h = (λ is. (let e' : get m h ≡ Some y = rw is at e in absurd (let z : Some y ≡ None = sym e' ∙ none in cc))) in
-      let d = sound_apart_from p (insert m h (zeros_at a n)) sound h (zeros_at a n) (get_inserted m h (zeros_at a n)) q y (get_insert_other m h (zeros_at a n) q ne ∙ e) ne in
+      let d = sound_apart_from p (insert m h (zeros_at a n)) sound h (zeros_at a n) (get_inserted m h (zeros_at a n)) q y
+      (get_insert_other m h (zeros_at a n) q ne ∙ e) ne in
       rw same at d))
 
   module _ (h : ℕ) (x : Placed) (found : get m h ≡ Some x) (words' : List ℕ) where
@@ -142,9 +151,11 @@ module _ (p : Paging) (ok : IsPaging p) (m : Held) (s : IsSound p m) (words : Li
     image_after_free re = image_removed (slot_for p) m words words' im h x found (sound_apart_from p m s h x found) re
 
     -- other bytes in the slot, in the same class
-    pub image_after_write : (bytes : List ℕ) → class_for p (length bytes) ≡ class_at p x → Rewrites words words' (record { from = x.place; count = slot_for p (length x.bytes) }) (object_word h bytes)
+    pub image_after_write : (bytes : List ℕ) → class_for p (length bytes) ≡ class_at p x
+        → Rewrites words words' (record { from = x.place; count = slot_for p (length x.bytes) }) (object_word h bytes)
         → IsSlotImage p (insert m h (record { place = x.place; bytes = bytes })) words'
-    image_after_write bytes class re = image_written (slot_for p) m words im h words' x bytes found (sound_apart_from p m s h x found) (ap (slot_words p) class) re
+    image_after_write bytes class re = image_written (slot_for p) m words im h words' x bytes found (sound_apart_from p m s h x found)
+        (ap (slot_words p) class) re
 
     -- what is written in a part of the slot, where the rest of the object's words are what they were
     pub image_after_part : (bytes : List ℕ) (from count : ℕ) → class_for p (length bytes) ≡ class_at p x → from + count ≤ slot_for p (length x.bytes)
@@ -153,7 +164,8 @@ module _ (p : Paging) (ok : IsPaging p) (m : Held) (s : IsSound p m) (words : Li
         → IsSlotImage p (insert m h (record { place = x.place; bytes = bytes })) words'
     image_after_part bytes from count class inside re same = image_after_write bytes class (record {
       within = λ i lt. elim (within_or from count i) [
-        | inl (j, l, is) ↦ (let e : x.place + from + j ≡ x.place + i = omega arith in subst (λ w. get_or words' w 0 ≡ object_word h bytes i) e (re.within j l ∙ ap (object_word h bytes) is))
+        | inl (j, l, is) ↦ (let e : x.place + from + j ≡ x.place + i =
+            omega arith in subst (λ w. get_or words' w 0 ≡ object_word h bytes i) e (re.within j l ∙ ap (object_word h bytes) is))
         | inr out ↦ re.others (x.place + i) (shifted out) ∙ im.held h x found i lt ∙ sym (same i lt out)
       ];
       others = λ w out. re.others w (wider out);

@@ -1,5 +1,6 @@
 -- The objects of a class are those of its pages, and a page holds no more than its slots.
-use Rattle.std.proofs.Common.{◌≡◌, ◌≢◌, ℕ, Bool, true, false, ◌+◌, ◌*◌, ◌/◌, ◌%◌, ◌<◌, ◌≤◌, List, [], ◌∷◌, Some, None, length, arith, sym, ◌∙◌, inl, inr, ap, refl}
+use Rattle.std.proofs.Common.{◌≡◌, ◌≢◌, ℕ, Bool, true, false, ◌+◌, ◌*◌, ◌/◌, ◌%◌, ◌<◌, ◌≤◌, List, [], ◌∷◌, Some, None, length, arith, sym, ◌∙◌, inl, inr, ap}
+use Rattle.std.proofs.Common.{refl}
 use Rattle.std.specs.Prelude.{sum_by, count_by, ◌&&◌, nat_eq}
 use Rattle.std.specs.List.{range_with_len, list_any, IsDistinct, AllByRecursion}
 use Rattle.std.proofs.lemmas.List.Sums.{sum_by-cons}
@@ -30,7 +31,8 @@ sum_same f g (x ∷ xs) same = (let a = sum_by-cons f x xs in let b = sum_by-con
 
 pub sum_plus : {X : Type 0} (f g : X → ℕ) (xs : List X) → sum_by (λ x. f x + g x) xs ≡ sum_by f xs + sum_by g xs
 sum_plus f g [] = refl
-sum_plus f g (x ∷ xs) = (let a = sum_by-cons (λ x. f x + g x) x xs in let b = sum_by-cons f x xs in let c = sum_by-cons g x xs in let d = sum_plus f g xs in omega arith)
+sum_plus f g (x ∷ xs) = (let a = sum_by-cons (λ x. f x + g x) x xs in let b = sum_by-cons f x xs in let c = sum_by-cons g x xs in let d =
+    sum_plus f g xs in omega arith)
 
 pub sum_zeros : {X : Type 0} (f : X → ℕ) (xs : List X) → ((x : X) → f x ≡ 0) → sum_by f xs ≡ 0
 sum_zeros f [] z = refl
@@ -41,7 +43,8 @@ pub count_at : (a n : ℕ) (c : Bool) → a < n → count_by (λ p. nat_eq a p &
 count_at a n c lt =
     let f : ℕ → Bool = λ p. nat_eq a p && c in
     let g : ℕ → Bool = λ _. false in
-    let e : count_by f (range_with_len 0 n) + one (g a) ≡ count_by g (range_with_len 0 n) + one (f a) = count_changed f g 0 n a (omega arith) (omega arith) (λ p ne. (let x : nat_eq a p ≡ false = grind (arith, nat_tests) in rw x)) in
+    let e : count_by f (range_with_len 0 n) + one (g a) ≡ count_by g (range_with_len 0 n) + one (f a) =
+    count_changed f g 0 n a (omega arith) (omega arith) (λ p ne. (let x : nat_eq a p ≡ false = grind (arith, nat_tests) in rw x)) in
     let z : count_by g (range_with_len 0 n) ≡ 0 = sum_zeros (λ p. one (g p)) (range_with_len 0 n) (λ _. refl) in
     let h : one (f a) ≡ one c = (let x : nat_eq a a ≡ true = grind (arith, nat_tests) in rw x) in
     omega arith
@@ -55,7 +58,8 @@ module _ {X Y : Type 0} (g : X → Y) (f : Y → ℕ) where
       let a = sum_by-inserted (λ x. f (g x)) m h x none in
       let n : get (map_values g m) h ≡ None = get-map_values g m h ∙ rw none refl in
       let b = sum_by-inserted f (map_values g m) h (g x) n in
-      let c : sum_by f (values (map_values g (insert m h x))) ≡ sum_by f (values (insert (map_values g m) h (g x))) = ap (λ n. sum_by f (values n)) (map_values-insert g m h x) in
+      let c : sum_by f (values (map_values g (insert m h x))) ≡ sum_by f (values (insert (map_values g m) h (g x))) =
+      ap (λ n. sum_by f (values n)) (map_values-insert g m h x) in
       omega arith))
 
 -- the objects of a class, counted where they stand
@@ -75,28 +79,35 @@ module _ (p : Paging) (c : ℕ) where
   live_none = ap (count_by (λ (x : Placed). nat_eq (class_at p x) c)) no_values
 
   -- page by page
-  pub live_by_pages : (m : Held) → ((q : ℕ) (x : Placed) → get m q ≡ Some x → page_of p x.place < p.pages) → sum_by (objects_on p m c) (range_with_len 0 p.pages) ≡ live_in p m c
-  live_by_pages = map_induction (λ m. ((q : ℕ) (x : Placed) → get m q ≡ Some x → page_of p x.place < p.pages) → sum_by (objects_on p m c) (range_with_len 0 p.pages) ≡ live_in p m c)
+  pub live_by_pages : (m : Held) → ((q : ℕ) (x : Placed) → get m q ≡ Some x → page_of p x.place < p.pages)
+      → sum_by (objects_on p m c) (range_with_len 0 p.pages) ≡ live_in p m c
+  live_by_pages = map_induction (λ m. ((q : ℕ) (x : Placed) → get m q ≡ Some x → page_of p x.place < p.pages)
+      → sum_by (objects_on p m c) (range_with_len 0 p.pages) ≡ live_in p m c)
       (λ _. sum_zeros (objects_on p empty c) (range_with_len 0 p.pages) on_none ∙ sym live_none)
       (λ m h x none ih inside.
       let before = ih (λ q y f. inside q y (still m h x none q y f).1) in
-      let split = sum_same (objects_on p (insert m h x) c) (λ g. objects_on p m c g + one (is_on p c g x)) (range_with_len 0 p.pages) (λ g. objects_on-inserted p m h x none c g) in
+      let split = sum_same (objects_on p (insert m h x) c) (λ g. objects_on p m c g + one (is_on p c g x)) (range_with_len 0 p.pages)
+      (λ g. objects_on-inserted p m h x none c g) in
       let plus = sum_plus (objects_on p m c) (λ g. one (is_on p c g x)) (range_with_len 0 p.pages) in
-      let at : sum_by (λ g. one (is_on p c g x)) (range_with_len 0 p.pages) ≡ one (nat_eq (class_at p x) c) = count_at (page_of p x.place) p.pages _ (inside h x (get_inserted m h x)) in
-      let more : live_in p (insert m h x) c ≡ live_in p m c + one (nat_eq (class_at p x) c) = sum_by-inserted (λ (y : Placed). one (nat_eq (class_at p y) c)) m h x none in
+      let at : sum_by (λ g. one (is_on p c g x)) (range_with_len 0 p.pages) ≡ one (nat_eq (class_at p x) c) =
+      count_at (page_of p x.place) p.pages _ (inside h x (get_inserted m h x)) in
+      let more : live_in p (insert m h x) c ≡ live_in p m c + one (nat_eq (class_at p x) c) =
+      sum_by-inserted (λ (y : Placed). one (nat_eq (class_at p y) c)) m h x none in
       omega arith)
 
   -- the slots of the class on a page that are taken
   record SlotsOf (m : Held) (page : ℕ) (js : List ℕ) : Type 0 where
     count : length js ≡ objects_on p m c page
     distinct : IsDistinct nat_eq js
-    taken : (j : ℕ) → list_any (nat_eq j) js ≡ true → (q : ℕ) × (x : Placed) × (get m q ≡ Some x) × (is_on p c page x ≡ true) × (x.place % p.page_words / slot_words p c ≡ j)
+    taken : (j : ℕ) → list_any (nat_eq j) js ≡ true → (q : ℕ) × (x : Placed) × (get m q ≡ Some x) × (is_on p c page x ≡ true)
+        × (x.place % p.page_words / slot_words p c ≡ j)
 
 absent : (j : ℕ) (js : List ℕ) → (list_any (nat_eq j) js ≡ true → ⊥) → AllByRecursion (λ y. nat_eq j y ≡ false) js
 absent j [] never = tt
 absent j (y ∷ js) never = go (nat_eq j y) refl (λ n. absent j js n)
   where
-    go : (b : Bool) → nat_eq j y ≡ b → ((list_any (nat_eq j) js ≡ true → ⊥) → AllByRecursion (λ y. nat_eq j y ≡ false) js) → (nat_eq j y ≡ false) × AllByRecursion (λ y. nat_eq j y ≡ false) js
+    go : (b : Bool) → nat_eq j y ≡ b → ((list_any (nat_eq j) js ≡ true → ⊥) → AllByRecursion (λ y. nat_eq j y ≡ false) js)
+        → (nat_eq j y ≡ false) × AllByRecursion (λ y. nat_eq j y ≡ false) js
     go true e ih = absurd (never (rw e))
     go false e ih = (e, ih (λ p. never (rw e p)))
 
@@ -140,7 +151,8 @@ module _ (p : Paging) (c page : ℕ) where
     own = λ q y r z f f' ne. s.own q y r z (still m h x none q y f).1 (still m h x none r z f').1 ne;
   }
 
-  one_more : (m : Held) (h : ℕ) (x : Placed) (b : Bool) → is_on p c page x ≡ b → get m h ≡ None → HasSlots p c (insert m h x) → (js : List ℕ) → SlotsOf p c m page js → (ks : List ℕ) × SlotsOf p c (insert m h x) page ks
+  one_more : (m : Held) (h : ℕ) (x : Placed) (b : Bool) → is_on p c page x ≡ b → get m h ≡ None → HasSlots p c (insert m h x) → (js : List ℕ)
+      → SlotsOf p c m page js → (ks : List ℕ) × SlotsOf p c (insert m h x) page ks
   unfolding IsDistinct
   one_more m h x false e none s js o = (
     js,

@@ -1,6 +1,8 @@
 -- Bytes in words: reading one, writing some, and the word of eight bytes.
-use Rattle.std.proofs.Common.{◌≡◌, ℕ, zero, suc, ◌+◌, ◌-◌, ◌*◌, ◌/◌, ◌%◌, ◌^◌, ◌<◌, ◌≤◌, List, [], ◌∷◌, ◌++◌, Option, Some, None, length, get_or, replicate, take, drop, arith, lit<, sym, ◌∙◌, subst, inl, inr, ap, refl, length-append, length-drop}
-use Rattle.std.proofs.lemmas.List.{length-take, length-replicate, get_or-take, get_or-drop, get_or_append_left, get_or-append_right, get_or_past, get_or-replicate}
+use Rattle.std.proofs.Common.{◌≡◌, ℕ, zero, suc, ◌+◌, ◌-◌, ◌*◌, ◌/◌, ◌%◌, ◌^◌, ◌<◌, ◌≤◌, List, [], ◌∷◌, ◌++◌, Option, Some, None, length, get_or, replicate}
+use Rattle.std.proofs.Common.{take, drop, arith, lit<, sym, ◌∙◌, subst, inl, inr, ap, refl, length-append, length-drop}
+use Rattle.std.proofs.lemmas.List.{length-take, length-replicate, get_or-take, get_or-drop, get_or_append_left, get_or-append_right, get_or_past}
+use Rattle.std.proofs.lemmas.List.{get_or-replicate}
 use Rattle.std.proofs.lemmas.Bool.{cases_lt}
 use Rattle.std.proofs.lemmas.Grind.{same_number_lists}
 use Rattle.std.specs.FinMap.{get, insert, remove}
@@ -67,7 +69,8 @@ object_word_small h v (suc i) a b bytes =
     small w e = omega arith
 
 -- words of bytes that agree in eight bytes are the same
-pub same_words : (h : ℕ) (u v : List ℕ) (i : ℕ) → length u ≡ length v → ((k : ℕ) → 8 * i ≤ k → k < 8 * i + 8 → get_or u k 0 ≡ get_or v k 0) → object_word h u (suc i) ≡ object_word h v (suc i)
+pub same_words : (h : ℕ) (u v : List ℕ) (i : ℕ) → length u ≡ length v → ((k : ℕ) → 8 * i ≤ k → k < 8 * i + 8 → get_or u k 0 ≡ get_or v k 0)
+    → object_word h u (suc i) ≡ object_word h v (suc i)
 same_words h u v i len same =
     let lu = length-take 8 (drop (8 * i) u) in let lv = length-take 8 (drop (8 * i) v) in
     let du = length-drop (8 * i) u in let dv = length-drop (8 * i) v in
@@ -86,7 +89,8 @@ module _ (v : List ℕ) (at : ℕ) (bytes : List ℕ) (fits : at + length bytes 
 
   -- the bytes before, those that are written, and the bytes after
   pub written_before : (k : ℕ) → k < at → get_or (written v at bytes) k 0 ≡ get_or v k 0
-  written_before k lt = (let c = length-take at v in get_or_append_left (take at v) (bytes ++ drop (at + length bytes) v) 0 k (omega arith) ∙ get_or-take at v k 0 lt)
+  written_before k lt = (let c = length-take at v in get_or_append_left (take at v) (bytes ++ drop (at + length bytes) v) 0 k (omega arith)
+      ∙ get_or-take at v k 0 lt)
 
   pub written_inside : (k : ℕ) → k < length bytes → get_or (written v at bytes) (at + k) 0 ≡ get_or bytes k 0
   written_inside k lt =
@@ -113,14 +117,16 @@ module _ (v : List ℕ) (at : ℕ) (bytes : List ℕ) (fits : at + length bytes 
 pub zeros_are_bytes : (n : ℕ) → AreBytes (replicate n 0)
 zeros_are_bytes n i = elim (cases_lt i n) [
   | inl lt ↦ rw (get_or-replicate {A = ℕ} n i 0 0 lt) (lit< tt)
-  | inr past ↦ (let len : length (replicate {A = ℕ} n 0) ≡ n = length-replicate {A = ℕ} n 0 in rw (get_or_past {X = ℕ} (replicate n 0) i 0 (omega arith)) (lit< tt))
+  | inr past ↦ (let len : length (replicate {A = ℕ} n 0) ≡ n =
+      length-replicate {A = ℕ} n 0 in rw (get_or_past {X = ℕ} (replicate n 0) i 0 (omega arith)) (lit< tt))
 ]
 
 pub written_are_bytes : (v : List ℕ) (at : ℕ) (bytes : List ℕ) → at + length bytes ≤ length v → AreBytes v → AreBytes bytes → AreBytes (written v at bytes)
 written_are_bytes v at bytes fits a b i = elim (cases_lt i at) [
   | inl before ↦ rw (written_before v at bytes fits i before) (a i)
   | inr from ↦ elim (cases_lt i (at + length bytes)) [
-    | inl inside ↦ (let e : at + (i - at) ≡ i = omega arith in subst (λ j. get_or (written v at bytes) j 0 < 256) e (rw (written_inside v at bytes fits (i - at) (omega arith)) (b (i - at))))
+    | inl inside ↦ (let e : at + (i - at) ≡ i = omega arith in subst (λ j. get_or (written v at bytes) j 0 < 256) e
+        (rw (written_inside v at bytes fits (i - at) (omega arith)) (b (i - at))))
     | inr behind ↦ rw (written_behind v at bytes fits i behind) (a i)
   ]
 ]
@@ -130,7 +136,8 @@ resized_are_bytes v n a i =
     let len = length-take n v in
     elim (cases_lt i (length (take n v))) [
       | inl low ↦ rw (get_or_append_left (take n v) (replicate (n - length v) 0) 0 i low, get_or-take n v i 0 (omega arith)) (a i)
-      | inr high ↦ rw (get_or-append_right (take n v) (replicate (n - length v) 0) (length (take n v)) i 0 refl high) (zeros_are_bytes (n - length v) (i - length (take n v)))
+      | inr high ↦ rw (get_or-append_right (take n v) (replicate (n - length v) 0) (length (take n v)) i 0 refl high)
+          (zeros_are_bytes (n - length v) (i - length (take n v)))
     ]
 
 -- the first bytes of a resized object are those it had, and zeros follow
@@ -142,7 +149,8 @@ resized_behind v n k a =
     let len = length-take n v in
     let size : length (replicate {A = ℕ} (n - length v) 0) ≡ n - length v = length-replicate {A = ℕ} (n - length v) 0 in
     elim (cases_lt k n) [
-      | inl lt ↦ get_or-append_right (take n v) (replicate (n - length v) 0) (length (take n v)) k 0 refl (omega arith) ∙ get_or-replicate {A = ℕ} (n - length v) (k - length (take n v)) 0 0 (omega arith)
+      | inl lt ↦ get_or-append_right (take n v) (replicate (n - length v) 0) (length (take n v)) k 0 refl (omega arith)
+          ∙ get_or-replicate {A = ℕ} (n - length v) (k - length (take n v)) 0 0 (omega arith)
       | inr past ↦ get_or_past (resized v n) k 0 (let e = length-resized v n in omega arith)
     ]
 
@@ -154,14 +162,17 @@ written_nothing v at le = same_number_lists (written v at []) v (length-written 
 ])
 
 -- Other bytes are written over some of an object's: those words that hold one of them become the new object's.
-pub image_after_bytes : (p : Paging) → IsPaging p → (m : Held) → IsSound p m → (words : List ℕ) → IsSlotImage p m words → (h : ℕ) (x : Placed) → get m h ≡ Some x → (words' : List ℕ)
+pub image_after_bytes : (p : Paging) → IsPaging p → (m : Held) → IsSound p m → (words : List ℕ) → IsSlotImage p m words → (h : ℕ) (x : Placed)
+    → get m h ≡ Some x → (words' : List ℕ)
     → (at : ℕ) (bytes : List ℕ) → at + length bytes ≤ length x.bytes
-    → Rewrites words words' (record { from = x.place + (1 + at / 8); count = (at % 8 + length bytes + 7) / 8 }) (λ i. object_word h (written x.bytes at bytes) (1 + at / 8 + i))
+    → Rewrites words words' (record { from = x.place + (1 + at / 8); count = (at % 8 + length bytes + 7) / 8 })
+    (λ i. object_word h (written x.bytes at bytes) (1 + at / 8 + i))
     → IsSlotImage p (insert m h (record { place = x.place; bytes = written x.bytes at bytes })) words'
 image_after_bytes p ok m s words im h x e words' at bytes fits re =
     let len = length-written x.bytes at bytes fits in
     let holds = class_holds p ok (length x.bytes) (s.slots h x e).class in
-    image_after_part p ok m s words im h x e words' (written x.bytes at bytes) (1 + at / 8) ((at % 8 + length bytes + 7) / 8) (ap (class_for p) len) (omega arith) re (λ i lt out. same i out)
+    image_after_part p ok m s words im h x e words' (written x.bytes at bytes) (1 + at / 8) ((at % 8 + length bytes + 7) / 8) (ap (class_for p) len)
+    (omega arith) re (λ i lt out. same i out)
   where
     same : (i : ℕ) → IsOutside (1 + at / 8) ((at % 8 + length bytes + 7) / 8) i → object_word h (written x.bytes at bytes) i ≡ object_word h x.bytes i
     same zero out = ap (header_word h) (length-written x.bytes at bytes fits)

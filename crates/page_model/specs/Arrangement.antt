@@ -56,7 +56,8 @@ pages_needed_with p objects n = pages_for p (λ c. live p objects c + cond (nat_
 
 -- the most pages that the objects of the classes other than c can stand on
 unfoldable pub most_pages_besides : Paging → Objects → ℕ → ℕ
-most_pages_besides p objects c = sum_by (λ d. most_pages (live p objects d) (slots_of p d) (bound_of p d)) (filter (λ d. not (nat_eq d c)) (range_with_len 0 (classes p)))
+most_pages_besides p objects c = sum_by (λ d. most_pages (live p objects d) (slots_of p d) (bound_of p d))
+    (filter (λ d. not (nat_eq d c)) (range_with_len 0 (classes p)))
 
 -- a slot of class c begins at the address
 pub record IsSlotAt (p : Paging) (c a : ℕ) : Type 0 where
@@ -69,7 +70,8 @@ pub record IsSlotAt (p : Paging) (c a : ℕ) : Type 0 where
 pub record IsSound (p : Paging) (m : Held) : Type 0 where
   pub slots : (h : ℕ) (x : Placed) → get m h ≡ Some x → IsSlotAt p (class_at p x) x.place
   pub own_place : (h : ℕ) (x : Placed) (q : ℕ) (y : Placed) → get m h ≡ Some x → get m q ≡ Some y → q ≢ h → x.place ≢ y.place
-  pub one_class : (h : ℕ) (x : Placed) (q : ℕ) (y : Placed) → get m h ≡ Some x → get m q ≡ Some y → page_of p x.place ≡ page_of p y.place → class_at p x ≡ class_at p y
+  pub one_class : (h : ℕ) (x : Placed) (q : ℕ) (y : Placed) → get m h ≡ Some x → get m q ≡ Some y → page_of p x.place ≡ page_of p y.place
+      → class_at p x ≡ class_at p y
   pub few_not_full : (c : ℕ) → c < classes p → not_full_pages p m c ≤ bound_of p c
 
 -- there is no room for class c: none of its pages is partly full, and every page holds an object

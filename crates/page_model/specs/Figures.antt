@@ -9,7 +9,14 @@ use Rattle.page_model.specs.Arrangement.{live, home_pages, not_full_pages, used_
 
 -- the figures of class c
 abbrev pub figures_of : Paging → Held → ℕ → Figures
-figures_of p m c = record { slot_words = slot_words p c; slots = slots_of p c; live = live p (objects m) c; pages = home_pages p m c; not_full = not_full_pages p m c }
+figures_of p m c = record {
+  slot_words = slot_words p c;
+  slots = slots_of p c;
+  live = live p (objects m) c;
+  pages = home_pages p m c;
+  not_full =
+      not_full_pages p m c;
+}
 
 -- the bytes that were asked for: the lengths of all objects
 unfoldable pub asked_bytes : Objects → ℕ

@@ -39,7 +39,8 @@ IsOutsideOf extent x w = IsOutside x.place (extent (length x.bytes)) w
 abbrev pub AreDisjoint : (ℕ → ℕ) → Placed → Placed → Type 0
 AreDisjoint extent x y = IsDisjoint x.place (extent (length x.bytes)) y.place (extent (length y.bytes))
 
--- The words of each object stand at its address, and every other word is 0. An object of n bytes has `extent n` words: at `need` its own, at `slot_for` those of its slot, where zeros follow.
+-- The words of each object stand at its address, and every other word is 0. An object of n bytes has `extent n` words: at `need` its own, at `slot_for` those
+-- of its slot, where zeros follow.
 pub record IsImageOver (extent : ℕ → ℕ) (m : Held) (words : List ℕ) : Type 0 where
   pub held : (h : ℕ) (x : Placed) → get m h ≡ Some x → (i : ℕ) → i < extent (length x.bytes) → slice_index words (x.place + i) ≡ object_word h x.bytes i
   pub zeros : (w : ℕ) → ((h : ℕ) (x : Placed) → get m h ≡ Some x → IsOutsideOf extent x w) → slice_index words w ≡ 0

@@ -15,7 +15,8 @@ pub record Leaves : Type 0 where
   pub held : Held
   pub moved : Option ℕ
 
--- An object of n bytes may be placed at the address: in a slot that is free, on a page of its class that is partly full, or where there is none on a page that holds nothing.
+-- An object of n bytes may be placed at the address: in a slot that is free, on a page of its class that is partly full, or where there is none on a page that
+-- holds nothing.
 pub record IsFreePlace (p : Paging) (m : Held) (n a : ℕ) : Type 0 where
   pub slot : IsSlotAt p (class_for p n) a
   pub unused : (q : ℕ) (y : Placed) → get m q ≡ Some y → y.place ≢ a
@@ -82,7 +83,8 @@ pub record ResizesInPlace (p : Paging) (old : Held) (asked : Request) (after : L
   pub placed : after.held ≡ insert old asked.number (resized_at object.place object asked.length)
   pub still : after.moved ≡ None
 
--- A resize to another class: a malloc under a number that isn't in use, with the old object still there, then a free of the old object, and the new one gets its number.
+-- A resize to another class: a malloc under a number that isn't in use, with the old object still there, then a free of the old object, and the new one gets
+-- its number.
 pub record ChangesClass (p : Paging) (old : Held) (asked : Request) (after : Leaves) : Type 0 where
   pub object : Placed
   pub found : get old asked.number ≡ Some object

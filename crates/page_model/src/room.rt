@@ -1,7 +1,8 @@
 //! When a sound arrangement has no room for one more object of a class.
 ghost use Rattle.std.specs.Prelude.{ℕ, ◌≡◌, ◌+◌, ◌/◌, ◌%◌, ◌<◌, ◌≤◌, ◌↔◌, List, None, length};
 ghost use Rattle.std.specs.FinMap.{get, insert};
-ghost use Rattle.page_model.specs.Arrangement.{IsSound, LacksRoom, free_pages, live, most_pages_besides, not_full_pages, pages_needed, pages_needed_with, used_pages};
+ghost use Rattle.page_model.specs.Arrangement.{IsSound, LacksRoom, free_pages, live, most_pages_besides, not_full_pages, pages_needed, pages_needed_with};
+ghost use Rattle.page_model.specs.Arrangement.{used_pages};
 ghost use Rattle.page_model.specs.Held.{Held, Objects, objects};
 ghost use Rattle.page_model.specs.Paging.{AreOne, IsPaging, Paging, class_for, classes, slots_of};
 

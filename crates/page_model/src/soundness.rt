@@ -5,7 +5,8 @@ ghost use Rattle.page_model.specs.Arrangement.{IsSound, class_at, home_pages, is
 ghost use Rattle.page_model.specs.Counts.{CanHold, Stand};
 ghost use Rattle.page_model.specs.Held.{Held, Placed, objects, places};
 ghost use Rattle.page_model.specs.Paging.{IsPaging, Paging, bound_of, class_for, classes, slots_of};
-ghost use Rattle.page_model.specs.Steps.{ChangesClass, IsFreePlace, RemovesObject, PlacesObject, RefitsObject, MayFill, Moves, MustMove, Leaves, Request, resized_at, without, zeros_at};
+ghost use Rattle.page_model.specs.Steps.{ChangesClass, IsFreePlace, RemovesObject, PlacesObject, RefitsObject, MayFill, Moves, MustMove, Leaves, Request};
+ghost use Rattle.page_model.specs.Steps.{resized_at, without, zeros_at};
 
 /// Without objects an arrangement is sound, whatever the bounds, and has no pages.
 pub fn nothing_is_a_sound_arrangement()

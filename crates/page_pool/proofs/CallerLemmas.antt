@@ -64,7 +64,8 @@ free_room n page free h lt gone = let all = free_within n (page ∷ free) (poole
 -- the numbers from a on
 range_absent : (a n page : ℕ) → page < a → is_in_pool (range_with_len a n) page ≡ false
 range_absent a zero page lt = refl
-range_absent a (suc n) page lt = both_false (eqb page a) (is_in_pool (range_with_len (a + 1) n) page) (ne_eqb page a (omega arith)) (range_absent (a + 1) n page (omega arith))
+range_absent a (suc n) page lt = both_false (eqb page a) (is_in_pool (range_with_len (a + 1) n) page) (ne_eqb page a (omega arith))
+    (range_absent (a + 1) n page (omega arith))
 
 range_distinct : (a n : ℕ) → HasNoRepeats (range_with_len a n)
 range_distinct a zero = tt

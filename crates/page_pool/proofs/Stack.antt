@@ -29,7 +29,8 @@ module _ (stack : List ℕ) (first page : ℕ) (h : IsValid stack first) where
       let some : 0 < first = omega arith in
       let back : first - 1 + 1 ≡ first = omega arith in
       let long : length (set stack (first - 1) page) ≡ length stack = length-set stack (first - 1) page in
-      let front : drop (first - 1) (set stack (first - 1) page) ≡ page ∷ drop first stack = drop-set stack (first - 1) page (omega arith) ∙ ap (λ (k : ℕ). page ∷ drop k stack) back in
+      let front : drop (first - 1) (set stack (first - 1) page) ≡ page ∷ drop first stack = drop-set stack (first - 1) page (omega arith)
+      ∙ ap (λ (k : ℕ). page ∷ drop k stack) back in
       let pool : pool_of (set stack (first - 1) page) (first - 1) ≡ record { pages = length stack; free = page ∷ drop first stack } = cc in
       record {
         some = some;

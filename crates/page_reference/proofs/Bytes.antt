@@ -32,15 +32,18 @@ take_nil (suc n) = refl
 -- a word of bytes is its first byte and a word of the others
 next : (v : List ℕ) (k l n : ℕ) → l ≡ k + 1 → word_of_bytes (take (suc n) (drop k v)) ≡ get_or v k 0 + 256 * word_of_bytes (take n (drop l v))
 next v k l n is = elim (cases_lt k (length v)) [
-  | inl lt ↦ (ap (λ (xs : List ℕ). word_of_bytes (take (suc n) xs)) (drop_more v k 0 lt) ∙ ap (λ j. get_or v k 0 + 256 * word_of_bytes (take n (drop j v))) (sym is))
+  | inl lt ↦ (ap (λ (xs : List ℕ). word_of_bytes (take (suc n) xs)) (drop_more v k 0 lt)
+      ∙ ap (λ j. get_or v k 0 + 256 * word_of_bytes (take n (drop j v))) (sym is))
   | inr past ↦ (
       let a : word_of_bytes (take (suc n) (drop k v)) ≡ 0 = ap (λ (xs : List ℕ). word_of_bytes (take (suc n) xs)) (drop_all k v past) in
-      let b : word_of_bytes (take n (drop l v)) ≡ 0 = ap (λ (xs : List ℕ). word_of_bytes (take n xs)) (drop_all l v (omega arith)) ∙ ap word_of_bytes (take_nil n) in
+      let b : word_of_bytes (take n (drop l v)) ≡ 0 = ap (λ (xs : List ℕ). word_of_bytes (take n xs)) (drop_all l v (omega arith))
+      ∙ ap word_of_bytes (take_nil n) in
       let c : get_or v k 0 ≡ 0 = get_or_past v k 0 past in
       omega arith)
 ]
 
-pub eight : (v : List ℕ) (k : ℕ) → word_of_bytes (take 8 (drop k v)) ≡ get_or v k 0 + get_or v (k + 1) 0 * 256 ^ 1 + get_or v (k + 2) 0 * 256 ^ 2 + get_or v (k + 3) 0 * 256 ^ 3
+pub eight : (v : List ℕ) (k : ℕ) → word_of_bytes (take 8 (drop k v)) ≡ get_or v k 0 + get_or v (k + 1) 0 * 256 ^ 1 + get_or v (k + 2) 0 * 256 ^ 2 + get_or v
+    (k + 3) 0 * 256 ^ 3
     + get_or v (k + 4) 0 * 256 ^ 4 + get_or v (k + 5) 0 * 256 ^ 5 + get_or v (k + 6) 0 * 256 ^ 6 + get_or v (k + 7) 0 * 256 ^ 7
 eight v k =
     let a = next v k (k + 1) 7 (omega arith) in

@@ -20,7 +20,8 @@ narrowed a n b m k l p q (inr y) = inr (omega arith)
 -- a class that is there has slots that are large enough
 slot_holds : (p : Paging) (n : ℕ) → class_for p n < classes p → need n ≤ slot_words p (class_for p n)
 unfolding class_for
-slot_holds p n lt = (let pass : nat_le (need n) (get_or p.sizes (position_or_len (λ s. nat_le (need n) s) p.sizes) 0) ≡ true = passes_at_first (λ s. nat_le (need n) s) p.sizes 0 lt in grind (arith, nat_tests))
+slot_holds p n lt = (let pass : nat_le (need n) (get_or p.sizes (position_or_len (λ s. nat_le (need n) s) p.sizes) 0) ≡ true =
+    passes_at_first (λ s. nat_le (need n) s) p.sizes 0 lt in grind (arith, nat_tests))
 
 module _ (p : Paging) (m : Held) (s : IsSound p m) where
   -- a slot is as large as its object needs
@@ -29,7 +30,8 @@ module _ (p : Paging) (m : Held) (s : IsSound p m) where
 
   pub apart : IsApart need m
   apart = record {
-    pairs = λ h x q y e f ne. narrowed x.place (slot_for p (length x.bytes)) y.place (slot_for p (length y.bytes)) (need (length x.bytes)) (need (length y.bytes))
+    pairs = λ h x q y e f ne. narrowed x.place (slot_for p (length x.bytes)) y.place (slot_for p (length y.bytes)) (need (length x.bytes))
+        (need (length y.bytes))
         (held_fits h x e) (held_fits q y f) ((sound_apart p m s).pairs h x q y e f ne);
   }
 

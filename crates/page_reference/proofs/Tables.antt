@@ -53,7 +53,8 @@ get_past os h past = (
     get_held os h ∙ get_or_past (map (option_map placed) os) h None past')
 
 -- an object of the table moves
-pub held-moved : (os : List (Option Object)) (h a : ℕ) (d e : Option Object) → h < length os → get_or os h d ≡ e → held_of (set os h (option_map (at_place a) e)) ≡ moved_to (held_of os) h (get (held_of os) h) a
+pub held-moved : (os : List (Option Object)) (h a : ℕ) (d e : Option Object) → h < length os → get_or os h d ≡ e
+    → held_of (set os h (option_map (at_place a) e)) ≡ moved_to (held_of os) h (get (held_of os) h) a
 held-moved os h a d None lt is =
     let same : set os h None ≡ os = ap (set os h) (sym is) ∙ set-get_or os h d in
     rw (get_there os h d None lt is) (ap held_of same)

@@ -26,11 +26,13 @@ module _ (f : ℕ → ℕ → ℕ) where
 
   total_from : (k : ℕ) (os : List (Option Object)) → total_of f os ≡ sum_by of_placed (values (numbered k (map (option_map placed) os)))
   total_from k [] = sym (ap (sum_by of_placed) no_values)
-  total_from k (None ∷ os) = (let a : total_of f (None ∷ os) ≡ 0 + total_of f os = sum_by-cons (amount_in f) None os in let ih = total_from (k + 1) os in omega arith)
+  total_from k (None ∷ os) = (let a : total_of f (None ∷ os) ≡ 0 + total_of f os = sum_by-cons (amount_in f) None os in let ih =
+      total_from (k + 1) os in omega arith)
   total_from k (Some o ∷ os) =
       let rest : List (Option Placed) = map (option_map placed) os in
       let a : total_of f (Some o ∷ os) ≡ f o.place o.length + total_of f os = sum_by-cons (amount_in f) (Some o) os in
-      let b : sum_by of_placed (values (insert (numbered (k + 1) rest) k (placed o))) ≡ sum_by of_placed (values (numbered (k + 1) rest)) + of_placed (placed o) =
+      let b : sum_by of_placed (values (insert (numbered (k + 1) rest) k (placed o))) ≡ sum_by of_placed (values (numbered (k + 1) rest)) + of_placed
+      (placed o) =
       sum_by-inserted of_placed (numbered (k + 1) rest) k (placed o) (numbered_below (k + 1) rest k (omega arith)) in
       let l : of_placed (placed o) ≡ f o.place o.length = ap (f o.place) (length-resized o.bytes.items o.length) in
       let ih = total_from (k + 1) os in
@@ -64,7 +66,8 @@ module _ (p : Paging) (os : List (Option Object)) where
   asked_total = total-values (amount_of p Length) os ∙ sym (sum-map_values (λ (x : Placed). x.bytes) length (held_of os))
 
   pub taken_total : total_of (amount_of p SlotWords) os ≡ sum_by (λ v. slot_words p (class_for p (length v))) (values (objects (held_of os)))
-  taken_total = total-values (amount_of p SlotWords) os ∙ sym (sum-map_values (λ (x : Placed). x.bytes) (λ v. slot_words p (class_for p (length v))) (held_of os))
+  taken_total = total-values (amount_of p SlotWords) os ∙ sym
+      (sum-map_values (λ (x : Placed). x.bytes) (λ v. slot_words p (class_for p (length v))) (held_of os))
 
   pub count_total : total_of (amount_of p One) os ≡ len (objects (held_of os))
   count_total = total-values (amount_of p One) os ∙ sum_ones (held_of os) ∙ sym (len-objects (held_of os))

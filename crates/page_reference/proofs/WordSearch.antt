@@ -1,5 +1,6 @@
 -- The word of a region, found object by object.
-use Rattle.std.proofs.Common.{◌≡◌, ℕ, ◌+◌, ◌*◌, ◌<◌, ◌≤◌, List, [], ◌∷◌, ◌++◌, Option, Some, None, length, get_or, map, arith, sym, ◌∙◌, ap, refl, inl, inr, subst}
+use Rattle.std.proofs.Common.{◌≡◌, ℕ, ◌+◌, ◌*◌, ◌<◌, ◌≤◌, List, [], ◌∷◌, ◌++◌, Option, Some, None, length, get_or, map, arith, sym, ◌∙◌, ap, refl, inl, inr}
+use Rattle.std.proofs.Common.{subst}
 use Rattle.std.specs.Prelude.{option_map}
 use Rattle.std.proofs.lemmas.Bool.{cases_eq, cases_lt}
 use Rattle.std.proofs.lemmas.List.{get_or_past, get_or-map, length-map, get_or_append_left, get_or_push, length_push}
@@ -32,7 +33,8 @@ module _ (m : Held) (w : ℕ) where
           let at' : y.place + has.index ≡ w = rw same at has.at in
           let index : has.index ≡ i = omega arith in
           rw is (has.value ∙ rw (same, index)))
-      | inr ne ↦ absurd (not_in_two has.object.place (need (length has.object.bytes)) y.place (need (length y.bytes)) has.index i w (apart.pairs h has.object q y has.is p ne) has.within lt has.at at)
+      | inr ne ↦ absurd (not_in_two has.object.place (need (length has.object.bytes)) y.place (need (length y.bytes)) has.index i w
+          (apart.pairs h has.object q y has.is p ne) has.within lt has.at at)
     ];
     zero = λ out. absurd (not_both has.object.place (need (length has.object.bytes)) has.index w has.within has.at (out h has.object has.is));
   }
@@ -68,7 +70,8 @@ right_push m ws x right here w lt = elim (cases_lt w (length ws)) [
 ]
 
 -- words that are right one by one are the image
-pub image_from : (p : Paging) (m : Held) (words : List ℕ) → length words ≡ p.pages * p.page_words → ((w : ℕ) → w < length words → IsWordAt m w (get_or words w 0)) → AreInside p m → IsImage m words
+pub image_from : (p : Paging) (m : Held) (words : List ℕ) → length words ≡ p.pages * p.page_words
+    → ((w : ℕ) → w < length words → IsWordAt m w (get_or words w 0)) → AreInside p m → IsImage m words
 image_from p m words long right inside = record {
   held = λ h x is i lt. (right (x.place + i) (omega (arith, inside h x is))).held h x is i lt refl;
   zeros = λ w out. elim (cases_lt w (length words)) [

@@ -17,7 +17,8 @@ paging_code = code_by (ℕ × (ℕ × (List ℕ × List ℕ))) (coded× coded_�
 
 -- it is stored as the pair of its parts
 abbrev pub arranged_code : Coded Arranged
-arranged_code = code_by (Paging × Held) (coded× paging_code (map.code coded_ℕ placed_code)) (λ a. (a.paging, a.held)) (λ q. record { paging = q.0; held = q.1 }) (λ _. refl)
+arranged_code = code_by (Paging × Held) (coded× paging_code (map.code coded_ℕ placed_code)) (λ a. (a.paging, a.held)) (λ q. record { paging = q.0; held = q.1 })
+    (λ _. refl)
 
 -- few pages of a modest size, with slot sizes that rise to it and a bound for each
 pub record IsModest (p : Paging) : Type 0 where

@@ -51,7 +51,8 @@ module _ (h : Heap) (k : IsValid h) (q a : ℕ) (some : get h.proxies.places q �
 
   pub slot_small : slot_for (paging_at h) (length bytes) ≤ 16384
   slot_small =
-      let fits = slot_fits (paging_at h) (paging_ok h k) (class_for (paging_at h) (length bytes)) (k.sound.slots q (record { place = a; bytes = bytes }) held).class in
+      let fits = slot_fits (paging_at h) (paging_ok h k) (class_for (paging_at h) (length bytes))
+      (k.sound.slots q (record { place = a; bytes = bytes }) held).class in
       let small = page_small h k in
       omega arith
 

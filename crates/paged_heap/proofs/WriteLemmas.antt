@@ -15,7 +15,8 @@ use Rattle.page_model.specs.Figures.{asked_bytes, taken_bytes}
 use Rattle.page_model.specs.Image.{IsSlotImage, Rewrites, object_word, slot_for}
 use Rattle.page_model.proofs.CallerLemmas.{asked_added, asked_taken, live_added, live_taken, taken_added, taken_taken, sound_exchanged, inserted_there}
 use Rattle.page_model.proofs.CallerLemmas.{bytes_at-AreBytes}
-use Rattle.page_model.proofs.CallerLemmas.{byte_of_object, image_after_bytes, length-written, object_word_small, storable_added, word_by_bytes, written_are_bytes}
+use Rattle.page_model.proofs.CallerLemmas.{byte_of_object, image_after_bytes, length-written, object_word_small, storable_added, word_by_bytes}
+use Rattle.page_model.proofs.CallerLemmas.{written_are_bytes}
 use Rattle.page_model.proofs.CallerLemmas.{written_before, written_behind, written_inside, written_nothing}
 use Rattle.word_bytes.specs.Cells.{overwritten}
 use Rattle.word_bytes.proofs.CallerLemmas.{overwritten_before, overwritten_behind, overwritten_inside}

@@ -1,5 +1,6 @@
 -- What the calls do to the stack of free numbers.
-use Rattle.std.proofs.Common.{◌≡◌, ◌≢◌, ℕ, zero, suc, ◌+◌, ◌-◌, ◌^◌, ◌<◌, List, Option, Some, None, length, get_or, set, cond, arith, sym, ◌∙◌, inl, inr, ap, refl}
+use Rattle.std.proofs.Common.{◌≡◌, ◌≢◌, ℕ, zero, suc, ◌+◌, ◌-◌, ◌^◌, ◌<◌, List, Option, Some, None, length, get_or, set, cond, arith, sym, ◌∙◌, inl, inr, ap}
+use Rattle.std.proofs.Common.{refl}
 use Rattle.std.specs.Prelude.{count_by, is_some, IsSome}
 use Rattle.std.proofs.lemmas.List.{get_or-set_same, get_or-set_other, length-set, length-replicate, get_or_read, get_or-replicate}
 use Rattle.std.proofs.lemmas.List.Sums.{sum_by-set, sum_by-cons}
@@ -41,7 +42,8 @@ stack_new n numbers small f =
     }
 
 -- the number that was read on top of the stack
-pub top : (places : List (Option ℕ)) (stack : List ℕ) (left : ℕ) → IsValid places stack left → 0 < left → (h : ℕ) → h ≡ get_or stack (left - 1) h → h ≡ get_or stack (left - 1) 0
+pub top : (places : List (Option ℕ)) (stack : List ℕ) (left : ℕ) → IsValid places stack left → 0 < left → (h : ℕ) → h ≡ get_or stack (left - 1) h
+    → h ≡ get_or stack (left - 1) 0
 top places stack left s some h read = get_or_read stack (left - 1) h (omega (arith, s.counted, s.as_long)) read 0
 
 module _ (places : List (Option ℕ)) (stack : List ℕ) (left h : ℕ) (s : IsValid places stack left) where
@@ -51,7 +53,8 @@ module _ (places : List (Option ℕ)) (stack : List ℕ) (left h : ℕ) (s : IsV
     counted = rw length-set (let c = count_set places h (Some a) lt in let o = live_is_one _ some in let is = s.counted in omega arith);
     few = rw length-set s.few;
     in_range = λ i l. rw length-set (s.in_range i l);
-    not_live = λ i l. get_or-set_other places h (get_or stack i 0) (Some a) None (λ e. not_none _ some (ap (λ q. get_or places q None) (sym e) ∙ s.not_live i l)) ∙ s.not_live i l;
+    not_live = λ i l. get_or-set_other places h (get_or stack i 0) (Some a) None
+        (λ e. not_none _ some (ap (λ q. get_or places q None) (sym e) ∙ s.not_live i l)) ∙ s.not_live i l;
     distinct = s.distinct;
   }
 
@@ -61,10 +64,12 @@ module _ (places : List (Option ℕ)) (stack : List ℕ) (left h : ℕ) (s : IsV
       let none : get_or places h None ≡ None = rw is (s.not_live (left - 1) (omega arith)) in
       record {
         as_long = s.as_long ∙ sym (length-set places h (Some a));
-        counted = rw length-set (let c = count_set places h (Some a) lt in let o : one (get_or places h None) ≡ 0 = ap one none in let is = s.counted in omega arith);
+        counted = rw length-set (let c = count_set places h (Some a) lt in let o : one (get_or places h None) ≡ 0 = ap one none in let is =
+            s.counted in omega arith);
         few = rw length-set s.few;
         in_range = λ i l. rw length-set (s.in_range i (omega arith));
-        not_live = λ i l. get_or-set_other places h (get_or stack i 0) (Some a) None (λ e. s.distinct i (left - 1) l (omega arith) (e ∙ is)) ∙ s.not_live i (omega arith);
+        not_live = λ i l. get_or-set_other places h (get_or stack i 0) (Some a) None (λ e. s.distinct i (left - 1) l (omega arith) (e ∙ is))
+            ∙ s.not_live i (omega arith);
         distinct = λ i j l m. s.distinct i j l (omega arith);
       }
 
@@ -85,7 +90,8 @@ module _ (places : List (Option ℕ)) (stack : List ℕ) (left h : ℕ) (s : IsV
         ]);
         not_live = λ i l. elim (cases_lt i left) [
           | inl below ↦ rw (get_or-set_other stack left i h 0 (omega arith)) (
-              get_or-set_other places h (get_or stack i 0) None None (λ e. not_none _ some (ap (λ q. get_or places q None) (sym e) ∙ s.not_live i below)) ∙ s.not_live i below)
+              get_or-set_other places h (get_or stack i 0) None None (λ e. not_none _ some (ap (λ q. get_or places q None) (sym e) ∙ s.not_live i below))
+              ∙ s.not_live i below)
           | inr at ↦ (let e : i ≡ left = omega arith in rw (e, get_or-set_same stack left h 0 inside) (get_or-set_same places h None None lt))
         ];
         distinct = λ i j l m. elim (cases_lt j left) [

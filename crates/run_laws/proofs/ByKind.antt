@@ -29,7 +29,8 @@ pub table_stepped : (k : Kind) (s : HeapState) (after : Leaves) → s.kind ≡ k
 table_stepped Moving s after is of_pages rules kept step = kept
 table_stepped NonMoving s after is of_pages rules kept step =
     let count = kept.count in
-    let blocks : AreBlocks (paging_in s) = subst (λ k. AreBlocks (paging_of s.profile (layout_of k) s.bounds)) (sym is) (in_blocks s.profile s.bounds rules.settings.page_size) in
+    let blocks : AreBlocks (paging_in s) = subst (λ k. AreBlocks (paging_of s.profile (layout_of k) s.bounds)) (sym is)
+    (in_blocks s.profile s.bounds rules.settings.page_size) in
     let done = step blocks (omega arith) kept.permuted in
     let same = done.1 in
     record { count = omega arith; permuted = done.0 }

@@ -49,7 +49,11 @@ module _ (old : RunState) (going : IsGoing old) where
       let f = heap.free h x.0 x.1 in
       record {
         reply = said (codes "ok");
-        new = record { session = counted (record old.session { ids = remove old.session.ids id; bound = 96 + 2 * f.freed.slot_words }) f.freed.moved f.freed.slot_words; heap = f.heap };
+        new = record {
+          session = counted (record old.session { ids = remove old.session.ids id; bound = 96 + 2 * f.freed.slot_words }) f.freed.moved
+              f.freed.slot_words;
+          heap = f.heap;
+        };
         done = record { freed = f.freed; step = f.step; rules = f.kept; cost = f.cost (96 + 2 * f.freed.slot_words); session = refl; reply_is = refl };
       }
 

@@ -28,10 +28,12 @@ search_below A B test (suc n) = elim (search_below A B test n) [
 pub counted_in_range : (f : ℕ → Bool) (a n : ℕ) → 0 < count_by f (range_with_len a n) → (d : ℕ) × (a ≤ d) × (d < a + n) × (f d ≡ true)
 counted_in_range f a zero some = absurd (omega arith)
 counted_in_range f a (suc n) some = (
-    let x : count_by f (range_with_len a (suc n)) ≡ one (f a) + count_by f (range_with_len (a + 1) n) = sum_by-cons (λ p. one (f p)) a (range_with_len (a + 1) n) in
+    let x : count_by f (range_with_len a (suc n)) ≡ one (f a) + count_by f (range_with_len (a + 1) n) =
+    sum_by-cons (λ p. one (f p)) a (range_with_len (a + 1) n) in
     go (f a) refl (λ more. counted_in_range f (a + 1) n more) (omega arith))
   where
-    go : (b : Bool) → f a ≡ b → (0 < count_by f (range_with_len (a + 1) n) → (d : ℕ) × (a + 1 ≤ d) × (d < a + 1 + n) × (f d ≡ true)) → 0 < one b + count_by f (range_with_len (a + 1) n)
+    go : (b : Bool) → f a ≡ b → (0 < count_by f (range_with_len (a + 1) n) → (d : ℕ) × (a + 1 ≤ d) × (d < a + 1 + n) × (f d ≡ true))
+        → 0 < one b + count_by f (range_with_len (a + 1) n)
         → (d : ℕ) × (a ≤ d) × (d < a + suc n) × (f d ≡ true)
     go true e rest some = (a, omega arith, omega arith, e)
     go false e rest some = (let r = rest (omega arith) in (r.0, omega (arith, r.1), omega (arith, r.2), r.3))

@@ -13,15 +13,18 @@ use Rattle.run_laws.specs.Sayable.{AreSayable, IsSayableItem, IsUnderWay}
 use Rattle.run_laws.proofs.CommandAnswers.{begins_there, turn_there}
 
 -- an item leaves a run that goes on
-pub item_keeps : (kind : Kind) (old : Option RunState) (item : Item) (reply : Reply) (new : Option RunState) → IsUnderWay kind old → ItemStep kind old item reply new → IsUnderWay kind new
-item_keeps kind old (starts p) reply new on step = subst (IsUnderWay kind) (sym step.2) (ap (λ (h : HeapState). h.kind) (step.1.0).heap, begins_going kind p step.0 step.1.0)
+pub item_keeps : (kind : Kind) (old : Option RunState) (item : Item) (reply : Reply) (new : Option RunState) → IsUnderWay kind old
+    → ItemStep kind old item reply new → IsUnderWay kind new
+item_keeps kind old (starts p) reply new on step = subst (IsUnderWay kind) (sym step.2)
+    (ap (λ (h : HeapState). h.kind) (step.1.0).heap, begins_going kind p step.0 step.1.0)
 item_keeps kind None (asks c) reply new on step = subst (IsUnderWay kind) (sym step.1) tt
 item_keeps kind (Some old) (asks c) reply new on step = subst (IsUnderWay kind) (sym step.2)
     ((step_same old step.0 c reply (on.1).rules (step.1).step).kind ∙ on.0, step_going old step.0 c reply on.1 (step.1).step)
 item_keeps kind old (bad n) reply new on step = subst (IsUnderWay kind) (sym step.1) on
 
 -- and so do items
-pub run_keeps : (kind : Kind) (old : Option RunState) (items : List Item) (replies : List Reply) (new : Option RunState) → IsUnderWay kind old → Run kind old items replies new → IsUnderWay kind new
+pub run_keeps : (kind : Kind) (old : Option RunState) (items : List Item) (replies : List Reply) (new : Option RunState) → IsUnderWay kind old
+    → Run kind old items replies new → IsUnderWay kind new
 run_keeps kind old [] replies new on run = subst (IsUnderWay kind) (sym run.1) on
 run_keeps kind old (item ∷ rest) replies new on run = run_keeps kind run.0 rest run.2 new (item_keeps kind old item run.1 run.0 on run.3) run.5
 
@@ -53,13 +56,24 @@ pub run_goes_on : (kind : Kind) (items done after : List Item) (replies : List R
     → Run kind None done replies mid
     → (more : List Reply) × (end : Option RunState) × Run kind None items (replies ++ more) end
 run_goes_on kind items done after replies mid can is run =
-    let rest = run_there kind mid after (run_keeps kind None done replies mid tt run) (sayable_behind done after (subst AreSayable is can)) in
-    (rest.0, rest.1, subst (λ i. Run kind None i (replies ++ rest.0) rest.1) (sym is) (run_joined (BeginsOne kind) Turn None done after replies rest.0 mid rest.1 run rest.2))
+    let rest = run_there kind mid after (run_keeps kind None done replies mid tt run) (sayable_behind done after (subst AreSayable is can)) in (
+      rest.0,
+      rest.1,
+      subst (λ i. Run kind None i (replies ++ rest.0) rest.1) (sym is)
+          (run_joined (BeginsOne kind) Turn None done after replies rest.0 mid rest.1 run rest.2),
+    )
 
 -- a prefix of the text of a prefix is a prefix of the text of all
 pub front_written : (kind : Kind) (items done after : List Item) (replies : List Reply) (mid : Option RunState) (lead written lost : List ℕ) → AreSayable items
     → items ≡ done ++ after → Run kind None done replies mid
-    → text_of lead replies ≡ written ++ lost → (all : List Reply) × (end : Option RunState) × (rest : List ℕ) × Run kind None items all end × (text_of lead all ≡ written ++ rest)
+    → text_of lead replies ≡ written ++ lost → (all : List Reply) × (end : Option RunState) × (rest : List ℕ) × Run kind None items all end
+    × (text_of lead all ≡ written ++ rest)
 front_written kind items done after replies mid lead written lost can is run cut =
-    let on = run_goes_on kind items done after replies mid can is run in
-    (replies ++ on.0, on.1, lost ++ text_of lead on.0, on.2, text_joined lead replies on.0 ∙ ap (λ t. t ++ text_of lead on.0) cut ∙ append_assoc written lost (text_of lead on.0))
+    let on = run_goes_on kind items done after replies mid can is run in (
+      replies ++ on.0,
+      on.1,
+      lost ++ text_of lead on.0,
+      on.2,
+      text_joined lead replies on.0 ∙ ap (λ t. t ++ text_of lead on.0) cut
+          ∙ append_assoc written lost (text_of lead on.0),
+    )

@@ -1,5 +1,6 @@
 -- A sound arrangement has its words.
-use Rattle.std.proofs.Common.{◌≡◌, ℕ, Bool, true, false, cond, ◌+◌, ◌-◌, ◌*◌, ◌<◌, ◌≤◌, List, Some, length, get_or, map, replicate, arith, sym, ◌∙◌, refl, inl, inr}
+use Rattle.std.proofs.Common.{◌≡◌, ℕ, Bool, true, false, cond, ◌+◌, ◌-◌, ◌*◌, ◌<◌, ◌≤◌, List, Some, length, get_or, map, replicate, arith, sym, ◌∙◌, refl, inl}
+use Rattle.std.proofs.Common.{inr}
 use Rattle.std.specs.Prelude.{◌&&◌, nat_le, nat_lt}
 use Rattle.std.specs.List.{range_with_len}
 use Rattle.std.proofs.lemmas.Bool.{cases_lt}
@@ -22,7 +23,8 @@ abbrev is_in : ℕ → ℕ → ℕ → Bool
 is_in a n w = nat_le a w && nat_lt w (a + n)
 
 is_in_yes : (a n i : ℕ) → i < n → is_in a n (a + i) ≡ true
-is_in_yes a n i lt = (let x : nat_le a (a + i) ≡ true = grind (arith, nat_tests) in let y : nat_lt (a + i) (a + n) ≡ true = grind (arith, nat_tests) in rw (x, y) refl)
+is_in_yes a n i lt = (let x : nat_le a (a + i) ≡ true = grind (arith, nat_tests) in let y : nat_lt (a + i) (a + n) ≡ true =
+    grind (arith, nat_tests) in rw (x, y) refl)
 
 is_in_no : (a n w : ℕ) → IsOutside a n w → is_in a n w ≡ false
 is_in_no a n w (inl l) = (let x : nat_le a w ≡ false = grind (arith, nat_tests) in rw x refl)
@@ -59,8 +61,10 @@ record HasImage (extent : ℕ → ℕ) (m : Held) (n : ℕ) : Type 0 where
   image : IsImageOver extent m words
 
 -- objects that share no word and are in the region have their words there
-image_there : (extent : ℕ → ℕ) (n : ℕ) (m : Held) → IsApart extent m → ((h : ℕ) (x : Placed) → get m h ≡ Some x → x.place + extent (length x.bytes) ≤ n) → HasImage extent m n
-image_there extent n = map_induction (λ m. IsApart extent m → ((h : ℕ) (x : Placed) → get m h ≡ Some x → x.place + extent (length x.bytes) ≤ n) → HasImage extent m n)
+image_there : (extent : ℕ → ℕ) (n : ℕ) (m : Held) → IsApart extent m → ((h : ℕ) (x : Placed) → get m h ≡ Some x → x.place + extent (length x.bytes) ≤ n)
+    → HasImage extent m n
+image_there extent n = map_induction (λ m. IsApart extent m → ((h : ℕ) (x : Placed) → get m h ≡ Some x → x.place + extent (length x.bytes) ≤ n)
+    → HasImage extent m n)
     (λ apart inside. record { words = replicate n 0; count = length-replicate n 0; image = image_empty extent n })
     (λ m h x none before apart inside. (
     let old = before

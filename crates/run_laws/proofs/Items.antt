@@ -1,5 +1,6 @@
 -- What the items of a script can say.
-use Rattle.std.proofs.Common.{◌≡◌, ℕ, Bool, true, false, cond, ◌+◌, ◌*◌, ◌/◌, ◌%◌, ◌≤◌, List, [], ◌∷◌, Option, Some, None, Result, Ok, Err, length, arith, sym, ap, refl, subst}
+use Rattle.std.proofs.Common.{◌≡◌, ℕ, Bool, true, false, cond, ◌+◌, ◌*◌, ◌/◌, ◌%◌, ◌≤◌, List, [], ◌∷◌, Option, Some, None, Result, Ok, Err, length, arith, sym}
+use Rattle.std.proofs.Common.{ap, refl, subst}
 use Rattle.std.specs.Prelude.{⊤, ◌==◌, codes, nat_le, option_map}
 use Rattle.std.specs.Result.{result_ok}
 use Rattle.std.specs.Str.{bytes_eq, byte}
@@ -15,11 +16,17 @@ use Rattle.cf_base.specs.declared.settings.SettingFault.{SettingFault}
 use Rattle.cf_base.specs.declared.settings.SettingFault.TheVariants.{Pages, PageBytes, Bound as BoundFault, Proxies, Region}
 use Rattle.cf_io.specs.Numbers.{number_in}
 use Rattle.cf_model.specs.Rules.{AreInRange}
-use Rattle.script_reader.specs.Commands.{IsWellFormed, admit_in, alone_in, block_command_in, bound_command_in, bound_in, bytes_in, command_of, four_of, free_in, id_and_number, id_in, id_number_and_length, id_number_and_text, length_in, letter_command, malloc_in, need_in, none_of, number_and_bound, number_from, one_id, one_number, one_of, one_task, peek_in, place_command_in, quota_in, read_in, resize_in, settings_if, settings_in, task_and_number, task_and_numbers, task_command_in, task_in, three_of, two_of, word_command, write_in, ◌>>=◌}
-use Rattle.script_reader.specs.Items.{Item, Saying, asks, gives_or_breaks, is_comment, item, item_in, item_or_wrong, items, items_at, items_by, line_says, nothing, stage_after, starts, tokens_say, verdict, wrong}
+use Rattle.script_reader.specs.Commands.{IsWellFormed, admit_in, alone_in, block_command_in, bound_command_in, bound_in, bytes_in, command_of, four_of, free_in}
+use Rattle.script_reader.specs.Commands.{id_and_number, id_in, id_number_and_length, id_number_and_text, length_in, letter_command, malloc_in, need_in, none_of}
+use Rattle.script_reader.specs.Commands.{number_and_bound, number_from, one_id, one_number, one_of, one_task, peek_in, place_command_in, quota_in, read_in}
+use Rattle.script_reader.specs.Commands.{resize_in, settings_if, settings_in, task_and_number, task_and_numbers, task_command_in, task_in, three_of, two_of}
+use Rattle.script_reader.specs.Commands.{word_command, write_in, ◌>>=◌}
+use Rattle.script_reader.specs.Items.{Item, Saying, asks, gives_or_breaks, is_comment, item, item_in, item_or_wrong, items, items_at, items_by, line_says}
+use Rattle.script_reader.specs.Items.{nothing, stage_after, starts, tokens_say, verdict, wrong}
 use Rattle.script_reader.specs.Lines.{is_too_long, lines, tokens, without_return}
 use Rattle.script_reader.specs.declared.command.Command.{Command}
-use Rattle.script_reader.specs.declared.command.Command.TheVariants.{Malloc, Free, Write, Read, Place, Block, Peek, Walk, Frag, Steps, Bound, Resize, Slice, Task, Quota, Need, Admit}
+use Rattle.script_reader.specs.declared.command.Command.TheVariants.{Malloc, Free, Write, Read, Place, Block, Peek, Walk, Frag, Steps, Bound, Resize, Slice}
+use Rattle.script_reader.specs.declared.command.Command.TheVariants.{Task, Quota, Need, Admit}
 use Rattle.script_reader.specs.declared.stage.Stage.{Stage}
 use Rattle.script_reader.specs.declared.stage.Stage.TheVariants.{Opening}
 use Rattle.run_laws.specs.Sayable.{AreSayable, HasBytes, IsSayable, IsSayableItem}
@@ -78,7 +85,8 @@ abbrev IsFrom : ℕ → ℕ → ℕ → Type 0
 IsFrom low high n = (low ≤ n) × (n ≤ high)
 
 number_of_range : (low high : ℕ) (text : List ℕ) → OfSort (IsFrom low high) (number_from low high text)
-number_of_range low high text = bound_any (IsFrom low high) _ (number_in text) (λ n. tested (IsFrom low high) (is_within low high n) n (within_range low high n))
+number_of_range low high text = bound_any (IsFrom low high) _ (number_in text)
+    (λ n. tested (IsFrom low high) (is_within low high n) n (within_range low high n))
 
 -- a payload
 record IsPayload (bytes : List ℕ) : Type 0 where
@@ -91,7 +99,8 @@ payload text = go (is_within 2 8192 (length text)) refl
   where
     decoded : (2 ≤ length text) × (length text ≤ 8192) → (r : Result (List ℕ) FromHexError) → decode_of text ≡ r → OfSort IsPayload (result_ok r)
     decoded range (Err e) is = sort_none IsPayload
-    decoded range (Ok bytes) is = (let ok = decode_of-ok text bytes is in let len = ok.2 in let a = range.0 in let b = range.1 in sort_some IsPayload bytes (record { some = omega arith; few = omega arith; are = ok.3 }))
+    decoded range (Ok bytes) is = (let ok = decode_of-ok text bytes is in let len = ok.2 in let a = range.0 in let b =
+        range.1 in sort_some IsPayload bytes (record { some = omega arith; few = omega arith; are = ok.3 }))
 
     go : (b : Bool) → is_within 2 8192 (length text) ≡ b → OfSort IsPayload (cond b (result_ok (decode_of text)) None)
     go true is = decoded (within_range 2 8192 (length text) is) (decode_of text) refl
@@ -114,7 +123,9 @@ can_free : (args : List (List ℕ)) → Can (free_in args)
 can_free args = mapped_any IsSayable (λ id. Free id) (one_id args) (λ id. plain (Free id) tt tt)
 
 can_write : (args : List (List ℕ)) → Can (write_in args)
-can_write args = bound_any IsSayable _ (id_number_and_text args) (λ p. bound IsPayload IsSayable _ (bytes_in p.2) (payload p.2) (λ v is. sort_some IsSayable (Write p.0 p.1 v) (plain (Write p.0 p.1 v) (is.some, is.few) is.are)))
+can_write args = bound_any IsSayable _ (id_number_and_text args)
+    (λ p. bound IsPayload IsSayable _ (bytes_in p.2) (payload p.2)
+    (λ v is. sort_some IsSayable (Write p.0 p.1 v) (plain (Write p.0 p.1 v) (is.some, is.few) is.are)))
 
 abbrev IsShort : ℕ × ℕ × ℕ → Type 0
 IsShort p = p.2 ≤ 4096
@@ -234,22 +245,27 @@ module _ (pages page_bytes k proxies : ℕ) where
           }
 
       at_proxies : is_within 1 4096 pages ≡ true → is_page_bytes page_bytes ≡ true → is_within 1 64 k ≡ true
-          → (b : Bool) → is_within 1 65536 proxies ≡ b → cond b (cond (nat_le (pages * page_bytes) 67108864) None (Some Region)) (Some Proxies) ≡ None → AreInRange (profile_from pages page_bytes k proxies)
+          → (b : Bool) → is_within 1 65536 proxies ≡ b → cond b (cond (nat_le (pages * page_bytes) 67108864) None (Some Region)) (Some Proxies) ≡ None
+          → AreInRange (profile_from pages page_bytes k proxies)
       at_proxies a b c false e is = absurd (let z : ◌≡◌ {A = Option SettingFault} (Some Proxies) None = is in cc)
       at_proxies a b c true e is = at_region a b c e (nat_le (pages * page_bytes) 67108864) refl is
 
       at_bound : is_within 1 4096 pages ≡ true → is_page_bytes page_bytes ≡ true → (b : Bool) → is_within 1 64 k ≡ b
-          → cond b (cond (is_within 1 65536 proxies) (cond (nat_le (pages * page_bytes) 67108864) None (Some Region)) (Some Proxies)) (Some BoundFault) ≡ None → AreInRange (profile_from pages page_bytes k proxies)
+          → cond b (cond (is_within 1 65536 proxies) (cond (nat_le (pages * page_bytes) 67108864) None (Some Region)) (Some Proxies)) (Some BoundFault) ≡ None
+          → AreInRange (profile_from pages page_bytes k proxies)
       at_bound a b false e is = absurd (let z : ◌≡◌ {A = Option SettingFault} (Some BoundFault) None = is in cc)
       at_bound a b true e is = at_proxies a b e (is_within 1 65536 proxies) refl is
 
       at_size : is_within 1 4096 pages ≡ true → (b : Bool) → is_page_bytes page_bytes ≡ b
-          → cond b (cond (is_within 1 64 k) (cond (is_within 1 65536 proxies) (cond (nat_le (pages * page_bytes) 67108864) None (Some Region)) (Some Proxies)) (Some BoundFault)) (Some PageBytes) ≡ None → AreInRange (profile_from pages page_bytes k proxies)
+          → cond b (cond (is_within 1 64 k) (cond (is_within 1 65536 proxies) (cond (nat_le (pages * page_bytes) 67108864) None (Some Region)) (Some Proxies))
+          (Some BoundFault)) (Some PageBytes) ≡ None → AreInRange (profile_from pages page_bytes k proxies)
       at_size a false e is = absurd (let z : ◌≡◌ {A = Option SettingFault} (Some PageBytes) None = is in cc)
       at_size a true e is = at_bound a e (is_within 1 64 k) refl is
 
       at_pages : (b : Bool) → is_within 1 4096 pages ≡ b
-          → cond b (cond (is_page_bytes page_bytes) (cond (is_within 1 64 k) (cond (is_within 1 65536 proxies) (cond (nat_le (pages * page_bytes) 67108864) None (Some Region)) (Some Proxies)) (Some BoundFault)) (Some PageBytes)) (Some Pages) ≡ None
+          → cond b (cond (is_page_bytes page_bytes) (cond (is_within 1 64 k)
+          (cond (is_within 1 65536 proxies) (cond (nat_le (pages * page_bytes) 67108864) None (Some Region)) (Some Proxies)) (Some BoundFault))
+          (Some PageBytes)) (Some Pages) ≡ None
           → AreInRange (profile_from pages page_bytes k proxies)
       at_pages false e is = absurd (let z : ◌≡◌ {A = Option SettingFault} (Some Pages) None = is in cc)
       at_pages true e is = at_size e (is_page_bytes page_bytes) refl is
@@ -257,7 +273,8 @@ module _ (pages page_bytes k proxies : ℕ) where
   in_range : OfSort AreInRange (settings_if (setting_fault pages page_bytes k proxies) (profile_from pages page_bytes k proxies))
   in_range = go (setting_fault pages page_bytes k proxies) refl
     where
-      go : (o : Option SettingFault) → setting_fault pages page_bytes k proxies ≡ o → OfSort AreInRange (settings_if o (profile_from pages page_bytes k proxies))
+      go : (o : Option SettingFault) → setting_fault pages page_bytes k proxies ≡ o
+          → OfSort AreInRange (settings_if o (profile_from pages page_bytes k proxies))
       go None is = sort_some AreInRange (profile_from pages page_bytes k proxies) (no_fault is)
       go (Some fault) is = sort_none AreInRange
 

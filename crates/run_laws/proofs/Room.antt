@@ -65,7 +65,8 @@ module _ (p : Paging) (ok : IsPaging p) (c : ℕ) (lt : c < classes p) (page : �
       some_before : (m : Held) (h q : ℕ) (y : Placed) → get (remove m h) q ≡ Some y → get m q ≡ Some y
       some_before m h q y there = (some_removed m h q y there).1
 
-      other : (m : Held) (h : ℕ) (x : Placed) (k n : ℕ) → n < slots_of p c → k < slots_of p c → k < n → get m h ≡ Some x → x.place ≡ address_of p c page n → IsUsed p m c page k → IsUsed p (remove m h) c page k
+      other : (m : Held) (h : ℕ) (x : Placed) (k n : ℕ) → n < slots_of p c → k < slots_of p c → k < n → get m h ≡ Some x → x.place ≡ address_of p c page n
+          → IsUsed p m c page k → IsUsed p (remove m h) c page k
       other m h x k n in_n in_k below some at used =
           let a = address_is_slot p ok c lt page n within in_n in
           let b = address_is_slot p ok c lt page k within in_k in
@@ -81,13 +82,15 @@ module _ (p : Paging) (ok : IsPaging p) (c : ℕ) (lt : c < classes p) (page : �
   module _ (m : Held) (s : IsSound p m) where
     -- a partly full page has a free slot
     free_slot : IsOpen p m c page → (k : ℕ) × (k < slots_of p c) × ((q : ℕ) (y : Placed) → get m q ≡ Some y → y.place ≢ address_of p c page k)
-    free_slot opened = elim (search_below (IsUsed p m c page) (λ k. (q : ℕ) (y : Placed) → get m q ≡ Some y → y.place ≢ address_of p c page k) (λ k. place_taken m (address_of p c page k)) (slots_of p c)) [
-      | inr found ↦ found
-      | inl all ↦ absurd (
-          let member = on_page p m c page opened.some in
-          let l = used_are_few (slots_of p c) m (omega arith) (λ q y there on. s.one_class q y member.0 member.1 there member.2 (on ∙ sym member.3) ∙ member.4) all in
-          omega (arith, opened.less))
-    ]
+    free_slot opened = elim (search_below (IsUsed p m c page) (λ k. (q : ℕ) (y : Placed) → get m q ≡ Some y → y.place ≢ address_of p c page k)
+        (λ k. place_taken m (address_of p c page k)) (slots_of p c)) [
+          | inr found ↦ found
+          | inl all ↦ absurd (
+              let member = on_page p m c page opened.some in
+              let l = used_are_few (slots_of p c) m (omega arith)
+              (λ q y there on. s.one_class q y member.0 member.1 there member.2 (on ∙ sym member.3) ∙ member.4) all in
+              omega (arith, opened.less))
+        ]
 
 -- a page holds something or nothing
 bare_or_not : (p : Paging) (m : Held) (page : ℕ) → (0 < standing_on p m page) ⊎ (standing_on p m page ≡ 0)
@@ -108,7 +111,8 @@ module _ (p : Paging) (ok : IsPaging p) (m : Held) (s : IsSound p m) where
       (address_of p (class_for p n) page free.0, record { slot = at.0; unused = free.2; choice = inl (rw on some, rw on less) })
 
   -- on a page that holds nothing
-  place_alone : (n : ℕ) → class_for p n < classes p → not_full_pages p m (class_for p n) ≡ 0 → (page : ℕ) → page < p.pages → standing_on p m page ≡ 0 → (a : ℕ) × IsFreePlace p m n a
+  place_alone : (n : ℕ) → class_for p n < classes p → not_full_pages p m (class_for p n) ≡ 0 → (page : ℕ) → page < p.pages → standing_on p m page ≡ 0
+      → (a : ℕ) × IsFreePlace p m n a
   place_alone n lt none page within bare =
       let at = address_is_slot p ok (class_for p n) lt page 0 within (slots_some p ok (class_for p n) lt) in
       let on = at.1 in (

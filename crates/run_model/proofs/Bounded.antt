@@ -36,9 +36,11 @@ pub few_pages : (s : HeapState) → IsPaged s.kind → KeepsRules s → HasFewPa
 few_pages s paged rules = (let k = pages_kept s.kind s paged rules.of_kind in λ c lt. sound_few (paging_in s) k.paging c lt s.held k.sound)
 
 -- a partly full page counts
-not_full_here : (p : Paging) (m : Held) (c page : ℕ) → page < p.pages → 0 < objects_on p m c page → objects_on p m c page < slots_of p c → 0 < not_full_pages p m c
+not_full_here : (p : Paging) (m : Held) (c page : ℕ) → page < p.pages → 0 < objects_on p m c page → objects_on p m c page < slots_of p c
+    → 0 < not_full_pages p m c
 unfolding not_full_pages
-not_full_here p m c page lt some less = some_counted (λ g. part_full (objects_on p m c g) (slots_of p c)) 0 p.pages page (omega arith) (omega arith) (part_yes _ _ some less)
+not_full_here p m c page lt some less = some_counted (λ g. part_full (objects_on p m c g) (slots_of p c)) 0 p.pages page (omega arith) (omega arith)
+    (part_yes _ _ some less)
 
 -- where there is a free place there is room
 pub place_is_room : (p : Paging) (m : Held) (n a : ℕ) → IsFreePlace p m n a → LacksRoom p m (class_for p n) → ⊥
@@ -48,7 +50,8 @@ place_is_room p m n a free lacks = elim free.choice [
 ]
 
 -- a heap with pages, of a kind that is known, and a malloc of so many bytes that fit a page, where every bound is 1
-module _ (k : Kind) (paged : IsPaged k) (s : HeapState) (rules : KeepsRules s) (is : s.kind ≡ k) (bytes : ℕ) (ones : AreOne (paging_in s)) (fits : need bytes ≤ s.profile.page_words) where
+module _ (k : Kind) (paged : IsPaged k) (s : HeapState) (rules : KeepsRules s) (is : s.kind ≡ k) (bytes : ℕ) (ones : AreOne (paging_in s))
+    (fits : need bytes ≤ s.profile.page_words) where
   pages : KeepsPages s
   pages = pages_kept s.kind s (subst IsPaged (sym is) paged) rules.of_kind
 
@@ -59,10 +62,12 @@ module _ (k : Kind) (paged : IsPaged k) (s : HeapState) (rules : KeepsRules s) (
   lacking_in : (j : Kind) → IsPaged j → LacksRoomIn j s bytes → LacksRoom (paging_in s) s.held (class_for (paging_in s) bytes)
   lacking_in j p l = rw (p, LacksRoomIn) at l
 
-  placed_in : (j : Kind) (asked : Request) (place : ℕ) (new : HeapState) → IsPaged j → IsPlacedBy j s asked place new → IsFreePlace (paging_in s) s.held asked.length place
+  placed_in : (j : Kind) (asked : Request) (place : ℕ) (new : HeapState) → IsPaged j → IsPlacedBy j s asked place new
+      → IsFreePlace (paging_in s) s.held asked.length place
   placed_in j asked place new p there = rw (p, IsPlacedBy) at there
 
-  refused_exactly : (answer : Result Handle Refusal) (new : HeapState) (reply : Reply) → IsMallocStep s bytes answer new → reply ≡ said (malloc_text answer) → RefusesForWant reply ↔ IsWanting s bytes
+  refused_exactly : (answer : Result Handle Refusal) (new : HeapState) (reply : Reply) → IsMallocStep s bytes answer new → reply ≡ said (malloc_text answer)
+      → RefusesForWant reply ↔ IsWanting s bytes
   refused_exactly (Ok h) new reply step told = (
     (λ refused. absurd (elim refused [
       | inl e ↦ (let z : said (codes "ok") ≡ said (codes "refused proxy") = sym told ∙ e in cc)
@@ -70,23 +75,31 @@ module _ (k : Kind) (paged : IsPaged k) (s : HeapState) (rules : KeepsRules s) (
     ])),
     (λ wanting. absurd (elim wanting [
       | inl all ↦ (let few = step.few in omega arith)
-      | inr more ↦ place_is_room (paging_in s) s.held bytes step.place (placed_in s.kind (record { number = h.0; length = bytes }) step.place new (subst IsPaged (sym is) paged) step.placed) (by_need.1 more)
+      | inr more ↦ place_is_room (paging_in s) s.held bytes step.place
+          (placed_in s.kind (record { number = h.0; length = bytes }) step.place new (subst IsPaged (sym is) paged) step.placed) (by_need.1 more)
     ])),
   )
   refused_exactly (Err refusal.Size) new reply step told = absurd (let large = step.0 in omega arith)
   refused_exactly (Err refusal.Proxy) new reply step told = ((λ _. inl step.0.all), (λ _. inl told))
-  refused_exactly (Err refusal.Space) new reply step told = ((λ _. inr (by_need.0 (lacking_in s.kind (subst IsPaged (sym is) paged) step.0.lacking))), (λ _. inr told))
+  refused_exactly (Err refusal.Space) new reply step told = (
+    (λ _. inr (by_need.0 (lacking_in s.kind (subst IsPaged (sym is) paged) step.0.lacking))),
+    (λ _. inr told),
+  )
 
-refuses_at : (k : Kind) (o : Option ℕ) (old : RunState) (asked : Request) (reply : Reply) (new : RunState) → IsPaged k → KeepsRules old.heap → old.heap.kind ≡ k → MallocsAt o old asked reply new → RefusesByNeed o old.heap asked.length reply
+refuses_at : (k : Kind) (o : Option ℕ) (old : RunState) (asked : Request) (reply : Reply) (new : RunState) → IsPaged k → KeepsRules old.heap → old.heap.kind ≡ k
+    → MallocsAt o old asked reply new → RefusesByNeed o old.heap asked.length reply
 refuses_at k (Some h) old asked reply new paged rules is step = tt
-refuses_at k None old asked reply new paged rules is step = λ ones fits. refused_exactly k paged old.heap rules is asked.length ones fits step.answer new.heap reply step.step step.reply_is
+refuses_at k None old asked reply new paged rules is step = λ ones fits. refused_exactly k paged old.heap rules is asked.length ones fits step.answer new.heap
+    reply step.step step.reply_is
 
 -- a malloc is refused by need, where every bound is 1
 pub step_refuses : (old new : RunState) (c : Command) (reply : Reply) → IsPaged old.heap.kind → KeepsRules old.heap → Step old c reply new → Refuses old c reply
-step_refuses old new (Malloc id bytes) reply paged rules step = refuses_at old.heap.kind (get old.session.ids id) old (record { number = id; length = bytes }) reply new paged rules refl step
+step_refuses old new (Malloc id bytes) reply paged rules step =
+    refuses_at old.heap.kind (get old.session.ids id) old (record { number = id; length = bytes }) reply new paged rules refl step
 step_refuses old new _ reply paged rules step = tt
 
-meets : (k : Kind) (old new : RunState) (c : Command) (reply : Reply) → (IsPaged k → HasFewPages new.heap) → (IsPaged k → Refuses old c reply) → MeetsBounds k old c reply new
+meets : (k : Kind) (old new : RunState) (c : Command) (reply : Reply) → (IsPaged k → HasFewPages new.heap) → (IsPaged k → Refuses old c reply)
+    → MeetsBounds k old c reply new
 meets k old new c reply few refuses = by_family (family_of k) refl
   where
     by_family : (f : Family) → family_of k ≡ f → MeetsBounds k old c reply new

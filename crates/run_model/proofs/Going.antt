@@ -76,11 +76,19 @@ module _ (old new : RunState) (rules : KeepsRules old.heap) where
 
   kept_write : (o : Option ℕ) (at : ℕ) (bytes : List ℕ) (reply : Reply) → WritesAt o old at bytes reply new → Kept old.heap new.heap
   kept_write None at bytes reply step = still step.1
-  kept_write (Some h) at bytes reply step = record { same = write_same old.heap new.heap (record { number = h; from = at }) bytes step.answer step.step; rules = step.rules }
+  kept_write (Some h) at bytes reply step = record {
+    same = write_same old.heap new.heap (record { number = h; from = at }) bytes step.answer step.step;
+    rules =
+        step.rules;
+  }
 
   kept_resize : (o : Option ℕ) (bytes : ℕ) (reply : Reply) → ResizesAt o old bytes reply new → Kept old.heap new.heap
   kept_resize None bytes reply step = still step.1
-  kept_resize (Some h) bytes reply step = record { same = resize_same old.heap new.heap (record { number = h; length = bytes }) step.answer step.step; rules = step.rules }
+  kept_resize (Some h) bytes reply step = record {
+    same = resize_same old.heap new.heap (record { number = h; length = bytes }) step.answer step.step;
+    rules =
+        step.rules;
+  }
 
   kept : (c : Command) (reply : Reply) → Step old c reply new → Kept old.heap new.heap
   kept (Malloc id bytes) reply step = kept_malloc (get old.session.ids id) _ reply step

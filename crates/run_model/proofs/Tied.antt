@@ -89,12 +89,19 @@ module _ {V : Type 0} (ids : Ids) (m : FinMap nat_cmp V) (names : AreNames ids m
   }
     where
       kept : (i q : ℕ) → (i ≢ id) × (get ids i ≡ Some q) → (y : V) × (get (remove m h) q ≡ Some y)
-      kept i q is = ((names.named i q is.1).0, get_remove_other m h q (λ e. is.0 (names.once id i h some (is.1 ∙ ap (λ k. Some k) e))) ∙ (names.named i q is.1).1)
+      kept i q is = (
+        (names.named i q is.1).0,
+        get_remove_other m h q (λ e. is.0 (names.once id i h some (is.1 ∙ ap (λ k. Some k) e)))
+            ∙ (names.named i q is.1).1,
+      )
 
       found : (q : ℕ) (y : V) → (q ≢ h) × (get m q ≡ Some y) → (i : ℕ) × (get (remove ids id) i ≡ Some q)
       found q y is =
-          let n = names.all q y is.1 in
-          (n.0, get_remove_other ids id n.0 (λ e. is.0 (let a : get ids n.0 ≡ Some q = n.1 in let b : get ids n.0 ≡ Some h = ap (get ids) e ∙ some in cc)) ∙ n.1)
+          let n = names.all q y is.1 in (
+            n.0,
+            get_remove_other ids id n.0 (λ e. is.0 (let a : get ids n.0 ≡ Some q = n.1 in let b : get ids n.0 ≡ Some h = ap (get ids) e ∙ some in cc))
+                ∙ n.1,
+          )
 
 -- an option that is mapped to a value has one
 mapped : {X Y : Type 0} (f : X → Y) (o : Option X) (y : Y) → option_map f o ≡ Some y → (x : X) × (o ≡ Some x)
@@ -121,7 +128,8 @@ module _ (ids : Ids) (m : Held) where
 
   pub names_of_held : AreNames ids (objects m) → AreNames ids m
   names_of_held names = record {
-    named = λ i q is. mapped (λ (x : Placed). x.bytes) (get m q) (names.named i q is).0 (sym (get-map_values (λ (x : Placed). x.bytes) m q) ∙ (names.named i q is).1);
+    named = λ i q is. mapped (λ (x : Placed). x.bytes) (get m q) (names.named i q is).0
+        (sym (get-map_values (λ (x : Placed). x.bytes) m q) ∙ (names.named i q is).1);
     once = names.once;
     all = λ q x is. names.all q x.bytes (bytes_held m q x is);
   }
@@ -163,19 +171,23 @@ module _ (old new : RunState) (tied : AreTied old.session old.heap) where
   names = names_in old.session old.heap tied
 
   -- session and heap are consistent, from the names and the cost, at equal parts
-  tied_with : (session : SessionState) (ids : Ids) (m : Held) (bound : ℕ) → new.session ≡ session → session.ids ≡ ids → session.bound ≡ bound → new.heap.held ≡ m → AreNames ids m → CostsAtMost new.heap.kind new.heap.cost bound → AreTied new.session new.heap
+  tied_with : (session : SessionState) (ids : Ids) (m : Held) (bound : ℕ) → new.session ≡ session → session.ids ≡ ids → session.bound ≡ bound
+      → new.heap.held ≡ m → AreNames ids m → CostsAtMost new.heap.kind new.heap.cost bound → AreTied new.session new.heap
   tied_with session ids m bound e i b f names cost =
       let a : new.session.ids ≡ ids = ap (λ (s : SessionState). s.ids) e ∙ i in
       let c : new.session.bound ≡ bound = ap (λ (s : SessionState). s.bound) e ∙ b in
       let n : AreNames new.session.ids new.heap.held = subst (λ k. AreNames k new.heap.held) (sym a) (subst (λ h. AreNames ids h) (sym f) names) in
       record { named = n.named; once = n.once; all = n.all; cost = subst (λ k. CostsAtMost new.heap.kind new.heap.cost k) (sym c) cost }
 
-  malloc_names : (id n : ℕ) (answer : Result Handle Refusal) → get old.session.ids id ≡ None → IsMallocStep old.heap n answer new.heap → AreNames (ids_given old.session.ids id answer) new.heap.held
-  malloc_names id n (Ok h) none step = subst (λ m. AreNames (insert old.session.ids id h.0) m) (sym (ap (λ (s : HeapState). s.held) step.whole)) (names_inserted old.session.ids old.heap.held names id h.0 _ none step.unused)
+  malloc_names : (id n : ℕ) (answer : Result Handle Refusal) → get old.session.ids id ≡ None → IsMallocStep old.heap n answer new.heap
+      → AreNames (ids_given old.session.ids id answer) new.heap.held
+  malloc_names id n (Ok h) none step = subst (λ m. AreNames (insert old.session.ids id h.0) m) (sym (ap (λ (s : HeapState). s.held) step.whole))
+      (names_inserted old.session.ids old.heap.held names id h.0 _ none step.unused)
   malloc_names id n (Err e) none step = subst (λ m. AreNames old.session.ids m) (sym (ap (λ (s : HeapState). s.held) step.1)) names
 
   malloc_tied : (asked : Request) (reply : Reply) → get old.session.ids asked.number ≡ None → Mallocs old asked reply new → AreTied new.session new.heap
-  malloc_tied asked reply none step = tied_with _ _ _ 64 step.session refl refl refl (malloc_names asked.number asked.length step.answer none step.step) step.cost
+  malloc_tied asked reply none step = tied_with _ _ _ 64 step.session refl refl refl
+      (malloc_names asked.number asked.length step.answer none step.step) step.cost
 
   free_tied : (id h : ℕ) (reply : Reply) → get old.session.ids id ≡ Some h → Frees old (record { id = id; number = h }) reply new → AreTied new.session new.heap
   free_tied id h reply some step =
@@ -183,31 +195,38 @@ module _ (old new : RunState) (tied : AreTied old.session old.heap) where
       let left = names_of_held (remove old.session.ids id) new.heap.held (subst (λ m. AreNames (remove old.session.ids id) m) (sym step.step.left) gone) in
       tied_with _ _ _ _ step.session (counted_ids _ step.freed.moved _) (counted_bound _ step.freed.moved _) refl left step.cost
 
-  write_tied : (part : Part) (bytes : List ℕ) (answer : Result Unit AccessFault) → new.session ≡ old.session → IsWriteStep old.heap part bytes answer new.heap → AreTied new.session new.heap
+  write_tied : (part : Part) (bytes : List ℕ) (answer : Result Unit AccessFault) → new.session ≡ old.session → IsWriteStep old.heap part bytes answer new.heap
+      → AreTied new.session new.heap
   write_tied part bytes (Ok u) e step =
       let kept = names_replaced old.session.ids old.heap.held names part.number step.object _ step.found in
       let whole = step.whole in
-      tied_with _ _ _ _ e refl refl (ap (λ (s : HeapState). s.held) whole) kept (subst (λ (s : HeapState). CostsAtMost s.kind s.cost old.session.bound) (sym whole) tied.cost)
-  write_tied part bytes (Err f) e step = subst (λ (s : SessionState). AreTied s new.heap) (sym e) (subst (λ (s : HeapState). AreTied old.session s) (sym step.1) tied)
+      tied_with _ _ _ _ e refl refl (ap (λ (s : HeapState). s.held) whole) kept
+      (subst (λ (s : HeapState). CostsAtMost s.kind s.cost old.session.bound) (sym whole) tied.cost)
+  write_tied part bytes (Err f) e step = subst (λ (s : SessionState). AreTied s new.heap) (sym e)
+      (subst (λ (s : HeapState). AreTied old.session s) (sym step.1) tied)
 
   resize_names : (asked : Request) (answer : Result Resized ResizeFault) → IsResizeStep old.heap asked answer new.heap → AreNames old.session.ids new.heap.held
   resize_names asked (Ok done) step =
       let x : get (objects old.heap.held) asked.number ≡ Some step.object.bytes = bytes_held old.heap.held asked.number step.object step.found in
-      let kept = names_replaced old.session.ids (objects old.heap.held) (names_of_objects old.session.ids old.heap.held names) asked.number step.object.bytes _ x in
+      let kept = names_replaced old.session.ids (objects old.heap.held)
+      (names_of_objects old.session.ids old.heap.held names) asked.number step.object.bytes _ x in
       names_of_held old.session.ids new.heap.held (subst (λ m. AreNames old.session.ids m) (sym step.left) kept)
   resize_names asked (Err e) step = subst (λ m. AreNames old.session.ids m) (sym (unmoved_held old.heap.kind old.heap new.heap step.1)) names
 
   resize_tied : (asked : Request) (reply : Reply) → Resizes old asked reply new → AreTied new.session new.heap
-  resize_tied asked reply step = tied_with _ _ _ _ step.session (resized_ids _ step.answer) (resized_bound _ step.answer) refl (resize_names asked step.answer step.step) step.cost
+  resize_tied asked reply step = tied_with _ _ _ _ step.session (resized_ids _ step.answer) (resized_bound _ step.answer) refl
+      (resize_names asked step.answer step.step) step.cost
 
   bound_tied : (c : Option ℕ) (k : ℕ) → new.session ≡ old.session → new.heap ≡ bound_put old.heap c k → AreTied new.session new.heap
   bound_tied None k e is = subst (λ (s : SessionState). AreTied s new.heap) (sym e) (subst (λ (s : HeapState). AreTied old.session s) (sym is) tied)
-  bound_tied (Some c) k e is = tied_with _ _ _ _ e refl refl (ap (λ (s : HeapState). s.held) is) names (subst (λ (s : HeapState). CostsAtMost s.kind s.cost old.session.bound) (sym is) tied.cost)
+  bound_tied (Some c) k e is = tied_with _ _ _ _ e refl refl (ap (λ (s : HeapState). s.held) is) names
+      (subst (λ (s : HeapState). CostsAtMost s.kind s.cost old.session.bound) (sym is) tied.cost)
 
   still : new ≡ old → AreTied new.session new.heap
   still e = subst (λ (s : RunState). AreTied s.session s.heap) (sym e) tied
 
-  at_malloc : (o : Option ℕ) (asked : Request) (reply : Reply) → get old.session.ids asked.number ≡ o → MallocsAt o old asked reply new → AreTied new.session new.heap
+  at_malloc : (o : Option ℕ) (asked : Request) (reply : Reply) → get old.session.ids asked.number ≡ o → MallocsAt o old asked reply new
+      → AreTied new.session new.heap
   at_malloc (Some h) asked reply is step = still step.1
   at_malloc None asked reply is step = malloc_tied asked reply is step
 

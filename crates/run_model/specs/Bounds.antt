@@ -15,7 +15,8 @@ use Rattle.run_model.specs.Texts.{Reply, said}
 
 -- each class has at most its live objects over its slots, rounded down, and its bound more pages
 abbrev pub HasFewPages : HeapState → Type 0
-HasFewPages s = (c : ℕ) → c < classes (paging_in s) → home_pages (paging_in s) s.held c ≤ live (paging_in s) (objects s.held) c / slots_of (paging_in s) c + bound_of (paging_in s) c
+HasFewPages s = (c : ℕ) → c < classes (paging_in s) → home_pages (paging_in s) s.held c ≤ live (paging_in s) (objects s.held) c / slots_of
+    (paging_in s) c + bound_of (paging_in s) c
 
 -- all proxies are in use, or the objects need more pages with this one than there are, counted by arithmetic
 abbrev pub IsWanting : HeapState → ℕ → Type 0

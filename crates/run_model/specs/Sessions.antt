@@ -14,7 +14,8 @@ use Rattle.cf_model.specs.State.{HeapState}
 abbrev pub Ids : Type 0
 Ids = map.FinMap nat_cmp ℕ
 
--- The live ids; the bound on the steps of the last call that changed the objects' addresses or lengths, 0 before one; how many objects moved, and the words of their slots.
+-- The live ids; the bound on the steps of the last call that changed the objects' addresses or lengths, 0 before one; how many objects moved, and the words of
+-- their slots.
 pub record SessionState : Type 0 where
   pub ids : Ids
   pub bound : ℕ

@@ -53,7 +53,8 @@ pub record Frees (old : RunState) (named : Named) (reply : Reply) (new : RunStat
   pub step : FreesObject old.heap named.number freed new.heap
   pub rules : KeepsRules new.heap
   pub cost : CostsAtMost new.heap.kind new.heap.cost (96 + 2 * freed.slot_words)
-  pub session : new.session ≡ counted (record old.session { ids = remove old.session.ids named.id; bound = 96 + 2 * freed.slot_words }) freed.moved freed.slot_words
+  pub session : new.session ≡ counted (record old.session { ids = remove old.session.ids named.id; bound = 96 + 2 * freed.slot_words }) freed.moved
+      freed.slot_words
   pub reply_is : reply ≡ said (codes "ok")
 
 abbrev pub FreesAt : Option ℕ → RunState → ℕ → Reply → RunState → Type 0

@@ -1,5 +1,6 @@
 -- Answers, one line after the other.
-use Rattle.std.proofs.Common.{◌≡◌, ◌∙◌, ◌<◌, ◌≤◌, ◌+◌, ℕ, Bool, true, false, List, [], ◌∷◌, Option, Some, None, length, take, drop, refl, sym, ap, arith, length-append, length-drop, subst, append-nil, append_assoc, ◌++◌, ◌⊎◌, inl, inr, cond, suc, take-append-drop, option_map}
+use Rattle.std.proofs.Common.{◌≡◌, ◌∙◌, ◌<◌, ◌≤◌, ◌+◌, ℕ, Bool, true, false, List, [], ◌∷◌, Option, Some, None, length, take, drop, refl, sym, ap, arith}
+use Rattle.std.proofs.Common.{length-append, length-drop, subst, append-nil, append_assoc, ◌++◌, ◌⊎◌, inl, inr, cond, suc, take-append-drop, option_map}
 use Rattle.std.proofs.lemmas.Bool.{false≢true, ltb-false}
 use Rattle.std.proofs.lemmas.List.{drop_all}
 use Rattle.std.specs.Option.{option_and_then}
@@ -7,11 +8,13 @@ use Rattle.std.specs.Prelude.{codes}
 use Rattle.std.specs.Str.{bytes_eq}
 use Rattle.cf_base.specs.Settings.{profile_of}
 use Rattle.script_reader.specs.Commands.{command_of}
-use Rattle.script_reader.specs.Items.{Item, asks, bad, breaks, gives_or_breaks, is_bound, is_comment, item, item_in, item_or_wrong, line_says, nothing, passes, stage_after, stage_behind, stage_opened, starts, tokens_say, verdict, wrong}
+use Rattle.script_reader.specs.Items.{Item, asks, bad, breaks, gives_or_breaks, is_bound, is_comment, item, item_in, item_or_wrong, line_says, nothing, passes}
+use Rattle.script_reader.specs.Items.{stage_after, stage_behind, stage_opened, starts, tokens_say, verdict, wrong}
 use Rattle.script_reader.specs.Lines.{is_last_line, is_too_long, lines, tokens, without_return}
 use Rattle.script_reader.specs.Look.{are_idle, is_idle}
 use Rattle.script_reader.specs.ParsedLine.{IsInRange, item_answered, item_if_parsed, item_said}
-use Rattle.script_reader.specs.Reading.{Answers, AnswersBad, HasEnded, HasNoLine, IsFirstLine, NeedsMore, PassesOver, Reading, Reads, StopsAt, holds_line_feed, items_left}
+use Rattle.script_reader.specs.Reading.{Answers, AnswersBad, HasEnded, HasNoLine, IsFirstLine, NeedsMore, PassesOver, Reading, Reads, StopsAt, holds_line_feed}
+use Rattle.script_reader.specs.Reading.{items_left}
 use Rattle.script_reader.specs.declared.next.Next.{Next}
 use Rattle.script_reader.specs.declared.next.Next.TheVariants.{Start, Command, NeedMore, Bad, End}
 use Rattle.script_reader.specs.declared.parsed_line.ParsedLine.{ParsedLine}
@@ -181,7 +184,8 @@ opens_first Bounding new leads = absurd cc
 opens_first Running new leads = absurd cc
 
 module _ (old : Reading) (kept : List ℕ) (len at : ℕ) (answer : Next) (going : old.stopped ≡ None) (same : kept ≡ old.kept)
-    (first : IsFirstLine old.kept old.ended len at) (told : is_idle (take len old.kept) ≡ false) (says : item_answered answer ≡ item_said (line_says (take len kept))) where
+    (first : IsFirstLine old.kept old.ended len at) (told : is_idle (take len old.kept) ≡ false)
+    (says : item_answered answer ≡ item_said (line_says (take len kept))) where
   line_is : line_says (take len old.kept) ≡ item_or_wrong (item_answered answer)
   line_is =
       let says2 = subst (λ (k : List ℕ). item_answered answer ≡ item_said (line_says (take len k))) same says in

@@ -1,5 +1,6 @@
 -- The first line of the bytes that are kept.
-use Rattle.std.proofs.Common.{◌≡◌, ◌∙◌, ◌<◌, ◌≤◌, ◌+◌, ◌-◌, ◌==◌, ◌||◌, ◌++◌, ℕ, suc, Bool, true, false, cond, not, List, [], ◌∷◌, Some, None, length, take, drop, refl, sym, ap, arith, zero, inl, inr, option_map}
+use Rattle.std.proofs.Common.{◌≡◌, ◌∙◌, ◌<◌, ◌≤◌, ◌+◌, ◌-◌, ◌==◌, ◌||◌, ◌++◌, ℕ, suc, Bool, true, false, cond, not, List, [], ◌∷◌, Some, None, length, take}
+use Rattle.std.proofs.Common.{drop, refl, sym, ap, arith, zero, inl, inr, option_map}
 use Rattle.std.proofs.lemmas.Bool.{eqb-true, ltb-true, ltb-false, lt-ltb, le-ltb, false≢true}
 use Rattle.std.proofs.lemmas.List.{take_rest, length-drop}
 use Rattle.std.specs.List.{position_or_len}

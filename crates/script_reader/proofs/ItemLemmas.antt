@@ -1,5 +1,6 @@
 -- Items from the first line on, whatever comes next.
-use Rattle.std.proofs.Common.{◌≡◌, ◌∙◌, ◌+◌, ◌==◌, ◌||◌, ◌++◌, ◌⊎◌, inl, inr, ℕ, Bool, true, false, cond, List, [], ◌∷◌, None, length, take, drop, refl, sym, ap, arith, append_assoc, append-nil, length-append}
+use Rattle.std.proofs.Common.{◌≡◌, ◌∙◌, ◌+◌, ◌==◌, ◌||◌, ◌++◌, ◌⊎◌, inl, inr, ℕ, Bool, true, false, cond, List, [], ◌∷◌, None, length, take, drop, refl, sym}
+use Rattle.std.proofs.Common.{ap, arith, append_assoc, append-nil, length-append}
 use Rattle.std.proofs.lemmas.Bool.{false≢true, lt-ltb, ltb-true}
 use Rattle.std.proofs.lemmas.List.{take_all, drop_all}
 use Rattle.script_reader.specs.Items.{Item, Verdict, bad, breaks, gives, items_at, items_by, line_says, passes, verdict, wrong}

@@ -38,7 +38,8 @@ some_glued k [] [] = (k, [], refl)
 some_glued k [] (m ∷ ms) = (k ++ m, ms, refl)
 some_glued k (j ∷ ls) t = (k, glued (j ∷ ls) t, refl)
 
-among_more : (e : Bool) (l : List ℕ) (s : List (List ℕ)) → ((k : List ℕ) × (rest : List (List ℕ)) × (s ≡ k ∷ rest)) → lines_among e (l ∷ s) ≡ l ∷ lines_among e s
+among_more : (e : Bool) (l : List ℕ) (s : List (List ℕ)) → ((k : List ℕ) × (rest : List (List ℕ)) × (s ≡ k ∷ rest))
+    → lines_among e (l ∷ s) ≡ l ∷ lines_among e s
 among_more e l [] some = absurd cc
 among_more e l (k ∷ rest) some = refl
 
@@ -63,7 +64,8 @@ long_by_rest : (l : List ℕ) → is_last_line false l ≡ true → is_too_long 
 long_by_rest [] long = cc
 long_by_rest (x ∷ r) long = long
 
-among_first : (s t : List (List ℕ)) (e : Bool) (n : ℕ) (stage : Stage) → AreFirstOf (items_at (lines_among false s) n stage) (items_at (lines_among e (glued s t)) n stage)
+among_first : (s t : List (List ℕ)) (e : Bool) (n : ℕ) (stage : Stage)
+    → AreFirstOf (items_at (lines_among false s) n stage) (items_at (lines_among e (glued s t)) n stage)
 among_first [] t e n stage = (items_at (lines_among e t) n stage, refl)
 among_first (l ∷ []) t e n stage = go (is_last_line false l) refl
   where

@@ -39,7 +39,8 @@ run x (y ∷ s) isnt = go (is_gap y) refl (run y s)
   where
     go : (b : Bool) → is_gap y ≡ b
         → (is_gap y ≡ false → tokens (y ∷ s) ≡ (y ∷ take (position_or_len is_gap s) s) ∷ tokens (drop (position_or_len is_gap s) s))
-        → tokens (x ∷ y ∷ s) ≡ (x ∷ take (cond (not b) (1 + position_or_len is_gap s) 0) (y ∷ s)) ∷ tokens (drop (cond (not b) (1 + position_or_len is_gap s) 0) (y ∷ s))
+        → tokens (x ∷ y ∷ s) ≡ (x ∷ take (cond (not b) (1 + position_or_len is_gap s) 0) (y ∷ s)) ∷ tokens
+        (drop (cond (not b) (1 + position_or_len is_gap s) 0) (y ∷ s))
     go true is rest = rw (isnt, is) refl
     go false other rest =
         let e : 1 + position_or_len is_gap s ≡ suc (position_or_len is_gap s) = omega arith in

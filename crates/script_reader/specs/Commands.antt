@@ -9,7 +9,8 @@ use Rattle.cf_base.specs.Settings.{Profile, profile_from, setting_fault}
 use Rattle.cf_base.specs.declared.settings.SettingFault.{SettingFault}
 use Rattle.cf_io.specs.Numbers.{number_in}
 use Rattle.script_reader.specs.declared.command.Command.{Command}
-use Rattle.script_reader.specs.declared.command.Command.TheVariants.{Malloc, Free, Write, Read, Place, Block, Peek, Walk, Frag, Steps, Bound, Resize, Slice, Task, Quota, Need, Admit}
+use Rattle.script_reader.specs.declared.command.Command.TheVariants.{Malloc, Free, Write, Read, Place, Block, Peek, Walk, Frag, Steps, Bound, Resize, Slice}
+use Rattle.script_reader.specs.declared.command.Command.TheVariants.{Task, Quota, Need, Admit}
 
 -- the second step, if the first gave a value
 infixl 10 ◌>>=◌

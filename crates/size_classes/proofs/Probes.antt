@@ -26,10 +26,12 @@ below_probe numbers n middle rising short less k lt = elim (cases_lt k middle) [
 ]
 
 -- where one number is left, it is the least that is large enough
-pub found_at : (numbers : List ℕ) (n low high : ℕ) → low ≡ high → high < length numbers → ((k : ℕ) → k < low → get_or numbers k 0 < n) → n ≤ get_or numbers high 0
+pub found_at : (numbers : List ℕ) (n low high : ℕ) → low ≡ high → high < length numbers → ((k : ℕ) → k < low → get_or numbers k 0 < n)
+    → n ≤ get_or numbers high 0
     → Some low ≡ position (λ s. nat_le n s) numbers
 found_at numbers n low high same short below large =
-    sym (position_is (λ s. nat_le n s) numbers low 0 (omega arith) (λ k h. lt-leb n (get_or numbers k 0) (below k h)) (le-leb n (get_or numbers low 0) (rw same large)))
+    sym (position_is (λ s. nat_le n s) numbers low 0 (omega arith) (λ k h. lt-leb n (get_or numbers k 0) (below k h))
+    (le-leb n (get_or numbers low 0) (rw same large)))
 
 pub class_of-none : (page_words : ℕ) (sizes : List ℕ) (bytes : ℕ) → AreSizes page_words sizes → page_words < need bytes → None ≡ class_of sizes bytes
 class_of-none p sizes bytes are large =

@@ -1,5 +1,6 @@
 -- Slots in words of 64 bits: what a write of one bit changes, and what the summaries say.
-use Rattle.std.proofs.Common.{◌≡◌, ◌≢◌, ℕ, ◌+◌, ◌-◌, ◌*◌, ◌/◌, ◌%◌, ◌^◌, ◌<◌, ◌≤◌, ◌==◌, Bool, true, false, cond, not, List, length, get_or, set, replicate, Some, None, arith, refl, ap, sym, ◌∙◌, inl, inr}
+use Rattle.std.proofs.Common.{◌≡◌, ◌≢◌, ℕ, ◌+◌, ◌-◌, ◌*◌, ◌/◌, ◌%◌, ◌^◌, ◌<◌, ◌≤◌, ◌==◌, Bool, true, false, cond, not, List, length, get_or, set, replicate}
+use Rattle.std.proofs.Common.{Some, None, arith, refl, ap, sym, ◌∙◌, inl, inr}
 use Rattle.std.specs.Prelude.{slice_get}
 use Rattle.std.specs.Int.{bit_at, div_ceil}
 use Rattle.std.specs.List.{position, count_by}
@@ -46,7 +47,8 @@ used_from_bit : (words : List ℕ) (i : ℕ) (b : Bool) → bit_at (get_or words
 used_from_bit words i true h = eq-eqb _ 1 h
 used_from_bit words i false h = ne_eqb _ 1 (λ e. absurd (omega arith))
 
-pub slot_told : (words : List ℕ) (n i : ℕ) (b : Bool) → i < n → bit_at (get_or words (i / 64) 0) (i % 64) ≡ cond b 1 0 → slice_get (slots_told words n) i ≡ Some b
+pub slot_told : (words : List ℕ) (n i : ℕ) (b : Bool) → i < n → bit_at (get_or words (i / 64) 0) (i % 64) ≡ cond b 1 0
+    → slice_get (slots_told words n) i ≡ Some b
 slot_told words n i b lt is =
     slice_get-get_or (slots_told words n) i b (omega (arith, length-slots_of words n)) ∙ ap Some (slot-at words n i b lt ∙ used_from_bit words i b is)
 
@@ -88,7 +90,8 @@ tidy_new n full few is = record {
 
 -- ---- one slot is written
 
-module _ (words : List ℕ) (n i w : ℕ) (b : Bool) (count : length words ≡ 64) (few : n ≤ 4096) (lt : i < n) (wrote : WritesBit 64 (get_or words (i / 64) 0) w (i % 64) b) where
+module _ (words : List ℕ) (n i w : ℕ) (b : Bool) (count : length words ≡ 64) (few : n ≤ 4096) (lt : i < n)
+    (wrote : WritesBit 64 (get_or words (i / 64) 0) w (i % 64) b) where
   written_here : is_used (set words (i / 64) w) i ≡ b
   written_here = used_from_bit (set words (i / 64) w) i b (rw (get_or-set_same words (i / 64) w 0 (omega arith)) wrote.at)
 
@@ -133,8 +136,10 @@ tidy_written words n i w old b f f' u u' c c' bf bu count tidy was wrote below w
     record {
       few = tidy.few;
       clean = λ k short. elim (cases_eq k (i / 64)) [ inl e ↦ rw (e, here) below | inr ne ↦ rw (there k ne) (tidy.clean k short) ];
-      some_free = summary_kept (i / 64) f f' bf (has_free words n) (has_free (set words (i / 64) w) n) wrote_f (rw here is_f) (λ k ne. rw (there k ne) refl) tidy.some_free;
-      some_used = summary_kept (i / 64) u u' bu (has_used words) (has_used (set words (i / 64) w)) wrote_u (rw here is_u) (λ k ne. rw (there k ne) refl) tidy.some_used;
+      some_free = summary_kept (i / 64) f f' bf (has_free words n) (has_free (set words (i / 64) w) n) wrote_f (rw here is_f)
+          (λ k ne. rw (there k ne) refl) tidy.some_free;
+      some_used = summary_kept (i / 64) u u' bu (has_used words) (has_used (set words (i / 64) w)) wrote_u (rw here is_u)
+          (λ k ne. rw (there k ne) refl) tidy.some_used;
       counted = rw (written words n i w b count few lt wrote) (omega (arith, counted_set (slots_told words n) i old b was, tidy.counted));
     }
 
@@ -163,10 +168,12 @@ module _ (words : List ℕ) (n i w f f' u u' c : ℕ) (count : length words ≡ 
   below : (b : Bool) → slice_get (slots_told words n) i ≡ Some b → w < 2 ^ bits_in n (i / 64)
   below b was = within _ (place b was).1 (tidy.clean (i / 64) (place b was).0)
 
-  pub tidy_set : (full : ℕ) → slice_get (slots_told words n) i ≡ Some false → WritesBit 64 (get_or words (i / 64) 0) w (i % 64) true → full + 1 ≡ 2 ^ bits_in n (i / 64)
+  pub tidy_set : (full : ℕ) → slice_get (slots_told words n) i ≡ Some false → WritesBit 64 (get_or words (i / 64) 0) w (i % 64) true
+      → full + 1 ≡ 2 ^ bits_in n (i / 64)
       → WritesBit 64 f f' (i / 64) (not (w == full)) → WritesBit 64 u u' (i / 64) true → IsValid (set words (i / 64) w) f' u' n (c + 1)
   tidy_set full was wrote is wrote_f wrote_u =
-      tidy_written words n i w false true f f' u u' c (c + 1) _ true count tidy was wrote (below false was) wrote_f (full_word w full _ is) wrote_u (bit_makes_used w (i % 64) wrote.at) (omega arith)
+      tidy_written words n i w false true f f' u u' c (c + 1) _ true count tidy was wrote (below false was) wrote_f (full_word w full _ is) wrote_u
+      (bit_makes_used w (i % 64) wrote.at) (omega arith)
 
   pub tidy_unset : slice_get (slots_told words n) i ≡ Some true → WritesBit 64 (get_or words (i / 64) 0) w (i % 64) false
       → WritesBit 64 f f' (i / 64) true → WritesBit 64 u u' (i / 64) (not (w == 0)) → IsValid (set words (i / 64) w) f' u' n (c - 1)
@@ -192,7 +199,8 @@ module _ (words : List ℕ) (f u n c : ℕ) (tidy : IsValid words f u n c) where
   none_free : (k : ℕ) → k < n → bit_at f (k / 64) ≡ 0 → bit_at (get_or words (k / 64) 0) (k % 64) ≡ 1
   none_free k lt off =
       let few : n ≤ 4096 = tidy.few in
-      let full : get_or words (k / 64) 0 + 1 ≡ 2 ^ bits_in n (k / 64) = off_is _ (get_or words (k / 64) 0 + 1) (2 ^ bits_in n (k / 64)) (tidy.some_free (k / 64) (omega arith)) off in
+      let full : get_or words (k / 64) 0 + 1 ≡ 2 ^ bits_in n (k / 64) =
+      off_is _ (get_or words (k / 64) 0 + 1) (2 ^ bits_in n (k / 64)) (tidy.some_free (k / 64) (omega arith)) off in
       let e : get_or words (k / 64) 0 ≡ 2 ^ bits_in n (k / 64) - 1 = omega arith in
       rw e (bit_at_ones (bits_in n (k / 64)) (k % 64) (omega arith))
 
@@ -216,7 +224,8 @@ module _ (words : List ℕ) (f u n c : ℕ) (tidy : IsValid words f u n c) where
     pub used_at : bit_at u j ≡ 1 → ((k : ℕ) → k < j → bit_at u k ≡ 0) → bit_at (get_or words j 0) b ≡ 1 → ((k : ℕ) → k < b → bit_at (get_or words j 0) k ≡ 0)
         → Some (64 * j + b) ≡ position (λ u. u) (slots_told words n)
     used_at on before here below =
-        let inside : b < bits_in n j = elim (cases_lt b (bits_in n j)) [ inl lt ↦ lt | inr ge ↦ absurd (omega (arith, bit_at_above (get_or words j 0) (bits_in n j) b (tidy.clean j short) ge)) ] in
+        let inside : b < bits_in n j = elim (cases_lt b (bits_in n j))
+        [ inl lt ↦ lt | inr ge ↦ absurd (omega (arith, bit_at_above (get_or words j 0) (bits_in n j) b (tidy.clean j short) ge)) ] in
         let lt : 64 * j + b < n = omega arith in
         let row : (64 * j + b) / 64 ≡ j = omega arith in
         let column : (64 * j + b) % 64 ≡ b = omega arith in
@@ -231,7 +240,8 @@ module _ (words : List ℕ) (f u n c : ℕ) (tidy : IsValid words f u n c) where
         → Some (64 * j + b) ≡ position (λ u. not u) (slots_told words n)
     free_at on before here below =
         let ne = on_is _ (get_or words j 0 + 1) (2 ^ bits_in n j) (tidy.some_free j short) on in
-        let full : bits_in n j ≤ b → get_or words j 0 ≡ 2 ^ bits_in n j - 1 = λ ge. same_from_bits_below (bits_in n j) (get_or words j 0) (2 ^ bits_in n j - 1) (tidy.clean j short)
+        let full : bits_in n j ≤ b → get_or words j 0 ≡ 2 ^ bits_in n j - 1 =
+        λ ge. same_from_bits_below (bits_in n j) (get_or words j 0) (2 ^ bits_in n j - 1) (tidy.clean j short)
         (omega (arith, pow_pos (bits_in n j))) (λ k h. below k (omega arith) ∙ sym (bit_at_ones (bits_in n j) k h)) in
         let inside : b < bits_in n j = elim (cases_lt b (bits_in n j)) [ inl lt ↦ lt | inr ge ↦ absurd (ne (omega (arith, full ge, pow_pos (bits_in n j)))) ] in
         let lt : 64 * j + b < n = omega arith in

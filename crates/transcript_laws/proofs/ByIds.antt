@@ -51,7 +51,8 @@ module _ (ids : Ids) (m : Objects) (names : AreNames ids m) where
   by_id_counts = counted_alike (objects_by_id ids m) ids m renamed
 
   -- where nothing changes but what one id names, the other ids have what they had
-  module _ (ids' : Ids) (m' : Objects) (id h : ℕ) (same_ids : (q : ℕ) → q ≢ id → get ids' q ≡ get ids q) (same : (g : ℕ) → g ≢ h → get m' g ≡ get m g) (own : (q g : ℕ) → q ≢ id → get ids q ≡ Some g → g ≢ h) where
+  module _ (ids' : Ids) (m' : Objects) (id h : ℕ) (same_ids : (q : ℕ) → q ≢ id → get ids' q ≡ get ids q) (same : (g : ℕ) → g ≢ h → get m' g ≡ get m g)
+      (own : (q g : ℕ) → q ≢ id → get ids q ≡ Some g → g ≢ h) where
     under : (q : ℕ) → q ≢ id → (o : Option ℕ) → get ids q ≡ o → option_map (bytes_under m') o ≡ option_map (bytes_under m) o
     under q ne None e = refl
     under q ne (Some g) e = ap (λ o. Some (unwrap_or o [])) (same g (own q g ne e))
@@ -63,8 +64,10 @@ module _ (ids : Ids) (m : Objects) (names : AreNames ids m) where
   -- a fresh id comes with a fresh number
   pub by_id_given : (id h : ℕ) (v : List ℕ) → get m h ≡ None → objects_by_id (insert ids id h) (insert m h v) ≡ insert (objects_by_id ids m) id v
   by_id_given id h v unused = equal_maps _ _ (λ q. elim (cases_eq q id) [
-    | inl is ↦ rw is (live_by_id (insert ids id h) (insert m h v) id h v (get_inserted ids id h) (get_inserted m h v) ∙ sym (get_inserted (objects_by_id ids m) id v))
-    | inr ne ↦ elsewhere (insert ids id h) (insert m h v) id h (λ q ne. get_insert_other ids id h q ne) (λ g ne. get_insert_other m h v g ne) own q ne ∙ sym (get_insert_other (objects_by_id ids m) id v q ne)
+    | inl is ↦ rw is (live_by_id (insert ids id h) (insert m h v) id h v (get_inserted ids id h) (get_inserted m h v)
+        ∙ sym (get_inserted (objects_by_id ids m) id v))
+    | inr ne ↦ elsewhere (insert ids id h) (insert m h v) id h (λ q ne. get_insert_other ids id h q ne) (λ g ne. get_insert_other m h v g ne) own q ne
+        ∙ sym (get_insert_other (objects_by_id ids m) id v q ne)
   ])
     where
       own : (q g : ℕ) → q ≢ id → get ids q ≡ Some g → g ≢ h
@@ -81,12 +84,14 @@ module _ (ids : Ids) (m : Objects) (names : AreNames ids m) where
     pub by_id_gone : objects_by_id (remove ids id) (remove m h) ≡ remove (objects_by_id ids m) id
     by_id_gone = equal_maps _ _ (λ q. elim (cases_eq q id) [
       | inl is ↦ rw is (gone_by_id (remove ids id) (remove m h) id (get_removed ids id) ∙ sym (get_removed (objects_by_id ids m) id))
-      | inr ne ↦ elsewhere (remove ids id) (remove m h) id h (λ q ne. get_remove_other ids id q ne) (λ g ne. get_remove_other m h g ne) own q ne ∙ sym (get_remove_other (objects_by_id ids m) id q ne)
+      | inr ne ↦ elsewhere (remove ids id) (remove m h) id h (λ q ne. get_remove_other ids id q ne) (λ g ne. get_remove_other m h g ne) own q ne
+          ∙ sym (get_remove_other (objects_by_id ids m) id q ne)
     ])
 
     -- what an id names gets other bytes
     pub by_id_changed : (v : List ℕ) → objects_by_id ids (insert m h v) ≡ insert (objects_by_id ids m) id v
     by_id_changed v = equal_maps _ _ (λ q. elim (cases_eq q id) [
       | inl is ↦ rw is (live_by_id ids (insert m h v) id h v named (get_inserted m h v) ∙ sym (get_inserted (objects_by_id ids m) id v))
-      | inr ne ↦ elsewhere ids (insert m h v) id h (λ q ne. refl) (λ g ne. get_insert_other m h v g ne) own q ne ∙ sym (get_insert_other (objects_by_id ids m) id v q ne)
+      | inr ne ↦ elsewhere ids (insert m h v) id h (λ q ne. refl) (λ g ne. get_insert_other m h v g ne) own q ne
+          ∙ sym (get_insert_other (objects_by_id ids m) id v q ne)
     ])

@@ -41,7 +41,8 @@ lacks_in k s bytes paged lacks = rw (paged, LacksRoomIn) lacks
 pub write_within : (v : List ℕ) (at count : ℕ) → at + count ≤ length v → write_fault v at count ≡ None
 write_within v at count within = (let e = le_true (at + count) (length v) within in rw e)
 
-pub write_past : (s : HeapState) (part : Part) (count : ℕ) (x : Placed) (e : AccessFault) → get s.held part.number ≡ Some x → IsFault s part count e → write_fault x.bytes part.from count ≡ Some e
+pub write_past : (s : HeapState) (part : Part) (count : ℕ) (x : Placed) (e : AccessFault) → get s.held part.number ≡ Some x → IsFault s part count e
+    → write_fault x.bytes part.from count ≡ Some e
 write_past s part count x access.Unknown found none = absurd (not_none_found s.held part.number x found none)
 write_past s part count x access.Range found cause =
     let same : Some cause.object ≡ Some x = sym cause.found ∙ found in
@@ -62,15 +63,20 @@ module _ (s : RunState) (going : IsGoing s) (paged : IsPaged s.heap.kind) (ones 
   pages = pages_kept s.heap.kind s.heap paged going.rules.of_kind
 
   -- there is no room exactly where the pages are passed by arithmetic
-  room : (bytes : ℕ) → need bytes ≤ s.heap.profile.page_words → LacksRoom (paging_in s.heap) s.heap.held (class_for (paging_in s.heap) bytes) ↔ (s.heap.profile.pages < pages_needed_with (paging_in s.heap) (by_id s).objects bytes)
+  room : (bytes : ℕ) → need bytes ≤ s.heap.profile.page_words → LacksRoom (paging_in s.heap) s.heap.held (class_for (paging_in s.heap) bytes)
+      ↔ (s.heap.profile.pages < pages_needed_with (paging_in s.heap) (by_id s).objects bytes)
   room bytes fits =
-      let lacks = lacks_room_at_one (paging_in s.heap) pages.paging ones s.heap.held pages.sound bytes (class_fits (paging_in s.heap) pages.paging bytes fits) in
-      subst (λ k. LacksRoom (paging_in s.heap) s.heap.held (class_for (paging_in s.heap) bytes) ↔ (s.heap.profile.pages < k)) (sym (needed_with_alike (paging_in s.heap) (objects s.heap.held) (by_id s).objects (objects_alike s going) bytes)) lacks
+      let lacks = lacks_room_at_one (paging_in s.heap) pages.paging ones s.heap.held pages.sound bytes
+      (class_fits (paging_in s.heap) pages.paging bytes fits) in
+      subst (λ k. LacksRoom (paging_in s.heap) s.heap.held (class_for (paging_in s.heap) bytes) ↔ (s.heap.profile.pages < k))
+      (sym (needed_with_alike (paging_in s.heap) (objects s.heap.held) (by_id s).objects (objects_alike s going) bytes)) lacks
 
-  passes : (bytes : ℕ) → need bytes ≤ s.heap.profile.page_words → LacksRoom (paging_in s.heap) s.heap.held (class_for (paging_in s.heap) bytes) → passes_pages (by_id s) bytes ≡ true
+  passes : (bytes : ℕ) → need bytes ≤ s.heap.profile.page_words → LacksRoom (paging_in s.heap) s.heap.held (class_for (paging_in s.heap) bytes)
+      → passes_pages (by_id s) bytes ≡ true
   passes bytes fits lacks = lt_true _ _ ((room bytes fits).0 lacks)
 
-  stays : (bytes : ℕ) → need bytes ≤ s.heap.profile.page_words → (LacksRoom (paging_in s.heap) s.heap.held (class_for (paging_in s.heap) bytes) → ⊥) → passes_pages (by_id s) bytes ≡ false
+  stays : (bytes : ℕ) → need bytes ≤ s.heap.profile.page_words → (LacksRoom (paging_in s.heap) s.heap.held (class_for (paging_in s.heap) bytes) → ⊥)
+      → passes_pages (by_id s) bytes ≡ false
   stays bytes fits has = elim (cases_lt s.heap.profile.pages (pages_needed_with (paging_in s.heap) (by_id s).objects bytes)) [
     | inl more ↦ absurd (has ((room bytes fits).1 more))
     | inr enough ↦ lt_false _ _ enough
@@ -98,7 +104,8 @@ module _ (s : RunState) (going : IsGoing s) (paged : IsPaged s.heap.kind) (ones 
       let few = given.few in
       let same = as_many s going in
       let f = eq_no (len (by_id s).objects) s.heap.profile.proxies (λ is. omega arith) in
-      let g = stays asked.length given.fits (λ lacks. given_is_not_refused s.heap new asked given refusal.Space (record { fits = given.fits; few = given.few; lacking = lacks_in s.heap.kind s.heap asked.length paged lacks })) in
+      let g = stays asked.length given.fits (λ lacks. given_is_not_refused s.heap new asked given refusal.Space
+      (record { fits = given.fits; few = given.few; lacking = lacks_in s.heap.kind s.heap asked.length paged lacks })) in
       rw (e, f, g)
 
   module _ (asked : Request) (x : Placed) (found : get s.heap.held asked.number ≡ Some x) where
@@ -110,7 +117,8 @@ module _ (s : RunState) (going : IsGoing s) (paged : IsPaged s.heap.kind) (ones 
     resize_refused resize.Space cause =
         let same : Some cause.object ≡ Some x = sym cause.found ∙ found in
         let is : cause.object ≡ x = cc in
-        let other : class_for (paging_in s.heap) asked.length ≢ class_at (paging_in s.heap) x = subst (λ y. class_for (paging_in s.heap) asked.length ≢ class_at (paging_in s.heap) y) is cause.other in
+        let other : class_for (paging_in s.heap) asked.length ≢ class_at (paging_in s.heap) x =
+        subst (λ y. class_for (paging_in s.heap) asked.length ≢ class_at (paging_in s.heap) y) is cause.other in
         let e = lt_false s.heap.profile.page_words (need asked.length) cause.fits in
         let f = eq_no (class_for (paging_in s.heap) asked.length) (class_at (paging_in s.heap) x) other in
         let g = passes asked.length cause.fits cause.lacking in
@@ -126,7 +134,8 @@ module _ (s : RunState) (going : IsGoing s) (paged : IsPaged s.heap.kind) (ones 
             found = found;
             pages = paged;
             fits = r.fits;
-            other = λ is. (let yes = eq_yes (class_for (paging_in s.heap) asked.length) (class_at (paging_in s.heap) x) is in absurd (let e : true ≡ false = sym yes ∙ other in cc));
+            other = λ is. (let yes = eq_yes (class_for (paging_in s.heap) asked.length) (class_at (paging_in s.heap) x) is in absurd
+                (let e : true ≡ false = sym yes ∙ other in cc));
             lacking = lacks;
           })) in
           rw (fits, other, g))

@@ -22,7 +22,8 @@ use Rattle.cf_model.specs.Rules.{IsPaged}
 use Rattle.cf_model.specs.State.{HeapState, paging_in}
 use Rattle.cf_model.specs.Steps.{IsMallocStep, IsResizeStep, IsUnmoved, IsWriteStep}
 use Rattle.script_reader.specs.declared.command.Command.{Command}
-use Rattle.script_reader.specs.declared.command.Command.TheVariants.{Malloc, Free, Write, Read, Place, Block, Peek, Walk, Frag, Steps, Bound, Resize, Slice, Task, Quota, Need, Admit}
+use Rattle.script_reader.specs.declared.command.Command.TheVariants.{Malloc, Free, Write, Read, Place, Block, Peek, Walk, Frag, Steps, Bound, Resize, Slice}
+use Rattle.script_reader.specs.declared.command.Command.TheVariants.{Task, Quota, Need, Admit}
 use Rattle.run_model.specs.Replies.{malloc_text, read_text, resize_text, write_text}
 use Rattle.run_model.specs.Sessions.{Ids, IsGoing, RunState, SessionState, counted}
 use Rattle.run_model.specs.Steps.{Bounds, FreesAt, MallocsAt, ResizesAt, Step, WritesAt, bound_text, class_to_bound, ids_given, session_resized}
@@ -30,7 +31,8 @@ use Rattle.run_model.specs.Texts.{Reply, said}
 use Rattle.run_model.proofs.CallerLemmas.{step_same, AreNames, names_in, names_of_objects, unmoved_changes_cost, unmoved_held}
 use Rattle.transcript_laws.specs.ById.{ById}
 use Rattle.transcript_laws.specs.Histories.{by_id, objects_by_id}
-use Rattle.transcript_laws.specs.Replies.{after_by_id, bounds_with, class_bounded, free_said, malloc_leaves, malloc_said, ok_or, put_unless, read_said, reply_by_id, resize_leaves, resize_said, write_fault, write_leaves, write_said}
+use Rattle.transcript_laws.specs.Replies.{after_by_id, bounds_with, class_bounded, free_said, malloc_leaves, malloc_said, ok_or, put_unless, read_said}
+use Rattle.transcript_laws.specs.Replies.{reply_by_id, resize_leaves, resize_said, write_fault, write_leaves, write_said}
 use Rattle.transcript_laws.specs.Transcripts.{IsAtOne, TellsNoPlace}
 use Rattle.transcript_laws.proofs.ByIds.{by_id_changed, by_id_given, by_id_gone, gone_by_id, live_by_id}
 use Rattle.transcript_laws.proofs.Faults.{as_many, malloc_given, malloc_refused, resize_done, resize_refused, write_past, write_within}
@@ -88,16 +90,22 @@ module _ (old : RunState) (going : IsGoing old) where
   -- the object of a live id
   object : (id h : ℕ) → get ids id ≡ Some h → (x : Placed) × (get old.heap.held h ≡ Some x) × (get t.objects id ≡ Some x.bytes)
   object id h named =
-      let x = going.tied.named id h named in
-      (x.0, x.1, live_by_id ids m id h x.0.bytes named (get-map_values (λ (x : Placed). x.bytes) old.heap.held h ∙ ap (option_map (λ (x : Placed). x.bytes)) x.1))
+      let x = going.tied.named id h named in (
+        x.0,
+        x.1,
+        live_by_id ids m id h x.0.bytes named (get-map_values (λ (x : Placed). x.bytes) old.heap.held h
+            ∙ ap (option_map (λ (x : Placed). x.bytes)) x.1),
+      )
 
   module _ (new : RunState) where
     -- a state by id with other bounds and objects
-    becomes : (bounds : List ℕ) (after : Objects) → new.heap.kind ≡ old.heap.kind → new.heap.profile ≡ old.heap.profile → new.heap.bounds ≡ bounds → objects_by_id new.session.ids (objects new.heap.held) ≡ after → by_id new ≡ record t { bounds = bounds; objects = after }
+    becomes : (bounds : List ℕ) (after : Objects) → new.heap.kind ≡ old.heap.kind → new.heap.profile ≡ old.heap.profile → new.heap.bounds ≡ bounds
+        → objects_by_id new.session.ids (objects new.heap.held) ≡ after → by_id new ≡ record t { bounds = bounds; objects = after }
     becomes bounds after k p b o = λ i. record { kind = k i; profile = p i; bounds = b i; objects = o i }
 
     -- a session with these ids, and these objects
-    objects_are : (session : SessionState) (ids' : Ids) (m' : Objects) → new.session ≡ session → session.ids ≡ ids' → objects new.heap.held ≡ m' → objects_by_id new.session.ids (objects new.heap.held) ≡ objects_by_id ids' m'
+    objects_are : (session : SessionState) (ids' : Ids) (m' : Objects) → new.session ≡ session → session.ids ≡ ids' → objects new.heap.held ≡ m'
+        → objects_by_id new.session.ids (objects new.heap.held) ≡ objects_by_id ids' m'
     objects_are session ids' m' e i o = λ j. objects_by_id ((ap (λ (s : SessionState). s.ids) e ∙ i) j) (o j)
 
     -- nothing changes
@@ -106,14 +114,18 @@ module _ (old : RunState) (going : IsGoing old) where
 
     module _ (paged : IsPaged old.heap.kind) (ones : AreOne (paging_in old.heap)) where
       -- m
-      malloc_answer : (id bytes : ℕ) (reply : Reply) (answer : Result Handle Refusal) → get ids id ≡ None → new.heap.kind ≡ old.heap.kind → new.heap.profile ≡ old.heap.profile → IsMallocStep old.heap bytes answer new.heap → new.session.ids ≡ ids_given ids id answer → reply ≡ said (malloc_text answer)
+      malloc_answer : (id bytes : ℕ) (reply : Reply) (answer : Result Handle Refusal) → get ids id ≡ None → new.heap.kind ≡ old.heap.kind
+          → new.heap.profile ≡ old.heap.profile → IsMallocStep old.heap bytes answer new.heap → new.session.ids ≡ ids_given ids id answer
+          → reply ≡ said (malloc_text answer)
           → (reply ≡ said (malloc_said None t bytes)) × (by_id new ≡ record t { objects = malloc_leaves None t (record { number = id; length = bytes }) })
       malloc_answer id bytes reply (Ok h) none k p step e r =
           let fault = malloc_given old going paged ones (record { number = h.0; length = bytes }) new.heap step in
           let whole = step.whole in
           let unused : get m h.0 ≡ None = get-map_values (λ (x : Placed). x.bytes) old.heap.held h.0 ∙ ap (option_map (λ (x : Placed). x.bytes)) step.unused in
-          let left : objects new.heap.held ≡ insert m h.0 (replicate bytes 0) = ap (λ (s : HeapState). objects s.held) whole ∙ malloc_objects old.heap.held h.0 step.place bytes in
-          let o : objects_by_id new.session.ids (objects new.heap.held) ≡ insert t.objects id (replicate bytes 0) = (λ i. objects_by_id (e i) (left i)) ∙ by_id_given ids m names id h.0 (replicate bytes 0) unused in (
+          let left : objects new.heap.held ≡ insert m h.0 (replicate bytes 0) = ap (λ (s : HeapState). objects s.held) whole
+          ∙ malloc_objects old.heap.held h.0 step.place bytes in
+          let o : objects_by_id new.session.ids (objects new.heap.held) ≡ insert t.objects id (replicate bytes 0) = (λ i. objects_by_id (e i) (left i))
+          ∙ by_id_given ids m names id h.0 (replicate bytes 0) unused in (
             r ∙ ap (λ f. said (ok_or (λ e. malloc_text (Err e)) f)) (sym fault),
             becomes t.bounds _ k p (ap (λ (s : HeapState). s.bounds) whole) (o ∙ ap (λ f. put_unless f t.objects id (replicate bytes 0)) (sym fault)),
           )
@@ -124,10 +136,12 @@ module _ (old : RunState) (going : IsGoing old) where
             becomes t.bounds _ k p (ap (λ (s : HeapState). s.bounds) step.1) (o ∙ ap (λ f. put_unless f t.objects id (replicate bytes 0)) (sym fault)),
           )
 
-      malloc_at : (o : Option ℕ) (id bytes : ℕ) (reply : Reply) → get ids id ≡ o → new.heap.kind ≡ old.heap.kind → new.heap.profile ≡ old.heap.profile → MallocsAt o old (record { number = id; length = bytes }) reply new → Follows old (Malloc id bytes) reply new
+      malloc_at : (o : Option ℕ) (id bytes : ℕ) (reply : Reply) → get ids id ≡ o → new.heap.kind ≡ old.heap.kind → new.heap.profile ≡ old.heap.profile
+          → MallocsAt o old (record { number = id; length = bytes }) reply new → Follows old (Malloc id bytes) reply new
       malloc_at (Some h) id bytes reply named k p step =
           let x = object id h named in
-          stays (Malloc id bytes) reply step.1 (step.0 ∙ ap (λ o. said (malloc_said o t bytes)) (sym x.2)) (ap (λ o. record t { objects = malloc_leaves o t (record { number = id; length = bytes }) }) (sym x.2))
+          stays (Malloc id bytes) reply step.1 (step.0 ∙ ap (λ o. said (malloc_said o t bytes)) (sym x.2))
+          (ap (λ o. record t { objects = malloc_leaves o t (record { number = id; length = bytes }) }) (sym x.2))
       malloc_at None id bytes reply none k p step =
           let gone = gone_by_id ids m id none in
           let a = malloc_answer id bytes reply step.answer none k p step.step (ap (λ (s : SessionState). s.ids) step.session) step.reply_is in
@@ -137,14 +151,18 @@ module _ (old : RunState) (going : IsGoing old) where
           }
 
       -- z
-      resize_answer : (id h bytes : ℕ) (x : Placed) (reply : Reply) (answer : Result Resized ResizeFault) → get ids id ≡ Some h → get old.heap.held h ≡ Some x → new.heap.kind ≡ old.heap.kind → new.heap.profile ≡ old.heap.profile → IsResizeStep old.heap (record { number = h; length = bytes }) answer new.heap → new.session.ids ≡ ids → reply ≡ said (resize_text answer)
-          → (reply ≡ said (resize_said (Some x.bytes) t bytes)) × (by_id new ≡ record t { objects = resize_leaves (Some x.bytes) t (record { number = id; length = bytes }) })
+      resize_answer : (id h bytes : ℕ) (x : Placed) (reply : Reply) (answer : Result Resized ResizeFault) → get ids id ≡ Some h → get old.heap.held h ≡ Some x
+          → new.heap.kind ≡ old.heap.kind → new.heap.profile ≡ old.heap.profile → IsResizeStep old.heap (record { number = h; length = bytes }) answer new.heap
+          → new.session.ids ≡ ids → reply ≡ said (resize_text answer)
+          → (reply ≡ said (resize_said (Some x.bytes) t bytes))
+          × (by_id new ≡ record t { objects = resize_leaves (Some x.bytes) t (record { number = id; length = bytes }) })
       resize_answer id h bytes x reply (Ok done) named found k p step e r =
           let fault = resize_done old going paged ones (record { number = h; length = bytes }) x found done new.heap step in
           let same : Some step.object ≡ Some x = sym step.found ∙ found in
           let is : step.object ≡ x = cc in
           let left : objects new.heap.held ≡ insert m h (resized x.bytes bytes) = step.left ∙ ap (λ (y : Placed). insert m h (resized y.bytes bytes)) is in
-          let o : objects_by_id new.session.ids (objects new.heap.held) ≡ insert t.objects id (resized x.bytes bytes) = (λ i. objects_by_id (e i) (left i)) ∙ by_id_changed ids m names id h named (resized x.bytes bytes) in (
+          let o : objects_by_id new.session.ids (objects new.heap.held) ≡ insert t.objects id (resized x.bytes bytes) = (λ i. objects_by_id (e i) (left i))
+          ∙ by_id_changed ids m names id h named (resized x.bytes bytes) in (
             r ∙ ap (λ f. said (ok_or (λ e. resize_text (Err e)) f)) (sym fault),
             becomes t.bounds _ k p (ap (λ (s : HeapState). s.bounds) step.whole) (o ∙ ap (λ f. put_unless f t.objects id (resized x.bytes bytes)) (sym fault)),
           )
@@ -153,45 +171,58 @@ module _ (old : RunState) (going : IsGoing old) where
           let left : objects new.heap.held ≡ m = ap objects (unmoved_held old.heap.kind old.heap new.heap step.1) in
           let o : objects_by_id new.session.ids (objects new.heap.held) ≡ t.objects = λ i. objects_by_id (e i) (left i) in (
             r ∙ ap (λ f. said (ok_or (λ e. resize_text (Err e)) f)) (sym fault),
-            becomes t.bounds _ k p (unmoved_bounds old.heap.kind old.heap new.heap step.1) (o ∙ ap (λ f. put_unless f t.objects id (resized x.bytes bytes)) (sym fault)),
+            becomes t.bounds _ k p (unmoved_bounds old.heap.kind old.heap new.heap step.1)
+                (o ∙ ap (λ f. put_unless f t.objects id (resized x.bytes bytes)) (sym fault)),
           )
 
-      resize_at : (o : Option ℕ) (id bytes : ℕ) (reply : Reply) → get ids id ≡ o → new.heap.kind ≡ old.heap.kind → new.heap.profile ≡ old.heap.profile → ResizesAt o old bytes reply new → Follows old (Resize id bytes) reply new
+      resize_at : (o : Option ℕ) (id bytes : ℕ) (reply : Reply) → get ids id ≡ o → new.heap.kind ≡ old.heap.kind → new.heap.profile ≡ old.heap.profile
+          → ResizesAt o old bytes reply new → Follows old (Resize id bytes) reply new
       resize_at None id bytes reply none k p step =
           let gone = gone_by_id ids m id none in
-          stays (Resize id bytes) reply step.1 (step.0 ∙ ap (λ o. said (resize_said o t bytes)) (sym gone)) (ap (λ o. record t { objects = resize_leaves o t (record { number = id; length = bytes }) }) (sym gone))
+          stays (Resize id bytes) reply step.1 (step.0 ∙ ap (λ o. said (resize_said o t bytes)) (sym gone))
+          (ap (λ o. record t { objects = resize_leaves o t (record { number = id; length = bytes }) }) (sym gone))
       resize_at (Some h) id bytes reply named k p step =
           let x = object id h named in
-          let a = resize_answer id h bytes x.0 reply step.answer named x.1 k p step.step (ap (λ (s : SessionState). s.ids) step.session ∙ resized_ids _ step.answer) step.reply_is in
+          let a = resize_answer id h bytes x.0 reply step.answer named x.1 k p step.step
+          (ap (λ (s : SessionState). s.ids) step.session ∙ resized_ids _ step.answer) step.reply_is in
           record {
             reply_is = a.0 ∙ ap (λ o. said (resize_said o t bytes)) (sym x.2);
             state_is = a.1 ∙ ap (λ o. record t { objects = resize_leaves o t (record { number = id; length = bytes }) }) (sym x.2);
           }
 
     -- f
-    free_at : (o : Option ℕ) (id : ℕ) (reply : Reply) → get ids id ≡ o → new.heap.kind ≡ old.heap.kind → new.heap.profile ≡ old.heap.profile → FreesAt o old id reply new → Follows old (Free id) reply new
+    free_at : (o : Option ℕ) (id : ℕ) (reply : Reply) → get ids id ≡ o → new.heap.kind ≡ old.heap.kind → new.heap.profile ≡ old.heap.profile
+        → FreesAt o old id reply new → Follows old (Free id) reply new
     free_at None id reply none k p step =
         let gone = gone_by_id ids m id none in
-        stays (Free id) reply step.1 (step.0 ∙ ap (λ o. said (free_said o)) (sym gone)) (ap (λ o. record t { objects = o }) (sym (remove_none t.objects id gone)))
+        stays (Free id) reply step.1 (step.0 ∙ ap (λ o. said (free_said o)) (sym gone))
+        (ap (λ o. record t { objects = o }) (sym (remove_none t.objects id gone)))
     free_at (Some h) id reply named k p step =
         let x = object id h named in
         let e : new.session.ids ≡ remove ids id = ap (λ (s : SessionState). s.ids) step.session ∙ counted_ids _ step.freed.moved _ in
         let left = step.step.left in
-        let o : objects_by_id new.session.ids (objects new.heap.held) ≡ remove t.objects id = (λ i. objects_by_id (e i) (left i)) ∙ by_id_gone ids m names id h named in
+        let o : objects_by_id new.session.ids (objects new.heap.held) ≡ remove t.objects id = (λ i. objects_by_id (e i) (left i))
+        ∙ by_id_gone ids m names id h named in
         record {
           reply_is = step.reply_is ∙ ap (λ o. said (free_said o)) (sym x.2);
           state_is = becomes t.bounds _ k p step.step.rest.bounds o;
         }
 
     -- w
-    write_answer : (id h at : ℕ) (bytes : List ℕ) (x : Placed) (reply : Reply) (answer : Result Unit AccessFault) → get ids id ≡ Some h → get old.heap.held h ≡ Some x → new.heap.kind ≡ old.heap.kind → new.heap.profile ≡ old.heap.profile → IsWriteStep old.heap (record { number = h; from = at }) bytes answer new.heap → new.session.ids ≡ ids → reply ≡ said (write_text answer)
-        → (reply ≡ said (write_said (Some x.bytes) at (length bytes))) × (by_id new ≡ record t { objects = write_leaves (Some x.bytes) t.objects (record { id = id; at = at; bytes = bytes }) })
+    write_answer : (id h at : ℕ) (bytes : List ℕ) (x : Placed) (reply : Reply) (answer : Result Unit AccessFault) → get ids id ≡ Some h
+        → get old.heap.held h ≡ Some x → new.heap.kind ≡ old.heap.kind → new.heap.profile ≡ old.heap.profile
+        → IsWriteStep old.heap (record { number = h; from = at }) bytes answer new.heap → new.session.ids ≡ ids → reply ≡ said (write_text answer)
+        → (reply ≡ said (write_said (Some x.bytes) at (length bytes)))
+        × (by_id new ≡ record t { objects = write_leaves (Some x.bytes) t.objects (record { id = id; at = at; bytes = bytes }) })
     write_answer id h at bytes x reply (Ok u) named found k p step e r =
         let same : Some step.object ≡ Some x = sym step.found ∙ found in
         let is : step.object ≡ x = cc in
-        let fault : write_fault x.bytes at (length bytes) ≡ None = subst (λ (y : Placed). write_fault y.bytes at (length bytes) ≡ None) is (write_within step.object.bytes at (length bytes) step.within) in
-        let left : objects new.heap.held ≡ insert m h (written x.bytes at bytes) = ap (λ (s : HeapState). objects s.held) step.whole ∙ map_values-insert (λ (x : Placed). x.bytes) old.heap.held h _ ∙ ap (λ (y : Placed). insert m h (written y.bytes at bytes)) is in
-        let o : objects_by_id new.session.ids (objects new.heap.held) ≡ insert t.objects id (written x.bytes at bytes) = (λ i. objects_by_id (e i) (left i)) ∙ by_id_changed ids m names id h named (written x.bytes at bytes) in (
+        let fault : write_fault x.bytes at (length bytes) ≡ None =
+        subst (λ (y : Placed). write_fault y.bytes at (length bytes) ≡ None) is (write_within step.object.bytes at (length bytes) step.within) in
+        let left : objects new.heap.held ≡ insert m h (written x.bytes at bytes) = ap (λ (s : HeapState). objects s.held) step.whole
+        ∙ map_values-insert (λ (x : Placed). x.bytes) old.heap.held h _ ∙ ap (λ (y : Placed). insert m h (written y.bytes at bytes)) is in
+        let o : objects_by_id new.session.ids (objects new.heap.held) ≡ insert t.objects id (written x.bytes at bytes) = (λ i. objects_by_id (e i) (left i))
+        ∙ by_id_changed ids m names id h named (written x.bytes at bytes) in (
           r ∙ ap (λ f. said (ok_or (λ e. write_text (Err e)) f)) (sym fault),
           becomes t.bounds _ k p (ap (λ (s : HeapState). s.bounds) step.whole) (o ∙ ap (λ f. put_unless f t.objects id (written x.bytes at bytes)) (sym fault)),
         )
@@ -202,10 +233,12 @@ module _ (old : RunState) (going : IsGoing old) where
           becomes t.bounds _ k p (ap (λ (s : HeapState). s.bounds) step.1) (o ∙ ap (λ f. put_unless f t.objects id (written x.bytes at bytes)) (sym fault)),
         )
 
-    write_at : (o : Option ℕ) (id at : ℕ) (bytes : List ℕ) (reply : Reply) → get ids id ≡ o → new.heap.kind ≡ old.heap.kind → new.heap.profile ≡ old.heap.profile → WritesAt o old at bytes reply new → Follows old (Write id at bytes) reply new
+    write_at : (o : Option ℕ) (id at : ℕ) (bytes : List ℕ) (reply : Reply) → get ids id ≡ o → new.heap.kind ≡ old.heap.kind
+        → new.heap.profile ≡ old.heap.profile → WritesAt o old at bytes reply new → Follows old (Write id at bytes) reply new
     write_at None id at bytes reply none k p step =
         let gone = gone_by_id ids m id none in
-        stays (Write id at bytes) reply step.1 (step.0 ∙ ap (λ o. said (write_said o at (length bytes))) (sym gone)) (ap (λ o. record t { objects = write_leaves o t.objects (record { id = id; at = at; bytes = bytes }) }) (sym gone))
+        stays (Write id at bytes) reply step.1 (step.0 ∙ ap (λ o. said (write_said o at (length bytes))) (sym gone))
+        (ap (λ o. record t { objects = write_leaves o t.objects (record { id = id; at = at; bytes = bytes }) }) (sym gone))
     write_at (Some h) id at bytes reply named k p step =
         let x = object id h named in
         let a = write_answer id h at bytes x.0 reply step.answer named x.1 k p step.step (ap (λ (s : SessionState). s.ids) step.session) step.reply_is in
@@ -218,17 +251,22 @@ module _ (old : RunState) (going : IsGoing old) where
     class_is : (words : ℕ) → IsPaged old.heap.kind → class_to_bound old.heap words ≡ class_bounded t words
     class_is words paged = λ i. cond (nat_eq (sym (as_many old going) i) 0) (class_with_is old.heap.kind old.heap words paged i) None
 
-    bound_step : (words k : ℕ) (reply : Reply) → IsPaged old.heap.kind → new.heap.kind ≡ old.heap.kind → new.heap.profile ≡ old.heap.profile → Bounds old words k reply new → Follows old (Bound words k) reply new
+    bound_step : (words k : ℕ) (reply : Reply) → IsPaged old.heap.kind → new.heap.kind ≡ old.heap.kind → new.heap.profile ≡ old.heap.profile
+        → Bounds old words k reply new → Follows old (Bound words k) reply new
     bound_step words k reply paged same p step =
         let c = class_is words paged in
-        let o : objects_by_id new.session.ids (objects new.heap.held) ≡ t.objects = objects_are old.session ids m step.session refl (ap (λ (s : HeapState). objects s.held) step.heap ∙ ap objects (put_held old.heap (class_to_bound old.heap words) k)) in
+        let o : objects_by_id new.session.ids (objects new.heap.held) ≡ t.objects =
+        objects_are old.session ids m step.session refl (ap (λ (s : HeapState). objects s.held) step.heap
+        ∙ ap objects (put_held old.heap (class_to_bound old.heap words) k)) in
         record {
           reply_is = step.reply_is ∙ ap (λ c. said (bound_text c)) c;
-          state_is = becomes _ _ same p (ap (λ (s : HeapState). s.bounds) step.heap ∙ put_bounds old.heap (class_to_bound old.heap words) k ∙ ap (λ c. bounds_with t.bounds c k) c) o;
+          state_is = becomes _ _ same p (ap (λ (s : HeapState). s.bounds) step.heap ∙ put_bounds old.heap (class_to_bound old.heap words) k
+              ∙ ap (λ c. bounds_with t.bounds c k) c) o;
         }
 
   -- r: the bytes alone are told
-  read_is : (o : Option ℕ) (id at count : ℕ) → get ids id ≡ o → read_text (elim o [ None ↦ None | Some h ↦ get old.heap.held h ]) at count ≡ read_said (get t.objects id) at count
+  read_is : (o : Option ℕ) (id at count : ℕ) → get ids id ≡ o
+      → read_text (elim o [ None ↦ None | Some h ↦ get old.heap.held h ]) at count ≡ read_said (get t.objects id) at count
   read_is None id at count none = ap (λ o. read_said o at count) (sym (gone_by_id ids m id none))
   read_is (Some h) id at count named =
       let x = object id h named in
@@ -240,12 +278,18 @@ module _ (old new : RunState) (going : IsGoing old) (paged : IsPaged old.heap.ki
 
   -- where every bound is 1, each command but those that tell addresses and costs is answered by the objects by id
   pub step_follows : (c : Command) (reply : Reply) → IsAtOne (by_id old) c → TellsNoPlace c → Step old c reply new → Follows old c reply new
-  step_follows (Malloc id bytes) reply ones none step = (let s = same_parts (Malloc id bytes) reply step in malloc_at old going new paged ones (get old.session.ids id) id bytes reply refl s.0 s.1 step)
-  step_follows (Free id) reply ones none step = (let s = same_parts (Free id) reply step in free_at old going new (get old.session.ids id) id reply refl s.0 s.1 step)
-  step_follows (Write id at bytes) reply ones none step = (let s = same_parts (Write id at bytes) reply step in write_at old going new (get old.session.ids id) id at bytes reply refl s.0 s.1 step)
-  step_follows (Resize id bytes) reply ones none step = (let s = same_parts (Resize id bytes) reply step in resize_at old going new paged ones (get old.session.ids id) id bytes reply refl s.0 s.1 step)
-  step_follows (Bound words k) reply ones none step = (let s = same_parts (Bound words k) reply step in bound_step old going new words k reply paged s.0 s.1 step)
-  step_follows (Read id at count) reply ones none step = stays old going new _ reply step.1 (step.0 ∙ ap said (read_is old going (get old.session.ids id) id at count refl)) refl
+  step_follows (Malloc id bytes) reply ones none step = (let s =
+      same_parts (Malloc id bytes) reply step in malloc_at old going new paged ones (get old.session.ids id) id bytes reply refl s.0 s.1 step)
+  step_follows (Free id) reply ones none step = (let s = same_parts (Free id) reply step in free_at old going new
+      (get old.session.ids id) id reply refl s.0 s.1 step)
+  step_follows (Write id at bytes) reply ones none step = (let s =
+      same_parts (Write id at bytes) reply step in write_at old going new (get old.session.ids id) id at bytes reply refl s.0 s.1 step)
+  step_follows (Resize id bytes) reply ones none step = (let s =
+      same_parts (Resize id bytes) reply step in resize_at old going new paged ones (get old.session.ids id) id bytes reply refl s.0 s.1 step)
+  step_follows (Bound words k) reply ones none step = (let s =
+      same_parts (Bound words k) reply step in bound_step old going new words k reply paged s.0 s.1 step)
+  step_follows (Read id at count) reply ones none step = stays old going new _ reply step.1
+      (step.0 ∙ ap said (read_is old going (get old.session.ids id) id at count refl)) refl
   step_follows Walk reply ones none step = stays old going new _ reply step.1 (step.0 ∙ walk_by_id old going paged ones) refl
   step_follows Frag reply ones none step = stays old going new _ reply step.1 (step.0 ∙ frag_by_id old going paged ones) refl
   step_follows (Place id) reply ones none step = absurd none

@@ -52,9 +52,13 @@ IsOne (Some t) = AreOne (paging_by_id t)
 begun_at_one : (k : Kind) (p : Profile) → IsPaged k → p.k ≡ 1 → AreOne (paging_by_id (begun k p))
 begun_at_one k p paged one = rw (paged, opening_bounds) (first_ones p (layout_of k) one)
 
-command_at_one : (t : ById) (c : Command) → AreOne (paging_by_id t) → AsksForOne (asks c) → IsItemAtOne (Some t) (asks c) × AreOne (paging_by_id (after_by_id t c))
-command_at_one t (Bound words k) ones one =
-    (tt, λ d lt. subst (λ n. get_or (bounds_with t.bounds (class_bounded t words) n) d 0 ≡ 1) (sym one) (with_one t.bounds (class_bounded t words) d (ones d lt)))
+command_at_one : (t : ById) (c : Command) → AreOne (paging_by_id t) → AsksForOne (asks c)
+    → IsItemAtOne (Some t) (asks c) × AreOne (paging_by_id (after_by_id t c))
+command_at_one t (Bound words k) ones one = (
+  tt,
+  λ d lt. subst (λ n. get_or (bounds_with t.bounds (class_bounded t words) n) d 0 ≡ 1) (sym one)
+      (with_one t.bounds (class_bounded t words) d (ones d lt)),
+)
 command_at_one t _ ones one = (ones, ones)
 
 module _ (kind : Kind) (paged : IsPaged kind) where
@@ -97,16 +101,19 @@ further_placeless (item ∷ rest) may = ((further_item item may.0).1, further_pl
 
 -- the bytes of an id's object
 module _ (s : RunState) (going : IsGoing s) where
-  found_at : (id : ℕ) (o : Option ℕ) → get s.session.ids id ≡ o → option_map (λ (x : Placed). x.bytes) (elim o [ None ↦ None | Some h ↦ get s.heap.held h ]) ≡ get (by_id s).objects id
+  found_at : (id : ℕ) (o : Option ℕ) → get s.session.ids id ≡ o
+      → option_map (λ (x : Placed). x.bytes) (elim o [ None ↦ None | Some h ↦ get s.heap.held h ]) ≡ get (by_id s).objects id
   found_at id None none = sym (gone_by_id s.session.ids (objects s.heap.held) id none)
   found_at id (Some h) named =
       let x = going.tied.named id h named in
-      ap (option_map (λ (x : Placed). x.bytes)) x.1 ∙ sym (live_by_id s.session.ids (objects s.heap.held) id h x.0.bytes named (get-map_values (λ (x : Placed). x.bytes) s.heap.held h ∙ ap (option_map (λ (x : Placed). x.bytes)) x.1))
+      ap (option_map (λ (x : Placed). x.bytes)) x.1 ∙ sym (live_by_id s.session.ids (objects s.heap.held) id h x.0.bytes named
+      (get-map_values (λ (x : Placed). x.bytes) s.heap.held h ∙ ap (option_map (λ (x : Placed). x.bytes)) x.1))
 
   bytes_are : (id : ℕ) → bytes_of s id ≡ get (by_id s).objects id
   bytes_are id = found_at id (get s.session.ids id) refl
 
-module _ (one other : RunState) (going : IsGoing one) (going' : IsGoing other) (paged : IsPaged one.heap.kind) (alike : AreAlike one other) (ones : AreOne (paging_in one.heap)) (ones' : AreOne (paging_in other.heap)) where
+module _ (one other : RunState) (going : IsGoing one) (going' : IsGoing other) (paged : IsPaged one.heap.kind) (alike : AreAlike one other)
+    (ones : AreOne (paging_in one.heap)) (ones' : AreOne (paging_in other.heap)) where
   paged' : IsPaged other.heap.kind
   paged' = subst IsPaged (sym alike.kind) paged
 
@@ -114,21 +121,26 @@ module _ (one other : RunState) (going : IsGoing one) (going' : IsGoing other) (
   bounds_alike =
       let k = (pages_kept one.heap.kind one.heap paged going.rules.of_kind).paging.bounded in
       let k' = (pages_kept other.heap.kind other.heap paged' going'.rules.of_kind).paging.bounded in
-      let same : length (paging_in other.heap).sizes ≡ length (paging_in one.heap).sizes = λ i. length (sizes (alike.profile i).page_words (layout_of (alike.kind i))) in
-      same_number_lists other.heap.bounds one.heap.bounds (k' ∙ same ∙ sym k) (λ d lt. ones' d (subst (λ n. d < n) k' lt) ∙ sym (ones d (subst (λ n. d < n) (k' ∙ same) lt)))
+      let same : length (paging_in other.heap).sizes ≡ length (paging_in one.heap).sizes =
+      λ i. length (sizes (alike.profile i).page_words (layout_of (alike.kind i))) in
+      same_number_lists other.heap.bounds one.heap.bounds (k' ∙ same ∙ sym k)
+      (λ d lt. ones' d (subst (λ n. d < n) k' lt) ∙ sym (ones d (subst (λ n. d < n) (k' ∙ same) lt)))
 
   -- the same objects by id under the same settings are one state by id
   by_id_alike : by_id other ≡ by_id one
   by_id_alike =
-      let o : (by_id other).objects ≡ (by_id one).objects = equal_maps _ _ (λ id. sym (bytes_are other going' id) ∙ alike.objects id ∙ bytes_are one going id) in
+      let o : (by_id other).objects ≡ (by_id one).objects = equal_maps _ _
+      (λ id. sym (bytes_are other going' id) ∙ alike.objects id ∙ bytes_are one going id) in
       λ i. record { kind = alike.kind i; profile = alike.profile i; bounds = bounds_alike i; objects = o i }
 
   -- the same items then get the same replies
-  pub alike_replies : (items : List Item) (replies replies' : List Reply) (last last' : Option RunState) → AreFurther items → Run one.heap.kind (Some one) items replies last → Run one.heap.kind (Some other) items replies' last' → replies' ≡ replies
+  pub alike_replies : (items : List Item) (replies replies' : List Reply) (last last' : Option RunState) → AreFurther items
+      → Run one.heap.kind (Some one) items replies last → Run one.heap.kind (Some other) items replies' last' → replies' ≡ replies
   alike_replies items replies replies' last last' may run run' =
       let kind = one.heap.kind in
       let asked = further_asks items may in
       let less = further_placeless items may in
       let r = run_tells kind paged items (Some one) last replies (going, paged) (stays_at_one kind paged items (Some (by_id one)) ones asked) less run in
-      let r' = run_tells kind paged items (Some other) last' replies' (going', paged') (stays_at_one kind paged items (Some (by_id other)) ones' asked) less run' in
+      let r' = run_tells kind paged items (Some other) last' replies' (going', paged')
+      (stays_at_one kind paged items (Some (by_id other)) ones' asked) less run' in
       r' ∙ ap (λ t. replies_from kind (Some t) items) by_id_alike ∙ sym r

@@ -56,7 +56,13 @@ module _ (p : Paging) (ok : IsPaging p) (ones : AreOne p) (m : Held) (s : IsSoun
 
   -- and so are those of the whole heap
   pub totals_are : totals_of p m ≡ totals_at_one p (objects m)
-  totals_are = ap (λ used. record (totals_of p m) { held = 8 * p.page_words * used; used = used; free = p.pages - used; largest = cond (nat_eq (p.pages - used) 0) 0 p.page_words }) (used_at_one p ok ones m s)
+  totals_are = ap (λ used. record (totals_of p m) {
+    held = 8 * p.page_words * used;
+    used = used;
+    free = p.pages - used;
+    largest =
+        cond (nat_eq (p.pages - used) 0) 0 p.page_words;
+  }) (used_at_one p ok ones m s)
 
 -- as many objects with as many bytes have the same figures
 module _ (p : Paging) (m n : Objects) (a : CountAlike m n) where
@@ -70,7 +76,8 @@ module _ (p : Paging) (m n : Objects) (a : CountAlike m n) where
 
   pub needed_with_alike : (bytes : ℕ) → pages_needed_with p n bytes ≡ pages_needed_with p m bytes
   unfolding pages_needed_with
-  needed_with_alike bytes = sum_same _ _ (range_with_len 0 (classes p)) (λ c. ap (λ k. ceil_div (k + one (nat_eq (class_for p bytes) c)) (slots_of p c)) (live_alike c))
+  needed_with_alike bytes = sum_same _ _ (range_with_len 0 (classes p))
+      (λ c. ap (λ k. ceil_div (k + one (nat_eq (class_for p bytes) c)) (slots_of p c)) (live_alike c))
 
   asked_alike : asked_bytes n ≡ asked_bytes m
   unfolding asked_bytes
@@ -81,7 +88,8 @@ module _ (p : Paging) (m n : Objects) (a : CountAlike m n) where
   taken_alike = ap (λ k. 8 * k) (a.sums (λ v. slot_words p (class_for p (length v))))
 
   pub figures_alike : (c : ℕ) → figures_at_one p n c ≡ figures_at_one p m c
-  figures_alike c = ap (λ k. record (figures_at_one p m c) { live = k; pages = ceil_div k (slots_of p c); not_full = part_pages k (slots_of p c) }) (live_alike c)
+  figures_alike c = ap (λ k. record (figures_at_one p m c) { live = k; pages = ceil_div k (slots_of p c); not_full = part_pages k (slots_of p c) })
+      (live_alike c)
 
   pub totals_alike : totals_at_one p n ≡ totals_at_one p m
   totals_alike = λ i. record {

@@ -25,7 +25,8 @@ module _ {V : Type 0} where
     where
       go : (q : ℕ) (o : Option V) → get m q ≡ o → get m q ≡ None
       go q None e = e
-      go q (Some v) e = absurd (let f = r.all q v e in let g : get (empty {X = V} {R = nat_cmp}) f.0 ≡ None = get-empty nat_cmp f.0 in let h : Some v ≡ None = sym f.2 ∙ g in cc)
+      go q (Some v) e = absurd (let f = r.all q v e in let g : get (empty {X = V} {R = nat_cmp}) f.0 ≡ None = get-empty nat_cmp f.0 in let h : Some v ≡ None =
+          sym f.2 ∙ g in cc)
 
   module _ (ids : FinMap nat_cmp ℕ) (m n : FinMap nat_cmp V) (id : ℕ) (v : V) (none : get n id ≡ None) (r : AreRenamed ids m (insert n id v)) where
     number : (h : ℕ) × (get ids id ≡ Some h) × (get m h ≡ Some v)

@@ -21,11 +21,14 @@ use Rattle.transcript_laws.proofs.PagesAtOne.{figures_alike, figures_are, live_a
 
 -- what is said of the numbers of a range that pass a test, where both functions and both tests agree
 module _ {X : Type 0} (f g : ℕ → X) (t u : ℕ → Bool) where
-  said_alike : (a n : ℕ) → ((d : ℕ) → d < a + n → f d ≡ g d) → ((d : ℕ) → t d ≡ u d) → map f (filter t (range_with_len a n)) ≡ map g (filter u (range_with_len a n))
+  said_alike : (a n : ℕ) → ((d : ℕ) → d < a + n → f d ≡ g d) → ((d : ℕ) → t d ≡ u d)
+      → map f (filter t (range_with_len a n)) ≡ map g (filter u (range_with_len a n))
   said_alike a zero same test = refl
   said_alike a (suc n) same test = go (t a) (u a) (test a) (said_alike (a + 1) n (λ d lt. same d (omega arith)) test)
     where
-      go : (x y : Bool) → x ≡ y → map f (filter t (range_with_len (a + 1) n)) ≡ map g (filter u (range_with_len (a + 1) n)) → map f (cond x (a ∷ filter t (range_with_len (a + 1) n)) (filter t (range_with_len (a + 1) n))) ≡ map g (cond y (a ∷ filter u (range_with_len (a + 1) n)) (filter u (range_with_len (a + 1) n)))
+      go : (x y : Bool) → x ≡ y → map f (filter t (range_with_len (a + 1) n)) ≡ map g (filter u (range_with_len (a + 1) n))
+          → map f (cond x (a ∷ filter t (range_with_len (a + 1) n)) (filter t (range_with_len (a + 1) n))) ≡ map g
+          (cond y (a ∷ filter u (range_with_len (a + 1) n)) (filter u (range_with_len (a + 1) n)))
       go true true e rest = λ i. same a (omega arith) i ∷ rest i
       go true false e rest = absurd (let z : true ≡ false = e in cc)
       go false true e rest = absurd (let z : false ≡ true = e in cc)
@@ -59,10 +62,13 @@ module _ (s : RunState) (going : IsGoing s) (paged : IsPaged s.heap.kind) (ones 
       figures_are p pages.paging ones s.heap.held pages.sound c lt
       ∙ sym (figures_alike p (objects s.heap.held) (by_id s).objects (objects_alike s going) c)
 
-  live_lines : map (λ c. class_line (figures_of p s.heap.held c)) (live_classes s.heap) ≡ map (λ c. class_line (figures_at_one p (by_id s).objects c)) (filter (λ c. not (nat_eq (live p (by_id s).objects c) 0)) (range_with_len 0 (classes p)))
+  live_lines : map (λ c. class_line (figures_of p s.heap.held c)) (live_classes s.heap) ≡ map (λ c. class_line (figures_at_one p (by_id s).objects c))
+      (filter (λ c. not (nat_eq (live p (by_id s).objects c) 0)) (range_with_len 0 (classes p)))
   live_lines =
-      ap (λ n. map (λ c. class_line (figures_of p s.heap.held c)) (filter (λ c. not (nat_eq (live p (objects s.heap.held) c) 0)) (range_with_len 0 n))) (classes_are s.heap.kind s.heap paged)
-      ∙ said_alike (λ c. class_line (figures_of p s.heap.held c)) (λ c. class_line (figures_at_one p (by_id s).objects c)) (λ c. not (nat_eq (live p (objects s.heap.held) c) 0)) (λ c. not (nat_eq (live p (by_id s).objects c) 0)) 0 (classes p)
+      ap (λ n. map (λ c. class_line (figures_of p s.heap.held c)) (filter (λ c. not (nat_eq (live p (objects s.heap.held) c) 0)) (range_with_len 0 n)))
+      (classes_are s.heap.kind s.heap paged)
+      ∙ said_alike (λ c. class_line (figures_of p s.heap.held c)) (λ c. class_line (figures_at_one p (by_id s).objects c))
+      (λ c. not (nat_eq (live p (objects s.heap.held) c) 0)) (λ c. not (nat_eq (live p (by_id s).objects c) 0)) 0 (classes p)
       (λ d lt. ap class_line (figures_by_id d (omega arith)))
       (λ d. ap (λ n. not (nat_eq n 0)) (sym (live_alike p (objects s.heap.held) (by_id s).objects (objects_alike s going) d)))
 

@@ -47,14 +47,16 @@ begun_is kind p s b = λ i. record {
 }
 
 module _ (kind : Kind) (paged : IsPaged kind) where
-  begins : (old : Option RunState) (p : Profile) (reply : Reply) (new : Option RunState) → (s : RunState) × (Begins kind p s × (reply ≡ reply_at (at_id old) (starts p))) × (new ≡ Some s) → Tells kind old (starts p) reply new
+  begins : (old : Option RunState) (p : Profile) (reply : Reply) (new : Option RunState)
+      → (s : RunState) × (Begins kind p s × (reply ≡ reply_at (at_id old) (starts p))) × (new ≡ Some s) → Tells kind old (starts p) reply new
   begins old p reply new step = record {
     reply_is = step.1.1;
     state_is = ap at_id step.2 ∙ ap (λ t. Some t) (begun_is kind p step.0 step.1.0);
     goes = subst Goes (sym step.2) (begins_going kind p step.0 step.1.0, subst IsPaged (sym (ap (λ (h : HeapState). h.kind) step.1.0.heap)) paged);
   }
 
-  tells : (old : Option RunState) (item : Item) (reply : Reply) (new : Option RunState) → Goes old → IsItemAtOne (at_id old) item → IsPlaceless item → ItemStep kind old item reply new → Tells kind old item reply new
+  tells : (old : Option RunState) (item : Item) (reply : Reply) (new : Option RunState) → Goes old → IsItemAtOne (at_id old) item → IsPlaceless item
+      → ItemStep kind old item reply new → Tells kind old item reply new
   tells None (starts p) reply new goes one less step = begins None p reply new step
   tells (Some s) (starts p) reply new goes one less step = begins (Some s) p reply new step
   tells None (asks c) reply new goes one less step = record { reply_is = step.0; state_is = ap at_id step.1; goes = subst Goes (sym step.1) tt }
@@ -70,7 +72,8 @@ module _ (kind : Kind) (paged : IsPaged kind) where
   tells (Some s) (bad n) reply new goes one less step = record { reply_is = step.0; state_is = ap at_id step.1; goes = subst Goes (sym step.1) goes }
 
   -- all runs over these items have these replies
-  pub run_tells : (items : List Item) (old last : Option RunState) (replies : List Reply) → Goes old → StaysAtOne kind (at_id old) items → ArePlaceless items → Run kind old items replies last → replies ≡ replies_from kind (at_id old) items
+  pub run_tells : (items : List Item) (old last : Option RunState) (replies : List Reply) → Goes old → StaysAtOne kind (at_id old) items → ArePlaceless items
+      → Run kind old items replies last → replies ≡ replies_from kind (at_id old) items
   run_tells [] old last replies goes ones less run = run.0
   run_tells (item ∷ rest) old last replies goes ones less run =
       let mid = run.0 in let reply = run.1 in let more = run.2 in

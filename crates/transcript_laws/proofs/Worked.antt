@@ -58,7 +58,8 @@ gone m k v q = elim (cases_eq q k) [
     | inl at ↦ rw at (get_removed (insert m k v) q ∙ sym (get_insert_other (remove m q) k v q other ∙ get_removed m q))
     | inr ne ↦ elim (cases_eq x k) [
       | inl at ↦ rw at (get_remove_other (insert m k v) q k (λ e. other (sym e)) ∙ get_inserted m k v ∙ sym (get_inserted (remove m q) k v))
-      | inr far ↦ get_remove_other (insert m k v) q x ne ∙ get_insert_other m k v x far ∙ sym (get_insert_other (remove m q) k v x far ∙ get_remove_other m q x ne)
+      | inr far ↦ get_remove_other (insert m k v) q x ne ∙ get_insert_other m k v x far
+          ∙ sym (get_insert_other (remove m q) k v x far ∙ get_remove_other m q x ne)
     ]
   ])))
 ]
@@ -72,7 +73,8 @@ gone_none q = equal_maps _ _ (λ x. elim (cases_eq x q) [
 ruleset maps = (got, got_none, counted, listed, listed_none, gone, gone_none)
 
 -- one command of a transcript
-one_more : (t u : ById) (c : Command) (rest : List Item) (reply : Reply) (replies : List Reply) → reply_by_id t c ≡ reply → after_by_id t c ≡ u → replies_from Moving (Some u) rest ≡ replies → replies_from Moving (Some t) (asks c ∷ rest) ≡ reply ∷ replies
+one_more : (t u : ById) (c : Command) (rest : List Item) (reply : Reply) (replies : List Reply) → reply_by_id t c ≡ reply → after_by_id t c ≡ u
+    → replies_from Moving (Some u) rest ≡ replies → replies_from Moving (Some t) (asks c ∷ rest) ≡ reply ∷ replies
 one_more t u c rest reply replies r s more = (λ i. r i ∷ replies_from Moving (Some (s i)) rest) ∙ ap (λ l. reply ∷ l) more
 
 abbrev with : Objects → ById
@@ -164,7 +166,15 @@ pages = paging_by_id (with empty)
 abbrev report : (ℕ → ℕ) → ℕ → Reply
 report alive n =
     let used = sum_by (λ c. ceil_div (alive c) (slots_of pages c)) (range_with_len 0 (classes pages)) in
-    map (λ c. class_line (record { slot_words = slot_words pages c; slots = slots_of pages c; live = alive c; pages = ceil_div (alive c) (slots_of pages c); not_full = part_pages (alive c) (slots_of pages c) })) (filter (λ c. not (nat_eq (alive c) 0)) (range_with_len 0 (classes pages)))
+    map (λ c. class_line (record {
+      slot_words = slot_words pages c;
+      slots = slots_of pages c;
+      live = alive c;
+      pages =
+          ceil_div (alive c) (slots_of pages c);
+      not_full = part_pages (alive c) (slots_of pages c);
+    }))
+    (filter (λ c. not (nat_eq (alive c) 0)) (range_with_len 0 (classes pages)))
     ++ said (total_line (record { live = n; asked = 0; taken = 0; held = 0; used = used; free = 2 - used; largest = 0 }))
 
 report_is : (o : Objects) → reply_by_id (with o) Walk ≡ report (live pages o) (len o)
@@ -186,7 +196,8 @@ walked : reply_by_id (with o8) Walk ≡ codes "class 23 slots 2 live 2 pages 1 n
 walked = report_is o8 ∙ (λ i. report (λ c. alive o8 left_is c i) ((counted o8 ∙ ap length left_is) i)) ∙ reported
 
 -- one command of a transcript, before the rest
-before : (old : Objects) (c : Command) (text : List ℕ) (new : Objects) (rest : List Item) (replies : List Reply) → Steps old c text new → replies_from Moving (Some (with new)) rest ≡ replies → replies_from Moving (Some (with old)) (asks c ∷ rest) ≡ said text ∷ replies
+before : (old : Objects) (c : Command) (text : List ℕ) (new : Objects) (rest : List Item) (replies : List Reply) → Steps old c text new
+    → replies_from Moving (Some (with new)) rest ≡ replies → replies_from Moving (Some (with old)) (asks c ∷ rest) ≡ said text ∷ replies
 before old c text new rest replies step more = (λ i. step.0 i ∷ replies_from Moving (Some (step.1 i)) rest) ∙ ap (λ l. said text ∷ l) more
 
 -- what is left of the script after each command

@@ -1,5 +1,6 @@
 -- What each command replies and leaves where every bound is 1.
-use Rattle.std.specs.Prelude.{ℕ, ◌+◌, Bool, ◌&&◌, List, Option, Some, None, Err, codes, if◌then◌else◌, length, nat_eq, nat_le, nat_lt, not, option_map, position, replicate, slice_set}
+use Rattle.std.specs.Prelude.{ℕ, ◌+◌, Bool, ◌&&◌, List, Option, Some, None, Err, codes, if◌then◌else◌, length, nat_eq, nat_le, nat_lt, not, option_map}
+use Rattle.std.specs.Prelude.{position, replicate, slice_set}
 use Rattle.std.specs.FinMap.{get, insert, len, remove}
 use Rattle.cf_base.specs.Classes.{need}
 use Rattle.cf_base.specs.declared.answers.AccessFault.{AccessFault}

@@ -1,5 +1,6 @@
 -- Bytes that are written over others, cell by cell.
-use Rattle.std.proofs.Common.{◌≡◌, ℕ, zero, suc, ◌+◌, ◌-◌, ◌/◌, ◌%◌, ◌<◌, ◌≤◌, true, false, List, length, get_or, set, take, drop, arith, lit<, ◌^◌, sym, ◌∙◌, inl, inr, ap, refl}
+use Rattle.std.proofs.Common.{◌≡◌, ℕ, zero, suc, ◌+◌, ◌-◌, ◌/◌, ◌%◌, ◌<◌, ◌≤◌, true, false, List, length, get_or, set, take, drop, arith, lit<, ◌^◌, sym, ◌∙◌}
+use Rattle.std.proofs.Common.{inl, inr, ap, refl}
 use Rattle.std.specs.Prelude.{◌⊎◌, nat_le, nat_lt}
 use Rattle.std.proofs.lemmas.List.{get_or-set_same, get_or-set_other, get_or_past, get_or-take, get_or-drop, length-take, length-drop}
 use Rattle.std.proofs.lemmas.Bool.{cases_lt, cases_eq}
@@ -52,7 +53,8 @@ module _ (f : ℕ → ℕ) (at done n : ℕ) (bytes : List ℕ) (fits : done + n
   ])
 
 -- one cell is patched
-pub cell_written : (old words : List ℕ) (at done n word : ℕ) (bytes : List ℕ) → done + n ≤ length bytes → (at + done) % 8 + n ≤ 8 → (at + done) / 8 < length words
+pub cell_written : (old words : List ℕ) (at done n word : ℕ) (bytes : List ℕ) → done + n ≤ length bytes → (at + done) % 8 + n ≤ 8
+    → (at + done) / 8 < length words
     → ((k : ℕ) → byte_in words k ≡ overwritten (byte_in old) at (take done bytes) k)
     → ((j : ℕ) → j < 8 → byte_of j word ≡ overwritten (λ i. byte_of i (get_or words ((at + done) / 8) 0)) ((at + done) % 8) (take n (drop done bytes)) j)
     → (k : ℕ) → byte_in (set words ((at + done) / 8) word) k ≡ overwritten (byte_in old) at (take (done + n) bytes) k
@@ -64,20 +66,26 @@ cell_written old words at done n word bytes fits inside lt so_far patch k =
     let from = (at + done) % 8 in
     elim (cases_eq (k / 8) ((at + done) / 8)) [
       | inl is ↦ (
-          let here : byte_in (set words ((at + done) / 8) word) k ≡ byte_of (k % 8) word = ap (byte_of (k % 8)) (ap (λ i. get_or (set words ((at + done) / 8) word) i 0) is ∙ get_or-set_same words ((at + done) / 8) word 0 lt) in
+          let here : byte_in (set words ((at + done) / 8) word) k ≡ byte_of (k % 8) word =
+          ap (byte_of (k % 8)) (ap (λ i. get_or (set words ((at + done) / 8) word) i 0) is ∙ get_or-set_same words ((at + done) / 8) word 0 lt) in
           let was : byte_of (k % 8) (get_or words ((at + done) / 8) 0) ≡ byte_in words k = ap (λ i. byte_of (k % 8) (get_or words i 0)) (sym is) in
           here ∙ patch (k % 8) (omega arith) ∙ elim (cases_lt (k % 8) ((at + done) % 8)) [
-            | inl low ↦ overwritten_before (λ i. byte_of i (get_or words ((at + done) / 8) 0)) ((at + done) % 8) (take n (drop done bytes)) (k % 8) low ∙ was ∙ so_far k ∙ sym (next_outside (byte_in old) at done n bytes fits k (inl (omega arith)))
+            | inl low ↦ overwritten_before (λ i. byte_of i (get_or words ((at + done) / 8) 0)) ((at + done) % 8) (take n (drop done bytes)) (k % 8) low ∙ was
+                ∙ so_far k ∙ sym (next_outside (byte_in old) at done n bytes fits k (inl (omega arith)))
             | inr from_on ↦ elim (cases_lt (k % 8) ((at + done) % 8 + n)) [
               | inl high ↦ (
                   let e : done + (k % 8 - (at + done) % 8) ≡ k - at = omega arith in
-                  overwritten_inside (λ i. byte_of i (get_or words ((at + done) / 8) 0)) ((at + done) % 8) (take n (drop done bytes)) (k % 8) from_on (omega arith)
-                  ∙ get_or-take n (drop done bytes) (k % 8 - (at + done) % 8) 0 (omega arith) ∙ get_or-drop done bytes (k % 8 - (at + done) % 8) 0 ∙ ap (λ i. get_or bytes i 0) e
+                  overwritten_inside (λ i. byte_of i (get_or words ((at + done) / 8) 0)) ((at + done) % 8) (take n (drop done bytes)) (k % 8) from_on
+                  (omega arith)
+                  ∙ get_or-take n (drop done bytes) (k % 8 - (at + done) % 8) 0 (omega arith) ∙ get_or-drop done bytes (k % 8 - (at + done) % 8) 0
+                  ∙ ap (λ i. get_or bytes i 0) e
                   ∙ sym (next_inside (byte_in old) at done n bytes fits k (omega arith) (omega arith)))
-              | inr past ↦ overwritten_behind (λ i. byte_of i (get_or words ((at + done) / 8) 0)) ((at + done) % 8) (take n (drop done bytes)) (k % 8) (omega arith) ∙ was ∙ so_far k ∙ sym (next_outside (byte_in old) at done n bytes fits k (inr (omega arith)))
+              | inr past ↦ overwritten_behind (λ i. byte_of i (get_or words ((at + done) / 8) 0)) ((at + done) % 8) (take n (drop done bytes)) (k % 8)
+                  (omega arith) ∙ was ∙ so_far k ∙ sym (next_outside (byte_in old) at done n bytes fits k (inr (omega arith)))
             ]
           ])
-      | inr ne ↦ ap (byte_of (k % 8)) (get_or-set_other words ((at + done) / 8) (k / 8) word 0 ne) ∙ so_far k ∙ sym (next_outside (byte_in old) at done n bytes fits k (
+      | inr ne ↦ ap (byte_of (k % 8)) (get_or-set_other words ((at + done) / 8) (k / 8) word 0 ne) ∙ so_far k
+          ∙ sym (next_outside (byte_in old) at done n bytes fits k (
           elim (cases_lt k (at + done)) [ inl below ↦ inl below | inr above ↦ inr (omega arith) ]))
     ]
 
@@ -94,7 +102,8 @@ cell_byte w (suc (suc (suc (suc (suc (suc (suc zero))))))) lt = omega arith
 cell_byte w (suc (suc (suc (suc (suc (suc (suc (suc j)))))))) lt = absurd (omega arith)
 
 -- a word whose bytes were written over
-pub word_patched : (word from result : ℕ) (cell part : List ℕ) → word < 2 ^ 64 → from + length part ≤ 8 → AreBytes part → cell ≡ written (to_le_bytes w64 word) from part → result ≡ from_le_bytes w64 cell
+pub word_patched : (word from result : ℕ) (cell part : List ℕ) → word < 2 ^ 64 → from + length part ≤ 8 → AreBytes part
+    → cell ≡ written (to_le_bytes w64 word) from part → result ≡ from_le_bytes w64 cell
     → (j : ℕ) → j < 8 → byte_of j result ≡ overwritten (λ k. byte_of k word) from part j
 word_patched word from result cell part small fits bytes is gives j lt =
     let old = to_le_bytes w64 word in
@@ -102,12 +111,16 @@ word_patched word from result cell part small fits bytes is gives j lt =
     let good : AreBytes cell = rw is (written_are_bytes (to_le_bytes w64 word) from part fits (cell_bytes word) bytes) in
     let back : to_le_bytes w64 result ≡ cell = le_bytes_8 cell result len good gives in
     sym (cell_byte result j lt) ∙ ap (λ xs. get_or xs j 0) (back ∙ is) ∙ elim (cases_lt j from) [
-      | inl before ↦ written_before (to_le_bytes w64 word) from part fits j before ∙ cell_byte word j lt ∙ sym (overwritten_before (λ k. byte_of k word) from part j before)
+      | inl before ↦ written_before (to_le_bytes w64 word) from part fits j before ∙ cell_byte word j lt
+          ∙ sym (overwritten_before (λ k. byte_of k word) from part j before)
       | inr from_on ↦ elim (cases_lt j (from + length part)) [
         | inl inside ↦ (
             let e : from + (j - from) ≡ j = omega arith in
-            ap (λ i. get_or (written (to_le_bytes w64 word) from part) i 0) (sym e) ∙ written_inside (to_le_bytes w64 word) from part fits (j - from) (omega arith) ∙ sym (overwritten_inside (λ k. byte_of k word) from part j from_on inside))
-        | inr behind ↦ written_behind (to_le_bytes w64 word) from part fits j behind ∙ cell_byte word j lt ∙ sym (overwritten_behind (λ k. byte_of k word) from part j behind)
+            ap (λ i. get_or (written (to_le_bytes w64 word) from part) i 0) (sym e)
+            ∙ written_inside (to_le_bytes w64 word) from part fits (j - from) (omega arith)
+            ∙ sym (overwritten_inside (λ k. byte_of k word) from part j from_on inside))
+        | inr behind ↦ written_behind (to_le_bytes w64 word) from part fits j behind ∙ cell_byte word j lt
+            ∙ sym (overwritten_behind (λ k. byte_of k word) from part j behind)
       ]
     ]
   where

@@ -9,5 +9,10 @@ rest-preserved g c =
     record { within = omega (arith, length-drop {A = ℕ}); grows = omega arith; wrote = appended_more _ _ _ c.args.bytes.now _ _ c.rest.invariant.wrote h.piece }
 
 pub returns-in-Err-clause-puts : goal.returns-in-Err-clause-puts
-returns-in-Err-clause-puts g c =
-    (take c.rest.at c.args.bytes.now, drop c.rest.at c.args.bytes.now, sym (take-append-drop c.rest.at c.args.bytes.now), c.in-Err.ensures.failed.1 ∙ c.rest.invariant.wrote)
+returns-in-Err-clause-puts g c = (
+  take c.rest.at c.args.bytes.now,
+  drop c.rest.at c.args.bytes.now,
+  sym (take-append-drop c.rest.at c.args.bytes.now),
+  c.in-Err.ensures.failed.1
+      ∙ c.rest.invariant.wrote,
+)

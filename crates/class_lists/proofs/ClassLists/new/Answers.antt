@@ -8,7 +8,8 @@ invariant_of-result c =
     let nodes : c.args.pages + 2 * c.args.classes ≡ c.in-Ok.nodes = omega (arith, c.in-Ok.ensures.1, c.from.ensures, c.from-lists.ensures) in
     let zeros : c.in-Ok-vec.lens.items ≡ replicate (2 * c.args.classes) 0 =
     c.in-Ok-vec.ensures.items_if_clones_equal (λ y is. is) ∙ ap (λ n. replicate (2 * n) 0) c.from-lists.ensures in
-    new_sound _ _ _ c.args.classes _ c.in-Ok.nodes nodes (omega (arith, c.in-Ok.ensures.0, c.in-Ok.ensures.1)) c.in-Ok-new.ensures.next c.in-Ok-new.ensures.previous zeros
+    new_sound _ _ _ c.args.classes _ c.in-Ok.nodes nodes (omega (arith, c.in-Ok.ensures.0, c.in-Ok.ensures.1)) c.in-Ok-new.ensures.next
+    c.in-Ok-new.ensures.previous zeros
 
 pub returns : goal.returns
 returns c =

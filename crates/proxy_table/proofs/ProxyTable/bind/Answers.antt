@@ -25,7 +25,8 @@ returns-clause-none c =
 pub returns-clause-fresh : goal.returns-clause-fresh
 returns-clause-fresh c =
     let some : 0 < c.self.inside.left = omega arith in
-    get_is _ _ c.self.view_is _ ∙ rw (top _ _ _ c.self.invariant some c.index-number.result.now c.index-number.ensures) (c.self.invariant.not_live (c.self.inside.left - 1) (omega arith))
+    get_is _ _ c.self.view_is _ ∙ rw (top _ _ _ c.self.invariant some c.index-number.result.now c.index-number.ensures)
+    (c.self.invariant.not_live (c.self.inside.left - 1) (omega arith))
 
 pub returns-clause-places : goal.returns-clause-places
 returns-clause-places c =

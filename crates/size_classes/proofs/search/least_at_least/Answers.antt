@@ -9,7 +9,8 @@ pub halves-preserved : goal.halves-preserved
 halves-preserved c =
     let was = c.halves.invariant in
     let half = halved c.halves._i c.halves.low c.halves.high c.halves-test.true was.order was.narrow in
-    let rose : RoseBy c.args.steps.now c.tick.new.self (c.halves._i + 1) = record { kept = omega arith; bound = omega arith; exact = λ h. omega arith; capped = λ low h. grind arith } in
+    let rose : RoseBy c.args.steps.now c.tick.new.self (c.halves._i + 1) =
+    record { kept = omega arith; bound = omega arith; exact = λ h. omega arith; capped = λ low h. grind arith } in
     elim c.if-numbers-middle.branch [
       | then-numbers-middle w ↦
           let small : slice_index c.args.numbers.now ((c.halves.low + c.halves.high) / 2) < c.args.n = w.if-numbers-middle.true in

@@ -7,4 +7,5 @@ pub returns : goal.returns
 returns c = λ j lt.
     ap (λ xs. get_or xs j 0) c.copy_from_slice.ensures.after
     ∙ get_or-take (c.args.from + length c.args.out.now - c.args.from) (drop c.args.from c.to_le_bytes-cell.result) j 0 (omega arith)
-    ∙ get_or-drop c.args.from c.to_le_bytes-cell.result j 0 ∙ ap (λ xs. get_or xs (c.args.from + j) 0) c.to_le_bytes-cell.ensures ∙ cell_byte c.args.word (c.args.from + j) (omega arith)
+    ∙ get_or-drop c.args.from c.to_le_bytes-cell.result j 0 ∙ ap (λ xs. get_or xs (c.args.from + j) 0) c.to_le_bytes-cell.ensures
+    ∙ cell_byte c.args.word (c.args.from + j) (omega arith)

@@ -9,5 +9,6 @@ cells-preserved c =
     record {
       within = omega (arith, c.cells.invariant.within);
       so_far = cell_written c.args.words.now c.cells.words c.args.at c.cells.done c.min-n.result c.patched.result c.args.bytes.now
-          (omega (arith, c.cells.invariant.within)) (omega arith) (omega (arith, c.requires)) c.cells.invariant.so_far (λ j lt. rw count at (c.patched.ensures j lt));
+          (omega (arith, c.cells.invariant.within)) (omega arith) (omega (arith, c.requires)) c.cells.invariant.so_far
+          (λ j lt. rw count at (c.patched.ensures j lt));
     }

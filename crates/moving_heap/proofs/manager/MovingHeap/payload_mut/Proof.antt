@@ -7,7 +7,8 @@ use base.Logic.{emp, id⊢}
 use base.Fml.{ftrue, flft, fres}
 use contract.Monad.{fact, fact_i}
 use contract.Running.{tables}
-use types.Kit.{‵, raw, ◌⊛◌, some, later, given, at_ret, ◌$◌, ◌∵◌, !, qed, by, move, drop as forget, use0, use1, use2, learn, split, split3, group, fsplit, fjoin, feq_l, pick, fpick, await, rewrite}
+use types.Kit.{‵, raw, ◌⊛◌, some, later, given, at_ret, ◌$◌, ◌∵◌, !, qed, by, move, drop as forget, use0, use1, use2, learn, split, split3, group, fsplit}
+use types.Kit.{fjoin, feq_l, pick, fpick, await, rewrite}
 use types.Run.{enter, addr, from, fld, hop, stop, of_opd, lit, no_more, and_then, first, branches, exec, returns}
 use types.ByLocal.{alloc_all, pass_all, free_all, look_at, look_in_at, get, get_in, through, sets, sets_last, lands_as, env}
 use types.Part.{whole, sub, agg}

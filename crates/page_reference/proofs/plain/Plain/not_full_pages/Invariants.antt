@@ -8,6 +8,7 @@ use Rattle.page_reference.proofs.plain.Plain.not_full_pages.Given as goal
 -- the count over the pages so far
 abbrev pub invariant-loop-page : goal.invariant-loop-page
 invariant-loop-page l = record {
-  value : l.pages ≡ count_by (λ page. nat_lt 0 (objects_on l.self.paging l.self.held l.c page) && nat_lt (objects_on l.self.paging l.self.held l.c page) (slots_of l.self.paging l.c)) (range_with_len 0 l.page);
+  value : l.pages ≡ count_by (λ page. nat_lt 0 (objects_on l.self.paging l.self.held l.c page) && nat_lt (objects_on l.self.paging l.self.held l.c page)
+      (slots_of l.self.paging l.c)) (range_with_len 0 l.page);
   within : l.pages ≤ l.page;
 }

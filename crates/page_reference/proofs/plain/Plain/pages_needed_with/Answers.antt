@@ -9,14 +9,17 @@ use Rattle.page_reference.proofs.plain.Plain.pages_needed_with.Goals as goal
 
 pub loop-c-preserved : goal.loop-c-preserved
 loop-c-preserved c = record {
-  value = sum_step (λ d. ceil_div (live c.args.self.now.paging (objects c.args.self.now.held) d + cond (nat_eq (class_for c.args.self.now.paging c.args.bytes) d) 1 0) (slots_of c.args.self.now.paging d))
+  value = sum_step (λ d. ceil_div (live c.args.self.now.paging (objects c.args.self.now.held) d + cond
+      (nat_eq (class_for c.args.self.now.paging c.args.bytes) d) 1 0) (slots_of c.args.self.now.paging d))
       c.loop-c.pages c.loop-c.c c.pages_for-pages.result
-      c.loop-c.invariant.value (c.pages_for-pages.ensures.value ∙ rw (c.live.ensures.value, c.slots.ensures.value, c.one.ensures.value, c.class_for-class.ensures));
+      c.loop-c.invariant.value (c.pages_for-pages.ensures.value
+      ∙ rw (c.live.ensures.value, c.slots.ensures.value, c.one.ensures.value, c.class_for-class.ensures));
   within = omega (arith, c.loop-c.invariant.within, c.pages_for-pages.ensures.few);
 }
 
 pub returns : goal.returns
 unfolding pages_needed_with
 returns c =
-    sum_done (λ d. ceil_div (live c.args.self.now.paging (objects c.args.self.now.held) d + cond (nat_eq (class_for c.args.self.now.paging c.args.bytes) d) 1 0) (slots_of c.args.self.now.paging d))
+    sum_done (λ d. ceil_div (live c.args.self.now.paging (objects c.args.self.now.held) d + cond (nat_eq (class_for c.args.self.now.paging c.args.bytes) d) 1 0)
+    (slots_of c.args.self.now.paging d))
     c.loop-c.pages c.loop-c.c (length c.args.self.now.paging.sizes) c.loop-c.invariant.value (omega arith)

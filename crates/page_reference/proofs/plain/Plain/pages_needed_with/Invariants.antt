@@ -10,6 +10,7 @@ use Rattle.page_reference.proofs.plain.Plain.pages_needed_with.Given as goal
 -- the sum over the classes so far
 abbrev pub invariant-loop-c : goal.invariant-loop-c
 invariant-loop-c l = record {
-  value : l.pages ≡ sum_by (λ c. ceil_div (live l.self.paging (objects l.self.held) c + cond (nat_eq (class_for l.self.paging l.bytes) c) 1 0) (slots_of l.self.paging c)) (range_with_len 0 l.c);
+  value : l.pages ≡ sum_by (λ c. ceil_div (live l.self.paging (objects l.self.held) c + cond (nat_eq (class_for l.self.paging l.bytes) c) 1 0)
+      (slots_of l.self.paging c)) (range_with_len 0 l.c);
   within : l.pages ≤ 70000 * l.c;
 }

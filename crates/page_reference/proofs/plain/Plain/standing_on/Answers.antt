@@ -3,4 +3,5 @@ use Rattle.page_reference.proofs.Totals.{standing_total}
 use Rattle.page_reference.proofs.plain.Plain.standing_on.Goals as goal
 
 pub returns : goal.returns
-returns c = rw (← c.self.view_is) (c.total.ensures.value ∙ rw c.deref.ensures.value (standing_total c.self.inside.pages c.self.inside.objects.items c.args.page))
+returns c = rw (← c.self.view_is) (c.total.ensures.value ∙ rw c.deref.ensures.value
+    (standing_total c.self.inside.pages c.self.inside.objects.items c.args.page))

@@ -5,4 +5,5 @@ use Rattle.page_reference.proofs.plain.Plain.taken_bytes.Goals as goal
 
 pub returns : goal.returns
 unfolding taken_bytes
-returns c = rw (← c.self.view_is) (ap (λ n. 8 * n) (c.total.ensures.value ∙ rw c.deref.ensures.value (taken_total c.self.inside.pages c.self.inside.objects.items)))
+returns c = rw (← c.self.view_is) (ap (λ n. 8 * n) (c.total.ensures.value
+    ∙ rw c.deref.ensures.value (taken_total c.self.inside.pages c.self.inside.objects.items)))

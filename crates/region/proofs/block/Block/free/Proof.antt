@@ -9,7 +9,8 @@ use contract.Monad.{fact, fact_i}
 use contract.Running.{tables}
 use prog.Capped.{capped_is}
 use prog.Wp.{WpFn}
-use types.Kit.{‵, raw, ◌⊛◌, some, later, prop, at_ret, ◌$◌, ◌∵◌, !, qed, by, move, keep, use0, use1, split, join, fsplit, fjoin, feq_l, feq_i, flt_i, pick, await, rewrite, regoal}
+use types.Kit.{‵, raw, ◌⊛◌, some, later, prop, at_ret, ◌$◌, ◌∵◌, !, qed, by, move, keep, use0, use1, split, join, fsplit, fjoin, feq_l, feq_i, flt_i, pick}
+use types.Kit.{await, rewrite, regoal}
 use types.Run.{enter, fld, stop, of_opd, bin, lit, unit_lit, no_more, and_then, first, blocks, exec, returns}
 use types.ByLocal.{alloc_all, pass_all, free_all, look_at, get, get_in, sets, lands_last, env}
 use types.Part.{whole, sub}

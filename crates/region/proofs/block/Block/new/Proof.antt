@@ -13,7 +13,8 @@ use contract.Monad.{fact, fact_i}
 use contract.Running.{tables}
 use prog.Capped.{capped_is}
 use prog.Wp.{Wp, at_return, after_seq}
-use types.Kit.{Post as Ends, any_q, ‵, raw, ◌⊛◌, some, later, at_ret, ◌$◌, ◌∵◌, !, qed, by, move, drop, use0, use1, split, join, fjoin, feq_l, feq_i, flt_i, pick, await}
+use types.Kit.{Post as Ends, any_q, ‵, raw, ◌⊛◌, some, later, at_ret, ◌$◌, ◌∵◌, !, qed, by, move, drop, use0, use1, split, join, fjoin, feq_l, feq_i, flt_i}
+use types.Kit.{pick, await}
 use types.Match.{live, vrt, in_variant}
 use types.Run.{enter, fld, stop, of_opd, bin, lit, no_more, and_then, first, blocks, switches_on, exec, returns}
 use types.ByLocal.{alloc_all, pass_all, free_all, look_at, get, get_in, get_tag, sets, sets_last, lands_as, lands_last, env}

@@ -10,7 +10,8 @@ use mir.Val.{Val}
 use contract.Monad.{fact, fact_i, fact_use}
 use contract.Running.{tables}
 use types.Logic.{Logic, sem}
-use types.Kit.{‵, raw, ◌⊛◌, some, later, at_ret, ◌$◌, ◌∵◌, !, qed, by, done, move, keep, use0, use1, use2, split, split3, join, group, fsplit, fsplit3, fjoin, fpack, pick, await, rewrite}
+use types.Kit.{‵, raw, ◌⊛◌, some, later, at_ret, ◌$◌, ◌∵◌, !, qed, by, done, move, keep, use0, use1, use2, split, split3, join, group, fsplit, fsplit3, fjoin}
+use types.Kit.{fpack, pick, await, rewrite}
 use types.Run.{enter, load, fld, stop, of_opd, bin, lit, no_more, and_then, first, blocks, exec, returns}
 use types.ByLocal.{alloc_all, pass_all, free_all, look_at, get, through, sets, sets_last, env}
 use types.Part.{whole, sub, look_in, agg}

@@ -4,4 +4,5 @@ use Rattle.size_classes.proofs.table.Classes.class_of.Goals as goal
 
 pub returns-then-words-self-clause-found : goal.returns-then-words-self-clause-found
 returns-then-words-self-clause-found c =
-    rw (← c.self.view_is) (class_of-none c.self.inside.page_words c.self.inside.sizes.items c.args.bytes c.self.invariant.are_sizes (omega (arith, c.if-words-self.true, c.need_of-words.ensures)))
+    rw (← c.self.view_is) (class_of-none c.self.inside.page_words c.self.inside.sizes.items c.args.bytes c.self.invariant.are_sizes
+    (omega (arith, c.if-words-self.true, c.need_of-words.ensures)))
