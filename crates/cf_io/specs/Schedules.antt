@@ -23,8 +23,8 @@ abbrev pub is_due : Schedule → Bool
 is_due s = list_any (λ j. j == s.call) s.fails
 
 -- how many bytes the next call moves where n could be: at most its cut, which counts as 1 where it is 0
-abbrev pub moved : Schedule → ℕ → ℕ
-moved s n = if nat_lt s.call (length s.cuts) then min n (max 1 (slice_index s.cuts s.call)) else n
+abbrev pub count_moved : Schedule → ℕ → ℕ
+count_moved s n = if nat_lt s.call (length s.cuts) then min n (max 1 (slice_index s.cuts s.call)) else n
 
 -- the next call failed
 abbrev pub gone_wrong : Schedule → Schedule

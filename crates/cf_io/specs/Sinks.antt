@@ -1,6 +1,6 @@
 -- What the sink in memory is, and what a call does to it.
 use Rattle.std.specs.Prelude.{ℕ, Bool, ◌-◌, ◌==◌, ◌++◌, ◌||◌, ◌&&◌, not, List, [], length, take, min, if◌then◌else◌, Option, Some, None}
-use Rattle.cf_io.specs.Schedules.{Schedule, is_due, moved, gone_well, gone_wrong, planned}
+use Rattle.cf_io.specs.Schedules.{Schedule, is_due, count_moved, gone_well, gone_wrong, planned}
 
 -- a sink in memory: the bytes written, how many more it has room for, and what its calls do
 pub record MemSink : Type 0 where
@@ -18,7 +18,7 @@ put_fails s bytes = is_due s.schedule || (s.room == 0 && not (length bytes == 0)
 
 -- how many of these bytes the next call would take
 abbrev pub put_count : MemSink → List ℕ → ℕ
-put_count s bytes = moved s.schedule (min (length bytes) s.room)
+put_count s bytes = count_moved s.schedule (min (length bytes) s.room)
 
 -- what the next call returns: none where it fails
 abbrev pub put_answer : MemSink → List ℕ → Option ℕ

@@ -1,7 +1,7 @@
 -- What the sources in memory are, and what a call does to them.
 use Rattle.std.specs.Prelude.{ℕ, ◌≡◌, ◌%◌, EachIndex, slice_index, ◌+◌, ◌++◌, List, length, take, drop, min, if◌then◌else◌, Option, Some, None}
 use Rattle.cf_io.specs.Feeds.{last_count}
-use Rattle.cf_io.specs.Schedules.{Schedule, is_due, moved, gone_well, gone_wrong, planned}
+use Rattle.cf_io.specs.Schedules.{Schedule, is_due, count_moved, gone_well, gone_wrong, planned}
 
 -- a source that never fails: the bytes left, and how many were given
 pub record SureSource : Type 0 where
@@ -48,7 +48,7 @@ sure_after s n = record { left = drop n s.left; given = more_given s.given n }
 
 -- how many bytes the next call would give into a buffer of so many
 abbrev pub mem_count : MemSource → ℕ → ℕ
-mem_count s room = moved s.schedule (min room (length s.left))
+mem_count s room = count_moved s.schedule (min room (length s.left))
 
 -- what the next call returns: none where it fails
 abbrev pub mem_answer : MemSource → ℕ → Option ℕ

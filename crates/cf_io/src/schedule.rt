@@ -1,6 +1,6 @@
 //! What the calls of a device in memory do.
 ghost use Rattle.std.specs.Prelude.{◌≡◌, ◌≤◌};
-ghost use Rattle.cf_io.specs.Schedules.{gone_well, gone_wrong, is_due, moved, planned};
+ghost use Rattle.cf_io.specs.Schedules.{gone_well, gone_wrong, is_due, count_moved, planned};
 
 use std::marker::Model;
 
@@ -42,8 +42,8 @@ impl Schedule {
     }
 
     /// How many bytes the next call moves where n could be moved.
-    pub fn moved(&self, n: usize) -> usize
-        ensures { result ≡ moved self.now n }
+    pub fn count_moved(&self, n: usize) -> usize
+        ensures { result ≡ count_moved self.now n }
     {
         match self.cuts.get(self.call as usize) {
             Some(cut) => n.min((*cut).max(1)),

@@ -91,7 +91,7 @@ impl Sink for MemSink {
             self.schedule.go_wrong();
             return Err(Failed);
         }
-        let n = self.schedule.moved(bytes.len().min(self.room));
+        let n = self.schedule.count_moved(bytes.len().min(self.room));
         self.bytes.extend_from_slice(&bytes[..n]).unwrap();
         self.room -= n;
         self.schedule.go_well();

@@ -120,7 +120,7 @@ impl Source for MemSource {
         }
         let n = self
             .schedule
-            .moved(buf.len().min(self.bytes.len() - self.at));
+            .count_moved(buf.len().min(self.bytes.len() - self.at));
         hand(&self.bytes[self.at..], n, buf);
         self.at += n;
         self.given = self.given.saturating_add(n as u64);

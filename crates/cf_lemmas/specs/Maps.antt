@@ -1,5 +1,5 @@
 -- Finite maps by number.
-use Rattle.std.specs.Prelude.{ℕ, ◌+◌, List, [], ◌∷◌, Option, Some, None, map}
+use Rattle.std.specs.Prelude.{ℕ, ◌+◌, List, [], ◌∷◌, Option, Some, None, map, replicate}
 use Rattle.std.specs.Ordering.{nat_cmp}
 use Rattle.std.specs.FinMap.{FinMap, empty, insert, from_sorted, entries}
 
@@ -12,3 +12,7 @@ abbrev pub numbered : {X : Type 0} → ℕ → List (Option X) → FinMap nat_cm
 numbered k [] = empty
 numbered k (None ∷ xs) = numbered (k + 1) xs
 numbered k (Some x ∷ xs) = insert (numbered (k + 1) xs) k x
+
+-- n values, none of which is there
+abbrev pub vacant : {X : Type 0} → ℕ → List (Option X)
+vacant n = replicate n None

@@ -8,11 +8,11 @@ use Rattle.cf_base.proofs.CallerLemmas.{page_size}
 use Rattle.block_model.specs.Buckets.{AreLawful}
 use Rattle.block_model.specs.Tiling.{block_need}
 use Rattle.block_model.proofs.CallerLemmas.{half_fit_lawful, tlsf_lawful}
-use Rattle.cf_model.specs.Families.{lists_of}
+use Rattle.cf_model.specs.Families.{free_lists_of}
 use Rattle.cf_model.specs.Rules.{AreInRange}
 
 -- the free lists of each kind are lawful
-pub lawful : (k : Kind) → (count : ℕ) × AreLawful (lists_of k) count
+pub lawful : (k : Kind) → (count : ℕ) × AreLawful (free_lists_of k) count
 lawful Moving = (336, tlsf_lawful)
 lawful NonMoving = (336, tlsf_lawful)
 lawful Tlsf = (336, tlsf_lawful)

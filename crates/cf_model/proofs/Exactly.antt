@@ -17,7 +17,7 @@ use Rattle.page_model.specs.Arrangement.{class_at, objects_on, not_full_pages, L
 use Rattle.page_model.specs.Steps.{Request, IsFreePlace}
 use Rattle.page_model.proofs.CallerLemmas.{part_yes}
 use Rattle.block_model.specs.Tiling.{Carves, LacksBlock, block_need}
-use Rattle.cf_model.specs.Families.{Family, paged, tiled, family_of, lists_of}
+use Rattle.cf_model.specs.Families.{Family, paged, tiled, family_of, free_lists_of}
 use Rattle.cf_model.specs.State.{HeapState, paging_in}
 use Rattle.cf_model.specs.Rules.{IsPaged, IsTiled}
 use Rattle.cf_model.specs.Steps.{GivesObject, IsPlacedBy, IsRefusedBy, LacksRoomIn, Part, IsFault, ResizesObject, IsResizeFault}
@@ -43,9 +43,9 @@ placed_is_room k old new asked place placed lacking = by_family (family_of k) re
     by_family : (f : Family) → family_of k ≡ f → ⊥
     by_family paged is = place_is_room (paging_in old) old.held asked.length place (rw (is, IsPlacedBy) at placed) (rw (is, LacksRoomIn) at lacking)
     by_family tiled is =
-        let carves : Carves (lists_of k) old.tiling (record { need = block_need asked.length; owner = asked.number }) place new.tiling =
+        let carves : Carves (free_lists_of k) old.tiling (record { need = block_need asked.length; owner = asked.number }) place new.tiling =
         rw (is, IsPlacedBy) at placed in
-        let none : LacksBlock (lists_of k) old.tiling (block_need asked.length) = rw (is, LacksRoomIn) at lacking in
+        let none : LacksBlock (free_lists_of k) old.tiling (block_need asked.length) = rw (is, LacksRoomIn) at lacking in
         none place carves.found carves.there carves.serves
 
 -- a malloc that gives an object has no cause for a refusal

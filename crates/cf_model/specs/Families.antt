@@ -23,8 +23,8 @@ abbrev pub IsTiled : Kind → Type 0
 IsTiled kind = family_of kind ≡ tiled
 
 -- the free lists of a kind with blocks; a kind with pages has none, and what is said of it uses none
-abbrev pub lists_of : Kind → FreeLists
-lists_of Moving = tlsf
-lists_of NonMoving = tlsf
-lists_of Tlsf = tlsf
-lists_of HalfFit = half_fit
+abbrev pub free_lists_of : Kind → FreeLists
+free_lists_of Moving = tlsf
+free_lists_of NonMoving = tlsf
+free_lists_of Tlsf = tlsf
+free_lists_of HalfFit = half_fit

@@ -25,7 +25,7 @@ use Rattle.page_model.specs.Frames.{first_frames, frames_after, block_of, IsPhys
 use Rattle.page_model.specs.Image.{IsOutside, slot_for}
 use Rattle.page_model.specs.Steps.{Request, Leaves, IsFreePlace, zeros_at, Moves, without, resized, RefitsObject as IsResizedBy}
 use Rattle.block_model.specs.Tiling.{Block, LacksBlock, Carves, released, one_free_block, block_need, size_at}
-use Rattle.cf_model.specs.Families.{paged, tiled, family_of, lists_of}
+use Rattle.cf_model.specs.Families.{paged, tiled, family_of, free_lists_of}
 use Rattle.cf_model.specs.State.{HeapState, paging_in, layout_of, region_words}
 use Rattle.cf_model.specs.Rules.{IsPaged, IsTiled}
 
@@ -94,7 +94,7 @@ pub record IsEmptyHeap (kind : Kind) (s : Settings) (new : HeapState) : Type 0 w
 abbrev pub LacksRoomIn : Kind → HeapState → ℕ → Type 0
 LacksRoomIn kind s bytes = elim (family_of kind) [
   | paged ↦ LacksRoom (paging_in s) s.held (class_for (paging_in s) bytes)
-  | tiled ↦ LacksBlock (lists_of kind) s.tiling (block_need bytes)
+  | tiled ↦ LacksBlock (free_lists_of kind) s.tiling (block_need bytes)
 ]
 
 abbrev pub lacks_room : HeapState → ℕ → Type 0
@@ -104,7 +104,7 @@ lacks_room s bytes = LacksRoomIn s.kind s bytes
 abbrev pub IsPlacedBy : Kind → HeapState → Request → ℕ → HeapState → Type 0
 IsPlacedBy kind old asked place new = elim (family_of kind) [
   | paged ↦ IsFreePlace (paging_in old) old.held asked.length place
-  | tiled ↦ Carves (lists_of kind) old.tiling (record { need = block_need asked.length; owner = asked.number }) place new.tiling
+  | tiled ↦ Carves (free_lists_of kind) old.tiling (record { need = block_need asked.length; owner = asked.number }) place new.tiling
 ]
 
 -- A number that wasn't live is given to so many zeros.

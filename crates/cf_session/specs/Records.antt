@@ -8,5 +8,5 @@ abbrev pub session_of : Records → SessionState
 session_of r = record { ids = r.ids; bound = r.counters.bound; moves = r.counters.moves; words = r.counters.words }
 
 -- the run of a session that keeps these records, and of its manager
-abbrev pub run_of : Records → HeapState → RunState
-run_of records heap = run_at (session_of records) heap
+abbrev pub run_with : Records → HeapState → RunState
+run_with records heap = run_at (session_of records) heap

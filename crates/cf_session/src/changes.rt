@@ -1,6 +1,6 @@
 //! The commands that change objects: each does its call, and returns the text of its reply.
 ghost use Rattle.std.specs.Prelude.{◌≡◌, ◌^◌, ◌≤◌, IsTrue, Err, length};
-ghost use Rattle.cf_session.specs.Records.{run_of, session_of};
+ghost use Rattle.cf_session.specs.Records.{run_with, session_of};
 ghost use Rattle.script_reader.specs.declared.command.Command.TheVariants.{Malloc, Free, Write, Resize, Bound};
 ghost use Rattle.run_model.specs.Replies.{malloc_text, resize_text, write_text};
 ghost use Rattle.run_model.specs.Sessions.{AreTied, IsGoing};
@@ -22,8 +22,8 @@ pub(crate) fn malloc<H: Manager>(
 ) -> &'static [u8]
     requires open { IsTrue (H.state heap.old).is_open }
     requires room { steps.old ≤ 2 ^ 63 }
-    ensures step { Step (run_of records.old (H.state heap.old)) (Malloc id bytes)
-        (said result.now) (run_of records.new (H.state heap.new)) }
+    ensures step { Step (run_with records.old (H.state heap.old)) (Malloc id bytes)
+        (said result.now) (run_with records.new (H.state heap.new)) }
     ensures short { length result.now ≤ 20 }
 {
     if records.ids.handle(id).is_some() {
@@ -61,8 +61,8 @@ pub(crate) fn free<H: Manager>(
     requires open { IsTrue (H.state heap.old).is_open }
     requires tied { AreTied (session_of records.old) (H.state heap.old) }
     requires room { steps.old ≤ 2 ^ 63 }
-    ensures step { Step (run_of records.old (H.state heap.old)) (Free id)
-        (said result.now) (run_of records.new (H.state heap.new)) }
+    ensures step { Step (run_with records.old (H.state heap.old)) (Free id)
+        (said result.now) (run_with records.new (H.state heap.new)) }
     ensures short { length result.now ≤ 20 }
 {
     let Some(h) = records.ids.handle(id) else {
@@ -88,8 +88,8 @@ pub(crate) fn write<H: Manager>(
 ) -> &'static [u8]
     requires open { IsTrue (H.state heap.old).is_open }
     requires room { steps.old ≤ 2 ^ 63 }
-    ensures step { Step (run_of records.now (H.state heap.old)) (Write id at bytes.now)
-        (said result.now) (run_of records.now (H.state heap.new)) }
+    ensures step { Step (run_with records.now (H.state heap.old)) (Write id at bytes.now)
+        (said result.now) (run_with records.now (H.state heap.new)) }
     ensures short { length result.now ≤ 20 }
 {
     let Some(h) = records.ids.handle(id) else {
@@ -122,8 +122,8 @@ pub(crate) fn resize<H: Manager>(
 ) -> &'static [u8]
     requires open { IsTrue (H.state heap.old).is_open }
     requires room { steps.old ≤ 2 ^ 63 }
-    ensures step { Step (run_of records.old (H.state heap.old)) (Resize id bytes)
-        (said result.now) (run_of records.new (H.state heap.new)) }
+    ensures step { Step (run_with records.old (H.state heap.old)) (Resize id bytes)
+        (said result.now) (run_with records.new (H.state heap.new)) }
     ensures short { length result.now ≤ 20 }
 {
     let Some(h) = records.ids.handle(id) else {
@@ -162,11 +162,11 @@ pub(crate) fn set_bound<H: Manager>(
     slot_words: u32,
     k: u32,
 ) -> &'static [u8]
-    requires going { IsGoing (run_of records.now (H.state heap.old)) }
+    requires going { IsGoing (run_with records.now (H.state heap.old)) }
     requires least { 1 ≤ k }
     requires most { k ≤ 64 }
-    ensures step { Step (run_of records.now (H.state heap.old)) (Bound slot_words k)
-        (said result.now) (run_of records.now (H.state heap.new)) }
+    ensures step { Step (run_with records.now (H.state heap.old)) (Bound slot_words k)
+        (said result.now) (run_with records.now (H.state heap.new)) }
     ensures short { length result.now ≤ 20 }
 {
     if !records.ids.is_empty() {

@@ -4,7 +4,7 @@ ghost use Rattle.cf_io.specs.Feeds.{Rose};
 ghost use Rattle.cf_io.specs.Lines.{line_room};
 ghost use Rattle.cf_session.specs.Apply.{Applies, moment_at};
 ghost use Rattle.cf_session.specs.OneLine.{IsOneLine, IsReported, Says, lines_at};
-ghost use Rattle.cf_session.specs.Records.{run_of, session_of};
+ghost use Rattle.cf_session.specs.Records.{run_with, session_of};
 ghost use Rattle.script_reader.specs.Commands.{IsWellFormed};
 ghost use Rattle.run_model.specs.Sessions.{IsGoing};
 
@@ -30,7 +30,7 @@ pub(crate) fn answer<H: Manager, K: Sink>(
     out: &mut K,
     steps: &mut Steps,
 ) -> Result<Outcome, Failed>
-    requires going { IsGoing (run_of records.old (H.state heap.old)) }
+    requires going { IsGoing (run_with records.old (H.state heap.old)) }
     requires formed { IsWellFormed c.now }
     requires lead { length lead.now ≤ 8 }
     requires room { steps.old ≤ 2 ^ 63 }
@@ -73,13 +73,13 @@ fn one_line_reply<H: Manager>(
     line: &mut Line,
     steps: &mut Steps,
 )
-    requires going { IsGoing (run_of records.old (H.state heap.old)) }
+    requires going { IsGoing (run_with records.old (H.state heap.old)) }
     requires formed { IsWellFormed c.now }
     requires one { IsOneLine c.now }
     requires room { steps.old ≤ 2 ^ 63 }
     requires begun { length line.old ≤ 8 }
-    ensures said { Says (run_of records.old (H.state heap.old))
-        c.now (run_of records.new (H.state heap.new))
+    ensures said { Says (run_with records.old (H.state heap.old))
+        c.now (run_with records.new (H.state heap.new))
         (lines_at line.old line.new) }
     ensures short { length line.new < line_room }
 {

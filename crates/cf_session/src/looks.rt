@@ -2,7 +2,7 @@
 ghost use Rattle.std.specs.Prelude.{◌≡◌, ◌^◌, ◌<◌, ◌≤◌, ◌++◌, IsTrue, length, slice_get};
 ghost use Rattle.std.specs.FinMap as map;
 ghost use Rattle.cf_io.specs.Lines.{line_room};
-ghost use Rattle.cf_session.specs.Records.{run_of, session_of};
+ghost use Rattle.cf_session.specs.Records.{run_with, session_of};
 ghost use Rattle.run_model.specs.Replies.{block_text_at, object_of, peek_text, place_text, read_text, steps_text};
 ghost use Rattle.run_model.specs.Sessions.{AreTied};
 
@@ -31,7 +31,7 @@ pub(crate) fn read<H: Manager>(
     requires few { len ≤ 4096 }
     requires begun { length line.old ≤ 8 }
     ensures text { line.new
-        ≡ line.old ++ read_text (object_of (run_of records.now (H.state heap.now)) id) at len }
+        ≡ line.old ++ read_text (object_of (run_with records.now (H.state heap.now)) id) at len }
     ensures short { length line.new < line_room }
 {
     let Some(h) = records.ids.handle(id) else {
@@ -78,7 +78,7 @@ pub(crate) fn place<H: Manager>(
     requires open { IsTrue (H.state heap.now).is_open }
     requires begun { length line.old ≤ 8 }
     ensures text { line.new
-        ≡ line.old ++ place_text (object_of (run_of records.now (H.state heap.now)) id) }
+        ≡ line.old ++ place_text (object_of (run_with records.now (H.state heap.now)) id) }
     ensures short { length line.new < line_room }
 {
     let Some(h) = records.ids.handle(id) else {
@@ -103,7 +103,7 @@ pub(crate) fn block<H: Manager>(
     requires tied { AreTied (session_of records.now) (H.state heap.now) }
     requires begun { length line.old ≤ 8 }
     ensures text { line.new
-        ≡ line.old ++ block_text_at (H.state heap.now) (object_of (run_of records.now (H.state heap.now)) id) i }
+        ≡ line.old ++ block_text_at (H.state heap.now) (object_of (run_with records.now (H.state heap.now)) id) i }
     ensures short { length line.new < line_room }
 {
     let Some(h) = records.ids.handle(id) else {

@@ -13,7 +13,8 @@ use Rattle.cf_lemmas.specs.Maps.{numbered}
 use Rattle.cf_lemmas.proofs.Maps.{len_fresh, len_gone, len_rebound}
 use Rattle.cf_lemmas.proofs.Numbered.{get-numbered, len-numbered, numbered-clear, numbered-set, numbered_live}
 use Rattle.id_table.specs.Ids.{AreWithin, Ids}
-use Rattle.id_table.specs.Layout.{IsValid, vacant}
+use Rattle.cf_lemmas.specs.Maps.{vacant}
+use Rattle.id_table.specs.Layout.{IsValid}
 
 pub numbered-vacant : (n k : ℕ) → numbered k (vacant n) ≡ empty
 numbered-vacant zero k = refl

@@ -1,11 +1,7 @@
 -- How an id table lays out its ids. No public clause cites this module.
-use Rattle.std.specs.Prelude.{◌≡◌, ℕ, ◌^◌, List, Option, None, length, replicate}
+use Rattle.std.specs.Prelude.{◌≡◌, ℕ, ◌^◌, List, Option, length}
 use Rattle.std.specs.FinMap.{len}
 use Rattle.cf_lemmas.specs.Maps.{numbered}
-
--- the numbers of n ids that aren't live
-abbrev pub vacant : ℕ → List (Option ℕ)
-vacant n = replicate n None
 
 -- each id has its address, and as many as are live were counted
 pub record IsValid (numbers : List (Option ℕ)) (live : ℕ) : Type 0 where

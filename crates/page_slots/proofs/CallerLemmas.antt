@@ -16,7 +16,7 @@ use Rattle.page_model.specs.Paging.{Paging, IsPaging, bound_of, class_for, class
 use Rattle.page_model.specs.Arrangement.{class_at, objects_on, not_full_pages, standing_on, IsSlotAt, IsSound, LacksRoom}
 use Rattle.page_model.specs.Steps.{IsFreePlace, MayFill, MustMove, moved_to, without}
 use Rattle.page_model.proofs.CallerLemmas.{mover_is_other, removed_twice}
-use Rattle.page_slots.specs.Tables.{Tables, AreOthers, AreTables, IsOf, IsPageOf, IsPlaced, IsUsed, IsWhole, KeepsElsewhere, slot_at, slots_on, tables, used_in}
+use Rattle.page_slots.specs.Tables.{Tables, AreOthers, AreTables, IsOf, IsPageOf, IsPlaced, IsUsed, NoneElsewhere, KeepsElsewhere, slot_at, slots_on, tables, used_in}
 use Rattle.page_slots.specs.Taking.{TakesAt, TakesSlot}
 use Rattle.page_slots.specs.Freeing.{FillsFrom, IsFiller, MovesObject, Vacates}
 use Rattle.page_slots.specs.Occupying.{Occupies, Tell, TellPart, class_table}
@@ -41,7 +41,7 @@ module _ {p : Paging} (ok : IsPaging p) {m : Held} {old new : Tables} (tell : Te
     pub taken_part : TellPart p new
     taken_part = record { tables = kept; pages = gains.pages ∙ tell.pages }
 
-    pub taken_tell : IsWhole old → Tell p new
+    pub taken_tell : NoneElsewhere old → Tell p new
     taken_tell whole = record { part = taken_part; whole = gains_whole (class_table p) old new c t.page t.slot gains whole }
 
     on_page_of : page_of p a ≡ t.page
@@ -95,7 +95,7 @@ module _ {p : Paging} (ok : IsPaging p) {m : Held} {old new : Tables} (tell : Te
     pub vacated_part : TellPart p new
     vacated_part = record { tables = kept; pages = lost.pages ∙ tell.pages }
 
-    pub vacated_tell : IsWhole old → Tell p new
+    pub vacated_tell : NoneElsewhere old → Tell p new
     vacated_tell whole = record { part = vacated_part; whole = loses_whole (class_table p) old new c page slot lost whole }
 
     pub vacated_occupied : Occupies p (remove m h) new
@@ -157,7 +157,7 @@ module _ {p : Paging} (ok : IsPaging p) {m : Held} {old new : Tables} (tell : Te
   pub filled_part : TellPart p new
   filled_part = record { tables = kept; pages = filled_lost.pages ∙ tell.pages }
 
-  pub filled_tell : IsWhole old → Tell p new
+  pub filled_tell : NoneElsewhere old → Tell p new
   filled_tell whole = record { part = filled_part; whole = loses_whole (class_table p) old new (class_at p x) f.page f.slot filled_lost whole }
 
   -- x is freed, and the object that fills its slot stands there
@@ -175,7 +175,7 @@ module _ {p : Paging} (ok : IsPaging p) {m : Held} {old new : Tables} (tell : Te
 
 module _ {p : Paging} (ok : IsPaging p) {m : Held} {t : Tables} (tell : TellPart p t) (o : Occupies p m t) where
   -- where no slot was taken, there is no room
-  pub refused_lacks_room : IsWhole t → (c : ℕ) (new : Tables) → TakesSlot (class_table p) t c None new → LacksRoom p m c
+  pub refused_lacks_room : NoneElsewhere t → (c : ℕ) (new : Tables) → TakesSlot (class_table p) t c None new → LacksRoom p m c
   refused_lacks_room whole c new r = lacks_room p ok m t tell o whole c r.0 r.1
 
   -- an object that is found

@@ -13,7 +13,7 @@ use Rattle.page_model.specs.Held.{Held}
 use Rattle.page_model.specs.Paging.{Paging, IsPaging, slots_of}
 use Rattle.page_model.specs.Arrangement.{objects_on, standing_on, home_pages, not_full_pages, used_pages, free_pages, IsSound, LacksRoom}
 use Rattle.page_model.proofs.CallerLemmas.{part_full, less_counts as lt_yes, not_less_counts_none as lt_no, on_page, stands_here, sum_same, sum_plus, used_is}
-use Rattle.page_slots.specs.Tables.{Tables, HasUsed, IsOf, IsPageOf, IsWhole, slots_on, used_in}
+use Rattle.page_slots.specs.Tables.{Tables, HasUsed, IsOf, IsPageOf, NoneElsewhere, slots_on, used_in}
 use Rattle.page_slots.specs.Occupying.{Occupies, TellPart, class_table}
 use Rattle.page_slots.proofs.Pages.{placed_in, listed_page, list_of, free_page, taken_page}
 use Rattle.page_slots.proofs.Counted.{any_contains, contains_no, count_both, count_members, no_repeats}
@@ -120,7 +120,7 @@ module _ (p : Paging) (ok : IsPaging p) (m : Held) (t : Tables) (tell : TellPart
       omega arith
 
   -- Where no page is elsewhere:
-  module _ (whole : IsWhole t) where
+  module _ (whole : NoneElsewhere t) where
     -- something stands on each page that isn't free
     pub taken_stands : (page : ℕ) → page < p.pages → is_in_pool t.pool.free page ≡ false → 0 < standing_on p m page
     taken_stands page lt not_free =

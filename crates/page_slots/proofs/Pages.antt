@@ -9,7 +9,7 @@ use Rattle.class_lists.specs.declared.Which.{Which}
 use Rattle.class_lists.specs.declared.Which.TheVariants.{Full, NotFull}
 use Rattle.class_lists.specs.PageLists.{AreApart, pages_in}
 use Rattle.page_pool.specs.Pool.{IsPool, is_in_pool}
-use Rattle.page_slots.specs.Tables.{Tables, AreTables, IsOf, IsPlaced, IsPageOf, IsFreePage, IsElsewhere, IsWhole, KeepsElsewhere, slots_in, slots_on}
+use Rattle.page_slots.specs.Tables.{Tables, AreTables, IsOf, IsPlaced, IsPageOf, IsFreePage, IsElsewhere, NoneElsewhere, KeepsElsewhere, slots_in, slots_on}
 
 -- a page is as it was
 pub record IsSame (old new : Tables) (g : ℕ) : Type 0 where
@@ -47,7 +47,7 @@ keeps_elsewhere old new page there others = record {
 
 -- where nothing is elsewhere, and the one page that changed isn't, nothing is elsewhere after
 pub still_whole : (old new : Tables) (page : ℕ) → new.pool.pages ≡ old.pool.pages → ¬ IsElsewhere new page → ((g : ℕ) → g ≢ page → IsSame old new g)
-    → IsWhole old → IsWhole new
+    → NoneElsewhere old → NoneElsewhere new
 still_whole old new page pages there others whole g lt e = elim (cases_eq g page) [
   | inl is ↦ there (subst (IsElsewhere new) is e)
   | inr ne ↦ whole g (omega arith) (was_elsewhere old new g (others g ne) e)
@@ -131,7 +131,7 @@ module _ (k : ClassTable) (t : Tables) (a : AreTables k t) where
     | inr (inr (c, w, p)) ↦ absurd (true≢false (sym is ∙ p.taken))
   ]
 
-  pub taken_page : IsWhole t → (page : ℕ) → page < t.pool.pages → is_in_pool t.pool.free page ≡ false → (c : ℕ) × (w : Which) × IsPageOf k t page c w
+  pub taken_page : NoneElsewhere t → (page : ℕ) → page < t.pool.pages → is_in_pool t.pool.free page ≡ false → (c : ℕ) × (w : Which) × IsPageOf k t page c w
   taken_page whole page lt is = elim (a.placed page lt) [
     | inl f ↦ absurd (true≢false (sym f.free ∙ is))
     | inr (inl e) ↦ absurd (whole page lt e)

@@ -20,7 +20,7 @@ use Rattle.page_pool.specs.Pool.{Pool, is_in_pool}
 use Rattle.page_pool.proofs.CallerLemmas.{pooled_range}
 use Rattle.page_model.specs.Held.{Placed}
 use Rattle.page_model.specs.Paging.{Paging}
-use Rattle.page_slots.specs.Tables.{AreTables, IsOf, IsWhole, tables}
+use Rattle.page_slots.specs.Tables.{AreTables, IsOf, NoneElsewhere, tables}
 use Rattle.page_slots.specs.Occupying.{Occupies}
 use Rattle.page_slots.proofs.Listing.{along}
 use Rattle.page_slots.proofs.Pages.{other_free}
@@ -76,7 +76,7 @@ module _ (classes pages : ℕ) where
     placed = λ page lt. inl (record { free = range_has 0 pages page (omega arith) (omega arith); unlisted = λ c w. none_listed c w page });
   }
 
-  pub first_whole : (maps : List (List Bool)) → IsWhole (tables maps (empty_lists classes pages) (record { pages = pages; free = range_with_len 0 pages }))
+  pub first_whole : (maps : List (List Bool)) → NoneElsewhere (tables maps (empty_lists classes pages) (record { pages = pages; free = range_with_len 0 pages }))
   first_whole maps page lt e = true≢false (sym (range_has 0 pages page (omega arith) (omega arith)) ∙ e.taken)
 
   -- no object stands there

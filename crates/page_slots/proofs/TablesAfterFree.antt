@@ -10,7 +10,7 @@ use Rattle.class_lists.specs.declared.Which.{Which}
 use Rattle.class_lists.specs.declared.Which.TheVariants.{Full, NotFull}
 use Rattle.class_lists.specs.PageLists.{PageLists, AreApart, pages_in}
 use Rattle.page_pool.specs.Pool.{Pool, IsPool, is_in_pool}
-use Rattle.page_slots.specs.Tables.{Tables, AreTables, IsOf, IsPlaced, IsPageOf, IsFreePage, IsElsewhere, IsWhole, KeepsElsewhere, slots_in, slots_on, used_in}
+use Rattle.page_slots.specs.Tables.{Tables, AreTables, IsOf, IsPlaced, IsPageOf, IsFreePage, IsElsewhere, NoneElsewhere, KeepsElsewhere, slots_in, slots_on, used_in}
 use Rattle.page_slots.specs.Freeing.{Vacates}
 use Rattle.page_slots.proofs.Listing.{along, joined_here, joined_comes, joined_stays, joined_pages, joined_classes, left_comes, left_stays, left_pages}
 use Rattle.page_slots.proofs.Listing.{left_classes, left_unlisted}
@@ -33,7 +33,7 @@ module _ (k : ClassTable) (old new : Tables) (c page slot : ℕ) (l : Loses k ol
   pub loses_others : KeepsElsewhere old new
   loses_others = keeps_elsewhere old new page (of_not_elsewhere old c page l.of) l.others
 
-  pub loses_whole : IsWhole old → IsWhole new
+  pub loses_whole : NoneElsewhere old → NoneElsewhere new
   loses_whole = still_whole old new page l.pages there l.others
     where
       there : ¬ IsElsewhere new page

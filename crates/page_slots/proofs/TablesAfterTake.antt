@@ -14,7 +14,7 @@ use Rattle.class_lists.specs.PageLists.{PageLists, AreApart, pages_in}
 use Rattle.class_lists.proofs.CallerLemmas.{contains_head}
 use Rattle.page_pool.specs.Pool.{Pool, IsPool, TakesFront, is_in_pool}
 use Rattle.page_pool.proofs.CallerLemmas.{front_gone, front_below}
-use Rattle.page_slots.specs.Tables.{Tables, AreTables, IsOf, IsPageOf, IsFreePage, IsElsewhere, JoinsList, IsWhole, KeepsElsewhere, slots_in, slots_on, used_in}
+use Rattle.page_slots.specs.Tables.{Tables, AreTables, IsOf, IsPageOf, IsFreePage, IsElsewhere, JoinsList, NoneElsewhere, KeepsElsewhere, slots_in, slots_on, used_in}
 use Rattle.page_slots.specs.Taking.{FillsPage, TakesAt, TakesOnOpenPage, TakesOnFreePage}
 use Rattle.page_slots.proofs.Listing.{along, joined_here, joined_comes, joined_stays, joined_pages, joined_classes, left_comes, left_stays, left_pages}
 use Rattle.page_slots.proofs.Listing.{left_classes}
@@ -68,7 +68,7 @@ module _ (k : ClassTable) (old new : Tables) (c page slot : ℕ) (g : Gains k ol
         | inr (f, _, _) ↦ free_not_elsewhere old page f
       ]
 
-  pub gains_whole : IsWhole old → IsWhole new
+  pub gains_whole : NoneElsewhere old → NoneElsewhere new
   gains_whole = still_whole old new page g.pages (of_not_elsewhere new c page g.of) g.others
 
 module _ (k : ClassTable) (old : Tables) (a : AreTables k old) (c page : ℕ) (new : Tables) (apart : AreApart new.lists) where

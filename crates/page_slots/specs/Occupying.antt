@@ -5,7 +5,7 @@ use Rattle.size_classes.specs.Table.{ClassTable}
 use Rattle.page_model.specs.Held.{Held, Placed}
 use Rattle.page_model.specs.Paging.{Paging, page_of, address_of}
 use Rattle.page_model.specs.Arrangement.{class_at, objects_on}
-use Rattle.page_slots.specs.Tables.{Tables, AreTables, IsOf, IsUsed, IsWhole, slot_at, slots_on, used_in}
+use Rattle.page_slots.specs.Tables.{Tables, AreTables, IsOf, IsUsed, NoneElsewhere, slot_at, slots_on, used_in}
 
 -- the classes of a paging
 abbrev pub class_table : Paging → ClassTable
@@ -19,7 +19,7 @@ pub record TellPart (p : Paging) (t : Tables) : Type 0 where
 -- the tables are those of this paging, and they tell of each page: none is elsewhere
 pub record Tell (p : Paging) (t : Tables) : Type 0 where
   pub part : TellPart p t
-  pub whole : IsWhole t
+  pub whole : NoneElsewhere t
 
 -- Each object stands at a used slot of its class, and at each used slot stands an object; so the objects of a class on a page are as many as its used slots.
 pub record Occupies (p : Paging) (m : Held) (t : Tables) : Type 0 where

@@ -89,8 +89,8 @@ pub record AreTables (k : ClassTable) (t : Tables) : Type 0 where
   pub placed : (page : ℕ) → page < t.pool.pages → IsPlaced k t page
 
 -- no page is elsewhere
-abbrev pub IsWhole : Tables → Type 0
-IsWhole t = (page : ℕ) → page < t.pool.pages → ¬ IsElsewhere t page
+abbrev pub NoneElsewhere : Tables → Type 0
+NoneElsewhere t = (page : ℕ) → page < t.pool.pages → ¬ IsElsewhere t page
 
 -- pages that are elsewhere stay there, and their slots stay
 pub record KeepsElsewhere (old new : Tables) : Type 0 where

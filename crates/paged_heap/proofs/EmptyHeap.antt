@@ -18,7 +18,7 @@ use Rattle.size_classes.specs.Table.{ClassTable, IsClassTable, table_of}
 use Rattle.class_lists.specs.PageLists.{empty_lists}
 use Rattle.page_pool.specs.Pool.{Pool}
 use Rattle.proxy_table.specs.Proxies.{Proxies, AreBelowLimit, no_proxies}
-use Rattle.page_slots.specs.Tables.{AreTables, IsWhole, tables}
+use Rattle.page_slots.specs.Tables.{AreTables, NoneElsewhere, tables}
 use Rattle.page_slots.specs.Occupying.{Occupies, Tell, class_table}
 use Rattle.page_slots.proofs.CallerLemmas.{first_occupied, first_tables, first_whole}
 use Rattle.cf_base.specs.Settings.{profile_of}
@@ -85,7 +85,7 @@ module _ (h : Heap) (f : IsFirst h) where
   tell : Tell (paging_at h) (tables_in h)
   tell = record {
     part = record { tables = told; pages = ap (λ (q : Pool). q.pages) f.pool };
-    whole = subst IsWhole (sym tables_are) (first_whole (length h.classes.sizes) h.settings.pages h.maps);
+    whole = subst NoneElsewhere (sym tables_are) (first_whole (length h.classes.sizes) h.settings.pages h.maps);
   }
     where
       told : AreTables (class_table (paging_at h)) (tables_in h)

@@ -7,7 +7,8 @@ use Rattle.std.specs.FinMap as map
 use Rattle.cf_lemmas.specs.Maps.{numbered}
 use Rattle.cf_lemmas.proofs.Numbered.{numbered-set, numbered-clear, get-numbered, numbered_live, len-numbered}
 use Rattle.proxy_table.specs.Proxies.{Proxies, AreBelowLimit, no_proxies}
-use Rattle.proxy_table.specs.Layout.{proxies_of, vacant}
+use Rattle.cf_lemmas.specs.Maps.{vacant}
+use Rattle.proxy_table.specs.Layout.{proxies_of}
 
 some_is_some : {X : Type 0} (o : Option X) (x : X) → o ≡ Some x → IsSome o
 some_is_some o x is = rw is refl

@@ -1,15 +1,11 @@
 -- How a proxy table lays out its numbers. No public clause cites this module.
-use Rattle.std.specs.Prelude.{◌≡◌, ◌≢◌, ℕ, ◌+◌, ◌-◌, ◌^◌, ◌<◌, List, Option, None, length, replicate, slice_index, slice_index_or, count_by, is_some}
+use Rattle.std.specs.Prelude.{◌≡◌, ◌≢◌, ℕ, ◌+◌, ◌-◌, ◌^◌, ◌<◌, List, Option, None, length, slice_index, slice_index_or, count_by, is_some}
 use Rattle.cf_lemmas.specs.Maps.{numbered}
 use Rattle.proxy_table.specs.Proxies.{Proxies}
 
 -- the proxies whose addresses stand in a list by number
 abbrev pub proxies_of : List (Option ℕ) → Proxies
 proxies_of places = record { limit = length places; places = numbered 0 places }
-
--- the addresses of n numbers that are not live
-abbrev pub vacant : ℕ → List (Option ℕ)
-vacant n = replicate n None
 
 -- the numbers below n, the greatest first
 pub record IsFalling (n : ℕ) (numbers : List ℕ) : Type 0 where

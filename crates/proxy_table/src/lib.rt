@@ -5,7 +5,8 @@ ghost use Rattle.std.specs.Prelude.{◌≡◌, ◌<◌, ◌↔◌, IfNone, IfOk,
 ghost use Rattle.std.specs.FinMap as map;
 ghost use Rattle.step_ledger.specs.Counting.{RoseBetween, RoseBy};
 ghost use Rattle.proxy_table.specs.Proxies.{AreBelowLimit, no_proxies, with_place, without_place};
-ghost use Rattle.proxy_table.specs.Layout.{IsFalling, vacant};
+ghost use Rattle.cf_lemmas.specs.Maps.{vacant};
+ghost use Rattle.proxy_table.specs.Layout.{IsFalling};
 
 use cf_base::{Handle, OutOfMemory};
 use std::alloc::{AllocError, Global};

@@ -23,7 +23,7 @@ impl Model for Block {
 }
 
 impl Block {
-    ghost use Rattle.region.specs.BlockLoan.{LendsAll, LendsRun};
+    ghost use Rattle.region.specs.BlockLoan.{LendsAll, LendsPartOf};
 
     /// A block of `len` words, all zero; none where the allocation fails.
     pub(crate) fn new(alloc: &Global, len: usize) -> Option<Block>
@@ -65,7 +65,7 @@ impl Block {
     /// The `n` words from `i` on, to be written.
     pub(crate) fn run_mut(&mut self, i: usize, n: usize) -> &mut [u64]
         requires within { i + n ≤ length self.old.items }
-        ensures* writes_back { sem 𝓛 (LendsRun self.entry i n result) }
+        ensures* writes_back { sem 𝓛 (LendsPartOf self.entry i n result) }
         ensures value { result.now ≡ take n (drop i self.old.items) }
     {
         unsafe { std::slice::from_raw_parts_mut(self.at.add(i), n) }

@@ -24,7 +24,7 @@ use Rattle.block_model.proofs.CallerLemmas.{malloc_gives, free_keeps_tiling, ref
 use Rattle.block_model.proofs.CallerLemmas.{malloc_keeps_tiling, made}
 use Rattle.cf_model.specs.Answers.{bound_put, class_with}
 use Rattle.cf_model.specs.Families as family
-use Rattle.cf_model.specs.Families.{IsTiled, lists_of}
+use Rattle.cf_model.specs.Families.{IsTiled, free_lists_of}
 use Rattle.cf_model.specs.Rules.{AreOwned, KeepsRules, KeepsRulesOf, KeepsTiling, content_word}
 use Rattle.cf_model.specs.State.{HeapState, region_words}
 use Rattle.cf_model.specs.Steps.{IsPlacedBy, IsUnmoved, LacksRoomIn, MovesIn, Part, StaysOutside, frames_left, leaves_of, slot_in, tiling_left}
@@ -80,17 +80,17 @@ module _ (old : HeapState) (rules : KeepsRules old) (with_blocks : IsTiled old.k
 
   malloc_given : (n place h : ℕ) (new : List Block) → need n ≤ old.profile.page_words → len old.held < old.profile.proxies → h < old.profile.proxies
       → get old.held h ≡ None
-      → Carves (lists_of old.kind) old.tiling (record { need = block_need n; owner = h }) place new → HasMalloc old n
+      → Carves (free_lists_of old.kind) old.tiling (record { need = block_need n; owner = h }) place new → HasMalloc old n
   malloc_given n place h new fits few low unused carves =
       let d : Demand = record { need = block_need n; owner = h } in
       let m : Held = insert old.held h (zeros_at place n) in
       let none : get (objects old.held) h ≡ None = bytes_missing old.held h unused in
       let room : len (objects old.held) < old.profile.proxies = (let same = len-objects old.held in omega arith) in
       let law = lawful old.kind in
-      let given = malloc_gives (lists_of old.kind) law.0 (region_words old.profile) old.tiling new d place law.1 rules.settings.small_region (omega arith)
+      let given = malloc_gives (free_lists_of old.kind) law.0 (region_words old.profile) old.tiling new d place law.1 rules.settings.small_region (omega arith)
       (need_is_small old.profile rules.settings n fits) tiling.tiling carves in
-      let tiles = malloc_keeps_tiling (lists_of old.kind) (region_words old.profile) old.tiling new d place (omega arith) tiling.tiling carves in
-      let owned = owned_malloc (lists_of old.kind)
+      let tiles = malloc_keeps_tiling (free_lists_of old.kind) (region_words old.profile) old.tiling new d place (omega arith) tiling.tiling carves in
+      let owned = owned_malloc (free_lists_of old.kind)
       (region_words old.profile) old.held old.tiling new h n place tiling.tiling tiling.owned unused carves given in
       let added : AreFew old.profile.proxies (objects m) =
       subst (AreFew old.profile.proxies) (sym (malloc_objects old.held h place n))
@@ -118,7 +118,7 @@ module _ (old : HeapState) (rules : KeepsRules old) (with_blocks : IsTiled old.k
       }
       | inl few ↦ (
           let key = fresh_key old.profile.proxies old.held few in
-          elim (carved_or_lacking (lists_of old.kind) (region_words old.profile) old.tiling (record { need = block_need n; owner = key.0 }) tiling.tiling) [
+          elim (carved_or_lacking (free_lists_of old.kind) (region_words old.profile) old.tiling (record { need = block_need n; owner = key.0 }) tiling.tiling) [
             | inl at ↦ malloc_given n at.0 key.0 at.1 fits few key.1 key.2 at.2
             | inr lacks ↦ record {
               answer = Err refusal.Space;

@@ -1,18 +1,14 @@
 -- What a session keeps beside its manager.
 use Rattle.std.specs.Prelude.{◌≡◌, ℕ, ◌+◌, ◌≤◌, ⊤, Option, Some, None, min, refl, IsTrue}
-use Rattle.std.specs.Ordering.{nat_cmp}
 use Rattle.std.specs.FinMap as map
 use Rattle.std.specs.Coded.{Coded, code_by, coded×, coded_ℕ}
 use Rattle.cf_base.specs.declared.kind.Kind.{Kind}
 use Rattle.page_model.specs.Held.{Placed}
 use Rattle.cf_io.specs.Feeds.{last_count}
+pub use Rattle.id_table.specs.Ids.{Ids}
 use Rattle.cf_model.specs.Families.{paged, tiled, family_of}
 use Rattle.cf_model.specs.Rules.{KeepsRules}
 use Rattle.cf_model.specs.State.{HeapState}
-
--- the number of the handle of each live id
-abbrev pub Ids : Type 0
-Ids = map.FinMap nat_cmp ℕ
 
 -- The live ids; the bound on the steps of the last call that changed the objects' addresses or lengths, 0 before one; how many objects moved, and the words of
 -- their slots.
