@@ -16,7 +16,8 @@ use Rattle.script_reader.specs.declared.command.Command.TheVariants.{Malloc, Fre
 use Rattle.run_model.specs.Replies.{malloc_text, resize_text, told, write_text}
 use Rattle.run_model.specs.Runs.{Begins, Turn}
 use Rattle.run_model.specs.Sessions.{IsGoing, RunState, counted, fresh_session}
-use Rattle.run_model.specs.Steps.{FreesAt, MallocsAt, ResizesAt, Step, WritesAt, bound_text, class_to_bound, ids_given, session_resized}
+use Rattle.run_model.specs.Steps.{Step, bound_text, class_to_bound, ids_given, session_resized}
+use Rattle.run_model.proofs.CallerLemmas.{FreesAt, MallocsAt, ResizesAt, WritesAt}
 use Rattle.run_model.specs.Texts.{Reply, said}
 use Rattle.run_model.proofs.CallerLemmas.{step_meets_bounds}
 use Rattle.run_laws.specs.Sayable.{IsSayable}

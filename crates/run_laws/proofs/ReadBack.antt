@@ -30,7 +30,8 @@ use Rattle.script_reader.specs.declared.command.Command.TheVariants.{Malloc, Fre
 use Rattle.run_model.specs.Replies.{malloc_text, object_of, read_text, resize_text, write_text}
 use Rattle.run_model.specs.Runs.{Begins, ItemStep, Run}
 use Rattle.run_model.specs.Sessions.{Ids, IsGoing, RunState, SessionState}
-use Rattle.run_model.specs.Steps.{FreesAt, MallocsAt, ResizesAt, Step, WritesAt, class_to_bound, ids_given}
+use Rattle.run_model.specs.Steps.{Step, class_to_bound, ids_given}
+use Rattle.run_model.proofs.CallerLemmas.{FreesAt, MallocsAt, ResizesAt, WritesAt}
 use Rattle.run_model.specs.Texts.{Reply, said}
 use Rattle.run_model.proofs.CallerLemmas.{begins_going, step_going}
 use Rattle.run_model.proofs.CallerLemmas.{AreNames, bytes_held, bytes_missing, counted_ids, names_in, names_of_objects, resized_ids, unmoved_held}

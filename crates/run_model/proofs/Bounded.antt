@@ -23,7 +23,8 @@ use Rattle.script_reader.specs.declared.command.Command.TheVariants.{Malloc}
 use Rattle.run_model.specs.Bounds.{HasFewPages, IsWanting, MeetsBounds, Refuses, RefusesByNeed, RefusesForWant}
 use Rattle.run_model.specs.Replies.{malloc_text}
 use Rattle.run_model.specs.Sessions.{IsGoing, RunState}
-use Rattle.run_model.specs.Steps.{MallocsAt, Step}
+use Rattle.run_model.specs.Steps.{Step}
+use Rattle.run_model.proofs.NamedIds.{MallocsAt}
 use Rattle.run_model.specs.Texts.{Reply, said}
 use Rattle.run_model.proofs.Going.{step_rules, step_same}
 

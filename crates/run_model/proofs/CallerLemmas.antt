@@ -5,3 +5,4 @@ pub use Rattle.run_model.proofs.Tied.{AreNames, bytes_held, bytes_missing, count
 pub use Rattle.run_model.proofs.Tied.{unmoved_held}
 pub use Rattle.run_model.proofs.Going.{step_rules}
 pub use Rattle.run_model.proofs.Plays.{led_joined, one_run, part_seen, run_joined, run_seen, text_joined}
+pub use Rattle.run_model.proofs.NamedIds.{MallocsAt, FreesAt, WritesAt, ResizesAt}

@@ -20,7 +20,8 @@ use Rattle.script_reader.specs.declared.command.Command.{Command}
 use Rattle.script_reader.specs.declared.command.Command.TheVariants.{Malloc, Free, Write, Bound, Resize}
 use Rattle.run_model.specs.Runs.{Begins}
 use Rattle.run_model.specs.Sessions.{CostsAtMost, IsGoing, RunState, SessionState}
-use Rattle.run_model.specs.Steps.{FreesAt, MallocsAt, ResizesAt, Step, WritesAt, class_to_bound}
+use Rattle.run_model.specs.Steps.{Step, class_to_bound}
+use Rattle.run_model.proofs.NamedIds.{FreesAt, MallocsAt, ResizesAt, WritesAt}
 use Rattle.run_model.specs.Texts.{Reply}
 use Rattle.run_model.proofs.Tied.{step_tied, unmoved_changes_cost}
 

@@ -1,3 +1,4 @@
+pub mod NamedIds
 pub mod Tied
 pub mod Going
 pub mod Bounded

@@ -21,7 +21,8 @@ use Rattle.cf_model.specs.Steps.{ChangesCost, IsMallocStep, IsResizeStep, IsUnmo
 use Rattle.script_reader.specs.declared.command.Command.{Command}
 use Rattle.script_reader.specs.declared.command.Command.TheVariants.{Malloc, Free, Write, Bound, Resize}
 use Rattle.run_model.specs.Sessions.{AreTied, CostsAtMost, Ids, RunState, SessionState, counted}
-use Rattle.run_model.specs.Steps.{FreesAt, Frees, Mallocs, MallocsAt, Resizes, ResizesAt, Step, WritesAt, class_to_bound, ids_given, session_resized}
+use Rattle.run_model.specs.Steps.{Frees, Mallocs, Resizes, Step, class_to_bound, ids_given, session_resized}
+use Rattle.run_model.proofs.NamedIds.{FreesAt, MallocsAt, ResizesAt, WritesAt}
 use Rattle.run_model.specs.Texts.{Reply}
 
 -- the ids name just the keys of the map, each once

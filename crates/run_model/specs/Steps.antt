@@ -1,5 +1,6 @@
 -- What one command does.
 use Rattle.std.specs.Prelude.{◌≡◌, ℕ, ◌+◌, ◌*◌, List, Option, Some, None, Result, Ok, Err, codes, if◌then◌else◌, nat_eq}
+use Rattle.std.specs.Option.{MatchOption}
 use Rattle.std.specs.FinMap.{get, insert, len, remove}
 use Rattle.cf_base.specs.declared.answers.AccessFault.{AccessFault}
 use Rattle.cf_base.specs.declared.answers.Freed.{Freed}
@@ -28,7 +29,7 @@ abbrev pub ids_given : Ids → ℕ → Result Handle Refusal → Ids
 ids_given ids id (Ok h) = insert ids id h.0
 ids_given ids id (Err e) = ids
 
--- a malloc for an id that isn't live
+-- A malloc for an id that isn't live. The step leaves the words open: by the rules they are those of the objects.
 pub record Mallocs (old : RunState) (asked : Request) (reply : Reply) (new : RunState) : Type 0 where
   pub answer : Result Handle Refusal
   pub step : IsMallocStep old.heap asked.length answer new.heap
@@ -36,11 +37,6 @@ pub record Mallocs (old : RunState) (asked : Request) (reply : Reply) (new : Run
   pub cost : CostsAtMost new.heap.kind new.heap.cost 64
   pub session : new.session ≡ record old.session { ids = ids_given old.session.ids asked.number answer; bound = 64 }
   pub reply_is : reply ≡ said (malloc_text answer)
-
--- by what the id names
-abbrev pub MallocsAt : Option ℕ → RunState → Request → Reply → RunState → Type 0
-MallocsAt (Some h) old asked reply new = Stays old (codes "live") reply new
-MallocsAt None old asked reply new = Mallocs old asked reply new
 
 -- an id, and the number of the handle that it names
 pub record Named : Type 0 where
@@ -57,10 +53,6 @@ pub record Frees (old : RunState) (named : Named) (reply : Reply) (new : RunStat
       freed.slot_words
   pub reply_is : reply ≡ said (codes "ok")
 
-abbrev pub FreesAt : Option ℕ → RunState → ℕ → Reply → RunState → Type 0
-FreesAt None old id reply new = Stays old (codes "unknown") reply new
-FreesAt (Some h) old id reply new = Frees old (record { id = id; number = h }) reply new
-
 -- a write into a live object
 pub record Writes (old : RunState) (part : Part) (bytes : List ℕ) (reply : Reply) (new : RunState) : Type 0 where
   pub answer : Result Unit AccessFault
@@ -68,10 +60,6 @@ pub record Writes (old : RunState) (part : Part) (bytes : List ℕ) (reply : Rep
   pub rules : KeepsRules new.heap
   pub session : new.session ≡ old.session
   pub reply_is : reply ≡ said (write_text answer)
-
-abbrev pub WritesAt : Option ℕ → RunState → ℕ → List ℕ → Reply → RunState → Type 0
-WritesAt None old at bytes reply new = Stays old (codes "unknown") reply new
-WritesAt (Some h) old at bytes reply new = Writes old (record { number = h; from = at }) bytes reply new
 
 -- the session after a resize: an object that takes the old slot has moved
 abbrev pub session_resized : SessionState → Result Resized ResizeFault → SessionState
@@ -86,10 +74,6 @@ pub record Resizes (old : RunState) (asked : Request) (reply : Reply) (new : Run
   pub cost : CostsAtMost new.heap.kind new.heap.cost (resize_bound answer)
   pub session : new.session ≡ session_resized (record old.session { bound = resize_bound answer }) answer
   pub reply_is : reply ≡ said (resize_text answer)
-
-abbrev pub ResizesAt : Option ℕ → RunState → ℕ → Reply → RunState → Type 0
-ResizesAt None old bytes reply new = Stays old (codes "unknown") reply new
-ResizesAt (Some h) old bytes reply new = Resizes old (record { number = h; length = bytes }) reply new
 
 -- the class that gets a bound of its own: none where no class has such slots; nor where an object is live, of which no script tells
 abbrev pub class_to_bound : HeapState → ℕ → Option ℕ
@@ -108,9 +92,13 @@ pub record Bounds (old : RunState) (slot_words k : ℕ) (reply : Reply) (new : R
 
 -- One command: its reply, and the state after it.
 abbrev pub Step : RunState → Command → Reply → RunState → Type 0
-Step old (Malloc id bytes) reply new = MallocsAt (get old.session.ids id) old (record { number = id; length = bytes }) reply new
-Step old (Free id) reply new = FreesAt (get old.session.ids id) old id reply new
-Step old (Write id at bytes) reply new = WritesAt (get old.session.ids id) old at bytes reply new
-Step old (Resize id bytes) reply new = ResizesAt (get old.session.ids id) old bytes reply new
+Step old (Malloc id bytes) reply new =
+    MatchOption (get old.session.ids id) (Mallocs old (record { number = id; length = bytes }) reply new) (λ h. Stays old (codes "live") reply new)
+Step old (Free id) reply new =
+    MatchOption (get old.session.ids id) (Stays old (codes "unknown") reply new) (λ h. Frees old (record { id = id; number = h }) reply new)
+Step old (Write id at bytes) reply new =
+    MatchOption (get old.session.ids id) (Stays old (codes "unknown") reply new) (λ h. Writes old (record { number = h; from = at }) bytes reply new)
+Step old (Resize id bytes) reply new =
+    MatchOption (get old.session.ids id) (Stays old (codes "unknown") reply new) (λ h. Resizes old (record { number = h; length = bytes }) reply new)
 Step old (Bound slot_words k) reply new = Bounds old slot_words k reply new
 Step old command reply new = (reply ≡ told old command) × (new ≡ old)

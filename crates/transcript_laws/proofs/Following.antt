@@ -26,7 +26,8 @@ use Rattle.script_reader.specs.declared.command.Command.TheVariants.{Malloc, Fre
 use Rattle.script_reader.specs.declared.command.Command.TheVariants.{Task, Quota, Need, Admit}
 use Rattle.run_model.specs.Replies.{malloc_text, read_text, resize_text, write_text}
 use Rattle.run_model.specs.Sessions.{Ids, IsGoing, RunState, SessionState, counted}
-use Rattle.run_model.specs.Steps.{Bounds, FreesAt, MallocsAt, ResizesAt, Step, WritesAt, bound_text, class_to_bound, ids_given, session_resized}
+use Rattle.run_model.specs.Steps.{Bounds, Step, bound_text, class_to_bound, ids_given, session_resized}
+use Rattle.run_model.proofs.CallerLemmas.{FreesAt, MallocsAt, ResizesAt, WritesAt}
 use Rattle.run_model.specs.Texts.{Reply, said}
 use Rattle.run_model.proofs.CallerLemmas.{step_same, AreNames, names_in, names_of_objects, unmoved_changes_cost, unmoved_held}
 use Rattle.transcript_laws.specs.ById.{ById}
