@@ -16,12 +16,12 @@ use Rattle.id_table.specs.Ids.{AreWithin, Ids}
 use Rattle.cf_lemmas.specs.Maps.{vacant}
 use Rattle.id_table.specs.Layout.{IsValid}
 
-pub numbered-vacant : (n k : ℕ) → numbered k (vacant n) ≡ empty
+pub numbered-vacant : (n k : ℕ) → numbered k (vacant {X = ℕ} n) ≡ empty
 numbered-vacant zero k = refl
 numbered-vacant (suc n) k = numbered-vacant n (k + 1)
 
 -- a new table
-pub none_live : IsValid (vacant 65536) 0
+pub none_live : IsValid (vacant {X = ℕ} 65536) 0
 none_live = record {
   long = length-replicate {A = Option ℕ} 65536 None;
   counted = sym (ap len (numbered-vacant 65536 0) ∙ len-empty nat_cmp ℕ);

@@ -23,14 +23,14 @@ not_none : (o : Option ℕ) → IsSome o → o ≢ None
 not_none (Some x) h e = cc
 not_none None h e = false≢true h
 
-count_vacant : (n : ℕ) → count_by is_some (vacant n) ≡ 0
+count_vacant : (n : ℕ) → count_by is_some (vacant {X = ℕ} n) ≡ 0
 count_vacant zero = refl
-count_vacant (suc n) = sum_by-cons one None (vacant n) ∙ (let e = count_vacant n in omega arith)
+count_vacant (suc n) = sum_by-cons one None (vacant {X = ℕ} n) ∙ (let e = count_vacant n in omega arith)
 
 -- none is live, and the numbers stand in falling order
-pub stack_new : (n : ℕ) (numbers : List ℕ) → n < 2 ^ 32 → IsFalling n numbers → IsValid (vacant n) numbers n
+pub stack_new : (n : ℕ) (numbers : List ℕ) → n < 2 ^ 32 → IsFalling n numbers → IsValid (vacant {X = ℕ} n) numbers n
 stack_new n numbers small f =
-    let l : length (vacant n) ≡ n = length-replicate {A = Option ℕ} n None in
+    let l : length (vacant {X = ℕ} n) ≡ n = length-replicate {A = Option ℕ} n None in
     let long = f.long in
     let falls : (i : ℕ) → i < n → get_or numbers i 0 ≡ n - 1 - i = λ i lt. f.falls i (omega arith) in
     record {

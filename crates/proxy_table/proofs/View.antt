@@ -20,11 +20,11 @@ places_below places = record {
   few = (let e = len-numbered 0 places in let l = count_by-le-length is_some places in omega arith);
 }
 
-numbered-vacant : (n k : ℕ) → numbered k (vacant n) ≡ map.empty
+numbered-vacant : (n k : ℕ) → numbered k (vacant {X = ℕ} n) ≡ map.empty
 numbered-vacant zero k = refl
 numbered-vacant (suc n) k = numbered-vacant n (k + 1)
 
-pub proxies_of-vacant : (n : ℕ) → proxies_of (vacant n) ≡ no_proxies n
+pub proxies_of-vacant : (n : ℕ) → proxies_of (vacant {X = ℕ} n) ≡ no_proxies n
 proxies_of-vacant n = λ i. record { limit = length-replicate {A = Option ℕ} n None i; places = numbered-vacant n 0 i }
 
 module _ (places : List (Option ℕ)) (proxies : Proxies) (seen : proxies_of places ≡ proxies) where
