@@ -1,0 +1,23 @@
+//! What is claimed of every script, by its lines and their replies alone: no heap, handle, address
+//! or manager is named. The public functions do nothing: each one's contract is a law of runs.
+#![tactic(auto)]
+
+ghost use Rattle.std.specs.Prelude.{List, None, Option};
+ghost use Rattle.cf_base.specs.declared.kind.Kind.{Kind};
+ghost use Rattle.script_reader.specs.Items.{Item};
+ghost use Rattle.run_model.specs.Runs.{Run};
+ghost use Rattle.run_model.specs.Sessions.{RunState};
+ghost use Rattle.run_model.specs.Texts.{Reply};
+ghost use Rattle.headline_laws.specs.Headline.{MeetsHeadline};
+
+/// The replies of every run over a script meet the headline. Of any kind, each read shows the bytes
+/// last written through its id, whatever moved. Of a kind with pages, `walk` shows each class on at
+/// most its live objects over its slots, rounded down, and as many more pages as the script lets be
+/// partly full; where that is 1 for every class, a malloc that fits a page is refused exactly where
+/// the proxies are in use or the objects told of would need more pages than there are; and `steps`
+/// shows at most the steps of the last malloc, free or resize: 64, 96 and twice the words of the
+/// freed slot, 160 and three times those of the larger one.
+pub fn the_headline()
+    ensures { (kind : Kind) (items : List Item) (replies : List Reply) (end : Option RunState)
+        → Run kind None items replies end → MeetsHeadline kind items replies }
+{}
