@@ -19,7 +19,7 @@ use Rattle.cf_model.specs.Rules.{IsPaged}
 use Rattle.cf_model.specs.State.{HeapState, paging_in}
 use Rattle.script_reader.specs.Items.{Item, asks, bad, starts}
 use Rattle.script_reader.specs.declared.command.Command.{Command}
-use Rattle.script_reader.specs.declared.command.Command.TheVariants.{Malloc, Walk, Steps}
+use Rattle.script_reader.specs.declared.command.Command.TheVariants.{Malloc, Read, Walk, Steps}
 use Rattle.run_model.specs.Bounds.{HasFewPages, IsWanting, MeetsBounds, Refuses, RefusesByNeed}
 use Rattle.run_model.specs.Replies.{steps_text}
 use Rattle.run_model.specs.Reports.{class_line, pages_report, total_line, walk_of}
@@ -31,7 +31,7 @@ use Rattle.run_laws.specs.Told.{Told, told_after}
 use Rattle.run_laws.proofs.CallerLemmas.{reads_are_told}
 use Rattle.headline_laws.specs.Headline.{AreAsClaimed, IsAsClaimed, IsClassLine, IsFull, IsItemAsClaimed, IsRefusedWhenFull, IsWalk, IsWithinSteps, MeetsHeadline}
 use Rattle.headline_laws.specs.Headline.{classes_told, steps_line}
-use Rattle.headline_laws.specs.ToldHeap.{ToldHeap, begun, bound_told, heap_after, heap_by, paging_told}
+use Rattle.headline_laws.specs.ToldHeap.{ToldHeap, heap_opened, bound_told, heap_after, heap_by, paging_told}
 use Rattle.headline_laws.proofs.Bounds.{AreBounds, bounds_told, opening_told}
 use Rattle.headline_laws.proofs.Holding.{Holds, paging_is, paired, steps_told, told_live, told_none}
 use Rattle.headline_laws.proofs.Pairing.{ArePaired, as_many, live_alike, needed_alike}
@@ -128,9 +128,9 @@ module _ (kind : Kind) (paged : IsPaged kind) (s : RunState) (t : ToldHeap) (hol
   class_lines few c lt = record {
     figures = figures_of p s.heap.held c;
     shown = refl;
-    slot_words = slot_words_are c;
-    slots = slots_are c;
-    live = sym (live_is c);
+    words_are = slot_words_are c;
+    slots_are = slots_are c;
+    live_are = sym (live_is c);
     few_pages = (let l = few c lt in let e = bound_is c lt in omega arith);
   }
 
@@ -165,12 +165,6 @@ module _ (kind : Kind) (paged : IsPaged kind) (s : RunState) (t : ToldHeap) (hol
   bounds_met : (c : Command) (reply : Reply) (new : RunState) → MeetsBounds s.heap.kind s c reply new → HasFewPages new.heap × Refuses s c reply
   bounds_met c reply new meets = rw (paged_here, MeetsBounds) at meets
 
-  command_claim : (c : Command) (reply : Reply) (new : RunState) → Turn s c reply new → IsAsClaimed kind t c reply
-  command_claim (Malloc id n) reply new turn = malloc_claim (get s.session.ids id) id n reply refl (bounds_met (Malloc id n) reply new turn.bounds).1
-  command_claim Walk reply new turn = walk_claim (subst (λ (r : RunState). HasFewPages r.heap) turn.step.1 (bounds_met Walk reply new turn.bounds).0) reply turn.step.0
-  command_claim Steps reply new turn = steps_claim reply turn.step.0
-  command_claim c reply new turn = tt
-
   -- what is told holds after a command
   holds_after : (c : Command) (reply : Reply) (new : RunState) → Turn s c reply new → Holds kind new (heap_by kind t c reply)
   holds_after c reply new turn =
@@ -183,19 +177,30 @@ module _ (kind : Kind) (paged : IsPaged kind) (s : RunState) (t : ToldHeap) (hol
         steps = steps_told kind s t holds tells paged_here new c reply turn.step;
       }
 
+module _ (kind : Kind) (s : RunState) (t : ToldHeap) (holds : IsPaged kind → Holds kind s t) (tells : TellsReads kind (Some s) (Some t.bytes)) where
+  command_claim : (c : Command) (reply : Reply) (new : RunState) → Turn s c reply new → IsAsClaimed kind t c reply
+  command_claim (Read id at count) reply new turn =
+      (tells (asks (Read id at count) ∷ []) (reply ∷ []) (Some new) (Some new, reply, [], (new, turn, refl), refl, (refl, refl))).0
+  command_claim (Malloc id n) reply new turn = λ paged. malloc_claim kind paged s t (holds paged) tells (get s.session.ids id) id n reply refl
+      (bounds_met kind paged s t (holds paged) tells (Malloc id n) reply new turn.bounds).1
+  command_claim Walk reply new turn = λ paged. walk_claim kind paged s t (holds paged) tells
+      (subst (λ (r : RunState). HasFewPages r.heap) turn.step.1 (bounds_met kind paged s t (holds paged) tells Walk reply new turn.bounds).0) reply turn.step.0
+  command_claim Steps reply new turn = λ paged. steps_claim kind paged s t (holds paged) tells reply turn.step.0
+  command_claim c reply new turn = tt
+
 -- a run and what is told of it
 abbrev AreTogether : Kind → Option RunState → Option ToldHeap → Type 0
 AreTogether kind None None = Unit {0}
 AreTogether kind None (Some t) = ⊥
 AreTogether kind (Some s) None = ⊥
-AreTogether kind (Some s) (Some t) = Holds kind s t
+AreTogether kind (Some s) (Some t) = IsPaged kind → Holds kind s t
 
 -- the bytes that are told
 abbrev bytes_in : Option ToldHeap → Option Told
 bytes_in t = option_map (λ (x : ToldHeap). x.bytes) t
 
-begun_holds : (kind : Kind) (p : Profile) (s : RunState) → IsPaged kind → Begins kind p s → Holds kind s (begun p)
-begun_holds kind p s paged b = record {
+opened_holds : (kind : Kind) (p : Profile) (s : RunState) → IsPaged kind → Begins kind p s → Holds kind s (heap_opened p)
+opened_holds kind p s paged b = record {
   going = begins_going kind p s b;
   kind_is = ap (λ (h : HeapState). h.kind) b.heap;
   profile = sym (ap (λ (h : HeapState). h.profile) b.heap);
@@ -203,18 +208,18 @@ begun_holds kind p s paged b = record {
   steps = ap (λ (x : SessionState). x.bound) b.session;
 }
 
-module _ (kind : Kind) (paged : IsPaged kind) where
+module _ (kind : Kind) where
   -- an item is as claimed, and what is told after it holds
   item_claim : (old : Option RunState) (t : Option ToldHeap) (item : Item) (reply : Reply) (new : Option RunState) → TellsReads kind old (bytes_in t)
       → AreTogether kind old t → ItemStep kind old item reply new → IsItemAsClaimed kind t item reply × AreTogether kind new (heap_after kind t item reply)
-  item_claim old None (starts p) reply new tells holds step = (tt, subst (λ s. AreTogether kind s (Some (begun p))) (sym step.2) (begun_holds kind p step.0 paged step.1.0))
-  item_claim old (Some t) (starts p) reply new tells holds step = (tt, subst (λ s. AreTogether kind s (Some (begun p))) (sym step.2) (begun_holds kind p step.0 paged step.1.0))
+  item_claim old None (starts p) reply new tells holds step = (tt, subst (λ s. AreTogether kind s (Some (heap_opened p))) (sym step.2) (λ paged. opened_holds kind p step.0 paged step.1.0))
+  item_claim old (Some t) (starts p) reply new tells holds step = (tt, subst (λ s. AreTogether kind s (Some (heap_opened p))) (sym step.2) (λ paged. opened_holds kind p step.0 paged step.1.0))
   item_claim None None (asks c) reply new tells holds step = (tt, subst (λ s. AreTogether kind s None) (sym step.1) tt)
   item_claim None (Some t) (asks c) reply new tells holds step = absurd holds
   item_claim (Some s) None (asks c) reply new tells holds step = absurd holds
   item_claim (Some s) (Some t) (asks c) reply new tells holds step = (
-    command_claim kind paged s t holds tells c reply step.0 step.1,
-    subst (λ r. AreTogether kind r (Some (heap_by kind t c reply))) (sym step.2) (holds_after kind paged s t holds tells c reply step.0 step.1),
+    command_claim kind s t holds tells c reply step.0 step.1,
+    subst (λ r. AreTogether kind r (Some (heap_by kind t c reply))) (sym step.2) (λ paged. holds_after kind paged s t (holds paged) tells c reply step.0 step.1),
   )
   item_claim old None (bad n) reply new tells holds step = (tt, subst (λ s. AreTogether kind s None) (sym step.1) holds)
   item_claim old (Some t) (bad n) reply new tells holds step = (tt, subst (λ s. AreTogether kind s (Some t)) (sym step.1) holds)
@@ -240,7 +245,4 @@ module _ (kind : Kind) (paged : IsPaged kind) where
 -- over a run the replies meet the headline
 pub headline_met : (kind : Kind) (items : List Item) (replies : List Reply) (last : Option RunState) → Run kind None items replies last
     → MeetsHeadline kind items replies
-headline_met kind items replies last run = record {
-  reads = reads_are_told kind items replies last run;
-  pages = λ paged. run_claims kind paged items None None replies last (λ items replies new run. reads_are_told kind items replies new run) tt run;
-}
+headline_met kind items replies last run = run_claims kind items None None replies last (λ items replies new run. reads_are_told kind items replies new run) tt run

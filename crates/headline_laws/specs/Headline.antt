@@ -11,11 +11,11 @@ use Rattle.page_model.specs.Paging.{classes, slot_words, slots_of}
 use Rattle.cf_model.specs.Families.{IsPaged}
 use Rattle.script_reader.specs.Items.{Item, asks}
 use Rattle.script_reader.specs.declared.command.Command.{Command}
-use Rattle.script_reader.specs.declared.command.Command.TheVariants.{Malloc, Walk, Steps}
+use Rattle.script_reader.specs.declared.command.Command.TheVariants.{Malloc, Read, Walk, Steps}
 use Rattle.run_model.specs.Bounds.{RefusesForWant}
 use Rattle.run_model.specs.Reports.{class_line, total_line}
 use Rattle.run_model.specs.Texts.{Reply, said, with_number}
-use Rattle.run_laws.specs.Told.{AreReadsOf}
+use Rattle.run_laws.specs.Told.{read_told}
 use Rattle.headline_laws.specs.ToldHeap.{ToldHeap, bound_told, heap_after, paging_told}
 
 -- every class has the bound 1
@@ -36,9 +36,9 @@ IsRefusedWhenFull kind t None bytes reply = AreAllOne kind t → need bytes ≤ 
 pub record IsClassLine (kind : Kind) (t : ToldHeap) (c : ℕ) (line : List ℕ) : Type 0 where
   pub figures : Figures
   pub shown : line ≡ class_line figures
-  pub slot_words : figures.slot_words ≡ slot_words (paging_told kind t) c
-  pub slots : figures.slots ≡ slots_of (paging_told kind t) c
-  pub live : figures.live ≡ live (paging_told kind t) t.bytes c
+  pub words_are : figures.slot_words ≡ slot_words (paging_told kind t) c
+  pub slots_are : figures.slots ≡ slots_of (paging_told kind t) c
+  pub live_are : figures.live ≡ live (paging_told kind t) t.bytes c
   pub few_pages : figures.pages ≤ figures.live / figures.slots + bound_told t figures.slot_words
 
 -- the classes of live objects, in rising order
@@ -64,25 +64,24 @@ pub record IsWithinSteps (t : ToldHeap) (reply : Reply) : Type 0 where
   pub shown : reply ≡ said (steps_line last t.step_bound moves words)
   pub few_steps : last ≤ t.step_bound
 
--- what is claimed of a command and its reply
+-- What is claimed of a command and its reply: a read shows the bytes last written through its id, whatever the kind; and of a kind with pages these three.
 abbrev pub IsAsClaimed : Kind → ToldHeap → Command → Reply → Type 0
-IsAsClaimed kind t (Malloc id bytes) reply = IsRefusedWhenFull kind t (get t.bytes id) bytes reply
-IsAsClaimed kind t Walk reply = IsWalk kind t (classes_told kind t) reply
-IsAsClaimed kind t Steps reply = IsWithinSteps t reply
+IsAsClaimed kind t (Read id at count) reply = reply ≡ said (read_told (get t.bytes id) at count)
+IsAsClaimed kind t (Malloc id bytes) reply = IsPaged kind → IsRefusedWhenFull kind t (get t.bytes id) bytes reply
+IsAsClaimed kind t Walk reply = IsPaged kind → IsWalk kind t (classes_told kind t) reply
+IsAsClaimed kind t Steps reply = IsPaged kind → IsWithinSteps t reply
 IsAsClaimed kind t command reply = ⊤
 
 abbrev pub IsItemAsClaimed : Kind → Option ToldHeap → Item → Reply → Type 0
 IsItemAsClaimed kind (Some t) (asks command) reply = IsAsClaimed kind t command reply
 IsItemAsClaimed kind t item reply = ⊤
 
--- of every item and its reply, by what the lines before it and their replies tell
+-- the same of every item and its reply, by what the lines before it and their replies tell
 abbrev pub AreAsClaimed : Kind → Option ToldHeap → List Item → List Reply → Type 0
 AreAsClaimed kind t [] replies = ⊤
 AreAsClaimed kind t (item ∷ rest) [] = ⊥
 AreAsClaimed kind t (item ∷ rest) (reply ∷ more) = IsItemAsClaimed kind t item reply × AreAsClaimed kind (heap_after kind t item reply) rest more
 
--- The replies to a script: each read shows the bytes last written through its id; and of a kind with pages the pages of each class, the refusals and the steps
--- are within what the lines before tell.
-pub record MeetsHeadline (kind : Kind) (script : List Item) (replies : List Reply) : Type 0 where
-  pub reads : AreReadsOf None script replies
-  pub pages : IsPaged kind → AreAsClaimed kind None script replies
+-- and of all the items of a script
+abbrev pub MeetsHeadline : Kind → List Item → List Reply → Type 0
+MeetsHeadline kind script replies = AreAsClaimed kind None script replies

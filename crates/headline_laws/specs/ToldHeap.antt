@@ -23,8 +23,8 @@ pub record ToldHeap : Type 0 where
   pub step_bound : ℕ
 
 -- after the `heap` line
-abbrev pub begun : Profile → ToldHeap
-begun p = record { profile = p; bounds = empty; bytes = empty; step_bound = 0 }
+abbrev pub heap_opened : Profile → ToldHeap
+heap_opened p = record { profile = p; bounds = empty; bytes = empty; step_bound = 0 }
 
 -- the pages and size classes of such a heap; the bounds stand apart
 abbrev pub paging_told : Kind → ToldHeap → Paging
@@ -65,7 +65,7 @@ heap_by kind t command reply = record {
 
 -- after an item and its reply; none before the `heap` line
 abbrev pub heap_after : Kind → Option ToldHeap → Item → Reply → Option ToldHeap
-heap_after kind t (starts p) reply = Some (begun p)
+heap_after kind t (starts p) reply = Some (heap_opened p)
 heap_after kind None (asks command) reply = None
 heap_after kind (Some t) (asks command) reply = Some (heap_by kind t command reply)
 heap_after kind t (bad n) reply = t
