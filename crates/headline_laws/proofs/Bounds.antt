@@ -93,7 +93,8 @@ module _ (old new : RunState) (rules : KeepsRules old.heap) (paged : IsPaged old
   bound_at (Some c) words k reply is e r =
       let found = class_found old.heap words c paged is in
       subst (λ r. AreBounds new.heap (cond (is_ok r) (insert told words k) told)) (sym r)
-      (subst (λ s. AreBounds s (insert told words k)) (sym e) (subst (λ w. AreBoundsIn old.heap.kind P (set old.heap.bounds c k) (insert told w k)) found.1 (put c k found.0)))
+      (subst (λ s. AreBounds s (insert told words k)) (sym e)
+      (subst (λ w. AreBoundsIn old.heap.kind P (set old.heap.bounds c k) (insert told w k)) found.1 (put c k found.0)))
 
   -- every other step leaves the bounds
   malloc_kept : (n : ℕ) (answer : Result Handle Refusal) → IsMallocStep old.heap n answer new.heap → new.heap.bounds ≡ old.heap.bounds

@@ -1,6 +1,6 @@
 -- The replies of a run are as claimed.
-use Rattle.std.proofs.Common.{◌≡◌, ℕ, zero, suc, Bool, true, false, cond, ◌+◌, ◌<◌, ◌≤◌, List, [], ◌∷◌, ◌++◌, Option, Some, None, length, map, arith, sym, ◌∙◌, ap, refl}
-use Rattle.std.proofs.Common.{subst, inl, inr}
+use Rattle.std.proofs.Common.{◌≡◌, ℕ, zero, suc, Bool, true, false, cond, ◌+◌, ◌<◌, ◌≤◌, List, [], ◌∷◌, ◌++◌, Option, Some, None, length, map, arith, sym}
+use Rattle.std.proofs.Common.{◌∙◌, ap, refl, subst, inl, inr}
 use Rattle.std.specs.Prelude.{filter, nat_eq, not, option_map}
 use Rattle.std.specs.List.{range_with_len}
 use Rattle.std.specs.Option.{unwrap_or}
@@ -29,7 +29,8 @@ use Rattle.run_model.specs.Texts.{Reply, said}
 use Rattle.run_model.proofs.CallerLemmas.{begins_going, step_going, step_same}
 use Rattle.run_laws.specs.Told.{Told, told_after}
 use Rattle.run_laws.proofs.CallerLemmas.{reads_are_told}
-use Rattle.headline_laws.specs.Headline.{AreAsClaimed, IsAsClaimed, IsClassLine, IsFull, IsItemAsClaimed, IsRefusedWhenFull, IsWalk, IsWithinSteps, MeetsHeadline}
+use Rattle.headline_laws.specs.Headline.{AreAsClaimed, IsAsClaimed, IsClassLine, IsFull, IsItemAsClaimed, IsRefusedWhenFull, IsWalk, IsWithinSteps}
+use Rattle.headline_laws.specs.Headline.{MeetsHeadline}
 use Rattle.headline_laws.specs.Headline.{classes_told, steps_line}
 use Rattle.headline_laws.specs.ToldHeap.{ToldHeap, heap_opened, bound_told, heap_after, heap_by, paging_told}
 use Rattle.headline_laws.proofs.Bounds.{AreBounds, bounds_told, opening_told}
@@ -111,7 +112,8 @@ module _ (kind : Kind) (paged : IsPaged kind) (s : RunState) (t : ToldHeap) (hol
     where
       full : IsWanting s.heap n → IsFull kind t n
       full (inl all) = inl (many ∙ all ∙ ap (λ (x : Profile). x.proxies) (sym holds.profile))
-      full (inr more) = inr (subst (λ k. t.profile.pages < k) (sym (needed_is n)) (subst (λ (x : Profile). x.pages < pages_needed_with p o n) (sym holds.profile) more))
+      full (inr more) = inr (subst (λ k. t.profile.pages < k) (sym (needed_is n))
+          (subst (λ (x : Profile). x.pages < pages_needed_with p o n) (sym holds.profile) more))
 
       wanting : IsFull kind t n → IsWanting s.heap n
       wanting (inl all) = inl (sym many ∙ all ∙ ap (λ (x : Profile). x.proxies) holds.profile)
@@ -212,14 +214,17 @@ module _ (kind : Kind) where
   -- an item is as claimed, and what is told after it holds
   item_claim : (old : Option RunState) (t : Option ToldHeap) (item : Item) (reply : Reply) (new : Option RunState) → TellsReads kind old (bytes_in t)
       → AreTogether kind old t → ItemStep kind old item reply new → IsItemAsClaimed kind t item reply × AreTogether kind new (heap_after kind t item reply)
-  item_claim old None (starts p) reply new tells holds step = (tt, subst (λ s. AreTogether kind s (Some (heap_opened p))) (sym step.2) (λ paged. opened_holds kind p step.0 paged step.1.0))
-  item_claim old (Some t) (starts p) reply new tells holds step = (tt, subst (λ s. AreTogether kind s (Some (heap_opened p))) (sym step.2) (λ paged. opened_holds kind p step.0 paged step.1.0))
+  item_claim old None (starts p) reply new tells holds step =
+      (tt, subst (λ s. AreTogether kind s (Some (heap_opened p))) (sym step.2) (λ paged. opened_holds kind p step.0 paged step.1.0))
+  item_claim old (Some t) (starts p) reply new tells holds step =
+      (tt, subst (λ s. AreTogether kind s (Some (heap_opened p))) (sym step.2) (λ paged. opened_holds kind p step.0 paged step.1.0))
   item_claim None None (asks c) reply new tells holds step = (tt, subst (λ s. AreTogether kind s None) (sym step.1) tt)
   item_claim None (Some t) (asks c) reply new tells holds step = absurd holds
   item_claim (Some s) None (asks c) reply new tells holds step = absurd holds
   item_claim (Some s) (Some t) (asks c) reply new tells holds step = (
     command_claim kind s t holds tells c reply step.0 step.1,
-    subst (λ r. AreTogether kind r (Some (heap_by kind t c reply))) (sym step.2) (λ paged. holds_after kind paged s t (holds paged) tells c reply step.0 step.1),
+    subst (λ r. AreTogether kind r (Some (heap_by kind t c reply))) (sym step.2)
+        (λ paged. holds_after kind paged s t (holds paged) tells c reply step.0 step.1),
   )
   item_claim old None (bad n) reply new tells holds step = (tt, subst (λ s. AreTogether kind s None) (sym step.1) holds)
   item_claim old (Some t) (bad n) reply new tells holds step = (tt, subst (λ s. AreTogether kind s (Some t)) (sym step.1) holds)
@@ -232,8 +237,8 @@ module _ (kind : Kind) where
   same_bytes None (bad n) reply = refl
   same_bytes (Some t) (bad n) reply = refl
 
-  run_claims : (items : List Item) (old : Option RunState) (t : Option ToldHeap) (replies : List Reply) (new : Option RunState) → TellsReads kind old (bytes_in t)
-      → AreTogether kind old t → Run kind old items replies new → AreAsClaimed kind t items replies
+  run_claims : (items : List Item) (old : Option RunState) (t : Option ToldHeap) (replies : List Reply) (new : Option RunState)
+      → TellsReads kind old (bytes_in t) → AreTogether kind old t → Run kind old items replies new → AreAsClaimed kind t items replies
   run_claims [] old t replies new tells holds run = tt
   run_claims (item ∷ rest) old t replies new tells holds run =
       let e = run.4 in
@@ -245,4 +250,5 @@ module _ (kind : Kind) where
 -- over a run the replies meet the headline
 pub headline_met : (kind : Kind) (items : List Item) (replies : List Reply) (last : Option RunState) → Run kind None items replies last
     → MeetsHeadline kind items replies
-headline_met kind items replies last run = run_claims kind items None None replies last (λ items replies new run. reads_are_told kind items replies new run) tt run
+headline_met kind items replies last run =
+    run_claims kind items None None replies last (λ items replies new run. reads_are_told kind items replies new run) tt run

@@ -3,4 +3,5 @@ pub mod ReadLengths
 pub mod Bounds
 pub mod Holding
 pub mod Claims
+pub mod Worked
 pub mod CallerLemmas

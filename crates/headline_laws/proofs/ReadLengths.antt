@@ -33,9 +33,13 @@ same_length None None same = refl
 same_length None (Some v) same = absurd (let e : 117 ≡ 61 = ap first (same 0) ∙ first_within v 0 (omega arith) in omega arith)
 same_length (Some v) None same = absurd (let e : 61 ≡ 117 = sym (first_within v 0 (omega arith)) ∙ ap first (same 0) in omega arith)
 same_length (Some v) (Some w) same = elim (cases_lt (length v) (length w)) [
-  | inl less ↦ absurd (let e : 114 ≡ 61 = sym (first_past v (length w) less) ∙ ap first (same (length w)) ∙ first_within w (length w) (omega arith) in omega arith)
+  | inl less ↦ absurd (
+      let e : 114 ≡ 61 = sym (first_past v (length w) less) ∙ ap first (same (length w)) ∙ first_within w (length w) (omega arith) in
+      omega arith)
   | inr ge ↦ elim (cases_lt (length w) (length v)) [
-    | inl less ↦ absurd (let e : 61 ≡ 114 = sym (first_within v (length v) (omega arith)) ∙ ap first (same (length v)) ∙ first_past w (length v) less in omega arith)
+    | inl less ↦ absurd (
+        let e : 61 ≡ 114 = sym (first_within v (length v) (omega arith)) ∙ ap first (same (length v)) ∙ first_past w (length v) less in
+        omega arith)
     | inr le ↦ ap (λ n. Some n) (let e : length w ≡ length v = omega arith in e)
   ]
 ]
@@ -55,7 +59,8 @@ TellsReads kind s told = (items : List Item) (replies : List Reply) (new : Optio
 -- so they are after an item
 pub reads_after : (kind : Kind) (old : Option RunState) (told : Option Told) (item : Item) (reply : Reply) (mid : Option RunState) → TellsReads kind old told
     → ItemStep kind old item reply mid → TellsReads kind mid (told_after told item reply)
-reads_after kind old told item reply mid tells step items replies new run = (tells (item ∷ items) (reply ∷ replies) new (mid, reply, replies, step, refl, run)).1
+reads_after kind old told item reply mid tells step items replies new run =
+    (tells (item ∷ items) (reply ∷ replies) new (mid, reply, replies, step, refl, run)).1
 
 -- each id has as many bytes as are told
 pub lengths_told : (kind : Kind) (s : RunState) (told : Told) → IsGoing s → TellsReads kind (Some s) (Some told) → (id : ℕ)

@@ -2,12 +2,13 @@
 //! or manager is named. The public functions do nothing: each one's contract is a law of runs.
 #![tactic(auto)]
 
-ghost use Rattle.std.specs.Prelude.{List, None, Option};
+ghost use Rattle.std.specs.Prelude.{codes, List, [], ◌∷◌, None, Option, true};
 ghost use Rattle.cf_base.specs.declared.kind.Kind.{Kind};
-ghost use Rattle.script_reader.specs.Items.{Item};
+ghost use Rattle.cf_base.specs.declared.kind.Kind.TheVariants.{Moving};
+ghost use Rattle.script_reader.specs.Items.{Item, items};
 ghost use Rattle.run_model.specs.Runs.{Run};
 ghost use Rattle.run_model.specs.Sessions.{RunState};
-ghost use Rattle.run_model.specs.Texts.{Reply};
+ghost use Rattle.run_model.specs.Texts.{Reply, said};
 ghost use Rattle.headline_laws.specs.Headline.{MeetsHeadline};
 
 /// The replies of every run over a script meet the headline. Of any kind, each read shows the bytes
@@ -20,4 +21,17 @@ ghost use Rattle.headline_laws.specs.Headline.{MeetsHeadline};
 pub fn the_headline()
     ensures { (kind : Kind) (items : List Item) (replies : List Reply) (end : Option RunState)
         → Run kind None items replies end → MeetsHeadline kind items replies }
+{}
+
+/// It refuses wrong replies, as these on two pages of 64 words: `refused space` while there is room,
+/// a page more than the objects need and may have, and more steps than a malloc may take.
+pub fn wrong_replies_fall_short()
+    ensures room { ¬ MeetsHeadline Moving (items (codes "heap 2 512 1 8\nm 1 176\n") true)
+        (said (codes "ok") ∷ said (codes "refused space") ∷ []) }
+    ensures pages { ¬ MeetsHeadline Moving (items (codes "heap 2 512 1 8\nm 1 176\nwalk\n") true)
+        (said (codes "ok") ∷ said (codes "ok") ∷ (codes "class 23 slots 2 live 1 pages 2 notfull 0"
+        ∷ codes "total live 1 pages 2 free 0" ∷ []) ∷ []) }
+    ensures steps { ¬ MeetsHeadline Moving (items (codes "heap 2 512 1 8\nm 1 176\nsteps\n") true)
+        (said (codes "ok") ∷ said (codes "ok")
+        ∷ said (codes "steps last 65 bound 64 moves 0 words 0") ∷ []) }
 {}
