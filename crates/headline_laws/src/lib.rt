@@ -23,8 +23,8 @@ pub fn the_headline()
         → Run kind None items replies end → MeetsHeadline kind items replies }
 {}
 
-/// It refuses wrong replies, as these on two pages of 64 words: `refused space` while there is room,
-/// a page more than the objects need and may have, and more steps than a malloc may take.
+/// Wrong replies do not meet the headline. On two pages of 64 words: `refused space` while there is
+/// room, a page more than the objects need and may have, and more steps than a malloc may take.
 pub fn wrong_replies_fall_short()
     ensures room { ¬ MeetsHeadline Moving (items (codes "heap 2 512 1 8\nm 1 176\n") true)
         (said (codes "ok") ∷ said (codes "refused space") ∷ []) }
