@@ -1,0 +1,2 @@
+pub mod ToldHeap
+pub mod Headline
