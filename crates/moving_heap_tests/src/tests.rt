@@ -1,4 +1,3 @@
-mod churn;
-mod desk;
+mod calls;
 mod rows;
 mod words;

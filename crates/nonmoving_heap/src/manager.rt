@@ -1,5 +1,5 @@
 //! The heap that a caller holds: closed, or open.
-ghost use Rattle.std.specs.Prelude.{◌≡◌, ◌<◌, ◌≤◌, IfOk, IsTrue};
+ghost use Rattle.std.specs.Prelude.{◌≡◌, ◌<◌, ◌≤◌, [], IfOk, IsTrue};
 ghost use Rattle.page_model.specs.Arrangement.{home_pages, not_full_pages, free_pages};
 ghost use Rattle.cf_base.specs.declared.kind.Kind.TheVariants.{NonMoving};
 ghost use Rattle.cf_model.specs.Answers.{classes_in};
@@ -8,6 +8,7 @@ ghost use Rattle.cf_model.specs.State.{closed_state, paging_in};
 ghost use Rattle.page_model.specs.Frames.{block_of};
 ghost use Rattle.cf_model.specs.Answers.{block_in};
 ghost use Rattle.paged_heap.specs.Layout.{Holds, state_at};
+ghost use Rattle.nonmoving_heap.specs.MappedState.{StandsByItsTable};
 
 use block_table::BlockTable;
 use cf_base::{
@@ -21,7 +22,8 @@ use std::marker::Model;
 use step_ledger::Steps;
 use virtual_words::Mapped;
 
-/// The non-moving manager.
+/// The non-moving manager. Contracts see what they see of every manager, and beside it the words of
+/// the region as they stand there.
 #[derive(Drop)]
 pub struct NonMovingHeap {
     alloc: Global,
@@ -29,16 +31,16 @@ pub struct NonMovingHeap {
 }
 
 impl Model for NonMovingHeap {
+    ghost use Rattle.nonmoving_heap.specs.MappedState.{MappedState, mapped_code, mapped_in};
+
+    ghost Value = { MappedState };
+
+    ghost coded = { mapped_code };
+
+    ghost view = { λ h. mapped_in h.inner };
+
     ghost use Rattle.cf_base.specs.declared.kind.Kind.TheVariants.{NonMoving};
-    ghost use Rattle.cf_model.specs.State.{HeapState, state_code};
-
-    ghost Value = { HeapState };
-
-    ghost coded = { state_code };
-
-    ghost use Rattle.paged_heap.specs.Layout.{IsValidIn, state_in};
-
-    ghost view = { λ h. state_in NonMoving h.inner };
+    ghost use Rattle.paged_heap.specs.Layout.{IsValidIn};
 
     ghost invariant = { λ h. IsValidIn NonMoving h.inner };
 }
@@ -46,14 +48,15 @@ impl Model for NonMovingHeap {
 impl NonMovingHeap {
     /// A closed manager, which takes no memory.
     pub fn closed(alloc: Global) -> NonMovingHeap
-        ensures { result ≡ closed_state NonMoving }
+        ensures state { result.state ≡ closed_state NonMoving }
+        ensures physical { result.physical ≡ [] }
     {
         NonMovingHeap { alloc, inner: None }
     }
 }
 
 impl Manager for NonMovingHeap {
-    ghost state = { λ h. h };
+    ghost state = { λ h. h.state };
 
     fn kind(&self) -> Kind {
         let _inner = &self.inner;
@@ -159,35 +162,46 @@ impl Manager for NonMovingHeap {
 impl NonMovingHeap {
     /// The pages of class c.
     pub fn pages_of(&self, c: u32) -> u32
-        requires open { IsTrue self.now.is_open }
-        requires class { c < classes_in self.now.kind self.now }
-        ensures { result ≡ home_pages (paging_in self.now) self.now.held c }
+        requires open { IsTrue self.now.state.is_open }
+        requires class { c < classes_in self.now.state.kind self.now.state }
+        ensures { result ≡ home_pages (paging_in self.now.state) self.now.state.held c }
     {
         self.open().pages_of::<Mapped>(c)
     }
 
     /// The pages of class c that are partly full.
     pub fn not_full(&self, c: u32) -> u32
-        requires open { IsTrue self.now.is_open }
-        requires class { c < classes_in self.now.kind self.now }
-        ensures { result ≡ not_full_pages (paging_in self.now) self.now.held c }
+        requires open { IsTrue self.now.state.is_open }
+        requires class { c < classes_in self.now.state.kind self.now.state }
+        ensures { result ≡ not_full_pages (paging_in self.now.state) self.now.state.held c }
     {
         self.open().not_full::<Mapped>(c)
     }
 
     /// The pages that are free.
     pub fn free_pages(&self) -> u32
-        requires { IsTrue self.now.is_open }
-        ensures { result ≡ free_pages (paging_in self.now) self.now.held }
+        requires { IsTrue self.now.state.is_open }
+        ensures { result ≡ free_pages (paging_in self.now.state) self.now.state.held }
     {
         self.open().free_pages::<Mapped>()
     }
 
+    /// What every call keeps of the region: its word `4 * F(v) + j` is the virtual word `4 * v + j`, where F
+    /// is the block table. The call does nothing.
+    pub fn physical_words_are_mapped(&self)
+        requires { IsTrue self.now.state.is_open }
+        ensures kind { self.now.state.kind ≡ NonMoving }
+        ensures words { StandsByItsTable self.now }
+    {
+        let _open = self.open();
+    }
+
     /// What is open.
     fn open(&self) -> &OpenHeap
-        requires { IsTrue self.now.is_open }
+        requires { IsTrue self.now.state.is_open }
         ensures kept { Holds NonMoving result.now }
-        ensures state { state_at NonMoving result.now ≡ self.now }
+        ensures state { state_at NonMoving result.now ≡ self.now.state }
+        ensures physical { result.now.region ≡ self.now.physical }
     {
         match &self.inner {
             Some(open) => open,

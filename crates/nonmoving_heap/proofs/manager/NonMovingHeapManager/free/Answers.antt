@@ -5,6 +5,7 @@ use Rattle.cf_model.specs.Steps.{BlocksStayIn}
 use Rattle.paged_heap.specs.Heap.{seen}
 use Rattle.paged_heap.specs.Layout.{Holds, IsValidIn, state_at, state_in}
 use Rattle.paged_heap.proofs.CallerLemmas.{rules}
+use Rattle.nonmoving_heap.specs.MappedState.{MappedState}
 use Rattle.nonmoving_heap.proofs.Blocks.{after_free}
 use Rattle.nonmoving_heap.proofs.manager.NonMovingHeapManager.free.Goals as goal
 
@@ -15,6 +16,6 @@ pub returns-clause-blocks : goal.returns-clause-blocks
 returns-clause-blocks c =
     let was : Holds NonMoving c.in-Some.open = subst (IsValidIn NonMoving) c.in-Some.is c.self.invariant in
     subst (λ (s : HeapState). BlocksStayIn s.kind s c.args.h.0 (state_at NonMoving c.free.new.self))
-    (ap (state_in NonMoving) (sym c.in-Some.is) ∙ c.self.view_is)
+    (ap (state_in NonMoving) (sym c.in-Some.is) ∙ ap (λ (v : MappedState). v.state) c.self.view_is)
     (after_free (state_at NonMoving c.in-Some.open) c.args.h.0 _ (state_at NonMoving c.free.new.self) refl
     (rules (seen NonMoving c.in-Some.open) was.kept) (rules (seen NonMoving c.free.new.self) c.free.ensures.kept.kept) c.free.ensures.step)

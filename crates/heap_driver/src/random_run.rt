@@ -1,0 +1,473 @@
+//! Long runs of drawn calls, against a reference implementation that computes each answer from the objects.
+ghost use Rattle.std.specs.Prelude.{◌≤◌, ◌<◌};
+
+use crate::bounds::open_bounded;
+use crate::wrong::{Wrong, hold};
+use cf_base::{Handle, Layout, Refusal, ResizeFault, Resized, Settings};
+use cf_model::Manager;
+use page_reference::Plain;
+use page_reference::frames::{block_of, exchange, new_frames};
+use rand_core::{Rng, SeedableRng};
+use rand_xoshiro::SplitMix64;
+use std::alloc::Global;
+use step_ledger::Meter;
+
+/// Pages, bytes to a page, and proxies.
+const PAGES: u32 = 16;
+
+const PAGE_BYTES: u32 = 512;
+
+const PROXIES: u32 = 48;
+
+/// No object is longer.
+const MOST: usize = 504;
+
+/// What is known of a live object.
+#[derive(Drop)]
+struct Live {
+    place: u32,
+    bytes: Vec<u8>,
+}
+
+/// The heap and the reference implementation, and what is known of each object, by number.
+#[derive(Drop)]
+pub struct RandomRun<H: Manager> {
+    pub heap: H,
+    pub reference: Plain,
+    /// How many objects a free or a resize of another one has moved.
+    pub moves: u32,
+    meter: Meter,
+    objects: Vec<Option<Live>>,
+    /// By virtual block, its physical block; none where objects' words are moved.
+    frames: Vec<u32>,
+    /// By class, how many pages may be partly full.
+    bounds: Vec<u32>,
+    /// Every bound is 1.
+    all_one: bool,
+    draw: SplitMix64,
+}
+
+impl<H: Manager> RandomRun<H> {
+    /// Both without objects. Each class has the bound k, or else one of its own.
+    pub fn new(
+        alloc: Global,
+        mut heap: H,
+        layout: Layout,
+        meter: Meter,
+        k: u32,
+        by_class: bool,
+    ) -> Result<RandomRun<H>, Wrong> {
+        let settings = Settings::check(PAGES, PAGE_BYTES, k, PROXIES)?;
+        let reference = Plain::new(alloc, &settings, layout)?;
+        let mut bounds = Vec::new(alloc);
+        let mut told = Vec::new(alloc);
+        for c in 0..reference.classes() {
+            let bound = if by_class { 1 + c % 4 } else { k };
+            bounds.push(bound)?;
+            told.push((reference.slot_words(c), bound, true))?;
+        }
+        open_bounded(&mut heap, &settings, &told)?;
+        let mut objects = Vec::new(alloc);
+        for _i in 0..PROXIES {
+            objects.push(None)?;
+        }
+        let blocks = match layout {
+            Layout::Words => 0,
+            Layout::Blocks => PAGES * (PAGE_BYTES / 32),
+        };
+        Ok(RandomRun {
+            heap,
+            reference,
+            moves: 0,
+            meter,
+            objects,
+            frames: new_frames(alloc, blocks)?,
+            bounds,
+            all_one: k == 1 && !by_class,
+            draw: SplitMix64::seed_from_u64(u64::from(k)),
+        })
+    }
+
+    /// So many calls, and then all is compared.
+    pub fn play(&mut self, alloc: Global, calls: u32) -> Result<(), Wrong> {
+        for _i in 0..calls {
+            self.call(alloc)?;
+        }
+        self.compare_all(alloc)
+    }
+
+    /// A number below the bound.
+    fn below(&mut self, bound: u32) -> u32
+        requires { 1 ≤ bound }
+        ensures { result < bound }
+    {
+        (self.draw.next_u64() >> 32) as u32 % bound
+    }
+
+    /// A length of up to 560 bytes: most are small, and some are too large.
+    fn length(&mut self) -> u32 {
+        let most = 8 + 8 * self.below(70);
+        self.below(most)
+    }
+
+    /// One call, drawn.
+    fn call(&mut self, alloc: Global) -> Result<(), Wrong> {
+        let handle = Handle(self.below(PROXIES));
+        match self.below(9) {
+            0 | 1 | 2 => self.malloc(alloc),
+            3 => self.free(alloc, handle),
+            4 | 5 => self.resize(alloc, handle),
+            6 | 7 => self.write(alloc, handle),
+            _ => self.read(alloc, handle),
+        }
+    }
+
+    /// A malloc.
+    fn malloc(&mut self, alloc: Global) -> Result<(), Wrong> {
+        let length = self.length();
+        let want = self.refusal(length);
+        if !self.heap.is_open() {
+            return Err(Wrong::Closed);
+        }
+        self.meter.lap();
+        match self.heap.malloc(length, self.meter.steps()) {
+            Ok(handle) => {
+                hold(want.is_none(), Wrong::Malloc(Ok(handle)))?;
+                self.put(alloc, handle, Vec::from_elem(alloc, 0, length as usize)?)?;
+                self.compare_figures(self.reference.class_for(length))
+            }
+            Err(why) => hold(want == Some(why), Wrong::Malloc(Err(why))),
+        }
+    }
+
+    /// Why the reference implementation would refuse `length` bytes.
+    fn refusal(&self, length: u32) -> Option<Refusal> {
+        let class = self.reference.class_for(length);
+        if class >= self.reference.classes() {
+            Some(Refusal::Size)
+        } else if self.reference.count() == PROXIES {
+            Some(Refusal::Proxy)
+        } else if self.reference.lacks_room(class) {
+            Some(Refusal::Space)
+        } else {
+            None
+        }
+    }
+
+    /// A number that has no object gets one with these bytes, which stands where the heap says.
+    fn put(&mut self, alloc: Global, handle: Handle, bytes: Vec<u8>) -> Result<(), Wrong> {
+        if !self.heap.is_open() {
+            return Err(Wrong::Closed);
+        }
+        let Some(place) = self.heap.place(handle, self.meter.steps()) else {
+            return Err(Wrong::Place(None));
+        };
+        let number = number_of(handle)?;
+        let entry = usize::from(number);
+        if entry >= self.objects.len() || self.objects[entry].is_some() {
+            return Err(Wrong::Differs("the number of a new object"));
+        }
+        let length = bytes.len().min(MOST) as u32;
+        self.reference.put(alloc, number, place, length, &bytes)?;
+        self.objects[entry] = Some(Live { place, bytes });
+        Ok(())
+    }
+
+    /// The object of this number goes, where there is one, and what was known of it is returned.
+    fn take(&mut self, handle: Handle) -> Option<Live> {
+        if let Ok(number) = number_of(handle) {
+            self.reference.remove(number);
+        }
+        match self.objects.get_mut(handle.0 as usize) {
+            Some(entry) => entry.take(),
+            None => None,
+        }
+    }
+
+    /// The address and the length of a live object.
+    fn known(&self, handle: Handle) -> Option<(u32, u32)> {
+        match self.objects.get(handle.0 as usize) {
+            Some(Some(live)) => Some((live.place, live.bytes.len().min(MOST) as u32)),
+            _ => None,
+        }
+    }
+
+    /// A free.
+    fn free(&mut self, alloc: Global, handle: Handle) -> Result<(), Wrong> {
+        let known = self.known(handle);
+        if !self.heap.is_open() {
+            return Err(Wrong::Closed);
+        }
+        self.meter.lap();
+        let freed = self.heap.free(handle, self.meter.steps());
+        let (Some((place, length)), Ok(done)) = (known, freed) else {
+            return hold(known.is_none() && freed.is_err(), Wrong::Free(freed));
+        };
+        let class = self.reference.class_for(length);
+        let hole = self.leaves_hole(place, class);
+        hold(
+            done.moved.is_some() == hole && done.slot_words == self.reference.slot_words(class),
+            Wrong::Free(freed),
+        )?;
+        let _gone = self.take(handle);
+        self.fill_hole(alloc, done.moved, place, done.slot_words)?;
+        self.compare_figures(class)
+    }
+
+    /// Whether another object must take the place of this one, of this class: its page is full and has
+    /// more than one slot, and its class has as many partly full pages as it may.
+    fn leaves_hole(&self, place: u32, class: u32) -> bool {
+        if class >= self.reference.classes() {
+            return false;
+        }
+        let slots = self.reference.slots(class);
+        let on_page = self.reference.objects_on(class, place / (PAGE_BYTES / 8));
+        let bound = self.bounds.get(class as usize).copied();
+        1 < slots && on_page == slots && bound == Some(self.reference.not_full_pages(class))
+    }
+
+    /// The object that moved, if one did, stands at the address now, and its blocks have changed places
+    /// with those there.
+    fn fill_hole(
+        &mut self,
+        alloc: Global,
+        moved: Option<Handle>,
+        to: u32,
+        slot_words: u32,
+    ) -> Result<(), Wrong> {
+        let Some(other) = moved else {
+            return Ok(());
+        };
+        let Some((from, _length)) = self.known(other) else {
+            return Err(Wrong::Differs("the object that moved"));
+        };
+        self.moves = self.moves.wrapping_add(1);
+        self.reference.move_to(number_of(other)?, to);
+        if let Some(Some(live)) = self.objects.get_mut(other.0 as usize) {
+            live.place = to;
+        }
+        if self.frames.is_empty() {
+            return Ok(());
+        }
+        self.frames = exchanged(alloc, &self.frames, [from / 4, to / 4, slot_words / 4])?;
+        Ok(())
+    }
+
+    /// A resize.
+    fn resize(&mut self, alloc: Global, handle: Handle) -> Result<(), Wrong> {
+        let length = self.length();
+        let known = self.known(handle);
+        let want = self.resize_fault(known, length);
+        if !self.heap.is_open() {
+            return Err(Wrong::Closed);
+        }
+        self.meter.lap();
+        let resized = self.heap.resize(handle, length, self.meter.steps());
+        let (Some((place, old)), Ok(done)) = (known, resized) else {
+            return hold(
+                want.is_some() && resized.err() == want,
+                Wrong::Resize(resized),
+            );
+        };
+        hold(want.is_none(), Wrong::Resize(resized))?;
+        let before = self.reference.class_for(old);
+        let after = self.reference.class_for(length);
+        let hole = before != after && self.leaves_hole(place, before);
+        let right = Resized {
+            old_slot_words: self.reference.slot_words(before),
+            slot_words: self.reference.slot_words(after),
+            moved: done.moved,
+        };
+        hold(
+            done == right && done.moved.is_some() == hole,
+            Wrong::Resize(resized),
+        )?;
+        let Some(mut live) = self.take(handle) else {
+            return Ok(());
+        };
+        live.bytes.resize(length as usize, 0)?;
+        self.fill_hole(alloc, done.moved, place, done.old_slot_words)?;
+        self.put(alloc, handle, live.bytes)?;
+        self.compare_figures(before)?;
+        self.compare_figures(after)
+    }
+
+    /// Why the reference implementation would refuse an object this length.
+    fn resize_fault(&self, known: Option<(u32, u32)>, length: u32) -> Option<ResizeFault> {
+        let Some((_place, old)) = known else {
+            return Some(ResizeFault::Unknown);
+        };
+        let class = self.reference.class_for(length);
+        if class >= self.reference.classes() {
+            Some(ResizeFault::Size)
+        } else if class != self.reference.class_for(old) && self.reference.lacks_room(class) {
+            Some(ResizeFault::Space)
+        } else {
+            None
+        }
+    }
+
+    /// Writes up to eight bytes.
+    fn write(&mut self, alloc: Global, handle: Handle) -> Result<(), Wrong> {
+        let at = self.below(520);
+        let piece = self.draw.next_u64().to_le_bytes();
+        let n = self.below(9);
+        let known = self.known(handle);
+        if !self.heap.is_open() {
+            return Err(Wrong::Closed);
+        }
+        self.meter.lap();
+        let written = self
+            .heap
+            .write(handle, at, &piece[..n as usize], self.meter.steps());
+        let end = at + n;
+        let fits = known.is_some_and(|(_place, length)| end <= length);
+        hold(written.is_ok() == fits, Wrong::Access(written))?;
+        if !fits {
+            return Ok(());
+        }
+        let Some(mut live) = self.take(handle) else {
+            return Ok(());
+        };
+        for i in 0..n as usize {
+            if let Some(byte) = live.bytes.get_mut(at as usize + i) {
+                *byte = piece[i];
+            }
+        }
+        self.put(alloc, handle, live.bytes)
+    }
+
+    /// Reads a whole object.
+    fn read(&mut self, alloc: Global, handle: Handle) -> Result<(), Wrong> {
+        if !self.heap.is_open() {
+            return Err(Wrong::Closed);
+        }
+        self.meter.lap();
+        let Some(Some(live)) = self.objects.get(handle.0 as usize) else {
+            let done = self.heap.read(handle, 0, &mut [], self.meter.steps());
+            return hold(done.is_err(), Wrong::Access(done));
+        };
+        let mut out = Vec::from_elem(alloc, 0xee, live.bytes.len())?;
+        let done = self
+            .heap
+            .read(handle, 0, out.as_mut_slice(), self.meter.steps());
+        hold(done.is_ok(), Wrong::Access(done))?;
+        hold(
+            out.as_slice() == live.bytes.as_slice(),
+            Wrong::Differs("the bytes of an object"),
+        )
+    }
+
+    /// Compares the figures of a class, which has at most as many pages partly full as it may.
+    fn compare_figures(&self, class: u32) -> Result<(), Wrong> {
+        if !self.heap.is_open() {
+            return Err(Wrong::Closed);
+        }
+        let figures = self.heap.figures(class);
+        if class >= self.reference.classes() {
+            return hold(figures.is_none(), Wrong::Class(figures));
+        }
+        let want = self.reference.figures(class);
+        let within = self
+            .bounds
+            .get(class as usize)
+            .is_some_and(|bound| want.not_full <= *bound);
+        hold(within && figures == Some(want), Wrong::Class(figures))
+    }
+
+    /// Compares all figures, each word of the region, and the address and the blocks of each object.
+    fn compare_all(&mut self, alloc: Global) -> Result<(), Wrong> {
+        for class in 0..self.reference.classes() {
+            self.compare_figures(class)?;
+        }
+        self.compare_totals()?;
+        let image = self.reference.image(alloc)?;
+        let mut w = 0;
+        for word in image.iter() {
+            self.compare_word(w, Some(*word))?;
+            w = w.wrapping_add(1);
+        }
+        self.compare_word(w, None)?;
+        for number in 0..PROXIES {
+            self.compare_blocks(Handle(number))?;
+        }
+        Ok(())
+    }
+
+    /// Compares the figures of the heap. Where every bound is 1 the used pages are those of the arithmetic.
+    fn compare_totals(&mut self) -> Result<(), Wrong> {
+        if !self.heap.is_open() {
+            return Err(Wrong::Closed);
+        }
+        let totals = self.heap.totals(self.meter.steps());
+        let needed = !self.all_one || totals.used == self.reference.pages_needed();
+        hold(
+            needed && totals == self.reference.totals(),
+            Wrong::Whole(totals),
+        )
+    }
+
+    /// Compares a word of the region.
+    fn compare_word(&mut self, w: u32, want: Option<u64>) -> Result<(), Wrong> {
+        if !self.heap.is_open() {
+            return Err(Wrong::Closed);
+        }
+        let word = self.heap.peek(w, self.meter.steps());
+        hold(word == want, Wrong::Word(word))
+    }
+
+    /// Compares the address of an object, and each of its blocks.
+    fn compare_blocks(&mut self, handle: Handle) -> Result<(), Wrong> {
+        if !self.heap.is_open() {
+            return Err(Wrong::Closed);
+        }
+        let place = self.heap.place(handle, self.meter.steps());
+        let Some((at, length)) = self.known(handle) else {
+            return hold(place.is_none(), Wrong::Place(place));
+        };
+        hold(place == Some(at), Wrong::Place(place))?;
+        let blocks = self.reference.slot_words(self.reference.class_for(length)) / 4;
+        for i in 0..blocks {
+            self.compare_block(handle, i, self.block_at(at, i))?;
+        }
+        self.compare_block(handle, blocks, None)
+    }
+
+    /// The physical block of block i of an object at an address; none where words are moved.
+    fn block_at(&self, place: u32, i: u32) -> Option<u32> {
+        if (place / 4) as usize + (i as usize) < self.frames.len() {
+            Some(block_of(&self.frames, place, i))
+        } else {
+            None
+        }
+    }
+
+    /// Compares a block of an object.
+    fn compare_block(&mut self, handle: Handle, i: u32, want: Option<u32>) -> Result<(), Wrong> {
+        if !self.heap.is_open() {
+            return Err(Wrong::Closed);
+        }
+        let block = self.heap.block(handle, i, self.meter.steps());
+        hold(block == want, Wrong::Block(block))
+    }
+}
+
+/// The number of a handle.
+fn number_of(handle: Handle) -> Result<u16, Wrong> {
+    match u16::try_from(handle.0) {
+        Ok(number) => Ok(number),
+        Err(_) => Err(Wrong::Differs("the number of an object")),
+    }
+}
+
+/// The table after the last number of entries from the first on changed places with those from the
+/// second on.
+fn exchanged(alloc: Global, frames: &[u32], run: [u32; 3]) -> Result<Vec<u32>, Wrong> {
+    let [a, b, n] = run;
+    let len = frames.len();
+    let fits = a as usize + n as usize <= len && b as usize + n as usize <= len;
+    if !fits || len > u32::MAX as usize {
+        return Err(Wrong::Differs("the blocks that changed places"));
+    }
+    Ok(exchange(alloc, frames, a, b, n)?)
+}

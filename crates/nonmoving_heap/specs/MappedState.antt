@@ -1,0 +1,41 @@
+-- What contracts see of the non-moving manager: what they see of every manager, and the words of its region in the order in which they stand there.
+use Rattle.std.specs.Prelude.{◌≡◌, ◌≢◌, ℕ, ◌+◌, ◌*◌, ◌/◌, ◌<◌, List, [], Option, Some, None, length, slice_index, refl}
+use Rattle.std.specs.Coded.{Coded, code_by, coded×, coded_ℕ, coded_list}
+use Rattle.std.specs.FinMap.{get}
+use Rattle.cf_base.specs.declared.kind.Kind.TheVariants.{NonMoving}
+use Rattle.cf_model.specs.State.{HeapState, paging_in, state_code}
+use Rattle.page_model.specs.Frames.{IsPhysical, block_of}
+use Rattle.page_model.specs.Held.{Placed}
+use Rattle.page_model.specs.Image.{slot_for}
+use Rattle.paged_heap.specs.declared.open_heap.OpenHeap.{OpenHeap}
+use Rattle.paged_heap.specs.Layout.{state_in}
+
+pub record MappedState : Type 0 where
+  -- the manager; its words are the virtual ones
+  pub state : HeapState
+  -- the physical words
+  pub physical : List ℕ
+
+-- the two, as a pair
+abbrev pub mapped_code : Coded MappedState
+mapped_code = code_by (HeapState × List ℕ) (coded× state_code (coded_list coded_ℕ)) (λ s. (s.state, s.physical))
+    (λ q. record { state = q.0; physical = q.1 }) (λ _. refl)
+
+-- the words of the region of an open heap
+abbrev pub region_in : Option OpenHeap → List ℕ
+region_in None = []
+region_in (Some h) = h.region
+
+-- a heap that may be closed
+abbrev pub mapped_in : Option OpenHeap → MappedState
+mapped_in o = record { state = state_in NonMoving o; physical = region_in o }
+
+-- the region has at word `4 * F(v) + j` the virtual word `4 * v + j`, where F is the block table
+abbrev pub StandsByItsTable : MappedState → Type 0
+StandsByItsTable s = IsPhysical s.state.frames s.state.words s.physical
+
+-- No physical word changes in a block of an object but h that is live before and after.
+abbrev pub OthersStayInPlace : MappedState → ℕ → MappedState → Type 0
+OthersStayInPlace old h new = (q : ℕ) (x y : Placed) → q ≢ h → get old.state.held q ≡ Some x → get new.state.held q ≡ Some y → (i j : ℕ)
+    → i < slot_for (paging_in old.state) (length x.bytes) / 4 → j < 4
+    → slice_index new.physical (4 * block_of old.state.frames x.place i + j) ≡ slice_index old.physical (4 * block_of old.state.frames x.place i + j)
