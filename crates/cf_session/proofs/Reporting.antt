@@ -1,8 +1,9 @@
 -- What was done and told, put together.
-use Rattle.std.proofs.Common.{◌≡◌, ◌∙◌, ℕ, ◌-◌, ◌++◌, List, [], ◌∷◌, Option, Result, Ok, Err, length, take, drop, map, refl, ap, sym, subst}
+use Rattle.std.proofs.Common.{◌≡◌, ◌∙◌, ℕ, ◌-◌, ◌++◌, List, [], ◌∷◌, Option, Some, None, Result, Ok, Err, length, take, drop, map, refl, ap}
+use Rattle.std.proofs.Common.{ap₂, sym, subst, append_assoc}
 use Rattle.std.specs.Prelude.{IsTrue}
 use Rattle.std.proofs.Math.Seq.{drop-append_seam}
-use Rattle.std.proofs.lemmas.List.{take_rest}
+use Rattle.std.proofs.lemmas.List.{nil_from_length, take_rest}
 use Rattle.cf_base.specs.declared.answers.Failed.{Failed}
 use Rattle.cf_base.specs.declared.answers.Totals.{Totals}
 use Rattle.cf_base.specs.declared.answers.Figures.{Figures}
@@ -25,9 +26,10 @@ use Rattle.run_model.specs.Steps.{Step}
 use Rattle.run_model.specs.Texts.{Reply, led, said}
 use Rattle.run_model.proofs.CallerLemmas.{step_meets_bounds, step_going}
 use Rattle.cf_session.specs.Apply.{Applies, outcome_in, outcome_of, run_at}
-use Rattle.cf_session.specs.OneLine.{IsReported, Says, lines_at}
+use Rattle.cf_session.specs.OneLine.{IsEnded, Lines, SaidOn, Says, lines_at, short_text}
 use Rattle.cf_session.specs.declared.outcome.Outcome.{Outcome}
 use Rattle.cf_session.specs.declared.outcome.Outcome.TheVariants.{Other}
+use Rattle.cf_session.specs.declared.short.Short.{Short}
 
 -- a step of a run that goes on is a turn
 turn : (old new : RunState) (c : Command) (reply : Reply) → IsGoing old → Step old c reply new → Turn old c reply new
@@ -64,36 +66,67 @@ walk_other HalfFit s = refl
 frag_other : (s : HeapState) → Other ≡ outcome_of (frag_of s)
 frag_other s = refl
 
-reported : (old : RunState) (c : Command) (lead : List ℕ) (reply : Reply) (w y : Told) (r : Result Unit Failed) (answer : Result Outcome Failed)
-    → IsGoing old → Step old c reply old → Other ≡ outcome_of reply
-    → Puts w (led lead reply) r y → IsReported r answer → Applies (at old w) (record { command = c; lead = lead }) answer (at old y)
-reported old c lead reply w y (Ok u) answer going step other put is =
-    let P : Result Outcome Failed → Type 0 = λ a. Applies (at old w) (record { command = c; lead = lead }) a (at old y) in
-    subst P (sym is) (applied old old c lead reply w y going step Other other put)
-reported old c lead reply w y (Err e) answer going step other put is =
-    let P : Result Outcome Failed → Type 0 = λ a. Applies (at old w) (record { command = c; lead = lead }) a (at old y) in
-    subst P (sym is) (applied_cut old old c lead reply w y going step e put)
+pub reported : (old new : RunState) (c : Command) (lead : List ℕ) (reply : Reply) (w y : Told) (r : Result Unit Failed) (outcome : Outcome)
+    (answer : Result Outcome Failed) → IsGoing old → Step old c reply new → outcome ≡ outcome_of reply
+    → Puts w (led lead reply) r y → IsEnded r outcome answer → Applies (at old w) (record { command = c; lead = lead }) answer (at new y)
+reported old new c lead reply w y (Ok u) outcome answer going step told put is =
+    let P : Result Outcome Failed → Type 0 = λ a. Applies (at old w) (record { command = c; lead = lead }) a (at new y) in
+    subst P (sym is) (applied old new c lead reply w y going step outcome told put)
+reported old new c lead reply w y (Err e) outcome answer going step told put is =
+    let P : Result Outcome Failed → Type 0 = λ a. Applies (at old w) (record { command = c; lead = lead }) a (at new y) in
+    subst P (sym is) (applied_cut old new c lead reply w y going step e put)
 
 pub reported_walk : (old : RunState) (lead : List ℕ) (w y : Told) (c : Command) (r : Result Unit Failed) (answer : Result Outcome Failed) → c ≡ Walk
     → IsGoing old
-    → Puts w (led lead (walk_of old.heap.kind old.heap)) r y → IsReported r answer
+    → Puts w (led lead (walk_of old.heap.kind old.heap)) r y → IsEnded r Other answer
     → Applies (at old w) (record { command = c; lead = lead }) answer (at old y)
 reported_walk old lead w y c r answer is going put told =
     let P : Command → Type 0 = λ k. Applies (at old w) (record { command = k; lead = lead }) answer (at old y) in
-    subst P (sym is) (reported old Walk lead (walk_of old.heap.kind old.heap) w y r answer going (refl, refl) (walk_other old.heap.kind old.heap) put told)
+    let other = walk_other old.heap.kind old.heap in
+    subst P (sym is) (reported old old Walk lead (walk_of old.heap.kind old.heap) w y r Other answer going (refl, refl) other put told)
 
 pub reported_frag : (old : RunState) (lead : List ℕ) (w y : Told) (c : Command) (r : Result Unit Failed) (answer : Result Outcome Failed) → c ≡ Frag
     → IsGoing old
-    → Puts w (led lead (frag_of old.heap)) r y → IsReported r answer → Applies (at old w) (record { command = c; lead = lead }) answer (at old y)
+    → Puts w (led lead (frag_of old.heap)) r y → IsEnded r Other answer
+    → Applies (at old w) (record { command = c; lead = lead }) answer (at old y)
 reported_frag old lead w y c r answer is going put told =
     let P : Command → Type 0 = λ k. Applies (at old w) (record { command = k; lead = lead }) answer (at old y) in
-    subst P (sym is) (reported old Frag lead (frag_of old.heap) w y r answer going (refl, refl) (frag_other old.heap) put told)
+    subst P (sym is) (reported old old Frag lead (frag_of old.heap) w y r Other answer going (refl, refl) (frag_other old.heap) put told)
+
+-- a command that was answered by a text on the line, or by a short one
+pub says_of : (old new : RunState) (asked c : Command) (text : List ℕ) (line : Lines) (short : Option Short) → asked ≡ c → Step old c (said text) new
+    → SaidOn line text short → Says old asked new line short
+says_of old new asked c text line short is step on =
+    subst (λ (k : Command). Says old k new line short) (sym is) (record { text = text; step = step; on = on })
+
+-- a short reply that was put
+pub told_short : (old new : RunState) (c : Command) (lead before after : List ℕ) (w y : Told) (short : Short) (r : Result Unit Failed) (outcome : Outcome)
+    (answer : Result Outcome Failed) → IsGoing old → Says old c new (lines_at before after) (Some short) → outcome ≡ outcome_in (short_text short)
+    → Puts w (led lead (said (short_text short))) r y → IsEnded r outcome answer
+    → Applies (at old w) (record { command = c; lead = lead }) answer (at new y)
+told_short old new c lead before after w y short r outcome answer going says told put is =
+    reported old new c lead (said (short_text short)) w y r outcome answer going
+    (subst (λ (text : List ℕ). Step old c (said text) new) (sym says.on) says.step) told put is
+
+-- the line of a short reply, where nothing leads it
+pub put_bare : (w y : Told) (lead text seen : List ℕ) (r : Result Unit Failed) → length lead ≡ 0 → seen ≡ text ++ 10 ∷ [] → Puts w seen r y
+    → Puts w (led lead (said text)) r y
+put_bare w y lead text seen r none is put =
+    puts_line w y lead text text r (ap (λ (l : List ℕ). l ++ text) (sym (nil_from_length lead none)))
+    (subst (λ (s : List ℕ). Puts w s r y) is put)
+
+-- and where it stands after its lead
+pub put_after : (w y : Told) (lead text seen before line : List ℕ) (r : Result Unit Failed) → before ≡ lead → line ≡ before ++ seen → seen ≡ text ++ 10 ∷ []
+    → Puts w line r y → Puts w (led lead (said text)) r y
+put_after w y lead text seen before line r begun pushed is put =
+    puts_line w y lead text (lead ++ text) r refl
+    (subst (λ (s : List ℕ). Puts w s r y) (pushed ∙ ap₂ (λ (b s : List ℕ). b ++ s) begun is ∙ sym (append_assoc lead text (10 ∷ []))) put)
 
 -- a line that was begun with its lead, and put
 module _ (old new : RunState) (c : Command) (lead begun line : List ℕ) (w y : Told)
-    (going : IsGoing old) (begins : begun ≡ lead) (says : Says old c new (lines_at begun line)) where
+    (going : IsGoing old) (begins : begun ≡ lead) (says : Says old c new (lines_at begun line) None) where
   line_is : line ≡ lead ++ says.text
-  line_is = says.pushed ∙ ap (λ (b : List ℕ). b ++ says.text) begins
+  line_is = says.on ∙ ap (λ (b : List ℕ). b ++ says.text) begins
 
   pub spoken : (outcome : Outcome) (seen : List ℕ) → seen ≡ line → outcome ≡ outcome_in (take (length seen - length lead) (drop (length lead) seen))
       → Puts {T = Unit {0}} w (line ++ 10 ∷ []) (Ok tt) y

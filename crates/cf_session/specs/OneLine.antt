@@ -1,8 +1,9 @@
 -- A command whose reply is one line. No public clause cites this module.
-use Rattle.std.specs.Prelude.{◌≡◌, ℕ, ◌++◌, List, Result, Ok, Err}
+use Rattle.std.specs.Prelude.{◌≡◌, ℕ, ◌++◌, List, Option, Some, None, Result, Ok, Err, codes}
 use Rattle.cf_base.specs.declared.answers.Failed.{Failed}
 use Rattle.cf_session.specs.declared.outcome.Outcome.{Outcome}
-use Rattle.cf_session.specs.declared.outcome.Outcome.TheVariants.{Other}
+use Rattle.cf_session.specs.declared.short.Short.{Short}
+use Rattle.cf_session.specs.declared.short.Short.TheVariants.{Done, Live, Unknown, Range, Lacking, RefusedSize, RefusedProxy, RefusedSpace}
 use Rattle.script_reader.specs.declared.command.Command.{Command}
 use Rattle.script_reader.specs.declared.command.Command.TheVariants.{Walk, Frag}
 use Rattle.run_model.specs.Sessions.{RunState}
@@ -17,11 +18,27 @@ pub record Lines : Type 0 where
 abbrev pub lines_at : List ℕ → List ℕ → Lines
 lines_at before after = record { before = before; after = after }
 
--- the command takes effect, and the text of its reply stands after what stood on the line
-pub record Says (old : RunState) (command : Command) (new : RunState) (line : Lines) : Type 0 where
+-- the text of a short reply
+abbrev pub short_text : Short → List ℕ
+short_text Done = codes "ok"
+short_text Live = codes "live"
+short_text Unknown = codes "unknown"
+short_text Range = codes "range"
+short_text Lacking = codes "none"
+short_text RefusedSize = codes "refused size"
+short_text RefusedProxy = codes "refused proxy"
+short_text RefusedSpace = codes "refused space"
+
+-- the text is that of a short reply; or it stands after what stood on the line
+abbrev pub SaidOn : Lines → List ℕ → Option Short → Type 0
+SaidOn line text (Some short) = short_text short ≡ text
+SaidOn line text None = line.after ≡ line.before ++ text
+
+-- the command takes effect, and this is the text of its reply
+pub record Says (old : RunState) (command : Command) (new : RunState) (line : Lines) (short : Option Short) : Type 0 where
   pub text : List ℕ
   pub step : Step old command (said text) new
-  pub pushed : line.after ≡ line.before ++ text
+  pub on : SaidOn line text short
 
 -- the reply is one line
 abbrev pub IsOneLine : Command → Type 0
@@ -29,7 +46,7 @@ IsOneLine Walk = ⊥
 IsOneLine Frag = ⊥
 IsOneLine _ = Unit {0}
 
--- a report was written, or not
-abbrev pub IsReported : {T : Type 0} → Result T Failed → Result Outcome Failed → Type 0
-IsReported (Ok u) answer = answer ≡ Ok Other
-IsReported (Err failed) answer = answer ≡ Err failed
+-- this was written, with that outcome, or not
+abbrev pub IsEnded : {T : Type 0} → Result T Failed → Outcome → Result Outcome Failed → Type 0
+IsEnded (Ok u) outcome answer = answer ≡ Ok outcome
+IsEnded (Err failed) outcome answer = answer ≡ Err failed

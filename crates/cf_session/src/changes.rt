@@ -1,5 +1,6 @@
-//! The commands that change objects: each does its call, and returns the text of its reply.
-ghost use Rattle.std.specs.Prelude.{◌≡◌, ◌^◌, ◌≤◌, IsTrue, Err, length};
+//! The commands that change objects: each does its call, and returns its reply.
+ghost use Rattle.std.specs.Prelude.{◌≡◌, ◌^◌, ◌≤◌, IsTrue, Err};
+ghost use Rattle.cf_session.specs.OneLine.{short_text};
 ghost use Rattle.cf_session.specs.Records.{run_with, session_of};
 ghost use Rattle.script_reader.specs.declared.command.Command.TheVariants.{Malloc, Free, Write, Resize, Bound};
 ghost use Rattle.run_model.specs.Replies.{malloc_text, resize_text, write_text};
@@ -8,6 +9,7 @@ ghost use Rattle.run_model.specs.Steps.{Step};
 ghost use Rattle.run_model.specs.Texts.{said};
 
 use crate::records::Records;
+use crate::short::Short;
 use cf_base::{AccessFault, Refusal, ResizeFault};
 use cf_model::Manager;
 use step_ledger::Steps;
@@ -19,35 +21,33 @@ pub(crate) fn malloc<H: Manager>(
     id: u16,
     bytes: u32,
     steps: &mut Steps,
-) -> &'static [u8]
+) -> Short
     requires open { IsTrue (H.state heap.old).is_open }
     requires room { steps.old ≤ 2 ^ 63 }
     ensures step { Step (run_with records.old (H.state heap.old)) (Malloc id bytes)
-        (said result.now) (run_with records.new (H.state heap.new)) }
-    ensures short { length result.now ≤ 20 }
+        (said (short_text result)) (run_with records.new (H.state heap.new)) }
 {
     if records.ids.handle(id).is_some() {
-        return b"live";
+        return Short::Live;
     }
     records.counters.bound = 64;
     match heap.malloc(bytes, steps) {
         Ok(h) => {
             records.ids.bind(id, h);
-            b"ok"
+            Short::Done
         }
-        Err(refusal) => refusal_text(refusal),
+        Err(refusal) => refusal_reply(refusal),
     }
 }
 
 /// How a malloc's refusal is told.
-fn refusal_text(refusal: Refusal) -> &'static [u8]
-    ensures text { result.now ≡ malloc_text (Err refusal) }
-    ensures short { length result.now ≤ 20 }
+fn refusal_reply(refusal: Refusal) -> Short
+    ensures { short_text result ≡ malloc_text (Err refusal) }
 {
     match refusal {
-        Refusal::Size => b"refused size",
-        Refusal::Proxy => b"refused proxy",
-        Refusal::Space => b"refused space",
+        Refusal::Size => Short::RefusedSize,
+        Refusal::Proxy => Short::RefusedProxy,
+        Refusal::Space => Short::RefusedSpace,
     }
 }
 
@@ -57,16 +57,15 @@ pub(crate) fn free<H: Manager>(
     heap: &mut H,
     id: u16,
     steps: &mut Steps,
-) -> &'static [u8]
+) -> Short
     requires open { IsTrue (H.state heap.old).is_open }
     requires tied { AreTied (session_of records.old) (H.state heap.old) }
     requires room { steps.old ≤ 2 ^ 63 }
     ensures step { Step (run_with records.old (H.state heap.old)) (Free id)
-        (said result.now) (run_with records.new (H.state heap.new)) }
-    ensures short { length result.now ≤ 20 }
+        (said (short_text result)) (run_with records.new (H.state heap.new)) }
 {
     let Some(h) = records.ids.handle(id) else {
-        return b"unknown";
+        return Short::Unknown;
     };
     let Ok(freed) = heap.free(h, steps) else {
         unreachable!();
@@ -74,7 +73,7 @@ pub(crate) fn free<H: Manager>(
     records.ids.unbind(id);
     records.counters.bound = 96 + 2 * freed.slot_words as u64;
     records.counters.count_move(freed.moved, freed.slot_words);
-    b"ok"
+    Short::Done
 }
 
 /// `w`: writes bytes into the object of a live id.
@@ -85,30 +84,28 @@ pub(crate) fn write<H: Manager>(
     at: u32,
     bytes: &[u8],
     steps: &mut Steps,
-) -> &'static [u8]
+) -> Short
     requires open { IsTrue (H.state heap.old).is_open }
     requires room { steps.old ≤ 2 ^ 63 }
     ensures step { Step (run_with records.now (H.state heap.old)) (Write id at bytes.now)
-        (said result.now) (run_with records.now (H.state heap.new)) }
-    ensures short { length result.now ≤ 20 }
+        (said (short_text result)) (run_with records.now (H.state heap.new)) }
 {
     let Some(h) = records.ids.handle(id) else {
-        return b"unknown";
+        return Short::Unknown;
     };
     match heap.write(h, at, bytes, steps) {
-        Ok(()) => b"ok",
-        Err(fault) => fault_text(fault),
+        Ok(()) => Short::Done,
+        Err(fault) => fault_reply(fault),
     }
 }
 
 /// How the refusal of a read or a write is told.
-pub(crate) fn fault_text(fault: AccessFault) -> &'static [u8]
-    ensures text { result.now ≡ write_text (Err fault) }
-    ensures short { length result.now ≤ 20 }
+pub(crate) fn fault_reply(fault: AccessFault) -> Short
+    ensures { short_text result ≡ write_text (Err fault) }
 {
     match fault {
-        AccessFault::Unknown => b"unknown",
-        AccessFault::Range => b"range",
+        AccessFault::Unknown => Short::Unknown,
+        AccessFault::Range => Short::Range,
     }
 }
 
@@ -119,39 +116,37 @@ pub(crate) fn resize<H: Manager>(
     id: u16,
     bytes: u32,
     steps: &mut Steps,
-) -> &'static [u8]
+) -> Short
     requires open { IsTrue (H.state heap.old).is_open }
     requires room { steps.old ≤ 2 ^ 63 }
     ensures step { Step (run_with records.old (H.state heap.old)) (Resize id bytes)
-        (said result.now) (run_with records.new (H.state heap.new)) }
-    ensures short { length result.now ≤ 20 }
+        (said (short_text result)) (run_with records.new (H.state heap.new)) }
 {
     let Some(h) = records.ids.handle(id) else {
-        return b"unknown";
+        return Short::Unknown;
     };
     match heap.resize(h, bytes, steps) {
         Ok(done) => {
             records.counters.bound = 160 + 3 * done.old_slot_words.max(done.slot_words) as u64;
             records.counters.count_move(done.moved, done.old_slot_words);
-            b"ok"
+            Short::Done
         }
         Err(fault) => {
             records.counters.bound = 160;
-            resize_fault_text(fault)
+            resize_fault_reply(fault)
         }
     }
 }
 
 /// How a resize's refusal is told.
-fn resize_fault_text(fault: ResizeFault) -> &'static [u8]
-    ensures text { result.now ≡ resize_text (Err fault) }
-    ensures short { length result.now ≤ 20 }
+fn resize_fault_reply(fault: ResizeFault) -> Short
+    ensures { short_text result ≡ resize_text (Err fault) }
 {
     match fault {
-        ResizeFault::Unknown => b"unknown",
-        ResizeFault::Kind => b"none",
-        ResizeFault::Size => b"refused size",
-        ResizeFault::Space => b"refused space",
+        ResizeFault::Unknown => Short::Unknown,
+        ResizeFault::Kind => Short::Lacking,
+        ResizeFault::Size => Short::RefusedSize,
+        ResizeFault::Space => Short::RefusedSpace,
     }
 }
 
@@ -161,20 +156,19 @@ pub(crate) fn set_bound<H: Manager>(
     heap: &mut H,
     slot_words: u32,
     k: u32,
-) -> &'static [u8]
+) -> Short
     requires going { IsGoing (run_with records.now (H.state heap.old)) }
     requires least { 1 ≤ k }
     requires most { k ≤ 64 }
     ensures step { Step (run_with records.now (H.state heap.old)) (Bound slot_words k)
-        (said result.now) (run_with records.now (H.state heap.new)) }
-    ensures short { length result.now ≤ 20 }
+        (said (short_text result)) (run_with records.now (H.state heap.new)) }
 {
     if !records.ids.is_empty() {
-        return b"none";
+        return Short::Lacking;
     }
     if heap.set_bound(slot_words, k) {
-        b"ok"
+        Short::Done
     } else {
-        b"none"
+        Short::Lacking
     }
 }

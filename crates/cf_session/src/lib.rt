@@ -7,6 +7,7 @@ mod looks;
 mod outcome;
 mod records;
 mod session;
+mod short;
 
 pub use outcome::Outcome;
 pub use session::Session;

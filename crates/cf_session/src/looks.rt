@@ -1,20 +1,20 @@
-//! The commands that only look: each writes the text of its reply on the line.
+//! The commands that only look: each writes the text of its reply on the line, or returns a
+//! short reply.
 ghost use Rattle.std.specs.Prelude.{◌≡◌, ◌^◌, ◌<◌, ◌≤◌, ◌++◌, IsTrue, length, slice_get};
 ghost use Rattle.std.specs.FinMap as map;
 ghost use Rattle.cf_io.specs.Lines.{line_room};
+ghost use Rattle.cf_session.specs.OneLine.{SaidOn, lines_at};
 ghost use Rattle.cf_session.specs.Records.{run_with, session_of};
 ghost use Rattle.run_model.specs.Replies.{block_text_at, object_of, peek_text, place_text, read_text, steps_text};
 ghost use Rattle.run_model.specs.Sessions.{AreTied};
 
-use crate::changes::fault_text;
+use crate::changes::fault_reply;
 use crate::records::Records;
+use crate::short::Short;
 use cf_base::{Handle, Kind};
 use cf_io::{Line, push_field, push_text};
 use cf_model::Manager;
 use step_ledger::Steps;
-
-/// The most bytes that are read at once.
-const MOST: usize = 4_096;
 
 /// `r`: the bytes of a live id's object from `at` on, in hexadecimal.
 pub(crate) fn read<H: Manager>(
@@ -23,22 +23,23 @@ pub(crate) fn read<H: Manager>(
     id: u16,
     at: u32,
     len: u16,
+    room: &mut [u8],
     line: &mut Line,
     steps: &mut Steps,
-)
+) -> Option<Short>
     requires open { IsTrue (H.state heap.now).is_open }
     requires room { steps.old ≤ 2 ^ 63 }
     requires few { len ≤ 4096 }
+    requires place { length room.old ≡ 4096 }
     requires begun { length line.old ≤ 8 }
-    ensures text { line.new
-        ≡ line.old ++ read_text (object_of (run_with records.now (H.state heap.now)) id) at len }
+    ensures text { SaidOn (lines_at line.old line.new)
+        (read_text (object_of (run_with records.now (H.state heap.now)) id) at len) result }
     ensures short { length line.new < line_room }
 {
     let Some(h) = records.ids.handle(id) else {
-        return push_text(line, b"unknown");
+        return Some(Short::Unknown);
     };
-    let mut room = [0; MOST];
-    read_part(heap, h, at, &mut room[..len as usize], line, steps);
+    read_part(heap, h, at, &mut room[..len as usize], line, steps)
 }
 
 /// The bytes of an object from `at` on, as many as there is room for.
@@ -49,21 +50,22 @@ fn read_part<H: Manager>(
     room: &mut [u8],
     line: &mut Line,
     steps: &mut Steps,
-)
+) -> Option<Short>
     requires open { IsTrue (H.state heap.now).is_open }
     requires room { steps.old ≤ 2 ^ 63 }
     requires few { length room.old ≤ 4096 }
     requires begun { length line.old ≤ 8 }
-    ensures text { line.new
-        ≡ line.old ++ read_text (map.get (H.state heap.now).held h.0) at (length room.old) }
+    ensures text { SaidOn (lines_at line.old line.new)
+        (read_text (map.get (H.state heap.now).held h.0) at (length room.old)) result }
     ensures short { length line.new < line_room }
 {
     match heap.read(h, at, room, steps) {
         Ok(()) => {
             push_text(line, b"=");
             line.push_hex(room).unwrap();
+            None
         }
-        Err(fault) => push_text(line, fault_text(fault)),
+        Err(fault) => Some(fault_reply(fault)),
     }
 }
 
@@ -74,19 +76,22 @@ pub(crate) fn place<H: Manager>(
     id: u16,
     line: &mut Line,
     steps: &mut Steps,
-)
+) -> Option<Short>
     requires open { IsTrue (H.state heap.now).is_open }
     requires begun { length line.old ≤ 8 }
-    ensures text { line.new
-        ≡ line.old ++ place_text (object_of (run_with records.now (H.state heap.now)) id) }
+    ensures text { SaidOn (lines_at line.old line.new)
+        (place_text (object_of (run_with records.now (H.state heap.now)) id)) result }
     ensures short { length line.new < line_room }
 {
     let Some(h) = records.ids.handle(id) else {
-        return push_text(line, b"unknown");
+        return Some(Short::Unknown);
     };
     match heap.place(h, steps) {
-        Some(word) => push_field(line, b"at ", word as u64),
-        None => push_text(line, b"unknown"),
+        Some(word) => {
+            push_field(line, b"at ", word as u64);
+            None
+        }
+        None => Some(Short::Unknown),
     }
 }
 
@@ -98,36 +103,47 @@ pub(crate) fn block<H: Manager>(
     i: u32,
     line: &mut Line,
     steps: &mut Steps,
-)
+) -> Option<Short>
     requires open { IsTrue (H.state heap.now).is_open }
     requires tied { AreTied (session_of records.now) (H.state heap.now) }
     requires begun { length line.old ≤ 8 }
-    ensures text { line.new
-        ≡ line.old ++ block_text_at (H.state heap.now) (object_of (run_with records.now (H.state heap.now)) id) i }
+    ensures text { SaidOn (lines_at line.old line.new)
+        (block_text_at (H.state heap.now) (object_of (run_with records.now (H.state heap.now)) id) i) result }
     ensures short { length line.new < line_room }
 {
     let Some(h) = records.ids.handle(id) else {
-        return push_text(line, b"unknown");
+        return Some(Short::Unknown);
     };
     match heap.kind() {
         Kind::NonMoving => match heap.block(h, i, steps) {
-            Some(frame) => push_field(line, b"block ", frame as u64),
-            None => push_text(line, b"range"),
+            Some(frame) => {
+                push_field(line, b"block ", frame as u64);
+                None
+            }
+            None => Some(Short::Range),
         },
-        Kind::Moving | Kind::Tlsf | Kind::HalfFit => push_text(line, b"none"),
+        Kind::Moving | Kind::Tlsf | Kind::HalfFit => Some(Short::Lacking),
     }
 }
 
 /// `p`: a word of the region.
-pub(crate) fn peek<H: Manager>(heap: &H, word: u32, line: &mut Line, steps: &mut Steps)
+pub(crate) fn peek<H: Manager>(
+    heap: &H,
+    word: u32,
+    line: &mut Line,
+    steps: &mut Steps,
+) -> Option<Short>
     requires open { IsTrue (H.state heap.now).is_open }
     requires begun { length line.old ≤ 8 }
-    ensures text { line.new ≡ line.old ++ peek_text (slice_get (H.state heap.now).words word) }
+    ensures text { SaidOn (lines_at line.old line.new) (peek_text (slice_get (H.state heap.now).words word)) result }
     ensures short { length line.new < line_room }
 {
     match heap.peek(word, steps) {
-        Some(v) => line.push_word(v).unwrap(),
-        None => push_text(line, b"range"),
+        Some(v) => {
+            line.push_word(v).unwrap();
+            None
+        }
+        None => Some(Short::Range),
     }
 }
 

@@ -7,6 +7,7 @@ ghost use Rattle.cf_model.specs.Steps.{number_of};
 ghost use Rattle.cf_session.specs.Apply.{Applies, moment_at};
 ghost use Rattle.id_table.specs.Ids.{AreWithin};
 ghost use Rattle.script_reader.specs.Commands.{IsWellFormed};
+ghost use Rattle.script_reader.specs.Owned.{owned_command};
 ghost use Rattle.run_model.specs.Sessions.{AreTied, fresh_session};
 
 use crate::dispatch::answer;
@@ -15,11 +16,14 @@ use crate::records::Records;
 use cf_base::{Failed, Handle, OutOfMemory};
 use cf_io::{Line, Sink};
 use cf_model::Manager;
-use script_reader::Command;
+use script_reader::{Command, CommandRef};
 use std::alloc::Global;
 use std::marker::Model;
 use std::rt::Runtime;
 use step_ledger::Meter;
+
+/// The most bytes that are read at once.
+const MOST: usize = 4_096;
 
 /// The ids of one manager's objects, and what is told of its calls.
 #[derive(Drop)]
@@ -27,6 +31,8 @@ pub struct Session {
     meter: Meter,
     records: Records,
     line: Line,
+    /// Room for the bytes that are read.
+    room: [u8; MOST],
 }
 
 impl Model for Session {
@@ -49,6 +55,7 @@ impl Session {
             meter: Meter::new(rt),
             records: Records::new(alloc)?,
             line: Line::new(),
+            room: [0; MOST],
         })
     }
 
@@ -75,6 +82,30 @@ impl Session {
         ensures grows { K.faults out.old ≤ K.faults out.new }
         ensures failed { OnErr result (Rose (K.faults out.old) (K.faults out.new)) }
     {
+        self.apply_ref(heap, c.as_ref(), lead, out)
+    }
+
+    /// The same for a command whose bytes are borrowed.
+    pub fn apply_ref<H: Manager, K: Sink>(
+        &mut self,
+        heap: &mut H,
+        c: CommandRef,
+        lead: &[u8],
+        out: &mut K,
+    ) -> Result<Outcome, Failed>
+        requires open { IsTrue (H.state heap.old).is_open }
+        requires tied { AreTied self.old (H.state heap.old) }
+        requires formed { IsWellFormed (owned_command c) }
+        requires lead { length lead.now ≤ 8 }
+        ensures answers { Applies (moment_at self.old (H.state heap.old) (K.written out.old))
+            (record { command = owned_command c.entry; lead = lead.now })
+            result (moment_at self.new (H.state heap.new) (K.written out.new)) }
+        ensures tied { AreTied self.new (H.state heap.new) }
+        ensures open { IsTrue (H.state heap.new).is_open }
+        ensures rules { KeepsRules (H.state heap.new) }
+        ensures grows { K.faults out.old ≤ K.faults out.new }
+        ensures failed { OnErr result (Rose (K.faults out.old) (K.faults out.new)) }
+    {
         // An open heap keeps its rules.
         let _open = heap.is_open();
         self.meter.lap();
@@ -83,6 +114,7 @@ impl Session {
             heap,
             c,
             lead,
+            &mut self.room,
             &mut self.line,
             out,
             self.meter.steps(),

@@ -7,7 +7,7 @@ ghost use Rattle.script_loop.specs.Progress.{IsReady, playing, progress};
 
 use crate::player::{OpenFault, Player};
 use cf_io::{Line, Sink, put_all};
-use script_reader::{Next, Reader};
+use script_reader::{NextRef, Reader, Room};
 
 /// How far the answers came.
 #[derive(Clone, Copy, Debug, PartialEq, Eq)]
@@ -38,12 +38,14 @@ fn name_bad<K: Sink>(number: u32, sink: &mut K) -> Ready
     }
 }
 
-/// Answers what the reader has, until it needs more, has ended, or is at a bad line.
+/// Answers what the reader has, until it needs more, has ended, or is at a bad line. The bytes of a write
+/// stand in the room.
 pub fn answer_kept<H, A: Player<H>, K: Sink>(
     reader: &mut Reader,
     player: &mut A,
     heap: &mut H,
     sink: &mut K,
+    room: &mut Room,
 ) -> Ready
     requires going { reader.old.stopped ≡ None }
     requires ready { IsReady A.semantics (playing reader.old (A.state player.old heap.old)) }
@@ -53,18 +55,18 @@ pub fn answer_kept<H, A: Player<H>, K: Sink>(
     ensures failed { result ≡ Ready.Cut → Rose (K.faults sink.old) (K.faults sink.new) }
 {
     'replies: loop {
-        match reader.next_command() {
-            Next::Start(settings) => match player.open(heap, &settings, sink) {
+        match reader.next_ref(room) {
+            NextRef::Start(settings) => match player.open(heap, &settings, sink) {
                 Ok(()) => {}
                 Err(OpenFault::Failed) => return Ready::Cut,
                 Err(OpenFault::OutOfMemory) => return Ready::Wanting,
             },
-            Next::Command(ref command) => match player.answer(heap, command, sink) {
+            NextRef::Command(command) => match player.answer(heap, command, sink) {
                 Ok(()) => {}
                 Err(_) => return Ready::Cut,
             },
-            Next::NeedMore | Next::End => return Ready::GoesOn,
-            Next::Bad { line } => return name_bad(line, sink),
+            NextRef::NeedMore | NextRef::End => return Ready::GoesOn,
+            NextRef::Bad { line } => return name_bad(line, sink),
         }
     }
 }
@@ -75,6 +77,7 @@ pub fn answer_piece<H, A: Player<H>, K: Sink>(
     player: &mut A,
     heap: &mut H,
     sink: &mut K,
+    room: &mut Room,
     piece: &[u8],
 ) -> Ready
     requires waiting { IsWaiting reader.old }
@@ -89,7 +92,7 @@ pub fn answer_piece<H, A: Player<H>, K: Sink>(
     let mut at = 0;
     'feeds: while at < piece.len() {
         at += reader.feed(&piece[at..]);
-        match answer_kept(reader, player, heap, sink) {
+        match answer_kept(reader, player, heap, sink, room) {
             Ready::GoesOn => {}
             Ready::Stopped => return Ready::Stopped,
             Ready::Cut => return Ready::Cut,

@@ -13,7 +13,7 @@ use cf_base::{Failed, Settings, Status};
 use cf_io::{Sink, Source, put_all};
 use cf_model::Manager;
 use cf_session::Session;
-use script_reader::Command;
+use script_reader::CommandRef;
 
 impl<H: Manager> Player<H> for Session {
     ghost State = { RunState };
@@ -43,10 +43,10 @@ impl<H: Manager> Player<H> for Session {
     fn answer<K: Sink>(
         &mut self,
         heap: &mut H,
-        command: &Command,
+        command: CommandRef,
         sink: &mut K,
     ) -> Result<(), Failed> {
-        match self.apply(heap, command, b"", sink) {
+        match self.apply_ref(heap, command, b"", sink) {
             Ok(_) => Ok(()),
             Err(failed) => Err(failed),
         }

@@ -2,11 +2,12 @@
 ghost use Rattle.std.specs.Prelude.{◌≡◌, ◌≤◌, Err, OnErr, OnOk};
 ghost use Rattle.cf_io.specs.Feeds.{Rose};
 ghost use Rattle.script_reader.specs.Commands.{IsWellFormed};
+ghost use Rattle.script_reader.specs.Owned.{owned_command};
 ghost use Rattle.script_loop.specs.Semantics.{AnswersBy, OpensBy, Semantics, snapshot};
 
 use cf_base::{Failed, Settings};
 use cf_io::Sink;
-use script_reader::Command;
+use script_reader::CommandRef;
 
 /// Why a `heap` line wasn't answered whole.
 #[derive(Clone, Copy, Debug, Drop, PartialEq, Eq)]
@@ -50,12 +51,12 @@ pub trait Player<H> {
     fn answer<K: Sink>(
         &mut self,
         heap: &mut H,
-        command: &Command,
+        command: CommandRef,
         sink: &mut K,
     ) -> Result<(), Failed>
         requires going { semantics.is_going (state self.old heap.old) }
-        requires formed { IsWellFormed command.now }
-        ensures answers { AnswersBy semantics (snapshot (state self.old heap.old) (K.written sink.old)) command.now
+        requires formed { IsWellFormed (owned_command command) }
+        ensures answers { AnswersBy semantics (snapshot (state self.old heap.old) (K.written sink.old)) (owned_command command.entry)
             result (snapshot (state self.new heap.new) (K.written sink.new)) }
         ensures going { semantics.is_going (state self.new heap.new) }
         ensures plan { semantics.plan (state self.new heap.new) ≡ semantics.plan (state self.old heap.old) }

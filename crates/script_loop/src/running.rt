@@ -7,7 +7,7 @@ use crate::answering::{Ready, answer_kept, answer_piece};
 use crate::player::Player;
 use cf_base::Status;
 use cf_io::{Sink, Source};
-use script_reader::Reader;
+use script_reader::{Reader, Room};
 
 /// The most bytes of a script that are answered.
 pub const LIMIT: usize = 268_435_455;
@@ -38,6 +38,7 @@ pub fn play_script<H, A: Player<H>, S: Source, K: Sink>(
         → (S.given source.old + MOST_BYTES < S.given source.new) ⊎ (S.given source.new ≡ last_count) }
 {
     let mut reader = Reader::new();
+    let mut written = Room::new();
     let mut buffer = [0; 4096];
     let mut room = LIMIT;
     'pieces: loop {
@@ -49,7 +50,14 @@ pub fn play_script<H, A: Player<H>, S: Source, K: Sink>(
             break;
         }
         let within = n.min(room);
-        match answer_piece(&mut reader, player, heap, sink, &buffer[..within]) {
+        match answer_piece(
+            &mut reader,
+            player,
+            heap,
+            sink,
+            &mut written,
+            &buffer[..within],
+        ) {
             Ready::GoesOn => {}
             Ready::Stopped => return Status::BadScript,
             Ready::Cut => return Status::WriteFault,
@@ -61,7 +69,7 @@ pub fn play_script<H, A: Player<H>, S: Source, K: Sink>(
         room -= n;
     }
     reader.finish();
-    match answer_kept(&mut reader, player, heap, sink) {
+    match answer_kept(&mut reader, player, heap, sink, &mut written) {
         Ready::GoesOn => Status::Done,
         Ready::Stopped => Status::BadScript,
         Ready::Cut => Status::WriteFault,

@@ -4,7 +4,7 @@ ghost use Rattle.script_loop.specs.WithSettings.{Settled, settled, with_settings
 use crate::player::{OpenFault, Player};
 use cf_base::{Failed, Settings};
 use cf_io::Sink;
-use script_reader::Command;
+use script_reader::CommandRef;
 
 /// A player, and the settings of the `heap` line that it met, so that they can be told with what its
 /// heap holds at the end of a script.
@@ -36,7 +36,7 @@ impl<H, A: Player<H>> Player<H> for WithSettings<A> {
     fn answer<K: Sink>(
         &mut self,
         heap: &mut H,
-        command: &Command,
+        command: CommandRef,
         sink: &mut K,
     ) -> Result<(), Failed> {
         self.player.answer(heap, command, sink)

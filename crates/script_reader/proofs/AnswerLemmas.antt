@@ -3,21 +3,18 @@ use Rattle.std.proofs.Common.{◌≡◌, ◌∙◌, ◌<◌, ◌≤◌, ◌+◌,
 use Rattle.std.proofs.Common.{length-append, length-drop, subst, append-nil, append_assoc, ◌++◌, ◌⊎◌, inl, inr, cond, suc, take-append-drop, option_map}
 use Rattle.std.proofs.lemmas.Bool.{false≢true, ltb-false}
 use Rattle.std.proofs.lemmas.List.{drop_all}
-use Rattle.std.specs.Option.{option_and_then}
-use Rattle.std.specs.Prelude.{codes}
-use Rattle.std.specs.Str.{bytes_eq}
+use Rattle.std.specs.Prelude.{IfSome}
 use Rattle.cf_base.specs.Settings.{profile_of}
-use Rattle.script_reader.specs.Commands.{command_of}
-use Rattle.script_reader.specs.Items.{Item, asks, bad, breaks, gives_or_breaks, is_bound, is_comment, item, item_in, item_or_wrong, line_says, nothing, passes}
-use Rattle.script_reader.specs.Items.{stage_after, stage_behind, stage_opened, starts, tokens_say, verdict, wrong}
-use Rattle.script_reader.specs.Lines.{is_last_line, is_too_long, lines, tokens, without_return}
-use Rattle.script_reader.specs.Look.{are_idle, is_idle}
-use Rattle.script_reader.specs.ParsedLine.{IsInRange, item_answered, item_if_parsed, item_said}
+use Rattle.script_reader.specs.Found.{Finds, IsFoundInRange, next_found, saying_found, stage_said}
+use Rattle.script_reader.specs.Items.{Item, Saying, asks, bad, breaks, gives_or_breaks, is_bound, item, item_or_wrong, line_says, nothing}
+use Rattle.script_reader.specs.Items.{stage_after, stage_behind, stage_opened, starts, verdict, wrong}
+use Rattle.script_reader.specs.Lines.{is_last_line, lines}
+use Rattle.script_reader.specs.ParsedLine.{IsInRange, item_answered}
 use Rattle.script_reader.specs.Reading.{Answers, AnswersBad, HasEnded, HasNoLine, IsFirstLine, NeedsMore, PassesOver, Reading, Reads, StopsAt, holds_line_feed}
 use Rattle.script_reader.specs.Reading.{items_left}
+use Rattle.script_reader.specs.declared.found.Found.{Found}
 use Rattle.script_reader.specs.declared.next.Next.{Next}
 use Rattle.script_reader.specs.declared.next.Next.TheVariants.{Start, Command, NeedMore, Bad, End}
-use Rattle.script_reader.specs.declared.parsed_line.ParsedLine.{ParsedLine}
 use Rattle.script_reader.specs.declared.stage.Stage.{Stage}
 use Rattle.script_reader.specs.declared.stage.Stage.TheVariants.{Opening, Bounding, Running}
 use Rattle.script_reader.proofs.ItemLemmas.{behind_line, first_verdict, line_in_place, line_out_of_place, line_passed, lines_alone, lines_closed, no_items}
@@ -122,60 +119,7 @@ module _ (old : Reading) (len at : ℕ) (going : old.stopped ≡ None) (first : 
   fewer : length (drop at old.kept) < length old.kept
   fewer = omega (arith, length-drop at old.kept, first.some, first.within)
 
--- ---- what a line says
-
--- an idle line says nothing
-tokens_idle : (ts : List (List ℕ)) → are_idle ts ≡ true → tokens_say ts ≡ nothing
-tokens_idle [] idle = refl
-tokens_idle (word ∷ args) idle = rw idle refl
-
-idle_says_nothing : (line : List ℕ) → is_idle line ≡ true → line_says line ≡ nothing
-idle_says_nothing line idle = go (is_too_long line) refl idle
-  where
-    go : (b : Bool) → is_too_long line ≡ b → cond b false (are_idle (tokens (without_return line))) ≡ true → line_says line ≡ nothing
-    go true long idle = absurd (false≢true idle)
-    go false short idle = rw short (tokens_idle (tokens (without_return line)) idle)
-
--- a line that isn't idle says an item, or is wrong
-some_said : (o : Option Item) → item_or_wrong o ≡ item_or_wrong (item_said (item_or_wrong o))
-some_said None = refl
-some_said (Some i) = refl
-
-tokens_told : (ts : List (List ℕ)) → are_idle ts ≡ false → tokens_say ts ≡ item_or_wrong (item_said (tokens_say ts))
-tokens_told [] told = absurd (false≢true (sym told))
-tokens_told (word ∷ args) told = rw told (some_said (item_in word args))
-
-told_is_said : (line : List ℕ) → is_idle line ≡ false → line_says line ≡ item_or_wrong (item_said (line_says line))
-told_is_said line told = go (is_too_long line) refl told
-  where
-    go : (b : Bool) → is_too_long line ≡ b → cond b false (are_idle (tokens (without_return line))) ≡ false
-        → line_says line ≡ item_or_wrong (item_said (line_says line))
-    go true long told = rw long refl
-    go false short told = rw short (tokens_told (tokens (without_return line)) told)
-
--- what a command says
-said_again : (o : Option Item) → item_said (item_or_wrong o) ≡ o
-said_again None = refl
-said_again (Some i) = refl
-
-pub command_said : (word : List ℕ) (args : List (List ℕ)) (line : Option ParsedLine) → is_comment word ≡ false → bytes_eq word (codes "heap") ≡ false
-    → item_if_parsed line ≡ option_map asks (command_of word args) → item_if_parsed line ≡ item_said (tokens_say (word ∷ args))
-command_said word args line told other is = rw (told, other) (is ∙ sym (said_again (option_map asks (command_of word args))))
-
--- an idle line is passed
-pub step_idle : (old : Reading) (kept : List ℕ) (len at : ℕ) → old.stopped ≡ None → kept ≡ old.kept → IsFirstLine kept old.ended len at
-    → is_idle (take len kept) ≡ true → PassesOver old (behind_line old at old.stage) × (length (behind_line old at old.stage).kept < length old.kept)
-step_idle old kept len at going same first idle =
-    let first2 = subst (λ (k : List ℕ). IsFirstLine k old.ended len at) same first in
-    let idle2 = subst (λ (k : List ℕ). is_idle (take len k) ≡ true) same idle in
-    let is : first_verdict old len ≡ passes = ap (verdict old.stage) (idle_says_nothing (take len old.kept) idle2) in (
-      record {
-        reads = one_line old len at going first2 old.stage old.stopped [] (line_passed old len at going first2 is);
-        still = going;
-        same_stage = refl;
-      },
-      fewer old len at going first2,
-    )
+-- ---- what a line gives
 
 -- a heap is opened first, and bounds may follow
 opens_first : (old new : Stage) → Some new ≡ stage_opened old → (old ≡ Opening) × (new ≡ Bounding)
@@ -183,62 +127,85 @@ opens_first Opening new leads = (refl, cc)
 opens_first Bounding new leads = absurd cc
 opens_first Running new leads = absurd cc
 
-module _ (old : Reading) (kept : List ℕ) (len at : ℕ) (answer : Next) (going : old.stopped ≡ None) (same : kept ≡ old.kept)
-    (first : IsFirstLine old.kept old.ended len at) (told : is_idle (take len old.kept) ≡ false)
-    (says : item_answered answer ≡ item_said (line_says (take len kept))) where
-  line_is : line_says (take len old.kept) ≡ item_or_wrong (item_answered answer)
-  line_is =
-      let says2 = subst (λ (k : List ℕ). item_answered answer ≡ item_said (line_says (take len k))) same says in
-      told_is_said (take len old.kept) told ∙ ap item_or_wrong (sym says2)
+module _ (old : Reading) (kept : List ℕ) (len at : ℕ) (bytes : List ℕ) (found : Option Found) (going : old.stopped ≡ None) (same : kept ≡ old.kept)
+    (line : IsFirstLine kept old.ended len at) (says : saying_found bytes found ≡ line_says (take len kept)) where
+  first : IsFirstLine old.kept old.ended len at
+  first = subst (λ (k : List ℕ). IsFirstLine k old.ended len at) same line
 
-  -- the answer to a line that is in its place
-  pub step_in_place : (stage : Stage) → IsInRange answer → Some stage ≡ option_and_then (stage_after old.stage) (item_answered answer)
-      → Answers old answer (behind_line old at stage)
-  step_in_place stage fits place = go answer fits line_is place
+  line_is : line_says (take len old.kept) ≡ saying_found bytes found
+  line_is = subst (λ (k : List ℕ). line_says (take len k) ≡ saying_found bytes found) same (sym says)
+
+  -- a line that is in its place is passed, or answered
+  pub step_in_place : (stage : Stage) → IfSome found (IsFoundInRange bytes) → Some stage ≡ stage_said old.stage (saying_found bytes found)
+      → Finds old (option_map (λ f. next_found bytes f) found) (behind_line old at stage)
+  step_in_place stage fits place = go found fits line_is place
     where
       one_item : (i : Item) → line_says (take len old.kept) ≡ item i → Some stage ≡ stage_after old.stage i → Reads old (i ∷ []) (behind_line old at stage)
       one_item i is place = one_line old len at going first stage old.stopped (i ∷ [])
           (line_in_place old len at going first i stage (ap (verdict old.stage) is ∙ ap (gives_or_breaks i) (sym place)))
 
-      go : (n : Next) → IsInRange n → line_says (take len old.kept) ≡ item_or_wrong (item_answered n)
-          → Some stage ≡ option_and_then (stage_after old.stage) (item_answered n) → Answers old n (behind_line old at stage)
-      go (Start settings) fits is place = let at_stage = opens_first old.stage stage place in record {
+      answered : (n : Next) → IsInRange n → line_says (take len old.kept) ≡ item_or_wrong (item_answered n)
+          → Some stage ≡ stage_said old.stage (item_or_wrong (item_answered n)) → Answers old n (behind_line old at stage)
+      answered (Start settings) fits is place = let at_stage = opens_first old.stage stage place in record {
         reads = one_item (starts (profile_of settings)) is place;
         still = going;
         shorter = fewer old len at going first;
         opening = at_stage.0;
         bounding = at_stage.1;
       }
-      go (Command command) fits is place = record {
+      answered (Command command) fits is place = record {
         reads = one_item (asks command) is place;
         still = going;
         shorter = fewer old len at going first;
         formed = fits;
         leads = sym place;
       }
-      go NeedMore fits is place = absurd cc
-      go (Bad line) fits is place = absurd cc
-      go End fits is place = absurd cc
+      answered NeedMore fits is place = absurd cc
+      answered (Bad line) fits is place = absurd cc
+      answered End fits is place = absurd cc
+
+      idle : line_says (take len old.kept) ≡ nothing → PassesOver old (behind_line old at old.stage) × (length (drop at old.kept) < length old.kept)
+      idle is = (
+        record {
+          reads = one_line old len at going first old.stage old.stopped [] (line_passed old len at going first (ap (verdict old.stage) is));
+          still = going;
+          same_stage = refl;
+        },
+        fewer old len at going first,
+      )
+
+      go : (f : Option Found) → IfSome f (IsFoundInRange bytes) → line_says (take len old.kept) ≡ saying_found bytes f
+          → Some stage ≡ stage_said old.stage (saying_found bytes f) → Finds old (option_map (λ f. next_found bytes f) f) (behind_line old at stage)
+      go None fits is place = let same_stage : stage ≡ old.stage = cc in rw same_stage (idle is)
+      go (Some f) fits is place = answered (next_found bytes f) fits is place
 
   -- the answer to a line that isn't
-  pub step_out_of_place : None ≡ option_and_then (stage_after old.stage) (item_answered answer)
+  pub step_out_of_place : None ≡ stage_said old.stage (saying_found bytes found)
       → AnswersBad old old.stopped (old.passed + 1) (record (behind_line old at old.stage) { stopped = Some (old.passed + 1) })
   step_out_of_place place =
-      let line = old.passed + 1 in
-      let new : Reading = record (behind_line old at old.stage) { stopped = Some line } in
-      let broken = go (item_answered answer) line_is place in
-      let stops : StopsAt old line new = record {
-        reads = one_line old len at going first old.stage (Some line) (bad line ∷ []) (line_out_of_place old len at going first broken);
+      let number = old.passed + 1 in
+      let new : Reading = record (behind_line old at old.stage) { stopped = Some number } in
+      let broken = go (saying_found bytes found) line_is place in
+      let stops : StopsAt old number new = record {
+        reads = one_line old len at going first old.stage (Some number) (bad number ∷ []) (line_out_of_place old len at going first broken);
         stopped = refl;
         number = refl;
         same_stage = refl;
       } in
-      subst (λ (o : Option ℕ). AnswersBad old o line new) (sym going) stops
+      subst (λ (o : Option ℕ). AnswersBad old o number new) (sym going) stops
     where
-      go : (o : Option Item) → line_says (take len old.kept) ≡ item_or_wrong o → None ≡ option_and_then (stage_after old.stage) o
-          → first_verdict old len ≡ breaks
-      go None is place = ap (verdict old.stage) is
-      go (Some i) is place = ap (verdict old.stage) is ∙ ap (gives_or_breaks i) (sym place)
+      go : (s : Saying) → line_says (take len old.kept) ≡ s → None ≡ stage_said old.stage s → first_verdict old len ≡ breaks
+      go nothing is place = absurd cc
+      go wrong is place = ap (verdict old.stage) is
+      go (item i) is place = ap (verdict old.stage) is ∙ ap (gives_or_breaks i) (sym place)
+
+-- a command that is answered is well-formed
+pub answer_in_range : (old new : Reading) (n : Next) → Answers old n new → IsInRange n
+answer_in_range old new (Start settings) answer = tt
+answer_in_range old new (Command command) answer = answer.formed
+answer_in_range old new NeedMore answer = tt
+answer_in_range old new (Bad line) answer = tt
+answer_in_range old new End answer = tt
 
 -- ---- no line is there
 

@@ -5,4 +5,5 @@ pub mod FieldLemmas
 pub mod FirstLine
 pub mod ItemLemmas
 pub mod Prefix
+pub mod Searches
 pub mod Words

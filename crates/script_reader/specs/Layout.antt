@@ -12,7 +12,8 @@ reading_of r = record { kept = kept_in r; passed = r.passed; stage = r.stage; en
 -- the kept bytes are a suffix of the buffer; a prefix of them was searched; each line passed had a byte
 pub record IsValid (r : Inside) : Type 0 where
   pub start : r.start ≤ length r.buffer.items
-  pub few : length r.buffer.items ≤ 9000
+  pub few : length r.buffer.items ≤ 18000
+  pub kept : length (kept_in r) ≤ 9000
   pub searched : r.searched ≤ length (kept_in r)
   pub none : holds_line_feed (take r.searched (kept_in r)) ≡ false
   pub lines : r.passed + length (kept_in r) ≤ r.fed

@@ -3,6 +3,7 @@ pub mod Items
 pub mod Commands
 pub mod Lines
 pub mod ReaderCalls
+pub mod Owned
 pub mod ParsedLine
-pub mod Look
+pub mod Found
 pub mod Layout

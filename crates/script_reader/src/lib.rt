@@ -2,21 +2,29 @@
 #![tactic(auto)]
 
 mod command;
+mod command_ref;
 mod fields;
+mod found;
 mod laws;
 mod line;
 mod next;
+mod next_ref;
 mod parsed_line;
 mod payload;
+mod plain_command;
 mod reader;
+mod room;
 mod stage;
 mod tokens;
 
 pub use command::Command;
+pub use command_ref::CommandRef;
 pub use laws::{answers_are_items, answers_come_exactly, items_stay};
 pub use next::Next;
+pub use next_ref::NextRef;
 pub use payload::Payload;
 pub use reader::Reader;
+pub use room::Room;
 
 #[cfg(test)]
 mod tests;

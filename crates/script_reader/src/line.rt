@@ -5,16 +5,16 @@ ghost use Rattle.cf_base.specs.Settings.{profile_of};
 ghost use Rattle.script_reader.specs.Commands as grammar;
 ghost use Rattle.script_reader.specs.declared.command.Command.{Command};
 ghost use Rattle.script_reader.specs.Items as script;
-ghost use Rattle.script_reader.specs.Items.{asks, line_says, tokens_say};
+ghost use Rattle.script_reader.specs.Items.{asks, item_in, line_says, tokens_say};
 ghost use Rattle.script_reader.specs.Lines.{is_too_long as too_long, tokens};
-ghost use Rattle.script_reader.specs.Look as look;
-ghost use Rattle.script_reader.specs.ParsedLine.{IsValidLine, item_if_parsed, item_said};
+ghost use Rattle.script_reader.specs.ParsedLine.{IsValidLine, IsValidSaid, item_if_parsed, saying_in};
 
 use crate::fields::{
     four_tokens, id_and_number, id_number_and_length, id_number_and_text, is_done,
     number_and_bound, one_id, one_number, one_task, task_and_number, task_and_numbers,
 };
-use crate::parsed_line::ParsedLine;
+use crate::parsed_line::{ParsedLine, Said};
+use crate::plain_command::PlainCommand;
 use crate::tokens::{split_token, without_return};
 use cf_base::Settings;
 use cf_io::number_of;
@@ -28,7 +28,7 @@ fn malloc(args: &[u8]) -> Option<ParsedLine>
     ensures fits { IfSome result IsValidLine }
 {
     let (id, bytes) = id_and_number(args)?;
-    Some(ParsedLine::Malloc { id, bytes })
+    Some(ParsedLine::Other(PlainCommand::Malloc { id, bytes }))
 }
 
 /// `f ID`.
@@ -37,7 +37,7 @@ fn free(args: &[u8]) -> Option<ParsedLine>
     ensures fits { IfSome result IsValidLine }
 {
     let id = one_id(args)?;
-    Some(ParsedLine::Free { id })
+    Some(ParsedLine::Other(PlainCommand::Free { id }))
 }
 
 /// `w ID AT HEX`.
@@ -55,7 +55,7 @@ fn read(args: &[u8]) -> Option<ParsedLine>
     ensures fits { IfSome result IsValidLine }
 {
     let (id, at, len) = id_number_and_length(args)?;
-    Some(ParsedLine::Read { id, at, len })
+    Some(ParsedLine::Other(PlainCommand::Read { id, at, len }))
 }
 
 /// `q ID`.
@@ -64,7 +64,7 @@ fn place(args: &[u8]) -> Option<ParsedLine>
     ensures fits { IfSome result IsValidLine }
 {
     let id = one_id(args)?;
-    Some(ParsedLine::Place { id })
+    Some(ParsedLine::Other(PlainCommand::Place { id }))
 }
 
 /// `b ID I`.
@@ -73,7 +73,7 @@ fn block(args: &[u8]) -> Option<ParsedLine>
     ensures fits { IfSome result IsValidLine }
 {
     let (id, i) = id_and_number(args)?;
-    Some(ParsedLine::Block { id, i })
+    Some(ParsedLine::Other(PlainCommand::Block { id, i }))
 }
 
 /// `p WORD`.
@@ -82,7 +82,7 @@ fn peek(args: &[u8]) -> Option<ParsedLine>
     ensures fits { IfSome result IsValidLine }
 {
     let word = one_number(args)?;
-    Some(ParsedLine::Peek { word })
+    Some(ParsedLine::Other(PlainCommand::Peek { word }))
 }
 
 /// `k SLOTWORDS K`.
@@ -91,7 +91,7 @@ fn bound(args: &[u8]) -> Option<ParsedLine>
     ensures fits { IfSome result IsValidLine }
 {
     let (slot_words, k) = number_and_bound(args)?;
-    Some(ParsedLine::Bound { slot_words, k })
+    Some(ParsedLine::Other(PlainCommand::Bound { slot_words, k }))
 }
 
 /// `z ID BYTES`.
@@ -100,7 +100,7 @@ fn resize(args: &[u8]) -> Option<ParsedLine>
     ensures fits { IfSome result IsValidLine }
 {
     let (id, bytes) = id_and_number(args)?;
-    Some(ParsedLine::Resize { id, bytes })
+    Some(ParsedLine::Other(PlainCommand::Resize { id, bytes }))
 }
 
 /// `t TASK`.
@@ -109,7 +109,7 @@ fn task(args: &[u8]) -> Option<ParsedLine>
     ensures fits { IfSome result IsValidLine }
 {
     let task = one_task(args)?;
-    Some(ParsedLine::Task { task })
+    Some(ParsedLine::Other(PlainCommand::Task { task }))
 }
 
 /// `quota TASK PAGES`.
@@ -118,7 +118,7 @@ fn quota(args: &[u8]) -> Option<ParsedLine>
     ensures fits { IfSome result IsValidLine }
 {
     let (task, pages) = task_and_number(args)?;
-    Some(ParsedLine::Quota { task, pages })
+    Some(ParsedLine::Other(PlainCommand::Quota { task, pages }))
 }
 
 /// `need TASK BYTES COUNT`.
@@ -127,7 +127,7 @@ fn need(args: &[u8]) -> Option<ParsedLine>
     ensures fits { IfSome result IsValidLine }
 {
     let (task, bytes, count) = task_and_numbers(args)?;
-    Some(ParsedLine::Need { task, bytes, count })
+    Some(ParsedLine::Other(PlainCommand::Need { task, bytes, count }))
 }
 
 /// `admit TASK`.
@@ -136,7 +136,7 @@ fn admit(args: &[u8]) -> Option<ParsedLine>
     ensures fits { IfSome result IsValidLine }
 {
     let task = one_task(args)?;
-    Some(ParsedLine::Admit { task })
+    Some(ParsedLine::Other(PlainCommand::Admit { task }))
 }
 
 /// `s`.
@@ -145,7 +145,7 @@ fn slice(args: &[u8]) -> Option<ParsedLine>
     ensures fits { IfSome result IsValidLine }
 {
     if is_done(args) {
-        Some(ParsedLine::Slice)
+        Some(ParsedLine::Other(PlainCommand::Slice))
     } else {
         None
     }
@@ -157,7 +157,7 @@ fn walk(args: &[u8]) -> Option<ParsedLine>
     ensures fits { IfSome result IsValidLine }
 {
     if is_done(args) {
-        Some(ParsedLine::Walk)
+        Some(ParsedLine::Other(PlainCommand::Walk))
     } else {
         None
     }
@@ -169,7 +169,7 @@ fn frag(args: &[u8]) -> Option<ParsedLine>
     ensures fits { IfSome result IsValidLine }
 {
     if is_done(args) {
-        Some(ParsedLine::Frag)
+        Some(ParsedLine::Other(PlainCommand::Frag))
     } else {
         None
     }
@@ -181,7 +181,7 @@ fn steps(args: &[u8]) -> Option<ParsedLine>
     ensures fits { IfSome result IsValidLine }
 {
     if is_done(args) {
-        Some(ParsedLine::Steps)
+        Some(ParsedLine::Other(PlainCommand::Steps))
     } else {
         None
     }
@@ -279,42 +279,38 @@ fn is_heap(word: &[u8]) -> bool
     word == b"heap".as_slice()
 }
 
-/// Whether a line without its line feed is blank or a comment.
-pub fn is_idle(text: &[u8]) -> bool
-    ensures { result ≡ look.is_idle text.now }
+/// What a line says, without its line feed.
+pub fn read_line(text: &[u8]) -> Said
+    ensures value { saying_in result ≡ line_says text.now }
+    ensures fits { IsValidSaid result }
 {
     if is_too_long(text) {
-        return false;
-    }
-    match split_token(without_return(text)) {
-        Some((word, _)) => is_comment(word),
-        None => true,
-    }
-}
-
-/// What a line says, without its line feed; None where it is blank, a comment, or not in the grammar.
-pub fn read_line(text: &[u8]) -> Option<ParsedLine>
-    ensures value { item_if_parsed result ≡ item_said (line_says text.now) }
-    ensures fits { IfSome result IsValidLine }
-{
-    if is_too_long(text) {
-        return None;
+        return Said::Line(None);
     }
     match split_token(without_return(text)) {
         Some((word, args)) => parse_line(word, args),
-        None => None,
+        None => Said::Nothing,
     }
 }
 
-/// Reads a line by its first token, and what follows it.
-fn parse_line<'a>(word: &[u8], args: &'a [u8]) -> Option<ParsedLine<'a>>
+/// What a line says, by its first token and what follows it.
+fn parse_line<'a>(word: &[u8], args: &'a [u8]) -> Said<'a>
     requires { 1 ≤ length word.now }
-    ensures value { item_if_parsed result ≡ item_said (tokens_say (word.now ∷ tokens args.now)) }
-    ensures fits { IfSome result IsValidLine }
+    ensures value { saying_in result ≡ tokens_say (word.now ∷ tokens args.now) }
+    ensures fits { IsValidSaid result }
 {
     if is_comment(word) {
-        return None;
+        Said::Nothing
+    } else {
+        Said::Line(parse_item(word, args))
     }
+}
+
+/// The line in the grammar with this first token and what follows it.
+fn parse_item<'a>(word: &[u8], args: &'a [u8]) -> Option<ParsedLine<'a>>
+    ensures value { item_if_parsed result ≡ item_in word.now (tokens args.now) }
+    ensures fits { IfSome result IsValidLine }
+{
     if is_heap(word) {
         return Some(ParsedLine::Start(settings(args)?));
     }

@@ -1,6 +1,5 @@
 //! The bytes of a write command.
-ghost use Rattle.std.specs.Prelude.{◌≡◌, ◌≤◌, ◌<◌, ◌⊎◌, length, IfSome, MatchOption};
-ghost use Rattle.script_reader.specs.Commands.{bytes_in};
+ghost use Rattle.std.specs.Prelude.{◌≡◌, ◌≤◌, ◌<◌, ◌⊎◌, length, MatchOption};
 
 use arrayvec::ArrayVec;
 use std::marker::Model;
@@ -48,21 +47,5 @@ impl Payload {
         ensures fits { length self.now ≤ 4096 }
     {
         self.bytes.as_slice()
-    }
-
-    /// The bytes that the text spells in hexadecimal.
-    pub(crate) fn from_hex(text: &[u8]) -> Option<Payload>
-        ensures value { result ≡ bytes_in text.now }
-        ensures fits { IfSome result (λ p. (1 ≤ length p) × (length p ≤ 4096)) }
-    {
-        if text.len() < 2 || text.len() > 8_192 {
-            return None;
-        }
-        let mut kept = ArrayVec::from([0; MOST]);
-        kept.truncate(text.len() / 2);
-        match hex::decode_to_slice(text, kept.as_mut_slice()) {
-            Ok(()) => Some(Payload { bytes: kept }),
-            Err(_) => None,
-        }
     }
 }

@@ -1,12 +1,15 @@
 //! The reader of scripts.
-ghost use Rattle.std.specs.Prelude.{◌≡◌, ◌≤◌, ◌==◌, false, length, take, drop, position, MatchOption, None, true};
+ghost use Rattle.std.specs.Prelude.{◌≡◌, ◌≤◌, ◌+◌, ◌==◌, true, false, length, take, drop, position, MatchOption, None, option_map};
 ghost use Rattle.script_reader.specs.Lines.{is_last_line};
-ghost use Rattle.script_reader.specs.Look.{Looks, is_idle};
+ghost use Rattle.script_reader.specs.Found.{Finds, next_found};
+ghost use Rattle.script_reader.specs.Owned.{owned_next};
 ghost use Rattle.script_reader.specs.Reading.{Answers, HasNoLine, IsFirstLine, fed_with, fresh, holds_line_feed, taken};
 
-use crate::line::{LONGEST, is_idle as is_idle_line, read_line};
+use crate::found::{Found, take_line};
+use crate::line::{LONGEST, read_line};
 use crate::next::Next;
-use crate::parsed_line::into_next;
+use crate::next_ref::NextRef;
+use crate::room::Room;
 use crate::stage::{Stage, stage_after};
 use crate::tokens::line_feed_at;
 use arrayvec::ArrayVec;
@@ -15,12 +18,15 @@ use std::marker::Model;
 /// The most bytes that are kept.
 const ROOM: usize = 9_000;
 
+/// The bytes that the buffer has in place: so many that what is kept never overlaps what it is moved to.
+const PLACE: usize = 2 * ROOM;
+
 /// Reads a script from bytes that come in chunks. It keeps at most 9,000 bytes in place, and takes no
 /// memory.
 #[derive(Drop)]
 pub struct Reader {
     /// The bytes fed that were not dropped; those from `start` on are kept.
-    buffer: ArrayVec<u8, ROOM>,
+    buffer: ArrayVec<u8, PLACE>,
     start: usize,
     /// In how many of the kept bytes no line feed stands, as far as is known.
     searched: usize,
@@ -93,74 +99,64 @@ impl Reader {
     pub fn next_command(&mut self) -> Next
         ensures { Answers self.old result self.new }
     {
+        let mut room = Room::new();
+        self.next_ref(&mut room).to_next()
+    }
+
+    /// What comes next, as `next_command` tells it; the bytes of a write are borrowed from the room.
+    pub fn next_ref<'a>(&mut self, room: &'a mut Room) -> NextRef<'a>
+        ensures { Answers self.old (owned_next result) self.new }
+    {
         if let Some(line) = self.stopped {
-            return Next::Bad { line };
+            return NextRef::Bad { line };
         }
         'lines: loop {
-            match self.look() {
-                Looked::Idle => {}
-                Looked::Line(cut) => return self.answer(cut),
-                Looked::Waiting => return Next::NeedMore,
-                Looked::Ended => return Next::End,
+            if let Some(found) = self.next_line(room) {
+                return found.answer(room);
             }
         }
     }
 
-    /// Looks at the first line, and passes it where it is blank or a comment.
-    fn look(&mut self) -> Looked
+    /// Passes the first line, and returns what it gives; none where it is blank or a comment.
+    fn next_line(&mut self, room: &mut Room) -> Option<Found>
         requires { self.old.stopped ≡ None }
-        ensures { Looks self.old result self.new }
+        ensures { Finds self.old (option_map (λ f. next_found room.new f) result) self.new }
     {
         let kept = &self.buffer.as_slice()[self.start..];
         let Some(cut) = first_line(kept, self.searched, self.ended) else {
             self.searched = kept.len();
             if self.ended {
-                return Looked::Ended;
+                return Some(Found::End);
             }
-            return Looked::Waiting;
+            return Some(Found::NeedMore);
         };
-        if is_idle_line(&kept[..cut.len]) {
-            self.start += cut.next;
-            self.searched = 0;
-            self.passed += 1;
-            return Looked::Idle;
-        }
-        Looked::Line(cut)
-    }
-
-    /// Answers the first line.
-    fn answer(&mut self, cut: Cut) -> Next
-        requires going { self.old.stopped ≡ None }
-        requires first { IsFirstLine self.old.kept self.old.ended cut.len cut.next }
-        requires told { is_idle (take cut.len self.old.kept) ≡ false }
-        ensures { Answers self.old result self.new }
-    {
-        let kept = &self.buffer.as_slice()[self.start..];
         let line = self.passed + 1;
-        let next = into_next(read_line(&kept[..cut.len]), line);
+        let found = take_line(read_line(&kept[..cut.len]), line, room);
         self.start += cut.next;
         self.searched = 0;
         self.passed = line;
-        match stage_after(self.stage, &next) {
+        match stage_after(self.stage, found) {
             Some(stage) => {
                 self.stage = stage;
-                next
+                found
             }
             None => {
                 self.stopped = Some(line);
-                Next::Bad { line }
+                Some(Found::Bad { line })
             }
         }
     }
 }
 
 /// Drops the bytes of the buffer before `start`.
-fn drop_front(buffer: &mut ArrayVec<u8, ROOM>, start: usize)
-    requires { start ≤ length buffer.old.items }
+fn drop_front(buffer: &mut ArrayVec<u8, PLACE>, start: usize)
+    requires within { start ≤ length buffer.old.items }
+    requires apart { length buffer.old.items ≤ start + start }
     ensures { buffer.new.items ≡ drop start buffer.old.items }
 {
     let left = buffer.len() - start;
-    buffer.as_mut_slice().copy_within(start.., 0);
+    let (front, back) = buffer.as_mut_slice().split_at_mut(start);
+    front[..left].copy_from_slice(back);
     buffer.truncate(left);
 }
 
@@ -169,19 +165,6 @@ fn drop_front(buffer: &mut ArrayVec<u8, ROOM>, start: usize)
 struct Cut {
     len: usize,
     next: usize,
-}
-
-/// What a look at the first line finds.
-#[derive(Clone, Copy)]
-enum Looked {
-    /// It was blank or a comment, and is passed.
-    Idle,
-    /// It says something.
-    Line(Cut),
-    /// No line is there yet.
-    Waiting,
-    /// No line is there, and the end was told.
-    Ended,
 }
 
 /// Where the first line feed is, where none is before `from`.

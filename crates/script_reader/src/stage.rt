@@ -1,11 +1,11 @@
 //! How far a script has come.
-ghost use Rattle.std.specs.Prelude.{◌≡◌};
-ghost use Rattle.std.specs.Option.{option_and_then};
+ghost use Rattle.std.specs.Prelude.{◌≡◌, ℕ, List};
+ghost use Rattle.script_reader.specs.Found.{saying_found, stage_said};
 ghost use Rattle.script_reader.specs.Items as place;
-ghost use Rattle.script_reader.specs.ParsedLine.{item_answered};
+ghost use Rattle.script_reader.specs.ParsedLine.{plain_command};
 
-use crate::command::Command;
-use crate::next::Next;
+use crate::found::Found;
+use crate::plain_command::PlainCommand;
 
 /// How far a script has come.
 #[derive(Clone, Copy, Debug, PartialEq, Eq)]
@@ -18,16 +18,18 @@ pub enum Stage {
     Running,
 }
 
-/// The stage after an answer to a line; None where the line breaks a rule at its place.
-pub fn stage_after(stage: Stage, next: &Next) -> Option<Stage>
-    ensures { result ≡ option_and_then (place.stage_after stage) (item_answered next.now) }
+/// The stage after a line that gives this; none where it breaks a rule at its place.
+pub fn stage_after(stage: Stage, found: Option<Found>) -> Option<Stage>
+    ensures { (bytes : List ℕ) → result ≡ stage_said stage (saying_found bytes found) }
 {
-    match next {
-        Next::Start(_) => match stage {
+    match found {
+        None => Some(stage),
+        Some(Found::Start(_)) => match stage {
             Stage::Opening => Some(Stage::Bounding),
             _ => None,
         },
-        Next::Command(command) => stage_behind(stage, is_bound(command)),
+        Some(Found::Write { .. }) => stage_behind(stage, false),
+        Some(Found::Other(command)) => stage_behind(stage, is_bound(command)),
         _ => None,
     }
 }
@@ -48,8 +50,8 @@ fn stage_behind(stage: Stage, bounds: bool) -> Option<Stage>
 }
 
 /// Whether the command gives a class its bound.
-fn is_bound(command: &Command) -> bool
-    ensures { result ≡ place.is_bound command.now }
+fn is_bound(command: PlainCommand) -> bool
+    ensures { result ≡ place.is_bound (plain_command command) }
 {
-    matches!(command, Command::Bound { .. })
+    matches!(command, PlainCommand::Bound { .. })
 }

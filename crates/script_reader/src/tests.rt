@@ -1,6 +1,6 @@
 ghost use Rattle.std.specs.Prelude.{◌≡◌, ◌<◌, false};
 
-use crate::{Command, Next, Payload, Reader};
+use crate::{Command, CommandRef, Next, NextRef, Payload, Reader, Room};
 use std::alloc::{AllocError, Global};
 use std::test::Fail;
 
@@ -247,4 +247,21 @@ fn payloads_have_1_to_4096_bytes(rt: HostRuntime) {
     for (count, fits) in [(0, false), (1, true), (4096, true), (4097, false)] {
         assert_eq!(rt; Payload::new(&bytes[..count]).is_some(), fits, "{count}");
     }
+}
+
+#[test]
+fn a_write_borrows_its_bytes(rt: HostRuntime) {
+    let mut reader = Reader::new();
+    let mut room = Room::new();
+    let _ = reader.feed(b"heap 1 512 1 4\nw 7 8 0Aff\n");
+    let _ = reader.next_ref(&mut room);
+    let write = CommandRef::Write {
+        id: 7,
+        at: 8,
+        bytes: &[10, 255],
+    };
+    let next = reader.next_ref(&mut room);
+    assert_eq!(rt; next, NextRef::Command(write), "a write");
+    let command = Command::Free { id: 7 };
+    assert_eq!(rt; command.as_ref(), CommandRef::Free { id: 7 }, "a free");
 }

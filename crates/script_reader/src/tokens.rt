@@ -3,11 +3,16 @@ ghost use Rattle.std.specs.Prelude.{◌≡◌, ◌≤◌, ◌==◌, length, posi
 ghost use Rattle.std.specs.List.{position_or_len};
 ghost use Rattle.script_reader.specs.Lines.{without_return as no_return, is_gap as gap, tokens};
 
+use memchr::{memchr, memchr2};
+
+/// Texts from this length on are searched many bytes at once.
+const LONG: usize = 64;
+
 /// Where the first line feed is.
 pub fn line_feed_at(bytes: &[u8]) -> Option<usize>
     ensures { result ≡ position (λ x. x == 10) bytes.now }
 {
-    bytes.iter().position(|x| *x == b'\n')
+    memchr(b'\n', bytes)
 }
 
 /// The line without one carriage return at its end.
@@ -57,7 +62,11 @@ fn first_other(text: &[u8]) -> Option<usize>
 fn first_gap(text: &[u8]) -> Option<usize>
     ensures { result ≡ position gap text.now }
 {
-    text.iter().position(|x| is_gap(*x))
+    if text.len() < LONG {
+        text.iter().position(|x| is_gap(*x))
+    } else {
+        memchr2(b' ', b'\t', text)
+    }
 }
 
 /// The first token, and what follows it.

@@ -10,7 +10,7 @@ use cf_io::Sink;
 use cf_model::{Manager, open_all};
 use cf_session::Session;
 use script_loop::{OpenFault, Player};
-use script_reader::Command;
+use script_reader::CommandRef;
 use std::alloc::Global;
 use std::rt::Runtime;
 
@@ -65,7 +65,7 @@ impl<H: Manager> Player<Vec<H>> for Sessions {
     fn answer<K: Sink>(
         &mut self,
         heap: &mut Vec<H>,
-        command: &Command,
+        command: CommandRef,
         sink: &mut K,
     ) -> Result<(), Failed> {
         answer_each(&mut self.each, heap, command, sink)

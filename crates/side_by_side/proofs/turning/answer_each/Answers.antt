@@ -5,6 +5,7 @@ use Rattle.run_model.proofs.CallerLemmas.{led_joined}
 use Rattle.script_loop.proofs.CallerLemmas.{appended_none}
 use Rattle.cf_io.specs.Feeds.{appended}
 use Rattle.run_model.specs.Texts.{led}
+use Rattle.script_reader.specs.Owned.{owned_command}
 use Rattle.side_by_side.proofs.Passing.{seat_goes, seats_cut, seats_go, seats_more, seats_whole, swept_none}
 use Rattle.side_by_side.proofs.Zipping.{same_seen}
 use Rattle.side_by_side.proofs.turning.answer_each.Goals as goal
@@ -12,7 +13,7 @@ use Rattle.side_by_side.proofs.turning.answer_each.Goals as goal
 pub loop-i-init : goal.loop-i-init
 loop-i-init g c = record {
   reply = [];
-  swept = swept_none _ c.args.command.now;
+  swept = swept_none _ (owned_command c.args.command);
   sessions = refl;
   managers = refl;
   going = c.requires.going;
@@ -23,8 +24,8 @@ loop-i-init g c = record {
 
 pub answer_one-requires-clause-going : goal.answer_one-requires-clause-going
 answer_one-requires-clause-going g c =
-    seat_goes (λ m. g.H.Manager.state m) [] c.loop-i.sessions.items c.loop-i.managers.items c.loop-i.i c.args.command.now [] _ c.index_mut.result.now _
-    c.index_mut-in-loop-i.result.now
+    seat_goes (λ m. g.H.Manager.state m) [] c.loop-i.sessions.items c.loop-i.managers.items c.loop-i.i (owned_command c.args.command) []
+    _ c.index_mut.result.now _ c.index_mut-in-loop-i.result.now
     (c.loop-i.invariant.sessions ∙ c.requires.count ∙ sym c.loop-i.invariant.managers)
     (omega arith) c.index_mut.ensures.value c.index_mut-in-loop-i.ensures.value c.loop-i.invariant.going
 
@@ -33,8 +34,8 @@ returns-in-Err-clause-answers g c =
     let so_far = c.loop-i.invariant in
     let answer = c.in-Err.ensures.answers in (
       led [] so_far.reply ++ answer.0,
-      seats_cut (λ m. g.H.Manager.state m) _ c.loop-i.sessions.items c.loop-i.managers.items c.loop-i.i c.args.command.now so_far.reply c.index_mut.result.now
-          c.answer_one.new.session c.index_mut-in-loop-i.result.now c.answer_one.new.manager
+      seats_cut (λ m. g.H.Manager.state m) _ c.loop-i.sessions.items c.loop-i.managers.items c.loop-i.i (owned_command c.args.command) so_far.reply
+          c.index_mut.result.now c.answer_one.new.session c.index_mut-in-loop-i.result.now c.answer_one.new.manager
           (so_far.sessions ∙ c.requires.count ∙ sym so_far.managers)
           (omega arith) c.index_mut.ensures.value c.index_mut-in-loop-i.ensures.value so_far.swept answer.0 answer.1,
       answer.2 ∙ ap (λ w. appended w answer.0) so_far.wrote ∙ appended_then _ (led [] so_far.reply) answer.0,
@@ -43,7 +44,7 @@ returns-in-Err-clause-answers g c =
 pub returns-in-Err-clause-going : goal.returns-in-Err-clause-going
 returns-in-Err-clause-going g c =
     let so_far = c.loop-i.invariant in
-    seats_go (λ m. g.H.Manager.state m) [] c.loop-i.sessions.items c.loop-i.managers.items c.loop-i.i c.args.command.now [] c.index_mut.result.now
+    seats_go (λ m. g.H.Manager.state m) [] c.loop-i.sessions.items c.loop-i.managers.items c.loop-i.i (owned_command c.args.command) [] c.index_mut.result.now
     c.answer_one.new.session c.index_mut-in-loop-i.result.now c.answer_one.new.manager
     (so_far.sessions ∙ c.requires.count ∙ sym so_far.managers)
     (omega arith) c.index_mut.ensures.value c.index_mut-in-loop-i.ensures.value so_far.going c.in-Err.ensures.going
@@ -59,14 +60,14 @@ loop-i-preserved g c =
     let answer = c.in-Ok.ensures.answers in
     record {
       reply = so_far.reply ++ answer.0;
-      swept = seats_more (λ m. g.H.Manager.state m) _ c.loop-i.sessions.items c.loop-i.managers.items c.loop-i.i c.args.command.now so_far.reply
+      swept = seats_more (λ m. g.H.Manager.state m) _ c.loop-i.sessions.items c.loop-i.managers.items c.loop-i.i (owned_command c.args.command) so_far.reply
           c.index_mut.result.now c.answer_one.new.session c.index_mut-in-loop-i.result.now c.answer_one.new.manager
           (so_far.sessions ∙ c.requires.count ∙ sym so_far.managers)
           (omega arith) c.index_mut.ensures.value c.index_mut-in-loop-i.ensures.value so_far.swept answer.0 answer.1;
       sessions = length-set c.loop-i.sessions.items c.loop-i.i c.answer_one.new.session ∙ so_far.sessions;
       managers = length-set c.loop-i.managers.items c.loop-i.i c.answer_one.new.manager ∙ so_far.managers;
-      going = seats_go (λ m. g.H.Manager.state m) [] c.loop-i.sessions.items c.loop-i.managers.items c.loop-i.i c.args.command.now [] c.index_mut.result.now
-          c.answer_one.new.session c.index_mut-in-loop-i.result.now c.answer_one.new.manager
+      going = seats_go (λ m. g.H.Manager.state m) [] c.loop-i.sessions.items c.loop-i.managers.items c.loop-i.i (owned_command c.args.command) []
+          c.index_mut.result.now c.answer_one.new.session c.index_mut-in-loop-i.result.now c.answer_one.new.manager
           (so_far.sessions ∙ c.requires.count ∙ sym so_far.managers)
           (omega arith) c.index_mut.ensures.value c.index_mut-in-loop-i.ensures.value so_far.going c.in-Ok.ensures.going;
       kinds = same_seen (λ m. (g.H.Manager.state m).kind) c.loop-i.managers.items c.loop-i.i c.index_mut-in-loop-i.result.now c.answer_one.new.manager
@@ -80,7 +81,7 @@ pub returns-clause-answers : goal.returns-clause-answers
 returns-clause-answers g c =
     let so_far = c.loop-i.invariant in (
       so_far.reply,
-      seats_whole (λ m. g.H.Manager.state m) _ c.loop-i.sessions.items c.loop-i.managers.items c.loop-i.i c.args.command.now so_far.reply
+      seats_whole (λ m. g.H.Manager.state m) _ c.loop-i.sessions.items c.loop-i.managers.items c.loop-i.i (owned_command c.args.command) so_far.reply
           (so_far.sessions ∙ c.requires.count ∙ sym so_far.managers) (omega arith) so_far.swept,
       so_far.wrote,
     )

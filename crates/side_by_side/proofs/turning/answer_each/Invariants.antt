@@ -1,6 +1,7 @@
 use Rattle.std.proofs.Common.{◌≡◌, ◌≤◌, map, length, []}
 use Rattle.std.specs.List.{All}
 use Rattle.cf_io.specs.Feeds.{appended}
+use Rattle.script_reader.specs.Owned.{owned_command}
 use Rattle.run_model.specs.Texts.{Reply, led}
 use Rattle.run_model.specs.Sessions.{IsGoing}
 use Rattle.side_by_side.specs.Going.{Swept}
@@ -10,7 +11,7 @@ use Rattle.side_by_side.proofs.turning.answer_each.Given as goal
 abbrev pub invariant-loop-i : goal.invariant-loop-i
 invariant-loop-i g l = record {
   reply : Reply;
-  swept : Swept (zipped l.initial.sessions.items (map (λ m. g.H.Manager.state m) l.initial.managers.items)) l.i l.command reply
+  swept : Swept (zipped l.initial.sessions.items (map (λ m. g.H.Manager.state m) l.initial.managers.items)) l.i (owned_command l.command) reply
       (zipped l.sessions.items (map (λ m. g.H.Manager.state m) l.managers.items));
   sessions : length l.sessions.items ≡ length l.initial.sessions.items;
   managers : length l.managers.items ≡ length l.initial.managers.items;

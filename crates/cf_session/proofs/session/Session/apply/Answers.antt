@@ -1,21 +1,7 @@
-use Rattle.std.proofs.Common.{◌∙◌}
-use Rattle.cf_session.proofs.Reporting.{applied_going, going_before}
 use Rattle.cf_session.proofs.session.Session.apply.Goals as goal
 
-pub returns-clause-tied : goal.returns-clause-tied
-returns-clause-tied g c =
-    (applied_going _ _ c.args.c.now c.args.lead.now _ _ c.answer.result
-    (going_before _ _ _ c.requires.open (c.is_open-open.ensures.rules (c.is_open-open.ensures.value ∙ c.requires.open)) c.self.view_is c.requires.tied)
-    c.answer.ensures.answers).tied
+pub apply_ref-requires-clause-formed : goal.apply_ref-requires-clause-formed
+apply_ref-requires-clause-formed g c = rw c.as_ref.ensures c.requires.formed
 
-pub returns-clause-open : goal.returns-clause-open
-returns-clause-open g c =
-    (applied_going _ _ c.args.c.now c.args.lead.now _ _ c.answer.result
-    (going_before _ _ _ c.requires.open (c.is_open-open.ensures.rules (c.is_open-open.ensures.value ∙ c.requires.open)) c.self.view_is c.requires.tied)
-    c.answer.ensures.answers).opened
-
-pub returns-clause-rules : goal.returns-clause-rules
-returns-clause-rules g c =
-    (applied_going _ _ c.args.c.now c.args.lead.now _ _ c.answer.result
-    (going_before _ _ _ c.requires.open (c.is_open-open.ensures.rules (c.is_open-open.ensures.value ∙ c.requires.open)) c.self.view_is c.requires.tied)
-    c.answer.ensures.answers).rules
+pub returns-clause-answers : goal.returns-clause-answers
+returns-clause-answers g c = rw (← c.as_ref.ensures) c.apply_ref.ensures.answers

@@ -1,4 +1,5 @@
 use Rattle.std.proofs.Common.{◌∙◌, sym}
+use Rattle.script_reader.specs.Owned.{owned_command}
 use Rattle.side_by_side.proofs.Answering.{each_answers}
 use Rattle.side_by_side.proofs.Zipping.{mapped_twice}
 use Rattle.side_by_side.proofs.each.SessionsPlayerVec.answer.Goals as goal
@@ -8,4 +9,4 @@ returns-clause-plan g c = mapped_twice (λ h. h.kind) (λ m. g.H.Manager.state m
     ∙ sym (mapped_twice (λ h. h.kind) (λ m. g.H.Manager.state m) c.args.heap.now.items)
 
 pub returns-clause-answers : goal.returns-clause-answers
-returns-clause-answers g c = each_answers _ _ _ _ c.args.command.now _ c.answer_each.ensures.answers
+returns-clause-answers g c = each_answers _ _ _ _ (owned_command c.args.command) _ c.answer_each.ensures.answers

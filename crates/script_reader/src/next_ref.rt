@@ -1,0 +1,39 @@
+//! What comes next in a script, with borrowed bytes.
+ghost use Rattle.std.specs.Prelude.{◌≡◌};
+ghost use Rattle.script_reader.specs.Owned.{owned_next};
+ghost use Rattle.script_reader.specs.ParsedLine.{IsInRange};
+
+use crate::command_ref::CommandRef;
+use crate::next::Next;
+use cf_base::Settings;
+
+/// What comes next in a script, as `Next`, but that the bytes of a write are borrowed.
+#[derive(Clone, Copy, Debug, PartialEq, Eq)]
+pub enum NextRef<'a> {
+    /// The heap is opened with these settings.
+    Start(Settings),
+    /// A command.
+    Command(CommandRef<'a>),
+    /// More bytes must be fed, or the end told.
+    NeedMore,
+    /// The line of this number, counted from 1, isn't in the grammar at its place.
+    Bad { line: u32 },
+    /// The script has ended.
+    End,
+}
+
+impl<'a> NextRef<'a> {
+    /// The same, with a copy of the bytes of a write.
+    pub(crate) fn to_next(self) -> Next
+        requires { IsInRange (owned_next self) }
+        ensures { result ≡ owned_next self.entry }
+    {
+        match self {
+            NextRef::Start(settings) => Next::Start(settings),
+            NextRef::Command(command) => Next::Command(command.to_command()),
+            NextRef::NeedMore => Next::NeedMore,
+            NextRef::Bad { line } => Next::Bad { line },
+            NextRef::End => Next::End,
+        }
+    }
+}

@@ -1,0 +1,64 @@
+//! Room for the bytes of a write.
+ghost use Rattle.std.specs.Prelude.{◌≡◌, ◌≤◌, IsTrue, length};
+ghost use Rattle.script_reader.specs.Commands.{bytes_in};
+ghost use Rattle.script_reader.specs.ParsedLine.{some_if};
+
+use std::marker::Model;
+
+/// The most bytes of a write.
+const MOST: usize = 4_096;
+
+/// Room for the bytes of one write, at most 4,096. Its owner makes it once, and a reader fills it in
+/// place.
+#[derive(Drop)]
+pub struct Room {
+    cells: [u8; MOST],
+    len: usize,
+}
+
+impl Model for Room {
+    ghost use Rattle.std.specs.Prelude.{ℕ, List, ◌≤◌, take};
+
+    ghost Value = { List ℕ };
+
+    ghost view = { λ r. take r.len r.cells };
+
+    ghost invariant = { λ r. r.len ≤ 4096 };
+}
+
+impl Room {
+    /// A room with no bytes in it.
+    pub fn new() -> Room
+        ensures { length result ≡ 0 }
+    {
+        Room {
+            cells: [0; MOST],
+            len: 0,
+        }
+    }
+
+    /// The bytes in it.
+    pub fn bytes(&self) -> &[u8]
+        ensures { result.now ≡ self.now }
+    {
+        &self.cells[..self.len]
+    }
+
+    /// Takes the bytes that the text spells in hexadecimal, from 1 to 4,096 of them. False where it
+    /// spells none.
+    pub(crate) fn take_hex(&mut self, text: &[u8]) -> bool
+        ensures value { some_if result self.new ≡ bytes_in text.now }
+        ensures some { IsTrue result → 1 ≤ length self.new }
+        ensures fits { IsTrue result → length self.new ≤ 4096 }
+    {
+        if text.len() < 2 || text.len() > 2 * MOST {
+            return false;
+        }
+        let n = text.len() / 2;
+        self.len = n;
+        match hex::decode_to_slice(text, &mut self.cells[..n]) {
+            Ok(()) => true,
+            Err(_) => false,
+        }
+    }
+}
