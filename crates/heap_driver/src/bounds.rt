@@ -1,5 +1,5 @@
 //! Bounds of classes.
-ghost use Rattle.std.specs.Prelude.{◌≡◌, IsTrue, OnOk};
+ghost use Rattle.std.specs.Prelude.{◌≡◌, IsTrue};
 ghost use Rattle.std.specs.FinMap as map;
 
 use crate::wrong::{Wrong, hold};

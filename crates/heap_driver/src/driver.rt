@@ -108,7 +108,8 @@ impl<H: Manager> Driver<H> {
         }
     }
 
-    /// So many objects of this length fill the region, one after another, each with a slot of so many words.
+    /// So many objects of this length fill the region, one after another, each with a slot of
+    /// `slot_words` words.
     pub fn fill(&mut self, count: u32, bytes: u32, slot_words: u32) -> Result<(), Wrong> {
         for i in 0..count {
             self.malloc(0, bytes)?;

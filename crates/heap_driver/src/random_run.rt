@@ -44,6 +44,8 @@ pub struct RandomRun<H: Manager> {
     bounds: Vec<u32>,
     /// Every bound is 1.
     all_one: bool,
+    /// There are more frees than mallocs now.
+    drains: bool,
     draw: SplitMix64,
 }
 
@@ -84,12 +86,14 @@ impl<H: Manager> RandomRun<H> {
             frames: new_frames(alloc, blocks)?,
             bounds,
             all_one: k == 1 && !by_class,
+            drains: true,
             draw: SplitMix64::seed_from_u64(u64::from(k)),
         })
     }
 
-    /// So many calls, and then all is compared.
+    /// So many calls, and then all is compared. In turn the heap fills and drains.
     pub fn play(&mut self, alloc: Global, calls: u32) -> Result<(), Wrong> {
+        self.drains = !self.drains;
         for _i in 0..calls {
             self.call(alloc)?;
         }
@@ -104,8 +108,12 @@ impl<H: Manager> RandomRun<H> {
         (self.draw.next_u64() >> 32) as u32 % bound
     }
 
-    /// A length of up to 560 bytes: most are small, and some are too large.
+    /// A length of up to 560 bytes: most are small, and some are too large. Half of them are of few
+    /// classes, so that these have pages enough for an object to move where two may be partly full.
     fn length(&mut self) -> u32 {
+        if self.below(2) == 0 {
+            return 140 + self.below(24);
+        }
         let most = 8 + 8 * self.below(70);
         self.below(most)
     }
@@ -114,6 +122,7 @@ impl<H: Manager> RandomRun<H> {
     fn call(&mut self, alloc: Global) -> Result<(), Wrong> {
         let handle = Handle(self.below(PROXIES));
         match self.below(9) {
+            0 | 1 if self.drains => self.free(alloc, handle),
             0 | 1 | 2 => self.malloc(alloc),
             3 => self.free(alloc, handle),
             4 | 5 => self.resize(alloc, handle),

@@ -36,8 +36,8 @@ fn long_runs_agree_with_the_reference_implementation(rt: HostRuntime) -> Result<
     for (k, by_class) in [(1, false), (2, false), (2, true), (64, false)] {
         let heap = NonMovingHeap::closed(alloc);
         let mut run = RandomRun::new(alloc, heap, Layout::Blocks, Meter::new(&rt), k, by_class)?;
-        for _i in 0..12 {
-            run.play(alloc, 50)?;
+        for _i in 0..6 {
+            run.play(alloc, 100)?;
             compare_pages(&rt, &run);
         }
         // There are fewer pages than 64.
