@@ -1,6 +1,0 @@
-use Rattle.script_reader.specs.Lines.{is_gap}
-use Rattle.script_reader.proofs.Searches.{first_is_position}
-use Rattle.script_reader.proofs.tokens.first_gap.Goals as goal
-
-pub returns-else-text-lt-LONG : goal.returns-else-text-lt-LONG
-returns-else-text-lt-LONG c = first_is_position is_gap c.args.text.now _ c.memchr2.ensures
