@@ -11,3 +11,4 @@ pub mod Exchanges
 pub mod Swapping
 pub mod SwappedRuns
 pub mod Permutations
+pub mod Renaming

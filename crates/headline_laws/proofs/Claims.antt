@@ -8,6 +8,7 @@ use Rattle.std.specs.FinMap.{empty, get, len}
 use Rattle.cf_base.specs.Classes.{need}
 use Rattle.cf_base.specs.Settings.{Profile}
 use Rattle.cf_base.specs.declared.kind.Kind.{Kind}
+use Rattle.cf_lemmas.proofs.Renaming.{AreRenamed}
 use Rattle.page_model.specs.Arrangement.{live, pages_needed_with}
 use Rattle.page_model.specs.Figures.{figures_of}
 use Rattle.page_model.specs.Held.{Objects, objects}
@@ -35,7 +36,7 @@ use Rattle.headline_laws.specs.Headline.{classes_told, steps_line}
 use Rattle.headline_laws.specs.ToldHeap.{ToldHeap, heap_opened, bound_told, heap_after, heap_by, paging_told}
 use Rattle.headline_laws.proofs.Bounds.{AreBounds, bounds_told, opening_told}
 use Rattle.headline_laws.proofs.Holding.{Holds, paging_is, paired, steps_told, told_live, told_none}
-use Rattle.headline_laws.proofs.Pairing.{ArePaired, as_many, live_alike, needed_alike}
+use Rattle.headline_laws.proofs.Pairing.{as_many, live_alike, needed_alike}
 use Rattle.headline_laws.proofs.ReadLengths.{TellsReads, reads_after}
 
 -- the bounds don't matter to what is counted
@@ -73,22 +74,19 @@ module _ (kind : Kind) (paged : IsPaged kind) (s : RunState) (t : ToldHeap) (hol
   paged_here : IsPaged s.heap.kind
   paged_here = subst IsPaged (sym holds.kind_is) paged
 
-  pairs : ArePaired s.session.ids (map_values length o) (map_values length t.bytes)
+  pairs : AreRenamed s.session.ids (map_values length o) (map_values length t.bytes)
   pairs = paired kind s t holds tells
 
-  once : (id other h : ℕ) → get s.session.ids id ≡ Some h → get s.session.ids other ≡ Some h → other ≡ id
-  once = holds.going.tied.once
-
   many : len t.bytes ≡ len s.heap.held
-  many = as_many s.session.ids once o t.bytes pairs ∙ len-objects s.heap.held
+  many = as_many s.session.ids o t.bytes pairs ∙ len-objects s.heap.held
 
   live_is : (c : ℕ) → live q t.bytes c ≡ live p o c
   live_is c = sym (ap (λ x. live x t.bytes c) (paging_is kind s t holds)) ∙ sym (live_any p [] t.bytes c)
-      ∙ live_alike s.session.ids once o t.bytes pairs p c
+      ∙ live_alike s.session.ids o t.bytes pairs p c
 
   needed_is : (n : ℕ) → pages_needed_with q t.bytes n ≡ pages_needed_with p o n
   needed_is n = sym (ap (λ x. pages_needed_with x t.bytes n) (paging_is kind s t holds)) ∙ sym (needed_any p [] t.bytes n)
-      ∙ needed_alike s.session.ids once o t.bytes pairs p n
+      ∙ needed_alike s.session.ids o t.bytes pairs p n
 
   classes_are : classes p ≡ classes q
   classes_are = ap classes (paging_is kind s t holds)

@@ -8,6 +8,7 @@ use Rattle.cf_base.specs.declared.answers.ResizeFault.TheVariants as resize
 use Rattle.cf_base.specs.declared.kind.Kind.{Kind}
 use Rattle.cf_lemmas.specs.Maps.{map_values}
 use Rattle.cf_lemmas.proofs.MapValues.{get-map_values}
+use Rattle.cf_lemmas.proofs.Renaming.{AreRenamed}
 use Rattle.page_model.specs.Held.{Placed, objects}
 use Rattle.page_model.specs.Image.{slot_for}
 use Rattle.page_model.specs.Paging.{Paging, class_for, paging_of}
@@ -25,7 +26,6 @@ use Rattle.run_model.proofs.CallerLemmas.{AreNames, FreesAt, MallocsAt, ResizesA
 use Rattle.run_laws.specs.Told.{is_ok}
 use Rattle.headline_laws.specs.ToldHeap.{ToldHeap, paging_told, slot_told, steps_by}
 use Rattle.headline_laws.proofs.Bounds.{AreBounds}
-use Rattle.headline_laws.proofs.Pairing.{ArePaired}
 use Rattle.headline_laws.proofs.ReadLengths.{TellsReads, lengths_told}
 
 -- what is told holds of a run at one moment
@@ -91,13 +91,14 @@ module _ (kind : Kind) (s : RunState) (t : ToldHeap) (holds : Holds kind s t) wh
     names = names_of_objects s.session.ids s.heap.held (names_in s.session s.heap holds.going.tied)
 
     -- the lengths that are told are those of the objects
-    pub paired : ArePaired s.session.ids (map_values length (objects s.heap.held)) (map_values length t.bytes)
+    pub paired : AreRenamed s.session.ids (map_values length (objects s.heap.held)) (map_values length t.bytes)
     paired = record {
       found = λ id v e. found id v e (get s.session.ids id) refl;
       all = λ h v e.
           let w = some_length (get (objects s.heap.held) h) v (sym (get-map_values length (objects s.heap.held) h) ∙ e) in
           let id = names.all h w.0 w.1 in
           (id.0, id.1, same_at id.0 h id.1 ∙ e);
+      once = holds.going.tied.once;
     }
       where
         found : (id v : ℕ) → get (map_values length t.bytes) id ≡ Some v → (o : Option ℕ) → get s.session.ids id ≡ o

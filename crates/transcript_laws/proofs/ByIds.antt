@@ -10,7 +10,7 @@ use Rattle.page_model.specs.Held.{Objects}
 use Rattle.run_model.specs.Sessions.{Ids}
 use Rattle.run_model.proofs.CallerLemmas.{AreNames}
 use Rattle.transcript_laws.specs.Histories.{objects_by_id}
-use Rattle.transcript_laws.proofs.Renaming.{AreRenamed, CountAlike, counted_alike}
+use Rattle.cf_lemmas.proofs.Renaming.{AreRenamed, CountAlike, counted_alike}
 
 -- the bytes under a number
 abbrev pub bytes_under : Objects → ℕ → List ℕ

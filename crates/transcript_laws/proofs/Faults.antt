@@ -28,7 +28,7 @@ use Rattle.transcript_laws.specs.Histories.{by_id}
 use Rattle.transcript_laws.specs.Replies.{is_in_class, malloc_fault, passes_pages, resize_fault, write_fault}
 use Rattle.transcript_laws.proofs.ByIds.{by_id_counts}
 use Rattle.transcript_laws.proofs.PagesAtOne.{needed_with_alike}
-use Rattle.transcript_laws.proofs.Renaming.{CountAlike}
+use Rattle.cf_lemmas.proofs.Renaming.{CountAlike}
 
 -- lack of room, in a kind with pages
 lacks_page : (k : Kind) (s : HeapState) (bytes : ℕ) → IsPaged k → LacksRoomIn k s bytes → LacksRoom (paging_in s) s.held (class_for (paging_in s) bytes)

@@ -1,4 +1,3 @@
-pub mod Renaming
 pub mod ByIds
 pub mod PagesAtOne
 pub mod Faults

@@ -13,7 +13,7 @@ use Rattle.page_model.specs.Arrangement.{live, home_pages, not_full_pages, pages
 use Rattle.cf_lemmas.proofs.Tests.{eq_no, eq_yes}
 use Rattle.page_model.proofs.CallerLemmas.{slots_some, sound_stand, can_hold_one, used_at_one, sum_same}
 use Rattle.transcript_laws.specs.AtOne.{figures_at_one, part_pages, totals_at_one}
-use Rattle.transcript_laws.proofs.Renaming.{CountAlike}
+use Rattle.cf_lemmas.proofs.Renaming.{CountAlike}
 
 divides : (n m : ℕ) → n % m ≡ 0 → part_pages n m ≡ 0
 divides n m is = (let e = eq_yes (n % m) 0 is in rw e)
