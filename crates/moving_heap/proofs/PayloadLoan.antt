@@ -11,14 +11,13 @@ use Rattle.page_model.specs.Bytes.{AreBytes, byte_of, bytes_at, written}
 use Rattle.region.specs.Lending.{fit, with_words}
 use Rattle.region.proofs.CallerLemmas.{fit_below, length-with_words, length-fit, fit-words}
 use Rattle.word_bytes.specs.Cells.{byte_in}
-use Rattle.word_bytes.proofs.CallerLemmas.{overwritten_behind, overwritten_inside}
+use Rattle.word_bytes.specs.Overwriting.{Overwrites}
+use Rattle.word_bytes.proofs.CallerLemmas.{loan_overwrites, overwritten_behind, overwritten_inside}
 use Rattle.cf_model.specs.Rules.{KeepsRules}
 use Rattle.cf_model.specs.State.{HeapState}
 use Rattle.cf_model.specs.Steps.{WritesBytes}
 use Rattle.paged_heap.specs.declared.open_heap.OpenHeap.{OpenHeap}
 use Rattle.cf_base.specs.declared.kind.Kind.TheVariants.{Moving}
-use Rattle.virtual_words.specs.Overwriting.{Overwrites}
-use Rattle.virtual_words.proofs.CallerLemmas.{loan_overwrites}
 use Rattle.paged_heap.specs.Access.{Lies}
 use Rattle.paged_heap.specs.Heap.{seen}
 use Rattle.paged_heap.specs.Layout.{Holds, IsValid, IsValidIn, held_in, state_at, state_in}

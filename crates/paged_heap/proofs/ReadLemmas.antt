@@ -11,7 +11,7 @@ use Rattle.page_model.specs.Bytes.{byte_of, bytes_at}
 use Rattle.page_model.specs.Image.{slot_for}
 use Rattle.page_model.specs.Paging.{class_for}
 use Rattle.page_model.proofs.CallerLemmas.{places-held_at, object_inside, class_holds, slot_fits}
-use Rattle.virtual_words.specs.Overwriting.{byte_from}
+use Rattle.word_bytes.specs.Overwriting.{byte_from}
 use Rattle.cf_model.specs.Answers.{place_of}
 use Rattle.cf_model.specs.Steps.{PassesEnd, ReadsBytes}
 use Rattle.paged_heap.specs.Heap.{Heap}

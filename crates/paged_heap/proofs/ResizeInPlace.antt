@@ -18,7 +18,7 @@ use Rattle.word_bytes.proofs.CallerLemmas.{overwritten_before, overwritten_insid
 use Rattle.cf_model.specs.Steps.{ResizesObject, frames_left, number_of}
 use Rattle.paged_heap.specs.Heap.{Heap}
 use Rattle.paged_heap.specs.Layout.{IsValid, held_in, paging_at, state_of}
-use Rattle.virtual_words.specs.Overwriting.{Overwrites, words_with}
+use Rattle.word_bytes.specs.Overwriting.{Overwrites, words_with}
 use Rattle.paged_heap.specs.ZeroTail.{Cuts}
 use Rattle.paged_heap.specs.Free.{IsObjectAt}
 use Rattle.paged_heap.proofs.ByKind.{frames_stay}

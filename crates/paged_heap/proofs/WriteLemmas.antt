@@ -27,7 +27,7 @@ use Rattle.cf_model.specs.Steps.{WritesBytes}
 use Rattle.paged_heap.specs.Heap.{Heap}
 use Rattle.paged_heap.specs.Layout.{IsValid, held_in, paging_at, state_of, tables_in}
 use Rattle.paged_heap.specs.Access.{Lies}
-use Rattle.virtual_words.specs.Overwriting.{Overwrites}
+use Rattle.word_bytes.specs.Overwriting.{Overwrites}
 use Rattle.paged_heap.proofs.ByKind.{framed_kept, outside_in}
 use Rattle.paged_heap.proofs.LayoutFacts.{paged_kind, paging_ok}
 use Rattle.paged_heap.proofs.Preserved.{bytes_held, Becomes, becomes_kept, becomes_state, places_are, rest_from, stored}

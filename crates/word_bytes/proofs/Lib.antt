@@ -1,2 +1,3 @@
 pub mod Overwriting
+pub mod RunLemmas
 pub mod CallerLemmas

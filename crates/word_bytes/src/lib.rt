@@ -1,10 +1,12 @@
-//! Bytes in words: reading and writing any bytes of a slice of words, eight to a word, the least
-//! first.
+//! Bytes in words: reading and writing any bytes of a slice of words, or of a run of words of a
+//! region, eight to a word, the least first.
 #![tactic(auto)]
 
 mod cells;
+mod runs;
 
 pub use cells::{read_bytes, write_bytes};
+pub use runs::{read_run, words_with, write_run};
 
 #[cfg(test)]
 mod tests;

@@ -1,0 +1,29 @@
+//! The free lists of Half-Fit (1995), as a rule for tagged blocks.
+ghost use Rattle.block_model.specs.Buckets.{half_fit as half_fit_lists};
+ghost use Rattle.block_model.proofs.CallerLemmas.{half_fit_lawful};
+
+use block_model::half_fit;
+use tag_blocks::Buckets;
+
+/// Half-Fit (1995): a free list for each power of two. A need is searched from the first list on in
+/// which each block has its words.
+#[derive(Drop)]
+pub struct HalfFitBuckets;
+
+impl Buckets for HalfFitBuckets {
+    const COUNT: u32 = half_fit::COUNT;
+
+    ghost COUNT = { 24 };
+
+    ghost rule = { half_fit_lists };
+
+    fn bucket(size: u32) -> u32 {
+        half_fit::bucket_of(size)
+    }
+
+    fn search(need: u32) -> u32 {
+        half_fit::search_for(need)
+    }
+
+    ghost lawful = { half_fit_lawful };
+}

@@ -1,0 +1,29 @@
+//! The free lists of TLSF (2004), as a rule for tagged blocks.
+ghost use Rattle.block_model.specs.Buckets.{tlsf as tlsf_lists};
+ghost use Rattle.block_model.proofs.CallerLemmas.{tlsf_lawful};
+
+use block_model::tlsf;
+use tag_blocks::Buckets;
+
+/// TLSF (2004): a free list for each size below 16 words, and 16 for each power of two from there on.
+/// A need is rounded up to the least size of a list before it is searched.
+#[derive(Drop)]
+pub struct TlsfBuckets;
+
+impl Buckets for TlsfBuckets {
+    const COUNT: u32 = tlsf::COUNT;
+
+    ghost COUNT = { 336 };
+
+    ghost rule = { tlsf_lists };
+
+    fn bucket(size: u32) -> u32 {
+        tlsf::bucket_of(size)
+    }
+
+    fn search(need: u32) -> u32 {
+        tlsf::search_for(need)
+    }
+
+    ghost lawful = { tlsf_lawful };
+}

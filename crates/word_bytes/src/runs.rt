@@ -1,0 +1,48 @@
+//! Bytes of a run of words of a region.
+ghost use Rattle.std.specs.Prelude.{◌≡◌, ℕ, ◌+◌, ◌*◌, ◌<◌, ◌≤◌, length, slice_index};
+ghost use Rattle.step_ledger.specs.Counting.{RoseBy};
+ghost use Rattle.word_bytes.specs.Overwriting.{Overwrites, byte_from, words_with};
+
+use crate::cells::{read_bytes, write_bytes};
+use region::Region;
+use step_ledger::Steps;
+
+/// How many words hold one of `count` bytes from byte `at` of the first one on.
+pub fn words_with(at: usize, count: usize) -> u32
+    requires { words_with at count < 4294967296 }
+    ensures { result ≡ words_with at count }
+{
+    (at + count).div_ceil(8) as u32
+}
+
+/// Copies the bytes from byte `at` of the `n` words from `first` on, which are borrowed as one slice,
+/// for a step each.
+pub fn read_run(region: &Region, first: u32, n: u32, at: usize, out: &mut [u8], steps: &mut Steps)
+    requires within { first + n ≤ length region.now }
+    requires fits { at + length out.old ≤ 8 * n }
+    ensures bytes { (j : ℕ) → j < length out.new → slice_index out.new j ≡ byte_from region.now first (at + j) }
+    ensures steps { RoseBy steps.old steps.new n }
+{
+    let words = region.payload(first, n, steps);
+    read_bytes(words, at, out);
+}
+
+/// Writes the bytes over those from byte `at` of the `n` words from `first` on, which are borrowed as
+/// one slice, for a step each.
+pub fn write_run(
+    region: &mut Region,
+    first: u32,
+    n: u32,
+    at: usize,
+    bytes: &[u8],
+    steps: &mut Steps,
+)
+    requires within { first + n ≤ length region.old }
+    requires fits { at + length bytes.now ≤ 8 * n }
+    ensures words { Overwrites region.old region.new (record { from = first; count = n }) at bytes.now }
+    ensures len { length region.new ≡ length region.old }
+    ensures steps { RoseBy steps.old steps.new n }
+{
+    let words = region.payload_mut(first, n, steps);
+    write_bytes(words, at, bytes);
+}
