@@ -4,7 +4,7 @@ use Rattle.std.proofs.lemmas.Bool.{le-leb}
 use Rattle.std.proofs.lemmas.List.{take_all}
 use Rattle.std.specs.Prelude.{nat_le}
 use Rattle.clap.specs.Words.{Text}
-use Rattle.cf_base.specs.declared.kind.Kind.TheVariants.{Moving}
+use Rattle.cf_base.specs.declared.kind.Kind.{Kind}
 use Rattle.cf_base.specs.declared.status.Status.{Status}
 use Rattle.cf_base.specs.declared.status.Status.TheVariants.{Done, Words, BadScript, ReadFault, WriteFault, OutOfMemory, TooLong, BadImage}
 use Rattle.cf_io.specs.Feeds.{Rose}
@@ -12,6 +12,8 @@ use Rattle.cf_model.specs.State.{HeapState, closed_state}
 use Rattle.cf_session.specs.Apply.{run_at}
 use Rattle.command_line.specs.Choices.{Chooses}
 use Rattle.command_line.specs.declared.choice.Choice.{Choice}
+use Rattle.command_line.specs.declared.choice.Mode.{Mode}
+use Rattle.command_line.specs.declared.choice.Mode.TheVariants.{Run}
 use Rattle.script_reader.specs.Items.{items}
 use Rattle.run_model.specs.Sessions.{RunState, SessionState, fresh_session}
 use Rattle.script_loop.proofs.CallerLemmas.{transcript_told}
@@ -21,9 +23,9 @@ use Rattle.script_loop.specs.ScriptOutcome.{Effects, IsClean, IsEnding, IsRow, I
 use Rattle.cf_tool.specs.TopOutcome.{DoesChosen, EndsBy, EndsWhole, InMode, TellsChosen, TellsInMode}
 
 -- a session that was just begun, and a manager that was never open
-begun_closed : (session : SessionState) (heap : HeapState) → session ≡ fresh_session → heap ≡ closed_state Moving
-    → run_at session heap ≡ run_at fresh_session (closed_state Moving)
-begun_closed session heap fresh closed = ap (λ s. run_at s heap) fresh ∙ ap (λ h. run_at fresh_session h) closed
+begun_closed : (kind : Kind) (session : SessionState) (heap : HeapState) → session ≡ fresh_session → heap ≡ closed_state kind
+    → run_at session heap ≡ run_at fresh_session (closed_state kind)
+begun_closed kind session heap fresh closed = ap (λ s. run_at s heap) fresh ∙ ap (λ h. run_at fresh_session h) closed
 
 -- no script ends by `Words`
 never_words : (from to : RunState) (had left : Option (List ℕ)) (call : Effects) → call.status ≡ Words → IsRowOf one_manager from had left call to → ⊥
@@ -31,17 +33,22 @@ never_words from to (Some all) (Some left) call is met = subst (λ (st : Status)
 never_words from to (Some all) None call is met = met
 never_words from to None left call is met = subst IsEnding is met
 
--- mode run was chosen, and done
-module _ (words : List Text) (choice : Choice) (call : Effects) (session : SessionState) (heap : HeapState) (end : RunState) (chosen : Chooses words choice)
-    (fresh : session ≡ fresh_session) (closed : heap ≡ closed_state Moving) (met : MeetsOutcome one_manager (run_at session heap) call end) where
-  met_closed : MeetsOutcome one_manager (run_at fresh_session (closed_state Moving)) call end
-  met_closed = subst (λ (from : RunState). MeetsOutcome one_manager from call end) (begun_closed session heap fresh closed) met
+-- mode run and this kind were chosen, and done
+module _ (words : List Text) (choice : Choice) (kind : Kind) (call : Effects) (session : SessionState) (heap : HeapState) (end : RunState)
+    (chosen : Chooses words choice) (is_run : choice.mode ≡ Run) (is_kind : choice.kind ≡ kind)
+    (fresh : session ≡ fresh_session) (closed : heap ≡ closed_state kind) (met : MeetsOutcome one_manager (run_at session heap) call end) where
+  met_closed : MeetsOutcome one_manager (run_at fresh_session (closed_state kind)) call end
+  met_closed = subst (λ (from : RunState). MeetsOutcome one_manager from call end) (begun_closed kind session heap fresh closed) met
+
+  -- what holds of mode run and this kind holds of what was chosen
+  of_choice : (P : Mode → Kind → Type 0) → P Run kind → P choice.mode choice.kind
+  of_choice P p = subst (λ (m : Mode). P m choice.kind) (sym is_run) (subst (λ (k : Kind). P Run k) (sym is_kind) p)
 
   does_run : DoesChosen words call
   does_run = record {
     choice = choice;
     chosen = chosen;
-    done = subst (λ (c : Choice). InMode c.mode c.kind call) (sym chosen.chosen) (record { end = end; outcome = met_closed });
+    done = of_choice (λ m k. InMode m k call) (record { end = end; outcome = met_closed });
   }
 
   ends_at : (st : Status) → call.status ≡ st → (st ≡ OutOfMemory → call.after ≡ call.before) → EndsBy st words call
@@ -61,8 +68,7 @@ module _ (words : List Text) (choice : Choice) (call : Effects) (session : Sessi
   tells_run is = record {
     choice = choice;
     chosen = chosen;
-    tells = subst (λ (c : Choice). TellsInMode c.mode c.kind call) (sym chosen.chosen)
-        (transcript_told (run_at fresh_session (closed_state Moving)) end call met_closed is);
+    tells = of_choice (λ m k. TellsInMode m k call) (transcript_told (run_at fresh_session (closed_state kind)) end call met_closed is);
   }
 
 within_all : (all : List ℕ) → length all ≤ MOST_BYTES → items_within all ≡ items all true

@@ -25,9 +25,10 @@ pub record AnswersScript (kind : Kind) (call : Effects) : Type 0 where
   pub end : RunState
   pub outcome : MeetsOutcome one_manager (run_at fresh_session (closed_state kind)) call end
 
--- by the mode, whatever the statuses that it has
+-- by the mode, whatever the statuses that it has; no other mode is offered yet
 abbrev pub InMode : Mode → Kind → Effects → Type 0
 InMode Run kind call = AnswersScript kind call
+InMode mode kind call = ⊥
 
 -- the words choose a mode and a kind, and the call did what they ask
 pub record DoesChosen (words : List Text) (call : Effects) : Type 0 where
@@ -47,6 +48,7 @@ EndsWell words call = EndsBy call.status words call
 -- by the mode: what is printed over plain items is their transcript
 abbrev pub TellsInMode : Mode → Kind → Effects → Type 0
 TellsInMode Run kind call = TellsTranscript kind call.had call
+TellsInMode mode kind call = ⊥
 
 -- the same, of what the words choose
 pub record TellsChosen (words : List Text) (call : Effects) : Type 0 where

@@ -30,9 +30,19 @@ fn plain_sink(rt: &HostRuntime) -> Result<MemSink, Fail> {
     Ok(sink)
 }
 
-/// Answers a script, and gives the status.
+/// Answers a script by the default manager, and gives the status.
 fn answer<S: Source>(rt: &HostRuntime, source: &mut S, sink: &mut MemSink) -> Result<Status, Fail> {
-    let words = command_line(rt, &[])?;
+    answer_by(rt, &[], source, sink)
+}
+
+/// Answers a script as these words choose, and gives the status.
+fn answer_by<S: Source>(
+    rt: &HostRuntime,
+    words: &[&str],
+    source: &mut S,
+    sink: &mut MemSink,
+) -> Result<Status, Fail> {
+    let words = command_line(rt, words)?;
     Ok(cf_main(rt, rt.alloc(), words.as_slice(), source, sink))
 }
 
@@ -49,10 +59,13 @@ fn each_script_prints_its_replies(rt: HostRuntime) -> Result<(), Fail> {
 
 #[test]
 fn the_steps_of_a_call_are_within_its_bound(rt: HostRuntime) -> Result<(), Fail> {
-    for (script, before, least, most, after) in STEPS {
+    for (words, script, before, least, most, after) in STEPS {
         let mut source = SureSource::new(script.to_vec(rt.alloc())?);
         let mut sink = plain_sink(&rt)?;
-        assert_eq!(rt; answer(&rt, &mut source, &mut sink)?, Status::Done);
+        assert_eq!(rt;
+            answer_by(&rt, words, &mut source, &mut sink)?,
+            Status::Done
+        );
         let rest = sink
             .written()
             .strip_prefix(before)

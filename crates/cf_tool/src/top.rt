@@ -5,11 +5,12 @@ ghost use Rattle.script_loop.specs.ScriptOutcome.{IsClean, MOST_BYTES};
 ghost use Rattle.command_line.specs.Choices.{AreAccepted};
 ghost use Rattle.cf_tool.specs.TopOutcome.{EndsWell, EndsWhole, TellsPlainly};
 
-use cf_base::Status;
+use cf_base::{Kind, Status};
 use cf_io::{Sink, Source};
 use cf_session::Session;
 use command_line::{Mode, WordsFault, read_words};
 use moving_heap::MovingHeap;
+use nonmoving_heap::NonMovingHeap;
 use script_loop::run_script;
 use std::alloc::Global;
 use std::rt::Runtime;
@@ -63,9 +64,20 @@ pub fn cf_main<R: Runtime, S: Source, K: Sink>(
         return Status::OutOfMemory;
     };
     match choice.mode {
-        Mode::Run => {
+        Mode::Run => {}
+        // the command line offers no other mode yet
+        Mode::Compare | Mode::Bench => unreachable!(),
+    }
+    match choice.kind {
+        Kind::Moving => {
             let mut heap = MovingHeap::closed(alloc);
             run_script(&mut session, &mut heap, source, sink)
         }
+        Kind::NonMoving => {
+            let mut heap = NonMovingHeap::closed(alloc);
+            run_script(&mut session, &mut heap, source, sink)
+        }
+        // nor another kind
+        Kind::Tlsf | Kind::HalfFit => unreachable!(),
     }
 }

@@ -1,2 +1,3 @@
 -- What upper crates may cite, passed on from one place. Declares nothing.
 pub use Rattle.command_line.proofs.ReadAlike.{not_accepted}
+pub use Rattle.command_line.proofs.Offers.{kind_offered, mode_offered}

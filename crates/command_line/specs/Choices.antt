@@ -1,8 +1,10 @@
 -- What the arguments choose, by `clap`'s definitions of the matches.
-use Rattle.std.specs.Prelude.{◌≡◌, ◌≢◌, ⊤, ℕ, List, [], Option, Some, None, Result, Ok, Err, codes, false, if◌then◌else◌}
+use Rattle.std.specs.Prelude.{◌≡◌, ◌≢◌, ◌⊎◌, ⊤, ℕ, List, [], Option, Some, None, Result, Ok, Err, codes, false, if◌then◌else◌}
+use Rattle.std.specs.Str.{bytes_eq}
 use Rattle.std.specs.Str.Parse.{digits_value, without_leading_plus}
+use Rattle.cf_base.specs.Kind.{kind_name}
 use Rattle.cf_base.specs.declared.kind.Kind.{Kind}
-use Rattle.cf_base.specs.declared.kind.Kind.TheVariants.{Moving}
+use Rattle.cf_base.specs.declared.kind.Kind.TheVariants.{Moving, NonMoving}
 use Rattle.clap.specs.Words.{App, Row, Text, first_of, one_of, fault_of, matches_of}
 use Rattle.clap.specs.ValueTests.{accepts}
 use Rattle.command_line.specs.Command.{IsCfApp, any_u64}
@@ -18,7 +20,8 @@ mode_named name = Run
 
 -- the kind of a name; the command lets no other name through
 abbrev pub kind_named : Option Text → Kind
-kind_named name = Moving
+kind_named None = Moving
+kind_named (Some name) = if bytes_eq name (kind_name NonMoving) then NonMoving else Moving
 
 -- the number that a text says, as `clap` reads a u64; the command lets no other text through
 abbrev pub u64_in : Option Text → ℕ
@@ -59,6 +62,14 @@ ReadsAs words (Ok choice) = Chooses words choice
 ReadsAs words (Err Refused) = AreRefused words
 ReadsAs words (Err OutOfMemory) = ⊤
 
--- a run of the moving manager, with this seed and this count
-abbrev pub chosen : ℕ → ℕ → Choice
-chosen seed count = record { mode = Run; kind = Moving; seed = seed; count = count }
+-- a run of a manager of this kind, with this seed and this count
+abbrev pub runs_on : Kind → ℕ → ℕ → Choice
+runs_on kind seed count = record { mode = Run; kind = kind; seed = seed; count = count }
+
+-- the modes that can be chosen
+abbrev pub OffersMode : Mode → Type 0
+OffersMode mode = mode ≡ Run
+
+-- the kinds that can be chosen
+abbrev pub OffersKind : Kind → Type 0
+OffersKind kind = (kind ≡ Moving) ⊎ (kind ≡ NonMoving)

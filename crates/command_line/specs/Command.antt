@@ -2,10 +2,12 @@
 use Rattle.std.specs.Prelude.{◌≡◌, List, [], ◌∷◌, Some, map, codes}
 use Rattle.std.specs.Borrow.{Bor}
 use Rattle.cf_base.specs.Kind.{kind_name}
-use Rattle.cf_base.specs.declared.kind.Kind.TheVariants.{Moving}
+use Rattle.cf_base.specs.declared.kind.Kind.TheVariants.{Moving, NonMoving}
 use Rattle.clap.specs.Words.{App, Rule, Text, new_app, new_rule, with_rule}
 use Rattle.clap.specs.declared.builder.value_parser.ValueParser.{ValueParser}
 use Rattle.clap.specs.declared.builder.value_parser.ValueParser.TheVariants.{Names, Unsigned}
+use Rattle.command_line.specs.declared.choice.Mode.{Mode}
+use Rattle.command_line.specs.declared.choice.Mode.TheVariants.{Run, Compare, Bench}
 
 -- a borrowed list of borrowed names, as `clap` keeps it
 abbrev pub NameList : Type 0
@@ -14,22 +16,30 @@ NameList = Bor (List (Bor Text))
 abbrev pub texts_of : NameList → List Text
 texts_of names = map (λ name. name.now) names.now
 
-abbrev pub mode_names : List Text
-mode_names = codes "run" ∷ []
+-- the name of a mode on the command line
+abbrev pub mode_name : Mode → Text
+mode_name Run = codes "run"
+mode_name Compare = codes "compare"
+mode_name Bench = codes "bench"
 
+-- the modes that are offered
+abbrev pub mode_names : List Text
+mode_names = mode_name Run ∷ []
+
+-- the managers that are offered
 abbrev pub manager_names : List Text
-manager_names = kind_name Moving ∷ []
+manager_names = kind_name Moving ∷ kind_name NonMoving ∷ []
 
 -- the positional MODE
 abbrev pub mode_rule : NameList → Rule
-mode_rule names = record (new_rule (codes "mode")) { parser = Some (Names names); defaults = codes "run" ∷ [] }
+mode_rule names = record (new_rule (codes "mode")) { parser = Some (Names names); defaults = mode_name Run ∷ [] }
 
 -- an option of this name, with the parser of its value and its default
 abbrev pub option_rule : Text → ValueParser → Text → Rule
 option_rule name parser given = record (new_rule name) { long = Some name; parser = Some parser; defaults = given ∷ [] }
 
 abbrev pub manager_rule : NameList → Rule
-manager_rule names = option_rule (codes "manager") (Names names) (codes "cf")
+manager_rule names = option_rule (codes "manager") (Names names) (kind_name Moving)
 
 -- a whole number up to 2^64 - 1
 abbrev pub any_u64 : ValueParser

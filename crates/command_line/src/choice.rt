@@ -7,6 +7,10 @@ use cf_base::Kind;
 pub enum Mode {
     /// Answer a script with one manager.
     Run,
+    /// Answer a script with several managers, side by side.
+    Compare,
+    /// Answer a generated script with one manager, and count.
+    Bench,
 }
 
 /// What the arguments chose: the mode, the manager's kind, and the seed and the number of commands of a

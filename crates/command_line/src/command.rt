@@ -9,7 +9,7 @@ use std::alloc::{AllocError, Global};
 
 static MODES: [&str; 1] = ["run"];
 
-static MANAGERS: [&str; 1] = ["cf"];
+static MANAGERS: [&str; 2] = ["cf", "nm"];
 
 fn modes<'a>() -> &'a [&'a str]
     ensures { texts_of result ≡ mode_names }

@@ -1,8 +1,11 @@
 //! Laws of the arguments: they are read in one way, whichever references stand for the names of the
 //! command, and arguments that are known are read so.
 ghost use Rattle.std.specs.Prelude.{◌⊎◌, ◌≡◌, ◌∷◌, [], Err, List, Ok, Result, codes};
+ghost use Rattle.cf_base.specs.Kind.{kind_name};
+ghost use Rattle.cf_base.specs.declared.kind.Kind.{Kind};
+ghost use Rattle.cf_base.specs.declared.kind.Kind.TheVariants.{Moving};
 ghost use Rattle.clap.specs.Words.{App, Text, fault_of, matches_of};
-ghost use Rattle.command_line.specs.Choices.{AreAccepted, AreRefused, Chooses, ReadsAs, chosen};
+ghost use Rattle.command_line.specs.Choices.{AreAccepted, AreRefused, Chooses, OffersKind, OffersMode, ReadsAs, runs_on};
 ghost use Rattle.command_line.specs.Command.{IsCfApp};
 ghost use Rattle.command_line.specs.declared.choice.Choice.{Choice};
 ghost use Rattle.command_line.specs.declared.choice.WordsFault.{WordsFault};
@@ -38,16 +41,22 @@ pub fn known_words_are_refused()
         → ReadsAs words result → (result ≡ Err Refused) ⊎ (result ≡ Err OutOfMemory) }
 {}
 
-/// The program's name alone chooses the defaults.
-pub fn no_words_are_taken()
-    ensures { (name : Text) → Chooses (name ∷ []) (chosen 0 1000) }
+/// No other mode or kind is chosen than is offered.
+pub fn only_what_is_offered_is_chosen()
+    ensures mode { (words : List Text) (choice : Choice) → Chooses words choice → OffersMode choice.mode }
+    ensures kind { (words : List Text) (choice : Choice) → Chooses words choice → OffersKind choice.kind }
 {}
 
-/// These arguments choose what they say.
+/// The program's name alone chooses the defaults.
+pub fn no_words_are_taken()
+    ensures { (name : Text) → Chooses (name ∷ []) (runs_on Moving 0 1000) }
+{}
+
+/// Arguments choose what they say, for each kind that is offered.
 pub fn words_choose_what_they_say()
-    ensures { (name : Text) → Chooses
-        (name ∷ codes "run" ∷ codes "--manager=cf" ∷ codes "--seed" ∷ codes "5" ∷ codes "--count=7" ∷ [])
-        (chosen 5 7) }
+    ensures { (name : Text) (kind : Kind) → OffersKind kind → Chooses
+        (name ∷ codes "run" ∷ codes "--manager" ∷ kind_name kind ∷ codes "--seed" ∷ codes "5" ∷ codes "--count=7" ∷ [])
+        (runs_on kind 5 7) }
 {}
 
 /// A request for help is refused, whatever follows it.

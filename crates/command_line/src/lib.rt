@@ -11,7 +11,8 @@ pub use command::cf_command;
 pub use laws::{
     a_count_too_far_is_refused, all_such_commands_read_alike, help_is_refused,
     known_words_are_read, known_words_are_refused, no_words_are_taken,
-    refused_words_are_not_chosen, words_choose_once, words_choose_what_they_say,
+    only_what_is_offered_is_chosen, refused_words_are_not_chosen, words_choose_once,
+    words_choose_what_they_say,
 };
 pub use reading::read_words;
 

@@ -11,7 +11,7 @@ use clap::ArgMatches;
 use clap::error::ErrorKind;
 use std::alloc::Global;
 
-/// The mode of a name. A later mode is one more branch here and one more name in the command.
+/// The mode of a name. To offer another is one more branch here and one more name in the command.
 fn mode_named(name: Option<&str>) -> Mode
     ensures { result ≡ mode_by (option_map (λ s. s.now) name.entry) }
 {
@@ -20,11 +20,12 @@ fn mode_named(name: Option<&str>) -> Mode
     }
 }
 
-/// The kind of a name. A later kind is one more branch here and one more name in the command.
+/// The kind of a name. To offer another is one more branch here and one more name in the command.
 fn kind_named(name: Option<&str>) -> Kind
     ensures { result ≡ kind_by (option_map (λ s. s.now) name.entry) }
 {
     match name {
+        Some("nm") => Kind::NonMoving,
         _ => Kind::Moving,
     }
 }

@@ -16,23 +16,45 @@ fn texts(alloc: Global, words: &[&str]) -> Result<Vec<String>, AllocError> {
 
 #[test]
 fn words_are_taken(rt: HostRuntime) -> Result<(), Fail> {
-    for (words, seed, count) in [
-        ([].as_slice(), 0, 1_000),
-        (["run"].as_slice(), 0, 1_000),
-        (["--", "run"].as_slice(), 0, 1_000),
-        (["--manager", "cf"].as_slice(), 0, 1_000),
-        (["--manager=cf", "run"].as_slice(), 0, 1_000),
-        (["--count", "0"].as_slice(), 0, 0),
-        (["--count=+7"].as_slice(), 0, 7),
-        (["--count=007"].as_slice(), 0, 7),
-        (["--count=1000000"].as_slice(), 0, 1_000_000),
-        (["--seed", "5", "run", "--count", "4"].as_slice(), 5, 4),
-        (["--seed=18446744073709551615"].as_slice(), u64::MAX, 1_000),
+    for (words, kind, seed, count) in [
+        ([].as_slice(), Kind::Moving, 0, 1_000),
+        (["run"].as_slice(), Kind::Moving, 0, 1_000),
+        (["--", "run"].as_slice(), Kind::Moving, 0, 1_000),
+        (["--manager", "cf"].as_slice(), Kind::Moving, 0, 1_000),
+        (["--manager=cf", "run"].as_slice(), Kind::Moving, 0, 1_000),
+        (
+            ["--manager=nm", "run"].as_slice(),
+            Kind::NonMoving,
+            0,
+            1_000,
+        ),
+        (
+            ["run", "--manager", "nm"].as_slice(),
+            Kind::NonMoving,
+            0,
+            1_000,
+        ),
+        (["--count", "0"].as_slice(), Kind::Moving, 0, 0),
+        (["--count=+7"].as_slice(), Kind::Moving, 0, 7),
+        (["--count=007"].as_slice(), Kind::Moving, 0, 7),
+        (["--count=1000000"].as_slice(), Kind::Moving, 0, 1_000_000),
+        (
+            ["--seed", "5", "run", "--count", "4"].as_slice(),
+            Kind::Moving,
+            5,
+            4,
+        ),
+        (
+            ["--seed=18446744073709551615"].as_slice(),
+            Kind::Moving,
+            u64::MAX,
+            1_000,
+        ),
     ] {
         let all = texts(rt.alloc(), words)?;
         let wanted = Choice {
             mode: Mode::Run,
-            kind: Kind::Moving,
+            kind,
             seed,
             count,
         };
@@ -65,7 +87,9 @@ fn words_are_refused(rt: HostRuntime) -> Result<(), Fail> {
         ["--quantum=1"].as_slice(),
         ["--manager"].as_slice(),
         ["--manager", "other"].as_slice(),
-        ["--manager=nm"].as_slice(),
+        ["--manager=tlsf"].as_slice(),
+        ["--manager=half"].as_slice(),
+        ["--manager=NM"].as_slice(),
         ["--manager=CF"].as_slice(),
         ["--manager=cf", "--manager=cf"].as_slice(),
         ["--seed"].as_slice(),

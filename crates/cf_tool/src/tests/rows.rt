@@ -190,9 +190,11 @@ pub const ROWS: [(&str, &[u8], Status, &[u8]); 30] = [
 ];
 
 /// Scripts, what stands before a count of steps, its least and its greatest value, and what stands
-/// after it. A slot of 23 words is cleared in the first and the last; so many steps they take.
-pub const STEPS: [(&[u8], &[u8], u32, u32, &[u8]); 3] = [
+/// after it. A slot of 23 words is cleared in the first and the third, one of 24 words in the last; so many
+/// steps they take.
+pub const STEPS: [(&[&str], &[u8], &[u8], u32, u32, &[u8]); 4] = [
     (
+        &[],
         b"heap 2 512 1 8\nm 1 176\nm 2 176\nm 3 176\nm 4 176\nm 5 176\nw 2 0 a1b2\nf 1\nq 2\nq 3\nf 3\nsteps\np 23\np 64\np 65\n",
         b"ok\nok\nok\nok\nok\nrefused space\nok\nok\nat 23\nat 64\nok\nsteps last ",
         23,
@@ -200,6 +202,7 @@ pub const STEPS: [(&[u8], &[u8], u32, u32, &[u8]); 3] = [
         b" bound 142 moves 1 words 23\n0000000000000000\n000000b000000001\n000000000000b2a1\n",
     ),
     (
+        &[],
         b"heap 1 512 1 4\r\n\r\n# note\r\n\tm   0001 08\r\nsteps\r\n",
         b"ok\nok\nsteps last ",
         0,
@@ -207,10 +210,19 @@ pub const STEPS: [(&[u8], &[u8], u32, u32, &[u8]); 3] = [
         b" bound 64 moves 0 words 0\n",
     ),
     (
+        &[],
         b"heap 3 512 1 8\nm 1 176\nm 2 176\nm 3 176\nz 1 504\nq 1\nq 3\nwalk\nsteps\n",
         b"ok\nok\nok\nok\nok\nat 128\nat 0\nclass 23 slots 2 live 2 pages 1 notfull 0\nclass 64 slots 1 live 1 pages 1 notfull 0\ntotal live 3 pages 2 free 1\nsteps last ",
         23,
         352,
         b" bound 352 moves 1 words 23\n",
+    ),
+    (
+        &["--manager", "nm"],
+        b"heap 2 512 1 8\nm 1 176\nm 2 176\nm 3 176\nm 4 176\nm 5 176\nb 2 0\nf 1\nf 3\nq 2\nb 2 0\np 64\nsteps\nm 6 504\nb 6 6\nb 6 16\n",
+        b"ok\nok\nok\nok\nok\nrefused space\nblock 6\nok\nok\nat 64\nblock 6\n000000b000000001\nsteps last ",
+        24,
+        144,
+        b" bound 144 moves 1 words 24\nok\nblock 16\nrange\n",
     ),
 ];
