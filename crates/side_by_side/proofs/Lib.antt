@@ -7,3 +7,6 @@ pub mod Oks
 pub mod Unzipping
 pub mod Standing
 pub mod Outcomes
+pub mod FirstLemmas
+pub mod Fresh
+pub mod CallerLemmas

@@ -40,6 +40,10 @@ pub record AreFresh (count : ℕ) (sessions : List SessionState) : Type 0 where
   pub many : length sessions ≡ count
   pub fresh : All (λ s. s ≡ fresh_session) sessions
 
+-- managers, each with a session that was just begun
+abbrev pub fresh_many : List HeapState → Many
+fresh_many heaps = many_at (map (λ h. fresh_session) heaps) heaps
+
 -- each manager has a session, which was just begun
 pub record IsEachFresh (m : Many) : Type 0 where
   pub count : length m.sessions ≡ length m.heaps

@@ -2,9 +2,11 @@
 #![tactic(auto)]
 
 mod each;
+mod first;
 mod laws;
 mod telling;
 mod turning;
 
 pub use each::Sessions;
+pub use first::first_of;
 pub use laws::{a_cut_stops_between_two_managers, each_has_its_own_run, outcomes_are_of_each};
