@@ -20,7 +20,7 @@ use Rattle.page_slots.specs.Tables.{Tables, AreOthers, AreTables, IsOf, IsPageOf
 use Rattle.page_slots.specs.Taking.{TakesAt, TakesSlot}
 use Rattle.page_slots.specs.Freeing.{FillsFrom, IsFiller, MovesObject, Vacates}
 use Rattle.page_slots.specs.Occupying.{Occupies, Tell, TellPart, class_table}
-use Rattle.page_slots.proofs.Pages.{listed_page, of_list, placed_in}
+use Rattle.page_slots.proofs.Pages.{free_page, listed_page, of_list, placed_in}
 use Rattle.page_slots.proofs.TablesAfterTake.{Gains, front_listed, gains_whole, taken_gains}
 use Rattle.page_slots.proofs.TablesAfterFree.{Loses, loses, loses_whole}
 use Rattle.page_slots.proofs.Occupied.{free_bare, occupied_renamed, stands_at}
@@ -241,17 +241,17 @@ module _ (k : ClassTable) (old new : Tables) (kept : AreTables k new) (pages : n
   pub others_elsewhere : AreOthers new others
   others_elsewhere c page w h = keeps.still page (of_others c page w h)
 
-  unlisted : (page : ℕ) → IsPlaced k before page → ((c : ℕ) (w : Which) → ¬ Contains (pages_in others c w) page) → IsPlaced k after page
-  unlisted page _ none = by_pool (is_in_pool new.pool.free page) refl
+  unlisted : (page : ℕ) → page < new.pool.pages → ((c : ℕ) (w : Which) → ¬ Contains (pages_in others c w) page) → IsPlaced k after page
+  unlisted page within none = by_pool (is_in_pool new.pool.free page) refl
     where
       by_pool : (free : Bool) → is_in_pool new.pool.free page ≡ free → IsPlaced k after page
-      by_pool true e = inl (record { free = e; unlisted = none })
+      by_pool true e = inl (record { free = e; unlisted = none; unused = (free_page k new kept page within e).unused })
       by_pool false e = inr (inl (record { taken = e; unlisted = none }))
 
-  placed : (page : ℕ) → IsPlaced k before page → IsPlaced k after page
-  placed page (inl f) = unlisted page (inl f) f.unlisted
-  placed page (inr (inl e)) = unlisted page (inr (inl e)) e.unlisted
-  placed page (inr (inr (c, w, q))) =
+  placed : (page : ℕ) → page < new.pool.pages → IsPlaced k before page → IsPlaced k after page
+  placed page within (inl f) = unlisted page within f.unlisted
+  placed page within (inr (inl e)) = unlisted page within e.unlisted
+  placed page within (inr (inr (c, w, q))) =
       let away = of_others c page w q.listed in
       let same : slots_on after page ≡ slots_on before page = keeps.slots page away in
       inr (inr (
@@ -275,7 +275,7 @@ module _ (k : ClassTable) (old new : Tables) (kept : AreTables k new) (pages : n
     classes = theirs.classes;
     pool = kept.pool;
     lists = theirs.lists;
-    placed = λ page lt. placed page (theirs.placed page (omega arith));
+    placed = λ page lt. placed page lt (theirs.placed page (omega arith));
   }
 
   others_slots : (c page : ℕ) → IsOf (tables old.maps others old.pool) c page → slots_on new page ≡ slots_on old page

@@ -117,6 +117,9 @@ module _ (k : ClassTable) (t : Tables) (a : AreTables k t) where
     pub pool_unlisted : IsUnlisted t.lists page
     pool_unlisted = ((pool_front k t a page pool f).1).unlisted
 
+    pub pool_unused : (d : List Bool) → used_in (get_or t.maps page d) ≡ 0
+    pool_unused d = ap used_in (get_or_default t.maps page d [] pool_inside) ∙ ((pool_front k t a page pool f).1).unused
+
     -- its first slot was taken
     pub took_free : (c n : ℕ) (map fresh : List Bool) (lists : PageLists) → pages_in t.lists c NotFull ≡ [] → n ≡ slots_in k c
         → fresh ≡ replicate n false → map ≡ set fresh 0 true

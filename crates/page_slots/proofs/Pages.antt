@@ -9,7 +9,7 @@ use Rattle.class_lists.specs.declared.Which.{Which}
 use Rattle.class_lists.specs.declared.Which.TheVariants.{Full, NotFull}
 use Rattle.class_lists.specs.PageLists.{AreApart, pages_in}
 use Rattle.page_pool.specs.Pool.{IsPool, is_in_pool}
-use Rattle.page_slots.specs.Tables.{Tables, AreTables, IsOf, IsPlaced, IsPageOf, IsFreePage, IsElsewhere, NoneElsewhere, KeepsElsewhere, slots_in, slots_on}
+use Rattle.page_slots.specs.Tables.{Tables, AreTables, IsOf, IsPlaced, IsPageOf, IsFreePage, IsElsewhere, NoneElsewhere, KeepsElsewhere, slots_in, slots_on, used_in}
 
 -- a page is as it was
 pub record IsSame (old new : Tables) (g : ℕ) : Type 0 where
@@ -62,7 +62,11 @@ of_not_elsewhere t c page (inl h) e = e.unlisted c Full h
 of_not_elsewhere t c page (inr h) e = e.unlisted c NotFull h
 
 pub same_placed : (k : ClassTable) (old new : Tables) (g : ℕ) → IsSame old new g → IsPlaced k old g → IsPlaced k new g
-same_placed k old new g s (inl f) = inl (record { free = s.free ∙ f.free; unlisted = λ d v h. f.unlisted d v (s.stays d v h) })
+same_placed k old new g s (inl f) = inl (record {
+  free = s.free ∙ f.free;
+  unlisted = λ d v h. f.unlisted d v (s.stays d v h);
+  unused = ap used_in s.slots ∙ f.unused;
+})
 same_placed k old new g s (inr (inl e)) = inr (inl (same_elsewhere old new g s e))
 same_placed k old new g s (inr (inr (c, w, p))) =
     let e = sym s.slots in

@@ -1,5 +1,5 @@
 -- The tables of a heap without objects: all pages are free.
-use Rattle.std.proofs.Common.{◌≡◌, ℕ, zero, suc, Bool, true, ◌+◌, ◌*◌, ◌^◌, ◌<◌, ◌≤◌, List, [], ◌∷◌, length, replicate, Some, None, arith, refl, sym, ◌∙◌, ap}
+use Rattle.std.proofs.Common.{◌≡◌, ℕ, zero, suc, Bool, true, ◌+◌, ◌*◌, ◌^◌, ◌<◌, ◌≤◌, List, [], ◌∷◌, length, get_or, replicate, Some, None, arith, refl, sym, ◌∙◌, ap}
 use Rattle.std.proofs.Common.{subst, inl, inr}
 use Rattle.std.specs.Prelude.{IsTrue, nat_eq}
 use Rattle.std.specs.List.{Contains, IsDistinct, range_with_len}
@@ -20,7 +20,7 @@ use Rattle.page_pool.specs.Pool.{Pool, is_in_pool}
 use Rattle.page_pool.proofs.CallerLemmas.{pooled_range}
 use Rattle.page_model.specs.Held.{Placed}
 use Rattle.page_model.specs.Paging.{Paging}
-use Rattle.page_slots.specs.Tables.{AreTables, IsOf, NoneElsewhere, tables}
+use Rattle.page_slots.specs.Tables.{AreTables, IsOf, NoneElsewhere, tables, used_in}
 use Rattle.page_slots.specs.Occupying.{Occupies}
 use Rattle.page_slots.proofs.Listing.{along}
 use Rattle.page_slots.proofs.Pages.{other_free}
@@ -61,11 +61,11 @@ module _ (classes pages : ℕ) where
   none_of maps pool c page (inl h) = none_listed c Full page h
   none_of maps pool c page (inr h) = none_listed c NotFull page h
 
-  -- the tables at the start, whatever the maps of the free pages are
+  -- the tables at the start, whatever slots the free pages had, none of them used
   pub first_tables : (k : ClassTable) (maps : List (List Bool)) → IsClassTable k.page_words k.sizes → pages * k.page_words < 2 ^ 32
-      → length maps ≡ pages → classes ≡ length k.sizes
+      → length maps ≡ pages → ((page : ℕ) → used_in (get_or maps page []) ≡ 0) → classes ≡ length k.sizes
       → AreTables k (tables maps (empty_lists classes pages) (record { pages = pages; free = range_with_len 0 pages }))
-  first_tables k maps table small long all = record {
+  first_tables k maps table small long unused all = record {
     table = table;
     small = small;
     maps = long;
@@ -73,7 +73,7 @@ module _ (classes pages : ℕ) where
     classes = all;
     pool = pooled_range pages;
     lists = apart;
-    placed = λ page lt. inl (record { free = range_has 0 pages page (omega arith) (omega arith); unlisted = λ c w. none_listed c w page });
+    placed = λ page lt. inl (record { free = range_has 0 pages page (omega arith) (omega arith); unlisted = λ c w. none_listed c w page; unused = unused page });
   }
 
   pub first_whole : (maps : List (List Bool)) → NoneElsewhere (tables maps (empty_lists classes pages) (record { pages = pages; free = range_with_len 0 pages }))

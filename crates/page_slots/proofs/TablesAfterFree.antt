@@ -81,6 +81,7 @@ module _ (k : ClassTable) (old : Tables) (a : AreTables k old) (c page slot : �
       record {
         free = ap (λ (p : Pool). is_in_pool p.free page) (v.returned is) ∙ free_head page old.pool.free;
         unlisted = left_unlisted _ c v.which page _ (v.emptied is) a.lists v.listed;
+        unused = is;
       },
       is,
     );

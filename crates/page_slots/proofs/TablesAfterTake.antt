@@ -30,7 +30,7 @@ front_listed (x ∷ xs) page e =
 pub free_head : (page : ℕ) (free : List ℕ) → is_in_pool (page ∷ free) page ≡ true
 free_head page free = (let e = eq-eqb page page refl in rw e)
 
-first_of : (n : ℕ) → 1 ≤ n → slice_get (replicate n false) 0 ≡ Some false
+pub first_of : (n : ℕ) → 1 ≤ n → slice_get (replicate n false) 0 ≡ Some false
 first_of zero h = absurd (omega arith)
 first_of (suc n) h = refl
 

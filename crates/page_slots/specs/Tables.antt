@@ -55,10 +55,11 @@ abbrev pub HasUsed : Which → ℕ → ℕ → Type 0
 HasUsed Full used n = used ≡ n
 HasUsed NotFull used n = (0 < used) × (used < n)
 
--- the page is free, and of no class
+-- the page is free, and of no class, and no slot that it had is used
 pub record IsFreePage (t : Tables) (page : ℕ) : Type 0 where
   pub free : is_in_pool t.pool.free page ≡ true
   pub unlisted : IsUnlisted t.lists page
+  pub unused : used_in (slots_on t page) ≡ 0
 
 -- the page stands in that list of class c, with its slots, and as many of them are used as the list says
 pub record IsPageOf (k : ClassTable) (t : Tables) (page c : ℕ) (which : Which) : Type 0 where

@@ -8,7 +8,7 @@ ghost use Rattle.size_classes.specs.Table.{IsClassTable};
 ghost use Rattle.page_slots.specs.Tables.{AreTables, IsUsed, KeepsElsewhere, page_at, slot_at, tables, used_in};
 ghost use Rattle.page_slots.specs.Freeing.{FillsFrom, HasUsedSlot, IsFiller, MovesObject, OpensPage, Vacates};
 
-use crate::place::{address_of, page_of, slot_of};
+use crate::place::{address_of, slot_of};
 use class_lists::{ClassLists, Which};
 use page_pool::PagePool;
 use size_classes::Classes;
@@ -33,7 +33,7 @@ pub fn must_move(
         (length (pages_in lists.now c Which.NotFull)) bound }
     ensures steps { RoseBy steps.old steps.new 1 }
 {
-    let map = &maps[page_of(classes, at) as usize];
+    let map = &maps[classes.page_of(at) as usize];
     let used = map.count(steps);
     used == map.len() && used > 1 && lists.len(c, Which::NotFull) == bound
 }
@@ -58,7 +58,7 @@ pub fn drop_slot(
     ensures kept { AreTables classes.now (tables maps.new lists.new pool.new) }
     ensures steps { RoseAtMost steps.old steps.new 18 }
 {
-    let page = page_of(classes, at);
+    let page = classes.page_of(at);
     let slot = slot_of(classes, c, at);
     let which = list_of(&maps[page as usize], steps);
     vacate(maps, lists, pool, c, which, page, slot, steps);

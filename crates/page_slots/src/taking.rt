@@ -90,13 +90,13 @@ fn take_on_free_page(
         (tables maps.new lists.new pool.new) }
     ensures others { KeepsElsewhere (tables maps.old lists.old pool.old) (tables maps.new lists.new pool.new) }
     ensures kept { AreTables classes.now (tables maps.new lists.new pool.new) }
-    ensures steps { RoseAtMost steps.old steps.new 13 }
+    ensures steps { RoseAtMost steps.old steps.new 15 }
 {
     let page = pool.take(steps)?;
     let slots = classes.slots(c);
-    let mut map = SlotMap::new(slots);
+    let map = &mut maps[page as usize];
+    map.renew(slots, steps);
     map.set(0, steps);
-    maps[page as usize] = map;
     join_with_one(lists, c, page, slots, steps);
     Some(address_of(classes, c, page, 0))
 }

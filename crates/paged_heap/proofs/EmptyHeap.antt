@@ -1,8 +1,9 @@
 -- An open heap without objects.
-use Rattle.std.proofs.Common.{◌≡◌, ℕ, ◌*◌, ◌<◌, ◌≤◌, List, length, take, replicate, get_or, arith, sym, ◌∙◌, ap, subst}
+use Rattle.std.proofs.Common.{◌≡◌, ℕ, Bool, false, ◌*◌, ◌<◌, ◌≤◌, inl, inr, List, [], length, take, replicate, get_or, arith, sym, ◌∙◌, ap, subst}
 use Rattle.std.specs.Prelude.{sum_by}
 use Rattle.std.specs.List.{range_with_len}
-use Rattle.std.proofs.lemmas.List.{get_or-replicate, length-replicate, take-replicate}
+use Rattle.std.proofs.lemmas.Bool.{cases_lt}
+use Rattle.std.proofs.lemmas.List.{get_or-replicate, get_or_past, length-replicate, take-replicate}
 use Rattle.std.specs.FinMap.{empty}
 use Rattle.cf_base.specs.Classes.{sizes}
 use Rattle.cf_base.proofs.CallerLemmas.{are_sizes, page_size}
@@ -18,7 +19,7 @@ use Rattle.size_classes.specs.Table.{ClassTable, IsClassTable, table_of}
 use Rattle.class_lists.specs.PageLists.{empty_lists}
 use Rattle.page_pool.specs.Pool.{Pool}
 use Rattle.proxy_table.specs.Proxies.{Proxies, AreBelowLimit, no_proxies}
-use Rattle.page_slots.specs.Tables.{AreTables, NoneElsewhere, tables}
+use Rattle.page_slots.specs.Tables.{AreTables, NoneElsewhere, tables, used_in}
 use Rattle.page_slots.specs.Occupying.{Occupies, Tell, class_table}
 use Rattle.page_slots.proofs.CallerLemmas.{first_occupied, first_tables, first_whole}
 use Rattle.cf_base.specs.Settings.{profile_of}
@@ -59,7 +60,7 @@ pub record IsFirst (h : Heap) : Type 0 where
   pub framed : IsFramed h.kind h
   pub frames : h.frames ≡ opening_frames h.kind (profile_of h.settings)
   pub words : h.words ≡ replicate (h.settings.pages * h.settings.page_words) 0
-  pub maps : length h.maps ≡ h.settings.pages
+  pub maps : h.maps ≡ replicate h.settings.pages (replicate 1 false)
   pub lists : h.lists ≡ empty_lists (length h.classes.sizes) h.settings.pages
   pub pool : h.pool ≡ record { pages = h.settings.pages; free = range_with_len 0 h.settings.pages }
   pub proxies : h.proxies ≡ no_proxies h.settings.proxies
@@ -88,6 +89,13 @@ module _ (h : Heap) (f : IsFirst h) where
     whole = subst NoneElsewhere (sym tables_are) (first_whole (length h.classes.sizes) h.settings.pages h.maps);
   }
     where
+      unused : (page : ℕ) → used_in (get_or h.maps page []) ≡ 0
+      unused page = ap (λ (maps : List (List Bool)). used_in (get_or maps page [])) f.maps ∙ elim (cases_lt page h.settings.pages) [
+        | inl lt ↦ ap used_in (get_or-replicate h.settings.pages page (replicate 1 false) [] lt)
+        | inr past ↦ ap used_in (get_or_past (replicate h.settings.pages (replicate 1 false)) page []
+            (let e = length-replicate h.settings.pages (replicate 1 false) in omega arith))
+      ]
+
       told : AreTables (class_table (paging_at h)) (tables_in h)
       told =
           let small = h.settings.small_region in
@@ -96,7 +104,8 @@ module _ (h : Heap) (f : IsFirst h) where
             are_sizes = are_sizes h.settings.page_words (layout_of h.kind) h.settings.page_size;
             small = (page_size h.settings.page_words h.settings.page_size).small;
           } in
-          let all = first_tables (length h.classes.sizes) h.settings.pages (class_table (paging_at h)) h.maps t (omega arith) f.maps many in
+          let long : length h.maps ≡ h.settings.pages = ap length f.maps ∙ length-replicate h.settings.pages (replicate 1 false) in
+          let all = first_tables (length h.classes.sizes) h.settings.pages (class_table (paging_at h)) h.maps t (omega arith) long unused many in
           let l = subst (λ l. AreTables (class_table (paging_at h))
           (tables h.maps l (record { pages = h.settings.pages; free = range_with_len 0 h.settings.pages }))) (sym f.lists) all in
           subst (λ q. AreTables (class_table (paging_at h)) (tables h.maps h.lists q)) (sym f.pool) l

@@ -1,5 +1,5 @@
 //! An open heap: its tables, and the words of its region.
-ghost use Rattle.std.specs.Prelude.{◌≡◌, ◌*◌, length, replicate, IfOk};
+ghost use Rattle.std.specs.Prelude.{◌≡◌, ◌*◌, false, length, replicate, IfOk};
 ghost use Rattle.std.specs.List.{range_with_len};
 ghost use Rattle.cf_base.specs.declared.kind.Layout.{Layout};
 ghost use Rattle.cf_model.specs.State.{layout_of};
@@ -81,7 +81,7 @@ impl OpenHeap {
         requires classes { classes ≡ table_of s.now.page_words (layout_of A.kind) }
         requires region { region ≡ replicate (s.now.pages * s.now.page_words) 0 }
         requires blocks { IsFirstTable A.kind s.now blocks }
-        requires maps { length maps.items ≡ s.now.pages }
+        requires maps { maps.items ≡ replicate s.now.pages (replicate 1 false) }
         requires lists { lists ≡ empty_lists (length classes.sizes) s.now.pages }
         requires pool { pool ≡ record { pages = s.now.pages; free = range_with_len 0 s.now.pages } }
         requires proxies { proxies ≡ no_proxies s.now.proxies }
@@ -109,7 +109,7 @@ impl OpenHeap {
 
 /// So many maps, for pages that are free.
 fn free_maps(alloc: Global, pages: u32) -> Result<Vec<SlotMap>, OutOfMemory>
-    ensures { IfOk result (λ maps. length maps.items ≡ pages) }
+    ensures { IfOk result (λ maps. maps.items ≡ replicate pages (replicate 1 false)) }
 {
     match maps_of_one(alloc, pages) {
         Ok(maps) => Ok(maps),
@@ -119,7 +119,7 @@ fn free_maps(alloc: Global, pages: u32) -> Result<Vec<SlotMap>, OutOfMemory>
 
 /// So many maps of one slot.
 fn maps_of_one(alloc: Global, n: u32) -> Result<Vec<SlotMap>, AllocError>
-    ensures { IfOk result (λ maps. length maps.items ≡ n) }
+    ensures { IfOk result (λ maps. maps.items ≡ replicate n (replicate 1 false)) }
 {
     let mut maps = Vec::with_capacity(alloc, n as usize)?;
     for _i in 0..n {

@@ -1,11 +1,11 @@
 //! The table of size classes.
-ghost use Rattle.std.specs.Prelude.{◌≡◌, ◌↔◌, ◌<◌, ◌≤◌, IsTrue, IsNone, IfOk, IfSome, length, slice_index};
+ghost use Rattle.std.specs.Prelude.{◌≡◌, ◌↔◌, ◌/◌, ◌%◌, ◌<◌, ◌≤◌, IsTrue, IsNone, IfOk, IfSome, length, slice_index};
 ghost use Rattle.step_ledger.specs.Counting.{RoseBetween};
 ghost use Rattle.cf_base.specs.Classes.{need, slots, class_of};
 ghost use Rattle.cf_base.specs.Limits.{is_page_size};
 ghost use Rattle.size_classes.specs.Table.{table_of};
 
-use crate::search::least_at_least;
+use crate::needs::classes_by_need;
 use cf_base::{Layout, OutOfMemory, need_of, slot_sizes};
 use std::alloc::Global;
 use std::marker::Model;
@@ -16,31 +16,42 @@ use step_ledger::Steps;
 #[derive(Drop)]
 pub struct Classes {
     sizes: Vec<u32>,
+    // For each need of at most a page its class.
+    by_need: Vec<u8>,
     page_words: u32,
+    // A page has two to this power of words.
+    page_shift: u32,
 }
 
 impl Model for Classes {
-    ghost use Rattle.std.specs.Prelude.{◌≤◌};
-    ghost use Rattle.cf_base.specs.Rising.{AreSizes};
-    ghost use Rattle.size_classes.specs.Table.{ClassTable, IsClassTable};
+    ghost use Rattle.size_classes.specs.Table.{ClassTable};
+    ghost use Rattle.size_classes.specs.Layout.{IsValid};
 
     ghost Value = { ClassTable };
 
     ghost view = { λ c. record { page_words = c.page_words; sizes = c.sizes.items } };
 
-    ghost invariant = { λ c. IsClassTable c.page_words c.sizes.items };
+    ghost invariant = { λ c. IsValid c.page_words c.sizes.items c.by_need.items c.page_shift };
 }
 
 impl Classes {
-    /// The classes of pages with `page_words` words, by one of the two sequences.
+    /// The classes of pages with `page_words` words, by one of the two sequences. It alone takes memory.
     pub fn new(alloc: Global, page_words: u32, layout: Layout) -> Result<Classes, OutOfMemory>
         requires { IsTrue (is_page_size page_words) }
         ensures { IfOk result (λ t. t ≡ table_of page_words layout) }
     {
-        match slot_sizes(alloc, page_words, layout) {
-            Ok(sizes) => Ok(Classes { sizes, page_words }),
-            Err(_) => Err(OutOfMemory),
-        }
+        let Ok(sizes) = slot_sizes(alloc, page_words, layout) else {
+            return Err(OutOfMemory);
+        };
+        let Ok(by_need) = classes_by_need(alloc, &sizes, page_words) else {
+            return Err(OutOfMemory);
+        };
+        Ok(Classes {
+            sizes,
+            by_need,
+            page_words,
+            page_shift: page_words.trailing_zeros(),
+        })
     }
 
     /// The number of classes, at most 67.
@@ -70,6 +81,27 @@ impl Classes {
         self.page_words / self.slot_words(c)
     }
 
+    /// The words of a page.
+    pub fn page_words(&self) -> u32
+        ensures { result ≡ self.now.page_words }
+    {
+        self.page_words
+    }
+
+    /// The page of an address.
+    pub fn page_of(&self, address: u32) -> u32
+        ensures { result ≡ address / self.now.page_words }
+    {
+        address >> self.page_shift
+    }
+
+    /// How many words an address is into its page.
+    pub fn offset_of(&self, address: u32) -> u32
+        ensures { result ≡ address % self.now.page_words }
+    {
+        address & (self.page_words - 1)
+    }
+
     /// The least class that holds an object of `bytes` bytes; none where it needs more than a page.
     pub fn class_of(&self, bytes: u32, steps: &mut Steps) -> Option<u32>
         ensures found { result ≡ class_of self.now.sizes bytes }
@@ -78,11 +110,11 @@ impl Classes {
         ensures steps { RoseBetween steps.old steps.new 1 8 }
     {
         let words = need_of(bytes);
-        steps.tick(1);
+        steps.tick(2); // the page, and the entry
         if words > self.page_words {
             return None;
         }
-        Some(least_at_least(&self.sizes, words, steps))
+        Some(u32::from(self.by_need[words as usize]))
     }
 }
 

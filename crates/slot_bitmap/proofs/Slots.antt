@@ -1,17 +1,18 @@
 -- Slots in words of 64 bits: what a write of one bit changes, and what the summaries say.
 use Rattle.std.proofs.Common.{◌≡◌, ◌≢◌, ℕ, ◌+◌, ◌-◌, ◌*◌, ◌/◌, ◌%◌, ◌^◌, ◌<◌, ◌≤◌, ◌==◌, Bool, true, false, cond, not, List, length, get_or, set, replicate}
-use Rattle.std.proofs.Common.{Some, None, arith, refl, ap, sym, ◌∙◌, inl, inr}
+use Rattle.std.proofs.Common.{Some, None, arith, refl, ap, sym, ◌∙◌, inl, inr, w64}
 use Rattle.std.specs.Prelude.{slice_get}
-use Rattle.std.specs.Int.{bit_at, div_ceil}
+use Rattle.std.specs.Int.{bit_at, div_ceil, trailing_zeros}
 use Rattle.std.specs.List.{position, count_by}
 use Rattle.std.proofs.lemmas.Bool.{cases_eq, cases_lt, eq-eqb, ne_eqb, not-true}
+use Rattle.std.proofs.lemmas.Grind.{same_number_lists}
 use Rattle.std.proofs.lemmas.List.{same_lists, length-set, length-replicate, get_or-replicate, get_or_past, get_or-set_same, get_or-set_other}
 use Rattle.std.proofs.lemmas.List.FromFn.{length-map-range_with_len, get_or-map-range_with_len}
 use Rattle.std.proofs.lemmas.List.Sums.{count_by-le-length}
 use Rattle.std.proofs.lemmas.Nat.{pow_pos, pow_below}
 use Rattle.std.proofs.lemmas.List.Quantifiers.{position-Some}
 use Rattle.std.proofs.Math.Pow.{pow_mono}
-use Rattle.std.proofs.lemmas.Nat.Bits.{bit_at-zero, bit_at_ones, bit_at_above, bit_at_ones_above, same_from_bits_below}
+use Rattle.std.proofs.lemmas.Nat.Bits.{bit_at-zero, bit_at-trailing_zeros, bit_at_ones, bit_at_above, bit_at_ones_above, same_from_bits_below}
 use Rattle.std.proofs.lemmas.Option.{slice_get_within, slice_get-get_or}
 use Rattle.cf_lemmas.proofs.Positions.{position_is, position_none}
 use Rattle.slot_bitmap.proofs.CallerLemmas.{counted_set, count-replicate}
@@ -87,6 +88,35 @@ tidy_new n full few is = record {
   some_used = λ j _. rw (cleared-at j, bit_at-zero) refl;
   counted = rw (slots_of-cleared n) (sym (count-replicate n));
 }
+
+-- where no slot is used, no word has a bit
+module _ (words : List ℕ) (f u n c : ℕ) (count : length words ≡ 64) (tidy : IsValid words f u n c) (none : count_by (λ u. u) (slots_told words n) ≡ 0) where
+  word_clear : (j : ℕ) → j < 64 → get_or words j 0 ≡ 0
+  word_clear j short = elim (cases_eq (get_or words j 0) 0) [
+    | inl e ↦ e
+    | inr ne ↦ (
+        let few = tidy.few in
+        let clean = tidy.clean j short in
+        let low = bit_at-trailing_zeros w64 (get_or words j 0) (omega arith)
+        (omega (arith, clean, pow_mono {i = bits_in n j} {j = 64} (omega arith))) in
+        let b = trailing_zeros w64 (get_or words j 0) in
+        let inside : b < bits_in n j = elim (cases_lt b (bits_in n j))
+        [ inl lt ↦ lt | inr ge ↦ absurd (omega (arith, bit_at_above (get_or words j 0) (bits_in n j) b clean ge, low.1)) ] in
+        let row : (64 * j + b) / 64 ≡ j = omega arith in
+        let column : (64 * j + b) % 64 ≡ b = omega arith in
+        let on : slice_get (slots_told words n) (64 * j + b) ≡ Some true = slot_told words n (64 * j + b) true (omega arith) (rw (row, column) low.1) in
+        absurd (omega (arith, counted_set (slots_told words n) (64 * j + b) true false on)))
+  ]
+
+  pub all_clear : words ≡ cleared
+  all_clear = same_number_lists words cleared (count ∙ sym (length-replicate {A = ℕ} 64 0)) (λ j h. word_clear j (omega arith) ∙ sym (cleared-at j))
+
+  pub unused_count : c ≡ 0
+  unused_count = tidy.counted ∙ none
+
+  pub none_with_used : u < 2 ^ 64 → u ≡ 0
+  none_with_used fits = same_from_bits_below 64 u 0 fits (omega arith) (λ j short.
+      rw (tidy.some_used j short, word_clear j short, bit_at-zero) refl)
 
 -- ---- one slot is written
 

@@ -48,6 +48,19 @@ impl SlotMap {
         }
     }
 
+    /// Makes it a map of so many slots, all free. None of those that it had may be used.
+    pub fn renew(&mut self, slots: u32, steps: &mut Steps)
+        requires some { 1 ≤ slots }
+        requires few { slots ≤ 4096 }
+        requires unused { count_by (λ used. used) self.old ≡ 0 }
+        ensures value { self.new ≡ replicate slots false }
+        ensures steps { RoseBy steps.old steps.new 2 }
+    {
+        steps.tick(2); // the number of slots, and the summary of the free ones
+        self.slots = slots;
+        self.with_free = bits::ones(slots.div_ceil(64));
+    }
+
     /// The number of slots.
     pub fn len(&self) -> u32
         ensures { result ≡ length self.now }

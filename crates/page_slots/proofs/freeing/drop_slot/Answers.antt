@@ -5,8 +5,8 @@ use Rattle.page_slots.proofs.Calls.{of_class, of_lists_class, of_taken, of_liste
 use Rattle.page_slots.proofs.TablesAfterFree.{loses, loses_others}
 use Rattle.page_slots.proofs.freeing.drop_slot.Goals as goal
 
-pub slot_of-slot-requires-clause-class : goal.slot_of-slot-requires-clause-class
-slot_of-slot-requires-clause-class c = of_class _ _ c.requires.tables _ _ c.requires.used.of
+pub slot_of-slot-requires : goal.slot_of-slot-requires
+slot_of-slot-requires c = of_class _ _ c.requires.tables _ _ c.requires.used.of
 
 pub vacate-requires-clause-class : goal.vacate-requires-clause-class
 vacate-requires-clause-class c = of_lists_class _ _ c.requires.tables _ _ c.requires.used.of

@@ -1,11 +1,18 @@
 -- The first page of the pool is in no list.
-use Rattle.std.proofs.Common.{refl, inr}
-use Rattle.page_slots.proofs.Calls.{pool_inside, pool_small, pool_listable, pool_unlisted, took_free}
-use Rattle.page_slots.proofs.TablesAfterTake.{taken_gains, taken_others}
+use Rattle.std.proofs.Common.{refl, inr, ◌∙◌, ap}
+use Rattle.std.specs.Prelude.{slice_get}
+use Rattle.page_slots.proofs.Calls.{pool_inside, pool_small, pool_listable, pool_unlisted, pool_unused, took_free}
+use Rattle.page_slots.proofs.TablesAfterTake.{first_of, taken_gains, taken_others}
 use Rattle.page_slots.proofs.taking.take_on_free_page.Goals as goal
 
 pub bounds-maps-page : goal.bounds-maps-page
 bounds-maps-page c = pool_inside _ _ c.requires.tables _ _ c.in_ok-page.ensures.taken
+
+pub renew-requires-clause-unused : goal.renew-requires-clause-unused
+renew-requires-clause-unused c = pool_unused _ _ c.requires.tables _ _ c.in_ok-page.ensures.taken _
+
+pub set-requires : goal.set-requires
+set-requires c = ap (λ xs. slice_get xs 0) c.renew.ensures.value ∙ first_of c.slots-slots.result c.slots-slots.ensures.some
 
 pub join_with_one-requires-clause-page : goal.join_with_one-requires-clause-page
 join_with_one-requires-clause-page c = pool_listable _ _ c.requires.tables _ _ c.in_ok-page.ensures.taken
@@ -24,8 +31,8 @@ returns-clause-taken c = record {
   taken = inr (
     refl,
     took_free _ _ c.requires.tables c.in_ok-page.page c.take.new.self c.in_ok-page.ensures.taken c.args.c c.slots-slots.result c.set.new.self
-        c.new-map.result c.join_with_one.new.lists
-        c.requires.none c.slots-slots.ensures.value c.new-map.ensures c.set.ensures.value c.join_with_one.ensures.filled c.join_with_one.ensures.not_filled,
+        c.renew.new.self c.join_with_one.new.lists
+        c.requires.none c.slots-slots.ensures.value c.renew.ensures.value c.set.ensures.value c.join_with_one.ensures.filled c.join_with_one.ensures.not_filled,
   );
 }
 

@@ -1,0 +1,27 @@
+//! The class of each need, counted out once.
+ghost use Rattle.std.specs.Prelude.{IfOk};
+ghost use Rattle.size_classes.specs.Table.{IsClassTable};
+ghost use Rattle.size_classes.specs.Layout.{TellsClasses};
+
+use std::alloc::{AllocError, Global};
+
+/// For each need of at most a page the place of the least of these sizes that is at least as large.
+pub(crate) fn classes_by_need(
+    alloc: Global,
+    sizes: &[u32],
+    page_words: u32,
+) -> Result<Vec<u8>, AllocError>
+    requires { IsClassTable page_words sizes.now }
+    ensures { IfOk result (λ v. TellsClasses page_words sizes.now v.items) }
+{
+    let mut by_need = Vec::with_capacity(alloc, page_words as usize + 1)?;
+    let mut class = 0u8;
+    'needs: for need in 0..page_words + 1 {
+        // The sizes rise, so the next one is large enough.
+        if sizes[class as usize] < need {
+            class += 1;
+        }
+        by_need.push(class)?;
+    }
+    Ok(by_need)
+}
