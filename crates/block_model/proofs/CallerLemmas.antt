@@ -7,3 +7,4 @@ pub use Rattle.block_model.proofs.Rewriting.{refilled, refilled_long, refilled_o
 pub use Rattle.block_model.proofs.Serving.{carved_or_lacking}
 pub use Rattle.block_model.proofs.Steps.{malloc_keeps_tiling}
 pub use Rattle.block_model.proofs.TilingWords.{made}
+pub use Rattle.block_model.proofs.UsedWords.{used_after_free, used_after_malloc, used_in_one_free, used_within}

@@ -8,4 +8,5 @@ pub mod TilingWords
 pub mod ReadBlocks
 pub mod Rewriting
 pub mod Serving
+pub mod UsedWords
 pub mod CallerLemmas

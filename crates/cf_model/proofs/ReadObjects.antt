@@ -65,7 +65,8 @@ take_zeros zero n = refl
 take_zeros (suc m) zero = refl
 take_zeros (suc m) (suc n) = rw (take_zeros m n) refl
 
-fresh_word : (h n i : ℕ) → object_word h (replicate n 0) (suc i) ≡ 0
+-- words after the header of an object of zeros
+pub fresh_word : (h n i : ℕ) → object_word h (replicate n 0) (suc i) ≡ 0
 fresh_word h n i = ap (λ xs. word_of_bytes (take 8 xs)) (drop-replicate (8 * i) n 0) ∙ take_zeros 8 (n - 8 * i)
 
 same_content : (m : Held) (h q i : ℕ) (x : Placed) → q ≢ h → content_word (insert m h x) q i ≡ content_word m q i

@@ -1,0 +1,39 @@
+//! The header of an object.
+#![tactic(auto)]
+
+ghost use Rattle.std.specs.Prelude.{◌≡◌, ◌/◌, ◌%◌, ◌^◌};
+ghost use Rattle.page_model.specs.Image.{header_word};
+
+use cf_base::Handle;
+
+/// The values of half a word.
+const HALF: u64 = 1 << 32;
+
+/// What the first word of an object tells: its number, by which its proxy is found, in the low half,
+/// and its length in bytes in the high half.
+#[derive(Clone, Copy, Debug, PartialEq, Eq)]
+pub struct Header {
+    pub handle: Handle,
+    pub length: u32,
+}
+
+impl Header {
+    /// The word.
+    pub fn pack(self) -> u64
+        ensures { result ≡ header_word self.handle.0 self.length }
+    {
+        u64::from(self.handle.0) + u64::from(self.length) * HALF
+    }
+
+    /// What a word tells, which packs to that word.
+    pub fn unpack(word: u64) -> Header
+        ensures number { result.handle.0 ≡ word % 2 ^ 32 }
+        ensures length { result.length ≡ word / 2 ^ 32 }
+        ensures packed { header_word result.handle.0 result.length ≡ word }
+    {
+        Header {
+            handle: Handle((word % HALF) as u32),
+            length: (word / HALF) as u32,
+        }
+    }
+}

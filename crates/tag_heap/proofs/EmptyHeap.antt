@@ -1,0 +1,81 @@
+-- The heap that has no objects yet.
+use Rattle.std.proofs.Common.{◌≡◌, ℕ, ◌+◌, ◌*◌, ◌<◌, ◌≤◌, List, Option, Some, None, length, get_or, arith, refl, sym, ◌∙◌, ap, subst, inl, inr}
+use Rattle.std.proofs.lemmas.Bool.{cases_lt}
+use Rattle.std.proofs.lemmas.List.{get_or_past}
+use Rattle.std.specs.Ordering.{nat_cmp}
+use Rattle.std.specs.FinMap.{empty, get, get-empty}
+use Rattle.cf_lemmas.proofs.Values.{map_values-empty, no_values}
+use Rattle.cf_base.specs.Settings.{Profile, profile_of}
+use Rattle.cf_base.specs.declared.kind.Kind.{Kind}
+use Rattle.cf_base.specs.declared.kind.Kind.TheVariants.{Tlsf}
+use Rattle.cf_base.specs.declared.settings.Settings.{Settings}
+use Rattle.page_model.specs.Held.{Held, Placed, objects, places}
+use Rattle.page_model.specs.Figures.{asked_bytes}
+use Rattle.block_model.specs.Tiling.{Block, one_free_block, used_words}
+use Rattle.block_model.proofs.CallerLemmas.{used_in_one_free}
+use Rattle.proxy_table.specs.Proxies.{Proxies, AreBelowLimit, no_proxies}
+use Rattle.tag_blocks.specs.Blocks.{Tagged, AreTags}
+use Rattle.cf_model.specs.Families.{IsTiled}
+use Rattle.cf_model.specs.Rules.{KeepsRules, KeepsTiling}
+use Rattle.cf_model.specs.State.{HeapState}
+use Rattle.cf_model.specs.Steps.{IsEmptyHeap, IsOpeningWords, empty_heap}
+use Rattle.cf_model.proofs.CallerLemmas.{tiled_empty}
+use Rattle.tag_heap.specs.Heap.{Heap, IsValid, held_in, state_of}
+use Rattle.tag_heap.proofs.ByKind.{of_tiled}
+use Rattle.tag_heap.proofs.Preserved.{Becomes, becomes_rules, becomes_valid, held_is, in_range}
+
+nothing_asked : asked_bytes (objects empty) ≡ 0
+unfolding asked_bytes
+nothing_asked = rw (map_values-empty {Y = List ℕ} (λ (x : Placed). x.bytes), no_values {V = List ℕ}) refl
+
+no_object : (q : ℕ) (x : Placed) → get (empty {X = Placed} {R = nat_cmp}) q ≡ Some x → ⊥
+no_object q x e = (let g : Some x ≡ None = sym e ∙ get-empty nat_cmp q in cc)
+
+-- one free block, and no proxy in use
+module _ (s : Settings) (t : Tagged) (p : Proxies) (blocks : t.blocks ≡ one_free_block (s.pages * s.page_words)) (long : length t.words ≡ s.pages * s.page_words)
+    (tags : AreTags t) (none : p ≡ no_proxies s.proxies) (below : AreBelowLimit p) where
+  abbrev fresh : Heap
+  fresh = record { settings = s; tagged = t; proxies = p; asked = 0; used_words = 0; cost = 0 }
+
+  one : AreTags (record { words = t.words; blocks = one_free_block (s.pages * s.page_words) })
+  one = subst (λ bs. AreTags (record { words = t.words; blocks = bs })) blocks tags
+
+  header : get_or t.words 0 0 ≡ s.pages * s.page_words
+  header = (let e = one.headers.0 in omega arith)
+
+  zeros : (w : ℕ) → 2 ≤ w → get_or t.words w 0 ≡ 0
+  zeros w low = elim (cases_lt w (s.pages * s.page_words)) [
+    | inl lt ↦ (let e : 0 + w ≡ w = omega arith in
+        ap (λ i. get_or t.words i 0) (sym e) ∙ one.cleared 0 (record { address = 0; size = s.pages * s.page_words; owner = None }) refl refl w low lt)
+    | inr past ↦ get_or_past {X = ℕ} t.words w 0 (omega arith)
+  ]
+
+  tiling : KeepsTiling (empty_heap Tlsf (profile_of s) t.words)
+  tiling = (tiled_empty (profile_of s) (in_range s) t.words long header zeros Tlsf refl).of_kind
+
+  becomes : Becomes fresh empty
+  becomes = record {
+    tags = tags;
+    words_long = long;
+    places = ap (λ (x : Proxies). x.places) none ∙ sym (map_values-empty {Y = ℕ} (λ (x : Placed). x.place));
+    bytes = λ q x e. absurd (no_object q x e);
+    owned = rw blocks tiling.owned;
+    contents = rw blocks tiling.words;
+    numbers = ap (λ (x : Proxies). x.limit) none;
+    handles = below;
+    asked_all = sym nothing_asked;
+    used_all = rw blocks (sym (used_in_one_free (s.pages * s.page_words)));
+  }
+
+  pub fresh_valid : IsValid fresh
+  fresh_valid = becomes_valid fresh empty becomes
+
+  pub fresh_rules : (k : Kind) → IsTiled k → KeepsRules (state_of k fresh)
+  fresh_rules = becomes_rules fresh empty becomes
+
+  pub fresh_empty : (k : Kind) → IsTiled k → IsEmptyHeap k s (state_of k fresh)
+  fresh_empty k is = record {
+    words = of_tiled (λ k. IsOpeningWords k (profile_of s) t.words) tt tt k is;
+    whole = of_tiled (λ k. state_of k fresh ≡ empty_heap k (profile_of s) t.words)
+        (rw (held_is fresh empty becomes, blocks) refl) (rw (held_is fresh empty becomes, blocks) refl) k is;
+  }

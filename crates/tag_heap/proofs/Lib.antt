@@ -1,0 +1,9 @@
+pub mod ByKind
+pub mod Preserved
+pub mod EmptyHeap
+pub mod ReadLemmas
+pub mod PartLemmas
+pub mod WriteLemmas
+pub mod MallocLemmas
+pub mod FreeLemmas
+pub mod FigureLemmas

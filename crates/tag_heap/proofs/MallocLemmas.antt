@@ -1,0 +1,188 @@
+-- An object comes, in a block that was carved for it.
+use Rattle.std.proofs.Common.{◌≡◌, ◌≢◌, ℕ, zero, suc, ◌+◌, ◌*◌, ◌%◌, ◌/◌, ◌^◌, ◌<◌, ◌≤◌, Option, Some, None, length, replicate, arith, refl, sym, ◌∙◌, ap, subst, inl, inr}
+use Rattle.std.proofs.lemmas.Bool.{cases_eq}
+use Rattle.std.proofs.lemmas.List.{length-replicate}
+use Rattle.std.specs.Ordering.{nat_cmp}
+use Rattle.std.specs.FinMap.{FinMap, get, insert, remove, len}
+use Rattle.std.specs.Prelude.{option_map}
+use Rattle.cf_lemmas.proofs.Maps.{equal_maps, get_inserted, get_insert_other, get_removed, get_remove_other, some_inserted}
+use Rattle.cf_lemmas.proofs.MapValues.{get-map_values}
+use Rattle.cf_base.specs.Classes.{need}
+use Rattle.cf_base.specs.declared.kind.Kind.{Kind}
+use Rattle.page_model.specs.Held.{Held, Placed, objects}
+use Rattle.page_model.specs.Bytes.{AreBytes}
+use Rattle.page_model.specs.Figures.{asked_bytes}
+use Rattle.page_model.specs.Image.{header_word, object_word}
+use Rattle.page_model.specs.Steps.{zeros_at}
+use Rattle.page_model.proofs.CallerLemmas.{asked_added, malloc_objects, malloc_places, zeros_are_bytes}
+use Rattle.block_model.specs.Buckets.{FreeLists}
+use Rattle.block_model.specs.Tiling.{Block, Carves, Demand, IsCarvedTo, LacksBlock, block_at, block_need, size_at, used_words}
+use Rattle.block_model.specs.Words.{AreTilingWords}
+use Rattle.block_model.proofs.CallerLemmas.{used_after_malloc, used_within}
+use Rattle.proxy_table.specs.Proxies.{Proxies, AreBelowLimit, with_place, without_place}
+use Rattle.tag_blocks.specs.Blocks.{Tagged, AreTags, CarvesAt, demand, owner_of}
+use Rattle.tag_blocks.proofs.CallerLemmas.{carve_words}
+use Rattle.cf_model.specs.Families.{IsTiled, free_lists_of}
+use Rattle.cf_model.specs.Rules.{AreOwned, KeepsRules, content_word}
+use Rattle.cf_model.specs.Steps.{GivesObject, IsPlacedBy, LacksRoomIn, WantsProxy, WantsSpace}
+use Rattle.cf_model.proofs.CallerLemmas.{fresh_word, owned_malloc}
+use Rattle.tag_heap.specs.Heap.{Heap, IsValid, held_in, state_of}
+use Rattle.tag_heap.proofs.ByKind.{of_tiled}
+use Rattle.tag_heap.proofs.Preserved.{Becomes, are_bytes, becomes_rules, becomes_state, becomes_valid, held_many, no_place, places_are}
+
+-- a number that was bound and is given back leaves the addresses as they were
+pub given_back_places : (m : FinMap nat_cmp ℕ) (q a : ℕ) → get m q ≡ None → remove (insert m q a) q ≡ m
+given_back_places m q a none = equal_maps (remove (insert m q a) q) m (λ i. elim (cases_eq i q) [
+  | inl is ↦ rw is (get_removed (insert m q a) q ∙ sym none)
+  | inr other ↦ get_remove_other (insert m q a) q i other ∙ get_insert_other m q a i other
+])
+
+pub given_back : (p : Proxies) (q a : ℕ) → get p.places q ≡ None → without_place (with_place p q a) q ≡ p
+given_back p q a none = ap (λ m. record p { places = m }) (given_back_places p.places q a none)
+
+-- and one that is bound twice has its last address
+pub bound_again : (m : FinMap nat_cmp ℕ) (q a b : ℕ) → insert (insert m q a) q b ≡ insert m q b
+bound_again m q a b = equal_maps (insert (insert m q a) q b) (insert m q b) (λ i. elim (cases_eq i q) [
+  | inl is ↦ rw is (get_inserted (insert m q a) q b ∙ sym (get_inserted m q b))
+  | inr other ↦ get_insert_other (insert m q a) q b i other ∙ get_insert_other m q a i other ∙ sym (get_insert_other m q b i other)
+])
+
+no_one : {A : Type 0} (o : Option A) (x : A) → o ≡ None → o ≡ Some x → ⊥
+no_one o x e f = (let g : None ≡ Some x = sym e ∙ f in cc)
+
+-- the demand of an object's bytes under its header
+pub asked_for : (q n : ℕ) → q < 2 ^ 32 → demand (need n + 1) (header_word q n) ≡ record { need = block_need n; owner = q }
+asked_for q n few =
+    let size : need n + 1 ≡ block_need n = omega arith in
+    let owner : owner_of (header_word q n) ≡ q = omega arith in
+    ap (λ x. record { need = x; owner = owner_of (header_word q n) }) size ∙ ap (λ x. record { need = block_need n; owner = x }) owner
+
+module _ (rule : FreeLists) (h : Heap) (v : IsValid h) (q n a : ℕ) (fits : need n ≤ h.settings.page_words)
+    (unused : get h.proxies.places q ≡ None)
+    (few : q < h.proxies.limit) (some : len h.proxies.places ≢ h.proxies.limit) (t : Tagged)
+    (needed tag : ℕ) (needed_is : needed ≡ need n) (tag_is : tag ≡ header_word q n) (carve : CarvesAt rule h.tagged (needed + 1) tag a t)
+    (long : length t.words ≡ length h.tagged.words) (tags : AreTags t) (below : AreBelowLimit (with_place (with_place h.proxies q 0) q a))
+    (size : ℕ) (size_is : size ≡ size_at t.blocks a) where
+  abbrev grown : Held
+  grown = insert (held_in h) q (zeros_at a n)
+
+  -- the heap with the object
+  abbrev pub given : Heap
+  given = record h {
+    tagged = t;
+    proxies = with_place (with_place h.proxies q 0) q a;
+    asked = h.asked + n;
+    used_words =
+        h.used_words + size;
+  }
+
+  c : CarvesAt rule h.tagged (need n + 1) (header_word q n) a t
+  c = subst (λ x. CarvesAt rule h.tagged (x + 1) (header_word q n) a t) needed_is (subst (λ w. CarvesAt rule h.tagged (needed + 1) w a t) tag_is carve)
+
+  none : get (held_in h) q ≡ None
+  none = no_place h v q unused
+
+  small : q < 2 ^ 32
+  small = (let e = v.numbers in let f = h.settings.few_proxies in omega arith)
+
+  carves : Carves rule h.tagged.blocks (record { need = block_need n; owner = q }) a t.blocks
+  carves = subst (λ d. Carves rule h.tagged.blocks d a t.blocks) (asked_for q n small) c.carves
+
+  carved_to : IsCarvedTo t.blocks a (record { need = block_need n; owner = q })
+  carved_to = subst (λ d. IsCarvedTo t.blocks a d) (asked_for q n small) c.given
+
+  long_zeros : length (replicate {A = ℕ} n 0) ≡ n
+  long_zeros = length-replicate {A = ℕ} n 0
+
+  there : get grown q ≡ Some (zeros_at a n)
+  there = get_inserted (held_in h) q (zeros_at a n)
+
+  first_word : content_word grown (owner_of (header_word q n)) 0 ≡ header_word q n
+  first_word = (let e : owner_of (header_word q n) ≡ q = omega arith in rw (e, there) (ap (header_word q) long_zeros))
+
+  rest_words : (i : ℕ) → 1 ≤ i → content_word grown (owner_of (header_word q n)) i ≡ 0
+  rest_words zero low = absurd (omega arith)
+  rest_words (suc i) low = (let e : owner_of (header_word q n) ≡ q = omega arith in rw (e, there) (fresh_word q n i))
+
+  contents_now : AreTilingWords (content_word grown) t.blocks t.words
+  contents_now = carve_words (content_word (held_in h)) (content_word grown) rule h.tagged t (need n + 1) (header_word q n) a v.tags tags c v.contents
+      first_word rest_words (λ b x p at used i.
+      let own = v.owned.live b x p at used in
+      let other : p ≢ q = λ is. no_one (get (held_in h) q) own.0 none (ap (get (held_in h)) (sym is) ∙ own.1) in
+      rw (get_insert_other (held_in h) q (zeros_at a n) p other) refl)
+
+  asked_now : asked_bytes (objects grown) ≡ asked_bytes (objects (held_in h)) + n
+  asked_now = ap asked_bytes (malloc_objects (held_in h) q a n)
+      ∙ asked_added (objects (held_in h)) q (replicate n 0)
+      (get-map_values (λ (x : Placed). x.bytes) (held_in h) q ∙ ap (option_map (λ (x : Placed). x.bytes)) none)
+      ∙ ap (λ l. asked_bytes (objects (held_in h)) + l) long_zeros
+
+  used_now : used_words t.blocks ≡ used_words h.tagged.blocks + size_at t.blocks a
+  used_now = ap used_words carves.carved
+      ∙ used_after_malloc h.tagged.blocks a (record { need = block_need n; owner = q }) carves.found carves.there carves.serves.free
+      ∙ ap (λ bs. used_words h.tagged.blocks + size_at bs a) (sym carves.carved)
+
+  -- the words fit the count
+  pub used_small : h.used_words + size ≤ 2 ^ 23
+  used_small =
+      let s = size_is in
+      let e = used_now in
+      let f = v.used_all in
+      let w = used_within t.blocks 0 (length t.words) tags.tiling.fill in
+      let m = tags.most in
+      omega arith
+
+  are_bytes_now : (p : ℕ) (x : Placed) → get grown p ≡ Some x → AreBytes x.bytes
+  are_bytes_now p x e = elim (some_inserted (held_in h) q (zeros_at a n) p x e) [
+    | inl (is, same) ↦ subst (λ (y : Placed). AreBytes y.bytes) same (zeros_are_bytes n)
+    | inr (other, was) ↦ are_bytes h v p x was
+  ]
+
+  becomes : Becomes given grown
+  becomes = record {
+    tags = tags;
+    words_long = long ∙ v.words_long;
+    places = bound_again h.proxies.places q 0 a ∙ ap (λ m. insert m q a) (places_are h v) ∙ sym (malloc_places (held_in h) q a n);
+    bytes = are_bytes_now;
+    owned = owned_malloc rule (length h.tagged.words) (held_in h) h.tagged.blocks t.blocks q n a v.tags.tiling v.owned none carves carved_to;
+    contents = contents_now;
+    numbers = v.numbers;
+    handles = below;
+    asked_all = (let e = asked_now in let f = v.asked_all in omega arith);
+    used_all = (let e = used_now in let s = size_is in let f = v.used_all in omega arith);
+  }
+
+  pub given_valid : IsValid given
+  given_valid = becomes_valid given grown becomes
+
+  pub given_rules : (k : Kind) → IsTiled k → KeepsRules (state_of k given)
+  given_rules = becomes_rules given grown becomes
+
+  pub gives : (k : Kind) → IsTiled k → rule ≡ free_lists_of k → GivesObject (state_of k h) (record { number = q; length = n }) (state_of k given)
+  gives k is lists = record {
+    fits = fits;
+    few = (let m = held_many h v in let b = v.handles.few in let e = v.numbers in omega arith);
+    in_range = (let e = v.numbers in omega arith);
+    unused = none;
+    place = a;
+    placed = of_tiled (λ j. Carves (free_lists_of j) h.tagged.blocks (record { need = block_need n; owner = q }) a t.blocks
+        → IsPlacedBy j (state_of k h) (record { number = q; length = n }) a (state_of k given))
+        (λ x. x) (λ x. x) k is (subst (λ r. Carves r h.tagged.blocks (record { need = block_need n; owner = q }) a t.blocks) lists carves);
+    whole = becomes_state given grown becomes k;
+  }
+
+module _ (k : Kind) (is : IsTiled k) (h : Heap) (v : IsValid h) (n : ℕ) (fits : need n ≤ h.settings.page_words) where
+  -- no proxy is left
+  pub wants_proxy : len h.proxies.places ≡ h.proxies.limit → WantsProxy (state_of k h) n
+  wants_proxy all = record { fits = fits; all = held_many h v ∙ all ∙ v.numbers }
+
+  -- no block serves
+  pub wants_space : (rule : FreeLists) → rule ≡ free_lists_of k → len h.proxies.places ≢ h.proxies.limit → (needed : ℕ) → needed ≡ need n
+      → LacksBlock rule h.tagged.blocks (needed + 1) → WantsSpace (state_of k h) n
+  wants_space rule lists some needed needed_is lacking = record {
+    fits = fits;
+    few = (let m = held_many h v in let b = v.handles.few in let e = v.numbers in omega arith);
+    lacking = of_tiled (λ j. LacksBlock (free_lists_of j) h.tagged.blocks (block_need n) → LacksRoomIn j (state_of k h) n) (λ x. x) (λ x. x) k is
+        (subst (λ r. LacksBlock r h.tagged.blocks (block_need n)) lists
+        (subst (LacksBlock rule h.tagged.blocks) (let e : needed + 1 ≡ block_need n = omega arith in e) lacking));
+  }

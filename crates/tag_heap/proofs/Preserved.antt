@@ -1,0 +1,170 @@
+-- An open heap whose objects, words, blocks, proxies and counts changed together keeps what it keeps.
+use Rattle.std.proofs.Common.{◌≡◌, ℕ, ◌+◌, ◌*◌, ◌<◌, ◌≤◌, List, Option, Some, None, length, arith, refl, sym, ◌∙◌, ap, subst}
+use Rattle.std.specs.Prelude.{option_map}
+use Rattle.std.specs.Ordering.{nat_cmp}
+use Rattle.std.specs.FinMap.{FinMap, get, len}
+use Rattle.cf_lemmas.proofs.Maps.{equal_maps}
+use Rattle.cf_lemmas.proofs.MapValues.{get-map_values}
+use Rattle.cf_lemmas.proofs.Values.{len-map_values}
+use Rattle.cf_base.specs.Settings.{profile_of}
+use Rattle.cf_base.specs.declared.kind.Kind.{Kind}
+use Rattle.cf_base.specs.declared.kind.Kind.TheVariants.{Tlsf}
+use Rattle.cf_base.specs.declared.settings.Settings.{Settings}
+use Rattle.page_model.specs.Held.{Held, Placed, objects, places}
+use Rattle.page_model.specs.Bytes.{AreBytes, bytes_at}
+use Rattle.page_model.specs.Figures.{asked_bytes}
+use Rattle.page_model.proofs.CallerLemmas.{bytes_at-AreBytes}
+use Rattle.block_model.specs.Tiling.{IsTiling, used_words}
+use Rattle.block_model.specs.Words.{AreTilingWords}
+use Rattle.proxy_table.specs.Proxies.{AreBelowLimit}
+use Rattle.tag_blocks.specs.Blocks.{AreTags, IsUsedAt}
+use Rattle.cf_model.specs.Families.{IsTiled}
+use Rattle.cf_model.specs.ReadObjects.{read_objects}
+use Rattle.cf_model.specs.Rules.{AreInRange, AreObjects, AreOwned, KeepsRules, KeepsRulesOf, KeepsTiling, content_word}
+use Rattle.cf_model.specs.State.{HeapState}
+use Rattle.cf_model.proofs.CallerLemmas.{objects_told}
+use Rattle.tag_heap.specs.Heap.{Heap, IsValid, held_in, state_of}
+use Rattle.tag_heap.proofs.ByKind.{of_tiled}
+
+-- the heap has the objects m
+pub record Becomes (h : Heap) (m : Held) : Type 0 where
+  pub tags : AreTags h.tagged
+  pub words_long : length h.tagged.words ≡ h.settings.pages * h.settings.page_words
+  pub places : h.proxies.places ≡ places m
+  pub bytes : (q : ℕ) (x : Placed) → get m q ≡ Some x → AreBytes x.bytes
+  pub owned : AreOwned m h.tagged.blocks
+  pub contents : AreTilingWords (content_word m) h.tagged.blocks h.tagged.words
+  pub numbers : h.proxies.limit ≡ h.settings.proxies
+  pub handles : AreBelowLimit h.proxies
+  pub asked_all : h.asked ≡ asked_bytes (objects m)
+  pub used_all : h.used_words ≡ used_words h.tagged.blocks
+
+pub in_range : (s : Settings) → AreInRange (profile_of s)
+in_range s = record {
+  some_pages = s.some_pages;
+  few_pages = s.few_pages;
+  page_size = s.page_size;
+  some_bound = s.some_bound;
+  low_bound = s.low_bound;
+  some_proxies = s.some_proxies;
+  few_proxies = s.few_proxies;
+  small_region = s.small_region;
+}
+
+-- the heap, seen with the objects m
+abbrev seen_with : Kind → Heap → Held → HeapState
+seen_with k h m = record (state_of k h) { held = m }
+
+module _ (h : Heap) (m : Held) (b : Becomes h m) where
+  proxy_of : (q : ℕ) (x : Placed) → get m q ≡ Some x → get h.proxies.places q ≡ Some x.place
+  proxy_of q x e = ap (λ p. get p q) b.places ∙ get-map_values (λ (x : Placed). x.place) m q ∙ ap (option_map (λ (x : Placed). x.place)) e
+
+  as_many : len h.proxies.places ≡ len m
+  as_many = ap (λ p. len p) b.places ∙ len-map_values (λ (x : Placed). x.place) m
+
+  are_objects : (k : Kind) → AreObjects (seen_with k h m)
+  are_objects k = record {
+    handles = λ q x e. subst (λ n. q < n) b.numbers (b.handles.below q x.place (proxy_of q x e));
+    bytes = b.bytes;
+    few = (let n = b.numbers in let l = b.handles.few in let e = as_many in omega arith);
+  }
+
+  keeps : (k : Kind) → KeepsTiling (seen_with k h m)
+  keeps k = record {
+    tiling = subst (λ n. IsTiling n h.tagged.blocks) b.words_long b.tags.tiling;
+    owned = b.owned;
+    words = b.contents;
+    no_frames = refl;
+    no_bounds = refl;
+  }
+
+  pub held_is : held_in h ≡ m
+  held_is = ap (read_objects h.tagged.words) b.places ∙ objects_told (seen_with Tlsf h m) (in_range h.settings) (are_objects Tlsf) (keeps Tlsf)
+
+  pub becomes_valid : IsValid h
+  becomes_valid = record {
+    tags = b.tags;
+    words_long = b.words_long;
+    owned = subst (λ m. AreOwned m h.tagged.blocks) (sym held_is) b.owned;
+    contents = subst (λ m. AreTilingWords (content_word m) h.tagged.blocks h.tagged.words) (sym held_is) b.contents;
+    numbers = b.numbers;
+    handles = b.handles;
+    asked_all = b.asked_all ∙ ap (λ m. asked_bytes (objects m)) (sym held_is);
+    used_all = b.used_all;
+  }
+
+  pub becomes_state : (k : Kind) → state_of k h ≡ seen_with k h m
+  becomes_state k = ap (λ m. seen_with k h m) held_is
+
+  pub becomes_rules : (k : Kind) → IsTiled k → KeepsRules (state_of k h)
+  becomes_rules k is = subst KeepsRules (sym (becomes_state k)) (record {
+    settings = in_range h.settings;
+    region = b.words_long;
+    numbers = are_objects k;
+    of_kind = of_tiled (λ j. KeepsRulesOf j (seen_with k h m)) (keeps k) (keeps k) k is;
+  })
+
+-- the objects that words tell have the addresses that were given
+pub places-read : (words : List ℕ) (at : FinMap nat_cmp ℕ) → places (read_objects words at) ≡ at
+places-read words at = equal_maps _ _ (λ q. get-map_values (λ (x : Placed). x.place) (read_objects words at) q
+    ∙ ap (option_map (λ (x : Placed). x.place)) (get-map_values (λ a. record { place = a; bytes = bytes_at words (a + 1) }) at q) ∙ go (get at q))
+  where
+    go : (o : Option ℕ) → option_map (λ (x : Placed). x.place) (option_map (λ a. record { place = a; bytes = bytes_at words (a + 1) }) o) ≡ o
+    go None = refl
+    go (Some a) = refl
+
+-- an object that words tell
+pub record ReadsAs (words : List ℕ) (at : FinMap nat_cmp ℕ) (q : ℕ) (x : Placed) : Type 0 where
+  pub place : get at q ≡ Some x.place
+  pub bytes : x.bytes ≡ bytes_at words (x.place + 1)
+
+pub read_is : (words : List ℕ) (at : FinMap nat_cmp ℕ) (q : ℕ) (x : Placed) → get (read_objects words at) q ≡ Some x → ReadsAs words at q x
+read_is words at q x e = go (get at q) refl (sym (get-map_values (λ a. record { place = a; bytes = bytes_at words (a + 1) }) at q) ∙ e)
+  where
+    go : (o : Option ℕ) → get at q ≡ o → option_map (λ a. record { place = a; bytes = bytes_at words (a + 1) }) o ≡ Some x → ReadsAs words at q x
+    go None e f = absurd (let f' : ◌≡◌ {A = Option Placed} None (Some x) = f in cc)
+    go (Some a) e f = (let same : ◌≡◌ {A = Placed} (record { place = a; bytes = bytes_at words (a + 1) }) x = cc in
+        subst (ReadsAs words at q) same (record { place = e; bytes = refl }))
+
+-- what a valid heap tells
+module _ (h : Heap) (v : IsValid h) where
+  pub places_are : h.proxies.places ≡ places (held_in h)
+  places_are = sym (places-read h.tagged.words h.proxies.places)
+
+  pub are_bytes : (q : ℕ) (x : Placed) → get (held_in h) q ≡ Some x → AreBytes x.bytes
+  are_bytes q x e = subst AreBytes (sym (read_is h.tagged.words h.proxies.places q x e).bytes) (bytes_at-AreBytes h.tagged.words (x.place + 1))
+
+  pub stays : Becomes h (held_in h)
+  stays = record {
+    tags = v.tags;
+    words_long = v.words_long;
+    places = places_are;
+    bytes = are_bytes;
+    owned = v.owned;
+    contents = v.contents;
+    numbers = v.numbers;
+    handles = v.handles;
+    asked_all = v.asked_all;
+    used_all = v.used_all;
+  }
+
+  pub rules : (k : Kind) → IsTiled k → KeepsRules (state_of k h)
+  rules = becomes_rules h (held_in h) stays
+
+  -- what has no address isn't held
+  pub no_place : (q : ℕ) → get h.proxies.places q ≡ None → get (held_in h) q ≡ None
+  no_place q e = get-map_values (λ a. record { place = a; bytes = bytes_at h.tagged.words (a + 1) }) h.proxies.places q
+      ∙ ap (option_map (λ a. record { place = a; bytes = bytes_at h.tagged.words (a + 1) })) e
+
+  -- what has an address is held there
+  pub has_place : (q a : ℕ) → get h.proxies.places q ≡ Some a
+      → get (held_in h) q ≡ Some (record { place = a; bytes = bytes_at h.tagged.words (a + 1) })
+  has_place q a e = get-map_values (λ a. record { place = a; bytes = bytes_at h.tagged.words (a + 1) }) h.proxies.places q
+      ∙ ap (option_map (λ a. record { place = a; bytes = bytes_at h.tagged.words (a + 1) })) e
+
+  pub held_many : len (held_in h) ≡ len h.proxies.places
+  held_many = len-map_values (λ a. record { place = a; bytes = bytes_at h.tagged.words (a + 1) }) h.proxies.places
+
+  -- and has a used block there
+  pub used_at : (q a : ℕ) → get h.proxies.places q ≡ Some a → IsUsedAt h.tagged.blocks a
+  used_at q a e = (let own = v.owned.placed q _ (has_place q a e) in record { block = own.0; owner = q; there = own.1; used = own.2.owner })

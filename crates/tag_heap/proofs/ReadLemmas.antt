@@ -1,0 +1,68 @@
+-- What stands at an address, and the parts of objects that are read.
+use Rattle.std.proofs.Common.{◌≡◌, ℕ, ◌+◌, ◌*◌, ◌/◌, ◌%◌, ◌^◌, ◌<◌, ◌≤◌, List, length, get_or, take, drop, Some, arith, sym, ◌∙◌, ap}
+use Rattle.std.specs.Prelude.{option_map}
+use Rattle.std.proofs.lemmas.List.FromFn.{length-map-range_with_len, get_or-map-range_with_len}
+use Rattle.std.specs.Ordering.{nat_cmp}
+use Rattle.std.specs.FinMap.{FinMap, get}
+use Rattle.cf_lemmas.proofs.MapValues.{get-map_values}
+use Rattle.cf_base.specs.declared.kind.Kind.{Kind}
+use Rattle.page_model.specs.Held.{Placed}
+use Rattle.page_model.specs.Bytes.{byte_of, bytes_at}
+use Rattle.block_model.specs.Tiling.{block_need, size_at, size_of}
+use Rattle.block_model.proofs.CallerLemmas.{lies}
+use Rattle.cf_model.specs.ReadObjects.{read_objects}
+use Rattle.cf_model.specs.Steps.{PassesEnd}
+use Rattle.tag_heap.specs.Access.{Lies}
+use Rattle.tag_heap.specs.Heap.{Heap, IsValid, held_in, state_of}
+use Rattle.tag_heap.proofs.Preserved.{has_place, places-read}
+
+pub bytes_long : (words : List ℕ) (a : ℕ) → length (bytes_at words a) ≡ get_or words a 0 / 2 ^ 32
+unfolding bytes_at
+bytes_long words a = length-map-range_with_len _ 0 _
+
+pub byte_is : (words : List ℕ) (a i : ℕ) → i < length (bytes_at words a) → get_or (bytes_at words a) i 0 ≡ byte_of (i % 8) (get_or words (a + 1 + i / 8) 0)
+unfolding bytes_at
+byte_is words a i lt =
+    let len : length (bytes_at words a) ≡ get_or words a 0 / 2 ^ 32 = bytes_long words a in
+    get_or-map-range_with_len (λ i. byte_of (i % 8) (get_or words (a + 1 + i / 8) 0)) 0 (get_or words a 0 / 2 ^ 32) i i 0 (omega arith) (omega arith)
+
+-- the address of a handle is that of its proxy
+pub place_told : (words : List ℕ) (at : FinMap nat_cmp ℕ) (q : ℕ) → get at q ≡ option_map (λ (x : Placed). x.place) (get (read_objects words at) q)
+place_told words at q = ap (λ m. get m q) (sym (places-read words at)) ∙ get-map_values (λ (x : Placed). x.place) (read_objects words at) q
+
+module _ (h : Heap) (v : IsValid h) (q a : ℕ) (some : get h.proxies.places q ≡ Some a) where
+  abbrev pub bytes : List ℕ
+  bytes = bytes_at h.tagged.words (a + 1)
+
+  abbrev pub object : Placed
+  object = record { place = a; bytes = bytes }
+
+  pub held : get (held_in h) q ≡ Some object
+  held = has_place h v q a some
+
+  -- its block has two words of header, and its bytes
+  pub room : 2 + (length bytes + 7) / 8 ≤ size_at h.tagged.blocks a
+  room =
+      let own = v.owned.placed q object held in
+      let size : size_at h.tagged.blocks a ≡ own.0.size = ap size_of own.1 in
+      let least = own.2.least in
+      omega arith
+
+  -- and lies in the region
+  pub inside : a + size_at h.tagged.blocks a ≤ length h.tagged.words
+  inside =
+      let own = v.owned.placed q object held in
+      let size : size_at h.tagged.blocks a ≡ own.0.size = ap size_of own.1 in
+      let l = lies h.tagged.blocks 0 (length h.tagged.words) a own.0 v.tags.tiling.fill own.1 in
+      let high = l.high in
+      omega arith
+
+  pub bytes_few : length bytes ≤ 2 ^ 26
+  bytes_few = (let r = room in let i = inside in let m = v.tags.most in omega arith)
+
+  -- a part that passes the end, and one that doesn't
+  pub passes : (k : Kind) (at count : ℕ) → length bytes < at + count → PassesEnd (state_of k h) (record { number = q; from = at }) count
+  passes k at count more = record { object = object; found = held; past = more }
+
+  pub lies_there : (at count : ℕ) → at + count ≤ length bytes → Lies h (record { number = q; from = at }) count a
+  lies_there at count fits = record { found = held; within = fits }

@@ -1,0 +1,18 @@
+-- Parts of objects that are read or written. No public clause cites this module.
+use Rattle.std.specs.Prelude.{◌≡◌, ℕ, ◌+◌, ◌≤◌, length, Result, Ok, Err, Some}
+use Rattle.std.specs.FinMap.{get}
+use Rattle.cf_base.specs.declared.answers.AccessFault.{AccessFault}
+use Rattle.cf_base.specs.declared.kind.Kind.{Kind}
+use Rattle.page_model.specs.Bytes.{bytes_at}
+use Rattle.cf_model.specs.Steps.{Part, IsFault}
+use Rattle.tag_heap.specs.Heap.{Heap, held_in, state_of}
+
+-- the object has its block at the address, and so many bytes from the part's first on
+pub record Lies (h : Heap) (part : Part) (count place : ℕ) : Type 0 where
+  pub found : get (held_in h) part.number ≡ Some (record { place = place; bytes = bytes_at h.tagged.words (place + 1) })
+  pub within : part.from + count ≤ length (bytes_at h.tagged.words (place + 1))
+
+-- the address of a part, or why there is none
+abbrev pub IsFound : Kind → Heap → Part → ℕ → Result ℕ AccessFault → Type 0
+IsFound kind h part count (Ok place) = Lies h part count place
+IsFound kind h part count (Err e) = IsFault (state_of kind h) part count e

@@ -1,0 +1,84 @@
+-- What contracts see of an open heap of blocks, and what it keeps.
+use Rattle.std.specs.Prelude.{◌≡◌, ℕ, ◌*◌, List, [], true, Option, Some, None, length, refl}
+use Rattle.std.specs.Coded.{Coded, code_by, coded×, coded_ℕ, coded_list}
+use Rattle.cf_base.specs.contracts.Settings as settings
+use Rattle.cf_base.specs.Settings.{profile_of}
+use Rattle.cf_base.specs.declared.kind.Kind.{Kind}
+use Rattle.cf_base.specs.declared.settings.Settings.{Settings}
+use Rattle.page_model.specs.Held.{Held, objects}
+use Rattle.page_model.specs.Figures.{asked_bytes}
+use Rattle.block_model.specs.Tiling.{Block, used_words}
+use Rattle.block_model.specs.Words.{AreTilingWords}
+use Rattle.proxy_table.specs.Proxies.{Proxies, AreBelowLimit, proxies_code}
+use Rattle.tag_blocks.specs.Blocks.{Tagged, AreTags}
+use Rattle.cf_model.specs.ReadObjects.{read_objects}
+use Rattle.cf_model.specs.Rules.{AreOwned, KeepsRules, content_word}
+use Rattle.cf_model.specs.State.{HeapState, block_code, closed_state}
+
+-- An open heap: its settings, its words and blocks, the addresses by number, the bytes of all objects, the words of all used blocks, and the steps of the
+-- last malloc or free.
+pub record Heap : Type 0 where
+  pub settings : Settings
+  pub tagged : Tagged
+  pub proxies : Proxies
+  pub asked : ℕ
+  pub used_words : ℕ
+  pub cost : ℕ
+
+-- the objects, by the words at their addresses
+abbrev pub held_in : Heap → Held
+held_in h = read_objects h.tagged.words h.proxies.places
+
+-- the heap, as callers of a manager see it
+abbrev pub state_of : Kind → Heap → HeapState
+state_of kind h = record {
+  kind = kind;
+  is_open = true;
+  profile = profile_of h.settings;
+  bounds = [];
+  held = held_in h;
+  words = h.tagged.words;
+  frames = [];
+  tiling = h.tagged.blocks;
+  cost = h.cost;
+}
+
+-- What an open heap keeps: its blocks tile its words, and the used ones are the objects'; each holds what its object has; each number is one of the proxies';
+-- and the counts are those of the objects and of the blocks.
+pub record IsValid (h : Heap) : Type 0 where
+  pub tags : AreTags h.tagged
+  pub words_long : length h.tagged.words ≡ h.settings.pages * h.settings.page_words
+  pub owned : AreOwned (held_in h) h.tagged.blocks
+  pub contents : AreTilingWords (content_word (held_in h)) h.tagged.blocks h.tagged.words
+  pub numbers : h.proxies.limit ≡ h.settings.proxies
+  pub handles : AreBelowLimit h.proxies
+  pub asked_all : h.asked ≡ asked_bytes (objects (held_in h))
+  pub used_all : h.used_words ≡ used_words h.tagged.blocks
+
+-- a heap that may be closed
+abbrev pub state_in : Kind → Option Heap → HeapState
+state_in kind None = closed_state kind
+state_in kind (Some h) = state_of kind h
+
+-- what it keeps where it is open
+abbrev pub IsKeptIn : Kind → Option Heap → Type 0
+IsKeptIn kind None = Unit {0}
+IsKeptIn kind (Some h) = KeepsRules (state_of kind h)
+
+-- its parts, as nested pairs
+abbrev pub HeapParts : Type 0
+HeapParts = Settings × (List ℕ × (List Block × (Proxies × (ℕ × (ℕ × ℕ)))))
+
+abbrev pub heap_code : Coded Heap
+heap_code = code_by HeapParts
+    (coded× settings.the_row.coded (coded× (coded_list coded_ℕ) (coded× (coded_list block_code) (coded× proxies_code (coded× coded_ℕ (coded× coded_ℕ coded_ℕ))))))
+    (λ h. (h.settings, (h.tagged.words, (h.tagged.blocks, (h.proxies, (h.asked, (h.used_words, h.cost)))))))
+    (λ q. record {
+      settings = q.0;
+      tagged = record { words = q.1.0; blocks = q.1.1.0 };
+      proxies = q.1.1.1.0;
+      asked = q.1.1.1.1.0;
+      used_words = q.1.1.1.1.1.0;
+      cost = q.1.1.1.1.1.1;
+    })
+    (λ _. refl)

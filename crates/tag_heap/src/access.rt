@@ -1,0 +1,99 @@
+//! Reading and writing what stands in an open heap.
+ghost use Rattle.std.specs.Prelude.{◌≡◌, ℕ, ◌≤◌, slice_get};
+ghost use Rattle.cf_model.specs.Answers.{place_of};
+ghost use Rattle.cf_model.specs.Rules.{KeepsRules};
+ghost use Rattle.cf_model.specs.Steps.{IsReadAnswer, IsResizeFault, IsWriteStep, StaysOpen};
+ghost use Rattle.tag_heap.specs.Access.{IsFound};
+ghost use Rattle.tag_heap.specs.Heap.{state_of};
+
+use crate::open_heap::OpenHeap;
+use crate::yardstick::Yardstick;
+use cf_base::{AccessFault, Handle, ResizeFault};
+use object_header::Header;
+use step_ledger::Steps;
+
+impl<B: Yardstick> OpenHeap<B> {
+    /// The first word of the object's block; none where the handle isn't live.
+    pub(crate) fn place(&self, h: Handle, steps: &mut Steps) -> Option<u32>
+        ensures value { result ≡ place_of (state_of B.kind self.now) h.0 }
+        ensures rises { steps.old ≤ steps.new }
+    {
+        self.proxies.lookup(h, steps)
+    }
+
+    /// A word of the region; none past its end.
+    pub(crate) fn peek(&self, word: u32, steps: &mut Steps) -> Option<u64>
+        ensures value { result ≡ slice_get (state_of B.kind self.now).words word }
+        ensures rules { KeepsRules (state_of B.kind self.now) }
+        ensures rises { steps.old ≤ steps.new }
+    {
+        if word < self.settings.pages * self.settings.page_words {
+            Some(self.blocks.peek(word, steps))
+        } else {
+            None
+        }
+    }
+
+    /// Reads the bytes of an object from byte `at` on, as many as `out` holds.
+    pub(crate) fn read(
+        &self,
+        h: Handle,
+        at: u32,
+        out: &mut [u8],
+        steps: &mut Steps,
+    ) -> Result<(), AccessFault>
+        ensures answer { IsReadAnswer (state_of B.kind self.now) (record { number = h.0; from = at }) out.old result out.new }
+        ensures rules { KeepsRules (state_of B.kind self.now) }
+        ensures rises { steps.old ≤ steps.new }
+    {
+        let blocks = &self.blocks;
+        let place = self.find(h, at, out.len(), steps)?;
+        blocks.read_bytes(place, at as usize, out, steps);
+        Ok(())
+    }
+
+    /// Writes bytes into an object from byte `at` on.
+    pub(crate) fn write(
+        &mut self,
+        h: Handle,
+        at: u32,
+        bytes: &[u8],
+        steps: &mut Steps,
+    ) -> Result<(), AccessFault>
+        ensures same { StaysOpen (state_of B.kind self.old) (state_of B.kind self.new) }
+        ensures step { IsWriteStep (state_of B.kind self.old) (record { number = h.0; from = at }) bytes.now result (state_of B.kind self.new) }
+        ensures rules { KeepsRules (state_of B.kind self.new) }
+        ensures rises { steps.old ≤ steps.new }
+    {
+        let place = self.find(h, at, bytes.len(), steps)?;
+        self.blocks.write_bytes(place, at as usize, bytes, steps);
+        Ok(())
+    }
+
+    /// The address of the object, of which `count` bytes from `at` on are asked for.
+    fn find(&self, h: Handle, at: u32, count: usize, steps: &mut Steps) -> Result<u32, AccessFault>
+        ensures found { IsFound B.kind self.now (record { number = h.0; from = at }) count result }
+        ensures rises { steps.old ≤ steps.new }
+    {
+        let Some(place) = self.proxies.lookup(h, steps) else {
+            return Err(AccessFault::Unknown);
+        };
+        let length = Header::unpack(self.blocks.tag_of(place, steps)).length as usize;
+        if length < count || length - count < at as usize {
+            return Err(AccessFault::Range);
+        }
+        Ok(place)
+    }
+
+    /// Why the object gets no other length.
+    pub(crate) fn resize_fault(&self, h: Handle, steps: &mut Steps) -> ResizeFault
+        ensures step { (bytes : ℕ) → IsResizeFault (state_of B.kind self.now) (record { number = h.0; length = bytes }) result }
+        ensures rules { KeepsRules (state_of B.kind self.now) }
+        ensures rises { steps.old ≤ steps.new }
+    {
+        match self.proxies.lookup(h, steps) {
+            Some(_) => ResizeFault::Kind,
+            None => ResizeFault::Unknown,
+        }
+    }
+}

@@ -1,0 +1,27 @@
+//! What an open heap tells of itself in numbers.
+ghost use Rattle.std.specs.Prelude.{◌≡◌, ◌≤◌};
+ghost use Rattle.cf_model.specs.Answers.{block_totals};
+ghost use Rattle.tag_heap.specs.Heap.{state_of};
+
+use crate::open_heap::OpenHeap;
+use crate::yardstick::Yardstick;
+use cf_base::Totals;
+use step_ledger::Steps;
+
+impl<B: Yardstick> OpenHeap<B> {
+    /// The figures of the whole heap.
+    pub(crate) fn totals(&self, steps: &mut Steps) -> Totals
+        ensures value { result ≡ block_totals (state_of B.kind self.now) }
+        ensures rises { steps.old ≤ steps.new }
+    {
+        Totals {
+            live: self.proxies.live(),
+            asked: self.asked,
+            taken: 8 * u64::from(self.used_words),
+            held: 8 * u64::from(self.settings.pages * self.settings.page_words),
+            used: self.blocks.used(),
+            free: self.blocks.free(),
+            largest: self.blocks.largest(steps),
+        }
+    }
+}

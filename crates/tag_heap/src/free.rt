@@ -1,0 +1,50 @@
+//! An object goes.
+ghost use Rattle.std.specs.Prelude.{◌≡◌, ◌+◌, ◌^◌, ◌≤◌};
+ghost use Rattle.cf_model.specs.Rules.{KeepsRules};
+ghost use Rattle.cf_model.specs.Steps.{IsFreeStep, StaysOpen};
+ghost use Rattle.tag_heap.specs.Heap.{state_of};
+
+use crate::open_heap::OpenHeap;
+use crate::yardstick::Yardstick;
+use cf_base::{Freed, Handle, NotLive};
+use object_header::Header;
+use step_ledger::Steps;
+
+impl<B: Yardstick> OpenHeap<B> {
+    /// Takes an object away, and notes the cost.
+    pub(crate) fn free(&mut self, h: Handle, steps: &mut Steps) -> Result<Freed, NotLive>
+        requires { steps.old ≤ 2 ^ 63 }
+        ensures same { StaysOpen (state_of B.kind self.old) (state_of B.kind self.new) }
+        ensures step { IsFreeStep (state_of B.kind self.old) h.0 result (state_of B.kind self.new) }
+        ensures rules { KeepsRules (state_of B.kind self.new) }
+        ensures rises { steps.old ≤ steps.new }
+        ensures told { steps.new ≡ steps.old + self.new.cost }
+    {
+        let before = steps.count();
+        let result = self.free_inner(h, steps);
+        self.cost = steps.count() - before;
+        result
+    }
+
+    /// Takes an object away.
+    fn free_inner(&mut self, h: Handle, steps: &mut Steps) -> Result<Freed, NotLive>
+        ensures same { StaysOpen (state_of B.kind self.old) (state_of B.kind self.new) }
+        ensures step { IsFreeStep (state_of B.kind self.old) h.0 result (state_of B.kind self.new) }
+        ensures rules { KeepsRules (state_of B.kind self.new) }
+        ensures rises { steps.old ≤ steps.new }
+    {
+        let Some(place) = self.proxies.lookup(h, steps) else {
+            return Err(NotLive);
+        };
+        let slot_words = self.blocks.size_of(place, steps);
+        let length = Header::unpack(self.blocks.tag_of(place, steps)).length;
+        self.proxies.release(h, steps);
+        self.blocks.release(place, steps);
+        self.used_words -= slot_words;
+        self.asked -= u64::from(length);
+        Ok(Freed {
+            slot_words,
+            moved: None,
+        })
+    }
+}

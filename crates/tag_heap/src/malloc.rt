@@ -1,0 +1,57 @@
+//! An object comes.
+ghost use Rattle.std.specs.Prelude.{◌≡◌, ◌+◌, ◌^◌, ◌≤◌};
+ghost use Rattle.cf_model.specs.Rules.{KeepsRules};
+ghost use Rattle.cf_model.specs.Steps.{IsMallocStep, StaysOpen};
+ghost use Rattle.tag_heap.specs.Heap.{state_of};
+
+use crate::open_heap::OpenHeap;
+use crate::yardstick::Yardstick;
+use cf_base::{Handle, Refusal, need_of};
+use object_header::Header;
+use step_ledger::Steps;
+
+impl<B: Yardstick> OpenHeap<B> {
+    /// Adds an object of `bytes` bytes, all zero, and notes the cost.
+    pub(crate) fn malloc(&mut self, bytes: u32, steps: &mut Steps) -> Result<Handle, Refusal>
+        requires { steps.old ≤ 2 ^ 63 }
+        ensures same { StaysOpen (state_of B.kind self.old) (state_of B.kind self.new) }
+        ensures step { IsMallocStep (state_of B.kind self.old) bytes result (state_of B.kind self.new) }
+        ensures rules { KeepsRules (state_of B.kind self.new) }
+        ensures rises { steps.old ≤ steps.new }
+        ensures told { steps.new ≡ steps.old + self.new.cost }
+    {
+        let before = steps.count();
+        let result = self.malloc_inner(bytes, steps);
+        self.cost = steps.count() - before;
+        result
+    }
+
+    /// Adds an object of `bytes` bytes, all zero. Its number comes before its address, since the tag of
+    /// its block has it, and is given back where no block serves.
+    fn malloc_inner(&mut self, bytes: u32, steps: &mut Steps) -> Result<Handle, Refusal>
+        ensures same { StaysOpen (state_of B.kind self.old) (state_of B.kind self.new) }
+        ensures step { IsMallocStep (state_of B.kind self.old) bytes result (state_of B.kind self.new) }
+        ensures rules { KeepsRules (state_of B.kind self.new) }
+        ensures rises { steps.old ≤ steps.new }
+    {
+        let need = need_of(bytes);
+        if self.settings.page_words < need {
+            return Err(Refusal::Size);
+        }
+        let Some(handle) = self.proxies.bind(0, steps) else {
+            return Err(Refusal::Proxy);
+        };
+        let tag = Header {
+            handle,
+            length: bytes,
+        };
+        let Some(place) = self.blocks.carve(need + 1, tag.pack(), steps) else {
+            self.proxies.release(handle, steps);
+            return Err(Refusal::Space);
+        };
+        self.proxies.rebind(handle, place, steps);
+        self.used_words += self.blocks.size_of(place, steps);
+        self.asked += u64::from(bytes);
+        Ok(handle)
+    }
+}

@@ -1,0 +1,70 @@
+//! An open heap: its blocks, and the addresses of its objects.
+ghost use Rattle.std.specs.Prelude.{◌≡◌, ◌*◌, length, IfOk};
+ghost use Rattle.block_model.specs.Tiling.{one_free_block};
+ghost use Rattle.tag_blocks.specs.Blocks.{AreTags};
+ghost use Rattle.proxy_table.specs.Proxies.{AreBelowLimit, no_proxies};
+ghost use Rattle.cf_model.specs.Rules.{KeepsRules};
+ghost use Rattle.cf_model.specs.Steps.{IsEmptyHeap};
+ghost use Rattle.tag_heap.specs.Heap.{state_of};
+
+use crate::yardstick::Yardstick;
+use cf_base::{OutOfMemory, Settings};
+use proxy_table::ProxyTable;
+use std::alloc::Global;
+use std::marker::Model;
+use tag_blocks::TagBlocks;
+
+/// An open heap. `asked` are the bytes of all objects, and `used_words` the words of all used blocks.
+#[derive(Drop)]
+pub(crate) struct OpenHeap<B: Yardstick> {
+    pub(crate) settings: Settings,
+    pub(crate) blocks: TagBlocks<B>,
+    pub(crate) proxies: ProxyTable,
+    pub(crate) asked: u64,
+    pub(crate) used_words: u32,
+    pub(crate) cost: u64,
+}
+
+impl<B: Yardstick> Model for OpenHeap<B> {
+    ghost use Rattle.tag_heap.specs.Heap.{Heap, IsValid, heap_code};
+
+    ghost Value = { Heap };
+
+    ghost coded = { heap_code };
+
+    ghost view = { λ h. record { settings = h.settings; tagged = h.blocks; proxies = h.proxies; asked = h.asked; used_words = h.used_words; cost = h.cost } };
+
+    ghost invariant = { λ h. IsValid (record { settings = h.settings; tagged = h.blocks; proxies = h.proxies; asked = h.asked; used_words = h.used_words; cost = h.cost }) };
+}
+
+impl<B: Yardstick> OpenHeap<B> {
+    /// A heap without objects. It alone takes memory.
+    pub(crate) fn new(alloc: Global, s: &Settings) -> Result<OpenHeap<B>, OutOfMemory>
+        ensures empty { IfOk result (λ h. IsEmptyHeap B.kind s.now (state_of B.kind h)) }
+        ensures rules { IfOk result (λ h. KeepsRules (state_of B.kind h)) }
+    {
+        let blocks = TagBlocks::new(alloc, s.pages * s.page_words)?;
+        let proxies = ProxyTable::new(alloc, s.proxies)?;
+        Ok(OpenHeap::empty(s, blocks, proxies))
+    }
+
+    /// A heap without objects, of these parts.
+    fn empty(s: &Settings, blocks: TagBlocks<B>, proxies: ProxyTable) -> OpenHeap<B>
+        requires blocks { blocks.blocks ≡ one_free_block (s.now.pages * s.now.page_words) }
+        requires words { length blocks.words ≡ s.now.pages * s.now.page_words }
+        requires tags { AreTags blocks }
+        requires proxies { proxies ≡ no_proxies s.now.proxies }
+        requires handles { AreBelowLimit proxies }
+        ensures empty { IsEmptyHeap B.kind s.now (state_of B.kind result) }
+        ensures rules { KeepsRules (state_of B.kind result) }
+    {
+        OpenHeap {
+            settings: *s,
+            blocks,
+            proxies,
+            asked: 0,
+            used_words: 0,
+            cost: 0,
+        }
+    }
+}

@@ -1,0 +1,21 @@
+//! A kind of manager with blocks.
+ghost use Rattle.std.specs.Prelude.{◌≡◌};
+ghost use Rattle.cf_base.specs.declared.kind.Kind.{Kind};
+ghost use Rattle.cf_model.specs.Families.{IsTiled, free_lists_of};
+
+use cf_base::Kind;
+use tag_blocks::Buckets;
+
+/// A kind of manager with blocks: the rule of its free lists is that of the kind.
+pub trait Yardstick: Buckets + Drop {
+    /// The kind.
+    ghost kind: { Kind };
+
+    /// The kind.
+    fn kind() -> Kind
+        ensures { result ≡ kind };
+
+    ghost tiled: { IsTiled kind };
+
+    ghost lists: { Self.rule ≡ free_lists_of kind };
+}
