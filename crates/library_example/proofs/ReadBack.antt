@@ -1,5 +1,5 @@
 -- An object that was just made is written and read with no refusal, and what was written is read.
-use Rattle.std.proofs.Common.{◌≡◌, ℕ, ◌+◌, ◌≤◌, ◌<◌, List, [], ◌∷◌, ◌++◌, Some, None, length, take, drop, arith, sym, ◌∙◌, subst, ap, refl}
+use Rattle.std.proofs.Common.{◌≡◌, ℕ, ◌+◌, ◌≤◌, List, [], ◌∷◌, ◌++◌, Some, length, take, drop, arith, sym, ◌∙◌, ap, refl}
 use Rattle.std.specs.Prelude.{Result, Ok, Err}
 use Rattle.std.proofs.Math.Seq.{take-append_seam}
 use Rattle.std.proofs.lemmas.List.{length-append, length-replicate}
@@ -12,7 +12,7 @@ use Rattle.page_model.specs.Held.{Placed}
 use Rattle.page_model.specs.Bytes.{written}
 use Rattle.page_model.specs.Steps.{Request, zeros_at}
 use Rattle.cf_model.specs.State.{HeapState}
-use Rattle.cf_model.specs.Steps.{GivesObject, IsReadAnswer, IsWriteStep, Part, ReadsBytes, WritesBytes}
+use Rattle.cf_model.specs.Steps.{GivesObject, IsReadAnswer, IsWriteStep, Part, WritesBytes}
 use Rattle.cf_model.proofs.CallerLemmas.{not_none_found}
 
 -- the whole object of this number, from its first byte on
