@@ -9,7 +9,8 @@ ghost use Rattle.moving_heap.specs.Payload.{payload_bound, payload_of, words_len
 ghost use Rattle.moving_heap.specs.PayloadLoan.{LendsPayloadIn, LendsPayloadOf, LendsRun, words_found};
 
 use cf_base::Handle;
-use paged_heap::{Header, OpenHeap};
+use object_header::Header;
+use paged_heap::OpenHeap;
 use step_ledger::Steps;
 
 /// The whole words of an object; none where the handle isn't live.

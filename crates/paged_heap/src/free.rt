@@ -15,9 +15,9 @@ ghost use Rattle.paged_heap.specs.Free.{IsObjectAt, IsMoving, MovesSlot};
 ghost use Rattle.paged_heap.specs.Heap.{seen};
 ghost use Rattle.paged_heap.specs.Layout.{Holds, state_at};
 
-use crate::header::Header;
 use crate::open_heap::OpenHeap;
 use cf_base::{Freed, Handle, NotLive};
+use object_header::Header;
 use page_slots::{drop_slot, fill_slot, must_move};
 use step_ledger::Steps;
 use virtual_words::Mapping;

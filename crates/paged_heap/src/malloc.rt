@@ -11,9 +11,9 @@ ghost use Rattle.virtual_words.specs.Words.{AreLaid};
 ghost use Rattle.paged_heap.specs.Heap.{seen};
 ghost use Rattle.paged_heap.specs.Layout.{Holds, state_at};
 
-use crate::header::Header;
 use crate::open_heap::OpenHeap;
 use cf_base::{Handle, Refusal};
+use object_header::Header;
 use page_slots::take_slot;
 use step_ledger::Steps;
 use virtual_words::Mapping;

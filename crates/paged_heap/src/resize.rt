@@ -11,10 +11,10 @@ ghost use Rattle.paged_heap.specs.Free.{IsObjectAt};
 ghost use Rattle.paged_heap.specs.Heap.{seen};
 ghost use Rattle.paged_heap.specs.Layout.{Holds, paging_at, state_at};
 
-use crate::header::Header;
 use crate::open_heap::OpenHeap;
 use crate::resize_class::Change;
 use cf_base::{Handle, ResizeFault, Resized};
+use object_header::Header;
 use step_ledger::Steps;
 use virtual_words::Mapping;
 

@@ -11,9 +11,9 @@ ghost use Rattle.paged_heap.specs.Free.{IsMoving};
 ghost use Rattle.paged_heap.specs.Heap.{seen};
 ghost use Rattle.paged_heap.specs.Layout.{Holds, state_at};
 
-use crate::header::Header;
 use crate::open_heap::OpenHeap;
 use cf_base::{Handle, ResizeFault, Resized};
+use object_header::Header;
 use page_slots::must_move;
 use step_ledger::Steps;
 use virtual_words::Mapping;

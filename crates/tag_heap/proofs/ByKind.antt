@@ -1,11 +1,11 @@
 -- What is said by kind, where the kind has blocks.
-use Rattle.std.proofs.Common.{◌≡◌, ℕ, [], Option, None, List, refl}
+use Rattle.std.proofs.Common.{◌≡◌, ℕ, [], None, refl}
 use Rattle.cf_base.specs.Settings.{Profile}
 use Rattle.cf_base.specs.declared.kind.Kind.{Kind}
 use Rattle.cf_base.specs.declared.kind.Kind.TheVariants.{Moving, NonMoving, Tlsf, HalfFit}
 use Rattle.page_model.specs.Steps.{Leaves}
 use Rattle.cf_model.specs.Answers.{block_in}
-use Rattle.cf_model.specs.Families.{Family, IsTiled, paged, tiled}
+use Rattle.cf_model.specs.Families.{IsTiled, paged, tiled}
 use Rattle.cf_model.specs.State.{HeapState}
 use Rattle.cf_model.specs.Steps.{BlocksStayIn, frames_left, opening_frames}
 

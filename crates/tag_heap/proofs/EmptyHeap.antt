@@ -1,26 +1,25 @@
 -- The heap that has no objects yet.
-use Rattle.std.proofs.Common.{◌≡◌, ℕ, ◌+◌, ◌*◌, ◌<◌, ◌≤◌, List, Option, Some, None, length, get_or, arith, refl, sym, ◌∙◌, ap, subst, inl, inr}
+use Rattle.std.proofs.Common.{◌≡◌, ℕ, ◌+◌, ◌*◌, ◌≤◌, List, Some, None, length, get_or, arith, refl, sym, ◌∙◌, ap, subst, inl, inr}
 use Rattle.std.proofs.lemmas.Bool.{cases_lt}
 use Rattle.std.proofs.lemmas.List.{get_or_past}
 use Rattle.std.specs.Ordering.{nat_cmp}
 use Rattle.std.specs.FinMap.{empty, get, get-empty}
 use Rattle.cf_lemmas.proofs.Values.{map_values-empty, no_values}
-use Rattle.cf_base.specs.Settings.{Profile, profile_of}
+use Rattle.cf_base.specs.Settings.{profile_of}
 use Rattle.cf_base.specs.declared.kind.Kind.{Kind}
 use Rattle.cf_base.specs.declared.kind.Kind.TheVariants.{Tlsf}
 use Rattle.cf_base.specs.declared.settings.Settings.{Settings}
-use Rattle.page_model.specs.Held.{Held, Placed, objects, places}
+use Rattle.page_model.specs.Held.{Placed, objects}
 use Rattle.page_model.specs.Figures.{asked_bytes}
-use Rattle.block_model.specs.Tiling.{Block, one_free_block, used_words}
+use Rattle.block_model.specs.Tiling.{one_free_block}
 use Rattle.block_model.proofs.CallerLemmas.{used_in_one_free}
 use Rattle.proxy_table.specs.Proxies.{Proxies, AreBelowLimit, no_proxies}
 use Rattle.tag_blocks.specs.Blocks.{Tagged, AreTags}
 use Rattle.cf_model.specs.Families.{IsTiled}
 use Rattle.cf_model.specs.Rules.{KeepsRules, KeepsTiling}
-use Rattle.cf_model.specs.State.{HeapState}
 use Rattle.cf_model.specs.Steps.{IsEmptyHeap, IsOpeningWords, empty_heap}
 use Rattle.cf_model.proofs.CallerLemmas.{tiled_empty}
-use Rattle.tag_heap.specs.Heap.{Heap, IsValid, held_in, state_of}
+use Rattle.tag_heap.specs.Heap.{Heap, IsValid, state_of}
 use Rattle.tag_heap.proofs.ByKind.{of_tiled}
 use Rattle.tag_heap.proofs.Preserved.{Becomes, becomes_rules, becomes_valid, held_is, in_range}
 

@@ -1,17 +1,15 @@
 -- An object goes, and its block is given back.
-use Rattle.std.proofs.Common.{◌≡◌, ◌≢◌, ℕ, ◌+◌, ◌-◌, ◌*◌, ◌/◌, ◌^◌, ◌≤◌, Option, Some, None, length, get_or, arith, refl, sym, ◌∙◌, ap, subst, inl, inr}
+use Rattle.std.proofs.Common.{◌≡◌, ◌≢◌, ℕ, ◌+◌, ◌-◌, ◌/◌, ◌^◌, ◌≤◌, Some, None, length, get_or, arith, refl, sym, ◌∙◌, ap, subst}
 use Rattle.std.proofs.lemmas.Option.{same_Some as some_placed}
 use Rattle.std.specs.FinMap.{get, remove}
 use Rattle.std.specs.Prelude.{option_map}
 use Rattle.cf_lemmas.proofs.Maps.{get_remove_other, some_removed}
 use Rattle.cf_lemmas.proofs.MapValues.{get-map_values, map_values-remove}
-use Rattle.cf_base.specs.declared.answers.Freed.{Freed}
 use Rattle.cf_base.specs.declared.kind.Kind.{Kind}
 use Rattle.page_model.specs.Held.{Held, Placed, objects}
-use Rattle.page_model.specs.Bytes.{bytes_at}
 use Rattle.page_model.specs.Figures.{asked_bytes}
 use Rattle.page_model.proofs.CallerLemmas.{asked_taken}
-use Rattle.block_model.specs.Tiling.{Block, block_at, released, size_at, used_words}
+use Rattle.block_model.specs.Tiling.{released, size_at, used_words}
 use Rattle.block_model.specs.Words.{AreTilingWords}
 use Rattle.block_model.proofs.CallerLemmas.{used_after_free}
 use Rattle.proxy_table.specs.Proxies.{AreBelowLimit, without_place}

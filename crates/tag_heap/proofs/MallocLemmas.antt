@@ -1,5 +1,5 @@
 -- An object comes, in a block that was carved for it.
-use Rattle.std.proofs.Common.{◌≡◌, ◌≢◌, ℕ, zero, suc, ◌+◌, ◌*◌, ◌%◌, ◌/◌, ◌^◌, ◌<◌, ◌≤◌, Option, Some, None, length, replicate, arith, refl, sym, ◌∙◌, ap, subst, inl, inr}
+use Rattle.std.proofs.Common.{◌≡◌, ◌≢◌, ℕ, zero, suc, ◌+◌, ◌^◌, ◌<◌, ◌≤◌, Option, Some, None, length, replicate, arith, refl, sym, ◌∙◌, ap, subst, inl, inr}
 use Rattle.std.proofs.lemmas.Bool.{cases_eq}
 use Rattle.std.proofs.lemmas.List.{length-replicate}
 use Rattle.std.specs.Ordering.{nat_cmp}
@@ -12,18 +12,18 @@ use Rattle.cf_base.specs.declared.kind.Kind.{Kind}
 use Rattle.page_model.specs.Held.{Held, Placed, objects}
 use Rattle.page_model.specs.Bytes.{AreBytes}
 use Rattle.page_model.specs.Figures.{asked_bytes}
-use Rattle.page_model.specs.Image.{header_word, object_word}
+use Rattle.page_model.specs.Image.{header_word}
 use Rattle.page_model.specs.Steps.{zeros_at}
 use Rattle.page_model.proofs.CallerLemmas.{asked_added, malloc_objects, malloc_places, zeros_are_bytes}
 use Rattle.block_model.specs.Buckets.{FreeLists}
-use Rattle.block_model.specs.Tiling.{Block, Carves, Demand, IsCarvedTo, LacksBlock, block_at, block_need, size_at, used_words}
+use Rattle.block_model.specs.Tiling.{Carves, IsCarvedTo, LacksBlock, block_need, size_at, used_words}
 use Rattle.block_model.specs.Words.{AreTilingWords}
 use Rattle.block_model.proofs.CallerLemmas.{used_after_malloc, used_within}
 use Rattle.proxy_table.specs.Proxies.{Proxies, AreBelowLimit, with_place, without_place}
 use Rattle.tag_blocks.specs.Blocks.{Tagged, AreTags, CarvesAt, demand, owner_of}
 use Rattle.tag_blocks.proofs.CallerLemmas.{carve_words}
 use Rattle.cf_model.specs.Families.{IsTiled, free_lists_of}
-use Rattle.cf_model.specs.Rules.{AreOwned, KeepsRules, content_word}
+use Rattle.cf_model.specs.Rules.{KeepsRules, content_word}
 use Rattle.cf_model.specs.Steps.{GivesObject, IsPlacedBy, LacksRoomIn, WantsProxy, WantsSpace}
 use Rattle.cf_model.proofs.CallerLemmas.{fresh_word, owned_malloc}
 use Rattle.tag_heap.specs.Heap.{Heap, IsValid, held_in, state_of}

@@ -1,5 +1,5 @@
 -- Bytes that are written into an object.
-use Rattle.std.proofs.Common.{◌≡◌, ◌≢◌, ℕ, suc, ◌+◌, ◌-◌, ◌*◌, ◌/◌, ◌%◌, ◌^◌, ◌<◌, ◌≤◌, List, length, get_or, Some, arith, refl, sym, ◌∙◌, ap, subst, inl, inr}
+use Rattle.std.proofs.Common.{◌≡◌, ◌≢◌, ℕ, suc, ◌+◌, ◌-◌, ◌/◌, ◌%◌, ◌^◌, ◌<◌, ◌≤◌, List, length, get_or, Some, arith, refl, sym, ◌∙◌, ap, subst, inl, inr}
 use Rattle.std.specs.Prelude.{option_map}
 use Rattle.std.proofs.lemmas.Bool.{cases_lt}
 use Rattle.std.proofs.lemmas.Option.{same_Some as some_placed}
@@ -14,7 +14,7 @@ use Rattle.page_model.specs.Figures.{asked_bytes}
 use Rattle.page_model.specs.Image.{IsOutside, header_word, object_word}
 use Rattle.page_model.proofs.CallerLemmas.{asked_added, asked_taken, byte_of_object, inserted_there, length-written, object_word_small}
 use Rattle.page_model.proofs.CallerLemmas.{written_are_bytes, written_before, written_behind, written_inside}
-use Rattle.block_model.specs.Tiling.{Block, size_at, size_of, used_words}
+use Rattle.block_model.specs.Tiling.{size_at, size_of, used_words}
 use Rattle.block_model.specs.Words.{AreTilingWords}
 use Rattle.word_bytes.specs.Cells.{overwritten}
 use Rattle.word_bytes.specs.Overwriting.{Overwrites, words_with}

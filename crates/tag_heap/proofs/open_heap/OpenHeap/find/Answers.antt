@@ -1,4 +1,4 @@
-use Rattle.std.proofs.Common.{arith, sym, ◌+◌, ap}
+use Rattle.std.proofs.Common.{arith, sym, ◌+◌}
 use Rattle.tag_heap.proofs.Preserved.{no_place, used_at}
 use Rattle.tag_heap.proofs.ReadLemmas.{bytes_long, lies_there, passes}
 use Rattle.tag_heap.proofs.open_heap.OpenHeap.find.Goals as goal

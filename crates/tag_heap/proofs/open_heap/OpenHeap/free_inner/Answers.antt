@@ -1,4 +1,4 @@
-use Rattle.std.proofs.Common.{◌/◌, ◌^◌, arith, refl, sym, ◌∙◌, ap, subst}
+use Rattle.std.proofs.Common.{◌/◌, ◌^◌, refl, sym, ◌∙◌, ap, subst}
 use Rattle.proxy_table.specs.Proxies.{AreBelowLimit}
 use Rattle.tag_heap.proofs.Preserved.{no_place, rules, used_at}
 use Rattle.tag_heap.proofs.FreeLemmas.{asked_enough, freed_rules, freed_valid, frees, used_enough}

@@ -1,4 +1,4 @@
-use Rattle.std.proofs.Common.{length, arith, sym}
+use Rattle.std.proofs.Common.{arith, sym}
 use Rattle.std.proofs.lemmas.Option.{slice_get_past}
 use Rattle.tag_heap.proofs.Preserved.{rules}
 use Rattle.tag_heap.proofs.open_heap.OpenHeap.peek.Goals as goal

@@ -1,4 +1,4 @@
-use Rattle.std.proofs.Common.{length, sym}
+use Rattle.std.proofs.Common.{length}
 use Rattle.tag_heap.proofs.Preserved.{rules}
 use Rattle.tag_heap.proofs.PartLemmas.{read_part}
 use Rattle.tag_heap.proofs.open_heap.OpenHeap.read.Goals as goal

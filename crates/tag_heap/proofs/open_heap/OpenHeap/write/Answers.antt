@@ -1,4 +1,4 @@
-use Rattle.std.proofs.Common.{arith, sym}
+use Rattle.std.proofs.Common.{arith}
 use Rattle.tag_heap.proofs.Preserved.{rules}
 use Rattle.tag_heap.proofs.WriteLemmas.{writes, wrote_rules, wrote_valid}
 use Rattle.tag_heap.proofs.open_heap.OpenHeap.write.Goals as goal

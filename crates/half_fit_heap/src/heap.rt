@@ -1,0 +1,22 @@
+//! The manager.
+ghost use Rattle.std.specs.Prelude.{refl};
+ghost use Rattle.cf_base.specs.declared.kind.Kind.TheVariants.{HalfFit};
+
+use crate::buckets::HalfFitBuckets;
+use cf_base::Kind;
+use tag_heap::{TagHeap, Yardstick};
+
+/// The manager with the free lists of Half-Fit (1995).
+pub type HalfFitHeap = TagHeap<HalfFitBuckets>;
+
+impl Yardstick for HalfFitBuckets {
+    ghost kind = { HalfFit };
+
+    fn kind() -> Kind {
+        Kind::HalfFit
+    }
+
+    ghost tiled = { refl };
+
+    ghost lists = { refl };
+}
