@@ -1,5 +1,5 @@
--- From the outcome of a script to that of the whole call.
-use Rattle.std.proofs.Common.{◌≡◌, ◌≤◌, ◌∙◌, ℕ, List, [], Option, Some, None, true, false, refl, ap, sym, subst, length, arith, inl, inr}
+-- From the outcome of a mode to that of the whole call.
+use Rattle.std.proofs.Common.{◌≡◌, ◌≤◌, ◌∙◌, ℕ, List, Option, Some, None, true, false, refl, ap, sym, subst, length, arith, inl, inr}
 use Rattle.std.proofs.lemmas.Bool.{le-leb}
 use Rattle.std.proofs.lemmas.List.{take_all}
 use Rattle.std.specs.Prelude.{nat_le}
@@ -8,87 +8,177 @@ use Rattle.cf_base.specs.declared.kind.Kind.{Kind}
 use Rattle.cf_base.specs.declared.status.Status.{Status}
 use Rattle.cf_base.specs.declared.status.Status.TheVariants.{Done, Words, BadScript, ReadFault, WriteFault, OutOfMemory, TooLong, BadImage}
 use Rattle.cf_io.specs.Feeds.{Rose}
-use Rattle.cf_model.specs.State.{HeapState, closed_state}
 use Rattle.cf_session.specs.Apply.{run_at}
 use Rattle.command_line.specs.Choices.{Chooses}
 use Rattle.command_line.specs.declared.choice.Choice.{Choice}
 use Rattle.command_line.specs.declared.choice.Mode.{Mode}
-use Rattle.command_line.specs.declared.choice.Mode.TheVariants.{Run}
+use Rattle.command_line.specs.declared.choice.Mode.TheVariants.{Run, Compare}
 use Rattle.script_reader.specs.Items.{items}
-use Rattle.run_model.specs.Sessions.{RunState, SessionState, fresh_session}
+use Rattle.run_model.specs.Sessions.{RunState, fresh_session}
 use Rattle.script_loop.proofs.CallerLemmas.{transcript_told}
-use Rattle.script_loop.specs.Consequences.{AnswersAll}
+use Rattle.script_loop.specs.Consequences.{AnswersAll, TellsTranscript}
 use Rattle.script_loop.specs.OneManager.{one_manager}
 use Rattle.script_loop.specs.ScriptOutcome.{Effects, IsClean, IsEnding, IsRow, IsRowOf, MOST_BYTES, MeetsOutcome, has_bad, items_within}
-use Rattle.cf_tool.specs.TopOutcome.{DoesChosen, EndsBy, EndsWhole, InMode, TellsChosen, TellsInMode}
-
--- a session that was just begun, and a manager that was never open
-begun_closed : (kind : Kind) (session : SessionState) (heap : HeapState) → session ≡ fresh_session → heap ≡ closed_state kind
-    → run_at session heap ≡ run_at fresh_session (closed_state kind)
-begun_closed kind session heap fresh closed = ap (λ s. run_at s heap) fresh ∙ ap (λ h. run_at fresh_session h) closed
+use Rattle.script_loop.specs.Semantics.{Semantics}
+use Rattle.side_by_side.proofs.CallerLemmas.{chosen_kind}
+use Rattle.side_by_side.specs.First.{chosen_of}
+use Rattle.side_by_side.specs.Many.{Many, fresh_many, many_managers}
+use Rattle.cf_tool.specs.TopOutcome.{Compares, DoesChosen, Ends, EndsWell, EndsWhole, Handed, InMode, OrLacks, Runs, TellsChosen, TellsInMode, effects_of}
 
 -- no script ends by `Words`
-never_words : (from to : RunState) (had left : Option (List ℕ)) (call : Effects) → call.status ≡ Words → IsRowOf one_manager from had left call to → ⊥
-never_words from to (Some all) (Some left) call is met = subst (λ (st : Status). IsRow one_manager st from all left call to) is met
-never_words from to (Some all) None call is met = met
-never_words from to None left call is met = subst IsEnding is met
+never_words : {S P : Type 0} (m : Semantics S P) (from to : S) (had left : Option (List ℕ)) (call : Effects) → call.status ≡ Words
+    → IsRowOf m from had left call to → ⊥
+never_words m from to (Some all) (Some left) call is met = subst (λ (st : Status). IsRow m st from all left call to) is met
+never_words m from to (Some all) None call is met = met
+never_words m from to None left call is met = subst IsEnding is met
 
--- mode run and this kind were chosen, and done
-module _ (words : List Text) (choice : Choice) (kind : Kind) (call : Effects) (session : SessionState) (heap : HeapState) (end : RunState)
-    (chosen : Chooses words choice) (is_run : choice.mode ≡ Run) (is_kind : choice.kind ≡ kind)
-    (fresh : session ≡ fresh_session) (closed : heap ≡ closed_state kind) (met : MeetsOutcome one_manager (run_at session heap) call end) where
-  met_closed : MeetsOutcome one_manager (run_at fresh_session (closed_state kind)) call end
-  met_closed = subst (λ (from : RunState). MeetsOutcome one_manager from call end) (begun_closed kind session heap fresh closed) met
+-- A mode was chosen, and done.
+module _ (words : List Text) (choice : Choice) (Does : Handed → Status → Handed → Type 0) (chosen : Chooses words choice)
+    (in_mode : (old : Handed) (st : Status) (new : Handed) → Does old st new → InMode choice.mode choice.kind old st new)
+    (never : (old new : Handed) → Does old Words new → ⊥) where
+  does : (old : Handed) (st : Status) (new : Handed) → Does old st new → DoesChosen words old st new
+  does old st new done = record { choice = choice; chosen = chosen; done = in_mode old st new done }
 
-  -- what holds of mode run and this kind holds of what was chosen
-  of_choice : (P : Mode → Kind → Type 0) → P Run kind → P choice.mode choice.kind
-  of_choice P p = subst (λ (m : Mode). P m choice.kind) (sym is_run) (subst (λ (k : Kind). P Run k) (sym is_kind) p)
-
-  does_run : DoesChosen words call
-  does_run = record {
-    choice = choice;
-    chosen = chosen;
-    done = of_choice (λ m k. InMode m k call) (record { end = end; outcome = met_closed });
-  }
-
-  ends_at : (st : Status) → call.status ≡ st → (st ≡ OutOfMemory → call.after ≡ call.before) → EndsBy st words call
-  ends_at Words is silent = absurd (never_words (run_at session heap) end call.had call.left call is met)
-  ends_at OutOfMemory is silent = silent refl
-  ends_at Done is silent = does_run
-  ends_at BadScript is silent = does_run
-  ends_at ReadFault is silent = does_run
-  ends_at WriteFault is silent = does_run
-  ends_at TooLong is silent = does_run
-  ends_at BadImage is silent = does_run
-
-  pub ends_run : (call.status ≡ OutOfMemory → call.after ≡ call.before) → EndsBy call.status words call
-  ends_run silent = ends_at call.status refl silent
-
-  pub tells_run : AnswersAll call.status → TellsChosen words call
-  tells_run is = record {
-    choice = choice;
-    chosen = chosen;
-    tells = of_choice (λ m k. TellsInMode m k call) (transcript_told (run_at fresh_session (closed_state kind)) end call met_closed is);
-  }
+  pub ends_mode : (old : Handed) (st : Status) (new : Handed) → OrLacks Does old st new → EndsWell words old st new
+  ends_mode old Words new done = absurd (never old new done)
+  ends_mode old OutOfMemory new (silent, inl same) = (silent, inl same)
+  ends_mode old OutOfMemory new (silent, inr done) = (silent, inr (does old OutOfMemory new done))
+  ends_mode old Done new done = does old Done new done
+  ends_mode old BadScript new done = does old BadScript new done
+  ends_mode old ReadFault new done = does old ReadFault new done
+  ends_mode old WriteFault new done = does old WriteFault new done
+  ends_mode old TooLong new done = does old TooLong new done
+  ends_mode old BadImage new done = does old BadImage new done
 
 within_all : (all : List ℕ) → length all ≤ MOST_BYTES → items_within all ≡ items all true
 within_all all fits = ap (λ (l : List ℕ). items l (nat_le (length all) MOST_BYTES)) (take_all MOST_BYTES all fits)
     ∙ ap (items all) (le-leb (length all) MOST_BYTES fits)
 
 -- with no fault, a script with no bad line is answered whole
-pub whole_run : (from end : RunState) (had left before after : Option (List ℕ)) (st : Status) (a b d e : ℕ)
-    → MeetsOutcome one_manager from (record { had = had; left = left; before = before; after = after; status = st }) end → (st ≡ ReadFault → Rose a b)
-    → (st ≡ WriteFault → Rose d e)
-    → IsClean had → ¬ Rose a b → ¬ Rose d e → EndsWhole st
-whole_run from end None left before after st a b d e met read wrote clean sure firm = absurd clean
-whole_run from end (Some all) None before after st a b d e met read wrote clean sure firm = absurd met
-whole_run from end (Some all) (Some left) before after Words a b d e met read wrote clean sure firm = absurd met
-whole_run from end (Some all) (Some left) before after BadImage a b d e met read wrote clean sure firm = absurd met
-whole_run from end (Some all) (Some left) before after Done a b d e met read wrote clean sure firm = inl refl
-whole_run from end (Some all) (Some left) before after OutOfMemory a b d e met read wrote clean sure firm = inr refl
-whole_run from end (Some all) (Some left) before after BadScript a b d e met read wrote clean sure firm =
-    let both : true ≡ false = sym met.0 ∙ ap has_bad (within_all all clean.0) ∙ clean.1 in absurd cc
-whole_run from end (Some all) (Some left) before after TooLong a b d e met read wrote clean sure firm =
-    absurd (let past = met.0 in let few = clean.0 in omega arith)
-whole_run from end (Some all) (Some left) before after ReadFault a b d e met read wrote clean sure firm = absurd (sure (read refl))
-whole_run from end (Some all) (Some left) before after WriteFault a b d e met read wrote clean sure firm = absurd (firm (wrote refl))
+row_whole : {S P : Type 0} (m : Semantics S P) (from to : S) (all left : List ℕ) (call : Effects) (st : Status) (a b d e : ℕ)
+    → IsRow m st from all left call to → (st ≡ ReadFault → Rose a b) → (st ≡ WriteFault → Rose d e)
+    → IsClean (Some all) → ¬ Rose a b → ¬ Rose d e → EndsWhole st
+row_whole m from to all left call Words a b d e row read wrote clean sure firm = absurd row
+row_whole m from to all left call BadImage a b d e row read wrote clean sure firm = absurd row
+row_whole m from to all left call Done a b d e row read wrote clean sure firm = inl refl
+row_whole m from to all left call OutOfMemory a b d e row read wrote clean sure firm = inr refl
+row_whole m from to all left call BadScript a b d e row read wrote clean sure firm =
+    let both : true ≡ false = sym row.0 ∙ ap has_bad (within_all all clean.0) ∙ clean.1 in absurd cc
+row_whole m from to all left call TooLong a b d e row read wrote clean sure firm = absurd (let past = row.0 in let few = clean.0 in omega arith)
+row_whole m from to all left call ReadFault a b d e row read wrote clean sure firm = absurd (sure (read refl))
+row_whole m from to all left call WriteFault a b d e row read wrote clean sure firm = absurd (firm (wrote refl))
+
+pub met_whole : {S P : Type 0} (m : Semantics S P) (from to : S) (had left : Option (List ℕ)) (call : Effects) (a b d e : ℕ)
+    → IsRowOf m from had left call to → (call.status ≡ ReadFault → Rose a b) → (call.status ≡ WriteFault → Rose d e)
+    → IsClean had → ¬ Rose a b → ¬ Rose d e → EndsWhole call.status
+met_whole m from to None left call a b d e met read wrote clean sure firm = absurd clean
+met_whole m from to (Some all) None call a b d e met read wrote clean sure firm = absurd met
+met_whole m from to (Some all) (Some left) call a b d e met read wrote clean sure firm =
+    row_whole m from to all left call call.status a b d e met read wrote clean sure firm
+
+-- A mode that plays a script.
+module _ {S P : Type 0} (m : Semantics S P) (from : Handed → S) (Does : Handed → Status → Handed → Type 0)
+    (met : (old : Handed) (st : Status) (new : Handed) → Does old st new → (end : S) × MeetsOutcome m (from old) (effects_of old st new) end) where
+  pub script_never_words : (old new : Handed) → Does old Words new → ⊥
+  script_never_words old new done =
+      let outcome = met old Words new done in
+      never_words m (from old) outcome.0 old.source.rest new.source.rest (effects_of old Words new) refl outcome.1
+
+  pub script_whole : (old : Handed) (st : Status) (new : Handed) → Ends Does old st new → IsClean old.source.rest
+      → ¬ Rose old.source.faults new.source.faults → ¬ Rose old.sink.faults new.sink.faults → EndsWhole st
+  script_whole old st new ends clean sure firm = go st ends.outcome ends.read_fault ends.write_fault
+    where
+      row : (st : Status) → Does old st new → (st ≡ ReadFault → Rose old.source.faults new.source.faults)
+          → (st ≡ WriteFault → Rose old.sink.faults new.sink.faults) → EndsWhole st
+      row st done read wrote =
+          let outcome = met old st new done in
+          met_whole m (from old) outcome.0 old.source.rest new.source.rest (effects_of old st new) _ _ _ _ outcome.1 read wrote clean sure firm
+
+      go : (st : Status) → OrLacks Does old st new → (st ≡ ReadFault → Rose old.source.faults new.source.faults)
+          → (st ≡ WriteFault → Rose old.sink.faults new.sink.faults) → EndsWhole st
+      go OutOfMemory done read wrote = inr refl
+      go Words done read wrote = row Words done read wrote
+      go Done done read wrote = row Done done read wrote
+      go BadScript done read wrote = row BadScript done read wrote
+      go ReadFault done read wrote = row ReadFault done read wrote
+      go WriteFault done read wrote = row WriteFault done read wrote
+      go TooLong done read wrote = row TooLong done read wrote
+      go BadImage done read wrote = row BadImage done read wrote
+
+-- Mode `run`.
+module _ (kind : Kind) where
+  from_chosen : Handed → RunState
+  from_chosen old = run_at fresh_session (chosen_of kind old.managers)
+
+  run_met : (old : Handed) (st : Status) (new : Handed) → Runs kind old st new → (end : RunState) × MeetsOutcome one_manager (from_chosen old) (effects_of old st new) end
+  unfolding from_chosen
+  run_met old st new done = (done.end, done.outcome)
+
+  pub run_never_words : (old new : Handed) → Runs kind old Words new → ⊥
+  run_never_words = script_never_words one_manager from_chosen (Runs kind) run_met
+
+  pub run_whole : (old : Handed) (st : Status) (new : Handed) → Ends (Runs kind) old st new → IsClean old.source.rest
+      → ¬ Rose old.source.faults new.source.faults → ¬ Rose old.sink.faults new.sink.faults → EndsWhole st
+  run_whole = script_whole one_manager from_chosen (Runs kind) run_met
+
+  told : (old : Handed) (st : Status) (new : Handed) → Runs kind old st new → AnswersAll st
+      → TellsTranscript kind old.source.rest (effects_of old st new)
+  told old st new done is =
+      subst (λ (k : Kind). TellsTranscript k old.source.rest (effects_of old st new)) (chosen_kind kind old.managers)
+      (transcript_told (run_at fresh_session (chosen_of kind old.managers)) done.end (effects_of old st new) done.outcome is)
+
+  run_told : (old : Handed) (st : Status) (new : Handed) → OrLacks (Runs kind) old st new → AnswersAll st
+      → TellsTranscript kind old.source.rest (effects_of old st new)
+  run_told old Done new done is = told old Done new done is
+  run_told old BadScript new done is = told old BadScript new done is
+  run_told old TooLong new done is = told old TooLong new done is
+  run_told old Words new done is = absurd is
+  run_told old ReadFault new done is = absurd is
+  run_told old WriteFault new done is = absurd is
+  run_told old OutOfMemory new done is = absurd is
+  run_told old BadImage new done is = absurd is
+
+-- Mode `run` was chosen.
+module _ (words : List Text) (choice : Choice) (chosen : Chooses words choice) (is_run : choice.mode ≡ Run) (old : Handed) (st : Status) (new : Handed)
+    (ends : Ends (Runs choice.kind) old st new) where
+  pub run_ends : EndsWell words old st new
+  run_ends = ends_mode words choice (Runs choice.kind) chosen
+      (λ from status to done. subst (λ (m : Mode). InMode m choice.kind from status to) (sym is_run) done)
+      (run_never_words choice.kind) old st new ends.outcome
+
+  pub run_tells : AnswersAll st → TellsChosen words (effects_of old st new)
+  run_tells is = record {
+    choice = choice;
+    chosen = chosen;
+    tells = subst (λ (m : Mode). TellsInMode m choice.kind (effects_of old st new)) (sym is_run) (run_told choice.kind old st new ends.outcome is);
+  }
+
+-- Mode `compare`.
+from_each : Handed → Many
+from_each old = fresh_many old.managers
+
+compare_met : (old : Handed) (st : Status) (new : Handed) → Compares old st new → (end : Many) × MeetsOutcome many_managers (from_each old) (effects_of old st new) end
+unfolding from_each
+compare_met old st new done = (done.end, done.outcome)
+
+compare_never_words : (old new : Handed) → Compares old Words new → ⊥
+compare_never_words = script_never_words many_managers from_each Compares compare_met
+
+pub compare_whole : (old : Handed) (st : Status) (new : Handed) → Ends Compares old st new → IsClean old.source.rest
+    → ¬ Rose old.source.faults new.source.faults → ¬ Rose old.sink.faults new.sink.faults → EndsWhole st
+compare_whole = script_whole many_managers from_each Compares compare_met
+
+-- Mode `compare` was chosen.
+module _ (words : List Text) (choice : Choice) (chosen : Chooses words choice) (is_compare : choice.mode ≡ Compare) (old : Handed) (st : Status) (new : Handed)
+    (ends : Ends Compares old st new) where
+  pub compare_ends : EndsWell words old st new
+  compare_ends = ends_mode words choice Compares chosen
+      (λ from status to done. subst (λ (m : Mode). InMode m choice.kind from status to) (sym is_compare) done)
+      compare_never_words old st new ends.outcome
+
+  pub compare_tells : AnswersAll st → TellsChosen words (effects_of old st new)
+  compare_tells is = record {
+    choice = choice;
+    chosen = chosen;
+    tells = subst (λ (m : Mode). TellsInMode m choice.kind (effects_of old st new)) (sym is_compare) tt;
+  }

@@ -1,54 +1,103 @@
--- How the top call may end.
-use Rattle.std.specs.Prelude.{◌≡◌, ◌⊎◌, List}
+-- How the top call may end, by the mode that the words choose.
+use Rattle.std.specs.Prelude.{◌≡◌, ◌<◌, ◌+◌, ◌⊎◌, ⊤, ℕ, List, Option, map}
 use Rattle.cf_base.specs.declared.kind.Kind.{Kind}
 use Rattle.cf_base.specs.declared.status.Status.{Status}
-use Rattle.cf_base.specs.declared.status.Status.TheVariants.{Done, Words, OutOfMemory}
+use Rattle.cf_base.specs.declared.status.Status.TheVariants.{Done, Words, ReadFault, WriteFault, OutOfMemory, TooLong}
+use Rattle.cf_io.specs.Feeds.{Rose, last_count}
 use Rattle.clap.specs.Words.{Text}
-use Rattle.cf_model.specs.State.{closed_state}
+use Rattle.cf_model.specs.State.{HeapState}
 use Rattle.cf_session.specs.Apply.{run_at}
 use Rattle.command_line.specs.Choices.{AreRefused, Chooses}
 use Rattle.command_line.specs.declared.choice.Choice.{Choice}
 use Rattle.command_line.specs.declared.choice.Mode.{Mode}
-use Rattle.command_line.specs.declared.choice.Mode.TheVariants.{Run}
+use Rattle.command_line.specs.declared.choice.Mode.TheVariants.{Run, Compare}
 use Rattle.run_model.specs.Sessions.{RunState, fresh_session}
 use Rattle.script_loop.specs.Consequences.{AnswersAll, TellsTranscript}
 use Rattle.script_loop.specs.OneManager.{one_manager}
-use Rattle.script_loop.specs.ScriptOutcome.{Effects, MeetsOutcome}
+use Rattle.script_loop.specs.ScriptOutcome.{Effects, MOST_BYTES, MeetsOutcome}
+use Rattle.side_by_side.specs.First.{chosen_of, with_chosen}
+use Rattle.side_by_side.specs.Many.{Many, fresh_many, many_managers}
 
--- nothing was read or written
-pub record IsUntouched (call : Effects) : Type 0 where
-  pub unread : call.left ≡ call.had
-  pub unwritten : call.after ≡ call.before
+-- what a source tells: the bytes that it has left, where it is observable, how many it gave, and how often it failed
+pub record SourceState : Type 0 where
+  pub rest : Option (List ℕ)
+  pub given : ℕ
+  pub faults : ℕ
 
--- a manager of the kind that was never open answers the script, in a session of its own
-pub record AnswersScript (kind : Kind) (call : Effects) : Type 0 where
+abbrev pub source_at : Option (List ℕ) → ℕ → ℕ → SourceState
+source_at rest given faults = record { rest = rest; given = given; faults = faults }
+
+-- what a sink tells: the bytes written, where it is observable, and how often it failed
+pub record SinkState : Type 0 where
+  pub written : Option (List ℕ)
+  pub faults : ℕ
+
+abbrev pub sink_at : Option (List ℕ) → ℕ → SinkState
+sink_at written faults = record { written = written; faults = faults }
+
+-- what a call is handed: a source, a sink, and managers
+pub record Handed : Type 0 where
+  pub source : SourceState
+  pub sink : SinkState
+  pub managers : List HeapState
+
+abbrev pub handed : SourceState → SinkState → List HeapState → Handed
+handed source sink managers = record { source = source; sink = sink; managers = managers }
+
+-- the bytes that were taken and written meanwhile
+abbrev pub effects_of : Handed → Status → Handed → Effects
+effects_of old status new =
+    record { had = old.source.rest; left = new.source.rest; before = old.sink.written; after = new.sink.written; status = status }
+
+-- Mode `run`: the first manager of the kind answers the script, in a session of its own, and stands where its run led it; no other one is touched. Where none
+-- is of the kind, one that was never open is made for it.
+pub record Runs (kind : Kind) (old : Handed) (status : Status) (new : Handed) : Type 0 where
   pub end : RunState
-  pub outcome : MeetsOutcome one_manager (run_at fresh_session (closed_state kind)) call end
+  pub outcome : MeetsOutcome one_manager (run_at fresh_session (chosen_of kind old.managers)) (effects_of old status new) end
+  pub stand : new.managers ≡ with_chosen kind old.managers end.heap
 
--- by the mode, whatever the statuses that it has; no other mode is offered yet
-abbrev pub InMode : Mode → Kind → Effects → Type 0
-InMode Run kind call = AnswersScript kind call
-InMode mode kind call = ⊥
+-- Mode `compare`: each manager answers the script, in a session of its own, and stands where its run led it; the replies are woven.
+pub record Compares (old : Handed) (status : Status) (new : Handed) : Type 0 where
+  pub end : Many
+  pub outcome : MeetsOutcome many_managers (fresh_many old.managers) (effects_of old status new) end
+  pub stand : new.managers ≡ end.heaps
+
+abbrev pub InMode : Mode → Kind → Handed → Status → Handed → Type 0
+InMode Run kind old status new = Runs kind old status new
+InMode Compare kind old status new = Compares old status new
+InMode mode kind old status new = ⊥
 
 -- the words choose a mode and a kind, and the call did what they ask
-pub record DoesChosen (words : List Text) (call : Effects) : Type 0 where
+pub record DoesChosen (words : List Text) (old : Handed) (status : Status) (new : Handed) : Type 0 where
   pub choice : Choice
   pub chosen : Chooses words choice
-  pub done : InMode choice.mode choice.kind call
+  pub done : InMode choice.mode choice.kind old status new
 
--- the words are refused, an allocation failed before anything was written, or by the mode
-abbrev pub EndsBy : Status → List Text → Effects → Type 0
-EndsBy Words words call = AreRefused words × IsUntouched call
-EndsBy OutOfMemory words call = call.after ≡ call.before
-EndsBy status words call = DoesChosen words call
+-- Out of memory may come before anything is touched, or where the mode says; nothing is written then.
+abbrev pub OrLacks : (Handed → Status → Handed → Type 0) → Handed → Status → Handed → Type 0
+OrLacks Does old OutOfMemory new = (new.sink.written ≡ old.sink.written) × ((new ≡ old) ⊎ Does old OutOfMemory new)
+OrLacks Does old status new = Does old status new
 
-abbrev pub EndsWell : List Text → Effects → Type 0
-EndsWell words call = EndsBy call.status words call
+-- the words are refused, and nothing is touched; or the call does what they choose
+abbrev pub EndsWell : List Text → Handed → Status → Handed → Type 0
+EndsWell words old Words new = AreRefused words × (new ≡ old)
+EndsWell words old status new = OrLacks (DoesChosen words) old status new
+
+abbrev pub kinds_in : Handed → List Kind
+kinds_in h = map (λ m. m.kind) h.managers
+
+-- a call did what a mode asks; and the causes of how it ended, over every source and sink
+pub record Ends (Does : Handed → Status → Handed → Type 0) (old : Handed) (status : Status) (new : Handed) : Type 0 where
+  pub outcome : OrLacks Does old status new
+  pub kinds : kinds_in new ≡ kinds_in old
+  pub read_fault : status ≡ ReadFault → Rose old.source.faults new.source.faults
+  pub write_fault : status ≡ WriteFault → Rose old.sink.faults new.sink.faults
+  pub too_long : status ≡ TooLong → (old.source.given + MOST_BYTES < new.source.given) ⊎ (new.source.given ≡ last_count)
 
 -- by the mode: what is printed over plain items is their transcript
 abbrev pub TellsInMode : Mode → Kind → Effects → Type 0
 TellsInMode Run kind call = TellsTranscript kind call.had call
-TellsInMode mode kind call = ⊥
+TellsInMode mode kind call = ⊤
 
 -- the same, of what the words choose
 pub record TellsChosen (words : List Text) (call : Effects) : Type 0 where
@@ -57,8 +106,8 @@ pub record TellsChosen (words : List Text) (call : Effects) : Type 0 where
   pub tells : TellsInMode choice.mode choice.kind call
 
 -- where every item within the limit was answered, the output over plain items is their transcript, however the source was cut
-abbrev pub TellsPlainly : List Text → Effects → Type 0
-TellsPlainly words call = AnswersAll call.status → TellsChosen words call
+abbrev pub TellsPlainly : List Text → Handed → Status → Handed → Type 0
+TellsPlainly words old status new = AnswersAll status → TellsChosen words (effects_of old status new)
 
 -- the whole script was answered, or it ran out of memory
 abbrev pub EndsWhole : Status → Type 0

@@ -1,10 +1,17 @@
 //! The tool: reads a script from standard input and answers each command.
 #![tactic(auto)]
 
+mod boxed;
+mod comparing;
+mod running;
 mod top;
 
+use boxed::Boxed;
 use cf_base::Status;
 use cf_io::{StdSink, StdSource};
+use moving_heap::MovingHeap;
+use nonmoving_heap::NonMovingHeap;
+use std::alloc::AllocError;
 use std::env;
 use std::io::ErrorKind;
 use std::process::ExitCode;
@@ -35,13 +42,24 @@ fn command_words(rt: &HostRuntime) -> Result<Vec<String>, Status> {
     }
 }
 
+/// Calls `cf_main` with standard input and output, and a closed manager of each kind.
+fn run_all(rt: &HostRuntime, words: &[String]) -> Result<Status, AllocError> {
+    let alloc = rt.alloc();
+    let mut managers = Vec::new(alloc);
+    managers.push(Boxed {
+        inner: Box::new(alloc, MovingHeap::closed(alloc))?,
+    })?;
+    managers.push(Boxed {
+        inner: Box::new(alloc, NonMovingHeap::closed(alloc))?,
+    })?;
+    let mut source = StdSource::new(rt.stdin());
+    let mut sink = StdSink::new(rt.stdout());
+    Ok(cf_main(rt, alloc, words, &mut source, &mut sink, &mut managers))
+}
+
 fn main(rt: HostRuntime) -> ExitCode {
     let status = match command_words(&rt) {
-        Ok(words) => {
-            let mut source = StdSource::new(rt.stdin());
-            let mut sink = StdSink::new(rt.stdout());
-            cf_main(&rt, rt.alloc(), words.as_slice(), &mut source, &mut sink)
-        }
+        Ok(words) => run_all(&rt, words.as_slice()).unwrap_or(Status::OutOfMemory),
         Err(status) => status,
     };
     if let Some(text) = complaint(status) {

@@ -1,13 +1,19 @@
 mod faults;
+mod managers;
 mod rows;
 
+use crate::boxed::Boxed;
 use crate::complaint;
 use crate::top::cf_main;
-use cf_base::Status;
+use cf_base::{Kind, Status};
 use cf_io::{Line, LoopSource, MemSink, MemSource, Source, SureSource, number_of};
+use cf_model::Manager;
+use moving_heap::MovingHeap;
+use nonmoving_heap::NonMovingHeap;
 use rows::{MOVE, MOVED, ROWS, STEPS};
 use std::alloc::AllocError;
 use std::test::Fail;
+use step_ledger::Meter;
 
 /// The room of a sink in these tests, in bytes.
 const ROOM: usize = 65_536;
@@ -30,20 +36,63 @@ fn plain_sink(rt: &HostRuntime) -> Result<MemSink, Fail> {
     Ok(sink)
 }
 
-/// Answers a script by the default manager, and gives the status.
-fn answer<S: Source>(rt: &HostRuntime, source: &mut S, sink: &mut MemSink) -> Result<Status, Fail> {
-    answer_by(rt, &[], source, sink)
+/// What a call leaves: its status, and the live objects of each manager handed in, none where it is
+/// closed.
+#[derive(Drop)]
+struct Left {
+    status: Status,
+    live: Vec<Option<u32>>,
 }
 
-/// Answers a script as these words choose, and gives the status.
+/// Answers a script as these words choose, with closed managers of these kinds.
+fn answer_with<S: Source>(
+    rt: &HostRuntime,
+    words: &[&str],
+    kinds: &[Kind],
+    source: &mut S,
+    sink: &mut MemSink,
+) -> Result<Left, Fail> {
+    let alloc = rt.alloc();
+    let words = command_line(rt, words)?;
+    let mut managers = Vec::new(alloc);
+    for kind in kinds {
+        match kind {
+            Kind::NonMoving => managers.push(Boxed {
+                inner: Box::new(alloc, NonMovingHeap::closed(alloc))?,
+            })?,
+            _ => managers.push(Boxed {
+                inner: Box::new(alloc, MovingHeap::closed(alloc))?,
+            })?,
+        }
+    }
+    let status = cf_main(rt, alloc, words.as_slice(), source, sink, &mut managers);
+    let mut live = Vec::new(alloc);
+    let mut meter = Meter::new(rt);
+    for manager in &managers {
+        live.push(if manager.is_open() {
+            Some(manager.totals(meter.steps()).live)
+        } else {
+            None
+        })?;
+    }
+    Ok(Left { status, live })
+}
+
+/// Answers a script as these words choose, with the managers that the program has, and gives the
+/// status.
 fn answer_by<S: Source>(
     rt: &HostRuntime,
     words: &[&str],
     source: &mut S,
     sink: &mut MemSink,
 ) -> Result<Status, Fail> {
-    let words = command_line(rt, words)?;
-    Ok(cf_main(rt, rt.alloc(), words.as_slice(), source, sink))
+    let left = answer_with(rt, words, &[Kind::Moving, Kind::NonMoving], source, sink)?;
+    Ok(left.status)
+}
+
+/// Answers a script by the default manager, and gives the status.
+fn answer<S: Source>(rt: &HostRuntime, source: &mut S, sink: &mut MemSink) -> Result<Status, Fail> {
+    answer_by(rt, &[], source, sink)
 }
 
 #[test]
@@ -153,11 +202,10 @@ fn words_that_are_not_taken_read_nothing(rt: HostRuntime) -> Result<(), Fail> {
         &["run", "again"],
     ];
     for words in refused {
-        let words = command_line(&rt, words)?;
         let mut source = SureSource::new(b"heap 1 512 1 4\n".to_vec(rt.alloc())?);
         let mut sink = plain_sink(&rt)?;
         assert_eq!(rt;
-            cf_main(&rt, rt.alloc(), words.as_slice(), &mut source, &mut sink),
+            answer_by(&rt, words, &mut source, &mut sink)?,
             Status::Words
         );
         assert_eq!(rt; sink.written().len(), 0);

@@ -3,48 +3,51 @@ ghost use Rattle.std.specs.Prelude.{◌≡◌, ◌<◌, ◌+◌, ◌⊎◌, map,
 ghost use Rattle.cf_io.specs.Feeds.{Rose, last_count};
 ghost use Rattle.script_loop.specs.ScriptOutcome.{IsClean, MOST_BYTES};
 ghost use Rattle.command_line.specs.Choices.{AreAccepted};
-ghost use Rattle.cf_tool.specs.TopOutcome.{EndsWell, EndsWhole, TellsPlainly};
+ghost use Rattle.cf_tool.specs.TopOutcome.{EndsWell, EndsWhole, TellsPlainly, handed, sink_at, source_at};
 
-use cf_base::{Kind, Status};
+use crate::boxed::Boxed;
+use crate::comparing::compare;
+use crate::running::run_chosen;
+use cf_base::Status;
 use cf_io::{Sink, Source};
-use cf_session::Session;
+use cf_model::Manager;
 use command_line::{Mode, WordsFault, read_words};
-use moving_heap::MovingHeap;
-use nonmoving_heap::NonMovingHeap;
-use script_loop::run_script;
 use std::alloc::Global;
 use std::rt::Runtime;
 
 /// Reads the words, of which the first is the program's name, and does what they choose.
 ///
-/// In mode `run` a manager of the chosen kind answers a script of at most 268,435,455 bytes: its
-/// `heap` line opens the manager, and each command is answered before the next chunk is taken from
-/// the source. The call ends at the end of the script with `Done`; at a line that isn't in the
-/// grammar at its place with `BadScript`; where more bytes come with `TooLong`; at a fault with
-/// `ReadFault` or `WriteFault`; and out of memory with `OutOfMemory`, before any reply. It
-/// answers `Words` exactly where `clap` refuses the words for another cause than memory.
+/// In mode `run` the first manager of the chosen kind answers a script of at most 268,435,455 bytes,
+/// or a closed one that is made where none is of the kind: its `heap` line opens the manager, and each
+/// command is answered before the next chunk is taken from the source. No other manager is touched.
+/// In mode `compare` every manager handed in answers, in order: each line of its replies after its
+/// name, and `bad line` once and without a name. The call ends at the end of the script with `Done`; at a line that isn't in the grammar at its
+/// place with `BadScript`; where more bytes come with `TooLong`; at a fault with `ReadFault` or
+/// `WriteFault`; and out of memory with `OutOfMemory`, before any reply. It answers `Words` exactly
+/// where `clap` refuses the words for another cause than memory.
 pub fn cf_main<R: Runtime, S: Source, K: Sink>(
     rt: &R,
     alloc: Global,
     words: &[String],
     source: &mut S,
     sink: &mut K,
+    managers: &mut Vec<Boxed>,
 ) -> Status
-    ensures outcome { EndsWell (map (λ word. string_bytes word) words.now) (record {
-      had = S.rest source.old;
-      left = S.rest source.new;
-      before = K.written sink.old;
-      after = K.written sink.new;
-      status = result;
-    }) }
+    ensures outcome { EndsWell (map (λ word. string_bytes word) words.now)
+        (handed (source_at (S.rest source.old) (S.given source.old) (S.faults source.old))
+        (sink_at (K.written sink.old) (K.faults sink.old)) (map ⟦<Boxed as Manager>⟧.state managers.old.items))
+        result
+        (handed (source_at (S.rest source.new) (S.given source.new) (S.faults source.new))
+        (sink_at (K.written sink.new) (K.faults sink.new)) (map ⟦<Boxed as Manager>⟧.state managers.new.items)) }
     // Where every bound is 1, the text is computed from the script.
-    ensures plain { TellsPlainly (map (λ word. string_bytes word) words.now) (record {
-      had = S.rest source.old;
-      left = S.rest source.new;
-      before = K.written sink.old;
-      after = K.written sink.new;
-      status = result;
-    }) }
+    ensures plain { TellsPlainly (map (λ word. string_bytes word) words.now)
+        (handed (source_at (S.rest source.old) (S.given source.old) (S.faults source.old))
+        (sink_at (K.written sink.old) (K.faults sink.old)) (map ⟦<Boxed as Manager>⟧.state managers.old.items))
+        result
+        (handed (source_at (S.rest source.new) (S.given source.new) (S.faults source.new))
+        (sink_at (K.written sink.new) (K.faults sink.new)) (map ⟦<Boxed as Manager>⟧.state managers.new.items)) }
+    ensures kinds { map (λ h. h.kind) (map ⟦<Boxed as Manager>⟧.state managers.new.items)
+        ≡ map (λ h. h.kind) (map ⟦<Boxed as Manager>⟧.state managers.old.items) }
     ensures complete { AreAccepted (map (λ word. string_bytes word) words.now) → IsClean (S.rest source.old)
         → ¬ Rose (S.faults source.old) (S.faults source.new) → ¬ Rose (K.faults sink.old) (K.faults sink.new) → EndsWhole result }
     // The causes, over every source and sink.
@@ -60,24 +63,10 @@ pub fn cf_main<R: Runtime, S: Source, K: Sink>(
             WordsFault::OutOfMemory => return Status::OutOfMemory,
         },
     };
-    let Ok(mut session) = Session::start(rt, alloc) else {
-        return Status::OutOfMemory;
-    };
     match choice.mode {
-        Mode::Run => {}
-        // the command line offers no other mode yet
-        Mode::Compare | Mode::Bench => unreachable!(),
-    }
-    match choice.kind {
-        Kind::Moving => {
-            let mut heap = MovingHeap::closed(alloc);
-            run_script(&mut session, &mut heap, source, sink)
-        }
-        Kind::NonMoving => {
-            let mut heap = NonMovingHeap::closed(alloc);
-            run_script(&mut session, &mut heap, source, sink)
-        }
-        // nor another kind
-        Kind::Tlsf | Kind::HalfFit => unreachable!(),
+        Mode::Run => run_chosen(rt, alloc, choice.kind, managers, source, sink),
+        Mode::Compare => compare(rt, alloc, managers, source, sink),
+        // not offered yet
+        Mode::Bench => unreachable!(),
     }
 }

@@ -7,16 +7,17 @@ use Rattle.cf_base.specs.declared.kind.Kind.{Kind}
 use Rattle.cf_base.specs.declared.kind.Kind.TheVariants.{Moving, NonMoving}
 use Rattle.clap.specs.Words.{App, Row, Text, first_of, one_of, fault_of, matches_of}
 use Rattle.clap.specs.ValueTests.{accepts}
-use Rattle.command_line.specs.Command.{IsCfApp, any_u64}
+use Rattle.command_line.specs.Command.{IsCfApp, any_u64, mode_name}
 use Rattle.command_line.specs.declared.choice.Choice.{Choice}
 use Rattle.command_line.specs.declared.choice.Mode.{Mode}
-use Rattle.command_line.specs.declared.choice.Mode.TheVariants.{Run}
+use Rattle.command_line.specs.declared.choice.Mode.TheVariants.{Run, Compare}
 use Rattle.command_line.specs.declared.choice.WordsFault.{WordsFault}
 use Rattle.command_line.specs.declared.choice.WordsFault.TheVariants.{Refused, OutOfMemory}
 
 -- the mode of a name; the command lets no other name through
 abbrev pub mode_named : Option Text → Mode
-mode_named name = Run
+mode_named None = Run
+mode_named (Some name) = if bytes_eq name (mode_name Compare) then Compare else Run
 
 -- the kind of a name; the command lets no other name through
 abbrev pub kind_named : Option Text → Kind
@@ -68,7 +69,7 @@ runs_on kind seed count = record { mode = Run; kind = kind; seed = seed; count =
 
 -- the modes that can be chosen
 abbrev pub OffersMode : Mode → Type 0
-OffersMode mode = mode ≡ Run
+OffersMode mode = (mode ≡ Run) ⊎ (mode ≡ Compare)
 
 -- the kinds that can be chosen
 abbrev pub OffersKind : Kind → Type 0

@@ -24,7 +24,7 @@ mode_name Bench = codes "bench"
 
 -- the modes that are offered
 abbrev pub mode_names : List Text
-mode_names = mode_name Run ∷ []
+mode_names = mode_name Run ∷ mode_name Compare ∷ []
 
 -- the managers that are offered
 abbrev pub manager_names : List Text

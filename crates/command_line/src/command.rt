@@ -7,7 +7,7 @@ ghost use Rattle.command_line.specs.Command.{manager_names, mode_names, texts_of
 use clap::{Arg, Command, value_parser};
 use std::alloc::{AllocError, Global};
 
-static MODES: [&str; 1] = ["run"];
+static MODES: [&str; 2] = ["run", "compare"];
 
 static MANAGERS: [&str; 2] = ["cf", "nm"];
 

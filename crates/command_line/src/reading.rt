@@ -16,6 +16,7 @@ fn mode_named(name: Option<&str>) -> Mode
     ensures { result ≡ mode_by (option_map (λ s. s.now) name.entry) }
 {
     match name {
+        Some("compare") => Mode::Compare,
         _ => Mode::Run,
     }
 }

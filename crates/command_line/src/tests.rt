@@ -64,6 +64,14 @@ fn words_are_taken(rt: HostRuntime) -> Result<(), Fail> {
             "{words:?}"
         );
     }
+    let all = texts(rt.alloc(), &["compare", "--manager=nm"])?;
+    let wanted = Choice {
+        mode: Mode::Compare,
+        kind: Kind::NonMoving,
+        seed: 0,
+        count: 1_000,
+    };
+    assert_eq!(rt; read_words(rt.alloc(), all.as_slice()), Ok(wanted));
     Ok(())
 }
 
@@ -75,7 +83,7 @@ fn words_are_refused(rt: HostRuntime) -> Result<(), Fail> {
         ["help"].as_slice(),
         ["--version"].as_slice(),
         ["-V"].as_slice(),
-        ["compare"].as_slice(),
+        ["compare", "run"].as_slice(),
         ["bench"].as_slice(),
         ["slice"].as_slice(),
         ["Run"].as_slice(),

@@ -7,6 +7,7 @@ pub mod Oks
 pub mod Unzipping
 pub mod Standing
 pub mod Outcomes
+pub mod StillGoing
 pub mod FirstLemmas
 pub mod Fresh
 pub mod CallerLemmas

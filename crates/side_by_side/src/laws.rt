@@ -1,8 +1,9 @@
 //! Laws of many runs side by side.
-ghost use Rattle.std.specs.Prelude.{◌≡◌, ℕ, List, Option, None, option_map};
+ghost use Rattle.std.specs.Prelude.{◌≡◌, ℕ, List, Option, None, Some, option_map};
+ghost use Rattle.std.specs.List.{All};
 ghost use Rattle.cf_base.specs.declared.kind.Kind.{Kind};
 ghost use Rattle.script_reader.specs.Items.{Item};
-ghost use Rattle.run_model.specs.Sessions.{RunState};
+ghost use Rattle.run_model.specs.Sessions.{IsGoing, RunState};
 ghost use Rattle.run_model.specs.Texts.{Reply};
 ghost use Rattle.run_model.specs.Plays.{PlayPart, PlayRun};
 ghost use Rattle.script_loop.specs.ScriptOutcome.{Effects, Wrote, WroteInPart};
@@ -42,4 +43,14 @@ pub fn outcomes_are_of_each()
     ensures stand_in_part { (from to : Many) (wanted : List Item) (call : Effects) → kinds_of to ≡ kinds_of from
         → (w : WroteInPart many_managers from wanted call to)
         → StandEach from.heaps (option_map runs_of w.end) to.heaps }
+{}
+
+/// Where a script has a `heap` line, each manager is open after it, keeps its rules, and is consistent
+/// with its session, wherever the script was cut.
+pub fn each_manager_is_open_after_its_run()
+    ensures whole { (kinds : List Kind) (items : List Item) (replies : List Reply) (all : List RunState)
+        → OwnRuns kinds items replies (Some all) → All IsGoing all }
+    ensures in_part { (kinds : List Kind) (before : List Item) (item : Item) (replies : List Reply)
+        (front : List ℕ) (all : List RunState)
+        → OwnRunsInPart kinds before item replies front (Some all) → All IsGoing all }
 {}

@@ -1,0 +1,131 @@
+-- A script that was played on one of the managers, or on one of its own.
+use Rattle.std.proofs.Common.{◌≡◌, ◌<◌, ◌+◌, ◌⊎◌, ◌∙◌, arith, ℕ, List, [], Some, None, refl, ap, sym, subst, length, get_or, set, map, inl, inr}
+use Rattle.std.proofs.lemmas.List.{get_or-map, length-map, map-set}
+use Rattle.cf_base.specs.declared.kind.Kind.{Kind}
+use Rattle.cf_base.specs.declared.status.Status.{Status}
+use Rattle.cf_base.specs.declared.status.Status.TheVariants.{Done, Words, BadScript, ReadFault, WriteFault, OutOfMemory, TooLong, BadImage}
+use Rattle.cf_io.specs.Feeds.{Rose, last_count}
+use Rattle.cf_model.specs.State.{HeapState, closed_state}
+use Rattle.cf_session.specs.Apply.{run_at}
+use Rattle.run_model.specs.Sessions.{RunState, SessionState, fresh_session}
+use Rattle.script_loop.specs.OneManager.{one_manager}
+use Rattle.script_loop.specs.ScriptOutcome.{MOST_BYTES, MeetsOutcome}
+use Rattle.side_by_side.proofs.CallerLemmas.{begun_many, chosen_first, chosen_kinds, chosen_none, first_within, with_first, with_none}
+use Rattle.side_by_side.specs.First.{chosen_of, first_of_kind, with_chosen}
+use Rattle.side_by_side.specs.Many.{AreFresh, Many, kinds_of, many_at, many_managers}
+use Rattle.cf_tool.specs.TopOutcome.{Compares, Ends, Handed, OrLacks, Runs, SinkState, SourceState, effects_of, handed}
+
+-- what a mode asks was done, and nothing was written where memory was wanting
+or_lacks : (Does : Handed → Status → Handed → Type 0) (old : Handed) (st : Status) (new : Handed)
+    → (st ≡ OutOfMemory → new.sink.written ≡ old.sink.written) → Does old st new → OrLacks Does old st new
+or_lacks Does old OutOfMemory new silent done = (silent refl, inr done)
+or_lacks Does old Words new silent done = done
+or_lacks Does old Done new silent done = done
+or_lacks Does old BadScript new silent done = done
+or_lacks Does old ReadFault new silent done = done
+or_lacks Does old WriteFault new silent done = done
+or_lacks Does old TooLong new silent done = done
+or_lacks Does old BadImage new silent done = done
+
+-- the causes of how a script ended
+pub record HaveCauses (s : SourceState) (k : SinkState) (st : Status) (s' : SourceState) (k' : SinkState) : Type 0 where
+  pub silent : st ≡ OutOfMemory → k'.written ≡ k.written
+  pub read_fault : st ≡ ReadFault → Rose s.faults s'.faults
+  pub write_fault : st ≡ WriteFault → Rose k.faults k'.faults
+  pub too_long : st ≡ TooLong → (s.given + MOST_BYTES < s'.given) ⊎ (s'.given ≡ last_count)
+
+-- what a mode asks was done, for these causes
+pub ends_of : (Does : Handed → Status → Handed → Type 0) (s : SourceState) (k : SinkState) (hs : List HeapState) (st : Status) (s' : SourceState)
+    (k' : SinkState) (hs' : List HeapState)
+    → HaveCauses s k st s' k' → map (λ (h : HeapState). h.kind) hs' ≡ map (λ h. h.kind) hs → Does (handed s k hs) st (handed s' k' hs')
+    → Ends Does (handed s k hs) st (handed s' k' hs')
+ends_of Does s k hs st s' k' hs' causes kinds done = record {
+  outcome = or_lacks Does (handed s k hs) st (handed s' k' hs') causes.silent done;
+  kinds = kinds;
+  read_fault = causes.read_fault;
+  write_fault = causes.write_fault;
+  too_long = causes.too_long;
+}
+
+module _ (kind : Kind) (s s' : SourceState) (k k' : SinkState) (st : Status) (causes : HaveCauses s k st s' k') (session : SessionState) (end : RunState)
+    (fresh : session ≡ fresh_session) where
+  -- a script was played on one that was made for it
+  pub own_ends : (old : HeapState) → old ≡ closed_state kind
+      → MeetsOutcome one_manager (run_at session old) (effects_of (handed s k []) st (handed s' k' [])) end
+      → Ends (Runs kind) (handed s k []) st (handed s' k' [])
+  own_ends old closed met = ends_of (Runs kind) s k [] st s' k' [] causes refl (record {
+    end = end;
+    outcome = subst (λ (from : RunState). MeetsOutcome one_manager from (effects_of (handed s k []) st (handed s' k' [])) end)
+        (ap (λ t. run_at t old) fresh ∙ ap (λ h. run_at fresh_session h) closed) met;
+    stand = refl;
+  })
+
+  -- a script was played on the first of the kind
+  module _ {X : Type 0} (f : X → HeapState) (ms : List X) (i : ℕ) (x n : X) (first : first_of_kind kind (map f ms) ≡ Some i) (is : x ≡ get_or ms i x)
+      (end_is : end.heap ≡ f n) where
+    lt : i < length ms
+    lt = let within = first_within kind (map f ms) i first in omega (arith, within, length-map ms f)
+
+    seen : chosen_of kind (map f ms) ≡ f x
+    seen = chosen_first kind (map f ms) i first ∙ get_or-map f ms i x (closed_state kind) lt ∙ sym (ap f is)
+
+    stands : map f (set ms i n) ≡ with_chosen kind (map f ms) end.heap
+    stands = map-set f ms i n ∙ ap (λ h. set (map f ms) i h) (sym end_is) ∙ sym (with_first kind (map f ms) i end.heap first)
+
+    pub first_ends : (f n).kind ≡ (f x).kind
+        → MeetsOutcome one_manager (run_at session (f x)) (effects_of (handed s k (map f ms)) st (handed s' k' (map f (set ms i n)))) end
+        → Ends (Runs kind) (handed s k (map f ms)) st (handed s' k' (map f (set ms i n)))
+    first_ends same met =
+        ends_of (Runs kind) s k (map f ms) st s' k' (map f (set ms i n)) causes
+        (ap (λ l. map (λ (h : HeapState). h.kind) l) stands
+        ∙ chosen_kinds kind (map f ms) end.heap (ap (λ (h : HeapState). h.kind) end_is ∙ same ∙ ap (λ (h : HeapState). h.kind) (sym seen)))
+        (record {
+          end = end;
+          outcome = subst (λ (from : RunState). MeetsOutcome one_manager from (effects_of (handed s k (map f ms)) st (handed s' k' (map f (set ms i n)))) end)
+              (ap (λ t. run_at t (f x)) fresh ∙ ap (λ h. run_at fresh_session h) (sym seen)) met;
+          stand = stands;
+        })
+
+-- none is of the kind: one of its own answers, beside managers that are as they were
+module _ (kind : Kind) (s s' : SourceState) (k k' : SinkState) (hs : List HeapState) (none : first_of_kind kind hs ≡ None) where
+  beside_own : (st : Status) → Runs kind (handed s k []) st (handed s' k' []) → Runs kind (handed s k hs) st (handed s' k' hs)
+  beside_own st done = record {
+    end = done.end;
+    outcome = subst (λ (h : HeapState). MeetsOutcome one_manager (run_at fresh_session h) (effects_of (handed s k hs) st (handed s' k' hs)) done.end)
+        (sym (chosen_none kind hs none)) done.outcome;
+    stand = sym (with_none kind hs done.end.heap none);
+  }
+
+  beside : (st : Status) → OrLacks (Runs kind) (handed s k []) st (handed s' k' []) → OrLacks (Runs kind) (handed s k hs) st (handed s' k' hs)
+  beside OutOfMemory (silent, inl same) = (silent, inl (ap (λ h. handed h.source h.sink hs) same))
+  beside OutOfMemory (silent, inr done) = (silent, inr (beside_own OutOfMemory done))
+  beside Words done = beside_own Words done
+  beside Done done = beside_own Done done
+  beside BadScript done = beside_own BadScript done
+  beside ReadFault done = beside_own ReadFault done
+  beside WriteFault done = beside_own WriteFault done
+  beside TooLong done = beside_own TooLong done
+  beside BadImage done = beside_own BadImage done
+
+  pub own_beside : (st : Status) → Ends (Runs kind) (handed s k []) st (handed s' k' []) → Ends (Runs kind) (handed s k hs) st (handed s' k' hs)
+  own_beside st ends = record {
+    outcome = beside st ends.outcome;
+    kinds = refl;
+    read_fault = ends.read_fault;
+    write_fault = ends.write_fault;
+    too_long = ends.too_long;
+  }
+
+-- a script was played on each of many
+pub each_ends : (s s' : SourceState) (k k' : SinkState) (st : Status) (causes : HaveCauses s k st s' k') → {X : Type 0} (f : X → HeapState)
+    (ss : List SessionState) (ms : List X) → AreFresh (length ms) ss → (ss' : List SessionState) (ms' : List X)
+    → kinds_of (many_at ss' (map f ms')) ≡ kinds_of (many_at ss (map f ms))
+    → MeetsOutcome many_managers (many_at ss (map f ms)) (effects_of (handed s k (map f ms)) st (handed s' k' (map f ms'))) (many_at ss' (map f ms'))
+    → Ends Compares (handed s k (map f ms)) st (handed s' k' (map f ms'))
+each_ends s s' k k' st causes f ss ms started ss' ms' kinds met =
+    ends_of Compares s k (map f ms) st s' k' (map f ms') causes kinds (record {
+      end = many_at ss' (map f ms');
+      outcome = subst (λ (from : Many). MeetsOutcome many_managers from (effects_of (handed s k (map f ms)) st (handed s' k' (map f ms'))) (many_at ss' (map f ms')))
+          (begun_many f ss ms started) met;
+      stand = refl;
+    })
