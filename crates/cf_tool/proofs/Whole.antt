@@ -15,15 +15,16 @@ use Rattle.command_line.specs.declared.choice.Mode.{Mode}
 use Rattle.command_line.specs.declared.choice.Mode.TheVariants.{Run, Compare}
 use Rattle.script_reader.specs.Items.{items}
 use Rattle.run_model.specs.Sessions.{RunState, fresh_session}
-use Rattle.script_loop.proofs.CallerLemmas.{transcript_told}
-use Rattle.script_loop.specs.Consequences.{AnswersAll, TellsTranscript}
+use Rattle.headline_laws.proofs.CallerLemmas.{headline_met}
+use Rattle.script_loop.proofs.CallerLemmas.{transcript_told, wrote_all}
+use Rattle.script_loop.specs.Consequences.{AnswersAll}
 use Rattle.script_loop.specs.OneManager.{one_manager}
 use Rattle.script_loop.specs.ScriptOutcome.{Effects, IsClean, IsEnding, IsRow, IsRowOf, MOST_BYTES, MeetsOutcome, has_bad, items_within}
 use Rattle.script_loop.specs.Semantics.{Semantics}
 use Rattle.side_by_side.proofs.CallerLemmas.{chosen_kind}
 use Rattle.side_by_side.specs.First.{chosen_of}
 use Rattle.side_by_side.specs.Many.{Many, fresh_many, many_managers}
-use Rattle.cf_tool.specs.TopOutcome.{Compares, DoesChosen, Ends, EndsWell, EndsWhole, Handed, InMode, OrLacks, Runs, TellsChosen, TellsInMode, effects_of}
+use Rattle.cf_tool.specs.TopOutcome.{Compares, DoesChosen, Ends, EndsWell, EndsWhole, Handed, InMode, OrLacks, Runs, TellsChosen, TellsHeadline, TellsInMode, effects_of}
 
 -- no script ends by `Words`
 never_words : {S P : Type 0} (m : Semantics S P) (from to : S) (had left : Option (List ℕ)) (call : Effects) → call.status ≡ Words
@@ -121,14 +122,22 @@ module _ (kind : Kind) where
       → ¬ Rose old.source.faults new.source.faults → ¬ Rose old.sink.faults new.sink.faults → EndsWhole st
   run_whole = script_whole one_manager from_chosen (Runs kind) run_met
 
-  told : (old : Handed) (st : Status) (new : Handed) → Runs kind old st new → AnswersAll st
-      → TellsTranscript kind old.source.rest (effects_of old st new)
+  headline_of : (from to : RunState) (call : Effects) (had : Option (List ℕ)) → had ≡ call.had → MeetsOutcome one_manager from call to
+      → AnswersAll call.status → TellsHeadline from.heap.kind had call
+  headline_of from to call None told met is = tt
+  headline_of from to call (Some all) told met is =
+      let w = wrote_all from to call all (sym told) met is in
+      record { replies = w.replies; printed = w.written; headline = headline_met from.heap.kind (items_within all) w.replies w.end w.run }
+
+  told : (old : Handed) (st : Status) (new : Handed) → Runs kind old st new → AnswersAll st → TellsInMode Run kind (effects_of old st new)
   told old st new done is =
-      subst (λ (k : Kind). TellsTranscript k old.source.rest (effects_of old st new)) (chosen_kind kind old.managers)
-      (transcript_told (run_at fresh_session (chosen_of kind old.managers)) done.end (effects_of old st new) done.outcome is)
+      let from = run_at fresh_session (chosen_of kind old.managers) in
+      let call = effects_of old st new in
+      subst (λ (k : Kind). TellsInMode Run k call) (chosen_kind kind old.managers)
+      (headline_of from done.end call call.had refl done.outcome is, transcript_told from done.end call done.outcome is)
 
   run_told : (old : Handed) (st : Status) (new : Handed) → OrLacks (Runs kind) old st new → AnswersAll st
-      → TellsTranscript kind old.source.rest (effects_of old st new)
+      → TellsInMode Run kind (effects_of old st new)
   run_told old Done new done is = told old Done new done is
   run_told old BadScript new done is = told old BadScript new done is
   run_told old TooLong new done is = told old TooLong new done is

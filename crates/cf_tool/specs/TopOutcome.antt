@@ -1,9 +1,9 @@
 -- How the top call may end, by the mode that the words choose.
-use Rattle.std.specs.Prelude.{◌≡◌, ◌<◌, ◌+◌, ◌⊎◌, ⊤, ℕ, List, Option, map}
+use Rattle.std.specs.Prelude.{◌≡◌, ◌<◌, ◌+◌, ◌⊎◌, ⊤, ℕ, List, [], Option, Some, None, map}
 use Rattle.cf_base.specs.declared.kind.Kind.{Kind}
 use Rattle.cf_base.specs.declared.status.Status.{Status}
 use Rattle.cf_base.specs.declared.status.Status.TheVariants.{Done, Words, ReadFault, WriteFault, OutOfMemory, TooLong}
-use Rattle.cf_io.specs.Feeds.{Rose, last_count}
+use Rattle.cf_io.specs.Feeds.{Rose, appended, last_count}
 use Rattle.clap.specs.Words.{Text}
 use Rattle.cf_model.specs.State.{HeapState}
 use Rattle.cf_session.specs.Apply.{run_at}
@@ -11,10 +11,13 @@ use Rattle.command_line.specs.Choices.{AreRefused, Chooses}
 use Rattle.command_line.specs.declared.choice.Choice.{Choice}
 use Rattle.command_line.specs.declared.choice.Mode.{Mode}
 use Rattle.command_line.specs.declared.choice.Mode.TheVariants.{Run, Compare}
+use Rattle.script_reader.specs.Items.{Item}
 use Rattle.run_model.specs.Sessions.{RunState, fresh_session}
+use Rattle.run_model.specs.Texts.{Reply, text_of}
+use Rattle.headline_laws.specs.Headline.{MeetsHeadline}
 use Rattle.script_loop.specs.Consequences.{AnswersAll, TellsTranscript}
 use Rattle.script_loop.specs.OneManager.{one_manager}
-use Rattle.script_loop.specs.ScriptOutcome.{Effects, MOST_BYTES, MeetsOutcome}
+use Rattle.script_loop.specs.ScriptOutcome.{Effects, MOST_BYTES, MeetsOutcome, items_within}
 use Rattle.side_by_side.specs.First.{chosen_of, with_chosen}
 use Rattle.side_by_side.specs.Many.{Many, fresh_many, many_managers}
 
@@ -94,9 +97,20 @@ pub record Ends (Does : Handed → Status → Handed → Type 0) (old : Handed) 
   pub write_fault : status ≡ WriteFault → Rose old.sink.faults new.sink.faults
   pub too_long : status ≡ TooLong → (old.source.given + MOST_BYTES < new.source.given) ⊎ (new.source.given ≡ last_count)
 
--- by the mode: what is printed over plain items is their transcript
+-- replies to all the items of a script were printed, and they meet the headline
+pub record PrintsHeadline (kind : Kind) (wanted : List Item) (call : Effects) : Type 0 where
+  pub replies : List Reply
+  pub printed : call.after ≡ appended call.before (text_of [] replies)
+  pub headline : MeetsHeadline kind wanted replies
+
+-- what is printed of the bytes that a source had meets the headline, where the source is observable
+abbrev pub TellsHeadline : Kind → Option (List ℕ) → Effects → Type 0
+TellsHeadline kind None call = ⊤
+TellsHeadline kind (Some all) call = PrintsHeadline kind (items_within all) call
+
+-- by the mode: what is printed meets the headline, and over plain items it is their transcript
 abbrev pub TellsInMode : Mode → Kind → Effects → Type 0
-TellsInMode Run kind call = TellsTranscript kind call.had call
+TellsInMode Run kind call = TellsHeadline kind call.had call × TellsTranscript kind call.had call
 TellsInMode mode kind call = ⊤
 
 -- the same, of what the words choose
@@ -105,7 +119,7 @@ pub record TellsChosen (words : List Text) (call : Effects) : Type 0 where
   pub chosen : Chooses words choice
   pub tells : TellsInMode choice.mode choice.kind call
 
--- where every item within the limit was answered, the output over plain items is their transcript, however the source was cut
+-- where every item within the limit was answered, the output meets the headline, and over plain items it is their transcript, however the source was cut
 abbrev pub TellsPlainly : List Text → Handed → Status → Handed → Type 0
 TellsPlainly words old status new = AnswersAll status → TellsChosen words (effects_of old status new)
 

@@ -39,7 +39,7 @@ pub fn cf_main<R: Runtime, S: Source, K: Sink>(
         result
         (handed (source_at (S.rest source.new) (S.given source.new) (S.faults source.new))
         (sink_at (K.written sink.new) (K.faults sink.new)) (map ⟦<Boxed as Manager>⟧.state managers.new.items)) }
-    // Where every bound is 1, the text is computed from the script.
+    // What is printed meets the headline; where every bound is 1, it is computed from the script.
     ensures plain { TellsPlainly (map (λ word. string_bytes word) words.now)
         (handed (source_at (S.rest source.old) (S.given source.old) (S.faults source.old))
         (sink_at (K.written sink.old) (K.faults sink.old)) (map ⟦<Boxed as Manager>⟧.state managers.old.items))
