@@ -1,0 +1,44 @@
+//! The free lists of each kind, told by the least size of each. A list holds the sizes from its least
+//! one up to that of the next list.
+use std::alloc::{AllocError, Global};
+
+/// TLSF (2004): a list for each size below 16 words, and 16 for each power of two from there on.
+pub fn tlsf_sizes(alloc: Global) -> Result<Vec<u32>, AllocError> {
+    let mut sizes: Vec<u32> = (0..16).collect(alloc)?;
+    for power in 0..20_u32 {
+        for part in 16..32_u32 {
+            sizes.push(part << power)?;
+        }
+    }
+    Ok(sizes)
+}
+
+/// Half-Fit (1995): a list for each power of two.
+pub fn half_fit_sizes(alloc: Global) -> Result<Vec<u32>, AllocError> {
+    let mut sizes = Vec::new(alloc);
+    for power in 0..24_u32 {
+        sizes.push(1 << power)?;
+    }
+    Ok(sizes)
+}
+
+/// The list of a block of this size: the last one whose least size isn't above it.
+pub(crate) fn list_of(sizes: &[u32], size: u32) -> usize {
+    let mut found = 0;
+    for list in 0..sizes.len() {
+        if sizes[list] <= size {
+            found = list;
+        }
+    }
+    found
+}
+
+/// The first list whose blocks all have the words that are needed; past the last one where none has.
+pub(crate) fn first_for(sizes: &[u32], need: u32) -> usize {
+    for list in 0..sizes.len() {
+        if need <= sizes[list] {
+            return list;
+        }
+    }
+    sizes.len()
+}

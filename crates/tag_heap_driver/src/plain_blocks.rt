@@ -1,0 +1,218 @@
+//! Blocks as a plain list by address, and free lists as plain lists.
+use crate::free_lists::{first_for, list_of};
+use crate::wrong::Wrong;
+use std::alloc::Global;
+
+/// What stands for no block in the links of a free list.
+const NONE: u64 = 0xffff_ffff;
+
+/// A block of words; none owns a free one.
+#[derive(Clone, Copy)]
+pub struct Block {
+    pub address: u32,
+    pub size: u32,
+    pub owner: Option<u32>,
+}
+
+/// The blocks of a region, in order, and the free ones by list: the last of a list is the next to be
+/// taken.
+#[derive(Drop)]
+pub struct PlainBlocks {
+    blocks: Vec<Block>,
+    lists: Vec<Vec<u32>>,
+    sizes: Vec<u32>,
+}
+
+impl PlainBlocks {
+    /// One free block, and free lists with these least sizes.
+    pub fn new(alloc: Global, sizes: Vec<u32>, words: u32) -> Result<PlainBlocks, Wrong> {
+        let mut lists = Vec::new(alloc);
+        for _size in sizes.iter() {
+            lists.push(Vec::new(alloc))?;
+        }
+        let mut plain = PlainBlocks {
+            blocks: Vec::new(alloc),
+            lists,
+            sizes,
+        };
+        let whole = Block {
+            address: 0,
+            size: words,
+            owner: None,
+        };
+        plain.blocks.push(whole)?;
+        plain.list(whole)?;
+        Ok(plain)
+    }
+
+    /// The words of the block with this address; 0 where none begins there.
+    pub fn size_at(&self, address: u32) -> u32 {
+        match self.blocks.iter().find(|b| b.address == address) {
+            Some(block) => block.size,
+            None => 0,
+        }
+    }
+
+    /// The blocks, in order.
+    pub fn blocks(&self) -> &[Block] {
+        self.blocks.as_slice()
+    }
+
+    /// The first words of a free block become the owner's: the block that came last into the first list
+    /// that has one, of those where each block has enough. Where two words or more are over, they
+    /// become a free block. Returns its address.
+    pub fn carve(&mut self, need: u32, owner: u32) -> Result<Option<u32>, Wrong> {
+        for list in first_for(self.sizes.as_slice(), need)..self.lists.len() {
+            let taken = match self.lists.get_mut(list) {
+                Some(addresses) => addresses.pop(),
+                None => None,
+            };
+            if let Some(address) = taken {
+                self.split(address, need, owner)?;
+                return Ok(Some(address));
+            }
+        }
+        Ok(None)
+    }
+
+    /// Whether no free block serves the need.
+    pub fn lacks(&self, need: u32) -> bool {
+        let first = first_for(self.sizes.as_slice(), need);
+        self.lists
+            .iter()
+            .skip(first)
+            .all(|addresses| addresses.is_empty())
+    }
+
+    /// The block at the address becomes free, and takes in the free block after it, and then that
+    /// before it. The whole is the next to be taken of its list.
+    pub fn release(&mut self, address: u32) -> Result<(), Wrong> {
+        let Some(mut at) = self.index_of(address) else {
+            return Ok(());
+        };
+        if let Some(block) = self.blocks.get_mut(at) {
+            block.owner = None;
+        }
+        self.take_in_next(at);
+        if 0 < at && self.is_free(at - 1) {
+            at -= 1;
+            self.unlist(at);
+            self.take_in_next(at);
+        }
+        let Some(block) = self.blocks.get(at).copied() else {
+            return Ok(());
+        };
+        self.list(block)
+    }
+
+    /// The words of all used blocks; how many are used, and how many are free; the words of the largest
+    /// free block.
+    pub fn figures(&self) -> (u32, u32, u32, u32) {
+        let mut words: u32 = 0;
+        let mut used: u32 = 0;
+        let mut free: u32 = 0;
+        let mut largest = 0;
+        for block in self.blocks.iter() {
+            if block.owner.is_some() {
+                words = words.wrapping_add(block.size);
+                used = used.wrapping_add(1);
+            } else {
+                free = free.wrapping_add(1);
+                largest = block.size.max(largest);
+            }
+        }
+        (words, used, free, largest)
+    }
+
+    /// Word 1 of a free block: the block that came into its list before it, and the one after it.
+    pub fn link(&self, block: Block) -> u64 {
+        let list = list_of(self.sizes.as_slice(), block.size);
+        let Some(addresses) = self.lists.get(list) else {
+            return 0;
+        };
+        let Some(i) = addresses.iter().position(|a| *a == block.address) else {
+            return 0;
+        };
+        let next = if i == 0 { None } else { addresses.get(i - 1) };
+        let previous = addresses.get(i + 1);
+        link_half(next) | link_half(previous) << 32
+    }
+
+    /// Where the block with this address stands among the blocks.
+    fn index_of(&self, address: u32) -> Option<usize> {
+        self.blocks.iter().position(|b| b.address == address)
+    }
+
+    /// Whether there is such a block, and it is free.
+    fn is_free(&self, at: usize) -> bool {
+        self.blocks.get(at).is_some_and(|b| b.owner.is_none())
+    }
+
+    /// The block is the next to be taken of its list.
+    fn list(&mut self, block: Block) -> Result<(), Wrong> {
+        let list = list_of(self.sizes.as_slice(), block.size);
+        if let Some(addresses) = self.lists.get_mut(list) {
+            addresses.push(block.address)?;
+        }
+        Ok(())
+    }
+
+    /// The free block leaves its list.
+    fn unlist(&mut self, at: usize) {
+        if self.blocks.len() <= at {
+            return;
+        }
+        let block = self.blocks[at];
+        let list = list_of(self.sizes.as_slice(), block.size);
+        if let Some(addresses) = self.lists.get_mut(list) {
+            addresses.retain(|a| *a != block.address);
+        }
+    }
+
+    /// The first words of a free block that is in no list any more become the owner's.
+    fn split(&mut self, address: u32, need: u32, owner: u32) -> Result<(), Wrong> {
+        let Some(at) = self.index_of(address) else {
+            return Ok(());
+        };
+        if self.blocks.len() <= at {
+            return Ok(());
+        }
+        let size = self.blocks[at].size;
+        self.blocks[at].owner = Some(owner);
+        if size.saturating_sub(need) < 2 {
+            return Ok(());
+        }
+        self.blocks[at].size = need;
+        let rest = Block {
+            address: address.wrapping_add(need),
+            size: size.wrapping_sub(need),
+            owner: None,
+        };
+        self.blocks.insert(at + 1, rest)?;
+        self.list(rest)
+    }
+
+    /// The block takes in the one after it, where that one is free.
+    fn take_in_next(&mut self, at: usize) {
+        let after = at.saturating_add(1);
+        if !self.is_free(after) {
+            return;
+        }
+        self.unlist(after);
+        if self.blocks.len() <= after {
+            return;
+        }
+        let next = self.blocks.remove(after);
+        if let Some(block) = self.blocks.get_mut(at) {
+            block.size = block.size.wrapping_add(next.size);
+        }
+    }
+}
+
+/// An address as half of a link.
+fn link_half(address: Option<&u32>) -> u64 {
+    match address {
+        Some(a) => u64::from(*a),
+        None => NONE,
+    }
+}
