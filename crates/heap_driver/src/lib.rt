@@ -1,15 +1,16 @@
-//! What the tests of the managers with pages share: tables of calls with what they return, and long
+//! What the tests of the managers with pages share: rows of calls with what they return, and long
 //! runs of drawn calls against the reference implementation. Nothing here ends a process: what differs
 //! from what was wanted is returned, and a test fails by it.
 #![tactic(auto)]
 
 mod bounds;
+mod compare;
 mod driver;
+mod line;
 mod random_run;
 mod rows;
 mod wrong;
 
 pub use driver::Driver;
-pub use random_run::RandomRun;
-pub use rows::{Act, COMMON_ROWS, Row, Run};
-pub use wrong::{Failure, Wrong};
+pub use random_run::{Bounds, RandomRun};
+pub use wrong::{RowFailure, RunFailure, Wrong};

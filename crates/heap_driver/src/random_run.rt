@@ -2,11 +2,11 @@
 ghost use Rattle.std.specs.Prelude.{◌≤◌, ◌<◌};
 
 use crate::bounds::open_bounded;
-use crate::wrong::{Wrong, hold};
+use crate::wrong::{RunFailure, Wrong, hold};
 use cf_base::{Handle, Layout, Refusal, ResizeFault, Resized, Settings};
 use cf_model::Manager;
 use page_reference::Plain;
-use page_reference::frames::{block_of, exchange, new_frames};
+use page_reference::frames::{exchange, new_frames};
 use rand_core::{Rng, SeedableRng};
 use rand_xoshiro::SplitMix64;
 use std::alloc::Global;
@@ -17,10 +17,27 @@ const PAGES: u32 = 16;
 
 const PAGE_BYTES: u32 = 512;
 
-const PROXIES: u32 = 48;
+pub const PROXIES: u32 = 48;
 
 /// No object is longer.
 const MOST: usize = 504;
+
+/// So many times in a run all is compared, each time after so many calls.
+const COMPARISONS: u32 = 30;
+
+const BETWEEN: u32 = 50;
+
+/// So many objects move at least, in a run in which any can.
+const MOVES: u32 = 10;
+
+/// The bounds of the pages that may be partly full.
+#[derive(Clone, Copy, Debug, PartialEq, Eq)]
+pub enum Bounds {
+    /// Each class has this one.
+    Each(u32),
+    /// The classes have 1, 2 or 3, in turn.
+    OfClasses,
+}
 
 /// What is known of a live object.
 #[derive(Drop)]
@@ -33,71 +50,114 @@ struct Live {
 #[derive(Drop)]
 pub struct RandomRun<H: Manager> {
     pub heap: H,
-    pub reference: Plain,
-    /// How many objects a free or a resize of another one has moved.
-    pub moves: u32,
-    meter: Meter,
+    pub(crate) reference: Plain,
+    pub(crate) meter: Meter,
+    layout: Layout,
     objects: Vec<Option<Live>>,
     /// By virtual block, its physical block; none where objects' words are moved.
-    frames: Vec<u32>,
+    pub(crate) frames: Vec<u32>,
     /// By class, how many pages may be partly full.
-    bounds: Vec<u32>,
-    /// Every bound is 1.
-    all_one: bool,
-    /// There are more frees than mallocs now.
+    pub(crate) bounds: Vec<u32>,
+    /// How many objects a free or a resize of another one has moved.
+    moves: u32,
+    /// There are more frees than mallocs now, for so many calls.
     drains: bool,
+    phase: u32,
     draw: SplitMix64,
 }
 
 impl<H: Manager> RandomRun<H> {
-    /// Both without objects. Each class has the bound k, or else one of its own.
+    /// The heap, whose slots have sizes of this layout, before its first run.
     pub fn new(
         alloc: Global,
-        mut heap: H,
+        heap: H,
         layout: Layout,
         meter: Meter,
-        k: u32,
-        by_class: bool,
     ) -> Result<RandomRun<H>, Wrong> {
-        let settings = Settings::check(PAGES, PAGE_BYTES, k, PROXIES)?;
-        let reference = Plain::new(alloc, &settings, layout)?;
-        let mut bounds = Vec::new(alloc);
-        let mut told = Vec::new(alloc);
-        for c in 0..reference.classes() {
-            let bound = if by_class { 1 + c % 4 } else { k };
-            bounds.push(bound)?;
-            told.push((reference.slot_words(c), bound, true))?;
-        }
-        open_bounded(&mut heap, &settings, &told)?;
-        let mut objects = Vec::new(alloc);
-        for _i in 0..PROXIES {
-            objects.push(None)?;
-        }
-        let blocks = match layout {
-            Layout::Words => 0,
-            Layout::Blocks => PAGES * (PAGE_BYTES / 32),
-        };
+        let settings = Settings::check(PAGES, PAGE_BYTES, 1, PROXIES)?;
         Ok(RandomRun {
             heap,
-            reference,
-            moves: 0,
+            reference: Plain::new(alloc, &settings, layout)?,
             meter,
-            objects,
-            frames: new_frames(alloc, blocks)?,
-            bounds,
-            all_one: k == 1 && !by_class,
+            layout,
+            objects: Vec::new(alloc),
+            frames: Vec::new(alloc),
+            bounds: Vec::new(alloc),
+            moves: 0,
             drains: true,
-            draw: SplitMix64::seed_from_u64(u64::from(k)),
+            phase: 0,
+            draw: SplitMix64::seed_from_u64(0),
         })
     }
 
-    /// So many calls, and then all is compared. In turn the heap fills and drains.
-    pub fn play(&mut self, alloc: Global, calls: u32) -> Result<(), Wrong> {
-        self.drains = !self.drains;
-        for _i in 0..calls {
-            self.call(alloc)?;
+    /// Long runs, one after another: every class has a bound of 1, of 2, one of its own, and of 64.
+    /// Objects move, but where the bound is 64: there are fewer pages.
+    pub fn play(&mut self, alloc: Global) -> Result<(), RunFailure> {
+        for bounds in [
+            Bounds::Each(1),
+            Bounds::Each(2),
+            Bounds::OfClasses,
+            Bounds::Each(64),
+        ] {
+            let mut call = 0;
+            if let Err(wrong) = self.run(alloc, bounds, &mut call) {
+                return Err(RunFailure {
+                    bounds,
+                    call,
+                    wrong,
+                });
+            }
         }
-        self.compare_all(alloc)
+        Ok(())
+    }
+
+    /// A run under these bounds, whose calls are counted. All is compared after every 50.
+    fn run(&mut self, alloc: Global, bounds: Bounds, call: &mut u32) -> Result<(), Wrong> {
+        self.open(alloc, bounds)?;
+        for _i in 0..COMPARISONS {
+            for _j in 0..BETWEEN {
+                self.call(alloc)?;
+                *call = call.wrapping_add(1);
+            }
+            self.compare_all(alloc)?;
+        }
+        hold(
+            (MOVES <= self.moves) == (bounds != Bounds::Each(64)),
+            Wrong::Moves(self.moves),
+        )
+    }
+
+    /// Both anew, without objects.
+    fn open(&mut self, alloc: Global, bounds: Bounds) -> Result<(), Wrong> {
+        let k = match bounds {
+            Bounds::Each(k) => k,
+            Bounds::OfClasses => 1,
+        };
+        let settings = Settings::check(PAGES, PAGE_BYTES, k, PROXIES)?;
+        self.reference = Plain::new(alloc, &settings, self.layout)?;
+        self.bounds = Vec::new(alloc);
+        let mut own = Vec::new(alloc);
+        for c in 0..self.reference.classes() {
+            if bounds == Bounds::OfClasses {
+                own.push((self.reference.slot_words(c), 1 + c % 3))?;
+                self.bounds.push(1 + c % 3)?;
+            } else {
+                self.bounds.push(k)?;
+            }
+        }
+        open_bounded(&mut self.heap, &settings, &own)?;
+        self.objects = Vec::new(alloc);
+        for _i in 0..PROXIES {
+            self.objects.push(None)?;
+        }
+        let blocks = match self.layout {
+            Layout::Words => 0,
+            Layout::Blocks => PAGES * (PAGE_BYTES / 32),
+        };
+        self.frames = new_frames(alloc, blocks)?;
+        self.moves = 0;
+        self.draw = SplitMix64::seed_from_u64(u64::from(k));
+        Ok(())
     }
 
     /// A number below the bound.
@@ -118,8 +178,13 @@ impl<H: Manager> RandomRun<H> {
         self.below(most)
     }
 
-    /// One call, drawn.
+    /// One call, drawn. In turn the heap fills and drains, for a drawn number of calls.
     fn call(&mut self, alloc: Global) -> Result<(), Wrong> {
+        if self.phase == 0 {
+            self.drains = !self.drains;
+            self.phase = 20 + self.below(120);
+        }
+        self.phase -= 1;
         let handle = Handle(self.below(PROXIES));
         match self.below(9) {
             0 | 1 if self.drains => self.free(alloc, handle),
@@ -194,7 +259,7 @@ impl<H: Manager> RandomRun<H> {
     }
 
     /// The address and the length of a live object.
-    fn known(&self, handle: Handle) -> Option<(u32, u32)> {
+    pub fn known(&self, handle: Handle) -> Option<(u32, u32)> {
         match self.objects.get(handle.0 as usize) {
             Some(Some(live)) => Some((live.place, live.bytes.len().min(MOST) as u32)),
             _ => None,
@@ -316,19 +381,27 @@ impl<H: Manager> RandomRun<H> {
         }
     }
 
-    /// Writes up to eight bytes.
+    /// Writes up to 40 bytes, which may pass the end of the object.
     fn write(&mut self, alloc: Global, handle: Handle) -> Result<(), Wrong> {
-        let at = self.below(520);
-        let piece = self.draw.next_u64().to_le_bytes();
-        let n = self.below(9);
         let known = self.known(handle);
+        let length = match known {
+            Some((_place, length)) => length.min(MOST as u32),
+            None => 0,
+        };
+        let at = self.below(8 + length);
+        let n = self.below(41);
+        let first = self.below(256) as u8;
+        let mut piece = Vec::new(alloc);
+        for i in 0..n {
+            piece.push(first.wrapping_add(i as u8))?;
+        }
         if !self.heap.is_open() {
             return Err(Wrong::Closed);
         }
         self.meter.lap();
         let written = self
             .heap
-            .write(handle, at, &piece[..n as usize], self.meter.steps());
+            .write(handle, at, piece.as_slice(), self.meter.steps());
         let end = at + n;
         let fits = known.is_some_and(|(_place, length)| end <= length);
         hold(written.is_ok() == fits, Wrong::Access(written))?;
@@ -338,16 +411,18 @@ impl<H: Manager> RandomRun<H> {
         let Some(mut live) = self.take(handle) else {
             return Ok(());
         };
-        for i in 0..n as usize {
-            if let Some(byte) = live.bytes.get_mut(at as usize + i) {
-                *byte = piece[i];
+        let mut i = at as usize;
+        for byte in piece.iter() {
+            if let Some(kept) = live.bytes.get_mut(i) {
+                *kept = *byte;
             }
+            i = i.wrapping_add(1);
         }
         self.put(alloc, handle, live.bytes)
     }
 
     /// Reads a whole object.
-    fn read(&mut self, alloc: Global, handle: Handle) -> Result<(), Wrong> {
+    pub fn read(&mut self, alloc: Global, handle: Handle) -> Result<(), Wrong> {
         if !self.heap.is_open() {
             return Err(Wrong::Closed);
         }
@@ -365,99 +440,6 @@ impl<H: Manager> RandomRun<H> {
             out.as_slice() == live.bytes.as_slice(),
             Wrong::Differs("the bytes of an object"),
         )
-    }
-
-    /// Compares the figures of a class, which has at most as many pages partly full as it may.
-    fn compare_figures(&self, class: u32) -> Result<(), Wrong> {
-        if !self.heap.is_open() {
-            return Err(Wrong::Closed);
-        }
-        let figures = self.heap.figures(class);
-        if class >= self.reference.classes() {
-            return hold(figures.is_none(), Wrong::Class(figures));
-        }
-        let want = self.reference.figures(class);
-        let within = self
-            .bounds
-            .get(class as usize)
-            .is_some_and(|bound| want.not_full <= *bound);
-        hold(within && figures == Some(want), Wrong::Class(figures))
-    }
-
-    /// Compares all figures, each word of the region, and the address and the blocks of each object.
-    fn compare_all(&mut self, alloc: Global) -> Result<(), Wrong> {
-        for class in 0..self.reference.classes() {
-            self.compare_figures(class)?;
-        }
-        self.compare_totals()?;
-        let image = self.reference.image(alloc)?;
-        let mut w = 0;
-        for word in image.iter() {
-            self.compare_word(w, Some(*word))?;
-            w = w.wrapping_add(1);
-        }
-        self.compare_word(w, None)?;
-        for number in 0..PROXIES {
-            self.compare_blocks(Handle(number))?;
-        }
-        Ok(())
-    }
-
-    /// Compares the figures of the heap. Where every bound is 1 the used pages are those of the arithmetic.
-    fn compare_totals(&mut self) -> Result<(), Wrong> {
-        if !self.heap.is_open() {
-            return Err(Wrong::Closed);
-        }
-        let totals = self.heap.totals(self.meter.steps());
-        let needed = !self.all_one || totals.used == self.reference.pages_needed();
-        hold(
-            needed && totals == self.reference.totals(),
-            Wrong::Whole(totals),
-        )
-    }
-
-    /// Compares a word of the region.
-    fn compare_word(&mut self, w: u32, want: Option<u64>) -> Result<(), Wrong> {
-        if !self.heap.is_open() {
-            return Err(Wrong::Closed);
-        }
-        let word = self.heap.peek(w, self.meter.steps());
-        hold(word == want, Wrong::Word(word))
-    }
-
-    /// Compares the address of an object, and each of its blocks.
-    fn compare_blocks(&mut self, handle: Handle) -> Result<(), Wrong> {
-        if !self.heap.is_open() {
-            return Err(Wrong::Closed);
-        }
-        let place = self.heap.place(handle, self.meter.steps());
-        let Some((at, length)) = self.known(handle) else {
-            return hold(place.is_none(), Wrong::Place(place));
-        };
-        hold(place == Some(at), Wrong::Place(place))?;
-        let blocks = self.reference.slot_words(self.reference.class_for(length)) / 4;
-        for i in 0..blocks {
-            self.compare_block(handle, i, self.block_at(at, i))?;
-        }
-        self.compare_block(handle, blocks, None)
-    }
-
-    /// The physical block of block i of an object at an address; none where words are moved.
-    fn block_at(&self, place: u32, i: u32) -> Option<u32> {
-        if (place / 4) as usize + (i as usize) < self.frames.len() {
-            Some(block_of(&self.frames, place, i))
-        } else {
-            None
-        }
-    }
-
-    /// Compares a block of an object.
-    fn compare_block(&mut self, handle: Handle, i: u32, want: Option<u32>) -> Result<(), Wrong> {
-        if !self.heap.is_open() {
-            return Err(Wrong::Closed);
-        }
-        let block = self.heap.block(handle, i, self.meter.steps());
-        hold(block == want, Wrong::Block(block))
     }
 }
 

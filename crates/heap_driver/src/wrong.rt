@@ -1,4 +1,5 @@
 //! What came in place of what was wanted.
+use crate::random_run::Bounds;
 use cf_base::{
     AccessFault, Figures, Freed, Handle, NotLive, OutOfMemory, Refusal, ResizeFault, Resized,
     SettingFault, Totals,
@@ -8,10 +9,12 @@ use std::alloc::{AllocError, AllocFailed};
 /// What a call returned in place of what was wanted, or why it wasn't made.
 #[derive(Debug, Drop)]
 pub enum Wrong {
-    /// The row has settings out of range.
+    /// A line isn't a call, or has a number out of range.
+    Line,
+    /// The settings are out of range.
     Settings(SettingFault),
-    /// The row has a bound out of range, an id that there isn't, or more bytes than are read at once.
-    Row,
+    /// There is no class to be given its bound.
+    Bound,
     Memory,
     /// The heap is closed.
     Closed,
@@ -19,25 +22,31 @@ pub enum Wrong {
     Free(Result<Freed, NotLive>),
     Resize(Result<Resized, ResizeFault>),
     Access(Result<(), AccessFault>),
-    Bytes([u8; 16]),
     Place(Option<u32>),
     Block(Option<u32>),
     Word(Option<u64>),
-    Bound(bool),
     Class(Option<Figures>),
     Whole(Totals),
-    Cost(u64),
+    /// So few objects moved, or so many where none could.
+    Moves(u32),
     /// This isn't as in the reference implementation.
     Differs(&'static str),
 }
 
-/// Where a table of calls came out otherwise: the row and the call, counted from 0 over all runs of the
-/// row, and what was wrong.
+/// A run that came out otherwise: the bounds, how many calls were made, and what was wrong.
 #[derive(Debug, Drop)]
-pub struct Failure {
-    pub row: usize,
-    pub call: u64,
+pub struct RunFailure {
+    pub bounds: Bounds,
+    pub call: u32,
     pub wrong: Wrong,
+}
+
+/// A row that came out otherwise: what it shows, the line, and what its call returned.
+#[derive(Debug, Drop)]
+pub struct RowFailure {
+    pub row: &'static str,
+    pub line: &'static str,
+    pub reply: Result<String, Wrong>,
 }
 
 impl From<OutOfMemory> for Wrong {

@@ -369,13 +369,14 @@ impl Plain {
     pub fn totals(&self) -> Totals
         ensures { result ≡ totals_of self.now.paging self.now.held }
     {
-        let free = self.free_pages();
+        let used = self.used_pages();
+        let free = self.pages().saturating_sub(used);
         Totals {
             live: self.count(),
             asked: self.asked_bytes(),
             taken: self.taken_bytes(),
-            held: 8 * self.page_words() as u64 * self.used_pages() as u64,
-            used: self.used_pages(),
+            held: 8 * self.page_words() as u64 * used as u64,
+            used,
             free,
             largest: if free == 0 { 0 } else { self.page_words() },
         }

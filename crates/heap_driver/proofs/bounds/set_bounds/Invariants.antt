@@ -1,4 +1,4 @@
-use Rattle.heap_driver.proofs.EmptyHeap.{IsOpenedEmpty}
+use Rattle.heap_driver.specs.EmptyHeap.{IsOpenedEmpty}
 use Rattle.heap_driver.proofs.bounds.set_bounds.Given as goal
 
 abbrev pub invariant-bounds : goal.invariant-bounds

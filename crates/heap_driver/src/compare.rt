@@ -1,0 +1,106 @@
+//! Comparisons of the heap with the reference implementation.
+
+use crate::random_run::{PROXIES, RandomRun};
+use crate::wrong::{Wrong, hold};
+use cf_base::Handle;
+use cf_model::Manager;
+use page_reference::frames::block_of;
+use std::alloc::Global;
+
+impl<H: Manager> RandomRun<H> {
+    /// Compares the figures of a class, which has at most as many pages partly full as it may.
+    pub fn compare_figures(&self, class: u32) -> Result<(), Wrong> {
+        if !self.heap.is_open() {
+            return Err(Wrong::Closed);
+        }
+        let figures = self.heap.figures(class);
+        if class >= self.reference.classes() {
+            return hold(figures.is_none(), Wrong::Class(figures));
+        }
+        let want = self.reference.figures(class);
+        let within = self
+            .bounds
+            .get(class as usize)
+            .is_some_and(|bound| want.not_full <= *bound);
+        hold(within && figures == Some(want), Wrong::Class(figures))
+    }
+
+    /// Compares all figures, each word of the region, and the bytes, the address and the blocks of each
+    /// object.
+    pub fn compare_all(&mut self, alloc: Global) -> Result<(), Wrong> {
+        for class in 0..self.reference.classes() {
+            self.compare_figures(class)?;
+        }
+        self.compare_totals()?;
+        let image = self.reference.image(alloc)?;
+        let mut w = 0;
+        for word in image.iter() {
+            self.compare_word(w, Some(*word))?;
+            w = w.wrapping_add(1);
+        }
+        self.compare_word(w, None)?;
+        for number in 0..PROXIES {
+            self.read(alloc, Handle(number))?;
+            self.compare_blocks(Handle(number))?;
+        }
+        Ok(())
+    }
+
+    /// Compares the figures of the heap. Where every bound is 1 the used pages are those of the arithmetic.
+    fn compare_totals(&mut self) -> Result<(), Wrong> {
+        if !self.heap.is_open() {
+            return Err(Wrong::Closed);
+        }
+        let totals = self.heap.totals(self.meter.steps());
+        let needed = self.bounds.iter().any(|bound| *bound != 1)
+            || totals.used == self.reference.pages_needed();
+        hold(
+            needed && totals == self.reference.totals(),
+            Wrong::Whole(totals),
+        )
+    }
+
+    /// Compares a word of the region.
+    fn compare_word(&mut self, w: u32, want: Option<u64>) -> Result<(), Wrong> {
+        if !self.heap.is_open() {
+            return Err(Wrong::Closed);
+        }
+        let word = self.heap.peek(w, self.meter.steps());
+        hold(word == want, Wrong::Word(word))
+    }
+
+    /// Compares the address of an object, and each of its blocks.
+    fn compare_blocks(&mut self, handle: Handle) -> Result<(), Wrong> {
+        if !self.heap.is_open() {
+            return Err(Wrong::Closed);
+        }
+        let place = self.heap.place(handle, self.meter.steps());
+        let Some((at, length)) = self.known(handle) else {
+            return hold(place.is_none(), Wrong::Place(place));
+        };
+        hold(place == Some(at), Wrong::Place(place))?;
+        let blocks = self.reference.slot_words(self.reference.class_for(length)) / 4;
+        for i in 0..blocks {
+            self.compare_block(handle, i, self.block_at(at, i))?;
+        }
+        self.compare_block(handle, blocks, None)
+    }
+
+    /// The physical block of block i of an object at an address; none where words are moved.
+    fn block_at(&self, place: u32, i: u32) -> Option<u32> {
+        if (place / 4) as usize + (i as usize) < self.frames.len() {
+            Some(block_of(&self.frames, place, i))
+        } else {
+            None
+        }
+    }
+
+    /// Compares a block of an object.
+    fn compare_block(&mut self, handle: Handle, i: u32, want: Option<u32>) -> Result<(), Wrong> {
+        if !self.heap.is_open() {
+            return Err(Wrong::Closed);
+        }
+        let block = self.heap.block(handle, i, self.meter.steps());
+        hold(block == want, Wrong::Block(block))
+    }
+}
