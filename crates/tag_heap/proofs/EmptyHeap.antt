@@ -31,7 +31,8 @@ no_object : (q : ℕ) (x : Placed) → get (empty {X = Placed} {R = nat_cmp}) q 
 no_object q x e = (let g : Some x ≡ None = sym e ∙ get-empty nat_cmp q in cc)
 
 -- one free block, and no proxy in use
-module _ (s : Settings) (t : Tagged) (p : Proxies) (blocks : t.blocks ≡ one_free_block (s.pages * s.page_words)) (long : length t.words ≡ s.pages * s.page_words)
+module _ (s : Settings) (t : Tagged) (p : Proxies) (blocks : t.blocks ≡ one_free_block (s.pages * s.page_words))
+    (long : length t.words ≡ s.pages * s.page_words)
     (tags : AreTags t) (none : p ≡ no_proxies s.proxies) (below : AreBelowLimit p) where
   abbrev fresh : Heap
   fresh = record { settings = s; tagged = t; proxies = p; asked = 0; used_words = 0; cost = 0 }

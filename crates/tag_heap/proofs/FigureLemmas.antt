@@ -41,7 +41,8 @@ module _ (h : Heap) (v : IsValid h) where
   object_few q bytes e = go (get (held_in h) q) refl
     where
       go : (o : Option Placed) → get (held_in h) q ≡ o → length bytes ≤ 2 ^ 26
-      go None f = absurd (let z : None ≡ Some bytes = sym (get-map_values (λ (x : Placed). x.bytes) (held_in h) q ∙ ap (option_map (λ (x : Placed). x.bytes)) f) ∙ e in cc)
+      go None f = absurd (let z : None ≡ Some bytes = sym (get-map_values (λ (x : Placed). x.bytes) (held_in h) q
+          ∙ ap (option_map (λ (x : Placed). x.bytes)) f) ∙ e in cc)
       go (Some x) f =
           let z : Some x.bytes ≡ Some bytes = sym (get-map_values (λ (x : Placed). x.bytes) (held_in h) q ∙ ap (option_map (λ (x : Placed). x.bytes)) f) ∙ e in
           let is : x.bytes ≡ bytes = cc in

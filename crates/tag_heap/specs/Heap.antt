@@ -71,7 +71,8 @@ HeapParts = Settings × (List ℕ × (List Block × (Proxies × (ℕ × (ℕ × 
 
 abbrev pub heap_code : Coded Heap
 heap_code = code_by HeapParts
-    (coded× settings.the_row.coded (coded× (coded_list coded_ℕ) (coded× (coded_list block_code) (coded× proxies_code (coded× coded_ℕ (coded× coded_ℕ coded_ℕ))))))
+    (coded× settings.the_row.coded (coded× (coded_list coded_ℕ)
+    (coded× (coded_list block_code) (coded× proxies_code (coded× coded_ℕ (coded× coded_ℕ coded_ℕ))))))
     (λ h. (h.settings, (h.tagged.words, (h.tagged.blocks, (h.proxies, (h.asked, (h.used_words, h.cost)))))))
     (λ q. record {
       settings = q.0;

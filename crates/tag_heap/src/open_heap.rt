@@ -34,7 +34,14 @@ impl<B: Yardstick> Model for OpenHeap<B> {
 
     ghost view = { λ h. record { settings = h.settings; tagged = h.blocks; proxies = h.proxies; asked = h.asked; used_words = h.used_words; cost = h.cost } };
 
-    ghost invariant = { λ h. IsValid (record { settings = h.settings; tagged = h.blocks; proxies = h.proxies; asked = h.asked; used_words = h.used_words; cost = h.cost }) };
+    ghost invariant = { λ h. IsValid (record {
+      settings = h.settings;
+      tagged = h.blocks;
+      proxies = h.proxies;
+      asked = h.asked;
+      used_words = h.used_words;
+      cost = h.cost;
+    }) };
 }
 
 impl<B: Yardstick> OpenHeap<B> {

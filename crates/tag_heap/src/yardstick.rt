@@ -11,11 +11,13 @@ pub trait Yardstick: Buckets + Drop {
     /// The kind.
     ghost kind: { Kind };
 
-    /// The kind.
+    /// The kind, for callers.
     fn kind() -> Kind
         ensures { result ≡ kind };
 
+    // It is a kind with blocks.
     ghost tiled: { IsTiled kind };
 
+    // Its free lists are those of the rule.
     ghost lists: { Self.rule ≡ free_lists_of kind };
 }

@@ -32,20 +32,23 @@ overflow_sub-self-2 g c = asked_enough _ c.self.invariant c.args.h.0 c.in-Some.p
     (c.from.ensures ∙ c.unpack-length.ensures.length ∙ ap (λ w. w / 2 ^ 32) c.tag_of.ensures.value)
 
 pub invariant_of-self : goal.invariant_of-self
-invariant_of-self g c = rw c.release.ensures.places (freed_valid _ c.self.invariant c.args.h.0 c.in-Some.place (sym c.in-Some.ensures.found) _ c.release-2.ensures.released
+invariant_of-self g c = rw c.release.ensures.places (freed_valid _ c.self.invariant c.args.h.0 c.in-Some.place
+    (sym c.in-Some.ensures.found) _ c.release-2.ensures.released
     c.release-2.ensures.len c.release-2.ensures.kept (subst AreBelowLimit c.release.ensures.places c.release.ensures.kept)
     c.size_of-slot_words.result c.from.result c.size_of-slot_words.ensures.value
     (c.from.ensures ∙ c.unpack-length.ensures.length ∙ ap (λ w. w / 2 ^ 32) c.tag_of.ensures.value))
 
 pub returns-clause-step : goal.returns-clause-step
-returns-clause-step g c = rw (← c.self.view_is, c.release.ensures.places) (frees _ c.self.invariant c.args.h.0 c.in-Some.place (sym c.in-Some.ensures.found) _ c.release-2.ensures.released
+returns-clause-step g c = rw (← c.self.view_is, c.release.ensures.places) (frees _ c.self.invariant c.args.h.0 c.in-Some.place
+    (sym c.in-Some.ensures.found) _ c.release-2.ensures.released
     c.release-2.ensures.len c.release-2.ensures.kept (subst AreBelowLimit c.release.ensures.places c.release.ensures.kept)
     c.size_of-slot_words.result c.from.result c.size_of-slot_words.ensures.value
     (c.from.ensures ∙ c.unpack-length.ensures.length ∙ ap (λ w. w / 2 ^ 32) c.tag_of.ensures.value)
     g.B.Yardstick.kind g.met.B.Yardstick.tiled)
 
 pub returns-clause-rules : goal.returns-clause-rules
-returns-clause-rules g c = rw c.release.ensures.places (freed_rules _ c.self.invariant c.args.h.0 c.in-Some.place (sym c.in-Some.ensures.found) _ c.release-2.ensures.released
+returns-clause-rules g c = rw c.release.ensures.places (freed_rules _ c.self.invariant c.args.h.0 c.in-Some.place
+    (sym c.in-Some.ensures.found) _ c.release-2.ensures.released
     c.release-2.ensures.len c.release-2.ensures.kept (subst AreBelowLimit c.release.ensures.places c.release.ensures.kept)
     c.size_of-slot_words.result c.from.result c.size_of-slot_words.ensures.value
     (c.from.ensures ∙ c.unpack-length.ensures.length ∙ ap (λ w. w / 2 ^ 32) c.tag_of.ensures.value)

@@ -1,0 +1,22 @@
+//! The manager.
+ghost use Rattle.std.specs.Prelude.{refl};
+ghost use Rattle.cf_base.specs.declared.kind.Kind.TheVariants.{Tlsf};
+
+use crate::buckets::TlsfBuckets;
+use cf_base::Kind;
+use tag_heap::{TagHeap, Yardstick};
+
+/// The manager with the free lists of TLSF (2004).
+pub type TlsfHeap = TagHeap<TlsfBuckets>;
+
+impl Yardstick for TlsfBuckets {
+    ghost kind = { Tlsf };
+
+    fn kind() -> Kind {
+        Kind::Tlsf
+    }
+
+    ghost tiled = { refl };
+
+    ghost lists = { refl };
+}
