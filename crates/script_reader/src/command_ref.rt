@@ -82,7 +82,7 @@ impl Command {
 
 impl<'a> CommandRef<'a> {
     /// The command, with a copy of the bytes of a write.
-    pub(crate) fn to_command(self) -> Command
+    pub fn to_command(self) -> Command
         requires { IsWellFormed (owned_command self) }
         ensures { result ≡ owned_command self.entry }
     {

@@ -1,0 +1,18 @@
+use Rattle.std.proofs.Common.{◌≡◌, ◌≤◌, ◌+◌, ◌-◌, ◌++◌, List}
+use Rattle.bench_run.specs.Bench.{IsAppliedTo}
+use Rattle.cf_session.specs.Apply.{run_at}
+use Rattle.generator.specs.Generated.{generated}
+use Rattle.run_model.specs.Sessions.{IsGoing}
+use Rattle.script_reader.specs.declared.command.Command.{Command}
+use Rattle.bench_run.proofs.bench.apply_commands.Given as goal
+
+abbrev pub invariant-loop-i : goal.invariant-loop-i
+invariant-loop-i g l = record {
+  done : List Command;
+  given : generated l.seed l.count ≡ done ++ generated l.generator (l.count - l.i);
+  applied : IsAppliedTo (run_at l.initial.session (g.H.Manager.state l.initial.heap)) done (run_at l.session (g.H.Manager.state l.heap))
+      l.tally.ok l.tally.refused;
+  going : IsGoing (run_at l.session (g.H.Manager.state l.heap));
+  kind : (g.H.Manager.state l.heap).kind ≡ (g.H.Manager.state l.initial.heap).kind;
+  few : l.tally.ok + l.tally.refused ≤ l.i;
+}

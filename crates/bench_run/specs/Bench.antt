@@ -1,0 +1,95 @@
+-- What a bench does, and what it tells.
+use Rattle.std.specs.Prelude.{◌≡◌, ◌++◌, ℕ, Bool, true, false, List, [], ◌∷◌, Option, Some, None, map, codes}
+use Rattle.std.specs.List.{count_by}
+use Rattle.bench_run.specs.declared.figures.BenchFigures.{BenchFigures}
+use Rattle.cf_base.specs.Settings.{Profile, profile_from}
+use Rattle.cf_base.specs.declared.kind.Kind.{Kind}
+use Rattle.cf_base.specs.declared.status.Status.{Status}
+use Rattle.cf_base.specs.declared.status.Status.TheVariants.{Done, WriteFault, OutOfMemory}
+use Rattle.cf_io.specs.Feeds.{appended}
+use Rattle.cf_io.specs.Texts.{Reply, led, said, with_number}
+use Rattle.cf_model.specs.Answers.{totals_in}
+use Rattle.cf_session.specs.Apply.{outcome_of}
+use Rattle.cf_session.specs.declared.outcome.Outcome.{Outcome}
+use Rattle.cf_session.specs.declared.outcome.Outcome.TheVariants.{Good, Refused}
+use Rattle.generator.specs.Generated.{generated}
+use Rattle.run_model.specs.Runs.{Run}
+use Rattle.run_model.specs.Sessions.{RunState}
+use Rattle.script_loop.specs.OneManager.{LacksOne}
+use Rattle.script_reader.specs.Items.{Item, asks, starts}
+use Rattle.script_reader.specs.declared.command.Command.{Command}
+
+abbrev pub is_good : Outcome → Bool
+is_good Good = true
+is_good outcome = false
+
+abbrev pub is_refusal : Outcome → Bool
+is_refusal Refused = true
+is_refusal outcome = false
+
+-- how many of the replies are good, and how many are refusals
+abbrev pub good_ones : List Reply → ℕ
+good_ones replies = count_by (λ reply. is_good (outcome_of reply)) replies
+
+abbrev pub refusals : List Reply → ℕ
+refusals replies = count_by (λ reply. is_refusal (outcome_of reply)) replies
+
+-- the settings of `heap 64 16384 1 4096`
+abbrev pub bench_settings : Profile
+bench_settings = profile_from 64 16384 1 4096
+
+-- the generated script: a heap with these settings, and the first commands of the seed
+abbrev pub bench_items : ℕ → ℕ → List Item
+bench_items seed count = starts bench_settings ∷ map (λ c. asks c) (generated seed count)
+
+-- The run over the generated script: the replies to its commands, and its end. That of the `heap` line is `ok`, and isn't counted.
+pub record BenchRun (kind : Kind) (seed count : ℕ) (end : RunState) : Type 0 where
+  pub replies : List Reply
+  pub run : Run kind None (bench_items seed count) (said (codes "ok") ∷ replies) (Some end)
+
+-- what is told of a run with these replies and this end
+abbrev pub figures_of : ℕ → List Reply → RunState → BenchFigures
+figures_of count replies end = record {
+  commands = count;
+  ok = good_ones replies;
+  refused = refusals replies;
+  live = (totals_in end.heap.kind end.heap).live;
+  pages = (totals_in end.heap.kind end.heap).used;
+  moves = end.session.moves;
+}
+
+-- the line that tells it
+abbrev pub bench_line : BenchFigures → List ℕ
+bench_line f = with_number (codes "bench commands ") f.commands ++ (with_number (codes " ok ") f.ok ++ (with_number (codes " refused ") f.refused
+    ++ (with_number (codes " live ") f.live ++ (with_number (codes " pages ") f.pages ++ with_number (codes " moves ") f.moves))))
+
+abbrev pub bench_text : ℕ → List Reply → RunState → List ℕ
+bench_text count replies end = led [] (said (bench_line (figures_of count replies end)))
+
+-- the text was written, or a prefix of it, by the status
+abbrev pub IsWritten : Status → Option (List ℕ) → List ℕ → Option (List ℕ) → Type 0
+IsWritten Done before text after = after ≡ appended before text
+IsWritten WriteFault before text after = (front : List ℕ) × (lost : List ℕ) × (text ≡ front ++ lost) × (after ≡ appended before front)
+IsWritten status before text after = ⊥
+
+-- the run was made, and its line was written, or a prefix of it
+pub record TellsBench (status : Status) (seed count : ℕ) (from to : RunState) (before after : Option (List ℕ)) : Type 0 where
+  pub run : BenchRun from.heap.kind seed count to
+  pub written : IsWritten status before (bench_text count run.replies to) after
+
+-- an allocation failed at the opening, and nothing was written
+pub record LacksBench (from to : RunState) (before after : Option (List ℕ)) : Type 0 where
+  pub lacks : LacksOne from to
+  pub unwritten : after ≡ before
+
+-- how a bench may end
+abbrev pub EndsBench : Status → ℕ → ℕ → RunState → RunState → Option (List ℕ) → Option (List ℕ) → Type 0
+EndsBench OutOfMemory seed count from to before after = LacksBench from to before after
+EndsBench status seed count from to before after = TellsBench status seed count from to before after
+
+-- the commands were applied, and so many of the replies are good and refusals
+pub record IsAppliedTo (old : RunState) (commands : List Command) (new : RunState) (ok refused : ℕ) : Type 0 where
+  pub replies : List Reply
+  pub run : Run old.heap.kind (Some old) (map (λ c. asks c) commands) replies (Some new)
+  pub ok_are : ok ≡ good_ones replies
+  pub refused_are : refused ≡ refusals replies

@@ -1,0 +1,80 @@
+//! The run of a bench.
+ghost use Rattle.std.specs.Prelude.{◌≡◌, ◌≤◌};
+ghost use Rattle.bench_run.specs.Bench.{EndsBench, IsAppliedTo};
+ghost use Rattle.cf_io.specs.Feeds.{Rose};
+ghost use Rattle.cf_session.specs.Apply.{run_at};
+ghost use Rattle.generator.specs.Generated.{generated};
+ghost use Rattle.run_model.specs.Sessions.{IsGoing, fresh_session};
+
+use crate::figures::BenchFigures;
+use crate::tally::Tally;
+use cf_base::{Settings, Status};
+use cf_io::{NullSink, Sink};
+use cf_model::Manager;
+use cf_session::Session;
+use generator::Generator;
+use std::rt::Runtime;
+use step_ledger::Meter;
+
+/// Opens the manager as `heap 64 16384 1 4096` does, applies the first `count` commands of the seed,
+/// whose replies nobody reads, and writes the one line that tells the numbers. `OutOfMemory` comes
+/// before anything else, and `WriteFault` only where the sink failed.
+pub fn run_bench<R: Runtime, H: Manager, K: Sink>(
+    rt: &R,
+    session: &mut Session,
+    heap: &mut H,
+    seed: u64,
+    count: u64,
+    sink: &mut K,
+) -> Status
+    requires { session.old ≡ fresh_session }
+    ensures outcome { EndsBench result seed count (run_at session.old (H.state heap.old)) (run_at session.new (H.state heap.new))
+        (K.written sink.old) (K.written sink.new) }
+    ensures kind { (H.state heap.new).kind ≡ (H.state heap.old).kind }
+    ensures grows { K.faults sink.old ≤ K.faults sink.new }
+    ensures write_fault { result ≡ Status.WriteFault → Rose (K.faults sink.old) (K.faults sink.new) }
+{
+    let settings = Settings {
+        pages: 64,
+        page_words: 2_048,
+        k: 1,
+        proxies: 4_096,
+    };
+    match heap.open_heap(&settings) {
+        Ok(()) => {}
+        Err(_) => return Status::OutOfMemory,
+    }
+    let tally = apply_commands(session, heap, seed, count);
+    let mut meter = Meter::new(rt);
+    let totals = heap.totals(meter.steps());
+    let figures = BenchFigures {
+        commands: count,
+        ok: tally.ok,
+        refused: tally.refused,
+        live: totals.live,
+        pages: totals.used,
+        moves: session.moves(),
+    };
+    figures.put(sink)
+}
+
+/// Applies the first `count` commands of the seed, and counts their outcomes.
+fn apply_commands<H: Manager>(session: &mut Session, heap: &mut H, seed: u64, count: u64) -> Tally
+    requires { IsGoing (run_at session.old (H.state heap.old)) }
+    ensures applied { IsAppliedTo (run_at session.old (H.state heap.old)) (generated seed count) (run_at session.new (H.state heap.new))
+        result.ok result.refused }
+    ensures going { IsGoing (run_at session.new (H.state heap.new)) }
+    ensures kind { (H.state heap.new).kind ≡ (H.state heap.old).kind }
+{
+    let mut generator = Generator::new(seed);
+    let mut bytes = [0; 8];
+    let mut tally = Tally { ok: 0, refused: 0 };
+    for i in 0..count {
+        let command = generator.next_ref(&mut bytes);
+        match session.apply_ref(heap, command, b"", &mut NullSink) {
+            Ok(outcome) => tally.add(outcome),
+            Err(_) => unreachable!(),
+        }
+    }
+    tally
+}

@@ -1,0 +1,41 @@
+//! What is told of a bench.
+ghost use Rattle.std.specs.Prelude.{◌≡◌, ◌≤◌, []};
+ghost use Rattle.bench_run.specs.Bench.{IsWritten, bench_line};
+ghost use Rattle.cf_io.specs.Feeds.{Rose};
+ghost use Rattle.cf_io.specs.Texts.{led, said};
+
+use cf_base::Status;
+use cf_io::{Line, Sink, push_field, put_line};
+
+/// The numbers of a bench: the commands applied, how many of their replies were good and how many were
+/// refusals, and at the end the live objects, the pages (or blocks) in use, and the objects that moved.
+#[derive(Clone, Copy, Debug, PartialEq, Eq)]
+pub struct BenchFigures {
+    pub commands: u64,
+    pub ok: u64,
+    pub refused: u64,
+    pub live: u32,
+    pub pages: u32,
+    pub moves: u64,
+}
+
+impl BenchFigures {
+    /// Writes the line that tells them, in one piece: `Done`, or `WriteFault` where the sink failed.
+    pub(crate) fn put<K: Sink>(&self, sink: &mut K) -> Status
+        ensures written { IsWritten result (K.written sink.old) (led [] (said (bench_line self.now))) (K.written sink.new) }
+        ensures grows { K.faults sink.old ≤ K.faults sink.new }
+        ensures write_fault { result ≡ Status.WriteFault → Rose (K.faults sink.old) (K.faults sink.new) }
+    {
+        let mut line = Line::new();
+        push_field(&mut line, b"bench commands ", self.commands);
+        push_field(&mut line, b" ok ", self.ok);
+        push_field(&mut line, b" refused ", self.refused);
+        push_field(&mut line, b" live ", self.live as u64);
+        push_field(&mut line, b" pages ", self.pages as u64);
+        push_field(&mut line, b" moves ", self.moves);
+        match put_line(&mut line, sink) {
+            Ok(()) => Status::Done,
+            Err(_) => Status::WriteFault,
+        }
+    }
+}

@@ -1,0 +1,27 @@
+//! Counts of outcomes.
+ghost use Rattle.std.specs.Prelude.{◌≡◌, ◌+◌, ◌<◌, ◌^◌, cond};
+ghost use Rattle.bench_run.specs.Bench.{is_good, is_refusal};
+
+use cf_session::Outcome;
+
+/// How many replies were good, and how many were refusals.
+#[derive(Clone, Copy)]
+pub(crate) struct Tally {
+    pub ok: u64,
+    pub refused: u64,
+}
+
+impl Tally {
+    /// Counts one more reply.
+    pub(crate) fn add(&mut self, outcome: Outcome)
+        requires { self.old.ok + self.old.refused + 1 < 2 ^ 64 }
+        ensures ok { self.new.ok ≡ self.old.ok + cond (is_good outcome) 1 0 }
+        ensures refused { self.new.refused ≡ self.old.refused + cond (is_refusal outcome) 1 0 }
+    {
+        match outcome {
+            Outcome::Good => self.ok += 1,
+            Outcome::Refused => self.refused += 1,
+            Outcome::Other => {}
+        }
+    }
+}

@@ -1,0 +1,4 @@
+mod TextLemmas
+mod TokenLemmas
+mod ReadBack
+mod GeneratedLemmas

@@ -1,0 +1,50 @@
+-- Commands whose lines are read back.
+use Rattle.std.specs.Prelude.{◌≡◌, ◌≤◌, ⊤, ℕ, ◌++◌, List, [], ◌∷◌, None, codes}
+use Rattle.cf_base.specs.Settings.{setting_fault}
+use Rattle.hex.specs.Hex.{IsBytes}
+use Rattle.script_reader.specs.Commands.{IsWellFormed}
+use Rattle.script_reader.specs.declared.command.Command.{Command}
+use Rattle.script_reader.specs.declared.command.Command.TheVariants.{Malloc, Free, Write, Read, Place, Block, Peek, Walk, Frag, Steps, Bound, Resize, Slice}
+use Rattle.script_reader.specs.declared.command.Command.TheVariants.{Task, Quota, Need, Admit}
+use Rattle.generator.specs.CommandText.{line_of, spaced, word_and_numbers}
+
+-- a number of 16 bits, and one of 32
+abbrev pub IsShort : ℕ → Type 0
+IsShort n = n ≤ 65535
+
+abbrev pub IsWord : ℕ → Type 0
+IsWord n = n ≤ 4294967295
+
+-- the fields of the command fit their types, as those of every command of a program do
+abbrev pub FitsTypes : Command → Type 0
+FitsTypes (Malloc id bytes) = IsShort id × IsWord bytes
+FitsTypes (Free id) = IsShort id
+FitsTypes (Write id at bytes) = IsShort id × IsWord at × IsBytes bytes
+FitsTypes (Read id at len) = IsShort id × IsWord at
+FitsTypes (Place id) = IsShort id
+FitsTypes (Block id i) = IsShort id × IsWord i
+FitsTypes (Peek word) = IsWord word
+FitsTypes (Bound slot_words k) = IsWord slot_words
+FitsTypes (Resize id bytes) = IsShort id × IsWord bytes
+FitsTypes (Quota task pages) = IsWord pages
+FitsTypes (Need task bytes count) = IsWord bytes × IsWord count
+FitsTypes command = ⊤
+
+-- the command is one that a program may hold and a script may have
+pub record IsCommand (c : Command) : Type 0 where
+  pub formed : IsWellFormed c
+  pub typed : FitsTypes c
+
+-- the numbers fit their types and are in range: those that a `heap` line may have
+pub record CanOpen (pages page_bytes k proxies : ℕ) : Type 0 where
+  pub typed : IsWord pages × IsWord page_bytes × IsWord k × IsWord proxies
+  pub in_range : setting_fault pages page_bytes k proxies ≡ None
+
+-- the `heap` line of these numbers, with its line feed
+abbrev pub heap_line : ℕ → ℕ → ℕ → ℕ → List ℕ
+heap_line pages page_bytes k proxies = spaced (word_and_numbers (codes "heap") (pages ∷ page_bytes ∷ k ∷ proxies ∷ [])) ++ 10 ∷ []
+
+-- the lines of the commands, one after the other
+abbrev pub lines_of : List Command → List ℕ
+lines_of [] = []
+lines_of (c ∷ rest) = line_of c ++ lines_of rest

@@ -1,0 +1,25 @@
+//! Laws of lines that are written: they are read back.
+ghost use Rattle.std.specs.Prelude.{◌≡◌, ◌++◌, ◌∷◌, [], ℕ, List, Bool, true, map};
+ghost use Rattle.cf_base.specs.Settings.{profile_from};
+ghost use Rattle.generator.specs.CommandText.{line_of, spaced, tokens_of};
+ghost use Rattle.generator.specs.Generated.{generated};
+ghost use Rattle.generator.specs.ReadBack.{CanOpen, IsCommand, heap_line, lines_of};
+ghost use Rattle.script_reader.specs.Items.{asks, item, items, line_says, starts};
+ghost use Rattle.script_reader.specs.Lines.{lines};
+ghost use Rattle.script_reader.specs.declared.command.Command.{Command};
+
+/// The line of a command is read back as that command, whatever comes after it.
+pub fn commands_are_read_back()
+    ensures line { (c : Command) (rest : List ℕ) (ended : Bool) → IsCommand c
+        → lines (line_of c ++ rest) ended ≡ spaced (tokens_of c) ∷ lines rest ended }
+    ensures says { (c : Command) → IsCommand c → line_says (spaced (tokens_of c)) ≡ item (asks c) }
+    ensures after_heap { (pages page_bytes k proxies : ℕ) (c : Command) → CanOpen pages page_bytes k proxies → IsCommand c
+        → items (heap_line pages page_bytes k proxies ++ line_of c) true ≡ starts (profile_from pages page_bytes k proxies) ∷ asks c ∷ [] }
+{}
+
+/// So a script of a `heap` line and the commands of a seed is read back as those commands.
+pub fn generated_scripts_are_read_back()
+    ensures { (pages page_bytes k proxies seed count : ℕ) → CanOpen pages page_bytes k proxies
+        → items (heap_line pages page_bytes k proxies ++ lines_of (generated seed count)) true
+        ≡ starts (profile_from pages page_bytes k proxies) ∷ map (λ c. asks c) (generated seed count) }
+{}

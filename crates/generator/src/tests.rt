@@ -1,0 +1,21 @@
+//! The first commands of seed 0, worked out by hand from SplitMix64's first words.
+use crate::{Generator, command_text};
+use cf_io::Line;
+use std::test::Fail;
+
+#[test]
+fn seed_0_gives_these_commands(rt: HostRuntime) -> Result<(), Fail> {
+    let mut generator = Generator::new(0);
+    for text in [
+        b"f 3503\n".as_slice(),
+        b"r 1524 0 8\n".as_slice(),
+        b"f 1359\n".as_slice(),
+        b"m 492 12876\n".as_slice(),
+    ] {
+        let mut line = Line::new();
+        let command = generator.next_command();
+        assert!(rt; command_text(&command, &mut line).is_ok());
+        assert_eq!(rt; line.bytes(), text);
+    }
+    Ok(())
+}
