@@ -1,18 +1,23 @@
 -- An object that was just made is written and read with no refusal, and what was written is read.
-use Rattle.std.proofs.Common.{◌≡◌, ℕ, ◌+◌, ◌≤◌, List, [], ◌∷◌, ◌++◌, Some, length, take, drop, arith, sym, ◌∙◌, ap, refl}
-use Rattle.std.specs.Prelude.{Result, Ok, Err}
+use Rattle.std.proofs.Common.{◌≡◌, ℕ, ◌+◌, ◌≤◌, List, [], ◌∷◌, ◌++◌, Some, length, take, drop, arith, sym, ◌∙◌, ap, refl, inl, inr}
+use Rattle.std.specs.Prelude.{Result, Ok, Err, None, option_map}
+use Rattle.std.specs.Ordering.{nat_cmp}
+use Rattle.std.proofs.lemmas.Bool.{cases_eq}
 use Rattle.std.proofs.Math.Seq.{take-append_seam}
 use Rattle.std.proofs.lemmas.List.{length-append, length-replicate}
 use Rattle.std.proofs.lemmas.Option.{same_Some}
-use Rattle.std.specs.FinMap.{get}
+use Rattle.std.specs.FinMap.{FinMap, get, insert, remove}
 use Rattle.cf_base.specs.declared.answers.AccessFault.{AccessFault}
 use Rattle.cf_base.specs.declared.answers.AccessFault.TheVariants as access
-use Rattle.cf_lemmas.proofs.Maps.{get_inserted}
-use Rattle.page_model.specs.Held.{Placed}
+use Rattle.cf_base.specs.declared.answers.Freed.{Freed}
+use Rattle.cf_base.specs.declared.answers.NotLive.{NotLive}
+use Rattle.cf_lemmas.proofs.Maps.{equal_maps, get_inserted, get_insert_other, get_removed, get_remove_other}
+use Rattle.cf_lemmas.proofs.MapValues.{get-map_values, map_values-insert}
+use Rattle.page_model.specs.Held.{Placed, objects}
 use Rattle.page_model.specs.Bytes.{written}
 use Rattle.page_model.specs.Steps.{Request, zeros_at}
 use Rattle.cf_model.specs.State.{HeapState}
-use Rattle.cf_model.specs.Steps.{GivesObject, IsReadAnswer, IsWriteStep, Part, WritesBytes}
+use Rattle.cf_model.specs.Steps.{GivesObject, IsFreeStep, IsReadAnswer, IsWriteStep, Part, WritesBytes}
 use Rattle.cf_model.proofs.CallerLemmas.{not_none_found}
 
 -- the whole object of this number, from its first byte on
@@ -77,3 +82,27 @@ pub what_was_written : (old made after : HeapState) (asked : Request) (bytes roo
     → IsWriteStep made (start_of asked.number) bytes w after → IsReadAnswer after (start_of asked.number) room r out → out ≡ bytes
 what_was_written old made after asked bytes room out w r given fits same step answer =
     read made after asked.number bytes room out (wrote old made asked bytes given fits after w step) same r answer
+
+-- what is put in twice and then taken away leaves the map as it was
+taken_again : {V : Type 0} (m : FinMap nat_cmp V) (h : ℕ) (v w : V) → get m h ≡ None → remove (insert (insert m h v) h w) h ≡ m
+taken_again m h v w none = equal_maps _ _ (λ q. elim (cases_eq q h) [
+  | inl is ↦ rw is (get_removed (insert (insert m h v) h w) h ∙ sym none)
+  | inr ne ↦ get_remove_other (insert (insert m h v) h w) h q ne ∙ get_insert_other (insert m h v) h w q ne ∙ get_insert_other m h v q ne
+])
+
+-- an object that is made, written and freed leaves the objects as they were
+pub nothing_is_left : (old made after left : HeapState) (asked : Request) (bytes : List ℕ) (w : Result Unit AccessFault) (f : Result Freed NotLive)
+    → GivesObject old asked made → length bytes ≤ asked.length
+    → IsWriteStep made (start_of asked.number) bytes w after → IsFreeStep after asked.number f left → objects left.held ≡ objects old.held
+nothing_is_left old made after left asked bytes w (Ok freed) given fits step free =
+    let wrote = wrote old made asked bytes given fits after w step in
+    let none : get (objects old.held) asked.number ≡ None =
+    get-map_values (λ (x : Placed). x.bytes) old.held asked.number ∙ ap (option_map (λ (x : Placed). x.bytes)) given.unused in
+    let first = ap (λ (s : HeapState). objects s.held) given.whole ∙ map_values-insert (λ (x : Placed). x.bytes) old.held asked.number _ in
+    let then = ap (λ (s : HeapState). objects s.held) wrote.whole ∙ map_values-insert (λ (x : Placed). x.bytes) made.held asked.number _ in
+    free.left ∙ ap (λ m. remove m asked.number) then ∙ ap (λ m. remove (insert m asked.number (written wrote.object.bytes 0 bytes)) asked.number) first
+    ∙ taken_again (objects old.held) asked.number _ _ none
+nothing_is_left old made after left asked bytes w (Err e) given fits step (none, same) =
+    let wrote = wrote old made asked bytes given fits after w step in
+    let there = ap (λ (s : HeapState). get s.held asked.number) wrote.whole ∙ get_inserted made.held asked.number _ in
+    absurd (not_none_found after.held asked.number _ there none)

@@ -2,7 +2,8 @@
 #![tactic(auto)]
 
 ghost use Rattle.std.specs.Prelude.{◌≡◌, [], ◌∷◌, IsTrue, IfOk, IfErr, IfSome};
-ghost use Rattle.cf_model.specs.Steps.{IsRefusedBy};
+ghost use Rattle.page_model.specs.Held.{objects};
+ghost use Rattle.cf_model.specs.Steps.{IsRefusedBy, StaysOpen};
 
 use cf_base::{Refusal, Settings};
 use cf_model::Manager;
@@ -26,6 +27,8 @@ pub fn write_and_read<M: Manager>(heap: &mut M, meter: &mut Meter) -> Result<[u8
     requires { IsTrue (M.state heap.old).is_open }
     ensures read_back { IfOk result (λ bytes. bytes ≡ 0xca ∷ 0xfe ∷ []) }
     ensures refused { IfErr result (λ cause. IsRefusedBy (M.state heap.old) 176 cause) }
+    ensures kept { objects (M.state heap.new).held ≡ objects (M.state heap.old).held }
+    ensures same { StaysOpen (M.state heap.old) (M.state heap.new) }
 {
     let mut bytes = [0; 2];
     meter.lap();
