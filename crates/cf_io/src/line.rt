@@ -73,6 +73,8 @@ impl Line {
 
     /// Appends the bytes in hex, two lower-case digits each. `Full` exactly where the line would
     /// pass 9,000 bytes.
+    // Out of line, since its loop then keeps all it needs in registers.
+    #[inline(never)]
     #[tactic(auto, using(crate::proofs::CallerLemmas::length_in_hex))]
     pub fn push_hex(&mut self, bytes: &[u8]) -> Result<(), Full>
         ensures { Pushes self.old (encode_lower bytes.now) result self.new }
