@@ -1,5 +1,5 @@
 -- What a command that only looks writes on the line.
-use Rattle.std.proofs.Common.{◌≡◌, ◌∙◌, ◌<◌, ◌≤◌, ◌/◌, ◌%◌, ◌^◌, ◌++◌, ℕ, List, [], ◌∷◌, Option, Some, None, option_map, length, take, drop, nat_eq, false, refl, sym, ap, arith, lit<}
+use Rattle.std.proofs.Common.{◌≡◌, ◌∙◌, ◌<◌, ◌/◌, ◌%◌, ◌^◌, ◌++◌, ℕ, List, ◌∷◌, Option, Some, None, option_map, length, nat_eq, false, refl, sym, ap, arith, lit<}
 use Rattle.std.specs.Prelude.{codes, slice_index}
 use Rattle.std.specs.Int.{byte_at, bytes_high_first}
 use Rattle.std.proofs.Math.Nat.{mod-lt}
@@ -19,7 +19,7 @@ use Rattle.run_model.specs.Texts.{with_number}
 use Rattle.cf_session.specs.Apply.{outcome_in}
 use Rattle.cf_session.specs.OneLine.{SaidOn, lines_at}
 use Rattle.cf_session.specs.declared.outcome.Outcome.{Outcome}
-use Rattle.cf_session.specs.declared.outcome.Outcome.TheVariants.{Good, Other}
+use Rattle.cf_session.specs.declared.outcome.Outcome.TheVariants.{Other}
 use Rattle.cf_session.specs.declared.short.OneLine.TheVariants as reply
 
 -- a text that was written after its lead

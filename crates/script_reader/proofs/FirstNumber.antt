@@ -1,10 +1,10 @@
 -- A number that is read as its token ends.
-use Rattle.std.proofs.Common.{◌≡◌, ◌∙◌, ◌-◌, ◌<◌, ◌≤◌, ◌+◌, ℕ, Bool, true, false, not, nat_eq, List, [], ◌∷◌, Option, Some, None, option_map, length, take, drop, get_or}
+use Rattle.std.proofs.Common.{◌≡◌, ◌∙◌, ◌-◌, ◌<◌, ◌≤◌, ℕ, true, false, not, nat_eq, List, [], Option, Some, None, option_map, length, take, drop, get_or}
 use Rattle.std.proofs.Common.{length-drop, refl, sym, ap, arith, inl, inr}
 use Rattle.std.specs.List.{position_or_len}
 use Rattle.std.proofs.Math.Seq.{drop-cons}
 use Rattle.std.proofs.lemmas.Bool.{cases_lt, eq-eqb, false≢true, ne_eqb}
-use Rattle.std.proofs.lemmas.List.{drop_all, get_or-take, length-take, nil_from_length, take_rest}
+use Rattle.std.proofs.lemmas.List.{drop_all, get_or-take, length-take, nil_from_length}
 use Rattle.std.proofs.lemmas.List.Sums.{fails_before_first, passes_at_first}
 use Rattle.cf_io.specs.Numbers.{digits_first, is_digit, leading_number, number_in}
 use Rattle.cf_io.proofs.CallerLemmas.{digits_stop, digits_within, first_told, other_byte}

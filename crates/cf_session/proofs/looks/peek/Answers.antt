@@ -1,4 +1,4 @@
-use Rattle.std.proofs.Common.{◌≡◌, ◌<◌, ◌≤◌, arith, length, length-append}
+use Rattle.std.proofs.Common.{◌<◌, ◌≤◌, arith, length, length-append}
 use Rattle.cf_io.proofs.CallerLemmas.{pushed, length_of_word}
 use Rattle.cf_io.specs.Lines.{word_text}
 use Rattle.cf_session.proofs.LookReplies.{word_other, written}

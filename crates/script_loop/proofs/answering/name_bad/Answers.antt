@@ -1,4 +1,4 @@
-use Rattle.std.proofs.Common.{◌≡◌, ◌∙◌, ◌++◌, [], List, ℕ, Ok, Err, ap, length, arith}
+use Rattle.std.proofs.Common.{◌∙◌, ◌++◌, [], List, ℕ, Ok, Err, ap}
 use Rattle.cf_io.proofs.CallerLemmas.{puts_line}
 use Rattle.run_model.specs.Texts.{bad_line}
 use Rattle.script_loop.proofs.answering.name_bad.Goals as goal
