@@ -3,13 +3,14 @@ use Rattle.std.proofs.Common.{◌≡◌, ◌∙◌, ◌<◌, ◌≤◌, ◌*◌,
 use Rattle.std.specs.List.{list_all}
 use Rattle.std.specs.Fmt.{decimal}
 use Rattle.std.specs.Int.{w64, to_be_bytes}
-use Rattle.std.specs.Str.Parse.{digits_value, AllDigits}
+use Rattle.std.specs.Str.Parse.{AllDigits}
 use Rattle.hex.specs.Hex.{encode_lower, lower_digits}
 use Rattle.hex.proofs.HexLemmas.{length-encode_with}
 use Rattle.std.proofs.lemmas.Fmt.{decimal_is_IsNumeral}
 use Rattle.std.proofs.lemmas.Str.Parse.{digit_from_value}
 use Rattle.cf_io.specs.Lines.{word_text}
 use Rattle.cf_io.specs.Numbers.{is_digit, number_in}
+pub use Rattle.cf_io.proofs.Digits.{Spells, digits_stop, digits_within, first_told, number_spelled, other_byte, spells}
 pub use Rattle.cf_io.proofs.Feeding.{appended_then}
 pub use Rattle.cf_io.proofs.LineLemmas.{five, led-append, pushed, puts_cut, puts_line, puts_then, three}
 
@@ -18,19 +19,6 @@ length_in_hex bytes = length-encode_with lower_digits bytes
 
 pub length_of_word : (v : ℕ) → length (word_text v) ≡ 16
 length_of_word v = length_in_hex (to_be_bytes w64 v)
-
--- what a text that spells a number tells
-pub record Spells (text : List ℕ) (n : ℕ) : Type 0 where
-  pub some : 0 < length text
-  pub digits : list_all is_digit text ≡ true
-  pub value : n ≡ digits_value 10 text
-  pub bound : n ≤ 4294967295
-
-pub spells : (text : List ℕ) (n : ℕ) → number_in text ≡ Some n → Spells text n
-spells text n h = grind (arith, h)
-
-pub number_spelled : (text : List ℕ) (n : ℕ) → Spells text n → number_in text ≡ Some n
-number_spelled text n h = grind (arith, h)
 
 -- a leading zero changes nothing
 pub number_behind_zero : (text : List ℕ) → 0 < length text → number_in (48 ∷ text) ≡ number_in text

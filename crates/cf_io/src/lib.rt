@@ -14,7 +14,7 @@ mod writing;
 
 pub use devices::{StdSink, StdSource};
 pub use line::{Full, LINE_ROOM, Line};
-pub use numbers::number_of;
+pub use numbers::{leading_number, number_of};
 pub use reply_line::{MOST_LEAD, begin_line, push_field, push_text, put_line};
 pub use sink::Sink;
 pub use sinks::{MemSink, NullSink};

@@ -3,7 +3,6 @@ ghost use Rattle.std.specs.Prelude.{◌≡◌, ◌≤◌, [], length, decimal};
 ghost use Rattle.hex.specs.Hex.{encode_lower};
 ghost use Rattle.cf_io.specs.Lines.{Pushes, line_room, word_text};
 
-use arrayvec::ArrayVec;
 use itoa::Buffer;
 use std::marker::Model;
 
@@ -17,15 +16,19 @@ pub struct Full;
 /// A line that is being written: at most 9,000 bytes, kept in place, so that no push takes memory.
 #[derive(Drop)]
 pub struct Line {
-    buffer: ArrayVec<u8, LINE_ROOM>,
+    cells: [u8; LINE_ROOM],
+    len: usize,
 }
 
 impl Model for Line {
-    ghost use Rattle.std.specs.Prelude.{List, ℕ};
+    ghost use Rattle.std.specs.Prelude.{List, ℕ, ◌≤◌, take};
+    ghost use Rattle.cf_io.specs.Lines.{line_room};
 
     ghost Value = { List ℕ };
 
-    ghost view = { λ l. l.buffer.items };
+    ghost view = { λ l. take l.len l.cells };
+
+    ghost invariant = { λ l. l.len ≤ line_room };
 }
 
 impl Line {
@@ -34,7 +37,8 @@ impl Line {
         ensures { result ≡ [] }
     {
         Line {
-            buffer: ArrayVec::new(),
+            cells: [0; LINE_ROOM],
+            len: 0,
         }
     }
 
@@ -43,17 +47,20 @@ impl Line {
         ensures value { result.now ≡ self.now }
         ensures fits { length self.now ≤ line_room }
     {
-        self.buffer.as_slice()
+        &self.cells[..self.len]
     }
 
     /// Appends the bytes. `Full` exactly where the line would pass 9,000 bytes.
     pub fn push(&mut self, bytes: &[u8]) -> Result<(), Full>
         ensures { Pushes self.old bytes.now result self.new }
     {
-        match self.buffer.try_extend_from_slice(bytes) {
-            Ok(()) => Ok(()),
-            Err(_) => Err(Full),
+        if bytes.len() > LINE_ROOM - self.len {
+            return Err(Full);
         }
+        let end = self.len + bytes.len();
+        self.cells[self.len..end].copy_from_slice(bytes);
+        self.len = end;
+        Ok(())
     }
 
     /// Appends the number in decimal. `Full` exactly where the line would pass 9,000 bytes.
@@ -66,19 +73,18 @@ impl Line {
 
     /// Appends the bytes in hex, two lower-case digits each. `Full` exactly where the line would
     /// pass 9,000 bytes.
+    // Out of line, since its loop then keeps all it needs in registers.
+    #[inline(never)]
     #[tactic(auto, using(crate::proofs::CallerLemmas::length_in_hex))]
     pub fn push_hex(&mut self, bytes: &[u8]) -> Result<(), Full>
         ensures { Pushes self.old (encode_lower bytes.now) result self.new }
     {
-        let start = self.buffer.len();
-        if bytes.len() > (LINE_ROOM - start) / 2 {
+        if bytes.len() > (LINE_ROOM - self.len) / 2 {
             return Err(Full);
         }
-        // The bytes, twice, are the room that their digits are written into.
-        self.buffer.try_extend_from_slice(bytes).unwrap();
-        self.buffer.try_extend_from_slice(bytes).unwrap();
-        let room = &mut self.buffer.as_mut_slice()[start..];
-        hex::encode_to_slice(bytes, room).unwrap();
+        let end = self.len + 2 * bytes.len();
+        hex::encode_to_slice(bytes, &mut self.cells[self.len..end]).unwrap();
+        self.len = end;
         Ok(())
     }
 
@@ -94,6 +100,6 @@ impl Line {
     pub fn clear(&mut self)
         ensures { self.new ≡ [] }
     {
-        self.buffer.clear();
+        self.len = 0;
     }
 }

@@ -1,9 +1,8 @@
 -- What was done and told, put together.
-use Rattle.std.proofs.Common.{◌≡◌, ◌∙◌, ℕ, ◌-◌, ◌++◌, List, [], ◌∷◌, Option, Some, None, Result, Ok, Err, length, take, drop, map, refl, ap}
+use Rattle.std.proofs.Common.{◌≡◌, ◌∙◌, ℕ, ◌++◌, List, [], ◌∷◌, Option, Result, Ok, Err, length, map, refl, ap}
 use Rattle.std.proofs.Common.{ap₂, sym, subst, append_assoc}
 use Rattle.std.specs.Prelude.{IsTrue}
-use Rattle.std.proofs.Math.Seq.{drop-append_seam}
-use Rattle.std.proofs.lemmas.List.{nil_from_length, take_rest}
+use Rattle.std.proofs.lemmas.List.{nil_from_length}
 use Rattle.cf_base.specs.declared.answers.Failed.{Failed}
 use Rattle.cf_base.specs.declared.answers.Totals.{Totals}
 use Rattle.cf_base.specs.declared.answers.Figures.{Figures}
@@ -27,6 +26,8 @@ use Rattle.run_model.specs.Texts.{Reply, led, said}
 use Rattle.run_model.proofs.CallerLemmas.{step_meets_bounds, step_going}
 use Rattle.cf_session.specs.Apply.{Applies, outcome_in, outcome_of, run_at}
 use Rattle.cf_session.specs.OneLine.{IsEnded, Lines, SaidOn, Says, lines_at, short_text}
+use Rattle.cf_session.specs.declared.short.OneLine.{OneLine}
+use Rattle.cf_session.specs.declared.short.OneLine.TheVariants as reply
 use Rattle.cf_session.specs.declared.outcome.Outcome.{Outcome}
 use Rattle.cf_session.specs.declared.outcome.Outcome.TheVariants.{Other}
 use Rattle.cf_session.specs.declared.short.Short.{Short}
@@ -94,17 +95,17 @@ reported_frag old lead w y c r answer is going put told =
     subst P (sym is) (reported old old Frag lead (frag_of old.heap) w y r Other answer going (refl, refl) (frag_other old.heap) put told)
 
 -- a command that was answered by a text on the line, or by a short one
-pub says_of : (old new : RunState) (asked c : Command) (text : List ℕ) (line : Lines) (short : Option Short) → asked ≡ c → Step old c (said text) new
-    → SaidOn line text short → Says old asked new line short
-says_of old new asked c text line short is step on =
-    subst (λ (k : Command). Says old k new line short) (sym is) (record { text = text; step = step; on = on })
+pub says_of : (old new : RunState) (asked c : Command) (text : List ℕ) (line : Lines) (reply : OneLine) → asked ≡ c → Step old c (said text) new
+    → SaidOn line text reply → Says old asked new line reply
+says_of old new asked c text line reply is step on =
+    subst (λ (k : Command). Says old k new line reply) (sym is) (record { text = text; step = step; on = on })
 
 -- a short reply that was put
-pub told_short : (old new : RunState) (c : Command) (lead before after : List ℕ) (w y : Told) (short : Short) (r : Result Unit Failed) (outcome : Outcome)
-    (answer : Result Outcome Failed) → IsGoing old → Says old c new (lines_at before after) (Some short) → outcome ≡ outcome_in (short_text short)
+pub told_short : (old new : RunState) (c : Command) (lead line : List ℕ) (w y : Told) (short : Short) (r : Result Unit Failed) (outcome : Outcome)
+    (answer : Result Outcome Failed) → IsGoing old → Says old c new (lines_at lead line) (reply.Short short) → outcome ≡ outcome_in (short_text short)
     → Puts w (led lead (said (short_text short))) r y → IsEnded r outcome answer
     → Applies (at old w) (record { command = c; lead = lead }) answer (at new y)
-told_short old new c lead before after w y short r outcome answer going says told put is =
+told_short old new c lead line w y short r outcome answer going says told put is =
     reported old new c lead (said (short_text short)) w y r outcome answer going
     (subst (λ (text : List ℕ). Step old c (said text) new) (sym says.on) says.step) told put is
 
@@ -122,24 +123,12 @@ put_after w y lead text seen before line r begun pushed is put =
     puts_line w y lead text (lead ++ text) r refl
     (subst (λ (s : List ℕ). Puts w s r y) (pushed ∙ ap₂ (λ (b s : List ℕ). b ++ s) begun is ∙ sym (append_assoc lead text (10 ∷ []))) put)
 
--- a line that was begun with its lead, and put
-module _ (old new : RunState) (c : Command) (lead begun line : List ℕ) (w y : Told)
-    (going : IsGoing old) (begins : begun ≡ lead) (says : Says old c new (lines_at begun line) None) where
-  line_is : line ≡ lead ++ says.text
-  line_is = says.on ∙ ap (λ (b : List ℕ). b ++ says.text) begins
-
-  pub spoken : (outcome : Outcome) (seen : List ℕ) → seen ≡ line → outcome ≡ outcome_in (take (length seen - length lead) (drop (length lead) seen))
-      → Puts {T = Unit {0}} w (line ++ 10 ∷ []) (Ok tt) y
-      → Applies (at old w) (record { command = c; lead = lead }) (Ok outcome) (at new y)
-  spoken outcome seen read is put =
-      let text : take (length seen - length lead) (drop (length lead) seen) ≡ says.text =
-      take_rest seen (length lead) ∙ ap (drop (length lead)) (read ∙ line_is) ∙ drop-append_seam lead says.text in
-      applied old new c lead (said says.text) w y going says.step outcome (is ∙ ap outcome_in text)
-      (puts_line {T = Unit {0}} w y lead says.text line (Ok tt) line_is put)
-
-  pub spoken_cut : (e : Failed) → Puts {T = Unit {0}} w (line ++ 10 ∷ []) (Err e) y
-      → Applies (at old w) (record { command = c; lead = lead }) (Err e) (at new y)
-  spoken_cut e put = applied_cut old new c lead (said says.text) w y going says.step e (puts_line {T = Unit {0}} w y lead says.text line (Err e) line_is put)
+-- a line that was written after its lead, and put
+pub told_line : (old new : RunState) (c : Command) (lead line : List ℕ) (w y : Told) (r : Result Unit Failed) (outcome : Outcome)
+    (answer : Result Outcome Failed) → IsGoing old → Says old c new (lines_at lead line) (reply.Written outcome) → Puts w (line ++ 10 ∷ []) r y
+    → IsEnded r outcome answer → Applies (at old w) (record { command = c; lead = lead }) answer (at new y)
+told_line old new c lead line w y r outcome answer going says put is =
+    reported old new c lead (said says.text) w y r outcome answer going says.step says.on.2 (puts_line w y lead says.text line r says.on.0 put) is
 
 -- a run that goes on does so after an answer
 pub applied_going : (old new : RunState) (c : Command) (lead : List ℕ) (w y : Told) (answer : Result Outcome Failed) → IsGoing old

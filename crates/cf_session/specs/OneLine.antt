@@ -1,7 +1,11 @@
 -- A command whose reply is one line. No public clause cites this module.
-use Rattle.std.specs.Prelude.{◌≡◌, ℕ, ◌++◌, List, Option, Some, None, Result, Ok, Err, codes}
+use Rattle.std.specs.Prelude.{◌≡◌, ◌<◌, ℕ, ◌++◌, List, length, Result, Ok, Err, codes}
+use Rattle.cf_io.specs.Lines.{line_room}
 use Rattle.cf_base.specs.declared.answers.Failed.{Failed}
+use Rattle.cf_session.specs.Apply.{outcome_in}
 use Rattle.cf_session.specs.declared.outcome.Outcome.{Outcome}
+use Rattle.cf_session.specs.declared.short.OneLine.{OneLine}
+use Rattle.cf_session.specs.declared.short.OneLine.TheVariants as reply
 use Rattle.cf_session.specs.declared.short.Short.{Short}
 use Rattle.cf_session.specs.declared.short.Short.TheVariants.{Done, Live, Unknown, Range, Lacking, RefusedSize, RefusedProxy, RefusedSpace}
 use Rattle.script_reader.specs.declared.command.Command.{Command}
@@ -10,13 +14,13 @@ use Rattle.run_model.specs.Sessions.{RunState}
 use Rattle.run_model.specs.Steps.{Step}
 use Rattle.run_model.specs.Texts.{said}
 
--- what stood on a line, and what stands there now
+-- what leads a line, and what stands on it
 pub record Lines : Type 0 where
-  pub before : List ℕ
-  pub after : List ℕ
+  pub lead : List ℕ
+  pub text : List ℕ
 
 abbrev pub lines_at : List ℕ → List ℕ → Lines
-lines_at before after = record { before = before; after = after }
+lines_at lead text = record { lead = lead; text = text }
 
 -- the text of a short reply
 abbrev pub short_text : Short → List ℕ
@@ -29,16 +33,16 @@ short_text RefusedSize = codes "refused size"
 short_text RefusedProxy = codes "refused proxy"
 short_text RefusedSpace = codes "refused space"
 
--- the text is that of a short reply; or it stands after what stood on the line
-abbrev pub SaidOn : Lines → List ℕ → Option Short → Type 0
-SaidOn line text (Some short) = short_text short ≡ text
-SaidOn line text None = line.after ≡ line.before ++ text
+-- the text is that of a short reply; or it stands after the lead on the line, which has room for its end, and this is its outcome
+abbrev pub SaidOn : Lines → List ℕ → OneLine → Type 0
+SaidOn line text (reply.Short short) = short_text short ≡ text
+SaidOn line text (reply.Written outcome) = (line.text ≡ line.lead ++ text) × (length line.text < line_room) × (outcome ≡ outcome_in text)
 
 -- the command takes effect, and this is the text of its reply
-pub record Says (old : RunState) (command : Command) (new : RunState) (line : Lines) (short : Option Short) : Type 0 where
+pub record Says (old : RunState) (command : Command) (new : RunState) (line : Lines) (reply : OneLine) : Type 0 where
   pub text : List ℕ
   pub step : Step old command (said text) new
-  pub on : SaidOn line text short
+  pub on : SaidOn line text reply
 
 -- the reply is one line
 abbrev pub IsOneLine : Command → Type 0

@@ -1,7 +1,6 @@
 //! One command, and its reply.
-ghost use Rattle.std.specs.Prelude.{◌≡◌, ◌^◌, ◌<◌, ◌≤◌, OnErr, length};
+ghost use Rattle.std.specs.Prelude.{◌≡◌, ◌^◌, ◌≤◌, OnErr, length};
 ghost use Rattle.cf_io.specs.Feeds.{Puts, Rose};
-ghost use Rattle.cf_io.specs.Lines.{line_room};
 ghost use Rattle.cf_session.specs.Apply.{Applies, moment_at};
 ghost use Rattle.cf_session.specs.OneLine.{IsEnded, IsOneLine, Says, lines_at, short_text};
 ghost use Rattle.cf_session.specs.Records.{run_with, session_of};
@@ -14,7 +13,7 @@ use crate::changes::{free, malloc, resize, set_bound, write};
 use crate::looks::{block, peek, place, read, tell_steps};
 use crate::outcome::Outcome;
 use crate::records::Records;
-use crate::short::Short;
+use crate::short::{OneLine, Short};
 use cf_base::Failed;
 use cf_io::{Line, Sink, begin_line, push_text, put_all, put_line};
 use cf_model::Manager;
@@ -48,17 +47,10 @@ pub(crate) fn answer<H: Manager, K: Sink>(
     match c {
         CommandRef::Walk => ended(walk_lines(heap, lead, line, out, steps), Outcome::Other),
         CommandRef::Frag => ended(frag_line(heap, lead, line, out, steps), Outcome::Other),
-        _ => {
-            begin_line(line, lead);
-            if let Some(short) = one_line_reply(records, heap, c, room, line, steps) {
-                return ended(put_short(short, lead, line, out), short.outcome());
-            }
-            let outcome = Outcome::of(&line.bytes()[lead.len()..]);
-            match put_line(line, out) {
-                Ok(()) => Ok(outcome),
-                Err(failed) => Err(failed),
-            }
-        }
+        _ => match one_line_reply(records, heap, c, lead, room, line, steps) {
+            OneLine::Short(short) => ended(put_short(short, lead, line, out), short.outcome()),
+            OneLine::Written(outcome) => ended(put_line(line, out), outcome),
+        },
     }
 }
 
@@ -97,41 +89,48 @@ fn put_led<K: Sink>(short: Short, lead: &[u8], line: &mut Line, out: &mut K) -> 
     put_all(out, line.bytes())
 }
 
-/// Does a command whose reply is one line, and writes its text on the line, or returns the short text
-/// that it is.
+/// Does a command whose reply is one line, and writes its text on the line, after the lead, or returns
+/// the short text that it is.
 fn one_line_reply<H: Manager>(
     records: &mut Records,
     heap: &mut H,
     c: CommandRef,
+    lead: &[u8],
     room: &mut [u8],
     line: &mut Line,
     steps: &mut Steps,
-) -> Option<Short>
+) -> OneLine
     requires going { IsGoing (run_with records.old (H.state heap.old)) }
     requires formed { IsWellFormed (owned_command c) }
     requires one { IsOneLine (owned_command c) }
     requires place { length room.old ≡ 4096 }
     requires room { steps.old ≤ 2 ^ 63 }
-    requires begun { length line.old ≤ 8 }
-    ensures said { Says (run_with records.old (H.state heap.old))
+    requires lead { length lead.now ≤ 8 }
+    ensures { Says (run_with records.old (H.state heap.old))
         (owned_command c.entry) (run_with records.new (H.state heap.new))
-        (lines_at line.old line.new) result }
-    ensures short { length line.new < line_room }
+        (lines_at lead.now line.new) result }
 {
     match c {
-        CommandRef::Malloc { id, bytes } => Some(malloc(records, heap, id, bytes, steps)),
-        CommandRef::Free { id } => Some(free(records, heap, id, steps)),
-        CommandRef::Write { id, at, bytes } => Some(write(records, heap, id, at, bytes, steps)),
-        CommandRef::Resize { id, bytes } => Some(resize(records, heap, id, bytes, steps)),
-        CommandRef::Bound { slot_words, k } => Some(set_bound(records, heap, slot_words, k)),
-        CommandRef::Read { id, at, len } => read(records, heap, id, at, len, room, line, steps),
-        CommandRef::Place { id } => place(records, heap, id, line, steps),
-        CommandRef::Block { id, i } => block(records, heap, id, i, line, steps),
-        CommandRef::Peek { word } => peek(heap, word, line, steps),
-        CommandRef::Steps => {
-            tell_steps(records, heap, line);
-            None
+        CommandRef::Malloc { id, bytes } => OneLine::Short(malloc(records, heap, id, bytes, steps)),
+        CommandRef::Free { id } => OneLine::Short(free(records, heap, id, steps)),
+        CommandRef::Write { id, at, bytes } => {
+            OneLine::Short(write(records, heap, id, at, bytes, steps))
         }
-        _ => Some(Short::Lacking),
+        CommandRef::Resize { id, bytes } => OneLine::Short(resize(records, heap, id, bytes, steps)),
+        CommandRef::Bound { slot_words, k } => {
+            OneLine::Short(set_bound(records, heap, slot_words, k))
+        }
+        CommandRef::Read { id, at, len } => {
+            read(records, heap, id, at, len, room, lead, line, steps)
+        }
+        CommandRef::Place { id } => place(records, heap, id, lead, line, steps),
+        CommandRef::Block { id, i } => block(records, heap, id, i, lead, line, steps),
+        CommandRef::Peek { word } => peek(heap, word, lead, line, steps),
+        CommandRef::Steps => {
+            begin_line(line, lead);
+            tell_steps(records, heap, line);
+            OneLine::Written(Outcome::Other)
+        }
+        _ => OneLine::Short(Short::Lacking),
     }
 }

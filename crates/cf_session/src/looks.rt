@@ -1,5 +1,5 @@
-//! The commands that only look: each writes the text of its reply on the line, or returns a
-//! short reply.
+//! The commands that only look: each writes its reply on the line, after the lead, or returns a short
+//! one.
 ghost use Rattle.std.specs.Prelude.{◌≡◌, ◌^◌, ◌<◌, ◌≤◌, ◌++◌, IsTrue, length, slice_get};
 ghost use Rattle.std.specs.FinMap as map;
 ghost use Rattle.cf_io.specs.Lines.{line_room};
@@ -9,10 +9,11 @@ ghost use Rattle.run_model.specs.Replies.{block_text_at, object_of, peek_text, p
 ghost use Rattle.run_model.specs.Sessions.{AreTied};
 
 use crate::changes::fault_reply;
+use crate::outcome::Outcome;
 use crate::records::Records;
-use crate::short::Short;
+use crate::short::{OneLine, Short};
 use cf_base::{Handle, Kind};
-use cf_io::{Line, push_field, push_text};
+use cf_io::{Line, begin_line, push_field, push_text};
 use cf_model::Manager;
 use step_ledger::Steps;
 
@@ -24,22 +25,22 @@ pub(crate) fn read<H: Manager>(
     at: u32,
     len: u16,
     room: &mut [u8],
+    lead: &[u8],
     line: &mut Line,
     steps: &mut Steps,
-) -> Option<Short>
+) -> OneLine
     requires open { IsTrue (H.state heap.now).is_open }
     requires room { steps.old ≤ 2 ^ 63 }
     requires few { len ≤ 4096 }
     requires place { length room.old ≡ 4096 }
-    requires begun { length line.old ≤ 8 }
-    ensures text { SaidOn (lines_at line.old line.new)
+    requires lead { length lead.now ≤ 8 }
+    ensures { SaidOn (lines_at lead.now line.new)
         (read_text (object_of (run_with records.now (H.state heap.now)) id) at len) result }
-    ensures short { length line.new < line_room }
 {
     let Some(h) = records.ids.handle(id) else {
-        return Some(Short::Unknown);
+        return OneLine::Short(Short::Unknown);
     };
-    read_part(heap, h, at, &mut room[..len as usize], line, steps)
+    read_part(heap, h, at, &mut room[..len as usize], lead, line, steps)
 }
 
 /// The bytes of an object from `at` on, as many as there is room for.
@@ -48,24 +49,25 @@ fn read_part<H: Manager>(
     h: Handle,
     at: u32,
     room: &mut [u8],
+    lead: &[u8],
     line: &mut Line,
     steps: &mut Steps,
-) -> Option<Short>
+) -> OneLine
     requires open { IsTrue (H.state heap.now).is_open }
     requires room { steps.old ≤ 2 ^ 63 }
     requires few { length room.old ≤ 4096 }
-    requires begun { length line.old ≤ 8 }
-    ensures text { SaidOn (lines_at line.old line.new)
+    requires lead { length lead.now ≤ 8 }
+    ensures { SaidOn (lines_at lead.now line.new)
         (read_text (map.get (H.state heap.now).held h.0) at (length room.old)) result }
-    ensures short { length line.new < line_room }
 {
     match heap.read(h, at, room, steps) {
         Ok(()) => {
+            begin_line(line, lead);
             push_text(line, b"=");
             line.push_hex(room).unwrap();
-            None
+            OneLine::Written(Outcome::Good)
         }
-        Err(fault) => Some(fault_reply(fault)),
+        Err(fault) => OneLine::Short(fault_reply(fault)),
     }
 }
 
@@ -74,24 +76,25 @@ pub(crate) fn place<H: Manager>(
     records: &Records,
     heap: &H,
     id: u16,
+    lead: &[u8],
     line: &mut Line,
     steps: &mut Steps,
-) -> Option<Short>
+) -> OneLine
     requires open { IsTrue (H.state heap.now).is_open }
-    requires begun { length line.old ≤ 8 }
-    ensures text { SaidOn (lines_at line.old line.new)
+    requires lead { length lead.now ≤ 8 }
+    ensures { SaidOn (lines_at lead.now line.new)
         (place_text (object_of (run_with records.now (H.state heap.now)) id)) result }
-    ensures short { length line.new < line_room }
 {
     let Some(h) = records.ids.handle(id) else {
-        return Some(Short::Unknown);
+        return OneLine::Short(Short::Unknown);
     };
     match heap.place(h, steps) {
         Some(word) => {
+            begin_line(line, lead);
             push_field(line, b"at ", word as u64);
-            None
+            OneLine::Written(Outcome::Other)
         }
-        None => Some(Short::Unknown),
+        None => OneLine::Short(Short::Unknown),
     }
 }
 
@@ -101,28 +104,29 @@ pub(crate) fn block<H: Manager>(
     heap: &H,
     id: u16,
     i: u32,
+    lead: &[u8],
     line: &mut Line,
     steps: &mut Steps,
-) -> Option<Short>
+) -> OneLine
     requires open { IsTrue (H.state heap.now).is_open }
     requires tied { AreTied (session_of records.now) (H.state heap.now) }
-    requires begun { length line.old ≤ 8 }
-    ensures text { SaidOn (lines_at line.old line.new)
+    requires lead { length lead.now ≤ 8 }
+    ensures { SaidOn (lines_at lead.now line.new)
         (block_text_at (H.state heap.now) (object_of (run_with records.now (H.state heap.now)) id) i) result }
-    ensures short { length line.new < line_room }
 {
     let Some(h) = records.ids.handle(id) else {
-        return Some(Short::Unknown);
+        return OneLine::Short(Short::Unknown);
     };
     match heap.kind() {
         Kind::NonMoving => match heap.block(h, i, steps) {
             Some(frame) => {
+                begin_line(line, lead);
                 push_field(line, b"block ", frame as u64);
-                None
+                OneLine::Written(Outcome::Other)
             }
-            None => Some(Short::Range),
+            None => OneLine::Short(Short::Range),
         },
-        Kind::Moving | Kind::Tlsf | Kind::HalfFit => Some(Short::Lacking),
+        Kind::Moving | Kind::Tlsf | Kind::HalfFit => OneLine::Short(Short::Lacking),
     }
 }
 
@@ -130,20 +134,21 @@ pub(crate) fn block<H: Manager>(
 pub(crate) fn peek<H: Manager>(
     heap: &H,
     word: u32,
+    lead: &[u8],
     line: &mut Line,
     steps: &mut Steps,
-) -> Option<Short>
+) -> OneLine
     requires open { IsTrue (H.state heap.now).is_open }
-    requires begun { length line.old ≤ 8 }
-    ensures text { SaidOn (lines_at line.old line.new) (peek_text (slice_get (H.state heap.now).words word)) result }
-    ensures short { length line.new < line_room }
+    requires lead { length lead.now ≤ 8 }
+    ensures { SaidOn (lines_at lead.now line.new) (peek_text (slice_get (H.state heap.now).words word)) result }
 {
     match heap.peek(word, steps) {
         Some(v) => {
+            begin_line(line, lead);
             line.push_word(v).unwrap();
-            None
+            OneLine::Written(Outcome::Other)
         }
-        None => Some(Short::Range),
+        None => OneLine::Short(Short::Range),
     }
 }
 

@@ -1,9 +1,16 @@
-//! Replies of a few fixed bytes.
+//! Replies of one line.
 ghost use Rattle.std.specs.Prelude.{◌≡◌, ◌≤◌, ◌++◌, ◌∷◌, [], length};
 ghost use Rattle.cf_session.specs.Apply.{outcome_in};
 ghost use Rattle.cf_session.specs.OneLine.{short_text};
 
 use crate::outcome::Outcome;
+
+/// A reply of one line: a short text, or what was written on the line, with its outcome.
+#[derive(Clone, Copy)]
+pub(crate) enum OneLine {
+    Short(Short),
+    Written(Outcome),
+}
 
 /// A reply that is one short text, which no number follows.
 #[derive(Clone, Copy)]

@@ -7,7 +7,7 @@ use Rattle.cf_base.specs.Settings.{profile_of}
 use Rattle.cf_base.specs.declared.settings.Settings.{Settings}
 use Rattle.cf_io.specs.Feeds.{appended}
 use Rattle.script_reader.proofs.CallerLemmas.{bad_now, fed_left}
-use Rattle.script_reader.specs.Items.{Item, asks, bad, is_bound, stage_behind, starts}
+use Rattle.script_reader.specs.Items.{Item, asks, bad, is_bound, stage_after_command, starts}
 use Rattle.script_reader.specs.Reading.{Answers, PassesOver, Reading, fed_with, items_left}
 use Rattle.script_reader.specs.declared.command.Command.{Command}
 use Rattle.script_reader.specs.declared.next.Next.TheVariants as next
@@ -23,7 +23,7 @@ use Rattle.script_loop.specs.Semantics.{IsOpened, IsOpenedInPart, PartBy, RunBy,
 use Rattle.script_loop.specs.declared.answering.Ready.{Ready}
 use Rattle.script_loop.specs.declared.answering.Ready.TheVariants.{GoesOn, Stopped, Cut, Wanting}
 use Rattle.script_loop.proofs.Feeding.{appended_after}
-use Rattle.script_loop.proofs.Stages.{going_behind, never_opening, run_before, run_behind}
+use Rattle.script_loop.proofs.Stages.{going_after, never_opening, run_before, run_after}
 
 pub bad_then : (xs ys : List Item) → has_bad xs ≡ false → has_bad (xs ++ ys) ≡ has_bad ys
 bad_then [] ys h = refl
@@ -194,17 +194,17 @@ module _ {S P : Type 0} (m : Semantics S P) where
   }
 
   -- a command
-  command_step : (from : S) (c : Command) (reply : Reply) (a b : Stage) (s t : S) → stage_behind a (is_bound c) ≡ Some b → m.turns s c reply t
+  command_step : (from : S) (c : Command) (reply : Reply) (a b : Stage) (s t : S) → stage_after_command a (is_bound c) ≡ Some b → m.turns s c reply t
       → StepBy m from (run_in a s) (asks c) reply (run_in b t)
   command_step from c reply a b s t leads turn =
       subst (λ (o : Option S). StepBy m from o (asks c) reply (run_in b t)) (sym (run_before a b (is_bound c) leads s))
-      (subst (λ (o : Option S). StepBy m from (Some s) (asks c) reply o) (sym (run_behind a b (is_bound c) leads t)) (t, turn, refl))
+      (subst (λ (o : Option S). StepBy m from (Some s) (asks c) reply o) (sym (run_after a b (is_bound c) leads t)) (t, turn, refl))
 
-  command_part : (from : S) (c : Command) (out : List ℕ) (a b : Stage) (s t : S) → stage_behind a (is_bound c) ≡ Some b → m.turns_in_part s c out t
+  command_part : (from : S) (c : Command) (out : List ℕ) (a b : Stage) (s t : S) → stage_after_command a (is_bound c) ≡ Some b → m.turns_in_part s c out t
       → PartBy m from (run_in a s) (asks c) out (run_in b t)
   command_part from c out a b s t leads turn =
       subst (λ (o : Option S). PartBy m from o (asks c) out (run_in b t)) (sym (run_before a b (is_bound c) leads s))
-      (subst (λ (o : Option S). PartBy m from (Some s) (asks c) out o) (sym (run_behind a b (is_bound c) leads t)) (t, turn, refl))
+      (subst (λ (o : Option S). PartBy m from (Some s) (asks c) out o) (sym (run_after a b (is_bound c) leads t)) (t, turn, refl))
 
   pub answered_command : (old new : Playing S) (c : Command) (reply : Reply) → Answers old.reading (next.Command c) new.reading
       → m.turns old.state c reply new.state
@@ -240,7 +240,7 @@ module _ {S P : Type 0} (m : Semantics S P) where
   }
 
   pub ready_command : (r r' : Reading) (c : Command) (t : S) → Answers r (next.Command c) r' → m.is_going t → IsReadyAt m r'.stage t
-  ready_command r r' c t answer going = going_behind m _ _ _ t answer.leads going
+  ready_command r r' c t answer going = going_after m _ _ _ t answer.leads going
 
   -- a bad line
   bad_step : (from : S) (old : Option S) (n : ℕ) → StepBy m from old (bad n) (said (bad_line n)) old

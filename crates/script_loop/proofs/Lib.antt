@@ -1,7 +1,6 @@
 pub mod Ending
 pub mod Feeding
 pub mod Going
-pub mod Naming
 pub mod Stages
 pub mod Consequences
 pub mod OneManager

@@ -1,6 +1,6 @@
 -- What the stage of a script tells of its run.
 use Rattle.std.proofs.Common.{◌≡◌, Bool, true, false, Some, refl}
-use Rattle.script_reader.specs.Items.{stage_behind}
+use Rattle.script_reader.specs.Items.{stage_after_command}
 use Rattle.script_reader.specs.declared.stage.Stage.{Stage}
 use Rattle.script_reader.specs.declared.stage.Stage.TheVariants.{Opening, Bounding, Running}
 use Rattle.script_loop.specs.Progress.{IsReadyAt, run_in}
@@ -8,7 +8,7 @@ use Rattle.script_loop.specs.ScriptOutcome.{StandsAfter}
 use Rattle.script_loop.specs.Semantics.{Semantics}
 
 -- after a command the heap is open
-pub never_opening : (a b : Stage) (k : Bool) → stage_behind a k ≡ Some b → b ≡ Opening → ⊥
+pub never_opening : (a b : Stage) (k : Bool) → stage_after_command a k ≡ Some b → b ≡ Opening → ⊥
 never_opening Opening b k leads is = absurd cc
 never_opening Bounding b true leads is = absurd cc
 never_opening Bounding b false leads is = absurd cc
@@ -16,25 +16,25 @@ never_opening Running b true leads is = absurd cc
 never_opening Running b false leads is = absurd cc
 
 -- and before it
-pub run_before : {S : Type 0} (a b : Stage) (k : Bool) → stage_behind a k ≡ Some b → (s : S) → run_in a s ≡ Some s
+pub run_before : {S : Type 0} (a b : Stage) (k : Bool) → stage_after_command a k ≡ Some b → (s : S) → run_in a s ≡ Some s
 run_before Opening b k leads s = absurd cc
 run_before Bounding b k leads s = refl
 run_before Running b k leads s = refl
 
-pub run_behind : {S : Type 0} (a b : Stage) (k : Bool) → stage_behind a k ≡ Some b → (s : S) → run_in b s ≡ Some s
-run_behind a Opening k leads s = absurd (never_opening a Opening k leads refl)
-run_behind a Bounding k leads s = refl
-run_behind a Running k leads s = refl
+pub run_after : {S : Type 0} (a b : Stage) (k : Bool) → stage_after_command a k ≡ Some b → (s : S) → run_in b s ≡ Some s
+run_after a Opening k leads s = absurd (never_opening a Opening k leads refl)
+run_after a Bounding k leads s = refl
+run_after a Running k leads s = refl
 
-pub going_at : {S P : Type 0} (m : Semantics S P) (a b : Stage) (k : Bool) (s : S) → stage_behind a k ≡ Some b → IsReadyAt m a s → m.is_going s
+pub going_at : {S P : Type 0} (m : Semantics S P) (a b : Stage) (k : Bool) (s : S) → stage_after_command a k ≡ Some b → IsReadyAt m a s → m.is_going s
 going_at m Opening b k s leads ready = absurd cc
 going_at m Bounding b k s leads ready = ready
 going_at m Running b k s leads ready = ready
 
-pub going_behind : {S P : Type 0} (m : Semantics S P) (a b : Stage) (k : Bool) (s : S) → stage_behind a k ≡ Some b → m.is_going s → IsReadyAt m b s
-going_behind m a Opening k s leads going = absurd (never_opening a Opening k leads refl)
-going_behind m a Bounding k s leads going = going
-going_behind m a Running k s leads going = going
+pub going_after : {S P : Type 0} (m : Semantics S P) (a b : Stage) (k : Bool) (s : S) → stage_after_command a k ≡ Some b → m.is_going s → IsReadyAt m b s
+going_after m a Opening k s leads going = absurd (never_opening a Opening k leads refl)
+going_after m a Bounding k s leads going = going
+going_after m a Running k s leads going = going
 
 -- where a state stands after its run
 pub stands : {S : Type 0} (a : Stage) (s t : S) → (a ≡ Opening → t ≡ s) → StandsAfter s (run_in a t) t

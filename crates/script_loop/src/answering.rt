@@ -6,7 +6,7 @@ ghost use Rattle.script_loop.specs.Going.{Goes, IsWaiting, NamesBad};
 ghost use Rattle.script_loop.specs.Progress.{IsReady, playing, progress};
 
 use crate::player::{OpenFault, Player};
-use cf_io::{Line, Sink, put_all};
+use cf_io::{Line, Sink, push_field, put_line};
 use script_reader::{NextRef, Reader, Room};
 
 /// How far the answers came.
@@ -29,10 +29,8 @@ fn name_bad<K: Sink>(number: u32, sink: &mut K) -> Ready
     ensures failed { result ≡ Ready.Cut → Rose (K.faults sink.old) (K.faults sink.new) }
 {
     let mut line = Line::new();
-    line.push(b"bad line ").unwrap();
-    line.push_number(number as u64).unwrap();
-    line.push(b"\n").unwrap();
-    match put_all(sink, line.bytes()) {
+    push_field(&mut line, b"bad line ", number as u64);
+    match put_line(&mut line, sink) {
         Ok(()) => Ready::Stopped,
         Err(_) => Ready::Cut,
     }

@@ -7,7 +7,7 @@ use Rattle.std.specs.Prelude.{IfSome}
 use Rattle.cf_base.specs.Settings.{profile_of}
 use Rattle.script_reader.specs.Found.{Finds, IsFoundInRange, next_found, saying_found, stage_said}
 use Rattle.script_reader.specs.Items.{Item, Saying, asks, bad, breaks, gives_or_breaks, is_bound, item, item_or_wrong, line_says, nothing}
-use Rattle.script_reader.specs.Items.{stage_after, stage_behind, stage_opened, starts, verdict, wrong}
+use Rattle.script_reader.specs.Items.{stage_after, stage_after_command, stage_opened, starts, verdict, wrong}
 use Rattle.script_reader.specs.Lines.{is_last_line, lines}
 use Rattle.script_reader.specs.ParsedLine.{IsInRange, item_answered}
 use Rattle.script_reader.specs.Reading.{Answers, AnswersBad, HasEnded, HasNoLine, IsFirstLine, NeedsMore, PassesOver, Reading, Reads, StopsAt, holds_line_feed}
@@ -17,7 +17,7 @@ use Rattle.script_reader.specs.declared.next.Next.{Next}
 use Rattle.script_reader.specs.declared.next.Next.TheVariants.{Start, Command, NeedMore, Bad, End}
 use Rattle.script_reader.specs.declared.stage.Stage.{Stage}
 use Rattle.script_reader.specs.declared.stage.Stage.TheVariants.{Opening, Bounding, Running}
-use Rattle.script_reader.proofs.ItemLemmas.{behind_line, first_verdict, line_in_place, line_out_of_place, line_passed, lines_alone, lines_closed, no_items}
+use Rattle.script_reader.proofs.ItemLemmas.{after_line, first_verdict, line_in_place, line_out_of_place, line_passed, lines_alone, lines_closed, no_items}
 
 -- ---- readings that follow one another
 
@@ -58,7 +58,7 @@ answers_then a b c (Command command) p answer = record {
   still = answer.still;
   shorter = omega (arith, answer.shorter, kept_within a b [] p.reads);
   formed = answer.formed;
-  leads = ap (λ stage. stage_behind stage (is_bound command)) (sym p.same_stage) ∙ answer.leads;
+  leads = ap (λ stage. stage_after_command stage (is_bound command)) (sym p.same_stage) ∙ answer.leads;
 }
 answers_then a b c NeedMore p answer = record {
   passes = passes_then a b c p answer.passes;
@@ -104,8 +104,8 @@ first_counted kept ended len at first = go first.cut
 -- what is read with the first line, where it leads to this stage, or to its being bad
 module _ (old : Reading) (len at : ℕ) (going : old.stopped ≡ None) (first : IsFirstLine old.kept old.ended len at) where
   one_line : (next : Stage) (stopped : Option ℕ) (items : List Item)
-      → ((more : List ℕ) (e : Bool) → items_left old more e ≡ items ++ items_left (record (behind_line old at next) { stopped = stopped }) more e)
-      → Reads old items (record (behind_line old at next) { stopped = stopped })
+      → ((more : List ℕ) (e : Bool) → items_left old more e ≡ items ++ items_left (record (after_line old at next) { stopped = stopped }) more e)
+      → Reads old items (record (after_line old at next) { stopped = stopped })
   one_line next stopped items left = record {
     going = going;
     front = take at old.kept;
@@ -137,15 +137,15 @@ module _ (old : Reading) (kept : List ℕ) (len at : ℕ) (bytes : List ℕ) (fo
 
   -- a line that is in its place is passed, or answered
   pub step_in_place : (stage : Stage) → IfSome found (IsFoundInRange bytes) → Some stage ≡ stage_said old.stage (saying_found bytes found)
-      → Finds old (option_map (λ f. next_found bytes f) found) (behind_line old at stage)
+      → Finds old (option_map (λ f. next_found bytes f) found) (after_line old at stage)
   step_in_place stage fits place = go found fits line_is place
     where
-      one_item : (i : Item) → line_says (take len old.kept) ≡ item i → Some stage ≡ stage_after old.stage i → Reads old (i ∷ []) (behind_line old at stage)
+      one_item : (i : Item) → line_says (take len old.kept) ≡ item i → Some stage ≡ stage_after old.stage i → Reads old (i ∷ []) (after_line old at stage)
       one_item i is place = one_line old len at going first stage old.stopped (i ∷ [])
           (line_in_place old len at going first i stage (ap (verdict old.stage) is ∙ ap (gives_or_breaks i) (sym place)))
 
       answered : (n : Next) → IsInRange n → line_says (take len old.kept) ≡ item_or_wrong (item_answered n)
-          → Some stage ≡ stage_said old.stage (item_or_wrong (item_answered n)) → Answers old n (behind_line old at stage)
+          → Some stage ≡ stage_said old.stage (item_or_wrong (item_answered n)) → Answers old n (after_line old at stage)
       answered (Start settings) fits is place = let at_stage = opens_first old.stage stage place in record {
         reads = one_item (starts (profile_of settings)) is place;
         still = going;
@@ -164,7 +164,7 @@ module _ (old : Reading) (kept : List ℕ) (len at : ℕ) (bytes : List ℕ) (fo
       answered (Bad line) fits is place = absurd cc
       answered End fits is place = absurd cc
 
-      idle : line_says (take len old.kept) ≡ nothing → PassesOver old (behind_line old at old.stage) × (length (drop at old.kept) < length old.kept)
+      idle : line_says (take len old.kept) ≡ nothing → PassesOver old (after_line old at old.stage) × (length (drop at old.kept) < length old.kept)
       idle is = (
         record {
           reads = one_line old len at going first old.stage old.stopped [] (line_passed old len at going first (ap (verdict old.stage) is));
@@ -175,16 +175,16 @@ module _ (old : Reading) (kept : List ℕ) (len at : ℕ) (bytes : List ℕ) (fo
       )
 
       go : (f : Option Found) → IfSome f (IsFoundInRange bytes) → line_says (take len old.kept) ≡ saying_found bytes f
-          → Some stage ≡ stage_said old.stage (saying_found bytes f) → Finds old (option_map (λ f. next_found bytes f) f) (behind_line old at stage)
+          → Some stage ≡ stage_said old.stage (saying_found bytes f) → Finds old (option_map (λ f. next_found bytes f) f) (after_line old at stage)
       go None fits is place = let same_stage : stage ≡ old.stage = cc in rw same_stage (idle is)
       go (Some f) fits is place = answered (next_found bytes f) fits is place
 
   -- the answer to a line that isn't
   pub step_out_of_place : None ≡ stage_said old.stage (saying_found bytes found)
-      → AnswersBad old old.stopped (old.passed + 1) (record (behind_line old at old.stage) { stopped = Some (old.passed + 1) })
+      → AnswersBad old old.stopped (old.passed + 1) (record (after_line old at old.stage) { stopped = Some (old.passed + 1) })
   step_out_of_place place =
       let number = old.passed + 1 in
-      let new : Reading = record (behind_line old at old.stage) { stopped = Some number } in
+      let new : Reading = record (after_line old at old.stage) { stopped = Some number } in
       let broken = go (saying_found bytes found) line_is place in
       let stops : StopsAt old number new = record {
         reads = one_line old len at going first old.stage (Some number) (bad number ∷ []) (line_out_of_place old len at going first broken);

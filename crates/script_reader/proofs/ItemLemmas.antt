@@ -107,8 +107,8 @@ no_items kept ended h n stage =
     ap (λ (ls : List (List ℕ)). items_at ls n stage) (lines_alone kept ended h.0 ∙ nothing)
 
 -- the reading after its first line
-abbrev pub behind_line : Reading → ℕ → Stage → Reading
-behind_line old at next = record old { kept = drop at old.kept; passed = old.passed + 1; stage = next }
+abbrev pub after_line : Reading → ℕ → Stage → Reading
+after_line old at next = record old { kept = drop at old.kept; passed = old.passed + 1; stage = next }
 
 -- the verdict on the first line, of this length
 abbrev pub first_verdict : Reading → ℕ → Verdict
@@ -116,11 +116,11 @@ first_verdict old len = verdict old.stage (line_says (take len old.kept))
 
 -- the items from the first line on, by its verdict
 module _ (old : Reading) (len at : ℕ) (going : old.stopped ≡ None) (first : IsFirstLine old.kept old.ended len at) where
-  pub line_passed : first_verdict old len ≡ passes → (more : List ℕ) (e : Bool) → items_left old more e ≡ items_left (behind_line old at old.stage) more e
+  pub line_passed : first_verdict old len ≡ passes → (more : List ℕ) (e : Bool) → items_left old more e ≡ items_left (after_line old at old.stage) more e
   line_passed is more e = let items = first_items old.kept old.ended len at first more e old.passed old.stage in rw going (items ∙ rw is refl)
 
   pub line_in_place : (item : Item) (next : Stage) → first_verdict old len ≡ gives item next → (more : List ℕ) (e : Bool)
-      → items_left old more e ≡ item ∷ items_left (behind_line old at next) more e
+      → items_left old more e ≡ item ∷ items_left (after_line old at next) more e
   line_in_place item next is more e = let items = first_items old.kept old.ended len at first more e old.passed old.stage in rw going (items ∙ rw is refl)
 
   pub line_out_of_place : first_verdict old len ≡ breaks → (more : List ℕ) (e : Bool) → items_left old more e ≡ bad (old.passed + 1) ∷ []

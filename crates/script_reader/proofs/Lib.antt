@@ -3,6 +3,7 @@ pub mod CallerLemmas
 pub mod ExactAnswers
 pub mod FieldLemmas
 pub mod FirstLine
+pub mod FirstNumber
 pub mod ItemLemmas
 pub mod Prefix
 pub mod Searches

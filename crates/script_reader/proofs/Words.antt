@@ -67,19 +67,19 @@ place_or_end p t = go (nat_lt (position_or_len p t) (length t)) refl
     go true is = refl
     go false isnt = let above = ltb-false _ _ isnt in let below = place-le-length p t in omega arith
 
-behind_gaps : (t s : List ℕ) (g : ℕ) → s ≡ take (length t - g) (drop g t) → g ≡ gaps_in t → s ≡ drop (gaps_in t) t
-behind_gaps t s g is count = is ∙ take_rest t g ∙ ap (λ (n : ℕ). drop n t) count
+pub after_gaps : (t s : List ℕ) (g : ℕ) → s ≡ take (length t - g) (drop g t) → g ≡ gaps_in t → s ≡ drop (gaps_in t) t
+after_gaps t s g is count = is ∙ take_rest t g ∙ ap (λ (n : ℕ). drop n t) count
 
 -- no token is left where only gaps are
 pub only_gaps : (t s : List ℕ) (g : ℕ) → s ≡ take (length t - g) (drop g t) → g ≡ gaps_in t → length s ≡ 0 → tokens t ≡ []
 only_gaps t s g is count none =
-    sym (past_gaps t) ∙ ap tokens (sym (behind_gaps t s g is count)) ∙ ap tokens (nil_from_length s none)
+    sym (past_gaps t) ∙ ap tokens (sym (after_gaps t s g is count)) ∙ ap tokens (nil_from_length s none)
 
 -- the first token of a text
 pub token_of_text : (t s : List ℕ) (g m : ℕ) → s ≡ take (length t - g) (drop g t) → g ≡ gaps_in t → m ≡ position_or_len is_gap s
     → 0 < length s → tokens t ≡ take m s ∷ tokens (drop m s)
 token_of_text t s g m is count size some =
-    let behind = behind_gaps t s g is count in
+    let behind = after_gaps t s g is count in
     let none : gaps_in s ≡ 0 = ap gaps_in behind ∙ no_gap_left t in
     sym (past_gaps t) ∙ ap tokens (sym behind) ∙ first_token s none some
     ∙ ap (λ (n : ℕ). take n s ∷ tokens (drop n s)) (sym size)
@@ -96,4 +96,4 @@ some_byte (x ∷ r) none some = go (is_gap x) none
 pub token_has_byte : (t s : List ℕ) (g m : ℕ) → s ≡ take (length t - g) (drop g t) → g ≡ gaps_in t → m ≡ position_or_len is_gap s
     → 0 < length s → 1 ≤ length (take m s)
 token_has_byte t s g m is count size some =
-    rw size (some_byte s (ap gaps_in (behind_gaps t s g is count) ∙ no_gap_left t) some)
+    rw size (some_byte s (ap gaps_in (after_gaps t s g is count) ∙ no_gap_left t) some)

@@ -47,10 +47,10 @@ is_bound (Bound slot_words k) = true
 is_bound _ = false
 
 -- the stage after a command; `k` stands only after `heap` and before the other commands
-abbrev pub stage_behind : Stage → Bool → Option Stage
-stage_behind Opening bounds = None
-stage_behind Bounding bounds = Some (if bounds then Bounding else Running)
-stage_behind Running bounds = if bounds then None else Some Running
+abbrev pub stage_after_command : Stage → Bool → Option Stage
+stage_after_command Opening bounds = None
+stage_after_command Bounding bounds = Some (if bounds then Bounding else Running)
+stage_after_command Running bounds = if bounds then None else Some Running
 
 -- the stage after the `heap` line, which is the first command, and stands nowhere else
 abbrev pub stage_opened : Stage → Option Stage
@@ -61,7 +61,7 @@ stage_opened Running = None
 -- the stage after an item; none where it breaks a rule at its place
 abbrev pub stage_after : Stage → Item → Option Stage
 stage_after stage (starts settings) = stage_opened stage
-stage_after stage (asks command) = stage_behind stage (is_bound command)
+stage_after stage (asks command) = stage_after_command stage (is_bound command)
 stage_after stage (bad line) = None
 
 -- what becomes of a line at its place: it is passed, or gives an item and leads to a stage, or breaks a rule

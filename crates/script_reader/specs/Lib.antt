@@ -4,6 +4,7 @@ pub mod Commands
 pub mod Lines
 pub mod ReaderCalls
 pub mod Owned
+pub mod Fields
 pub mod ParsedLine
 pub mod Found
 pub mod Layout

@@ -5,7 +5,7 @@ use Rattle.std.specs.List.{list_any}
 use Rattle.cf_base.specs.Settings.{profile_of}
 use Rattle.cf_base.specs.declared.settings.Settings.{Settings}
 use Rattle.script_reader.specs.Commands.{IsWellFormed}
-use Rattle.script_reader.specs.Items.{Item, asks, bad, starts, items_at, is_bound, stage_behind}
+use Rattle.script_reader.specs.Items.{Item, asks, bad, starts, items_at, is_bound, stage_after_command}
 use Rattle.script_reader.specs.Lines.{LONGEST, is_last_line, lines}
 use Rattle.script_reader.specs.declared.command.Command.{Command}
 use Rattle.script_reader.specs.declared.next.Next.{Next}
@@ -86,7 +86,7 @@ pub record AnswersCommand (old : Reading) (command : Command) (new : Reading) : 
   pub still : new.stopped ≡ None
   pub shorter : length new.kept < length old.kept
   pub formed : IsWellFormed command
-  pub leads : stage_behind old.stage (is_bound command) ≡ Some new.stage
+  pub leads : stage_after_command old.stage (is_bound command) ≡ Some new.stage
 
 -- no item is left, and more bytes may come
 pub record NeedsMore (old new : Reading) : Type 0 where

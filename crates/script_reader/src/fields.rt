@@ -1,62 +1,70 @@
 //! The fields of a line: numbers in their ranges, and bytes in hexadecimal.
-ghost use Rattle.std.specs.Prelude.{◌≡◌, ◌≤◌, IfSome, option_map};
+ghost use Rattle.std.specs.Prelude.{◌≡◌, ◌≤◌, IfSome, Some, option_map};
+ghost use Rattle.cf_io.specs.Numbers.{number_in};
 ghost use Rattle.script_reader.specs.Commands as grammar;
+ghost use Rattle.script_reader.specs.Fields.{first_by, one_by, two_by};
 ghost use Rattle.script_reader.specs.Lines.{tokens};
 
-use crate::tokens::split_token;
-use cf_io::number_of;
+use crate::tokens::{is_done, split_token, take_number};
 
-/// A number in its range.
-fn number_from(low: u32, high: u32, text: &[u8]) -> Option<u32>
-    ensures value { result ≡ grammar.number_from low high text.now }
+/// The first token as a number from `low` to `high`, and what follows it.
+fn take_from(low: u32, high: u32, text: &[u8]) -> Option<(u32, &[u8])>
+    ensures value { option_map (λ p. (p.0, tokens p.1.now)) result
+        ≡ first_by (grammar.number_from low high) (tokens text.now) }
+    ensures within { IfSome result (λ p. (low ≤ p.0) × (p.0 ≤ high)) }
+{
+    let (n, rest) = take_number(text)?;
+    if low <= n && n <= high {
+        Some((n, rest))
+    } else {
+        None
+    }
+}
+
+/// The first token as an id, and what follows it.
+fn take_id(text: &[u8]) -> Option<(u16, &[u8])>
+    ensures { option_map (λ p. (p.0, tokens p.1.now)) result ≡ first_by grammar.id_in (tokens text.now) }
+{
+    let (n, rest) = take_from(0, 65_535, text)?;
+    Some((n as u16, rest))
+}
+
+/// The first token as a task, and what follows it.
+fn take_task(text: &[u8]) -> Option<(u32, &[u8])>
+    ensures value { option_map (λ p. (p.0, tokens p.1.now)) result ≡ first_by grammar.task_in (tokens text.now) }
+    ensures within { IfSome result (λ p. p.0 ≤ 15) }
+{
+    take_from(0, 15, text)
+}
+
+/// A number from `low` to `high` alone.
+fn one_from(low: u32, high: u32, args: &[u8]) -> Option<u32>
+    ensures value { result ≡ one_by (grammar.number_from low high) (tokens args.now) }
     ensures within { IfSome result (λ n. (low ≤ n) × (n ≤ high)) }
 {
-    let n = number_of(text)?;
-    if low <= n && n <= high { Some(n) } else { None }
+    let (n, rest) = take_from(low, high, args)?;
+    if is_done(rest) { Some(n) } else { None }
 }
 
-/// An id.
-pub fn id_of(text: &[u8]) -> Option<u16>
-    ensures { result ≡ grammar.id_in text.now }
-{
-    let n = number_from(0, 65_535, text)?;
-    Some(n as u16)
-}
-
-/// How many bytes are read at once.
-pub fn read_length(text: &[u8]) -> Option<u16>
-    ensures value { result ≡ grammar.length_in text.now }
+/// How many bytes are read at once, alone.
+fn one_length(args: &[u8]) -> Option<u16>
+    ensures value { result ≡ one_by grammar.length_in (tokens args.now) }
     ensures within { IfSome result (λ n. n ≤ 4096) }
 {
-    let n = number_from(0, 4_096, text)?;
+    let n = one_from(0, 4_096, args)?;
     Some(n as u16)
 }
 
-/// The bound of not-full pages of a class.
-pub fn bound_of(text: &[u8]) -> Option<u32>
-    ensures value { result ≡ grammar.bound_in text.now }
+/// The bound of not-full pages of a class, alone.
+fn one_bound(args: &[u8]) -> Option<u32>
+    ensures value { result ≡ one_by grammar.bound_in (tokens args.now) }
     ensures within { IfSome result (λ k. (1 ≤ k) × (k ≤ 64)) }
 {
-    number_from(1, 64, text)
-}
-
-/// A task.
-pub fn task_of(text: &[u8]) -> Option<u32>
-    ensures value { result ≡ grammar.task_in text.now }
-    ensures within { IfSome result (λ n. n ≤ 15) }
-{
-    number_from(0, 15, text)
-}
-
-/// Whether no token is there.
-pub fn is_done(text: &[u8]) -> bool
-    ensures { result ≡ grammar.none_of (tokens text.now) }
-{
-    split_token(text).is_none()
+    one_from(1, 64, args)
 }
 
 /// The one token that is there.
-pub fn one_token(text: &[u8]) -> Option<&[u8]>
+fn one_token(text: &[u8]) -> Option<&[u8]>
     ensures { grammar.one_of (tokens text.now) ≡ option_map (λ a. a.now) result }
 {
     let (first, rest) = split_token(text)?;
@@ -64,7 +72,7 @@ pub fn one_token(text: &[u8]) -> Option<&[u8]>
 }
 
 /// The two tokens that are there.
-pub fn two_tokens(text: &[u8]) -> Option<(&[u8], &[u8])>
+fn two_tokens(text: &[u8]) -> Option<(&[u8], &[u8])>
     ensures { grammar.two_of (tokens text.now) ≡ option_map (λ p. (p.0.now, p.1.now)) result }
 {
     let (first, rest) = split_token(text)?;
@@ -73,7 +81,7 @@ pub fn two_tokens(text: &[u8]) -> Option<(&[u8], &[u8])>
 }
 
 /// The three tokens that are there.
-pub fn three_tokens(text: &[u8]) -> Option<(&[u8], &[u8], &[u8])>
+fn three_tokens(text: &[u8]) -> Option<(&[u8], &[u8], &[u8])>
     ensures { grammar.three_of (tokens text.now) ≡ option_map (λ p. (p.0.now, p.1.now, p.2.now)) result }
 {
     let (first, rest) = split_token(text)?;
@@ -95,14 +103,16 @@ pub fn four_tokens(text: &[u8]) -> Option<(&[u8], &[u8], &[u8], &[u8])>
 pub fn one_id(args: &[u8]) -> Option<u16>
     ensures { result ≡ grammar.one_id (tokens args.now) }
 {
-    id_of(one_token(args)?)
+    let n = one_from(0, 65_535, args)?;
+    Some(n as u16)
 }
 
 /// A number alone.
 pub fn one_number(args: &[u8]) -> Option<u32>
     ensures { result ≡ grammar.one_number (tokens args.now) }
 {
-    number_of(one_token(args)?)
+    let (n, rest) = take_number(args)?;
+    if is_done(rest) { Some(n) } else { None }
 }
 
 /// A task alone.
@@ -110,16 +120,15 @@ pub fn one_task(args: &[u8]) -> Option<u32>
     ensures value { result ≡ grammar.one_task (tokens args.now) }
     ensures within { IfSome result (λ n. n ≤ 15) }
 {
-    task_of(one_token(args)?)
+    one_from(0, 15, args)
 }
 
 /// An id and a number.
 pub fn id_and_number(args: &[u8]) -> Option<(u16, u32)>
     ensures { result ≡ grammar.id_and_number (tokens args.now) }
 {
-    let (id, n) = two_tokens(args)?;
-    let id = id_of(id)?;
-    let n = number_of(n)?;
+    let (id, rest) = take_id(args)?;
+    let n = one_number(rest)?;
     Some((id, n))
 }
 
@@ -128,9 +137,8 @@ pub fn number_and_bound(args: &[u8]) -> Option<(u32, u32)>
     ensures value { result ≡ grammar.number_and_bound (tokens args.now) }
     ensures within { IfSome result (λ p. (1 ≤ p.1) × (p.1 ≤ 64)) }
 {
-    let (n, k) = two_tokens(args)?;
-    let n = number_of(n)?;
-    let k = bound_of(k)?;
+    let (n, rest) = take_number(args)?;
+    let k = one_bound(rest)?;
     Some((n, k))
 }
 
@@ -139,10 +147,18 @@ pub fn task_and_number(args: &[u8]) -> Option<(u32, u32)>
     ensures value { result ≡ grammar.task_and_number (tokens args.now) }
     ensures within { IfSome result (λ p. p.0 ≤ 15) }
 {
-    let (task, n) = two_tokens(args)?;
-    let task = task_of(task)?;
-    let n = number_of(n)?;
+    let (task, rest) = take_task(args)?;
+    let n = one_number(rest)?;
     Some((task, n))
+}
+
+/// Two numbers.
+fn two_numbers(args: &[u8]) -> Option<(u32, u32)>
+    ensures { result ≡ two_by number_in number_in (tokens args.now) }
+{
+    let (m, rest) = take_number(args)?;
+    let n = one_number(rest)?;
+    Some((m, n))
 }
 
 /// A task and two numbers.
@@ -150,11 +166,19 @@ pub fn task_and_numbers(args: &[u8]) -> Option<(u32, u32, u32)>
     ensures value { result ≡ grammar.task_and_numbers (tokens args.now) }
     ensures within { IfSome result (λ p. p.0 ≤ 15) }
 {
-    let (task, m, n) = three_tokens(args)?;
-    let task = task_of(task)?;
-    let m = number_of(m)?;
-    let n = number_of(n)?;
+    let (task, rest) = take_task(args)?;
+    let (m, n) = two_numbers(rest)?;
     Some((task, m, n))
+}
+
+/// A number, and how many bytes are read.
+fn number_and_length(args: &[u8]) -> Option<(u32, u16)>
+    ensures value { result ≡ two_by number_in grammar.length_in (tokens args.now) }
+    ensures within { IfSome result (λ p. p.1 ≤ 4096) }
+{
+    let (n, rest) = take_number(args)?;
+    let len = one_length(rest)?;
+    Some((n, len))
 }
 
 /// An id, a number, and how many bytes are read.
@@ -162,19 +186,25 @@ pub fn id_number_and_length(args: &[u8]) -> Option<(u16, u32, u16)>
     ensures value { result ≡ grammar.id_number_and_length (tokens args.now) }
     ensures within { IfSome result (λ p. p.2 ≤ 4096) }
 {
-    let (id, n, len) = three_tokens(args)?;
-    let id = id_of(id)?;
-    let n = number_of(n)?;
-    let len = read_length(len)?;
+    let (id, rest) = take_id(args)?;
+    let (n, len) = number_and_length(rest)?;
     Some((id, n, len))
+}
+
+/// A number and another token.
+fn number_and_text(args: &[u8]) -> Option<(u32, &[u8])>
+    ensures { two_by number_in Some (tokens args.now) ≡ option_map (λ p. (p.0, p.1.now)) result }
+{
+    let (n, rest) = take_number(args)?;
+    let text = one_token(rest)?;
+    Some((n, text))
 }
 
 /// An id, a number, and another token.
 pub fn id_number_and_text(args: &[u8]) -> Option<(u16, u32, &[u8])>
     ensures { grammar.id_number_and_text (tokens args.now) ≡ option_map (λ p. (p.0, p.1, p.2.now)) result }
 {
-    let (id, n, text) = three_tokens(args)?;
-    let id = id_of(id)?;
-    let n = number_of(n)?;
+    let (id, rest) = take_id(args)?;
+    let (n, text) = number_and_text(rest)?;
     Some((id, n, text))
 }

@@ -10,12 +10,12 @@ ghost use Rattle.script_reader.specs.Lines.{is_too_long as too_long, tokens};
 ghost use Rattle.script_reader.specs.ParsedLine.{IsValidLine, IsValidSaid, item_if_parsed, saying_in};
 
 use crate::fields::{
-    four_tokens, id_and_number, id_number_and_length, id_number_and_text, is_done,
-    number_and_bound, one_id, one_number, one_task, task_and_number, task_and_numbers,
+    four_tokens, id_and_number, id_number_and_length, id_number_and_text, number_and_bound, one_id,
+    one_number, one_task, task_and_number, task_and_numbers,
 };
 use crate::parsed_line::{ParsedLine, Said};
 use crate::plain_command::PlainCommand;
-use crate::tokens::{split_token, without_return};
+use crate::tokens::{is_done, split_token, without_return};
 use cf_base::Settings;
 use cf_io::number_of;
 

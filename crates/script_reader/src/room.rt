@@ -46,6 +46,8 @@ impl Room {
 
     /// Takes the bytes that the text spells in hexadecimal, from 1 to 4,096 of them. False where it
     /// spells none.
+    // Out of line, since its loop then keeps all it needs in registers.
+    #[inline(never)]
     pub(crate) fn take_hex(&mut self, text: &[u8]) -> bool
         ensures value { some_if result self.new ≡ bytes_in text.now }
         ensures some { IsTrue result → 1 ≤ length self.new }

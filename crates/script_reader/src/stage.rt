@@ -28,15 +28,15 @@ pub fn stage_after(stage: Stage, found: Option<Found>) -> Option<Stage>
             Stage::Opening => Some(Stage::Bounding),
             _ => None,
         },
-        Some(Found::Write { .. }) => stage_behind(stage, false),
-        Some(Found::Other(command)) => stage_behind(stage, is_bound(command)),
+        Some(Found::Write { .. }) => stage_after_command(stage, false),
+        Some(Found::Other(command)) => stage_after_command(stage, is_bound(command)),
         _ => None,
     }
 }
 
 /// The stage after a command.
-fn stage_behind(stage: Stage, bounds: bool) -> Option<Stage>
-    ensures { result ≡ place.stage_behind stage bounds }
+fn stage_after_command(stage: Stage, bounds: bool) -> Option<Stage>
+    ensures { result ≡ place.stage_after_command stage bounds }
 {
     match stage {
         Stage::Opening => None,

@@ -1,8 +1,12 @@
 //! A line as tokens.
-ghost use Rattle.std.specs.Prelude.{◌≡◌, ◌≤◌, ◌==◌, length, position, not, MatchOption, IfSome, [], ◌∷◌};
+ghost use Rattle.std.specs.Prelude.{◌≡◌, ◌≤◌, ◌==◌, length, position, not, option_map, MatchOption, IfSome, [], ◌∷◌};
 ghost use Rattle.std.specs.List.{position_or_len};
-ghost use Rattle.script_reader.specs.Lines.{without_return as no_return, is_gap as gap, tokens};
+ghost use Rattle.cf_io.specs.Numbers.{number_in};
+ghost use Rattle.script_reader.specs.Commands.{none_of};
+ghost use Rattle.script_reader.specs.Fields.{first_by};
+ghost use Rattle.script_reader.specs.Lines.{without_return as no_return, is_gap as gap, is_parted as parted, tokens};
 
+use cf_io::leading_number;
 use memchr::{memchr, memchr2};
 
 /// Texts from this length on are searched many bytes at once.
@@ -87,4 +91,33 @@ pub fn split_token(text: &[u8]) -> Option<(&[u8], &[u8])>
         return None;
     }
     Some(text.split_at(token_length(text)))
+}
+
+/// Whether no token is there.
+pub fn is_done(text: &[u8]) -> bool
+    ensures { result ≡ none_of (tokens text.now) }
+{
+    gaps(text) == text.len()
+}
+
+/// Whether no token goes on here.
+fn is_parted(text: &[u8]) -> bool
+    ensures { result ≡ parted text.now }
+{
+    text.len() == 0 || is_gap(text[0])
+}
+
+/// The number that the first token spells, and what follows it. None where no token is there, or it
+/// spells none.
+pub fn take_number(text: &[u8]) -> Option<(u32, &[u8])>
+    ensures { option_map (λ p. (p.0, tokens p.1.now)) result ≡ first_by number_in (tokens text.now) }
+{
+    let text = &text[gaps(text)..];
+    let (n, digits) = leading_number(text)?;
+    let rest = &text[digits..];
+    if is_parted(rest) {
+        Some((n, rest))
+    } else {
+        None
+    }
 }

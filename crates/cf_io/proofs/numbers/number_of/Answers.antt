@@ -1,18 +1,11 @@
-use Rattle.std.proofs.Common.{sym, ◌+◌}
-use Rattle.cf_io.proofs.Digits.{digits_more, passes, value_more}
+use Rattle.std.proofs.Common.{◌∙◌, arith}
+use Rattle.cf_io.proofs.Digits.{whole_none, whole_other}
 use Rattle.cf_io.proofs.numbers.number_of.Goals as goal
 
-pub returns-then-value-gt-LARGEST : goal.returns-then-value-gt-LARGEST
-returns-then-value-gt-LARGEST c =
-    let h = c.digits.invariant in
-    passes c.args.text.now (c.digits.digit-index + 1) _ (value_more _ _ _ c.digits-test.true (sym c.if-not-is_ascii_digit.ensures.value) h.value)
-    c.if-value-gt-LARGEST.true
+pub returns-in_err-value : goal.returns-in_err-value
+returns-in_err-value c = c.from_residual.ensures ∙ whole_none c.args.text.now c.in_err-value.ensures.value
 
-pub digits-preserved : goal.digits-preserved
-digits-preserved c =
-    let h = c.digits.invariant in
-    record {
-      digits = digits_more _ _ c.digits-test.true (sym c.if-not-is_ascii_digit.ensures.value) h.digits;
-      value = value_more _ _ _ c.digits-test.true (sym c.if-not-is_ascii_digit.ensures.value) h.value;
-      bound = c.if-value-gt-LARGEST.false;
-    }
+pub returns-else-digits-text : goal.returns-else-digits-text
+returns-else-digits-text c =
+    let within = c.in_ok-value.ensures.within in
+    whole_other c.args.text.now _ _ c.in_ok-value.ensures.value (let e = c.if-digits-text.false in omega arith)
