@@ -15,7 +15,8 @@ use Rattle.tag_blocks.specs.Links.{AreFreeLists, IsIn, without_block, lists_with
 use Rattle.tag_blocks.specs.Blocks.{Tagged, owner_of}
 use Rattle.tag_blocks.specs.Tags.{before_in, block_header_word, with_before}
 use Rattle.tag_blocks.specs.Layout.{Fields, IsBlock, free_block, used_block, IsTold, AreTold, IsValidWith, IsValid}
-use Rattle.tag_blocks.specs.Stages.{Hand, HasInHand, ArePair, HoldsBeforeFree, HoldsBehindFree, Turns, KeepsOwned, ends_free, pair_first, pair_second, pair_hand}
+use Rattle.tag_blocks.specs.Stages.{Hand, HasInHand, ArePair, HoldsBeforeFree, HoldsBehindFree, Turns, KeepsOwned, ends_free}
+use Rattle.tag_blocks.specs.Stages.{pair_first, pair_second, pair_hand}
 use Rattle.tag_blocks.specs.Stages.{with_next, with_previous, past_free, free_front, up_to_free, free_back}
 use Rattle.tag_blocks.proofs.FillLemmas.{lies_in, in_first, in_second, in_either, merged_split, merged_join}
 use Rattle.tag_blocks.proofs.ToldBlocks.{told_parts, last_size}

@@ -12,7 +12,8 @@ unlink-requires-clause-linked g c = (
 
 pub unlink-requires-clause-list : goal.unlink-requires-clause-list
 unlink-requires-clause-list g c =
-    let n = join_many _ _ _ _ c.self.invariant c.self.view_is c.args.front c.args.first c.args.second c.args.taken c.args.many c.requires.pair.0 c.requires.pair.1 in
+    let n = join_many _ _ _ _ c.self.invariant c.self.view_is c.args.front c.args.first c.args.second c.args.taken c.args.many
+    c.requires.pair.0 c.requires.pair.1 in
     let below = g.met.B.Buckets.lawful.below c.args.many n.0 n.1 in
     omega (arith, below, c.bucket-list.ensures, c.self.invariant.as_many)
 
@@ -33,12 +34,14 @@ returns-clause-joined g c x h = rw (c.set_before.ensures.words, c.write-2.ensure
 
 pub read-header-requires : goal.read-header-requires
 read-header-requires g c =
-    let s = join_sizes _ _ _ _ c.self.invariant c.self.view_is c.args.front c.args.first c.args.second c.args.taken c.args.many c.requires.pair.0 c.requires.pair.1 in
+    let s = join_sizes _ _ _ _ c.self.invariant c.self.view_is c.args.front c.args.first c.args.second c.args.taken c.args.many
+    c.requires.pair.0 c.requires.pair.1 in
     let a = s.0 in let l = s.2 in record { within = omega arith }
 
 pub overflow_add-size : goal.overflow_add-size
 overflow_add-size g c =
-    let s = join_sizes _ _ _ _ c.self.invariant c.self.view_is c.args.front c.args.first c.args.second c.args.taken c.args.many c.requires.pair.0 c.requires.pair.1 in
+    let s = join_sizes _ _ _ _ c.self.invariant c.self.view_is c.args.front c.args.first c.args.second c.args.taken c.args.many
+    c.requires.pair.0 c.requires.pair.1 in
     let l = s.2 in let m = s.3 in omega arith
 
 pub bucket-list-requires-clause-some : goal.bucket-list-requires-clause-some
@@ -51,20 +54,24 @@ bucket-list-requires-clause-few g c =
 
 pub overflow_add-front : goal.overflow_add-front
 overflow_add-front g c =
-    let s = join_sizes _ _ _ _ c.self.invariant c.self.view_is c.args.front c.args.first c.args.second c.args.taken c.args.many c.requires.pair.0 c.requires.pair.1 in
+    let s = join_sizes _ _ _ _ c.self.invariant c.self.view_is c.args.front c.args.first c.args.second c.args.taken c.args.many
+    c.requires.pair.0 c.requires.pair.1 in
     let l = s.2 in let m = s.3 in omega arith
 
 pub clear-requires : goal.clear-requires
 clear-requires g c =
-    let s = join_sizes _ _ _ _ c.self.invariant c.self.view_is c.args.front c.args.first c.args.second c.args.taken c.args.many c.requires.pair.0 c.requires.pair.1 in
+    let s = join_sizes _ _ _ _ c.self.invariant c.self.view_is c.args.front c.args.first c.args.second c.args.taken c.args.many
+    c.requires.pair.0 c.requires.pair.1 in
     let b = s.1 in let l = s.2 in record { within = omega arith }
 
 pub write-requires-2-clause-small : goal.write-requires-2-clause-small
 write-requires-2-clause-small g c =
-    let s = join_sizes _ _ _ _ c.self.invariant c.self.view_is c.args.front c.args.first c.args.second c.args.taken c.args.many c.requires.pair.0 c.requires.pair.1 in
+    let s = join_sizes _ _ _ _ c.self.invariant c.self.view_is c.args.front c.args.first c.args.second c.args.taken c.args.many
+    c.requires.pair.0 c.requires.pair.1 in
     let l = s.2 in let m = s.3 in omega arith
 
 pub overflow_add-front-3 : goal.overflow_add-front-3
 overflow_add-front-3 g c =
-    let s = join_sizes _ _ _ _ c.self.invariant c.self.view_is c.args.front c.args.first c.args.second c.args.taken c.args.many c.requires.pair.0 c.requires.pair.1 in
+    let s = join_sizes _ _ _ _ c.self.invariant c.self.view_is c.args.front c.args.first c.args.second c.args.taken c.args.many
+    c.requires.pair.0 c.requires.pair.1 in
     let l = s.2 in let m = s.3 in omega arith

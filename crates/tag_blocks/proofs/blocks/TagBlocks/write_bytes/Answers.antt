@@ -1,4 +1,4 @@
-use Rattle.std.proofs.Common.{◌+◌, ◌/◌, ◌%◌, arith, ap, ◌∙◌, subst}
+use Rattle.std.proofs.Common.{◌+◌, ◌/◌, ◌%◌, arith, subst}
 use Rattle.word_bytes.specs.Overwriting.{Overwrites}
 use Rattle.tag_blocks.specs.Blocks.{Tagged}
 use Rattle.tag_blocks.proofs.ViewLemmas.{tags_kept}
