@@ -234,3 +234,6 @@ impl MovingHeap {
         }
     }
 }
+
+#[cfg(test)]
+mod tests;
