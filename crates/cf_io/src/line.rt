@@ -3,6 +3,7 @@ ghost use Rattle.std.specs.Prelude.{◌≡◌, ◌≤◌, [], length, decimal};
 ghost use Rattle.hex.specs.Hex.{encode_lower};
 ghost use Rattle.cf_io.specs.Lines.{Pushes, line_room, word_text};
 
+use arrayvec::ArrayVec;
 use itoa::Buffer;
 use std::marker::Model;
 
@@ -16,19 +17,15 @@ pub struct Full;
 /// A line that is being written: at most 9,000 bytes, kept in place, so that no push takes memory.
 #[derive(Drop)]
 pub struct Line {
-    cells: [u8; LINE_ROOM],
-    len: usize,
+    buffer: ArrayVec<u8, LINE_ROOM>,
 }
 
 impl Model for Line {
-    ghost use Rattle.std.specs.Prelude.{List, ℕ, ◌≤◌, take};
-    ghost use Rattle.cf_io.specs.Lines.{line_room};
+    ghost use Rattle.std.specs.Prelude.{List, ℕ};
 
     ghost Value = { List ℕ };
 
-    ghost view = { λ l. take l.len l.cells };
-
-    ghost invariant = { λ l. l.len ≤ line_room };
+    ghost view = { λ l. l.buffer.items };
 }
 
 impl Line {
@@ -37,8 +34,7 @@ impl Line {
         ensures { result ≡ [] }
     {
         Line {
-            cells: [0; LINE_ROOM],
-            len: 0,
+            buffer: ArrayVec::new(),
         }
     }
 
@@ -47,20 +43,17 @@ impl Line {
         ensures value { result.now ≡ self.now }
         ensures fits { length self.now ≤ line_room }
     {
-        &self.cells[..self.len]
+        self.buffer.as_slice()
     }
 
     /// Appends the bytes. `Full` exactly where the line would pass 9,000 bytes.
     pub fn push(&mut self, bytes: &[u8]) -> Result<(), Full>
         ensures { Pushes self.old bytes.now result self.new }
     {
-        if bytes.len() > LINE_ROOM - self.len {
-            return Err(Full);
+        match self.buffer.try_extend_from_slice(bytes) {
+            Ok(()) => Ok(()),
+            Err(_) => Err(Full),
         }
-        let end = self.len + bytes.len();
-        self.cells[self.len..end].copy_from_slice(bytes);
-        self.len = end;
-        Ok(())
     }
 
     /// Appends the number in decimal. `Full` exactly where the line would pass 9,000 bytes.
@@ -79,12 +72,15 @@ impl Line {
     pub fn push_hex(&mut self, bytes: &[u8]) -> Result<(), Full>
         ensures { Pushes self.old (encode_lower bytes.now) result self.new }
     {
-        if bytes.len() > (LINE_ROOM - self.len) / 2 {
+        let start = self.buffer.len();
+        if bytes.len() > (LINE_ROOM - start) / 2 {
             return Err(Full);
         }
-        let end = self.len + 2 * bytes.len();
-        hex::encode_to_slice(bytes, &mut self.cells[self.len..end]).unwrap();
-        self.len = end;
+        // The bytes, twice, are the room that their digits are written into.
+        self.buffer.try_extend_from_slice(bytes).unwrap();
+        self.buffer.try_extend_from_slice(bytes).unwrap();
+        let room = &mut self.buffer.as_mut_slice()[start..];
+        hex::encode_to_slice(bytes, room).unwrap();
         Ok(())
     }
 
@@ -100,6 +96,6 @@ impl Line {
     pub fn clear(&mut self)
         ensures { self.new ≡ [] }
     {
-        self.len = 0;
+        self.buffer.clear();
     }
 }
