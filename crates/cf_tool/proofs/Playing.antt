@@ -1,5 +1,5 @@
 -- A script that was played on one of the managers, or on one of its own.
-use Rattle.std.proofs.Common.{◌≡◌, ◌<◌, ◌+◌, ◌⊎◌, ◌∙◌, arith, ℕ, List, [], Some, None, refl, ap, sym, subst, length, get_or, set, map, inl, inr}
+use Rattle.std.proofs.Common.{◌≡◌, ◌<◌, ◌+◌, ◌⊎◌, ◌∙◌, arith, ℕ, List, [], Option, Some, None, refl, ap, sym, subst, length, get_or, set, map, inl, inr}
 use Rattle.std.proofs.lemmas.List.{get_or-map, length-map, map-set}
 use Rattle.cf_base.specs.declared.kind.Kind.{Kind}
 use Rattle.cf_base.specs.declared.status.Status.{Status}
@@ -13,7 +13,9 @@ use Rattle.script_loop.specs.ScriptOutcome.{MOST_BYTES, MeetsOutcome}
 use Rattle.side_by_side.proofs.CallerLemmas.{begun_many, chosen_first, chosen_kinds, chosen_none, first_within, with_first, with_none}
 use Rattle.side_by_side.specs.First.{chosen_of, first_of_kind, with_chosen}
 use Rattle.side_by_side.specs.Many.{AreFresh, Many, kinds_of, many_at, many_managers}
-use Rattle.cf_tool.specs.TopOutcome.{Compares, Ends, Handed, OrLacks, Runs, SinkState, SourceState, effects_of, handed}
+use Rattle.bench_run.specs.Bench.{EndsBench}
+use Rattle.command_line.specs.declared.choice.Choice.{Choice}
+use Rattle.cf_tool.specs.TopOutcome.{Benches, Compares, Ends, Handed, OrLacks, Runs, SinkState, SourceState, effects_of, handed}
 
 -- what a mode asks was done, and nothing was written where memory was wanting
 or_lacks : (Does : Handed → Status → Handed → Type 0) (old : Handed) (st : Status) (new : Handed)
@@ -129,3 +131,49 @@ each_ends s s' k k' st causes f ss ms started ss' ms' kinds met =
           (begun_many f ss ms started) met;
       stand = refl;
     })
+
+-- how a bench may end
+bench_status : (st : Status) (seed count : ℕ) (from to : RunState) (before after : Option (List ℕ)) → EndsBench st seed count from to before after
+    → (st ≡ Done) ⊎ ((st ≡ WriteFault) ⊎ ((st ≡ OutOfMemory) × (after ≡ before)))
+bench_status Done seed count from to before after done = inl refl
+bench_status WriteFault seed count from to before after done = inr (inl refl)
+bench_status OutOfMemory seed count from to before after done = inr (inr (refl, done.unwritten))
+bench_status Words seed count from to before after done = absurd done.written
+bench_status BadScript seed count from to before after done = absurd done.written
+bench_status ReadFault seed count from to before after done = absurd done.written
+bench_status TooLong seed count from to before after done = absurd done.written
+bench_status BadImage seed count from to before after done = absurd done.written
+
+-- the commands of a seed were done by a manager that was made for them
+module _ (choice : Choice) (k k' : SinkState) (st : Status) (session : SessionState) (old : HeapState) (end : RunState) (fresh : session ≡ fresh_session)
+    (closed : old ≡ closed_state choice.kind) (outcome : EndsBench st choice.seed choice.count (run_at session old) end k.written k'.written)
+    (fault : st ≡ WriteFault → Rose k.faults k'.faults) where
+  ended : (st ≡ Done) ⊎ ((st ≡ WriteFault) ⊎ ((st ≡ OutOfMemory) × (k'.written ≡ k.written)))
+  ended = bench_status st choice.seed choice.count (run_at session old) end k.written k'.written outcome
+
+  silent : (st ≡ Done) ⊎ ((st ≡ WriteFault) ⊎ ((st ≡ OutOfMemory) × (k'.written ≡ k.written))) → st ≡ OutOfMemory → k'.written ≡ k.written
+  silent (inl d) is = absurd (let e : Done ≡ OutOfMemory = sym d ∙ is in cc)
+  silent (inr (inl w)) is = absurd (let e : WriteFault ≡ OutOfMemory = sym w ∙ is in cc)
+  silent (inr (inr o)) is = o.1
+
+  unread : (st ≡ Done) ⊎ ((st ≡ WriteFault) ⊎ ((st ≡ OutOfMemory) × (k'.written ≡ k.written))) → st ≡ ReadFault → ⊥
+  unread (inl d) is = let e : Done ≡ ReadFault = sym d ∙ is in cc
+  unread (inr (inl w)) is = let e : WriteFault ≡ ReadFault = sym w ∙ is in cc
+  unread (inr (inr o)) is = let e : OutOfMemory ≡ ReadFault = sym o.0 ∙ is in cc
+
+  short : (st ≡ Done) ⊎ ((st ≡ WriteFault) ⊎ ((st ≡ OutOfMemory) × (k'.written ≡ k.written))) → st ≡ TooLong → ⊥
+  short (inl d) is = let e : Done ≡ TooLong = sym d ∙ is in cc
+  short (inr (inl w)) is = let e : WriteFault ≡ TooLong = sym w ∙ is in cc
+  short (inr (inr o)) is = let e : OutOfMemory ≡ TooLong = sym o.0 ∙ is in cc
+
+  pub bench_done : (s : SourceState) (hs : List HeapState) → Ends (Benches choice) (handed s k hs) st (handed s k' hs)
+  bench_done s hs = ends_of (Benches choice) s k hs st s k' hs
+      (record { silent = silent ended; read_fault = λ is. absurd (unread ended is); write_fault = fault; too_long = λ is. absurd (short ended is) })
+      refl
+      (record {
+        end = end;
+        outcome = subst (λ (from : RunState). EndsBench st choice.seed choice.count from end k.written k'.written)
+            (ap (λ t. run_at t old) fresh ∙ ap (λ h. run_at fresh_session h) closed) outcome;
+        unread = refl;
+        untouched = refl;
+      })

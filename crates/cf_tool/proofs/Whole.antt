@@ -12,7 +12,7 @@ use Rattle.cf_session.specs.Apply.{run_at}
 use Rattle.command_line.specs.Choices.{Chooses}
 use Rattle.command_line.specs.declared.choice.Choice.{Choice}
 use Rattle.command_line.specs.declared.choice.Mode.{Mode}
-use Rattle.command_line.specs.declared.choice.Mode.TheVariants.{Run, Compare}
+use Rattle.command_line.specs.declared.choice.Mode.TheVariants.{Run, Compare, Bench}
 use Rattle.script_reader.specs.Items.{items}
 use Rattle.run_model.specs.Sessions.{RunState, fresh_session}
 use Rattle.headline_laws.proofs.CallerLemmas.{headline_met}
@@ -24,7 +24,7 @@ use Rattle.script_loop.specs.Semantics.{Semantics}
 use Rattle.side_by_side.proofs.CallerLemmas.{chosen_kind}
 use Rattle.side_by_side.specs.First.{chosen_of}
 use Rattle.side_by_side.specs.Many.{Many, fresh_many, many_managers}
-use Rattle.cf_tool.specs.TopOutcome.{Compares, DoesChosen, Ends, EndsWell, EndsWhole, Handed, InMode, OrLacks, Runs, TellsChosen, TellsHeadline, TellsInMode, effects_of}
+use Rattle.cf_tool.specs.TopOutcome.{Benches, Compares, DoesChosen, Ends, EndsWell, EndsWhole, Handed, InMode, OrLacks, Runs, TellsChosen, TellsHeadline, TellsInMode, effects_of}
 
 -- no script ends by `Words`
 never_words : {S P : Type 0} (m : Semantics S P) (from to : S) (had left : Option (List ℕ)) (call : Effects) → call.status ≡ Words
@@ -35,7 +35,7 @@ never_words m from to None left call is met = subst IsEnding is met
 
 -- A mode was chosen, and done.
 module _ (words : List Text) (choice : Choice) (Does : Handed → Status → Handed → Type 0) (chosen : Chooses words choice)
-    (in_mode : (old : Handed) (st : Status) (new : Handed) → Does old st new → InMode choice.mode choice.kind old st new)
+    (in_mode : (old : Handed) (st : Status) (new : Handed) → Does old st new → InMode choice.mode choice old st new)
     (never : (old new : Handed) → Does old Words new → ⊥) where
   does : (old : Handed) (st : Status) (new : Handed) → Does old st new → DoesChosen words old st new
   does old st new done = record { choice = choice; chosen = chosen; done = in_mode old st new done }
@@ -152,7 +152,7 @@ module _ (words : List Text) (choice : Choice) (chosen : Chooses words choice) (
     (ends : Ends (Runs choice.kind) old st new) where
   pub run_ends : EndsWell words old st new
   run_ends = ends_mode words choice (Runs choice.kind) chosen
-      (λ from status to done. subst (λ (m : Mode). InMode m choice.kind from status to) (sym is_run) done)
+      (λ from status to done. subst (λ (m : Mode). InMode m choice from status to) (sym is_run) done)
       (run_never_words choice.kind) old st new ends.outcome
 
   pub run_tells : AnswersAll st → TellsChosen words (effects_of old st new)
@@ -182,7 +182,7 @@ module _ (words : List Text) (choice : Choice) (chosen : Chooses words choice) (
     (ends : Ends Compares old st new) where
   pub compare_ends : EndsWell words old st new
   compare_ends = ends_mode words choice Compares chosen
-      (λ from status to done. subst (λ (m : Mode). InMode m choice.kind from status to) (sym is_compare) done)
+      (λ from status to done. subst (λ (m : Mode). InMode m choice from status to) (sym is_compare) done)
       compare_never_words old st new ends.outcome
 
   pub compare_tells : AnswersAll st → TellsChosen words (effects_of old st new)
@@ -191,3 +191,34 @@ module _ (words : List Text) (choice : Choice) (chosen : Chooses words choice) (
     chosen = chosen;
     tells = subst (λ (m : Mode). TellsInMode m choice.kind (effects_of old st new)) (sym is_compare) tt;
   }
+
+-- Mode `bench`.
+module _ (choice : Choice) where
+  bench_never_words : (old new : Handed) → Benches choice old Words new → ⊥
+  bench_never_words old new done = done.outcome.written
+
+  pub bench_whole : (old : Handed) (st : Status) (new : Handed) → Ends (Benches choice) old st new → ¬ Rose old.sink.faults new.sink.faults → EndsWhole st
+  bench_whole old Done new ends firm = inl refl
+  bench_whole old OutOfMemory new ends firm = inr refl
+  bench_whole old WriteFault new ends firm = absurd (firm (ends.write_fault refl))
+  bench_whole old Words new ends firm = absurd ends.outcome.outcome.written
+  bench_whole old BadScript new ends firm = absurd ends.outcome.outcome.written
+  bench_whole old ReadFault new ends firm = absurd ends.outcome.outcome.written
+  bench_whole old TooLong new ends firm = absurd ends.outcome.outcome.written
+  bench_whole old BadImage new ends firm = absurd ends.outcome.outcome.written
+
+-- Mode `bench` was chosen.
+module _ (words : List Text) (choice : Choice) (chosen : Chooses words choice) (is_bench : choice.mode ≡ Bench) (old : Handed) (st : Status) (new : Handed)
+    (ends : Ends (Benches choice) old st new) where
+  pub bench_ends : EndsWell words old st new
+  bench_ends = ends_mode words choice (Benches choice) chosen
+      (λ from status to done. subst (λ (m : Mode). InMode m choice from status to) (sym is_bench) done)
+      (bench_never_words choice) old st new ends.outcome
+
+-- What mode `bench` prints is no answer to a script.
+pub bench_tells : (words : List Text) (choice : Choice) → Chooses words choice → choice.mode ≡ Bench → (call : Effects) → TellsChosen words call
+bench_tells words choice chosen is_bench call = record {
+  choice = choice;
+  chosen = chosen;
+  tells = subst (λ (m : Mode). TellsInMode m choice.kind call) (sym is_bench) tt;
+}

@@ -5,12 +5,13 @@ use Rattle.cf_base.specs.declared.status.Status.{Status}
 use Rattle.cf_base.specs.declared.status.Status.TheVariants.{Done, Words, ReadFault, WriteFault, OutOfMemory, TooLong}
 use Rattle.cf_io.specs.Feeds.{Rose, appended, last_count}
 use Rattle.clap.specs.Words.{Text}
-use Rattle.cf_model.specs.State.{HeapState}
+use Rattle.bench_run.specs.Bench.{EndsBench}
+use Rattle.cf_model.specs.State.{HeapState, closed_state}
 use Rattle.cf_session.specs.Apply.{run_at}
 use Rattle.command_line.specs.Choices.{AreRefused, Chooses}
 use Rattle.command_line.specs.declared.choice.Choice.{Choice}
 use Rattle.command_line.specs.declared.choice.Mode.{Mode}
-use Rattle.command_line.specs.declared.choice.Mode.TheVariants.{Run, Compare}
+use Rattle.command_line.specs.declared.choice.Mode.TheVariants.{Run, Compare, Bench}
 use Rattle.script_reader.specs.Items.{Item}
 use Rattle.run_model.specs.Sessions.{RunState, fresh_session}
 use Rattle.run_model.specs.Texts.{Reply, text_of}
@@ -65,16 +66,24 @@ pub record Compares (old : Handed) (status : Status) (new : Handed) : Type 0 whe
   pub outcome : MeetsOutcome many_managers (fresh_many old.managers) (effects_of old status new) end
   pub stand : new.managers ≡ end.heaps
 
-abbrev pub InMode : Mode → Kind → Handed → Status → Handed → Type 0
-InMode Run kind old status new = Runs kind old status new
-InMode Compare kind old status new = Compares old status new
-InMode mode kind old status new = ⊥
+-- Mode `bench`: a manager of the kind, which was never open, is made for the commands of the seed, and what is printed tells their numbers. Nothing is read,
+-- and no manager handed in is touched.
+pub record Benches (choice : Choice) (old : Handed) (status : Status) (new : Handed) : Type 0 where
+  pub end : RunState
+  pub outcome : EndsBench status choice.seed choice.count (run_at fresh_session (closed_state choice.kind)) end old.sink.written new.sink.written
+  pub unread : new.source ≡ old.source
+  pub untouched : new.managers ≡ old.managers
+
+abbrev pub InMode : Mode → Choice → Handed → Status → Handed → Type 0
+InMode Run choice old status new = Runs choice.kind old status new
+InMode Compare choice old status new = Compares old status new
+InMode Bench choice old status new = Benches choice old status new
 
 -- the words choose a mode and a kind, and the call did what they ask
 pub record DoesChosen (words : List Text) (old : Handed) (status : Status) (new : Handed) : Type 0 where
   pub choice : Choice
   pub chosen : Chooses words choice
-  pub done : InMode choice.mode choice.kind old status new
+  pub done : InMode choice.mode choice old status new
 
 -- Out of memory may come before anything is touched, or where the mode says; nothing is written then.
 abbrev pub OrLacks : (Handed → Status → Handed → Type 0) → Handed → Status → Handed → Type 0

@@ -1,6 +1,7 @@
 //! The tool: reads a script from standard input and answers each command.
 #![tactic(auto)]
 
+mod benching;
 mod boxed;
 mod comparing;
 mod running;
@@ -9,12 +10,14 @@ mod top;
 use boxed::Boxed;
 use cf_base::Status;
 use cf_io::{StdSink, StdSource};
+use half_fit_heap::HalfFitHeap;
 use moving_heap::MovingHeap;
 use nonmoving_heap::NonMovingHeap;
 use std::alloc::AllocError;
 use std::env;
 use std::io::ErrorKind;
 use std::process::ExitCode;
+use tlsf_heap::TlsfHeap;
 use top::cf_main;
 
 /// The line on standard error that goes with a status; none at 0.
@@ -51,6 +54,12 @@ fn run_all(rt: &HostRuntime, words: &[String]) -> Result<Status, AllocError> {
     })?;
     managers.push(Boxed {
         inner: Box::new(alloc, NonMovingHeap::closed(alloc))?,
+    })?;
+    managers.push(Boxed {
+        inner: Box::new(alloc, TlsfHeap::closed(alloc))?,
+    })?;
+    managers.push(Boxed {
+        inner: Box::new(alloc, HalfFitHeap::closed(alloc))?,
     })?;
     let mut source = StdSource::new(rt.stdin());
     let mut sink = StdSink::new(rt.stdout());

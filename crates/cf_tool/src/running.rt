@@ -1,6 +1,5 @@
 //! Mode `run`.
 ghost use Rattle.std.specs.Prelude.{◌≡◌, [], map};
-ghost use Rattle.command_line.specs.Choices.{OffersKind};
 ghost use Rattle.run_model.specs.Sessions.{fresh_session};
 ghost use Rattle.cf_tool.specs.TopOutcome.{Ends, Runs, handed, sink_at, source_at};
 
@@ -8,12 +7,14 @@ use cf_base::{Kind, Status};
 use cf_io::{Sink, Source};
 use cf_model::Manager;
 use cf_session::Session;
+use half_fit_heap::HalfFitHeap;
 use moving_heap::MovingHeap;
 use nonmoving_heap::NonMovingHeap;
 use script_loop::run_script;
 use side_by_side::first_of;
 use std::alloc::Global;
 use std::rt::Runtime;
+use tlsf_heap::TlsfHeap;
 
 /// Answers a script on the first manager of the kind; where there is none, on a closed one that is
 /// made for it.
@@ -25,7 +26,6 @@ pub fn run_chosen<R: Runtime, H: Manager, S: Source, K: Sink>(
     source: &mut S,
     sink: &mut K,
 ) -> Status
-    requires { OffersKind kind }
     ensures { Ends (Runs kind)
         (handed (source_at (S.rest source.old) (S.given source.old) (S.faults source.old))
         (sink_at (K.written sink.old) (K.faults sink.old)) (map (λ m. H.state m) managers.old.items))
@@ -50,8 +50,7 @@ fn run_own<S: Source, K: Sink>(
     source: &mut S,
     sink: &mut K,
 ) -> Status
-    requires offered { OffersKind kind }
-    requires fresh { session.old ≡ fresh_session }
+    requires { session.old ≡ fresh_session }
     ensures { Ends (Runs kind)
         (handed (source_at (S.rest source.old) (S.given source.old) (S.faults source.old))
         (sink_at (K.written sink.old) (K.faults sink.old)) [])
@@ -68,7 +67,13 @@ fn run_own<S: Source, K: Sink>(
             let mut own = NonMovingHeap::closed(alloc);
             run_script(session, &mut own, source, sink)
         }
-        // no other kind is offered
-        Kind::Tlsf | Kind::HalfFit => unreachable!(),
+        Kind::Tlsf => {
+            let mut own = TlsfHeap::closed(alloc);
+            run_script(session, &mut own, source, sink)
+        }
+        Kind::HalfFit => {
+            let mut own = HalfFitHeap::closed(alloc);
+            run_script(session, &mut own, source, sink)
+        }
     }
 }

@@ -8,12 +8,14 @@ use crate::top::cf_main;
 use cf_base::{Kind, Status};
 use cf_io::{Line, LoopSource, MemSink, MemSource, Source, SureSource, number_of};
 use cf_model::Manager;
+use half_fit_heap::HalfFitHeap;
 use moving_heap::MovingHeap;
 use nonmoving_heap::NonMovingHeap;
 use rows::{MOVE, MOVED, ROWS, STEPS};
 use std::alloc::AllocError;
 use std::test::Fail;
 use step_ledger::Meter;
+use tlsf_heap::TlsfHeap;
 
 /// The room of a sink in these tests, in bytes.
 const ROOM: usize = 65_536;
@@ -56,14 +58,13 @@ fn answer_with<S: Source>(
     let words = command_line(rt, words)?;
     let mut managers = Vec::new(alloc);
     for kind in kinds {
-        match kind {
-            Kind::NonMoving => managers.push(Boxed {
-                inner: Box::new(alloc, NonMovingHeap::closed(alloc))?,
-            })?,
-            _ => managers.push(Boxed {
-                inner: Box::new(alloc, MovingHeap::closed(alloc))?,
-            })?,
-        }
+        let inner: Box<dyn Manager> = match kind {
+            Kind::Moving => Box::new(alloc, MovingHeap::closed(alloc))?,
+            Kind::NonMoving => Box::new(alloc, NonMovingHeap::closed(alloc))?,
+            Kind::Tlsf => Box::new(alloc, TlsfHeap::closed(alloc))?,
+            Kind::HalfFit => Box::new(alloc, HalfFitHeap::closed(alloc))?,
+        };
+        managers.push(Boxed { inner })?;
     }
     let status = cf_main(rt, alloc, words.as_slice(), source, sink, &mut managers);
     let mut live = Vec::new(alloc);
@@ -86,7 +87,8 @@ fn answer_by<S: Source>(
     source: &mut S,
     sink: &mut MemSink,
 ) -> Result<Status, Fail> {
-    let left = answer_with(rt, words, &[Kind::Moving, Kind::NonMoving], source, sink)?;
+    let kinds = [Kind::Moving, Kind::NonMoving, Kind::Tlsf, Kind::HalfFit];
+    let left = answer_with(rt, words, &kinds, source, sink)?;
     Ok(left.status)
 }
 
@@ -194,11 +196,12 @@ fn a_page_of_131072_bytes_has_4096_slots(rt: HostRuntime) -> Result<(), Fail> {
 
 #[test]
 fn words_that_are_not_taken_read_nothing(rt: HostRuntime) -> Result<(), Fail> {
-    let refused: [&[&str]; 5] = [
+    let refused: [&[&str]; 6] = [
         &["--manager", "other"],
         &["--help"],
         &["--version"],
         &["--count", "1000001"],
+        &["bench", "--count", "1000001"],
         &["run", "again"],
     ];
     for words in refused {

@@ -5,6 +5,7 @@ ghost use Rattle.script_loop.specs.ScriptOutcome.{IsClean, MOST_BYTES};
 ghost use Rattle.command_line.specs.Choices.{AreAccepted};
 ghost use Rattle.cf_tool.specs.TopOutcome.{EndsWell, EndsWhole, TellsPlainly, handed, sink_at, source_at};
 
+use crate::benching::bench;
 use crate::boxed::Boxed;
 use crate::comparing::compare;
 use crate::running::run_chosen;
@@ -66,7 +67,6 @@ pub fn cf_main<R: Runtime, S: Source, K: Sink>(
     match choice.mode {
         Mode::Run => run_chosen(rt, alloc, choice.kind, managers, source, sink),
         Mode::Compare => compare(rt, alloc, managers, source, sink),
-        // not offered yet
-        Mode::Bench => unreachable!(),
+        Mode::Bench => bench(rt, alloc, choice, sink),
     }
 }

@@ -1,3 +1,2 @@
 -- What upper crates may cite, passed on from one place. Declares nothing.
 pub use Rattle.command_line.proofs.ReadAlike.{not_accepted}
-pub use Rattle.command_line.proofs.Offers.{kind_offered, mode_offered}

@@ -1,32 +1,42 @@
 -- Arguments that are known, read by the command whose names lie at address 0.
-use Rattle.std.proofs.Common.{◌≡◌, List, [], ◌∷◌, refl, sym, subst, inl, inr, codes}
+use Rattle.std.proofs.Common.{◌≡◌, List, [], ◌∷◌, refl, codes}
 use Rattle.cf_base.specs.Kind.{kind_name}
 use Rattle.cf_base.specs.declared.kind.Kind.{Kind}
-use Rattle.cf_base.specs.declared.kind.Kind.TheVariants.{Moving, NonMoving}
-use Rattle.clap.specs.Words.{Text}
+use Rattle.cf_base.specs.declared.kind.Kind.TheVariants.{Moving, NonMoving, Tlsf, HalfFit}
+use Rattle.clap.specs.Words.{Text, fault_of, matches_of}
 use Rattle.clap.specs.declared.error.kind.ErrorKind.TheVariants as kind
 use Rattle.clap.proofs.OnLiterals.{clap_on_literals}
 use Rattle.command_line.proofs.ReadAlike.{app_at_zero, is_app_at_zero}
-use Rattle.command_line.specs.Choices.{AreRefused, Chooses, OffersKind, runs_on}
+use Rattle.command_line.specs.Choices.{AreRefused, Chooses, choice_of, chosen}
+use Rattle.command_line.specs.Command.{mode_name}
+use Rattle.command_line.specs.declared.choice.Choice.{Choice}
+use Rattle.command_line.specs.declared.choice.Mode.{Mode}
+use Rattle.command_line.specs.declared.choice.Mode.TheVariants.{Run, Compare, Bench}
 
-pub no_words : (name : Text) → Chooses (name ∷ []) (runs_on Moving 0 1000)
+pub no_words : (name : Text) → Chooses (name ∷ []) (chosen Run Moving 0 1000)
 unfolding clap_on_literals
 no_words name = record { app = app_at_zero; is_app = is_app_at_zero; accepted = refl; chosen = refl }
 
-abbrev said : Text → Kind → List Text
-said name kind = name ∷ codes "run" ∷ codes "--manager" ∷ kind_name kind ∷ codes "--seed" ∷ codes "5" ∷ codes "--count=7" ∷ []
+abbrev said : Text → Mode → Kind → List Text
+said name mode kind = name ∷ mode_name mode ∷ codes "--manager" ∷ kind_name kind ∷ codes "--seed" ∷ codes "5" ∷ codes "--count=7" ∷ []
 
-said_moving : (name : Text) → Chooses (said name Moving) (runs_on Moving 5 7)
+as_chosen : (words : List Text) (choice : Choice) → fault_of app_at_zero words ≡ [] → choice ≡ choice_of (matches_of app_at_zero words) → Chooses words choice
+as_chosen words choice accepted is = record { app = app_at_zero; is_app = is_app_at_zero; accepted = accepted; chosen = is }
+
+pub said_words : (name : Text) (mode : Mode) (kind : Kind) → Chooses (said name mode kind) (chosen mode kind 5 7)
 unfolding clap_on_literals
-said_moving name = record { app = app_at_zero; is_app = is_app_at_zero; accepted = refl; chosen = refl }
-
-said_nonmoving : (name : Text) → Chooses (said name NonMoving) (runs_on NonMoving 5 7)
-unfolding clap_on_literals
-said_nonmoving name = record { app = app_at_zero; is_app = is_app_at_zero; accepted = refl; chosen = refl }
-
-pub said_words : (name : Text) (kind : Kind) → OffersKind kind → Chooses (said name kind) (runs_on kind 5 7)
-said_words name kind (inl e) = subst (λ (k : Kind). Chooses (said name k) (runs_on k 5 7)) (sym e) (said_moving name)
-said_words name kind (inr e) = subst (λ (k : Kind). Chooses (said name k) (runs_on k 5 7)) (sym e) (said_nonmoving name)
+said_words name Run Moving = as_chosen (said name Run Moving) (chosen Run Moving 5 7) refl refl
+said_words name Run NonMoving = as_chosen (said name Run NonMoving) (chosen Run NonMoving 5 7) refl refl
+said_words name Run Tlsf = as_chosen (said name Run Tlsf) (chosen Run Tlsf 5 7) refl refl
+said_words name Run HalfFit = as_chosen (said name Run HalfFit) (chosen Run HalfFit 5 7) refl refl
+said_words name Compare Moving = as_chosen (said name Compare Moving) (chosen Compare Moving 5 7) refl refl
+said_words name Compare NonMoving = as_chosen (said name Compare NonMoving) (chosen Compare NonMoving 5 7) refl refl
+said_words name Compare Tlsf = as_chosen (said name Compare Tlsf) (chosen Compare Tlsf 5 7) refl refl
+said_words name Compare HalfFit = as_chosen (said name Compare HalfFit) (chosen Compare HalfFit 5 7) refl refl
+said_words name Bench Moving = as_chosen (said name Bench Moving) (chosen Bench Moving 5 7) refl refl
+said_words name Bench NonMoving = as_chosen (said name Bench NonMoving) (chosen Bench NonMoving 5 7) refl refl
+said_words name Bench Tlsf = as_chosen (said name Bench Tlsf) (chosen Bench Tlsf 5 7) refl refl
+said_words name Bench HalfFit = as_chosen (said name Bench HalfFit) (chosen Bench HalfFit 5 7) refl refl
 
 pub help_asked : (name : Text) (rest : List Text) → AreRefused (name ∷ codes "--help" ∷ rest)
 unfolding clap_on_literals
@@ -35,3 +45,11 @@ help_asked name rest = record { app = app_at_zero; is_app = is_app_at_zero; refu
 pub count_too_far : (name : Text) → AreRefused (name ∷ codes "--count=1000001" ∷ [])
 unfolding clap_on_literals
 count_too_far name = record { app = app_at_zero; is_app = is_app_at_zero; refused = λ e. let bad : kind.ValueValidation ∷ [] ≡ [] = e in cc }
+
+pub other_mode : (name : Text) → AreRefused (name ∷ codes "Run" ∷ [])
+unfolding clap_on_literals
+other_mode name = record { app = app_at_zero; is_app = is_app_at_zero; refused = λ e. let bad : kind.InvalidValue ∷ [] ≡ [] = e in cc }
+
+pub other_manager : (name : Text) → AreRefused (name ∷ codes "--manager" ∷ codes "halt" ∷ [])
+unfolding clap_on_literals
+other_manager name = record { app = app_at_zero; is_app = is_app_at_zero; refused = λ e. let bad : kind.InvalidValue ∷ [] ≡ [] = e in cc }

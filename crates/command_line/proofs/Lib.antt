@@ -1,7 +1,6 @@
 pub mod ClapReads
 pub mod FaultAddresses
 pub mod KnownWords
-pub mod Offers
 pub mod ReadAlike
 pub mod RuleAddresses
 pub mod WalkAddresses

@@ -1,28 +1,29 @@
 -- What the arguments choose, by `clap`'s definitions of the matches.
-use Rattle.std.specs.Prelude.{◌≡◌, ◌≢◌, ◌⊎◌, ⊤, ℕ, List, [], Option, Some, None, Result, Ok, Err, codes, false, if◌then◌else◌}
+use Rattle.std.specs.Prelude.{◌≡◌, ◌≢◌, ⊤, ℕ, List, [], Option, Some, None, Result, Ok, Err, codes, false, if◌then◌else◌}
 use Rattle.std.specs.Str.{bytes_eq}
 use Rattle.std.specs.Str.Parse.{digits_value, without_leading_plus}
 use Rattle.cf_base.specs.Kind.{kind_name}
 use Rattle.cf_base.specs.declared.kind.Kind.{Kind}
-use Rattle.cf_base.specs.declared.kind.Kind.TheVariants.{Moving, NonMoving}
+use Rattle.cf_base.specs.declared.kind.Kind.TheVariants.{Moving, NonMoving, Tlsf, HalfFit}
 use Rattle.clap.specs.Words.{App, Row, Text, first_of, one_of, fault_of, matches_of}
 use Rattle.clap.specs.ValueTests.{accepts}
 use Rattle.command_line.specs.Command.{IsCfApp, any_u64, mode_name}
 use Rattle.command_line.specs.declared.choice.Choice.{Choice}
 use Rattle.command_line.specs.declared.choice.Mode.{Mode}
-use Rattle.command_line.specs.declared.choice.Mode.TheVariants.{Run, Compare}
+use Rattle.command_line.specs.declared.choice.Mode.TheVariants.{Run, Compare, Bench}
 use Rattle.command_line.specs.declared.choice.WordsFault.{WordsFault}
 use Rattle.command_line.specs.declared.choice.WordsFault.TheVariants.{Refused, OutOfMemory}
 
 -- the mode of a name; the command lets no other name through
 abbrev pub mode_named : Option Text → Mode
 mode_named None = Run
-mode_named (Some name) = if bytes_eq name (mode_name Compare) then Compare else Run
+mode_named (Some name) = if bytes_eq name (mode_name Compare) then Compare else (if bytes_eq name (mode_name Bench) then Bench else Run)
 
 -- the kind of a name; the command lets no other name through
 abbrev pub kind_named : Option Text → Kind
 kind_named None = Moving
-kind_named (Some name) = if bytes_eq name (kind_name NonMoving) then NonMoving else Moving
+kind_named (Some name) = if bytes_eq name (kind_name NonMoving) then NonMoving
+    else (if bytes_eq name (kind_name Tlsf) then Tlsf else (if bytes_eq name (kind_name HalfFit) then HalfFit else Moving))
 
 -- the number that a text says, as `clap` reads a u64; the command lets no other text through
 abbrev pub u64_in : Option Text → ℕ
@@ -63,14 +64,6 @@ ReadsAs words (Ok choice) = Chooses words choice
 ReadsAs words (Err Refused) = AreRefused words
 ReadsAs words (Err OutOfMemory) = ⊤
 
--- a run of a manager of this kind, with this seed and this count
-abbrev pub runs_on : Kind → ℕ → ℕ → Choice
-runs_on kind seed count = record { mode = Run; kind = kind; seed = seed; count = count }
-
--- the modes that can be chosen
-abbrev pub OffersMode : Mode → Type 0
-OffersMode mode = (mode ≡ Run) ⊎ (mode ≡ Compare)
-
--- the kinds that can be chosen
-abbrev pub OffersKind : Kind → Type 0
-OffersKind kind = (kind ≡ Moving) ⊎ (kind ≡ NonMoving)
+-- this mode and this kind, with this seed and this count
+abbrev pub chosen : Mode → Kind → ℕ → ℕ → Choice
+chosen mode kind seed count = record { mode = mode; kind = kind; seed = seed; count = count }

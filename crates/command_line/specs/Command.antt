@@ -2,7 +2,7 @@
 use Rattle.std.specs.Prelude.{◌≡◌, List, [], ◌∷◌, Some, map, codes}
 use Rattle.std.specs.Borrow.{Bor}
 use Rattle.cf_base.specs.Kind.{kind_name}
-use Rattle.cf_base.specs.declared.kind.Kind.TheVariants.{Moving, NonMoving}
+use Rattle.cf_base.specs.declared.kind.Kind.TheVariants.{Moving, NonMoving, Tlsf, HalfFit}
 use Rattle.clap.specs.Words.{App, Rule, Text, new_app, new_rule, with_rule}
 use Rattle.clap.specs.declared.builder.value_parser.ValueParser.{ValueParser}
 use Rattle.clap.specs.declared.builder.value_parser.ValueParser.TheVariants.{Names, Unsigned}
@@ -22,13 +22,11 @@ mode_name Run = codes "run"
 mode_name Compare = codes "compare"
 mode_name Bench = codes "bench"
 
--- the modes that are offered
 abbrev pub mode_names : List Text
-mode_names = mode_name Run ∷ mode_name Compare ∷ []
+mode_names = mode_name Run ∷ mode_name Compare ∷ mode_name Bench ∷ []
 
--- the managers that are offered
 abbrev pub manager_names : List Text
-manager_names = kind_name Moving ∷ kind_name NonMoving ∷ []
+manager_names = kind_name Moving ∷ kind_name NonMoving ∷ kind_name Tlsf ∷ kind_name HalfFit ∷ []
 
 -- the positional MODE
 abbrev pub mode_rule : NameList → Rule

@@ -7,9 +7,9 @@ ghost use Rattle.command_line.specs.Command.{manager_names, mode_names, texts_of
 use clap::{Arg, Command, value_parser};
 use std::alloc::{AllocError, Global};
 
-static MODES: [&str; 2] = ["run", "compare"];
+static MODES: [&str; 3] = ["run", "compare", "bench"];
 
-static MANAGERS: [&str; 2] = ["cf", "nm"];
+static MANAGERS: [&str; 4] = ["cf", "nm", "tlsf", "half"];
 
 fn modes<'a>() -> &'a [&'a str]
     ensures { texts_of result ≡ mode_names }

@@ -5,9 +5,11 @@ ghost use Rattle.cf_base.specs.Kind.{kind_name};
 ghost use Rattle.cf_base.specs.declared.kind.Kind.{Kind};
 ghost use Rattle.cf_base.specs.declared.kind.Kind.TheVariants.{Moving};
 ghost use Rattle.clap.specs.Words.{App, Text, fault_of, matches_of};
-ghost use Rattle.command_line.specs.Choices.{AreAccepted, AreRefused, Chooses, OffersKind, OffersMode, ReadsAs, runs_on};
-ghost use Rattle.command_line.specs.Command.{IsCfApp};
+ghost use Rattle.command_line.specs.Choices.{AreAccepted, AreRefused, Chooses, ReadsAs, chosen};
+ghost use Rattle.command_line.specs.Command.{IsCfApp, mode_name};
 ghost use Rattle.command_line.specs.declared.choice.Choice.{Choice};
+ghost use Rattle.command_line.specs.declared.choice.Mode.{Mode};
+ghost use Rattle.command_line.specs.declared.choice.Mode.TheVariants.{Run};
 ghost use Rattle.command_line.specs.declared.choice.WordsFault.{WordsFault};
 ghost use Rattle.command_line.specs.declared.choice.WordsFault.TheVariants.{OutOfMemory, Refused};
 
@@ -41,22 +43,22 @@ pub fn known_words_are_refused()
         → ReadsAs words result → (result ≡ Err Refused) ⊎ (result ≡ Err OutOfMemory) }
 {}
 
-/// No other mode or kind is chosen than is offered.
-pub fn only_what_is_offered_is_chosen()
-    ensures mode { (words : List Text) (choice : Choice) → Chooses words choice → OffersMode choice.mode }
-    ensures kind { (words : List Text) (choice : Choice) → Chooses words choice → OffersKind choice.kind }
-{}
-
 /// The program's name alone chooses the defaults.
 pub fn no_words_are_taken()
-    ensures { (name : Text) → Chooses (name ∷ []) (runs_on Moving 0 1000) }
+    ensures { (name : Text) → Chooses (name ∷ []) (chosen Run Moving 0 1000) }
 {}
 
-/// Arguments choose what they say, for each kind that is offered.
+/// Arguments choose what they say, whatever the mode and the kind.
 pub fn words_choose_what_they_say()
-    ensures { (name : Text) (kind : Kind) → OffersKind kind → Chooses
-        (name ∷ codes "run" ∷ codes "--manager" ∷ kind_name kind ∷ codes "--seed" ∷ codes "5" ∷ codes "--count=7" ∷ [])
-        (runs_on kind 5 7) }
+    ensures { (name : Text) (mode : Mode) (kind : Kind) → Chooses
+        (name ∷ mode_name mode ∷ codes "--manager" ∷ kind_name kind ∷ codes "--seed" ∷ codes "5" ∷ codes "--count=7" ∷ [])
+        (chosen mode kind 5 7) }
+{}
+
+/// A mode or a manager by any other name is refused; these names differ in a letter or in its case.
+pub fn other_names_are_refused()
+    ensures mode { (name : Text) → AreRefused (name ∷ codes "Run" ∷ []) }
+    ensures manager { (name : Text) → AreRefused (name ∷ codes "--manager" ∷ codes "halt" ∷ []) }
 {}
 
 /// A request for help is refused, whatever follows it.

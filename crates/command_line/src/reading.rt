@@ -11,22 +11,25 @@ use clap::ArgMatches;
 use clap::error::ErrorKind;
 use std::alloc::Global;
 
-/// The mode of a name. To offer another is one more branch here and one more name in the command.
+/// The mode of a name; the command lets no other through.
 fn mode_named(name: Option<&str>) -> Mode
     ensures { result ≡ mode_by (option_map (λ s. s.now) name.entry) }
 {
     match name {
         Some("compare") => Mode::Compare,
+        Some("bench") => Mode::Bench,
         _ => Mode::Run,
     }
 }
 
-/// The kind of a name. To offer another is one more branch here and one more name in the command.
+/// The kind of a name; the command lets no other through.
 fn kind_named(name: Option<&str>) -> Kind
     ensures { result ≡ kind_by (option_map (λ s. s.now) name.entry) }
 {
     match name {
         Some("nm") => Kind::NonMoving,
+        Some("tlsf") => Kind::Tlsf,
+        Some("half") => Kind::HalfFit,
         _ => Kind::Moving,
     }
 }

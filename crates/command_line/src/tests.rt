@@ -16,36 +16,66 @@ fn texts(alloc: Global, words: &[&str]) -> Result<Vec<String>, AllocError> {
 
 #[test]
 fn words_are_taken(rt: HostRuntime) -> Result<(), Fail> {
-    for (words, kind, seed, count) in [
-        ([].as_slice(), Kind::Moving, 0, 1_000),
-        (["run"].as_slice(), Kind::Moving, 0, 1_000),
-        (["--", "run"].as_slice(), Kind::Moving, 0, 1_000),
-        (["--manager", "cf"].as_slice(), Kind::Moving, 0, 1_000),
-        (["--manager=cf", "run"].as_slice(), Kind::Moving, 0, 1_000),
+    for (words, mode, kind, seed, count) in [
+        ([].as_slice(), Mode::Run, Kind::Moving, 0, 1_000),
+        (["run"].as_slice(), Mode::Run, Kind::Moving, 0, 1_000),
+        (
+            ["compare"].as_slice(),
+            Mode::Compare,
+            Kind::Moving,
+            0,
+            1_000,
+        ),
+        (["bench"].as_slice(), Mode::Bench, Kind::Moving, 0, 1_000),
+        (["--", "run"].as_slice(), Mode::Run, Kind::Moving, 0, 1_000),
+        (
+            ["--manager", "cf"].as_slice(),
+            Mode::Run,
+            Kind::Moving,
+            0,
+            1_000,
+        ),
         (
             ["--manager=nm", "run"].as_slice(),
+            Mode::Run,
             Kind::NonMoving,
             0,
             1_000,
         ),
         (
-            ["run", "--manager", "nm"].as_slice(),
-            Kind::NonMoving,
+            ["--manager=tlsf"].as_slice(),
+            Mode::Run,
+            Kind::Tlsf,
             0,
             1_000,
         ),
-        (["--count", "0"].as_slice(), Kind::Moving, 0, 0),
-        (["--count=+7"].as_slice(), Kind::Moving, 0, 7),
-        (["--count=007"].as_slice(), Kind::Moving, 0, 7),
-        (["--count=1000000"].as_slice(), Kind::Moving, 0, 1_000_000),
         (
-            ["--seed", "5", "run", "--count", "4"].as_slice(),
+            ["bench", "--manager", "half"].as_slice(),
+            Mode::Bench,
+            Kind::HalfFit,
+            0,
+            1_000,
+        ),
+        (["--count", "0"].as_slice(), Mode::Run, Kind::Moving, 0, 0),
+        (["--count=+7"].as_slice(), Mode::Run, Kind::Moving, 0, 7),
+        (["--count=007"].as_slice(), Mode::Run, Kind::Moving, 0, 7),
+        (
+            ["--count=1000000"].as_slice(),
+            Mode::Run,
+            Kind::Moving,
+            0,
+            1_000_000,
+        ),
+        (
+            ["--seed", "5", "bench", "--count", "4"].as_slice(),
+            Mode::Bench,
             Kind::Moving,
             5,
             4,
         ),
         (
             ["--seed=18446744073709551615"].as_slice(),
+            Mode::Run,
             Kind::Moving,
             u64::MAX,
             1_000,
@@ -53,7 +83,7 @@ fn words_are_taken(rt: HostRuntime) -> Result<(), Fail> {
     ] {
         let all = texts(rt.alloc(), words)?;
         let wanted = Choice {
-            mode: Mode::Run,
+            mode,
             kind,
             seed,
             count,
@@ -64,14 +94,6 @@ fn words_are_taken(rt: HostRuntime) -> Result<(), Fail> {
             "{words:?}"
         );
     }
-    let all = texts(rt.alloc(), &["compare", "--manager=nm"])?;
-    let wanted = Choice {
-        mode: Mode::Compare,
-        kind: Kind::NonMoving,
-        seed: 0,
-        count: 1_000,
-    };
-    assert_eq!(rt; read_words(rt.alloc(), all.as_slice()), Ok(wanted));
     Ok(())
 }
 
@@ -83,9 +105,9 @@ fn words_are_refused(rt: HostRuntime) -> Result<(), Fail> {
         ["help"].as_slice(),
         ["--version"].as_slice(),
         ["-V"].as_slice(),
-        ["compare", "run"].as_slice(),
-        ["bench"].as_slice(),
         ["slice"].as_slice(),
+        ["Bench"].as_slice(),
+        ["compare", "bench"].as_slice(),
         ["Run"].as_slice(),
         [""].as_slice(),
         ["run", "run"].as_slice(),
@@ -95,8 +117,6 @@ fn words_are_refused(rt: HostRuntime) -> Result<(), Fail> {
         ["--quantum=1"].as_slice(),
         ["--manager"].as_slice(),
         ["--manager", "other"].as_slice(),
-        ["--manager=tlsf"].as_slice(),
-        ["--manager=half"].as_slice(),
         ["--manager=NM"].as_slice(),
         ["--manager=CF"].as_slice(),
         ["--manager=cf", "--manager=cf"].as_slice(),

@@ -3,7 +3,8 @@
 use super::rows::{MOVE, MOVED};
 use super::{ROOM, answer_with, plain_sink};
 use cf_base::{Kind, Status};
-use cf_io::{MemSink, SureSource};
+use cf_io::{Line, MemSink, SureSource};
+use generator::{Generator, command_text};
 use std::test::Fail;
 
 /// A call with managers that are closed at first.
@@ -19,7 +20,10 @@ struct Case {
     live: &'static [Option<u32>],
 }
 
-const CASES: [Case; 9] = [
+/// The kinds of the program's managers, in its order.
+const FOUR: [Kind; 4] = [Kind::Moving, Kind::NonMoving, Kind::Tlsf, Kind::HalfFit];
+
+const CASES: [Case; 16] = [
     Case {
         shows: "the first of the kind answers, and no other one is touched",
         words: &[],
@@ -101,6 +105,69 @@ const CASES: [Case; 9] = [
         text: b"",
         live: &[None],
     },
+    Case {
+        shows: "a need is rounded up, and free blocks are joined",
+        words: &["--manager", "tlsf"],
+        managers: &[Kind::Moving, Kind::Tlsf],
+        script: b"heap 1 512 1 4\nm 1 232\nwalk\nm 2 248\nm 2 240\nf 1\nf 2\nwalk\n",
+        status: Status::Done,
+        text: b"ok\nok\nblocks used 1 free 1 largest 33\nrefused space\nok\nok\nok\nblocks used 0 free 1 largest 64\n",
+        live: &[None, Some(0)],
+    },
+    Case {
+        shows: "a single word that is over stays with its block",
+        words: &["run", "--manager=tlsf"],
+        managers: &[],
+        script: b"heap 1 512 1 4\nm 1 504\nm 1 488\nfrag\n",
+        status: Status::Done,
+        text: b"ok\nrefused space\nok\nfrag asked 488 taken 512 held 512\n",
+        live: &[],
+    },
+    Case {
+        shows: "four managers side by side",
+        words: &["compare"],
+        managers: &FOUR,
+        script: b"heap 1 512 1 4\nm 1 256\nm 2 176\nfrag\n",
+        status: Status::Done,
+        text: b"cf ok\nnm ok\ntlsf ok\nhalf ok\ncf ok\nnm ok\ntlsf ok\nhalf ok\ncf refused space\nnm refused space\ntlsf ok\nhalf refused space\ncf frag asked 256 taken 272 held 512\nnm frag asked 256 taken 288 held 512\ntlsf frag asked 432 taken 464 held 512\nhalf frag asked 256 taken 272 held 512\n",
+        live: &[Some(1), Some(1), Some(2), Some(1)],
+    },
+    Case {
+        shows: "a bench of the moving manager reads nothing and touches no manager",
+        words: &["bench", "--seed", "0", "--count", "4"],
+        managers: &FOUR,
+        script: MOVE,
+        status: Status::Done,
+        text: b"bench commands 4 ok 1 refused 0 live 1 pages 1 moves 0\n",
+        live: &[None, None, None, None],
+    },
+    Case {
+        shows: "a bench of the non-moving manager",
+        words: &["bench", "--manager=nm", "--count=4"],
+        managers: &[],
+        script: b"",
+        status: Status::Done,
+        text: b"bench commands 4 ok 1 refused 0 live 1 pages 1 moves 0\n",
+        live: &[],
+    },
+    Case {
+        shows: "a bench of TLSF",
+        words: &["bench", "--manager=tlsf", "--count=4"],
+        managers: &[],
+        script: b"",
+        status: Status::Done,
+        text: b"bench commands 4 ok 1 refused 0 live 1 pages 1 moves 0\n",
+        live: &[],
+    },
+    Case {
+        shows: "a bench of Half-Fit",
+        words: &["bench", "--manager=half", "--count=4"],
+        managers: &[],
+        script: b"",
+        status: Status::Done,
+        text: b"bench commands 4 ok 1 refused 0 live 1 pages 1 moves 0\n",
+        live: &[],
+    },
 ];
 
 #[test]
@@ -148,5 +215,48 @@ fn a_cut_stops_between_two_managers(rt: HostRuntime) -> Result<(), Fail> {
         assert_eq!(rt; sink.written(), text, "call {call}");
         assert_eq!(rt; left.live.as_slice(), live.as_slice(), "call {call}");
     }
+    Ok(())
+}
+
+/// A script of a `heap` line and the first `count` commands of the seed.
+fn generated_script(rt: &HostRuntime, seed: u64, count: u32) -> Result<Vec<u8>, Fail> {
+    let mut script = b"heap 1024 16384 1 4096\n".to_vec(rt.alloc())?;
+    let mut generator = Generator::new(seed);
+    let mut line = Line::new();
+    for _i in 0..count {
+        line.clear();
+        let command = generator.next_command();
+        command_text(&command, &mut line).map_err(|_| "full")?;
+        script.extend_from_slice(line.bytes())?;
+    }
+    Ok(script)
+}
+
+// 3,000 commands and the `heap` line, which four managers answer alike: there is room for all of it.
+#[test]
+fn four_managers_answer_a_long_script_alike(rt: HostRuntime) -> Result<(), Fail> {
+    let alloc = rt.alloc();
+    let script = generated_script(&rt, 1, 3_000)?;
+    let mut source = SureSource::new(script);
+    let mut sink = MemSink::new(alloc, 1 << 20, Vec::new(alloc), Vec::new(alloc)).map_err(
+        |_| "room",
+    )?;
+    let left = answer_with(&rt, &["compare"], &FOUR, &mut source, &mut sink)?;
+    assert_eq!(rt; left.status, Status::Done);
+    let mut lines = sink.written().split(|b| *b == b'\n');
+    let mut commands = 0;
+    while let Some(first) = lines.next() {
+        if first.is_empty() {
+            break;
+        }
+        let reply = first.strip_prefix(b"cf ").ok_or("another manager first")?;
+        assert!(rt; reply != b"refused space".as_slice());
+        for name in [b"nm ".as_slice(), b"tlsf ", b"half "] {
+            let line = lines.next().ok_or("a reply is missing")?;
+            assert_eq!(rt; line.strip_prefix(name), Some(reply), "command {commands}");
+        }
+        commands += 1;
+    }
+    assert_eq!(rt; commands, 3_001);
     Ok(())
 }

@@ -1,5 +1,7 @@
+use Rattle.std.proofs.Common.{[], None}
 use Rattle.command_line.proofs.CallerLemmas.{not_accepted}
-use Rattle.cf_tool.proofs.Whole.{compare_ends, compare_tells, compare_whole, run_ends, run_tells, run_whole}
+use Rattle.cf_tool.specs.TopOutcome.{source_at}
+use Rattle.cf_tool.proofs.Whole.{bench_ends, bench_tells, bench_whole, compare_ends, compare_tells, compare_whole, run_ends, run_tells, run_whole}
 use Rattle.cf_tool.proofs.top.cf_main.Goals as goal
 
 pub returns-in-Refused-clause-complete : goal.returns-in-Refused-clause-complete
@@ -22,3 +24,21 @@ returns-in-Compare-clause-plain g c = compare_tells _ c.in-Ok.choice c.in-Ok.ens
 
 pub returns-in-Compare-clause-complete : goal.returns-in-Compare-clause-complete
 returns-in-Compare-clause-complete g c = λ accepted. compare_whole _ c.compare.result _ c.compare.ensures
+
+pub returns-in-Bench-clause-outcome : goal.returns-in-Bench-clause-outcome
+returns-in-Bench-clause-outcome g c = bench_ends _ c.in-Ok.choice c.in-Ok.ensures c.in-Bench.is _ c.bench.result _ (c.bench.ensures _ _)
+
+pub returns-in-Bench-clause-plain : goal.returns-in-Bench-clause-plain
+returns-in-Bench-clause-plain g c = λ is. bench_tells _ c.in-Ok.choice c.in-Ok.ensures c.in-Bench.is _
+
+pub returns-in-Bench-clause-complete : goal.returns-in-Bench-clause-complete
+returns-in-Bench-clause-complete g c = λ accepted clean sure firm. bench_whole c.in-Ok.choice _ c.bench.result _ (c.bench.ensures (source_at None 0 0) []) firm
+
+pub returns-in-Bench-clause-read_fault : goal.returns-in-Bench-clause-read_fault
+returns-in-Bench-clause-read_fault g c = (c.bench.ensures (source_at None 0 (g.S.Source.faults c.args.source.now)) []).read_fault
+
+pub returns-in-Bench-clause-write_fault : goal.returns-in-Bench-clause-write_fault
+returns-in-Bench-clause-write_fault g c = (c.bench.ensures (source_at None 0 0) []).write_fault
+
+pub returns-in-Bench-clause-too_long : goal.returns-in-Bench-clause-too_long
+returns-in-Bench-clause-too_long g c = (c.bench.ensures (source_at None (g.S.Source.given c.args.source.now) 0) []).too_long
