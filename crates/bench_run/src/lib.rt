@@ -7,6 +7,3 @@ mod tally;
 
 pub use bench::run_bench;
 pub use figures::BenchFigures;
-
-#[cfg(test)]
-mod tests;

@@ -244,7 +244,7 @@ fn four_managers_answer_a_long_script_alike(rt: HostRuntime) -> Result<(), Fail>
     let left = answer_with(&rt, &["compare"], &FOUR, &mut source, &mut sink)?;
     assert_eq!(rt; left.status, Status::Done);
     let mut lines = sink.written().split(|b| *b == b'\n');
-    let mut commands = 0;
+    let mut commands = 0u32;
     while let Some(first) = lines.next() {
         if first.is_empty() {
             break;
@@ -255,7 +255,7 @@ fn four_managers_answer_a_long_script_alike(rt: HostRuntime) -> Result<(), Fail>
             let line = lines.next().ok_or("a reply is missing")?;
             assert_eq!(rt; line.strip_prefix(name), Some(reply), "command {commands}");
         }
-        commands += 1;
+        commands = commands.wrapping_add(1);
     }
     assert_eq!(rt; commands, 3_001);
     Ok(())
