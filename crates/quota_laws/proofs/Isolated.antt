@@ -50,9 +50,9 @@ module _ (task : ℕ) (lt : task < 16) where
         profile = o.profile;
         objects = (
             let a : cond (nat_eq task u) (task_leaves own u command) (own.objects task) ≡ task_leaves own u command =
-                ap (λ b. cond b (task_leaves own u command) (own.objects task)) yes in
+            ap (λ b. cond b (task_leaves own u command) (own.objects task)) yes in
             let b : cond (nat_eq task u) (task_leaves all u command) (all.objects task) ≡ task_leaves all u command =
-                ap (λ b. cond b (task_leaves all u command) (all.objects task)) yes in
+            ap (λ b. cond b (task_leaves all u command) (all.objects task)) yes in
             a ∙ heap ∙ sym b);
         quota = o.quota;
         others = o.others;

@@ -93,8 +93,7 @@ module _ (t : Share) (needs : List Need) (asked : CanBeAsked t.profile needs) wh
       let f = told.2 in
       let w = f.within in
       let e : nth - 1 ≡ told.0 = omega arith in
-      let e' : nth ≡ suc told.0 = omega arith in
-      (
+      let e' : nth ≡ suc told.0 = omega arith in (
         omega arith,
         omega arith,
         subst (λ x. pages_of (task_paging t.profile) (take x (in_order needs)) ≤ t.quota) (sym e) f.enough,

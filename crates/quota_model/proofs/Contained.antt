@@ -42,10 +42,10 @@ contained (n ∷ xs) ys le f =
     let yes : one (nat_eq n n) ≡ 1 = (let e = eq_yes n n refl in rw e) in
     let taken = removed n ys (omega arith) in
     let rest = contained xs (remove_first n ys) (λ k. (
-      let a = le k in
-      let b = count-cons (λ m. nat_eq m k) n xs in
-      let c = taken (λ m. nat_eq m k) in
-      omega arith)) f in
+    let a = le k in
+    let b = count-cons (λ m. nat_eq m k) n xs in
+    let c = taken (λ m. nat_eq m k) in
+    omega arith)) f in
     let a = count-cons f n xs in
     let b = taken f in
     omega arith

@@ -77,11 +77,11 @@ module _ (t : Share) (needs : List Need) where
       pages_grow (task_paging t.profile) (λ c. live (task_paging t.profile) o c + one (nat_eq (class_for (task_paging t.profile) n) c))
       (count_of_class (task_paging t.profile) (in_order needs))
       (λ c. (
-        let f : ℕ → Bool = λ m. nat_eq (class_for (task_paging t.profile) m) c in
-        let a = contained (n ∷ lengths o) (in_order needs) (with_one o n bounded within) f in
-        let b = count-cons f n (lengths o) in
-        let d = count-map length f (values o) in
-        omega arith))
+      let f : ℕ → Bool = λ m. nat_eq (class_for (task_paging t.profile) m) c in
+      let a = contained (n ∷ lengths o) (in_order needs) (with_one o n bounded within) f in
+      let b = count-cons f n (lengths o) in
+      let d = count-map length f (values o) in
+      omega arith))
 
   module _ (enough : pages_of (task_paging t.profile) (in_order needs) ≤ t.quota) where
     not_short : (o : Objects) → IsBounded o → (call : Call) → IsWithin t needs o call → ¬ IsShort t o call
@@ -122,5 +122,5 @@ module _ (t : Share) (needs : List Need) where
 
     pub is_enough : IsEnough t needs
     is_enough calls w = never_short calls empty (λ n. (
-      let none : live_of empty n ≡ 0 = ap (count_by (λ v. nat_eq (length v) n)) no_values in
-      omega arith)) w
+        let none : live_of empty n ≡ 0 = ap (count_by (λ v. nat_eq (length v) n)) no_values in
+        omega arith)) w

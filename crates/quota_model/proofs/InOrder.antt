@@ -42,8 +42,7 @@ lifted p quota pre n ns k (Some nth) told =
     let i : ℕ = told.0 in
     let is = told.1 in
     let f = told.2 in
-    let w = f.within in
-    (
+    let w = f.within in (
       suc told.0,
       omega arith,
       record {
@@ -83,12 +82,12 @@ module _ (t : Share) where
       pages_same (task_paging t.profile) (λ c. live (task_paging t.profile) o c + one (nat_eq (class_for (task_paging t.profile) n) c))
       (count_of_class (task_paging t.profile) (pre ++ n ∷ []))
       (λ c. (
-        let f : ℕ → Bool = λ m. nat_eq (class_for (task_paging t.profile) m) c in
-        let before = a.counts f in
-        let j = count-append f pre (n ∷ []) in
-        let l = count-cons f n [] in
-        let z : count_by f [] ≡ 0 = refl in
-        omega arith))
+      let f : ℕ → Bool = λ m. nat_eq (class_for (task_paging t.profile) m) c in
+      let before = a.counts f in
+      let j = count-append f pre (n ∷ []) in
+      let l = count-cons f n [] in
+      let z : count_by f [] ≡ 0 = refl in
+      omega arith))
 
   refusal_is : (o : Objects) (k : ℕ) (pre : List ℕ) (n : ℕ) → Agrees o k pre → need n ≤ t.profile.page_words → k < t.profile.proxies
       → malloc_refusal t.profile t.quota o n ≡ cond (nat_lt t.quota (pages_of (task_paging t.profile) (pre ++ n ∷ []))) (Some refusal.Space) None
@@ -133,8 +132,7 @@ module _ (t : Share) where
       let none = fresh k (omega arith) in
       let some = le n in
       let here = count-cons (λ m. nat_eq m n) n ns in
-      let yes : one (nat_eq n n) ≡ 1 = (let y : nat_eq n n ≡ true = eq_yes n n refl in rw y) in
-      (
+      let yes : one (nat_eq n n) ≡ 1 = (let y : nat_eq n n ≡ true = eq_yes n n refl in rw y) in (
         (none, omega arith, omega arith),
         elim (malloc_refusal t.profile t.quota o n) as (λ (r : Option Refusal). AreWithin t needs (granted r o k n) (mallocs (k + 1) ns)) [
           | Some e ↦ are_within needs ns o (k + 1) (λ h l. fresh h (omega arith)) (omega arith)

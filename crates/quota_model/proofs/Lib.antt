@@ -4,3 +4,4 @@ pub mod Declared
 pub mod Enough
 pub mod InOrder
 pub mod AdmissionLaws
+pub mod CallerLemmas
