@@ -1,0 +1,4 @@
+pub mod Filling
+pub mod Classes
+pub mod Entries
+pub mod Counted

@@ -1,0 +1,9 @@
+//! Admission: whether a quota of pages is enough for a task, whatever the task does within the
+//! objects that it declares, told before it runs. It takes no memory and no heap.
+#![tactic(auto)]
+
+mod enough;
+mod sizes;
+
+pub use enough::admit;
+pub use quota_model::{Admission, Need};

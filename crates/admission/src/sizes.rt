@@ -1,0 +1,58 @@
+//! The slot sizes of a page in a table of fixed size, and the class of a request.
+ghost use Rattle.std.specs.Prelude.{◌≡◌, ◌≤◌, ◌<◌, IsTrue, length, take};
+ghost use Rattle.cf_base.specs.Classes.{need, sizes};
+ghost use Rattle.cf_base.specs.Limits.{is_page_size};
+ghost use Rattle.cf_base.specs.Settings.{profile_of};
+ghost use Rattle.cf_base.specs.declared.kind.Layout.TheVariants.{Words};
+ghost use Rattle.page_model.specs.Paging.{class_for, slots_of};
+ghost use Rattle.quota_model.specs.Refusals.{task_paging};
+
+use cf_base::{Settings, class_in};
+
+/// The most classes that a page may have.
+pub(crate) const CLASSES: usize = 67;
+
+/// Writes the slot sizes of pages with so many words into the table from its start on, in rising
+/// order, and returns how many they are.
+pub(crate) fn fill_sizes(page_words: u32, table: &mut [u32]) -> usize
+    requires page { IsTrue (is_page_size page_words) }
+    requires room { length table.old ≡ 67 }
+    ensures within { result ≤ 67 }
+    ensures sizes { take result table.new ≡ sizes page_words Words }
+{
+    let mut count = 0;
+    let mut size = 4;
+    'sizes: while size < page_words {
+        table[count] = size;
+        count += 1;
+        size = (9 * size).div_ceil(8);
+    }
+    table[count] = page_words;
+    count + 1
+}
+
+/// The class of an object of `bytes` bytes, which fits a page.
+pub(crate) fn class_at(s: &Settings, slot_sizes: &[u32], bytes: u32) -> usize
+    requires sized { slot_sizes.now ≡ sizes s.now.page_words Words }
+    requires fits { need bytes ≤ s.now.page_words }
+    ensures class { result ≡ class_for (task_paging (profile_of s.now)) bytes }
+    ensures within { result < length slot_sizes.now }
+    ensures few { length slot_sizes.now ≤ 67 }
+{
+    match class_in(slot_sizes, bytes) {
+        Some(class) => class,
+        // Not reached, since the object fits a page.
+        None => 0,
+    }
+}
+
+/// The slots of a class on a page.
+pub(crate) fn slots_at(s: &Settings, slot_sizes: &[u32], class: usize) -> u32
+    requires sized { slot_sizes.now ≡ sizes s.now.page_words Words }
+    requires within { class < length slot_sizes.now }
+    ensures slots { result ≡ slots_of (task_paging (profile_of s.now)) class }
+    ensures some { 1 ≤ result }
+    ensures few { result ≤ 4096 }
+{
+    s.page_words / slot_sizes[class]
+}

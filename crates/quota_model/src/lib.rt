@@ -1,0 +1,13 @@
+//! Tasks that share the pages of one region, each with a quota of its own: why a call is refused,
+//! which answer a task gets before it runs, and what stays of an arrangement of all tasks. The
+//! public functions do nothing: each one's contract is a law of these definitions.
+#![tactic(auto)]
+
+mod admitting;
+mod answers;
+
+pub use admitting::{
+    a_quota_is_enough_by_ceilings, the_first_refusal_is_the_first_sum_past_the_quota,
+    there_is_one_admission,
+};
+pub use answers::{Admission, Need, QuotaFault};
