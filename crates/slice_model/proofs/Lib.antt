@@ -1,0 +1,11 @@
+pub mod Slots
+pub mod Occupied
+pub mod Keeping
+pub mod Beside
+pub mod RoomBeside
+pub mod Standing
+pub mod SliceWords
+pub mod CallWords
+pub mod ImageBeside
+pub mod JobSlices
+pub mod OneMap

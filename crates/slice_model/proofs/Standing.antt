@@ -1,0 +1,133 @@
+-- Where the words of objects stand beside a job, and that no two stand at one address.
+use Rattle.std.proofs.Common.{◌≡◌, ◌≢◌, ℕ, zero, suc, true, false, ◌+◌, ◌-◌, ◌*◌, ◌/◌, ◌%◌, ◌<◌, ◌≤◌, List, Option, Some, None, length, get_or, replicate, take, drop, arith, sym, ◌∙◌, ap, refl, subst, inl, inr}
+use Rattle.std.specs.Prelude.{◌⊎◌, ◌&&◌, if◌then◌else◌, nat_eq, nat_le}
+use Rattle.std.proofs.lemmas.Bool.{cases_eq, cases_lt}
+use Rattle.std.specs.FinMap.{get, insert}
+use Rattle.cf_lemmas.proofs.Maps.{get_inserted, get_insert_other}
+use Rattle.cf_lemmas.proofs.Tests.{eq_yes, eq_no, le_yes, le_no, and_false}
+use Rattle.page_model.specs.Arrangement.{IsSound, class_at}
+use Rattle.page_model.specs.Held.{Held, Placed}
+use Rattle.page_model.specs.Image.{IsDisjoint, IsOutside, object_word, slot_for}
+use Rattle.page_model.specs.Paging.{Paging, class_for, slot_words}
+use Rattle.page_model.proofs.CallerLemmas.{sound_apart_from, disjoint_outside}
+use Rattle.slice_model.specs.State.{Plan, IsPlan, JobSlot, Job, Sliced, IsKept, job_slot, occupied, stand_in, with_slot, Idle, Clear, Move}
+use Rattle.slice_model.specs.Words.{HasWords, word_at}
+use Rattle.slice_model.proofs.Occupied.{beside, job_class, no_stand_in, slot_class, slot_there}
+use Rattle.slice_model.proofs.Keeping.{other_than}
+
+-- no two objects share a word, nor does one with the job's slot
+pub record AreApart (p : Paging) (m : Held) (o : Option JobSlot) : Type 0 where
+  pub objects : (h : ℕ) (x : Placed) (q : ℕ) (y : Placed) → get m h ≡ Some x → get m q ≡ Some y → q ≢ h
+      → IsDisjoint x.place (slot_for p (length x.bytes)) y.place (slot_for p (length y.bytes))
+  pub job : (k : JobSlot) (h : ℕ) (x : Placed) → o ≡ Some k → get m h ≡ Some x → IsDisjoint k.address (slot_words p k.class) x.place (slot_for p (length x.bytes))
+
+pub kept_apart : (plan : Plan) → IsPlan plan → (s : Sliced) → IsKept plan s → AreApart plan.paging s.held (job_slot s.job)
+kept_apart plan ok s kept = record {
+  objects = λ h x q y a b ne. sound_apart_from plan.paging (occupied plan s) kept.sound h x (beside plan ok s kept h x a) q y (beside plan ok s kept q y b) ne;
+  job = λ k h x e there. (
+      let ne = other_than s.held plan.proxies h x (no_stand_in plan s.held kept.numbers) there in
+      let d = sound_apart_from plan.paging (occupied plan s) kept.sound plan.proxies (stand_in plan.paging k) (slot_there plan ok s kept k e) h x
+      (beside plan ok s kept h x there) ne in
+      let class = slot_class plan ok s kept k e in
+      subst (λ c. IsDisjoint k.address (slot_words plan.paging c) x.place (slot_for plan.paging (length x.bytes))) class d);
+}
+
+-- a word of an object stands at the object's address, or in the job's slot
+pub where_word : (j : Job) (h : ℕ) (x : Placed) (i : ℕ) → (word_at j h x i ≡ x.place + i)
+    ⊎ ((k : JobSlot) × (j ≡ Move h k) × (k.done ≤ i) × (word_at j h x i ≡ k.address + i))
+where_word Idle h x i = inl refl
+where_word (Clear k) h x i = inl refl
+where_word (Move q k) h x i = elim (cases_eq q h) [
+  | inr ne ↦ inl (let f = eq_no q h ne in rw f)
+  | inl is ↦ elim (cases_lt i k.done) [
+    | inl before ↦ inl (let f = le_no k.done i before in rw (f, and_false (nat_eq q h)))
+    | inr left ↦ inr (k, ap (λ h. Move h k) is, left, (let e = eq_yes q h is in let f = le_yes k.done i left in rw (e, f)))
+  ]
+]
+
+-- where it stands is told by the job
+pub word_of_other : (q h : ℕ) (k : JobSlot) (x : Placed) (i : ℕ) → q ≢ h → word_at (Move q k) h x i ≡ x.place + i
+word_of_other q h k x i ne = (let f = eq_no q h ne in rw f)
+
+pub word_done : (h : ℕ) (k : JobSlot) (x : Placed) (i : ℕ) → i < k.done → word_at (Move h k) h x i ≡ x.place + i
+word_done h k x i lt = (let f = le_no k.done i lt in rw (f, and_false (nat_eq h h)))
+
+pub word_left : (h : ℕ) (k : JobSlot) (x : Placed) (i : ℕ) → k.done ≤ i → word_at (Move h k) h x i ≡ k.address + i
+word_left h k x i le = (let e = eq_yes h h refl in let f = le_yes k.done i le in rw (e, f))
+
+-- a number of a slot is outside a part of another
+pub outside_part : (a n b m from count i : ℕ) → IsDisjoint a n b m → from + count ≤ n → i < m → IsOutside (a + from) count (b + i)
+outside_part a n b m from count i (inl l) le lt = inr (omega arith)
+outside_part a n b m from count i (inr r) le lt = inl (omega arith)
+
+pub outside_more : (a n from count w : ℕ) → from + count ≤ n → IsOutside a n w → IsOutside (a + from) count w
+outside_more a n from count w le (inl l) = inl (omega arith)
+outside_more a n from count w le (inr r) = inr (omega arith)
+
+apart_words : (a n b m i k : ℕ) → IsDisjoint a n b m → i < n → k < m → a + i ≢ b + k
+apart_words a n b m i k (inl l) x y e = omega arith
+apart_words a n b m i k (inr r) x y e = omega arith
+
+-- no two words of objects stand at one address
+pub own_words_at : (p : Paging) (m : Held) (j : Job) → AreApart p m (job_slot j) → ((k : JobSlot) (h : ℕ) (x : Placed) → j ≡ Move h k → get m h ≡ Some x → class_at p x ≡ k.class)
+    → (h : ℕ) (x : Placed) (q : ℕ) (y : Placed) → get m h ≡ Some x → get m q ≡ Some y → (i : ℕ) → i < slot_for p (length x.bytes)
+    → (k : ℕ) → k < slot_for p (length y.bytes) → word_at j h x i ≡ word_at j q y k → (q ≡ h) × (i ≡ k)
+own_words_at p m j apart class h x q y there there' i lt k lt' same = elim (where_word j h x i) [
+  | inl at ↦ elim (where_word j q y k) [
+    | inl at' ↦ elim (cases_eq q h) [
+      | inl is ↦ (
+        is,
+        (let e : Some x ≡ Some y = sym there ∙ ap (get m) (sym is) ∙ there' in let e' : x ≡ y = cc in
+            let f : x.place ≡ y.place = ap (λ (z : Placed). z.place) e' in omega arith),
+      )
+      | inr ne ↦ absurd (apart_words x.place (slot_for p (length x.bytes)) y.place (slot_for p (length y.bytes)) i k
+          (apart.objects h x q y there there' ne) lt lt' (sym at ∙ same ∙ at'))
+    ]
+    | inr (g, is, _, at') ↦ absurd (
+        let size : slot_for p (length y.bytes) ≡ slot_words p g.class = ap (slot_words p) (class g q y is there') in
+        apart_words g.address (slot_words p g.class) x.place (slot_for p (length x.bytes)) k i
+        (apart.job g h x (ap job_slot is) there) (omega arith) lt (sym at' ∙ sym same ∙ at))
+  ]
+  | inr (g, is, _, at) ↦ (
+      let size : slot_for p (length x.bytes) ≡ slot_words p g.class = ap (slot_words p) (class g h x is there) in
+      elim (where_word j q y k) [
+        | inl at' ↦ absurd (apart_words g.address (slot_words p g.class) y.place (slot_for p (length y.bytes)) i k
+            (apart.job g q y (ap job_slot is) there') (omega arith) lt' (sym at ∙ same ∙ at'))
+        | inr (g', is', _, at') ↦ (
+            let e : Move h g ≡ Move q g' = sym is ∙ is' in
+            let a : h ≡ q = cc in
+            let b : g ≡ g' = cc in
+            let f : g.address ≡ g'.address = ap (λ (z : JobSlot). z.address) b in
+            (sym a, omega arith))
+      ])
+]
+
+-- a word of an object is no word of the job's slot that is done
+pub not_done : (p : Paging) (m : Held) (j : Job) → AreApart p m (job_slot j) → (k : JobSlot) → job_slot j ≡ Some k → k.done ≤ slot_words p k.class
+    → (h : ℕ) (x : Placed) → get m h ≡ Some x → (i : ℕ) → i < slot_for p (length x.bytes) → (d : ℕ) → d < k.done → word_at j h x i ≢ k.address + d
+not_done p m j apart k is within h x there i lt d low same = elim (where_word j h x i) [
+  | inl at ↦ apart_words k.address (slot_words p k.class) x.place (slot_for p (length x.bytes)) d i (apart.job k h x is there) (omega arith) lt
+      (sym same ∙ at)
+  | inr (g, move, le, at) ↦ (
+      let e : Some g ≡ Some k = sym (ap job_slot move) ∙ is in
+      let b : g ≡ k = cc in
+      let f : g.address ≡ k.address = ap (λ (z : JobSlot). z.address) b in
+      let f' : g.done ≡ k.done = ap (λ (z : JobSlot). z.done) b in
+      omega arith)
+]
+
+-- a word of an object isn't outside of all slots
+pub not_outside : (p : Paging) (m : Held) (j : Job) → ((k : JobSlot) (h : ℕ) (x : Placed) → j ≡ Move h k → get m h ≡ Some x → class_at p x ≡ k.class)
+    → (h : ℕ) (x : Placed) → get m h ≡ Some x → (i : ℕ) → i < slot_for p (length x.bytes) → (w : ℕ)
+    → IsOutside x.place (slot_for p (length x.bytes)) w → ((k : JobSlot) → job_slot j ≡ Some k → IsOutside k.address (slot_words p k.class) w)
+    → word_at j h x i ≢ w
+not_outside p m j class h x there i lt w out beyond same = elim (where_word j h x i) [
+  | inl at ↦ outside_not x.place (slot_for p (length x.bytes)) w i out lt (sym at ∙ same)
+  | inr (g, move, le, at) ↦ (
+      let size : slot_for p (length x.bytes) ≡ slot_words p g.class = ap (slot_words p) (class g h x move there) in
+      outside_not g.address (slot_words p g.class) w i (beyond g (ap job_slot move)) (omega arith) (sym at ∙ same))
+]
+  where
+    outside_not : (a n w i : ℕ) → IsOutside a n w → i < n → a + i ≢ w
+    outside_not a n w i (inl l) lt e = omega arith
+    outside_not a n w i (inr r) lt e = omega arith

@@ -1,0 +1,11 @@
+use Rattle.std.proofs.Common.{subst}
+use Rattle.slice_model.specs.State.{with_slot, job_slot}
+use Rattle.page_model.specs.Arrangement.{IsSound}
+use Rattle.slice_model.proofs.Beside.{stand_beside}
+use Rattle.slice_model.proofs.kept.what_the_rules_say_of_pages.Goals as goal
+
+pub returns-clause-idle : goal.returns-clause-idle
+returns-clause-idle c = λ plan s kept idle. subst (λ j. IsSound plan.paging (with_slot plan s.held (job_slot j))) idle kept.sound
+
+pub returns-clause-pending : goal.returns-clause-pending
+returns-clause-pending c = λ plan s k ok kept is. stand_beside plan ok s kept k is

@@ -1,0 +1,143 @@
+-- Runs over the calls of several tasks, on a sliced heap with its words, and on one map of objects.
+use Rattle.std.specs.Prelude.{◌≡◌, ◌≢◌, ℕ, zero, suc, ◌+◌, ◌-◌, ◌/◌, ◌%◌, ◌<◌, ◌≤◌, List, [], ◌∷◌, Option, Some, None, Result, Ok, Err, length, slice_index, take, drop, replicate, min}
+use Rattle.std.specs.FinMap.{get, insert, remove}
+use Rattle.cf_base.specs.declared.answers.AccessFault.{AccessFault}
+use Rattle.cf_base.specs.declared.answers.AccessFault.TheVariants as access
+use Rattle.cf_base.specs.declared.answers.Handle.{Handle}
+use Rattle.page_model.specs.Held.{Held, Placed, Objects, objects}
+use Rattle.page_model.specs.Paging.{slot_words}
+use Rattle.page_model.specs.Image.{Rewrites, header_word}
+use Rattle.page_model.specs.Bytes.{AreBytes, written}
+use Rattle.page_model.specs.Steps.{Request}
+use Rattle.slice_model.specs.State.{Plan, JobSlot, Job, Sliced, IsKept, job_slot}
+use Rattle.slice_model.specs.Steps.{GivesObject, IsRefusedBy, RemovesObject, IsFaultOf, IsSlice}
+use Rattle.slice_model.specs.Words.{HasWords, DoesWords, RewritesObject, byte_read}
+use Rattle.slice_model.specs.declared.answers.SliceRefusal.{SliceRefusal}
+use Rattle.slice_model.specs.declared.answers.SliceFault.{SliceFault}
+use Rattle.slice_model.specs.declared.answers.SliceFault.TheVariants as fault
+
+-- some bytes of an object: its number, and the first of them
+pub record Part : Type 0 where
+  pub number : ℕ
+  pub from : ℕ
+
+-- A call with its answer: a malloc of so many bytes, a free, a slice, a write and a read. Of a free and a write None says that it was done.
+pub data Event : Type 0 where
+  Malloc : ℕ → Result Handle SliceRefusal → Event
+  Free : ℕ → Option SliceFault → Event
+  Step : Event
+  Write : Part → List ℕ → Option AccessFault → Event
+  Read : Part → ℕ → Result (List ℕ) AccessFault → Event
+
+-- a call of a task, with its answer
+pub record Turn : Type 0 where
+  pub task : ℕ
+  pub event : Event
+
+-- a heap at work: its state, and the words of its region
+pub record Working : Type 0 where
+  pub state : Sliced
+  pub words : List ℕ
+
+-- the words of a slice of this job
+abbrev pub words_of_slice : Plan → Option JobSlot → ℕ
+words_of_slice plan None = 0
+words_of_slice plan (Some k) = min plan.quantum (slot_words plan.paging k.class - k.done)
+
+-- the object comes, and its header is written where it stands
+pub record Mallocs (plan : Plan) (old : Working) (asked : Request) (new : Working) : Type 0 where
+  pub gives : GivesObject plan old.state asked new.state
+  pub words : Rewrites old.words new.words (record { from = gives.place; count = 1 }) (λ _. header_word asked.number asked.length)
+
+-- the object goes, and the first slice of its job is done
+pub record Frees (plan : Plan) (old : Working) (h : ℕ) (new : Working) : Type 0 where
+  pub removes : RemovesObject plan old.state h new.state
+  pub words : DoesWords removes.begun.held removes.begun.job (words_of_slice plan (job_slot removes.begun.job)) old.words new.words
+
+-- a slice of the job is done
+pub record Slices (plan : Plan) (old new : Working) : Type 0 where
+  pub slice : IsSlice plan old.state new.state
+  pub words : DoesWords old.state.held old.state.job (words_of_slice plan (job_slot old.state.job)) old.words new.words
+
+-- bytes of the object are written, in the words that hold one of them, where these stand
+pub record Writes (old : Working) (part : Part) (bytes : List ℕ) (new : Working) : Type 0 where
+  pub object : Placed
+  pub found : get old.state.held part.number ≡ Some object
+  pub fits : part.from + length bytes ≤ length object.bytes
+  pub are_bytes : AreBytes bytes
+  pub state : new.state ≡ record old.state {
+    held = insert old.state.held part.number (record { place = object.place; bytes = written object.bytes part.from bytes });
+  }
+  pub words : RewritesObject old.state.job part.number object (written object.bytes part.from bytes)
+      (record { from = 1 + part.from / 8; count = (part.from % 8 + length bytes + 7) / 8 }) old.words new.words
+
+-- bytes of the object are read from the words that hold them, where these stand
+pub record Reads (old : Working) (part : Part) (count : ℕ) (out : List ℕ) : Type 0 where
+  pub object : Placed
+  pub found : get old.state.held part.number ≡ Some object
+  pub fits : part.from + count ≤ length object.bytes
+  pub size : length out ≡ count
+  pub bytes : (k : ℕ) → k < count → slice_index out k ≡ byte_read old.state.job old.words part.number object (part.from + k)
+
+-- the object isn't live, or the bytes pass its end
+abbrev pub IsOutOfReach : Objects → Part → ℕ → AccessFault → Type 0
+IsOutOfReach o part count access.Unknown = get o part.number ≡ None
+IsOutOfReach o part count access.Range = (v : List ℕ) × (get o part.number ≡ Some v) × (length v < part.from + count)
+
+-- what a call does to a heap at work
+abbrev pub Happens : Plan → Working → Event → Working → Type 0
+Happens plan old (Malloc bytes (Ok h)) new = Mallocs plan old (record { number = h.0; length = bytes }) new
+Happens plan old (Malloc bytes (Err e)) new = IsRefusedBy plan old.state bytes e × (new ≡ old)
+Happens plan old (Free h None) new = Frees plan old h new
+Happens plan old (Free h (Some e)) new = IsFaultOf old.state h e × (new ≡ old)
+Happens plan old Step new = Slices plan old new
+Happens plan old (Write part bytes None) new = Writes old part bytes new
+Happens plan old (Write part bytes (Some e)) new = IsOutOfReach (objects old.state.held) part (length bytes) e × (new ≡ old)
+Happens plan old (Read part count (Ok out)) new = Reads old part count out × (new ≡ old)
+Happens plan old (Read part count (Err e)) new = IsOutOfReach (objects old.state.held) part count e × (new ≡ old)
+
+-- the calls of all tasks, one after the other
+abbrev pub Runs : Plan → Working → List Turn → Working → Type 0
+Runs plan old [] new = new ≡ old
+Runs plan old (turn ∷ rest) new = (mid : Working) × Happens plan old turn.event mid × Runs plan mid rest new
+
+-- how many calls of a run are slices
+abbrev pub is_step : Event → ℕ
+is_step (Malloc bytes answer) = 0
+is_step (Free h answer) = 0
+is_step Step = 1
+is_step (Write part bytes answer) = 0
+is_step (Read part count answer) = 0
+
+abbrev pub steps_in : List Turn → ℕ
+steps_in [] = 0
+steps_in (turn ∷ rest) = is_step turn.event + steps_in rest
+
+-- the object is live, and stays
+abbrev pub IsLive : Objects → ℕ → Type 0
+IsLive o h = (v : List ℕ) × (get o h ≡ Some v)
+
+-- What the same call does to one map of objects, which knows of no task, no address and no job. A refused call and a slice change nothing.
+abbrev pub HappensOnMap : Objects → Event → Objects → Type 0
+HappensOnMap old (Malloc bytes (Ok h)) new = (get old h.0 ≡ None) × (new ≡ insert old h.0 (replicate bytes 0))
+HappensOnMap old (Malloc bytes (Err e)) new = new ≡ old
+HappensOnMap old (Free h None) new = IsLive old h × (new ≡ remove old h)
+HappensOnMap old (Free h (Some fault.Unknown)) new = (get old h ≡ None) × (new ≡ old)
+HappensOnMap old (Free h (Some fault.Busy)) new = IsLive old h × (new ≡ old)
+HappensOnMap old Step new = new ≡ old
+HappensOnMap old (Write part bytes None) new = (v : List ℕ) × (get old part.number ≡ Some v) × (part.from + length bytes ≤ length v)
+    × (new ≡ insert old part.number (written v part.from bytes))
+HappensOnMap old (Write part bytes (Some e)) new = IsOutOfReach old part (length bytes) e × (new ≡ old)
+HappensOnMap old (Read part count (Ok out)) new = (v : List ℕ) × (get old part.number ≡ Some v) × (part.from + count ≤ length v)
+    × (out ≡ take count (drop part.from v)) × (new ≡ old)
+HappensOnMap old (Read part count (Err e)) new = IsOutOfReach old part count e × (new ≡ old)
+
+abbrev pub RunsOnMap : Objects → List Turn → Objects → Type 0
+RunsOnMap old [] new = new ≡ old
+RunsOnMap old (turn ∷ rest) new = (mid : Objects) × HappensOnMap old turn.event mid × RunsOnMap mid rest new
+
+-- Between two calls: what every state keeps, and the words that go with it.
+pub record IsConsistent (plan : Plan) (w : Working) : Type 0 where
+  pub kept : IsKept plan w.state
+  pub words : HasWords plan.paging w.state w.words
+  pub bytes : (h : ℕ) (v : List ℕ) → get (objects w.state.held) h ≡ Some v → AreBytes v

@@ -1,0 +1,124 @@
+-- The state of a heap whose frees leave their long work in slices: its objects, and at most one pending job.
+use Rattle.std.specs.Prelude.{◌≡◌, ◌≢◌, ℕ, ◌+◌, ◌-◌, ◌*◌, ◌<◌, ◌≤◌, ◌⊎◌, ⊤, List, Option, Some, None, replicate, length}
+use Rattle.std.specs.FinMap.{get, insert, len}
+use Rattle.page_model.specs.Held.{Held, Placed}
+use Rattle.page_model.specs.Paging.{Paging, IsPaging, AreOne, classes, slot_words, slots_of, page_of, class_for}
+use Rattle.page_model.specs.Arrangement.{IsSound, IsSlotAt, class_at, objects_on, standing_on, not_full_pages}
+
+-- the pages, how many objects may live, and the words of one slice
+pub record Plan : Type 0 where
+  pub paging : Paging
+  pub proxies : ℕ
+  pub quantum : ℕ
+
+-- every class may have one partly full page, and a slice does at least one word
+pub record IsPlan (plan : Plan) : Type 0 where
+  pub paging : IsPaging plan.paging
+  pub ones : AreOne plan.paging
+  pub quantum : 1 ≤ plan.quantum
+
+-- the slot that a job holds: its address, its class, and how many words of the job are done
+pub record JobSlot : Type 0 where
+  pub address : ℕ
+  pub class : ℕ
+  pub done : ℕ
+
+-- the pending job: none, or to clear its slot, or to carry an object from its slot to the object's address
+pub data Job : Type 0 where
+  Idle : Job
+  Clear : JobSlot → Job
+  Move : ℕ → JobSlot → Job
+
+-- the objects by number, and the job
+pub record Sliced : Type 0 where
+  pub held : Held
+  pub job : Job
+
+-- the slot that the job holds, where there is a job
+abbrev pub job_slot : Job → Option JobSlot
+job_slot Idle = None
+job_slot (Clear k) = Some k
+job_slot (Move h k) = Some k
+
+-- the same job, with so many words done
+abbrev pub advanced : Job → ℕ → Job
+advanced Idle d = Idle
+advanced (Clear k) d = Clear (record k { done = d })
+advanced (Move h k) d = Move h (record k { done = d })
+
+-- the words left of a job
+abbrev pub left_of_slot : Paging → Option JobSlot → ℕ
+left_of_slot p None = 0
+left_of_slot p (Some k) = slot_words p k.class - k.done
+
+abbrev pub left_of : Plan → Sliced → ℕ
+left_of plan s = left_of_slot plan.paging (job_slot s.job)
+
+-- what stands for the job in its slot: as many zeros as fill a slot of its class
+abbrev pub stand_in : Paging → JobSlot → Placed
+stand_in p k = record { place = k.address; bytes = replicate (8 * (slot_words p k.class - 1)) 0 }
+
+-- the objects, and at the job's slot its stand-in, under the first number that no object can have
+abbrev pub with_slot : Plan → Held → Option JobSlot → Held
+with_slot plan m None = m
+with_slot plan m (Some k) = insert m plan.proxies (stand_in plan.paging k)
+
+abbrev pub occupied : Plan → Sliced → Held
+occupied plan s = with_slot plan s.held (job_slot s.job)
+
+-- the job's slot is of a class, and some of its words are left
+pub record IsUnderWay (p : Paging) (k : JobSlot) : Type 0 where
+  pub class : k.class < classes p
+  pub under_way : k.done < slot_words p k.class
+
+-- a job clears a slot, or carries a live object of the slot's class
+abbrev pub IsJobOf : Paging → Held → Job → Type 0
+IsJobOf p m Idle = ⊤
+IsJobOf p m (Clear k) = IsUnderWay p k
+IsJobOf p m (Move h k) = IsUnderWay p k × ((x : Placed) × (get m h ≡ Some x) × (class_at p x ≡ k.class))
+
+-- What every state keeps: with the job's slot as one more object the arrangement is sound.
+pub record IsKept (plan : Plan) (s : Sliced) : Type 0 where
+  pub numbers : (h : ℕ) (x : Placed) → get s.held h ≡ Some x → h < plan.proxies
+  pub job : IsJobOf plan.paging s.held s.job
+  pub sound : IsSound plan.paging (occupied plan s)
+
+-- the slot at this address isn't the job's
+abbrev pub IsUnheld : Sliced → ℕ → Type 0
+IsUnheld s a = (k : JobSlot) → job_slot s.job ≡ Some k → k.address ≢ a
+
+-- the page is the job's, and of class c
+abbrev pub IsJobPage : Paging → Sliced → ℕ → ℕ → Type 0
+IsJobPage p s c page = (k : JobSlot) × (job_slot s.job ≡ Some k) × (page_of p k.address ≡ page) × (k.class ≡ c)
+
+-- A slot of class c is usable: no object stands in it, the job doesn't hold it, and its page holds an object of the class or is the job's.
+pub record IsUsable (p : Paging) (s : Sliced) (c a : ℕ) : Type 0 where
+  pub slot : IsSlotAt p c a
+  pub empty : (q : ℕ) (y : Placed) → get s.held q ≡ Some y → y.place ≢ a
+  pub unheld : IsUnheld s a
+  pub page : (0 < objects_on p s.held c (page_of p a)) ⊎ IsJobPage p s c (page_of p a)
+
+-- a page is free: it holds no object, and no slot that a job holds
+pub record IsFreePage (p : Paging) (s : Sliced) (page : ℕ) : Type 0 where
+  pub within : page < p.pages
+  pub empty : standing_on p s.held page ≡ 0
+  pub unheld : (k : JobSlot) → job_slot s.job ≡ Some k → page_of p k.address ≢ page
+
+-- no slot of class c is usable, and no page is free
+pub record NoPlace (p : Paging) (s : Sliced) (c : ℕ) : Type 0 where
+  pub unusable : (a : ℕ) → ¬ IsUsable p s c a
+  pub taken : (page : ℕ) → ¬ IsFreePage p s page
+
+-- an object of class c goes to this address: a usable slot, or where there is none a slot of a free page
+pub record IsPlaceFor (p : Paging) (s : Sliced) (c a : ℕ) : Type 0 where
+  pub slot : IsSlotAt p c a
+  pub choice : IsUsable p s c a ⊎ (((b : ℕ) → ¬ IsUsable p s c b) × IsFreePage p s (page_of p a))
+
+-- What the objects alone are like beside a job: the slot's page is of its class, and has but one slot free where a second page is partly full.
+pub record StandBeside (p : Paging) (m : Held) (k : JobSlot) : Type 0 where
+  pub address : (h : ℕ) (x : Placed) → get m h ≡ Some x → x.place ≢ k.address
+  pub class : (h : ℕ) (x : Placed) → get m h ≡ Some x → page_of p x.place ≡ page_of p k.address → class_at p x ≡ k.class
+  pub others : (c : ℕ) → c < classes p → c ≢ k.class → not_full_pages p m c ≤ 1
+  pub two : not_full_pages p m k.class ≤ 2
+  pub second : not_full_pages p m k.class ≡ 2 → (0 < objects_on p m k.class (page_of p k.address))
+      × (objects_on p m k.class (page_of p k.address) + 1 ≡ slots_of p k.class)

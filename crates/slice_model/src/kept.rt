@@ -1,0 +1,49 @@
+//! What every state keeps, and that each step keeps it.
+ghost use Rattle.std.specs.Prelude.{ℕ, ◌≡◌, ◌≢◌, ◌<◌, ◌≤◌, List, Some, length};
+ghost use Rattle.std.specs.FinMap.{empty, get, insert};
+ghost use Rattle.page_model.specs.Arrangement.{IsSound, not_full_pages};
+ghost use Rattle.page_model.specs.Held.{Placed};
+ghost use Rattle.page_model.specs.Paging.{classes};
+ghost use Rattle.page_model.specs.Steps.{Request};
+ghost use Rattle.slice_model.specs.State.{Idle, IsKept, IsPlan, JobSlot, Plan, Sliced, StandBeside, job_slot};
+ghost use Rattle.slice_model.specs.Steps.{GivesObject, IsSlice, RemovesObject};
+
+/// Without objects and without a job the state keeps the rules.
+pub fn nothing_keeps_the_rules()
+    ensures { (plan : Plan) → IsKept plan (record { held = empty; job = Idle }) }
+{}
+
+/// A malloc keeps what every state keeps.
+pub fn a_malloc_keeps_the_rules()
+    ensures { (plan : Plan) (old : Sliced) (asked : Request) (new : Sliced) → IsPlan plan → IsKept plan old
+        → GivesObject plan old asked new → IsKept plan new }
+{}
+
+/// So does a free, with the first slice of its job.
+pub fn a_free_keeps_the_rules()
+    ensures { (plan : Plan) (old : Sliced) (h : ℕ) (new : Sliced) → IsPlan plan → IsKept plan old
+        → RemovesObject plan old h new → IsKept plan new }
+{}
+
+/// So does a slice, where it ends the job and where another job follows too.
+pub fn a_slice_keeps_the_rules()
+    ensures { (plan : Plan) (old new : Sliced) → IsPlan plan → IsKept plan old
+        → IsSlice plan old new → IsKept plan new }
+{}
+
+/// So does a write, which leaves the object's length.
+pub fn a_write_keeps_the_rules()
+    ensures { (plan : Plan) (old : Sliced) (h : ℕ) (x : Placed) (bytes : List ℕ) → IsPlan plan → IsKept plan old
+        → get old.held h ≡ Some x → length bytes ≡ length x.bytes
+        → IsKept plan (record old { held = insert old.held h (record { place = x.place; bytes = bytes }) }) }
+{}
+
+/// What the rules say of the objects alone. Without a job their arrangement is sound. With one no
+/// object stands in the job's slot, and all others on its page are of its class. Each other class
+/// has one partly full page at most. The job's has at most two, and where it has two only the job's
+/// slot is free on its page.
+pub fn what_the_rules_say_of_pages()
+    ensures idle { (plan : Plan) (s : Sliced) → IsKept plan s → s.job ≡ Idle → IsSound plan.paging s.held }
+    ensures pending { (plan : Plan) (s : Sliced) (k : JobSlot) → IsPlan plan → IsKept plan s
+        → job_slot s.job ≡ Some k → StandBeside plan.paging s.held k }
+{}

@@ -1,0 +1,30 @@
+//! A heap whose frees leave their long work in slices: its state, its steps, its words while a job
+//! is half done, and the calls of several tasks. The public functions do nothing: each one's
+//! contract is a law of these definitions.
+#![tactic(auto)]
+
+mod answers;
+mod jobs;
+mod kept;
+mod places;
+mod room;
+mod runs;
+mod words;
+
+pub use answers::{SliceFault, SliceRefusal};
+pub use jobs::{
+    a_job_advances_by_its_slices, a_job_ends_after_its_words_over_the_quantum,
+    slices_alone_end_every_job,
+};
+pub use kept::{
+    a_free_keeps_the_rules, a_malloc_keeps_the_rules, a_slice_keeps_the_rules,
+    a_write_keeps_the_rules, nothing_keeps_the_rules, what_the_rules_say_of_pages,
+};
+pub use places::places_are_those_beside_the_job;
+pub use room::{
+    a_malloc_has_one_answer, a_malloc_waits_for_a_job_alone, a_place_is_within_the_sum,
+};
+pub use runs::{an_empty_heap_is_consistent, calls_of_all_tasks_are_those_of_one_map};
+pub use words::{
+    bytes_are_read_where_they_stand, words_after_each_call, words_are_the_image_but_for_the_job,
+};

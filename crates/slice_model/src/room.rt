@@ -1,0 +1,39 @@
+//! When a malloc and a free are refused beside a pending job.
+ghost use Rattle.std.specs.Prelude.{ℕ, ◌≡◌, ◌≢◌, ◌≤◌, ◌⊎◌, Option, Some};
+ghost use Rattle.std.specs.FinMap.{get};
+ghost use Rattle.cf_base.specs.Classes.{need};
+ghost use Rattle.page_model.specs.Arrangement.{pages_needed_with};
+ghost use Rattle.page_model.specs.Held.{objects};
+ghost use Rattle.page_model.specs.Paging.{class_for};
+ghost use Rattle.page_model.specs.Steps.{Request};
+ghost use Rattle.slice_model.specs.State.{Idle, IsFreePage, IsKept, IsPlaceFor, IsPlan, IsUsable, Plan, Sliced};
+ghost use Rattle.slice_model.specs.Steps.{GivesObject, IsFaultOf, IsRefusedBy, RemovesObject, WantsSlot};
+ghost use Rattle.slice_model.specs.declared.answers.SliceFault.{SliceFault};
+ghost use Rattle.slice_model.specs.declared.answers.SliceRefusal.{SliceRefusal};
+
+/// A malloc has to wait only where a job is pending: without one, lack of a place is the sum that is
+/// over.
+pub fn a_malloc_waits_for_a_job_alone()
+    ensures { (plan : Plan) (s : Sliced) (bytes : ℕ) → IsPlan plan → IsKept plan s → WantsSlot plan s bytes → s.job ≢ Idle }
+{}
+
+/// Where a slot is usable, or a page free, the pages that are needed with the new object are within
+/// those that there are.
+pub fn a_place_is_within_the_sum()
+    ensures slot { (plan : Plan) (s : Sliced) (bytes a : ℕ) → IsPlan plan → IsKept plan s → need bytes ≤ plan.paging.page_words
+        → IsUsable plan.paging s (class_for plan.paging bytes) a
+        → pages_needed_with plan.paging (objects s.held) bytes ≤ plan.paging.pages }
+    ensures page { (plan : Plan) (s : Sliced) (bytes page : ℕ) → IsPlan plan → IsKept plan s → need bytes ≤ plan.paging.page_words
+        → IsFreePage plan.paging s page
+        → pages_needed_with plan.paging (objects s.held) bytes ≤ plan.paging.pages }
+{}
+
+/// Each malloc is done, or refused by just one cause.
+pub fn a_malloc_has_one_answer()
+    ensures some { (plan : Plan) (s : Sliced) (bytes : ℕ) → IsPlan plan → IsKept plan s
+        → ((e : SliceRefusal) × IsRefusedBy plan s bytes e)
+        ⊎ ((h : ℕ) × (new : Sliced) × GivesObject plan s (record { number = h; length = bytes }) new) }
+    ensures one { (plan : Plan) (s : Sliced) (bytes : ℕ) (a b : SliceRefusal) → IsRefusedBy plan s bytes a → IsRefusedBy plan s bytes b → a ≡ b }
+    ensures done { (plan : Plan) (s : Sliced) (asked : Request) (new : Sliced) (e : SliceRefusal) → IsPlan plan → IsKept plan s
+        → GivesObject plan s asked new → ¬ IsRefusedBy plan s asked.length e }
+{}

@@ -1,0 +1,20 @@
+//! The calls of several tasks.
+ghost use Rattle.std.specs.Prelude.{ℕ, ◌≡◌, List, replicate};
+ghost use Rattle.std.specs.FinMap.{empty};
+ghost use Rattle.page_model.specs.Held.{objects};
+ghost use Rattle.slice_model.specs.Runs.{Event, Happens, HappensOnMap, IsConsistent, Runs, RunsOnMap, Turn, Working};
+ghost use Rattle.slice_model.specs.State.{Idle, IsPlan, Plan};
+
+/// Over every list of calls of several tasks, and wherever slices of the jobs stand between them,
+/// mallocs, frees, reads and writes are those of one map of objects: so a read gives the bytes last
+/// written, also of an object in motion. The heap and its words stay consistent.
+pub fn calls_of_all_tasks_are_those_of_one_map()
+    ensures { (plan : Plan) (old : Working) (turns : List Turn) (new : Working) → IsPlan plan → IsConsistent plan old
+        → Runs plan old turns new
+        → RunsOnMap (objects old.state.held) turns (objects new.state.held) × IsConsistent plan new }
+{}
+
+/// Without objects and without a job, words of zeros are consistent.
+pub fn an_empty_heap_is_consistent()
+    ensures { (plan : Plan) (n : ℕ) → IsConsistent plan (record { state = record { held = empty; job = Idle }; words = replicate n 0 }) }
+{}

@@ -1,0 +1,58 @@
+//! The words of the region while a job is half done.
+ghost use Rattle.std.specs.Prelude.{ℕ, ◌≡◌, ◌+◌, ◌/◌, ◌%◌, ◌<◌, ◌≤◌, ◌↔◌, List, Some, length, min, slice_index};
+ghost use Rattle.std.specs.FinMap.{get, insert};
+ghost use Rattle.page_model.specs.Bytes.{AreBytes, written};
+ghost use Rattle.page_model.specs.Held.{Held, Placed};
+ghost use Rattle.page_model.specs.Image.{IsSlotImage, Rewrites, header_word, slot_for};
+ghost use Rattle.page_model.specs.Paging.{Paging};
+ghost use Rattle.page_model.specs.Steps.{Request};
+ghost use Rattle.slice_model.specs.Runs.{words_of_slice};
+ghost use Rattle.slice_model.specs.State.{Idle, IsKept, IsPlan, JobSlot, Move, Plan, Sliced, job_slot};
+ghost use Rattle.slice_model.specs.Steps.{GivesObject, IsSlice, RemovesObject};
+ghost use Rattle.slice_model.specs.Words.{DoesWords, HasWords, IsClosed, RewritesObject, byte_read};
+
+/// Without a job the words are the image of the objects. With one they are, where the job leaves no
+/// word open; and the words of an object in motion that are yet to be carried stand in the job's
+/// slot.
+pub fn words_are_the_image_but_for_the_job()
+    ensures idle { (p : Paging) (m : Held) (words : List ℕ)
+        → HasWords p (record { held = m; job = Idle }) words ↔ IsSlotImage p m words }
+    ensures closed { (plan : Plan) (s : Sliced) (words clean : List ℕ) (w : ℕ) → IsPlan plan → IsKept plan s
+        → HasWords plan.paging s words → IsSlotImage plan.paging s.held clean
+        → IsClosed plan.paging s.held s.job w → slice_index words w ≡ slice_index clean w }
+    ensures carried { (plan : Plan) (s : Sliced) (words clean : List ℕ) (h : ℕ) (k : JobSlot) (x : Placed) (i : ℕ)
+        → HasWords plan.paging s words → IsSlotImage plan.paging s.held clean
+        → s.job ≡ Move h k → get s.held h ≡ Some x → k.done ≤ i → i < slot_for plan.paging (length x.bytes)
+        → slice_index words (k.address + i) ≡ slice_index clean (x.place + i) }
+{}
+
+/// A malloc writes a header, a free and a slice do words of the job, and a write changes the words
+/// that hold one of its bytes where these stand: then the words are those of the new state.
+pub fn words_after_each_call()
+    ensures malloc { (plan : Plan) (old : Sliced) (words after : List ℕ) (asked : Request) (new : Sliced) → IsPlan plan → IsKept plan old
+        → HasWords plan.paging old words → (g : GivesObject plan old asked new)
+        → Rewrites words after (record { from = g.place; count = 1 }) (λ _. header_word asked.number asked.length)
+        → HasWords plan.paging new after }
+    ensures free { (plan : Plan) (old : Sliced) (words after : List ℕ) (h : ℕ) (new : Sliced) → IsPlan plan → IsKept plan old
+        → HasWords plan.paging old words → (r : RemovesObject plan old h new)
+        → DoesWords r.begun.held r.begun.job (words_of_slice plan (job_slot r.begun.job)) words after
+        → HasWords plan.paging new after }
+    ensures slice { (plan : Plan) (old : Sliced) (words after : List ℕ) (new : Sliced) → IsPlan plan → IsKept plan old
+        → HasWords plan.paging old words → IsSlice plan old new
+        → DoesWords old.held old.job (words_of_slice plan (job_slot old.job)) words after
+        → HasWords plan.paging new after }
+    ensures write { (plan : Plan) (old : Sliced) (words after : List ℕ) (h : ℕ) (x : Placed) (at : ℕ) (bytes : List ℕ) → IsPlan plan → IsKept plan old
+        → HasWords plan.paging old words → get old.held h ≡ Some x → at + length bytes ≤ length x.bytes
+        → RewritesObject old.job h x (written x.bytes at bytes)
+        (record { from = 1 + at / 8; count = (at % 8 + length bytes + 7) / 8 }) words after
+        → HasWords plan.paging
+        (record old { held = insert old.held h (record { place = x.place; bytes = written x.bytes at bytes }) }) after }
+{}
+
+/// A byte of an object is read from the word that holds it, where that stands: of an object in
+/// motion in the half that the job has done, or in the one that it has yet to do.
+pub fn bytes_are_read_where_they_stand()
+    ensures { (plan : Plan) (s : Sliced) (words : List ℕ) (h : ℕ) (x : Placed) (k : ℕ) → IsPlan plan → IsKept plan s
+        → HasWords plan.paging s words → get s.held h ≡ Some x → AreBytes x.bytes → k < length x.bytes
+        → byte_read s.job words h x k ≡ slice_index x.bytes k }
+{}
