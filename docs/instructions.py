@@ -2,6 +2,7 @@
 """Counts the instructions that a program takes for each command of four scripts (valgrind --tool=cachegrind).
 
   docs/instructions.py PROGRAM [WORD ..]        # for example: docs/instructions.py crates/cf_tool/out/cf_tool
+  docs/instructions.py PROGRAM bench            # a generated command, for each manager: --count 100000 less --count 0
 
 mix    mallocs, frees, writes and reads of eight bytes on 1,024 pages of 16 KiB
 hex    writes and reads of 4,096 bytes
@@ -81,6 +82,11 @@ def count(argv, lines):
 argv = sys.argv[1:]
 if not argv:
     sys.exit(__doc__)
+if argv[1:] == ['bench']:
+    for name in ('cf', 'nm', 'tlsf', 'half'):
+        most, none = (count(argv + ['--manager', name, '--count', str(n)], []) for n in (100000, 0))
+        print('%-6s %12.0f' % (name, (most - none) / 100000))
+    sys.exit()
 for name, make, n in (('mix', mix, 20000), ('hex', hexes, 400), ('churn', churn, 8000), ('tiny', tiny, 20000)):
     lines, n = make(n)
     each = (count(argv, lines) - count(argv, lines[:1])) / n

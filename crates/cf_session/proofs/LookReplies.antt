@@ -1,5 +1,5 @@
 -- What a command that only looks writes on the line.
-use Rattle.std.proofs.Common.{◌≡◌, ◌∙◌, ◌<◌, ◌/◌, ◌%◌, ◌^◌, ◌++◌, ℕ, List, ◌∷◌, Option, Some, None, option_map, length, nat_eq, false, refl, sym, ap, arith, lit<}
+use Rattle.std.proofs.Common.{◌≡◌, ◌∙◌, ◌<◌, ◌/◌, ◌%◌, ◌^◌, ◌++◌, ℕ, List, ◌∷◌, Option, Some, None, Err, option_map, length, nat_eq, false, refl, sym, ap, arith, lit<}
 use Rattle.std.specs.Prelude.{codes, slice_index}
 use Rattle.std.specs.Int.{byte_at, bytes_high_first}
 use Rattle.std.proofs.Math.Nat.{mod-lt}
@@ -7,13 +7,16 @@ use Rattle.std.proofs.lemmas.Bool.{le-leb, ne_eqb}
 use Rattle.std.specs.FinMap.{get}
 use Rattle.hex.specs.Hex.{encode_lower, encode_with, hex_digit_value, lower_digits}
 use Rattle.hex.proofs.HexLemmas.{IsDigits-lower_digits}
+use Rattle.cf_base.specs.declared.answers.AccessFault.{AccessFault}
+use Rattle.cf_base.specs.declared.answers.AccessFault.TheVariants as access
 use Rattle.cf_base.specs.declared.kind.Kind.{Kind}
 use Rattle.cf_base.specs.declared.kind.Kind.TheVariants.{Moving, NonMoving, Tlsf, HalfFit}
 use Rattle.cf_io.specs.Lines.{word_text}
 use Rattle.cf_model.specs.State.{HeapState}
-use Rattle.cf_model.specs.Steps.{Part, ReadsBytes}
+use Rattle.cf_lemmas.proofs.Tests.{le_no}
+use Rattle.cf_model.specs.Steps.{IsFault, Part, ReadsBytes}
 use Rattle.page_model.specs.Held.{Placed}
-use Rattle.run_model.specs.Replies.{place_text, read_text, steps_text}
+use Rattle.run_model.specs.Replies.{place_text, read_text, steps_text, write_text}
 use Rattle.run_model.specs.Sessions.{SessionState}
 use Rattle.run_model.specs.Texts.{with_number}
 use Rattle.cf_session.specs.Apply.{outcome_in}
@@ -31,6 +34,12 @@ written lead begun line text outcome begins is short tells = (is ∙ ap (λ (l :
 pub read_said : (s : HeapState) (part : Part) (count : ℕ) (bytes : List ℕ) → ReadsBytes s part count bytes
     → read_text (get s.held part.number) part.from count ≡ codes "=" ++ encode_lower bytes
 read_said s part count bytes r = rw (r.found, le-leb _ _ r.within) (ap (λ (b : List ℕ). codes "=" ++ encode_lower b) (sym r.value))
+
+-- and a refused read as its cause
+pub fault_said : (s : HeapState) (part : Part) (count : ℕ) (fault : AccessFault) → IsFault s part count fault
+    → write_text (Err fault) ≡ read_text (get s.held part.number) part.from count
+fault_said s part count access.Unknown none = rw none refl
+fault_said s part count access.Range past = rw (past.found, le_no _ _ past.past) refl
 
 pub place_said : (o : Option Placed) (word : ℕ) → Some word ≡ option_map (λ (x : Placed). x.place) o → with_number (codes "at ") word ≡ place_text o
 place_said None word is = absurd cc

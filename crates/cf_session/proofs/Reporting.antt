@@ -1,7 +1,10 @@
 -- What was done and told, put together.
-use Rattle.std.proofs.Common.{◌≡◌, ◌∙◌, ℕ, ◌++◌, List, [], ◌∷◌, Option, Result, Ok, Err, length, map, refl, ap}
+use Rattle.std.proofs.Common.{◌≡◌, ◌∙◌, ℕ, ◌++◌, List, [], ◌∷◌, Option, Some, None, Result, Ok, Err, length, map, refl, ap}
 use Rattle.std.proofs.Common.{ap₂, sym, subst, append_assoc}
-use Rattle.std.specs.Prelude.{IsTrue}
+use Rattle.std.specs.Prelude.{IsTrue, codes}
+use Rattle.std.specs.FinMap.{get}
+use Rattle.hex.specs.Hex.{encode_lower}
+use Rattle.cf_base.specs.declared.answers.AccessFault.{AccessFault}
 use Rattle.std.proofs.lemmas.List.{nil_from_length}
 use Rattle.cf_base.specs.declared.answers.Failed.{Failed}
 use Rattle.cf_base.specs.declared.answers.Totals.{Totals}
@@ -12,24 +15,26 @@ use Rattle.cf_io.specs.Feeds.{appended, Puts}
 use Rattle.cf_model.specs.Rules.{KeepsRules}
 use Rattle.cf_model.specs.State.{HeapState, paging_in}
 use Rattle.cf_model.specs.Answers.{totals_in}
+use Rattle.cf_model.specs.Steps.{IsFault, Part, ReadsBytes}
 use Rattle.page_model.specs.Figures.{figures_of}
 use Rattle.cf_io.proofs.CallerLemmas.{puts_line}
 use Rattle.script_reader.specs.declared.command.Command.{Command}
 use Rattle.script_reader.specs.declared.command.Command.TheVariants.{Walk, Frag}
 use Rattle.run_model.specs.Answering.{Moment}
-use Rattle.run_model.specs.Replies.{told}
+use Rattle.run_model.specs.Replies.{object_of, read_text, told, write_text}
 use Rattle.run_model.specs.Reports.{class_line, total_line, frag_of, walk_of, live_classes}
 use Rattle.run_model.specs.Runs.{Turn}
 use Rattle.run_model.specs.Sessions.{AreTied, IsGoing, RunState, SessionState}
 use Rattle.run_model.specs.Steps.{Step}
 use Rattle.run_model.specs.Texts.{Reply, led, said}
 use Rattle.run_model.proofs.CallerLemmas.{step_meets_bounds, step_going}
+use Rattle.cf_session.proofs.LookReplies.{fault_said, read_said}
 use Rattle.cf_session.specs.Apply.{Applies, outcome_in, outcome_of, run_at}
-use Rattle.cf_session.specs.OneLine.{IsEnded, Lines, SaidOn, Says, lines_at, short_text}
+use Rattle.cf_session.specs.OneLine.{HasRoom, IsEnded, IsTold, SaidOn, lines_at, short_text}
 use Rattle.cf_session.specs.declared.short.OneLine.{OneLine}
 use Rattle.cf_session.specs.declared.short.OneLine.TheVariants as reply
 use Rattle.cf_session.specs.declared.outcome.Outcome.{Outcome}
-use Rattle.cf_session.specs.declared.outcome.Outcome.TheVariants.{Other}
+use Rattle.cf_session.specs.declared.outcome.Outcome.TheVariants.{Good, Other}
 use Rattle.cf_session.specs.declared.short.Short.{Short}
 
 -- a step of a run that goes on is a turn
@@ -94,20 +99,60 @@ reported_frag old lead w y c r answer is going put told =
     let P : Command → Type 0 = λ k. Applies (at old w) (record { command = k; lead = lead }) answer (at old y) in
     subst P (sym is) (reported old old Frag lead (frag_of old.heap) w y r Other answer going (refl, refl) (frag_other old.heap) put told)
 
--- a command that was answered by a text on the line, or by a short one
-pub says_of : (old new : RunState) (asked c : Command) (text : List ℕ) (line : Lines) (reply : OneLine) → asked ≡ c → Step old c (said text) new
-    → SaidOn line text reply → Says old asked new line reply
-says_of old new asked c text line reply is step on =
-    subst (λ (k : Command). Says old k new line reply) (sym is) (record { text = text; step = step; on = on })
+-- a text that was told after a step
+pub told_step : (old new : RunState) (asked c : Command) (lead text : List ℕ) (w y : Told) (answer : Result Outcome Failed) → asked ≡ c → IsGoing old
+    → Step old c (said text) new → IsTold text lead w answer y → Applies (at old w) (record { command = asked; lead = lead }) answer (at new y)
+told_step old new asked c lead text w y answer is going step told =
+    subst (λ (k : Command). Applies (at old w) (record { command = k; lead = lead }) answer (at new y)) (sym is)
+    (reported old new c lead (said text) w y told.written (outcome_in text) answer going step refl told.puts told.ended)
 
--- a short reply that was put
-pub told_short : (old new : RunState) (c : Command) (lead line : List ℕ) (w y : Told) (short : Short) (r : Result Unit Failed) (outcome : Outcome)
-    (answer : Result Outcome Failed) → IsGoing old → Says old c new (lines_at lead line) (reply.Short short) → outcome ≡ outcome_in (short_text short)
-    → Puts w (led lead (said (short_text short))) r y → IsEnded r outcome answer
-    → Applies (at old w) (record { command = c; lead = lead }) answer (at new y)
-told_short old new c lead line w y short r outcome answer going says told put is =
-    reported old new c lead (said (short_text short)) w y r outcome answer going
-    (subst (λ (text : List ℕ). Step old c (said text) new) (sym says.on) says.step) told put is
+-- a reply that stands on the line has room for its end
+pub has_room : (lead line text : List ℕ) (o : OneLine) → SaidOn (lines_at lead line) text o → HasRoom line o
+has_room lead line text (reply.Short short) on = tt
+has_room lead line text (reply.Written outcome) on = on.1
+
+-- a short reply that was told
+pub told_short : (lead line text : List ℕ) (w y : Told) (o : OneLine) (short : Short) (answer : Result Outcome Failed) → o ≡ reply.Short short
+    → SaidOn (lines_at lead line) text o → IsTold (short_text short) lead w answer y → IsTold text lead w answer y
+told_short lead line text w y o short answer is on told =
+    let same : short_text short ≡ text = subst (λ (p : OneLine). SaidOn (lines_at lead line) text p) is on in
+    subst (λ (t : List ℕ). IsTold t lead w answer y) same told
+
+-- a line that was written after its lead, and put
+pub told_written : (lead line text : List ℕ) (w y : Told) (o : OneLine) (outcome : Outcome) (r : Result Unit Failed) (answer : Result Outcome Failed)
+    → o ≡ reply.Written outcome → SaidOn (lines_at lead line) text o → Puts w (line ++ 10 ∷ []) r y → IsEnded r outcome answer
+    → IsTold text lead w answer y
+told_written lead line text w y o outcome r answer is on put told =
+    let here : SaidOn (lines_at lead line) text (reply.Written outcome) = subst (λ (p : OneLine). SaidOn (lines_at lead line) text p) is on in
+    record {
+      written = r;
+      puts = puts_line w y lead text line r here.0 put;
+      ended = subst (λ (p : Outcome). IsEnded r p answer) here.2 told;
+    }
+
+-- the bytes that were read, spelled and put
+pub told_bytes : (s : HeapState) (part : Part) (count : ℕ) (bytes lead seen : List ℕ) (w y : Told) (r : Result Unit Failed) (answer : Result Outcome Failed)
+    → ReadsBytes s part count bytes → seen ≡ led lead (said (codes "=" ++ encode_lower bytes)) → Puts w seen r y → IsEnded r Good answer
+    → IsTold (read_text (get s.held part.number) part.from count) lead w answer y
+told_bytes s part count bytes lead seen w y r answer reads spelled put told =
+    subst (λ (t : List ℕ). IsTold t lead w answer y) (sym (read_said s part count bytes reads))
+    (record { written = r; puts = subst (λ (l : List ℕ). Puts w l r y) spelled put; ended = told })
+
+-- what was told of an object is told of its id
+pub told_named : (session : SessionState) (heap : HeapState) (id h from count len : ℕ) (lead : List ℕ) (w y : Told) (answer : Result Outcome Failed)
+    → Some h ≡ get session.ids id → IsTold (read_text (get heap.held h) from count) lead w answer y → count ≡ len
+    → IsTold (read_text (object_of (run_at session heap) id) from len) lead w answer y
+told_named session heap id h from count len lead w y answer named put same =
+    let there : IsTold (read_text (get heap.held h) from len) lead w answer y =
+    subst (λ (n : ℕ). IsTold (read_text (get heap.held h) from n) lead w answer y) same put in
+    subst (λ (o : Option ℕ). IsTold (read_text (elim o [ None ↦ None | Some q ↦ get heap.held q ]) from len) lead w answer y) named there
+
+-- a read that was refused, as its cause tells
+pub told_fault : (s : HeapState) (part : Part) (count : ℕ) (fault : AccessFault) (short : Short) (lead : List ℕ) (w y : Told)
+    (answer : Result Outcome Failed) → IsFault s part count fault → short_text short ≡ write_text (Err fault) → IsTold (short_text short) lead w answer y
+    → IsTold (read_text (get s.held part.number) part.from count) lead w answer y
+told_fault s part count fault short lead w y answer cause is told =
+    subst (λ (t : List ℕ). IsTold t lead w answer y) (is ∙ fault_said s part count fault cause) told
 
 -- the line of a short reply, where nothing leads it
 pub put_bare : (w y : Told) (lead text seen : List ℕ) (r : Result Unit Failed) → length lead ≡ 0 → seen ≡ text ++ 10 ∷ [] → Puts w seen r y
@@ -122,13 +167,6 @@ pub put_after : (w y : Told) (lead text seen before line : List ℕ) (r : Result
 put_after w y lead text seen before line r begun pushed is put =
     puts_line w y lead text (lead ++ text) r refl
     (subst (λ (s : List ℕ). Puts w s r y) (pushed ∙ ap₂ (λ (b s : List ℕ). b ++ s) begun is ∙ sym (append_assoc lead text (10 ∷ []))) put)
-
--- a line that was written after its lead, and put
-pub told_line : (old new : RunState) (c : Command) (lead line : List ℕ) (w y : Told) (r : Result Unit Failed) (outcome : Outcome)
-    (answer : Result Outcome Failed) → IsGoing old → Says old c new (lines_at lead line) (reply.Written outcome) → Puts w (line ++ 10 ∷ []) r y
-    → IsEnded r outcome answer → Applies (at old w) (record { command = c; lead = lead }) answer (at new y)
-told_line old new c lead line w y r outcome answer going says put is =
-    reported old new c lead (said says.text) w y r outcome answer going says.step says.on.2 (puts_line w y lead says.text line r says.on.0 put) is
 
 -- a run that goes on does so after an answer
 pub applied_going : (old new : RunState) (c : Command) (lead : List ℕ) (w y : Told) (answer : Result Outcome Failed) → IsGoing old

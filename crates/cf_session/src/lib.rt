@@ -8,6 +8,7 @@ mod outcome;
 mod records;
 mod session;
 mod short;
+mod telling;
 
 pub use outcome::Outcome;
 pub use session::Session;

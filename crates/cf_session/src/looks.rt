@@ -1,74 +1,116 @@
 //! The commands that only look: each writes its reply on the line, after the lead, or returns a short
-//! one.
-ghost use Rattle.std.specs.Prelude.{◌≡◌, ◌^◌, ◌<◌, ◌≤◌, ◌++◌, IsTrue, length, slice_get};
+//! one; a read puts its reply itself.
+ghost use Rattle.std.specs.Prelude.{◌≡◌, ◌^◌, ◌<◌, ◌≤◌, ◌++◌, IsTrue, OnErr, codes, length, slice_get, take};
 ghost use Rattle.std.specs.FinMap as map;
+ghost use Rattle.cf_io.specs.Feeds.{Rose};
 ghost use Rattle.cf_io.specs.Lines.{line_room};
-ghost use Rattle.cf_session.specs.OneLine.{SaidOn, lines_at};
+ghost use Rattle.hex.specs.Hex.{encode_lower};
+ghost use Rattle.cf_session.specs.OneLine.{IsTold, SaidOn, lines_at};
 ghost use Rattle.cf_session.specs.Records.{run_with, session_of};
 ghost use Rattle.run_model.specs.Replies.{block_text_at, object_of, peek_text, place_text, read_text, steps_text};
 ghost use Rattle.run_model.specs.Sessions.{AreTied};
+ghost use Rattle.run_model.specs.Texts.{led, said};
 
 use crate::changes::fault_reply;
 use crate::outcome::Outcome;
 use crate::records::Records;
 use crate::short::{OneLine, Short};
-use cf_base::{Handle, Kind};
-use cf_io::{Line, begin_line, push_field, push_text};
+use crate::telling::{ended, tell_short};
+use cf_base::{Failed, Handle, Kind};
+use cf_io::{Line, Sink, begin_line, push_field, put_all};
 use cf_model::Manager;
 use step_ledger::Steps;
 
-/// `r`: the bytes of a live id's object from `at` on, in hexadecimal.
-pub(crate) fn read<H: Manager>(
+/// `r`: tells the bytes of a live id's object from `at` on, in hexadecimal.
+pub(crate) fn read<H: Manager, K: Sink>(
     records: &Records,
     heap: &H,
     id: u16,
     at: u32,
     len: u16,
     room: &mut [u8],
+    text: &mut [u8],
     lead: &[u8],
     line: &mut Line,
+    out: &mut K,
     steps: &mut Steps,
-) -> OneLine
+) -> Result<Outcome, Failed>
     requires open { IsTrue (H.state heap.now).is_open }
     requires room { steps.old ≤ 2 ^ 63 }
     requires few { len ≤ 4096 }
     requires place { length room.old ≡ 4096 }
+    requires text { length text.old ≡ 8202 }
     requires lead { length lead.now ≤ 8 }
-    ensures { SaidOn (lines_at lead.now line.new)
-        (read_text (object_of (run_with records.now (H.state heap.now)) id) at len) result }
+    ensures told { IsTold (read_text (object_of (run_with records.now (H.state heap.now)) id) at len) lead.now
+        (K.written out.old) result (K.written out.new) }
+    ensures grows { K.faults out.old ≤ K.faults out.new }
+    ensures failed { OnErr result (Rose (K.faults out.old) (K.faults out.new)) }
 {
     let Some(h) = records.ids.handle(id) else {
-        return OneLine::Short(Short::Unknown);
+        return tell_short(Short::Unknown, lead, line, out);
     };
-    read_part(heap, h, at, &mut room[..len as usize], lead, line, steps)
+    read_part(
+        heap,
+        h,
+        at,
+        &mut room[..len as usize],
+        text,
+        lead,
+        line,
+        out,
+        steps,
+    )
 }
 
-/// The bytes of an object from `at` on, as many as there is room for.
-fn read_part<H: Manager>(
+/// Tells the bytes of an object from `at` on, as many as there is room for.
+fn read_part<H: Manager, K: Sink>(
     heap: &H,
     h: Handle,
     at: u32,
     room: &mut [u8],
+    text: &mut [u8],
     lead: &[u8],
     line: &mut Line,
+    out: &mut K,
     steps: &mut Steps,
-) -> OneLine
+) -> Result<Outcome, Failed>
     requires open { IsTrue (H.state heap.now).is_open }
     requires room { steps.old ≤ 2 ^ 63 }
     requires few { length room.old ≤ 4096 }
+    requires text { length text.old ≡ 8202 }
     requires lead { length lead.now ≤ 8 }
-    ensures { SaidOn (lines_at lead.now line.new)
-        (read_text (map.get (H.state heap.now).held h.0) at (length room.old)) result }
+    ensures told { IsTold (read_text (map.get (H.state heap.now).held h.0) at (length room.old)) lead.now
+        (K.written out.old) result (K.written out.new) }
+    ensures grows { K.faults out.old ≤ K.faults out.new }
+    ensures failed { OnErr result (Rose (K.faults out.old) (K.faults out.new)) }
 {
     match heap.read(h, at, room, steps) {
         Ok(()) => {
-            begin_line(line, lead);
-            push_text(line, b"=");
-            line.push_hex(room).unwrap();
-            OneLine::Written(Outcome::Good)
+            let n = spell_bytes(text, lead, room);
+            ended(put_all(out, &text[..n]), Outcome::Good)
         }
-        Err(fault) => OneLine::Short(fault_reply(fault)),
+        Err(fault) => tell_short(fault_reply(fault), lead, line, out),
     }
+}
+
+/// Writes the lead, `=`, the bytes in hexadecimal and a line feed at the start of the room, and returns
+/// how long they are.
+fn spell_bytes(room: &mut [u8], lead: &[u8], bytes: &[u8]) -> usize
+    requires room { length room.old ≡ 8202 }
+    requires few { length bytes.now ≤ 4096 }
+    requires lead { length lead.now ≤ 8 }
+    ensures within { result ≤ length room.new }
+    ensures text { take result room.new ≡ led lead.now (said (codes "=" ++ encode_lower bytes.now)) }
+{
+    let count = 2 * bytes.len();
+    let (head, rest) = room.split_at_mut(lead.len());
+    head.copy_from_slice(lead);
+    let (mark, rest) = rest.split_at_mut(1);
+    mark[0] = b'=';
+    let (digits, rest) = rest.split_at_mut(count);
+    hex::encode_to_slice(bytes, digits).unwrap();
+    rest[0] = b'\n';
+    lead.len() + count + 2
 }
 
 /// `q`: the first word of a live id's slot or block.
@@ -153,7 +195,24 @@ pub(crate) fn peek<H: Manager>(
 }
 
 /// `steps`: the cost of the last call; with pages also its bound, and what moved.
-pub(crate) fn tell_steps<H: Manager>(records: &Records, heap: &H, line: &mut Line)
+pub(crate) fn tell_steps<H: Manager>(
+    records: &Records,
+    heap: &H,
+    lead: &[u8],
+    line: &mut Line,
+) -> OneLine
+    requires open { IsTrue (H.state heap.now).is_open }
+    requires lead { length lead.now ≤ 8 }
+    ensures { SaidOn (lines_at lead.now line.new)
+        (steps_text (H.state heap.now).kind (session_of records.now) (H.state heap.now).cost) result }
+{
+    begin_line(line, lead);
+    push_steps(records, heap, line);
+    OneLine::Written(Outcome::Other)
+}
+
+/// Appends what `steps` tells.
+fn push_steps<H: Manager>(records: &Records, heap: &H, line: &mut Line)
     requires open { IsTrue (H.state heap.now).is_open }
     requires begun { length line.old ≤ 8 }
     ensures text { line.new

@@ -25,6 +25,9 @@ use step_ledger::Meter;
 /// The most bytes that are read at once.
 const MOST: usize = 4_096;
 
+/// The most bytes that tell what was read: a lead, `=`, two digits for each byte, and a line feed.
+const MOST_TEXT: usize = 8_202;
+
 /// The ids of one manager's objects, and what is told of its calls.
 #[derive(Drop)]
 pub struct Session {
@@ -33,6 +36,8 @@ pub struct Session {
     line: Line,
     /// Room for the bytes that are read.
     room: [u8; MOST],
+    /// Room for what tells them.
+    text: [u8; MOST_TEXT],
 }
 
 impl Model for Session {
@@ -56,6 +61,7 @@ impl Session {
             records: Records::new(alloc)?,
             line: Line::new(),
             room: [0; MOST],
+            text: [0; MOST_TEXT],
         })
     }
 
@@ -115,6 +121,7 @@ impl Session {
             c,
             lead,
             &mut self.room,
+            &mut self.text,
             &mut self.line,
             out,
             self.meter.steps(),

@@ -1,7 +1,61 @@
-use Rattle.std.proofs.Common.{ap}
+use Rattle.std.proofs.Common.{ap, refl}
 use Rattle.script_reader.specs.Owned.{owned_command}
-use Rattle.cf_session.proofs.Reporting.{reported_walk, reported_frag, told_line, told_short}
+use Rattle.script_reader.specs.declared.command.Command.TheVariants.{Malloc, Free, Write, Read, Resize, Bound, Place, Block, Peek, Steps}
+use Rattle.cf_session.proofs.Lacking.{lacking}
+use Rattle.cf_session.proofs.Reporting.{has_room, reported_walk, reported_frag, told_step}
 use Rattle.cf_session.proofs.dispatch.answer.Goals as goal
+
+pub returns-in-Malloc-clause-answers : goal.returns-in-Malloc-clause-answers
+returns-in-Malloc-clause-answers g c = told_step _ _ _ (Malloc _ _) c.args.lead.now _ _ _ _ (ap owned_command c.in-Malloc.is) c.requires.going c.malloc.ensures.step
+    c.tell_short.ensures.told
+
+pub returns-in-Free-clause-answers : goal.returns-in-Free-clause-answers
+returns-in-Free-clause-answers g c = told_step _ _ _ (Free _) c.args.lead.now _ _ _ _ (ap owned_command c.in-Free.is) c.requires.going c.free.ensures.step
+    c.tell_short-in-Free.ensures.told
+
+pub returns-in-Write-clause-answers : goal.returns-in-Write-clause-answers
+returns-in-Write-clause-answers g c = told_step _ _ _ (Write _ _ _) c.args.lead.now _ _ _ _ (ap owned_command c.in-Write.is) c.requires.going c.write.ensures.step
+    c.tell_short-in-Write.ensures.told
+
+pub returns-in-Resize-clause-answers : goal.returns-in-Resize-clause-answers
+returns-in-Resize-clause-answers g c = told_step _ _ _ (Resize _ _) c.args.lead.now _ _ _ _ (ap owned_command c.in-Resize.is) c.requires.going c.resize.ensures.step
+    c.tell_short-in-Resize.ensures.told
+
+pub returns-in-Bound-clause-answers : goal.returns-in-Bound-clause-answers
+returns-in-Bound-clause-answers g c = told_step _ _ _ (Bound _ _) c.args.lead.now _ _ _ _ (ap owned_command c.in-Bound.is) c.requires.going c.set_bound.ensures.step
+    c.tell_short-in-Bound.ensures.told
+
+pub tell-requires-clause-room : goal.tell-requires-clause-room
+tell-requires-clause-room g c = has_room c.args.lead.now _ _ _ c.place.ensures
+
+pub returns-in-Place-clause-answers : goal.returns-in-Place-clause-answers
+returns-in-Place-clause-answers g c = told_step _ _ _ (Place _) c.args.lead.now _ _ _ _ (ap owned_command c.in-Place.is) c.requires.going (refl, refl)
+    (c.tell.ensures.told _ c.place.ensures)
+
+pub tell-requires-in-Block-clause-room : goal.tell-requires-in-Block-clause-room
+tell-requires-in-Block-clause-room g c = has_room c.args.lead.now _ _ _ c.block.ensures
+
+pub returns-in-Block-clause-answers : goal.returns-in-Block-clause-answers
+returns-in-Block-clause-answers g c = told_step _ _ _ (Block _ _) c.args.lead.now _ _ _ _ (ap owned_command c.in-Block.is) c.requires.going (refl, refl)
+    (c.tell-in-Block.ensures.told _ c.block.ensures)
+
+pub tell-requires-in-Peek-clause-room : goal.tell-requires-in-Peek-clause-room
+tell-requires-in-Peek-clause-room g c = has_room c.args.lead.now _ _ _ c.peek.ensures
+
+pub returns-in-Peek-clause-answers : goal.returns-in-Peek-clause-answers
+returns-in-Peek-clause-answers g c = told_step _ _ _ (Peek _) c.args.lead.now _ _ _ _ (ap owned_command c.in-Peek.is) c.requires.going (refl, refl)
+    (c.tell-in-Peek.ensures.told _ c.peek.ensures)
+
+pub tell-requires-in-Steps-clause-room : goal.tell-requires-in-Steps-clause-room
+tell-requires-in-Steps-clause-room g c = has_room c.args.lead.now _ _ _ c.tell_steps.ensures
+
+pub returns-in-Steps-clause-answers : goal.returns-in-Steps-clause-answers
+returns-in-Steps-clause-answers g c = told_step _ _ _ Steps c.args.lead.now _ _ _ _ (ap owned_command c.in-Steps.is) c.requires.going (refl, refl)
+    (c.tell-in-Steps.ensures.told _ c.tell_steps.ensures)
+
+pub returns-in-Read-clause-answers : goal.returns-in-Read-clause-answers
+returns-in-Read-clause-answers g c = told_step _ _ _ (Read _ _ _) c.args.lead.now _ _ _ _ (ap owned_command c.in-Read.is) c.requires.going (refl, refl)
+    c.read.ensures.told
 
 pub returns-in-Walk-clause-answers : goal.returns-in-Walk-clause-answers
 returns-in-Walk-clause-answers g c = reported_walk _ c.args.lead.now _ _ _ c.walk_lines.result c.ended.result (ap owned_command c.in-Walk.is)
@@ -11,13 +65,9 @@ pub returns-in-Frag-clause-answers : goal.returns-in-Frag-clause-answers
 returns-in-Frag-clause-answers g c = reported_frag _ c.args.lead.now _ _ _ c.frag_line.result c.ended-in-Frag.result (ap owned_command c.in-Frag.is)
     c.requires.going c.frag_line.ensures.puts c.ended-in-Frag.ensures
 
-pub returns-in-Short-clause-answers : goal.returns-in-Short-clause-answers
-returns-in-Short-clause-answers g c = told_short _ _ (owned_command c.args.c) c.args.lead.now _ _ _ c.in-Short.short c.put_short.result _ c.ended-in-Short.result
-    c.requires.going c.in-Short.ensures c.outcome.ensures c.put_short.ensures.puts c.ended-in-Short.ensures
-
-pub put_line-requires : goal.put_line-requires
-put_line-requires g c = c.in-Written.ensures.on.1
-
-pub returns-in-Written-clause-answers : goal.returns-in-Written-clause-answers
-returns-in-Written-clause-answers g c = told_line _ _ (owned_command c.args.c) c.args.lead.now _ _ _ c.put_line.result c.in-Written.outcome
-    c.ended-in-Written.result c.requires.going c.in-Written.ensures c.put_line.ensures.puts c.ended-in-Written.ensures
+pub returns-in_default-clause-answers : goal.returns-in_default-clause-answers
+returns-in_default-clause-answers g c =
+    let d = c.in_default in
+    told_step _ _ _ (owned_command c.args.c) c.args.lead.now _ _ _ _ refl c.requires.going
+    (lacking _ c.args.c d.not-Malloc d.not-Free d.not-Write d.not-Read d.not-Place d.not-Block d.not-Peek d.not-Walk d.not-Frag d.not-Steps d.not-Bound
+    d.not-Resize) c.tell_short-in_default.ensures.told

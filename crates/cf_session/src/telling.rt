@@ -1,0 +1,80 @@
+//! A reply of one line is put, and its outcome told.
+ghost use Rattle.std.specs.Prelude.{◌≤◌, List, ℕ, OnErr, length};
+ghost use Rattle.cf_io.specs.Feeds.{Puts, Rose};
+ghost use Rattle.cf_session.specs.OneLine.{HasRoom, IsEnded, IsTold, SaidOn, lines_at, short_text};
+ghost use Rattle.run_model.specs.Texts.{led, said};
+
+use crate::outcome::Outcome;
+use crate::short::{OneLine, Short};
+use cf_base::Failed;
+use cf_io::{Line, Sink, begin_line, push_text, put_all, put_line};
+
+/// The outcome of what was written.
+pub(crate) fn ended(written: Result<(), Failed>, outcome: Outcome) -> Result<Outcome, Failed>
+    ensures { IsEnded written outcome result }
+{
+    match written {
+        Ok(()) => Ok(outcome),
+        Err(failed) => Err(failed),
+    }
+}
+
+/// Puts a reply of one line: a short one, or what stands on the line after the lead.
+pub(crate) fn tell<K: Sink>(
+    reply: OneLine,
+    lead: &[u8],
+    line: &mut Line,
+    out: &mut K,
+) -> Result<Outcome, Failed>
+    requires lead { length lead.now ≤ 8 }
+    requires room { HasRoom line.old reply }
+    ensures told { (text : List ℕ) → SaidOn (lines_at lead.now line.old) text reply
+        → IsTold text lead.now (K.written out.old) result (K.written out.new) }
+    ensures grows { K.faults out.old ≤ K.faults out.new }
+    ensures failed { OnErr result (Rose (K.faults out.old) (K.faults out.new)) }
+{
+    match reply {
+        OneLine::Short(short) => tell_short(short, lead, line, out),
+        OneLine::Written(outcome) => ended(put_line(line, out), outcome),
+    }
+}
+
+/// Puts a short reply after the lead.
+pub(crate) fn tell_short<K: Sink>(
+    short: Short,
+    lead: &[u8],
+    line: &mut Line,
+    out: &mut K,
+) -> Result<Outcome, Failed>
+    requires { length lead.now ≤ 8 }
+    ensures told { IsTold (short_text short) lead.now (K.written out.old) result (K.written out.new) }
+    ensures grows { K.faults out.old ≤ K.faults out.new }
+    ensures failed { OnErr result (Rose (K.faults out.old) (K.faults out.new)) }
+{
+    ended(put_short(short, lead, line, out), short.outcome())
+}
+
+/// Puts a short reply after the lead: straight from where it stands, if there is no lead.
+fn put_short<K: Sink>(short: Short, lead: &[u8], line: &mut Line, out: &mut K) -> Result<(), Failed>
+    requires { length lead.now ≤ 8 }
+    ensures puts { Puts (K.written out.old) (led lead.now (said (short_text short))) result (K.written out.new) }
+    ensures grows { K.faults out.old ≤ K.faults out.new }
+    ensures failed { OnErr result (Rose (K.faults out.old) (K.faults out.new)) }
+{
+    if lead.len() > 0 {
+        return put_led(short, lead, line, out);
+    }
+    put_all(out, short.text_line())
+}
+
+/// Puts a short reply after the lead in one chunk.
+fn put_led<K: Sink>(short: Short, lead: &[u8], line: &mut Line, out: &mut K) -> Result<(), Failed>
+    requires { length lead.now ≤ 8 }
+    ensures puts { Puts (K.written out.old) (led lead.now (said (short_text short))) result (K.written out.new) }
+    ensures grows { K.faults out.old ≤ K.faults out.new }
+    ensures failed { OnErr result (Rose (K.faults out.old) (K.faults out.new)) }
+{
+    begin_line(line, lead);
+    push_text(line, short.text_line());
+    put_all(out, line.bytes())
+}
