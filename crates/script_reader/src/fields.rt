@@ -1,4 +1,5 @@
-//! The fields of a line: numbers in their ranges, and bytes in hexadecimal.
+//! The fields of a line: numbers in their ranges, and bytes in hexadecimal. What the usual commands need is
+//! inlined into the one function that reads a line, where numbers then stay in registers.
 ghost use Rattle.std.specs.Prelude.{◌≡◌, ◌≤◌, IfSome, Some, option_map};
 ghost use Rattle.cf_io.specs.Numbers.{number_in};
 ghost use Rattle.script_reader.specs.Commands as grammar;
