@@ -6,20 +6,22 @@ const LARGEST: u64 = 4_294_967_295;
 
 /// The number that the digits at the start of a text spell, leading zeros accepted, and how many
 /// digits they are. None where there are none, or their value passes `2^32 - 1`.
+#[inline(always)]
 pub fn leading_number(text: &[u8]) -> Option<(u32, usize)>
     ensures value { result ≡ digits_before text.now }
     ensures within { IfSome result (λ p. p.1 ≤ length text.now) }
 {
     let mut value = 0u64;
     let mut at = 0;
+    // A value past the largest stays just past it, so that the loop is left only where the digits end.
     'digits: while at < text.len() && text[at].is_ascii_digit() {
-        value = 10 * value + (text[at] - b'0') as u64;
+        value = (10 * value + (text[at] - b'0') as u64).min(LARGEST + 1);
         at += 1;
-        if value > LARGEST {
-            return None;
-        }
     }
     if at == 0 {
+        return None;
+    }
+    if value > LARGEST {
         return None;
     }
     Some((value as u32, at))

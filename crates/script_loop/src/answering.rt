@@ -53,7 +53,9 @@ pub fn answer_kept<H, A: Player<H>, K: Sink>(
     ensures failed { result ≡ Ready.Cut → Rose (K.faults sink.old) (K.faults sink.new) }
 {
     'replies: loop {
-        match reader.next_ref(room) {
+        let mut next = NextRef::NeedMore;
+        reader.read_next(room, &mut next);
+        match next {
             NextRef::Start(settings) => match player.open(heap, &settings, sink) {
                 Ok(()) => {}
                 Err(OpenFault::Failed) => return Ready::Cut,

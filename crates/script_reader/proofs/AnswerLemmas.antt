@@ -5,19 +5,17 @@ use Rattle.std.proofs.lemmas.Bool.{false≢true, ltb-false}
 use Rattle.std.proofs.lemmas.List.{drop_all}
 use Rattle.std.specs.Prelude.{IfSome}
 use Rattle.cf_base.specs.Settings.{profile_of}
-use Rattle.script_reader.specs.Found.{Finds, IsFoundInRange, next_found, saying_found, stage_said}
+use Rattle.script_reader.specs.Answered.{IsInRange, IsNextLine, item_answered, line_passed, saying_if, says_nothing, stage_said}
 use Rattle.script_reader.specs.Items.{Item, Saying, asks, bad, breaks, gives_or_breaks, is_bound, item, item_or_wrong, line_says, nothing}
 use Rattle.script_reader.specs.Items.{stage_after, stage_after_command, stage_opened, starts, verdict, wrong}
 use Rattle.script_reader.specs.Lines.{is_last_line, lines}
-use Rattle.script_reader.specs.ParsedLine.{IsInRange, item_answered}
 use Rattle.script_reader.specs.Reading.{Answers, AnswersBad, HasEnded, HasNoLine, IsFirstLine, NeedsMore, PassesOver, Reading, Reads, StopsAt, holds_line_feed}
 use Rattle.script_reader.specs.Reading.{items_left}
-use Rattle.script_reader.specs.declared.found.Found.{Found}
 use Rattle.script_reader.specs.declared.next.Next.{Next}
 use Rattle.script_reader.specs.declared.next.Next.TheVariants.{Start, Command, NeedMore, Bad, End}
 use Rattle.script_reader.specs.declared.stage.Stage.{Stage}
 use Rattle.script_reader.specs.declared.stage.Stage.TheVariants.{Opening, Bounding, Running}
-use Rattle.script_reader.proofs.ItemLemmas.{after_line, first_verdict, line_in_place, line_out_of_place, line_passed, lines_alone, lines_closed, no_items}
+use Rattle.script_reader.proofs.ItemLemmas.{after_line, first_verdict, line_in_place, line_out_of_place, line_passes, lines_alone, lines_closed, no_items}
 
 -- ---- readings that follow one another
 
@@ -127,36 +125,46 @@ opens_first Opening new leads = (refl, cc)
 opens_first Bounding new leads = absurd cc
 opens_first Running new leads = absurd cc
 
-module _ (old : Reading) (kept : List ℕ) (len at : ℕ) (bytes : List ℕ) (found : Option Found) (going : old.stopped ≡ None) (same : kept ≡ old.kept)
-    (line : IsFirstLine kept old.ended len at) (says : saying_found bytes found ≡ line_says (take len kept)) where
-  first : IsFirstLine old.kept old.ended len at
-  first = subst (λ (k : List ℕ). IsFirstLine k old.ended len at) same line
+-- a blank line or a comment is passed
+pub passes_line : (old : Reading) (len at : ℕ) → old.stopped ≡ None → IsFirstLine old.kept old.ended len at
+    → says_nothing (line_says (take len old.kept)) ≡ true → PassesOver old (line_passed old at)
+passes_line old len at going first silent = record {
+  reads = one_line old len at going first old.stage old.stopped [] (line_is_passed (line_says (take len old.kept)) refl silent);
+  still = going;
+  same_stage = refl;
+}
+  where
+    line_is_passed : (s : Saying) → line_says (take len old.kept) ≡ s → says_nothing s ≡ true
+        → (more : List ℕ) (e : Bool) → items_left old more e ≡ items_left (after_line old at old.stage) more e
+    line_is_passed nothing is silent = line_passes old len at going first (ap (verdict old.stage) is)
+    line_is_passed wrong is silent = absurd cc
+    line_is_passed (item i) is silent = absurd cc
 
-  line_is : line_says (take len old.kept) ≡ saying_found bytes found
-  line_is = subst (λ (k : List ℕ). line_says (take len k) ≡ saying_found bytes found) same (sym says)
-
-  -- a line that is in its place is passed, or answered
-  pub step_in_place : (stage : Stage) → IfSome found (IsFoundInRange bytes) → Some stage ≡ stage_said old.stage (saying_found bytes found)
-      → Finds old (option_map (λ f. next_found bytes f) found) (after_line old at stage)
-  step_in_place stage fits place = go found fits line_is place
+-- the next line, which is in the grammar and gives this answer, or isn't
+module _ (old : Reading) (len at : ℕ) (formed : Bool) (n : Next) (going : old.stopped ≡ None) (line : IsNextLine old len at)
+    (says : saying_if formed n ≡ line_says (take len old.kept)) where
+  -- a line that is in its place is answered
+  pub step_in_place : (stage : Stage) → (formed ≡ true → IsInRange n) → Some stage ≡ stage_said old.stage (saying_if formed n)
+      → Answers old n (after_line old at stage)
+  step_in_place stage fits place = go formed fits (sym says) place
     where
       one_item : (i : Item) → line_says (take len old.kept) ≡ item i → Some stage ≡ stage_after old.stage i → Reads old (i ∷ []) (after_line old at stage)
-      one_item i is place = one_line old len at going first stage old.stopped (i ∷ [])
-          (line_in_place old len at going first i stage (ap (verdict old.stage) is ∙ ap (gives_or_breaks i) (sym place)))
+      one_item i is place = one_line old len at going line.first stage old.stopped (i ∷ [])
+          (line_in_place old len at going line.first i stage (ap (verdict old.stage) is ∙ ap (gives_or_breaks i) (sym place)))
 
-      answered : (n : Next) → IsInRange n → line_says (take len old.kept) ≡ item_or_wrong (item_answered n)
-          → Some stage ≡ stage_said old.stage (item_or_wrong (item_answered n)) → Answers old n (after_line old at stage)
+      answered : (m : Next) → IsInRange m → line_says (take len old.kept) ≡ item_or_wrong (item_answered m)
+          → Some stage ≡ stage_said old.stage (item_or_wrong (item_answered m)) → Answers old m (after_line old at stage)
       answered (Start settings) fits is place = let at_stage = opens_first old.stage stage place in record {
         reads = one_item (starts (profile_of settings)) is place;
         still = going;
-        shorter = fewer old len at going first;
+        shorter = fewer old len at going line.first;
         opening = at_stage.0;
         bounding = at_stage.1;
       }
       answered (Command command) fits is place = record {
         reads = one_item (asks command) is place;
         still = going;
-        shorter = fewer old len at going first;
+        shorter = fewer old len at going line.first;
         formed = fits;
         leads = sym place;
       }
@@ -164,30 +172,20 @@ module _ (old : Reading) (kept : List ℕ) (len at : ℕ) (bytes : List ℕ) (fo
       answered (Bad line) fits is place = absurd cc
       answered End fits is place = absurd cc
 
-      idle : line_says (take len old.kept) ≡ nothing → PassesOver old (after_line old at old.stage) × (length (drop at old.kept) < length old.kept)
-      idle is = (
-        record {
-          reads = one_line old len at going first old.stage old.stopped [] (line_passed old len at going first (ap (verdict old.stage) is));
-          still = going;
-          same_stage = refl;
-        },
-        fewer old len at going first,
-      )
-
-      go : (f : Option Found) → IfSome f (IsFoundInRange bytes) → line_says (take len old.kept) ≡ saying_found bytes f
-          → Some stage ≡ stage_said old.stage (saying_found bytes f) → Finds old (option_map (λ f. next_found bytes f) f) (after_line old at stage)
-      go None fits is place = let same_stage : stage ≡ old.stage = cc in rw same_stage (idle is)
-      go (Some f) fits is place = answered (next_found bytes f) fits is place
+      go : (b : Bool) → (b ≡ true → IsInRange n) → line_says (take len old.kept) ≡ saying_if b n
+          → Some stage ≡ stage_said old.stage (saying_if b n) → Answers old n (after_line old at stage)
+      go false fits is place = absurd cc
+      go true fits is place = answered n (fits refl) is place
 
   -- the answer to a line that isn't
-  pub step_out_of_place : None ≡ stage_said old.stage (saying_found bytes found)
-      → AnswersBad old old.stopped (old.passed + 1) (record (after_line old at old.stage) { stopped = Some (old.passed + 1) })
+  pub step_out_of_place : None ≡ stage_said old.stage (saying_if formed n)
+      → AnswersBad old old.stopped (old.passed + 1) (record (line_passed old at) { stopped = Some (old.passed + 1) })
   step_out_of_place place =
       let number = old.passed + 1 in
-      let new : Reading = record (after_line old at old.stage) { stopped = Some number } in
-      let broken = go (saying_found bytes found) line_is place in
+      let new : Reading = record (line_passed old at) { stopped = Some number } in
+      let broken = go (saying_if formed n) (sym says) place in
       let stops : StopsAt old number new = record {
-        reads = one_line old len at going first old.stage (Some number) (bad number ∷ []) (line_out_of_place old len at going first broken);
+        reads = one_line old len at going line.first old.stage (Some number) (bad number ∷ []) (line_out_of_place old len at going line.first broken);
         stopped = refl;
         number = refl;
         same_stage = refl;

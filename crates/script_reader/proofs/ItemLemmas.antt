@@ -116,8 +116,8 @@ first_verdict old len = verdict old.stage (line_says (take len old.kept))
 
 -- the items from the first line on, by its verdict
 module _ (old : Reading) (len at : ℕ) (going : old.stopped ≡ None) (first : IsFirstLine old.kept old.ended len at) where
-  pub line_passed : first_verdict old len ≡ passes → (more : List ℕ) (e : Bool) → items_left old more e ≡ items_left (after_line old at old.stage) more e
-  line_passed is more e = let items = first_items old.kept old.ended len at first more e old.passed old.stage in rw going (items ∙ rw is refl)
+  pub line_passes : first_verdict old len ≡ passes → (more : List ℕ) (e : Bool) → items_left old more e ≡ items_left (after_line old at old.stage) more e
+  line_passes is more e = let items = first_items old.kept old.ended len at first more e old.passed old.stage in rw going (items ∙ rw is refl)
 
   pub line_in_place : (item : Item) (next : Stage) → first_verdict old len ≡ gives item next → (more : List ℕ) (e : Bool)
       → items_left old more e ≡ item ∷ items_left (after_line old at next) more e

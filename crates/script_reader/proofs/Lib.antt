@@ -7,4 +7,5 @@ pub mod FirstNumber
 pub mod ItemLemmas
 pub mod Prefix
 pub mod Searches
+pub mod SilentLines
 pub mod Words

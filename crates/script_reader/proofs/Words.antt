@@ -5,7 +5,7 @@ use Rattle.std.proofs.lemmas.List.Sums.{prefix_len-le-length}
 use Rattle.std.proofs.lemmas.List.{take_rest, nil_from_length}
 use Rattle.std.specs.Prelude.{position, unwrap_or, nat_lt, Some, None}
 use Rattle.std.proofs.lemmas.Bool.{ltb-false}
-use Rattle.script_reader.specs.Lines.{is_gap, onto_first, tokens}
+use Rattle.script_reader.specs.Lines.{is_gap, is_parted, onto_first, tokens}
 
 -- how many gaps come first
 abbrev pub gaps_in : List ℕ → ℕ
@@ -97,3 +97,18 @@ pub token_has_byte : (t s : List ℕ) (g m : ℕ) → s ≡ take (length t - g) 
     → 0 < length s → 1 ≤ length (take m s)
 token_has_byte t s g m is count size some =
     rw size (some_byte s (ap gaps_in (after_gaps t s g is count) ∙ no_gap_left t) some)
+
+-- a token of one byte
+pub single : (s : List ℕ) → gaps_in s ≡ 0 → 0 < length s → is_parted (drop 1 s) ≡ true → tokens s ≡ take 1 s ∷ tokens (drop 1 s)
+single [] none some parted = absurd (omega arith)
+single (x ∷ r) none some parted = go (is_gap x) refl none
+  where
+    go : (b : Bool) → is_gap x ≡ b → cond (not (not b)) (1 + gaps_in r) 0 ≡ 0 → tokens (x ∷ r) ≡ (x ∷ []) ∷ tokens r
+    go true is none = absurd (omega arith)
+    go false isnt none = rw (isnt, parted) refl
+
+pub single_in_text : (t s : List ℕ) (g : ℕ) → s ≡ take (length t - g) (drop g t) → g ≡ gaps_in t → 0 < length s → is_parted (drop 1 s) ≡ true
+    → tokens t ≡ take 1 s ∷ tokens (drop 1 s)
+single_in_text t s g is count some parted =
+    let behind = after_gaps t s g is count in
+    sym (past_gaps t) ∙ ap tokens (sym behind) ∙ single s (ap gaps_in behind ∙ no_gap_left t) some parted

@@ -5,6 +5,5 @@ pub mod Lines
 pub mod ReaderCalls
 pub mod Owned
 pub mod Fields
-pub mod ParsedLine
-pub mod Found
+pub mod Answered
 pub mod Layout

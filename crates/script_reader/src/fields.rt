@@ -1,4 +1,5 @@
-//! The fields of a line: numbers in their ranges, and bytes in hexadecimal.
+//! The fields of a line: numbers in their ranges, and bytes in hexadecimal. What the usual commands need is
+//! inlined into the one function that reads a line, where numbers then stay in registers.
 ghost use Rattle.std.specs.Prelude.{◌≡◌, ◌≤◌, IfSome, Some, option_map};
 ghost use Rattle.cf_io.specs.Numbers.{number_in};
 ghost use Rattle.script_reader.specs.Commands as grammar;
@@ -8,6 +9,7 @@ ghost use Rattle.script_reader.specs.Lines.{tokens};
 use crate::tokens::{is_done, split_token, take_number};
 
 /// The first token as a number from `low` to `high`, and what follows it.
+#[inline(always)]
 fn take_from(low: u32, high: u32, text: &[u8]) -> Option<(u32, &[u8])>
     ensures value { option_map (λ p. (p.0, tokens p.1.now)) result
         ≡ first_by (grammar.number_from low high) (tokens text.now) }
@@ -22,6 +24,7 @@ fn take_from(low: u32, high: u32, text: &[u8]) -> Option<(u32, &[u8])>
 }
 
 /// The first token as an id, and what follows it.
+#[inline(always)]
 fn take_id(text: &[u8]) -> Option<(u16, &[u8])>
     ensures { option_map (λ p. (p.0, tokens p.1.now)) result ≡ first_by grammar.id_in (tokens text.now) }
 {
@@ -38,6 +41,7 @@ fn take_task(text: &[u8]) -> Option<(u32, &[u8])>
 }
 
 /// A number from `low` to `high` alone.
+#[inline(always)]
 fn one_from(low: u32, high: u32, args: &[u8]) -> Option<u32>
     ensures value { result ≡ one_by (grammar.number_from low high) (tokens args.now) }
     ensures within { IfSome result (λ n. (low ≤ n) × (n ≤ high)) }
@@ -47,6 +51,7 @@ fn one_from(low: u32, high: u32, args: &[u8]) -> Option<u32>
 }
 
 /// How many bytes are read at once, alone.
+#[inline(always)]
 fn one_length(args: &[u8]) -> Option<u16>
     ensures value { result ≡ one_by grammar.length_in (tokens args.now) }
     ensures within { IfSome result (λ n. n ≤ 4096) }
@@ -100,6 +105,7 @@ pub fn four_tokens(text: &[u8]) -> Option<(&[u8], &[u8], &[u8], &[u8])>
 }
 
 /// An id alone.
+#[inline(always)]
 pub fn one_id(args: &[u8]) -> Option<u16>
     ensures { result ≡ grammar.one_id (tokens args.now) }
 {
@@ -108,6 +114,7 @@ pub fn one_id(args: &[u8]) -> Option<u16>
 }
 
 /// A number alone.
+#[inline(always)]
 pub fn one_number(args: &[u8]) -> Option<u32>
     ensures { result ≡ grammar.one_number (tokens args.now) }
 {
@@ -124,6 +131,7 @@ pub fn one_task(args: &[u8]) -> Option<u32>
 }
 
 /// An id and a number.
+#[inline(always)]
 pub fn id_and_number(args: &[u8]) -> Option<(u16, u32)>
     ensures { result ≡ grammar.id_and_number (tokens args.now) }
 {
@@ -172,6 +180,7 @@ pub fn task_and_numbers(args: &[u8]) -> Option<(u32, u32, u32)>
 }
 
 /// A number, and how many bytes are read.
+#[inline(always)]
 fn number_and_length(args: &[u8]) -> Option<(u32, u16)>
     ensures value { result ≡ two_by number_in grammar.length_in (tokens args.now) }
     ensures within { IfSome result (λ p. p.1 ≤ 4096) }
@@ -182,6 +191,7 @@ fn number_and_length(args: &[u8]) -> Option<(u32, u16)>
 }
 
 /// An id, a number, and how many bytes are read.
+#[inline(always)]
 pub fn id_number_and_length(args: &[u8]) -> Option<(u16, u32, u16)>
     ensures value { result ≡ grammar.id_number_and_length (tokens args.now) }
     ensures within { IfSome result (λ p. p.2 ≤ 4096) }
@@ -192,6 +202,7 @@ pub fn id_number_and_length(args: &[u8]) -> Option<(u16, u32, u16)>
 }
 
 /// A number and another token.
+#[inline(always)]
 fn number_and_text(args: &[u8]) -> Option<(u32, &[u8])>
     ensures { two_by number_in Some (tokens args.now) ≡ option_map (λ p. (p.0, p.1.now)) result }
 {
@@ -201,6 +212,7 @@ fn number_and_text(args: &[u8]) -> Option<(u32, &[u8])>
 }
 
 /// An id, a number, and another token.
+#[inline(always)]
 pub fn id_number_and_text(args: &[u8]) -> Option<(u16, u32, &[u8])>
     ensures { grammar.id_number_and_text (tokens args.now) ≡ option_map (λ p. (p.0, p.1, p.2.now)) result }
 {

@@ -4,14 +4,11 @@
 mod command;
 mod command_ref;
 mod fields;
-mod found;
 mod laws;
 mod line;
 mod next;
 mod next_ref;
-mod parsed_line;
 mod payload;
-mod plain_command;
 mod reader;
 mod room;
 mod stage;

@@ -1,21 +1,23 @@
 //! What a line says, by the grammar.
-ghost use Rattle.std.specs.Prelude.{◌≡◌, ◌≤◌, ◌∷◌, IfSome, codes, length, option_map};
+ghost use Rattle.std.specs.Prelude.{◌≡◌, IsTrue, codes, false, option_map};
 ghost use Rattle.std.specs.Str.{bytes_eq};
 ghost use Rattle.cf_base.specs.Settings.{profile_of};
+ghost use Rattle.script_reader.specs.Answered.{IsInRange, saying_if, says_nothing, some_if};
 ghost use Rattle.script_reader.specs.Commands as grammar;
 ghost use Rattle.script_reader.specs.declared.command.Command.{Command};
-ghost use Rattle.script_reader.specs.Items as script;
-ghost use Rattle.script_reader.specs.Items.{asks, item_in, line_says, tokens_say};
+ghost use Rattle.script_reader.specs.declared.next.Next.TheVariants as answer;
+ghost use Rattle.script_reader.specs.Items.{item_in, item_or_wrong, line_says, starts, tokens_say};
 ghost use Rattle.script_reader.specs.Lines.{is_too_long as too_long, tokens};
-ghost use Rattle.script_reader.specs.ParsedLine.{IsValidLine, IsValidSaid, item_if_parsed, saying_in};
+ghost use Rattle.script_reader.specs.Owned.{owned_next};
 
+use crate::command_ref::CommandRef;
 use crate::fields::{
     four_tokens, id_and_number, id_number_and_length, id_number_and_text, number_and_bound, one_id,
     one_number, one_task, task_and_number, task_and_numbers,
 };
-use crate::parsed_line::{ParsedLine, Said};
-use crate::plain_command::PlainCommand;
-use crate::tokens::{is_done, split_token, without_return};
+use crate::next_ref::NextRef;
+use crate::room::Room;
+use crate::tokens::{first_other, is_done, split_token, without_return};
 use cf_base::Settings;
 use cf_io::number_of;
 
@@ -23,222 +25,241 @@ use cf_io::number_of;
 pub const LONGEST: usize = 8_999;
 
 /// `m ID BYTES`.
-fn malloc(args: &[u8]) -> Option<ParsedLine>
-    ensures value { item_if_parsed result ≡ option_map asks (grammar.malloc_in (tokens args.now)) }
-    ensures fits { IfSome result IsValidLine }
+fn malloc(args: &[u8], next: &mut NextRef) -> bool
+    ensures value { some_if result (owned_next next.new) ≡ option_map answer.Command (grammar.malloc_in (tokens args.now)) }
+    ensures fits { IsTrue result → IsInRange (owned_next next.new) }
 {
-    let (id, bytes) = id_and_number(args)?;
-    Some(ParsedLine::Other(PlainCommand::Malloc { id, bytes }))
+    let Some((id, bytes)) = id_and_number(args) else {
+        return false;
+    };
+    *next = NextRef::Command(CommandRef::Malloc { id, bytes });
+    true
 }
 
 /// `f ID`.
-fn free(args: &[u8]) -> Option<ParsedLine>
-    ensures value { item_if_parsed result ≡ option_map asks (grammar.free_in (tokens args.now)) }
-    ensures fits { IfSome result IsValidLine }
+fn free(args: &[u8], next: &mut NextRef) -> bool
+    ensures value { some_if result (owned_next next.new) ≡ option_map answer.Command (grammar.free_in (tokens args.now)) }
+    ensures fits { IsTrue result → IsInRange (owned_next next.new) }
 {
-    let id = one_id(args)?;
-    Some(ParsedLine::Other(PlainCommand::Free { id }))
+    let Some(id) = one_id(args) else {
+        return false;
+    };
+    *next = NextRef::Command(CommandRef::Free { id });
+    true
 }
 
-/// `w ID AT HEX`.
-fn write(args: &[u8]) -> Option<ParsedLine>
-    ensures value { item_if_parsed result ≡ option_map asks (grammar.write_in (tokens args.now)) }
-    ensures fits { IfSome result IsValidLine }
+/// `w ID AT HEX`: the bytes go to the room.
+fn write<'a>(args: &[u8], room: &'a mut Room, next: &mut NextRef<'a>) -> bool
+    ensures value { some_if result (owned_next next.new) ≡ option_map answer.Command (grammar.write_in (tokens args.now)) }
+    ensures fits { IsTrue result → IsInRange (owned_next next.new) }
 {
-    let (id, at, digits) = id_number_and_text(args)?;
-    Some(ParsedLine::Write { id, at, digits })
+    let Some((id, at, digits)) = id_number_and_text(args) else {
+        return false;
+    };
+    if !room.take_hex(digits) {
+        return false;
+    }
+    let bytes = room.bytes();
+    *next = NextRef::Command(CommandRef::Write { id, at, bytes });
+    true
 }
 
 /// `r ID AT LEN`.
-fn read(args: &[u8]) -> Option<ParsedLine>
-    ensures value { item_if_parsed result ≡ option_map asks (grammar.read_in (tokens args.now)) }
-    ensures fits { IfSome result IsValidLine }
+fn read(args: &[u8], next: &mut NextRef) -> bool
+    ensures value { some_if result (owned_next next.new) ≡ option_map answer.Command (grammar.read_in (tokens args.now)) }
+    ensures fits { IsTrue result → IsInRange (owned_next next.new) }
 {
-    let (id, at, len) = id_number_and_length(args)?;
-    Some(ParsedLine::Other(PlainCommand::Read { id, at, len }))
+    let Some((id, at, len)) = id_number_and_length(args) else {
+        return false;
+    };
+    *next = NextRef::Command(CommandRef::Read { id, at, len });
+    true
 }
 
 /// `q ID`.
-fn place(args: &[u8]) -> Option<ParsedLine>
-    ensures value { item_if_parsed result ≡ option_map asks (grammar.place_command_in (tokens args.now)) }
-    ensures fits { IfSome result IsValidLine }
+fn place(args: &[u8], next: &mut NextRef) -> bool
+    ensures value { some_if result (owned_next next.new) ≡ option_map answer.Command (grammar.place_command_in (tokens args.now)) }
+    ensures fits { IsTrue result → IsInRange (owned_next next.new) }
 {
-    let id = one_id(args)?;
-    Some(ParsedLine::Other(PlainCommand::Place { id }))
+    let Some(id) = one_id(args) else {
+        return false;
+    };
+    *next = NextRef::Command(CommandRef::Place { id });
+    true
 }
 
 /// `b ID I`.
-fn block(args: &[u8]) -> Option<ParsedLine>
-    ensures value { item_if_parsed result ≡ option_map asks (grammar.block_command_in (tokens args.now)) }
-    ensures fits { IfSome result IsValidLine }
+fn block(args: &[u8], next: &mut NextRef) -> bool
+    ensures value { some_if result (owned_next next.new) ≡ option_map answer.Command (grammar.block_command_in (tokens args.now)) }
+    ensures fits { IsTrue result → IsInRange (owned_next next.new) }
 {
-    let (id, i) = id_and_number(args)?;
-    Some(ParsedLine::Other(PlainCommand::Block { id, i }))
+    let Some((id, i)) = id_and_number(args) else {
+        return false;
+    };
+    *next = NextRef::Command(CommandRef::Block { id, i });
+    true
 }
 
 /// `p WORD`.
-fn peek(args: &[u8]) -> Option<ParsedLine>
-    ensures value { item_if_parsed result ≡ option_map asks (grammar.peek_in (tokens args.now)) }
-    ensures fits { IfSome result IsValidLine }
+fn peek(args: &[u8], next: &mut NextRef) -> bool
+    ensures value { some_if result (owned_next next.new) ≡ option_map answer.Command (grammar.peek_in (tokens args.now)) }
+    ensures fits { IsTrue result → IsInRange (owned_next next.new) }
 {
-    let word = one_number(args)?;
-    Some(ParsedLine::Other(PlainCommand::Peek { word }))
+    let Some(word) = one_number(args) else {
+        return false;
+    };
+    *next = NextRef::Command(CommandRef::Peek { word });
+    true
 }
 
 /// `k SLOTWORDS K`.
-fn bound(args: &[u8]) -> Option<ParsedLine>
-    ensures value { item_if_parsed result ≡ option_map asks (grammar.bound_command_in (tokens args.now)) }
-    ensures fits { IfSome result IsValidLine }
+fn bound(args: &[u8], next: &mut NextRef) -> bool
+    ensures value { some_if result (owned_next next.new) ≡ option_map answer.Command (grammar.bound_command_in (tokens args.now)) }
+    ensures fits { IsTrue result → IsInRange (owned_next next.new) }
 {
-    let (slot_words, k) = number_and_bound(args)?;
-    Some(ParsedLine::Other(PlainCommand::Bound { slot_words, k }))
+    let Some((slot_words, k)) = number_and_bound(args) else {
+        return false;
+    };
+    *next = NextRef::Command(CommandRef::Bound { slot_words, k });
+    true
 }
 
 /// `z ID BYTES`.
-fn resize(args: &[u8]) -> Option<ParsedLine>
-    ensures value { item_if_parsed result ≡ option_map asks (grammar.resize_in (tokens args.now)) }
-    ensures fits { IfSome result IsValidLine }
+fn resize(args: &[u8], next: &mut NextRef) -> bool
+    ensures value { some_if result (owned_next next.new) ≡ option_map answer.Command (grammar.resize_in (tokens args.now)) }
+    ensures fits { IsTrue result → IsInRange (owned_next next.new) }
 {
-    let (id, bytes) = id_and_number(args)?;
-    Some(ParsedLine::Other(PlainCommand::Resize { id, bytes }))
+    let Some((id, bytes)) = id_and_number(args) else {
+        return false;
+    };
+    *next = NextRef::Command(CommandRef::Resize { id, bytes });
+    true
 }
 
 /// `t TASK`.
-fn task(args: &[u8]) -> Option<ParsedLine>
-    ensures value { item_if_parsed result ≡ option_map asks (grammar.task_command_in (tokens args.now)) }
-    ensures fits { IfSome result IsValidLine }
+fn task(args: &[u8], next: &mut NextRef) -> bool
+    ensures value { some_if result (owned_next next.new) ≡ option_map answer.Command (grammar.task_command_in (tokens args.now)) }
+    ensures fits { IsTrue result → IsInRange (owned_next next.new) }
 {
-    let task = one_task(args)?;
-    Some(ParsedLine::Other(PlainCommand::Task { task }))
+    let Some(task) = one_task(args) else {
+        return false;
+    };
+    *next = NextRef::Command(CommandRef::Task { task });
+    true
 }
 
 /// `quota TASK PAGES`.
-fn quota(args: &[u8]) -> Option<ParsedLine>
-    ensures value { item_if_parsed result ≡ option_map asks (grammar.quota_in (tokens args.now)) }
-    ensures fits { IfSome result IsValidLine }
+fn quota(args: &[u8], next: &mut NextRef) -> bool
+    ensures value { some_if result (owned_next next.new) ≡ option_map answer.Command (grammar.quota_in (tokens args.now)) }
+    ensures fits { IsTrue result → IsInRange (owned_next next.new) }
 {
-    let (task, pages) = task_and_number(args)?;
-    Some(ParsedLine::Other(PlainCommand::Quota { task, pages }))
+    let Some((task, pages)) = task_and_number(args) else {
+        return false;
+    };
+    *next = NextRef::Command(CommandRef::Quota { task, pages });
+    true
 }
 
 /// `need TASK BYTES COUNT`.
-fn need(args: &[u8]) -> Option<ParsedLine>
-    ensures value { item_if_parsed result ≡ option_map asks (grammar.need_in (tokens args.now)) }
-    ensures fits { IfSome result IsValidLine }
+fn need(args: &[u8], next: &mut NextRef) -> bool
+    ensures value { some_if result (owned_next next.new) ≡ option_map answer.Command (grammar.need_in (tokens args.now)) }
+    ensures fits { IsTrue result → IsInRange (owned_next next.new) }
 {
-    let (task, bytes, count) = task_and_numbers(args)?;
-    Some(ParsedLine::Other(PlainCommand::Need { task, bytes, count }))
+    let Some((task, bytes, count)) = task_and_numbers(args) else {
+        return false;
+    };
+    *next = NextRef::Command(CommandRef::Need { task, bytes, count });
+    true
 }
 
 /// `admit TASK`.
-fn admit(args: &[u8]) -> Option<ParsedLine>
-    ensures value { item_if_parsed result ≡ option_map asks (grammar.admit_in (tokens args.now)) }
-    ensures fits { IfSome result IsValidLine }
+fn admit(args: &[u8], next: &mut NextRef) -> bool
+    ensures value { some_if result (owned_next next.new) ≡ option_map answer.Command (grammar.admit_in (tokens args.now)) }
+    ensures fits { IsTrue result → IsInRange (owned_next next.new) }
 {
-    let task = one_task(args)?;
-    Some(ParsedLine::Other(PlainCommand::Admit { task }))
+    let Some(task) = one_task(args) else {
+        return false;
+    };
+    *next = NextRef::Command(CommandRef::Admit { task });
+    true
 }
 
 /// `s`.
-fn slice(args: &[u8]) -> Option<ParsedLine>
-    ensures value { item_if_parsed result ≡ option_map asks (grammar.alone_in Command.Slice (tokens args.now)) }
-    ensures fits { IfSome result IsValidLine }
+fn slice(args: &[u8], next: &mut NextRef) -> bool
+    ensures value { some_if result (owned_next next.new) ≡ option_map answer.Command (grammar.alone_in Command.Slice (tokens args.now)) }
+    ensures fits { IsTrue result → IsInRange (owned_next next.new) }
 {
-    if is_done(args) {
-        Some(ParsedLine::Other(PlainCommand::Slice))
-    } else {
-        None
-    }
+    *next = NextRef::Command(CommandRef::Slice);
+    is_done(args)
 }
 
 /// `walk`.
-fn walk(args: &[u8]) -> Option<ParsedLine>
-    ensures value { item_if_parsed result ≡ option_map asks (grammar.alone_in Command.Walk (tokens args.now)) }
-    ensures fits { IfSome result IsValidLine }
+fn walk(args: &[u8], next: &mut NextRef) -> bool
+    ensures value { some_if result (owned_next next.new) ≡ option_map answer.Command (grammar.alone_in Command.Walk (tokens args.now)) }
+    ensures fits { IsTrue result → IsInRange (owned_next next.new) }
 {
-    if is_done(args) {
-        Some(ParsedLine::Other(PlainCommand::Walk))
-    } else {
-        None
-    }
+    *next = NextRef::Command(CommandRef::Walk);
+    is_done(args)
 }
 
 /// `frag`.
-fn frag(args: &[u8]) -> Option<ParsedLine>
-    ensures value { item_if_parsed result ≡ option_map asks (grammar.alone_in Command.Frag (tokens args.now)) }
-    ensures fits { IfSome result IsValidLine }
+fn frag(args: &[u8], next: &mut NextRef) -> bool
+    ensures value { some_if result (owned_next next.new) ≡ option_map answer.Command (grammar.alone_in Command.Frag (tokens args.now)) }
+    ensures fits { IsTrue result → IsInRange (owned_next next.new) }
 {
-    if is_done(args) {
-        Some(ParsedLine::Other(PlainCommand::Frag))
-    } else {
-        None
-    }
+    *next = NextRef::Command(CommandRef::Frag);
+    is_done(args)
 }
 
 /// `steps`.
-fn steps(args: &[u8]) -> Option<ParsedLine>
-    ensures value { item_if_parsed result ≡ option_map asks (grammar.alone_in Command.Steps (tokens args.now)) }
-    ensures fits { IfSome result IsValidLine }
+fn steps(args: &[u8], next: &mut NextRef) -> bool
+    ensures value { some_if result (owned_next next.new) ≡ option_map answer.Command (grammar.alone_in Command.Steps (tokens args.now)) }
+    ensures fits { IsTrue result → IsInRange (owned_next next.new) }
 {
-    if is_done(args) {
-        Some(ParsedLine::Other(PlainCommand::Steps))
-    } else {
-        None
-    }
+    *next = NextRef::Command(CommandRef::Steps);
+    is_done(args)
 }
 
 /// The commands whose word is a letter.
-fn letter_command(letter: u8, args: &[u8]) -> Option<ParsedLine>
-    ensures value { item_if_parsed result ≡ option_map asks (grammar.letter_command letter (tokens args.now)) }
-    ensures fits { IfSome result IsValidLine }
+fn letter_command<'a>(letter: u8, args: &[u8], room: &'a mut Room, next: &mut NextRef<'a>) -> bool
+    ensures value { some_if result (owned_next next.new) ≡ option_map answer.Command (grammar.letter_command letter (tokens args.now)) }
+    ensures fits { IsTrue result → IsInRange (owned_next next.new) }
 {
     match letter {
-        b'm' => malloc(args),
-        b'f' => free(args),
-        b'w' => write(args),
-        b'r' => read(args),
-        b'q' => place(args),
-        b'b' => block(args),
-        b'p' => peek(args),
-        b'k' => bound(args),
-        b'z' => resize(args),
-        b's' => slice(args),
-        b't' => task(args),
-        _ => None,
+        b'm' => malloc(args, next),
+        b'f' => free(args, next),
+        b'w' => write(args, room, next),
+        b'r' => read(args, next),
+        b'q' => place(args, next),
+        b'b' => block(args, next),
+        b'p' => peek(args, next),
+        b'k' => bound(args, next),
+        b'z' => resize(args, next),
+        b's' => slice(args, next),
+        b't' => task(args, next),
+        _ => false,
     }
 }
 
 /// The commands whose word is longer.
-fn word_command<'a>(word: &[u8], args: &'a [u8]) -> Option<ParsedLine<'a>>
-    ensures value { item_if_parsed result ≡ option_map asks (grammar.word_command word.now (tokens args.now)) }
-    ensures fits { IfSome result IsValidLine }
+fn word_command(word: &[u8], args: &[u8], next: &mut NextRef) -> bool
+    ensures value { some_if result (owned_next next.new) ≡ option_map answer.Command (grammar.word_command word.now (tokens args.now)) }
+    ensures fits { IsTrue result → IsInRange (owned_next next.new) }
 {
     if word == b"walk".as_slice() {
-        walk(args)
+        walk(args, next)
     } else if word == b"frag".as_slice() {
-        frag(args)
+        frag(args, next)
     } else if word == b"steps".as_slice() {
-        steps(args)
+        steps(args, next)
     } else if word == b"quota".as_slice() {
-        quota(args)
+        quota(args, next)
     } else if word == b"need".as_slice() {
-        need(args)
+        need(args, next)
     } else if word == b"admit".as_slice() {
-        admit(args)
+        admit(args, next)
     } else {
-        None
-    }
-}
-
-/// The command of a word and the tokens after it.
-fn command_of<'a>(word: &[u8], args: &'a [u8]) -> Option<ParsedLine<'a>>
-    ensures value { item_if_parsed result ≡ option_map asks (grammar.command_of word.now (tokens args.now)) }
-    ensures fits { IfSome result IsValidLine }
-{
-    if word.len() == 1 {
-        letter_command(word[0], args)
-    } else {
-        word_command(word, args)
+        false
     }
 }
 
@@ -264,14 +285,6 @@ fn is_too_long(text: &[u8]) -> bool
     text.len() > LONGEST
 }
 
-/// Whether the token begins a comment.
-fn is_comment(word: &[u8]) -> bool
-    requires { 1 ≤ length word.now }
-    ensures { result ≡ script.is_comment word.now }
-{
-    word[0] == b'#'
-}
-
 /// Whether the token opens the heap.
 fn is_heap(word: &[u8]) -> bool
     ensures { result ≡ bytes_eq word.now (codes "heap") }
@@ -279,40 +292,66 @@ fn is_heap(word: &[u8]) -> bool
     word == b"heap".as_slice()
 }
 
-/// What a line says, without its line feed.
-pub fn read_line(text: &[u8]) -> Said
-    ensures value { saying_in result ≡ line_says text.now }
-    ensures fits { IsValidSaid result }
+/// Whether a line, without its line feed, is blank or a comment.
+pub fn is_silent(text: &[u8]) -> bool
+    ensures { result ≡ says_nothing (line_says text.now) }
+{
+    !is_too_long(text) && has_no_item(without_return(text))
+}
+
+/// Whether the tokens are none, or begin a comment.
+#[tactic(auto, using(crate::proofs::SilentLines::item_at_once))]
+fn has_no_item(text: &[u8]) -> bool
+    ensures { result ≡ says_nothing (tokens_say (tokens text.now)) }
+{
+    // Most lines begin with a letter, and need no search.
+    if text.len() > 0 && text[0] > b'#' {
+        return false;
+    }
+    match first_other(text) {
+        Some(at) => text[at] == b'#',
+        None => true,
+    }
+}
+
+/// Whether a line that isn't silent is in the grammar, without its line feed; what it says goes to the
+/// place of the answer, and the bytes of a write to the room.
+pub fn read_line<'a>(text: &[u8], room: &'a mut Room, next: &mut NextRef<'a>) -> bool
+    requires { says_nothing (line_says text.now) ≡ false }
+    ensures value { saying_if result (owned_next next.new) ≡ line_says text.now }
+    ensures fits { IsTrue result → IsInRange (owned_next next.new) }
 {
     if is_too_long(text) {
-        return Said::Line(None);
+        return false;
     }
     match split_token(without_return(text)) {
-        Some((word, args)) => parse_line(word, args),
-        None => Said::Nothing,
+        Some((word, args)) => read_item(word, args, room, next),
+        None => false,
     }
 }
 
-/// What a line says, by its first token and what follows it.
-fn parse_line<'a>(word: &[u8], args: &'a [u8]) -> Said<'a>
-    requires { 1 ≤ length word.now }
-    ensures value { saying_in result ≡ tokens_say (word.now ∷ tokens args.now) }
-    ensures fits { IsValidSaid result }
+/// The same, by the line's first token and what follows it.
+fn read_item<'a>(word: &[u8], args: &[u8], room: &'a mut Room, next: &mut NextRef<'a>) -> bool
+    ensures value { saying_if result (owned_next next.new) ≡ item_or_wrong (item_in word.now (tokens args.now)) }
+    ensures fits { IsTrue result → IsInRange (owned_next next.new) }
 {
-    if is_comment(word) {
-        Said::Nothing
-    } else {
-        Said::Line(parse_item(word, args))
+    if word.len() == 1 {
+        return letter_command(word[0], args, room, next);
     }
-}
-
-/// The line in the grammar with this first token and what follows it.
-fn parse_item<'a>(word: &[u8], args: &'a [u8]) -> Option<ParsedLine<'a>>
-    ensures value { item_if_parsed result ≡ item_in word.now (tokens args.now) }
-    ensures fits { IfSome result IsValidLine }
-{
     if is_heap(word) {
-        return Some(ParsedLine::Start(settings(args)?));
+        return start(args, next);
     }
-    command_of(word, args)
+    word_command(word, args, next)
+}
+
+/// `heap PAGES PAGEBYTES K PROXIES`.
+fn start(args: &[u8], next: &mut NextRef) -> bool
+    ensures value { saying_if result (owned_next next.new) ≡ item_or_wrong (option_map starts (grammar.settings_in (tokens args.now))) }
+    ensures fits { IsTrue result → IsInRange (owned_next next.new) }
+{
+    let Some(settings) = settings(args) else {
+        return false;
+    };
+    *next = NextRef::Start(settings);
+    true
 }

@@ -1,7 +1,7 @@
 //! What comes next in a script, with borrowed bytes.
 ghost use Rattle.std.specs.Prelude.{◌≡◌};
 ghost use Rattle.script_reader.specs.Owned.{owned_next};
-ghost use Rattle.script_reader.specs.ParsedLine.{IsInRange};
+ghost use Rattle.script_reader.specs.Answered.{IsInRange};
 
 use crate::command_ref::CommandRef;
 use crate::next::Next;

@@ -1,12 +1,12 @@
 //! The reader of scripts.
-ghost use Rattle.std.specs.Prelude.{◌≡◌, ◌≤◌, ◌+◌, ◌==◌, true, false, length, take, drop, position, MatchOption, None, option_map};
+ghost use Rattle.std.specs.Prelude.{◌≡◌, ◌≤◌, ◌+◌, ◌==◌, true, false, length, take, drop, position, MatchOption, None};
+ghost use Rattle.script_reader.specs.Answered.{IsNextLine, line_passed, says_nothing};
+ghost use Rattle.script_reader.specs.Items.{line_says};
 ghost use Rattle.script_reader.specs.Lines.{is_last_line};
-ghost use Rattle.script_reader.specs.Found.{Finds, next_found};
 ghost use Rattle.script_reader.specs.Owned.{owned_next};
-ghost use Rattle.script_reader.specs.Reading.{Answers, HasNoLine, IsFirstLine, fed_with, fresh, holds_line_feed, taken};
+ghost use Rattle.script_reader.specs.Reading.{Answers, HasNoLine, IsFirstLine, PassesOver, fed_with, fresh, holds_line_feed, taken};
 
-use crate::found::{Found, take_line};
-use crate::line::{LONGEST, read_line};
+use crate::line::{LONGEST, is_silent, read_line};
 use crate::next::Next;
 use crate::next_ref::NextRef;
 use crate::room::Room;
@@ -107,42 +107,102 @@ impl Reader {
     pub fn next_ref<'a>(&mut self, room: &'a mut Room) -> NextRef<'a>
         ensures { Answers self.old (owned_next result) self.new }
     {
+        let mut next = NextRef::NeedMore;
+        self.read_next(room, &mut next);
+        next
+    }
+
+    /// The same, which is put where the caller keeps it, and so is copied nowhere.
+    pub fn read_next<'a>(&mut self, room: &'a mut Room, next: &mut NextRef<'a>)
+        ensures { Answers self.old (owned_next next.new) self.new }
+    {
         if let Some(line) = self.stopped {
-            return NextRef::Bad { line };
+            *next = NextRef::Bad { line };
+            return;
         }
-        'lines: loop {
-            if let Some(found) = self.next_line(room) {
-                return found.answer(room);
-            }
+        match self.next_line() {
+            Some(cut) => self.answer_line(cut, room, next),
+            None => *next = self.without_line(),
         }
     }
 
-    /// Passes the first line, and returns what it gives; none where it is blank or a comment.
-    fn next_line(&mut self, room: &mut Room) -> Option<Found>
+    /// The answer where no line is there.
+    fn without_line<'a>(&self) -> NextRef<'a>
+        requires going { self.now.stopped ≡ None }
+        requires none { HasNoLine self.now.kept self.now.ended }
+        ensures { Answers self.now (owned_next result) self.now }
+    {
+        if self.ended {
+            NextRef::End
+        } else {
+            NextRef::NeedMore
+        }
+    }
+
+    /// The first line that says something; those before it, which are blank or comments, are passed.
+    fn next_line(&mut self) -> Option<Cut>
         requires { self.old.stopped ≡ None }
-        ensures { Finds self.old (option_map (λ f. next_found room.new f) result) self.new }
+        ensures passes { PassesOver self.old self.new }
+        ensures found { MatchOption result (HasNoLine self.new.kept self.new.ended) (λ cut. IsNextLine self.new cut.len cut.next) }
+    {
+        'lines: loop {
+            let cut = self.find_line()?;
+            if !self.is_silent(cut) {
+                return Some(cut);
+            }
+            self.pass_line(cut);
+        }
+    }
+
+    /// The first line, where it is there.
+    fn find_line(&mut self) -> Option<Cut>
+        ensures same { self.new ≡ self.old }
+        ensures found { MatchOption result (HasNoLine self.old.kept self.old.ended)
+            (λ cut. IsFirstLine self.old.kept self.old.ended cut.len cut.next) }
     {
         let kept = &self.buffer.as_slice()[self.start..];
-        let Some(cut) = first_line(kept, self.searched, self.ended) else {
+        let cut = first_line(kept, self.searched, self.ended);
+        if cut.is_none() {
             self.searched = kept.len();
-            if self.ended {
-                return Some(Found::End);
-            }
-            return Some(Found::NeedMore);
-        };
-        let line = self.passed + 1;
-        let found = take_line(read_line(&kept[..cut.len]), line, room);
+        }
+        cut
+    }
+
+    /// Whether the first line is blank or a comment.
+    fn is_silent(&self, cut: Cut) -> bool
+        requires { cut.len ≤ length self.now.kept }
+        ensures { result ≡ says_nothing (line_says (take cut.len self.now.kept)) }
+    {
+        let kept = &self.buffer.as_slice()[self.start..];
+        is_silent(&kept[..cut.len])
+    }
+
+    /// Passes the first line.
+    fn pass_line(&mut self, cut: Cut)
+        requires some { 1 ≤ cut.next }
+        requires within { cut.next ≤ length self.old.kept }
+        ensures { self.new ≡ line_passed self.old cut.next }
+    {
         self.start += cut.next;
         self.searched = 0;
-        self.passed = line;
-        match stage_after(self.stage, found) {
-            Some(stage) => {
-                self.stage = stage;
-                found
-            }
+        self.passed += 1;
+    }
+
+    /// Passes the first line, which says something, and answers it.
+    fn answer_line<'a>(&mut self, cut: Cut, room: &'a mut Room, next: &mut NextRef<'a>)
+        requires going { self.old.stopped ≡ None }
+        requires line { IsNextLine self.old cut.len cut.next }
+        ensures { Answers self.old (owned_next next.new) self.new }
+    {
+        let kept = &self.buffer.as_slice()[self.start..];
+        let formed = read_line(&kept[..cut.len], room, next);
+        self.pass_line(cut);
+        match stage_after(self.stage, formed, *next) {
+            Some(stage) => self.stage = stage,
             None => {
+                let line = self.passed;
                 self.stopped = Some(line);
-                Some(Found::Bad { line })
+                *next = NextRef::Bad { line };
             }
         }
     }

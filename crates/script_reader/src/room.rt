@@ -1,7 +1,7 @@
 //! Room for the bytes of a write.
 ghost use Rattle.std.specs.Prelude.{◌≡◌, ◌≤◌, IsTrue, length};
 ghost use Rattle.script_reader.specs.Commands.{bytes_in};
-ghost use Rattle.script_reader.specs.ParsedLine.{some_if};
+ghost use Rattle.script_reader.specs.Answered.{some_if};
 
 use std::marker::Model;
 

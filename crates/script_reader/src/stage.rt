@@ -1,11 +1,11 @@
 //! How far a script has come.
-ghost use Rattle.std.specs.Prelude.{◌≡◌, ℕ, List};
-ghost use Rattle.script_reader.specs.Found.{saying_found, stage_said};
+ghost use Rattle.std.specs.Prelude.{◌≡◌};
+ghost use Rattle.script_reader.specs.Answered.{saying_if, stage_said};
 ghost use Rattle.script_reader.specs.Items as place;
-ghost use Rattle.script_reader.specs.ParsedLine.{plain_command};
+ghost use Rattle.script_reader.specs.Owned.{owned_command, owned_next};
 
-use crate::found::Found;
-use crate::plain_command::PlainCommand;
+use crate::command_ref::CommandRef;
+use crate::next_ref::NextRef;
 
 /// How far a script has come.
 #[derive(Clone, Copy, Debug, PartialEq, Eq)]
@@ -18,18 +18,20 @@ pub enum Stage {
     Running,
 }
 
-/// The stage after a line that gives this; none where it breaks a rule at its place.
-pub fn stage_after(stage: Stage, found: Option<Found>) -> Option<Stage>
-    ensures { (bytes : List ℕ) → result ≡ stage_said stage (saying_found bytes found) }
+/// The stage after a line that is in the grammar, or isn't, and then says this; none where it breaks a
+/// rule at its place.
+pub fn stage_after(stage: Stage, formed: bool, next: NextRef) -> Option<Stage>
+    ensures { result ≡ stage_said stage (saying_if formed (owned_next next.entry)) }
 {
-    match found {
-        None => Some(stage),
-        Some(Found::Start(_)) => match stage {
+    if !formed {
+        return None;
+    }
+    match next {
+        NextRef::Start(_) => match stage {
             Stage::Opening => Some(Stage::Bounding),
             _ => None,
         },
-        Some(Found::Write { .. }) => stage_after_command(stage, false),
-        Some(Found::Other(command)) => stage_after_command(stage, is_bound(command)),
+        NextRef::Command(command) => stage_after_command(stage, is_bound(command)),
         _ => None,
     }
 }
@@ -50,8 +52,8 @@ fn stage_after_command(stage: Stage, bounds: bool) -> Option<Stage>
 }
 
 /// Whether the command gives a class its bound.
-fn is_bound(command: PlainCommand) -> bool
-    ensures { result ≡ place.is_bound (plain_command command) }
+fn is_bound(command: CommandRef) -> bool
+    ensures { result ≡ place.is_bound (owned_command command.entry) }
 {
-    matches!(command, PlainCommand::Bound { .. })
+    matches!(command, CommandRef::Bound { .. })
 }

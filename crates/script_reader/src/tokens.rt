@@ -57,7 +57,8 @@ fn token_length(text: &[u8]) -> usize
     first_gap(text).unwrap_or(text.len())
 }
 
-fn first_other(text: &[u8]) -> Option<usize>
+/// Where the first byte is that parts no tokens.
+pub fn first_other(text: &[u8]) -> Option<usize>
     ensures { result ≡ position (λ x. not (gap x)) text.now }
 {
     text.iter().position(|x| !is_gap(*x))
@@ -82,6 +83,7 @@ fn first_gap_in_long(text: &[u8]) -> Option<usize>
 }
 
 /// The first token, and what follows it.
+#[inline(always)]
 pub fn split_token(text: &[u8]) -> Option<(&[u8], &[u8])>
     ensures value { MatchOption result (tokens text.now ≡ []) (λ p. tokens text.now ≡ p.0.now ∷ tokens p.1.now) }
     ensures some { IfSome result (λ p. 1 ≤ length p.0.now) }
@@ -89,6 +91,10 @@ pub fn split_token(text: &[u8]) -> Option<(&[u8], &[u8])>
     let text = &text[gaps(text)..];
     if text.len() == 0 {
         return None;
+    }
+    let others = &text[1..];
+    if is_parted(others) {
+        return Some((&text[..1], others));
     }
     Some(text.split_at(token_length(text)))
 }
@@ -109,6 +115,7 @@ fn is_parted(text: &[u8]) -> bool
 
 /// The number that the first token spells, and what follows it. None where no token is there, or it
 /// spells none.
+#[inline(always)]
 pub fn take_number(text: &[u8]) -> Option<(u32, &[u8])>
     ensures { option_map (λ p. (p.0, tokens p.1.now)) result ≡ first_by number_in (tokens text.now) }
 {

@@ -21,7 +21,7 @@ pub replies-preserved-in-Ok : goal.replies-preserved-in-Ok
 replies-preserved-in-Ok g c =
     let m = g.A.Player.semantics in
     let so_far = c.replies.invariant in
-    let next = c.in-Start.ensures in
+    let next = rw c.in-Start.is at c.read_next.ensures in
     let opened = c.in-Ok.ensures.opens in
     record {
       text = so_far.text ++ led [] opened.reply;
@@ -38,10 +38,11 @@ pub returns-in-Err-Failed-clause-goes : goal.returns-in-Err-Failed-clause-goes
 returns-in-Err-Failed-clause-goes g c =
     let m = g.A.Player.semantics in
     let so_far = c.replies.invariant in
+    let next = rw c.in-Start.is at c.read_next.ensures in
     let opened = rw c.in-Err-Failed.field-0-is at c.in-Err-Failed.ensures.opens in
     record {
       out = so_far.text ++ opened.front;
-      cut = cut_then m so_far.answered (cut_open m _ _ c.in-Start.settings _ _ c.in-Start.ensures opened c.in-Err-Failed.ensures.plan);
+      cut = cut_then m so_far.answered (cut_open m _ _ c.in-Start.settings _ _ next opened c.in-Err-Failed.ensures.plan);
       wrote = appended_after _ _ _ _ _ so_far.wrote opened.written;
     }
 
@@ -49,7 +50,7 @@ pub replies-preserved : goal.replies-preserved
 replies-preserved g c =
     let m = g.A.Player.semantics in
     let so_far = c.replies.invariant in
-    let next = c.in-Command.ensures in
+    let next = rw c.in-Command.is at c.read_next.ensures in
     let answer = c.in-Ok-answer.ensures.answers in
     record {
       text = so_far.text ++ led [] answer.reply;
@@ -66,14 +67,15 @@ pub returns-in-Err-clause-goes : goal.returns-in-Err-clause-goes
 returns-in-Err-clause-goes g c =
     let m = g.A.Player.semantics in
     let so_far = c.replies.invariant in
+    let next = rw c.in-Command.is at c.read_next.ensures in
     let answer = c.in-Err.ensures.answers in
     record {
       out = so_far.text ++ answer.out;
-      cut = cut_then m so_far.answered (cut_command m _ _ _ answer.out c.in-Command.ensures answer.turns c.in-Err.ensures.plan);
+      cut = cut_then m so_far.answered (cut_command m _ _ _ answer.out next answer.turns c.in-Err.ensures.plan);
       wrote = appended_after _ _ _ _ _ so_far.wrote answer.written;
     }
 
 pub returns-in-Bad-clause-goes : goal.returns-in-Bad-clause-goes
 returns-in-Bad-clause-goes g c =
     let so_far = c.replies.invariant in
-    named g.A.Player.semantics _ _ _ _ _ _ _ so_far.text _ so_far.answered so_far.wrote (bad_at _ _ _ so_far.going c.in-Bad.ensures) c.name_bad.ensures.names
+    named g.A.Player.semantics _ _ _ _ _ _ _ so_far.text _ so_far.answered so_far.wrote (bad_at _ _ _ so_far.going (rw c.in-Bad.is at c.read_next.ensures)) c.name_bad.ensures.names

@@ -1,5 +1,7 @@
-use Rattle.std.proofs.Common.{refl, arith}
-use Rattle.script_reader.proofs.Words.{only_gaps, token_has_byte, token_of_text}
+use Rattle.std.proofs.Common.{◌∙◌, ◌-◌, ap, arith, drop, length, refl, sym, take}
+use Rattle.std.proofs.lemmas.List.{take_rest}
+use Rattle.script_reader.specs.Lines.{is_parted}
+use Rattle.script_reader.proofs.Words.{only_gaps, single_in_text, token_has_byte, token_of_text}
 use Rattle.script_reader.proofs.tokens.split_token.Goals as goal
 
 pub returns-then-text-eq0-clause-value : goal.returns-then-text-eq0-clause-value
@@ -12,3 +14,10 @@ returns-clause-value c = rw (c.split_at.ensures.front, c.split_at.ensures.back)
 pub returns-clause-some : goal.returns-clause-some
 returns-clause-some c = rw c.split_at.ensures.front
     (token_has_byte _ _ _ _ refl c.gaps.ensures.value c.token_length.ensures.value (omega arith))
+
+pub returns-then-is_parted-clause-value : goal.returns-then-is_parted-clause-value
+returns-then-is_parted-clause-value c =
+    let t = c.args.text.now in
+    let s = take (length t - c.gaps.result) (drop c.gaps.result t) in
+    let parted = ap is_parted (sym (take_rest s 1)) ∙ sym c.is_parted.ensures ∙ c.if-is_parted.true in
+    rw (take_rest s 1) (single_in_text t s c.gaps.result refl c.gaps.ensures.value (omega arith) parted)

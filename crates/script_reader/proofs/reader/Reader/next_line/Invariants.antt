@@ -1,6 +1,6 @@
 use Rattle.std.proofs.Common.{length}
 use Rattle.script_reader.specs.Reading.{PassesOver}
-use Rattle.script_reader.proofs.reader.Reader.next_ref.Given as goal
+use Rattle.script_reader.proofs.reader.Reader.next_line.Given as goal
 
 abbrev pub invariant-lines : goal.invariant-lines
 invariant-lines l = PassesOver l.initial.self l.self

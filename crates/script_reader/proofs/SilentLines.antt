@@ -1,0 +1,99 @@
+-- Lines that say nothing, and those that say something.
+use Rattle.std.proofs.Common.{◌≡◌, ◌∙◌, ◌<◌, ◌+◌, ◌==◌, ℕ, suc, Bool, true, false, cond, not, List, [], ◌∷◌, Option, Some, None, length, take, drop, get_or}
+use Rattle.std.proofs.Common.{if◌then◌else◌, option_map, refl, sym, ap, arith, codes}
+use Rattle.std.proofs.Math.Bool.{and-false}
+use Rattle.std.proofs.Math.Seq.{drop-cons}
+use Rattle.std.proofs.lemmas.Bool.{false≢true, ltb-false, ltb-true, ne_eqb}
+use Rattle.std.proofs.lemmas.List.{drop_all}
+use Rattle.std.proofs.lemmas.List.Sums.{passes_at_first}
+use Rattle.std.specs.Prelude.{position, nat_lt}
+use Rattle.std.specs.List.{position_or_len}
+use Rattle.std.specs.Str.{bytes_eq}
+use Rattle.script_reader.specs.Answered.{saying_if, says_nothing, some_if}
+use Rattle.script_reader.specs.Commands.{command_of, letter_command, word_command}
+use Rattle.script_reader.specs.Items.{Item, asks, is_comment, item_in, item_or_wrong, nothing, tokens_say}
+use Rattle.script_reader.specs.Lines.{is_gap, is_parted, onto_first, tokens}
+use Rattle.script_reader.specs.declared.command.Command.{Command}
+use Rattle.script_reader.specs.declared.next.Next.{Next}
+use Rattle.script_reader.specs.declared.next.Next.TheVariants as answer
+use Rattle.script_reader.proofs.Words.{gaps_in, past_gaps, run}
+
+item_speaks : (o : Option Item) → says_nothing (item_or_wrong o) ≡ false
+item_speaks None = refl
+item_speaks (Some i) = refl
+
+comment_or_item : (b : Bool) (o : Option Item) → says_nothing (if b then nothing else item_or_wrong o) ≡ b
+comment_or_item true o = refl
+comment_or_item false o = item_speaks o
+
+not_passes : (b : Bool) → not b ≡ true → b ≡ false
+not_passes true is = absurd (false≢true is)
+not_passes false is = refl
+
+-- what the first byte that is no gap tells
+first_byte : (t : List ℕ) → gaps_in t < length t → (get_or t (gaps_in t) 0 == 35) ≡ says_nothing (tokens_say (tokens t))
+first_byte t below =
+    let x = get_or t (gaps_in t) 0 in
+    let r = drop (suc (gaps_in t)) t in
+    let isnt : is_gap x ≡ false = not_passes (is_gap x) (passes_at_first (λ b. not (is_gap b)) t 0 below) in
+    let first : tokens t ≡ (x ∷ take (position_or_len is_gap r) r) ∷ tokens (drop (position_or_len is_gap r) r) =
+    sym (past_gaps t) ∙ ap tokens (drop-cons t (gaps_in t) 0 below) ∙ run x r isnt in
+    sym (ap (λ (ts : List (List ℕ)). says_nothing (tokens_say ts)) first ∙ comment_or_item (x == 35) _)
+
+pub silent_at : (t : List ℕ) (at : ℕ) → Some at ≡ position (λ x. not (is_gap x)) t → (get_or t at 0 == 35) ≡ says_nothing (tokens_say (tokens t))
+silent_at t at h = go (nat_lt (gaps_in t) (length t)) refl h
+  where
+    go : (b : Bool) → nat_lt (gaps_in t) (length t) ≡ b → Some at ≡ cond b (Some (gaps_in t)) None
+        → (get_or t at 0 == 35) ≡ says_nothing (tokens_say (tokens t))
+    go false isnt h = absurd cc
+    go true is h = let place : at ≡ gaps_in t = cc in rw place (first_byte t (ltb-true _ _ is))
+
+-- a first byte past those of gaps and comments
+pub item_at_once : (t : List ℕ) → 0 < length t → 35 < get_or t 0 0 → false ≡ says_nothing (tokens_say (tokens t))
+item_at_once [] some past = absurd (omega arith)
+item_at_once (x ∷ r) some past =
+    let isnt : is_gap x ≡ false = rw (ne_eqb x 32 (λ e. omega (arith, e, past)), ne_eqb x 9 (λ e. omega (arith, e, past))) refl in
+    sym (ap (λ (ts : List (List ℕ)). says_nothing (tokens_say ts)) (run x r isnt) ∙ comment_or_item (x == 35) _ ∙ ne_eqb x 35 (λ e. omega (arith, e, past)))
+
+pub silent_gaps : (t : List ℕ) → None ≡ position (λ x. not (is_gap x)) t → true ≡ says_nothing (tokens_say (tokens t))
+silent_gaps t h = go (nat_lt (gaps_in t) (length t)) refl h
+  where
+    go : (b : Bool) → nat_lt (gaps_in t) (length t) ≡ b → None ≡ cond b (Some (gaps_in t)) None
+        → true ≡ says_nothing (tokens_say (tokens t))
+    go true is h = absurd cc
+    go false isnt h =
+        let none : tokens t ≡ [] = sym (past_gaps t) ∙ ap tokens (drop_all (gaps_in t) t (ltb-false _ _ isnt)) in
+        sym (ap (λ (ts : List (List ℕ)). says_nothing (tokens_say ts)) none)
+
+-- a line that is no comment says what its item is
+pub speaks : (word : List ℕ) (args : List (List ℕ)) → says_nothing (tokens_say (word ∷ args)) ≡ false → tokens_say (word ∷ args) ≡ item_or_wrong (item_in word args)
+speaks word args says = go (is_comment word) says
+  where
+    go : (b : Bool) → says_nothing (if b then nothing else item_or_wrong (item_in word args)) ≡ false
+        → (if b then nothing else item_or_wrong (item_in word args)) ≡ item_or_wrong (item_in word args)
+    go true says = absurd cc
+    go false says = refl
+
+-- a command that was read, or none
+pub command_said : (formed : Bool) (n : Next) (c : Option Command) → some_if formed n ≡ option_map answer.Command c
+    → saying_if formed n ≡ item_or_wrong (option_map asks c)
+command_said true n (Some c) read = let e : n ≡ answer.Command c = cc in rw e refl
+command_said true n None read = absurd cc
+command_said false n (Some c) read = absurd cc
+command_said false n None read = refl
+
+not_heap : (x : ℕ) → bytes_eq (x ∷ []) (codes "heap") ≡ false
+not_heap x = and-false (x == 104)
+
+-- a word of one letter
+pub one_letter : (word : List ℕ) (args : List (List ℕ)) → length word ≡ 1 → item_in word args ≡ option_map asks (letter_command (get_or word 0 0) args)
+one_letter [] args one = absurd cc
+one_letter (x ∷ []) args one = rw (not_heap x) refl
+one_letter (x ∷ y ∷ r) args one = absurd (omega (arith, one))
+
+-- a longer word
+pub longer_word : (word : List ℕ) (args : List (List ℕ)) → ¬ (length word ≡ 1) → bytes_eq word (codes "heap") ≡ false
+    → item_in word args ≡ option_map asks (word_command word args)
+longer_word [] args more other = refl
+longer_word (x ∷ []) args more other = absurd (more refl)
+longer_word (x ∷ y ∷ r) args more other = rw other refl
