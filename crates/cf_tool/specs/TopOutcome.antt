@@ -129,8 +129,8 @@ pub record TellsChosen (words : List Text) (call : Effects) : Type 0 where
   pub tells : TellsInMode choice.mode choice.kind call
 
 -- where every item within the limit was answered, the output meets the headline, and over plain items it is their transcript, however the source was cut
-abbrev pub TellsPlainly : List Text → Handed → Status → Handed → Type 0
-TellsPlainly words old status new = AnswersAll status → TellsChosen words (effects_of old status new)
+abbrev pub TellsAsClaimed : List Text → Handed → Status → Handed → Type 0
+TellsAsClaimed words old status new = AnswersAll status → TellsChosen words (effects_of old status new)
 
 -- the whole script was answered, or it ran out of memory
 abbrev pub EndsWhole : Status → Type 0

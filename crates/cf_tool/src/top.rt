@@ -3,7 +3,7 @@ ghost use Rattle.std.specs.Prelude.{◌≡◌, ◌<◌, ◌+◌, ◌⊎◌, map,
 ghost use Rattle.cf_io.specs.Feeds.{Rose, last_count};
 ghost use Rattle.script_loop.specs.ScriptOutcome.{IsClean, MOST_BYTES};
 ghost use Rattle.command_line.specs.Choices.{AreAccepted};
-ghost use Rattle.cf_tool.specs.TopOutcome.{EndsWell, EndsWhole, TellsPlainly, handed, sink_at, source_at};
+ghost use Rattle.cf_tool.specs.TopOutcome.{EndsWell, EndsWhole, TellsAsClaimed, handed, sink_at, source_at};
 
 use crate::benching::bench;
 use crate::boxed::Boxed;
@@ -41,7 +41,7 @@ pub fn cf_main<R: Runtime, S: Source, K: Sink>(
         (handed (source_at (S.rest source.new) (S.given source.new) (S.faults source.new))
         (sink_at (K.written sink.new) (K.faults sink.new)) (map ⟦<Boxed as Manager>⟧.state managers.new.items)) }
     // What is printed meets the headline; where every bound is 1, it is computed from the script.
-    ensures plain { TellsPlainly (map (λ word. string_bytes word) words.now)
+    ensures claimed { TellsAsClaimed (map (λ word. string_bytes word) words.now)
         (handed (source_at (S.rest source.old) (S.given source.old) (S.faults source.old))
         (sink_at (K.written sink.old) (K.faults sink.old)) (map ⟦<Boxed as Manager>⟧.state managers.old.items))
         result

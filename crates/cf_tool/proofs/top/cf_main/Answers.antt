@@ -10,8 +10,8 @@ returns-in-Refused-clause-complete g c = λ accepted clean sure firm. absurd (no
 pub returns-in-Run-clause-outcome : goal.returns-in-Run-clause-outcome
 returns-in-Run-clause-outcome g c = run_ends _ c.in-Ok.choice c.in-Ok.ensures c.in-Run.is _ c.run_chosen.result _ c.run_chosen.ensures
 
-pub returns-in-Run-clause-plain : goal.returns-in-Run-clause-plain
-returns-in-Run-clause-plain g c = run_tells _ c.in-Ok.choice c.in-Ok.ensures c.in-Run.is _ c.run_chosen.result _ c.run_chosen.ensures
+pub returns-in-Run-clause-claimed : goal.returns-in-Run-clause-claimed
+returns-in-Run-clause-claimed g c = run_tells _ c.in-Ok.choice c.in-Ok.ensures c.in-Run.is _ c.run_chosen.result _ c.run_chosen.ensures
 
 pub returns-in-Run-clause-complete : goal.returns-in-Run-clause-complete
 returns-in-Run-clause-complete g c = λ accepted. run_whole c.in-Ok.choice.kind _ c.run_chosen.result _ c.run_chosen.ensures
@@ -19,8 +19,8 @@ returns-in-Run-clause-complete g c = λ accepted. run_whole c.in-Ok.choice.kind 
 pub returns-in-Compare-clause-outcome : goal.returns-in-Compare-clause-outcome
 returns-in-Compare-clause-outcome g c = compare_ends _ c.in-Ok.choice c.in-Ok.ensures c.in-Compare.is _ c.compare.result _ c.compare.ensures
 
-pub returns-in-Compare-clause-plain : goal.returns-in-Compare-clause-plain
-returns-in-Compare-clause-plain g c = compare_tells _ c.in-Ok.choice c.in-Ok.ensures c.in-Compare.is _ c.compare.result _ c.compare.ensures
+pub returns-in-Compare-clause-claimed : goal.returns-in-Compare-clause-claimed
+returns-in-Compare-clause-claimed g c = compare_tells _ c.in-Ok.choice c.in-Ok.ensures c.in-Compare.is _ c.compare.result _ c.compare.ensures
 
 pub returns-in-Compare-clause-complete : goal.returns-in-Compare-clause-complete
 returns-in-Compare-clause-complete g c = λ accepted. compare_whole _ c.compare.result _ c.compare.ensures
@@ -28,8 +28,8 @@ returns-in-Compare-clause-complete g c = λ accepted. compare_whole _ c.compare.
 pub returns-in-Bench-clause-outcome : goal.returns-in-Bench-clause-outcome
 returns-in-Bench-clause-outcome g c = bench_ends _ c.in-Ok.choice c.in-Ok.ensures c.in-Bench.is _ c.bench.result _ (c.bench.ensures _ _)
 
-pub returns-in-Bench-clause-plain : goal.returns-in-Bench-clause-plain
-returns-in-Bench-clause-plain g c = λ is. bench_tells _ c.in-Ok.choice c.in-Ok.ensures c.in-Bench.is _
+pub returns-in-Bench-clause-claimed : goal.returns-in-Bench-clause-claimed
+returns-in-Bench-clause-claimed g c = λ is. bench_tells _ c.in-Ok.choice c.in-Ok.ensures c.in-Bench.is _
 
 pub returns-in-Bench-clause-complete : goal.returns-in-Bench-clause-complete
 returns-in-Bench-clause-complete g c = λ accepted clean sure firm. bench_whole c.in-Ok.choice _ c.bench.result _ (c.bench.ensures (source_at None 0 0) []) firm
