@@ -1,9 +1,8 @@
 -- Answers, one line after the other.
 use Rattle.std.proofs.Common.{◌≡◌, ◌∙◌, ◌<◌, ◌≤◌, ◌+◌, ℕ, Bool, true, false, List, [], ◌∷◌, Option, Some, None, length, take, drop, refl, sym, ap, arith}
-use Rattle.std.proofs.Common.{length-append, length-drop, subst, append-nil, append_assoc, ◌++◌, ◌⊎◌, inl, inr, cond, suc, take-append-drop, option_map}
+use Rattle.std.proofs.Common.{length-append, length-drop, subst, append-nil, append_assoc, ◌++◌, ◌⊎◌, inl, inr, cond, suc, take-append-drop}
 use Rattle.std.proofs.lemmas.Bool.{false≢true, ltb-false}
 use Rattle.std.proofs.lemmas.List.{drop_all}
-use Rattle.std.specs.Prelude.{IfSome}
 use Rattle.cf_base.specs.Settings.{profile_of}
 use Rattle.script_reader.specs.Answered.{IsInRange, IsNextLine, item_answered, line_passed, saying_if, says_nothing, stage_said}
 use Rattle.script_reader.specs.Items.{Item, Saying, asks, bad, breaks, gives_or_breaks, is_bound, item, item_or_wrong, line_says, nothing}

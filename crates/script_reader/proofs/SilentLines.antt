@@ -1,5 +1,5 @@
 -- Lines that say nothing, and those that say something.
-use Rattle.std.proofs.Common.{◌≡◌, ◌∙◌, ◌<◌, ◌+◌, ◌==◌, ℕ, suc, Bool, true, false, cond, not, List, [], ◌∷◌, Option, Some, None, length, take, drop, get_or}
+use Rattle.std.proofs.Common.{◌≡◌, ◌∙◌, ◌<◌, ◌==◌, ℕ, suc, Bool, true, false, cond, not, List, [], ◌∷◌, Option, Some, None, length, take, drop, get_or}
 use Rattle.std.proofs.Common.{if◌then◌else◌, option_map, refl, sym, ap, arith, codes}
 use Rattle.std.proofs.Math.Bool.{and-false}
 use Rattle.std.proofs.Math.Seq.{drop-cons}
@@ -10,9 +10,9 @@ use Rattle.std.specs.Prelude.{position, nat_lt}
 use Rattle.std.specs.List.{position_or_len}
 use Rattle.std.specs.Str.{bytes_eq}
 use Rattle.script_reader.specs.Answered.{saying_if, says_nothing, some_if}
-use Rattle.script_reader.specs.Commands.{command_of, letter_command, word_command}
+use Rattle.script_reader.specs.Commands.{letter_command, word_command}
 use Rattle.script_reader.specs.Items.{Item, asks, is_comment, item_in, item_or_wrong, nothing, tokens_say}
-use Rattle.script_reader.specs.Lines.{is_gap, is_parted, onto_first, tokens}
+use Rattle.script_reader.specs.Lines.{is_gap, tokens}
 use Rattle.script_reader.specs.declared.command.Command.{Command}
 use Rattle.script_reader.specs.declared.next.Next.{Next}
 use Rattle.script_reader.specs.declared.next.Next.TheVariants as answer

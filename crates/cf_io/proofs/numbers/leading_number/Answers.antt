@@ -1,4 +1,4 @@
-use Rattle.std.proofs.Common.{◌≡◌, ◌<◌, ◌+◌, length, sym, arith, get_or, false, refl}
+use Rattle.std.proofs.Common.{◌≡◌, ◌<◌, length, sym, arith, get_or, false, refl}
 use Rattle.cf_io.specs.Numbers.{is_digit}
 use Rattle.cf_io.proofs.Digits.{digits_more, first_passes, first_spell, value_grows}
 use Rattle.cf_io.proofs.numbers.leading_number.Goals as goal
