@@ -2,6 +2,7 @@ mod damage;
 mod faults;
 mod keeping;
 mod managers;
+mod opening;
 mod padded;
 mod rows;
 
