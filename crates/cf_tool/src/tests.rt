@@ -1,5 +1,9 @@
+mod damage;
 mod faults;
+mod keeping;
 mod managers;
+mod opening;
+mod padded;
 mod rows;
 
 use crate::boxed::Boxed;
@@ -46,16 +50,9 @@ struct Left {
     live: Vec<Option<u32>>,
 }
 
-/// Answers a script as these words choose, with closed managers of these kinds.
-fn answer_with<S: Source>(
-    rt: &HostRuntime,
-    words: &[&str],
-    kinds: &[Kind],
-    source: &mut S,
-    sink: &mut MemSink,
-) -> Result<Left, Fail> {
+/// Closed managers of these kinds, each in a box.
+fn closed_managers(rt: &HostRuntime, kinds: &[Kind]) -> Result<Vec<Boxed>, AllocError> {
     let alloc = rt.alloc();
-    let words = command_line(rt, words)?;
     let mut managers = Vec::new(alloc);
     for kind in kinds {
         let inner: Box<dyn Manager> = match kind {
@@ -66,8 +63,32 @@ fn answer_with<S: Source>(
         };
         managers.push(Boxed { inner })?;
     }
-    let status = cf_main(rt, alloc, words.as_slice(), source, sink, &mut managers);
-    let mut live = Vec::new(alloc);
+    Ok(managers)
+}
+
+/// Answers a script as these words choose, on these managers.
+fn answer_on<S: Source>(
+    rt: &HostRuntime,
+    words: &[&str],
+    managers: &mut Vec<Boxed>,
+    source: &mut S,
+    sink: &mut MemSink,
+) -> Result<Status, AllocError> {
+    let words = command_line(rt, words)?;
+    Ok(cf_main(rt, rt.alloc(), words.as_slice(), source, sink, managers))
+}
+
+/// Answers a script as these words choose, with closed managers of these kinds.
+fn answer_with<S: Source>(
+    rt: &HostRuntime,
+    words: &[&str],
+    kinds: &[Kind],
+    source: &mut S,
+    sink: &mut MemSink,
+) -> Result<Left, Fail> {
+    let mut managers = closed_managers(rt, kinds)?;
+    let status = answer_on(rt, words, &mut managers, source, sink)?;
+    let mut live = Vec::new(rt.alloc());
     let mut meter = Meter::new(rt);
     for manager in &managers {
         live.push(if manager.is_open() {

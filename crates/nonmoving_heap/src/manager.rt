@@ -242,3 +242,6 @@ fn block_of(heap: &OpenHeap, h: Handle, i: u32, steps: &mut Steps) -> Option<u32
         None
     }
 }
+
+#[cfg(test)]
+mod tests;

@@ -1,55 +1,271 @@
-//! A read or a write that fails, at each call.
+//! A read or a write that fails, at each call, on each manager and side by side.
 
 use super::rows::{MOVE, MOVED};
-use super::{ROOM, answer, plain_sink};
-use cf_base::Status;
+use super::{ROOM, answer, answer_on, closed_managers, plain_sink};
+use crate::boxed::Boxed;
+use cf_base::{Handle, Kind, Status};
 use cf_io::{MemSink, MemSource, SureSource};
+use cf_model::Manager;
+use std::alloc::{AllocError, Global};
 use std::test::Fail;
+use step_ledger::Meter;
 
-/// How many bytes of the replies are those of the whole lines taken before each call of a source that
-/// gives 7 bytes a call.
-const ANSWERED: [usize; 16] = [0, 0, 0, 3, 6, 9, 12, 15, 29, 29, 35, 41, 50, 56, 59, 65];
+/// The live objects of an open manager, and the address of object number 1, where it is live.
+type Stand = (u32, Option<u32>);
 
-/// How many bytes were written before each call of a sink that takes 5 bytes a call.
-const WRITTEN: [usize; 20] = [
-    0, 3, 6, 9, 12, 15, 20, 25, 29, 32, 35, 40, 41, 46, 47, 50, 55, 56, 59, 64,
+/// Where a manager stands after each number of lines; none where it is closed.
+type Stands = [Option<Stand>; 15];
+
+/// The moving manager: the last free of four objects moves object number 1.
+const MOVING: Stands = [
+    None,
+    Some((0, None)),
+    Some((1, None)),
+    Some((2, Some(23))),
+    Some((3, Some(23))),
+    Some((4, Some(23))),
+    Some((4, Some(23))),
+    Some((4, Some(23))),
+    Some((3, Some(23))),
+    Some((3, Some(23))),
+    Some((3, Some(23))),
+    Some((2, Some(64))),
+    Some((2, Some(64))),
+    Some((3, Some(64))),
+    Some((3, Some(64))),
 ];
 
-/// The script in chunks of 7 bytes, and one call of the source fails: the whole lines taken by then
-/// are answered.
+/// The non-moving manager, whose slots have 24 words.
+const NON_MOVING: Stands = [
+    None,
+    Some((0, None)),
+    Some((1, None)),
+    Some((2, Some(24))),
+    Some((3, Some(24))),
+    Some((4, Some(24))),
+    Some((4, Some(24))),
+    Some((4, Some(24))),
+    Some((3, Some(24))),
+    Some((3, Some(24))),
+    Some((3, Some(24))),
+    Some((2, Some(64))),
+    Some((2, Some(64))),
+    Some((3, Some(64))),
+    Some((3, Some(64))),
+];
+
+/// The managers of blocks, which have room for five blocks of 24 words, and none for a page at the end.
+const BLOCKS: Stands = [
+    None,
+    Some((0, None)),
+    Some((1, None)),
+    Some((2, Some(24))),
+    Some((3, Some(24))),
+    Some((4, Some(24))),
+    Some((5, Some(24))),
+    Some((5, Some(24))),
+    Some((4, Some(24))),
+    Some((4, Some(24))),
+    Some((4, Some(24))),
+    Some((3, Some(24))),
+    Some((3, Some(24))),
+    Some((3, Some(24))),
+    Some((3, Some(24))),
+];
+
+/// A way to answer the script in which an object moves: the words, the kinds of the managers, the
+/// whole output, where each manager stands after each number of lines, and how often a sink is
+/// called that takes 5 bytes a call.
+#[derive(Clone, Copy)]
+struct Answers {
+    words: &'static [&'static str],
+    kinds: &'static [Kind],
+    text: &'static [u8],
+    stands: &'static [Stands],
+    calls: u64,
+}
+
+const ANSWERS: [Answers; 5] = [
+    Answers {
+        words: &[],
+        kinds: &[Kind::Moving],
+        text: MOVED,
+        stands: &[MOVING],
+        calls: 20,
+    },
+    Answers {
+        words: &["--manager", "nm"],
+        kinds: &[Kind::NonMoving],
+        text: b"ok\nok\nok\nok\nok\nrefused space\nok\nok\nat 24\nat 64\nok\nat 64\nok\n=a1b2\n",
+        stands: &[NON_MOVING],
+        calls: 20,
+    },
+    Answers {
+        words: &["--manager", "tlsf"],
+        kinds: &[Kind::Tlsf],
+        text: b"ok\nok\nok\nok\nok\nok\nok\nok\nat 24\nat 48\nok\nat 24\nrefused space\n=a1b2\n",
+        stands: &[BLOCKS],
+        calls: 20,
+    },
+    Answers {
+        words: &["--manager", "half"],
+        kinds: &[Kind::HalfFit],
+        text: b"ok\nok\nok\nok\nok\nok\nok\nok\nat 24\nat 48\nok\nat 24\nrefused space\n=a1b2\n",
+        stands: &[BLOCKS],
+        calls: 20,
+    },
+    Answers {
+        words: &["compare"],
+        kinds: &[Kind::Moving, Kind::NonMoving, Kind::Tlsf, Kind::HalfFit],
+        text: b"cf ok\nnm ok\ntlsf ok\nhalf ok\ncf ok\nnm ok\ntlsf ok\nhalf ok\ncf ok\nnm ok\ntlsf ok\nhalf ok\ncf ok\nnm ok\ntlsf ok\nhalf ok\ncf ok\nnm ok\ntlsf ok\nhalf ok\ncf refused space\nnm refused space\ntlsf ok\nhalf ok\ncf ok\nnm ok\ntlsf ok\nhalf ok\ncf ok\nnm ok\ntlsf ok\nhalf ok\ncf at 23\nnm at 24\ntlsf at 24\nhalf at 24\ncf at 64\nnm at 64\ntlsf at 48\nhalf at 48\ncf ok\nnm ok\ntlsf ok\nhalf ok\ncf at 64\nnm at 64\ntlsf at 24\nhalf at 24\ncf ok\nnm ok\ntlsf refused space\nhalf refused space\ncf =a1b2\nnm =a1b2\ntlsf =a1b2\nhalf =a1b2\n",
+        stands: &[MOVING, NON_MOVING, BLOCKS, BLOCKS],
+        calls: 128,
+    },
+];
+
+/// Of a source that gives 7 bytes a call, the whole lines that were taken before each call.
+const LINES: [usize; 16] = [0, 0, 0, 1, 2, 3, 4, 5, 6, 6, 8, 9, 11, 12, 13, 14];
+
+/// Where an open manager stands; none where it is closed.
+fn stand_of(rt: &HostRuntime, manager: &Boxed) -> Option<Stand> {
+    let mut meter = Meter::new(rt);
+    if manager.is_open() {
+        let live = manager.totals(meter.steps()).live;
+        Some((live, manager.place(Handle(1), meter.steps())))
+    } else {
+        None
+    }
+}
+
+/// A call that fails, of a source that gives 7 bytes a call or of a sink that takes 5 bytes a call, and
+/// what is left then: the status, the bytes written, and how many lines have taken effect; on the
+/// managers after the one whose reply was `cut`, one line less.
+#[derive(Clone, Copy, Debug)]
+struct Fault {
+    take: Option<u64>,
+    put: Option<u64>,
+    status: Status,
+    written: usize,
+    lines: usize,
+    cut: usize,
+}
+
+/// The calls that fail.
+fn failing(alloc: Global, call: Option<u64>) -> Result<Vec<u64>, AllocError> {
+    let mut fails = Vec::new(alloc);
+    if let Some(call) = call {
+        fails.push(call)?;
+    }
+    Ok(fails)
+}
+
+/// Whether the managers stand as they should. The line that opens them opens all of them before the
+/// first reply.
+fn stand_so(rt: &HostRuntime, answers: &Answers, managers: &Vec<Boxed>, fault: &Fault) -> bool {
+    for (i, manager) in managers.iter().enumerate() {
+        let late = i > fault.cut && fault.lines > 1;
+        let lines = fault.lines.saturating_sub(late as usize);
+        let Some(wanted) = answers.stands.get(i).and_then(|stands| stands.get(lines)) else {
+            return false;
+        };
+        if stand_of(rt, manager) != *wanted {
+            return false;
+        }
+    }
+    true
+}
+
+/// Answers the script while a call fails, and says whether just what should be left is left.
+fn leaves_so(rt: &HostRuntime, answers: &Answers, fault: &Fault) -> Result<bool, Fail> {
+    let alloc = rt.alloc();
+    let (chunks, parts) = (vec![in alloc; 7; 16]?, vec![in alloc; 5; 128]?);
+    let mut source = MemSource::new(MOVE.to_vec(alloc)?, chunks, failing(alloc, fault.take)?);
+    let fails = failing(alloc, fault.put)?;
+    let mut sink = MemSink::new(alloc, ROOM, parts, fails).map_err(|_| "room")?;
+    let mut managers = closed_managers(rt, answers.kinds)?;
+    let status = answer_on(rt, answers.words, &mut managers, &mut source, &mut sink)?;
+    let text = answers.text.get(..fault.written).ok_or("a shorter text")?;
+    Ok(status == fault.status && sink.written() == text && stand_so(rt, answers, &managers, fault))
+}
+
+/// The length of so many lines of a text.
+fn length_of_lines(text: &[u8], count: usize) -> usize {
+    let mut left = count;
+    for (i, byte) in text.iter().enumerate() {
+        if left == 0 {
+            return i;
+        }
+        if *byte == b'\n' {
+            left -= 1;
+        }
+    }
+    text.len()
+}
+
+/// The script is answered whole.
+fn whole(answers: &Answers, take: Option<u64>, put: Option<u64>) -> Fault {
+    Fault {
+        take,
+        put,
+        status: Status::Done,
+        written: answers.text.len(),
+        lines: 14,
+        cut: 4,
+    }
+}
+
+/// Where a call of the source fails, the whole lines taken by then are answered, and no more.
 #[test]
 fn a_read_fault_leaves_the_replies_of_the_whole_lines(rt: HostRuntime) -> Result<(), Fail> {
-    let alloc = rt.alloc();
-    let mut call: u64 = 0;
-    for length in ANSWERED {
-        let cuts = vec![in alloc; 7; 16]?;
-        let fails = vec![in alloc; call; 1]?;
-        let mut source = MemSource::new(MOVE.to_vec(alloc)?, cuts, fails);
-        let mut sink = plain_sink(&rt)?;
-        let status = answer(&rt, &mut source, &mut sink)?;
-        assert_eq!(rt; status, Status::ReadFault, "call {call}");
-        assert_eq!(rt; sink.written().len(), length, "call {call}");
-        assert!(rt; MOVED.starts_with(sink.written()), "call {call}");
-        call = call.saturating_add(1);
+    for answers in ANSWERS {
+        let mut call: u64 = 0;
+        for lines in LINES {
+            let replies = lines.saturating_mul(answers.kinds.len());
+            let fault = Fault {
+                take: Some(call),
+                put: None,
+                status: Status::ReadFault,
+                written: length_of_lines(answers.text, replies),
+                lines,
+                cut: 4,
+            };
+            assert!(rt; leaves_so(&rt, &answers, &fault)?, "{fault:?}");
+            call = call.saturating_add(1);
+        }
+        let whole = whole(&answers, Some(call), None);
+        assert!(rt; leaves_so(&rt, &answers, &whole)?, "{whole:?}");
     }
     Ok(())
 }
 
-/// One call of a sink fails that takes 5 bytes a call: what the calls before it took was written.
+/// Where a call of the sink fails, what the calls before it took was written. The line whose reply
+/// was cut has taken effect on the managers up to the one whose reply it was.
 #[test]
-fn a_write_fault_leaves_a_front_of_the_text(rt: HostRuntime) -> Result<(), Fail> {
-    let alloc = rt.alloc();
-    let mut call: u64 = 0;
-    for length in WRITTEN {
-        let cuts = vec![in alloc; 5; 20]?;
-        let fails = vec![in alloc; call; 1]?;
-        let mut source = SureSource::new(MOVE.to_vec(alloc)?);
-        let mut sink = MemSink::new(alloc, ROOM, cuts, fails).map_err(|_| "room")?;
-        let status = answer(&rt, &mut source, &mut sink)?;
-        assert_eq!(rt; status, Status::WriteFault, "call {call}");
-        assert_eq!(rt; sink.written().len(), length, "call {call}");
-        assert!(rt; MOVED.starts_with(sink.written()), "call {call}");
-        call = call.saturating_add(1);
+fn a_write_fault_leaves_a_prefix_of_the_text(rt: HostRuntime) -> Result<(), Fail> {
+    for answers in ANSWERS {
+        let count = answers.kinds.len().max(1);
+        let (mut call, mut reply, mut begin): (u64, usize, usize) = (0, 0, 0);
+        for (i, byte) in answers.text.iter().enumerate() {
+            if i.saturating_sub(begin) % 5 == 0 {
+                let fault = Fault {
+                    take: None,
+                    put: Some(call),
+                    status: Status::WriteFault,
+                    written: i,
+                    lines: (reply / count).saturating_add(1),
+                    cut: reply % count,
+                };
+                assert!(rt; leaves_so(&rt, &answers, &fault)?, "{fault:?}");
+                call = call.saturating_add(1);
+            }
+            if *byte == b'\n' {
+                reply = reply.saturating_add(1);
+                begin = i.saturating_add(1);
+            }
+        }
+        assert_eq!(rt; call, answers.calls);
+        let whole = whole(&answers, None, Some(call));
+        assert!(rt; leaves_so(&rt, &answers, &whole)?, "{whole:?}");
     }
     Ok(())
 }

@@ -1,0 +1,57 @@
+//! A heap opens again where an allocation failed.
+ghost use Rattle.std.specs.Prelude.{IsTrue};
+
+use cf_base::{Handle, Settings};
+use cf_model::Manager;
+use half_fit_heap::HalfFitHeap;
+use moving_heap::MovingHeap;
+use nonmoving_heap::NonMovingHeap;
+use std::test::Fail;
+use step_ledger::Meter;
+use tlsf_heap::TlsfHeap;
+
+/// Whether a closed manager opens, at once or, where an allocation fails and leaves it closed, at the
+/// second try, and is then open and empty: its one page takes an object of that page's bytes, and no
+/// second one.
+fn opens_in_two<H: Manager>(
+    rt: &HostRuntime,
+    heap: &mut H,
+    settings: &Settings,
+    page: u32,
+) -> bool {
+    if heap.open_heap(settings).is_err() && (heap.is_open() || heap.open_heap(settings).is_err()) {
+        return false;
+    }
+    if !heap.is_open() {
+        return false;
+    }
+    let mut meter = Meter::new(rt);
+    let totals = heap.totals(meter.steps());
+    if totals.live != 0 || totals.asked != 0 || heap.place(Handle(0), meter.steps()).is_some() {
+        return false;
+    }
+    heap.cost() == 0 && fills_once(rt, heap, page)
+}
+
+/// Whether an open manager takes an object of so many bytes, and no second one.
+fn fills_once<H: Manager>(rt: &HostRuntime, heap: &mut H, page: u32) -> bool
+    requires { IsTrue (H.state heap.old).is_open }
+{
+    let mut meter = Meter::new(rt);
+    let first = heap.malloc(page, meter.steps()).is_ok();
+    meter.lap();
+    first && heap.malloc(page, meter.steps()).is_err()
+}
+
+/// Nothing is allocated here but by `open_heap`: `checks/refused-memory` refuses each of these
+/// allocations in turn.
+#[test]
+fn a_heap_opens_again_where_an_allocation_failed(rt: HostRuntime) -> Result<(), Fail> {
+    let alloc = rt.alloc();
+    let settings = Settings::check(1, 512, 1, 4)?;
+    assert!(rt; opens_in_two(&rt, &mut MovingHeap::closed(alloc), &settings, 504));
+    assert!(rt; opens_in_two(&rt, &mut NonMovingHeap::closed(alloc), &settings, 504));
+    assert!(rt; opens_in_two(&rt, &mut TlsfHeap::closed(alloc), &settings, 496));
+    assert!(rt; opens_in_two(&rt, &mut HalfFitHeap::closed(alloc), &settings, 496));
+    Ok(())
+}

@@ -1,0 +1,196 @@
+//! A manager that takes just so many steps, and what a script tells of them.
+ghost use Rattle.std.specs.Prelude.{◌≡◌, ◌≤◌, ◌+◌, ◌^◌};
+ghost use Rattle.step_ledger.specs.Counting.{RoseAtMost};
+ghost use Rattle.cf_base.specs.declared.kind.Kind.TheVariants.{Moving};
+ghost use Rattle.cf_model.specs.Costs.{free_bound, resize_bound};
+
+use super::rows::{PADDED, PADDED_CALLS, PADDED_RESIZES};
+use super::{answer_on, plain_sink};
+use crate::boxed::Boxed;
+use cf_base::{
+    AccessFault, Figures, Freed, Handle, Kind, NotLive, OutOfMemory, Refusal, ResizeFault, Resized,
+    Settings, Status, Totals,
+};
+use cf_io::SureSource;
+use cf_model::Manager;
+use moving_heap::MovingHeap;
+use std::test::Fail;
+use step_ledger::Steps;
+
+/// A moving manager whose mallocs, frees and resizes each tick until they have added their bound less
+/// the slack, refused or not.
+#[derive(Drop)]
+struct PaddedHeap {
+    heap: MovingHeap,
+    slack: u64,
+    cost: u64,
+    ghost moving: { heap.kind ≡ Moving },
+}
+
+/// The most steps of a free.
+fn free_steps(answer: &Result<Freed, NotLive>) -> u64
+    ensures value { result ≡ free_bound answer.now }
+    ensures low { result ≤ 2 ^ 36 }
+{
+    match answer {
+        Ok(freed) => 96 + 2 * freed.slot_words as u64,
+        Err(_) => 96,
+    }
+}
+
+/// The most steps of a resize.
+fn resize_steps(answer: &Result<Resized, ResizeFault>) -> u64
+    ensures value { result ≡ resize_bound answer.now }
+    ensures low { result ≤ 2 ^ 36 }
+{
+    match answer {
+        Ok(done) => 160 + 3 * done.old_slot_words.max(done.slot_words) as u64,
+        Err(_) => 160,
+    }
+}
+
+/// Ticks until the call that began at this count has added its bound less the slack, and returns how
+/// many steps it has added.
+fn pad(bound: u64, slack: u64, began: u64, steps: &mut Steps) -> u64
+    requires low { bound ≤ 2 ^ 36 }
+    requires early { began ≤ 2 ^ 63 }
+    requires within { RoseAtMost began steps.old bound }
+    ensures told { steps.new ≡ began + result }
+    ensures within { RoseAtMost began steps.new bound }
+{
+    let added = steps.count() - began;
+    let more = bound.saturating_sub(slack).saturating_sub(added);
+    steps.tick(more);
+    added + more
+}
+
+impl Manager for PaddedHeap {
+    ghost state = { λ p. record p.heap { cost = p.cost } };
+
+    fn kind(&self) -> Kind {
+        self.heap.kind()
+    }
+
+    fn is_open(&self) -> bool {
+        self.heap.is_open()
+    }
+
+    fn open_heap(&mut self, s: &Settings) -> Result<(), OutOfMemory> {
+        self.cost = 0;
+        self.heap.open_heap(s)
+    }
+
+    fn malloc(&mut self, bytes: u32, steps: &mut Steps) -> Result<Handle, Refusal> {
+        let began = steps.count();
+        let answer = self.heap.malloc(bytes, steps);
+        self.cost = pad(64, self.slack, began, steps);
+        answer
+    }
+
+    fn free(&mut self, h: Handle, steps: &mut Steps) -> Result<Freed, NotLive> {
+        let began = steps.count();
+        let answer = self.heap.free(h, steps);
+        self.cost = pad(free_steps(&answer), self.slack, began, steps);
+        answer
+    }
+
+    fn write(
+        &mut self,
+        h: Handle,
+        at: u32,
+        bytes: &[u8],
+        steps: &mut Steps,
+    ) -> Result<(), AccessFault> {
+        self.heap.write(h, at, bytes, steps)
+    }
+
+    fn read(
+        &self,
+        h: Handle,
+        at: u32,
+        out: &mut [u8],
+        steps: &mut Steps,
+    ) -> Result<(), AccessFault> {
+        self.heap.read(h, at, out, steps)
+    }
+
+    fn resize(&mut self, h: Handle, bytes: u32, steps: &mut Steps) -> Result<Resized, ResizeFault> {
+        let began = steps.count();
+        let answer = self.heap.resize(h, bytes, steps);
+        self.cost = pad(resize_steps(&answer), self.slack, began, steps);
+        answer
+    }
+
+    fn set_bound(&mut self, slot_words: u32, k: u32) -> bool {
+        self.heap.set_bound(slot_words, k)
+    }
+
+    fn place(&self, h: Handle, steps: &mut Steps) -> Option<u32> {
+        self.heap.place(h, steps)
+    }
+
+    fn peek(&self, word: u32, steps: &mut Steps) -> Option<u64> {
+        self.heap.peek(word, steps)
+    }
+
+    fn block(&self, h: Handle, i: u32, steps: &mut Steps) -> Option<u32> {
+        self.heap.block(h, i, steps)
+    }
+
+    fn classes(&self) -> u32 {
+        self.heap.classes()
+    }
+
+    fn figures(&self, c: u32) -> Option<Figures> {
+        self.heap.figures(c)
+    }
+
+    fn totals(&self, steps: &mut Steps) -> Totals {
+        self.heap.totals(steps)
+    }
+
+    fn cost(&self) -> u64 {
+        self.cost
+    }
+}
+
+/// A text whose lines each begin with the lead.
+fn led(rt: &HostRuntime, lead: &[u8], text: &[u8]) -> Result<Vec<u8>, Fail> {
+    let mut all = Vec::new(rt.alloc());
+    for line in text.split_inclusive(|b| *b == b'\n') {
+        all.extend_from_slice(lead)?;
+        all.extend_from_slice(line)?;
+    }
+    Ok(all)
+}
+
+/// What a `steps` line prints is what the manager handed in has ticked, to the step.
+#[test]
+fn each_steps_line_tells_the_steps_of_the_manager_handed_in(rt: HostRuntime) -> Result<(), Fail> {
+    let alloc = rt.alloc();
+    for (slack, calls, resizes) in PADDED {
+        for (script, text) in [(PADDED_CALLS, calls), (PADDED_RESIZES, resizes)] {
+            for (mode, lead) in [("run", b"".as_slice()), ("compare", b"cf ".as_slice())] {
+                let padded = PaddedHeap {
+                    heap: MovingHeap::closed(alloc),
+                    slack,
+                    cost: 0,
+                };
+                let mut managers = Vec::new(alloc);
+                managers.push(Boxed {
+                    inner: Box::new(alloc, padded)?,
+                })?;
+                let mut source = SureSource::new(script.to_vec(alloc)?);
+                let mut sink = plain_sink(&rt)?;
+                let status = answer_on(&rt, &[mode], &mut managers, &mut source, &mut sink)?;
+                assert_eq!(rt; status, Status::Done, "{mode} {slack}");
+                assert_eq!(rt;
+                    sink.written(),
+                    led(&rt, lead, text)?.as_slice(),
+                    "{mode} {slack}"
+                );
+            }
+        }
+    }
+    Ok(())
+}
