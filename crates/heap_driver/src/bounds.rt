@@ -2,9 +2,9 @@
 ghost use Rattle.std.specs.Prelude.{OnOk};
 ghost use Rattle.heap_driver.specs.EmptyHeap.{IsOpenedEmpty};
 
-use crate::wrong::{Wrong, hold};
 use cf_base::Settings;
 use cf_model::Manager;
+use wrong_answers::{Wrong, hold};
 
 /// Opens the heap, and gives classes bounds of their own: the words of a slot, and the bound.
 pub fn open_bounded<H: Manager>(

@@ -1,15 +1,23 @@
 //! Comparisons of the heap with the reference implementation.
+ghost use Rattle.std.specs.Prelude.{◌≡◌, ◌<◌, ◌≤◌, None, OnOk, Some, slice_get};
+ghost use Rattle.page_model.specs.Figures.{figures_of, totals_of};
+ghost use Rattle.page_model.specs.Paging.{classes};
+ghost use Rattle.cf_model.specs.Answers.{figures_in, totals_in};
 
 use crate::random_run::{PROXIES, RandomRun};
-use crate::wrong::{Wrong, hold};
 use cf_base::Handle;
 use cf_model::Manager;
 use page_reference::frames::block_of;
 use std::alloc::Global;
+use wrong_answers::{Wrong, hold};
 
 impl<H: Manager> RandomRun<H> {
     /// Compares the figures of a class, which has at most as many pages partly full as it may.
-    pub fn compare_figures(&self, class: u32) -> Result<(), Wrong> {
+    pub fn compare_figures(&self, class: u32) -> Result<(), Wrong>
+        ensures same { OnOk result (class < classes self.now.reference.paging → figures_in (H.state self.now.heap) class
+            ≡ Some (figures_of self.now.reference.paging self.now.reference.held class)) }
+        ensures none { OnOk result (classes self.now.reference.paging ≤ class → figures_in (H.state self.now.heap) class ≡ None) }
+    {
         if !self.heap.is_open() {
             return Err(Wrong::Closed);
         }
@@ -47,7 +55,11 @@ impl<H: Manager> RandomRun<H> {
     }
 
     /// Compares the figures of the heap. Where every bound is 1 the used pages are those of the arithmetic.
-    fn compare_totals(&mut self) -> Result<(), Wrong> {
+    fn compare_totals(&mut self) -> Result<(), Wrong>
+        ensures same { OnOk result (totals_in (H.state self.new.heap).kind (H.state self.new.heap)
+            ≡ totals_of self.new.reference.paging self.new.reference.held) }
+        ensures rest { self.new ≡ record self.old { meter = self.new.meter } }
+    {
         if !self.heap.is_open() {
             return Err(Wrong::Closed);
         }
@@ -61,12 +73,15 @@ impl<H: Manager> RandomRun<H> {
     }
 
     /// Compares a word of the region.
-    fn compare_word(&mut self, w: u32, want: Option<u64>) -> Result<(), Wrong> {
+    fn compare_word(&mut self, w: u32, want: Option<u64>) -> Result<(), Wrong>
+        ensures same { OnOk result (slice_get (H.state self.new.heap).words w ≡ want) }
+        ensures rest { self.new ≡ record self.old { meter = self.new.meter } }
+    {
         if !self.heap.is_open() {
             return Err(Wrong::Closed);
         }
         let word = self.heap.peek(w, self.meter.steps());
-        hold(word == want, Wrong::Word(word))
+        hold(word == want, Wrong::Word(w, word))
     }
 
     /// Compares the address of an object, and each of its blocks.

@@ -1,14 +1,15 @@
 //! A heap on which the rows are played.
-ghost use Rattle.std.specs.Prelude.{IsTrue};
+ghost use Rattle.std.specs.Prelude.{◌≡◌, IsTrue};
 
 use crate::bounds::{open_bounded, set_bound};
+use crate::failures::RowFailure;
 use crate::line::{class_text, hex_text, number, said, text, totals_text};
 use crate::rows::ROWS;
-use crate::wrong::{RowFailure, Wrong};
 use cf_base::{Handle, Layout, NotLive, Refusal, Settings};
 use cf_model::Manager;
 use std::alloc::Global;
 use step_ledger::Meter;
+use wrong_answers::Wrong;
 
 /// How many ids there are.
 const IDS: usize = 10;
@@ -31,7 +32,9 @@ pub struct Driver<H: Manager> {
 
 impl<H: Manager> Driver<H> {
     /// The heap, whose slots have sizes of this layout, with no object under an id.
-    pub fn new(alloc: Global, heap: H, layout: Layout, meter: Meter) -> Driver<H> {
+    pub fn new(alloc: Global, heap: H, layout: Layout, meter: Meter) -> Driver<H>
+        ensures kept { result.heap ≡ heap }
+    {
         Driver {
             heap,
             meter,

@@ -6,11 +6,12 @@
 mod bounds;
 mod compare;
 mod driver;
+mod failures;
 mod line;
 mod random_run;
 mod rows;
-mod wrong;
 
 pub use driver::Driver;
+pub use failures::{RowFailure, RunFailure};
 pub use random_run::{Bounds, RandomRun};
-pub use wrong::{RowFailure, RunFailure, Wrong};
+pub use wrong_answers::Wrong;

@@ -1,9 +1,9 @@
 //! Lines of rows: the words of a call, and the texts of what it returns.
 
-use crate::wrong::Wrong;
 use cf_base::{Figures, Totals};
 use std::alloc::Global;
 use std::fmt::Write;
+use wrong_answers::Wrong;
 
 /// Word i of a call.
 pub fn text<'a>(words: &[&'a str], i: usize) -> Result<&'a str, Wrong> {

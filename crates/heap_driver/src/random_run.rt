@@ -1,8 +1,8 @@
 //! Long runs of drawn calls, against a reference implementation that computes each answer from the objects.
-ghost use Rattle.std.specs.Prelude.{◌≤◌, ◌<◌};
+ghost use Rattle.std.specs.Prelude.{◌≡◌, ◌≤◌, ◌<◌, IfOk};
 
 use crate::bounds::open_bounded;
-use crate::wrong::{RunFailure, Wrong, hold};
+use crate::failures::RunFailure;
 use cf_base::{Handle, Layout, Refusal, ResizeFault, Resized, Settings};
 use cf_model::Manager;
 use page_reference::Plain;
@@ -11,6 +11,7 @@ use rand_core::{Rng, SeedableRng};
 use rand_xoshiro::SplitMix64;
 use std::alloc::Global;
 use step_ledger::Meter;
+use wrong_answers::{Wrong, hold};
 
 /// Pages, bytes to a page, and proxies.
 const PAGES: u32 = 16;
@@ -73,7 +74,9 @@ impl<H: Manager> RandomRun<H> {
         heap: H,
         layout: Layout,
         meter: Meter,
-    ) -> Result<RandomRun<H>, Wrong> {
+    ) -> Result<RandomRun<H>, Wrong>
+        ensures kept { IfOk result (λ run. run.heap ≡ heap) }
+    {
         let settings = Settings::check(PAGES, PAGE_BYTES, 1, PROXIES)?;
         Ok(RandomRun {
             heap,

@@ -1,1 +1,1 @@
-pub mod ReadBack
+pub mod Storing

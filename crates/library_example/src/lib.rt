@@ -1,42 +1,62 @@
 //! The heap as a library: a caller's code, and what the caller can promise by the contracts of `Manager` alone.
 #![tactic(auto)]
 
-ghost use Rattle.std.specs.Prelude.{◌≡◌, [], ◌∷◌, IsTrue, IfOk, IfErr, IfSome};
+ghost use Rattle.std.specs.Prelude.{◌≡◌, [], ◌∷◌, IsTrue, IfErr, IfOk, IfSome, OnOk};
+ghost use Rattle.std.specs.FinMap as map;
 ghost use Rattle.page_model.specs.Held.{objects};
 ghost use Rattle.cf_model.specs.Steps.{IsRefusedBy, StaysOpen};
+ghost use Rattle.library_example.specs.Stored.{GivesStart, HoldsOne, begun};
 
-use cf_base::{Refusal, Settings};
+use cf_base::{AccessFault, Handle, Refusal, Settings};
 use cf_model::Manager;
 use moving_heap::MovingHeap;
 use std::alloc::Global;
 use std::rt::Runtime;
 use step_ledger::Meter;
 
-/// Two pages of 512 bytes, k = 1, at most eight objects. None where out of memory.
-pub fn first_object<R: Runtime>(rt: &R, alloc: Global) -> Option<[u8; 2]>
-    ensures read_back { IfSome result (λ bytes. bytes ≡ 0xca ∷ 0xfe ∷ []) }
+/// Two pages of 512 bytes, k = 1, at most eight objects, one of them made. None where out of memory.
+pub fn first_object<R: Runtime>(rt: &R, alloc: Global) -> Option<(MovingHeap, Handle)>
+    ensures { IfSome result (λ r. HoldsOne r.0 r.1.0 (0xca ∷ 0xfe ∷ [])) }
 {
     let settings = Settings::check(2, 512, 1, 8).ok()?;
     let mut heap = MovingHeap::closed(alloc);
     heap.open_heap(&settings).ok()?;
-    write_and_read(&mut heap, &mut Meter::new(rt)).ok()
+    let object = store(&mut heap, b"\xca\xfe", &mut Meter::new(rt)).ok()?;
+    Some((heap, object))
 }
 
-/// Makes an object on any manager, writes it, reads it and frees it.
-pub fn write_and_read<M: Manager>(heap: &mut M, meter: &mut Meter) -> Result<[u8; 2], Refusal>
+/// Makes an object of 176 bytes on any manager, and writes its first two.
+pub fn store<M: Manager>(
+    heap: &mut M,
+    bytes: &[u8; 2],
+    meter: &mut Meter,
+) -> Result<Handle, Refusal>
     requires { IsTrue (M.state heap.old).is_open }
-    ensures read_back { IfOk result (λ bytes. bytes ≡ 0xca ∷ 0xfe ∷ []) }
+    ensures made { IfOk result (λ h. objects (M.state heap.new).held ≡ map.insert (objects (M.state heap.old).held) h.0 (begun bytes.now)) }
     ensures refused { IfErr result (λ cause. IsRefusedBy (M.state heap.old) 176 cause) }
-    ensures kept { objects (M.state heap.new).held ≡ objects (M.state heap.old).held }
+    ensures same { StaysOpen (M.state heap.old) (M.state heap.new) }
+{
+    meter.lap();
+    let object = heap.malloc(176, meter.steps())?;
+    meter.lap();
+    let _ = heap.write(object, 0, bytes, meter.steps());
+    Ok(object)
+}
+
+/// Reads the first two bytes of an object, and frees it.
+pub fn take_out<M: Manager>(
+    heap: &mut M,
+    object: Handle,
+    meter: &mut Meter,
+) -> Result<[u8; 2], AccessFault>
+    requires { IsTrue (M.state heap.old).is_open }
+    ensures read { GivesStart (M.state heap.old) object.0 result }
+    ensures freed { OnOk result (objects (M.state heap.new).held ≡ map.remove (objects (M.state heap.old).held) object.0) }
     ensures same { StaysOpen (M.state heap.old) (M.state heap.new) }
 {
     let mut bytes = [0; 2];
     meter.lap();
-    let object = heap.malloc(176, meter.steps())?;
-    meter.lap();
-    let _ = heap.write(object, 0, b"\xca\xfe", meter.steps());
-    meter.lap();
-    let _ = heap.read(object, 0, &mut bytes, meter.steps());
+    heap.read(object, 0, &mut bytes, meter.steps())?;
     meter.lap();
     let _ = heap.free(object, meter.steps());
     Ok(bytes)
@@ -48,8 +68,14 @@ mod tests {
     use std::test::Fail;
 
     #[test]
-    fn what_was_written_is_read_back(rt: HostRuntime) -> Result<(), Fail> {
-        assert_eq!(rt; first_object(&rt, rt.alloc()), Some([0xca, 0xfe]));
+    fn what_was_stored_is_taken_out(rt: HostRuntime) -> Result<(), Fail> {
+        let (mut heap, object) = first_object(&rt, rt.alloc()).ok_or("out of memory")?;
+        let meter = &mut Meter::new(&rt);
+        assert_eq!(rt; take_out(&mut heap, object, meter)?, [0xca, 0xfe]);
+        assert_eq!(rt;
+            take_out(&mut heap, object, meter),
+            Err(AccessFault::Unknown)
+        );
         Ok(())
     }
 }

@@ -1,20 +1,29 @@
 //! The free lists of each kind, told by the least size of each. A list holds the sizes from its least
 //! one up to that of the next list.
+ghost use Rattle.std.specs.Prelude.{◌≡◌, IfOk, length};
+
 use std::alloc::{AllocError, Global};
 
 /// TLSF (2004): a list for each size below 16 words, and 16 for each power of two from there on.
-pub fn tlsf_sizes(alloc: Global) -> Result<Vec<u32>, AllocError> {
-    let mut sizes: Vec<u32> = (0..16).collect(alloc)?;
-    for power in 0..20_u32 {
-        for part in 16..32_u32 {
-            sizes.push(part << power)?;
-        }
+pub fn tlsf_sizes(alloc: Global) -> Result<Vec<u32>, AllocError>
+    ensures count { IfOk result (λ sizes. length sizes.items ≡ 336) }
+{
+    let mut sizes = Vec::new(alloc);
+    for list in 0..336_u32 {
+        let size = if list < 16 {
+            list
+        } else {
+            (16 + list % 16) << (list / 16 - 1)
+        };
+        sizes.push(size)?;
     }
     Ok(sizes)
 }
 
 /// Half-Fit (1995): a list for each power of two.
-pub fn half_fit_sizes(alloc: Global) -> Result<Vec<u32>, AllocError> {
+pub fn half_fit_sizes(alloc: Global) -> Result<Vec<u32>, AllocError>
+    ensures count { IfOk result (λ sizes. length sizes.items ≡ 24) }
+{
     let mut sizes = Vec::new(alloc);
     for power in 0..24_u32 {
         sizes.push(1 << power)?;

@@ -6,9 +6,8 @@
 mod free_lists;
 mod plain_blocks;
 mod run;
-mod wrong;
 
 pub use free_lists::{half_fit_sizes, tlsf_sizes};
 pub use plain_blocks::PlainBlocks;
 pub use run::BlockRun;
-pub use wrong::Wrong;
+pub use wrong_answers::Wrong;

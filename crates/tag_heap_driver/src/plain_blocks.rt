@@ -1,7 +1,9 @@
 //! Blocks as a plain list by address, and free lists as plain lists.
+ghost use Rattle.std.specs.Prelude.{◌≡◌};
+
 use crate::free_lists::{first_for, list_of};
-use crate::wrong::Wrong;
 use std::alloc::Global;
+use wrong_answers::Wrong;
 
 /// What stands for no block in the links of a free list.
 const NONE: u64 = 0xffff_ffff;
@@ -54,7 +56,9 @@ impl PlainBlocks {
     }
 
     /// The blocks, in order.
-    pub fn blocks(&self) -> &[Block] {
+    pub fn blocks(&self) -> &[Block]
+        ensures value { result.now ≡ self.now.blocks.items }
+    {
         self.blocks.as_slice()
     }
 

@@ -1,14 +1,16 @@
 //! Calls on a manager with blocks, each held against a plain list of blocks.
-ghost use Rattle.std.specs.Prelude.{◌≤◌, ◌<◌};
+ghost use Rattle.std.specs.Prelude.{◌≡◌, ◌≤◌, ◌<◌, IfOk, OnOk, slice_get};
+ghost use Rattle.cf_model.specs.Answers.{place_of, totals_in};
+ghost use Rattle.cf_model.specs.Steps.{IsMallocStep};
 
 use crate::plain_blocks::{Block, PlainBlocks};
-use crate::wrong::{Wrong, hold};
 use cf_base::{Freed, Handle, Refusal, ResizeFault, Settings, Totals};
 use cf_model::Manager;
 use rand_core::{Rng, SeedableRng};
 use rand_xoshiro::SplitMix64;
 use std::alloc::Global;
 use step_ledger::Meter;
+use wrong_answers::{Wrong, hold};
 
 /// A live object: where its block begins, and its bytes.
 #[derive(Drop)]
@@ -73,7 +75,9 @@ impl<H: Manager> BlockRun<H> {
     }
 
     /// Frees all that is live, compares all, and returns the words of the largest free block.
-    pub fn drain(&mut self) -> Result<u32, Wrong> {
+    pub fn drain(&mut self) -> Result<u32, Wrong>
+        ensures largest { IfOk result (λ largest. largest ≡ (totals_in (H.state self.new.heap).kind (H.state self.new.heap)).largest) }
+    {
         for number in 0..self.proxies {
             if self.is_live(Handle(number)) {
                 self.free(Handle(number))?;
@@ -84,7 +88,9 @@ impl<H: Manager> BlockRun<H> {
     }
 
     /// A malloc, whose answer is that of the plain list.
-    pub fn malloc(&mut self, alloc: Global, bytes: u32) -> Result<Result<Handle, Refusal>, Wrong> {
+    pub fn malloc(&mut self, alloc: Global, bytes: u32) -> Result<Result<Handle, Refusal>, Wrong>
+        ensures step { IfOk result (λ given. IsMallocStep (H.state self.old.heap) bytes given (H.state self.new.heap)) }
+    {
         let want = self.refusal(bytes);
         if !self.heap.is_open() {
             return Err(Wrong::Closed);
@@ -129,7 +135,10 @@ impl<H: Manager> BlockRun<H> {
     }
 
     /// The figures of the heap, which are those of the plain list.
-    pub fn totals(&mut self) -> Result<Totals, Wrong> {
+    pub fn totals(&mut self) -> Result<Totals, Wrong>
+        ensures told { IfOk result (λ totals. totals ≡ totals_in (H.state self.new.heap).kind (H.state self.new.heap)) }
+        ensures heap { self.new.heap ≡ self.old.heap }
+    {
         let (words, used, free, largest) = self.plain.figures();
         let mut live: u32 = 0;
         let mut asked: u64 = 0;
@@ -337,7 +346,10 @@ impl<H: Manager> BlockRun<H> {
     }
 
     /// Compares a word of the region.
-    fn compare_word(&mut self, word: u32, want: Option<u64>) -> Result<(), Wrong> {
+    fn compare_word(&mut self, word: u32, want: Option<u64>) -> Result<(), Wrong>
+        ensures same { OnOk result (slice_get (H.state self.new.heap).words word ≡ want) }
+        ensures rest { self.new ≡ record self.old { meter = self.new.meter } }
+    {
         if !self.heap.is_open() {
             return Err(Wrong::Closed);
         }
@@ -346,7 +358,10 @@ impl<H: Manager> BlockRun<H> {
     }
 
     /// Compares the address of an object.
-    fn compare_place(&mut self, handle: Handle, want: Option<u32>) -> Result<(), Wrong> {
+    fn compare_place(&mut self, handle: Handle, want: Option<u32>) -> Result<(), Wrong>
+        ensures same { OnOk result (place_of (H.state self.new.heap) handle.0 ≡ want) }
+        ensures rest { self.new ≡ record self.old { meter = self.new.meter } }
+    {
         if !self.heap.is_open() {
             return Err(Wrong::Closed);
         }
