@@ -1,6 +1,6 @@
 -- Quotas at first, and after one is granted.
-use Rattle.std.proofs.Common.{◌≡◌, ◌≢◌, ℕ, zero, suc, Bool, true, false, cond, ◌+◌, ◌<◌, ◌≤◌, List, [], ◌∷◌, Some, None, length, get_or, replicate, set, arith, ap, sym, ◌∙◌, refl, inl, inr, subst}
-use Rattle.std.specs.Prelude.{count_by, nat_eq, nat_lt, sum, sum_by}
+use Rattle.std.proofs.Common.{◌≡◌, ℕ, zero, suc, Bool, true, false, cond, ◌<◌, ◌≤◌, List, Some, None, length, get_or, replicate, set, arith, ap, sym, ◌∙◌, refl, inl, inr, subst}
+use Rattle.std.specs.Prelude.{count_by, nat_eq, nat_lt, sum}
 use Rattle.std.proofs.lemmas.Bool.{cases_eq, cases_lt, false≢true}
 use Rattle.std.proofs.lemmas.List.{get_or-set_other, get_or-set_same, length-replicate, length-set}
 use Rattle.std.proofs.lemmas.List.Sums.{sum_by-cons}
@@ -11,7 +11,7 @@ use Rattle.cf_lemmas.proofs.Maps.{equal_maps}
 use Rattle.cf_lemmas.proofs.Tests.{lt_yes}
 use Rattle.cf_lemmas.proofs.Values.{map_values-empty, no_values}
 use Rattle.page_model.specs.Arrangement.{IsSound, live, pages_needed}
-use Rattle.page_model.specs.Held.{Held, Objects, Placed, objects}
+use Rattle.page_model.specs.Held.{Held, Placed, objects}
 use Rattle.page_model.specs.Paging.{Paging, class_for}
 use Rattle.page_model.proofs.CallerLemmas.{sound_empty}
 use Rattle.quota_model.specs.Parts.{key_of, part_of}

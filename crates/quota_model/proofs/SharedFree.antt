@@ -1,5 +1,5 @@
 -- A free of a task.
-use Rattle.std.proofs.Common.{◌≡◌, ◌≢◌, ℕ, ◌+◌, ◌<◌, ◌≤◌, List, Option, Some, None, get_or, arith, ap, sym, ◌∙◌, refl, inl, inr, subst}
+use Rattle.std.proofs.Common.{◌≡◌, ◌≢◌, ℕ, ◌<◌, ◌≤◌, List, Option, Some, None, get_or, arith, ap, sym, ◌∙◌, refl, inl, inr, subst}
 use Rattle.std.specs.Prelude.{IsTrue, option_map}
 use Rattle.std.proofs.lemmas.Bool.{cases_eq}
 use Rattle.std.specs.FinMap.{get, insert, remove}
@@ -12,7 +12,7 @@ use Rattle.page_model.specs.Held.{Held, Objects, Placed, objects}
 use Rattle.page_model.specs.Paging.{Paging, page_of}
 use Rattle.page_model.specs.Steps.{Moves, moved_to, without}
 use Rattle.page_model.proofs.CallerLemmas.{free_objects, live_taken, sound_without}
-use Rattle.quota_model.specs.Parts.{key_of, number_of, part_of, task_of}
+use Rattle.quota_model.specs.Parts.{key_of, part_of, task_of}
 use Rattle.quota_model.specs.Refusals.{task_paging}
 use Rattle.quota_model.specs.Shared.{AreQuotas, IsShared, RemovesForTask}
 use Rattle.quota_model.proofs.Ceilings.{pages_grow}

@@ -1,12 +1,11 @@
 -- A malloc of a task.
-use Rattle.std.proofs.Common.{◌≡◌, ◌≢◌, ℕ, Bool, true, false, cond, ◌+◌, ◌<◌, ◌≤◌, List, Option, Some, None, length, get_or, replicate, arith, ap, sym, ◌∙◌, refl, inl, inr, subst}
+use Rattle.std.proofs.Common.{◌≡◌, ◌≢◌, ℕ, Bool, true, false, cond, ◌+◌, ◌<◌, ◌≤◌, List, Some, None, length, get_or, replicate, arith, ap, sym, ◌∙◌, refl, inl, inr, subst}
 use Rattle.std.specs.Prelude.{IsTrue, nat_eq, nat_lt}
 use Rattle.std.proofs.lemmas.Bool.{cases_eq, cases_lt, false≢true}
 use Rattle.std.proofs.lemmas.List.{length-replicate}
 use Rattle.std.specs.FinMap.{get, insert}
 use Rattle.cf_base.specs.Limits.{is_page_size}
 use Rattle.cf_base.specs.Settings.{Profile}
-use Rattle.cf_base.specs.declared.answers.Refusal.{Refusal}
 use Rattle.cf_base.specs.declared.answers.Refusal.TheVariants as refusal
 use Rattle.cf_lemmas.proofs.MapValues.{get-map_values}
 use Rattle.cf_lemmas.proofs.Maps.{some_inserted}
@@ -15,9 +14,9 @@ use Rattle.cf_lemmas.proofs.Tests.{lt_yes}
 use Rattle.page_model.specs.Arrangement.{IsSound, live, pages_needed, pages_needed_with}
 use Rattle.page_model.specs.Held.{Held, Objects, Placed, objects}
 use Rattle.page_model.specs.Paging.{Paging, class_for, page_of}
-use Rattle.page_model.specs.Steps.{PlacesObject, Request, zeros_at}
+use Rattle.page_model.specs.Steps.{Request, zeros_at}
 use Rattle.page_model.proofs.CallerLemmas.{live_added, malloc_objects, sound_malloc}
-use Rattle.quota_model.specs.Parts.{key_of, number_of, part_of, task_of}
+use Rattle.quota_model.specs.Parts.{key_of, part_of, task_of}
 use Rattle.quota_model.specs.Refusals.{malloc_refusal, task_paging}
 use Rattle.quota_model.specs.Shared.{AreQuotas, IsShared, PlacesForTask}
 use Rattle.quota_model.proofs.Ceilings.{pages_same}

@@ -1,5 +1,5 @@
 -- While a task uses fewer pages than its quota, a page of the region holds nothing.
-use Rattle.std.proofs.Common.{◌≡◌, ◌≢◌, ℕ, zero, suc, Bool, true, false, ◌+◌, ◌-◌, ◌<◌, ◌≤◌, List, [], ◌∷◌, Some, length, get_or, arith, ap, sym, ◌∙◌, refl, inl, inr, subst}
+use Rattle.std.proofs.Common.{◌≡◌, ℕ, zero, suc, Bool, ◌+◌, ◌<◌, ◌≤◌, List, [], ◌∷◌, length, get_or, arith, ap, sym, ◌∙◌, refl, inl, inr, subst}
 use Rattle.std.specs.Prelude.{IsTrue, count_by, nat_lt, sum, sum_by}
 use Rattle.std.specs.List.{range_with_len}
 use Rattle.std.proofs.lemmas.Bool.{cases_eq, cases_lt}
@@ -8,9 +8,9 @@ use Rattle.cf_base.specs.Limits.{is_page_size}
 use Rattle.cf_base.specs.Settings.{Profile}
 use Rattle.cf_base.specs.declared.kind.Layout.TheVariants.{Words}
 use Rattle.cf_lemmas.proofs.Ranges.{one}
-use Rattle.page_model.specs.Arrangement.{pages_needed, standing_on, used_pages}
-use Rattle.page_model.specs.Held.{Held, Placed, objects}
-use Rattle.page_model.specs.Paging.{AreOne, IsPaging, Paging, page_of}
+use Rattle.page_model.specs.Arrangement.{standing_on, used_pages}
+use Rattle.page_model.specs.Held.{Held}
+use Rattle.page_model.specs.Paging.{AreOne, IsPaging}
 use Rattle.page_model.proofs.CallerLemmas.{first_ones, first_paged, less_counts, not_less_counts_none, one_le, standing, stands_here, sum_plus, sum_same}
 use Rattle.page_model.proofs.CallerLemmas.{sum_zeros, used_at_one, used_is}
 use Rattle.quota_model.specs.Parts.{number_of, part_of, task_of}
