@@ -1,7 +1,7 @@
 -- The sums over the entries so far, and after one more.
-use Rattle.std.proofs.Common.{◌≡◌, ◌≢◌, ℕ, zero, suc, Bool, true, false, ◌+◌, ◌-◌, ◌<◌, ◌≤◌, List, [], ◌∷◌, ◌++◌, Option, Some, None, length, get_or, set, replicate, take}
+use Rattle.std.proofs.Common.{◌≡◌, ◌≢◌, ℕ, zero, suc, false, ◌+◌, ◌-◌, ◌<◌, ◌≤◌, List, [], ◌++◌, Some, None, length, get_or, set, replicate, take}
 use Rattle.std.proofs.Common.{arith, ap, sym, ◌∙◌, inl, inr, refl, subst}
-use Rattle.std.specs.Prelude.{IsTrue, count_by, nat_eq, nat_lt}
+use Rattle.std.specs.Prelude.{IsTrue, nat_eq, nat_lt}
 use Rattle.std.specs.FinMap.{empty}
 use Rattle.std.proofs.lemmas.Bool.{cases_eq, cases_lt, false≢true}
 use Rattle.std.proofs.lemmas.List.{get_or-set_same, get_or-set_other, length-append, length-replicate, length-set}
@@ -9,12 +9,11 @@ use Rattle.std.proofs.lemmas.List.Sums.{count_by-le-length}
 use Rattle.std.proofs.Math.Seq.{take-length}
 use Rattle.cf_base.specs.Classes.{need}
 use Rattle.cf_base.specs.Limits.{is_page_size}
-use Rattle.cf_base.specs.Settings.{Profile}
 use Rattle.cf_lemmas.proofs.Tests.{lt_yes}
 use Rattle.page_model.specs.Counts.{ceil_div}
-use Rattle.page_model.specs.Paging.{Paging, IsPaging, class_for, classes, slots_of}
+use Rattle.page_model.specs.Paging.{Paging, class_for, classes, slots_of}
 use Rattle.page_model.proofs.CallerLemmas.{class_fits}
-use Rattle.quota_model.specs.Admission.{CanBeAsked, Share, count_of_class, declared_in_all, first_short, in_order, pages_of}
+use Rattle.quota_model.specs.Admission.{CanBeAsked, Share, count_of_class, first_short, in_order, pages_of}
 use Rattle.quota_model.specs.Refusals.{task_paging}
 use Rattle.quota_model.specs.declared.answers.Need.{Need}
 use Rattle.quota_model.proofs.CallerLemmas.{all_fail, length-in_order, none_iff, pages_of_none, some_iff}

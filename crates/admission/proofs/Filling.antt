@@ -1,12 +1,12 @@
 -- The slot sizes of a page, written one after the other.
-use Rattle.std.proofs.Common.{◌≡◌, ℕ, zero, suc, ◌+◌, ◌-◌, ◌*◌, ◌/◌, ◌<◌, ◌≤◌, true, false, min, List, [], ◌∷◌, ◌++◌, length, set, take, arith, ap, sym, ◌∙◌, refl, inl, inr, cond}
-use Rattle.std.specs.Prelude.{IsTrue, nat_lt}
+use Rattle.std.proofs.Common.{◌≡◌, ℕ, zero, suc, ◌+◌, ◌*◌, ◌/◌, ◌<◌, ◌≤◌, List, [], ◌∷◌, ◌++◌, length, set, take, arith, ap, sym, ◌∙◌, refl, inl, inr}
+use Rattle.std.specs.Prelude.{IsTrue}
 use Rattle.std.proofs.lemmas.Bool.{cases_lt}
 use Rattle.std.proofs.lemmas.List.{append_assoc, length-append, length-take, take_more_set}
 use Rattle.cf_base.specs.Classes.{sizes, sizes_from}
 use Rattle.cf_base.specs.Limits.{is_page_size}
 use Rattle.cf_base.specs.declared.kind.Layout.TheVariants.{Words}
-use Rattle.cf_base.proofs.CallerLemmas.{are_sizes, page_size}
+use Rattle.cf_base.proofs.CallerLemmas.{are_sizes}
 use Rattle.cf_lemmas.proofs.Tests.{lt_no, lt_yes}
 use Rattle.admission.specs.Layout.{IsFilled}
 

@@ -7,3 +7,6 @@ mod sizes;
 
 pub use enough::admit;
 pub use quota_model::{Admission, Need};
+
+#[cfg(test)]
+mod tests;

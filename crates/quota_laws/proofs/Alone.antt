@@ -1,5 +1,5 @@
 -- A reply follows from the settings, the quota and the objects of the task.
-use Rattle.std.proofs.Common.{◌≡◌, ℕ, ap, sym, ◌∙◌, refl, subst, slice_index, cond}
+use Rattle.std.proofs.Common.{◌≡◌, ℕ, ap, refl, slice_index, cond}
 use Rattle.page_model.specs.Arrangement.{live, pages_needed_with}
 use Rattle.page_model.specs.Held.{Objects}
 use Rattle.page_model.specs.Paging.{class_for}
@@ -10,9 +10,9 @@ use Rattle.cf_base.specs.declared.kind.Kind.TheVariants.{Moving}
 use Rattle.std.specs.Prelude.{codes}
 use Rattle.cf_base.specs.Settings.{Profile}
 use Rattle.transcript_laws.specs.ById.{begun}
-use Rattle.quota_model.specs.Refusals.{malloc_refusal, task_paging}
+use Rattle.quota_model.specs.Refusals.{malloc_refusal}
 use Rattle.quota_laws.specs.Tasks.{Tasks, own_heap, is_for_task, task_leaves, task_reply}
-use Rattle.run_model.specs.Texts.{Reply, said}
+use Rattle.run_model.specs.Texts.{said}
 
 -- a heap of its own, from its parts
 abbrev heap_from : Profile → ℕ → Objects → ById

@@ -1,21 +1,19 @@
 -- The replies to a task are the same without the other tasks.
-use Rattle.std.proofs.Common.{◌≡◌, ◌≢◌, ℕ, zero, suc, Bool, true, false, cond, ◌+◌, ◌<◌, ◌≤◌, List, [], ◌∷◌, Option, Some, None, length, get_or, replicate, set}
+use Rattle.std.proofs.Common.{◌≡◌, ◌≢◌, ℕ, zero, suc, Bool, true, false, cond, ◌<◌, ◌≤◌, List, [], ◌∷◌, Option, Some, None, length, get_or, replicate, set}
 use Rattle.std.proofs.Common.{arith, ap, sym, ◌∙◌, refl, inl, inr, subst}
-use Rattle.std.specs.Prelude.{◌&&◌, nat_eq, nat_lt, sum, sum_by}
+use Rattle.std.specs.Prelude.{◌&&◌, nat_eq, nat_lt, sum}
 use Rattle.std.proofs.lemmas.Bool.{cases_eq, cases_lt}
-use Rattle.std.proofs.lemmas.List.{get_or-set_same, get_or-set_other, length-set, length-replicate, get_or-replicate}
+use Rattle.std.proofs.lemmas.List.{get_or-set_same, get_or-set_other, length-set, length-replicate}
 use Rattle.std.proofs.lemmas.List.Sums.{sum_by-cons}
 use Rattle.cf_base.specs.Settings.{Profile}
 use Rattle.cf_lemmas.proofs.Tests.{eq_yes, eq_no, lt_no, lt_yes}
 use Rattle.page_model.specs.Arrangement.{pages_needed}
-use Rattle.page_model.specs.Held.{Objects}
-use Rattle.quota_model.specs.Refusals.{quota_refusal, task_paging}
+use Rattle.quota_model.specs.Refusals.{task_paging}
 use Rattle.quota_model.specs.declared.answers.QuotaFault.{QuotaFault}
 use Rattle.quota_model.specs.declared.answers.QuotaFault.TheVariants.{Sum, Used}
 use Rattle.script_reader.specs.declared.command.Command.{Command}
 use Rattle.quota_laws.specs.Tasks.{TaskItem, Tasks, after_item, calls, no_tasks, quotas_after, set_refusal, sets, task_leaves, task_reply}
 use Rattle.quota_laws.specs.Runs.{is_accepted, own_items, replies_to}
-use Rattle.run_model.specs.Texts.{Reply}
 use Rattle.quota_laws.proofs.Alone.{same_leaves, same_reply}
 
 -- smaller entries have a smaller sum

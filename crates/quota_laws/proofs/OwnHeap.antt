@@ -1,14 +1,13 @@
 -- While its quota stays, a task is answered as on a heap of its own.
-use Rattle.std.proofs.Common.{◌≡◌, ◌≢◌, ℕ, Bool, true, false, cond, List, [], ◌∷◌, Option, Some, None, get_or, ap, sym, ◌∙◌, refl, inl, inr, subst, arith}
+use Rattle.std.proofs.Common.{◌≡◌, ◌≢◌, ℕ, true, false, cond, List, [], ◌∷◌, Option, Some, None, ap, sym, ◌∙◌, refl, inl, inr}
 use Rattle.std.specs.Prelude.{nat_eq, codes}
 use Rattle.std.proofs.lemmas.Bool.{cases_eq}
 use Rattle.std.proofs.lemmas.List.{get_or-set_other}
 use Rattle.cf_base.specs.declared.kind.Kind.TheVariants.{Moving}
 use Rattle.cf_lemmas.proofs.Tests.{eq_yes, eq_no}
-use Rattle.page_model.specs.Held.{Objects}
 use Rattle.quota_model.specs.declared.answers.QuotaFault.{QuotaFault}
-use Rattle.run_model.specs.Texts.{Reply, said}
-use Rattle.script_reader.specs.Items.{Item, asks}
+use Rattle.run_model.specs.Texts.{said}
+use Rattle.script_reader.specs.Items.{asks}
 use Rattle.script_reader.specs.declared.command.Command.{Command}
 use Rattle.script_reader.specs.declared.command.Command.TheVariants.{Malloc, Free, Write, Read, Walk, Place, Block, Peek, Frag, Steps, Bound, Resize, Slice, Task, Quota, Need, Admit}
 use Rattle.transcript_laws.specs.ById.{ById}

@@ -3,7 +3,7 @@ use Rattle.std.specs.Prelude.{◌≡◌, ◌≢◌, ⊤, ℕ, Bool, true, false,
 use Rattle.quota_model.specs.declared.answers.QuotaFault.{QuotaFault}
 use Rattle.run_model.specs.Texts.{Reply}
 use Rattle.script_reader.specs.Items.{Item, asks}
-use Rattle.quota_laws.specs.Tasks.{TaskItem, Tasks, after_item, calls, is_for_task, item_reply, set_refusal, sets, task_reply}
+use Rattle.quota_laws.specs.Tasks.{TaskItem, Tasks, after_item, calls, is_for_task, set_refusal, sets, task_reply}
 
 -- the replies to the calls of a task, in a run of the items from a state on
 abbrev pub replies_to : ℕ → Tasks → List TaskItem → List Reply

@@ -1,5 +1,5 @@
 -- Tasks that share a region, by the ids of a script: each has a quota and objects of its own.
-use Rattle.std.specs.Prelude.{ℕ, Bool, true, false, List, Option, Some, None, Result, Ok, Err, codes, if◌then◌else◌, nat_eq, replicate, slice_index, slice_set}
+use Rattle.std.specs.Prelude.{ℕ, Bool, true, false, List, Option, Some, None, codes, if◌then◌else◌, nat_eq, replicate, slice_index, slice_set}
 use Rattle.std.specs.FinMap.{empty}
 use Rattle.cf_base.specs.Settings.{Profile}
 use Rattle.cf_base.specs.declared.kind.Kind.TheVariants.{Moving}

@@ -1,5 +1,5 @@
 -- The laws of admission.
-use Rattle.std.proofs.Common.{◌≡◌, ℕ, zero, suc, Bool, ◌+◌, ◌-◌, ◌<◌, ◌≤◌, List, [], ◌∷◌, Option, Some, None, length, take}
+use Rattle.std.proofs.Common.{◌≡◌, ℕ, zero, suc, Bool, ◌-◌, ◌<◌, ◌≤◌, List, [], ◌∷◌, Option, Some, None, length, take}
 use Rattle.std.proofs.Common.{arith, ap, sym, ◌∙◌, inl, inr, refl, subst}
 use Rattle.std.specs.Prelude.{◌↔◌, count_by, nat_eq}
 use Rattle.std.proofs.lemmas.Bool.{cases_lt}
@@ -14,10 +14,9 @@ use Rattle.quota_model.specs.declared.answers.Admission.{Admission}
 use Rattle.quota_model.specs.declared.answers.Admission.TheVariants.{Yes, No, Size, Proxies}
 use Rattle.quota_model.specs.declared.answers.Need.{Need}
 use Rattle.quota_model.proofs.Ceilings.{count-cons, pages_grow, pages_of_none}
-use Rattle.quota_model.proofs.Contained.{times}
 use Rattle.quota_model.proofs.Declared.{all_fit, declared_is, length-in_order}
 use Rattle.quota_model.proofs.Enough.{is_enough}
-use Rattle.quota_model.proofs.InOrder.{Agrees, FirstPast, IsTold, are_within, runs_short, told}
+use Rattle.quota_model.proofs.InOrder.{Agrees, IsTold, are_within, runs_short, told}
 
 count_takes : (f : ℕ → Bool) (ns : List ℕ) (i j : ℕ) → i ≤ j → count_by f (take i ns) ≤ count_by f (take j ns)
 count_takes f ns zero j le = omega arith

@@ -1,7 +1,7 @@
 -- Where the declared objects together need no more pages than the quota has, no call within the needs is refused for space.
 use Rattle.std.proofs.Common.{◌≡◌, ℕ, Bool, true, false, cond, ◌+◌, ◌<◌, ◌≤◌, List, [], ◌∷◌, Option, Some, None, length, map, replicate}
 use Rattle.std.proofs.Common.{arith, ap, sym, ◌∙◌, inl, inr, refl}
-use Rattle.std.specs.Prelude.{IsSome, count_by, nat_eq, nat_lt, ◌⊎◌}
+use Rattle.std.specs.Prelude.{IsSome, count_by, nat_eq, nat_lt}
 use Rattle.std.proofs.lemmas.Bool.{cases_eq, cases_lt, false≢true}
 use Rattle.std.proofs.lemmas.List.{length-replicate}
 use Rattle.std.specs.FinMap.{empty, get, insert, remove, values}
@@ -13,7 +13,7 @@ use Rattle.cf_lemmas.proofs.Tests.{eq_yes, eq_no, lt_no}
 use Rattle.cf_lemmas.proofs.Values.{no_values}
 use Rattle.page_model.specs.Arrangement.{live, pages_needed_with}
 use Rattle.page_model.specs.Held.{Objects}
-use Rattle.page_model.specs.Paging.{Paging, class_for}
+use Rattle.page_model.specs.Paging.{class_for}
 use Rattle.quota_model.specs.Admission.{AreWithin, Call, IsEnough, IsShort, IsWithin, RunsShort, Share, after, asks, count_of_class, declared, frees, granted}
 use Rattle.quota_model.specs.Admission.{in_order, live_of, pages_of}
 use Rattle.quota_model.specs.Refusals.{malloc_refusal, task_paging}

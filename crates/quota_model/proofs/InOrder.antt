@@ -1,8 +1,8 @@
 -- The declared mallocs in order: which of them is the first that is refused for space.
-use Rattle.std.proofs.Common.{◌≡◌, ◌≢◌, ℕ, zero, suc, Bool, true, false, cond, ◌+◌, ◌-◌, ◌<◌, ◌≤◌, List, [], ◌∷◌, ◌++◌, Option, Some, None, length, replicate, take}
+use Rattle.std.proofs.Common.{◌≡◌, ◌≢◌, ℕ, suc, Bool, true, false, cond, ◌+◌, ◌<◌, ◌≤◌, List, [], ◌∷◌, ◌++◌, Option, Some, None, length, replicate, take}
 use Rattle.std.proofs.Common.{arith, ap, sym, ◌∙◌, inl, inr, refl, subst}
 use Rattle.std.specs.Prelude.{count_by, nat_eq, nat_lt, ◌⊎◌}
-use Rattle.std.proofs.lemmas.Bool.{cases_eq, cases_lt}
+use Rattle.std.proofs.lemmas.Bool.{cases_lt}
 use Rattle.std.proofs.lemmas.List.{append-nil, append_assoc, length-replicate}
 use Rattle.std.specs.FinMap.{get, insert, len, values}
 use Rattle.cf_base.specs.Classes.{need}
@@ -15,7 +15,7 @@ use Rattle.cf_lemmas.proofs.Tests.{eq_no, eq_yes, lt_no, lt_yes}
 use Rattle.page_model.specs.Arrangement.{live, pages_needed_with}
 use Rattle.page_model.specs.Held.{Objects}
 use Rattle.page_model.specs.Paging.{Paging, class_for}
-use Rattle.quota_model.specs.Admission.{AreWithin, IsShort, RunsShort, Share, asks, count_of_class, declared, first_short, granted, is_short, live_of, mallocs}
+use Rattle.quota_model.specs.Admission.{AreWithin, RunsShort, Share, count_of_class, declared, first_short, granted, is_short, live_of, mallocs}
 use Rattle.quota_model.specs.Admission.{pages_of}
 use Rattle.quota_model.specs.Refusals.{malloc_refusal, task_paging}
 use Rattle.quota_model.specs.declared.answers.Need.{Need}

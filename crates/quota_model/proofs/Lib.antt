@@ -5,3 +5,8 @@ pub mod Enough
 pub mod InOrder
 pub mod AdmissionLaws
 pub mod CallerLemmas
+pub mod TaskParts
+pub mod SharedPages
+pub mod SharedMalloc
+pub mod SharedFree
+pub mod QuotasFit

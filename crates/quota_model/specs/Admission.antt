@@ -9,7 +9,7 @@ use Rattle.cf_base.specs.declared.answers.Refusal.TheVariants as refusal
 use Rattle.page_model.specs.Arrangement.{pages_for}
 use Rattle.page_model.specs.Held.{Objects}
 use Rattle.page_model.specs.Paging.{Paging, class_for}
-use Rattle.quota_model.specs.Refusals.{malloc_refusal, task_paging}
+use Rattle.quota_model.specs.Refusals.{malloc_refusal}
 use Rattle.quota_model.specs.declared.answers.Admission.{Admission}
 use Rattle.quota_model.specs.declared.answers.Admission.TheVariants.{Yes, No, Size, Proxies}
 use Rattle.quota_model.specs.declared.answers.Need.{Need}

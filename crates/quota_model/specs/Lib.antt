@@ -1,2 +1,4 @@
 pub mod Refusals
 pub mod Admission
+pub mod Parts
+pub mod Shared

@@ -5,9 +5,14 @@
 
 mod admitting;
 mod answers;
+mod sharing;
 
 pub use admitting::{
     a_quota_is_enough_by_ceilings, the_first_refusal_is_the_first_sum_past_the_quota,
     there_is_one_admission,
 };
 pub use answers::{Admission, Need, QuotaFault};
+pub use sharing::{
+    a_free_keeps_tasks_apart, a_malloc_keeps_tasks_apart, a_page_is_there_for_each_quota,
+    a_task_has_its_part, quotas_fit,
+};

@@ -1,4 +1,4 @@
-use Rattle.std.proofs.Common.{◌≡◌, ◌<◌, Some, None, arith, sym, ◌∙◌}
+use Rattle.std.proofs.Common.{◌≡◌, Some, None, arith, sym, ◌∙◌}
 use Rattle.cf_base.specs.Settings.{profile_of}
 use Rattle.page_model.specs.Paging.{class_for}
 use Rattle.quota_model.specs.Refusals.{task_paging}

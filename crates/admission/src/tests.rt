@@ -1,0 +1,115 @@
+use super::*;
+use cf_base::Settings;
+use std::test::Fail;
+
+#[test]
+fn each_answer_comes_by_its_cause(rt: HostRuntime) -> Result<(), Fail> {
+    let Ok(s) = Settings::check(3, 512, 1, 8) else {
+        panic!(rt; "the settings are in range");
+    };
+    let half = Need {
+        bytes: 176,
+        count: 3,
+    };
+    let small = Need { bytes: 8, count: 1 };
+    let many = Need { bytes: 8, count: 8 };
+    let large = Need {
+        bytes: 505,
+        count: 0,
+    };
+    // Three objects with two slots on a page, and one of another class, need three pages.
+    assert_eq!(rt; admit(&s, 0, &[]), Admission::Yes, "nothing is declared");
+    assert_eq!(rt;
+        admit(&s, 2, &[half]),
+        Admission::Yes,
+        "two pages hold three"
+    );
+    assert_eq!(rt;
+        admit(&s, 2, &[half, small]),
+        Admission::No { nth: 4 },
+        "the fourth"
+    );
+    assert_eq!(rt; admit(&s, 3, &[half, small]), Admission::Yes, "three pages");
+    assert_eq!(rt;
+        admit(&s, 1, &[half]),
+        Admission::No { nth: 3 },
+        "one page holds two"
+    );
+    assert_eq!(rt;
+        admit(&s, 2, &[half, small, many]),
+        Admission::Proxies,
+        "12 of 8"
+    );
+    assert_eq!(rt;
+        admit(&s, 9, &[many, large]),
+        Admission::Size { entry: 1 },
+        "505 bytes"
+    );
+    Ok(())
+}
+
+// Objects of 8, 176 and 504 bytes, of which 16, 2 and 1 stand on a page of 64 words.
+fn pages_of(live: &[u32; 3]) -> u64 {
+    live[0].div_ceil(16) as u64 + live[1].div_ceil(2) as u64 + live[2] as u64
+}
+
+// Whether a list of at most `calls` calls within what is declared has a malloc refused for space.
+fn runs_short(quota: u64, declared: &[u32; 3], live: &[u32; 3], calls: u32) -> bool {
+    if calls == 0 {
+        return false;
+    }
+    for kind in 0..3 {
+        let mut next = *live;
+        if next[kind] < declared[kind] {
+            next[kind] += 1;
+            if quota < pages_of(&next) || runs_short(quota, declared, &next, calls - 1) {
+                return true;
+            }
+        }
+        let mut next = *live;
+        if next[kind] > 0 {
+            next[kind] -= 1;
+            if runs_short(quota, declared, &next, calls - 1) {
+                return true;
+            }
+        }
+    }
+    false
+}
+
+#[test]
+fn a_quota_is_enough_where_no_list_of_calls_runs_short(rt: HostRuntime) -> Result<(), Fail> {
+    let Ok(s) = Settings::check(4, 512, 1, 8) else {
+        panic!(rt; "the settings are in range");
+    };
+    for quota in 0..5u32 {
+        for smalls in 0..3u32 {
+            for halves in 0..4u32 {
+                for wholes in 0..3u32 {
+                    let needs = [
+                        Need {
+                            bytes: 504,
+                            count: wholes,
+                        },
+                        Need {
+                            bytes: 8,
+                            count: smalls,
+                        },
+                        Need {
+                            bytes: 176,
+                            count: halves,
+                        },
+                    ];
+                    let short = runs_short(quota as u64, &[smalls, halves, wholes], &[0; 3], 7);
+                    let answer = admit(&s, quota, &needs);
+                    assert_eq!(rt;
+                        answer != Admission::Yes,
+                        short,
+                        "quota {quota}, needs {smalls} {halves} {wholes}"
+                    );
+                }
+            }
+        }
+    }
+    Ok(())
+}

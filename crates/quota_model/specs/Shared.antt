@@ -1,0 +1,41 @@
+-- Sixteen tasks on the pages of one region: what they keep, and the steps of one of them.
+use Rattle.std.specs.Prelude.{◌≡◌, ℕ, ◌<◌, ◌≤◌, List, Option, Some, None, length, option_map, slice_index, sum}
+use Rattle.std.specs.FinMap.{get, insert}
+use Rattle.cf_base.specs.Settings.{Profile}
+use Rattle.page_model.specs.Arrangement.{IsSound, pages_needed}
+use Rattle.page_model.specs.Held.{Held, Placed, objects}
+use Rattle.page_model.specs.Paging.{page_of}
+use Rattle.page_model.specs.Steps.{IsFreePlace, Moves, Request, without, zeros_at}
+use Rattle.quota_model.specs.Parts.{key_of, number_of, part_of, task_of}
+use Rattle.quota_model.specs.Refusals.{task_paging}
+
+-- Where the objects of tasks may stand. Those of one task are a sound arrangement, each class with the bound 1: so one page at most of each of its classes is
+-- partly full. No page has objects of two tasks.
+pub record IsShared (s : Profile) (m : Held) : Type 0 where
+  pub tasks : (key : ℕ) (x : Placed) → get m key ≡ Some x → task_of key < 16
+  pub numbers : (key : ℕ) (x : Placed) → get m key ≡ Some x → number_of key < s.proxies
+  pub sound : (task : ℕ) → IsSound (task_paging s) (part_of m task)
+  pub apart : (key : ℕ) (x : Placed) (other : ℕ) (y : Placed) → get m key ≡ Some x → get m other ≡ Some y
+      → page_of (task_paging s) x.place ≡ page_of (task_paging s) y.place → task_of key ≡ task_of other
+
+-- The quotas of sixteen tasks: together they are no more pages than there are, and no task needs more than its own.
+pub record AreQuotas (s : Profile) (quotas : List ℕ) (m : Held) : Type 0 where
+  pub many : length quotas ≡ 16
+  pub all : sum quotas ≤ s.pages
+  pub enough : (task : ℕ) → pages_needed (task_paging s) (objects (part_of m task)) ≤ slice_index quotas task
+
+-- A malloc of a task: zeros come to a free place of its own arrangement, on a page of its own or one that holds nothing, under a number that it wasn't using.
+pub record PlacesForTask (s : Profile) (old : Held) (task : ℕ) (asked : Request) (new : Held) : Type 0 where
+  pub place : ℕ
+  pub in_range : asked.number < s.proxies
+  pub unused : get (part_of old task) asked.number ≡ None
+  pub free : IsFreePlace (task_paging s) (part_of old task) asked.length place
+  pub own : (key : ℕ) (y : Placed) → get old key ≡ Some y → page_of (task_paging s) y.place ≡ page_of (task_paging s) place → task_of key ≡ task
+  pub placed : new ≡ insert old (key_of task asked.number) (zeros_at place asked.length)
+
+-- A free of a task: its object goes, and where it must be so another of its objects takes the place.
+pub record RemovesForTask (s : Profile) (old : Held) (task h : ℕ) (moved : Option ℕ) (new : Held) : Type 0 where
+  pub freed : Placed
+  pub found : get (part_of old task) h ≡ Some freed
+  pub moves : Moves (task_paging s) (part_of old task) freed moved
+  pub left : new ≡ without old (key_of task h) freed.place (option_map (key_of task) moved)

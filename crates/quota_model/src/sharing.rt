@@ -1,0 +1,79 @@
+//! The objects of all tasks on the pages of one region, and what a call of one of them leaves.
+ghost use Rattle.std.specs.Prelude.{ℕ, ◌≡◌, ◌≢◌, ◌<◌, ◌≤◌, IsTrue, List, None, Option, Some, replicate, slice_index, slice_set};
+ghost use Rattle.std.specs.FinMap.{empty, get, insert, remove};
+ghost use Rattle.cf_base.specs.Limits.{is_page_size};
+ghost use Rattle.cf_base.specs.Settings.{Profile};
+ghost use Rattle.page_model.specs.Arrangement.{standing_on, used_pages};
+ghost use Rattle.page_model.specs.Held.{Held, objects};
+ghost use Rattle.page_model.specs.Steps.{Request};
+ghost use Rattle.quota_model.specs.Parts.{key_of, part_of};
+ghost use Rattle.quota_model.specs.Refusals.{malloc_refusal, quota_refusal, task_paging};
+ghost use Rattle.quota_model.specs.Shared.{AreQuotas, IsShared, PlacesForTask, RemovesForTask};
+
+/// A task has the objects whose keys begin with it, each under its number.
+pub fn a_task_has_its_part()
+    ensures own { (m : Held) (task h : ℕ) → h < 65536
+        → get (part_of m task) h ≡ get m (key_of task h) }
+    ensures few { (m : Held) (task h : ℕ) → 65536 ≤ h → get (part_of m task) h ≡ None }
+{}
+
+/// What a quota has left is there: while a task uses fewer pages than its quota, a page of the
+/// region holds nothing, whatever the other tasks have done.
+pub fn a_page_is_there_for_each_quota()
+    ensures { (s : Profile) (quotas : List ℕ) (m : Held) (task : ℕ)
+        → IsShared s m → AreQuotas s quotas m → IsTrue (is_page_size s.page_words) → task < 16
+        → used_pages (task_paging s) (part_of m task) < slice_index quotas task
+        → (page : ℕ) × (page < s.pages) × (standing_on (task_paging s) m page ≡ 0) }
+{}
+
+/// A malloc leaves the objects of all tasks on pages of their own, and adds zeros to those of its
+/// own task alone.
+pub fn a_malloc_keeps_tasks_apart()
+    ensures shared { (s : Profile) (old : Held) (task : ℕ) (asked : Request) (new : Held)
+        → IsTrue (is_page_size s.page_words) → s.proxies ≤ 65536 → task < 16 → IsShared s old
+        → PlacesForTask s old task asked new → IsShared s new }
+    ensures own { (s : Profile) (old : Held) (task : ℕ) (asked : Request) (new : Held)
+        → s.proxies ≤ 65536 → PlacesForTask s old task asked new
+        → objects (part_of new task)
+        ≡ insert (objects (part_of old task)) asked.number (replicate asked.length 0) }
+    ensures others { (s : Profile) (old : Held) (task : ℕ) (asked : Request) (new : Held) (other : ℕ)
+        → s.proxies ≤ 65536 → PlacesForTask s old task asked new → other ≢ task
+        → part_of new other ≡ part_of old other }
+    ensures quotas { (s : Profile) (quotas : List ℕ) (old : Held) (task : ℕ) (asked : Request)
+        (new : Held)
+        → s.proxies ≤ 65536 → AreQuotas s quotas old → PlacesForTask s old task asked new
+        → malloc_refusal s (slice_index quotas task) (objects (part_of old task)) asked.length
+        ≡ None
+        → AreQuotas s quotas new }
+{}
+
+/// A free leaves the objects of all tasks on pages of their own, and takes one from those of its
+/// own task alone.
+pub fn a_free_keeps_tasks_apart()
+    ensures shared { (s : Profile) (old : Held) (task h : ℕ) (moved : Option ℕ) (new : Held)
+        → IsTrue (is_page_size s.page_words) → IsShared s old
+        → RemovesForTask s old task h moved new → IsShared s new }
+    ensures own { (s : Profile) (old : Held) (task h : ℕ) (moved : Option ℕ) (new : Held)
+        → IsTrue (is_page_size s.page_words) → IsShared s old
+        → RemovesForTask s old task h moved new
+        → objects (part_of new task) ≡ remove (objects (part_of old task)) h }
+    ensures others { (s : Profile) (old : Held) (task h : ℕ) (moved : Option ℕ) (new : Held)
+        (other : ℕ)
+        → IsTrue (is_page_size s.page_words) → IsShared s old
+        → RemovesForTask s old task h moved new → other ≢ task
+        → part_of new other ≡ part_of old other }
+    ensures quotas { (s : Profile) (quotas : List ℕ) (old : Held) (task h : ℕ) (moved : Option ℕ)
+        (new : Held)
+        → IsTrue (is_page_size s.page_words) → IsShared s old → AreQuotas s quotas old
+        → RemovesForTask s old task h moved new → AreQuotas s quotas new }
+{}
+
+/// At first no task has an object or a quota; and a quota that is granted fits the others and what
+/// the task uses.
+pub fn quotas_fit()
+    ensures first { (s : Profile) → IsShared s empty × AreQuotas s (replicate 16 0) empty }
+    ensures granted { (s : Profile) (quotas : List ℕ) (m : Held) (task pages : ℕ) → task < 16
+        → AreQuotas s quotas m
+        → quota_refusal s quotas task pages (objects (part_of m task)) ≡ None
+        → AreQuotas s (slice_set quotas task pages) m }
+{}
