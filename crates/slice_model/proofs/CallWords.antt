@@ -1,5 +1,5 @@
 -- The words after each call, and the bytes that are read from them.
-use Rattle.std.proofs.Common.{◌≡◌, ◌≢◌, ℕ, zero, suc, ◌+◌, ◌-◌, ◌*◌, ◌/◌, ◌%◌, ◌<◌, ◌≤◌, List, [], ◌∷◌, Option, Some, None, length, get_or, replicate, take, drop, arith, sym, ◌∙◌, ap, refl, subst, inl, inr, length-drop}
+use Rattle.std.proofs.Common.{◌≡◌, ◌≢◌, ℕ, zero, suc, ◌+◌, ◌-◌, ◌*◌, ◌/◌, ◌%◌, ◌<◌, ◌≤◌, List, Option, Some, None, length, get_or, replicate, take, drop, arith, sym, ◌∙◌, ap, refl, subst, inl, inr, length-drop}
 use Rattle.std.specs.Prelude.{◌⊎◌, min}
 use Rattle.std.proofs.lemmas.Bool.{cases_eq, cases_lt}
 use Rattle.std.proofs.lemmas.List.{length-take, length-replicate, drop-replicate, get_or-take, get_or-drop}
@@ -11,15 +11,15 @@ use Rattle.cf_lemmas.proofs.Values.{still}
 use Rattle.page_model.specs.Arrangement.{class_at}
 use Rattle.page_model.specs.Bytes.{AreBytes, byte_of, written}
 use Rattle.page_model.specs.Held.{Held, Placed}
-use Rattle.page_model.specs.Image.{IsDisjoint, IsOutside, IsOutsideOf, Rewrites, header_word, object_word, slot_for, word_of_bytes}
-use Rattle.page_model.specs.Paging.{IsPaging, Paging, class_for, classes, slot_words}
+use Rattle.page_model.specs.Image.{IsDisjoint, IsOutside, Rewrites, header_word, object_word, slot_for, word_of_bytes}
+use Rattle.page_model.specs.Paging.{Paging, class_for, slot_words}
 use Rattle.page_model.specs.Steps.{Moves, Request, zeros_at}
 use Rattle.page_model.proofs.CallerLemmas.{within_or, disjoint_outside, byte_of_object, class_holds, mover_is_other, length-written, written_before, written_behind}
 use Rattle.slice_model.specs.State.{Plan, IsPlan, JobSlot, Job, Sliced, IsKept, IsJobOf, advanced, job_slot, Idle, Clear, Move}
-use Rattle.slice_model.specs.Steps.{Carries, Ends, GivesObject, GoesOn, IsDone, IsSlice, RemovesObject, SliceOf, Vacates, done_after, fresh_slot}
-use Rattle.slice_model.specs.Words.{HasWords, DoesWords, IsOutsideJob, RewritesObject, byte_read, word_at}
+use Rattle.slice_model.specs.Steps.{Ends, GivesObject, GoesOn, IsDone, SliceOf, Vacates, done_after}
+use Rattle.slice_model.specs.Words.{HasWords, DoesWords, RewritesObject, byte_read, word_at}
 use Rattle.slice_model.specs.Runs.{words_of_slice}
-use Rattle.slice_model.proofs.Keeping.{job_stays, kept_begun, kept_malloc}
+use Rattle.slice_model.proofs.Keeping.{job_stays, kept_malloc}
 use Rattle.slice_model.proofs.Occupied.{beside, job_class}
 use Rattle.slice_model.proofs.SliceWords.{carried, cleared, words_ended, words_to_carry, words_to_clear}
 use Rattle.slice_model.proofs.Standing.{AreApart, kept_apart, not_done, not_outside, own_words_at, where_word, word_done, word_left, word_of_other}
@@ -215,7 +215,7 @@ module _ (p : Paging) (m : Held) (j : Job) (is_job : IsJobOf p m j) (words words
       rw (here 0) (re.within 0 (omega arith) ∙ sym (ap (header_word h) len))
   mine (suc i) lt = rw (here (suc i)) (re.others (a + suc i) (inr (omega arith)) ∙ zero_there (suc i) lt ∙ sym (fresh_word h n i))
 
-  zeros_given : HasWords p (record { held = insert m h x; job = j }) words'
+  pub zeros_given : HasWords p (record { held = insert m h x; job = j }) words'
   zeros_given = record {
     held = λ q y there i lt. elim (some_inserted m h x q y there) [
       | inl (is, same) ↦ rw (is, ← same) (mine i (rw (← same) at lt))

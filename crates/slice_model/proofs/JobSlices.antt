@@ -1,19 +1,18 @@
 -- How many slices a job takes.
-use Rattle.std.proofs.Common.{◌≡◌, ◌≢◌, ℕ, zero, suc, ◌+◌, ◌-◌, ◌*◌, ◌/◌, ◌%◌, ◌<◌, ◌≤◌, List, [], ◌∷◌, Option, Some, None, length, arith, sym, ◌∙◌, ap, refl, subst, inl, inr}
-use Rattle.std.specs.Prelude.{◌⊎◌, Result, Ok, Err, min}
-use Rattle.std.proofs.lemmas.Bool.{cases_eq, cases_lt}
+use Rattle.std.proofs.Common.{◌≡◌, ◌≢◌, ℕ, zero, suc, ◌+◌, ◌-◌, ◌*◌, ◌%◌, ◌<◌, ◌≤◌, List, [], ◌∷◌, Some, None, arith, sym, ◌∙◌, ap, refl, subst, inl, inr}
+use Rattle.std.specs.Prelude.{◌⊎◌, Ok, Err}
 use Rattle.std.proofs.lemmas.Nat.{div-add-mod'}
 use Rattle.std.proofs.Math.Nat.{mod-lt}
-use Rattle.std.specs.FinMap.{get, insert, remove}
+use Rattle.std.specs.FinMap.{insert, remove}
 use Rattle.cf_lemmas.proofs.Maps.{get_removed}
 use Rattle.cf_lemmas.proofs.Ranges.{one}
 use Rattle.cf_lemmas.proofs.Sums.{insert_again}
-use Rattle.page_model.specs.Arrangement.{IsSound, class_at, is_on, not_full_pages, objects_on}
+use Rattle.page_model.specs.Arrangement.{class_at, not_full_pages, objects_on}
 use Rattle.page_model.specs.Counts.{ceil_div}
 use Rattle.page_model.specs.Held.{Held, Placed}
-use Rattle.page_model.specs.Paging.{Paging, page_of, slot_words, slots_of}
+use Rattle.page_model.specs.Paging.{page_of, slot_words, slots_of}
 use Rattle.page_model.proofs.CallerLemmas.{objects_on-elsewhere, objects_on-left}
-use Rattle.slice_model.specs.State.{Plan, IsPlan, JobSlot, Job, Sliced, IsKept, advanced, job_slot, stand_in, with_slot, Idle, Clear, Move}
+use Rattle.slice_model.specs.State.{Plan, IsPlan, JobSlot, Job, Sliced, IsKept, advanced, job_slot, Idle, Clear, Move}
 use Rattle.slice_model.specs.Steps.{AreSlices, Chains, Ends, GoesOn, IsDone, IsOver, IsSlice, SliceOf, done_after, fresh_slot}
 use Rattle.slice_model.specs.Runs.{Event, Happens, Runs, Turn, Working, is_step, steps_in, Malloc, Free, Step, Write, Read}
 use Rattle.slice_model.proofs.Occupied.{job_class, no_stand_in}

@@ -1,6 +1,6 @@
 -- What every state keeps is kept by each step.
-use Rattle.std.proofs.Common.{◌≡◌, ◌≢◌, ℕ, zero, suc, ◌+◌, ◌-◌, ◌*◌, ◌<◌, ◌≤◌, List, Option, Some, None, length, replicate, arith, sym, ◌∙◌, ap, refl, subst, inl, inr}
-use Rattle.std.specs.Prelude.{◌⊎◌, nat_eq, nat_lt, ◌&&◌, min}
+use Rattle.std.proofs.Common.{◌≡◌, ◌≢◌, ℕ, ◌+◌, ◌-◌, ◌*◌, ◌<◌, ◌≤◌, List, Option, Some, None, length, replicate, arith, sym, ◌∙◌, ap, refl, subst, inl, inr}
+use Rattle.std.specs.Prelude.{nat_lt}
 use Rattle.std.proofs.lemmas.Bool.{cases_eq, cases_lt}
 use Rattle.std.proofs.lemmas.List.{length-replicate}
 use Rattle.std.specs.FinMap.{get, insert, remove}
@@ -11,11 +11,11 @@ use Rattle.cf_lemmas.proofs.Tests.{and_false, lt_no}
 use Rattle.cf_lemmas.proofs.Values.{still}
 use Rattle.page_model.specs.Arrangement.{IsSound, class_at, not_full_pages, objects_on}
 use Rattle.page_model.specs.Held.{Held, Placed}
-use Rattle.page_model.specs.Paging.{IsPaging, Paging, bound_of, class_for, classes, page_of, slot_words, slots_of}
-use Rattle.page_model.specs.Steps.{MayFill, Moves, MustMove, Request, zeros_at}
-use Rattle.page_model.proofs.CallerLemmas.{mover_is_other, objects_on-exchanged, objects_on-left, objects_on-away, objects_on-inserted, objects_on-elsewhere, part_full, part_yes, sound_exchanged, sound_placed, sound_without, not_full-same, on_yes, one_le}
-use Rattle.slice_model.specs.State.{Plan, IsPlan, JobSlot, Job, Sliced, IsUnderWay, IsJobOf, IsKept, advanced, job_slot, occupied, stand_in, with_slot, Idle, Clear, Move}
-use Rattle.slice_model.specs.Steps.{Carries, Chains, Ends, GivesObject, GoesOn, IsBeside, IsDone, IsSlice, RemovesObject, SliceOf, Vacates, done_after, fresh_slot}
+use Rattle.page_model.specs.Paging.{Paging, bound_of, class_for, classes, page_of, slot_words, slots_of}
+use Rattle.page_model.specs.Steps.{Moves, MustMove, Request, zeros_at}
+use Rattle.page_model.proofs.CallerLemmas.{mover_is_other, objects_on-exchanged, objects_on-inserted, objects_on-elsewhere, part_full, part_yes, sound_exchanged, sound_placed, sound_without, on_yes, one_le}
+use Rattle.slice_model.specs.State.{Plan, IsPlan, JobSlot, Job, Sliced, IsJobOf, IsKept, advanced, job_slot, occupied, stand_in, with_slot, Idle, Clear, Move}
+use Rattle.slice_model.specs.Steps.{Ends, GivesObject, IsSlice, RemovesObject, SliceOf, Vacates, done_after, fresh_slot}
 use Rattle.slice_model.proofs.Occupied.{get_beside, inserted_beside, job_class, no_stand_in, place_is_free, stand_in_class}
 
 -- a sound arrangement with as many objects of each class on each page

@@ -9,3 +9,5 @@ pub mod CallWords
 pub mod ImageBeside
 pub mod JobSlices
 pub mod OneMap
+pub mod Answering
+pub mod CallerLemmas

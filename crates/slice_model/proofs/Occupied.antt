@@ -1,23 +1,20 @@
 -- The arrangement with the job's slot as one more object, and the places that it leaves.
-use Rattle.std.proofs.Common.{◌≡◌, ◌≢◌, ℕ, zero, suc, Bool, true, false, ◌+◌, ◌-◌, ◌*◌, ◌/◌, ◌<◌, ◌≤◌, List, Option, Some, None, length, get_or, replicate, arith, sym, ◌∙◌, ap, refl, inl, inr}
-use Rattle.std.specs.Prelude.{◌⊎◌, nat_eq, nat_le}
+use Rattle.std.proofs.Common.{◌≡◌, ◌≢◌, ℕ, false, ◌+◌, ◌-◌, ◌*◌, ◌/◌, ◌<◌, ◌≤◌, Option, Some, None, length, get_or, replicate, arith, sym, ◌∙◌, ap, refl, inl, inr}
+use Rattle.std.specs.Prelude.{◌⊎◌, nat_le}
 use Rattle.std.specs.List.{position_or_len}
-use Rattle.std.proofs.lemmas.Bool.{cases_eq, cases_lt, false≢true}
+use Rattle.std.proofs.lemmas.Bool.{cases_eq, cases_lt}
 use Rattle.std.proofs.lemmas.Bool.Decides.{nat_tests}
 use Rattle.std.proofs.lemmas.List.{length-replicate}
 use Rattle.std.proofs.lemmas.List.Sums.{fails_before_first}
 use Rattle.std.specs.FinMap.{get, insert, remove}
 use Rattle.cf_base.specs.Classes.{need}
 use Rattle.cf_lemmas.proofs.Maps.{equal_maps, get_inserted, get_insert_other, some_inserted}
-use Rattle.cf_lemmas.proofs.Ranges.{one}
-use Rattle.cf_lemmas.proofs.Sums.{sum_by-inserted}
-use Rattle.cf_lemmas.proofs.Tests.{eq_yes, eq_no}
-use Rattle.page_model.specs.Arrangement.{IsSound, IsSlotAt, LacksRoom, class_at, is_on, not_full_pages, objects_on, standing_on}
+use Rattle.page_model.specs.Arrangement.{IsSlotAt, LacksRoom, class_at, not_full_pages, objects_on, standing_on}
 use Rattle.page_model.specs.Held.{Held, Placed}
-use Rattle.page_model.specs.Paging.{IsPaging, Paging, address_of, class_for, classes, page_of, slot_words, slots_of}
+use Rattle.page_model.specs.Paging.{IsPaging, Paging, address_of, class_for, classes, page_of, slot_words}
 use Rattle.page_model.specs.Steps.{IsFreePlace}
 use Rattle.page_model.proofs.CallerLemmas.{class_fits, class_holds, slot_fits, slots_some, address_is_slot, nothing_on, on_page, on_yes, standing, objects_on-inserted, objects_on-left}
-use Rattle.slice_model.specs.State.{Plan, IsPlan, JobSlot, Job, Sliced, IsUnderWay, IsJobOf, IsKept, IsUsable, IsFreePage, IsJobPage, NoPlace, IsPlaceFor, job_slot, occupied, stand_in, with_slot, Idle, Clear, Move}
+use Rattle.slice_model.specs.State.{Plan, IsPlan, JobSlot, Job, Sliced, IsUnderWay, IsJobOf, IsKept, IsUsable, IsFreePage, NoPlace, IsPlaceFor, job_slot, occupied, stand_in, with_slot, Idle, Clear, Move}
 use Rattle.slice_model.proofs.Slots.{IsOpen, IsVacant, search_below, less_where_vacant, vacant_where_less, open_counts, open_page}
 
 -- the stand-in for a slot is of its class

@@ -1,26 +1,22 @@
 -- The calls of all tasks are those of one map of objects.
-use Rattle.std.proofs.Common.{◌≡◌, ◌≢◌, ℕ, zero, suc, ◌+◌, ◌-◌, ◌<◌, ◌≤◌, List, [], ◌∷◌, Option, Some, None, length, get_or, replicate, take, drop, arith, sym, ◌∙◌, ap, refl, subst, inl, inr, length-drop}
-use Rattle.std.specs.Prelude.{◌⊎◌, Result, Ok, Err, option_map}
-use Rattle.std.proofs.lemmas.Bool.{cases_eq}
+use Rattle.std.proofs.Common.{◌≡◌, ℕ, ◌+◌, ◌<◌, ◌≤◌, List, [], ◌∷◌, Option, Some, None, length, get_or, replicate, take, drop, arith, sym, ◌∙◌, ap, refl, subst, inl, inr, length-drop}
+use Rattle.std.specs.Prelude.{Ok, Err, option_map}
 use Rattle.std.proofs.lemmas.List.{length-take, get_or-take, get_or-drop}
 use Rattle.std.proofs.lemmas.Grind.{same_number_lists}
 use Rattle.std.specs.FinMap.{get, insert, remove}
-use Rattle.cf_base.specs.declared.answers.AccessFault.{AccessFault}
 use Rattle.cf_base.specs.declared.answers.Handle.{Handle}
 use Rattle.cf_lemmas.proofs.MapValues.{get-map_values, map_values-insert, map_values-remove}
-use Rattle.cf_lemmas.proofs.Maps.{get_removed, get_remove_other, some_inserted, some_removed}
+use Rattle.cf_lemmas.proofs.Maps.{some_inserted, some_removed}
 use Rattle.page_model.specs.Arrangement.{class_at}
 use Rattle.page_model.specs.Bytes.{AreBytes, written}
 use Rattle.page_model.specs.Held.{Held, Objects, Placed, objects}
-use Rattle.page_model.specs.Steps.{Moves}
-use Rattle.page_model.proofs.CallerLemmas.{inserted_there, malloc_objects, mover_is_other, length-written, written_are_bytes, zeros_are_bytes}
-use Rattle.slice_model.specs.State.{Plan, IsPlan, JobSlot, Job, Sliced, IsKept, job_slot, Idle}
+use Rattle.page_model.proofs.CallerLemmas.{inserted_there, malloc_objects, length-written, written_are_bytes, zeros_are_bytes}
+use Rattle.slice_model.specs.State.{Plan, IsPlan, JobSlot, Sliced, IsKept, job_slot, Idle}
 use Rattle.slice_model.specs.Steps.{Carries, Ends, IsSlice, SliceOf, Vacates}
-use Rattle.slice_model.specs.Runs.{Event, Frees, Happens, HappensOnMap, IsConsistent, IsLive, Mallocs, Part, Reads, Runs, RunsOnMap, Slices, Turn, Working, Writes, Malloc, Free, Step, Write, Read}
-use Rattle.slice_model.specs.declared.answers.SliceFault.{SliceFault}
+use Rattle.slice_model.specs.Runs.{Event, Frees, Happens, HappensOnMap, IsConsistent, Mallocs, Part, Runs, RunsOnMap, Slices, Turn, Working, Writes, Malloc, Free, Step, Write, Read}
 use Rattle.slice_model.specs.declared.answers.SliceFault.TheVariants as fault
 use Rattle.slice_model.specs.Words.{HasWords}
-use Rattle.slice_model.proofs.Keeping.{kept_begun, kept_free, kept_malloc, kept_slice, kept_write}
+use Rattle.slice_model.proofs.Keeping.{kept_begun, kept_malloc, kept_slice, kept_write}
 use Rattle.slice_model.proofs.CallWords.{byte_there, words_begun, words_given, words_sliced, words_written}
 
 -- what an object's bytes are on the map

@@ -1,17 +1,16 @@
 -- The words after a slice, and where a slot has become vacant.
-use Rattle.std.proofs.Common.{◌≡◌, ◌≢◌, ℕ, zero, suc, ◌+◌, ◌-◌, ◌*◌, ◌<◌, ◌≤◌, List, Option, Some, None, length, get_or, arith, sym, ◌∙◌, ap, refl, subst, inl, inr}
-use Rattle.std.specs.Prelude.{◌⊎◌, min}
+use Rattle.std.proofs.Common.{◌≡◌, ℕ, ◌+◌, ◌-◌, ◌<◌, ◌≤◌, List, Some, None, length, get_or, arith, sym, ◌∙◌, ap, refl, subst, inl, inr}
 use Rattle.std.proofs.lemmas.Bool.{cases_eq, cases_lt}
 use Rattle.std.specs.FinMap.{get, insert, remove}
 use Rattle.cf_lemmas.proofs.Maps.{get_inserted, get_insert_other, get_remove_other, some_inserted, some_removed}
 use Rattle.page_model.specs.Arrangement.{class_at}
 use Rattle.page_model.specs.Held.{Held, Placed}
-use Rattle.page_model.specs.Image.{IsDisjoint, IsOutside, IsOutsideOf, WordRange, Rewrites, Clears, MovesWords, object_word, slot_for}
-use Rattle.page_model.specs.Paging.{Paging, class_for, slot_words}
-use Rattle.page_model.proofs.CallerLemmas.{within_or, disjoint_outside}
-use Rattle.slice_model.specs.State.{Plan, IsPlan, JobSlot, Job, Sliced, IsKept, IsJobOf, advanced, job_slot, Idle, Clear, Move}
-use Rattle.slice_model.specs.Steps.{Vacates, Carries, Ends, fresh_slot}
-use Rattle.slice_model.specs.Words.{HasWords, DoesWords, IsOutsideJob, word_at}
+use Rattle.page_model.specs.Image.{IsDisjoint, IsOutside, IsOutsideOf, Clears, MovesWords, object_word, slot_for}
+use Rattle.page_model.specs.Paging.{Paging, slot_words}
+use Rattle.page_model.proofs.CallerLemmas.{within_or}
+use Rattle.slice_model.specs.State.{JobSlot, Job, job_slot, Idle, Clear, Move}
+use Rattle.slice_model.specs.Steps.{fresh_slot}
+use Rattle.slice_model.specs.Words.{HasWords, word_at}
 use Rattle.slice_model.proofs.Standing.{AreApart, where_word, word_of_other, word_done, word_left, outside_part, outside_more}
 
 -- n words of a job are done

@@ -1,18 +1,17 @@
 -- Where the words of objects stand beside a job, and that no two stand at one address.
-use Rattle.std.proofs.Common.{◌≡◌, ◌≢◌, ℕ, zero, suc, true, false, ◌+◌, ◌-◌, ◌*◌, ◌/◌, ◌%◌, ◌<◌, ◌≤◌, List, Option, Some, None, length, get_or, replicate, take, drop, arith, sym, ◌∙◌, ap, refl, subst, inl, inr}
-use Rattle.std.specs.Prelude.{◌⊎◌, ◌&&◌, if◌then◌else◌, nat_eq, nat_le}
+use Rattle.std.proofs.Common.{◌≡◌, ◌≢◌, ℕ, ◌+◌, ◌<◌, ◌≤◌, Option, Some, length, arith, sym, ◌∙◌, ap, refl, subst, inl, inr}
+use Rattle.std.specs.Prelude.{◌⊎◌, nat_eq}
 use Rattle.std.proofs.lemmas.Bool.{cases_eq, cases_lt}
-use Rattle.std.specs.FinMap.{get, insert}
-use Rattle.cf_lemmas.proofs.Maps.{get_inserted, get_insert_other}
+use Rattle.std.specs.FinMap.{get}
 use Rattle.cf_lemmas.proofs.Tests.{eq_yes, eq_no, le_yes, le_no, and_false}
-use Rattle.page_model.specs.Arrangement.{IsSound, class_at}
+use Rattle.page_model.specs.Arrangement.{class_at}
 use Rattle.page_model.specs.Held.{Held, Placed}
-use Rattle.page_model.specs.Image.{IsDisjoint, IsOutside, object_word, slot_for}
-use Rattle.page_model.specs.Paging.{Paging, class_for, slot_words}
-use Rattle.page_model.proofs.CallerLemmas.{sound_apart_from, disjoint_outside}
-use Rattle.slice_model.specs.State.{Plan, IsPlan, JobSlot, Job, Sliced, IsKept, job_slot, occupied, stand_in, with_slot, Idle, Clear, Move}
-use Rattle.slice_model.specs.Words.{HasWords, word_at}
-use Rattle.slice_model.proofs.Occupied.{beside, job_class, no_stand_in, slot_class, slot_there}
+use Rattle.page_model.specs.Image.{IsDisjoint, IsOutside, slot_for}
+use Rattle.page_model.specs.Paging.{Paging, slot_words}
+use Rattle.page_model.proofs.CallerLemmas.{sound_apart_from}
+use Rattle.slice_model.specs.State.{Plan, IsPlan, JobSlot, Job, Sliced, IsKept, job_slot, occupied, stand_in, Idle, Clear, Move}
+use Rattle.slice_model.specs.Words.{word_at}
+use Rattle.slice_model.proofs.Occupied.{beside, no_stand_in, slot_class, slot_there}
 use Rattle.slice_model.proofs.Keeping.{other_than}
 
 -- no two objects share a word, nor does one with the job's slot

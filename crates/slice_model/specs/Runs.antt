@@ -1,15 +1,15 @@
 -- Runs over the calls of several tasks, on a sliced heap with its words, and on one map of objects.
-use Rattle.std.specs.Prelude.{◌≡◌, ◌≢◌, ℕ, zero, suc, ◌+◌, ◌-◌, ◌/◌, ◌%◌, ◌<◌, ◌≤◌, List, [], ◌∷◌, Option, Some, None, Result, Ok, Err, length, slice_index, take, drop, replicate, min}
+use Rattle.std.specs.Prelude.{◌≡◌, ℕ, ◌+◌, ◌-◌, ◌/◌, ◌%◌, ◌<◌, ◌≤◌, List, [], ◌∷◌, Option, Some, None, Result, Ok, Err, length, slice_index, take, drop, replicate, min}
 use Rattle.std.specs.FinMap.{get, insert, remove}
 use Rattle.cf_base.specs.declared.answers.AccessFault.{AccessFault}
 use Rattle.cf_base.specs.declared.answers.AccessFault.TheVariants as access
 use Rattle.cf_base.specs.declared.answers.Handle.{Handle}
-use Rattle.page_model.specs.Held.{Held, Placed, Objects, objects}
+use Rattle.page_model.specs.Held.{Placed, Objects, objects}
 use Rattle.page_model.specs.Paging.{slot_words}
 use Rattle.page_model.specs.Image.{Rewrites, header_word}
 use Rattle.page_model.specs.Bytes.{AreBytes, written}
 use Rattle.page_model.specs.Steps.{Request}
-use Rattle.slice_model.specs.State.{Plan, JobSlot, Job, Sliced, IsKept, job_slot}
+use Rattle.slice_model.specs.State.{Plan, JobSlot, Sliced, IsKept, job_slot}
 use Rattle.slice_model.specs.Steps.{GivesObject, IsRefusedBy, RemovesObject, IsFaultOf, IsSlice}
 use Rattle.slice_model.specs.Words.{HasWords, DoesWords, RewritesObject, byte_read}
 use Rattle.slice_model.specs.declared.answers.SliceRefusal.{SliceRefusal}

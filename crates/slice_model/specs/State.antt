@@ -1,8 +1,9 @@
 -- The state of a heap whose frees leave their long work in slices: its objects, and at most one pending job.
-use Rattle.std.specs.Prelude.{◌≡◌, ◌≢◌, ℕ, ◌+◌, ◌-◌, ◌*◌, ◌<◌, ◌≤◌, ◌⊎◌, ⊤, List, Option, Some, None, replicate, length}
-use Rattle.std.specs.FinMap.{get, insert, len}
+use Rattle.std.specs.Prelude.{◌≡◌, ◌≢◌, ℕ, ◌+◌, ◌-◌, ◌*◌, ◌<◌, ◌≤◌, ◌⊎◌, ⊤, Option, Some, None, replicate}
+use Rattle.std.specs.FinMap.{get, insert}
+pub use Rattle.slice_model.specs.declared.job_slot.JobSlot.{JobSlot}
 use Rattle.page_model.specs.Held.{Held, Placed}
-use Rattle.page_model.specs.Paging.{Paging, IsPaging, AreOne, classes, slot_words, slots_of, page_of, class_for}
+use Rattle.page_model.specs.Paging.{Paging, IsPaging, AreOne, classes, slot_words, slots_of, page_of}
 use Rattle.page_model.specs.Arrangement.{IsSound, IsSlotAt, class_at, objects_on, standing_on, not_full_pages}
 
 -- the pages, how many objects may live, and the words of one slice
@@ -16,12 +17,6 @@ pub record IsPlan (plan : Plan) : Type 0 where
   pub paging : IsPaging plan.paging
   pub ones : AreOne plan.paging
   pub quantum : 1 ≤ plan.quantum
-
--- the slot that a job holds: its address, its class, and how many words of the job are done
-pub record JobSlot : Type 0 where
-  pub address : ℕ
-  pub class : ℕ
-  pub done : ℕ
 
 -- the pending job: none, or to clear its slot, or to carry an object from its slot to the object's address
 pub data Job : Type 0 where

@@ -1,11 +1,11 @@
 -- The words of the region beside a job that is half done.
-use Rattle.std.specs.Prelude.{◌≡◌, ◌≢◌, ℕ, ◌+◌, ◌-◌, ◌/◌, ◌%◌, ◌<◌, ◌≤◌, List, Option, Some, None, ⊤, length, slice_index, if◌then◌else◌, nat_eq, nat_le, ◌&&◌}
-use Rattle.std.specs.FinMap.{get, insert}
+use Rattle.std.specs.Prelude.{◌≡◌, ◌≢◌, ℕ, ◌+◌, ◌-◌, ◌/◌, ◌%◌, ◌<◌, List, Some, ⊤, length, slice_index, if◌then◌else◌, nat_eq, nat_le, ◌&&◌}
+use Rattle.std.specs.FinMap.{get}
 use Rattle.page_model.specs.Held.{Held, Placed}
 use Rattle.page_model.specs.Paging.{Paging, slot_words}
-use Rattle.page_model.specs.Image.{IsOutside, IsOutsideOf, WordRange, Rewrites, Clears, MovesWords, object_word, header_word, slot_for}
+use Rattle.page_model.specs.Image.{IsOutside, IsOutsideOf, WordRange, Clears, MovesWords, object_word, slot_for}
 use Rattle.page_model.specs.Bytes.{byte_of}
-use Rattle.slice_model.specs.State.{Plan, JobSlot, Job, Sliced, job_slot, Idle, Clear, Move}
+use Rattle.slice_model.specs.State.{JobSlot, Job, Sliced, job_slot, Idle, Clear, Move}
 
 -- Where word i of object h stands. Of an object in motion the words that the job has yet to do stand in the job's slot; every other word stands at the
 -- object's address.

@@ -1,9 +1,9 @@
 //! What every state keeps, and that each step keeps it.
 ghost use Rattle.std.specs.Prelude.{ℕ, ◌≡◌, ◌≢◌, ◌<◌, ◌≤◌, List, Some, length};
 ghost use Rattle.std.specs.FinMap.{empty, get, insert};
-ghost use Rattle.page_model.specs.Arrangement.{IsSound, not_full_pages};
+ghost use Rattle.page_model.specs.Arrangement.{IsSlotAt, IsSound, class_at};
 ghost use Rattle.page_model.specs.Held.{Placed};
-ghost use Rattle.page_model.specs.Paging.{classes};
+ghost use Rattle.page_model.specs.Paging.{page_of};
 ghost use Rattle.page_model.specs.Steps.{Request};
 ghost use Rattle.slice_model.specs.State.{Idle, IsKept, IsPlan, JobSlot, Plan, Sliced, StandBeside, job_slot};
 ghost use Rattle.slice_model.specs.Steps.{GivesObject, IsSlice, RemovesObject};
@@ -38,11 +38,19 @@ pub fn a_write_keeps_the_rules()
         → IsKept plan (record old { held = insert old.held h (record { place = x.place; bytes = bytes }) }) }
 {}
 
-/// What the rules say of the objects alone. Without a job their arrangement is sound. With one no
+/// What the rules say of the objects alone. Each stands in a slot of its class, no two at one
+/// address, those of one page in one class. Without a job their arrangement is sound. With one no
 /// object stands in the job's slot, and all others on its page are of its class. Each other class
 /// has one partly full page at most. The job's has at most two, and where it has two only the job's
 /// slot is free on its page.
 pub fn what_the_rules_say_of_pages()
+    ensures slots { (plan : Plan) (s : Sliced) (h : ℕ) (x : Placed) → IsPlan plan → IsKept plan s
+        → get s.held h ≡ Some x → IsSlotAt plan.paging (class_at plan.paging x) x.place }
+    ensures own_place { (plan : Plan) (s : Sliced) (h : ℕ) (x : Placed) (q : ℕ) (y : Placed) → IsPlan plan → IsKept plan s
+        → get s.held h ≡ Some x → get s.held q ≡ Some y → q ≢ h → x.place ≢ y.place }
+    ensures one_class { (plan : Plan) (s : Sliced) (h : ℕ) (x : Placed) (q : ℕ) (y : Placed) → IsPlan plan → IsKept plan s
+        → get s.held h ≡ Some x → get s.held q ≡ Some y → page_of plan.paging x.place ≡ page_of plan.paging y.place
+        → class_at plan.paging x ≡ class_at plan.paging y }
     ensures idle { (plan : Plan) (s : Sliced) → IsKept plan s → s.job ≡ Idle → IsSound plan.paging s.held }
     ensures pending { (plan : Plan) (s : Sliced) (k : JobSlot) → IsPlan plan → IsKept plan s
         → job_slot s.job ≡ Some k → StandBeside plan.paging s.held k }

@@ -4,6 +4,7 @@
 #![tactic(auto)]
 
 mod answers;
+mod job_slot;
 mod jobs;
 mod kept;
 mod places;
@@ -12,6 +13,7 @@ mod runs;
 mod words;
 
 pub use answers::{SliceFault, SliceRefusal};
+pub use job_slot::JobSlot;
 pub use jobs::{
     a_job_advances_by_its_slices, a_job_ends_after_its_words_over_the_quantum,
     slices_alone_end_every_job,
@@ -22,7 +24,8 @@ pub use kept::{
 };
 pub use places::places_are_those_beside_the_job;
 pub use room::{
-    a_malloc_has_one_answer, a_malloc_waits_for_a_job_alone, a_place_is_within_the_sum,
+    a_free_has_one_answer, a_malloc_has_one_answer, a_malloc_waits_for_a_job_alone,
+    a_place_is_within_the_sum, a_slice_can_always_be_done,
 };
 pub use runs::{an_empty_heap_is_consistent, calls_of_all_tasks_are_those_of_one_map};
 pub use words::{

@@ -7,7 +7,7 @@ ghost use Rattle.page_model.specs.Held.{objects};
 ghost use Rattle.page_model.specs.Paging.{class_for};
 ghost use Rattle.page_model.specs.Steps.{Request};
 ghost use Rattle.slice_model.specs.State.{Idle, IsFreePage, IsKept, IsPlaceFor, IsPlan, IsUsable, Plan, Sliced};
-ghost use Rattle.slice_model.specs.Steps.{GivesObject, IsFaultOf, IsRefusedBy, RemovesObject, WantsSlot};
+ghost use Rattle.slice_model.specs.Steps.{GivesObject, IsFaultOf, IsRefusedBy, IsSlice, RemovesObject, WantsSlot};
 ghost use Rattle.slice_model.specs.declared.answers.SliceFault.{SliceFault};
 ghost use Rattle.slice_model.specs.declared.answers.SliceRefusal.{SliceRefusal};
 
@@ -36,4 +36,17 @@ pub fn a_malloc_has_one_answer()
     ensures one { (plan : Plan) (s : Sliced) (bytes : ℕ) (a b : SliceRefusal) → IsRefusedBy plan s bytes a → IsRefusedBy plan s bytes b → a ≡ b }
     ensures done { (plan : Plan) (s : Sliced) (asked : Request) (new : Sliced) (e : SliceRefusal) → IsPlan plan → IsKept plan s
         → GivesObject plan s asked new → ¬ IsRefusedBy plan s asked.length e }
+{}
+
+/// Each free is done, or refused by just one cause.
+pub fn a_free_has_one_answer()
+    ensures some { (plan : Plan) (s : Sliced) (h : ℕ) → IsPlan plan → IsKept plan s
+        → ((e : SliceFault) × IsFaultOf s h e) ⊎ ((new : Sliced) × RemovesObject plan s h new) }
+    ensures one { (s : Sliced) (h : ℕ) (a b : SliceFault) → IsFaultOf s h a → IsFaultOf s h b → a ≡ b }
+    ensures done { (plan : Plan) (s : Sliced) (h : ℕ) (new : Sliced) (e : SliceFault) → RemovesObject plan s h new → ¬ IsFaultOf s h e }
+{}
+
+/// A slice can always be done.
+pub fn a_slice_can_always_be_done()
+    ensures { (plan : Plan) (s : Sliced) → IsPlan plan → IsKept plan s → (new : Sliced) × IsSlice plan s new }
 {}

@@ -1,8 +1,6 @@
 use Rattle.std.proofs.Common.{◌≡◌, Some, None, sym, ◌∙◌}
-use Rattle.std.specs.FinMap.{empty, get}
 use Rattle.std.specs.FinMap.{get-empty}
 use Rattle.std.specs.Ordering.{nat_cmp}
-use Rattle.page_model.specs.Held.{Placed}
 use Rattle.page_model.proofs.CallerLemmas.{sound_empty}
 use Rattle.slice_model.proofs.kept.nothing_keeps_the_rules.Goals as goal
 

@@ -1,10 +1,10 @@
-use Rattle.std.proofs.Common.{◌≡◌, ℕ, List, Some, None, length, get_or, replicate, arith, sym, ◌∙◌, ap, inl, inr}
+use Rattle.std.proofs.Common.{◌≡◌, ℕ, Some, None, length, get_or, replicate, arith, sym, ◌∙◌, ap, inl, inr}
 use Rattle.std.specs.Ordering.{nat_cmp}
-use Rattle.std.specs.FinMap.{empty, get, get-empty}
+use Rattle.std.specs.FinMap.{get, get-empty}
 use Rattle.std.proofs.lemmas.Bool.{cases_lt}
 use Rattle.std.proofs.lemmas.List.{get_or-replicate, get_or_past, length-replicate}
 use Rattle.cf_lemmas.proofs.Values.{map_values-empty}
-use Rattle.page_model.specs.Held.{Placed, objects}
+use Rattle.page_model.specs.Held.{Placed}
 use Rattle.page_model.proofs.CallerLemmas.{sound_empty}
 use Rattle.slice_model.proofs.runs.an_empty_heap_is_consistent.Goals as goal
 
