@@ -1,0 +1,54 @@
+-- Bytes that are put chunk by chunk.
+use Rattle.std.proofs.Common.{◌≡◌, ◌∙◌, ◌++◌, ◌+◌, ◌≤◌, ◌<◌, ℕ, List, Option, Some, None, length, take, drop, refl, ap, sym, subst, arith, append_assoc}
+use Rattle.std.specs.Prelude.{Result, Ok, Err}
+use Rattle.std.specs.FinMap.{get}
+use Rattle.std.proofs.Math.Seq.{take-add}
+use Rattle.std.proofs.lemmas.List.{take-append-drop, take_all}
+use Rattle.cf_base.specs.declared.answers.Failed.{Failed}
+use Rattle.cf_io.specs.Feeds.{appended, Puts}
+use Rattle.cf_io.proofs.CallerLemmas.{appended_then, puts_cut, puts_then}
+use Rattle.cf_model.specs.State.{HeapState}
+use Rattle.cf_model.specs.Steps.{Part, ReadsBytes}
+use Rattle.page_model.specs.Held.{Held, Placed}
+
+abbrev Told : Type 0
+Told = Option (List ℕ)
+
+split : (i : ℕ) (xs : List ℕ) → take i xs ++ drop i xs ≡ xs
+split i xs = take-append-drop i xs
+
+all_of : (n : ℕ) (xs : List ℕ) → length xs ≤ n → take n xs ≡ xs
+all_of n xs le = take_all n xs le
+
+module _ (w x y : Told) (bytes chunk : List ℕ) (i n : ℕ) (first : x ≡ appended w (take i bytes)) (is : chunk ≡ take n (drop i bytes)) where
+  -- one chunk more
+  pub chunk_put : y ≡ appended x chunk → y ≡ appended w (take (i + n) bytes)
+  chunk_put next = next ∙ ap (appended x) is ∙ ap (λ (o : Told). appended o (take n (drop i bytes))) first
+      ∙ appended_then w (take i bytes) (take n (drop i bytes)) ∙ ap (appended w) (sym (take-add i n bytes))
+
+  -- a chunk is cut
+  pub chunk_cut : (e : Failed) → Puts {T = Unit {0}} x chunk (Err e) y → Puts {T = Unit {0}} w bytes (Err e) y
+  chunk_cut e put =
+      let part = subst (λ (b : List ℕ). Puts {T = Unit {0}} x b (Err e) y) is put in
+      let rest = subst (λ (b : List ℕ). Puts {T = Unit {0}} x b (Err e) y) (split n (drop i bytes))
+      (puts_cut x y (take n (drop i bytes)) (drop n (drop i bytes)) e part) in
+      subst (λ (b : List ℕ). Puts {T = Unit {0}} w b (Err e) y) (split i bytes) (puts_then {T = Unit {0}} w x y (take i bytes) (drop i bytes) (Err e) first rest)
+
+-- all chunks
+pub chunks_put : (w x : Told) (bytes : List ℕ) (i : ℕ) → x ≡ appended w (take i bytes) → length bytes ≤ i → x ≡ appended w bytes
+chunks_put w x bytes i first all = first ∙ ap (appended w) (all_of i bytes all)
+
+-- the length of the object that is under a number
+pub object_length : (m : Held) (h n : ℕ) (x : Placed) → (y : Placed) × (get m h ≡ Some y) × (n ≡ length y.bytes) → get m h ≡ Some x → length x.bytes ≡ n
+object_length m h n x live some =
+    let e : Some live.0 ≡ Some x = sym live.1 ∙ some in
+    let same : live.0 ≡ x = cc in
+    sym (live.2 ∙ ap (λ (y : Placed). length y.bytes) same)
+
+-- the bytes of a part are those of the object
+pub chunk_is : (s : HeapState) (part : Part) (count : ℕ) (out : List ℕ) (x : Placed) → get s.held part.number ≡ Some x → ReadsBytes s part count out
+    → out ≡ take count (drop part.from x.bytes)
+chunk_is s part count out x some reads =
+    let e : Some reads.object ≡ Some x = sym reads.found ∙ some in
+    let same : reads.object ≡ x = cc in
+    reads.value ∙ ap (λ (y : Placed). take count (drop part.from y.bytes)) same

@@ -1,0 +1,17 @@
+mod Listing
+mod Ids
+mod Headers
+mod Chunks
+mod SaveLemmas
+mod Numbers
+mod Encoded
+mod ImageDecoded
+mod LivesLemmas
+mod StageLemmas
+mod StepLemmas
+mod EndLemmas
+mod LoadLemmas
+mod MarkLemmas
+mod FillLemmas
+mod PartLemmas
+mod SettingsLemmas

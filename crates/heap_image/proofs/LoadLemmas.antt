@@ -1,0 +1,161 @@
+-- The stages of a load put together.
+use Rattle.std.proofs.Common.{◌≡◌, ◌∙◌, ◌++◌, ◌+◌, ◌≤◌, ◌<◌, ℕ, Bool, true, false, List, [], Option, Some, None, length, refl, ap, sym, subst, arith}
+use Rattle.std.specs.Prelude.{Result, Ok, Err, nat_le, ◌&&◌, IsTrue}
+use Rattle.std.specs.Int.{w32}
+use Rattle.std.specs.FinMap.{empty, get, get-empty}
+use Rattle.std.specs.Ordering.{nat_cmp}
+use Rattle.cf_base.specs.Limits.{is_within}
+use Rattle.cf_base.specs.Settings.{Profile, profile_from, profile_of}
+use Rattle.cf_base.specs.declared.kind.Kind.{Kind}
+use Rattle.cf_base.specs.declared.kind.Kind.TheVariants.{Moving}
+use Rattle.cf_base.specs.declared.kind.Layout.TheVariants.{Words}
+use Rattle.cf_base.specs.declared.settings.Settings.{Settings}
+use Rattle.cf_io.specs.Feeds.{IsSpent, preceded}
+use Rattle.cf_lemmas.proofs.Maps.{equal_maps}
+use Rattle.cf_model.specs.Rules.{KeepsRules}
+use Rattle.cf_model.specs.State.{HeapState, layout_of, paging_in}
+use Rattle.cf_model.specs.Steps.{IsClosed, IsEmptyHeap, opening_bounds}
+use Rattle.cf_session.specs.Apply.{run_at}
+use Rattle.page_model.specs.Held.{Objects, Placed, objects}
+use Rattle.page_model.specs.Paging.{AreOne, first_bounds, paging_of}
+use Rattle.page_model.proofs.CallerLemmas.{first_ones}
+use Rattle.run_model.specs.Sessions.{RunState, SessionState}
+use Rattle.run_model.proofs.CallerLemmas.{costs_nothing}
+use Rattle.script_loop.specs.OneManager.{LacksOne}
+use Rattle.transcript_laws.specs.Histories.{objects_by_id}
+use Rattle.heap_image.specs.Decoded.{Decoded, at_first, breaks_behind, count_decoded, decoded, entries_decoded, whole}
+use Rattle.heap_image.specs.Ends.{EndsBy}
+use Rattle.heap_image.specs.Heaps.{objects_of}
+use Rattle.heap_image.specs.Load.{HoldsObjects, HoldsTold, IsLoading, LoadsBy, LoadsNothing, Tells, TellsInPart}
+use Rattle.heap_image.specs.Stages.{Passes, StopsBy}
+use Rattle.heap_image.specs.declared.fault.LoadFault.{LoadFault}
+use Rattle.heap_image.specs.declared.fault.LoadFault.TheVariants as fault
+use Rattle.heap_image.proofs.Ids.{gone_by_id}
+use Rattle.heap_image.proofs.StageLemmas.{part_then, passes_part, tells_then}
+
+abbrev Rest : Type 0
+Rest = Option (List ℕ)
+
+abbrev Reading : Type 0
+Reading = List ℕ → Decoded
+
+-- the settings were not told
+pub settings_stop : (from : RunState) (had left : Rest) (f : LoadFault) → StopsBy None empty decoded had f left → LoadsBy from had (Err f) left from
+settings_stop from had left (fault.Bad at) s = record {
+  told = s.0;
+  tells = s.4;
+  broken = s.1;
+  holds = subst (λ (p : Option Profile). HoldsTold from p s.0.objects from) (sym s.2) refl;
+}
+settings_stop from had left fault.Read s = record {
+  told = s.0;
+  tells = s.3;
+  holds = subst (λ (p : Option Profile). HoldsTold from p s.0.objects from) (sym s.1) refl;
+}
+settings_stop from had left fault.OutOfMemory s = absurd s
+
+nothing_counted : (p : Profile) → count_decoded p [] ≡ breaks_behind p empty 16
+unfolding count_decoded
+nothing_counted p = refl
+
+-- no memory was found
+pub settings_lack : (from to : RunState) (p : Profile) (had left : Rest) → Passes decoded had left (count_decoded p) → IsClosed from.heap to.heap
+    → to.session ≡ from.session → LoadsNothing from had left to
+settings_lack from to p had left passes closed session = record {
+  profile = p;
+  told = breaks_behind p empty 16;
+  tells = passes_part decoded (count_decoded p) had left (breaks_behind p empty 16) passes (nothing_counted p);
+  settings = refl;
+  lacks = record { closed = closed; session = session };
+}
+
+-- the objects were told after the settings
+module _ (from to : RunState) (settings : Settings) (q : Profile) (had mid left : Rest) where
+  pub loads_whole : q ≡ profile_of settings → Passes decoded had mid (count_decoded (profile_of settings)) → EndsBy (count_decoded q) q mid (Ok tt) left to
+      → LoadsBy from had (Ok settings) left to
+  loads_whole same passes told =
+      let ends = subst (λ (p : Profile). EndsBy (count_decoded p) p mid (Ok tt) left to) same told in
+      record {
+        objects = ends.0;
+        tells = tells_then _ _ had mid left passes (whole (profile_of settings) ends.0) ends.1;
+        spent = ends.2;
+        holds = ends.3;
+      }
+
+  pub loads_bad : (f : LoadFault) → q ≡ profile_of settings → Passes decoded had mid (count_decoded (profile_of settings)) → EndsBy (count_decoded q) q mid (Err f) left to
+      → LoadsBy from had (Err f) left to
+  loads_bad f same passes told = by f (subst (λ (p : Profile). EndsBy (count_decoded p) p mid (Err f) left to) same told)
+    where
+      by : (f : LoadFault) → EndsBy (count_decoded (profile_of settings)) (profile_of settings) mid (Err f) left to → LoadsBy from had (Err f) left to
+      by (fault.Bad at) ends = record {
+        told = ends.0;
+        tells = tells_then _ _ had mid left passes ends.0 ends.3;
+        broken = ends.1;
+        holds = subst (λ (p : Option Profile). HoldsTold from p ends.0.objects to) (sym ends.2) ends.4;
+      }
+      by fault.Read ends = record {
+        told = ends.0;
+        tells = part_then _ _ had mid left passes ends.0 ends.2;
+        holds = subst (λ (p : Option Profile). HoldsTold from p ends.0.objects to) (sym ends.1) ends.3;
+      }
+      by fault.OutOfMemory ends = absurd ends
+
+-- the number of objects was read, and then they
+pub ends_then : (T U : Reading) (p : Profile) (had mid left : Rest) (r : Result Unit LoadFault) (to : RunState) → Passes T had mid U
+    → EndsBy U p mid r left to → EndsBy T p had r left to
+ends_then T U p had mid left (Ok u) to passes ends = (ends.0, tells_then T U had mid left passes _ ends.1, ends.2, ends.3)
+ends_then T U p had mid left (Err (fault.Bad at)) to passes ends = (ends.0, ends.1, ends.2, tells_then T U had mid left passes ends.0 ends.3, ends.4)
+ends_then T U p had mid left (Err fault.Read) to passes ends = (ends.0, ends.1, part_then T U had mid left passes ends.0 ends.2, ends.3)
+ends_then T U p had mid left (Err fault.OutOfMemory) to passes ends = absurd ends
+
+-- the number of objects was not read
+module _ (T : Reading) (p : Profile) (had left : Rest) (s : RunState) (loading : IsLoading s) (profile : s.heap.profile ≡ p) (none : objects_of s ≡ empty) where
+  holds : (t : Decoded) → t.objects ≡ empty → HoldsObjects p t.objects s
+  holds t is = record { loading = loading; profile = profile; objects = none ∙ sym is }
+
+  pub stops_end : (f : LoadFault) → StopsBy (Some p) empty T had f left → EndsBy T p had (Err f) left s
+  stops_end (fault.Bad at) q = (q.0, q.1, q.2, q.4, holds q.0 q.3)
+  stops_end fault.Read q = (q.0, q.1, q.3, holds q.0 q.2)
+  stops_end fault.OutOfMemory q = absurd q
+
+  pub bad_end : (at : ℕ) → Tells T had left (breaks_behind p empty at) → EndsBy T p had (Err (fault.Bad at)) left s
+  bad_end at tells = (breaks_behind p empty at, refl, refl, tells, holds (breaks_behind p empty at) refl)
+
+-- a manager that was just opened, and a session without ids
+module _ (kind : Kind) (moving : kind ≡ Moving) (session : SessionState) (heap : HeapState) (settings : Settings) (one : settings.k ≡ 1) (idle : session.ids ≡ empty)
+    (opened : IsEmptyHeap kind settings heap) (rules : KeepsRules heap) where
+  no_id : (id h : ℕ) → get session.ids id ≡ Some h → ⊥
+  no_id id h is = (let e : Some h ≡ None = sym is ∙ ap (λ m. get m id) idle ∙ get-empty nat_cmp id in absurd (let z = e in cc))
+
+  no_object : (h : ℕ) (x : Placed) → get heap.held h ≡ Some x → ⊥
+  no_object h x is =
+      let held : heap.held ≡ empty = ap (λ (s : HeapState). s.held) opened.whole in
+      let e : Some x ≡ None = sym is ∙ ap (λ m. get m h) held ∙ get-empty nat_cmp h in absurd (let z = e in cc)
+
+  moves : heap.kind ≡ Moving
+  moves = ap (λ (s : HeapState). s.kind) opened.whole ∙ moving
+
+  pub opened_profile : heap.profile ≡ profile_of settings
+  opened_profile = ap (λ (s : HeapState). s.profile) opened.whole
+
+  bounds : heap.bounds ≡ first_bounds (profile_of settings) Words
+  bounds = ap (λ (s : HeapState). s.bounds) opened.whole ∙ ap (λ (k : Kind). opening_bounds k (profile_of settings)) moving
+
+  pub opened_loading : IsLoading (run_at session heap)
+  opened_loading = record {
+    going = record {
+      opened = ap (λ (s : HeapState). s.is_open) opened.whole;
+      rules = rules;
+      tied = record {
+        named = λ id h is. absurd (no_id id h is);
+        once = λ id other h is also. absurd (no_id id h is);
+        all = λ h x is. absurd (no_object h x is);
+        cost = costs_nothing heap.kind heap.cost session.bound (ap (λ (s : HeapState). s.cost) opened.whole);
+      };
+    };
+    kind = moves;
+    ones = subst AreOne (sym (λ i. paging_of (opened_profile i) (layout_of (moves i)) (bounds i))) (first_ones (profile_of settings) Words one);
+  }
+
+  pub opened_none : objects_of (run_at session heap) ≡ empty
+  opened_none = equal_maps _ _ (λ id. gone_by_id session.ids (objects heap.held) id (ap (λ m. get m id) idle ∙ get-empty nat_cmp id) ∙ sym (get-empty nat_cmp id))

@@ -1,0 +1,185 @@
+-- An object that is filled part by part.
+use Rattle.std.proofs.Common.{◌≡◌, ◌≢◌, ◌∙◌, ◌++◌, ◌+◌, ◌-◌, ◌≤◌, ◌<◌, ℕ, Bool, true, false, List, [], Option, Some, None, length, take, drop, refl, ap, sym, subst, arith, append_assoc, inl, inr, length-append}
+use Rattle.std.specs.Prelude.{replicate, Result, Ok, Err, nat_le, if◌then◌else◌}
+use Rattle.std.specs.FinMap.{get, insert, remove}
+use Rattle.std.specs.Int.{Width, w16, w32, byte_len}
+use Rattle.std.proofs.lemmas.Bool.{cases_eq}
+use Rattle.std.proofs.lemmas.Bool.Decides.{nat_tests}
+use Rattle.std.proofs.lemmas.List.{drop-replicate, length-replicate}
+use Rattle.std.proofs.Math.Seq.{drop-append-add, take-append_seam}
+use Rattle.cf_base.specs.Settings.{Profile}
+use Rattle.cf_io.specs.Feeds.{IsSpent, preceded}
+use Rattle.cf_lemmas.proofs.Maps.{equal_maps, get_inserted, get_insert_other, get_remove_other, get_removed}
+use Rattle.page_model.specs.Bytes.{written}
+use Rattle.page_model.specs.Held.{Objects}
+use Rattle.run_model.specs.Sessions.{RunState}
+use Rattle.heap_image.specs.Decoded.{Decoded, Reached, breaks_in, bytes_decoded, entry_decoded, has_room, length_decoded, passed}
+use Rattle.heap_image.specs.Entries.{EntryBy, FillsObject, reached_in}
+use Rattle.heap_image.specs.Heaps.{objects_of}
+use Rattle.heap_image.specs.Load.{IsLoading, Tells}
+use Rattle.heap_image.specs.Stages.{Falls, LeadsTo, Passes, ReadsNumber, StopsBy, StopsShort}
+use Rattle.heap_image.specs.declared.fault.LoadFault.{LoadFault}
+use Rattle.heap_image.specs.declared.fault.LoadFault.TheVariants as fault
+use Rattle.heap_image.specs.declared.objects_in.Entry.{Entry}
+use Rattle.heap_image.proofs.ImageDecoded.{bytes_read, if_true, lt_yes}
+use Rattle.heap_image.proofs.StageLemmas.{falls_stops, field_bad, field_good, field_stops, passes_then, stops_then}
+
+abbrev Rest : Type 0
+Rest = Option (List ℕ)
+
+preceded_twice : (a b : List ℕ) (o : Rest) → preceded a (preceded b o) ≡ preceded (a ++ b) o
+preceded_twice a b None = refl
+preceded_twice a b (Some r) = ap Some (sym (append_assoc a b r))
+
+module _ (m : Objects) (k : ℕ) (v w : List ℕ) where
+  insert_same : get m k ≡ Some v → m ≡ insert m k v
+  insert_same some = equal_maps _ _ (λ q. elim (cases_eq q k) [
+    | inl e ↦ rw e (some ∙ sym (get_inserted m k v))
+    | inr ne ↦ sym (get_insert_other m k v q ne)
+  ])
+
+  insert_twice : insert (insert m k v) k w ≡ insert m k w
+  insert_twice = equal_maps _ _ (λ q. elim (cases_eq q k) [
+    | inl e ↦ rw e (get_inserted (insert m k v) k w ∙ sym (get_inserted m k w))
+    | inr ne ↦ get_insert_other (insert m k v) k w q ne ∙ get_insert_other m k v q ne ∙ sym (get_insert_other m k w q ne)
+  ])
+
+  remove_inserted : remove (insert m k v) k ≡ remove m k
+  remove_inserted = equal_maps _ _ (λ q. elim (cases_eq q k) [
+    | inl e ↦ rw e (get_removed (insert m k v) k ∙ sym (get_removed m k))
+    | inr ne ↦ get_remove_other (insert m k v) k q ne ∙ get_insert_other m k v q ne ∙ sym (get_remove_other m k q ne)
+  ])
+
+  remove_fresh : get m k ≡ None → remove m k ≡ m
+  remove_fresh none = equal_maps _ _ (λ q. elim (cases_eq q k) [
+    | inl e ↦ rw e (get_removed m k ∙ sym none)
+    | inr ne ↦ get_remove_other m k q ne
+  ])
+
+-- one step after another
+module _ (old mid new : RunState) (id : ℕ) where
+  pub leads_written : (v w x : List ℕ) → LeadsTo old mid (insert (objects_of old) id v) → LeadsTo mid new (insert (objects_of mid) id w) → w ≡ x
+      → LeadsTo old new (insert (objects_of old) id x)
+  leads_written v w x first next is = record {
+    loading = next.loading;
+    profile = next.profile ∙ first.profile;
+    objects = next.objects ∙ ap (λ (o : Objects). insert o id w) first.objects ∙ insert_twice (objects_of old) id v w
+        ∙ ap (λ (b : List ℕ). insert (objects_of old) id b) is;
+  }
+
+  pub leads_removed : (v : List ℕ) → LeadsTo old mid (insert (objects_of old) id v) → LeadsTo mid new (remove (objects_of mid) id)
+      → LeadsTo old new (remove (objects_of old) id)
+  leads_removed v first next = record {
+    loading = next.loading;
+    profile = next.profile ∙ first.profile;
+    objects = next.objects ∙ ap (λ (o : Objects). remove o id) first.objects ∙ remove_inserted (objects_of old) id v v;
+  }
+
+  pub leads_back : (v : List ℕ) → get (objects_of old) id ≡ None → LeadsTo old mid (insert (objects_of old) id v) → LeadsTo mid new (remove (objects_of mid) id)
+      → LeadsTo old new (objects_of old)
+  leads_back v none first next = (let all = leads_removed v first next in
+      record { loading = all.loading; profile = all.profile; objects = all.objects ∙ remove_fresh (objects_of old) id v v none })
+
+pub leads_still : (s : RunState) → IsLoading s → LeadsTo s s (objects_of s)
+leads_still s loading = record { loading = loading; profile = refl; objects = refl }
+
+pub leads_first : (s : RunState) (id n : ℕ) → IsLoading s → get (objects_of s) id ≡ Some (replicate n 0) → LeadsTo s s (insert (objects_of s) id ([] ++ replicate (n - 0) 0))
+leads_first s id n loading some =
+    let same : n ≡ n - 0 = omega arith in
+    record {
+      loading = loading;
+      profile = refl;
+      objects = insert_same (objects_of s) id (replicate n 0) [] some ∙ ap (λ k. insert (objects_of s) id (replicate k 0)) same;
+    }
+
+pub held_in : (old mid : RunState) (id : ℕ) (v : List ℕ) → LeadsTo old mid (insert (objects_of old) id v) → get (objects_of mid) id ≡ Some v
+held_in old mid id v leads = ap (λ (o : Objects). get o id) leads.objects ∙ get_inserted (objects_of old) id v
+
+-- the next part is written
+zeros_after : (k n : ℕ) → drop n (replicate {A = ℕ} k 0) ≡ replicate (k - n) 0
+zeros_after k n = drop-replicate n k 0
+
+pub written_next : (bytes chunk : List ℕ) (n done count : ℕ) → length bytes ≡ done → length chunk ≡ count → done + count ≤ n
+    → written (bytes ++ replicate (n - done) 0) done chunk ≡ (bytes ++ chunk) ++ replicate (n - (done + count)) 0
+written_next bytes chunk n done count is has fits =
+    let zeros : List ℕ = replicate (n - done) 0 in
+    let left : n - done - length chunk ≡ n - (done + count) = omega (arith, has) in
+    (λ i. (ap (λ k. take k (bytes ++ zeros)) (sym is) ∙ take-append_seam bytes zeros) i
+    ++ (chunk ++ (ap (λ k. drop (k + length chunk) (bytes ++ zeros)) (sym is) ∙ drop-append-add bytes zeros (length chunk)
+    ∙ zeros_after (n - done) (length chunk) ∙ ap (λ k. replicate k 0) left) i))
+    ∙ sym (append_assoc bytes chunk (replicate (n - (done + count)) 0))
+
+-- the object fits what is written
+pub part_fits : (bytes : List ℕ) (n done count : ℕ) → length bytes ≡ done → done + count ≤ n → done + count ≤ length (bytes ++ replicate {A = ℕ} (n - done) 0)
+part_fits bytes n done count is fits =
+    let a = length-append bytes (replicate {A = ℕ} (n - done) 0) in let b = length-replicate {A = ℕ} (n - done) 0 in omega arith
+
+-- a part more was taken
+pub took_more : (a b : List ℕ) (had mid left : Rest) → had ≡ preceded a mid → mid ≡ preceded b left → had ≡ preceded (a ++ b) left
+took_more a b had mid left first next = first ∙ ap (preceded a) next ∙ preceded_twice a b left
+
+pub falls_more : (a : List ℕ) (n done count : ℕ) (had mid left : Rest) → length a ≡ done → done + count ≤ n → had ≡ preceded a mid → Falls count mid left
+    → Falls n had left
+falls_more a n done count had mid left is fits took f = record {
+  taken = a ++ f.taken;
+  short = (let x = length-append a f.taken in let y = f.short in omega arith);
+  took = took_more a f.taken had mid left took f.took;
+}
+
+-- an entry after a part
+pub entry_then : (T U : List ℕ → Decoded) (go : Reached → List ℕ → Decoded) (old : RunState) (r : Reached) (had mid left : Rest) (e : Result Entry LoadFault)
+    (new : RunState) → Passes T had mid U → EntryBy U go old r mid e left new → EntryBy T go old r had e left new
+entry_then T U go old r had mid left (Ok e) new p q = (q.0, q.1, q.2, passes_then T U had mid left p (go (passed r e.id q.0)) q.3, q.4)
+entry_then T U go old r had mid left (Err f) new p q = (stops_then T U had mid left p (Some old.heap.profile) r.objects f q.0, q.1)
+
+-- the bytes of an object
+module _ (p : Profile) (r : Reached) (id n : ℕ) (go : Reached → List ℕ → Decoded) (had left : Rest) where
+  abbrev bytes_reading : List ℕ → Decoded
+  bytes_reading bytes = bytes_decoded p r id n bytes go
+
+  pub bytes_pass : (v : List ℕ) → length v ≡ n → had ≡ preceded v left → Passes bytes_reading had left (go (passed r id v))
+  bytes_pass v is took = record {
+    taken = v;
+    took = took;
+    tells = λ more. ap (λ k. bytes_decoded p r id k (v ++ more) go) (sym is) ∙ bytes_read p r go id v more;
+  }
+
+  bytes_short : (bytes : List ℕ) → length bytes < n → bytes_decoded p r id n bytes go ≡ breaks_in p r 6
+  unfolding bytes_decoded
+  bytes_short bytes short = if_true _ _ _ (lt_yes (length bytes) n short)
+
+  pub bytes_stop : (f : LoadFault) → StopsShort n (r.at + 6) had f left → StopsBy (Some p) r.objects bytes_reading had f left
+  bytes_stop f q = falls_stops bytes_reading n (breaks_in p r 6) bytes_short had left (r.at + 6) f (Some p) r.objects refl refl refl q
+
+-- the length and the bytes
+module _ (old mid new : RunState) (r : Reached) (id n : ℕ) (had rest left : Rest) (mine : r.objects ≡ objects_of old) (rises : r.next ≤ id)
+    (good : has_room old.heap.profile r.objects n ≡ true) (reads : ReadsNumber w32 (r.at + 2) had (Ok n) rest)
+    (made : LeadsTo old mid (insert (objects_of old) id (replicate n 0))) (go : Reached → List ℕ → Decoded) where
+  length_passes : Passes (λ bytes. length_decoded old.heap.profile r id bytes go) had rest (λ bytes. bytes_decoded old.heap.profile r id n bytes go)
+  unfolding length_decoded
+  length_passes = field_good w32 (breaks_in old.heap.profile r 2) (λ n. has_room old.heap.profile r.objects n)
+      (λ n rest. bytes_decoded old.heap.profile r id n rest go) had rest (r.at + 2) n reads good
+
+  pub object_read : (e : Entry) → e.id ≡ id → e.length ≡ n → FillsObject n (r.at + 6) mid id rest (Ok tt) left new
+      → EntryBy (λ bytes. length_decoded old.heap.profile r id bytes go) go old r had (Ok e) left new
+  object_read e same size f =
+      let leads = leads_written old mid new id (replicate n 0) f.0 f.0 made f.3 refl in
+      let passes = passes_then _ _ had rest left length_passes (go (passed r id f.0)) (bytes_pass old.heap.profile r id n go rest left f.0 f.1 f.2) in (
+        f.0,
+        f.1 ∙ sym size,
+        subst (λ k. r.next ≤ k) (sym same) rises,
+        subst (λ k. Passes (λ bytes. length_decoded old.heap.profile r id bytes go) had left (go (passed r k f.0))) (sym same) passes,
+        record {
+          loading = leads.loading;
+          profile = leads.profile;
+          objects = leads.objects ∙ (λ i. insert (sym mine i) (sym same i) f.0);
+        },
+      )
+
+  pub object_stops : (f : LoadFault) → get (objects_of old) id ≡ None → FillsObject n (r.at + 6) mid id rest (Err f) left new
+      → EntryBy (λ bytes. length_decoded old.heap.profile r id bytes go) go old r had (Err f) left new
+  object_stops f none q =
+      let back = leads_back old mid new id (replicate n 0) none made q.1 in (
+        stops_then _ _ had rest left length_passes (Some old.heap.profile) r.objects f (bytes_stop old.heap.profile r id n go rest left f q.0),
+        record { loading = back.loading; profile = back.profile; objects = back.objects ∙ sym mine },
+      )

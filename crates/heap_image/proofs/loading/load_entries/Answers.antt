@@ -1,0 +1,53 @@
+use Rattle.std.proofs.Common.{◌≡◌, ◌∙◌, arith, refl, rules}
+use Rattle.cf_session.specs.Apply.{run_at}
+use Rattle.heap_image.proofs.EndLemmas.{all_end, entries_begin, entry_counts, entry_ends, entry_fresh, entry_leads, entry_passes, nothing_counts, nothing_fresh}
+use Rattle.heap_image.proofs.loading.load_entries.Goals as goal
+
+pub entries-init : goal.entries-init
+entries-init g c =
+    let s = run_at c.args.session.now (g.H.Manager.state c.args.heap.now) in
+    record {
+      loading = c.requires.loading;
+      profile = refl;
+      passed = entries_begin (g.H.Manager.state c.args.heap.now).profile c.args.count s _ c.requires.none;
+      fresh = λ id le. nothing_fresh s c.requires.none id;
+      count = nothing_counts s c.requires.none;
+      at = omega arith;
+      grows = omega arith;
+    }
+
+pub returns-in-Err-clause-ends : goal.returns-in-Err-clause-ends
+returns-in-Err-clause-ends g c =
+    let inv = c.entries.invariant in
+    entry_ends (g.H.Manager.state c.args.heap.now).profile (g.H.Manager.state c.entries.heap).profile c.args.count c.entries.i c.entries.next c.entries.at _ _ _
+    (run_at c.entries.session (g.H.Manager.state c.entries.heap)) (run_at c.read_entry.new.session (g.H.Manager.state c.read_entry.new.heap)) c.in-Err.fault
+    c.entries-test.true inv.profile inv.profile inv.passed c.in-Err.ensures.entry
+
+pub entries-preserved : goal.entries-preserved
+entries-preserved g c =
+    let inv = c.entries.invariant in
+    let p = (g.H.Manager.state c.args.heap.now).profile in
+    let q = (g.H.Manager.state c.entries.heap).profile in
+    let old = run_at c.entries.session (g.H.Manager.state c.entries.heap) in
+    let new = run_at c.read_entry.new.session (g.H.Manager.state c.read_entry.new.heap) in
+    let leads = entry_leads p q c.args.count c.entries.i c.entries.next c.entries.at _ _ _ old new c.in-Ok.entry c.entries-test.true inv.profile inv.passed
+    c.in-Ok.ensures.entry inv.fresh in
+    let at = inv.at in
+    record {
+      loading = leads.loading;
+      profile = leads.profile ∙ inv.profile;
+      passed = entry_passes p q c.args.count c.entries.i c.entries.next c.entries.at _ _ _ old new c.in-Ok.entry c.entries-test.true inv.profile inv.passed
+          c.in-Ok.ensures.entry inv.fresh;
+      fresh = entry_fresh p q c.args.count c.entries.i c.entries.next c.entries.at _ _ _ old new c.in-Ok.entry c.entries-test.true inv.profile inv.passed
+          c.in-Ok.ensures.entry inv.fresh;
+      count = entry_counts p q c.args.count c.entries.i c.entries.next c.entries.at _ _ _ old new c.in-Ok.entry c.entries-test.true inv.profile inv.passed
+          c.in-Ok.ensures.entry inv.fresh inv.count;
+      at = first_of (omega (arith, at), omega (arith, at, c.read_entry.type_inv), grind (arith, at), search rules);
+      grows = omega (arith, inv.grows, c.in-Ok.ensures.grows);
+    }
+
+pub returns-clause-ends : goal.returns-clause-ends
+returns-clause-ends g c =
+    let inv = c.entries.invariant in
+    all_end (g.H.Manager.state c.args.heap.now).profile c.args.count c.entries.i c.entries.next c.entries.at _ _ _
+    (run_at c.entries.session (g.H.Manager.state c.entries.heap)) c.read_end.result c.entries-test.false inv.loading inv.profile inv.passed c.read_end.ensures.end

@@ -1,0 +1,124 @@
+-- Which bytes are a heap image: what bytes tell of one, field by field, up to the first field that breaks a rule or is cut by the end.
+use Rattle.std.specs.Prelude.{◌≡◌, ℕ, zero, suc, Bool, ◌&&◌, ◌+◌, ◌*◌, ◌/◌, List, [], ◌∷◌, Option, Some, None, length, take, drop, if◌then◌else◌, nat_le, nat_lt}
+use Rattle.std.specs.Int.{Width, w16, w32, byte_len}
+use Rattle.std.specs.Str.{bytes_eq}
+use Rattle.std.specs.FinMap.{empty, insert}
+use Rattle.cf_base.specs.Classes.{need}
+use Rattle.cf_base.specs.Limits.{is_page_bytes, is_within}
+use Rattle.cf_base.specs.Settings.{Profile, profile_from}
+use Rattle.cf_base.specs.declared.kind.Layout.TheVariants.{Words}
+use Rattle.page_model.specs.Arrangement.{pages_needed_with}
+use Rattle.page_model.specs.Held.{Objects}
+use Rattle.page_model.specs.Paging.{Paging, first_bounds, paging_of}
+use Rattle.heap_image.specs.Image.{mark, number_of_bytes}
+
+-- What bytes tell.
+pub record Decoded : Type 0 where
+  -- the settings, with the bound 1, where the field of the proxies is accepted
+  pub settings : Option Profile
+  -- the objects of the whole entries
+  pub objects : Objects
+  -- the offset of the first field that breaks a rule or is cut by the end, or of the first byte past the image; none where the bytes are an image
+  pub broken : Option ℕ
+
+-- they break at an offset before the proxies are accepted
+abbrev pub unopened : ℕ → Decoded
+unopened at = record { settings = None; objects = empty; broken = Some at }
+
+-- they break after that, behind these objects
+abbrev pub breaks_behind : Profile → Objects → ℕ → Decoded
+breaks_behind p objects at = record { settings = Some p; objects = objects; broken = Some at }
+
+-- they are an image
+abbrev pub whole : Profile → Objects → Decoded
+whole p objects = record { settings = Some p; objects = objects; broken = None }
+
+-- a number, and what it and the bytes after it tell; and what is told where it is cut
+abbrev pub number : Width → List ℕ → Decoded → (ℕ → List ℕ → Decoded) → Decoded
+number w bytes cut go =
+    if nat_lt (length bytes) (byte_len w) then cut else go (number_of_bytes w (take (byte_len w) bytes)) (drop (byte_len w) bytes)
+
+-- the pages and size classes of the moving manager
+abbrev pub image_paging : Profile → Paging
+image_paging p = paging_of p Words (first_bounds p Words)
+
+-- an object of n bytes fits a page, and with it the objects need no more pages than there are
+unfoldable pub has_room : Profile → Objects → ℕ → Bool
+has_room p objects n = nat_le (need n) p.page_words && nat_le (pages_needed_with (image_paging p) objects n) p.pages
+
+-- how far the entries came: the least id that may be next, the objects so far, and the offset
+pub record Reached : Type 0 where
+  pub next : ℕ
+  pub objects : Objects
+  pub at : ℕ
+
+-- one entry further
+abbrev pub passed : Reached → ℕ → List ℕ → Reached
+passed r id v = record { next = id + 1; objects = insert r.objects id v; at = r.at + (6 + length v) }
+
+-- they break so many bytes into an entry
+abbrev pub breaks_in : Profile → Reached → ℕ → Decoded
+breaks_in p r n = breaks_behind p r.objects (r.at + n)
+
+-- an entry: its n bytes
+unfoldable pub bytes_decoded : Profile → Reached → ℕ → ℕ → List ℕ → (Reached → List ℕ → Decoded) → Decoded
+bytes_decoded p r id n bytes go = if nat_lt (length bytes) n then breaks_in p r 6 else go (passed r id (take n bytes)) (drop n bytes)
+
+-- its length: the object has room
+unfoldable pub length_decoded : Profile → Reached → ℕ → List ℕ → (Reached → List ℕ → Decoded) → Decoded
+length_decoded p r id bytes go =
+    number w32 bytes (breaks_in p r 2) (λ n rest. if has_room p r.objects n then bytes_decoded p r id n rest go else breaks_in p r 2)
+
+-- its id: the ids rise
+unfoldable pub entry_decoded : Profile → Reached → List ℕ → (Reached → List ℕ → Decoded) → Decoded
+entry_decoded p r bytes go =
+    number w16 bytes (breaks_in p r 0) (λ id rest. if nat_le r.next id then length_decoded p r id rest go else breaks_in p r 0)
+
+-- nothing follows the last entry
+unfoldable pub end_decoded : Profile → Reached → List ℕ → Decoded
+end_decoded p r [] = whole p r.objects
+end_decoded p r (b ∷ rest) = breaks_in p r 0
+
+-- so many entries, and the end
+unfoldable pub entries_decoded : Profile → ℕ → Reached → List ℕ → Decoded
+entries_decoded p zero r bytes = end_decoded p r bytes
+entries_decoded p (suc left) r bytes = entry_decoded p r bytes (λ r rest. entries_decoded p left r rest)
+
+-- no entry was read yet
+abbrev pub at_first : Reached
+at_first = record { next = 0; objects = empty; at = 20 }
+
+-- the number of objects: at most the proxies
+unfoldable pub count_decoded : Profile → List ℕ → Decoded
+count_decoded p bytes = number w32 bytes (breaks_behind p empty 16)
+    (λ count rest. if nat_le count p.proxies then entries_decoded p count at_first rest else breaks_behind p empty 16)
+
+-- the proxies: 1 to 65,536
+unfoldable pub proxies_decoded : ℕ → ℕ → List ℕ → Decoded
+proxies_decoded pages page_bytes bytes = number w32 bytes (unopened 12)
+    (λ proxies rest. if is_within 1 65536 proxies then count_decoded (profile_from pages page_bytes 1 proxies) rest else unopened 12)
+
+-- whether so many pages may have so many bytes: a size of pages, and at most 64 MiB together
+abbrev pub is_page_of : ℕ → ℕ → Bool
+is_page_of pages page_bytes = is_page_bytes page_bytes && nat_le (pages * page_bytes) 67108864
+
+-- the bytes of a page
+unfoldable pub page_bytes_decoded : ℕ → List ℕ → Decoded
+page_bytes_decoded pages bytes = number w32 bytes (unopened 8)
+    (λ page_bytes rest. if is_page_of pages page_bytes then proxies_decoded pages page_bytes rest else unopened 8)
+
+-- the pages: 1 to 4,096
+unfoldable pub pages_decoded : List ℕ → Decoded
+pages_decoded bytes = number w32 bytes (unopened 4) (λ pages rest. if is_within 1 4096 pages then page_bytes_decoded pages rest else unopened 4)
+
+-- what bytes tell: an image begins with its mark
+unfoldable pub decoded : List ℕ → Decoded
+decoded bytes = if bytes_eq (take 4 bytes) mark then pages_decoded (drop 4 bytes) else unopened 0
+
+-- the bytes are a heap image
+abbrev pub IsImage : List ℕ → Type 0
+IsImage bytes = (decoded bytes).broken ≡ None
+
+-- the bytes aren't a heap image: the first field that breaks a rule, or is cut, begins at this offset, or nothing should follow from there on
+abbrev pub IsBroken : List ℕ → ℕ → Type 0
+IsBroken bytes at = (decoded bytes).broken ≡ Some at

@@ -1,0 +1,39 @@
+-- The image of what a session and its manager hold.
+use Rattle.std.specs.Prelude.{◌≡◌, ℕ, IsTrue, ◌+◌, ◌*◌, ◌^◌, ◌≤◌, ◌<◌, List, Some, None, length}
+use Rattle.std.specs.FinMap.{get, len}
+use Rattle.cf_base.specs.Classes.{need}
+use Rattle.cf_base.specs.Settings.{Profile}
+use Rattle.page_model.specs.Arrangement.{pages_needed}
+use Rattle.page_model.specs.Bytes.{AreBytes}
+use Rattle.page_model.specs.Held.{Objects, objects}
+use Rattle.cf_model.specs.Rules.{AreInRange}
+use Rattle.run_model.specs.Sessions.{RunState}
+use Rattle.transcript_laws.specs.Histories.{objects_by_id}
+use Rattle.heap_image.specs.Decoded.{image_paging}
+use Rattle.heap_image.specs.Image.{image_of}
+
+-- the objects by id
+abbrev pub objects_of : RunState → Objects
+objects_of s = objects_by_id s.session.ids (objects s.heap.held)
+
+-- the image under the settings of a heap
+abbrev pub image_under : Profile → Objects → List ℕ
+image_under p objects = image_of p.pages (8 * p.page_words) p.proxies objects
+
+-- the image of what is live
+abbrev pub heap_image : RunState → List ℕ
+heap_image s = image_under s.heap.profile (objects_of s)
+
+-- the settings with the bound 1
+abbrev pub at_bound_one : Profile → Profile
+at_bound_one p = record p { k = 1 }
+
+-- Settings with the bound 1, and objects by id that a heap of kind Moving may hold at once: they have an image.
+pub record HaveImage (p : Profile) (objects : Objects) : Type 0 where
+  pub settings : AreInRange p
+  pub one : p.k ≡ 1
+  pub ids : (id : ℕ) (v : List ℕ) → get objects id ≡ Some v → id < 2 ^ 16
+  pub bytes : (id : ℕ) (v : List ℕ) → get objects id ≡ Some v → AreBytes v
+  pub fit : (id : ℕ) (v : List ℕ) → get objects id ≡ Some v → need (length v) ≤ p.page_words
+  pub few : len objects ≤ p.proxies
+  pub room : pages_needed (image_paging p) objects ≤ p.pages

@@ -1,0 +1,34 @@
+-- A heap image: the settings, and the objects by id, as bytes.
+use Rattle.std.specs.Prelude.{ℕ, List, [], ◌∷◌, ◌++◌, codes, length}
+use Rattle.std.specs.Int.{Width, w16, w32, from_le_bytes, to_le_bytes}
+use Rattle.std.specs.FinMap.{entries, len}
+use Rattle.page_model.specs.Held.{Objects}
+
+-- a number as bytes, the least first, and back
+unfoldable pub number_bytes : Width → ℕ → List ℕ
+number_bytes w n = to_le_bytes w n
+
+unfoldable pub number_of_bytes : Width → List ℕ → ℕ
+number_of_bytes w bytes = from_le_bytes w bytes
+
+-- the bytes that an image begins with
+abbrev pub mark : List ℕ
+mark = codes "CFI1"
+
+-- an object: its id, its length, and its bytes
+abbrev pub entry_of : ℕ → List ℕ → List ℕ
+entry_of id v = number_bytes w16 id ++ (number_bytes w32 (length v) ++ v)
+
+-- objects one after the other
+abbrev pub entries_of : List (ℕ × List ℕ) → List ℕ
+entries_of [] = []
+entries_of (e ∷ es) = entry_of e.0 e.1 ++ entries_of es
+
+-- the mark, the settings, and how many objects there are
+abbrev pub header_of : ℕ → ℕ → ℕ → ℕ → List ℕ
+header_of pages page_bytes proxies count =
+    mark ++ (number_bytes w32 pages ++ (number_bytes w32 page_bytes ++ (number_bytes w32 proxies ++ number_bytes w32 count)))
+
+-- the image of these objects by id, in rising order of the ids, under these settings; there is no bound in an image
+abbrev pub image_of : ℕ → ℕ → ℕ → Objects → List ℕ
+image_of pages page_bytes proxies objects = header_of pages page_bytes proxies (len objects) ++ entries_of (entries objects)

@@ -1,0 +1,14 @@
+-- The objects of some ids, one id after the other. No public clause cites this module.
+use Rattle.std.specs.Prelude.{ℕ, zero, suc, ◌+◌, List, [], ◌∷◌, Option, Some, None}
+use Rattle.std.specs.FinMap.{get}
+use Rattle.page_model.specs.Held.{Objects}
+
+-- an object before others, where the id has one
+abbrev pub listed_before : ℕ → Option (List ℕ) → List (ℕ × List ℕ) → List (ℕ × List ℕ)
+listed_before id None rest = rest
+listed_before id (Some v) rest = (id, v) ∷ rest
+
+-- the objects of the n ids from id on
+unfoldable pub listed : Objects → ℕ → ℕ → List (ℕ × List ℕ)
+listed objects id zero = []
+listed objects id (suc n) = listed_before id (get objects id) (listed objects (id + 1) n)

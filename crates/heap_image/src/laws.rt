@@ -1,0 +1,50 @@
+//! Laws of heap images. The functions do nothing: what each ensures is the law.
+ghost use Rattle.std.specs.Prelude.{◌≡◌, ◌≤◌, ℕ, List};
+ghost use Rattle.cf_base.specs.Settings.{Profile};
+ghost use Rattle.cf_base.specs.declared.kind.Kind.TheVariants.{Moving};
+ghost use Rattle.cf_base.specs.declared.kind.Layout.TheVariants.{Words};
+ghost use Rattle.cf_model.specs.State.{HeapState};
+ghost use Rattle.id_table.specs.Ids.{AreWithin};
+ghost use Rattle.page_model.specs.Arrangement.{IsSound, pages_needed};
+ghost use Rattle.page_model.specs.Held.{Held, Objects, objects};
+ghost use Rattle.page_model.specs.Paging.{IsPaging, paging_of};
+ghost use Rattle.run_model.specs.Sessions.{AreTied, IsGoing, RunState};
+ghost use Rattle.transcript_laws.specs.Histories.{bytes_of};
+ghost use Rattle.heap_image.specs.Decoded.{IsImage, decoded, image_paging, whole};
+ghost use Rattle.heap_image.specs.Heaps.{HaveImage, at_bound_one, heap_image, image_under, objects_of};
+
+use page_model::{objects_need_no_more_pages, pages_and_objects_add_up};
+
+/// An image tells the settings and the objects that it is the image of, and so it is an image.
+pub fn an_image_is_read_back()
+    ensures { (p : Profile) (o : Objects) → HaveImage p o → decoded (image_under p o) ≡ whole p o }
+{}
+
+/// An image determines its settings and its objects by id.
+pub fn an_image_determines_its_objects()
+    ensures { (p q : Profile) (o n : Objects) → HaveImage p o → HaveImage q n
+        → image_under p o ≡ image_under q n → (p ≡ q) × (o ≡ n) }
+{}
+
+/// Objects on pages of the moving manager need no more pages than there are, whatever the bounds of
+/// the classes: so what a heap of kind Moving holds has an image.
+pub fn what_lives_has_an_image()
+    ensures pages { (p : Profile) (bounds : List ℕ) (m : Held) → IsPaging (paging_of p Words bounds)
+        → IsSound (paging_of p Words bounds) m → pages_needed (image_paging p) (objects m) ≤ p.pages }
+    ensures lives { (s : RunState) → IsGoing s → AreWithin s.session.ids → s.heap.kind ≡ Moving
+        → HaveImage (at_bound_one s.heap.profile) (objects_of s) × IsImage (heap_image s) }
+{
+    objects_need_no_more_pages();
+    pages_and_objects_add_up();
+}
+
+/// Heaps with equal pages, page sizes, proxies and objects by id have one image, whatever their
+/// histories and bounds.
+pub fn equal_objects_have_one_image()
+    ensures { (one other : RunState) → AreTied one.session one.heap → AreTied other.session other.heap
+        → other.heap.profile.pages ≡ one.heap.profile.pages
+        → other.heap.profile.page_words ≡ one.heap.profile.page_words
+        → other.heap.profile.proxies ≡ one.heap.profile.proxies
+        → ((id : ℕ) → bytes_of other id ≡ bytes_of one id)
+        → heap_image other ≡ heap_image one }
+{}

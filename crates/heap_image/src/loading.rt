@@ -1,0 +1,123 @@
+//! Loading an image into a heap.
+ghost use Rattle.std.specs.Prelude.{◌≡◌, ◌+◌, ◌<◌, ◌≤◌, ◌^◌, ℕ, List, Err};
+ghost use Rattle.std.specs.FinMap as map;
+ghost use Rattle.cf_base.specs.declared.kind.Kind.TheVariants.{Moving};
+ghost use Rattle.cf_io.specs.Feeds.{Rose};
+ghost use Rattle.cf_session.specs.Apply.{run_at};
+ghost use Rattle.heap_image.specs.Decoded.{at_first, count_decoded, end_decoded, entries_decoded};
+ghost use Rattle.heap_image.specs.Ends.{EndsBy, EndTold};
+ghost use Rattle.heap_image.specs.Heaps.{objects_of};
+ghost use Rattle.heap_image.specs.Load.{IsLoading, LoadsBy};
+
+use crate::fault::LoadFault;
+use crate::filling::{Filled, fill, read_u32};
+use crate::objects_in::{CHUNK, read_entry};
+use crate::settings_in::read_settings;
+use cf_base::Settings;
+use cf_io::Source;
+use cf_model::Manager;
+use cf_session::Session;
+
+/// Loads an image into a heap of kind Moving at the bound 1, however the source cuts its bytes. At `Ok`
+/// the heap is open with the settings of the image and holds its objects by id, and nothing is left
+/// in the source. `Read` comes only where the source failed. `Bad` comes where the bytes aren't an
+/// image; no byte behind the field that breaks is read. After either the heap is as it was where the
+/// field of the proxies wasn't accepted yet, and else holds the objects of the whole entries before.
+/// `OutOfMemory` comes only at the opening, and the heap is closed then.
+pub fn load<S: Source, H: Manager>(
+    source: &mut S,
+    heap: &mut H,
+    session: &mut Session,
+) -> Result<Settings, LoadFault>
+    requires moving { (H.state heap.old).kind ≡ Moving }
+    requires idle { session.old.ids ≡ map.empty }
+    ensures loads { LoadsBy (run_at session.old (H.state heap.old)) (S.rest source.old) result (S.rest source.new)
+        (run_at session.new (H.state heap.new)) }
+    ensures kind { (H.state heap.new).kind ≡ Moving }
+    ensures grows { S.faults source.old ≤ S.faults source.new }
+    ensures read { result ≡ Err LoadFault.Read → Rose (S.faults source.old) (S.faults source.new) }
+{
+    let settings = match read_settings(source) {
+        Ok(settings) => settings,
+        Err(fault) => return Err(fault),
+    };
+    match heap.open_heap(&settings) {
+        Ok(()) => {}
+        Err(_) => return Err(LoadFault::OutOfMemory),
+    }
+    match load_objects(source, heap, session, settings.proxies) {
+        Ok(()) => Ok(settings),
+        Err(fault) => Err(fault),
+    }
+}
+
+/// Loads the objects, from their number on, into a heap that holds none.
+fn load_objects<S: Source, H: Manager>(
+    source: &mut S,
+    heap: &mut H,
+    session: &mut Session,
+    proxies: u32,
+) -> Result<(), LoadFault>
+    requires loading { IsLoading (run_at session.old (H.state heap.old)) }
+    requires none { objects_of (run_at session.old (H.state heap.old)) ≡ map.empty }
+    requires proxies { (H.state heap.old).profile.proxies ≡ proxies }
+    requires few { proxies ≤ 65536 }
+    ensures ends { EndsBy (count_decoded (H.state heap.old).profile) (H.state heap.old).profile
+        (S.rest source.old) result (S.rest source.new) (run_at session.new (H.state heap.new)) }
+    ensures grows { S.faults source.old ≤ S.faults source.new }
+    ensures failed { result ≡ Err LoadFault.Read → Rose (S.faults source.old) (S.faults source.new) }
+{
+    let count = match read_u32(source, 16) {
+        Ok(count) => count,
+        Err(fault) => return Err(fault),
+    };
+    if count > proxies {
+        return Err(LoadFault::Bad { at: 16 });
+    }
+    load_entries(source, heap, session, count)
+}
+
+/// Loads so many entries, and sees that nothing follows.
+fn load_entries<S: Source, H: Manager>(
+    source: &mut S,
+    heap: &mut H,
+    session: &mut Session,
+    count: u32,
+) -> Result<(), LoadFault>
+    requires loading { IsLoading (run_at session.old (H.state heap.old)) }
+    requires none { objects_of (run_at session.old (H.state heap.old)) ≡ map.empty }
+    requires few { count ≤ (H.state heap.old).profile.proxies }
+    requires proxies { (H.state heap.old).profile.proxies ≤ 65536 }
+    ensures ends { EndsBy (entries_decoded (H.state heap.old).profile count at_first) (H.state heap.old).profile
+        (S.rest source.old) result (S.rest source.new) (run_at session.new (H.state heap.new)) }
+    ensures grows { S.faults source.old ≤ S.faults source.new }
+    ensures failed { result ≡ Err LoadFault.Read → Rose (S.faults source.old) (S.faults source.new) }
+{
+    let mut room = [0; CHUNK];
+    let mut next = 0;
+    let mut at = 20;
+    'entries: for i in 0..count {
+        match read_entry(source, heap, session, next, at, &mut room) {
+            Ok(entry) => {
+                next = entry.id as u32 + 1;
+                at += 6 + entry.length as u64;
+            }
+            Err(fault) => return Err(fault),
+        }
+    }
+    read_end(source, at)
+}
+
+/// Sees that the source ended at this offset.
+fn read_end<S: Source>(source: &mut S, at: u64) -> Result<(), LoadFault>
+    ensures end { EndTold at (S.rest source.old) result (S.rest source.new) }
+    ensures grows { S.faults source.old ≤ S.faults source.new }
+    ensures failed { result ≡ Err LoadFault.Read → Rose (S.faults source.old) (S.faults source.new) }
+{
+    let mut bytes = [0; 1];
+    match fill(source, &mut bytes) {
+        Filled::Whole => Err(LoadFault::Bad { at }),
+        Filled::Cut => Ok(()),
+        Filled::Failed => Err(LoadFault::Read),
+    }
+}

@@ -1,0 +1,203 @@
+//! The objects of an image: each is made, filled, or freed again, by commands of a session.
+ghost use Rattle.std.specs.Prelude.{◌≡◌, ◌≢◌, ◌+◌, ◌<◌, ◌≤◌, ◌^◌, ℕ, List, Some, None, Err, true, false, length, replicate};
+ghost use Rattle.std.specs.Bool.{OnFalse, OnTrue};
+ghost use Rattle.std.specs.FinMap as map;
+ghost use Rattle.cf_io.specs.Feeds.{Rose};
+ghost use Rattle.cf_session.specs.Apply.{run_at};
+ghost use Rattle.page_model.specs.Bytes.{written};
+ghost use Rattle.heap_image.specs.Decoded.{Decoded, Reached, entry_decoded, has_room, length_decoded};
+ghost use Rattle.heap_image.specs.Heaps.{objects_of};
+ghost use Rattle.heap_image.specs.Load.{IsLoading};
+ghost use Rattle.heap_image.specs.Entries.{EntryBy, FillsObject, reached_in};
+ghost use Rattle.heap_image.specs.Stages.{LeadsTo};
+
+use crate::fault::LoadFault;
+use crate::filling::{Filled, fill, read_u16, read_u32};
+use cf_io::{NullSink, Source};
+use cf_model::Manager;
+use cf_session::{Outcome, Session};
+use script_reader::CommandRef;
+
+/// The most bytes of an object that are written at once.
+pub(crate) const CHUNK: usize = 4_096;
+
+/// An object that was read: its id, and its length in bytes.
+#[derive(Clone, Copy, Debug, PartialEq, Eq)]
+pub(crate) struct Entry {
+    pub id: u16,
+    pub length: u32,
+}
+
+/// Reads an entry at this offset, whose id is `next` at least, and makes its object.
+pub(crate) fn read_entry<S: Source, H: Manager>(
+    source: &mut S,
+    heap: &mut H,
+    session: &mut Session,
+    next: u32,
+    at: u64,
+    room: &mut [u8],
+) -> Result<Entry, LoadFault>
+    requires loading { IsLoading (run_at session.old (H.state heap.old)) }
+    requires fresh { (id : ℕ) → next ≤ id → map.get (objects_of (run_at session.old (H.state heap.old))) id ≡ None }
+    requires few { map.len (objects_of (run_at session.old (H.state heap.old))) < (H.state heap.old).profile.proxies }
+    requires place { length room.old ≡ 4096 }
+    requires offset { at < 2 ^ 60 }
+    ensures entry { (go : Reached → List ℕ → Decoded) → EntryBy (λ bytes. entry_decoded (H.state heap.old).profile
+        (reached_in (run_at session.old (H.state heap.old)) next at) bytes go) go
+        (run_at session.old (H.state heap.old)) (reached_in (run_at session.old (H.state heap.old)) next at)
+        (S.rest source.old) result (S.rest source.new) (run_at session.new (H.state heap.new)) }
+    ensures grows { S.faults source.old ≤ S.faults source.new }
+    ensures failed { result ≡ Err LoadFault.Read → Rose (S.faults source.old) (S.faults source.new) }
+{
+    let id = match read_u16(source, at) {
+        Ok(id) => id,
+        Err(fault) => return Err(fault),
+    };
+    if (id as u32) < next {
+        return Err(LoadFault::Bad { at });
+    }
+    read_object(source, heap, session, id, next, at, room)
+}
+
+/// Reads the length of the object of an id and its bytes, and makes the object.
+fn read_object<S: Source, H: Manager>(
+    source: &mut S,
+    heap: &mut H,
+    session: &mut Session,
+    id: u16,
+    next: u32,
+    at: u64,
+    room: &mut [u8],
+) -> Result<Entry, LoadFault>
+    requires loading { IsLoading (run_at session.old (H.state heap.old)) }
+    requires rises { next ≤ id }
+    requires fresh { map.get (objects_of (run_at session.old (H.state heap.old))) id ≡ None }
+    requires few { map.len (objects_of (run_at session.old (H.state heap.old))) < (H.state heap.old).profile.proxies }
+    requires place { length room.old ≡ 4096 }
+    requires offset { at < 2 ^ 60 }
+    ensures entry { (go : Reached → List ℕ → Decoded) → EntryBy (λ bytes. length_decoded (H.state heap.old).profile
+        (reached_in (run_at session.old (H.state heap.old)) next at) id bytes go) go
+        (run_at session.old (H.state heap.old)) (reached_in (run_at session.old (H.state heap.old)) next at)
+        (S.rest source.old) result (S.rest source.new) (run_at session.new (H.state heap.new)) }
+    ensures grows { S.faults source.old ≤ S.faults source.new }
+    ensures failed { result ≡ Err LoadFault.Read → Rose (S.faults source.old) (S.faults source.new) }
+{
+    let n = match read_u32(source, at + 2) {
+        Ok(n) => n,
+        Err(fault) => return Err(fault),
+    };
+    if !make_object(heap, session, id, n) {
+        return Err(LoadFault::Bad { at: at + 2 });
+    }
+    match fill_object(source, heap, session, id, n, at + 6, room) {
+        Ok(()) => Ok(Entry { id, length: n }),
+        Err(fault) => Err(fault),
+    }
+}
+
+/// Makes an object of zeros, if it fits a page and there is a page or a slot for it.
+fn make_object<H: Manager>(heap: &mut H, session: &mut Session, id: u16, n: u32) -> bool
+    requires loading { IsLoading (run_at session.old (H.state heap.old)) }
+    requires fresh { map.get (objects_of (run_at session.old (H.state heap.old))) id ≡ None }
+    requires few { map.len (objects_of (run_at session.old (H.state heap.old))) < (H.state heap.old).profile.proxies }
+    ensures test { result ≡ has_room (H.state heap.old).profile (objects_of (run_at session.old (H.state heap.old))) n }
+    ensures made { OnTrue result (LeadsTo (run_at session.old (H.state heap.old)) (run_at session.new (H.state heap.new))
+        (map.insert (objects_of (run_at session.old (H.state heap.old))) id (replicate n 0))) }
+    ensures refused { OnFalse result (LeadsTo (run_at session.old (H.state heap.old)) (run_at session.new (H.state heap.new))
+        (objects_of (run_at session.old (H.state heap.old)))) }
+{
+    match session.apply_ref(
+        heap,
+        CommandRef::Malloc { id, bytes: n },
+        b"",
+        &mut NullSink,
+    ) {
+        Ok(outcome) => is_good(outcome),
+        Err(_) => unreachable!(),
+    }
+}
+
+/// Whether a command did what it asks.
+fn is_good(outcome: Outcome) -> bool
+    ensures good { OnTrue result (outcome ≡ Outcome.Good) }
+    ensures other { OnFalse result (outcome ≢ Outcome.Good) }
+{
+    match outcome {
+        Outcome::Good => true,
+        Outcome::Refused | Outcome::Other => false,
+    }
+}
+
+/// Fills an object of n zeros. It is freed again where its bytes are cut or can't be read.
+fn fill_object<S: Source, H: Manager>(
+    source: &mut S,
+    heap: &mut H,
+    session: &mut Session,
+    id: u16,
+    n: u32,
+    at: u64,
+    room: &mut [u8],
+) -> Result<(), LoadFault>
+    requires loading { IsLoading (run_at session.old (H.state heap.old)) }
+    requires made { map.get (objects_of (run_at session.old (H.state heap.old))) id ≡ Some (replicate n 0) }
+    requires place { length room.old ≡ 4096 }
+    ensures fills { FillsObject n at (run_at session.old (H.state heap.old)) id (S.rest source.old) result (S.rest source.new)
+        (run_at session.new (H.state heap.new)) }
+    ensures grows { S.faults source.old ≤ S.faults source.new }
+    ensures failed { result ≡ Err LoadFault.Read → Rose (S.faults source.old) (S.faults source.new) }
+{
+    let mut done = 0;
+    'chunks: while done < n {
+        let count = (n - done).min(CHUNK as u32);
+        let chunk = &mut room[..count as usize];
+        match fill(source, chunk) {
+            Filled::Whole => {}
+            Filled::Cut => {
+                free_object(heap, session, id);
+                return Err(LoadFault::Bad { at });
+            }
+            Filled::Failed => {
+                free_object(heap, session, id);
+                return Err(LoadFault::Read);
+            }
+        }
+        write_part(heap, session, id, done, chunk);
+        done += count;
+    }
+    Ok(())
+}
+
+/// Writes bytes into the object of an id, from byte `at` on.
+fn write_part<H: Manager>(heap: &mut H, session: &mut Session, id: u16, at: u32, bytes: &[u8])
+    requires loading { IsLoading (run_at session.old (H.state heap.old)) }
+    requires some { 1 ≤ length bytes.now }
+    requires few { length bytes.now ≤ 4096 }
+    requires within { (v : List ℕ) × (map.get (objects_of (run_at session.old (H.state heap.old))) id ≡ Some v)
+        × (at + length bytes.now ≤ length v) }
+    ensures { (v : List ℕ) → map.get (objects_of (run_at session.old (H.state heap.old))) id ≡ Some v
+        → LeadsTo (run_at session.old (H.state heap.old)) (run_at session.new (H.state heap.new))
+        (map.insert (objects_of (run_at session.old (H.state heap.old))) id (written v at bytes.now)) }
+{
+    match session.apply_ref(
+        heap,
+        CommandRef::Write { id, at, bytes },
+        b"",
+        &mut NullSink,
+    ) {
+        Ok(_) => {}
+        Err(_) => unreachable!(),
+    }
+}
+
+/// Frees the object of an id.
+fn free_object<H: Manager>(heap: &mut H, session: &mut Session, id: u16)
+    requires loading { IsLoading (run_at session.old (H.state heap.old)) }
+    requires live { (v : List ℕ) × (map.get (objects_of (run_at session.old (H.state heap.old))) id ≡ Some v) }
+    ensures { LeadsTo (run_at session.old (H.state heap.old)) (run_at session.new (H.state heap.new))
+        (map.remove (objects_of (run_at session.old (H.state heap.old))) id) }
+{
+    match session.apply_ref(heap, CommandRef::Free { id }, b"", &mut NullSink) {
+        Ok(_) => {}
+        Err(_) => unreachable!(),
+    }
+}

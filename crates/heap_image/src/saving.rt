@@ -1,0 +1,163 @@
+//! Writing what lives in a heap as an image.
+ghost use Rattle.std.specs.Prelude.{◌≡◌, ◌^◌, ◌<◌, ◌≤◌, ◌*◌, IsTrue, OnErr, Some, length};
+ghost use Rattle.std.specs.FinMap as map;
+ghost use Rattle.cf_base.specs.declared.kind.Kind.TheVariants.{Moving};
+ghost use Rattle.cf_base.specs.Settings.{profile_of};
+ghost use Rattle.cf_io.specs.Feeds.{Puts, Rose};
+ghost use Rattle.cf_session.specs.Apply.{run_at};
+ghost use Rattle.page_model.specs.Held.{Placed};
+ghost use Rattle.run_model.specs.Sessions.{AreTied};
+ghost use Rattle.heap_image.specs.Heaps.{heap_image};
+ghost use Rattle.heap_image.specs.Image.{entry_of, header_of};
+
+use cf_base::{Failed, Handle, Settings};
+use cf_io::{Line, Sink, push_text, put_all};
+use cf_model::Manager;
+use cf_session::Session;
+use step_ledger::Meter;
+
+/// The most bytes of an object that are read at once.
+const CHUNK: usize = 4_096;
+
+/// How many ids there are.
+const IDS: u32 = 65_536;
+
+/// Writes the image of the objects that live in the heap: the settings, then the objects by rising
+/// id, each with its length and its bytes, in chunks of at most 4,096 bytes. `Failed` only where the
+/// sink failed; a prefix of the image was written then.
+pub fn save<H: Manager, K: Sink>(
+    s: &Settings,
+    heap: &H,
+    session: &Session,
+    out: &mut K,
+    meter: &mut Meter,
+) -> Result<(), Failed>
+    requires moving { (H.state heap.now).kind ≡ Moving }
+    requires open { IsTrue (H.state heap.now).is_open }
+    requires settings { (H.state heap.now).profile ≡ profile_of s.now }
+    requires tied { AreTied session.now (H.state heap.now) }
+    ensures puts { Puts (K.written out.old) (heap_image (run_at session.now (H.state heap.now))) result (K.written out.new) }
+    ensures grows { K.faults out.old ≤ K.faults out.new }
+    ensures failed { OnErr result (Rose (K.faults out.old) (K.faults out.new)) }
+{
+    // An open heap keeps its rules, and ids have 16 bits.
+    let _open = heap.is_open();
+    let _first = session.handle(0);
+    let mut line = Line::new();
+    let mut room = [0; CHUNK];
+    meter.lap();
+    let totals = heap.totals(meter.steps());
+    match put_header(s, totals.live, &mut line, out) {
+        Ok(()) => {}
+        Err(failed) => return Err(failed),
+    }
+    'ids: for id in 0..IDS {
+        let Some(h) = session.handle(id as u16) else {
+            continue;
+        };
+        match put_object(heap, id as u16, h, &mut room, &mut line, out, meter) {
+            Ok(()) => {}
+            Err(failed) => return Err(failed),
+        }
+    }
+    Ok(())
+}
+
+/// Writes the mark, the settings, and the number of objects.
+fn put_header<K: Sink>(s: &Settings, live: u32, line: &mut Line, out: &mut K) -> Result<(), Failed>
+    ensures puts { Puts (K.written out.old) (header_of s.now.pages (8 * s.now.page_words) s.now.proxies live)
+        result (K.written out.new) }
+    ensures grows { K.faults out.old ≤ K.faults out.new }
+    ensures failed { OnErr result (Rose (K.faults out.old) (K.faults out.new)) }
+{
+    line.clear();
+    push_text(line, b"CFI1");
+    push_text(line, &s.pages.to_le_bytes());
+    push_text(line, &(8 * s.page_words).to_le_bytes());
+    push_text(line, &s.proxies.to_le_bytes());
+    push_text(line, &live.to_le_bytes());
+    put_all(out, line.bytes())
+}
+
+/// Writes an object under its id.
+fn put_object<H: Manager, K: Sink>(
+    heap: &H,
+    id: u16,
+    h: Handle,
+    room: &mut [u8],
+    line: &mut Line,
+    out: &mut K,
+    meter: &mut Meter,
+) -> Result<(), Failed>
+    requires moving { (H.state heap.now).kind ≡ Moving }
+    requires open { IsTrue (H.state heap.now).is_open }
+    requires live { (x : Placed) × (map.get (H.state heap.now).held h.0 ≡ Some x) }
+    requires place { length room.old ≡ 4096 }
+    ensures puts { (x : Placed) → map.get (H.state heap.now).held h.0 ≡ Some x
+        → Puts (K.written out.old) (entry_of id x.bytes) result (K.written out.new) }
+    ensures grows { K.faults out.old ≤ K.faults out.new }
+    ensures failed { OnErr result (Rose (K.faults out.old) (K.faults out.new)) }
+{
+    let n = length_of(heap, h, meter);
+    line.clear();
+    push_text(line, &id.to_le_bytes());
+    push_text(line, &n.to_le_bytes());
+    match put_all(out, line.bytes()) {
+        Ok(()) => {}
+        Err(failed) => return Err(failed),
+    }
+    put_bytes(heap, h, n, room, out, meter)
+}
+
+/// The length of an object in bytes, as its header says.
+fn length_of<H: Manager>(heap: &H, h: Handle, meter: &mut Meter) -> u32
+    requires moving { (H.state heap.now).kind ≡ Moving }
+    requires open { IsTrue (H.state heap.now).is_open }
+    requires live { (x : Placed) × (map.get (H.state heap.now).held h.0 ≡ Some x) }
+    ensures { (x : Placed) → map.get (H.state heap.now).held h.0 ≡ Some x → result ≡ length x.bytes }
+{
+    let _open = heap.is_open();
+    meter.lap();
+    let Some(place) = heap.place(h, meter.steps()) else {
+        unreachable!();
+    };
+    let Some(header) = heap.peek(place, meter.steps()) else {
+        unreachable!();
+    };
+    (header >> 32) as u32
+}
+
+/// Writes the bytes of an object of so many bytes, chunk by chunk.
+fn put_bytes<H: Manager, K: Sink>(
+    heap: &H,
+    h: Handle,
+    n: u32,
+    room: &mut [u8],
+    out: &mut K,
+    meter: &mut Meter,
+) -> Result<(), Failed>
+    requires open { IsTrue (H.state heap.now).is_open }
+    requires live { (x : Placed) × (map.get (H.state heap.now).held h.0 ≡ Some x) × (n ≡ length x.bytes) }
+    requires place { length room.old ≡ 4096 }
+    ensures puts { (x : Placed) → map.get (H.state heap.now).held h.0 ≡ Some x
+        → Puts (K.written out.old) x.bytes result (K.written out.new) }
+    ensures grows { K.faults out.old ≤ K.faults out.new }
+    ensures failed { OnErr result (Rose (K.faults out.old) (K.faults out.new)) }
+{
+    let mut at = 0;
+    'chunks: while at < n {
+        let count = (n - at).min(CHUNK as u32);
+        let chunk = &mut room[..count as usize];
+        meter.lap();
+        match heap.read(h, at, chunk, meter.steps()) {
+            Ok(()) => {}
+            Err(_) => unreachable!(),
+        }
+        match put_all(out, chunk) {
+            Ok(()) => {}
+            Err(failed) => return Err(failed),
+        }
+        at += count;
+    }
+    Ok(())
+}

@@ -1,0 +1,100 @@
+//! The settings at the head of an image.
+ghost use Rattle.std.specs.Prelude.{◌≡◌, ◌≤◌, IsTrue, Err};
+ghost use Rattle.std.specs.Str.{bytes_eq};
+ghost use Rattle.cf_base.specs.Limits.{is_within};
+ghost use Rattle.cf_io.specs.Feeds.{Rose};
+ghost use Rattle.heap_image.specs.Decoded.{decoded, is_page_of, page_bytes_decoded, pages_decoded, proxies_decoded};
+ghost use Rattle.heap_image.specs.Image.{mark};
+ghost use Rattle.heap_image.specs.Stages.{SettingsBy};
+
+use crate::fault::LoadFault;
+use crate::filling::{Filled, fill, read_u32};
+use cf_base::Settings;
+use cf_io::Source;
+
+/// Reads the mark and the settings, which have the bound 1.
+pub(crate) fn read_settings<S: Source>(source: &mut S) -> Result<Settings, LoadFault>
+    ensures settings { SettingsBy decoded (S.rest source.old) result (S.rest source.new) }
+    ensures grows { S.faults source.old ≤ S.faults source.new }
+    ensures failed { result ≡ Err LoadFault.Read → Rose (S.faults source.old) (S.faults source.new) }
+{
+    let mut bytes = [0; 4];
+    match fill(source, &mut bytes) {
+        Filled::Whole => {}
+        Filled::Cut => return Err(LoadFault::Bad { at: 0 }),
+        Filled::Failed => return Err(LoadFault::Read),
+    }
+    if !is_mark(&bytes) {
+        return Err(LoadFault::Bad { at: 0 });
+    }
+    read_pages(source)
+}
+
+/// Whether these bytes are the mark of an image.
+fn is_mark(bytes: &[u8]) -> bool
+    ensures { result ≡ bytes_eq bytes.now mark }
+{
+    bytes == b"CFI1".as_slice()
+}
+
+/// Whether a heap may have so many pages.
+fn are_pages(pages: u32) -> bool
+    ensures { result ≡ is_within 1 4096 pages }
+{
+    (1..=4096).contains(&pages)
+}
+
+/// Reads the settings from the pages on.
+fn read_pages<S: Source>(source: &mut S) -> Result<Settings, LoadFault>
+    ensures settings { SettingsBy pages_decoded (S.rest source.old) result (S.rest source.new) }
+    ensures grows { S.faults source.old ≤ S.faults source.new }
+    ensures failed { result ≡ Err LoadFault.Read → Rose (S.faults source.old) (S.faults source.new) }
+{
+    let pages = match read_u32(source, 4) {
+        Ok(pages) => pages,
+        Err(fault) => return Err(fault),
+    };
+    if !are_pages(pages) {
+        return Err(LoadFault::Bad { at: 4 });
+    }
+    read_page_bytes(source, pages)
+}
+
+/// Reads the settings from the bytes of a page on.
+fn read_page_bytes<S: Source>(source: &mut S, pages: u32) -> Result<Settings, LoadFault>
+    requires pages { IsTrue (is_within 1 4096 pages) }
+    ensures settings { SettingsBy (page_bytes_decoded pages) (S.rest source.old) result (S.rest source.new) }
+    ensures grows { S.faults source.old ≤ S.faults source.new }
+    ensures failed { result ≡ Err LoadFault.Read → Rose (S.faults source.old) (S.faults source.new) }
+{
+    let page_bytes = match read_u32(source, 8) {
+        Ok(page_bytes) => page_bytes,
+        Err(fault) => return Err(fault),
+    };
+    match Settings::check(pages, page_bytes, 1, 1) {
+        Ok(_) => read_proxies(source, pages, page_bytes),
+        Err(_) => Err(LoadFault::Bad { at: 8 }),
+    }
+}
+
+/// Reads the proxies, and makes the settings.
+fn read_proxies<S: Source>(
+    source: &mut S,
+    pages: u32,
+    page_bytes: u32,
+) -> Result<Settings, LoadFault>
+    requires pages { IsTrue (is_within 1 4096 pages) }
+    requires page { IsTrue (is_page_of pages page_bytes) }
+    ensures settings { SettingsBy (proxies_decoded pages page_bytes) (S.rest source.old) result (S.rest source.new) }
+    ensures grows { S.faults source.old ≤ S.faults source.new }
+    ensures failed { result ≡ Err LoadFault.Read → Rose (S.faults source.old) (S.faults source.new) }
+{
+    let proxies = match read_u32(source, 12) {
+        Ok(proxies) => proxies,
+        Err(fault) => return Err(fault),
+    };
+    match Settings::check(pages, page_bytes, 1, proxies) {
+        Ok(settings) => Ok(settings),
+        Err(_) => Err(LoadFault::Bad { at: 12 }),
+    }
+}
