@@ -11,7 +11,12 @@ fn overwrite(cell: &mut [u8], from: usize, part: &[u8])
     requires { from + length part.now ≤ length cell.old }
     ensures { cell.new ≡ written cell.old from part.now }
 {
-    cell[from..from + part.len()].copy_from_slice(part);
+    // A copy whose length is known is one store.
+    if part.len() == CELL {
+        cell[from..from + CELL].copy_from_slice(part);
+    } else {
+        cell[from..from + part.len()].copy_from_slice(part);
+    }
 }
 
 /// The word with `part` over its bytes from byte `from` on.
@@ -30,7 +35,12 @@ fn copy_cell(word: u64, from: usize, out: &mut [u8])
     ensures { (j : ℕ) → j < length out.new → slice_index out.new j ≡ byte_of (from + j) word }
 {
     let cell = word.to_le_bytes();
-    out.copy_from_slice(&cell[from..from + out.len()]);
+    // As above: one load and one store.
+    if out.len() == CELL {
+        out.copy_from_slice(&cell[from..from + CELL]);
+    } else {
+        out.copy_from_slice(&cell[from..from + out.len()]);
+    }
 }
 
 /// Copies the bytes from byte `at` of the words on.
