@@ -1,10 +1,10 @@
 -- The entries of an image that is loaded, one after the other, and its end.
-use Rattle.std.proofs.Common.{◌≡◌, ◌≢◌, ◌∙◌, ◌++◌, ◌+◌, ◌-◌, ◌*◌, ◌≤◌, ◌<◌, ◌^◌, ℕ, suc, List, [], ◌∷◌, Option, Some, None, length, refl, ap, sym, subst, arith}
+use Rattle.std.proofs.Common.{◌≡◌, ◌≢◌, ◌∙◌, ◌++◌, ◌+◌, ◌-◌, ◌≤◌, ◌<◌, ℕ, suc, List, [], ◌∷◌, Option, Some, None, refl, ap, sym, subst, arith}
 use Rattle.std.specs.Prelude.{Result, Ok, Err}
 use Rattle.std.specs.FinMap.{empty, get, get-empty, insert, len, len-empty}
 use Rattle.std.specs.Ordering.{nat_cmp}
 use Rattle.cf_base.specs.Settings.{Profile}
-use Rattle.cf_io.specs.Feeds.{IsSpent, preceded}
+use Rattle.cf_io.specs.Feeds.{preceded}
 use Rattle.cf_lemmas.proofs.Maps.{get_insert_other, len_fresh}
 use Rattle.page_model.specs.Held.{Objects}
 use Rattle.run_model.specs.Sessions.{RunState}
@@ -12,7 +12,7 @@ use Rattle.heap_image.specs.Decoded.{Decoded, Reached, at_first, breaks_in, end_
 use Rattle.heap_image.specs.Ends.{EndTold, EndsBy}
 use Rattle.heap_image.specs.Entries.{EntryBy, reached_in}
 use Rattle.heap_image.specs.Heaps.{objects_of}
-use Rattle.heap_image.specs.Load.{HoldsObjects, IsLoading, Tells, TellsInPart}
+use Rattle.heap_image.specs.Load.{HoldsObjects, IsLoading}
 use Rattle.heap_image.specs.Stages.{LeadsTo, Passes, StopsBy}
 use Rattle.heap_image.specs.declared.fault.LoadFault.{LoadFault}
 use Rattle.heap_image.specs.declared.fault.LoadFault.TheVariants as fault

@@ -6,7 +6,7 @@ use Rattle.std.proofs.lemmas.Bool.{cases_eq}
 use Rattle.std.specs.FinMap.{get, insert, remove}
 use Rattle.cf_lemmas.proofs.Maps.{equal_maps, get_inserted, get_insert_other, get_remove_other, get_removed}
 use Rattle.cf_lemmas.proofs.MapValues.{get-map_values}
-use Rattle.cf_lemmas.proofs.Renaming.{AreRenamed, CountAlike, counted_alike}
+use Rattle.cf_lemmas.proofs.Renaming.{CountAlike, counted_alike}
 use Rattle.page_model.specs.Held.{Objects}
 use Rattle.run_model.specs.Sessions.{Ids}
 use Rattle.run_model.proofs.CallerLemmas.{AreNames}

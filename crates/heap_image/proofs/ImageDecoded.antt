@@ -1,7 +1,7 @@
 -- The fields of an image, one after the other.
-use Rattle.std.proofs.Common.{◌≡◌, ◌∙◌, ◌++◌, ◌+◌, ◌-◌, ◌*◌, ◌/◌, ◌%◌, ◌≤◌, ◌<◌, ◌^◌, ℕ, zero, suc, Bool, true, false, List, [], ◌∷◌, Option, Some, None, length, take, drop, refl, ap, sym, subst, arith, append_assoc, append-nil}
+use Rattle.std.proofs.Common.{◌≡◌, ◌∙◌, ◌++◌, ◌+◌, ◌*◌, ◌/◌, ◌%◌, ◌≤◌, ◌<◌, ◌^◌, ℕ, zero, suc, Bool, true, false, List, [], Option, Some, None, length, refl, ap, sym, arith, append_assoc}
 use Rattle.std.proofs.Common.{inl, inr, length-append}
-use Rattle.std.specs.Prelude.{nat_le, nat_lt, if◌then◌else◌, IsTrue, ◌&&◌, ◌==◌}
+use Rattle.std.specs.Prelude.{nat_le, nat_lt, if◌then◌else◌, ◌&&◌, ◌==◌}
 use Rattle.std.specs.Int.{w16, w32}
 use Rattle.std.specs.FinMap.{empty, entries, get, get-empty, insert, len, len-entries}
 use Rattle.std.specs.Ordering.{nat_cmp}
@@ -9,8 +9,7 @@ use Rattle.std.proofs.Math.Seq.{drop-append_seam, take-append_seam}
 use Rattle.std.proofs.lemmas.Bool.{cases_lt}
 use Rattle.std.proofs.lemmas.Bool.Decides.{nat_tests}
 use Rattle.std.proofs.lemmas.Nat.{mul-le}
-use Rattle.cf_base.specs.Classes.{need}
-use Rattle.cf_base.specs.Limits.{is_page_bytes, is_page_size, is_within}
+use Rattle.cf_base.specs.Limits.{is_page_size, is_within}
 use Rattle.cf_base.specs.Settings.{Profile, profile_from}
 use Rattle.cf_lemmas.proofs.Maps.{equal_maps}
 use Rattle.cf_model.specs.Rules.{AreInRange}
@@ -20,7 +19,7 @@ use Rattle.heap_image.specs.Decoded.{Decoded, Reached, at_first, bytes_decoded, 
 use Rattle.heap_image.specs.Decoded.{entry_decoded, has_room, image_paging, is_page_of, length_decoded, page_bytes_decoded, pages_decoded, passed}
 use Rattle.heap_image.specs.Decoded.{proxies_decoded, unopened, whole}
 use Rattle.heap_image.specs.Heaps.{HaveImage, image_under}
-use Rattle.heap_image.specs.Image.{entries_of, entry_of, header_of, mark, number_bytes}
+use Rattle.heap_image.specs.Image.{entries_of, entry_of, mark, number_bytes}
 use Rattle.heap_image.specs.Listed.{listed}
 use Rattle.heap_image.proofs.Encoded.{AreBelow, below_none, below_some, needed_added, needed_more}
 use Rattle.heap_image.proofs.Listing.{listed_all}

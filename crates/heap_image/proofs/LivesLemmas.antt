@@ -1,30 +1,28 @@
 -- What lives has an image, and equal objects have one.
-use Rattle.std.proofs.Common.{◌≡◌, ◌∙◌, ◌+◌, ◌-◌, ◌*◌, ◌≤◌, ◌<◌, ◌^◌, ℕ, List, Option, Some, None, length, refl, ap, sym, subst, arith}
-use Rattle.std.specs.Prelude.{option_map, IsTrue}
+use Rattle.std.proofs.Common.{◌≡◌, ◌∙◌, ◌+◌, ◌*◌, ◌≤◌, ℕ, List, Option, Some, None, length, refl, ap, sym, subst, arith}
+use Rattle.std.specs.Prelude.{option_map}
 use Rattle.std.specs.List.{range_with_len}
-use Rattle.std.specs.FinMap.{get, len}
+use Rattle.std.specs.FinMap.{get}
 use Rattle.cf_base.specs.Classes.{need}
 use Rattle.cf_base.specs.Settings.{Profile}
 use Rattle.cf_base.specs.declared.kind.Kind.{Kind}
 use Rattle.cf_base.specs.declared.kind.Kind.TheVariants.{Moving}
-use Rattle.cf_base.specs.declared.kind.Layout.{Layout}
 use Rattle.cf_base.specs.declared.kind.Layout.TheVariants.{Words}
 use Rattle.cf_lemmas.proofs.Maps.{equal_maps}
 use Rattle.cf_lemmas.proofs.Renaming.{CountAlike}
-use Rattle.cf_model.specs.Rules.{AreInRange}
-use Rattle.cf_model.specs.State.{HeapState, layout_of, paging_in}
+use Rattle.cf_model.specs.State.{layout_of, paging_in}
 use Rattle.id_table.specs.Ids.{AreWithin}
-use Rattle.page_model.specs.Arrangement.{IsSound, class_at, free_pages, live, pages_needed, used_pages}
+use Rattle.page_model.specs.Arrangement.{IsSound, free_pages, live, pages_needed, used_pages}
 use Rattle.page_model.specs.Bytes.{AreBytes}
 use Rattle.page_model.specs.Counts.{ceil_div}
 use Rattle.page_model.specs.Held.{Held, Objects, Placed, objects}
 use Rattle.page_model.specs.Paging.{IsPaging, Paging, class_for, classes, paging_of, slots_of}
-use Rattle.page_model.proofs.CallerLemmas.{class_holds, len-objects, slot_fits, sum_same}
+use Rattle.page_model.proofs.CallerLemmas.{class_holds, len-objects, sum_same}
 use Rattle.run_model.specs.Sessions.{AreTied, IsGoing, RunState}
 use Rattle.run_model.proofs.CallerLemmas.{AreNames, bytes_held, names_in, names_of_objects}
 use Rattle.transcript_laws.specs.Histories.{bytes_of}
-use Rattle.heap_image.specs.Decoded.{IsImage, decoded, image_paging, whole}
-use Rattle.heap_image.specs.Heaps.{HaveImage, at_bound_one, heap_image, image_under, objects_of}
+use Rattle.heap_image.specs.Decoded.{IsImage, image_paging}
+use Rattle.heap_image.specs.Heaps.{HaveImage, at_bound_one, heap_image, objects_of}
 use Rattle.heap_image.specs.Image.{image_of}
 use Rattle.heap_image.proofs.Headers.{pages_of}
 use Rattle.heap_image.proofs.Ids.{by_id_counts, found_by_id, gone_by_id, live_by_id, numbered_by_id}

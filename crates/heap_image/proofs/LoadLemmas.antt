@@ -1,32 +1,27 @@
 -- The stages of a load put together.
-use Rattle.std.proofs.Common.{◌≡◌, ◌∙◌, ◌++◌, ◌+◌, ◌≤◌, ◌<◌, ℕ, Bool, true, false, List, [], Option, Some, None, length, refl, ap, sym, subst, arith}
-use Rattle.std.specs.Prelude.{Result, Ok, Err, nat_le, ◌&&◌, IsTrue}
-use Rattle.std.specs.Int.{w32}
+use Rattle.std.proofs.Common.{◌≡◌, ◌∙◌, ℕ, List, [], Option, Some, None, refl, ap, sym, subst}
+use Rattle.std.specs.Prelude.{Result, Ok, Err}
 use Rattle.std.specs.FinMap.{empty, get, get-empty}
 use Rattle.std.specs.Ordering.{nat_cmp}
-use Rattle.cf_base.specs.Limits.{is_within}
-use Rattle.cf_base.specs.Settings.{Profile, profile_from, profile_of}
+use Rattle.cf_base.specs.Settings.{Profile, profile_of}
 use Rattle.cf_base.specs.declared.kind.Kind.{Kind}
 use Rattle.cf_base.specs.declared.kind.Kind.TheVariants.{Moving}
 use Rattle.cf_base.specs.declared.kind.Layout.TheVariants.{Words}
 use Rattle.cf_base.specs.declared.settings.Settings.{Settings}
-use Rattle.cf_io.specs.Feeds.{IsSpent, preceded}
 use Rattle.cf_lemmas.proofs.Maps.{equal_maps}
 use Rattle.cf_model.specs.Rules.{KeepsRules}
-use Rattle.cf_model.specs.State.{HeapState, layout_of, paging_in}
+use Rattle.cf_model.specs.State.{HeapState, layout_of}
 use Rattle.cf_model.specs.Steps.{IsClosed, IsEmptyHeap, opening_bounds}
 use Rattle.cf_session.specs.Apply.{run_at}
-use Rattle.page_model.specs.Held.{Objects, Placed, objects}
+use Rattle.page_model.specs.Held.{Placed, objects}
 use Rattle.page_model.specs.Paging.{AreOne, first_bounds, paging_of}
 use Rattle.page_model.proofs.CallerLemmas.{first_ones}
 use Rattle.run_model.specs.Sessions.{RunState, SessionState}
 use Rattle.run_model.proofs.CallerLemmas.{costs_nothing}
-use Rattle.script_loop.specs.OneManager.{LacksOne}
-use Rattle.transcript_laws.specs.Histories.{objects_by_id}
-use Rattle.heap_image.specs.Decoded.{Decoded, at_first, breaks_behind, count_decoded, decoded, entries_decoded, whole}
+use Rattle.heap_image.specs.Decoded.{Decoded, breaks_behind, count_decoded, decoded, whole}
 use Rattle.heap_image.specs.Ends.{EndsBy}
 use Rattle.heap_image.specs.Heaps.{objects_of}
-use Rattle.heap_image.specs.Load.{HoldsObjects, HoldsTold, IsLoading, LoadsBy, LoadsNothing, Tells, TellsInPart}
+use Rattle.heap_image.specs.Load.{HoldsObjects, HoldsTold, IsLoading, LoadsBy, LoadsNothing, Tells}
 use Rattle.heap_image.specs.Stages.{Passes, StopsBy}
 use Rattle.heap_image.specs.declared.fault.LoadFault.{LoadFault}
 use Rattle.heap_image.specs.declared.fault.LoadFault.TheVariants as fault

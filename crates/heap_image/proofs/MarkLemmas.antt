@@ -1,19 +1,17 @@
 -- The mark of an image, and the settings after it.
-use Rattle.std.proofs.Common.{◌≡◌, ◌≢◌, ◌∙◌, ◌++◌, ◌+◌, ◌≤◌, ◌<◌, ℕ, Bool, true, false, List, [], Option, Some, None, length, take, drop, refl, ap, sym, subst, arith, length-append}
-use Rattle.std.specs.Prelude.{Result, Ok, Err, if◌then◌else◌, nat_le}
-use Rattle.std.specs.Int.{w32}
+use Rattle.std.proofs.Common.{◌≡◌, ◌∙◌, ◌++◌, ◌<◌, ℕ, Bool, true, false, List, Option, None, length, take, refl, ap, sym, arith}
+use Rattle.std.specs.Prelude.{Result, Ok, Err}
 use Rattle.std.specs.Str.{bytes_eq}
 use Rattle.std.specs.FinMap.{empty}
 use Rattle.std.proofs.Math.Seq.{take-append_seam}
 use Rattle.std.proofs.lemmas.List.{take_all}
 use Rattle.std.proofs.lemmas.Slice.Eq.{bytes_eq-Decides}
-use Rattle.cf_base.specs.Settings.{Profile}
 use Rattle.cf_base.specs.declared.settings.Settings.{Settings}
-use Rattle.cf_io.specs.Feeds.{IsSpent, preceded}
+use Rattle.cf_io.specs.Feeds.{preceded}
 use Rattle.heap_image.specs.Decoded.{Decoded, decoded, pages_decoded, unopened}
 use Rattle.heap_image.specs.Image.{mark}
 use Rattle.heap_image.specs.Load.{Tells}
-use Rattle.heap_image.specs.Stages.{Falls, Passes, SettingsBy, StopsBy, StopsShort}
+use Rattle.heap_image.specs.Stages.{Passes, SettingsBy, StopsShort}
 use Rattle.heap_image.specs.declared.fault.LoadFault.{LoadFault}
 use Rattle.heap_image.specs.declared.fault.LoadFault.TheVariants as fault
 use Rattle.heap_image.proofs.ImageDecoded.{if_false, mark_read}

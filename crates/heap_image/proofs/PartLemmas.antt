@@ -1,28 +1,26 @@
 -- An object that is filled part by part.
-use Rattle.std.proofs.Common.{◌≡◌, ◌≢◌, ◌∙◌, ◌++◌, ◌+◌, ◌-◌, ◌≤◌, ◌<◌, ℕ, Bool, true, false, List, [], Option, Some, None, length, take, drop, refl, ap, sym, subst, arith, append_assoc, inl, inr, length-append}
-use Rattle.std.specs.Prelude.{replicate, Result, Ok, Err, nat_le, if◌then◌else◌}
+use Rattle.std.proofs.Common.{◌≡◌, ◌∙◌, ◌++◌, ◌+◌, ◌-◌, ◌≤◌, ◌<◌, ℕ, true, List, [], Option, Some, None, length, take, drop, refl, ap, sym, subst, arith, append_assoc, inl, inr, length-append}
+use Rattle.std.specs.Prelude.{replicate, Result, Ok, Err}
 use Rattle.std.specs.FinMap.{get, insert, remove}
-use Rattle.std.specs.Int.{Width, w16, w32, byte_len}
+use Rattle.std.specs.Int.{w32}
 use Rattle.std.proofs.lemmas.Bool.{cases_eq}
-use Rattle.std.proofs.lemmas.Bool.Decides.{nat_tests}
 use Rattle.std.proofs.lemmas.List.{drop-replicate, length-replicate}
 use Rattle.std.proofs.Math.Seq.{drop-append-add, take-append_seam}
 use Rattle.cf_base.specs.Settings.{Profile}
-use Rattle.cf_io.specs.Feeds.{IsSpent, preceded}
+use Rattle.cf_io.specs.Feeds.{preceded}
 use Rattle.cf_lemmas.proofs.Maps.{equal_maps, get_inserted, get_insert_other, get_remove_other, get_removed}
 use Rattle.page_model.specs.Bytes.{written}
 use Rattle.page_model.specs.Held.{Objects}
 use Rattle.run_model.specs.Sessions.{RunState}
-use Rattle.heap_image.specs.Decoded.{Decoded, Reached, breaks_in, bytes_decoded, entry_decoded, has_room, length_decoded, passed}
-use Rattle.heap_image.specs.Entries.{EntryBy, FillsObject, reached_in}
+use Rattle.heap_image.specs.Decoded.{Decoded, Reached, breaks_in, bytes_decoded, has_room, length_decoded, passed}
+use Rattle.heap_image.specs.Entries.{EntryBy, FillsObject}
 use Rattle.heap_image.specs.Heaps.{objects_of}
-use Rattle.heap_image.specs.Load.{IsLoading, Tells}
+use Rattle.heap_image.specs.Load.{IsLoading}
 use Rattle.heap_image.specs.Stages.{Falls, LeadsTo, Passes, ReadsNumber, StopsBy, StopsShort}
 use Rattle.heap_image.specs.declared.fault.LoadFault.{LoadFault}
-use Rattle.heap_image.specs.declared.fault.LoadFault.TheVariants as fault
 use Rattle.heap_image.specs.declared.objects_in.Entry.{Entry}
 use Rattle.heap_image.proofs.ImageDecoded.{bytes_read, if_true, lt_yes}
-use Rattle.heap_image.proofs.StageLemmas.{falls_stops, field_bad, field_good, field_stops, passes_then, stops_then}
+use Rattle.heap_image.proofs.StageLemmas.{falls_stops, field_good, passes_then, stops_then}
 
 abbrev Rest : Type 0
 Rest = Option (List ℕ)

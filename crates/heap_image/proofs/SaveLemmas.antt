@@ -1,6 +1,6 @@
 -- The image of what is live, written object by object.
-use Rattle.std.proofs.Common.{◌≡◌, ◌∙◌, ◌++◌, ◌+◌, ◌-◌, ◌*◌, ◌≤◌, ◌<◌, ◌^◌, ℕ, suc, List, [], ◌∷◌, Option, Some, None, length, refl, ap, sym, subst, arith, append_assoc, append-nil}
-use Rattle.std.specs.Prelude.{Result, Ok, Err, option_map}
+use Rattle.std.proofs.Common.{◌≡◌, ◌∙◌, ◌++◌, ◌+◌, ◌-◌, ◌*◌, ℕ, suc, List, [], ◌∷◌, Option, Some, None, length, refl, ap, sym, subst, arith, append_assoc, append-nil}
+use Rattle.std.specs.Prelude.{Result, Err, option_map}
 use Rattle.std.specs.FinMap.{entries, get, len}
 use Rattle.std.specs.Int.{w16, w32}
 use Rattle.cf_base.specs.Settings.{Profile}
@@ -19,7 +19,7 @@ use Rattle.page_model.proofs.CallerLemmas.{len-objects}
 use Rattle.run_model.specs.Sessions.{AreTied, RunState}
 use Rattle.run_model.proofs.CallerLemmas.{bytes_held, names_in, names_of_objects}
 use Rattle.heap_image.specs.Heaps.{heap_image, objects_of}
-use Rattle.heap_image.specs.Image.{entries_of, entry_of, header_of, image_of, number_bytes}
+use Rattle.heap_image.specs.Image.{entries_of, entry_of, header_of, number_bytes}
 use Rattle.heap_image.specs.Listed.{listed, listed_before}
 use Rattle.heap_image.proofs.Ids.{by_id_counts, gone_by_id, live_by_id, numbered_by_id}
 use Rattle.heap_image.proofs.Listing.{listed_all}

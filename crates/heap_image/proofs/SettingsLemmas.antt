@@ -1,5 +1,5 @@
 -- Which field of the settings a fault is of.
-use Rattle.std.proofs.Common.{◌≡◌, ◌∙◌, ◌*◌, ℕ, Bool, true, false, Option, Some, None, refl, ap, sym}
+use Rattle.std.proofs.Common.{◌≡◌, ◌∙◌, ◌*◌, ℕ, Bool, true, false, Option, Some, None, refl, ap}
 use Rattle.std.specs.Prelude.{◌&&◌, if◌then◌else◌, nat_le}
 use Rattle.cf_base.specs.Limits.{is_page_bytes, is_within}
 use Rattle.cf_base.specs.Settings.{setting_fault}

@@ -1,13 +1,13 @@
 -- Readings, one after the other.
-use Rattle.std.proofs.Common.{◌≡◌, ◌∙◌, ◌++◌, ◌+◌, ◌≤◌, ◌<◌, ℕ, Bool, true, false, List, [], ◌∷◌, Option, Some, None, length, refl, ap, sym, subst, arith, append_assoc, append-nil, length-append}
-use Rattle.std.specs.Prelude.{IfSome, Result, Ok, Err, if◌then◌else◌}
+use Rattle.std.proofs.Common.{◌≡◌, ◌∙◌, ◌++◌, ◌<◌, ℕ, Bool, true, false, List, [], Option, Some, None, length, refl, ap, sym, subst, append_assoc, append-nil}
+use Rattle.std.specs.Prelude.{IfSome, Ok, if◌then◌else◌}
 use Rattle.std.specs.Int.{Width, byte_len}
 use Rattle.cf_base.specs.Settings.{Profile}
 use Rattle.cf_io.specs.Feeds.{IsSpent, preceded}
 use Rattle.page_model.specs.Held.{Objects}
 use Rattle.heap_image.specs.Decoded.{Decoded, number}
 use Rattle.heap_image.specs.Load.{Tells, TellsInPart}
-use Rattle.heap_image.specs.Stages.{Falls, Passes, ReadsNumber, StopsBy, StopsShort}
+use Rattle.heap_image.specs.Stages.{Passes, ReadsNumber, StopsBy, StopsShort}
 use Rattle.heap_image.specs.declared.fault.LoadFault.{LoadFault}
 use Rattle.heap_image.specs.declared.fault.LoadFault.TheVariants as fault
 use Rattle.heap_image.proofs.ImageDecoded.{if_false, if_true}

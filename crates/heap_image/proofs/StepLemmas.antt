@@ -1,6 +1,6 @@
 -- What commands do to the objects by id, where every bound is 1.
 use Rattle.std.proofs.Common.{◌≡◌, ◌≢◌, ◌∙◌, ◌+◌, ◌≤◌, ◌<◌, ℕ, Bool, true, false, List, Option, Some, None, length, refl, ap, sym, subst, arith, inl, inr}
-use Rattle.std.specs.Prelude.{◌⊎◌, ◌&&◌, cond, nat_eq, Result, Ok, Err, nat_le, replicate, codes, ◌↔◌}
+use Rattle.std.specs.Prelude.{◌⊎◌, ◌&&◌, cond, nat_eq, Result, Ok, Err, nat_le, replicate, ◌↔◌}
 use Rattle.std.specs.Bool.{OnFalse, OnTrue}
 use Rattle.std.specs.List.{range_with_len}
 use Rattle.std.proofs.lemmas.Bool.Decides.{nat_tests}
@@ -18,7 +18,7 @@ use Rattle.cf_base.specs.declared.kind.Layout.TheVariants.{Words}
 use Rattle.cf_lemmas.proofs.MapValues.{map_values-insert}
 use Rattle.cf_lemmas.proofs.Renaming.{CountAlike}
 use Rattle.cf_model.specs.State.{HeapState, layout_of, paging_in}
-use Rattle.cf_model.specs.Steps.{IsFault, IsMallocStep, IsWriteStep, Part}
+use Rattle.cf_model.specs.Steps.{IsFault, IsMallocStep, IsWriteStep}
 use Rattle.cf_session.specs.Apply.{outcome_of}
 use Rattle.cf_session.specs.declared.outcome.Outcome.{Outcome}
 use Rattle.cf_session.specs.declared.outcome.Outcome.TheVariants.{Good, Refused}

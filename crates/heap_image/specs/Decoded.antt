@@ -1,5 +1,5 @@
 -- Which bytes are a heap image: what bytes tell of one, field by field, up to the first field that breaks a rule or is cut by the end.
-use Rattle.std.specs.Prelude.{◌≡◌, ℕ, zero, suc, Bool, ◌&&◌, ◌+◌, ◌*◌, ◌/◌, List, [], ◌∷◌, Option, Some, None, length, take, drop, if◌then◌else◌, nat_le, nat_lt}
+use Rattle.std.specs.Prelude.{◌≡◌, ℕ, zero, suc, Bool, ◌&&◌, ◌+◌, ◌*◌, List, [], ◌∷◌, Option, Some, None, length, take, drop, if◌then◌else◌, nat_le, nat_lt}
 use Rattle.std.specs.Int.{Width, w16, w32, byte_len}
 use Rattle.std.specs.Str.{bytes_eq}
 use Rattle.std.specs.FinMap.{empty, insert}

@@ -2,7 +2,6 @@
 use Rattle.std.specs.Prelude.{◌≡◌, ◌≤◌, ℕ, List, length, Option, Some, Result, Ok, Err}
 use Rattle.std.specs.FinMap.{insert, remove}
 use Rattle.cf_io.specs.Feeds.{preceded}
-use Rattle.page_model.specs.Held.{Objects}
 use Rattle.run_model.specs.Sessions.{RunState}
 use Rattle.heap_image.specs.Decoded.{Decoded, Reached, passed}
 use Rattle.heap_image.specs.Heaps.{objects_of}

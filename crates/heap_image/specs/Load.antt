@@ -1,7 +1,5 @@
 -- What loading an image does.
-use Rattle.std.specs.Prelude.{◌≡◌, ◌<◌, ◌++◌, ℕ, List, length, Option, Some, None, IfSome, Result, Ok, Err}
-use Rattle.std.specs.Int.{Width, byte_len}
-use Rattle.std.specs.FinMap.{insert}
+use Rattle.std.specs.Prelude.{◌≡◌, ℕ, List, Option, Some, None, IfSome, Result, Ok, Err}
 use Rattle.cf_base.specs.Settings.{Profile, profile_of}
 use Rattle.cf_base.specs.declared.kind.Kind.TheVariants.{Moving}
 use Rattle.cf_base.specs.declared.settings.Settings.{Settings}
@@ -13,7 +11,6 @@ use Rattle.run_model.specs.Sessions.{IsGoing, RunState}
 use Rattle.script_loop.specs.OneManager.{LacksOne}
 use Rattle.heap_image.specs.Decoded.{Decoded, decoded, whole}
 use Rattle.heap_image.specs.Heaps.{objects_of}
-use Rattle.heap_image.specs.Image.{number_of_bytes}
 use Rattle.heap_image.specs.declared.fault.LoadFault.{LoadFault}
 use Rattle.heap_image.specs.declared.fault.LoadFault.TheVariants as fault
 

@@ -1,4 +1,4 @@
-use Rattle.std.proofs.Common.{◌≡◌, ◌∙◌, Option, Some, ap, sym}
+use Rattle.std.proofs.Common.{◌≡◌, ◌∙◌, Some, ap, sym}
 use Rattle.heap_image.specs.Decoded.{Decoded, decoded, whole}
 use Rattle.heap_image.proofs.ImageDecoded.{image_read}
 use Rattle.heap_image.proofs.laws.an_image_determines_its_objects.Goals as goal

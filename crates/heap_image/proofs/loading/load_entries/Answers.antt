@@ -1,4 +1,4 @@
-use Rattle.std.proofs.Common.{◌≡◌, ◌∙◌, arith, refl, rules}
+use Rattle.std.proofs.Common.{◌∙◌, arith, refl, rules}
 use Rattle.cf_session.specs.Apply.{run_at}
 use Rattle.heap_image.proofs.EndLemmas.{all_end, entries_begin, entry_counts, entry_ends, entry_fresh, entry_leads, entry_passes, nothing_counts, nothing_fresh}
 use Rattle.heap_image.proofs.loading.load_entries.Goals as goal

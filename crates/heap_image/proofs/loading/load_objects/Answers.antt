@@ -1,4 +1,4 @@
-use Rattle.std.proofs.Common.{◌≡◌, ◌∙◌, false, true, Some, refl, ap, arith, sym}
+use Rattle.std.proofs.Common.{◌≡◌, false, true, Some, refl, arith}
 use Rattle.std.specs.Prelude.{nat_le}
 use Rattle.std.specs.FinMap.{empty}
 use Rattle.std.specs.Int.{w32}

@@ -1,4 +1,4 @@
-use Rattle.std.proofs.Common.{◌≡◌, ◌+◌, ◌∙◌, List, length, take, drop, ap, arith}
+use Rattle.std.proofs.Common.{◌∙◌, take, drop, ap, arith}
 use Rattle.std.proofs.lemmas.List.{length-take-le}
 use Rattle.heap_image.proofs.Chunks.{chunk_cut, chunk_is, chunk_put, chunks_put, object_length}
 use Rattle.heap_image.proofs.saving.put_bytes.Goals as goal

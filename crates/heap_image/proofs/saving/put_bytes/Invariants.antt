@@ -1,4 +1,4 @@
-use Rattle.std.proofs.Common.{◌-◌, ◌≡◌, ◌≤◌, Some, length, take}
+use Rattle.std.proofs.Common.{◌-◌, ◌≡◌, ◌≤◌, Some, take}
 use Rattle.std.specs.FinMap as map
 use Rattle.cf_io.specs.Feeds.{appended}
 use Rattle.page_model.specs.Held.{Placed}

@@ -1,4 +1,4 @@
-use Rattle.std.proofs.Common.{◌≡◌, ◌∙◌, ◌++◌, List, ℕ, Some, ap, subst}
+use Rattle.std.proofs.Common.{◌∙◌, ◌++◌, List, ℕ, ap, subst}
 use Rattle.std.specs.Prelude.{Err}
 use Rattle.cf_io.specs.Feeds.{Puts, appended}
 use Rattle.heap_image.specs.Image.{number_bytes}

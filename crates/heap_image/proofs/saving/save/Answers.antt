@@ -1,6 +1,6 @@
-use Rattle.std.proofs.Common.{◌≡◌, ◌+◌, ◌-◌, ◌∙◌, arith, subst, sym}
+use Rattle.std.proofs.Common.{◌≡◌, ◌-◌, arith, subst, sym}
 use Rattle.cf_session.specs.Apply.{run_at}
-use Rattle.heap_image.proofs.SaveLemmas.{CameTo, came_first, came_last, came_on, came_past, came_short, handle_found, header_cut, live_told, profile_parts}
+use Rattle.heap_image.proofs.SaveLemmas.{CameTo, came_first, came_last, came_on, came_past, came_short, header_cut, live_told, profile_parts}
 use Rattle.heap_image.proofs.saving.save.Goals as goal
 
 pub put_object-requires-clause-live : goal.put_object-requires-clause-live

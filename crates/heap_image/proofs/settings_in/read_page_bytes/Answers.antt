@@ -1,4 +1,4 @@
-use Rattle.std.proofs.Common.{refl, None, Some}
+use Rattle.std.proofs.Common.{refl, None}
 use Rattle.std.specs.FinMap.{empty}
 use Rattle.std.specs.Int.{w32}
 use Rattle.heap_image.specs.Decoded.{is_page_of, page_bytes_decoded, proxies_decoded, unopened}

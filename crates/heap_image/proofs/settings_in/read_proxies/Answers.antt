@@ -1,8 +1,8 @@
-use Rattle.std.proofs.Common.{◌≡◌, ◌∙◌, refl, None, Some, ap, sym, subst, List, ℕ}
+use Rattle.std.proofs.Common.{refl, None, ap, sym, subst}
 use Rattle.std.specs.FinMap.{empty}
 use Rattle.std.specs.Int.{w32}
 use Rattle.cf_base.specs.Limits.{is_within}
-use Rattle.cf_base.specs.Settings.{Profile, profile_from, profile_of}
+use Rattle.cf_base.specs.Settings.{Profile, profile_from}
 use Rattle.heap_image.specs.Decoded.{count_decoded, proxies_decoded, unopened}
 use Rattle.heap_image.specs.Stages.{Passes}
 use Rattle.heap_image.proofs.MarkLemmas.{settings_bad}
