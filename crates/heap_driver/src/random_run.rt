@@ -69,12 +69,7 @@ pub struct RandomRun<H: Manager> {
 
 impl<H: Manager> RandomRun<H> {
     /// The heap, whose slots have sizes of this layout, before its first run.
-    pub fn new(
-        alloc: Global,
-        heap: H,
-        layout: Layout,
-        meter: Meter,
-    ) -> Result<RandomRun<H>, Wrong>
+    pub fn new(alloc: Global, heap: H, layout: Layout, meter: Meter) -> Result<RandomRun<H>, Wrong>
         ensures kept { IfOk result (λ run. run.heap ≡ heap) }
     {
         let settings = Settings::check(PAGES, PAGE_BYTES, 1, PROXIES)?;
