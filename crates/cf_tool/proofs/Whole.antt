@@ -12,7 +12,7 @@ use Rattle.cf_session.specs.Apply.{run_at}
 use Rattle.command_line.specs.Choices.{Chooses}
 use Rattle.command_line.specs.declared.choice.Choice.{Choice}
 use Rattle.command_line.specs.declared.choice.Mode.{Mode}
-use Rattle.command_line.specs.declared.choice.Mode.TheVariants.{Run, Compare, Bench}
+use Rattle.command_line.specs.declared.choice.Mode.TheVariants.{Run, Compare, Bench, Large}
 use Rattle.script_reader.specs.Items.{items}
 use Rattle.run_model.specs.Sessions.{RunState, fresh_session}
 use Rattle.headline_laws.proofs.CallerLemmas.{headline_met}
@@ -21,10 +21,12 @@ use Rattle.script_loop.specs.Consequences.{AnswersAll}
 use Rattle.script_loop.specs.OneManager.{one_manager}
 use Rattle.script_loop.specs.ScriptOutcome.{Effects, IsClean, IsEnding, IsRow, IsRowOf, MOST_BYTES, MeetsOutcome, has_bad, items_within}
 use Rattle.script_loop.specs.Semantics.{Semantics}
+use Rattle.large_objects.specs.LargeRun.{LargeRun}
+use Rattle.large_objects.specs.Playing.{large_heap}
 use Rattle.side_by_side.proofs.CallerLemmas.{chosen_kind}
 use Rattle.side_by_side.specs.First.{chosen_of}
 use Rattle.side_by_side.specs.Many.{Many, fresh_many, many_managers}
-use Rattle.cf_tool.specs.TopOutcome.{Benches, Compares, DoesChosen, Ends, EndsWell, EndsWhole, Handed, InMode, OrLacks, Runs, TellsChosen, TellsHeadline, TellsInMode, effects_of}
+use Rattle.cf_tool.specs.TopOutcome.{Benches, Compares, DoesChosen, Ends, EndsWell, EndsWhole, Handed, InMode, OrLacks, PlaysLarge, Runs, TellsChosen, TellsHeadline, TellsInMode, effects_of}
 
 -- no script ends by `Words`
 never_words : {S P : Type 0} (m : Semantics S P) (from to : S) (had left : Option (List ℕ)) (call : Effects) → call.status ≡ Words
@@ -78,12 +80,12 @@ met_whole m from to (Some all) (Some left) call a b d e met read wrote clean sur
     row_whole m from to all left call call.status a b d e met read wrote clean sure firm
 
 -- A mode that plays a script.
-module _ {S P : Type 0} (m : Semantics S P) (from : Handed → S) (Does : Handed → Status → Handed → Type 0)
-    (met : (old : Handed) (st : Status) (new : Handed) → Does old st new → (end : S) × MeetsOutcome m (from old) (effects_of old st new) end) where
+module _ {S P : Type 0} (m : Semantics S P) (Does : Handed → Status → Handed → Type 0)
+    (met : (old : Handed) (st : Status) (new : Handed) → Does old st new → (ends : S × S) × MeetsOutcome m ends.0 (effects_of old st new) ends.1) where
   pub script_never_words : (old new : Handed) → Does old Words new → ⊥
   script_never_words old new done =
       let outcome = met old Words new done in
-      never_words m (from old) outcome.0 old.source.rest new.source.rest (effects_of old Words new) refl outcome.1
+      never_words m outcome.0.0 outcome.0.1 old.source.rest new.source.rest (effects_of old Words new) refl outcome.1
 
   pub script_whole : (old : Handed) (st : Status) (new : Handed) → Ends Does old st new → IsClean old.source.rest
       → ¬ Rose old.source.faults new.source.faults → ¬ Rose old.sink.faults new.sink.faults → EndsWhole st
@@ -93,7 +95,7 @@ module _ {S P : Type 0} (m : Semantics S P) (from : Handed → S) (Does : Handed
           → (st ≡ WriteFault → Rose old.sink.faults new.sink.faults) → EndsWhole st
       row st done read wrote =
           let outcome = met old st new done in
-          met_whole m (from old) outcome.0 old.source.rest new.source.rest (effects_of old st new) _ _ _ _ outcome.1 read wrote clean sure firm
+          met_whole m outcome.0.0 outcome.0.1 old.source.rest new.source.rest (effects_of old st new) _ _ _ _ outcome.1 read wrote clean sure firm
 
       go : (st : Status) → OrLacks Does old st new → (st ≡ ReadFault → Rose old.source.faults new.source.faults)
           → (st ≡ WriteFault → Rose old.sink.faults new.sink.faults) → EndsWhole st
@@ -108,19 +110,16 @@ module _ {S P : Type 0} (m : Semantics S P) (from : Handed → S) (Does : Handed
 
 -- Mode `run`.
 module _ (kind : Kind) where
-  from_chosen : Handed → RunState
-  from_chosen old = run_at fresh_session (chosen_of kind old.managers)
-
-  run_met : (old : Handed) (st : Status) (new : Handed) → Runs kind old st new → (end : RunState) × MeetsOutcome one_manager (from_chosen old) (effects_of old st new) end
-  unfolding from_chosen
-  run_met old st new done = (done.end, done.outcome)
+  run_met : (old : Handed) (st : Status) (new : Handed) → Runs kind old st new
+      → (ends : RunState × RunState) × MeetsOutcome one_manager ends.0 (effects_of old st new) ends.1
+  run_met old st new done = ((run_at fresh_session (chosen_of kind old.managers), done.end), done.outcome)
 
   pub run_never_words : (old new : Handed) → Runs kind old Words new → ⊥
-  run_never_words = script_never_words one_manager from_chosen (Runs kind) run_met
+  run_never_words = script_never_words one_manager (Runs kind) run_met
 
   pub run_whole : (old : Handed) (st : Status) (new : Handed) → Ends (Runs kind) old st new → IsClean old.source.rest
       → ¬ Rose old.source.faults new.source.faults → ¬ Rose old.sink.faults new.sink.faults → EndsWhole st
-  run_whole = script_whole one_manager from_chosen (Runs kind) run_met
+  run_whole = script_whole one_manager (Runs kind) run_met
 
   headline_of : (from to : RunState) (call : Effects) (had : Option (List ℕ)) → had ≡ call.had → MeetsOutcome one_manager from call to
       → AnswersAll call.status → TellsHeadline from.heap.kind had call
@@ -163,19 +162,15 @@ module _ (words : List Text) (choice : Choice) (chosen : Chooses words choice) (
   }
 
 -- Mode `compare`.
-from_each : Handed → Many
-from_each old = fresh_many old.managers
-
-compare_met : (old : Handed) (st : Status) (new : Handed) → Compares old st new → (end : Many) × MeetsOutcome many_managers (from_each old) (effects_of old st new) end
-unfolding from_each
-compare_met old st new done = (done.end, done.outcome)
+compare_met : (old : Handed) (st : Status) (new : Handed) → Compares old st new → (ends : Many × Many) × MeetsOutcome many_managers ends.0 (effects_of old st new) ends.1
+compare_met old st new done = ((fresh_many old.managers, done.end), done.outcome)
 
 compare_never_words : (old new : Handed) → Compares old Words new → ⊥
-compare_never_words = script_never_words many_managers from_each Compares compare_met
+compare_never_words = script_never_words many_managers Compares compare_met
 
 pub compare_whole : (old : Handed) (st : Status) (new : Handed) → Ends Compares old st new → IsClean old.source.rest
     → ¬ Rose old.source.faults new.source.faults → ¬ Rose old.sink.faults new.sink.faults → EndsWhole st
-compare_whole = script_whole many_managers from_each Compares compare_met
+compare_whole = script_whole many_managers Compares compare_met
 
 -- Mode `compare` was chosen.
 module _ (words : List Text) (choice : Choice) (chosen : Chooses words choice) (is_compare : choice.mode ≡ Compare) (old : Handed) (st : Status) (new : Handed)
@@ -222,3 +217,29 @@ bench_tells words choice chosen is_bench call = record {
   chosen = chosen;
   tells = subst (λ (m : Mode). TellsInMode m choice.kind call) (sym is_bench) tt;
 }
+
+-- Mode `large`.
+large_met : (old : Handed) (st : Status) (new : Handed) → PlaysLarge old st new → (ends : LargeRun × LargeRun) × MeetsOutcome large_heap ends.0 (effects_of old st new) ends.1
+large_met old st new done = ((done.begin, done.end), done.outcome)
+
+large_never_words : (old new : Handed) → PlaysLarge old Words new → ⊥
+large_never_words = script_never_words large_heap PlaysLarge large_met
+
+pub large_whole : (old : Handed) (st : Status) (new : Handed) → Ends PlaysLarge old st new → IsClean old.source.rest
+    → ¬ Rose old.source.faults new.source.faults → ¬ Rose old.sink.faults new.sink.faults → EndsWhole st
+large_whole = script_whole large_heap PlaysLarge large_met
+
+-- Mode `large` was chosen.
+module _ (words : List Text) (choice : Choice) (chosen : Chooses words choice) (is_large : choice.mode ≡ Large) (old : Handed) (st : Status) (new : Handed)
+    (ends : Ends PlaysLarge old st new) where
+  pub large_ends : EndsWell words old st new
+  large_ends = ends_mode words choice PlaysLarge chosen
+      (λ from status to done. subst (λ (m : Mode). InMode m choice from status to) (sym is_large) done)
+      large_never_words old st new ends.outcome
+
+  pub large_tells : AnswersAll st → TellsChosen words (effects_of old st new)
+  large_tells is = record {
+    choice = choice;
+    chosen = chosen;
+    tells = subst (λ (m : Mode). TellsInMode m choice.kind (effects_of old st new)) (sym is_large) tt;
+  }

@@ -7,11 +7,12 @@ use Rattle.cf_io.specs.Feeds.{Rose, appended, last_count}
 use Rattle.clap.specs.Words.{Text}
 use Rattle.bench_run.specs.Bench.{EndsBench}
 use Rattle.cf_model.specs.State.{HeapState, closed_state}
+use Rattle.cf_base.specs.declared.kind.Kind.TheVariants.{Moving}
 use Rattle.cf_session.specs.Apply.{run_at}
 use Rattle.command_line.specs.Choices.{AreRefused, Chooses}
 use Rattle.command_line.specs.declared.choice.Choice.{Choice}
 use Rattle.command_line.specs.declared.choice.Mode.{Mode}
-use Rattle.command_line.specs.declared.choice.Mode.TheVariants.{Run, Compare, Bench}
+use Rattle.command_line.specs.declared.choice.Mode.TheVariants.{Run, Compare, Bench, Large}
 use Rattle.script_reader.specs.Items.{Item}
 use Rattle.run_model.specs.Sessions.{RunState, fresh_session}
 use Rattle.run_model.specs.Texts.{Reply, text_of}
@@ -19,6 +20,8 @@ use Rattle.headline_laws.specs.Headline.{MeetsHeadline}
 use Rattle.script_loop.specs.Consequences.{AnswersAll, TellsTranscript}
 use Rattle.script_loop.specs.OneManager.{one_manager}
 use Rattle.script_loop.specs.ScriptOutcome.{Effects, MOST_BYTES, MeetsOutcome, items_within}
+use Rattle.large_objects.specs.LargeRun.{LargeRun}
+use Rattle.large_objects.specs.Playing.{IsFreshLarge, large_heap}
 use Rattle.side_by_side.specs.First.{chosen_of, with_chosen}
 use Rattle.side_by_side.specs.Many.{Many, fresh_many, many_managers}
 
@@ -74,10 +77,20 @@ pub record Benches (choice : Choice) (old : Handed) (status : Status) (new : Han
   pub unread : new.source ≡ old.source
   pub untouched : new.managers ≡ old.managers
 
+-- Mode `large`: a moving manager, which was never open, is made for the script, whose objects may be larger than a page. No manager handed in is touched.
+pub record PlaysLarge (old : Handed) (status : Status) (new : Handed) : Type 0 where
+  pub begin : LargeRun
+  pub fresh : IsFreshLarge begin
+  pub made : begin.heap.inner ≡ closed_state Moving
+  pub end : LargeRun
+  pub outcome : MeetsOutcome large_heap begin (effects_of old status new) end
+  pub untouched : new.managers ≡ old.managers
+
 abbrev pub InMode : Mode → Choice → Handed → Status → Handed → Type 0
 InMode Run choice old status new = Runs choice.kind old status new
 InMode Compare choice old status new = Compares old status new
 InMode Bench choice old status new = Benches choice old status new
+InMode Large choice old status new = PlaysLarge old status new
 
 -- the words choose a mode and a kind, and the call did what they ask
 pub record DoesChosen (words : List Text) (old : Handed) (status : Status) (new : Handed) : Type 0 where

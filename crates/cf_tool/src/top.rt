@@ -8,6 +8,7 @@ ghost use Rattle.cf_tool.specs.TopOutcome.{EndsWell, EndsWhole, TellsAsClaimed, 
 use crate::benching::bench;
 use crate::boxed::Boxed;
 use crate::comparing::compare;
+use crate::large::play_large;
 use crate::running::run_chosen;
 use cf_base::Status;
 use cf_io::{Sink, Source};
@@ -68,5 +69,6 @@ pub fn cf_main<R: Runtime, S: Source, K: Sink>(
         Mode::Run => run_chosen(rt, alloc, choice.kind, managers, source, sink),
         Mode::Compare => compare(rt, alloc, managers, source, sink),
         Mode::Bench => bench(rt, alloc, choice, sink),
+        Mode::Large => play_large(rt, alloc, source, sink),
     }
 }

@@ -11,7 +11,7 @@ use Rattle.command_line.specs.Choices.{AreRefused, Chooses, choice_of, chosen}
 use Rattle.command_line.specs.Command.{mode_name}
 use Rattle.command_line.specs.declared.choice.Choice.{Choice}
 use Rattle.command_line.specs.declared.choice.Mode.{Mode}
-use Rattle.command_line.specs.declared.choice.Mode.TheVariants.{Run, Compare, Bench}
+use Rattle.command_line.specs.declared.choice.Mode.TheVariants.{Run, Compare, Bench, Large}
 
 pub no_words : (name : Text) → Chooses (name ∷ []) (chosen Run Moving 0 1000)
 unfolding clap_on_literals
@@ -37,6 +37,10 @@ said_words name Bench Moving = as_chosen (said name Bench Moving) (chosen Bench 
 said_words name Bench NonMoving = as_chosen (said name Bench NonMoving) (chosen Bench NonMoving 5 7) refl refl
 said_words name Bench Tlsf = as_chosen (said name Bench Tlsf) (chosen Bench Tlsf 5 7) refl refl
 said_words name Bench HalfFit = as_chosen (said name Bench HalfFit) (chosen Bench HalfFit 5 7) refl refl
+said_words name Large Moving = as_chosen (said name Large Moving) (chosen Large Moving 5 7) refl refl
+said_words name Large NonMoving = as_chosen (said name Large NonMoving) (chosen Large NonMoving 5 7) refl refl
+said_words name Large Tlsf = as_chosen (said name Large Tlsf) (chosen Large Tlsf 5 7) refl refl
+said_words name Large HalfFit = as_chosen (said name Large HalfFit) (chosen Large HalfFit 5 7) refl refl
 
 pub help_asked : (name : Text) (rest : List Text) → AreRefused (name ∷ codes "--help" ∷ rest)
 unfolding clap_on_literals

@@ -10,14 +10,15 @@ use Rattle.clap.specs.ValueTests.{accepts}
 use Rattle.command_line.specs.Command.{IsCfApp, any_u64, mode_name}
 use Rattle.command_line.specs.declared.choice.Choice.{Choice}
 use Rattle.command_line.specs.declared.choice.Mode.{Mode}
-use Rattle.command_line.specs.declared.choice.Mode.TheVariants.{Run, Compare, Bench}
+use Rattle.command_line.specs.declared.choice.Mode.TheVariants.{Run, Compare, Bench, Large}
 use Rattle.command_line.specs.declared.choice.WordsFault.{WordsFault}
 use Rattle.command_line.specs.declared.choice.WordsFault.TheVariants.{Refused, OutOfMemory}
 
 -- the mode of a name; the command lets no other name through
 abbrev pub mode_named : Option Text → Mode
 mode_named None = Run
-mode_named (Some name) = if bytes_eq name (mode_name Compare) then Compare else (if bytes_eq name (mode_name Bench) then Bench else Run)
+mode_named (Some name) = if bytes_eq name (mode_name Compare) then Compare
+    else (if bytes_eq name (mode_name Bench) then Bench else (if bytes_eq name (mode_name Large) then Large else Run))
 
 -- the kind of a name; the command lets no other name through
 abbrev pub kind_named : Option Text → Kind

@@ -11,6 +11,8 @@ pub enum Mode {
     Compare,
     /// Answer a generated script with one manager, and count.
     Bench,
+    /// Answer a script whose objects may be larger than a page.
+    Large,
 }
 
 /// What the arguments chose: the mode, the manager's kind, and the seed and the number of commands of a

@@ -18,6 +18,7 @@ fn mode_named(name: Option<&str>) -> Mode
     match name {
         Some("compare") => Mode::Compare,
         Some("bench") => Mode::Bench,
+        Some("large") => Mode::Large,
         _ => Mode::Run,
     }
 }

@@ -27,6 +27,7 @@ fn words_are_taken(rt: HostRuntime) -> Result<(), Fail> {
             1_000,
         ),
         (["bench"].as_slice(), Mode::Bench, Kind::Moving, 0, 1_000),
+        (["large"].as_slice(), Mode::Large, Kind::Moving, 0, 1_000),
         (["--", "run"].as_slice(), Mode::Run, Kind::Moving, 0, 1_000),
         (
             ["--manager", "cf"].as_slice(),

@@ -1,7 +1,7 @@
 use Rattle.std.proofs.Common.{[], None}
 use Rattle.command_line.proofs.CallerLemmas.{not_accepted}
 use Rattle.cf_tool.specs.TopOutcome.{source_at}
-use Rattle.cf_tool.proofs.Whole.{bench_ends, bench_tells, bench_whole, compare_ends, compare_tells, compare_whole, run_ends, run_tells, run_whole}
+use Rattle.cf_tool.proofs.Whole.{bench_ends, bench_tells, bench_whole, compare_ends, compare_tells, compare_whole, large_ends, large_tells, large_whole, run_ends, run_tells, run_whole}
 use Rattle.cf_tool.proofs.top.cf_main.Goals as goal
 
 pub returns-in-Refused-clause-complete : goal.returns-in-Refused-clause-complete
@@ -42,3 +42,21 @@ returns-in-Bench-clause-write_fault g c = (c.bench.ensures (source_at None 0 0) 
 
 pub returns-in-Bench-clause-too_long : goal.returns-in-Bench-clause-too_long
 returns-in-Bench-clause-too_long g c = (c.bench.ensures (source_at None (g.S.Source.given c.args.source.now) 0) []).too_long
+
+pub returns-in-Large-clause-outcome : goal.returns-in-Large-clause-outcome
+returns-in-Large-clause-outcome g c = large_ends _ c.in-Ok.choice c.in-Ok.ensures c.in-Large.is _ c.play_large.result _ (c.play_large.ensures _)
+
+pub returns-in-Large-clause-claimed : goal.returns-in-Large-clause-claimed
+returns-in-Large-clause-claimed g c = large_tells _ c.in-Ok.choice c.in-Ok.ensures c.in-Large.is _ c.play_large.result _ (c.play_large.ensures _)
+
+pub returns-in-Large-clause-complete : goal.returns-in-Large-clause-complete
+returns-in-Large-clause-complete g c = λ accepted. large_whole _ c.play_large.result _ (c.play_large.ensures _)
+
+pub returns-in-Large-clause-read_fault : goal.returns-in-Large-clause-read_fault
+returns-in-Large-clause-read_fault g c = (c.play_large.ensures []).read_fault
+
+pub returns-in-Large-clause-write_fault : goal.returns-in-Large-clause-write_fault
+returns-in-Large-clause-write_fault g c = (c.play_large.ensures []).write_fault
+
+pub returns-in-Large-clause-too_long : goal.returns-in-Large-clause-too_long
+returns-in-Large-clause-too_long g c = (c.play_large.ensures []).too_long
