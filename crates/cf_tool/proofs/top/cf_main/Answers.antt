@@ -47,10 +47,10 @@ pub returns-in-Large-clause-outcome : goal.returns-in-Large-clause-outcome
 returns-in-Large-clause-outcome g c = large_ends _ c.in-Ok.choice c.in-Ok.ensures c.in-Large.is _ c.play_large.result _ (c.play_large.ensures _)
 
 pub returns-in-Large-clause-claimed : goal.returns-in-Large-clause-claimed
-returns-in-Large-clause-claimed g c = large_tells _ c.in-Ok.choice c.in-Ok.ensures c.in-Large.is _ c.play_large.result _ (c.play_large.ensures _)
+returns-in-Large-clause-claimed g c = large_tells _ c.in-Ok.choice c.in-Ok.ensures c.in-Large.is _ c.play_large.result _ (c.play_large.ensures [])
 
 pub returns-in-Large-clause-complete : goal.returns-in-Large-clause-complete
-returns-in-Large-clause-complete g c = λ accepted. large_whole _ c.play_large.result _ (c.play_large.ensures _)
+returns-in-Large-clause-complete g c = λ accepted. large_whole _ c.play_large.result _ (c.play_large.ensures [])
 
 pub returns-in-Large-clause-read_fault : goal.returns-in-Large-clause-read_fault
 returns-in-Large-clause-read_fault g c = (c.play_large.ensures []).read_fault
