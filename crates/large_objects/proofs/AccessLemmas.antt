@@ -1,0 +1,220 @@
+-- A long object is read and written piece by piece.
+use Rattle.std.proofs.Common.{◌≡◌, ◌≢◌, ℕ, ◌+◌, ◌-◌, ◌*◌, ◌/◌, ◌%◌, ◌^◌, ◌<◌, ◌≤◌, List, [], ◌∷◌, ◌++◌, Some, None, length, take, drop, min, arith, sym, ◌∙◌, ap, refl, subst, inl, inr, length-append, length-drop}
+use Rattle.std.proofs.Math.Nat.{div-add-mod, lt_of_mul-lt-mul_left, mod-lt}
+use Rattle.std.proofs.lemmas.Bool.{cases_eq}
+use borrow.Rule.Slice.PartMut.{put_mid}
+use Rattle.std.proofs.lemmas.List.{length-take, take-append-drop, take_all}
+use Rattle.std.proofs.lemmas.Nat.{mul-le}
+use Rattle.std.proofs.lemmas.Option.{same_Some}
+use Rattle.std.proofs.lemmas.Slice.{drop-put_mid, take-put_mid}
+use Rattle.std.specs.FinMap.{get, insert}
+use Rattle.cf_lemmas.proofs.Maps.{equal_maps, get_inserted, get_insert_other}
+use Rattle.cf_base.specs.Settings.{Profile}
+use Rattle.page_model.specs.Bytes.{written}
+use Rattle.page_model.specs.Held.{Objects}
+use Rattle.page_model.proofs.CallerLemmas.{inserted_there, length-written, written_nothing}
+use Rattle.large_objects.specs.InnerCalls.{IsReady}
+use Rattle.large_objects.specs.Large.{KeepsParts, LargeState}
+use Rattle.large_objects.specs.LargeSteps.{HasLong, HasLongPart, StaysKept, WritesLarge, piece_in}
+use Rattle.large_objects.specs.Parts.{piece_bytes, pieces}
+use Rattle.large_objects.proofs.Bytes.{take_drop_more, written_more}
+use Rattle.large_objects.proofs.Cutting.{pieces_enough}
+use Rattle.large_objects.proofs.InnerSteps.{part_small}
+
+take_none : (v : List ℕ) → take 0 v ≡ []
+take_none [] = refl
+take_none (x ∷ v) = refl
+
+insert_over : (m : Objects) (h : ℕ) (a b : List ℕ) → insert (insert m h a) h b ≡ insert m h b
+insert_over m h a b = equal_maps _ _ (λ q. elim (cases_eq q h) [
+  | inl is ↦ rw is (get_inserted (insert m h a) h b ∙ sym (get_inserted m h b))
+  | inr ne ↦ get_insert_other (insert m h a) h b q ne ∙ get_insert_other m h a q ne ∙ sym (get_insert_other m h b q ne)
+])
+
+-- where a byte stands: in a piece, and where in it
+module _ (u from : ℕ) (some : 0 < u) where
+  pub place_is : u * (from / u) + from % u ≡ from
+  place_is = div-add-mod from u
+
+  pub inside_piece : from % u < u
+  inside_piece = mod-lt from some
+
+  pub piece_below : (n : ℕ) → from < n → from / u < pieces u n
+  piece_below n lt =
+      let e = place_is in let enough = pieces_enough u n some in
+      let l : u * (from / u) < u * pieces u n = omega arith in
+      lt_of_mul-lt-mul_left u l
+
+-- the chunk that comes next lies in one piece
+pub next_part : (s : LargeState) (h at done count total : ℕ) (v : List ℕ) → 0 < piece_in s → get s.objects h ≡ Some v → piece_in s < length v
+    → at + total ≤ length v → done + count ≤ total → 0 < count → (at + done) % piece_in s + count ≤ piece_in s
+    → HasLongPart s h ((at + done) / piece_in s) ((at + done) % piece_in s) count
+next_part s h at done count total v some found long within few more inside = record {
+  bytes = v;
+  found = found;
+  long = long;
+  below = piece_below (piece_in s) (at + done) some (length v) (omega arith);
+  inside = inside;
+  within = (let e = place_is (piece_in s) (at + done) some in omega arith);
+}
+
+-- nothing is written yet
+pub wrote_nothing : (s : LargeState) (h at : ℕ) (bytes v : List ℕ) → get s.objects h ≡ Some v → at ≤ length v
+    → s.objects ≡ insert s.objects h (written v at (take 0 bytes))
+wrote_nothing s h at bytes v found within =
+    let e : written v at (take 0 bytes) ≡ v = ap (written v at) (take_none bytes) ∙ written_nothing v at within in
+    sym (ap (insert s.objects h) e ∙ inserted_there s.objects h v found)
+
+-- one chunk more is written
+pub wrote_more : (old now new : LargeState) (h at done count : ℕ) (bytes v chunk : List ℕ) (from : ℕ) → get old.objects h ≡ Some v
+    → at + length bytes ≤ length v → done + count ≤ length bytes → now.objects ≡ insert old.objects h (written v at (take done bytes))
+    → chunk ≡ take count (drop done bytes) → from ≡ at + done → WritesLarge now (record { number = h; from = from }) chunk new
+    → new.objects ≡ insert old.objects h (written v at (take (done + count) bytes))
+wrote_more old now new h at done count bytes v chunk from found within few so_far chunk_is from_is wrote =
+    let w : List ℕ = written v at (take done bytes) in
+    let there : get now.objects h ≡ Some (written v at (take done bytes)) = ap (λ (o : Objects). get o h) so_far ∙ get_inserted old.objects h _ in
+    let object = same_Some wrote.object (written v at (take done bytes)) (sym wrote.found ∙ there) in
+    wrote.left
+    ∙ ap (λ (o : Objects). insert o h (written wrote.object from chunk)) so_far
+    ∙ insert_over old.objects h _ _
+    ∙ ap (λ (x : List ℕ). insert old.objects h (written x from chunk)) object
+    ∙ ap (λ (k : ℕ). insert old.objects h (written (written v at (take done bytes)) k chunk)) from_is
+    ∙ ap (λ (x : List ℕ). insert old.objects h (written (written v at (take done bytes)) (at + done) x)) chunk_is
+    ∙ ap (insert old.objects h) (written_more v at bytes done count within few)
+
+-- the object in the middle of a write
+pub now_found : (old now : LargeState) (h at done : ℕ) (bytes v : List ℕ) → now.objects ≡ insert old.objects h (written v at (take done bytes))
+    → get now.objects h ≡ Some (written v at (take done bytes))
+now_found old now h at done bytes v so_far = ap (λ (o : Objects). get o h) so_far ∙ get_inserted old.objects h _
+
+pub now_long : (at done : ℕ) (bytes v : List ℕ) → at + length bytes ≤ length v → length (written v at (take done bytes)) ≡ length v
+now_long at done bytes v within = length-written v at (take done bytes) (let l = length-take done bytes in omega arith)
+
+-- all chunks are written
+pub wrote_all : (old now : LargeState) (h at done : ℕ) (bytes : List ℕ) (has : HasLong old h at (length bytes)) → length bytes ≤ done
+    → ((v : List ℕ) → get old.objects h ≡ Some v → now.objects ≡ insert old.objects h (written v at (take done bytes)))
+    → WritesLarge old (record { number = h; from = at }) bytes now
+wrote_all old now h at done bytes has all so_far = record {
+  object = has.bytes;
+  found = has.found;
+  within = has.within;
+  left = so_far has.bytes has.found ∙ ap (λ (x : List ℕ). insert old.objects h (written has.bytes at x)) (take_all done bytes all);
+}
+
+pub then_kept : (a b c : LargeState) → StaysKept a b → StaysKept b c → StaysKept a c
+then_kept a b c x y = record {
+  stays = record {
+    open_now = y.stays.open_now;
+    inner = record {
+      kind = y.stays.inner.kind ∙ x.stays.inner.kind;
+      open_now = y.stays.inner.open_now;
+      profile = y.stays.inner.profile ∙ x.stays.inner.profile;
+    };
+  };
+  parts = y.parts;
+}
+
+pub same_piece : (a b : LargeState) → StaysKept a b → piece_in b ≡ piece_in a
+same_piece a b x = ap (λ (p : Profile). piece_bytes p) x.stays.inner.profile
+
+is_ready : (s : LargeState) → KeepsParts s → IsReady s.inner
+is_ready s k = record { opened = k.opened; rules = k.rules; pages = k.pages; ones = k.ones }
+
+-- a piece's place in its spine is a number of 32 bits
+pub index_small : (s : LargeState) → KeepsParts s → (h : ℕ) (v : List ℕ) → get s.objects h ≡ Some v → piece_in s < length v
+    → (i : ℕ) → i < pieces (piece_in s) (length v) → i < 2 ^ 32
+index_small s k h v found long i below =
+    let spine = k.laid.spines h v found long in
+    let small = part_small s.inner (is_ready s k) h spine.spine spine.found in
+    let l = spine.long in omega arith
+
+-- and so is the length of a piece
+pub piece_small : (s : LargeState) → KeepsParts s → piece_in s < 2 ^ 32
+piece_small s k =
+    let small = k.rules.settings.small_region in
+    let one = k.rules.settings.some_pages in
+    let m : 1 * s.inner.profile.page_words ≤ s.inner.profile.pages * s.inner.profile.page_words =
+    mul-le 1 s.inner.profile.page_words s.inner.profile.pages s.inner.profile.page_words one (omega arith) in
+    omega arith
+
+module _ (old now : LargeState) (h at done count piece : ℕ) (bytes : List ℕ) (has : HasLong old h at (length bytes))
+    (so_far : (v : List ℕ) → get old.objects h ≡ Some v → now.objects ≡ insert old.objects h (written v at (take done bytes)))
+    (kept : StaysKept old now) (piece_is : piece ≡ piece_in old) (positive : 0 < piece) (few : done + count ≤ length bytes) (more : 0 < count) where
+  abbrev now_bytes : List ℕ
+  now_bytes = written has.bytes at (take done bytes)
+
+  there : get now.objects h ≡ Some (written has.bytes at (take done bytes))
+  there = now_found old now h at done bytes has.bytes (so_far has.bytes has.found)
+
+  same_bytes : length (written has.bytes at (take done bytes)) ≡ length has.bytes
+  same_bytes = now_long at done bytes has.bytes has.within
+
+  piece_now : piece_in now ≡ piece
+  piece_now = same_piece old now kept ∙ sym piece_is
+
+  still_long : piece_in now < length now_bytes
+  still_long = (let e = piece_now in let l = same_bytes in let p = piece_is in let long = has.long in omega arith)
+
+  pub write_index_small : (at + done) / piece < 2 ^ 32
+  write_index_small =
+      let below = piece_below piece (at + done) positive (length now_bytes) (let l = same_bytes in let w = has.within in omega arith) in
+      index_small now kept.parts h now_bytes there still_long ((at + done) / piece) (subst (λ k. (at + done) / piece < pieces k (length now_bytes)) (sym piece_now) below)
+
+  pub write_within_small : (at + done) % piece < 2 ^ 32
+  write_within_small = (let i = inside_piece piece (at + done) positive in let s = piece_small now kept.parts in let e = piece_now in omega arith)
+
+  pub next_write : (at + done) % piece + count ≤ piece → HasLongPart now h ((at + done) / piece) ((at + done) % piece) count
+  next_write inside = subst (λ k. HasLongPart now h ((at + done) / k) ((at + done) % k) count) piece_now
+      (next_part now h at done count (length bytes) now_bytes (let e = piece_now in omega arith) there still_long
+      (let l = same_bytes in let w = has.within in omega arith) few more
+      (subst (λ k. (at + done) % k + count ≤ k) (sym piece_now) inside))
+
+  -- after the chunk
+  pub so_far_more : (new : LargeState) (chunk : List ℕ) → chunk ≡ take count (drop done bytes)
+      → WritesLarge now (record { number = h; from = piece_in now * ((at + done) / piece) + (at + done) % piece }) chunk new
+      → (v : List ℕ) → get old.objects h ≡ Some v → new.objects ≡ insert old.objects h (written v at (take (done + count) bytes))
+  so_far_more new chunk chunk_is wrote v found =
+      let same = same_Some has.bytes v (sym has.found ∙ found) in
+      let within : at + length bytes ≤ length v = (let l = ap length same in let w = has.within in omega arith) in
+      let from : piece_in now * ((at + done) / piece) + (at + done) % piece ≡ at + done =
+      ap (λ k. k * ((at + done) / piece) + (at + done) % piece) piece_now ∙ place_is piece (at + done) positive in
+      wrote_more old now new h at done count bytes v chunk (piece_in now * ((at + done) / piece) + (at + done) % piece) found within few (so_far v found) chunk_is from wrote
+
+-- a read of the chunk that comes next
+module _ (s : LargeState) (h at done count piece total : ℕ) (has : HasLong s h at total) (parts : KeepsParts s) (piece_is : piece ≡ piece_in s) (positive : 0 < piece)
+    (few : done + count ≤ total) (more : 0 < count) where
+  pub read_index_small : (at + done) / piece < 2 ^ 32
+  read_index_small =
+      let below = piece_below piece (at + done) positive (length has.bytes) (let w = has.within in omega arith) in
+      index_small s parts h has.bytes has.found has.long ((at + done) / piece) (subst (λ k. (at + done) / piece < pieces k (length has.bytes)) piece_is below)
+
+  pub read_within_small : (at + done) % piece < 2 ^ 32
+  read_within_small = (let i = inside_piece piece (at + done) positive in let s = piece_small s parts in let e = piece_is in omega arith)
+
+  pub next_read : (at + done) % piece + count ≤ piece → HasLongPart s h ((at + done) / piece) ((at + done) % piece) count
+  next_read inside = subst (λ k. HasLongPart s h ((at + done) / k) ((at + done) % k) count) (sym piece_is)
+      (next_part s h at done count total has.bytes (let e = piece_is in omega arith) has.found has.long has.within few more
+      (subst (λ k. (at + done) % k + count ≤ k) piece_is inside))
+
+  -- what was read so far, and then the chunk
+  pub read_more : (v out : List ℕ) → (before : List ℕ) → before ≡ take done (drop at v) → out ≡ take count (drop (piece_in s * ((at + done) / piece) + (at + done) % piece) v)
+      → before ++ out ≡ take (done + count) (drop at v)
+  read_more v out before before_is out_is =
+      let from : piece_in s * ((at + done) / piece) + (at + done) % piece ≡ at + done =
+      ap (λ k. k * ((at + done) / piece) + (at + done) % piece) (sym piece_is) ∙ place_is piece (at + done) positive in
+      ap (λ w. w ++ out) before_is ∙ ap (λ w. take done (drop at v) ++ w) (out_is ∙ ap (λ k. take count (drop k v)) from) ∙ sym (take_drop_more v at done count)
+
+-- a part of a list is replaced by as many
+pub length_put : (a k : ℕ) (xs ys : List ℕ) → length ys ≡ k → a + k ≤ length xs → length (put_mid a k xs ys) ≡ length xs
+length_put a k xs ys same within =
+    let put : List ℕ = put_mid a k xs ys in
+    let front = ap length (take-put_mid a k xs ys (a + k) (omega arith) (omega arith)) ∙ length-append (take a xs) ys in
+    let back = ap length (drop-put_mid a k xs ys (a + k) (omega arith) (omega arith) same) ∙ length-drop (a + k) xs in
+    let whole = ap length (sym (take-append-drop (a + k) (put_mid a k xs ys))) ∙ length-append (take (a + k) (put_mid a k xs ys)) (drop (a + k) (put_mid a k xs ys)) in
+    let first = length-take a xs in
+    omega arith
+
+-- what was read so far, after the chunk
+pub read_put : (at done count k : ℕ) (v xs ys : List ℕ) → length ys ≡ count → done + count ≤ length xs → take done xs ++ ys ≡ take (done + count) (drop at v)
+    → take (done + count) (put_mid done k xs ys) ≡ take (done + count) (drop at v)
+read_put at done count k v xs ys long within after = take-put_mid done k xs ys (done + count) (omega arith) (omega arith) ∙ after

@@ -1,0 +1,155 @@
+-- The pieces of an object and their lengths.
+use Rattle.std.proofs.Common.{◌≡◌, ℕ, zero, suc, ◌+◌, ◌-◌, ◌*◌, ◌/◌, ◌%◌, ◌<◌, ◌≤◌, Bool, true, false, cond, List, [], ◌∷◌, ◌++◌, length, get_or, take, drop, replicate, min}
+use Rattle.std.proofs.Common.{arith, sym, ◌∙◌, ap, refl, inl, inr, length-append}
+use Rattle.std.specs.Prelude.{count_by, sum_by, nat_eq, nat_le, if◌then◌else◌}
+use Rattle.std.proofs.lemmas.Bool.{cases_lt}
+use Rattle.std.proofs.lemmas.Nat.{div-add-mod', mul-le}
+use Rattle.std.proofs.Math.Nat.{mod-lt}
+use Rattle.std.proofs.lemmas.Grind.{div_ceil_times}
+use Rattle.std.proofs.lemmas.List.{length-replicate, get_or-replicate, get_or-append_right, get_or_append_left, take_more}
+use Rattle.std.proofs.lemmas.List.Sums.{sum_by-append, sum_by-cons}
+use Rattle.cf_lemmas.proofs.Ranges.{one}
+use Rattle.cf_lemmas.proofs.Tests.{le_yes, le_no}
+use Rattle.page_model.specs.Counts.{ceil_div}
+use Rattle.page_model.specs.Paging.{Paging, class_for}
+use Rattle.large_objects.specs.Parts.{in_class, parts, piece_length, pieces, spine_bytes}
+
+-- the quotient of a number between two multiples
+between_multiples : (x c m : ℕ) → 0 < m → c * m ≤ x → x < c * m + m → x / m ≡ c
+between_multiples x c m pos low high =
+    let e : x / m * m + x % m ≡ x = div-add-mod' x m in
+    let r : x % m < m = mod-lt x pos in
+    elim (cases_lt (x / m) c) [
+      | inl less ↦ absurd (let b : (x / m + 1) * m ≤ c * m = mul-le (x / m + 1) m c m (omega arith) (omega arith) in omega arith)
+      | inr more ↦ elim (cases_lt c (x / m)) [
+        | inl over ↦ absurd (let b : (c + 1) * m ≤ x / m * m = mul-le (c + 1) m (x / m) m (omega arith) (omega arith) in omega arith)
+        | inr not_over ↦ omega arith
+      ]
+    ]
+
+-- rounded up, either way
+pub ceil_is : (n m : ℕ) → 0 < m → ceil_div n m ≡ n / m + min 1 (n % m)
+ceil_is n m pos =
+    let e : n / m * m + n % m ≡ n = div-add-mod' n m in
+    let r : n % m < m = mod-lt n pos in
+    elim (cases_lt 0 (n % m)) [
+      | inl some ↦ (
+          let c : min 1 (n % m) ≡ 1 = omega arith in
+          let t : (n / m + 1) * m ≡ n / m * m + m = omega arith in
+          rw c (between_multiples (n + (m - 1)) (n / m + 1) m pos (omega arith) (omega arith)))
+      | inr none ↦ (
+          let c : min 1 (n % m) ≡ 0 = omega arith in
+          let t : (n / m + 0) * m ≡ n / m * m = omega arith in
+          rw c (between_multiples (n + (m - 1)) (n / m + 0) m pos (omega arith) (omega arith)))
+    ]
+
+module _ (u n : ℕ) (some : 0 < u) where
+  pub pieces_are : pieces u n ≡ n / u + min 1 (n % u)
+  unfolding pieces
+  pieces_are = ceil_is n u some
+
+  -- the pieces have room for the object, and less than a piece besides
+  pub pieces_enough : n ≤ u * pieces u n
+  pieces_enough =
+      let e = pieces_are in let t = (div_ceil_times n u some).0 in
+      let c : (n / u + min 1 (n % u)) * u ≡ u * (n / u + min 1 (n % u)) = omega arith in
+      rw e (omega arith)
+
+  pub pieces_few : u * pieces u n < n + u
+  pieces_few =
+      let e = pieces_are in let t = (div_ceil_times n u some).1 in
+      let c : (n / u + min 1 (n % u)) * u ≡ u * (n / u + min 1 (n % u)) = omega arith in
+      rw e (omega arith)
+
+  -- a piece begins inside the object
+  pub piece_inside : (i : ℕ) → i < pieces u n → u * i < n
+  piece_inside i lt =
+      let m : u * (i + 1) ≤ u * pieces u n = mul-le u (i + 1) u (pieces u n) (omega arith) (omega arith) in
+      let t : u * (i + 1) ≡ u * i + u = omega arith in
+      let f = pieces_few in omega arith
+
+  -- a piece that isn't the last is whole
+  pub whole_piece : (i : ℕ) → i + 1 < pieces u n → piece_length u n i ≡ u
+  whole_piece i lt =
+      let inside = piece_inside (i + 1) lt in
+      let t : u * (i + 1) ≡ u * i + u = omega arith in
+      omega arith
+
+  -- the last one has what is left
+  pub last_piece : (i : ℕ) → i + 1 ≡ pieces u n → piece_length u n i ≡ n - u * (pieces u n - 1)
+  last_piece i is =
+      let e = pieces_enough in
+      let t : u * (i + 1) ≡ u * i + u = omega arith in
+      let s : u * pieces u n ≡ u * (i + 1) = ap (λ k. u * k) (sym is) in
+      let b : pieces u n - 1 ≡ i = omega arith in
+      rw b (omega arith)
+
+  pub two_pieces : u < n → 2 ≤ pieces u n
+  two_pieces long = elim (cases_lt (pieces u n) 2) [
+    | inl few ↦ absurd (
+        let m : u * pieces u n ≤ u * 1 = mul-le u (pieces u n) u 1 (omega arith) (omega arith) in
+        let t : u * 1 ≡ u = omega arith in
+        let e = pieces_enough in omega arith)
+    | inr enough ↦ enough
+  ]
+
+  pub parts_short : n ≤ u → parts u n ≡ n ∷ []
+  unfolding parts
+  parts_short le = rw (le_yes n u le) refl
+
+  pub parts_long : u < n → parts u n ≡ spine_bytes u n ∷ (replicate (pieces u n - 1) u ++ ((n - u * (pieces u n - 1)) ∷ []))
+  unfolding parts
+  parts_long lt = rw (le_no n u lt) refl
+
+  pub length_short : n ≤ u → length (parts u n) ≡ 1
+  length_short le = rw (parts_short le) refl
+
+  pub length_long : u < n → length (parts u n) ≡ 1 + pieces u n
+  length_long lt =
+      let a = length-append (replicate (pieces u n - 1) u) ((n - u * (pieces u n - 1)) ∷ []) in
+      let b = length-replicate (pieces u n - 1) u in
+      let c = two_pieces lt in
+      rw (parts_long lt) (omega arith)
+
+  -- after the spine the pieces come in order
+  pub part_is : u < n → (i : ℕ) → i < pieces u n → get_or (parts u n) (suc i) 0 ≡ piece_length u n i
+  part_is lt i below =
+      let l = length-replicate (pieces u n - 1) u in
+      let two = two_pieces lt in
+      elim (cases_lt (i + 1) (pieces u n)) [
+        | inl whole ↦ rw (parts_long lt) (
+            get_or_append_left (replicate (pieces u n - 1) u) ((n - u * (pieces u n - 1)) ∷ []) 0 i (omega arith)
+            ∙ get_or-replicate (pieces u n - 1) i u 0 (omega arith) ∙ sym (whole_piece i whole))
+        | inr last ↦ rw (parts_long lt) (
+            let z : i - (pieces u n - 1) ≡ 0 = omega arith in
+            get_or-append_right (replicate (pieces u n - 1) u) ((n - u * (pieces u n - 1)) ∷ []) (pieces u n - 1) i 0 l (omega arith)
+            ∙ ap (λ k. get_or ((n - u * (pieces u n - 1)) ∷ []) k 0) z ∙ sym (last_piece i (omega arith)))
+      ]
+
+-- one part more in the count of a class
+pub in_class_more : (p : Paging) (c : ℕ) (xs : List ℕ) (i : ℕ) → i < length xs
+    → in_class p c (take (i + 1) xs) ≡ in_class p c (take i xs) + one (nat_eq (class_for p (get_or xs i 0)) c)
+unfolding in_class
+in_class_more p c xs i lt =
+    let f : ℕ → ℕ = λ n. one (nat_eq (class_for p n) c) in
+    let e = ap (λ l. sum_by f l) (take_more xs i 0 lt) in
+    let s = sum_by-append f (take i xs) (get_or xs i 0 ∷ []) in
+    let z : sum_by f (get_or xs i 0 ∷ []) ≡ f (get_or xs i 0) + 0 = sum_by-cons f (get_or xs i 0) [] in
+    e ∙ s ∙ (omega arith)
+
+pub in_class_one : (p : Paging) (c n : ℕ) → in_class p c (n ∷ []) ≡ one (nat_eq (class_for p n) c)
+unfolding in_class
+in_class_one p c n = (let z : sum_by (λ n. one (nat_eq (class_for p n) c)) (n ∷ []) ≡ one (nat_eq (class_for p n) c) + 0 =
+    sum_by-cons (λ n. one (nat_eq (class_for p n) c)) n [] in omega arith)
+
+pub in_class_cons : (p : Paging) (c n : ℕ) (ns : List ℕ) → in_class p c (n ∷ ns) ≡ one (nat_eq (class_for p n) c) + in_class p c ns
+unfolding in_class
+in_class_cons p c n ns = sum_by-cons (λ n. one (nat_eq (class_for p n) c)) n ns
+
+take_none : (xs : List ℕ) → take 0 xs ≡ []
+take_none [] = refl
+take_none (x ∷ xs) = refl
+
+pub in_class_take_none : (p : Paging) (c : ℕ) (xs : List ℕ) → in_class p c (take 0 xs) ≡ 0
+unfolding in_class
+in_class_take_none p c xs = ap (λ ys. count_by (λ n. nat_eq (class_for p n) c) ys) (take_none xs)

@@ -1,0 +1,253 @@
+-- What is gathered from the inner objects is what they were made of; and the counts and lengths after each call.
+use Rattle.std.proofs.Common.{◌≡◌, ◌≢◌, ℕ, zero, suc, ◌+◌, ◌-◌, ◌*◌, ◌<◌, ◌≤◌, List, [], ◌∷◌, ◌++◌, Some, None, length, get_or, set, take, drop, replicate, arith, sym, ◌∙◌, ap, refl, subst, inl, inr, length-drop}
+use Rattle.std.specs.Prelude.{Option, nat_eq, nat_le, option_map}
+use Rattle.std.specs.List.{flat_map, range_with_len}
+use Rattle.std.proofs.lemmas.Bool.{cases_eq, cases_lt}
+use Rattle.std.proofs.lemmas.List.{get_or-set_same, get_or-set_other, length-replicate, length-set, take_all}
+use Rattle.std.proofs.lemmas.Option.{same_Some}
+use Rattle.std.specs.FinMap.{get, insert, remove, len}
+use Rattle.cf_lemmas.proofs.Maps.{equal_maps, get_inserted, get_insert_other, get_removed, get_remove_other, len_fresh, len_rebound}
+use Rattle.cf_lemmas.proofs.Numbered.{get-numbered}
+use Rattle.cf_lemmas.proofs.Ranges.{one}
+use Rattle.cf_lemmas.proofs.Tests.{le_yes, le_no}
+use Rattle.page_model.specs.Arrangement.{live}
+use Rattle.page_model.specs.Held.{Objects}
+use Rattle.page_model.specs.Paging.{Paging, class_for}
+use Rattle.page_model.proofs.CallerLemmas.{live_added, live_taken}
+use Rattle.large_objects.specs.Growing.{IsGrowing}
+use Rattle.large_objects.specs.Large.{AreCounted, AreLaidOut, bytes_in, named, piece_of}
+use Rattle.large_objects.specs.Layout.{AreLengths, gathered, gathered_from, gathered_objects}
+use Rattle.large_objects.specs.Parts.{in_class, inner_count, inner_live, parts, pieces, spine_bytes}
+use Rattle.large_objects.specs.Shrinking.{IsShrinking}
+use Rattle.large_objects.proofs.Bytes.{piece_of_zeros, pieces_whole}
+use Rattle.large_objects.proofs.Cutting.{in_class_cons, in_class_one, length_long, length_short, parts_long, parts_short, pieces_enough}
+use Rattle.large_objects.proofs.LaidOut.{IsNew, IsPartOf, clash, not_large}
+use Rattle.large_objects.proofs.Room.{count_inserted, count_removed, count_replaced, live_inserted, live_removed, live_replaced, live_rewritten}
+use Rattle.large_objects.proofs.ShrinkLemmas.{len_without}
+
+drop_none : (xs : List ℕ) → drop 0 xs ≡ xs
+drop_none [] = refl
+drop_none (x ∷ xs) = refl
+
+gathered_at : (u : ℕ) (inner : Objects) (k : ℕ) (lengths : List (Option ℕ)) (i : ℕ)
+    → get_or (gathered_from u inner k lengths) i None ≡ option_map (gathered u inner (k + i)) (get_or lengths i None)
+gathered_at u inner k [] i = refl
+gathered_at u inner k (None ∷ lengths) zero = refl
+gathered_at u inner k (Some n ∷ lengths) zero = (let e : k + 0 ≡ k = omega arith in rw e refl)
+gathered_at u inner k (None ∷ lengths) (suc i) = gathered_at u inner (k + 1) lengths i
+    ∙ ap (λ h. option_map (gathered u inner h) (get_or lengths i None)) (let e : k + 1 + i ≡ k + suc i = omega arith in e)
+gathered_at u inner k (Some n ∷ lengths) (suc i) = gathered_at u inner (k + 1) lengths i
+    ∙ ap (λ h. option_map (gathered u inner h) (get_or lengths i None)) (let e : k + 1 + i ≡ k + suc i = omega arith in e)
+
+-- an object is gathered whole
+gathered_is : (u : ℕ) (large inner : Objects) → 0 < u → AreLaidOut u large inner → (h : ℕ) (v : List ℕ) → get large h ≡ Some v → gathered u inner h (length v) ≡ v
+unfolding gathered
+gathered_is u large inner some laid h v is = elim (cases_lt u (length v)) [
+  | inl long ↦ rw (le_no (length v) u long) (pieces_whole u v (λ i. bytes_in (get inner (named inner h i))) (pieces u (length v)) (pieces_enough u (length v) some)
+      (λ i lt. ap bytes_in (laid.pieces_are h v is long i lt)))
+  | inr short ↦ rw (le_yes (length v) u short) (ap bytes_in (laid.small h v is short))
+]
+
+-- so all are
+pub all_gathered : (u proxies : ℕ) (lengths : List (Option ℕ)) (large inner : Objects) → 0 < u → AreLaidOut u large inner → AreLengths lengths large proxies
+    → gathered_objects u lengths inner ≡ large
+unfolding gathered_objects
+all_gathered u proxies lengths large inner some laid known = equal_maps _ large (λ q.
+    get-numbered (gathered_from u inner 0 lengths) q ∙ gathered_at u inner 0 lengths q
+    ∙ ap (λ h. option_map (gathered u inner h) (get_or lengths q None)) (let e : 0 + q ≡ q = omega arith in e)
+    ∙ ap (option_map (gathered u inner q)) (known.each q) ∙ back q (get large q) refl)
+  where
+    back : (q : ℕ) (r : Option (List ℕ)) → get large q ≡ r → option_map (gathered u inner q) (option_map length (get large q)) ≡ get large q
+    back q None is = rw is refl
+    back q (Some v) is = (let g = gathered_is u large inner some laid q v is in rw is (ap (λ b. Some b) g))
+
+-- the lengths where an object comes, goes, or changes
+module _ (lengths : List (Option ℕ)) (large : Objects) (proxies h : ℕ) (known : AreLengths lengths large proxies) (lt : h < length lengths) where
+  pub lengths_more : (v : List ℕ) → AreLengths (set lengths h (Some (length v))) (insert large h v) proxies
+  lengths_more v = record {
+    count = length-set lengths h (Some (length v)) ∙ known.count;
+    each = λ q. elim (cases_eq q h) [
+      | inl is ↦ rw is (get_or-set_same lengths h (Some (length v)) None lt ∙ sym (ap (option_map length) (get_inserted large h v)))
+      | inr ne ↦ get_or-set_other lengths h q (Some (length v)) None ne ∙ known.each q ∙ sym (ap (option_map length) (get_insert_other large h v q ne))
+    ];
+  }
+
+  pub lengths_less : AreLengths (set lengths h None) (remove large h) proxies
+  lengths_less = record {
+    count = length-set lengths h None ∙ known.count;
+    each = λ q. elim (cases_eq q h) [
+      | inl is ↦ rw is (get_or-set_same lengths h None None lt ∙ sym (ap (option_map length) (get_removed large h)))
+      | inr ne ↦ get_or-set_other lengths h q None None ne ∙ known.each q ∙ sym (ap (option_map length) (get_remove_other large h q ne))
+    ];
+  }
+
+pub lengths_same : (lengths : List (Option ℕ)) (large : Objects) (proxies h : ℕ) (v w : List ℕ) → AreLengths lengths large proxies → get large h ≡ Some v
+    → length w ≡ length v → AreLengths lengths (insert large h w) proxies
+lengths_same lengths large proxies h v w known is same = record {
+  count = known.count;
+  each = λ q. elim (cases_eq q h) [
+    | inl at ↦ rw at (known.each h ∙ ap (option_map length) is ∙ ap (λ n. Some n) (sym same) ∙ sym (ap (option_map length) (get_inserted large h w)))
+    | inr ne ↦ known.each q ∙ sym (ap (option_map length) (get_insert_other large h w q ne))
+  ];
+}
+
+-- a short object comes
+module _ (p : Paging) (u : ℕ) (some : 0 < u) (large inner : Objects) (laid : AreLaidOut u large inner) (counted : AreCounted p u large inner) (h n : ℕ)
+    (unused : get inner h ≡ None) where
+  abbrev zeros : List ℕ
+  zeros = replicate n 0
+
+  long_zeros : length zeros ≡ n
+  long_zeros = length-replicate {A = ℕ} n 0
+
+  pub new_short : n ≤ u → IsNew u inner h (replicate n 0) (insert inner h (replicate n 0))
+  new_short short =
+      let never : u < length zeros → ⊥ = λ long. (let l = long_zeros in omega arith) in
+      record {
+        unused = unused;
+        others = λ q b is. get_insert_other inner h zeros q (λ e. clash inner h b (sym (ap (get inner) e) ∙ is) unused) ∙ is;
+        small = λ _. get_inserted inner h zeros;
+        spine = λ long. absurd (never long);
+        pieces_are = λ long i lt. absurd (never long);
+        fresh = λ long i lt. absurd (never long);
+        not_spine = λ long i lt. absurd (never long);
+        apart = λ long i j lt lt' e. absurd (never long);
+        no_others = λ q b is none. elim (cases_eq q h) [
+          | inl at ↦ inl at
+          | inr ne ↦ clash inner q b (sym (get_insert_other inner h zeros q ne) ∙ is) none
+        ];
+      }
+
+  pub counted_short : n ≤ u → AreCounted p u (insert large h (replicate n 0)) (insert inner h (replicate n 0))
+  counted_short short =
+      let none = not_large u large inner laid h unused in
+      record {
+        all = (
+            let a = len_fresh inner h zeros unused in
+            let b = count_inserted p u large h zeros none in
+            let l = ap (λ n. length (parts u n)) long_zeros in
+            let s = length_short u n some short in
+            let before = counted.all in omega arith);
+        each = λ c. (
+            let a = live_added p inner h zeros c unused in
+            let b = live_inserted p u large h zeros c none in
+            let x = ap (λ k. one (nat_eq (class_for p k) c)) long_zeros in
+            let l = ap (λ n. in_class p c (parts u n)) long_zeros in
+            let s = ap (in_class p c) (parts_short u n some short) ∙ in_class_one p c n in
+            let before = counted.each c in omega arith);
+      }
+
+  -- a long one, when all its pieces are made
+  module _ (long : u < n) (next : Objects) (grown : IsGrowing p u n inner h (pieces u n) next) where
+    pub new_long : IsNew u inner h (replicate n 0) next
+    new_long =
+        let l = long_zeros in
+        let count = ap (pieces u) l in
+        record {
+          unused = unused;
+          others = grown.others;
+          small = λ short. absurd (omega arith);
+          spine = λ _. (let s = grown.spine in record { spine = s.spine; found = s.found; long = s.long ∙ sym (ap (λ n. spine_bytes u n) l) });
+          pieces_are = λ _ i lt. grown.made i (rw count at lt) ∙ sym (ap (λ b. Some b) (piece_of_zeros u n i));
+          fresh = λ _ i lt. grown.fresh i (rw count at lt);
+          not_spine = λ _ i lt. grown.not_spine i (rw count at lt);
+          apart = λ _ i j lt lt' e. grown.apart i j (rw count at lt) (rw count at lt') e;
+          no_others = λ q b is none. elim (grown.no_others q b is none) [
+            | inl at ↦ inl at
+            | inr (i, lt, at) ↦ inr ((omega arith), (i, (rw (sym count) at lt), at))
+          ];
+        }
+
+    pub counted_long : AreCounted p u (insert large h (replicate n 0)) next
+    counted_long =
+        let none = not_large u large inner laid h unused in
+        let l = length_long u n some long in
+        record {
+          all = (
+              let b = count_inserted p u large h zeros none in
+              let z = ap (λ n. length (parts u n)) long_zeros in
+              let a = grown.all in let before = counted.all in omega arith);
+          each = λ c. (
+              let b = live_inserted p u large h zeros c none in
+              let z = ap (λ n. in_class p c (parts u n)) long_zeros in
+              let t = ap (in_class p c) (take_all (1 + pieces u n) (parts u n) (omega arith)) in
+              let a = grown.live_now c in let before = counted.each c in omega arith);
+        }
+
+-- an object goes
+module _ (p : Paging) (u : ℕ) (some : 0 < u) (large inner : Objects) (laid : AreLaidOut u large inner) (counted : AreCounted p u large inner) (h : ℕ) (v : List ℕ)
+    (found : get large h ≡ Some v) where
+  pub others_short : length v ≤ u → (q : ℕ) → (IsPartOf u inner h v q → ⊥) → get (remove inner h) q ≡ get inner q
+  others_short short q not = get_remove_other inner h q (λ e. not (inl e))
+
+  pub gone_short : length v ≤ u → (q : ℕ) → IsPartOf u inner h v q → get (remove inner h) q ≡ None
+  gone_short short q (inl at) = ap (get (remove inner h)) at ∙ get_removed inner h
+  gone_short short q (inr (long, part)) = absurd (omega arith)
+
+  pub counted_gone_short : length v ≤ u → AreCounted p u (remove large h) (remove inner h)
+  counted_gone_short short =
+      let there = laid.small h v found short in
+      record {
+        all = (
+            let a = len_without inner h v there in
+            let b = count_removed p u large h v found in
+            let s = length_short u (length v) some short in
+            let before = counted.all in omega arith);
+        each = λ c. (
+            let a = live_taken p inner h v c there in
+            let b = live_removed p u large h v c found in
+            let s = ap (in_class p c) (parts_short u (length v) some short) ∙ in_class_one p c (length v) in
+            let before = counted.each c in omega arith);
+      }
+
+  module _ (long : u < length v) (mid : Objects) (shrunk : IsShrinking p u (length v) inner h (pieces u (length v)) mid) where
+    pub others_long : (q : ℕ) → (IsPartOf u inner h v q → ⊥) → get (remove mid h) q ≡ get inner q
+    others_long q not = get_remove_other mid h q (λ e. not (inl e)) ∙ shrunk.others q (λ j lt e. not (inr (long, (j, lt, e))))
+
+    pub gone_long : (q : ℕ) → IsPartOf u inner h v q → get (remove mid h) q ≡ None
+    gone_long q (inl at) = ap (get (remove mid h)) at ∙ get_removed mid h
+    gone_long q (inr (_, (i, lt, at))) = elim (cases_eq q h) [
+      | inl is ↦ ap (get (remove mid h)) is ∙ get_removed mid h
+      | inr ne ↦ get_remove_other mid h q ne ∙ ap (get mid) at ∙ shrunk.gone i lt
+    ]
+
+    pub counted_gone_long : ((j : ℕ) → j < pieces u (length v) → named inner h j ≢ h) → AreCounted p u (remove large h) (remove mid h)
+    counted_gone_long apart =
+        let s = laid.spines h v found long in
+        let there : get mid h ≡ Some s.spine = shrunk.others h (λ j lt e. apart j lt (sym e)) ∙ s.found in
+        let l = length_long u (length v) some long in
+        let d = length-drop 1 (parts u (length v)) in
+        record {
+          all = (
+              let a = len_without mid h s.spine there in
+              let b = count_removed p u large h v found in
+              let m = shrunk.all in
+              let before = counted.all in omega arith);
+          each = λ c. (
+              let a = live_taken p mid h s.spine c there in
+              let x = ap (λ k. one (nat_eq (class_for p k) c)) s.long in
+              let b = live_removed p u large h v c found in
+              let t = ap (in_class p c) (take_all (pieces u (length v)) (drop 1 (parts u (length v))) (omega arith)) in
+              let rest : List ℕ = replicate (pieces u (length v) - 1) u ++ ((length v - u * (pieces u (length v) - 1)) ∷ []) in
+              let w : in_class p c (parts u (length v)) ≡ one (nat_eq (class_for p (spine_bytes u (length v))) c) + in_class p c rest =
+              ap (in_class p c) (parts_long u (length v) some long) ∙ in_class_cons p c (spine_bytes u (length v)) rest in
+              let y : in_class p c (drop 1 (parts u (length v))) ≡ in_class p c (drop 0 rest) =
+              ap (λ xs. in_class p c (drop 1 xs)) (parts_long u (length v) some long) in
+              let z : in_class p c (drop 0 rest) ≡ in_class p c rest = ap (in_class p c) (drop_none rest) in
+              let m = shrunk.live_now c in
+              let before = counted.each c in omega arith);
+        }
+
+-- an inner object is written: it has the same length, and so has the object
+pub counted_written : (p : Paging) (u : ℕ) (large inner : Objects) (h q : ℕ) (v w b c : List ℕ) → AreCounted p u large inner → get large h ≡ Some v
+    → length w ≡ length v → get inner q ≡ Some b → length c ≡ length b → AreCounted p u (insert large h w) (insert inner q c)
+counted_written p u large inner h q v w b c counted found same there alike = record {
+  all = (
+      let x = count_replaced p u large h v w found same in
+      let y = len_rebound inner q c b there in
+      let before = counted.all in omega arith);
+  each = λ d. (
+      let x = live_replaced p u large h v w d found same in
+      let y = live_rewritten p inner q b c d there alike in
+      let before = counted.each d in omega arith);
+}

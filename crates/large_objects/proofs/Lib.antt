@@ -1,0 +1,17 @@
+pub mod Cutting
+pub mod Fitting
+pub mod InnerSteps
+pub mod Room
+pub mod Bytes
+pub mod GrowLemmas
+pub mod ShrinkLemmas
+pub mod LaidOut
+pub mod Gathering
+pub mod Kept
+pub mod AccessLemmas
+pub mod Opening
+pub mod PagesWith
+pub mod Going
+pub mod Telling
+pub mod ObjectLaws
+pub mod Opened

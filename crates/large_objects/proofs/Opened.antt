@@ -1,0 +1,80 @@
+-- A run over large objects begins, and stays with its kind of manager.
+use Rattle.std.proofs.Common.{◌≡◌, ℕ, List, Some, None, sym, ◌∙◌, ap, refl, subst}
+use Rattle.std.specs.Prelude.{Option, codes}
+use Rattle.std.specs.Option.{MatchOption}
+use Rattle.std.specs.Ordering.{nat_cmp}
+use Rattle.std.specs.FinMap.{empty, get, get-empty}
+use Rattle.cf_base.specs.Settings.{profile_of, Profile}
+use Rattle.cf_base.specs.declared.settings.Settings.{Settings}
+use Rattle.cf_io.specs.Texts.{Reply}
+use Rattle.cf_model.specs.Steps.{IsOpeningWords, empty_heap}
+use Rattle.id_table.specs.Ids.{Ids}
+use Rattle.page_model.specs.Held.{Objects}
+use Rattle.script_reader.specs.declared.command.Command.{Command}
+use Rattle.script_reader.specs.declared.command.Command.TheVariants as command
+use Rattle.large_objects.specs.Large.{KeepsParts, LargeState}
+use Rattle.large_objects.specs.LargeRun.{AreTiedLarge, FreesIdLarge, IsGoingLarge, LargeRun, LargeStep, MallocsLarge, StaysLarge, WritesIdLarge, large_run}
+use Rattle.large_objects.specs.LargeSteps.{IsEmptyLarge}
+use Rattle.large_objects.specs.Playing.{BeginsLarge, at_bound_one}
+
+none_tied : (ids : Ids) (large : Objects) → ids ≡ empty → large ≡ empty → AreTiedLarge ids large
+none_tied ids large no_ids no_objects = record {
+  named = λ id h is. absurd (let z : Some h ≡ None = sym is ∙ ap (λ (i : Ids). get i id) no_ids ∙ get-empty nat_cmp id in cc);
+  once = λ id other h is. absurd (let z : Some h ≡ None = sym is ∙ ap (λ (i : Ids). get i id) no_ids ∙ get-empty nat_cmp id in cc);
+  all = λ h v is. absurd (let z : Some v ≡ None = sym is ∙ ap (λ (o : Objects). get o h) no_objects ∙ get-empty nat_cmp h in cc);
+}
+
+module _ (ids : Ids) (old new : LargeState) (settings : Settings) (fresh : ids ≡ empty) (opened : IsEmptyLarge old settings new) (parts : KeepsParts new) where
+  pub opened_going : IsGoingLarge (large_run ids new)
+  opened_going = record { opened = opened.open_now; parts = parts; tied = none_tied ids new.objects fresh opened.none }
+
+  -- with the settings of the line, at the bound 1
+  pub opened_begins : (line : Settings) → profile_of settings ≡ at_bound_one (profile_of line) → BeginsLarge old.inner.kind (profile_of line) (large_run ids new)
+  opened_begins line is = record {
+    ids = fresh;
+    open_now = opened.open_now;
+    none = opened.none;
+    words = subst (λ (p : Profile). IsOpeningWords old.inner.kind p new.inner.words) is opened.inner.words;
+    inner = subst (λ (p : Profile). new.inner ≡ empty_heap old.inner.kind p new.inner.words) is opened.inner.whole;
+    parts = parts;
+  }
+
+module _ (old new : LargeRun) (reply : Reply) where
+  stays : (text : List ℕ) → StaysLarge old text reply new → new.heap.inner.kind ≡ old.heap.inner.kind
+  stays text (_, same) = ap (λ (s : LargeRun). s.heap.inner.kind) same
+
+  told : (text : Reply) → (reply ≡ text) × (new ≡ old) → new.heap.inner.kind ≡ old.heap.inner.kind
+  told text (_, same) = ap (λ (s : LargeRun). s.heap.inner.kind) same
+
+  -- no command changes the kind of the inner manager
+  pub kind_kept : (c : Command) → LargeStep old c reply new → new.heap.inner.kind ≡ old.heap.inner.kind
+  kind_kept (command.Malloc id bytes) step = go (get old.ids id) step
+    where
+      go : (o : Option ℕ) → MatchOption o (MallocsLarge old id bytes reply new) (λ h. StaysLarge old (codes "live") reply new) → new.heap.inner.kind ≡ old.heap.inner.kind
+      go None m = m.kept.stays.inner.kind
+      go (Some h) s = stays _ s
+  kind_kept (command.Free id) step = go (get old.ids id) step
+    where
+      go : (o : Option ℕ) → MatchOption o (StaysLarge old (codes "unknown") reply new) (λ h. FreesIdLarge old id h reply new) → new.heap.inner.kind ≡ old.heap.inner.kind
+      go None s = stays _ s
+      go (Some h) f = f.kept.stays.inner.kind
+  kind_kept (command.Write id at bytes) step = go (get old.ids id) step
+    where
+      go : (o : Option ℕ) → MatchOption o (StaysLarge old (codes "unknown") reply new) (λ h. WritesIdLarge old (record { number = h; from = at }) bytes reply new)
+          → new.heap.inner.kind ≡ old.heap.inner.kind
+      go None s = stays _ s
+      go (Some h) w = w.kept.stays.inner.kind
+  kind_kept (command.Read id at len) step = told _ step
+  kind_kept (command.Place id) step = told _ step
+  kind_kept (command.Block id i) step = told _ step
+  kind_kept (command.Peek word) step = told _ step
+  kind_kept command.Walk step = told _ step
+  kind_kept command.Frag step = told _ step
+  kind_kept command.Steps step = told _ step
+  kind_kept (command.Bound slot_words k) step = told _ step
+  kind_kept (command.Resize id bytes) step = told _ step
+  kind_kept command.Slice step = told _ step
+  kind_kept (command.Task task) step = told _ step
+  kind_kept (command.Quota task pages) step = told _ step
+  kind_kept (command.Need task bytes count) step = told _ step
+  kind_kept (command.Admit task) step = told _ step

@@ -1,0 +1,19 @@
+use Rattle.std.proofs.Common.{◌≡◌, ℕ, ◌-◌, ◌<◌, ◌≤◌, List, Some, length, take}
+use Rattle.std.specs.Prelude.{IsTrue}
+use Rattle.std.specs.FinMap.{get, insert}
+use Rattle.page_model.specs.Bytes.{written}
+use Rattle.large_objects.specs.LargeSteps.{StaysKept, piece_in}
+use Rattle.large_objects.proofs.heap.LargeHeap.write_long.Given as goal
+
+abbrev pub invariant-pieces : goal.invariant-pieces
+invariant-pieces g l = record {
+  piece : l.piece ≡ piece_in l.initial.self;
+  positive : 0 < l.piece;
+  some : l.done ≤ length l.bytes;
+  opened : IsTrue l.self.is_open;
+  so_far : (v : List ℕ) → get l.initial.self.objects l.h.0 ≡ Some v → l.self.objects ≡ insert l.initial.self.objects l.h.0 (written v l.at (take l.done l.bytes));
+  kept : StaysKept l.initial.self l.self;
+}
+
+abbrev pub decreases-pieces : goal.decreases-pieces
+decreases-pieces g l = length l.bytes - l.done

@@ -1,0 +1,55 @@
+-- What the calls of an inner manager do to its objects, where they aren't refused. No public clause cites this module.
+use Rattle.std.specs.Prelude.{◌≡◌, ℕ, IsTrue, ◌+◌, ◌*◌, ◌^◌, ◌≤◌, ◌<◌, List, Some, None, length, replicate}
+use Rattle.std.specs.FinMap.{get, insert, remove, len}
+use Rattle.cf_base.specs.Classes.{need}
+use Rattle.page_model.specs.Arrangement.{pages_needed_with}
+use Rattle.page_model.specs.Bytes.{written}
+use Rattle.page_model.specs.Held.{Objects, objects}
+use Rattle.page_model.specs.Paging.{AreOne}
+use Rattle.cf_model.specs.Families.{IsPaged}
+use Rattle.cf_model.specs.Rules.{KeepsRules}
+use Rattle.cf_model.specs.State.{HeapState, paging_in}
+use Rattle.cf_model.specs.Steps.{KeepsSettings}
+
+-- an open manager with pages, with the bound 1 in each class
+pub record IsReady (s : HeapState) : Type 0 where
+  pub opened : IsTrue s.is_open
+  pub rules : KeepsRules s
+  pub pages : IsPaged s.kind
+  pub ones : AreOne (paging_in s)
+
+-- the same manager under the same settings and bounds, and ready
+pub record StaysReady (old new : HeapState) : Type 0 where
+  pub settings : KeepsSettings old new
+  pub ready : IsReady new
+
+-- there is room for one more inner object of n bytes
+pub record HasPartRoom (s : HeapState) (n : ℕ) : Type 0 where
+  pub fits : need n ≤ s.profile.page_words
+  pub few : len (objects s.held) < s.profile.proxies
+  pub pages : pages_needed_with (paging_in s) (objects s.held) n ≤ s.profile.pages
+
+-- an inner object of zeros comes
+pub record GivesPart (old : HeapState) (q n : ℕ) (new : HeapState) : Type 0 where
+  pub stays : StaysReady old new
+  pub unused : get (objects old.held) q ≡ None
+  pub below : q < 2 ^ 32
+  pub left : objects new.held ≡ insert (objects old.held) q (replicate n 0)
+
+-- an inner object has so many bytes from `at` on
+pub record HasPart (s : HeapState) (q at count : ℕ) : Type 0 where
+  pub bytes : List ℕ
+  pub found : get (objects s.held) q ≡ Some bytes
+  pub within : at + count ≤ length bytes
+
+-- bytes are written into an inner object
+pub record WritesPart (old : HeapState) (q at : ℕ) (bytes : List ℕ) (new : HeapState) : Type 0 where
+  pub stays : StaysReady old new
+  pub object : List ℕ
+  pub found : get (objects old.held) q ≡ Some object
+  pub left : objects new.held ≡ insert (objects old.held) q (written object at bytes)
+
+-- an inner object goes
+pub record FreesPart (old : HeapState) (q : ℕ) (new : HeapState) : Type 0 where
+  pub stays : StaysReady old new
+  pub left : objects new.held ≡ remove (objects old.held) q

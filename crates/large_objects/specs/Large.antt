@@ -1,0 +1,79 @@
+-- Large objects over an inner manager: what they are made of there.
+use Rattle.std.specs.Prelude.{◌≡◌, ◌≢◌, ℕ, Bool, false, IsTrue, ◌+◌, ◌*◌, ◌<◌, ◌≤◌, List, [], Option, Some, None, length, take, drop, refl}
+use Rattle.std.specs.Coded.{Coded, code_by, coded×, coded_ℕ, coded_list, coded_bool}
+use Rattle.std.specs.FinMap as map
+use Rattle.std.specs.FinMap.{get, len}
+use Rattle.std.specs.Int.{from_le_bytes, w32}
+use Rattle.page_model.specs.Arrangement.{live}
+use Rattle.page_model.specs.Held.{Objects, objects}
+use Rattle.page_model.specs.Paging.{AreOne, Paging}
+use Rattle.cf_model.specs.Families.{IsPaged}
+use Rattle.cf_model.specs.Rules.{KeepsRules}
+use Rattle.cf_model.specs.State.{HeapState, paging_in, state_code}
+use Rattle.large_objects.specs.Parts.{inner_count, inner_live, piece_bytes, pieces, spine_bytes}
+
+-- a heap of large objects: the objects by handle, and the inner manager
+pub record LargeState : Type 0 where
+  pub is_open : Bool
+  pub objects : Objects
+  pub inner : HeapState
+
+abbrev pub large_code : Coded LargeState
+large_code = code_by (Bool × (Objects × HeapState)) (coded× coded_bool (coded× (map.code coded_ℕ (coded_list coded_ℕ)) state_code))
+    (λ s. (s.is_open, (s.objects, s.inner))) (λ q. record { is_open = q.0; objects = q.1.0; inner = q.1.1 }) (λ _. refl)
+
+-- the bytes under a number; none where it isn't live
+abbrev pub bytes_in : Option (List ℕ) → List ℕ
+bytes_in None = []
+bytes_in (Some v) = v
+
+-- the handle that stands in place i of a spine, in four bytes, the least first
+unfoldable pub handle_at : List ℕ → ℕ → ℕ
+handle_at spine i = from_le_bytes w32 (take 4 (drop (4 * i) spine))
+
+-- the handle of piece i of an object, as its spine names it
+abbrev pub named : Objects → ℕ → ℕ → ℕ
+named inner h i = handle_at (bytes_in (get inner h)) i
+
+-- the bytes of piece i
+abbrev pub piece_of : ℕ → List ℕ → ℕ → List ℕ
+piece_of u v i = take u (drop (u * i) v)
+
+-- the inner object q is piece i of the object h
+pub record IsPiece (u : ℕ) (large inner : Objects) (q h i : ℕ) : Type 0 where
+  pub bytes : List ℕ
+  pub found : get large h ≡ Some bytes
+  pub long : u < length bytes
+  pub below : i < pieces u (length bytes)
+  pub is : q ≡ named inner h i
+
+-- an object's handle is that of its spine, which has the bytes of a spine
+pub record HasSpine (u : ℕ) (inner : Objects) (h n : ℕ) : Type 0 where
+  pub spine : List ℕ
+  pub found : get inner h ≡ Some spine
+  pub long : length spine ≡ spine_bytes u n
+
+-- The inner objects are those of the large ones: an object that fits a page is an inner object, and a longer one has a spine, which names its pieces in order;
+-- what is a piece of one isn't a piece of another, nor an object; and there are no others.
+pub record AreLaidOut (u : ℕ) (large inner : Objects) : Type 0 where
+  pub small : (h : ℕ) (v : List ℕ) → get large h ≡ Some v → length v ≤ u → get inner h ≡ Some v
+  pub spines : (h : ℕ) (v : List ℕ) → get large h ≡ Some v → u < length v → HasSpine u inner h (length v)
+  pub pieces_are : (h : ℕ) (v : List ℕ) → get large h ≡ Some v → u < length v
+      → (i : ℕ) → i < pieces u (length v) → get inner (named inner h i) ≡ Some (piece_of u v i)
+  pub not_objects : (q h i : ℕ) → IsPiece u large inner q h i → get large q ≡ None
+  pub of_one : (q h i g j : ℕ) → IsPiece u large inner q h i → IsPiece u large inner q g j → (h ≡ g) × (i ≡ j)
+  pub no_others : (q : ℕ) (b : List ℕ) → get inner q ≡ Some b → get large q ≡ None → (h : ℕ) × (i : ℕ) × IsPiece u large inner q h i
+
+-- Their numbers, in all and of each class, are those of the lengths of their objects.
+pub record AreCounted (p : Paging) (u : ℕ) (large inner : Objects) : Type 0 where
+  pub all : len inner ≡ inner_count u large
+  pub each : (c : ℕ) → live p inner c ≡ inner_live p u large c
+
+-- What an open heap of large objects keeps: its inner manager is open, with pages, and each of its classes has the bound 1.
+pub record KeepsParts (s : LargeState) : Type 0 where
+  pub opened : IsTrue s.inner.is_open
+  pub rules : KeepsRules s.inner
+  pub pages : IsPaged s.inner.kind
+  pub ones : AreOne (paging_in s.inner)
+  pub laid : AreLaidOut (piece_bytes s.inner.profile) s.objects (objects s.inner.held)
+  pub counted : AreCounted (paging_in s.inner) (piece_bytes s.inner.profile) s.objects (objects s.inner.held)

@@ -1,0 +1,125 @@
+-- A session over a heap of large objects, and what each command does there.
+use Rattle.std.specs.Prelude.{◌≡◌, ℕ, IsTrue, ◌+◌, ◌++◌, List, [], ◌∷◌, Option, Some, None, Result, Ok, Err, codes, length, take, drop, nat_le, if◌then◌else◌}
+use Rattle.std.specs.Option.{MatchOption}
+use Rattle.std.specs.FinMap.{get, insert, remove, empty}
+use Rattle.hex.specs.Hex.{encode_lower}
+use Rattle.cf_base.specs.Settings.{Profile}
+use Rattle.cf_base.specs.declared.answers.AccessFault.{AccessFault}
+use Rattle.cf_base.specs.declared.answers.Failed.{Failed}
+use Rattle.cf_base.specs.declared.answers.Handle.{Handle}
+use Rattle.cf_base.specs.declared.answers.Refusal.{Refusal}
+use Rattle.cf_base.specs.declared.kind.Kind.{Kind}
+use Rattle.cf_io.specs.Feeds.{appended}
+use Rattle.cf_io.specs.Texts.{Reply, led, said}
+use Rattle.cf_model.specs.Families.{IsPaged}
+use Rattle.cf_model.specs.Steps.{IsOpeningWords, Part, empty_heap}
+use Rattle.cf_session.specs.Apply.{outcome_of}
+use Rattle.cf_session.specs.declared.outcome.Outcome.{Outcome}
+use Rattle.id_table.specs.Ids.{Ids}
+use Rattle.page_model.specs.Held.{Objects}
+use Rattle.run_model.specs.Replies.{malloc_text, write_text}
+use Rattle.run_model.specs.Reports.{frag_of, walk_of}
+use Rattle.run_model.specs.Steps.{ids_given}
+use Rattle.script_reader.specs.declared.command.Command.{Command}
+use Rattle.script_reader.specs.declared.command.Command.TheVariants.{Malloc, Free, Write, Read, Walk, Frag}
+use Rattle.large_objects.specs.Large.{KeepsParts, LargeState}
+use Rattle.large_objects.specs.LargeSteps.{FreesLarge, IsLargeMalloc, IsLargeWrite, StaysKept}
+
+-- the live ids with the handles that they name, and the heap
+pub record LargeRun : Type 0 where
+  pub ids : Ids
+  pub heap : LargeState
+
+abbrev pub large_run : Ids → LargeState → LargeRun
+large_run ids heap = record { ids = ids; heap = heap }
+
+-- the live ids name just the objects, each once
+pub record AreTiedLarge (ids : Ids) (large : Objects) : Type 0 where
+  pub named : (id h : ℕ) → get ids id ≡ Some h → (v : List ℕ) × (get large h ≡ Some v)
+  pub once : (id other h : ℕ) → get ids id ≡ Some h → get ids other ≡ Some h → other ≡ id
+  pub all : (h : ℕ) (v : List ℕ) → get large h ≡ Some v → (id : ℕ) × (get ids id ≡ Some h)
+
+-- the run goes on: the heap is open and keeps its parts, and the ids are those of its objects
+pub record IsGoingLarge (s : LargeRun) : Type 0 where
+  pub opened : IsTrue s.heap.is_open
+  pub parts : KeepsParts s.heap
+  pub tied : AreTiedLarge s.ids s.heap.objects
+
+-- the object that an id names, where it is live
+abbrev pub large_object_of : LargeRun → ℕ → Option (List ℕ)
+large_object_of s id = elim (get s.ids id) [ None ↦ None | Some h ↦ get s.heap.objects h ]
+
+-- r: `=` and the bytes in hexadecimal
+abbrev pub large_read_text : Option (List ℕ) → ℕ → ℕ → List ℕ
+large_read_text None at count = codes "unknown"
+large_read_text (Some v) at count = if nat_le (at + count) (length v) then codes "=" ++ encode_lower (take count (drop at v)) else codes "range"
+
+-- the command does nothing, and gets this reply
+abbrev pub StaysLarge : LargeRun → List ℕ → Reply → LargeRun → Type 0
+StaysLarge old text reply new = (reply ≡ said text) × (new ≡ old)
+
+-- a malloc for an id that isn't live
+pub record MallocsLarge (old : LargeRun) (id bytes : ℕ) (reply : Reply) (new : LargeRun) : Type 0 where
+  pub answer : Result Handle Refusal
+  pub step : IsLargeMalloc old.heap bytes answer new.heap
+  pub kept : StaysKept old.heap new.heap
+  pub ids : new.ids ≡ ids_given old.ids id answer
+  pub reply_is : reply ≡ said (malloc_text answer)
+
+-- a free of a live id
+pub record FreesIdLarge (old : LargeRun) (id h : ℕ) (reply : Reply) (new : LargeRun) : Type 0 where
+  pub step : FreesLarge old.heap h new.heap
+  pub kept : StaysKept old.heap new.heap
+  pub ids : new.ids ≡ remove old.ids id
+  pub reply_is : reply ≡ said (codes "ok")
+
+-- a write into a live object
+pub record WritesIdLarge (old : LargeRun) (part : Part) (bytes : List ℕ) (reply : Reply) (new : LargeRun) : Type 0 where
+  pub answer : Result Unit AccessFault
+  pub step : IsLargeWrite old.heap part bytes answer new.heap
+  pub kept : StaysKept old.heap new.heap
+  pub ids : new.ids ≡ old.ids
+  pub reply_is : reply ≡ said (write_text answer)
+
+-- the reply of a command that changes nothing: the reports are those of the inner manager, and `none` answers all that isn't of this mode
+abbrev pub large_told : LargeRun → Command → Reply
+large_told s (Read id at count) = said (large_read_text (large_object_of s id) at count)
+large_told s Walk = walk_of s.heap.inner.kind s.heap.inner
+large_told s Frag = frag_of s.heap.inner
+large_told s command = said (codes "none")
+
+-- One command: its reply, and the state after it.
+abbrev pub LargeStep : LargeRun → Command → Reply → LargeRun → Type 0
+LargeStep old (Malloc id bytes) reply new = MatchOption (get old.ids id) (MallocsLarge old id bytes reply new) (λ h. StaysLarge old (codes "live") reply new)
+LargeStep old (Free id) reply new = MatchOption (get old.ids id) (StaysLarge old (codes "unknown") reply new) (λ h. FreesIdLarge old id h reply new)
+LargeStep old (Write id at bytes) reply new =
+    MatchOption (get old.ids id) (StaysLarge old (codes "unknown") reply new) (λ h. WritesIdLarge old (record { number = h; from = at }) bytes reply new)
+LargeStep old command reply new = (reply ≡ large_told old command) × (new ≡ old)
+
+-- a run at one moment, and the bytes written by then, where the sink is observable
+pub record LargeMoment : Type 0 where
+  pub run : LargeRun
+  pub written : Option (List ℕ)
+
+abbrev pub large_moment : Ids → LargeState → Option (List ℕ) → LargeMoment
+large_moment ids heap written = record { run = large_run ids heap; written = written }
+
+-- the command took effect, and its whole reply was written
+pub record IsAnsweredLarge (old : LargeMoment) (command : Command) (new : LargeMoment) : Type 0 where
+  pub reply : Reply
+  pub step : LargeStep old.run command reply new.run
+  pub written : new.written ≡ appended old.written (led [] reply)
+
+-- the command took effect, and a prefix of its reply was written
+pub record IsCutShortLarge (old : LargeMoment) (command : Command) (new : LargeMoment) : Type 0 where
+  pub reply : Reply
+  pub front : List ℕ
+  pub lost : List ℕ
+  pub step : LargeStep old.run command reply new.run
+  pub cut : led [] reply ≡ front ++ lost
+  pub written : new.written ≡ appended old.written front
+
+-- by how it ended; the outcome is that of the reply
+abbrev pub AppliesLarge : LargeMoment → Command → Result Outcome Failed → LargeMoment → Type 0
+AppliesLarge old command (Ok outcome) new = (a : IsAnsweredLarge old command new) × (outcome ≡ outcome_of a.reply)
+AppliesLarge old command (Err failed) new = IsCutShortLarge old command new

@@ -1,0 +1,156 @@
+-- The steps of a heap of large objects, from its state before to its state after.
+use Rattle.std.specs.Prelude.{◌≡◌, ℕ, ◌+◌, ◌*◌, ◌≤◌, ◌<◌, ◌⊎◌, true, false, List, Option, Some, None, Result, Ok, Err, length, take, drop, replicate}
+use Rattle.std.specs.FinMap.{get, insert, remove, empty}
+use Rattle.cf_base.specs.Settings.{profile_of}
+use Rattle.cf_base.specs.declared.answers.AccessFault.{AccessFault}
+use Rattle.cf_base.specs.declared.answers.AccessFault.TheVariants as access
+use Rattle.cf_base.specs.declared.answers.Handle.{Handle}
+use Rattle.cf_base.specs.declared.answers.NotLive.{NotLive}
+use Rattle.cf_base.specs.declared.answers.Refusal.{Refusal}
+use Rattle.cf_base.specs.declared.answers.Refusal.TheVariants as refusal
+use Rattle.cf_base.specs.declared.settings.Settings.{Settings}
+use Rattle.page_model.specs.Bytes.{written}
+use Rattle.cf_model.specs.State.{HeapState, paging_in}
+use Rattle.cf_model.specs.Steps.{IsEmptyHeap, Part, StaysOpen}
+use Rattle.large_objects.specs.Large.{KeepsParts, LargeState}
+use Rattle.large_objects.specs.Parts.{inner_count, inner_pages_with, parts, piece_bytes, pieces, spine_bytes}
+
+-- the bytes of a piece there
+abbrev pub piece_in : LargeState → ℕ
+piece_in s = piece_bytes s.inner.profile
+
+-- an open heap without objects
+pub record IsEmptyLarge (old : LargeState) (settings : Settings) (new : LargeState) : Type 0 where
+  pub open_now : new.is_open ≡ true
+  pub none : new.objects ≡ empty
+  pub inner : IsEmptyHeap old.inner.kind settings new.inner
+
+-- the same heap, open under the same settings
+pub record StaysOpenLarge (old new : LargeState) : Type 0 where
+  pub open_now : new.is_open ≡ true
+  pub inner : StaysOpen old.inner new.inner
+
+-- the spine of an object of n bytes fits a page, where the object needs one
+abbrev pub FitsSpine : ℕ → ℕ → Type 0
+FitsSpine u n = (n ≤ u) ⊎ (spine_bytes u n ≤ u)
+
+-- the inner objects of one more object of n bytes have handles
+abbrev pub HasProxies : LargeState → ℕ → Type 0
+HasProxies s n = inner_count (piece_in s) s.objects + length (parts (piece_in s) n) ≤ s.inner.profile.proxies
+
+-- there are as many pages as all inner objects need with them
+abbrev pub HasPages : LargeState → ℕ → Type 0
+HasPages s n = inner_pages_with (paging_in s.inner) (piece_in s) s.objects n ≤ s.inner.profile.pages
+
+-- an object of n bytes isn't refused
+pub record HasRoom (s : LargeState) (n : ℕ) : Type 0 where
+  pub fits : FitsSpine (piece_in s) n
+  pub proxies : HasProxies s n
+  pub pages : HasPages s n
+
+-- A handle that wasn't live is given to so many zeros, for which there is room.
+pub record GivesLarge (old : LargeState) (h n : ℕ) (new : LargeState) : Type 0 where
+  pub room : HasRoom old n
+  pub unused : get old.objects h ≡ None
+  pub given : new.objects ≡ insert old.objects h (replicate n 0)
+
+-- the spine would need more than a page
+pub record WantsLongerSpine (s : LargeState) (n : ℕ) : Type 0 where
+  pub long : piece_in s < n
+  pub past : piece_in s < spine_bytes (piece_in s) n
+
+-- the inner objects would be more than the proxies
+pub record WantsProxies (s : LargeState) (n : ℕ) : Type 0 where
+  pub fits : FitsSpine (piece_in s) n
+  pub past : s.inner.profile.proxies < inner_count (piece_in s) s.objects + length (parts (piece_in s) n)
+
+-- the inner objects would need more pages than there are
+pub record WantsPages (s : LargeState) (n : ℕ) : Type 0 where
+  pub fits : FitsSpine (piece_in s) n
+  pub proxies : HasProxies s n
+  pub past : s.inner.profile.pages < inner_pages_with (paging_in s.inner) (piece_in s) s.objects n
+
+-- the cause of each refusal of a malloc, by arithmetic
+abbrev pub IsRefusedLarge : LargeState → ℕ → Refusal → Type 0
+IsRefusedLarge s n refusal.Size = WantsLongerSpine s n
+IsRefusedLarge s n refusal.Proxy = WantsProxies s n
+IsRefusedLarge s n refusal.Space = WantsPages s n
+
+-- a malloc adds an object, or is refused and changes nothing
+abbrev pub IsLargeMalloc : LargeState → ℕ → Result Handle Refusal → LargeState → Type 0
+IsLargeMalloc old n (Ok h) new = GivesLarge old h.0 n new
+IsLargeMalloc old n (Err e) new = IsRefusedLarge old n e × (new ≡ old)
+
+-- an object goes
+pub record FreesLarge (old : LargeState) (h : ℕ) (new : LargeState) : Type 0 where
+  pub bytes : List ℕ
+  pub found : get old.objects h ≡ Some bytes
+  pub left : new.objects ≡ remove old.objects h
+
+-- a free takes an object away, or is refused and changes nothing
+abbrev pub IsLargeFree : LargeState → ℕ → Result Unit NotLive → LargeState → Type 0
+IsLargeFree old h (Ok u) new = FreesLarge old h new
+IsLargeFree old h (Err e) new = (get old.objects h ≡ None) × (new ≡ old)
+
+-- the part of so many bytes passes the end of the object
+pub record PassesLarge (s : LargeState) (part : Part) (count : ℕ) : Type 0 where
+  pub bytes : List ℕ
+  pub found : get s.objects part.number ≡ Some bytes
+  pub past : length bytes < part.from + count
+
+-- the cause of each refusal of a read or a write
+abbrev pub IsLargeFault : LargeState → Part → ℕ → AccessFault → Type 0
+IsLargeFault s part count access.Unknown = get s.objects part.number ≡ None
+IsLargeFault s part count access.Range = PassesLarge s part count
+
+-- the bytes stand in the object from `from` on, and nothing else changes
+pub record WritesLarge (old : LargeState) (part : Part) (bytes : List ℕ) (new : LargeState) : Type 0 where
+  pub object : List ℕ
+  pub found : get old.objects part.number ≡ Some object
+  pub within : part.from + length bytes ≤ length object
+  pub left : new.objects ≡ insert old.objects part.number (written object part.from bytes)
+
+-- a write replaces bytes, or is refused and changes nothing
+abbrev pub IsLargeWrite : LargeState → Part → List ℕ → Result Unit AccessFault → LargeState → Type 0
+IsLargeWrite old part bytes (Ok u) new = WritesLarge old part bytes new
+IsLargeWrite old part bytes (Err e) new = IsLargeFault old part (length bytes) e × (new ≡ old)
+
+-- the bytes of a part
+pub record ReadsLarge (s : LargeState) (part : Part) (count : ℕ) (bytes : List ℕ) : Type 0 where
+  pub object : List ℕ
+  pub found : get s.objects part.number ≡ Some object
+  pub within : part.from + count ≤ length object
+  pub value : bytes ≡ take count (drop part.from object)
+
+-- a read gives the bytes, or is refused and leaves the room as it was
+abbrev pub IsLargeRead : LargeState → Part → List ℕ → Result Unit AccessFault → List ℕ → Type 0
+IsLargeRead s part room (Ok u) out = ReadsLarge s part (length room) out
+IsLargeRead s part room (Err e) out = IsLargeFault s part (length room) e × (out ≡ room)
+
+-- the part from byte `at` on of piece i of a long object
+pub record HasLongPart (s : LargeState) (h i at count : ℕ) : Type 0 where
+  pub bytes : List ℕ
+  pub found : get s.objects h ≡ Some bytes
+  pub long : piece_in s < length bytes
+  pub below : i < pieces (piece_in s) (length bytes)
+  pub inside : at + count ≤ piece_in s
+  pub within : piece_in s * i + at + count ≤ length bytes
+
+-- the part of a long object from byte `at` on
+pub record HasLong (s : LargeState) (h at count : ℕ) : Type 0 where
+  pub bytes : List ℕ
+  pub found : get s.objects h ≡ Some bytes
+  pub long : piece_in s < length bytes
+  pub within : at + count ≤ length bytes
+
+-- the part of a short one
+pub record HasShort (s : LargeState) (h at count : ℕ) : Type 0 where
+  pub bytes : List ℕ
+  pub found : get s.objects h ≡ Some bytes
+  pub short : length bytes ≤ piece_in s
+  pub within : at + count ≤ length bytes
+
+-- the same heap, which keeps what it must
+pub record StaysKept (old new : LargeState) : Type 0 where
+  pub stays : StaysOpenLarge old new
+  pub parts : KeepsParts new

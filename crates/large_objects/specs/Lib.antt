@@ -1,0 +1,10 @@
+pub mod Parts
+pub mod Large
+pub mod LargeSteps
+pub mod Layout
+pub mod InnerCalls
+pub mod Growing
+pub mod Shrinking
+pub mod LargeRun
+pub mod Speaking
+pub mod Playing

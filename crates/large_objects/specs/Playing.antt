@@ -1,0 +1,57 @@
+-- A session over a heap of large objects, as a player.
+use Rattle.std.specs.Prelude.{◌≡◌, ◌++◌, ℕ, true, false, List, [], codes}
+use Rattle.std.specs.FinMap.{empty}
+use Rattle.cf_base.specs.Settings.{Profile}
+use Rattle.cf_base.specs.declared.kind.Kind.{Kind}
+use Rattle.cf_io.specs.Texts.{Reply, led, said}
+use Rattle.cf_model.specs.Families.{IsPaged}
+use Rattle.cf_model.specs.Steps.{IsOpeningWords, empty_heap}
+use Rattle.script_loop.specs.Semantics.{Semantics}
+use Rattle.script_reader.specs.declared.command.Command.{Command}
+use Rattle.large_objects.specs.Large.{KeepsParts}
+use Rattle.large_objects.specs.LargeRun.{IsGoingLarge, LargeRun, LargeStep}
+
+-- the settings of a `heap` line, with the bound 1 whatever it says
+abbrev pub at_bound_one : Profile → Profile
+at_bound_one p = record p { k = 1 }
+
+-- a heap of large objects was opened over a manager of the kind, and a session begun
+pub record BeginsLarge (kind : Kind) (p : Profile) (new : LargeRun) : Type 0 where
+  pub ids : new.ids ≡ empty
+  pub open_now : new.heap.is_open ≡ true
+  pub none : new.heap.objects ≡ empty
+  pub words : IsOpeningWords kind (at_bound_one p) new.heap.inner.words
+  pub inner : new.heap.inner ≡ empty_heap kind (at_bound_one p) new.heap.inner.words
+  pub parts : KeepsParts new.heap
+
+-- the same, and `ok` is the reply
+abbrev pub BeginsAtOne : Kind → Profile → Reply → LargeRun → Type 0
+BeginsAtOne kind p reply new = BeginsLarge kind p new × (reply ≡ said (codes "ok"))
+
+-- the command took effect, and just these bytes of its reply were written
+pub record LargeStepInPart (old : LargeRun) (command : Command) (out : List ℕ) (new : LargeRun) : Type 0 where
+  pub reply : Reply
+  pub lost : List ℕ
+  pub step : LargeStep old command reply new
+  pub cut : led [] reply ≡ out ++ lost
+
+-- before the `heap` line no id is live, and the inner manager has pages
+pub record IsFreshLarge (s : LargeRun) : Type 0 where
+  pub ids : s.ids ≡ empty
+  pub pages : IsPaged s.heap.inner.kind
+
+-- an allocation failed: the heap is closed, and the session is as it was
+pub record LacksLarge (old new : LargeRun) : Type 0 where
+  pub closed : new.heap.is_open ≡ false
+  pub ids : new.ids ≡ old.ids
+
+abbrev pub large_heap : Semantics LargeRun Kind
+large_heap = record {
+  plan = λ s. s.heap.inner.kind;
+  is_fresh = IsFreshLarge;
+  is_going = IsGoingLarge;
+  begins = BeginsAtOne;
+  turns = LargeStep;
+  turns_in_part = LargeStepInPart;
+  lacks = LacksLarge;
+}

@@ -1,0 +1,246 @@
+//! The heap that a caller holds.
+ghost use Rattle.std.specs.Prelude.{◌≡◌, ◌+◌, ◌≤◌, IsTrue, OnOk, OnErr, IfOk, IfErr, Some, None, false, length, option_map};
+ghost use Rattle.std.specs.FinMap.{get};
+ghost use Rattle.cf_lemmas.specs.Maps.{vacant};
+ghost use Rattle.cf_model.specs.Families.{IsPaged};
+ghost use Rattle.large_objects.specs.Large.{KeepsParts};
+ghost use Rattle.large_objects.specs.LargeSteps.{FreesLarge, GivesLarge, HasRoom, IsEmptyLarge, IsLargeFault, IsLargeFree, IsLargeMalloc, IsLargeRead, IsLargeWrite, StaysKept};
+
+use crate::free::release;
+use crate::malloc::make;
+use cf_base::{AccessFault, Handle, NotLive, OutOfMemory, Refusal, Settings};
+use cf_model::Manager;
+use std::alloc::{AllocError, Global};
+use std::marker::Model;
+use step_ledger::Meter;
+
+/// Objects of any length over an inner manager with pages. A handle is that of an inner object: the
+/// object itself, where it fits a page, or else its spine.
+#[derive(Drop)]
+pub struct LargeHeap<H: Manager> {
+    alloc: Global,
+    pub(crate) inner: H,
+    is_open: bool,
+    /// The pages of the inner manager.
+    pub(crate) pages: u32,
+    /// The bytes of a whole piece.
+    pub(crate) piece: u32,
+    /// By handle, the length of the object; none where the handle is a piece's or isn't live.
+    pub(crate) lengths: Vec<Option<u32>>,
+}
+
+impl<H: Manager> Model for LargeHeap<H> {
+    ghost use Rattle.large_objects.specs.Large.{LargeState, large_code};
+
+    ghost Value = { LargeState };
+
+    ghost coded = { large_code };
+
+    ghost use Rattle.large_objects.specs.Layout.{IsValid, large_state};
+
+    ghost view = { λ h. large_state h.is_open h.piece h.lengths.items (H.state h.inner) };
+
+    ghost invariant = { λ h. IsValid h.is_open h.pages h.piece h.lengths.items (H.state h.inner) };
+}
+
+impl<H: Manager> LargeHeap<H> {
+    /// A closed heap over this manager, which takes no memory.
+    pub fn new(alloc: Global, heap: H) -> LargeHeap<H>
+        requires { IsPaged (H.state heap).kind }
+        ensures closed { result.is_open ≡ false }
+        ensures inner { result.inner ≡ H.state heap }
+    {
+        LargeHeap {
+            alloc,
+            inner: heap,
+            is_open: false,
+            pages: 0,
+            piece: 0,
+            lengths: Vec::new(alloc),
+        }
+    }
+
+    /// The inner manager.
+    pub fn inner(&self) -> &H
+        ensures { H.state result.now ≡ self.now.inner }
+    {
+        &self.inner
+    }
+
+    /// Whether the heap is open. An open one keeps its inner objects in order.
+    pub fn is_open(&self) -> bool
+        ensures value { result ≡ self.now.is_open }
+        ensures parts { IsTrue result → KeepsParts self.now }
+    {
+        self.is_open
+    }
+
+    /// Opens an empty heap with these settings, whatever stood before. All memory is taken here, for
+    /// the inner manager and a length for each proxy. At `OutOfMemory` the heap is closed, and may
+    /// be opened again.
+    pub fn open_heap(&mut self, s: &Settings) -> Result<(), OutOfMemory>
+        requires pages { IsPaged self.old.inner.kind }
+        requires one { s.now.k ≡ 1 }
+        ensures ok { OnOk result (IsEmptyLarge self.old s.now self.new) }
+        ensures parts { OnOk result (KeepsParts self.new) }
+        ensures err { OnErr result (self.new.is_open ≡ false) }
+        ensures kind { self.new.inner.kind ≡ self.old.inner.kind }
+    {
+        self.is_open = false;
+        self.lengths = Vec::new(self.alloc);
+        let Ok(lengths) = no_lengths(self.alloc, s.proxies) else {
+            return Err(OutOfMemory);
+        };
+        match self.inner.open_heap(s) {
+            Ok(()) => {}
+            Err(failed) => return Err(failed),
+        }
+        self.lengths = lengths;
+        self.pages = s.pages;
+        self.piece = 8 * (s.page_words - 1);
+        self.is_open = true;
+        Ok(())
+    }
+
+    /// Adds an object of `bytes` bytes, all zero, under a handle that wasn't live. It is refused for
+    /// `Size` where its spine would need more than a page, then for `Proxy` where the inner objects
+    /// would be more than the proxies, then for `Space` where they would need more pages than there
+    /// are; a refusal changes nothing, nor the inner manager.
+    pub fn malloc(&mut self, bytes: u32, meter: &mut Meter) -> Result<Handle, Refusal>
+        requires { IsTrue self.old.is_open }
+        ensures step { IsLargeMalloc self.old bytes result self.new }
+        ensures kept { StaysKept self.old self.new }
+    {
+        match self.refusal(bytes, meter) {
+            Some(cause) => Err(cause),
+            None => Ok(self.make_object(bytes, meter)),
+        }
+    }
+
+    /// Takes an object away, with its pieces. `NotLive` where the handle isn't that of an object, so
+    /// for a piece's too; that changes nothing.
+    pub fn free(&mut self, h: Handle, meter: &mut Meter) -> Result<(), NotLive>
+        requires { IsTrue self.old.is_open }
+        ensures step { IsLargeFree self.old h.0 result self.new }
+        ensures kept { StaysKept self.old self.new }
+    {
+        match self.length_of(h) {
+            Some(bytes) => {
+                self.release_object(h, bytes, meter);
+                Ok(())
+            }
+            None => Err(NotLive),
+        }
+    }
+
+    /// Writes bytes into an object from byte `at` on, and changes nothing else; nor does a refusal.
+    pub fn write(
+        &mut self,
+        h: Handle,
+        at: u32,
+        bytes: &[u8],
+        meter: &mut Meter,
+    ) -> Result<(), AccessFault>
+        requires { IsTrue self.old.is_open }
+        ensures step { IsLargeWrite self.old (record { number = h.0; from = at }) bytes.now result self.new }
+        ensures kept { StaysKept self.old self.new }
+    {
+        match self.length_for(h, at, bytes.len()) {
+            Ok(length) => {
+                if length <= self.piece {
+                    self.write_short(h, at, bytes, meter);
+                } else {
+                    self.write_long(h, at, bytes, meter);
+                }
+                Ok(())
+            }
+            Err(fault) => Err(fault),
+        }
+    }
+
+    /// Reads the bytes of an object from byte `at` on, as many as `out` holds. A refusal leaves `out`
+    /// as it was.
+    pub fn read(
+        &self,
+        h: Handle,
+        at: u32,
+        out: &mut [u8],
+        meter: &mut Meter,
+    ) -> Result<(), AccessFault>
+        requires { IsTrue self.now.is_open }
+        ensures answer { IsLargeRead self.now (record { number = h.0; from = at }) out.old result out.new }
+        ensures kept { KeepsParts self.now }
+    {
+        match self.length_for(h, at, out.len()) {
+            Ok(length) => {
+                if length <= self.piece {
+                    self.read_short(h, at, out, meter);
+                } else {
+                    self.read_long(h, at, out, meter);
+                }
+                Ok(())
+            }
+            Err(fault) => Err(fault),
+        }
+    }
+
+    /// Makes an object for which there is room.
+    fn make_object(&mut self, bytes: u32, meter: &mut Meter) -> Handle
+        requires open { IsTrue self.old.is_open }
+        requires room { HasRoom self.old bytes }
+        ensures given { GivesLarge self.old result.0 bytes self.new }
+        ensures kept { StaysKept self.old self.new }
+    {
+        let h = make(&mut self.inner, bytes, self.piece, meter);
+        self.lengths[h.0 as usize] = Some(bytes);
+        h
+    }
+
+    /// Frees an object of so many bytes.
+    fn release_object(&mut self, h: Handle, bytes: u32, meter: &mut Meter)
+        requires open { IsTrue self.old.is_open }
+        requires found { option_map length (get self.old.objects h.0) ≡ Some bytes }
+        ensures freed { FreesLarge self.old h.0 self.new }
+        ensures kept { StaysKept self.old self.new }
+    {
+        release(&mut self.inner, h, bytes, self.piece, meter);
+        self.lengths[h.0 as usize] = None;
+    }
+
+    /// The length of an object; none where the handle isn't that of one.
+    fn length_of(&self, h: Handle) -> Option<u32>
+        requires { IsTrue self.now.is_open }
+        ensures value { result ≡ option_map length (get self.now.objects h.0) }
+        ensures kept { StaysKept self.now self.now }
+    {
+        match self.lengths.get(h.0 as usize) {
+            Some(length) => *length,
+            None => None,
+        }
+    }
+
+    /// The length of an object that has so many bytes from byte `at` on.
+    fn length_for(&self, h: Handle, at: u32, count: usize) -> Result<u32, AccessFault>
+        requires { IsTrue self.now.is_open }
+        ensures found { IfOk result (λ n. option_map length (get self.now.objects h.0) ≡ Some n) }
+        ensures within { IfOk result (λ n. at + count ≤ n) }
+        ensures kept { StaysKept self.now self.now }
+        ensures err { IfErr result (λ e. IsLargeFault self.now (record { number = h.0; from = at }) count e) }
+    {
+        let Some(length) = self.length_of(h) else {
+            return Err(AccessFault::Unknown);
+        };
+        if at <= length && count <= (length - at) as usize {
+            Ok(length)
+        } else {
+            Err(AccessFault::Range)
+        }
+    }
+}
+
+/// For each proxy no length.
+fn no_lengths(alloc: Global, proxies: u32) -> Result<Vec<Option<u32>>, AllocError>
+    ensures { IfOk result (λ lengths. lengths.items ≡ vacant proxies) }
+{
+    vec![in alloc; None; proxies as usize]
+}

@@ -1,0 +1,43 @@
+//! Laws of large objects. The functions do nothing: what each ensures is the law.
+ghost use Rattle.std.specs.Prelude.{◌≡◌, ◌≢◌, ℕ, ◌+◌, ◌*◌, ◌<◌, ◌≤◌, List, length};
+ghost use Rattle.std.specs.FinMap.{get};
+ghost use Rattle.cf_base.specs.declared.answers.AccessFault.{AccessFault};
+ghost use Rattle.cf_base.specs.declared.answers.Refusal.{Refusal};
+ghost use Rattle.cf_model.specs.State.{paging_in};
+ghost use Rattle.cf_model.specs.Steps.{Part};
+ghost use Rattle.page_model.specs.Arrangement.{pages_for, used_pages};
+ghost use Rattle.large_objects.specs.Large.{KeepsParts, LargeState};
+ghost use Rattle.large_objects.specs.LargeSteps.{GivesLarge, IsLargeFault, IsRefusedLarge, ReadsLarge, WritesLarge, piece_in};
+ghost use Rattle.large_objects.specs.Parts.{inner_live, pieces};
+
+/// A malloc that gives an object has no cause for a refusal, and there is one cause at most; so each
+/// refusal comes exactly where its arithmetic says so. A write that is done has no fault.
+pub fn refusals_come_exactly_by_their_causes()
+    ensures malloc { (old new : LargeState) (h n : ℕ) (e : Refusal)
+        → GivesLarge old h n new → ¬ IsRefusedLarge old n e }
+    ensures one_cause { (s : LargeState) (n : ℕ) (e f : Refusal)
+        → IsRefusedLarge s n e → IsRefusedLarge s n f → e ≡ f }
+    ensures write { (old new : LargeState) (part : Part) (bytes : List ℕ) (e : AccessFault)
+        → WritesLarge old part bytes new → ¬ IsLargeFault old part (length bytes) e }
+{}
+
+/// The pages that the inner manager has in use are those that the inner objects of all large objects
+/// need by arithmetic: every bound is 1.
+pub fn pages_in_use_are_those_of_the_parts()
+    ensures { (s : LargeState) → KeepsParts s
+        → used_pages (paging_in s.inner) s.inner.held ≡ pages_for (paging_in s.inner) (inner_live (paging_in s.inner) (piece_in s) s.objects) }
+{}
+
+/// The pieces of an object have room for its bytes, and less than a piece besides.
+pub fn pieces_are_as_many_as_needed()
+    ensures enough { (u n : ℕ) → 0 < u → n ≤ u * pieces u n }
+    ensures few { (u n : ℕ) → 0 < u → u * pieces u n < n + u }
+{}
+
+/// The bytes that were written are read again, and no other object changes.
+pub fn what_is_written_is_read()
+    ensures same { (old new : LargeState) (part : Part) (bytes out : List ℕ)
+        → WritesLarge old part bytes new → ReadsLarge new part (length bytes) out → out ≡ bytes }
+    ensures others { (old new : LargeState) (part : Part) (bytes : List ℕ) → WritesLarge old part bytes new
+        → (q : ℕ) → q ≢ part.number → get new.objects q ≡ get old.objects q }
+{}

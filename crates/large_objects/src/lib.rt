@@ -1,0 +1,24 @@
+//! Objects longer than a page, over any manager with pages. Such an object is a spine, which holds the
+//! handles of its pieces, and pieces of as many bytes as a page has for one object.
+#![tactic(auto)]
+
+mod access;
+mod commands;
+mod cut;
+mod free;
+mod heap;
+mod inner_calls;
+mod laws;
+mod malloc;
+mod player;
+mod refusal;
+mod session;
+mod spine;
+
+pub use heap::LargeHeap;
+pub use laws::{
+    pages_in_use_are_those_of_the_parts, pieces_are_as_many_as_needed,
+    refusals_come_exactly_by_their_causes, what_is_written_is_read,
+};
+pub use player::{LargePlayer, run_large};
+pub use session::LargeSession;

@@ -1,0 +1,119 @@
+//! A script on a heap of large objects.
+ghost use Rattle.std.specs.Prelude.{◌≡◌, ◌<◌, ◌+◌, ◌⊎◌, IfOk};
+ghost use Rattle.std.specs.FinMap as map;
+ghost use Rattle.cf_base.specs.declared.kind.Kind.{Kind};
+ghost use Rattle.cf_io.specs.Feeds.{Rose, last_count};
+ghost use Rattle.cf_model.specs.Families.{IsPaged};
+ghost use Rattle.script_loop.specs.ScriptOutcome.{MOST_BYTES, MeetsOutcome};
+ghost use Rattle.large_objects.specs.LargeRun.{LargeRun, large_run};
+ghost use Rattle.large_objects.specs.Playing.{large_heap};
+
+use crate::heap::LargeHeap;
+use crate::session::LargeSession;
+use cf_base::{Failed, OutOfMemory, Settings, Status};
+use cf_io::{Line, Sink, Source, put_all};
+use cf_model::Manager;
+use script_loop::{OpenFault, Player, play_script};
+use script_reader::CommandRef;
+use std::alloc::Global;
+use std::rt::Runtime;
+use step_ledger::Meter;
+
+/// A session over large objects that answers a script, with the line and the ledger that it uses.
+#[derive(Drop)]
+pub struct LargePlayer {
+    pub session: LargeSession,
+    line: Line,
+    meter: Meter,
+}
+
+impl LargePlayer {
+    /// A session in which no id is live.
+    pub fn start<R: Runtime>(rt: &R, alloc: Global) -> Result<LargePlayer, OutOfMemory>
+        ensures { IfOk result (λ p. p.session ≡ map.empty) }
+    {
+        Ok(LargePlayer {
+            session: LargeSession::start(alloc)?,
+            line: Line::new(),
+            meter: Meter::new(rt),
+        })
+    }
+}
+
+impl<H: Manager> Player<LargeHeap<H>> for LargePlayer {
+    ghost State = { LargeRun };
+
+    ghost Plan = { Kind };
+
+    ghost state = { λ player heap. large_run player.session heap };
+
+    ghost semantics = { large_heap };
+
+    fn open<K: Sink>(
+        &mut self,
+        heap: &mut LargeHeap<H>,
+        settings: &Settings,
+        sink: &mut K,
+    ) -> Result<(), OpenFault> {
+        // Every class has the bound 1, whatever the line says.
+        let settings = Settings {
+            pages: settings.pages,
+            page_words: settings.page_words,
+            k: 1,
+            proxies: settings.proxies,
+        };
+        match heap.open_heap(&settings) {
+            Ok(()) => {}
+            Err(_) => return Err(OpenFault::OutOfMemory),
+        }
+        match put_all(sink, b"ok\n") {
+            Ok(()) => Ok(()),
+            Err(_) => Err(OpenFault::Failed),
+        }
+    }
+
+    fn answer<K: Sink>(
+        &mut self,
+        heap: &mut LargeHeap<H>,
+        command: CommandRef,
+        sink: &mut K,
+    ) -> Result<(), Failed> {
+        match self
+            .session
+            .apply_ref(heap, command, &mut self.line, sink, &mut self.meter)
+        {
+            Ok(_) => Ok(()),
+            Err(failed) => Err(failed),
+        }
+    }
+}
+
+/// Answers each line of a script before it takes the next chunk of it: its `heap` line opens the
+/// heap, with the bound 1 for each class, and each command is answered from its objects. It stops at
+/// a bad line, at a fault of the source or the sink, where an allocation fails at the `heap` line, and
+/// past 268,435,455 bytes.
+pub fn run_large<H: Manager, S: Source, K: Sink>(
+    player: &mut LargePlayer,
+    heap: &mut LargeHeap<H>,
+    source: &mut S,
+    sink: &mut K,
+) -> Status
+    requires fresh { player.old.session ≡ map.empty }
+    requires pages { IsPaged heap.old.inner.kind }
+    ensures outcome { MeetsOutcome large_heap (large_run player.old.session heap.old) (record {
+      had = S.rest source.old;
+      left = S.rest source.new;
+      before = K.written sink.old;
+      after = K.written sink.new;
+      status = result;
+    }) (large_run player.new.session heap.new) }
+    ensures kind { heap.new.inner.kind ≡ heap.old.inner.kind }
+    // The causes, also where the source isn't observable.
+    ensures silent { result ≡ Status.OutOfMemory → K.written sink.new ≡ K.written sink.old }
+    ensures read_fault { result ≡ Status.ReadFault → Rose (S.faults source.old) (S.faults source.new) }
+    ensures write_fault { result ≡ Status.WriteFault → Rose (K.faults sink.old) (K.faults sink.new) }
+    ensures too_long { result ≡ Status.TooLong
+        → (S.given source.old + MOST_BYTES < S.given source.new) ⊎ (S.given source.new ≡ last_count) }
+{
+    play_script(player, heap, source, sink)
+}

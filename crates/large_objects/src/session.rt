@@ -1,0 +1,186 @@
+//! A session over a heap of large objects.
+ghost use Rattle.std.specs.Prelude.{◌≡◌, ◌<◌, ◌≤◌, [], IsTrue, IfOk, OnErr, length};
+ghost use Rattle.std.specs.FinMap as map;
+ghost use Rattle.cf_io.specs.Feeds.{Rose};
+ghost use Rattle.cf_io.specs.Lines.{line_room};
+ghost use Rattle.cf_session.specs.Apply.{outcome_in};
+ghost use Rattle.script_reader.specs.Commands.{IsWellFormed};
+ghost use Rattle.script_reader.specs.Owned.{owned_command};
+ghost use Rattle.large_objects.specs.LargeRun.{AppliesLarge, IsGoingLarge, large_moment, large_run};
+ghost use Rattle.large_objects.specs.Speaking.{IsEndedAs, IsOneLine, Speaks};
+
+use crate::commands::{free, malloc, read, write};
+use crate::heap::LargeHeap;
+use cf_base::{Failed, OutOfMemory};
+use cf_io::{Line, Sink, push_text, put_line};
+use cf_model::Manager;
+use cf_session::Outcome;
+use frag_report::{frag_line, walk_lines};
+use id_table::IdTable;
+use script_reader::{Command, CommandRef};
+use std::alloc::Global;
+use std::marker::Model;
+use step_ledger::Meter;
+
+/// The most bytes that are read at once.
+const MOST: usize = 4_096;
+
+/// The ids of the objects of one heap of large objects.
+#[derive(Drop)]
+pub struct LargeSession {
+    ids: IdTable,
+    /// Room for the bytes that are read.
+    room: [u8; MOST],
+}
+
+impl Model for LargeSession {
+    ghost use Rattle.id_table.specs.Ids.{Ids, ids_code};
+
+    ghost Value = { Ids };
+
+    ghost coded = { ids_code };
+
+    ghost view = { λ s. s.ids };
+}
+
+impl LargeSession {
+    /// A session in which no id is live. The table of all 65,536 ids is taken here.
+    pub fn start(alloc: Global) -> Result<LargeSession, OutOfMemory>
+        ensures { IfOk result (λ s. s ≡ map.empty) }
+    {
+        Ok(LargeSession {
+            ids: IdTable::new(alloc)?,
+            room: [0; MOST],
+        })
+    }
+
+    /// Does the command on the heap, and writes its reply, built in `line`. `Failed` only where the
+    /// sink failed; the command has taken effect then, and a prefix of its reply was written.
+    pub fn apply<H: Manager, K: Sink>(
+        &mut self,
+        heap: &mut LargeHeap<H>,
+        c: &Command,
+        line: &mut Line,
+        out: &mut K,
+        meter: &mut Meter,
+    ) -> Result<Outcome, Failed>
+        requires going { IsGoingLarge (large_run self.old heap.old) }
+        requires formed { IsWellFormed c.now }
+        ensures answers { AppliesLarge (large_moment self.old heap.old (K.written out.old)) c.now result
+            (large_moment self.new heap.new (K.written out.new)) }
+        ensures going { IsGoingLarge (large_run self.new heap.new) }
+        ensures grows { K.faults out.old ≤ K.faults out.new }
+        ensures failed { OnErr result (Rose (K.faults out.old) (K.faults out.new)) }
+    {
+        self.apply_ref(heap, c.as_ref(), line, out, meter)
+    }
+
+    /// The same for a command whose bytes are borrowed.
+    pub fn apply_ref<H: Manager, K: Sink>(
+        &mut self,
+        heap: &mut LargeHeap<H>,
+        c: CommandRef,
+        line: &mut Line,
+        out: &mut K,
+        meter: &mut Meter,
+    ) -> Result<Outcome, Failed>
+        requires going { IsGoingLarge (large_run self.old heap.old) }
+        requires formed { IsWellFormed (owned_command c) }
+        ensures answers { AppliesLarge (large_moment self.old heap.old (K.written out.old)) (owned_command c.entry) result
+            (large_moment self.new heap.new (K.written out.new)) }
+        ensures going { IsGoingLarge (large_run self.new heap.new) }
+        ensures grows { K.faults out.old ≤ K.faults out.new }
+        ensures failed { OnErr result (Rose (K.faults out.old) (K.faults out.new)) }
+    {
+        answer(&mut self.ids, heap, c, &mut self.room, line, out, meter)
+    }
+}
+
+/// Does the command, and writes its reply.
+fn answer<H: Manager, K: Sink>(
+    ids: &mut IdTable,
+    heap: &mut LargeHeap<H>,
+    c: CommandRef,
+    room: &mut [u8],
+    line: &mut Line,
+    out: &mut K,
+    meter: &mut Meter,
+) -> Result<Outcome, Failed>
+    requires going { IsGoingLarge (large_run ids.old heap.old) }
+    requires formed { IsWellFormed (owned_command c) }
+    requires place { length room.old ≡ 4096 }
+    ensures answers { AppliesLarge (large_moment ids.old heap.old (K.written out.old)) (owned_command c.entry) result
+        (large_moment ids.new heap.new (K.written out.new)) }
+    ensures grows { K.faults out.old ≤ K.faults out.new }
+    ensures failed { OnErr result (Rose (K.faults out.old) (K.faults out.new)) }
+{
+    match c {
+        CommandRef::Walk => {
+            let written = walk_lines(heap.inner(), b"", line, out, meter.steps());
+            ended(written, Outcome::Other)
+        }
+        CommandRef::Frag => {
+            let written = frag_line(heap.inner(), b"", line, out, meter.steps());
+            ended(written, Outcome::Other)
+        }
+        _ => {
+            speak(ids, heap, c, room, line, meter);
+            let outcome = outcome_of_text(line.bytes());
+            ended(put_line(line, out), outcome)
+        }
+    }
+}
+
+/// The outcome of what was written.
+fn ended(written: Result<(), Failed>, outcome: Outcome) -> Result<Outcome, Failed>
+    ensures { IsEndedAs written outcome result }
+{
+    match written {
+        Ok(()) => Ok(outcome),
+        Err(failed) => Err(failed),
+    }
+}
+
+/// Good where the reply is `ok` or begins with `=`, refused where it begins with `refused`.
+fn outcome_of_text(text: &[u8]) -> Outcome
+    ensures { result ≡ outcome_in text.now }
+{
+    if text == b"ok".as_slice() || text.starts_with(b"=") {
+        Outcome::Good
+    } else if text.starts_with(b"refused") {
+        Outcome::Refused
+    } else {
+        Outcome::Other
+    }
+}
+
+/// Does a command whose reply is one line, and writes its text on the line.
+fn speak<H: Manager>(
+    ids: &mut IdTable,
+    heap: &mut LargeHeap<H>,
+    c: CommandRef,
+    room: &mut [u8],
+    line: &mut Line,
+    meter: &mut Meter,
+)
+    requires going { IsGoingLarge (large_run ids.old heap.old) }
+    requires formed { IsWellFormed (owned_command c) }
+    requires one { IsOneLine (owned_command c) }
+    requires place { length room.old ≡ 4096 }
+    ensures { Speaks (large_run ids.old heap.old) (owned_command c.entry) (large_run ids.new heap.new) line.new }
+{
+    line.clear();
+    match c {
+        CommandRef::Malloc { id, bytes } => {
+            push_text(line, malloc(ids, heap, id, bytes, meter));
+        }
+        CommandRef::Free { id } => push_text(line, free(ids, heap, id, meter)),
+        CommandRef::Write { id, at, bytes } => {
+            push_text(line, write(ids, heap, id, at, bytes, meter));
+        }
+        CommandRef::Read { id, at, len } => {
+            read(ids, heap, id, at, &mut room[..len as usize], line, meter);
+        }
+        _ => push_text(line, b"none"),
+    }
+}
