@@ -23,7 +23,7 @@ struct Case {
 /// The kinds of the program's managers, in its order.
 const FOUR: [Kind; 4] = [Kind::Moving, Kind::NonMoving, Kind::Tlsf, Kind::HalfFit];
 
-const CASES: [Case; 16] = [
+const CASES: [Case; 19] = [
     Case {
         shows: "the first of the kind answers, and no other one is touched",
         words: &[],
@@ -157,6 +157,33 @@ const CASES: [Case; 16] = [
         script: b"",
         status: Status::Done,
         text: b"bench commands 4 ok 1 refused 0 live 1 pages 1 moves 0\n",
+        live: &[],
+    },
+    Case {
+        shows: "objects above one page, their ranges, and room again after a free",
+        words: &["large"],
+        managers: &[Kind::Moving],
+        script: b"heap 4 512 1 16\nm 1 1000\nm 2 505\nm 3 505\nw 1 500 0102030405060708\nr 1 500 8\nr 1 996 5\nf 1\nm 3 505\nwalk\n",
+        status: Status::Done,
+        text: b"ok\nok\nok\nrefused space\nok\n=0102030405060708\nrange\nok\nok\nclass 4 slots 16 live 4 pages 1 notfull 1\nclass 64 slots 1 live 2 pages 2 notfull 0\ntotal live 6 pages 3 free 1\n",
+        live: &[None],
+    },
+    Case {
+        shows: "the longest object whose spine fits a page, and one byte more",
+        words: &["large"],
+        managers: &[],
+        script: b"heap 200 512 1 512\nm 1 63504\nm 2 63505\n",
+        status: Status::Done,
+        text: b"ok\nok\nrefused size\n",
+        live: &[],
+    },
+    Case {
+        shows: "words that this mode doesn't have, and a bad line",
+        words: &["large"],
+        managers: &[],
+        script: b"heap 4 512 3 16\nm 1 1000\nq 1\nz 1 8\nsteps\nk 23 2\n",
+        status: Status::BadScript,
+        text: b"ok\nok\nnone\nnone\nnone\nbad line 6\n",
         live: &[],
     },
     Case {
