@@ -11,7 +11,7 @@ use Rattle.std.proofs.lemmas.Nat.{le-div}
 use Rattle.std.proofs.Math.Nat.{div-lt_iff_lt-mul}
 use Rattle.std.proofs.Math.Seq.{take-append-add, drop-cons, take-suc}
 use Rattle.cf_base.specs.Classes.{need}
-use Rattle.cf_lemmas.proofs.Ranges.{one}
+use Rattle.cf_lemmas.proofs.Ranges.{one, sum_at_least}
 use Rattle.cf_lemmas.proofs.Tests.{eq_no, eq_yes}
 use Rattle.page_model.specs.Counts.{ceil_div}
 use Rattle.page_model.specs.Paging.{Paging, IsPaging, class_for, classes, slots_of}
@@ -57,15 +57,6 @@ sum_changed f g a (suc n) c low high same =
         let rest = sum_kept f g (a + 1) n (λ d l. same d (omega arith)) in
         omega arith
 
-term_within : (f : ℕ → ℕ) (a n c : ℕ) → a ≤ c → c < a + n → f c ≤ sum_by f (range_with_len a n)
-term_within f a zero c low high = absurd (omega arith)
-term_within f a (suc n) c low high =
-    let x = sum_by-cons f a (range_with_len (a + 1) n) in
-    elim (cases_eq a c) [
-      | inl is ↦ (let u : f a ≡ f c = ap f is in omega arith)
-      | inr ne ↦ (let rest = term_within f (a + 1) n c (omega arith) (omega arith) in omega arith)
-    ]
-
 module _ (p : Paging) (ok : IsPaging p) (n : ℕ) (fits : need n ≤ p.page_words) (pre : List ℕ) where
   there_is : class_for p n < classes p
   there_is = class_fits p ok n fits
@@ -95,7 +86,7 @@ module _ (p : Paging) (ok : IsPaging p) (n : ℕ) (fits : need n ≤ p.page_word
 
   -- the pages of the class, and those of all classes
   pub ceil_within : ceil_div (count_of_class p pre (class_for p n)) (slots_of p (class_for p n)) ≤ pages_of p pre
-  ceil_within = term_within (λ c. ceil_div (count_of_class p pre c) (slots_of p c)) 0 (classes p) (class_for p n) (omega arith) (let lt = there_is in omega arith)
+  ceil_within = sum_at_least (λ c. ceil_div (count_of_class p pre c) (slots_of p c)) 0 (classes p) (class_for p n) (omega arith) (let lt = there_is in omega arith)
 
   -- so many more objects of these bytes change the pages of their class alone
   pub pages_with : (j : ℕ) → pages_of p (pre ++ replicate j n) + ceil_div (count_of_class p pre (class_for p n)) (slots_of p (class_for p n))

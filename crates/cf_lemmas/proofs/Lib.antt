@@ -12,3 +12,4 @@ pub mod Swapping
 pub mod SwappedRuns
 pub mod Permutations
 pub mod Renaming
+pub mod Searches

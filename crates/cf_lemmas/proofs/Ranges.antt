@@ -1,6 +1,6 @@
--- Counts over a range: where the test changes at one number, and where it passes.
-use Rattle.std.proofs.Common.{◌≡◌, ◌≢◌, ℕ, zero, suc, Bool, cond, ◌+◌, ◌<◌, ◌≤◌, ◌∷◌, arith, ap, refl, inl, inr}
-use Rattle.std.specs.Prelude.{count_by}
+-- Counts and sums over a range: where the test changes at one number, where it passes, and what a sum is at least.
+use Rattle.std.proofs.Common.{◌≡◌, ◌≢◌, ℕ, zero, suc, Bool, cond, ◌+◌, ◌<◌, ◌≤◌, List, [], ◌∷◌, arith, ap, refl, inl, inr}
+use Rattle.std.specs.Prelude.{count_by, sum_by}
 use Rattle.std.specs.List.{range_with_len}
 use Rattle.std.proofs.lemmas.List.FromFn.{length-range_with_len}
 use Rattle.std.proofs.lemmas.List.Sums.{count_by-le-length, sum_by-cons}
@@ -54,3 +54,27 @@ some_in_range f a (suc n) d low high is =
       | inl at ↦ (let first : one (f a) ≡ one (f d) = ap (λ p. one (f p)) at in omega arith)
       | inr other ↦ (let rest = some_in_range f (a + 1) n d (omega arith) (omega arith) is in omega arith)
     ]
+
+-- sums of smaller terms are smaller
+pub sum_le : (f g : ℕ → ℕ) (a n : ℕ) → ((d : ℕ) → a ≤ d → d < a + n → f d ≤ g d) → sum_by f (range_with_len a n) ≤ sum_by g (range_with_len a n)
+sum_le f g a zero le = omega arith
+sum_le f g a (suc n) le =
+    let x = sum_by-cons f a (range_with_len (a + 1) n) in
+    let y = sum_by-cons g a (range_with_len (a + 1) n) in
+    let e = le a (omega arith) (omega arith) in
+    let rest = sum_le f g (a + 1) n (λ d l h. le d (omega arith) (omega arith)) in
+    omega arith
+
+-- a sum is at least each term
+pub sum_at_least : (f : ℕ → ℕ) (a n c : ℕ) → a ≤ c → c < a + n → f c ≤ sum_by f (range_with_len a n)
+sum_at_least f a zero c low high = absurd (omega arith)
+sum_at_least f a (suc n) c low high =
+    let x = sum_by-cons f a (range_with_len (a + 1) n) in
+    elim (cases_eq a c) [
+      | inl is ↦ (let u : f a ≡ f c = ap f is in omega arith)
+      | inr ne ↦ (let rest = sum_at_least f (a + 1) n c (omega arith) (omega arith) in omega arith)
+    ]
+
+pub sum_grows : {X : Type 0} (f g : X → ℕ) (xs : List X) → ((x : X) → f x ≤ g x) → sum_by f xs ≤ sum_by g xs
+sum_grows f g [] le = omega arith
+sum_grows f g (x ∷ xs) le = (let a = sum_by-cons f x xs in let b = sum_by-cons g x xs in let c = le x in let d = sum_grows f g xs le in omega arith)

@@ -1,5 +1,4 @@
 mod Listing
-mod Ids
 mod Headers
 mod Chunks
 mod SaveLemmas

@@ -25,7 +25,7 @@ use Rattle.heap_image.specs.Decoded.{IsImage, image_paging}
 use Rattle.heap_image.specs.Heaps.{HaveImage, at_bound_one, heap_image, objects_of}
 use Rattle.heap_image.specs.Image.{image_of}
 use Rattle.heap_image.proofs.Headers.{pages_of}
-use Rattle.heap_image.proofs.Ids.{by_id_counts, found_by_id, gone_by_id, live_by_id, numbered_by_id}
+use Rattle.transcript_laws.proofs.CallerLemmas.{by_id_counts, found_by_id, gone_by_id, live_by_id, numbered_by_id}
 use Rattle.heap_image.proofs.ImageDecoded.{image_read}
 
 -- the pages that objects need don't depend on the bounds

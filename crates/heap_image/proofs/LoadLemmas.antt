@@ -25,7 +25,7 @@ use Rattle.heap_image.specs.Load.{HoldsObjects, HoldsTold, IsLoading, LoadsBy, L
 use Rattle.heap_image.specs.Stages.{Passes, StopsBy}
 use Rattle.heap_image.specs.declared.fault.LoadFault.{LoadFault}
 use Rattle.heap_image.specs.declared.fault.LoadFault.TheVariants as fault
-use Rattle.heap_image.proofs.Ids.{gone_by_id}
+use Rattle.transcript_laws.proofs.CallerLemmas.{gone_by_id}
 use Rattle.heap_image.proofs.StageLemmas.{part_then, passes_part, tells_then}
 
 abbrev Rest : Type 0

@@ -21,7 +21,7 @@ use Rattle.run_model.proofs.CallerLemmas.{bytes_held, names_in, names_of_objects
 use Rattle.heap_image.specs.Heaps.{heap_image, objects_of}
 use Rattle.heap_image.specs.Image.{entries_of, entry_of, header_of, number_bytes}
 use Rattle.heap_image.specs.Listed.{listed, listed_before}
-use Rattle.heap_image.proofs.Ids.{by_id_counts, gone_by_id, live_by_id, numbered_by_id}
+use Rattle.transcript_laws.proofs.CallerLemmas.{by_id_counts, gone_by_id, live_by_id, numbered_by_id}
 use Rattle.heap_image.proofs.Listing.{listed_all}
 
 abbrev Told : Type 0

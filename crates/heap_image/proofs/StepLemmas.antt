@@ -41,7 +41,7 @@ use Rattle.heap_image.specs.Decoded.{has_room, image_paging}
 use Rattle.heap_image.specs.Heaps.{objects_of}
 use Rattle.heap_image.specs.Load.{IsLoading}
 use Rattle.heap_image.specs.Stages.{LeadsTo}
-use Rattle.heap_image.proofs.Ids.{by_id_changed, by_id_counts, by_id_given, by_id_gone, found_by_id, unnumbered_by_id}
+use Rattle.transcript_laws.proofs.CallerLemmas.{by_id_changed, by_id_counts, by_id_given, by_id_gone, found_by_id, unnumbered_by_id}
 use Rattle.heap_image.proofs.SaveLemmas.{as_many}
 
 -- the pages that objects need with one more

@@ -10,22 +10,10 @@ use Rattle.std.proofs.lemmas.List.{length-replicate, get_or-replicate, get_or-ap
 use Rattle.std.proofs.lemmas.List.Sums.{sum_by-append, sum_by-cons}
 use Rattle.cf_lemmas.proofs.Ranges.{one}
 use Rattle.cf_lemmas.proofs.Tests.{le_yes, le_no}
+use Rattle.page_model.proofs.CallerLemmas.{between_multiples}
 use Rattle.page_model.specs.Counts.{ceil_div}
 use Rattle.page_model.specs.Paging.{Paging, class_for}
 use Rattle.large_objects.specs.Parts.{in_class, parts, piece_length, pieces, spine_bytes}
-
--- the quotient of a number between two multiples
-between_multiples : (x c m : ℕ) → 0 < m → c * m ≤ x → x < c * m + m → x / m ≡ c
-between_multiples x c m pos low high =
-    let e : x / m * m + x % m ≡ x = div-add-mod' x m in
-    let r : x % m < m = mod-lt x pos in
-    elim (cases_lt (x / m) c) [
-      | inl less ↦ absurd (let b : (x / m + 1) * m ≤ c * m = mul-le (x / m + 1) m c m (omega arith) (omega arith) in omega arith)
-      | inr more ↦ elim (cases_lt c (x / m)) [
-        | inl over ↦ absurd (let b : (c + 1) * m ≤ x / m * m = mul-le (c + 1) m (x / m) m (omega arith) (omega arith) in omega arith)
-        | inr not_over ↦ omega arith
-      ]
-    ]
 
 -- rounded up, either way
 pub ceil_is : (n m : ℕ) → 0 < m → ceil_div n m ≡ n / m + min 1 (n % m)

@@ -16,7 +16,8 @@ use Rattle.paged_heap.specs.Layout.{IsValid, state_at}
 use Rattle.moving_heap.specs.PayloadLoan.{words_found}
 use Rattle.moving_heap.specs.Payload.{payload_bound, payload_of, whole_words, words_lent}
 use Rattle.step_ledger.specs.Counting.{RoseAtMost, RoseBy}
-use Rattle.paged_heap.proofs.CallerLemmas.{has_place, no_place, bytes_long, holds, slot_there}
+use Rattle.paged_heap.proofs.CallerLemmas.{has_place, no_place, holds, slot_there}
+use Rattle.page_model.proofs.CallerLemmas.{bytes_long}
 
 pub length-whole_words : (v : List ℕ) → length (whole_words v) ≡ length v / 8
 length-whole_words v = length-map-range_with_len _ 0 _

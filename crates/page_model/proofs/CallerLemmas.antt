@@ -6,7 +6,7 @@ pub use Rattle.page_model.proofs.Freeing.{objects_on-away, objects_on-left, obje
 pub use Rattle.page_model.proofs.Totals.{sum_same, sum_plus, sum_zeros, sum-map_values, live_is, on_none}
 pub use Rattle.page_model.proofs.PageCounts.{slots_some, sound_stand, sound_few}
 pub use Rattle.page_model.proofs.FreeSteps.{removed_twice, mover_is_other, sound_without, sound_free}
-pub use Rattle.page_model.proofs.PageLaws.{can_hold_one}
+pub use Rattle.page_model.proofs.PageLaws.{between_multiples, can_hold_one}
 pub use Rattle.page_model.proofs.Images.{within_or, disjoint_outside, image_added}
 pub use Rattle.page_model.proofs.Reading.{held_from_image, byte_below, bytes_at-AreBytes, places-held_at, held_at_is, held_at_bytes}
 pub use Rattle.page_model.proofs.Lacking.{used_is}
@@ -21,8 +21,10 @@ pub use Rattle.page_model.proofs.Writing.{byte_of_object, word_by_bytes, object_
 pub use Rattle.page_model.proofs.Writing.{written_behind, zeros_are_bytes, written_are_bytes, resized_are_bytes, resized_before, resized_behind}
 pub use Rattle.page_model.proofs.Writing.{written_nothing, image_after_bytes, storable_added, storable_without, header_told}
 pub use Rattle.page_model.proofs.Addresses.{address_is_slot, slot_is_address}
+pub use Rattle.page_model.proofs.OpenPages.{IsOpen, IsTaken, IsVacant, taken_or_vacant, open_counts, open_page, classed, vacant_where_less}
 pub use Rattle.page_model.proofs.Nothing.{sound_empty, image_empty}
 pub use Rattle.page_model.proofs.BlockSteps.{free_blocks, free_frames, resize_blocks, resize_frames}
 pub use Rattle.page_model.proofs.Adding.{len-objects, live_added, live_taken, taken_added, taken_taken, asked_added, asked_taken}
 pub use Rattle.page_model.proofs.ResizedWords.{image_after_change, image_after_change_and_move}
-pub use Rattle.page_model.proofs.Reading.{bytes_of_held}
+pub use Rattle.page_model.proofs.Reading.{bytes_of_held, bytes_long, byte_is}
+pub use Rattle.page_model.proofs.Enough.{ceil_mono}

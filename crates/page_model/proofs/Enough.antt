@@ -1,9 +1,8 @@
 -- Objects stand on enough pages.
-use Rattle.std.proofs.Common.{◌≡◌, ℕ, zero, suc, ◌+◌, ◌-◌, ◌*◌, ◌%◌, ◌<◌, ◌≤◌, arith}
-use Rattle.std.specs.Prelude.{sum_by}
-use Rattle.std.specs.List.{range_with_len}
-use Rattle.std.proofs.lemmas.List.Sums.{sum_by-cons}
-use Rattle.std.proofs.lemmas.Nat.{div-add-mod', mul-le}
+use Rattle.std.proofs.Common.{◌≡◌, ℕ, zero, suc, ◌+◌, ◌-◌, ◌*◌, ◌/◌, ◌%◌, ◌<◌, ◌≤◌, arith}
+use Rattle.std.proofs.lemmas.Nat.{div-add-mod', le-div, mul-le}
+use Rattle.std.proofs.Math.Nat.{div-mul-le_self, div-zero}
+use Rattle.cf_lemmas.proofs.Ranges.{sum_le}
 use Rattle.page_model.specs.Held.{Held, objects}
 use Rattle.page_model.specs.Paging.{Paging, IsPaging, classes, slots_of}
 use Rattle.page_model.specs.Counts.{Stand, ceil_div}
@@ -11,6 +10,14 @@ use Rattle.page_model.specs.Arrangement.{live, home_pages, used_pages, pages_nee
 use Rattle.page_model.proofs.PageCounts.{slots_some, sound_stand}
 use Rattle.std.proofs.lemmas.Bool.{cases_lt}
 use Rattle.std.proofs.Common.{inl, inr, ap}
+
+-- more objects need no fewer pages
+pub ceil_mono : (a b m : ℕ) → a ≤ b → ceil_div a m ≤ ceil_div b m
+ceil_mono a b zero le = (let x = div-zero (a + (0 - 1)) in omega arith)
+ceil_mono a b (suc m) le =
+    let pos : 0 < suc m = omega arith in
+    let low = div-mul-le_self (a + (suc m - 1)) (suc m) in
+    le-div ((a + (suc m - 1)) / suc m) (b + (suc m - 1)) (suc m) pos (omega arith)
 
 -- what stands on h pages needs no more
 enough : (h n m k q : ℕ) → 0 < m → Stand h n m k q → ceil_div n m ≤ h
@@ -25,15 +32,6 @@ enough h n m k q pos s =
       | inl over ↦ (let more : (h + 1) * m ≤ ceil_div n m * m = mul-le (h + 1) m (ceil_div n m) m (omega arith) (omega arith) in absurd (omega arith))
       | inr fine ↦ fine
     ]
-
-sum_le : (f g : ℕ → ℕ) (a n : ℕ) → ((d : ℕ) → a ≤ d → d < a + n → f d ≤ g d) → sum_by f (range_with_len a n) ≤ sum_by g (range_with_len a n)
-sum_le f g a zero le = omega arith
-sum_le f g a (suc n) le =
-    let x = sum_by-cons f a (range_with_len (a + 1) n) in
-    let y = sum_by-cons g a (range_with_len (a + 1) n) in
-    let e = le a (omega arith) (omega arith) in
-    let rest = sum_le f g (a + 1) n (λ d l h. le d (omega arith) (omega arith)) in
-    omega arith
 
 pub needed_le_used : (p : Paging) (m : Held) → IsPaging p → IsSound p m → pages_needed p (objects m) ≤ used_pages p m
 unfolding used_pages pages_needed

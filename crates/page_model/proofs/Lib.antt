@@ -17,6 +17,7 @@ pub mod SlotImages
 pub mod Frames
 pub mod Writing
 pub mod Addresses
+pub mod OpenPages
 pub mod Nothing
 pub mod BlockSteps
 pub mod Adding

@@ -96,3 +96,13 @@ held_at_is words at q y e = go (get at q) refl (sym (get-map_values (λ a. recor
 
 pub held_at_bytes : (words : List ℕ) (at : FinMap nat_cmp ℕ) (q : ℕ) (y : Placed) → get (held_at words at) q ≡ Some y → AreBytes y.bytes
 held_at_bytes words at q y e = (let b = (held_at_is words at q y e).1 in rw b (bytes_at-AreBytes words y.place))
+
+pub bytes_long : (words : List ℕ) (a : ℕ) → length (bytes_at words a) ≡ get_or words a 0 / 2 ^ 32
+unfolding bytes_at
+bytes_long words a = length-map-range_with_len _ 0 _
+
+pub byte_is : (words : List ℕ) (a i : ℕ) → i < length (bytes_at words a) → get_or (bytes_at words a) i 0 ≡ byte_of (i % 8) (get_or words (a + 1 + i / 8) 0)
+unfolding bytes_at
+byte_is words a i lt =
+    let len : length (bytes_at words a) ≡ get_or words a 0 / 2 ^ 32 = bytes_long words a in
+    get_or-map-range_with_len (λ i. byte_of (i % 8) (get_or words (a + 1 + i / 8) 0)) 0 (get_or words a 0 / 2 ^ 32) i i 0 (omega arith) (omega arith)

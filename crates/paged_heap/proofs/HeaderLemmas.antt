@@ -16,7 +16,8 @@ use Rattle.paged_heap.specs.Layout.{IsValid, paging_at, state_of}
 use Rattle.paged_heap.specs.Free.{IsObjectAt}
 use Rattle.paged_heap.proofs.LayoutFacts.{paging_ok, sizes_are}
 use Rattle.paged_heap.proofs.CountLimits.{class_is}
-use Rattle.paged_heap.proofs.ReadLemmas.{bytes_long, held}
+use Rattle.paged_heap.proofs.ReadLemmas.{held}
+use Rattle.page_model.proofs.CallerLemmas.{bytes_long}
 use Rattle.paged_heap.proofs.FreedObject.{it_found, page_same}
 
 module _ (h : Heap) (k : IsValid h) (q a : ℕ) (some : get h.proxies.places q ≡ Some a) (size : ℕ) (told : size ≡ get_or h.words a 0 / 2 ^ 32) where

@@ -10,7 +10,7 @@ use Rattle.page_model.specs.Held.{Placed}
 use Rattle.page_model.specs.Bytes.{byte_of, bytes_at}
 use Rattle.page_model.specs.Image.{slot_for}
 use Rattle.page_model.specs.Paging.{class_for}
-use Rattle.page_model.proofs.CallerLemmas.{places-held_at, object_inside, class_holds, slot_fits}
+use Rattle.page_model.proofs.CallerLemmas.{bytes_long, byte_is, places-held_at, object_inside, class_holds, slot_fits}
 use Rattle.word_bytes.specs.Overwriting.{byte_from}
 use Rattle.cf_model.specs.Answers.{place_of}
 use Rattle.cf_model.specs.Steps.{PassesEnd, ReadsBytes}
@@ -20,16 +20,6 @@ use Rattle.paged_heap.specs.Access.{Lies}
 use Rattle.paged_heap.proofs.LayoutFacts.{paging_ok}
 use Rattle.paged_heap.proofs.Preserved.{has_place}
 use Rattle.paged_heap.proofs.CountLimits.{page_small}
-
-pub bytes_long : (words : List ℕ) (a : ℕ) → length (bytes_at words a) ≡ get_or words a 0 / 2 ^ 32
-unfolding bytes_at
-bytes_long words a = length-map-range_with_len _ 0 _
-
-pub byte_is : (words : List ℕ) (a i : ℕ) → i < length (bytes_at words a) → get_or (bytes_at words a) i 0 ≡ byte_of (i % 8) (get_or words (a + 1 + i / 8) 0)
-unfolding bytes_at
-byte_is words a i lt =
-    let len : length (bytes_at words a) ≡ get_or words a 0 / 2 ^ 32 = bytes_long words a in
-    get_or-map-range_with_len (λ i. byte_of (i % 8) (get_or words (a + 1 + i / 8) 0)) 0 (get_or words a 0 / 2 ^ 32) i i 0 (omega arith) (omega arith)
 
 -- the address of a handle is that of its proxy
 pub place_told : (h : Heap) (q : ℕ) → get h.proxies.places q ≡ place_of (state_of h) q

@@ -1,30 +1,19 @@
 -- The pages that counts need by arithmetic grow with the counts.
-use Rattle.std.proofs.Common.{◌≡◌, ℕ, zero, suc, Bool, cond, ◌+◌, ◌-◌, ◌/◌, ◌<◌, ◌≤◌, List, [], ◌∷◌, ◌++◌, arith, ap}
-use Rattle.std.specs.Prelude.{sum_by, count_by, nat_eq}
+use Rattle.std.proofs.Common.{◌≡◌, ℕ, zero, suc, Bool, cond, ◌+◌, ◌-◌, ◌<◌, ◌≤◌, List, [], ◌∷◌, ◌++◌, arith, ap}
+use Rattle.std.specs.Prelude.{count_by, nat_eq}
 use Rattle.std.specs.List.{range_with_len}
 use Rattle.std.proofs.lemmas.List.Sums.{sum_by-cons, sum_by-append}
-use Rattle.std.proofs.lemmas.Nat.{le-div}
-use Rattle.std.proofs.Math.Nat.{div-mul-le_self, div-zero, div-eq_of_lt}
+use Rattle.std.proofs.Math.Nat.{div-zero, div-eq_of_lt}
+use Rattle.cf_lemmas.proofs.Ranges.{sum_grows}
 use Rattle.page_model.specs.Arrangement.{pages_for}
 use Rattle.page_model.specs.Counts.{ceil_div}
 use Rattle.page_model.specs.Paging.{Paging, class_for, classes, slots_of}
-use Rattle.page_model.proofs.CallerLemmas.{sum_same, sum_zeros}
+use Rattle.page_model.proofs.CallerLemmas.{ceil_mono, sum_same, sum_zeros}
 use Rattle.quota_model.specs.Admission.{count_of_class, pages_of}
-
-pub ceil_mono : (a b m : ℕ) → a ≤ b → ceil_div a m ≤ ceil_div b m
-ceil_mono a b zero le = (let x = div-zero (a + (0 - 1)) in omega arith)
-ceil_mono a b (suc m) le =
-    let pos : 0 < suc m = omega arith in
-    let low = div-mul-le_self (a + (suc m - 1)) (suc m) in
-    le-div ((a + (suc m - 1)) / suc m) (b + (suc m - 1)) (suc m) pos (omega arith)
 
 ceil_nothing : (m : ℕ) → ceil_div 0 m ≡ 0
 ceil_nothing zero = div-zero (0 + (0 - 1))
 ceil_nothing (suc m) = (let lt : 0 + (suc m - 1) < suc m = omega arith in div-eq_of_lt lt)
-
-sum_grows : {X : Type 0} (f g : X → ℕ) (xs : List X) → ((x : X) → f x ≤ g x) → sum_by f xs ≤ sum_by g xs
-sum_grows f g [] le = omega arith
-sum_grows f g (x ∷ xs) le = (let a = sum_by-cons f x xs in let b = sum_by-cons g x xs in let c = le x in let d = sum_grows f g xs le in omega arith)
 
 pub pages_grow : (p : Paging) (f g : ℕ → ℕ) → ((c : ℕ) → f c ≤ g c) → pages_for p f ≤ pages_for p g
 pages_grow p f g le = sum_grows (λ c. ceil_div (f c) (slots_of p c)) (λ c. ceil_div (g c) (slots_of p c)) (range_with_len 0 (classes p))

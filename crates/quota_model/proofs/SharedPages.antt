@@ -7,7 +7,7 @@ use Rattle.std.proofs.lemmas.List.Sums.{sum_by-cons}
 use Rattle.cf_base.specs.Limits.{is_page_size}
 use Rattle.cf_base.specs.Settings.{Profile}
 use Rattle.cf_base.specs.declared.kind.Layout.TheVariants.{Words}
-use Rattle.cf_lemmas.proofs.Ranges.{one}
+use Rattle.cf_lemmas.proofs.Ranges.{one, sum_at_least, sum_grows}
 use Rattle.page_model.specs.Arrangement.{standing_on, used_pages}
 use Rattle.page_model.specs.Held.{Held}
 use Rattle.page_model.specs.Paging.{AreOne, IsPaging}
@@ -33,19 +33,6 @@ sums_swapped f (x ∷ xs) ys =
     let c = sum_plus (f x) (λ y. sum_by (λ x. f x y) xs) ys in
     let d = sum_same (λ y. sum_by (λ x. f x y) (x ∷ xs)) (λ y. f x y + sum_by (λ x. f x y) xs) ys (λ y. sum_by-cons (λ x. f x y) x xs) in
     omega arith
-
-sum_at_least : (f : ℕ → ℕ) (a n c : ℕ) → a ≤ c → c < a + n → f c ≤ sum_by f (range_with_len a n)
-sum_at_least f a zero c low high = absurd (omega arith)
-sum_at_least f a (suc n) c low high =
-    let x = sum_by-cons f a (range_with_len (a + 1) n) in
-    elim (cases_eq a c) [
-      | inl is ↦ (let u : f a ≡ f c = ap f is in omega arith)
-      | inr ne ↦ (let rest = sum_at_least f (a + 1) n c (omega arith) (omega arith) in omega arith)
-    ]
-
-sum_grows : (f g : ℕ → ℕ) (xs : List ℕ) → ((x : ℕ) → f x ≤ g x) → sum_by f xs ≤ sum_by g xs
-sum_grows f g [] le = omega arith
-sum_grows f g (x ∷ xs) le = (let a = sum_by-cons f x xs in let b = sum_by-cons g x xs in let c = le x in let d = sum_grows f g xs le in omega arith)
 
 -- a sum that is smaller at one number, and nowhere larger
 sum_less : (f g : ℕ → ℕ) (a n c : ℕ) → a ≤ c → c < a + n → ((d : ℕ) → f d ≤ g d) → f c < g c → sum_by f (range_with_len a n) < sum_by g (range_with_len a n)

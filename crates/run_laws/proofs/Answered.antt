@@ -23,7 +23,7 @@ use Rattle.cf_model.specs.State.{HeapState}
 use Rattle.cf_model.specs.Steps.{FreesObject, IsMallocStep, IsResizeStep, IsWriteStep, Part}
 use Rattle.run_model.specs.Sessions.{CostsAtMost}
 use Rattle.run_model.proofs.CallerLemmas.{bytes_held}
-use Rattle.run_laws.proofs.Counting.{len_without}
+use Rattle.cf_lemmas.proofs.Searches.{len_without}
 
 -- bytes under numbers below n, no more than n of them
 pub record AreFew (n : ℕ) (o : Objects) : Type 0 where

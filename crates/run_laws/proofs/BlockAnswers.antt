@@ -33,7 +33,7 @@ use Rattle.run_model.specs.Sessions.{CostsAtMost}
 use Rattle.run_model.specs.Steps.{class_to_bound}
 use Rattle.run_model.proofs.CallerLemmas.{bytes_held, bytes_missing}
 use Rattle.run_laws.proofs.Answered.{AreFew, HasFree, HasMalloc, HasResize, HasWrite, few_added, few_changed, few_in, few_left, objects_in}
-use Rattle.run_laws.proofs.Counting.{fresh_key}
+use Rattle.cf_lemmas.proofs.Searches.{fresh_key}
 
 module _ (old : HeapState) (rules : KeepsRules old) (with_blocks : IsTiled old.kind) where
   tiling : KeepsTiling old

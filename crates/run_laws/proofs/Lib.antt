@@ -1,4 +1,3 @@
-pub mod Counting
 pub mod Images
 pub mod Room
 pub mod ByKind

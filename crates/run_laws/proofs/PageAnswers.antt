@@ -35,7 +35,7 @@ use Rattle.cf_model.specs.Steps.{tiling_left, frames_left, number_of, leaves_of,
 use Rattle.run_model.specs.Sessions.{CostsAtMost}
 use Rattle.run_model.specs.Steps.{class_to_bound}
 use Rattle.run_model.proofs.CallerLemmas.{costs_nothing, pages_kept, bytes_held, bytes_missing}
-use Rattle.run_laws.proofs.Counting.{fresh_key, len_without, there_or_not}
+use Rattle.cf_lemmas.proofs.Searches.{fresh_key, len_without, there_or_not}
 use Rattle.run_laws.proofs.Images.{sound_image}
 use Rattle.run_laws.proofs.Answered.{AreFew, HasFree, HasMalloc, HasResize, HasWrite, few_added, few_changed, few_in, few_left, objects_in}
 use Rattle.run_laws.proofs.ByKind.{handle_of, number_of_handle, table_kept, table_moved, table_stepped}

@@ -15,8 +15,8 @@ use Rattle.slice_model.specs.declared.answers.SliceFault.{SliceFault}
 use Rattle.slice_model.specs.declared.answers.SliceFault.TheVariants as fault
 use Rattle.slice_model.proofs.Keeping.{kept_begun, one_more, same_elsewhere, two_is_last}
 use Rattle.slice_model.proofs.Occupied.{job_class, no_stand_in}
-use Rattle.slice_model.proofs.RoomBeside.{there_or_not}
-use Rattle.slice_model.proofs.Slots.{open_page}
+use Rattle.cf_lemmas.proofs.Searches.{there_or_not}
+use Rattle.page_model.proofs.CallerLemmas.{open_page}
 
 module _ (plan : Plan) (ok : IsPlan plan) where
   -- a job that is done ends, or another one follows

@@ -15,7 +15,9 @@ use Rattle.page_model.specs.Paging.{IsPaging, Paging, address_of, class_for, cla
 use Rattle.page_model.specs.Steps.{IsFreePlace}
 use Rattle.page_model.proofs.CallerLemmas.{class_fits, class_holds, slot_fits, slots_some, address_is_slot, nothing_on, on_page, on_yes, standing, objects_on-inserted, objects_on-left}
 use Rattle.slice_model.specs.State.{Plan, IsPlan, JobSlot, Job, Sliced, IsUnderWay, IsJobOf, IsKept, IsUsable, IsFreePage, NoPlace, IsPlaceFor, job_slot, occupied, stand_in, with_slot, Idle, Clear, Move}
-use Rattle.slice_model.proofs.Slots.{IsOpen, IsVacant, search_below, less_where_vacant, vacant_where_less, open_counts, open_page}
+use Rattle.cf_lemmas.proofs.Searches.{search_below}
+use Rattle.page_model.proofs.CallerLemmas.{IsOpen, IsVacant, vacant_where_less, open_counts, open_page}
+use Rattle.slice_model.proofs.Slots.{less_where_vacant}
 
 -- the stand-in for a slot is of its class
 pub stand_in_class : (p : Paging) → IsPaging p → (k : JobSlot) → k.class < classes p → class_at p (stand_in p k) ≡ k.class

@@ -1,50 +1,29 @@
 -- Room by arithmetic beside a job: what is refused, and that each malloc has one answer.
-use Rattle.std.proofs.Common.{◌≡◌, ◌≢◌, ℕ, zero, suc, ◌+◌, ◌-◌, ◌<◌, ◌≤◌, Option, Some, None, arith, sym, ◌∙◌, ap, refl, subst, inl, inr}
-use Rattle.std.specs.Prelude.{◌⊎◌, nat_eq, sum_by, option_map}
-use Rattle.std.specs.List.{range_with_len}
+use Rattle.std.proofs.Common.{◌≡◌, ℕ, ◌+◌, ◌<◌, ◌≤◌, Option, Some, None, arith, ◌∙◌, refl, subst, inl, inr}
+use Rattle.std.specs.Prelude.{◌⊎◌, nat_eq, option_map}
 use Rattle.std.proofs.lemmas.Bool.{cases_lt}
-use Rattle.std.proofs.lemmas.List.Sums.{sum_by-cons}
-use Rattle.std.proofs.lemmas.Nat.{le-div}
-use Rattle.std.proofs.Math.Nat.{div-mul-le_self}
-use Rattle.std.specs.Ordering.{nat_cmp}
-use Rattle.std.specs.FinMap.{FinMap, empty, get, insert, remove, len, get-empty, len-empty}
+use Rattle.std.specs.FinMap.{get, insert, len}
 use Rattle.cf_base.specs.Classes.{need}
 use Rattle.cf_lemmas.proofs.MapValues.{get-map_values, map_values-insert}
-use Rattle.cf_lemmas.proofs.Maps.{equal_maps, some_removed, get_removed, get_remove_other, len_fresh}
-use Rattle.cf_lemmas.proofs.Ranges.{one}
-use Rattle.cf_lemmas.proofs.Sums.{put_back}
+use Rattle.cf_lemmas.proofs.Ranges.{one, sum_le}
 use Rattle.page_model.specs.Arrangement.{live, pages_needed_with}
 use Rattle.page_model.specs.Counts.{ceil_div}
 use Rattle.page_model.specs.Held.{Held, Objects, Placed, objects}
 use Rattle.page_model.specs.Paging.{IsPaging, Paging, class_for, classes, slots_of, page_of}
 use Rattle.page_model.specs.Steps.{Request, zeros_at}
-use Rattle.page_model.proofs.CallerLemmas.{class_fits, lacks_room_at_one, live_added, slots_some}
+use Rattle.page_model.proofs.CallerLemmas.{ceil_mono, class_fits, lacks_room_at_one, live_added}
 use Rattle.slice_model.specs.State.{Plan, IsPlan, JobSlot, Sliced, IsKept, IsFreePage, IsPlaceFor, IsUsable, NoPlace, job_slot, occupied, stand_in, with_slot, Idle}
 use Rattle.slice_model.specs.Steps.{GivesObject, IsRefusedBy}
 use Rattle.slice_model.specs.declared.answers.SliceRefusal.{SliceRefusal}
 use Rattle.slice_model.specs.declared.answers.SliceRefusal.TheVariants as refusal
 use Rattle.slice_model.proofs.Occupied.{lacking_is_no_place, no_place_is_lacking, no_stand_in, place_or_none}
-use Rattle.slice_model.proofs.Slots.{search_below}
-
--- more objects need no fewer pages
-div_le : (a b s : ℕ) → 0 < s → a ≤ b → ceil_div a s ≤ ceil_div b s
-div_le a b s pos le = (let m = div-mul-le_self (a + (s - 1)) s in le-div (ceil_div a s) (b + (s - 1)) s pos (omega arith))
-
-sum_le : (f g : ℕ → ℕ) (a n : ℕ) → ((d : ℕ) → a ≤ d → d < a + n → f d ≤ g d) → sum_by f (range_with_len a n) ≤ sum_by g (range_with_len a n)
-sum_le f g a zero le = omega arith
-sum_le f g a (suc n) le =
-    let x = sum_by-cons f a (range_with_len (a + 1) n) in
-    let y = sum_by-cons g a (range_with_len (a + 1) n) in
-    let e = le a (omega arith) (omega arith) in
-    let rest = sum_le f g (a + 1) n (λ d l h. le d (omega arith) (omega arith)) in
-    omega arith
+use Rattle.cf_lemmas.proofs.Searches.{fresh_key, few_keys}
 
 needed_le : (p : Paging) → IsPaging p → (o u : Objects) (n : ℕ) → ((c : ℕ) → live p o c ≤ live p u c) → pages_needed_with p o n ≤ pages_needed_with p u n
 unfolding pages_needed_with
 needed_le p ok o u n le = sum_le (λ c. ceil_div (live p o c + one (nat_eq (class_for p n) c)) (slots_of p c))
     (λ c. ceil_div (live p u c + one (nat_eq (class_for p n) c)) (slots_of p c)) 0 (classes p)
-    (λ c _ lt. (let l = le c in div_le (live p o c + one (nat_eq (class_for p n) c)) (live p u c + one (nat_eq (class_for p n) c)) (slots_of p c)
-    (slots_some p ok c (omega arith)) (omega arith)))
+    (λ c _ lt. (let l = le c in ceil_mono (live p o c + one (nat_eq (class_for p n) c)) (live p u c + one (nat_eq (class_for p n) c)) (slots_of p c) (omega arith)))
 
 -- the objects alone need no more pages than with the job's slot
 needed_beside : (plan : Plan) → IsPlan plan → (m : Held) → get m plan.proxies ≡ None → (o : Option JobSlot) (n : ℕ)
@@ -131,54 +110,6 @@ given_or_refused plan ok s kept asked new g refusal.Busy x = elim g.free.choice 
   | inl usable ↦ x.lacking.unusable g.place usable
   | inr (_, page) ↦ x.lacking.taken (page_of plan.paging g.place) page
 ]
-
-module _ {V : Type 0} where
-  -- a key is there or not
-  pub there_or_not : (m : FinMap nat_cmp V) (h : ℕ) → ((x : V) × (get m h ≡ Some x)) ⊎ (get m h ≡ None)
-  there_or_not m h = go (get m h)
-    where
-      go : (o : Option V) → ((x : V) × (o ≡ Some x)) ⊎ (o ≡ None)
-      go None = inr refl
-      go (Some x) = inl (x, refl)
-
-  -- one key less
-  pub len_without : (m : FinMap nat_cmp V) (h : ℕ) (x : V) → get m h ≡ Some x → len m ≡ len (remove m h) + 1
-  len_without m h x some = ap len (sym (put_back m h x some)) ∙ len_fresh (remove m h) h x (get_removed m h)
-
-  -- where all numbers below n are keys, there are as many keys
-  keys_below : (n : ℕ) (m : FinMap nat_cmp V) → ((h : ℕ) → h < n → (x : V) × (get m h ≡ Some x)) → n ≤ len m
-  keys_below zero m all = omega arith
-  keys_below (suc n) m all =
-      let last = all n (omega arith) in
-      let less = len_without m n last.0 last.1 in
-      let rest = keys_below n (remove m n) (λ h lt. ((all h (omega arith)).0, get_remove_other m n h (omega arith) ∙ (all h (omega arith)).1)) in
-      omega arith
-
-  -- no more keys than there are numbers below n
-  pub few_keys : (n : ℕ) (m : FinMap nat_cmp V) → ((h : ℕ) (x : V) → get m h ≡ Some x → h < n) → len m ≤ n
-  few_keys zero m below =
-      let e : m ≡ empty = equal_maps m empty (λ h. elim (there_or_not m h) [
-        | inl (x, there) ↦ absurd (let l = below h x there in omega arith)
-        | inr none ↦ none ∙ sym (get-empty nat_cmp h)
-      ]) in
-      rw e (let z = len-empty nat_cmp V in omega arith)
-  few_keys (suc n) m below = elim (there_or_not m n) [
-    | inr none ↦ (let l = few_keys n m (λ h x there. (let b = below h x there in lower h b (λ is. (let z : Some x ≡ None = sym there ∙ ap (get m) is ∙ none in cc)))) in omega arith)
-    | inl (v, some) ↦ (
-        let less = len_without m n v some in
-        let l = few_keys n (remove m n) (λ h x there. (let was = some_removed m n h x there in let b = below h x was.1 in lower h b was.0)) in
-        omega arith)
-  ]
-    where
-      lower : (h : ℕ) → h < suc n → h ≢ n → h < n
-      lower h b ne = omega arith
-
-  -- a number that isn't in use
-  pub fresh_key : (n : ℕ) (m : FinMap nat_cmp V) → len m < n → (h : ℕ) × (h < n) × (get m h ≡ None)
-  fresh_key n m few = elim (search_below (λ h. (x : V) × (get m h ≡ Some x)) (λ h. get m h ≡ None) (there_or_not m) n) [
-    | inl all ↦ absurd (let l = keys_below n m all in omega arith)
-    | inr found ↦ found
-  ]
 
 -- a malloc is done or refused
 pub answered : (plan : Plan) → IsPlan plan → (s : Sliced) → IsKept plan s → (n : ℕ)

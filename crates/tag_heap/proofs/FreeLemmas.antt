@@ -22,7 +22,8 @@ use Rattle.cf_model.proofs.CallerLemmas.{owned_free}
 use Rattle.tag_heap.specs.Heap.{Heap, IsValid, held_in, state_of}
 use Rattle.tag_heap.proofs.ByKind.{frames_stay, of_tiled}
 use Rattle.tag_heap.proofs.Preserved.{Becomes, are_bytes, becomes_rules, becomes_valid, held_is, places_are}
-use Rattle.tag_heap.proofs.ReadLemmas.{bytes_long, held, object}
+use Rattle.tag_heap.proofs.ReadLemmas.{held, object}
+use Rattle.page_model.proofs.CallerLemmas.{bytes_long}
 
 module _ (h : Heap) (v : IsValid h) (q a : ℕ) (some : get h.proxies.places q ≡ Some a) (t : Tagged) (r : Releases h.tagged a t)
     (long : length t.words ≡ length h.tagged.words) (tags : AreTags t) (below : AreBelowLimit (without_place h.proxies q))

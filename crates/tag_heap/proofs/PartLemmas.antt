@@ -14,7 +14,8 @@ use Rattle.cf_model.specs.Steps.{ReadsBytes}
 use Rattle.tag_heap.specs.Access.{Lies}
 use Rattle.tag_heap.specs.Heap.{Heap, IsValid, held_in, state_of}
 use Rattle.tag_heap.proofs.Preserved.{places-read}
-use Rattle.tag_heap.proofs.ReadLemmas.{byte_is, room}
+use Rattle.tag_heap.proofs.ReadLemmas.{room}
+use Rattle.page_model.proofs.CallerLemmas.{byte_is}
 
 -- where a part lies, its words are in its block
 module _ (h : Heap) (v : IsValid h) (q at count a : ℕ) (l : Lies h (record { number = q; from = at }) count a) where

@@ -9,22 +9,13 @@ use Rattle.cf_base.specs.declared.kind.Kind.{Kind}
 use Rattle.page_model.specs.Held.{Placed}
 use Rattle.page_model.specs.Bytes.{byte_of, bytes_at}
 use Rattle.block_model.specs.Tiling.{size_at, size_of}
+use Rattle.page_model.proofs.CallerLemmas.{bytes_long, byte_is}
 use Rattle.block_model.proofs.CallerLemmas.{lies}
 use Rattle.cf_model.specs.ReadObjects.{read_objects}
 use Rattle.cf_model.specs.Steps.{PassesEnd}
 use Rattle.tag_heap.specs.Access.{Lies}
 use Rattle.tag_heap.specs.Heap.{Heap, IsValid, held_in, state_of}
 use Rattle.tag_heap.proofs.Preserved.{has_place, places-read}
-
-pub bytes_long : (words : List ℕ) (a : ℕ) → length (bytes_at words a) ≡ get_or words a 0 / 2 ^ 32
-unfolding bytes_at
-bytes_long words a = length-map-range_with_len _ 0 _
-
-pub byte_is : (words : List ℕ) (a i : ℕ) → i < length (bytes_at words a) → get_or (bytes_at words a) i 0 ≡ byte_of (i % 8) (get_or words (a + 1 + i / 8) 0)
-unfolding bytes_at
-byte_is words a i lt =
-    let len : length (bytes_at words a) ≡ get_or words a 0 / 2 ^ 32 = bytes_long words a in
-    get_or-map-range_with_len (λ i. byte_of (i % 8) (get_or words (a + 1 + i / 8) 0)) 0 (get_or words a 0 / 2 ^ 32) i i 0 (omega arith) (omega arith)
 
 -- the address of a handle is that of its proxy
 pub place_told : (words : List ℕ) (at : FinMap nat_cmp ℕ) (q : ℕ) → get at q ≡ option_map (λ (x : Placed). x.place) (get (read_objects words at) q)

@@ -1,4 +1,4 @@
--- The objects by id, and how they change.
+-- The objects by id: how many they are, what sums over them are, and how they change with the objects by number.
 use Rattle.std.proofs.Common.{◌≡◌, ◌≢◌, ℕ, List, [], Option, Some, None, sym, ◌∙◌, ap, refl, inl, inr}
 use Rattle.std.specs.Prelude.{option_map}
 use Rattle.std.specs.Option.{unwrap_or}
@@ -6,11 +6,11 @@ use Rattle.std.proofs.lemmas.Bool.{cases_eq}
 use Rattle.std.specs.FinMap.{get, insert, remove}
 use Rattle.cf_lemmas.proofs.Maps.{equal_maps, get_inserted, get_insert_other, get_remove_other, get_removed}
 use Rattle.cf_lemmas.proofs.MapValues.{get-map_values}
+use Rattle.cf_lemmas.proofs.Renaming.{CountAlike, counted_alike}
 use Rattle.page_model.specs.Held.{Objects}
 use Rattle.run_model.specs.Sessions.{Ids}
 use Rattle.run_model.proofs.CallerLemmas.{AreNames}
 use Rattle.transcript_laws.specs.Histories.{objects_by_id}
-use Rattle.cf_lemmas.proofs.Renaming.{AreRenamed, CountAlike, counted_alike}
 
 -- the bytes under a number
 abbrev pub bytes_under : Objects → ℕ → List ℕ
@@ -21,34 +21,45 @@ get-by_id ids m id = get-map_values (bytes_under m) ids id
 
 module _ (ids : Ids) (m : Objects) where
   pub live_by_id : (id h : ℕ) (v : List ℕ) → get ids id ≡ Some h → get m h ≡ Some v → get (objects_by_id ids m) id ≡ Some v
-  live_by_id id h v named some =
-      get-by_id ids m id ∙ ap (option_map (bytes_under m)) named ∙ ap (λ o. Some (unwrap_or o [])) some
+  live_by_id id h v named some = get-by_id ids m id ∙ ap (option_map (bytes_under m)) named ∙ ap (λ o. Some (unwrap_or o [])) some
 
   pub gone_by_id : (id : ℕ) → get ids id ≡ None → get (objects_by_id ids m) id ≡ None
   gone_by_id id none = get-by_id ids m id ∙ ap (option_map (bytes_under m)) none
 
   -- an id with an object has a number
-  numbered : (id : ℕ) (o : Option ℕ) (v : List ℕ) → get ids id ≡ o → get (objects_by_id ids m) id ≡ Some v → (h : ℕ) × (get ids id ≡ Some h)
-  numbered id None v e is = absurd (let f : Some v ≡ None = sym is ∙ gone_by_id id e in cc)
-  numbered id (Some h) v e is = (h, e)
+  pub numbered_by_id : (id : ℕ) (v : List ℕ) → get (objects_by_id ids m) id ≡ Some v → (h : ℕ) × (get ids id ≡ Some h)
+  numbered_by_id id v is = go (get ids id) refl
+    where
+      go : (o : Option ℕ) → get ids id ≡ o → (h : ℕ) × (get ids id ≡ Some h)
+      go None e = absurd (let f : Some v ≡ None = sym is ∙ gone_by_id id e in cc)
+      go (Some h) e = (h, e)
+
+  -- an id without one has none
+  pub unnumbered_by_id : (id : ℕ) → get (objects_by_id ids m) id ≡ None → get ids id ≡ None
+  unnumbered_by_id id is = go (get ids id) refl
+    where
+      go : (o : Option ℕ) → get ids id ≡ o → get ids id ≡ None
+      go None e = e
+      go (Some h) e = absurd (let f : Some (bytes_under m h) ≡ None = sym (get-by_id ids m id ∙ ap (option_map (bytes_under m)) e) ∙ is in cc)
 
 module _ (ids : Ids) (m : Objects) (names : AreNames ids m) where
-  renamed : AreRenamed ids m (objects_by_id ids m)
-  renamed = record {
-    found = λ id v is.
-        let h = numbered ids m id (get ids id) v refl is in
-        let w = names.named id h.0 h.1 in
-        let e : Some w.0 ≡ Some v = sym (live_by_id ids m id h.0 w.0 h.1 w.1) ∙ is in
-        (h.0, h.1, w.1 ∙ e);
+  -- an object by id is one by number
+  pub found_by_id : (id : ℕ) (v : List ℕ) → get (objects_by_id ids m) id ≡ Some v → (h : ℕ) × (get ids id ≡ Some h) × (get m h ≡ Some v)
+  found_by_id id v is =
+      let h = numbered_by_id ids m id v is in
+      let w = names.named id h.0 h.1 in
+      let e : Some w.0 ≡ Some v = sym (live_by_id ids m id h.0 w.0 h.1 w.1) ∙ is in
+      (h.0, h.1, w.1 ∙ e)
+
+  -- the objects by id count as those by number do
+  pub by_id_counts : CountAlike m (objects_by_id ids m)
+  by_id_counts = counted_alike (objects_by_id ids m) ids m (record {
+    found = found_by_id;
     all = λ h v is.
         let id = names.all h v is in
         (id.0, id.1, live_by_id ids m id.0 h v id.1 is);
     once = names.once;
-  }
-
-  -- the objects by id count as those by number do
-  pub by_id_counts : CountAlike m (objects_by_id ids m)
-  by_id_counts = counted_alike (objects_by_id ids m) ids m renamed
+  })
 
   -- where nothing changes but what one id names, the other ids have what they had
   module _ (ids' : Ids) (m' : Objects) (id h : ℕ) (same_ids : (q : ℕ) → q ≢ id → get ids' q ≡ get ids q) (same : (g : ℕ) → g ≢ h → get m' g ≡ get m g)

@@ -1,2 +1,4 @@
 -- What upper crates may cite, passed on from one place. Declares nothing.
 pub use Rattle.transcript_laws.proofs.Telling.{run_tells}
+pub use Rattle.transcript_laws.proofs.ByIds.{by_id_changed, by_id_counts, by_id_given, by_id_gone, found_by_id}
+pub use Rattle.transcript_laws.proofs.ByIds.{gone_by_id, live_by_id, numbered_by_id, unnumbered_by_id}

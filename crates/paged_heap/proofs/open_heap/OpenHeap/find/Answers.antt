@@ -2,7 +2,8 @@ use Rattle.std.proofs.Common.{arith, sym}
 use Rattle.paged_heap.specs.Heap.{seen}
 use Rattle.paged_heap.proofs.Preserved.{no_place}
 use Rattle.paged_heap.proofs.ByKind.{in_region}
-use Rattle.paged_heap.proofs.ReadLemmas.{bytes_long, lies, passes, place_in}
+use Rattle.paged_heap.proofs.ReadLemmas.{lies, passes, place_in}
+use Rattle.page_model.proofs.CallerLemmas.{bytes_long}
 use Rattle.paged_heap.proofs.open_heap.OpenHeap.find.Goals as goal
 use Rattle.paged_heap.proofs.open_heap.OpenHeap.find.Goals.{then-length-count-via-then-length-count}
 use Rattle.paged_heap.proofs.open_heap.OpenHeap.find.Goals.{then-length-count-via-else-length-count+then-length-count-2}

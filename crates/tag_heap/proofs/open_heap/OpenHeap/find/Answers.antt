@@ -1,6 +1,7 @@
 use Rattle.std.proofs.Common.{arith, sym, ◌+◌}
 use Rattle.tag_heap.proofs.Preserved.{no_place, used_at}
-use Rattle.tag_heap.proofs.ReadLemmas.{bytes_long, lies_there, passes}
+use Rattle.tag_heap.proofs.ReadLemmas.{lies_there, passes}
+use Rattle.page_model.proofs.CallerLemmas.{bytes_long}
 use Rattle.tag_heap.proofs.open_heap.OpenHeap.find.Goals as goal
 use Rattle.tag_heap.proofs.open_heap.OpenHeap.find.Goals.{then-length-count-via-then-length-count}
 use Rattle.tag_heap.proofs.open_heap.OpenHeap.find.Goals.{then-length-count-via-else-length-count+then-length-count-2}

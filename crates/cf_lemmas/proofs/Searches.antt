@@ -1,12 +1,12 @@
 -- Searches below a bound, and maps that have no more keys than there are numbers.
-use Rattle.std.proofs.Common.{◌≡◌, ℕ, zero, suc, true, false, Bool, ◌+◌, ◌<◌, ◌≤◌, Option, Some, None, arith, sym, ◌∙◌, ap, refl, inl, inr}
+use Rattle.std.proofs.Common.{◌≡◌, ◌≢◌, ℕ, zero, suc, true, false, Bool, ◌+◌, ◌<◌, ◌≤◌, Option, Some, None, arith, sym, ◌∙◌, ap, refl, inl, inr}
 use Rattle.std.specs.Prelude.{◌⊎◌, count_by}
 use Rattle.std.specs.List.{range_with_len}
 use Rattle.std.proofs.lemmas.List.Sums.{sum_by-cons}
 use Rattle.std.proofs.lemmas.Bool.{cases_eq}
 use Rattle.std.specs.Ordering.{nat_cmp}
-use Rattle.std.specs.FinMap.{FinMap, get, len, remove}
-use Rattle.cf_lemmas.proofs.Maps.{get_removed, get_remove_other, len_fresh}
+use Rattle.std.specs.FinMap.{FinMap, empty, get, len, remove, get-empty, len-empty}
+use Rattle.cf_lemmas.proofs.Maps.{equal_maps, some_removed, get_removed, get_remove_other, len_fresh}
 use Rattle.cf_lemmas.proofs.Ranges.{one}
 use Rattle.cf_lemmas.proofs.Sums.{put_back}
 
@@ -59,6 +59,25 @@ module _ {V : Type 0} where
       let less = len_without m n last.0 last.1 in
       let rest = keys_below n (remove m n) (λ h lt. ((all h (omega arith)).0, get_remove_other m n h (omega arith) ∙ (all h (omega arith)).1)) in
       omega arith
+
+  -- no more keys than there are numbers below n
+  pub few_keys : (n : ℕ) (m : FinMap nat_cmp V) → ((h : ℕ) (x : V) → get m h ≡ Some x → h < n) → len m ≤ n
+  few_keys zero m below =
+      let e : m ≡ empty = equal_maps m empty (λ h. elim (there_or_not m h) [
+        | inl (x, there) ↦ absurd (let l = below h x there in omega arith)
+        | inr none ↦ none ∙ sym (get-empty nat_cmp h)
+      ]) in
+      rw e (let z = len-empty nat_cmp V in omega arith)
+  few_keys (suc n) m below = elim (there_or_not m n) [
+    | inr none ↦ (let l = few_keys n m (λ h x there. (let b = below h x there in lower h b (λ is. (let z : Some x ≡ None = sym there ∙ ap (get m) is ∙ none in cc)))) in omega arith)
+    | inl (v, some) ↦ (
+        let less = len_without m n v some in
+        let l = few_keys n (remove m n) (λ h x there. (let was = some_removed m n h x there in let b = below h x was.1 in lower h b was.0)) in
+        omega arith)
+  ]
+    where
+      lower : (h : ℕ) → h < suc n → h ≢ n → h < n
+      lower h b ne = omega arith
 
   -- a number that isn't in use
   pub fresh_key : (n : ℕ) (m : FinMap nat_cmp V) → len m < n → (h : ℕ) × (h < n) × (get m h ≡ None)
