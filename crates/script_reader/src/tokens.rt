@@ -8,7 +8,7 @@ ghost use Rattle.script_reader.specs.Fields.{first_by};
 ghost use Rattle.script_reader.specs.Lines.{without_return as no_return, is_gap as gap, is_parted as parted, tokens};
 
 use cf_io::number_of;
-use memchr::{memchr2, memchr_iter};
+use memchr::{memchr_iter, memchr2};
 
 /// Texts from this length on are searched many bytes at once.
 const LONG: usize = 64;
@@ -43,10 +43,15 @@ fn is_gap(x: u8) -> bool
 }
 
 /// How many gaps the text begins with.
+#[tactic(auto, using(crate::proofs::Words::no_gap_first))]
 fn gaps(text: &[u8]) -> usize
     ensures value { result ≡ position_or_len (λ x. not (gap x)) text.now }
     ensures within { result ≤ length text.now }
 {
+    // Most texts begin with none, and need no search.
+    if text.len() > 0 && text[0] > b' ' {
+        return 0;
+    }
     first_other(text).unwrap_or(text.len())
 }
 
