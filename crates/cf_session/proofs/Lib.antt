@@ -1,5 +1,6 @@
 pub mod Calling
 pub mod Lacking
 pub mod LookReplies
+pub mod PairDigits
 pub mod Reporting
 pub mod Spelling

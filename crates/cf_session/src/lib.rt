@@ -2,6 +2,7 @@
 #![tactic(auto)]
 
 mod changes;
+mod digits;
 mod dispatch;
 mod looks;
 mod outcome;

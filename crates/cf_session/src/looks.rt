@@ -12,6 +12,7 @@ ghost use Rattle.run_model.specs.Sessions.{AreTied};
 ghost use Rattle.run_model.specs.Texts.{led, said};
 
 use crate::changes::fault_reply;
+use crate::digits::spell;
 use crate::outcome::Outcome;
 use crate::records::Records;
 use crate::short::{OneLine, Short};
@@ -108,7 +109,7 @@ fn spell_bytes(room: &mut [u8], lead: &[u8], bytes: &[u8]) -> usize
     let (mark, rest) = rest.split_at_mut(1);
     mark[0] = b'=';
     let (digits, rest) = rest.split_at_mut(count);
-    hex::encode_to_slice(bytes, digits).unwrap();
+    spell(bytes, digits);
     rest[0] = b'\n';
     lead.len() + count + 2
 }

@@ -1,15 +1,22 @@
 -- Tokens from the start on.
-use Rattle.std.proofs.Common.{◌≡◌, ◌∙◌, ◌-◌, ◌<◌, ◌≤◌, ◌+◌, ℕ, suc, Bool, true, false, cond, not, List, [], ◌∷◌, length, take, drop, refl, sym, ap, arith}
+use Rattle.std.proofs.Common.{◌≡◌, ◌∙◌, ◌-◌, ◌<◌, ◌≤◌, ◌+◌, ℕ, suc, Bool, true, false, cond, not, List, [], ◌∷◌, length, take, drop, get_or, refl, sym, ap, arith}
 use Rattle.std.specs.List.{position_or_len}
 use Rattle.std.proofs.lemmas.List.Sums.{prefix_len-le-length}
 use Rattle.std.proofs.lemmas.List.{take_rest, nil_from_length}
 use Rattle.std.specs.Prelude.{position, unwrap_or, nat_lt, Some, None}
-use Rattle.std.proofs.lemmas.Bool.{ltb-false}
+use Rattle.std.proofs.lemmas.Bool.{ltb-false, ne_eqb}
 use Rattle.script_reader.specs.Lines.{is_gap, is_parted, onto_first, tokens}
 
 -- how many gaps come first
 abbrev pub gaps_in : List ℕ → ℕ
 gaps_in t = position_or_len (λ x. not (is_gap x)) t
+
+-- a first byte past those of gaps
+pub no_gap_first : (t : List ℕ) → 0 < length t → 32 < get_or t 0 0 → 0 ≡ gaps_in t
+no_gap_first [] some past = absurd (omega arith)
+no_gap_first (x ∷ r) some past =
+    let isnt : is_gap x ≡ false = rw (ne_eqb x 32 (λ e. omega (arith, e, past)), ne_eqb x 9 (λ e. omega (arith, e, past))) refl in
+    rw isnt refl
 
 -- leading gaps change no token
 pub past_gaps : (t : List ℕ) → tokens (drop (gaps_in t) t) ≡ tokens t

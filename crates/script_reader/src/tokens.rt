@@ -1,13 +1,14 @@
 //! A line as tokens.
-ghost use Rattle.std.specs.Prelude.{◌≡◌, ◌≤◌, ◌==◌, length, position, not, option_map, MatchOption, IfSome, [], ◌∷◌};
-ghost use Rattle.std.specs.List.{position_or_len};
-ghost use Rattle.cf_io.specs.Numbers.{number_in};
+ghost use Rattle.std.specs.Prelude.{◌≡◌, ◌≤◌, ◌==◌, ◌%◌, ◌^◌, length, take, position, not, option_map, true, false, MatchOption, IfSome, [], ◌∷◌};
+ghost use Rattle.std.specs.List.{list_all, position_or_len};
+ghost use Rattle.std.specs.Str.Parse.{digits_value};
+ghost use Rattle.cf_io.specs.Numbers.{digits_first, is_digit, number_in};
 ghost use Rattle.script_reader.specs.Commands.{none_of};
 ghost use Rattle.script_reader.specs.Fields.{first_by};
 ghost use Rattle.script_reader.specs.Lines.{without_return as no_return, is_gap as gap, is_parted as parted, tokens};
 
-use cf_io::leading_number;
-use memchr::{memchr, memchr2};
+use cf_io::number_of;
+use memchr::{memchr_iter, memchr2};
 
 /// Texts from this length on are searched many bytes at once.
 const LONG: usize = 64;
@@ -16,7 +17,7 @@ const LONG: usize = 64;
 pub fn line_feed_at(bytes: &[u8]) -> Option<usize>
     ensures { result ≡ position (λ x. x == 10) bytes.now }
 {
-    memchr(b'\n', bytes)
+    memchr_iter(b'\n', bytes).next()
 }
 
 /// The line without one carriage return at its end.
@@ -42,10 +43,15 @@ fn is_gap(x: u8) -> bool
 }
 
 /// How many gaps the text begins with.
+#[tactic(auto, using(crate::proofs::Words::no_gap_first))]
 fn gaps(text: &[u8]) -> usize
     ensures value { result ≡ position_or_len (λ x. not (gap x)) text.now }
     ensures within { result ≤ length text.now }
 {
+    // Most texts begin with none, and need no search.
+    if text.len() > 0 && text[0] > b' ' {
+        return 0;
+    }
     first_other(text).unwrap_or(text.len())
 }
 
@@ -92,9 +98,8 @@ pub fn split_token(text: &[u8]) -> Option<(&[u8], &[u8])>
     if text.len() == 0 {
         return None;
     }
-    let others = &text[1..];
-    if is_parted(others) {
-        return Some((&text[..1], others));
+    if let Some(rest) = past_token(&text[1..]) {
+        return Some((&text[..1], rest));
     }
     Some(text.split_at(token_length(text)))
 }
@@ -106,13 +111,6 @@ pub fn is_done(text: &[u8]) -> bool
     gaps(text) == text.len()
 }
 
-/// Whether no token goes on here.
-fn is_parted(text: &[u8]) -> bool
-    ensures { result ≡ parted text.now }
-{
-    text.len() == 0 || is_gap(text[0])
-}
-
 /// The number that the first token spells, and what follows it. None where no token is there, or it
 /// spells none.
 #[inline(always)]
@@ -120,10 +118,55 @@ pub fn take_number(text: &[u8]) -> Option<(u32, &[u8])>
     ensures { option_map (λ p. (p.0, tokens p.1.now)) result ≡ first_by number_in (tokens text.now) }
 {
     let text = &text[gaps(text)..];
-    let (n, digits) = leading_number(text)?;
-    let rest = &text[digits..];
-    if is_parted(rest) {
-        Some((n, rest))
+    let (value, digits) = leading_digits(text);
+    let n = spelled_number(text, digits, value)?;
+    let rest = past_token(&text[digits..])?;
+    Some((n, rest))
+}
+
+/// What the digits at the start of a text spell, modulo `2^32`, and how many they are.
+#[inline(always)]
+fn leading_digits(text: &[u8]) -> (u32, usize)
+    ensures value { result.0 ≡ digits_value 10 (take result.1 text.now) % 2 ^ 32 }
+    ensures digits { list_all is_digit (take result.1 text.now) ≡ true }
+    ensures count { result.1 ≡ digits_first text.now }
+    ensures within { result.1 ≤ length text.now }
+{
+    let mut value = 0u32;
+    let mut at = 0;
+    'digits: while at < text.len() && text[at].is_ascii_digit() {
+        let digit = (text[at] - b'0') as u32;
+        value = value.wrapping_mul(10).wrapping_add(digit);
+        at += 1;
+    }
+    (value, at)
+}
+
+/// The number that so many digits at the start of a text spell, where they spell this value modulo `2^32`.
+#[inline(always)]
+fn spelled_number(text: &[u8], digits: usize, value: u32) -> Option<u32>
+    requires count { digits ≤ length text.now }
+    requires digits { list_all is_digit (take digits text.now) ≡ true }
+    requires value { value ≡ digits_value 10 (take digits text.now) % 2 ^ 32 }
+    ensures { result ≡ number_in (take digits text.now) }
+{
+    // So few digits spell a number that fits.
+    if 0 < digits && digits < 10 {
+        Some(value)
+    } else {
+        number_of(&text[..digits])
+    }
+}
+
+/// What follows a token that ends here: the text after one gap. None where the token goes on.
+#[inline(always)]
+fn past_token(text: &[u8]) -> Option<&[u8]>
+    ensures { MatchOption result (parted text.now ≡ false) (λ rest. (parted text.now ≡ true) × (tokens rest.now ≡ tokens text.now)) }
+{
+    if text.len() == 0 {
+        Some(text)
+    } else if is_gap(text[0]) {
+        Some(&text[1..])
     } else {
         None
     }

@@ -1,6 +1,6 @@
-use Rattle.std.proofs.Common.{◌∙◌, ◌-◌, ap, arith, drop, length, refl, sym, take}
+use Rattle.std.proofs.Common.{◌∙◌, ◌-◌, ◌∷◌, ap, arith, drop, length, refl, sym, take}
 use Rattle.std.proofs.lemmas.List.{take_rest}
-use Rattle.script_reader.specs.Lines.{is_parted}
+use Rattle.script_reader.specs.Lines.{is_parted, tokens}
 use Rattle.script_reader.proofs.Words.{only_gaps, single_in_text, token_has_byte, token_of_text}
 use Rattle.script_reader.proofs.tokens.split_token.Goals as goal
 
@@ -15,9 +15,11 @@ pub returns-clause-some : goal.returns-clause-some
 returns-clause-some c = rw c.split_at.ensures.front
     (token_has_byte _ _ _ _ refl c.gaps.ensures.value c.token_length.ensures.value (omega arith))
 
-pub returns-then-is_parted-clause-value : goal.returns-then-is_parted-clause-value
-returns-then-is_parted-clause-value c =
+pub returns-in-Some-clause-value : goal.returns-in-Some-clause-value
+returns-in-Some-clause-value c =
     let t = c.args.text.now in
     let s = take (length t - c.gaps.result) (drop c.gaps.result t) in
-    let parted = ap is_parted (sym (take_rest s 1)) ∙ sym c.is_parted.ensures ∙ c.if-is_parted.true in
-    rw (take_rest s 1) (single_in_text t s c.gaps.result refl c.gaps.ensures.value (omega arith) parted)
+    let after = c.in-Some.ensures in
+    let parted = ap is_parted (sym (take_rest s 1)) ∙ after.0 in
+    single_in_text t s c.gaps.result refl c.gaps.ensures.value (omega arith) parted
+    ∙ ap (λ l. take 1 s ∷ l) (ap tokens (sym (take_rest s 1)) ∙ sym after.1)

@@ -1,0 +1,77 @@
+-- The digits that a text begins with.
+use Rattle.std.proofs.Common.{◌≡◌, ◌∙◌, ◌<◌, ◌≤◌, ◌+◌, ◌-◌, ◌*◌, ◌/◌, ◌%◌, ◌^◌, ◌&&◌, ℕ, Bool, true, false, not, List, [], ◌∷◌, Some, length, take, get_or, refl, sym, ap, arith}
+use Rattle.std.proofs.Common.{mod-eq_of_lt, mul_assoc}
+use Rattle.std.proofs.Math.Nat.{add-mul-mod_self_left, div-add-mod, mod-add-mod, pow-le-pow_right}
+use Rattle.std.specs.Char.{digit_value}
+use Rattle.std.specs.List.{list_all}
+use Rattle.std.specs.Str.Parse.{AllDigits, digits_value}
+use Rattle.std.proofs.lemmas.Bool.{and_parts, false≢true}
+use Rattle.std.proofs.lemmas.Int.Digits.{digits_value-lt, digits_value_more}
+use Rattle.std.proofs.lemmas.List.{get_or-take, length-take}
+use Rattle.std.proofs.lemmas.List.Folds.{list_all_at, list_all_more}
+use Rattle.std.proofs.lemmas.List.Sums.{position_or_len_is}
+use Rattle.std.proofs.lemmas.Str.{digit_value_digit}
+use Rattle.cf_io.proofs.CallerLemmas.{number_spelled}
+use Rattle.cf_io.specs.Numbers.{digits_first, is_digit, number_in}
+
+-- one digit more
+pub digits_more : (text : List ℕ) (i : ℕ) → i < length text → is_digit (get_or text i 0) ≡ true → list_all is_digit (take i text) ≡ true
+    → list_all is_digit (take (i + 1) text) ≡ true
+digits_more text i inside digit before = list_all_more is_digit text i 0 inside ∙ ap (λ b. b && is_digit (get_or text i 0)) before ∙ digit
+
+digit_from_0 : (c : ℕ) → is_digit c ≡ true → digit_value c + 48 ≡ c
+digit_from_0 c is = digit_value_digit c (grind (arith, is))
+
+-- a value that is kept modulo w, one digit on
+pub value_wraps : (text : List ℕ) (i v w : ℕ) → i < length text → is_digit (get_or text i 0) ≡ true → v ≡ digits_value 10 (take i text) % w
+    → ((v * 10) % w + (get_or text i 0 - 48)) % w ≡ digits_value 10 (take (i + 1) text) % w
+value_wraps text i v w inside digit value =
+    let all = digits_value 10 (take i text) in
+    let d = get_or text i 0 - 48 in
+    let parts : w * (all / w) + all % w ≡ all = div-add-mod all w in
+    let tens : w * (all / w) * 10 ≡ w * (all / w * 10) = mul_assoc w (all / w) 10 in
+    let next : digits_value 10 (take (i + 1) text) ≡ v * 10 + d + w * (all / w * 10) =
+    omega (arith, digits_value_more 10 text i inside, digit_from_0 (get_or text i 0) digit, value, parts, tens) in
+    mod-add-mod (v * 10) w d ∙ sym (add-mul-mod_self_left (v * 10 + d) w (all / w * 10)) ∙ ap (λ n. n % w) (sym next)
+
+-- a byte before one up to which all are digits is a digit
+digit_before : (text : List ℕ) (i k : ℕ) → i ≤ length text → list_all is_digit (take i text) ≡ true → k < i → is_digit (get_or text k 0) ≡ true
+digit_before text i k within all below = go (is_digit (get_or text k 0)) refl
+  where
+    go : (b : Bool) → is_digit (get_or text k 0) ≡ b → is_digit (get_or text k 0) ≡ true
+    go true is = is
+    go false isnt =
+        let inside : k < length (take i text) = omega (arith, length-take i text) in
+        let no = list_all_at is_digit (take i text) k 0 inside (ap is_digit (get_or-take i text k 0 below) ∙ isnt) in
+        absurd (false≢true (sym no ∙ all))
+
+-- the first digits end where digits do
+pub digits_end : (text : List ℕ) (i : ℕ) → i ≤ length text → list_all is_digit (take i text) ≡ true
+    → (i < length text → is_digit (get_or text i 0) ≡ false) → digits_first text ≡ i
+digits_end text i within all ends =
+    position_or_len_is (λ b. not (is_digit b)) text i 0 within (λ k below. ap not (digit_before text i k within all below)) (λ inside. ap not (ends inside))
+
+all_digits : (cs : List ℕ) → list_all is_digit cs ≡ true → AllDigits 10 cs
+all_digits [] all = tt
+all_digits (c ∷ cs) all =
+    let parts = and_parts (is_digit c) (list_all is_digit cs) all in
+    let most : c ≤ 57 = grind (arith, parts.0) in
+    (omega (arith, most, digit_from_0 c parts.0), all_digits cs parts.1)
+
+-- at most nine digits spell less than a billion
+few_digits : (text : List ℕ) (i : ℕ) → i ≤ length text → i < 10 → list_all is_digit (take i text) ≡ true → digits_value 10 (take i text) < 1000000000
+few_digits text i within few all =
+    let below = digits_value-lt 10 (take i text) (all_digits (take i text) all) in
+    let size : length (take i text) ≤ 9 = omega (arith, length-take i text) in
+    let most : 10 ^ length (take i text) ≤ 10 ^ 9 = pow-le-pow_right (omega arith) size in
+    let nine : 10 ^ 9 ≡ 1000000000 = refl in
+    omega (arith, below, most, nine)
+
+-- so few digits spell the number that is kept
+pub few_spell : (text : List ℕ) (i v : ℕ) → i ≤ length text → 0 < i → i < 10 → list_all is_digit (take i text) ≡ true
+    → v ≡ digits_value 10 (take i text) % 2 ^ 32 → Some v ≡ number_in (take i text)
+few_spell text i v within some few all value =
+    let fits = few_digits text i within few all in
+    let same : v ≡ digits_value 10 (take i text) = value ∙ mod-eq_of_lt (omega (arith, fits)) in
+    let size = length-take i text in
+    sym (number_spelled (take i text) v (record { some = omega (arith, size); digits = all; value = same; bound = omega (arith, fits, same) }))
