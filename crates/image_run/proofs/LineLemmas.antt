@@ -1,5 +1,5 @@
 -- Lines that are built field by field are those of commands.
-use Rattle.std.proofs.Common.{◌≡◌, ◌∙◌, ◌++◌, List, [], ◌∷◌, ℕ, Option, ap, refl, sym, subst, append_assoc, append-nil}
+use Rattle.std.proofs.Common.{◌≡◌, ◌∙◌, ◌++◌, List, [], ◌∷◌, ℕ, Option, ap, sym, subst, append_assoc, append-nil}
 use Rattle.std.specs.Prelude.{Result, codes, decimal}
 use Rattle.cf_base.specs.declared.answers.Failed.{Failed}
 use Rattle.cf_io.specs.Feeds.{Puts}

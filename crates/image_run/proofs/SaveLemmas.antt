@@ -1,20 +1,19 @@
 -- What the end of a script tells, where its settings are kept.
-use Rattle.std.proofs.Common.{◌≡◌, ◌≢◌, ◌<◌, ◌∙◌, ◌⊎◌, ℕ, List, [], Bool, false, true, Option, Some, None, refl, ap, sym, subst, inl, inr, arith}
-use Rattle.std.specs.Prelude.{IsTrue, Result, Ok, Err, option_map, if◌then◌else◌}
-use Rattle.cf_base.specs.Settings.{Profile, profile_of}
+use Rattle.std.proofs.Common.{◌≡◌, ◌≢◌, ◌∙◌, ℕ, List, [], false, Option, Some, None, refl, ap, sym, subst, inl, inr, arith}
+use Rattle.std.specs.Prelude.{Err, option_map, if◌then◌else◌}
+use Rattle.cf_base.specs.Settings.{profile_of}
 use Rattle.cf_base.specs.declared.answers.Failed.{Failed}
 use Rattle.cf_base.specs.declared.settings.Settings.{Settings}
 use Rattle.cf_base.specs.declared.status.Status.{Status}
 use Rattle.cf_base.specs.declared.status.Status.TheVariants.{Done, Words, BadScript, ReadFault, WriteFault, OutOfMemory, TooLong, BadImage}
 use Rattle.cf_io.specs.Feeds.{Puts, Rose, appended, last_count}
-use Rattle.cf_model.specs.State.{HeapState}
 use Rattle.heap_image.specs.Heaps.{heap_image}
-use Rattle.image_run.specs.Saves.{EndsSave, WritesAtEnd, saved, script_status, unseen}
+use Rattle.image_run.specs.Saves.{EndsSave, saved}
 use Rattle.run_model.specs.Sessions.{IsGoing, RunState}
 use Rattle.script_loop.proofs.CallerLemmas.{appended_none, wrote_settled}
 use Rattle.script_loop.specs.OneManager.{one_manager}
 use Rattle.script_loop.specs.ScriptOutcome.{Effects, HasRun, IsRow, IsRowOf, MeetsOutcome, StandsAfter}
-use Rattle.script_loop.specs.WithSettings.{GoesWith, Settled, settled, with_settings}
+use Rattle.script_loop.specs.WithSettings.{GoesWith, Settled, with_settings}
 
 -- a sink that nobody sees never fails
 pub never_cut : (st : Status) → (st ≡ WriteFault → Rose 0 0) → st ≡ WriteFault → ⊥

@@ -1,5 +1,5 @@
 -- The script of what is live, written object by object.
-use Rattle.std.proofs.Common.{◌≡◌, ◌∙◌, ◌++◌, ◌+◌, ◌-◌, ℕ, suc, List, [], ◌∷◌, Option, Some, None, refl, ap, sym, arith, append_assoc, append-nil, subst}
+use Rattle.std.proofs.Common.{◌≡◌, ◌∙◌, ◌++◌, ◌+◌, ◌-◌, ℕ, suc, List, [], ◌∷◌, Option, Some, None, refl, ap, sym, arith, append_assoc, append-nil}
 use Rattle.std.specs.Prelude.{Result, Err, length}
 use Rattle.std.specs.FinMap.{entries, get}
 use Rattle.cf_base.specs.Settings.{Profile}

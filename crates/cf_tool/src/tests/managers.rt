@@ -286,7 +286,7 @@ fn a_mode_answers_on_the_managers_that_it_names(rt: HostRuntime) -> Result<(), F
 /// tells them.
 fn long_script(rt: &HostRuntime) -> Result<Vec<u8>, Fail> {
     let alloc = rt.alloc();
-    let mut script = b"heap 1 32768 1 2\nm 3 4098\nw 3 0 ".to_vec(alloc)?;
+    let mut script = b"heap 2 32768 1 2\nm 3 4098\nw 3 0 ".to_vec(alloc)?;
     for _i in 0..4_096 {
         script.extend_from_slice(b"a5")?;
     }
@@ -300,10 +300,16 @@ fn what_is_saved_is_loaded_as_its_script(rt: HostRuntime) -> Result<(), Fail> {
     let script = long_script(&rt)?;
     let mut source = SureSource::new(script.clone()?);
     let mut image = plain_sink(&rt)?;
-    assert_eq!(rt; answer_by(&rt, &["save"], &mut source, &mut image)?, Status::Done);
+    assert_eq!(rt;
+        answer_by(&rt, &["save"], &mut source, &mut image)?,
+        Status::Done
+    );
     let mut source = SureSource::new(image.written().to_vec(alloc)?);
     let mut sink = plain_sink(&rt)?;
-    assert_eq!(rt; answer_by(&rt, &["load"], &mut source, &mut sink)?, Status::Done);
+    assert_eq!(rt;
+        answer_by(&rt, &["load"], &mut source, &mut sink)?,
+        Status::Done
+    );
     assert_eq!(rt; sink.written(), script.as_slice());
     Ok(())
 }
