@@ -2,6 +2,7 @@
 use Rattle.std.proofs.Common.{◌≡◌, ◌<◌, ◌+◌, ◌⊎◌, ◌∙◌, arith, ℕ, List, [], Option, Some, None, refl, ap, sym, subst, length, get_or, set, map, inl, inr}
 use Rattle.std.proofs.lemmas.List.{get_or-map, length-map, map-set}
 use Rattle.cf_base.specs.declared.kind.Kind.{Kind}
+use Rattle.cf_base.specs.declared.kind.Kind.TheVariants.{Moving}
 use Rattle.cf_base.specs.declared.status.Status.{Status}
 use Rattle.cf_base.specs.declared.status.Status.TheVariants.{Done, Words, BadScript, ReadFault, WriteFault, OutOfMemory, TooLong, BadImage}
 use Rattle.cf_io.specs.Feeds.{Rose, last_count}
@@ -9,13 +10,15 @@ use Rattle.cf_model.specs.State.{HeapState, closed_state}
 use Rattle.cf_session.specs.Apply.{run_at}
 use Rattle.run_model.specs.Sessions.{RunState, SessionState, fresh_session}
 use Rattle.script_loop.specs.OneManager.{one_manager}
-use Rattle.script_loop.specs.ScriptOutcome.{MOST_BYTES, MeetsOutcome}
+use Rattle.image_run.specs.Loads.{EndsLoad}
+use Rattle.image_run.specs.Saves.{EndsSave}
+use Rattle.script_loop.specs.ScriptOutcome.{Effects, MOST_BYTES, MeetsOutcome}
 use Rattle.side_by_side.proofs.CallerLemmas.{begun_many, chosen_first, chosen_kinds, chosen_none, first_within, with_first, with_none}
 use Rattle.side_by_side.specs.First.{chosen_of, first_of_kind, with_chosen}
 use Rattle.side_by_side.specs.Many.{AreFresh, Many, kinds_of, many_at, many_managers}
 use Rattle.bench_run.specs.Bench.{EndsBench}
 use Rattle.command_line.specs.declared.choice.Choice.{Choice}
-use Rattle.cf_tool.specs.TopOutcome.{Benches, Compares, Ends, Handed, OrLacks, Runs, SinkState, SourceState, effects_of, handed}
+use Rattle.cf_tool.specs.TopOutcome.{Benches, Compares, Ends, Handed, Loads, OrLacks, Runs, Saves, SinkState, SourceState, effects_of, handed}
 
 -- what a mode asks was done, and nothing was written where memory was wanting
 or_lacks : (Does : Handed → Status → Handed → Type 0) (old : Handed) (st : Status) (new : Handed)
@@ -177,3 +180,32 @@ module _ (choice : Choice) (k k' : SinkState) (st : Status) (session : SessionSt
         unread = refl;
         untouched = refl;
       })
+
+-- a moving manager was made, and its session begun
+module _ (s s' : SourceState) (k k' : SinkState) (hs : List HeapState) (st : Status) (session : SessionState) (old : HeapState) (end : RunState)
+    (fresh : session ≡ fresh_session) (closed : old ≡ closed_state Moving) where
+  begun : run_at session old ≡ run_at fresh_session (closed_state Moving)
+  begun = ap (λ t. run_at t old) fresh ∙ ap (λ h. run_at fresh_session h) closed
+
+  abbrev call : Effects
+  call = effects_of (handed s k hs) st (handed s' k' hs)
+
+  -- a script was saved
+  pub saved_ends : HaveCauses s k st s' k' → EndsSave (run_at session old) call end → Ends Saves (handed s k hs) st (handed s' k' hs)
+  saved_ends causes ends = ends_of Saves s k hs st s' k' hs causes refl
+      (record { end = end; outcome = subst (λ (from : RunState). EndsSave from call end) begun ends; untouched = refl })
+
+  abbrev call_as : Status → Effects
+  call_as st = effects_of (handed s k hs) st (handed s' k' hs)
+
+  -- an image was loaded
+  pub loaded_ends : (st ≡ ReadFault → Rose s.faults s'.faults) → (st ≡ WriteFault → Rose k.faults k'.faults) → EndsLoad (run_at session old) call end
+      → Ends Loads (handed s k hs) st (handed s' k' hs)
+  loaded_ends read_fault write_fault ends = ends_of Loads s k hs st s' k' hs
+      (record {
+        silent = λ is. (subst (λ (st : Status). EndsLoad (run_at session old) (call_as st) end) is ends).1;
+        read_fault = read_fault;
+        write_fault = write_fault;
+        too_long = λ is. absurd (subst (λ (st : Status). EndsLoad (run_at session old) (call_as st) end) is ends);
+      }) refl
+      (record { end = end; outcome = subst (λ (from : RunState). EndsLoad from call end) begun ends; untouched = refl })

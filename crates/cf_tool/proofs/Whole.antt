@@ -5,14 +5,17 @@ use Rattle.std.proofs.lemmas.List.{take_all}
 use Rattle.std.specs.Prelude.{nat_le}
 use Rattle.clap.specs.Words.{Text}
 use Rattle.cf_base.specs.declared.kind.Kind.{Kind}
+use Rattle.cf_base.specs.declared.kind.Kind.TheVariants.{Moving}
 use Rattle.cf_base.specs.declared.status.Status.{Status}
 use Rattle.cf_base.specs.declared.status.Status.TheVariants.{Done, Words, BadScript, ReadFault, WriteFault, OutOfMemory, TooLong, BadImage}
 use Rattle.cf_io.specs.Feeds.{Rose}
+use Rattle.cf_model.specs.State.{closed_state}
 use Rattle.cf_session.specs.Apply.{run_at}
+use Rattle.command_line.proofs.CallerLemmas.{one_choice}
 use Rattle.command_line.specs.Choices.{Chooses}
 use Rattle.command_line.specs.declared.choice.Choice.{Choice}
 use Rattle.command_line.specs.declared.choice.Mode.{Mode}
-use Rattle.command_line.specs.declared.choice.Mode.TheVariants.{Run, Compare, Bench, Large}
+use Rattle.command_line.specs.declared.choice.Mode.TheVariants.{Run, Compare, Bench, Large, Save, Load}
 use Rattle.script_reader.specs.Items.{items}
 use Rattle.run_model.specs.Sessions.{RunState, fresh_session}
 use Rattle.headline_laws.proofs.CallerLemmas.{headline_met}
@@ -21,12 +24,16 @@ use Rattle.script_loop.specs.Consequences.{AnswersAll}
 use Rattle.script_loop.specs.OneManager.{one_manager}
 use Rattle.script_loop.specs.ScriptOutcome.{Effects, IsClean, IsEnding, IsRow, IsRowOf, MOST_BYTES, MeetsOutcome, has_bad, items_within}
 use Rattle.script_loop.specs.Semantics.{Semantics}
+use Rattle.heap_image.specs.Decoded.{Decoded}
+use Rattle.heap_image.specs.Load.{LoadsBroken}
+use Rattle.image_run.specs.Saves.{unseen}
 use Rattle.large_objects.specs.LargeRun.{LargeRun}
 use Rattle.large_objects.specs.Playing.{large_heap}
 use Rattle.side_by_side.proofs.CallerLemmas.{chosen_kind}
 use Rattle.side_by_side.specs.First.{chosen_of}
 use Rattle.side_by_side.specs.Many.{Many, fresh_many, many_managers}
-use Rattle.cf_tool.specs.TopOutcome.{Benches, Compares, DoesChosen, Ends, EndsWell, EndsWhole, Handed, InMode, OrLacks, PlaysLarge, Runs, TellsChosen, TellsHeadline, TellsInMode, effects_of}
+use Rattle.cf_tool.specs.TopOutcome.{Benches, Compares, DoesChosen, Ends, EndsWell, EndsWhole, Handed, HasRightInput, HoldsImage, InMode, IsRightInput, Loads}
+use Rattle.cf_tool.specs.TopOutcome.{OrLacks, PlaysLarge, Runs, Saves, TellsChosen, TellsHeadline, TellsInMode, effects_of}
 
 -- no script ends by `Words`
 never_words : {S P : Type 0} (m : Semantics S P) (from to : S) (had left : Option (List ℕ)) (call : Effects) → call.status ≡ Words
@@ -243,3 +250,89 @@ module _ (words : List Text) (choice : Choice) (chosen : Chooses words choice) (
     chosen = chosen;
     tells = subst (λ (m : Mode). TellsInMode m choice.kind (effects_of old st new)) (sym is_large) tt;
   }
+
+-- Mode `save`.
+save_never_words : (old new : Handed) → Saves old Words new → ⊥
+save_never_words old new done =
+    never_words one_manager (run_at fresh_session (closed_state Moving)) done.end old.source.rest new.source.rest (unseen (effects_of old Words new)) refl
+    done.outcome.script
+
+pub save_whole : (old : Handed) (st : Status) (new : Handed) → Ends Saves old st new → IsClean old.source.rest
+    → ¬ Rose old.source.faults new.source.faults → ¬ Rose old.sink.faults new.sink.faults → EndsWhole st
+save_whole old st new ends clean sure firm = go st ends.outcome ends.read_fault ends.write_fault
+  where
+    go : (st : Status) → OrLacks Saves old st new → (st ≡ ReadFault → Rose old.source.faults new.source.faults)
+        → (st ≡ WriteFault → Rose old.sink.faults new.sink.faults) → EndsWhole st
+    go Done done read wrote = inl refl
+    go OutOfMemory done read wrote = inr refl
+    go WriteFault done read wrote = absurd (firm (wrote refl))
+    go ReadFault done read wrote = absurd (sure (read refl))
+    go Words done read wrote = absurd (save_never_words old new done)
+    go BadScript done read wrote = met_whole one_manager (run_at fresh_session (closed_state Moving)) done.end old.source.rest new.source.rest
+        (unseen (effects_of old BadScript new)) _ _ _ _ done.outcome.script read wrote clean sure firm
+    go TooLong done read wrote = met_whole one_manager (run_at fresh_session (closed_state Moving)) done.end old.source.rest new.source.rest
+        (unseen (effects_of old TooLong new)) _ _ _ _ done.outcome.script read wrote clean sure firm
+    go BadImage done read wrote = met_whole one_manager (run_at fresh_session (closed_state Moving)) done.end old.source.rest new.source.rest
+        (unseen (effects_of old BadImage new)) _ _ _ _ done.outcome.script read wrote clean sure firm
+
+-- Mode `save` was chosen.
+module _ (words : List Text) (choice : Choice) (chosen : Chooses words choice) (is_save : choice.mode ≡ Save) (old : Handed) (st : Status) (new : Handed)
+    (ends : Ends Saves old st new) where
+  pub save_ends : EndsWell words old st new
+  save_ends = ends_mode words choice Saves chosen
+      (λ from status to done. subst (λ (m : Mode). InMode m choice from status to) (sym is_save) done)
+      save_never_words old st new ends.outcome
+
+  pub save_tells : AnswersAll st → TellsChosen words (effects_of old st new)
+  save_tells is = record {
+    choice = choice;
+    chosen = chosen;
+    tells = subst (λ (m : Mode). TellsInMode m choice.kind (effects_of old st new)) (sym is_save) tt;
+  }
+
+-- Mode `load`.
+load_never_words : (old new : Handed) → Loads old Words new → ⊥
+load_never_words old new done = done.outcome
+
+-- an image isn't broken
+not_broken : (had left : Option (List ℕ)) (from to : RunState) (at : ℕ) → HoldsImage had → LoadsBroken from had at left to → ⊥
+not_broken None left from to at image broken = image
+not_broken (Some all) left from to at image broken =
+    let e : None ≡ Some at = sym image ∙ ap (λ (t : Decoded). t.broken) broken.tells.all_tell ∙ broken.broken in absurd cc
+
+pub load_whole : (old : Handed) (st : Status) (new : Handed) → Ends Loads old st new → HoldsImage old.source.rest
+    → ¬ Rose old.source.faults new.source.faults → ¬ Rose old.sink.faults new.sink.faults → EndsWhole st
+load_whole old st new ends image sure firm = go st ends.outcome ends.read_fault ends.write_fault
+  where
+    go : (st : Status) → OrLacks Loads old st new → (st ≡ ReadFault → Rose old.source.faults new.source.faults)
+        → (st ≡ WriteFault → Rose old.sink.faults new.sink.faults) → EndsWhole st
+    go Done done read wrote = inl refl
+    go OutOfMemory done read wrote = inr refl
+    go WriteFault done read wrote = absurd (firm (wrote refl))
+    go ReadFault done read wrote = absurd (sure (read refl))
+    go BadImage done read wrote =
+        absurd (not_broken old.source.rest new.source.rest (run_at fresh_session (closed_state Moving)) done.end done.outcome.0 image done.outcome.1)
+    go Words done read wrote = absurd done.outcome
+    go BadScript done read wrote = absurd done.outcome
+    go TooLong done read wrote = absurd done.outcome
+
+-- Mode `load` was chosen.
+module _ (words : List Text) (choice : Choice) (chosen : Chooses words choice) (is_load : choice.mode ≡ Load) (old : Handed) (st : Status) (new : Handed)
+    (ends : Ends Loads old st new) where
+  pub load_ends : EndsWell words old st new
+  load_ends = ends_mode words choice Loads chosen
+      (λ from status to done. subst (λ (m : Mode). InMode m choice from status to) (sym is_load) done)
+      load_never_words old st new ends.outcome
+
+  pub load_tells : AnswersAll st → TellsChosen words (effects_of old st new)
+  load_tells is = record {
+    choice = choice;
+    chosen = chosen;
+    tells = subst (λ (m : Mode). TellsInMode m choice.kind (effects_of old st new)) (sym is_load) tt;
+  }
+
+-- What the mode that was chosen reads is right.
+pub right_input : (words : List Text) (choice : Choice) (had : Option (List ℕ)) (mode : Mode) → Chooses words choice → choice.mode ≡ mode
+    → HasRightInput words had → IsRightInput mode had
+right_input words choice had mode chosen is have =
+    subst (λ (m : Mode). IsRightInput m had) (ap (λ (c : Choice). c.mode) (one_choice words choice have.choice chosen have.chosen) ∙ is) have.right

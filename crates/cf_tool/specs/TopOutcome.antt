@@ -12,14 +12,17 @@ use Rattle.cf_session.specs.Apply.{run_at}
 use Rattle.command_line.specs.Choices.{AreRefused, Chooses}
 use Rattle.command_line.specs.declared.choice.Choice.{Choice}
 use Rattle.command_line.specs.declared.choice.Mode.{Mode}
-use Rattle.command_line.specs.declared.choice.Mode.TheVariants.{Run, Compare, Bench, Large}
+use Rattle.command_line.specs.declared.choice.Mode.TheVariants.{Run, Compare, Bench, Large, Save, Load}
 use Rattle.script_reader.specs.Items.{Item}
 use Rattle.run_model.specs.Sessions.{RunState, fresh_session}
 use Rattle.run_model.specs.Texts.{Reply, text_of}
 use Rattle.headline_laws.specs.Headline.{MeetsHeadline}
 use Rattle.script_loop.specs.Consequences.{AnswersAll, TellsTranscript}
 use Rattle.script_loop.specs.OneManager.{one_manager}
-use Rattle.script_loop.specs.ScriptOutcome.{Effects, MOST_BYTES, MeetsOutcome, items_within}
+use Rattle.script_loop.specs.ScriptOutcome.{Effects, IsClean, MOST_BYTES, MeetsOutcome, items_within}
+use Rattle.heap_image.specs.Decoded.{IsImage}
+use Rattle.image_run.specs.Loads.{EndsLoad}
+use Rattle.image_run.specs.Saves.{EndsSave}
 use Rattle.large_objects.specs.LargeRun.{LargeRun}
 use Rattle.large_objects.specs.Playing.{IsFreshLarge, large_heap}
 use Rattle.side_by_side.specs.First.{chosen_of, with_chosen}
@@ -86,11 +89,27 @@ pub record PlaysLarge (old : Handed) (status : Status) (new : Handed) : Type 0 w
   pub outcome : MeetsOutcome large_heap begin (effects_of old status new) end
   pub untouched : new.managers ≡ old.managers
 
+-- Mode `save`: a moving manager, which was never open, is made for the script, whose replies are not printed; what lives at its end is, as an image. No manager
+-- handed in is touched.
+pub record Saves (old : Handed) (status : Status) (new : Handed) : Type 0 where
+  pub end : RunState
+  pub outcome : EndsSave (run_at fresh_session (closed_state Moving)) (effects_of old status new) end
+  pub untouched : new.managers ≡ old.managers
+
+-- Mode `load`: a moving manager, which was never open, is made for the image, and the script that makes what it then holds is printed. No manager handed in is
+-- touched.
+pub record Loads (old : Handed) (status : Status) (new : Handed) : Type 0 where
+  pub end : RunState
+  pub outcome : EndsLoad (run_at fresh_session (closed_state Moving)) (effects_of old status new) end
+  pub untouched : new.managers ≡ old.managers
+
 abbrev pub InMode : Mode → Choice → Handed → Status → Handed → Type 0
 InMode Run choice old status new = Runs choice.kind old status new
 InMode Compare choice old status new = Compares old status new
 InMode Bench choice old status new = Benches choice old status new
 InMode Large choice old status new = PlaysLarge old status new
+InMode Save choice old status new = Saves old status new
+InMode Load choice old status new = Loads old status new
 
 -- the words choose a mode and a kind, and the call did what they ask
 pub record DoesChosen (words : List Text) (old : Handed) (status : Status) (new : Handed) : Type 0 where
@@ -145,6 +164,23 @@ pub record TellsChosen (words : List Text) (call : Effects) : Type 0 where
 abbrev pub TellsAsClaimed : List Text → Handed → Status → Handed → Type 0
 TellsAsClaimed words old status new = AnswersAll status → TellsChosen words (effects_of old status new)
 
--- the whole script was answered, or it ran out of memory
+-- the source is observable, and its bytes are an image
+abbrev pub HoldsImage : Option (List ℕ) → Type 0
+HoldsImage None = ⊥
+HoldsImage (Some all) = IsImage all
+
+-- what a mode reads is right: an image, or a script within the limit with no bad line; mode `bench` reads nothing
+abbrev pub IsRightInput : Mode → Option (List ℕ) → Type 0
+IsRightInput Bench had = ⊤
+IsRightInput Load had = HoldsImage had
+IsRightInput mode had = IsClean had
+
+-- the words choose a mode, and what it reads is right
+pub record HasRightInput (words : List Text) (had : Option (List ℕ)) : Type 0 where
+  pub choice : Choice
+  pub chosen : Chooses words choice
+  pub right : IsRightInput choice.mode had
+
+-- all that the mode asks was done, or it ran out of memory
 abbrev pub EndsWhole : Status → Type 0
 EndsWhole status = (status ≡ Done) ⊎ (status ≡ OutOfMemory)

@@ -4,6 +4,7 @@
 mod benching;
 mod boxed;
 mod comparing;
+mod images;
 mod large;
 mod running;
 mod top;

@@ -1,13 +1,13 @@
 //! The top call.
 ghost use Rattle.std.specs.Prelude.{◌≡◌, ◌<◌, ◌+◌, ◌⊎◌, map, string_bytes};
 ghost use Rattle.cf_io.specs.Feeds.{Rose, last_count};
-ghost use Rattle.script_loop.specs.ScriptOutcome.{IsClean, MOST_BYTES};
-ghost use Rattle.command_line.specs.Choices.{AreAccepted};
-ghost use Rattle.cf_tool.specs.TopOutcome.{EndsWell, EndsWhole, TellsAsClaimed, handed, sink_at, source_at};
+ghost use Rattle.script_loop.specs.ScriptOutcome.{MOST_BYTES};
+ghost use Rattle.cf_tool.specs.TopOutcome.{EndsWell, EndsWhole, HasRightInput, TellsAsClaimed, handed, sink_at, source_at};
 
 use crate::benching::bench;
 use crate::boxed::Boxed;
 use crate::comparing::compare;
+use crate::images::{load_image, save_image};
 use crate::large::play_large;
 use crate::running::run_chosen;
 use cf_base::Status;
@@ -23,7 +23,9 @@ use std::rt::Runtime;
 /// or a closed one that is made where none is of the kind: its `heap` line opens the manager, and each
 /// command is answered before the next chunk is taken from the source. No other manager is touched.
 /// In mode `compare` every manager handed in answers, in order: each line of its replies after its
-/// name, and `bad line` once and without a name. The call ends at the end of the script with `Done`; at a line that isn't in the grammar at its
+/// name, and `bad line` once and without a name. Mode `save` prints no reply, and at the end what lives
+/// as an image; mode `load` reads an image, and prints the script that makes what it holds, or answers
+/// `BadImage`. The call ends at the end of the script with `Done`; at a line that isn't in the grammar at its
 /// place with `BadScript`; where more bytes come with `TooLong`; at a fault with `ReadFault` or
 /// `WriteFault`; and out of memory with `OutOfMemory`, before any reply. It answers `Words` exactly
 /// where `clap` refuses the words for another cause than memory.
@@ -50,7 +52,7 @@ pub fn cf_main<R: Runtime, S: Source, K: Sink>(
         (sink_at (K.written sink.new) (K.faults sink.new)) (map ⟦<Boxed as Manager>⟧.state managers.new.items)) }
     ensures kinds { map (λ h. h.kind) (map ⟦<Boxed as Manager>⟧.state managers.new.items)
         ≡ map (λ h. h.kind) (map ⟦<Boxed as Manager>⟧.state managers.old.items) }
-    ensures complete { AreAccepted (map (λ word. string_bytes word) words.now) → IsClean (S.rest source.old)
+    ensures complete { HasRightInput (map (λ word. string_bytes word) words.now) (S.rest source.old)
         → ¬ Rose (S.faults source.old) (S.faults source.new) → ¬ Rose (K.faults sink.old) (K.faults sink.new) → EndsWhole result }
     // The causes, over every source and sink.
     ensures read_fault { result ≡ Status.ReadFault → Rose (S.faults source.old) (S.faults source.new) }
@@ -70,5 +72,7 @@ pub fn cf_main<R: Runtime, S: Source, K: Sink>(
         Mode::Compare => compare(rt, alloc, managers, source, sink),
         Mode::Bench => bench(rt, alloc, choice, sink),
         Mode::Large => play_large(rt, alloc, source, sink),
+        Mode::Save => save_image(rt, alloc, source, sink),
+        Mode::Load => load_image(rt, alloc, source, sink),
     }
 }

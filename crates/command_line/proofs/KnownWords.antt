@@ -11,7 +11,7 @@ use Rattle.command_line.specs.Choices.{AreRefused, Chooses, choice_of, chosen}
 use Rattle.command_line.specs.Command.{mode_name}
 use Rattle.command_line.specs.declared.choice.Choice.{Choice}
 use Rattle.command_line.specs.declared.choice.Mode.{Mode}
-use Rattle.command_line.specs.declared.choice.Mode.TheVariants.{Run, Compare, Bench, Large}
+use Rattle.command_line.specs.declared.choice.Mode.TheVariants.{Run, Compare, Bench, Large, Save, Load}
 
 pub no_words : (name : Text) → Chooses (name ∷ []) (chosen Run Moving 0 1000)
 unfolding clap_on_literals
@@ -41,6 +41,14 @@ said_words name Large Moving = as_chosen (said name Large Moving) (chosen Large 
 said_words name Large NonMoving = as_chosen (said name Large NonMoving) (chosen Large NonMoving 5 7) refl refl
 said_words name Large Tlsf = as_chosen (said name Large Tlsf) (chosen Large Tlsf 5 7) refl refl
 said_words name Large HalfFit = as_chosen (said name Large HalfFit) (chosen Large HalfFit 5 7) refl refl
+said_words name Save Moving = as_chosen (said name Save Moving) (chosen Save Moving 5 7) refl refl
+said_words name Save NonMoving = as_chosen (said name Save NonMoving) (chosen Save NonMoving 5 7) refl refl
+said_words name Save Tlsf = as_chosen (said name Save Tlsf) (chosen Save Tlsf 5 7) refl refl
+said_words name Save HalfFit = as_chosen (said name Save HalfFit) (chosen Save HalfFit 5 7) refl refl
+said_words name Load Moving = as_chosen (said name Load Moving) (chosen Load Moving 5 7) refl refl
+said_words name Load NonMoving = as_chosen (said name Load NonMoving) (chosen Load NonMoving 5 7) refl refl
+said_words name Load Tlsf = as_chosen (said name Load Tlsf) (chosen Load Tlsf 5 7) refl refl
+said_words name Load HalfFit = as_chosen (said name Load HalfFit) (chosen Load HalfFit 5 7) refl refl
 
 pub help_asked : (name : Text) (rest : List Text) → AreRefused (name ∷ codes "--help" ∷ rest)
 unfolding clap_on_literals

@@ -10,7 +10,7 @@ use Rattle.clap.specs.ValueTests.{accepts}
 use Rattle.command_line.specs.Command.{IsCfApp, any_u64, mode_name}
 use Rattle.command_line.specs.declared.choice.Choice.{Choice}
 use Rattle.command_line.specs.declared.choice.Mode.{Mode}
-use Rattle.command_line.specs.declared.choice.Mode.TheVariants.{Run, Compare, Bench, Large}
+use Rattle.command_line.specs.declared.choice.Mode.TheVariants.{Run, Compare, Bench, Large, Save, Load}
 use Rattle.command_line.specs.declared.choice.WordsFault.{WordsFault}
 use Rattle.command_line.specs.declared.choice.WordsFault.TheVariants.{Refused, OutOfMemory}
 
@@ -18,7 +18,9 @@ use Rattle.command_line.specs.declared.choice.WordsFault.TheVariants.{Refused, O
 abbrev pub mode_named : Option Text → Mode
 mode_named None = Run
 mode_named (Some name) = if bytes_eq name (mode_name Compare) then Compare
-    else (if bytes_eq name (mode_name Bench) then Bench else (if bytes_eq name (mode_name Large) then Large else Run))
+    else (if bytes_eq name (mode_name Bench) then Bench
+    else (if bytes_eq name (mode_name Large) then Large
+    else (if bytes_eq name (mode_name Save) then Save else (if bytes_eq name (mode_name Load) then Load else Run))))
 
 -- the kind of a name; the command lets no other name through
 abbrev pub kind_named : Option Text → Kind

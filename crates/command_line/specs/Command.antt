@@ -7,7 +7,7 @@ use Rattle.clap.specs.Words.{App, Rule, Text, new_app, new_rule, with_rule}
 use Rattle.clap.specs.declared.builder.value_parser.ValueParser.{ValueParser}
 use Rattle.clap.specs.declared.builder.value_parser.ValueParser.TheVariants.{Names, Unsigned}
 use Rattle.command_line.specs.declared.choice.Mode.{Mode}
-use Rattle.command_line.specs.declared.choice.Mode.TheVariants.{Run, Compare, Bench, Large}
+use Rattle.command_line.specs.declared.choice.Mode.TheVariants.{Run, Compare, Bench, Large, Save, Load}
 
 -- a borrowed list of borrowed names, as `clap` keeps it
 abbrev pub NameList : Type 0
@@ -22,9 +22,11 @@ mode_name Run = codes "run"
 mode_name Compare = codes "compare"
 mode_name Bench = codes "bench"
 mode_name Large = codes "large"
+mode_name Save = codes "save"
+mode_name Load = codes "load"
 
 abbrev pub mode_names : List Text
-mode_names = map mode_name (Run ∷ Compare ∷ Bench ∷ Large ∷ [])
+mode_names = map mode_name (Run ∷ Compare ∷ Bench ∷ Large ∷ Save ∷ Load ∷ [])
 
 abbrev pub manager_names : List Text
 manager_names = kind_name Moving ∷ kind_name NonMoving ∷ kind_name Tlsf ∷ kind_name HalfFit ∷ []

@@ -13,6 +13,10 @@ pub enum Mode {
     Bench,
     /// Answer a script whose objects may be larger than a page.
     Large,
+    /// Answer a script, and write what lives at its end as a heap image.
+    Save,
+    /// Load a heap image, and write the script that makes what it holds.
+    Load,
 }
 
 /// What the arguments chose: the mode, the manager's kind, and the seed and the number of commands of a

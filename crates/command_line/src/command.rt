@@ -7,7 +7,7 @@ ghost use Rattle.command_line.specs.Command.{manager_names, mode_names, texts_of
 use clap::{Arg, Command, value_parser};
 use std::alloc::{AllocError, Global};
 
-static MODES: [&str; 4] = ["run", "compare", "bench", "large"];
+static MODES: [&str; 6] = ["run", "compare", "bench", "large", "save", "load"];
 
 static MANAGERS: [&str; 4] = ["cf", "nm", "tlsf", "half"];
 

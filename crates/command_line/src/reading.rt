@@ -19,6 +19,8 @@ fn mode_named(name: Option<&str>) -> Mode
         Some("compare") => Mode::Compare,
         Some("bench") => Mode::Bench,
         Some("large") => Mode::Large,
+        Some("save") => Mode::Save,
+        Some("load") => Mode::Load,
         _ => Mode::Run,
     }
 }

@@ -28,6 +28,8 @@ fn words_are_taken(rt: HostRuntime) -> Result<(), Fail> {
         ),
         (["bench"].as_slice(), Mode::Bench, Kind::Moving, 0, 1_000),
         (["large"].as_slice(), Mode::Large, Kind::Moving, 0, 1_000),
+        (["save"].as_slice(), Mode::Save, Kind::Moving, 0, 1_000),
+        (["load"].as_slice(), Mode::Load, Kind::Moving, 0, 1_000),
         (["--", "run"].as_slice(), Mode::Run, Kind::Moving, 0, 1_000),
         (
             ["--manager", "cf"].as_slice(),

@@ -14,3 +14,4 @@ mod MarkLemmas
 mod FillLemmas
 mod PartLemmas
 mod SettingsLemmas
+pub mod CallerLemmas

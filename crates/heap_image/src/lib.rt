@@ -15,4 +15,4 @@ pub use laws::{
     what_lives_has_an_image,
 };
 pub use loading::load;
-pub use saving::save;
+pub use saving::{length_of, save};

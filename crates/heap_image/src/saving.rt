@@ -110,7 +110,7 @@ fn put_object<H: Manager, K: Sink>(
 }
 
 /// The length of an object in bytes, as its header says.
-fn length_of<H: Manager>(heap: &H, h: Handle, meter: &mut Meter) -> u32
+pub fn length_of<H: Manager>(heap: &H, h: Handle, meter: &mut Meter) -> u32
     requires moving { (H.state heap.now).kind ≡ Moving }
     requires open { IsTrue (H.state heap.now).is_open }
     requires live { (x : Placed) × (map.get (H.state heap.now).held h.0 ≡ Some x) }

@@ -1,16 +1,16 @@
 -- A run that keeps the settings of the `heap` line.
-use Rattle.std.proofs.Common.{◌≡◌, ◌∙◌, ℕ, List, [], ◌∷◌, Option, Some, None, Result, Ok, Err, refl, sym, ap, subst}
-use Rattle.std.specs.Prelude.{⊤, option_map}
+use Rattle.std.proofs.Common.{◌∙◌, ℕ, List, [], ◌∷◌, Option, Some, None, Result, Ok, Err, refl, sym, ap, subst}
+use Rattle.std.specs.Prelude.{option_map}
 use Rattle.cf_base.specs.Settings.{profile_of}
 use Rattle.cf_base.specs.declared.settings.Settings.{Settings}
 use Rattle.cf_model.specs.State.{HeapState}
 use Rattle.run_model.proofs.CallerLemmas.{begins_going, step_going, step_same}
-use Rattle.run_model.specs.Sessions.{IsGoing, RunState}
+use Rattle.run_model.specs.Sessions.{RunState}
 use Rattle.run_model.specs.Texts.{Reply}
 use Rattle.script_loop.specs.OneManager.{one_manager}
 use Rattle.script_loop.specs.ScriptOutcome.{Effects, StandsAfter, Wrote}
 use Rattle.script_loop.specs.Semantics.{AnswersBy, OpensBy, RunBy, Semantics, StepBy, snapshot}
-use Rattle.script_loop.specs.WithSettings.{IsOpenWith, Settled, settled, with_settings}
+use Rattle.script_loop.specs.WithSettings.{GoesWith, Settled, settled, with_settings}
 use Rattle.script_loop.specs.declared.player.OpenFault.{OpenFault}
 use Rattle.script_loop.specs.declared.player.OpenFault.TheVariants as fault
 use Rattle.cf_base.specs.declared.answers.Failed.{Failed}
@@ -30,11 +30,6 @@ module _ {S P T : Type 0} (m : Semantics S P) (old new : S) (before : Option Set
       → AnswersBy (with_settings m) (snapshot (settled old before) w) c r (snapshot (settled new before) w')
   answers_settled c (Ok u) a = record { reply = a.reply; turns = (a.turns, refl); written = a.written }
   answers_settled c (Err e) a = record { out = a.out; turns = (a.turns, refl); written = a.written }
-
--- it goes on with the settings that it keeps
-abbrev GoesWith : Option (Settled RunState) → Type 0
-GoesWith None = ⊤
-GoesWith (Some s) = IsGoing s.state × (option_map profile_of s.settings ≡ Some s.state.heap.profile)
 
 abbrev seen : Option (Settled RunState) → Option RunState
 seen = option_map (λ (s : Settled RunState). s.state)
@@ -66,16 +61,12 @@ module _ (from : Settled RunState) where
       let rest = run_settled mid items more new first.1 run in
       ((seen mid, reply, more, first.0, are, rest.0), rest.1)
 
-  open_with : (s : Option (Settled RunState)) → GoesWith s → IsOpenWith s
-  open_with None on = tt
-  open_with (Some s) on = on.1
-
   stands_seen : (end : Option (Settled RunState)) (to : Settled RunState) → StandsAfter from end to → StandsAfter from.state (seen end) to.state
   stands_seen None to is = ap (λ (s : Settled RunState). s.state) is
   stands_seen (Some s) to is = ap (λ (s : Settled RunState). s.state) is
 
   pub wrote_settled : (to : Settled RunState) (wanted : List Item) (call : Effects) (w : Wrote (with_settings one_manager) from wanted call to)
-      → Wrote one_manager from.state wanted call to.state × IsOpenWith w.end
+      → Wrote one_manager from.state wanted call to.state × GoesWith w.end
   wrote_settled to wanted call w =
       let run = run_settled None wanted w.replies w.end tt w.run in
-      (record { replies = w.replies; end = seen w.end; run = run.0; written = w.written; stands = stands_seen w.end to w.stands }, open_with w.end run.1)
+      (record { replies = w.replies; end = seen w.end; run = run.0; written = w.written; stands = stands_seen w.end to w.stands }, run.1)

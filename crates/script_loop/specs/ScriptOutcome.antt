@@ -93,6 +93,10 @@ IsRowOf m from None left call to = IsEnding call.status
 abbrev pub MeetsOutcome : {S P : Type 0} → Semantics S P → S → Effects → S → Type 0
 MeetsOutcome m from call to = IsRowOf m from call.had call.left call to
 
+-- over every source: a run over some items led here, and its replies were written
+abbrev pub HasRun : {S P : Type 0} → Semantics S P → S → Effects → S → Type 0
+HasRun m from call to = (wanted : List Item) × Wrote m from wanted call to
+
 -- the source is observable, its bytes are within the limit and have no bad line
 abbrev pub IsClean : Option (List ℕ) → Type 0
 IsClean None = ⊥

@@ -2,7 +2,7 @@
 use Rattle.std.specs.Prelude.{◌≡◌, ⊤, Option, Some, None, option_map}
 use Rattle.cf_base.specs.Settings.{profile_of}
 use Rattle.cf_base.specs.declared.settings.Settings.{Settings}
-use Rattle.run_model.specs.Sessions.{RunState}
+use Rattle.run_model.specs.Sessions.{IsGoing, RunState}
 use Rattle.script_loop.specs.Semantics.{Semantics}
 
 -- a state of another player, and the settings that were met
@@ -25,7 +25,7 @@ with_settings m = record {
   lacks = λ old new. m.lacks old.state new.state;
 }
 
--- the manager is open with the settings that are kept
-abbrev pub IsOpenWith : Option (Settled RunState) → Type 0
-IsOpenWith None = ⊤
-IsOpenWith (Some s) = option_map profile_of s.settings ≡ Some s.state.heap.profile
+-- the run goes on, and its manager has the settings that are kept
+abbrev pub GoesWith : Option (Settled RunState) → Type 0
+GoesWith None = ⊤
+GoesWith (Some s) = IsGoing s.state × (option_map profile_of s.settings ≡ Some s.state.heap.profile)

@@ -7,7 +7,7 @@ ghost use Rattle.script_reader.specs.Items.{Item};
 ghost use Rattle.script_loop.specs.Consequences.{AnswersAll, ArePlain, IsPrefixOfRun, PrintsReads, TellsTranscript};
 ghost use Rattle.script_loop.specs.OneManager.{one_manager};
 ghost use Rattle.script_loop.specs.ScriptOutcome.{Effects, MeetsOutcome, Wrote, WroteInPart, items_within};
-ghost use Rattle.script_loop.specs.WithSettings.{IsOpenWith, Settled, with_settings};
+ghost use Rattle.script_loop.specs.WithSettings.{GoesWith, Settled, with_settings};
 
 /// From the outcome of a script: each read that was answered gives the bytes last written through its
 /// id, on any kind of manager.
@@ -50,10 +50,10 @@ pub fn cuts_never_matter()
         → two.before ≡ one.before → two.after ≡ one.after }
 {}
 
-/// A player that keeps the settings answers as the session does, and where its run began the manager
-/// is open with the settings that are kept.
+/// A player that keeps the settings answers as the session does, and where its run began it goes on,
+/// and the manager has the settings that are kept.
 pub fn settings_are_kept()
     ensures { (from to : Settled RunState) (wanted : List Item) (call : Effects)
         (w : Wrote (with_settings one_manager) from wanted call to)
-        → Wrote one_manager from.state wanted call to.state × IsOpenWith w.end }
+        → Wrote one_manager from.state wanted call to.state × GoesWith w.end }
 {}

@@ -1,7 +1,7 @@
 //! The loop over the chunks of a script.
 ghost use Rattle.std.specs.Prelude.{◌≡◌, ◌<◌, ◌+◌, ◌⊎◌};
 ghost use Rattle.cf_io.specs.Feeds.{Rose, last_count};
-ghost use Rattle.script_loop.specs.ScriptOutcome.{MOST_BYTES, MeetsOutcome};
+ghost use Rattle.script_loop.specs.ScriptOutcome.{HasRun, MOST_BYTES, MeetsOutcome};
 
 use crate::answering::{Ready, answer_kept, answer_piece};
 use crate::player::Player;
@@ -30,7 +30,14 @@ pub fn play_script<H, A: Player<H>, S: Source, K: Sink>(
       status = result;
     }) (A.state player.new heap.new) }
     ensures plan { A.semantics.plan (A.state player.new heap.new) ≡ A.semantics.plan (A.state player.old heap.old) }
-    // The causes, also where the source isn't observable.
+    // Where the script was answered to its end, and the causes, also where the source isn't observable.
+    ensures run { result ≡ Status.Done → HasRun A.semantics (A.state player.old heap.old) (record {
+      had = S.rest source.old;
+      left = S.rest source.new;
+      before = K.written sink.old;
+      after = K.written sink.new;
+      status = result;
+    }) (A.state player.new heap.new) }
     ensures silent { result ≡ Status.OutOfMemory → K.written sink.new ≡ K.written sink.old }
     ensures read_fault { result ≡ Status.ReadFault → Rose (S.faults source.old) (S.faults source.new) }
     ensures write_fault { result ≡ Status.WriteFault → Rose (K.faults sink.old) (K.faults sink.new) }

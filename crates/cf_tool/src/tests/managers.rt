@@ -1,7 +1,7 @@
 //! Scripts on the managers that are handed in, and where these stand afterwards.
 
 use super::rows::{MOVE, MOVED};
-use super::{ROOM, answer_with, plain_sink};
+use super::{ROOM, answer_by, answer_with, plain_sink};
 use cf_base::{Kind, Status};
 use cf_io::{Line, MemSink, SureSource};
 use generator::{Generator, command_text};
@@ -23,7 +23,7 @@ struct Case {
 /// The kinds of the program's managers, in its order.
 const FOUR: [Kind; 4] = [Kind::Moving, Kind::NonMoving, Kind::Tlsf, Kind::HalfFit];
 
-const CASES: [Case; 19] = [
+const CASES: [Case; 26] = [
     Case {
         shows: "the first of the kind answers, and no other one is touched",
         words: &[],
@@ -187,6 +187,69 @@ const CASES: [Case; 19] = [
         live: &[],
     },
     Case {
+        shows: "the image of what lives at the end",
+        words: &["save"],
+        managers: &[Kind::Moving],
+        script: b"heap 1 512 1 4\nm 7 3\nw 7 0 616263\n",
+        status: Status::Done,
+        text: b"CFI1\x01\0\0\0\0\x02\0\0\x04\0\0\0\x01\0\0\0\x07\0\x03\0\0\0abc",
+        live: &[None],
+    },
+    Case {
+        shows: "no image where no heap was opened",
+        words: &["save", "--manager=nm"],
+        managers: &[],
+        script: b"# nothing\n",
+        status: Status::Done,
+        text: b"",
+        live: &[],
+    },
+    Case {
+        shows: "no image after a bad line",
+        words: &["save"],
+        managers: &[],
+        script: b"heap 1 512 1 4\nm 7 3\nx\n",
+        status: Status::BadScript,
+        text: b"",
+        live: &[],
+    },
+    Case {
+        shows: "the script of an image",
+        words: &["load"],
+        managers: &[Kind::Moving],
+        script: b"CFI1\x01\0\0\0\0\x02\0\0\x04\0\0\0\x01\0\0\0\x07\0\x03\0\0\0abc",
+        status: Status::Done,
+        text: b"heap 1 512 1 4\nm 7 3\nw 7 0 616263\n",
+        live: &[None],
+    },
+    Case {
+        shows: "an image that is cut",
+        words: &["load"],
+        managers: &[],
+        script: b"CFI1\x01\0\0\0\0\x02\0\0\x04\0\0\0\x01\0\0\0\x07\0\x03\0\0\0ab",
+        status: Status::BadImage,
+        text: b"bad image 26\n",
+        live: &[],
+    },
+    Case {
+        shows: "a byte past an image",
+        words: &["load"],
+        managers: &[],
+        script: b"CFI1\x01\0\0\0\0\x02\0\0\x04\0\0\0\x01\0\0\0\x07\0\x03\0\0\0abc\0",
+        status: Status::BadImage,
+        text: b"bad image 29\n",
+        live: &[],
+    },
+    Case {
+        shows: "a script is no image",
+        words: &["load"],
+        managers: &[],
+        script: b"heap 1 512 1 4\n",
+        status: Status::BadImage,
+        text: b"bad image 0\n",
+        live: &[],
+    },
+    Case {
         shows: "a bench of Half-Fit",
         words: &["bench", "--manager=half", "--count=4"],
         managers: &[],
@@ -216,6 +279,38 @@ fn a_mode_answers_on_the_managers_that_it_names(rt: HostRuntime) -> Result<(), F
         assert_eq!(rt; sink.written(), text, "{shows}");
         assert_eq!(rt; left.live.as_slice(), live, "{shows}");
     }
+    Ok(())
+}
+
+/// A script that makes an object of more bytes than one `w` line has, and an empty one, as mode `load`
+/// tells them.
+fn long_script(rt: &HostRuntime) -> Result<Vec<u8>, Fail> {
+    let alloc = rt.alloc();
+    let mut script = b"heap 2 32768 1 2\nm 3 4098\nw 3 0 ".to_vec(alloc)?;
+    for _i in 0..4_096 {
+        script.extend_from_slice(b"a5")?;
+    }
+    script.extend_from_slice(b"\nw 3 4096 00ff\nm 9 0\n")?;
+    Ok(script)
+}
+
+#[test]
+fn what_is_saved_is_loaded_as_its_script(rt: HostRuntime) -> Result<(), Fail> {
+    let alloc = rt.alloc();
+    let script = long_script(&rt)?;
+    let mut source = SureSource::new(script.clone()?);
+    let mut image = plain_sink(&rt)?;
+    assert_eq!(rt;
+        answer_by(&rt, &["save"], &mut source, &mut image)?,
+        Status::Done
+    );
+    let mut source = SureSource::new(image.written().to_vec(alloc)?);
+    let mut sink = plain_sink(&rt)?;
+    assert_eq!(rt;
+        answer_by(&rt, &["load"], &mut source, &mut sink)?,
+        Status::Done
+    );
+    assert_eq!(rt; sink.written(), script.as_slice());
     Ok(())
 }
 

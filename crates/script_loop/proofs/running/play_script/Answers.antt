@@ -204,3 +204,11 @@ returns-in-Cut-answer_kept-clause-plan g c = c.in-Cut-answer_kept.ensures.goes.c
 
 pub returns-in-Wanting-answer_kept-clause-plan : goal.returns-in-Wanting-answer_kept-clause-plan
 returns-in-Wanting-answer_kept-clause-plan g c = c.in-Wanting-answer_kept.ensures.goes.plan ∙ c.pieces.invariant.answered.plan
+
+pub returns-in-GoesOn-answer_kept-clause-run : goal.returns-in-GoesOn-answer_kept-clause-run
+returns-in-GoesOn-answer_kept-clause-run g c = λ done.
+    let so_far = c.pieces.invariant in
+    let went = rw c.finish.ensures at c.in-GoesOn-answer_kept.ensures.goes in (
+      so_far.answered.done ++ went.answered.done,
+      wrote_then g.A.Player.semantics so_far.answered went.answered _ _ refl (appended_after _ _ _ _ _ so_far.wrote went.wrote),
+    )

@@ -1,0 +1,61 @@
+//! Modes `save` and `load`.
+ghost use Rattle.std.specs.Prelude.{List};
+ghost use Rattle.cf_model.specs.State.{HeapState};
+ghost use Rattle.cf_tool.specs.TopOutcome.{Ends, Loads, Saves, handed, sink_at, source_at};
+
+use cf_base::Status;
+use cf_io::{Sink, Source};
+use cf_session::Session;
+use image_run::{load_script, save_script};
+use moving_heap::MovingHeap;
+use script_loop::WithSettings;
+use std::alloc::Global;
+use std::rt::Runtime;
+
+/// Answers a script on a moving manager that is made for it, and writes the image of what lives at its
+/// end in place of the replies.
+pub fn save_image<R: Runtime, S: Source, K: Sink>(
+    rt: &R,
+    alloc: Global,
+    source: &mut S,
+    sink: &mut K,
+) -> Status
+    ensures { (managers : List HeapState) → Ends Saves
+        (handed (source_at (S.rest source.old) (S.given source.old) (S.faults source.old))
+        (sink_at (K.written sink.old) (K.faults sink.old)) managers)
+        result
+        (handed (source_at (S.rest source.new) (S.given source.new) (S.faults source.new))
+        (sink_at (K.written sink.new) (K.faults sink.new)) managers) }
+{
+    let Ok(session) = Session::start(rt, alloc) else {
+        return Status::OutOfMemory;
+    };
+    let mut player = WithSettings {
+        player: session,
+        settings: None,
+    };
+    let mut heap = MovingHeap::closed(alloc);
+    save_script(rt, &mut player, &mut heap, source, sink)
+}
+
+/// Loads an image into a moving manager that is made for it, and writes the script that makes what it
+/// then holds.
+pub fn load_image<R: Runtime, S: Source, K: Sink>(
+    rt: &R,
+    alloc: Global,
+    source: &mut S,
+    sink: &mut K,
+) -> Status
+    ensures { (managers : List HeapState) → Ends Loads
+        (handed (source_at (S.rest source.old) (S.given source.old) (S.faults source.old))
+        (sink_at (K.written sink.old) (K.faults sink.old)) managers)
+        result
+        (handed (source_at (S.rest source.new) (S.given source.new) (S.faults source.new))
+        (sink_at (K.written sink.new) (K.faults sink.new)) managers) }
+{
+    let Ok(mut session) = Session::start(rt, alloc) else {
+        return Status::OutOfMemory;
+    };
+    let mut heap = MovingHeap::closed(alloc);
+    load_script(rt, &mut session, &mut heap, source, sink)
+}

@@ -1,0 +1,4 @@
+mod LineLemmas
+mod WriteLemmas
+mod TellLemmas
+mod SaveLemmas

@@ -1,0 +1,112 @@
+-- What the end of a script tells, where its settings are kept.
+use Rattle.std.proofs.Common.{◌≡◌, ◌≢◌, ◌∙◌, ℕ, List, [], false, Option, Some, None, refl, ap, sym, subst, inl, inr, arith}
+use Rattle.std.specs.Prelude.{Err, option_map, if◌then◌else◌}
+use Rattle.cf_base.specs.Settings.{profile_of}
+use Rattle.cf_base.specs.declared.answers.Failed.{Failed}
+use Rattle.cf_base.specs.declared.settings.Settings.{Settings}
+use Rattle.cf_base.specs.declared.status.Status.{Status}
+use Rattle.cf_base.specs.declared.status.Status.TheVariants.{Done, Words, BadScript, ReadFault, WriteFault, OutOfMemory, TooLong, BadImage}
+use Rattle.cf_io.specs.Feeds.{Puts, Rose, appended, last_count}
+use Rattle.heap_image.specs.Heaps.{heap_image}
+use Rattle.image_run.specs.Saves.{EndsSave, saved}
+use Rattle.run_model.specs.Sessions.{IsGoing, RunState}
+use Rattle.script_loop.proofs.CallerLemmas.{appended_none, wrote_settled}
+use Rattle.script_loop.specs.OneManager.{one_manager}
+use Rattle.script_loop.specs.ScriptOutcome.{Effects, HasRun, IsRow, IsRowOf, MeetsOutcome, StandsAfter}
+use Rattle.script_loop.specs.WithSettings.{GoesWith, Settled, with_settings}
+
+-- a sink that nobody sees never fails
+pub never_cut : (st : Status) → (st ≡ WriteFault → Rose 0 0) → st ≡ WriteFault → ⊥
+never_cut st cause is = elim (cause is) [ inl less ↦ absurd (omega (arith, less)) | inr last ↦ (let e : 0 ≡ last_count = last in absurd cc) ]
+
+module _ (from to : Settled RunState) (call : Effects) where
+  row_settled : (st : Status) (all left : List ℕ) → (st ≡ WriteFault → ⊥) → IsRow (with_settings one_manager) st from all left call to
+      → IsRow one_manager st from.state all left call to.state
+  row_settled Done all left whole (few, none, good, w) = (few, none, good, (wrote_settled from to _ call w).0)
+  row_settled BadScript all left whole (bad, w) = (bad, (wrote_settled from to _ call w).0)
+  row_settled TooLong all left whole (long, good, w) = (long, good, (wrote_settled from to _ call w).0)
+  row_settled ReadFault all left whole (taken, parts, good, w) = (taken, parts, good, (wrote_settled from to _ call w).0)
+  row_settled WriteFault all left whole row = absurd (whole refl)
+  row_settled OutOfMemory all left whole row = record { lacks = row.lacks; unwritten = row.unwritten }
+  row_settled Words all left whole row = absurd row
+  row_settled BadImage all left whole row = absurd row
+
+  outcome_settled : (had left : Option (List ℕ)) → (call.status ≡ WriteFault → ⊥) → IsRowOf (with_settings one_manager) from had left call to
+      → IsRowOf one_manager from.state had left call to.state
+  outcome_settled (Some all) (Some left) whole met = row_settled call.status all left whole met
+  outcome_settled (Some all) None whole met = met
+  outcome_settled None left whole met = met
+
+  -- no `heap` line came: nothing was opened
+  pub unopened : HasRun (with_settings one_manager) from call to → to.settings ≡ None → from.state.heap.is_open ≡ false → saved to.state ≡ []
+  unopened run none closed = go run.1.end run.1.stands (wrote_settled from to run.0 call run.1).1
+    where
+      go : (end : Option (Settled RunState)) → StandsAfter from end to → GoesWith end → saved to.state ≡ []
+      go None stands on = ap (λ (s : Settled RunState). saved s.state) stands ∙ ap (λ b. if b then heap_image from.state else []) closed
+      go (Some s) stands on =
+          let kept : s.settings ≡ None = ap (λ (s : Settled RunState). s.settings) (sym stands) ∙ none in
+          let e : None ≡ Some s.state.heap.profile = ap (option_map profile_of) (sym kept) ∙ on.1 in
+          absurd cc
+
+  -- a `heap` line came: the run goes on, and the manager has its settings
+  pub opened : (settings : Settings) → HasRun (with_settings one_manager) from call to → to.settings ≡ Some settings → from.settings ≡ None
+      → IsGoing to.state × (to.state.heap.profile ≡ profile_of settings)
+  opened settings run some unset = go run.1.end run.1.stands (wrote_settled from to run.0 call run.1).1
+    where
+      go : (end : Option (Settled RunState)) → StandsAfter from end to → GoesWith end → IsGoing to.state × (to.state.heap.profile ≡ profile_of settings)
+      go None stands on =
+          let e : Some settings ≡ None = sym some ∙ ap (λ (s : Settled RunState). s.settings) stands ∙ unset in
+          absurd cc
+      go (Some s) stands on =
+          let kept : s.settings ≡ Some settings = ap (λ (s : Settled RunState). s.settings) (sym stands) ∙ some in
+          let e : Some s.state.heap.profile ≡ Some (profile_of settings) = sym on.1 ∙ ap (option_map profile_of) kept in
+          let same : s.state.heap.profile ≡ profile_of settings = cc in (
+            subst (λ (t : Settled RunState). IsGoing t.state) (sym stands) on.0,
+            ap (λ (t : Settled RunState). t.state.heap.profile) stands ∙ same,
+          )
+
+-- the image of a run that goes on
+pub saved_going : (s : RunState) → IsGoing s → saved s ≡ heap_image s
+saved_going s going = ap (λ b. if b then heap_image s else []) going.opened
+
+-- the call as it ends, and the script as it ended
+module _ (from to : Settled RunState) (had left before after : Option (List ℕ)) where
+  abbrev call_as : Status → Effects
+  call_as st = record { had = had; left = left; before = before; after = after; status = st }
+
+  abbrev script_as : Status → Effects
+  script_as st = record { had = had; left = left; before = None; after = None; status = st }
+
+  -- the script wasn't answered to its end
+  pub ends_early : (st : Status) → st ≢ Done → (st ≡ WriteFault → Rose 0 0) → MeetsOutcome (with_settings one_manager) from (script_as st) to
+      → after ≡ before → EndsSave from.state (call_as st) to.state
+  ends_early st unfinished cause met same = go st unfinished (outcome_settled from to (script_as st) had left (never_cut st cause) met) (never_cut st cause)
+    where
+      go : (st : Status) → st ≢ Done → MeetsOutcome one_manager from.state (script_as st) to.state → (st ≡ WriteFault → ⊥)
+          → EndsSave from.state (call_as st) to.state
+      go Done unfinished script whole = absurd (unfinished refl)
+      go WriteFault unfinished script whole = absurd (whole refl)
+      go Words unfinished script whole = record { script = script; written = same }
+      go BadScript unfinished script whole = record { script = script; written = same }
+      go ReadFault unfinished script whole = record { script = script; written = same }
+      go OutOfMemory unfinished script whole = record { script = script; written = same }
+      go TooLong unfinished script whole = record { script = script; written = same }
+      go BadImage unfinished script whole = record { script = script; written = same }
+
+  module _ (st : Status) (done : st ≡ Done) (met : MeetsOutcome (with_settings one_manager) from (script_as st) to) where
+    script : MeetsOutcome one_manager from.state (script_as Done) to.state
+    script = outcome_settled from to (script_as Done) had left (λ is. (let e : Done ≡ WriteFault = is in absurd cc))
+        (subst (λ (st : Status). MeetsOutcome (with_settings one_manager) from (script_as st) to) done met)
+
+    -- it was answered to its end, and nothing was opened
+    pub ends_unopened : saved to.state ≡ [] → after ≡ before → EndsSave from.state (call_as Done) to.state
+    ends_unopened nothing same = record { script = script; written = same ∙ appended_none before ∙ ap (appended before) (sym nothing) }
+
+    module _ (image : saved to.state ≡ heap_image to.state) where
+      -- the image was written
+      pub ends_saved : after ≡ appended before (heap_image to.state) → EndsSave from.state (call_as Done) to.state
+      ends_saved put = record { script = script; written = put ∙ ap (appended before) (sym image) }
+
+      -- the image was cut
+      pub ends_cut : (e : Failed) → Puts {T = Unit {0}} before (heap_image to.state) (Err e) after → EndsSave from.state (call_as WriteFault) to.state
+      ends_cut e (front, lost, parts, put) = record { script = script; written = (front, lost, image ∙ parts, put) }

@@ -1,0 +1,38 @@
+-- An image is loaded, and the script that makes what it holds is written.
+use Rattle.std.specs.Prelude.{◌≡◌, ℕ, List, [], Option, Result, Ok, Err, codes}
+use Rattle.cf_base.specs.declared.settings.Settings.{Settings}
+use Rattle.cf_base.specs.declared.status.Status.{Status}
+use Rattle.cf_base.specs.declared.status.Status.TheVariants.{Done, ReadFault, WriteFault, OutOfMemory, BadImage}
+use Rattle.cf_io.specs.Feeds.{appended}
+use Rattle.cf_io.specs.Texts.{led, said, with_number}
+use Rattle.heap_image.specs.Load.{LoadsBy}
+use Rattle.heap_image.specs.declared.fault.LoadFault.{LoadFault}
+use Rattle.heap_image.specs.declared.fault.LoadFault.TheVariants as fault
+use Rattle.image_run.specs.Saves.{WritesPrefix}
+use Rattle.image_run.specs.Script.{heap_script}
+use Rattle.run_model.specs.Sessions.{RunState}
+use Rattle.script_loop.specs.ScriptOutcome.{Effects}
+
+-- the line that tells the offset at which the bytes are no image
+abbrev pub bad_image : ℕ → List ℕ
+bad_image at = led [] (said (with_number (codes "bad image ") at))
+
+-- the sink failed: a prefix was written of the script, or of the line that tells of a broken image
+abbrev pub IsCutOff : Result Settings LoadFault → Option (List ℕ) → RunState → Option (List ℕ) → Type 0
+IsCutOff (Ok settings) before to after = WritesPrefix before (heap_script to) after
+IsCutOff (Err (fault.Bad at)) before to after = WritesPrefix before (bad_image at) after
+IsCutOff (Err fault.Read) before to after = ⊥
+IsCutOff (Err fault.OutOfMemory) before to after = ⊥
+
+-- by the status: how the image was loaded, and what was written
+abbrev pub EndsLoadBy : Status → RunState → Effects → RunState → Type 0
+EndsLoadBy Done from call to = (settings : Settings) × LoadsBy from call.had (Ok settings) call.left to × (call.after ≡ appended call.before (heap_script to))
+EndsLoadBy BadImage from call to = (at : ℕ) × LoadsBy from call.had (Err (fault.Bad at)) call.left to × (call.after ≡ appended call.before (bad_image at))
+EndsLoadBy ReadFault from call to = LoadsBy from call.had (Err fault.Read) call.left to × (call.after ≡ call.before)
+EndsLoadBy OutOfMemory from call to = LoadsBy from call.had (Err fault.OutOfMemory) call.left to × (call.after ≡ call.before)
+EndsLoadBy WriteFault from call to = (result : Result Settings LoadFault) × LoadsBy from call.had result call.left to × IsCutOff result call.before to call.after
+EndsLoadBy status from call to = ⊥
+
+-- how an image that is loaded may end
+abbrev pub EndsLoad : RunState → Effects → RunState → Type 0
+EndsLoad from call to = EndsLoadBy call.status from call to

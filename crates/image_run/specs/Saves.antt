@@ -1,0 +1,37 @@
+-- A script is answered, and what lives at its end is written as an image.
+use Rattle.std.specs.Prelude.{◌≡◌, ◌++◌, ℕ, List, [], Option, None, if◌then◌else◌}
+use Rattle.cf_base.specs.declared.status.Status.{Status}
+use Rattle.cf_base.specs.declared.status.Status.TheVariants.{Done, WriteFault}
+use Rattle.cf_io.specs.Feeds.{appended}
+use Rattle.heap_image.specs.Heaps.{heap_image}
+use Rattle.run_model.specs.Sessions.{RunState}
+use Rattle.script_loop.specs.OneManager.{one_manager}
+use Rattle.script_loop.specs.ScriptOutcome.{Effects, MeetsOutcome}
+
+-- what the end of a run is saved as: nothing where no `heap` line opened the manager
+abbrev pub saved : RunState → List ℕ
+saved s = if s.heap.is_open then heap_image s else []
+
+-- how the script ended: the sink can fail after its end alone
+abbrev pub script_status : Status → Status
+script_status WriteFault = Done
+script_status status = status
+
+-- the script alone, whose replies nobody sees
+abbrev pub unseen : Effects → Effects
+unseen call = record { had = call.had; left = call.left; before = None; after = None; status = script_status call.status }
+
+-- just a prefix of the bytes was written
+abbrev pub WritesPrefix : Option (List ℕ) → List ℕ → Option (List ℕ) → Type 0
+WritesPrefix before bytes after = (front : List ℕ) × (lost : List ℕ) × (bytes ≡ front ++ lost) × (after ≡ appended before front)
+
+-- by how the call ended, these bytes were written, or a prefix of them, or nothing
+abbrev pub WritesAtEnd : Status → Option (List ℕ) → List ℕ → Option (List ℕ) → Type 0
+WritesAtEnd Done before bytes after = after ≡ appended before bytes
+WritesAtEnd WriteFault before bytes after = WritesPrefix before bytes after
+WritesAtEnd status before bytes after = after ≡ before
+
+-- how a script that is saved may end
+pub record EndsSave (from : RunState) (call : Effects) (to : RunState) : Type 0 where
+  pub script : MeetsOutcome one_manager from (unseen call) to
+  pub written : WritesAtEnd call.status call.before (saved to) call.after

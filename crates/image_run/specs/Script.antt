@@ -1,0 +1,41 @@
+-- The script that makes what lives in a heap.
+use Rattle.std.specs.Prelude.{ℕ, zero, suc, ◌+◌, ◌*◌, ◌++◌, List, [], ◌∷◌, length, take, drop}
+use Rattle.std.specs.FinMap.{entries}
+use Rattle.std.specs.Int.{div_ceil}
+use Rattle.cf_base.specs.Settings.{Profile}
+use Rattle.generator.specs.ReadBack.{heap_line, lines_of}
+use Rattle.heap_image.specs.Heaps.{objects_of}
+use Rattle.page_model.specs.Held.{Objects}
+use Rattle.run_model.specs.Sessions.{RunState}
+use Rattle.script_reader.specs.declared.command.Command.{Command}
+use Rattle.script_reader.specs.declared.command.Command.TheVariants.{Malloc, Write}
+
+-- so many writes of bytes from an offset on, 4,096 bytes each, the last one shorter
+unfoldable pub writes_from : ℕ → ℕ → ℕ → List ℕ → List Command
+writes_from zero id at bytes = []
+writes_from (suc more) id at bytes = Write id at (take 4096 bytes) ∷ writes_from more id (at + 4096) (drop 4096 bytes)
+
+-- as many as the bytes need: none where there are none
+abbrev pub writes_of : ℕ → List ℕ → List Command
+writes_of id bytes = writes_from (div_ceil (length bytes) 4096) id 0 bytes
+
+-- the commands that make an object under an id, with its bytes
+abbrev pub object_commands : ℕ → List ℕ → List Command
+object_commands id bytes = Malloc id (length bytes) ∷ writes_of id bytes
+
+-- the commands that make the objects of these ids
+abbrev pub commands_of : List (ℕ × List ℕ) → List Command
+commands_of [] = []
+commands_of (e ∷ es) = object_commands e.0 e.1 ++ commands_of es
+
+-- the `heap` line of these settings, with the bound 1
+abbrev pub opening_line : Profile → List ℕ
+opening_line p = heap_line p.pages (8 * p.page_words) 1 p.proxies
+
+-- the script of these objects by id, in rising order of the ids, on a heap with these settings
+abbrev pub script_under : Profile → Objects → List ℕ
+script_under p objects = opening_line p ++ lines_of (commands_of (entries objects))
+
+-- the script that makes what is live
+abbrev pub heap_script : RunState → List ℕ
+heap_script s = script_under s.heap.profile (objects_of s)

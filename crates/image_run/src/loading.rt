@@ -1,0 +1,66 @@
+//! An image to a script.
+ghost use Rattle.std.specs.Prelude.{◌≡◌, ◌≤◌, OnErr};
+ghost use Rattle.std.specs.FinMap as map;
+ghost use Rattle.cf_base.specs.declared.kind.Kind.TheVariants.{Moving};
+ghost use Rattle.cf_io.specs.Feeds.{Puts, Rose};
+ghost use Rattle.cf_session.specs.Apply.{run_at};
+ghost use Rattle.image_run.specs.Loads.{EndsLoad, bad_image};
+
+use crate::telling::tell_script;
+use cf_base::{Failed, Status};
+use cf_io::{Line, Sink, Source, push_field, put_line};
+use cf_model::Manager;
+use cf_session::Session;
+use heap_image::{LoadFault, load};
+use std::rt::Runtime;
+use step_ledger::Meter;
+
+/// Loads an image into a manager of kind Moving, and writes the script that makes what it holds. Bytes
+/// that are no image are told by the offset of the first field that breaks a rule, with `BadImage`.
+pub fn load_script<R: Runtime, H: Manager, S: Source, K: Sink>(
+    rt: &R,
+    session: &mut Session,
+    heap: &mut H,
+    source: &mut S,
+    sink: &mut K,
+) -> Status
+    requires moving { (H.state heap.old).kind ≡ Moving }
+    requires idle { session.old.ids ≡ map.empty }
+    ensures ends { EndsLoad (run_at session.old (H.state heap.old)) (record {
+      had = S.rest source.old;
+      left = S.rest source.new;
+      before = K.written sink.old;
+      after = K.written sink.new;
+      status = result;
+    }) (run_at session.new (H.state heap.new)) }
+    // The causes, also where the source isn't observable.
+    ensures read_fault { result ≡ Status.ReadFault → Rose (S.faults source.old) (S.faults source.new) }
+    ensures write_fault { result ≡ Status.WriteFault → Rose (K.faults sink.old) (K.faults sink.new) }
+{
+    match load(source, heap, session) {
+        Ok(settings) => {
+            let mut meter = Meter::new(rt);
+            match tell_script(&settings, heap, session, sink, &mut meter) {
+                Ok(()) => Status::Done,
+                Err(_) => Status::WriteFault,
+            }
+        }
+        Err(LoadFault::Read) => Status::ReadFault,
+        Err(LoadFault::OutOfMemory) => Status::OutOfMemory,
+        Err(LoadFault::Bad { at }) => match put_bad_image(at, sink) {
+            Ok(()) => Status::BadImage,
+            Err(_) => Status::WriteFault,
+        },
+    }
+}
+
+/// Tells the offset at which the bytes are no image.
+fn put_bad_image<K: Sink>(at: u64, sink: &mut K) -> Result<(), Failed>
+    ensures puts { Puts (K.written sink.old) (bad_image at) result (K.written sink.new) }
+    ensures grows { K.faults sink.old ≤ K.faults sink.new }
+    ensures failed { OnErr result (Rose (K.faults sink.old) (K.faults sink.new)) }
+{
+    let mut line = Line::new();
+    push_field(&mut line, b"bad image ", at);
+    put_line(&mut line, sink)
+}

@@ -1,0 +1,59 @@
+//! A script to an image.
+ghost use Rattle.std.specs.Prelude.{◌≡◌, ◌<◌, ◌+◌, ◌⊎◌, None, false};
+ghost use Rattle.cf_base.specs.declared.kind.Kind.TheVariants.{Moving};
+ghost use Rattle.cf_io.specs.Feeds.{Rose, last_count};
+ghost use Rattle.cf_session.specs.Apply.{run_at};
+ghost use Rattle.image_run.specs.Saves.{EndsSave};
+ghost use Rattle.run_model.specs.Sessions.{fresh_session};
+ghost use Rattle.script_loop.specs.ScriptOutcome.{MOST_BYTES};
+
+use cf_base::Status;
+use cf_io::{NullSink, Sink, Source};
+use cf_model::Manager;
+use cf_session::Session;
+use heap_image::save;
+use script_loop::{WithSettings, play_script};
+use std::rt::Runtime;
+use step_ledger::Meter;
+
+/// Answers a script on a manager of kind Moving that is closed, with replies that nobody reads, and
+/// writes the image of what lives at its end; nothing where it has no `heap` line. It ends by the
+/// statuses of the script, and writes nothing but at `Done`, or at `WriteFault` a prefix of the image.
+pub fn save_script<R: Runtime, H: Manager, S: Source, K: Sink>(
+    rt: &R,
+    player: &mut WithSettings<Session>,
+    heap: &mut H,
+    source: &mut S,
+    sink: &mut K,
+) -> Status
+    requires fresh { player.old.player ≡ fresh_session }
+    requires unset { player.old.settings ≡ None }
+    requires moving { (H.state heap.old).kind ≡ Moving }
+    requires closed { (H.state heap.old).is_open ≡ false }
+    ensures ends { EndsSave (run_at player.old.player (H.state heap.old)) (record {
+      had = S.rest source.old;
+      left = S.rest source.new;
+      before = K.written sink.old;
+      after = K.written sink.new;
+      status = result;
+    }) (run_at player.new.player (H.state heap.new)) }
+    // The causes, also where the source isn't observable.
+    ensures silent { result ≡ Status.OutOfMemory → K.written sink.new ≡ K.written sink.old }
+    ensures read_fault { result ≡ Status.ReadFault → Rose (S.faults source.old) (S.faults source.new) }
+    ensures write_fault { result ≡ Status.WriteFault → Rose (K.faults sink.old) (K.faults sink.new) }
+    ensures too_long { result ≡ Status.TooLong
+        → (S.given source.old + MOST_BYTES < S.given source.new) ⊎ (S.given source.new ≡ last_count) }
+{
+    match play_script(player, heap, source, &mut NullSink) {
+        Status::Done => {}
+        status => return status,
+    }
+    let Some(settings) = player.settings else {
+        return Status::Done;
+    };
+    let mut meter = Meter::new(rt);
+    match save(&settings, heap, &player.player, sink, &mut meter) {
+        Ok(()) => Status::Done,
+        Err(_) => Status::WriteFault,
+    }
+}
