@@ -117,7 +117,7 @@ then_kept a b c x y = record {
 pub same_piece : (a b : LargeState) → StaysKept a b → piece_in b ≡ piece_in a
 same_piece a b x = ap (λ (p : Profile). piece_bytes p) x.stays.inner.profile
 
-is_ready : (s : LargeState) → KeepsParts s → IsReady s.inner
+pub is_ready : (s : LargeState) → KeepsParts s → IsReady s.inner
 is_ready s k = record { opened = k.opened; rules = k.rules; pages = k.pages; ones = k.ones }
 
 -- a piece's place in its spine is a number of 32 bits

@@ -138,7 +138,7 @@ part_freed old new h v (Err e) ready found (none, same) rules =
     absurd (not_both (objects old.held) h v found (none_object old.held h none))
 
 -- an object has what is held of it
-object_held : (m : Held) (h : ℕ) (v : List ℕ) → get (objects m) h ≡ Some v → (x : Placed) × (get m h ≡ Some x) × (x.bytes ≡ v)
+pub object_held : (m : Held) (h : ℕ) (v : List ℕ) → get (objects m) h ≡ Some v → (x : Placed) × (get m h ≡ Some x) × (x.bytes ≡ v)
 object_held m h v is = go (get m h) refl
   where
     go : (r : Option Placed) → get m h ≡ r → (x : Placed) × (get m h ≡ Some x) × (x.bytes ≡ v)

@@ -15,3 +15,7 @@ pub mod Going
 pub mod Telling
 pub mod ObjectLaws
 pub mod Opened
+pub mod OwnRun
+pub mod PartsThere
+pub mod LargeThere
+pub mod Turns

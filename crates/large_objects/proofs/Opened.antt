@@ -17,7 +17,7 @@ use Rattle.large_objects.specs.LargeRun.{AreTiedLarge, FreesIdLarge, IsGoingLarg
 use Rattle.large_objects.specs.LargeSteps.{IsEmptyLarge}
 use Rattle.large_objects.specs.Playing.{BeginsLarge, at_bound_one}
 
-none_tied : (ids : Ids) (large : Objects) → ids ≡ empty → large ≡ empty → AreTiedLarge ids large
+pub none_tied : (ids : Ids) (large : Objects) → ids ≡ empty → large ≡ empty → AreTiedLarge ids large
 none_tied ids large no_ids no_objects = record {
   named = λ id h is. absurd (let z : Some h ≡ None = sym is ∙ ap (λ (i : Ids). get i id) no_ids ∙ get-empty nat_cmp id in cc);
   once = λ id other h is. absurd (let z : Some h ≡ None = sym is ∙ ap (λ (i : Ids). get i id) no_ids ∙ get-empty nat_cmp id in cc);

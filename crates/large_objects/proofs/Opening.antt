@@ -26,7 +26,7 @@ use Rattle.large_objects.specs.Parts.{inner_count, inner_live}
 use Rattle.large_objects.proofs.Gathering.{all_gathered}
 
 -- a page has more than its header
-some_words : (n : ℕ) → IsTrue (is_page_size n) → 2 ≤ n
+pub some_words : (n : ℕ) → IsTrue (is_page_size n) → 2 ≤ n
 some_words zero is = absurd (false≢true is)
 some_words (suc zero) is = absurd (false≢true is)
 some_words (suc (suc n)) is = omega arith
@@ -103,7 +103,7 @@ module _ (settings : Settings) (kind : Kind) (s : HeapState) (lengths : List (Op
   gathered_none : gathered_objects u lengths (objects s.held) ≡ nothing
   gathered_none = all_gathered u s.profile.proxies lengths nothing (objects s.held) some laid known
 
-  parts : KeepsParts (record { is_open = true; objects = nothing; inner = s })
+  pub parts : KeepsParts (record { is_open = true; objects = nothing; inner = s })
   parts = record {
     opened = ap (λ (s : HeapState). s.is_open) opened.whole;
     rules = rules;

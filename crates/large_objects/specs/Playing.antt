@@ -1,12 +1,14 @@
 -- A session over a heap of large objects, as a player.
-use Rattle.std.specs.Prelude.{◌≡◌, ◌++◌, ℕ, true, false, List, [], codes}
+use Rattle.std.specs.Prelude.{◌≡◌, ◌++◌, ℕ, true, false, List, [], Option, codes}
 use Rattle.std.specs.FinMap.{empty}
 use Rattle.cf_base.specs.Settings.{Profile}
 use Rattle.cf_base.specs.declared.kind.Kind.{Kind}
 use Rattle.cf_io.specs.Texts.{Reply, led, said}
 use Rattle.cf_model.specs.Families.{IsPaged}
 use Rattle.cf_model.specs.Steps.{IsOpeningWords, empty_heap}
+use Rattle.run_model.specs.Plays.{PlayRun}
 use Rattle.script_loop.specs.Semantics.{Semantics}
+use Rattle.script_reader.specs.Items.{Item}
 use Rattle.script_reader.specs.declared.command.Command.{Command}
 use Rattle.large_objects.specs.Large.{KeepsParts}
 use Rattle.large_objects.specs.LargeRun.{IsGoingLarge, LargeRun, LargeStep}
@@ -27,6 +29,10 @@ pub record BeginsLarge (kind : Kind) (p : Profile) (new : LargeRun) : Type 0 whe
 -- the same, and `ok` is the reply
 abbrev pub BeginsAtOne : Kind → Profile → Reply → LargeRun → Type 0
 BeginsAtOne kind p reply new = BeginsLarge kind p new × (reply ≡ said (codes "ok"))
+
+-- The items of a script may get these replies, one each, and lead to the new state.
+abbrev pub RunsLarge : Kind → Option LargeRun → List Item → List Reply → Option LargeRun → Type 0
+RunsLarge kind = PlayRun (BeginsAtOne kind) LargeStep
 
 -- the command took effect, and just these bytes of its reply were written
 pub record LargeStepInPart (old : LargeRun) (command : Command) (out : List ℕ) (new : LargeRun) : Type 0 where

@@ -1,14 +1,24 @@
 //! Laws of large objects. The functions do nothing: what each ensures is the law.
-ghost use Rattle.std.specs.Prelude.{◌≡◌, ◌≢◌, ℕ, ◌+◌, ◌*◌, ◌<◌, ◌≤◌, List, length};
+ghost use Rattle.std.specs.Prelude.{◌≡◌, ◌≢◌, ℕ, ◌+◌, ◌*◌, ◌<◌, ◌≤◌, ◌++◌, Bool, List, Option, None, length};
 ghost use Rattle.std.specs.FinMap.{get};
 ghost use Rattle.cf_base.specs.declared.answers.AccessFault.{AccessFault};
 ghost use Rattle.cf_base.specs.declared.answers.Refusal.{Refusal};
+ghost use Rattle.cf_base.specs.declared.kind.Kind.{Kind};
+ghost use Rattle.cf_base.specs.Settings.{Profile};
+ghost use Rattle.cf_io.specs.Texts.{Reply};
+ghost use Rattle.cf_model.specs.Families.{IsPaged};
+ghost use Rattle.cf_model.specs.Rules.{AreInRange};
 ghost use Rattle.cf_model.specs.State.{paging_in};
 ghost use Rattle.cf_model.specs.Steps.{Part};
 ghost use Rattle.page_model.specs.Arrangement.{pages_for, used_pages};
+ghost use Rattle.run_laws.specs.Sayable.{IsSayable};
+ghost use Rattle.script_reader.specs.Items.{Item, items};
+ghost use Rattle.script_reader.specs.declared.command.Command.{Command};
 ghost use Rattle.large_objects.specs.Large.{KeepsParts, LargeState};
+ghost use Rattle.large_objects.specs.LargeRun.{IsGoingLarge, LargeRun, LargeStep};
 ghost use Rattle.large_objects.specs.LargeSteps.{GivesLarge, IsLargeFault, IsRefusedLarge, ReadsLarge, WritesLarge, piece_in};
 ghost use Rattle.large_objects.specs.Parts.{inner_live, pieces};
+ghost use Rattle.large_objects.specs.Playing.{BeginsLarge, RunsLarge};
 
 /// A malloc that gives an object has no cause for a refusal, and there is one cause at most; so each
 /// refusal comes exactly where its arithmetic says so. A write that is done has no fault.
@@ -40,4 +50,26 @@ pub fn what_is_written_is_read()
         → WritesLarge old part bytes new → ReadsLarge new part (length bytes) out → out ≡ bytes }
     ensures others { (old new : LargeState) (part : Part) (bytes : List ℕ) → WritesLarge old part bytes new
         → (q : ℕ) → q ≢ part.number → get new.objects q ≡ get old.objects q }
+{}
+
+/// Over any manager with pages a run begins under any settings in their ranges; and from each state of
+/// a run that goes on every command that a script can say gets a reply, after which the run goes on.
+pub fn each_command_has_its_turn()
+    ensures begins { (kind : Kind) (p : Profile) → IsPaged kind → AreInRange p
+        → (new : LargeRun) × BeginsLarge kind p new }
+    ensures begun { (kind : Kind) (p : Profile) (new : LargeRun) → BeginsLarge kind p new → IsGoingLarge new }
+    ensures answered { (old : LargeRun) (command : Command) → IsGoingLarge old → IsSayable command
+        → (reply : Reply) × (new : LargeRun) × LargeStep old command reply new }
+    ensures going { (old new : LargeRun) (command : Command) (reply : Reply) → IsGoingLarge old
+        → LargeStep old command reply new → IsGoingLarge new }
+{}
+
+/// There is a run over the items of any bytes, and each run over a prefix of them can go on to the end.
+pub fn a_long_run_can_always_go_on()
+    ensures there { (kind : Kind) (given : List ℕ) (ended : Bool) → IsPaged kind
+        → (replies : List Reply) × (new : Option LargeRun) × RunsLarge kind None (items given ended) replies new }
+    ensures on { (kind : Kind) (given : List ℕ) (ended : Bool) (done after : List Item) (replies : List Reply)
+        (mid : Option LargeRun)
+        → IsPaged kind → items given ended ≡ done ++ after → RunsLarge kind None done replies mid
+        → (more : List Reply) × (new : Option LargeRun) × RunsLarge kind None (items given ended) (replies ++ more) new }
 {}

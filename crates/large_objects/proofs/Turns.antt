@@ -1,0 +1,195 @@
+-- Each command of a run over large objects has its turn, and a run goes on to the end of its items.
+use Rattle.std.proofs.Common.{◌≡◌, ◌++◌, ℕ, ◌+◌, ◌<◌, ◌≤◌, List, [], ◌∷◌, Some, None, length, arith, refl, sym, subst, inl, inr}
+use Rattle.std.specs.Prelude.{◌⊎◌, ⊤, Bool, true, Option, Result, Ok, Err, codes}
+use Rattle.std.specs.Option.{MatchOption}
+use Rattle.std.specs.FinMap.{empty, get, remove}
+use Rattle.std.proofs.lemmas.Bool.{cases_lt}
+use Rattle.cf_base.specs.Settings.{Profile}
+use Rattle.cf_base.specs.declared.answers.AccessFault.TheVariants as access
+use Rattle.cf_base.specs.declared.answers.Refusal.{Refusal}
+use Rattle.cf_base.specs.declared.kind.Kind.{Kind}
+use Rattle.cf_base.specs.declared.settings.Settings.{Settings}
+use Rattle.cf_io.specs.Texts.{Reply, said}
+use Rattle.cf_model.specs.Families.{IsPaged}
+use Rattle.cf_model.specs.Rules.{AreInRange}
+use Rattle.cf_model.specs.Steps.{IsEmptyHeap}
+use Rattle.cf_lemmas.specs.Maps.{vacant}
+use Rattle.page_model.specs.Bytes.{AreBytes}
+use Rattle.run_laws.proofs.CallerLemmas.{begins_there, items_sayable, sayable_behind}
+use Rattle.run_laws.specs.Sayable.{AreSayable, IsSayable, IsSayableItem}
+use Rattle.run_model.proofs.CallerLemmas.{run_joined}
+use Rattle.run_model.specs.Plays.{PlayRun, PlayStep}
+use Rattle.run_model.specs.Replies.{malloc_text, write_text}
+use Rattle.run_model.specs.Steps.{ids_given}
+use Rattle.run_model.specs.Texts.{bad_line}
+use Rattle.script_reader.specs.Items.{Item, asks, bad, items, starts}
+use Rattle.script_reader.specs.declared.command.Command.{Command}
+use Rattle.script_reader.specs.declared.command.Command.TheVariants.{Malloc, Free, Write}
+use Rattle.large_objects.specs.LargeRun.{FreesIdLarge, IsGoingLarge, LargeRun, LargeStep, MallocsLarge, StaysLarge, WritesIdLarge, large_told}
+use Rattle.large_objects.specs.LargeSteps.{HasRoom, IsRefusedLarge}
+use Rattle.large_objects.specs.Playing.{BeginsAtOne, BeginsLarge, RunsLarge, at_bound_one}
+use Rattle.large_objects.proofs.Going.{still_going}
+use Rattle.large_objects.proofs.Opened.{none_tied}
+use Rattle.large_objects.proofs.Opening.{parts as empty_parts}
+use Rattle.large_objects.proofs.LargeThere.{free_there, kept_same, malloc_there, room_or_cause, write_there}
+
+-- a reply, and the state after it
+record HasAnswer (R : Reply → LargeRun → Type 0) : Type 0 where
+  reply : Reply
+  new : LargeRun
+  done : R reply new
+
+module _ (old : LargeRun) (going : IsGoingLarge old) where
+  malloc_at : (o : Option ℕ) (id n : ℕ) → HasAnswer (λ reply new. MatchOption o (MallocsLarge old id n reply new) (λ h. StaysLarge old (codes "live") reply new))
+  malloc_at (Some h) id n = record { reply = said (codes "live"); new = old; done = (refl, refl) }
+  malloc_at None id n = elim (room_or_cause old.heap going.opened going.parts n) [
+    | inl room ↦ (
+        let m = malloc_there old.heap going.opened going.parts n room in
+        let answer = Ok (record { 0 = m.0 }) in
+        record {
+          reply = said (malloc_text answer);
+          new = record { ids = ids_given old.ids id answer; heap = m.1 };
+          done = record { answer = answer; step = m.2; kept = m.3; ids = refl; reply_is = refl };
+        })
+    | inr cause ↦ record {
+      reply = said (malloc_text (Err cause.0));
+      new = old;
+      done = record { answer = Err cause.0; step = (cause.1, refl); kept = kept_same old.heap going.opened going.parts; ids = refl; reply_is = refl };
+    }
+  ]
+
+  free_at : (o : Option ℕ) (id : ℕ) → get old.ids id ≡ o
+      → HasAnswer (λ reply new. MatchOption o (StaysLarge old (codes "unknown") reply new) (λ h. FreesIdLarge old id h reply new))
+  free_at None id is = record { reply = said (codes "unknown"); new = old; done = (refl, refl) }
+  free_at (Some h) id is =
+      let x = going.tied.named id h is in
+      let f = free_there old.heap going.opened going.parts h x.0 x.1 in
+      record {
+        reply = said (codes "ok");
+        new = record { ids = remove old.ids id; heap = f.0 };
+        done = record { step = f.1; kept = f.2; ids = refl; reply_is = refl };
+      }
+
+  write_at : (o : Option ℕ) (id at : ℕ) (bytes : List ℕ) → IsSayable (Write id at bytes) → get old.ids id ≡ o
+      → HasAnswer (λ reply new. MatchOption o (StaysLarge old (codes "unknown") reply new)
+      (λ h. WritesIdLarge old (record { number = h; from = at }) bytes reply new))
+  write_at None id at bytes can is = record { reply = said (codes "unknown"); new = old; done = (refl, refl) }
+  write_at (Some h) id at bytes can is =
+      let x = going.tied.named id h is in
+      elim (cases_lt (length x.0) (at + length bytes)) [
+        | inl past ↦ record {
+          reply = said (write_text (Err access.Range));
+          new = old;
+          done = record {
+            answer = Err access.Range;
+            step = (record { bytes = x.0; found = x.1; past = past }, refl);
+            kept = kept_same old.heap going.opened going.parts;
+            ids = refl;
+            reply_is = refl;
+          };
+        }
+        | inr within ↦ (
+            let w = write_there old.heap going.opened going.parts h at bytes x.0 x.1 within can.bytes can.formed.0 can.formed.1 in
+            record {
+              reply = said (write_text (Ok tt));
+              new = record { ids = old.ids; heap = w.0 };
+              done = record { answer = Ok tt; step = w.1; kept = w.2; ids = refl; reply_is = refl };
+            })
+      ]
+
+  step_there : (c : Command) → IsSayable c → HasAnswer (LargeStep old c)
+  step_there (Malloc id n) can = malloc_at (get old.ids id) id n
+  step_there (Free id) can = free_at (get old.ids id) id refl
+  step_there (Write id at bytes) can = write_at (get old.ids id) id at bytes can refl
+  step_there c can = record { reply = large_told old c; new = old; done = (refl, refl) }
+
+-- every command that can be said is answered
+pub turn_there : (old : LargeRun) (c : Command) → IsGoingLarge old → IsSayable c → (reply : Reply) × (new : LargeRun) × LargeStep old c reply new
+turn_there old c going can = (let s = step_there old going c can in (s.reply, s.new, s.done))
+
+-- a run begins over any manager with pages, under any settings in their ranges
+pub begins_large : (kind : Kind) (p : Profile) → IsPaged kind → AreInRange p → (new : LargeRun) × BeginsLarge kind p new
+begins_large kind p paged can =
+    let settings : Settings = record {
+      pages = p.pages;
+      page_words = p.page_words;
+      k = 1;
+      proxies = p.proxies;
+      some_pages = can.some_pages;
+      few_pages = can.few_pages;
+      page_size = can.page_size;
+      some_bound = omega arith;
+      low_bound = omega arith;
+      some_proxies = can.some_proxies;
+      few_proxies = can.few_proxies;
+      small_region = can.small_region;
+    } in
+    let b = begins_there kind (at_bound_one p) (record {
+      some_pages = can.some_pages;
+      few_pages = can.few_pages;
+      page_size = can.page_size;
+      some_bound = omega arith;
+      low_bound = omega arith;
+      some_proxies = can.some_proxies;
+      few_proxies = can.few_proxies;
+      small_region = can.small_region;
+    }) in
+    let opened : IsEmptyHeap kind settings b.0.heap = record { words = b.1.words; whole = b.1.heap } in
+    (record { ids = empty; heap = record { is_open = true; objects = empty; inner = b.0.heap } }, record {
+      ids = refl;
+      open_now = refl;
+      none = refl;
+      words = b.1.words;
+      inner = b.1.heap;
+      parts = empty_parts settings kind b.0.heap (vacant p.proxies) paged refl opened b.1.rules refl;
+    })
+
+-- a run that began goes on
+pub begins_going : (kind : Kind) (p : Profile) (s : LargeRun) → BeginsLarge kind p s → IsGoingLarge s
+begins_going kind p s b = record { opened = b.open_now; parts = b.parts; tied = none_tied s.ids s.heap.objects b.ids b.none }
+
+abbrev IsOn : Option LargeRun → Type 0
+IsOn None = ⊤
+IsOn (Some s) = IsGoingLarge s
+
+module _ (kind : Kind) (paged : IsPaged kind) where
+  step_on : (old : Option LargeRun) (item : Item) (reply : Reply) (new : Option LargeRun) → IsOn old
+      → PlayStep (BeginsAtOne kind) LargeStep old item reply new → IsOn new
+  step_on old (starts p) reply new on step = subst IsOn (sym step.2) (begins_going kind p step.0 step.1.0)
+  step_on None (asks c) reply new on step = subst IsOn (sym step.1) tt
+  step_on (Some old) (asks c) reply new on step = subst IsOn (sym step.2) (still_going old step.0 on reply c step.1)
+  step_on old (bad n) reply new on step = subst IsOn (sym step.1) on
+
+  run_on : (old : Option LargeRun) (items : List Item) (replies : List Reply) (new : Option LargeRun) → IsOn old → RunsLarge kind old items replies new → IsOn new
+  run_on old [] replies new on run = subst IsOn (sym run.1) on
+  run_on old (item ∷ rest) replies new on run = run_on run.0 rest run.2 new (step_on old item run.1 run.0 on run.3) run.5
+
+  item_there : (old : Option LargeRun) (item : Item) → IsOn old → IsSayableItem item
+      → (reply : Reply) × (new : Option LargeRun) × PlayStep (BeginsAtOne kind) LargeStep old item reply new
+  item_there old (starts p) on can = (let b = begins_large kind p paged can in (said (codes "ok"), Some b.0, (b.0, (b.1, refl), refl)))
+  item_there None (asks c) on can = ([], None, (refl, refl))
+  item_there (Some old) (asks c) on can = (let t = turn_there old c on can in (t.0, Some t.1, (t.1, t.2, refl)))
+  item_there old (bad n) on can = (said (bad_line n), old, (refl, refl))
+
+  run_there : (old : Option LargeRun) (items : List Item) → IsOn old → AreSayable items
+      → (replies : List Reply) × (new : Option LargeRun) × RunsLarge kind old items replies new
+  run_there old [] on can = ([], old, (refl, refl))
+  run_there old (item ∷ rest) on can =
+      let first = item_there old item on can.0 in
+      let more = run_there first.1 rest (step_on old item first.0 first.1 on first.2) can.1 in
+      (first.0 ∷ more.0, more.1, (first.1, first.0, more.0, first.2, refl, more.2))
+
+  pub runs_there : (given : List ℕ) (ended : Bool) → (replies : List Reply) × (new : Option LargeRun) × RunsLarge kind None (items given ended) replies new
+  runs_there given ended = run_there None (items given ended) tt (items_sayable given ended)
+
+  pub runs_on : (given : List ℕ) (ended : Bool) (done after : List Item) (replies : List Reply) (mid : Option LargeRun) → items given ended ≡ done ++ after
+      → RunsLarge kind None done replies mid
+      → (more : List Reply) × (new : Option LargeRun) × RunsLarge kind None (items given ended) (replies ++ more) new
+  runs_on given ended done after replies mid parts run =
+      let can = sayable_behind done after (subst AreSayable parts (items_sayable given ended)) in
+      let rest = run_there mid after (run_on None done replies mid tt run) can in (
+        rest.0,
+        rest.1,
+        subst (λ (i : List Item). RunsLarge kind None i (replies ++ rest.0) rest.1) (sym parts)
+            (run_joined (BeginsAtOne kind) LargeStep None done after replies rest.0 mid rest.1 run rest.2),
+      )

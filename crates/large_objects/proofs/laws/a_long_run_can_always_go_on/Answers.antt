@@ -1,0 +1,8 @@
+use Rattle.large_objects.proofs.Turns.{runs_on, runs_there}
+use Rattle.large_objects.proofs.laws.a_long_run_can_always_go_on.Goals as goal
+
+pub returns-clause-there : goal.returns-clause-there
+returns-clause-there c = λ kind given ended paged. runs_there kind paged given ended
+
+pub returns-clause-on : goal.returns-clause-on
+returns-clause-on c = λ kind given ended done after replies mid paged. runs_on kind paged given ended done after replies mid

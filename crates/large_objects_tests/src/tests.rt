@@ -1,0 +1,7 @@
+mod churn;
+mod compared;
+mod driver;
+mod edges;
+mod long;
+mod needs;
+mod rows;

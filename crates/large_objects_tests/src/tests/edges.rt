@@ -1,0 +1,106 @@
+//! Reads and writes across the edges of pieces.
+ghost use Rattle.std.specs.Prelude.{◌≤◌};
+ghost use Rattle.cf_model.specs.Families.{IsPaged};
+
+use crate::tests::compared::{Compared, Shape};
+use cf_base::{Handle, Layout};
+use cf_model::Manager;
+use moving_heap::MovingHeap;
+use nonmoving_heap::NonMovingHeap;
+use std::alloc::Global;
+use std::test::Fail;
+use step_ledger::Meter;
+use wrong_answers::Wrong;
+
+/// The bytes of a page, and those of a piece.
+static PAGES: [(u32, u32); 3] = [(512, 504), (4_096, 4_088), (131_072, 131_064)];
+
+/// An object of five pieces and seven bytes.
+fn across_edges<H: Manager>(
+    alloc: Global,
+    inner: H,
+    meter: Meter,
+    page: (u32, u32),
+    layout: Layout,
+) -> Result<(), Wrong>
+    requires { IsPaged (H.state inner).kind }
+{
+    let (page_bytes, piece) = page;
+    if piece < 16 || 1_000_000 < piece {
+        return Err(Wrong::Line);
+    }
+    let shape = Shape {
+        pages: 16,
+        page_bytes,
+        piece,
+        proxies: 16,
+        layout,
+    };
+    let mut both = Compared::open(alloc, inner, meter, shape)?;
+    let Ok(h) = both.malloc(5 * piece + 7)? else {
+        return Err(Wrong::Closed);
+    };
+    for i in 1..6 {
+        around_edge(&mut both, h, i * piece)?;
+    }
+    over_many(alloc, &mut both, h, piece)?;
+    both.compare()
+}
+
+/// Writes eight bytes across an edge, and then from it on and up to it; and reads from each byte near it
+/// to each.
+fn around_edge<H: Manager>(both: &mut Compared<H>, h: Handle, edge: u32) -> Result<(), Wrong>
+    requires first { 16 ≤ edge }
+    requires last { edge ≤ 5000000 }
+{
+    let bytes = u64::from(edge).wrapping_mul(0x0807_0605_0403_0201);
+    for at in [edge - 4, edge, edge - 8] {
+        both.write(h, at, &bytes.wrapping_add(u64::from(at)).to_le_bytes())?;
+    }
+    for from in edge - 3..edge + 3 {
+        for count in 0..7 {
+            both.read(h, from, count)?;
+        }
+    }
+    Ok(())
+}
+
+/// Writes from the last byte of a piece over two whole pieces into a fourth, and reads around that.
+fn over_many<H: Manager>(
+    alloc: Global,
+    both: &mut Compared<H>,
+    h: Handle,
+    piece: u32,
+) -> Result<(), Wrong>
+    requires first { 16 ≤ piece }
+    requires last { piece ≤ 1000000 }
+{
+    let mut bytes = Vec::new(alloc);
+    for i in 0..2 * piece + 3 {
+        bytes.push((i % 251) as u8)?;
+    }
+    both.write(h, piece - 1, &bytes)?;
+    both.read(h, piece - 2, bytes.len())?;
+    both.read(h, 4 * piece, piece as usize + 7)?;
+    // A byte too many.
+    both.read(h, 4 * piece, piece as usize + 8)?;
+    both.write(h, 3 * piece + 8, &bytes)
+}
+
+#[test]
+fn edges_on_the_moving_manager(rt: HostRuntime) -> Result<(), Fail> {
+    for page in PAGES.iter() {
+        let inner = MovingHeap::closed(rt.alloc());
+        across_edges(rt.alloc(), inner, Meter::new(&rt), *page, Layout::Words)?;
+    }
+    Ok(())
+}
+
+#[test]
+fn edges_on_the_non_moving_manager(rt: HostRuntime) -> Result<(), Fail> {
+    for page in PAGES.iter() {
+        let inner = NonMovingHeap::closed(rt.alloc());
+        across_edges(rt.alloc(), inner, Meter::new(&rt), *page, Layout::Blocks)?;
+    }
+    Ok(())
+}

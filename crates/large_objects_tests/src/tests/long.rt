@@ -1,0 +1,120 @@
+//! An object of 60 MB.
+ghost use Rattle.std.specs.Prelude.{◌≡◌, ◌≤◌, ◌<◌, length};
+ghost use Rattle.cf_model.specs.Families.{IsPaged};
+
+use crate::tests::driver::Driver;
+use cf_base::Handle;
+use cf_model::Manager;
+use moving_heap::MovingHeap;
+use nonmoving_heap::NonMovingHeap;
+use std::alloc::Global;
+use std::test::Fail;
+use step_ledger::Meter;
+use wrong_answers::Wrong;
+
+/// The bytes of the object.
+const BYTES: u32 = 60_000_000;
+
+/// So many are written and read at once.
+const CHUNK: usize = 4_096;
+
+/// The byte at each place is its place over 251, the rest: no length of a page or of a piece is a
+/// multiple of that.
+const PERIOD: u32 = 251;
+
+/// Pages, the bytes of a page, and proxies; and the bytes of a piece.
+static PAGES: [([u32; 3], u32); 2] = [
+    ([4_096, 16_384, 4_096], 16_376),
+    ([512, 131_072, 512], 131_064),
+];
+
+/// The bytes from byte `at` on, as many as a chunk has or as the object has left.
+fn bytes_at(table: &[u8], at: u32) -> Result<&[u8], Wrong> {
+    let from = (at % PERIOD) as usize;
+    let left = BYTES.saturating_sub(at) as usize;
+    match table.get(from..from + CHUNK.min(left)) {
+        Some(bytes) => Ok(bytes),
+        None => Err(Wrong::Line),
+    }
+}
+
+/// Writes the object chunk by chunk, and reads it back; and then around each edge of its pieces.
+fn written_and_read<H: Manager>(
+    alloc: Global,
+    inner: H,
+    meter: Meter,
+    page: ([u32; 3], u32),
+) -> Result<(), Wrong>
+    requires { IsPaged (H.state inner).kind }
+{
+    let (settings, piece) = page;
+    let mut table = Vec::new(alloc);
+    for i in 0..CHUNK as u32 + PERIOD {
+        table.push((i % PERIOD) as u8)?;
+    }
+    let mut driver = Driver::open(alloc, inner, meter, settings)?;
+    let h = driver.given(BYTES)?;
+    write_chunks(&mut driver, h, &table)?;
+    read_chunks(&mut driver, h, &table)?;
+    read_edges(&mut driver, h, &table, piece)
+}
+
+/// Writes the object, chunk by chunk.
+fn write_chunks<H: Manager>(driver: &mut Driver<H>, h: Handle, table: &[u8]) -> Result<(), Wrong> {
+    for i in 0..BYTES.div_ceil(CHUNK as u32) {
+        let at = i * CHUNK as u32;
+        driver.put(h, at, bytes_at(table, at)?)?;
+    }
+    Ok(())
+}
+
+/// Reads the object, chunk by chunk.
+fn read_chunks<H: Manager>(driver: &mut Driver<H>, h: Handle, table: &[u8]) -> Result<(), Wrong> {
+    let mut room = [0; CHUNK];
+    for i in 0..BYTES.div_ceil(CHUNK as u32) {
+        let at = i * CHUNK as u32;
+        let want = bytes_at(table, at)?;
+        let Some(out) = room.get_mut(..want.len()) else {
+            return Err(Wrong::Line);
+        };
+        driver.gives(h, at, out, want)?;
+    }
+    Ok(())
+}
+
+/// Reads eight bytes across each edge of the pieces.
+fn read_edges<H: Manager>(
+    driver: &mut Driver<H>,
+    h: Handle,
+    table: &[u8],
+    piece: u32,
+) -> Result<(), Wrong> {
+    let mut out = [0; 8];
+    let mut at = piece.saturating_sub(4);
+    for _i in 1..BYTES.div_ceil(piece.max(1)) {
+        let Some(want) = bytes_at(table, at)?.get(..8) else {
+            return Err(Wrong::Line);
+        };
+        driver.gives(h, at, &mut out, want)?;
+        at = at.saturating_add(piece);
+    }
+    Ok(())
+}
+
+#[test]
+fn sixty_megabytes_on_the_moving_manager(rt: HostRuntime) -> Result<(), Fail> {
+    for page in PAGES.iter() {
+        let inner = MovingHeap::closed(rt.alloc());
+        written_and_read(rt.alloc(), inner, Meter::new(&rt), *page)?;
+    }
+    Ok(())
+}
+
+#[test]
+fn sixty_megabytes_on_the_non_moving_manager(rt: HostRuntime) -> Result<(), Fail> {
+    for page in PAGES.iter() {
+        let inner = NonMovingHeap::closed(rt.alloc());
+        written_and_read(rt.alloc(), inner, Meter::new(&rt), *page)?;
+    }
+    Ok(())
+}
