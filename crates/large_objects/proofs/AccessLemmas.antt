@@ -1,5 +1,5 @@
 -- A long object is read and written piece by piece.
-use Rattle.std.proofs.Common.{◌≡◌, ◌≢◌, ℕ, ◌+◌, ◌-◌, ◌*◌, ◌/◌, ◌%◌, ◌^◌, ◌<◌, ◌≤◌, List, [], ◌∷◌, ◌++◌, Some, None, length, take, drop, min, arith, sym, ◌∙◌, ap, refl, subst, inl, inr, length-append, length-drop}
+use Rattle.std.proofs.Common.{◌≡◌, ℕ, ◌+◌, ◌*◌, ◌/◌, ◌%◌, ◌^◌, ◌<◌, ◌≤◌, List, [], ◌∷◌, ◌++◌, Some, length, take, drop, arith, sym, ◌∙◌, ap, refl, subst, inl, inr, length-append, length-drop}
 use Rattle.std.proofs.Math.Nat.{div-add-mod, lt_of_mul-lt-mul_left, mod-lt}
 use Rattle.std.proofs.lemmas.Bool.{cases_eq}
 use borrow.Rule.Slice.PartMut.{put_mid}

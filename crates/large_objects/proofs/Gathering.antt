@@ -1,23 +1,20 @@
 -- What is gathered from the inner objects is what they were made of; and the counts and lengths after each call.
-use Rattle.std.proofs.Common.{◌≡◌, ◌≢◌, ℕ, zero, suc, ◌+◌, ◌-◌, ◌*◌, ◌<◌, ◌≤◌, List, [], ◌∷◌, ◌++◌, Some, None, length, get_or, set, take, drop, replicate, arith, sym, ◌∙◌, ap, refl, subst, inl, inr, length-drop}
-use Rattle.std.specs.Prelude.{Option, nat_eq, nat_le, option_map}
-use Rattle.std.specs.List.{flat_map, range_with_len}
+use Rattle.std.proofs.Common.{◌≡◌, ◌≢◌, ℕ, zero, suc, ◌+◌, ◌-◌, ◌*◌, ◌<◌, ◌≤◌, List, [], ◌∷◌, ◌++◌, Some, None, length, get_or, set, drop, replicate, arith, sym, ◌∙◌, ap, refl, inl, inr, length-drop}
+use Rattle.std.specs.Prelude.{Option, nat_eq, option_map}
 use Rattle.std.proofs.lemmas.Bool.{cases_eq, cases_lt}
 use Rattle.std.proofs.lemmas.List.{get_or-set_same, get_or-set_other, length-replicate, length-set, take_all}
-use Rattle.std.proofs.lemmas.Option.{same_Some}
-use Rattle.std.specs.FinMap.{get, insert, remove, len}
+use Rattle.std.specs.FinMap.{get, insert, remove}
 use Rattle.cf_lemmas.proofs.Maps.{equal_maps, get_inserted, get_insert_other, get_removed, get_remove_other, len_fresh, len_rebound}
 use Rattle.cf_lemmas.proofs.Numbered.{get-numbered}
 use Rattle.cf_lemmas.proofs.Ranges.{one}
 use Rattle.cf_lemmas.proofs.Tests.{le_yes, le_no}
-use Rattle.page_model.specs.Arrangement.{live}
 use Rattle.page_model.specs.Held.{Objects}
 use Rattle.page_model.specs.Paging.{Paging, class_for}
 use Rattle.page_model.proofs.CallerLemmas.{live_added, live_taken}
 use Rattle.large_objects.specs.Growing.{IsGrowing}
-use Rattle.large_objects.specs.Large.{AreCounted, AreLaidOut, bytes_in, named, piece_of}
+use Rattle.large_objects.specs.Large.{AreCounted, AreLaidOut, bytes_in, named}
 use Rattle.large_objects.specs.Layout.{AreLengths, gathered, gathered_from, gathered_objects}
-use Rattle.large_objects.specs.Parts.{in_class, inner_count, inner_live, parts, pieces, spine_bytes}
+use Rattle.large_objects.specs.Parts.{in_class, parts, pieces, spine_bytes}
 use Rattle.large_objects.specs.Shrinking.{IsShrinking}
 use Rattle.large_objects.proofs.Bytes.{piece_of_zeros, pieces_whole}
 use Rattle.large_objects.proofs.Cutting.{in_class_cons, in_class_one, length_long, length_short, parts_long, parts_short, pieces_enough}

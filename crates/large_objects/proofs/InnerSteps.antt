@@ -1,29 +1,26 @@
 -- What the calls of an inner manager that is ready do to its objects.
-use Rattle.std.proofs.Common.{◌≡◌, ◌≢◌, ℕ, ◌+◌, ◌*◌, ◌^◌, ◌<◌, ◌≤◌, List, Some, None, true, length, replicate, take, drop, arith, sym, ◌∙◌, ap, refl, subst}
-use Rattle.std.specs.Prelude.{Result, Ok, Err, Option, option_map, IsTrue}
+use Rattle.std.proofs.Common.{◌≡◌, ℕ, ◌+◌, ◌*◌, ◌^◌, ◌<◌, ◌≤◌, List, Some, None, true, length, take, drop, arith, sym, ◌∙◌, ap, refl, subst}
+use Rattle.std.specs.Prelude.{Result, Ok, Err, Option, option_map}
 use Rattle.std.proofs.lemmas.Option.{same_Some}
 use Rattle.std.proofs.lemmas.Nat.{mul-le}
-use Rattle.std.specs.FinMap.{get, insert, remove, len}
-use Rattle.cf_base.specs.Classes.{need}
+use Rattle.std.specs.FinMap.{get}
 use Rattle.cf_base.specs.declared.answers.AccessFault.{AccessFault}
 use Rattle.cf_base.specs.declared.answers.AccessFault.TheVariants as access
 use Rattle.cf_base.specs.declared.answers.Freed.{Freed}
-use Rattle.cf_base.specs.declared.answers.Handle.{Handle}
 use Rattle.cf_base.specs.declared.answers.NotLive.{NotLive}
 use Rattle.cf_base.specs.declared.answers.Refusal.{Refusal}
 use Rattle.cf_base.specs.declared.answers.Refusal.TheVariants as refusal
 use Rattle.cf_lemmas.proofs.MapValues.{get-map_values, map_values-insert}
-use Rattle.page_model.specs.Arrangement.{LacksRoom, pages_needed_with}
-use Rattle.page_model.specs.Bytes.{written}
+use Rattle.page_model.specs.Arrangement.{LacksRoom}
 use Rattle.page_model.specs.Held.{Held, Objects, Placed, objects}
-use Rattle.page_model.specs.Paging.{AreOne, Paging, class_for, classes, paging_of}
+use Rattle.page_model.specs.Paging.{AreOne, Paging, class_for, paging_of}
 use Rattle.page_model.specs.Steps.{Request}
 use Rattle.page_model.proofs.CallerLemmas.{class_fits, class_holds, lacks_room_at_one, len-objects, malloc_objects, slot_fits}
 use Rattle.cf_base.specs.declared.kind.Kind.{Kind}
 use Rattle.cf_model.specs.Families.{IsPaged, family_of}
 use Rattle.cf_model.specs.Rules.{KeepsPages, KeepsRules, KeepsRulesOf, KeepsTable}
 use Rattle.cf_model.specs.State.{HeapState, layout_of, paging_in}
-use Rattle.cf_model.specs.Steps.{FreesObject, GivesObject, IsFault, IsFreeStep, IsMallocStep, IsReadAnswer, IsRefusedBy, IsWriteStep, KeepsSettings, LacksRoomIn, Part}
+use Rattle.cf_model.specs.Steps.{GivesObject, IsFault, IsFreeStep, IsReadAnswer, IsRefusedBy, IsWriteStep, KeepsSettings, LacksRoomIn, Part}
 use Rattle.large_objects.specs.InnerCalls.{FreesPart, GivesPart, HasPart, HasPartRoom, IsReady, StaysReady, WritesPart}
 
 -- what a ready manager keeps of its pages

@@ -1,13 +1,13 @@
 -- The inner objects are those of the large ones, after each call.
-use Rattle.std.proofs.Common.{◌≡◌, ◌≢◌, ℕ, zero, suc, ◌+◌, ◌-◌, ◌*◌, ◌<◌, ◌≤◌, List, Some, None, length, get_or, replicate, arith, sym, ◌∙◌, ap, refl, inl, inr}
+use Rattle.std.proofs.Common.{◌≡◌, ◌≢◌, ℕ, ◌<◌, ◌≤◌, List, Some, None, length, arith, sym, ◌∙◌, ap, refl, inl, inr}
 use Rattle.std.specs.Prelude.{◌⊎◌, Option}
 use Rattle.std.proofs.lemmas.Bool.{cases_eq, cases_lt}
 use Rattle.std.proofs.lemmas.Option.{same_Some}
 use Rattle.std.specs.FinMap.{get, insert, remove}
-use Rattle.cf_lemmas.proofs.Maps.{get_inserted, get_insert_other, get_removed, get_remove_other, some_inserted, some_removed}
+use Rattle.cf_lemmas.proofs.Maps.{get_inserted, get_insert_other, get_remove_other, some_inserted, some_removed}
 use Rattle.page_model.specs.Held.{Objects}
 use Rattle.large_objects.specs.Large.{AreLaidOut, HasSpine, IsPiece, bytes_in, handle_at, named, piece_of}
-use Rattle.large_objects.specs.Parts.{piece_length, pieces, spine_bytes}
+use Rattle.large_objects.specs.Parts.{pieces, spine_bytes}
 use Rattle.large_objects.specs.Shrinking.{HasPieces}
 use Rattle.large_objects.proofs.Bytes.{piece_of_length}
 

@@ -1,5 +1,5 @@
 -- Every call of a heap of large objects has an answer, and a state after it.
-use Rattle.std.proofs.Common.{◌≡◌, ℕ, zero, suc, ◌+◌, ◌-◌, ◌*◌, ◌/◌, ◌%◌, ◌<◌, ◌≤◌, true, List, Some, None, length, get_or, set, take, drop, min, arith, sym, ◌∙◌, ap, refl, subst, inl, inr}
+use Rattle.std.proofs.Common.{◌≡◌, ℕ, zero, suc, ◌+◌, ◌-◌, ◌*◌, ◌/◌, ◌%◌, ◌<◌, ◌≤◌, true, List, Some, None, length, set, take, drop, min, arith, sym, ◌∙◌, ap, refl, subst, inl, inr}
 use Rattle.std.specs.Prelude.{◌⊎◌, IsTrue, Option, option_map}
 use Rattle.std.specs.FinMap.{get, insert}
 use Rattle.std.proofs.lemmas.Bool.{cases_lt}
@@ -172,12 +172,16 @@ module _ (old : LargeState) (opened : IsTrue old.is_open) (kept : KeepsParts old
       let long : length (take count (drop done bytes)) ≡ count = length-take count (drop done bytes) ∙ (let d = length-drop done bytes in omega arith) in
       let part = next_write old now h at done count piece bytes has w.so_far w.stays refl positive (omega arith) more (omega arith) in
       let c = chunk_there now w.stays.stays.open_now w.stays.parts h ((at + done) / piece) ((at + done) % piece) (take count (drop done bytes))
-      (subst (λ k. HasLongPart now h ((at + done) / piece) ((at + done) % piece) k) (sym long) part) (part_bytes count done bytes are) (omega arith) (omega arith) in
-      (count, more, c.0, record {
-        within = omega arith;
-        stays = then_kept old now c.0 w.stays c.2;
-        so_far = so_far_more old now h at done count piece bytes has w.so_far w.stays refl positive (omega arith) more c.0 _ refl c.1;
-      })
+      (subst (λ k. HasLongPart now h ((at + done) / piece) ((at + done) % piece) k) (sym long) part) (part_bytes count done bytes are) (omega arith) (omega arith) in (
+        count,
+        more,
+        c.0,
+        record {
+          within = omega arith;
+          stays = then_kept old now c.0 w.stays c.2;
+          so_far = so_far_more old now h at done count piece bytes has w.so_far w.stays refl positive (omega arith) more c.0 _ refl c.1;
+        },
+      )
 
   written_on : (fuel done : ℕ) (now : LargeState) → IsWritten now done → length bytes ≤ done + fuel
       → (new : LargeState) × WritesLarge old (record { number = h; from = at }) bytes new × StaysKept old new

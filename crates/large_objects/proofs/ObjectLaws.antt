@@ -1,13 +1,13 @@
 -- What the clauses of a heap of large objects say together.
-use Rattle.std.proofs.Common.{◌≡◌, ◌≢◌, ℕ, ◌+◌, ◌<◌, ◌≤◌, List, Some, None, length, take, drop, arith, sym, ◌∙◌, ap, refl, inl, inr}
+use Rattle.std.proofs.Common.{◌≡◌, ◌≢◌, ℕ, List, Some, None, length, take, drop, arith, sym, ◌∙◌, ap, refl, inl, inr}
 use Rattle.std.proofs.lemmas.Option.{same_Some}
-use Rattle.std.specs.FinMap.{get, insert}
+use Rattle.std.specs.FinMap.{get}
 use Rattle.cf_base.specs.declared.answers.AccessFault.{AccessFault}
 use Rattle.cf_base.specs.declared.answers.AccessFault.TheVariants as access
 use Rattle.cf_base.specs.declared.answers.Refusal.{Refusal}
 use Rattle.cf_base.specs.declared.answers.Refusal.TheVariants as refusal
 use Rattle.cf_lemmas.proofs.Maps.{get_inserted, get_insert_other}
-use Rattle.cf_model.specs.State.{HeapState, paging_in}
+use Rattle.cf_model.specs.State.{paging_in}
 use Rattle.cf_model.specs.Steps.{Part}
 use Rattle.page_model.specs.Arrangement.{live, pages_for, pages_needed, used_pages}
 use Rattle.page_model.specs.Bytes.{written}
@@ -15,7 +15,7 @@ use Rattle.page_model.specs.Held.{Objects, objects}
 use Rattle.page_model.proofs.CallerLemmas.{used_at_one}
 use Rattle.large_objects.specs.Large.{KeepsParts, LargeState}
 use Rattle.large_objects.specs.LargeSteps.{FitsSpine, GivesLarge, IsLargeFault, IsRefusedLarge, ReadsLarge, WantsLongerSpine, WritesLarge, piece_in}
-use Rattle.large_objects.specs.Parts.{inner_live, spine_bytes}
+use Rattle.large_objects.specs.Parts.{inner_live}
 use Rattle.large_objects.proofs.Bytes.{part_same}
 use Rattle.large_objects.proofs.InnerSteps.{keeps_pages}
 use Rattle.large_objects.proofs.Room.{pages_same}

@@ -1,6 +1,6 @@
 -- The pages that all inner objects need, class by class.
-use Rattle.std.proofs.Common.{◌≡◌, ℕ, ◌+◌, ◌-◌, ◌*◌, ◌/◌, ◌%◌, ◌^◌, ◌<◌, ◌≤◌, Bool, true, false, List, Some, None, length, min, arith, sym, ◌∙◌, ap, refl, inl, inr}
-use Rattle.std.specs.Prelude.{count_by, nat_eq, nat_le, nat_lt}
+use Rattle.std.proofs.Common.{◌≡◌, ℕ, ◌+◌, ◌-◌, ◌*◌, ◌/◌, ◌%◌, ◌^◌, ◌<◌, ◌≤◌, Bool, true, false, List, Some, length, min, arith, sym, ◌∙◌, ap, refl, inl, inr}
+use Rattle.std.specs.Prelude.{count_by, nat_eq, nat_le}
 use Rattle.std.proofs.lemmas.Bool.{cases_lt}
 use Rattle.std.proofs.lemmas.List.Sums.{count_by-le-length}
 use Rattle.std.proofs.lemmas.Nat.{mul-le}
@@ -16,7 +16,7 @@ use Rattle.page_model.specs.Arrangement.{live}
 use Rattle.page_model.specs.Counts.{ceil_div}
 use Rattle.page_model.specs.Figures.{figures_of}
 use Rattle.page_model.specs.Held.{Objects, objects}
-use Rattle.page_model.specs.Paging.{Paging, class_for, classes, slot_words, slots_of}
+use Rattle.page_model.specs.Paging.{Paging, class_for, classes}
 use Rattle.page_model.proofs.CallerLemmas.{len-objects, slots_some}
 use Rattle.cf_model.specs.Answers.{classes_in, figures_in}
 use Rattle.cf_model.specs.Families.{IsPaged}

@@ -1,12 +1,12 @@
 -- The inner objects of a large one are made, and go, in some state of an inner manager.
-use Rattle.std.proofs.Common.{◌≡◌, ℕ, zero, suc, ◌+◌, ◌*◌, ◌<◌, ◌≤◌, List, Some, length, get_or, arith, sym, ◌∙◌, ap, refl, subst, inl, inr}
+use Rattle.std.proofs.Common.{◌≡◌, ℕ, zero, suc, ◌+◌, ◌*◌, ◌<◌, ◌≤◌, arith, subst, inl, inr}
 use Rattle.std.specs.Int.{to_le_bytes, w32}
 use Rattle.std.proofs.lemmas.Bool.{cases_lt}
 use Rattle.page_model.specs.Bytes.{AreBytes}
 use Rattle.page_model.specs.Held.{objects}
 use Rattle.cf_model.specs.State.{HeapState}
 use Rattle.large_objects.specs.Growing.{Grows, HasPartsRoom, Makes}
-use Rattle.large_objects.specs.InnerCalls.{HasPart, IsReady}
+use Rattle.large_objects.specs.InnerCalls.{IsReady}
 use Rattle.large_objects.specs.Large.{named}
 use Rattle.large_objects.specs.Parts.{piece_length, pieces, spine_bytes}
 use Rattle.large_objects.specs.Shrinking.{HasParts, HasPieces, Releases, Shrinks}
@@ -58,9 +58,11 @@ module _ (u n : ℕ) (old : HeapState) (h : ℕ) (some : 0 < u) (ready : IsReady
     shrunk (suc k) few =
         let before = shrunk k (omega arith) in
         let there = next_there u n old before.0 h k some long has before.1 (omega arith) in
-        let f = frees_there before.0 before.1.stays.ready (named (objects before.0.held) h k) there in
-        (f.0, subst (λ j. Shrinks u n old h j f.0) (let e : k + 1 ≡ suc k = omega arith in e)
-        (shrinks_more u n old before.0 h k some long has before.1 (omega arith) f.0 f.1))
+        let f = frees_there before.0 before.1.stays.ready (named (objects before.0.held) h k) there in (
+          f.0,
+          subst (λ j. Shrinks u n old h j f.0) (let e : k + 1 ≡ suc k = omega arith in e)
+              (shrinks_more u n old before.0 h k some long has before.1 (omega arith) f.0 f.1),
+        )
 
     released : (new : HeapState) × Releases u n old h new
     released =

@@ -1,6 +1,6 @@
 -- Where there is room for all inner objects there is room for each in turn; and the arithmetic of it.
-use Rattle.std.proofs.Common.{◌≡◌, ℕ, zero, suc, ◌+◌, ◌-◌, ◌*◌, ◌/◌, ◌<◌, ◌≤◌, Bool, List, [], ◌∷◌, Some, None, length, take, arith, ap}
-use Rattle.std.specs.Prelude.{count_by, sum_by, nat_eq}
+use Rattle.std.proofs.Common.{◌≡◌, ℕ, zero, suc, ◌+◌, ◌-◌, ◌/◌, ◌≤◌, List, [], ◌∷◌, Some, None, length, take, arith, ap}
+use Rattle.std.specs.Prelude.{sum_by, nat_eq}
 use Rattle.std.specs.List.{range_with_len}
 use Rattle.std.proofs.lemmas.List.Sums.{sum_by-cons, sum_by-take-le}
 use Rattle.std.proofs.Math.Nat.{div-mul-le_self, div-zero}

@@ -1,20 +1,19 @@
 -- A free of a long object, piece by piece.
-use Rattle.std.proofs.Common.{◌≡◌, ◌≢◌, ℕ, zero, suc, ◌+◌, ◌-◌, ◌*◌, ◌<◌, ◌≤◌, List, [], ◌∷◌, Some, None, length, get_or, take, drop, arith, sym, ◌∙◌, ap, refl, subst, inl, inr, length-drop}
+use Rattle.std.proofs.Common.{◌≡◌, ℕ, suc, ◌+◌, ◌*◌, ◌<◌, List, Some, get_or, drop, arith, sym, ◌∙◌, ap, refl, subst, inl, inr, length-drop}
 use Rattle.std.specs.Prelude.{nat_eq}
 use Rattle.std.proofs.lemmas.Bool.{cases_eq}
 use Rattle.std.proofs.lemmas.List.{get_or-drop}
-use Rattle.std.specs.FinMap.{get, insert, remove, len}
+use Rattle.std.specs.FinMap.{get, remove, len}
 use Rattle.cf_lemmas.proofs.Maps.{get_removed, get_remove_other, len_fresh}
 use Rattle.cf_lemmas.proofs.Ranges.{one}
 use Rattle.cf_lemmas.proofs.Sums.{put_back}
-use Rattle.page_model.specs.Arrangement.{live}
 use Rattle.page_model.specs.Held.{Objects, objects}
 use Rattle.page_model.specs.Paging.{Paging, class_for}
 use Rattle.page_model.proofs.CallerLemmas.{live_taken}
 use Rattle.cf_model.specs.State.{HeapState, paging_in}
 use Rattle.large_objects.specs.InnerCalls.{FreesPart, HasPart, IsReady}
 use Rattle.large_objects.specs.Large.{bytes_in, handle_at, named}
-use Rattle.large_objects.specs.Parts.{in_class, parts, piece_length, pieces}
+use Rattle.large_objects.specs.Parts.{parts, piece_length, pieces}
 use Rattle.large_objects.specs.Shrinking.{HasPieces, IsShrinking, ReleasesLong, Shrinks}
 use Rattle.large_objects.proofs.Cutting.{in_class_more, in_class_take_none, length_long, part_is}
 use Rattle.large_objects.proofs.InnerSteps.{same_ready, then_ready}

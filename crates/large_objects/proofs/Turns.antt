@@ -1,12 +1,11 @@
 -- Each command of a run over large objects has its turn, and a run goes on to the end of its items.
-use Rattle.std.proofs.Common.{◌≡◌, ◌++◌, ℕ, ◌+◌, ◌<◌, ◌≤◌, List, [], ◌∷◌, Some, None, length, arith, refl, sym, subst, inl, inr}
-use Rattle.std.specs.Prelude.{◌⊎◌, ⊤, Bool, true, Option, Result, Ok, Err, codes}
+use Rattle.std.proofs.Common.{◌≡◌, ◌++◌, ℕ, ◌+◌, List, [], ◌∷◌, Some, None, length, arith, refl, sym, subst, inl, inr}
+use Rattle.std.specs.Prelude.{⊤, Bool, true, Option, Ok, Err, codes}
 use Rattle.std.specs.Option.{MatchOption}
 use Rattle.std.specs.FinMap.{empty, get, remove}
 use Rattle.std.proofs.lemmas.Bool.{cases_lt}
 use Rattle.cf_base.specs.Settings.{Profile}
 use Rattle.cf_base.specs.declared.answers.AccessFault.TheVariants as access
-use Rattle.cf_base.specs.declared.answers.Refusal.{Refusal}
 use Rattle.cf_base.specs.declared.kind.Kind.{Kind}
 use Rattle.cf_base.specs.declared.settings.Settings.{Settings}
 use Rattle.cf_io.specs.Texts.{Reply, said}
@@ -14,11 +13,10 @@ use Rattle.cf_model.specs.Families.{IsPaged}
 use Rattle.cf_model.specs.Rules.{AreInRange}
 use Rattle.cf_model.specs.Steps.{IsEmptyHeap}
 use Rattle.cf_lemmas.specs.Maps.{vacant}
-use Rattle.page_model.specs.Bytes.{AreBytes}
 use Rattle.run_laws.proofs.CallerLemmas.{begins_there, items_sayable, sayable_behind}
 use Rattle.run_laws.specs.Sayable.{AreSayable, IsSayable, IsSayableItem}
 use Rattle.run_model.proofs.CallerLemmas.{run_joined}
-use Rattle.run_model.specs.Plays.{PlayRun, PlayStep}
+use Rattle.run_model.specs.Plays.{PlayStep}
 use Rattle.run_model.specs.Replies.{malloc_text, write_text}
 use Rattle.run_model.specs.Steps.{ids_given}
 use Rattle.run_model.specs.Texts.{bad_line}
@@ -26,7 +24,6 @@ use Rattle.script_reader.specs.Items.{Item, asks, bad, items, starts}
 use Rattle.script_reader.specs.declared.command.Command.{Command}
 use Rattle.script_reader.specs.declared.command.Command.TheVariants.{Malloc, Free, Write}
 use Rattle.large_objects.specs.LargeRun.{FreesIdLarge, IsGoingLarge, LargeRun, LargeStep, MallocsLarge, StaysLarge, WritesIdLarge, large_told}
-use Rattle.large_objects.specs.LargeSteps.{HasRoom, IsRefusedLarge}
 use Rattle.large_objects.specs.Playing.{BeginsAtOne, BeginsLarge, RunsLarge, at_bound_one}
 use Rattle.large_objects.proofs.Going.{still_going}
 use Rattle.large_objects.proofs.Opened.{none_tied}
@@ -134,15 +131,17 @@ begins_large kind p paged can =
       few_proxies = can.few_proxies;
       small_region = can.small_region;
     }) in
-    let opened : IsEmptyHeap kind settings b.0.heap = record { words = b.1.words; whole = b.1.heap } in
-    (record { ids = empty; heap = record { is_open = true; objects = empty; inner = b.0.heap } }, record {
-      ids = refl;
-      open_now = refl;
-      none = refl;
-      words = b.1.words;
-      inner = b.1.heap;
-      parts = empty_parts settings kind b.0.heap (vacant p.proxies) paged refl opened b.1.rules refl;
-    })
+    let opened : IsEmptyHeap kind settings b.0.heap = record { words = b.1.words; whole = b.1.heap } in (
+      record { ids = empty; heap = record { is_open = true; objects = empty; inner = b.0.heap } },
+      record {
+        ids = refl;
+        open_now = refl;
+        none = refl;
+        words = b.1.words;
+        inner = b.1.heap;
+        parts = empty_parts settings kind b.0.heap (vacant p.proxies) paged refl opened b.1.rules refl;
+      },
+    )
 
 -- a run that began goes on
 pub begins_going : (kind : Kind) (p : Profile) (s : LargeRun) → BeginsLarge kind p s → IsGoingLarge s

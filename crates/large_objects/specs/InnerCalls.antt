@@ -1,10 +1,10 @@
 -- What the calls of an inner manager do to its objects, where they aren't refused. No public clause cites this module.
-use Rattle.std.specs.Prelude.{◌≡◌, ℕ, IsTrue, ◌+◌, ◌*◌, ◌^◌, ◌≤◌, ◌<◌, List, Some, None, length, replicate}
+use Rattle.std.specs.Prelude.{◌≡◌, ℕ, IsTrue, ◌+◌, ◌^◌, ◌≤◌, ◌<◌, List, Some, None, length, replicate}
 use Rattle.std.specs.FinMap.{get, insert, remove, len}
 use Rattle.cf_base.specs.Classes.{need}
 use Rattle.page_model.specs.Arrangement.{pages_needed_with}
 use Rattle.page_model.specs.Bytes.{written}
-use Rattle.page_model.specs.Held.{Objects, objects}
+use Rattle.page_model.specs.Held.{objects}
 use Rattle.page_model.specs.Paging.{AreOne}
 use Rattle.cf_model.specs.Families.{IsPaged}
 use Rattle.cf_model.specs.Rules.{KeepsRules}

@@ -1,5 +1,5 @@
 -- Large objects over an inner manager: what they are made of there.
-use Rattle.std.specs.Prelude.{◌≡◌, ◌≢◌, ℕ, Bool, false, IsTrue, ◌+◌, ◌*◌, ◌<◌, ◌≤◌, List, [], Option, Some, None, length, take, drop, refl}
+use Rattle.std.specs.Prelude.{◌≡◌, ℕ, Bool, IsTrue, ◌*◌, ◌<◌, ◌≤◌, List, [], Option, Some, None, length, take, drop, refl}
 use Rattle.std.specs.Coded.{Coded, code_by, coded×, coded_ℕ, coded_list, coded_bool}
 use Rattle.std.specs.FinMap as map
 use Rattle.std.specs.FinMap.{get, len}

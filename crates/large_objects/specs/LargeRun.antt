@@ -1,18 +1,15 @@
 -- A session over a heap of large objects, and what each command does there.
-use Rattle.std.specs.Prelude.{◌≡◌, ℕ, IsTrue, ◌+◌, ◌++◌, List, [], ◌∷◌, Option, Some, None, Result, Ok, Err, codes, length, take, drop, nat_le, if◌then◌else◌}
+use Rattle.std.specs.Prelude.{◌≡◌, ℕ, IsTrue, ◌+◌, ◌++◌, List, [], Option, Some, None, Result, Ok, Err, codes, length, take, drop, nat_le, if◌then◌else◌}
 use Rattle.std.specs.Option.{MatchOption}
-use Rattle.std.specs.FinMap.{get, insert, remove, empty}
+use Rattle.std.specs.FinMap.{get, remove}
 use Rattle.hex.specs.Hex.{encode_lower}
-use Rattle.cf_base.specs.Settings.{Profile}
 use Rattle.cf_base.specs.declared.answers.AccessFault.{AccessFault}
 use Rattle.cf_base.specs.declared.answers.Failed.{Failed}
 use Rattle.cf_base.specs.declared.answers.Handle.{Handle}
 use Rattle.cf_base.specs.declared.answers.Refusal.{Refusal}
-use Rattle.cf_base.specs.declared.kind.Kind.{Kind}
 use Rattle.cf_io.specs.Feeds.{appended}
 use Rattle.cf_io.specs.Texts.{Reply, led, said}
-use Rattle.cf_model.specs.Families.{IsPaged}
-use Rattle.cf_model.specs.Steps.{IsOpeningWords, Part, empty_heap}
+use Rattle.cf_model.specs.Steps.{Part}
 use Rattle.cf_session.specs.Apply.{outcome_of}
 use Rattle.cf_session.specs.declared.outcome.Outcome.{Outcome}
 use Rattle.id_table.specs.Ids.{Ids}

@@ -1,7 +1,6 @@
 -- The steps of a heap of large objects, from its state before to its state after.
-use Rattle.std.specs.Prelude.{◌≡◌, ℕ, ◌+◌, ◌*◌, ◌≤◌, ◌<◌, ◌⊎◌, true, false, List, Option, Some, None, Result, Ok, Err, length, take, drop, replicate}
+use Rattle.std.specs.Prelude.{◌≡◌, ℕ, ◌+◌, ◌*◌, ◌≤◌, ◌<◌, ◌⊎◌, true, List, Some, None, Result, Ok, Err, length, take, drop, replicate}
 use Rattle.std.specs.FinMap.{get, insert, remove, empty}
-use Rattle.cf_base.specs.Settings.{profile_of}
 use Rattle.cf_base.specs.declared.answers.AccessFault.{AccessFault}
 use Rattle.cf_base.specs.declared.answers.AccessFault.TheVariants as access
 use Rattle.cf_base.specs.declared.answers.Handle.{Handle}
@@ -10,7 +9,7 @@ use Rattle.cf_base.specs.declared.answers.Refusal.{Refusal}
 use Rattle.cf_base.specs.declared.answers.Refusal.TheVariants as refusal
 use Rattle.cf_base.specs.declared.settings.Settings.{Settings}
 use Rattle.page_model.specs.Bytes.{written}
-use Rattle.cf_model.specs.State.{HeapState, paging_in}
+use Rattle.cf_model.specs.State.{paging_in}
 use Rattle.cf_model.specs.Steps.{IsEmptyHeap, Part, StaysOpen}
 use Rattle.large_objects.specs.Large.{KeepsParts, LargeState}
 use Rattle.large_objects.specs.Parts.{inner_count, inner_pages_with, parts, piece_bytes, pieces, spine_bytes}

@@ -5,7 +5,7 @@ use Rattle.page_model.specs.Arrangement.{live}
 use Rattle.page_model.specs.Held.{Objects, objects}
 use Rattle.page_model.specs.Paging.{Paging}
 use Rattle.cf_model.specs.State.{HeapState, paging_in}
-use Rattle.large_objects.specs.InnerCalls.{IsReady, StaysReady}
+use Rattle.large_objects.specs.InnerCalls.{StaysReady}
 use Rattle.large_objects.specs.Large.{HasSpine, named}
 use Rattle.large_objects.specs.Parts.{in_class, parts, piece_length, pieces}
 

@@ -1,4 +1,3 @@
-use Rattle.std.proofs.Common.{arith}
 use Rattle.large_objects.proofs.ShrinkLemmas.{releases_long, spine_is_live}
 use Rattle.large_objects.proofs.free.release_long.Goals as goal
 

@@ -1,5 +1,4 @@
-use Rattle.std.proofs.Common.{arith, sym, ap, subst, ◌*◌, ◌<◌}
-use Rattle.cf_model.specs.State.{HeapState}
+use Rattle.std.proofs.Common.{arith, sym, subst, ◌*◌, ◌<◌}
 use Rattle.large_objects.specs.Growing.{NamesPiece}
 use Rattle.large_objects.specs.InnerCalls.{GivesPart, HasPartRoom}
 use Rattle.large_objects.specs.Parts.{pieces}

@@ -1,5 +1,5 @@
 use Rattle.std.proofs.Common.{length}
-use Rattle.large_objects.proofs.Kept.{handle_there, piece_reads, piece_there, ready}
+use Rattle.large_objects.proofs.Kept.{handle_there, piece_reads, piece_there}
 use Rattle.large_objects.proofs.heap.LargeHeap.read_piece.Goals as goal
 
 pub piece_handle-piece-requires-clause-has : goal.piece_handle-piece-requires-clause-has

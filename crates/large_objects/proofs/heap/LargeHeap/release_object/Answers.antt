@@ -1,4 +1,4 @@
-use Rattle.large_objects.proofs.Kept.{gone_frees, gone_kept, gone_valid, has_parts, kept, object_below, ready}
+use Rattle.large_objects.proofs.Kept.{gone_frees, gone_kept, gone_valid, has_parts}
 use Rattle.large_objects.proofs.heap.LargeHeap.release_object.Goals as goal
 
 pub release-requires-clause-has : goal.release-requires-clause-has

@@ -1,8 +1,8 @@
-use Rattle.std.proofs.Common.{◌≡◌, ◌+◌, ◌-◌, ◌/◌, ◌%◌, ◌<◌, ◌≤◌, length, take, drop, arith, sym, ◌∙◌, ap, refl, subst}
+use Rattle.std.proofs.Common.{◌≡◌, ◌+◌, ◌-◌, ◌/◌, ◌%◌, ◌≤◌, length, take, drop, arith, sym, ◌∙◌, ap, subst}
 use Rattle.std.proofs.lemmas.List.{length-take, length-drop}
 use Rattle.std.proofs.lemmas.Option.{same_Some}
 use Rattle.large_objects.specs.LargeSteps.{HasLongPart}
-use Rattle.large_objects.proofs.AccessLemmas.{next_write, so_far_more, then_kept, write_index_small, write_within_small, wrote_all, wrote_nothing}
+use Rattle.large_objects.proofs.AccessLemmas.{next_write, so_far_more, then_kept, write_index_small, wrote_all, wrote_nothing}
 use Rattle.large_objects.proofs.Kept.{kept, piece_is, same_kept}
 use Rattle.large_objects.proofs.heap.LargeHeap.write_long.Goals as goal
 
