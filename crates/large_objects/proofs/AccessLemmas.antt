@@ -1,5 +1,6 @@
 -- A long object is read and written piece by piece.
-use Rattle.std.proofs.Common.{◌≡◌, ℕ, ◌+◌, ◌*◌, ◌/◌, ◌%◌, ◌^◌, ◌<◌, ◌≤◌, List, [], ◌∷◌, ◌++◌, Some, length, take, drop, arith, sym, ◌∙◌, ap, refl, subst, inl, inr, length-append, length-drop}
+use Rattle.std.proofs.Common.{◌≡◌, ℕ, ◌+◌, ◌*◌, ◌/◌, ◌%◌, ◌^◌, ◌<◌, ◌≤◌, List, [], ◌∷◌, ◌++◌}
+use Rattle.std.proofs.Common.{Some, length, take, drop, arith, sym, ◌∙◌, ap, refl, subst, inl, inr, length-append, length-drop}
 use Rattle.std.proofs.Math.Nat.{div-add-mod, lt_of_mul-lt-mul_left, mod-lt}
 use Rattle.std.proofs.lemmas.Bool.{cases_eq}
 use borrow.Rule.Slice.PartMut.{put_mid}
@@ -158,7 +159,8 @@ module _ (old now : LargeState) (h at done count piece : ℕ) (bytes : List ℕ)
   pub write_index_small : (at + done) / piece < 2 ^ 32
   write_index_small =
       let below = piece_below piece (at + done) positive (length now_bytes) (let l = same_bytes in let w = has.within in omega arith) in
-      index_small now kept.parts h now_bytes there still_long ((at + done) / piece) (subst (λ k. (at + done) / piece < pieces k (length now_bytes)) (sym piece_now) below)
+      index_small now kept.parts h now_bytes there still_long ((at + done) / piece) (subst (λ k. (at + done) / piece < pieces k (length now_bytes))
+          (sym piece_now) below)
 
   pub write_within_small : (at + done) % piece < 2 ^ 32
   write_within_small = (let i = inside_piece piece (at + done) positive in let s = piece_small now kept.parts in let e = piece_now in omega arith)
@@ -178,10 +180,12 @@ module _ (old now : LargeState) (h at done count piece : ℕ) (bytes : List ℕ)
       let within : at + length bytes ≤ length v = (let l = ap length same in let w = has.within in omega arith) in
       let from : piece_in now * ((at + done) / piece) + (at + done) % piece ≡ at + done =
       ap (λ k. k * ((at + done) / piece) + (at + done) % piece) piece_now ∙ place_is piece (at + done) positive in
-      wrote_more old now new h at done count bytes v chunk (piece_in now * ((at + done) / piece) + (at + done) % piece) found within few (so_far v found) chunk_is from wrote
+      wrote_more old now new h at done count bytes v chunk (piece_in now * ((at + done) / piece) + (at + done) % piece) found within few (so_far v found)
+          chunk_is from wrote
 
 -- a read of the chunk that comes next
-module _ (s : LargeState) (h at done count piece total : ℕ) (has : HasLong s h at total) (parts : KeepsParts s) (piece_is : piece ≡ piece_in s) (positive : 0 < piece)
+module _ (s : LargeState) (h at done count piece total : ℕ) (has : HasLong s h at total) (parts : KeepsParts s) (piece_is : piece ≡ piece_in s)
+    (positive : 0 < piece)
     (few : done + count ≤ total) (more : 0 < count) where
   pub read_index_small : (at + done) / piece < 2 ^ 32
   read_index_small =
@@ -197,7 +201,8 @@ module _ (s : LargeState) (h at done count piece total : ℕ) (has : HasLong s h
       (subst (λ k. (at + done) % k + count ≤ k) piece_is inside))
 
   -- what was read so far, and then the chunk
-  pub read_more : (v out : List ℕ) → (before : List ℕ) → before ≡ take done (drop at v) → out ≡ take count (drop (piece_in s * ((at + done) / piece) + (at + done) % piece) v)
+  pub read_more : (v out : List ℕ) → (before : List ℕ) → before ≡ take done (drop at v)
+      → out ≡ take count (drop (piece_in s * ((at + done) / piece) + (at + done) % piece) v)
       → before ++ out ≡ take (done + count) (drop at v)
   read_more v out before before_is out_is =
       let from : piece_in s * ((at + done) / piece) + (at + done) % piece ≡ at + done =
@@ -210,7 +215,8 @@ length_put a k xs ys same within =
     let put : List ℕ = put_mid a k xs ys in
     let front = ap length (take-put_mid a k xs ys (a + k) (omega arith) (omega arith)) ∙ length-append (take a xs) ys in
     let back = ap length (drop-put_mid a k xs ys (a + k) (omega arith) (omega arith) same) ∙ length-drop (a + k) xs in
-    let whole = ap length (sym (take-append-drop (a + k) (put_mid a k xs ys))) ∙ length-append (take (a + k) (put_mid a k xs ys)) (drop (a + k) (put_mid a k xs ys)) in
+    let whole = ap length (sym (take-append-drop (a + k) (put_mid a k xs ys)))
+        ∙ length-append (take (a + k) (put_mid a k xs ys)) (drop (a + k) (put_mid a k xs ys)) in
     let first = length-take a xs in
     omega arith
 

@@ -1,5 +1,6 @@
 -- What is gathered from the inner objects is what they were made of; and the counts and lengths after each call.
-use Rattle.std.proofs.Common.{◌≡◌, ◌≢◌, ℕ, zero, suc, ◌+◌, ◌-◌, ◌*◌, ◌<◌, ◌≤◌, List, [], ◌∷◌, ◌++◌, Some, None, length, get_or, set, drop, replicate, arith, sym, ◌∙◌, ap, refl, inl, inr, length-drop}
+use Rattle.std.proofs.Common.{◌≡◌, ◌≢◌, ℕ, zero, suc, ◌+◌, ◌-◌, ◌*◌, ◌<◌, ◌≤◌, List, [], ◌∷◌, ◌++◌}
+use Rattle.std.proofs.Common.{Some, None, length, get_or, set, drop, replicate, arith, sym, ◌∙◌, ap, refl, inl, inr, length-drop}
 use Rattle.std.specs.Prelude.{Option, nat_eq, option_map}
 use Rattle.std.proofs.lemmas.Bool.{cases_eq, cases_lt}
 use Rattle.std.proofs.lemmas.List.{get_or-set_same, get_or-set_other, length-replicate, length-set, take_all}
@@ -37,10 +38,12 @@ gathered_at u inner k (Some n ∷ lengths) (suc i) = gathered_at u inner (k + 1)
     ∙ ap (λ h. option_map (gathered u inner h) (get_or lengths i None)) (let e : k + 1 + i ≡ k + suc i = omega arith in e)
 
 -- an object is gathered whole
-gathered_is : (u : ℕ) (large inner : Objects) → 0 < u → AreLaidOut u large inner → (h : ℕ) (v : List ℕ) → get large h ≡ Some v → gathered u inner h (length v) ≡ v
+gathered_is : (u : ℕ) (large inner : Objects) → 0 < u → AreLaidOut u large inner → (h : ℕ) (v : List ℕ) → get large h ≡ Some v → gathered u inner h (length v)
+    ≡ v
 unfolding gathered
 gathered_is u large inner some laid h v is = elim (cases_lt u (length v)) [
-  | inl long ↦ rw (le_no (length v) u long) (pieces_whole u v (λ i. bytes_in (get inner (named inner h i))) (pieces u (length v)) (pieces_enough u (length v) some)
+  | inl long ↦ rw (le_no (length v) u long) (pieces_whole u v (λ i. bytes_in (get inner (named inner h i))) (pieces u (length v))
+      (pieces_enough u (length v) some)
       (λ i lt. ap bytes_in (laid.pieces_are h v is long i lt)))
   | inr short ↦ rw (le_yes (length v) u short) (ap bytes_in (laid.small h v is short))
 ]
@@ -172,7 +175,8 @@ module _ (p : Paging) (u : ℕ) (some : 0 < u) (large inner : Objects) (laid : A
         }
 
 -- an object goes
-module _ (p : Paging) (u : ℕ) (some : 0 < u) (large inner : Objects) (laid : AreLaidOut u large inner) (counted : AreCounted p u large inner) (h : ℕ) (v : List ℕ)
+module _ (p : Paging) (u : ℕ) (some : 0 < u) (large inner : Objects) (laid : AreLaidOut u large inner) (counted : AreCounted p u large inner) (h : ℕ)
+    (v : List ℕ)
     (found : get large h ≡ Some v) where
   pub others_short : length v ≤ u → (q : ℕ) → (IsPartOf u inner h v q → ⊥) → get (remove inner h) q ≡ get inner q
   others_short short q not = get_remove_other inner h q (λ e. not (inl e))

@@ -86,7 +86,8 @@ module _ (old new : LargeRun) (going : IsGoingLarge old) (reply : Reply) where
   mallocs : (id bytes : ℕ) → get old.ids id ≡ None → MallocsLarge old id bytes reply new → IsGoingLarge new
   mallocs id bytes free m = record { opened = m.kept.stays.open_now; parts = m.kept.parts; tied = by_answer m.answer m.step m.ids }
     where
-      by_answer : (r : Result Handle Refusal) → IsLargeMalloc old.heap bytes r new.heap → new.ids ≡ ids_given old.ids id r → AreTiedLarge new.ids new.heap.objects
+      by_answer : (r : Result Handle Refusal) → IsLargeMalloc old.heap bytes r new.heap → new.ids ≡ ids_given old.ids id r
+          → AreTiedLarge new.ids new.heap.objects
       by_answer (Ok h) gives is = subst (λ (i : Ids). AreTiedLarge i new.heap.objects) (sym is)
           (subst (λ (o : Objects). AreTiedLarge (insert old.ids id h.0) o) (sym gives.given)
           (tied_more old.ids old.heap.objects going.tied id h.0 (replicate bytes 0) free gives.unused))
@@ -116,17 +117,20 @@ module _ (old new : LargeRun) (going : IsGoingLarge old) (reply : Reply) where
   pub still_going : (c : Command) → LargeStep old c reply new → IsGoingLarge new
   still_going (command.Malloc id bytes) step = go (get old.ids id) refl step
     where
-      go : (o : Option ℕ) → get old.ids id ≡ o → MatchOption o (MallocsLarge old id bytes reply new) (λ h. StaysLarge old (codes "live") reply new) → IsGoingLarge new
+      go : (o : Option ℕ) → get old.ids id ≡ o → MatchOption o (MallocsLarge old id bytes reply new) (λ h. StaysLarge old (codes "live") reply new)
+          → IsGoingLarge new
       go None free m = mallocs id bytes free m
       go (Some h) live s = stays _ s
   still_going (command.Free id) step = go (get old.ids id) refl step
     where
-      go : (o : Option ℕ) → get old.ids id ≡ o → MatchOption o (StaysLarge old (codes "unknown") reply new) (λ h. FreesIdLarge old id h reply new) → IsGoingLarge new
+      go : (o : Option ℕ) → get old.ids id ≡ o → MatchOption o (StaysLarge old (codes "unknown") reply new) (λ h. FreesIdLarge old id h reply new)
+          → IsGoingLarge new
       go None free s = stays _ s
       go (Some h) live f = frees id h live f
   still_going (command.Write id at bytes) step = go (get old.ids id) step
     where
-      go : (o : Option ℕ) → MatchOption o (StaysLarge old (codes "unknown") reply new) (λ h. WritesIdLarge old (record { number = h; from = at }) bytes reply new)
+      go : (o : Option ℕ) → MatchOption o (StaysLarge old (codes "unknown") reply new) (λ h. WritesIdLarge old (record { number = h; from = at }) bytes reply
+          new)
           → IsGoingLarge new
       go None s = stays _ s
       go (Some h) w = writes _ _ w

@@ -1,5 +1,6 @@
 -- A malloc of a long object, piece by piece.
-use Rattle.std.proofs.Common.{◌≡◌, ◌≢◌, ℕ, suc, ◌+◌, ◌-◌, ◌*◌, ◌^◌, ◌<◌, ◌≤◌, List, [], ◌∷◌, ◌++◌, Some, None, length, get_or, take, replicate, arith, sym, ◌∙◌, ap, refl, subst, inl, inr}
+use Rattle.std.proofs.Common.{◌≡◌, ◌≢◌, ℕ, suc, ◌+◌, ◌-◌, ◌*◌, ◌^◌, ◌<◌, ◌≤◌, List, [], ◌∷◌, ◌++◌}
+use Rattle.std.proofs.Common.{Some, None, length, get_or, take, replicate, arith, sym, ◌∙◌, ap, refl, subst, inl, inr}
 use Rattle.std.specs.Prelude.{◌⊎◌, Option, nat_eq}
 use Rattle.std.specs.Int.{to_le_bytes, w32}
 use Rattle.std.proofs.lemmas.Bool.{cases_eq}
@@ -20,7 +21,8 @@ use Rattle.large_objects.specs.InnerCalls.{GivesPart, HasPart, HasPartRoom, Writ
 use Rattle.large_objects.specs.Large.{bytes_in, handle_at, named}
 use Rattle.large_objects.specs.Parts.{in_class, parts, piece_length, pieces, spine_bytes}
 use Rattle.large_objects.proofs.Bytes.{handle_other, handle_written}
-use Rattle.large_objects.proofs.Cutting.{in_class_cons, in_class_more, in_class_one, in_class_take_none, length_long, length_short, part_is, parts_long, parts_short}
+use Rattle.large_objects.proofs.Cutting.{in_class_cons, in_class_more, in_class_one, in_class_take_none}
+use Rattle.large_objects.proofs.Cutting.{length_long, length_short, part_is, parts_long, parts_short}
 use Rattle.large_objects.proofs.InnerSteps.{same_paging, then_ready}
 use Rattle.large_objects.proofs.Room.{in_class_take, live_rewritten, part_has_pages, piece_fits}
 
@@ -109,7 +111,8 @@ module _ (p : Paging) (u n : ℕ) (some : 0 < u) (long : u < n) (old : Objects) 
     made_next : (j : ℕ) → j < i + 1 → get next (named next h j) ≡ Some (replicate (piece_length u n j) 0)
     made_next j lt = elim (cases_eq j i) [
       | inl is ↦ rw is (ap (get next) named_new ∙ piece_there)
-      | inr ne ↦ ap (get next) (named_same j (omega arith)) ∙ other_there (named now h j) (g.not_spine j (omega arith)) (not_new j (omega arith)) ∙ g.made j (omega arith)
+      | inr ne ↦ ap (get next) (named_same j (omega arith)) ∙ other_there (named now h j) (g.not_spine j (omega arith)) (not_new j (omega arith))
+          ∙ g.made j (omega arith)
     ]
 
     old_none : get old q ≡ None
@@ -166,7 +169,8 @@ module _ (p : Paging) (u n : ℕ) (some : 0 < u) (long : u < n) (old : Objects) 
         let there : get mid h ≡ Some spine = get_insert_other now q piece h (λ e. not_h (sym e)) ∙ found in
         let b = live_rewritten p mid h spine spine' c there (length-written spine (4 * i) (to_le_bytes w32 q) room) in
         let ll = length_long u n some long in
-        let m : in_class p c (take (suc i + 1) (parts u n)) ≡ in_class p c (take (suc i) (parts u n)) + one (nat_eq (class_for p (get_or (parts u n) (suc i) 0)) c) =
+        let m : in_class p c (take (suc i + 1) (parts u n)) ≡ in_class p c (take (suc i) (parts u n)) + one
+            (nat_eq (class_for p (get_or (parts u n) (suc i) 0)) c) =
         in_class_more p c (parts u n) (suc i) (omega arith) in
         let x = ap (λ k. one (nat_eq (class_for p k) c)) (part_is u n some long i below) in
         let s : in_class p c (take (1 + (i + 1)) (parts u n)) ≡ in_class p c (take (suc i + 1) (parts u n)) =
@@ -251,7 +255,8 @@ module _ (u n : ℕ) (old now : HeapState) (h i : ℕ) (some : 0 < u) (long : u 
       let within = part_has_pages (paging_in old) (objects now.held) (piece_length u n i)
       (λ c. live (paging_in old) (objects old.held) c + in_class (paging_in old) c (parts u n)) old.profile.pages room.pages each in
       let family : Paging → Type 0 = λ p. pages_needed_with p (objects now.held) (piece_length u n i) ≤ old.profile.pages in
-      let within' : pages_needed_with (paging_in now) (objects now.held) (piece_length u n i) ≤ old.profile.pages = subst family (sym (same_paging old now k)) within in
+      let within' : pages_needed_with (paging_in now) (objects now.held) (piece_length u n i) ≤ old.profile.pages = subst family (sym (same_paging old now k))
+          within in
       record {
         fits = piece_fits now.profile (piece_length u n i) (omega arith) (omega arith);
         few = omega arith;

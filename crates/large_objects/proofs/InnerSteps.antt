@@ -105,7 +105,8 @@ module _ (old : HeapState) (part : Part) (count : ℕ) (has : HasPart old part.n
       let e = same_Some past.object.bytes has.bytes (sym (held_object old.held part.number past.object past.found) ∙ has.found) in
       let l = ap length e in let more = past.past in let within = has.within in omega arith
 
-pub part_written : (old new : HeapState) (part : Part) (bytes : List ℕ) (r : Result Unit AccessFault) → IsReady old → HasPart old part.number part.from (length bytes)
+pub part_written : (old new : HeapState) (part : Part) (bytes : List ℕ) (r : Result Unit AccessFault) → IsReady old
+    → HasPart old part.number part.from (length bytes)
     → IsWriteStep old part bytes r new → KeepsRules new → WritesPart old part.number part.from bytes new
 part_written old new part bytes (Ok u) ready has step rules = record {
   stays = stays_ready old new ready (record {
@@ -153,7 +154,8 @@ part_small s r q v is =
     let l = ap length x.2 in
     let small = r.rules.settings.small_region in
     let one = r.rules.settings.some_pages in
-    let m : 1 * s.profile.page_words ≤ s.profile.pages * s.profile.page_words = mul-le 1 s.profile.page_words s.profile.pages s.profile.page_words one (omega arith) in
+    let m : 1 * s.profile.page_words ≤ s.profile.pages * s.profile.page_words = mul-le 1 s.profile.page_words s.profile.pages s.profile.page_words one
+        (omega arith) in
     omega arith
 
 -- a handle that is live is below the number of proxies

@@ -1,5 +1,6 @@
 -- A heap of large objects before and after a call, from what its fields hold.
-use Rattle.std.proofs.Common.{◌≡◌, ℕ, ◌+◌, ◌*◌, ◌^◌, ◌<◌, ◌≤◌, Bool, true, List, Some, None, length, get_or, set, take, drop, replicate, arith, sym, ◌∙◌, ap, refl, subst, inl, inr}
+use Rattle.std.proofs.Common.{◌≡◌, ℕ, ◌+◌, ◌*◌, ◌^◌, ◌<◌, ◌≤◌, Bool, true, List, Some, None, length}
+use Rattle.std.proofs.Common.{get_or, set, take, drop, replicate, arith, sym, ◌∙◌, ap, refl, subst, inl, inr}
 use Rattle.std.specs.Prelude.{Option, IsTrue, option_map}
 use Rattle.std.proofs.lemmas.Bool.{cases_eq, cases_lt}
 use Rattle.std.proofs.lemmas.List.{get_or_past, length-replicate}
@@ -19,7 +20,8 @@ use Rattle.cf_model.specs.State.{HeapState, paging_in}
 use Rattle.large_objects.specs.Growing.{HasPartsRoom, Makes}
 use Rattle.large_objects.specs.InnerCalls.{HasPart, IsReady, StaysReady, WritesPart}
 use Rattle.large_objects.specs.Large.{AreCounted, AreLaidOut, KeepsParts, LargeState, named, piece_of}
-use Rattle.large_objects.specs.LargeSteps.{FitsSpine, FreesLarge, GivesLarge, HasLongPart, HasRoom, HasShort, StaysKept, WantsLongerSpine, WantsPages, WantsProxies, WritesLarge, piece_in}
+use Rattle.large_objects.specs.LargeSteps.{FitsSpine, FreesLarge, GivesLarge, HasLongPart, HasRoom, HasShort}
+use Rattle.large_objects.specs.LargeSteps.{StaysKept, WantsLongerSpine, WantsPages, WantsProxies, WritesLarge, piece_in}
 use Rattle.large_objects.specs.Layout.{AreKept, AreLengths, IsValid, gathered_objects, large_state}
 use Rattle.large_objects.specs.Parts.{in_class, inner_count, inner_pages_with, parts, piece_bytes, pieces, spine_bytes}
 use Rattle.large_objects.specs.Shrinking.{HasParts, HasPieces, IsShrinking, Releases}
@@ -424,33 +426,39 @@ module _ (b : Bool) (pages u : ℕ) (lengths : List (Option ℕ)) (s : HeapState
   -- What each call leaves.
   module _ (h at : ℕ) (bytes : List ℕ) (has : HasShort old h at (length bytes)) (s' : HeapState) (wrote : WritesPart s h at bytes s') where
     pub short_valid : IsValid b pages u lengths s'
-    short_valid = valid_new s' lengths _ wrote.stays (short_laid h at bytes has s' wrote) (short_counted h at bytes has s' wrote) (short_lengths h at bytes has s' wrote)
+    short_valid = valid_new s' lengths _ wrote.stays (short_laid h at bytes has s' wrote) (short_counted h at bytes has s' wrote)
+        (short_lengths h at bytes has s' wrote)
 
     pub short_kept : StaysKept old (large_state b u lengths s')
-    short_kept = stays_new s' lengths _ wrote.stays (short_laid h at bytes has s' wrote) (short_counted h at bytes has s' wrote) (short_lengths h at bytes has s' wrote)
+    short_kept = stays_new s' lengths _ wrote.stays (short_laid h at bytes has s' wrote) (short_counted h at bytes has s' wrote)
+        (short_lengths h at bytes has s' wrote)
 
     pub short_writes : WritesLarge old (record { number = h; from = at }) bytes (large_state b u lengths s')
     short_writes = record {
       object = has.bytes;
       found = has.found;
       within = has.within;
-      left = objects_new s' lengths _ wrote.stays (short_laid h at bytes has s' wrote) (short_counted h at bytes has s' wrote) (short_lengths h at bytes has s' wrote);
+      left = objects_new s' lengths _ wrote.stays (short_laid h at bytes has s' wrote) (short_counted h at bytes has s' wrote)
+          (short_lengths h at bytes has s' wrote);
     }
 
   module _ (h i at : ℕ) (bytes : List ℕ) (has : HasLongPart old h i at (length bytes)) (s' : HeapState)
       (wrote : WritesPart s (named (objects s.held) h i) at bytes s') where
     pub long_valid : IsValid b pages u lengths s'
-    long_valid = valid_new s' lengths _ wrote.stays (long_laid h i at bytes has s' wrote) (long_counted h i at bytes has s' wrote) (long_lengths h i at bytes has s' wrote)
+    long_valid = valid_new s' lengths _ wrote.stays (long_laid h i at bytes has s' wrote) (long_counted h i at bytes has s' wrote)
+        (long_lengths h i at bytes has s' wrote)
 
     pub long_kept : StaysKept old (large_state b u lengths s')
-    long_kept = stays_new s' lengths _ wrote.stays (long_laid h i at bytes has s' wrote) (long_counted h i at bytes has s' wrote) (long_lengths h i at bytes has s' wrote)
+    long_kept = stays_new s' lengths _ wrote.stays (long_laid h i at bytes has s' wrote) (long_counted h i at bytes has s' wrote)
+        (long_lengths h i at bytes has s' wrote)
 
     pub long_writes : WritesLarge old (record { number = h; from = piece_in old * i + at }) bytes (large_state b u lengths s')
     long_writes = record {
       object = has.bytes;
       found = has.found;
       within = has.within;
-      left = objects_new s' lengths _ wrote.stays (long_laid h i at bytes has s' wrote) (long_counted h i at bytes has s' wrote) (long_lengths h i at bytes has s' wrote)
+      left = objects_new s' lengths _ wrote.stays (long_laid h i at bytes has s' wrote) (long_counted h i at bytes has s' wrote)
+          (long_lengths h i at bytes has s' wrote)
           ∙ ap (λ (k : ℕ). insert old.objects h (written has.bytes k bytes)) (from_is h i at (length bytes) has);
     }
 

@@ -134,7 +134,8 @@ module _ (u : ℕ) (large inner : Objects) (laid : AreLaidOut u large inner) (h 
         | inr was ↦ clash inner q (piece_of u was.bytes j) (piece_there u large inner laid q k j was) (ap (get inner) is ∙ new.fresh long i lt)
       ]
       | inr was ↦ elim (before_or_own q k j other) [
-        | inl (at', (long, (lt', is'))) ↦ clash inner q (piece_of u was.bytes i) (piece_there u large inner laid q g i was) (ap (get inner) is' ∙ new.fresh long j lt')
+        | inl (at', (long, (lt', is'))) ↦ clash inner q (piece_of u was.bytes i) (piece_there u large inner laid q g i was)
+            (ap (get inner) is' ∙ new.fresh long j lt')
         | inr too ↦ laid.of_one q g i k j was too
       ]
     ];
@@ -257,7 +258,8 @@ module _ (u : ℕ) (large inner : Objects) (laid : AreLaidOut u large inner) (h 
           let l : length k.bytes ≡ length v = sym (ap length is) ∙ same in
           let there : get large g ≡ Some v = ap (get large) at ∙ found in
           let long : u < length v = (let was = k.long in omega arith) in
-          record { bytes = v; found = there; long = long; below = (let below = k.below in rw (ap (pieces u) l) at below); is = k.is ∙ named_same g v there long i })
+          record { bytes = v; found = there; long = long; below = (let below = k.below in rw (ap (pieces u) l) at below); is = k.is
+              ∙ named_same g v there long i })
       | inr (ne, there) ↦ record { bytes = k.bytes; found = there; long = k.long; below = k.below; is = k.is ∙ named_same g k.bytes there k.long i }
     ]
 

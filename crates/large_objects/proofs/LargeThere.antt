@@ -1,5 +1,6 @@
 -- Every call of a heap of large objects has an answer, and a state after it.
-use Rattle.std.proofs.Common.{◌≡◌, ℕ, zero, suc, ◌+◌, ◌-◌, ◌*◌, ◌/◌, ◌%◌, ◌<◌, ◌≤◌, true, List, Some, None, length, set, take, drop, min, arith, sym, ◌∙◌, ap, refl, subst, inl, inr}
+use Rattle.std.proofs.Common.{◌≡◌, ℕ, zero, suc, ◌+◌, ◌-◌, ◌*◌, ◌/◌, ◌%◌, ◌<◌, ◌≤◌, true, List, Some}
+use Rattle.std.proofs.Common.{None, length, set, take, drop, min, arith, sym, ◌∙◌, ap, refl, subst, inl, inr}
 use Rattle.std.specs.Prelude.{◌⊎◌, IsTrue, Option, option_map}
 use Rattle.std.specs.FinMap.{get, insert}
 use Rattle.std.proofs.lemmas.Bool.{cases_lt}
@@ -19,7 +20,8 @@ use Rattle.large_objects.proofs.AccessLemmas.{inside_piece, is_ready, next_write
 use Rattle.large_objects.proofs.Bytes.{part_at}
 use Rattle.large_objects.proofs.Gathering.{all_gathered}
 use Rattle.large_objects.proofs.InnerSteps.{handle_below}
-use Rattle.large_objects.proofs.Kept.{gone_frees, gone_kept, has_parts, long_kept, long_writes, made_gives, made_kept, parts_room, piece_there, same_kept, short_kept, short_part, short_writes}
+use Rattle.large_objects.proofs.Kept.{gone_frees, gone_kept, has_parts, long_kept, long_writes, made_gives}
+use Rattle.large_objects.proofs.Kept.{made_kept, parts_room, piece_there, same_kept, short_kept, short_part, short_writes}
 use Rattle.large_objects.proofs.Opening.{some_words}
 use Rattle.large_objects.proofs.OwnRun.{length-listed, listed, listed_is, writes_there}
 use Rattle.large_objects.proofs.PartsThere.{makes_there, releases_there}
@@ -121,7 +123,8 @@ module _ (old : LargeState) (opened : IsTrue old.is_open) (kept : KeepsParts old
   pub free_there : (h : ℕ) (v : List ℕ) → get old.objects h ≡ Some v → (new : LargeState) × FreesLarge old h new × StaysKept old new
   free_there h v found =
       let is : option_map length (get old.objects h) ≡ Some (length v) = ap (option_map length) found in
-      let r = releases_there u (length v) old.inner h some ready (has_parts true old.inner.profile.pages u lengths old.inner old view opened valid h (length v) is) in (
+      let r = releases_there u (length v) old.inner h some ready (has_parts true old.inner.profile.pages u lengths old.inner old view opened valid h
+          (length v) is) in (
         large_state true u (set lengths h None) r.0,
         gone_frees true old.inner.profile.pages u lengths old.inner old view opened valid h (length v) is r.0 r.1,
         gone_kept true old.inner.profile.pages u lengths old.inner old view opened valid h (length v) is r.0 r.1,
@@ -160,7 +163,8 @@ module _ (old : LargeState) (opened : IsTrue old.is_open) (kept : KeepsParts old
     pub stays : StaysKept old now
     pub so_far : (v : List ℕ) → get old.objects h ≡ Some v → now.objects ≡ insert old.objects h (written v at (take done bytes))
 
-  written_more : (now : LargeState) (done : ℕ) → IsWritten now done → done < length bytes → (count : ℕ) × (0 < count) × (new : LargeState) × IsWritten new (done + count)
+  written_more : (now : LargeState) (done : ℕ) → IsWritten now done → done < length bytes → (count : ℕ) × (0 < count) × (new : LargeState)
+      × IsWritten new (done + count)
   written_more now done w lt =
       let piece = piece_in old in
       let positive = some old opened kept in
@@ -172,7 +176,8 @@ module _ (old : LargeState) (opened : IsTrue old.is_open) (kept : KeepsParts old
       let long : length (take count (drop done bytes)) ≡ count = length-take count (drop done bytes) ∙ (let d = length-drop done bytes in omega arith) in
       let part = next_write old now h at done count piece bytes has w.so_far w.stays refl positive (omega arith) more (omega arith) in
       let c = chunk_there now w.stays.stays.open_now w.stays.parts h ((at + done) / piece) ((at + done) % piece) (take count (drop done bytes))
-      (subst (λ k. HasLongPart now h ((at + done) / piece) ((at + done) % piece) k) (sym long) part) (part_bytes count done bytes are) (omega arith) (omega arith) in (
+      (subst (λ k. HasLongPart now h ((at + done) / piece) ((at + done) % piece) k) (sym long) part) (part_bytes count done bytes are) (omega arith)
+          (omega arith) in (
         count,
         more,
         c.0,

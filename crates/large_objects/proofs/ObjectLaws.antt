@@ -55,9 +55,11 @@ pages_used s k =
     used_at_one (paging_in s.inner) kept.paging k.ones s.inner.held kept.sound
     ∙ pages_same (paging_in s.inner) (live (paging_in s.inner) (objects s.inner.held)) (inner_live (paging_in s.inner) (piece_in s) s.objects) k.counted.each
 
-pub read_back : (old new : LargeState) (part : Part) (bytes out : List ℕ) → WritesLarge old part bytes new → ReadsLarge new part (length bytes) out → out ≡ bytes
+pub read_back : (old new : LargeState) (part : Part) (bytes out : List ℕ) → WritesLarge old part bytes new → ReadsLarge new part (length bytes) out → out
+    ≡ bytes
 read_back old new part bytes out w r =
-    let there : get new.objects part.number ≡ Some (written w.object part.from bytes) = ap (λ (o : Objects). get o part.number) w.left ∙ get_inserted old.objects part.number _ in
+    let there : get new.objects part.number ≡ Some (written w.object part.from bytes) = ap (λ (o : Objects). get o part.number) w.left
+        ∙ get_inserted old.objects part.number _ in
     let same = same_Some r.object (written w.object part.from bytes) (sym r.found ∙ there) in
     r.value ∙ ap (λ (b : List ℕ). take (length bytes) (drop part.from b)) same ∙ part_same w.object part.from bytes w.within
 

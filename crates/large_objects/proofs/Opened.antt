@@ -29,7 +29,8 @@ module _ (ids : Ids) (old new : LargeState) (settings : Settings) (fresh : ids �
   opened_going = record { opened = opened.open_now; parts = parts; tied = none_tied ids new.objects fresh opened.none }
 
   -- with the settings of the line, at the bound 1
-  pub opened_begins : (line : Settings) → profile_of settings ≡ at_bound_one (profile_of line) → BeginsLarge old.inner.kind (profile_of line) (large_run ids new)
+  pub opened_begins : (line : Settings) → profile_of settings ≡ at_bound_one (profile_of line)
+      → BeginsLarge old.inner.kind (profile_of line) (large_run ids new)
   opened_begins line is = record {
     ids = fresh;
     open_now = opened.open_now;
@@ -50,17 +51,20 @@ module _ (old new : LargeRun) (reply : Reply) where
   pub kind_kept : (c : Command) → LargeStep old c reply new → new.heap.inner.kind ≡ old.heap.inner.kind
   kind_kept (command.Malloc id bytes) step = go (get old.ids id) step
     where
-      go : (o : Option ℕ) → MatchOption o (MallocsLarge old id bytes reply new) (λ h. StaysLarge old (codes "live") reply new) → new.heap.inner.kind ≡ old.heap.inner.kind
+      go : (o : Option ℕ) → MatchOption o (MallocsLarge old id bytes reply new) (λ h. StaysLarge old (codes "live") reply new) → new.heap.inner.kind
+          ≡ old.heap.inner.kind
       go None m = m.kept.stays.inner.kind
       go (Some h) s = stays _ s
   kind_kept (command.Free id) step = go (get old.ids id) step
     where
-      go : (o : Option ℕ) → MatchOption o (StaysLarge old (codes "unknown") reply new) (λ h. FreesIdLarge old id h reply new) → new.heap.inner.kind ≡ old.heap.inner.kind
+      go : (o : Option ℕ) → MatchOption o (StaysLarge old (codes "unknown") reply new) (λ h. FreesIdLarge old id h reply new) → new.heap.inner.kind
+          ≡ old.heap.inner.kind
       go None s = stays _ s
       go (Some h) f = f.kept.stays.inner.kind
   kind_kept (command.Write id at bytes) step = go (get old.ids id) step
     where
-      go : (o : Option ℕ) → MatchOption o (StaysLarge old (codes "unknown") reply new) (λ h. WritesIdLarge old (record { number = h; from = at }) bytes reply new)
+      go : (o : Option ℕ) → MatchOption o (StaysLarge old (codes "unknown") reply new) (λ h. WritesIdLarge old (record { number = h; from = at }) bytes reply
+          new)
           → new.heap.inner.kind ≡ old.heap.inner.kind
       go None s = stays _ s
       go (Some h) w = w.kept.stays.inner.kind

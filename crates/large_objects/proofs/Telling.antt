@@ -1,5 +1,6 @@
 -- What a command of a session over large objects did and told, put together.
-use Rattle.std.proofs.Common.{◌≡◌, ◌∙◌, ◌+◌, ◌≤◌, ℕ, ◌++◌, List, [], ◌∷◌, Option, Result, Ok, Err, ◌<◌, length, take, drop, map, Some, None, ap, refl, sym, subst}
+use Rattle.std.proofs.Common.{◌≡◌, ◌∙◌, ◌+◌, ◌≤◌, ℕ, ◌++◌, List, [], ◌∷◌, Option, Result, Ok}
+use Rattle.std.proofs.Common.{Err, ◌<◌, length, take, drop, map, Some, None, ap, refl, sym, subst}
 use Rattle.std.specs.Prelude.{codes}
 use Rattle.std.specs.FinMap.{get}
 use Rattle.hex.specs.Hex.{encode_lower}
@@ -38,7 +39,8 @@ at run written = record { run = run; written = written }
 
 -- a reply that was put, whole or in part
 pub reported : (old new : LargeRun) (c : Command) (reply : Reply) (w y : Told) (r : Result Unit Failed) (outcome : Outcome) (answer : Result Outcome Failed)
-    → LargeStep old c reply new → outcome ≡ outcome_of reply → Puts w (led [] reply) r y → IsEndedAs r outcome answer → AppliesLarge (at old w) c answer (at new y)
+    → LargeStep old c reply new → outcome ≡ outcome_of reply → Puts w (led [] reply) r y → IsEndedAs r outcome answer
+        → AppliesLarge (at old w) c answer (at new y)
 reported old new c reply w y (Ok u) outcome answer step told put is =
     subst (λ (a : Result Outcome Failed). AppliesLarge (at old w) c a (at new y)) (sym is) (record { reply = reply; step = step; written = put }, told)
 reported old new c reply w y (Err e) outcome answer step told (front, lost, parts, put) is =
@@ -72,7 +74,8 @@ told_frag old inner c w y r answer is same put told =
 
 -- a line that was written, and put
 pub told_line : (old new : LargeRun) (c : Command) (line : List ℕ) (w y : Told) (r : Result Unit Failed) (outcome : Outcome) (answer : Result Outcome Failed)
-    → Speaks old c new line → outcome ≡ outcome_in line → Puts w (line ++ 10 ∷ []) r y → IsEndedAs r outcome answer → AppliesLarge (at old w) c answer (at new y)
+    → Speaks old c new line → outcome ≡ outcome_in line → Puts w (line ++ 10 ∷ []) r y → IsEndedAs r outcome answer
+        → AppliesLarge (at old w) c answer (at new y)
 told_line old new c line w y r outcome answer speaks told put is =
     reported old new c (said line) w y r outcome answer speaks.step told (puts_line w y [] line line r refl put) is
 

@@ -37,7 +37,8 @@ record HasAnswer (R : Reply → LargeRun → Type 0) : Type 0 where
   done : R reply new
 
 module _ (old : LargeRun) (going : IsGoingLarge old) where
-  malloc_at : (o : Option ℕ) (id n : ℕ) → HasAnswer (λ reply new. MatchOption o (MallocsLarge old id n reply new) (λ h. StaysLarge old (codes "live") reply new))
+  malloc_at : (o : Option ℕ) (id n : ℕ) → HasAnswer (λ reply new. MatchOption o (MallocsLarge old id n reply new)
+      (λ h. StaysLarge old (codes "live") reply new))
   malloc_at (Some h) id n = record { reply = said (codes "live"); new = old; done = (refl, refl) }
   malloc_at None id n = elim (room_or_cause old.heap going.opened going.parts n) [
     | inl room ↦ (
@@ -159,7 +160,8 @@ module _ (kind : Kind) (paged : IsPaged kind) where
   step_on (Some old) (asks c) reply new on step = subst IsOn (sym step.2) (still_going old step.0 on reply c step.1)
   step_on old (bad n) reply new on step = subst IsOn (sym step.1) on
 
-  run_on : (old : Option LargeRun) (items : List Item) (replies : List Reply) (new : Option LargeRun) → IsOn old → RunsLarge kind old items replies new → IsOn new
+  run_on : (old : Option LargeRun) (items : List Item) (replies : List Reply) (new : Option LargeRun) → IsOn old → RunsLarge kind old items replies new
+      → IsOn new
   run_on old [] replies new on run = subst IsOn (sym run.1) on
   run_on old (item ∷ rest) replies new on run = run_on run.0 rest run.2 new (step_on old item run.1 run.0 on run.3) run.5
 

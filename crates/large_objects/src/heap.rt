@@ -4,7 +4,8 @@ ghost use Rattle.std.specs.FinMap.{get};
 ghost use Rattle.cf_lemmas.specs.Maps.{vacant};
 ghost use Rattle.cf_model.specs.Families.{IsPaged};
 ghost use Rattle.large_objects.specs.Large.{KeepsParts};
-ghost use Rattle.large_objects.specs.LargeSteps.{FreesLarge, GivesLarge, HasRoom, IsEmptyLarge, IsLargeFault, IsLargeFree, IsLargeMalloc, IsLargeRead, IsLargeWrite, StaysKept};
+ghost use Rattle.large_objects.specs.LargeSteps.{FreesLarge, GivesLarge, HasRoom, IsEmptyLarge, IsLargeFault};
+ghost use Rattle.large_objects.specs.LargeSteps.{IsLargeFree, IsLargeMalloc, IsLargeRead, IsLargeWrite, StaysKept};
 
 use crate::free::release;
 use crate::malloc::make;

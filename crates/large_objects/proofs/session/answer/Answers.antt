@@ -10,10 +10,13 @@ returns-in-Walk-clause-answers g c = told_walk (large_run c.args.ids.now c.args.
     c.walk_lines-written.result c.ended.result (ap owned_command c.in-Walk.is) c.inner.ensures c.walk_lines-written.ensures.puts c.ended.ensures
 
 pub returns-in-Frag-clause-answers : goal.returns-in-Frag-clause-answers
-returns-in-Frag-clause-answers g c = told_frag (large_run c.args.ids.now c.args.heap.now) (g.H.Manager.state c.inner-in-Frag.result.now) (owned_command c.args.c) _ _
-    c.frag_line-written.result c.ended-in-Frag.result (ap owned_command c.in-Frag.is) c.inner-in-Frag.ensures c.frag_line-written.ensures.puts c.ended-in-Frag.ensures
+returns-in-Frag-clause-answers g c = told_frag (large_run c.args.ids.now c.args.heap.now) (g.H.Manager.state c.inner-in-Frag.result.now)
+    (owned_command c.args.c) _ _
+    c.frag_line-written.result c.ended-in-Frag.result (ap owned_command c.in-Frag.is) c.inner-in-Frag.ensures c.frag_line-written.ensures.puts
+        c.ended-in-Frag.ensures
 
 pub returns-in_default-clause-answers : goal.returns-in_default-clause-answers
-returns-in_default-clause-answers g c = told_line (large_run c.args.ids.now c.args.heap.now) (large_run c.speak.new.ids c.speak.new.heap) (owned_command c.args.c)
+returns-in_default-clause-answers g c = told_line (large_run c.args.ids.now c.args.heap.now) (large_run c.speak.new.ids c.speak.new.heap)
+    (owned_command c.args.c)
     c.speak.new.line _ _ c.put_line.result c.outcome_of_text-outcome.result c.ended-in_default.result c.speak.ensures
     (c.outcome_of_text-outcome.ensures ∙ ap outcome_in c.bytes.ensures.value) c.put_line.ensures.puts c.ended-in_default.ensures

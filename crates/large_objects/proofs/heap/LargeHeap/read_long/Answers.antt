@@ -7,11 +7,14 @@ use Rattle.large_objects.proofs.heap.LargeHeap.read_long.Goals as goal
 
 pub pieces-init : goal.pieces-init
 pieces-init g c = record {
-  piece = piece_is c.self.inside.is_open c.self.inside.pages c.self.inside.piece c.self.inside.lengths.items (g.H.Manager.state c.self.inside.inner) c.args.self.now c.self.view_is
+  piece = piece_is c.self.inside.is_open c.self.inside.pages c.self.inside.piece c.self.inside.lengths.items (g.H.Manager.state c.self.inside.inner)
+      c.args.self.now c.self.view_is
       c.requires.open c.self.invariant;
-  positive = (kept c.self.inside.is_open c.self.inside.pages c.self.inside.piece c.self.inside.lengths.items (g.H.Manager.state c.self.inside.inner) c.args.self.now c.self.view_is
+  positive = (kept c.self.inside.is_open c.self.inside.pages c.self.inside.piece c.self.inside.lengths.items (g.H.Manager.state c.self.inside.inner)
+      c.args.self.now c.self.view_is
       c.requires.open c.self.invariant).some;
-  parts = keeps c.self.inside.is_open c.self.inside.pages c.self.inside.piece c.self.inside.lengths.items (g.H.Manager.state c.self.inside.inner) c.args.self.now c.self.view_is
+  parts = keeps c.self.inside.is_open c.self.inside.pages c.self.inside.piece c.self.inside.lengths.items (g.H.Manager.state c.self.inside.inner)
+      c.args.self.now c.self.view_is
       c.requires.open c.self.invariant;
   room = refl;
   some = omega arith;
@@ -21,7 +24,8 @@ pieces-init g c = record {
 pub overflow_cast-i : goal.overflow_cast-i
 overflow_cast-i g c =
     let i = c.pieces.invariant in
-    let small = read_index_small c.args.self.now c.args.h.0 c.args.at c.pieces.done c.min-count.result c.self.inside.piece (length c.args.out.now) c.requires.has i.parts i.piece
+    let small = read_index_small c.args.self.now c.args.h.0 c.args.at c.pieces.done c.min-count.result c.self.inside.piece (length c.args.out.now)
+        c.requires.has i.parts i.piece
     i.positive (let e = i.room in omega arith) (omega arith) in omega arith
 
 pub read_piece-requires-clause-has : goal.read_piece-requires-clause-has
@@ -32,7 +36,8 @@ read_piece-requires-clause-has g c =
     let long : length (take (c.pieces.done + n - c.pieces.done) (drop c.pieces.done c.pieces.out)) ≡ n =
     length-take (c.pieces.done + n - c.pieces.done) (drop c.pieces.done c.pieces.out)
     ∙ (let d = length-drop c.pieces.done c.pieces.out in let e = i.room in omega arith) in
-    subst (λ k. HasLongPart c.args.self.now c.args.h.0 ((c.args.at + c.pieces.done) / c.self.inside.piece) ((c.args.at + c.pieces.done) % c.self.inside.piece) k)
+    subst (λ k. HasLongPart c.args.self.now c.args.h.0 ((c.args.at + c.pieces.done) / c.self.inside.piece) ((c.args.at + c.pieces.done) % c.self.inside.piece)
+        k)
     (sym long)
     (next_read c.args.self.now c.args.h.0 c.args.at c.pieces.done n c.self.inside.piece (length c.args.out.now) c.requires.has i.parts i.piece i.positive few
     (omega arith) (omega arith))
@@ -63,7 +68,8 @@ pieces-preserved g c =
       room = room ∙ i.room;
       some = omega arith;
       so_far = λ v found. read_put c.args.at c.pieces.done n (c.pieces.done + n - c.pieces.done) v c.pieces.out c.read_piece.new.out long within
-          (read_more c.args.self.now c.args.h.0 c.args.at c.pieces.done n c.self.inside.piece (length c.args.out.now) c.requires.has i.parts i.piece i.positive few
+          (read_more c.args.self.now c.args.h.0 c.args.at c.pieces.done n c.self.inside.piece (length c.args.out.now) c.requires.has i.parts i.piece
+              i.positive few
           (omega arith) v c.read_piece.new.out (take c.pieces.done c.pieces.out) (i.so_far v found)
           (c.read_piece.ensures v found
           ∙ ap (λ m. take m (drop (piece_in c.args.self.now * ((c.args.at + c.pieces.done) / c.self.inside.piece)

@@ -11,7 +11,8 @@ invariant-pieces g l = record {
   positive : 0 < l.piece;
   some : l.done ≤ length l.bytes;
   opened : IsTrue l.self.is_open;
-  so_far : (v : List ℕ) → get l.initial.self.objects l.h.0 ≡ Some v → l.self.objects ≡ insert l.initial.self.objects l.h.0 (written v l.at (take l.done l.bytes));
+  so_far : (v : List ℕ) → get l.initial.self.objects l.h.0 ≡ Some v → l.self.objects ≡ insert l.initial.self.objects l.h.0
+      (written v l.at (take l.done l.bytes));
   kept : StaysKept l.initial.self l.self;
 }
 

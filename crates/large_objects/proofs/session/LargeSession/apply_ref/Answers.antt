@@ -6,5 +6,6 @@ use Rattle.large_objects.proofs.Telling.{applied_going}
 use Rattle.large_objects.proofs.session.LargeSession.apply_ref.Goals as goal
 
 pub returns-clause-going : goal.returns-clause-going
-returns-clause-going g c = applied_going (large_run c.self.inside.ids c.args.heap.now) (large_run c.answer.new.ids c.answer.new.heap) (owned_command c.args.c) _ _
+returns-clause-going g c = applied_going (large_run c.self.inside.ids c.args.heap.now) (large_run c.answer.new.ids c.answer.new.heap) (owned_command c.args.c)
+    _ _
     c.answer.result (subst (λ (i : Ids). IsGoingLarge (large_run i c.args.heap.now)) (sym c.self.view_is) c.requires.going) c.answer.ensures.answers
