@@ -1,0 +1,7 @@
+use Rattle.heap_image_tests.proofs.tests.churned.churn.Goals as goal
+
+pub commands-preserved : goal.commands-preserved
+commands-preserved g c = record {
+  going = c.change.ensures.going;
+  ready = λ p ready. c.change.ensures.ready p (c.commands.invariant.ready p ready);
+}

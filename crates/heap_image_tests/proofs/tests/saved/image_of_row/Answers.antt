@@ -1,0 +1,4 @@
+use Rattle.heap_image_tests.proofs.tests.saved.image_of_row.Goals as goal
+
+pub image-requires : goal.image-requires
+image-requires g c = c.give_all.ensures _ c.in_ok-open.ensures

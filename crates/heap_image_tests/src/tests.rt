@@ -1,0 +1,6 @@
+mod churned;
+mod damaged;
+mod images;
+mod large;
+mod reference;
+mod saved;

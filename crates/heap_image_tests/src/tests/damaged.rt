@@ -1,0 +1,85 @@
+//! Images that were cut, and images with a byte changed.
+ghost use Rattle.std.specs.Prelude.{◌≡◌};
+ghost use Rattle.cf_base.specs.declared.kind.Kind.TheVariants.{Moving};
+
+use super::images::load_and_save;
+use super::reference::broken_at;
+use super::saved::ROWS;
+use cf_model::Manager;
+use heap_image::LoadFault;
+use moving_heap::MovingHeap;
+use std::alloc::Global;
+use std::process::Abort;
+use std::rt::Runtime;
+use std::test::Fail;
+use wrong_answers::Wrong;
+
+/// Whether what is loaded of the bytes is what the rules tell: the same image again, or `Bad` at the
+/// first field that is broken.
+fn is_loaded_as_told<R: Runtime, H: Manager>(
+    rt: &R,
+    alloc: Global,
+    heap: &mut H,
+    bytes: &[u8],
+) -> Result<bool, Wrong>
+    requires { (H.state heap.old).kind ≡ Moving }
+    ensures { (H.state heap.new).kind ≡ Moving }
+{
+    let broken = broken_at(alloc, bytes)?;
+    let loaded = load_and_save(rt, alloc, heap, bytes, 4_096)?;
+    Ok(match (&loaded, broken) {
+        (Ok(saved), None) => saved.as_slice() == bytes,
+        (Err(LoadFault::Bad { at }), Some(want)) => *at == want as u64,
+        _ => false,
+    })
+}
+
+/// The image without its last bytes, for each number of bytes.
+fn cut_each<R: Runtime + Abort, H: Manager>(
+    rt: &R,
+    alloc: Global,
+    heap: &mut H,
+    image: &[u8],
+) -> Result<(), Wrong>
+    requires { (H.state heap.old).kind ≡ Moving }
+    ensures { (H.state heap.new).kind ≡ Moving }
+{
+    'cuts: for n in 0..image.len() {
+        let told = is_loaded_as_told(rt, alloc, heap, &image[..n])?;
+        assert!(rt; told, "the first {n} bytes of {image:?}");
+    }
+    Ok(())
+}
+
+/// The image with one byte changed, for each byte: to 0, to 255, and to its two neighbours.
+fn change_each<R: Runtime + Abort, H: Manager>(
+    rt: &R,
+    alloc: Global,
+    heap: &mut H,
+    image: &[u8],
+) -> Result<(), Wrong>
+    requires { (H.state heap.old).kind ≡ Moving }
+    ensures { (H.state heap.new).kind ≡ Moving }
+{
+    'bytes: for i in 0..image.len() {
+        let byte = image[i];
+        'values: for value in [0, 255, byte.wrapping_sub(1), byte.wrapping_add(1)] {
+            let mut changed = Vec::from_slice(alloc, image)?;
+            changed[i] = value;
+            let told = is_loaded_as_told(rt, alloc, heap, &changed)?;
+            assert!(rt; told, "byte {i} of {image:?} is {value}");
+        }
+    }
+    Ok(())
+}
+
+#[test]
+fn each_cut_and_each_changed_byte_is_loaded_as_told(rt: HostRuntime) -> Result<(), Fail> {
+    let alloc = rt.alloc();
+    let mut heap = MovingHeap::closed(alloc);
+    'rows: for row in ROWS.iter() {
+        cut_each(&rt, alloc, &mut heap, row.image)?;
+        change_each(&rt, alloc, &mut heap, row.image)?;
+    }
+    Ok(())
+}

@@ -1,0 +1,84 @@
+//! Heaps, their images, and what is loaded of bytes.
+ghost use Rattle.std.specs.Prelude.{◌≡◌, OnOk};
+ghost use Rattle.cf_base.specs.Settings.{Profile, profile_of};
+ghost use Rattle.cf_base.specs.declared.kind.Kind.TheVariants.{Moving};
+ghost use Rattle.cf_session.specs.Apply.{run_at};
+ghost use Rattle.run_model.specs.Sessions.{IsGoing, fresh_session};
+ghost use Rattle.script_reader.specs.Commands.{IsWellFormed};
+ghost use Rattle.script_reader.specs.Owned.{owned_command};
+ghost use Rattle.heap_image_tests.specs.Ready.{IsReady};
+
+use cf_base::Settings;
+use cf_io::{MemSink, MemSource, NullSink};
+use cf_model::Manager;
+use cf_session::Session;
+use heap_image::{LoadFault, load, save};
+use script_reader::CommandRef;
+use std::alloc::Global;
+use std::rt::Runtime;
+use step_ledger::Meter;
+use wrong_answers::Wrong;
+
+/// No image here is longer.
+const ROOM: usize = 16_384;
+
+/// Opens the heap, for a session that was just begun.
+pub fn open<H: Manager>(heap: &mut H, session: &Session, settings: &Settings) -> Result<(), Wrong>
+    requires moving { (H.state heap.old).kind ≡ Moving }
+    requires fresh { session.now ≡ fresh_session }
+    ensures { OnOk result (IsReady (profile_of settings.now) (run_at session.now (H.state heap.new))) }
+{
+    heap.open_heap(settings)?;
+    Ok(())
+}
+
+/// Does a command, whatever its reply.
+pub fn give<H: Manager>(heap: &mut H, session: &mut Session, command: CommandRef)
+    requires going { IsGoing (run_at session.old (H.state heap.old)) }
+    requires formed { IsWellFormed (owned_command command) }
+    ensures going { IsGoing (run_at session.new (H.state heap.new)) }
+    ensures ready { (p : Profile) → IsReady p (run_at session.old (H.state heap.old)) → IsReady p (run_at session.new (H.state heap.new)) }
+{
+    match session.apply_ref(heap, command, b"", &mut NullSink) {
+        Ok(_) => {}
+        Err(_) => unreachable!(),
+    }
+}
+
+/// The image of what lives in the heap.
+pub fn image<R: Runtime, H: Manager>(
+    rt: &R,
+    alloc: Global,
+    heap: &H,
+    session: &Session,
+    settings: &Settings,
+) -> Result<Vec<u8>, Wrong>
+    requires { IsReady (profile_of settings.now) (run_at session.now (H.state heap.now)) }
+{
+    let mut sink = MemSink::new(alloc, ROOM, Vec::new(alloc), Vec::new(alloc))?;
+    match save(settings, heap, session, &mut sink, &mut Meter::new(rt)) {
+        Ok(()) => Ok(Vec::from_slice(alloc, sink.written())?),
+        Err(_) => Err(Wrong::Differs("the length of an image")),
+    }
+}
+
+/// Loads bytes, which come at most `most` at a time, into the heap, and returns the image of what it
+/// holds then; or why it loads nothing.
+pub fn load_and_save<R: Runtime, H: Manager>(
+    rt: &R,
+    alloc: Global,
+    heap: &mut H,
+    bytes: &[u8],
+    most: usize,
+) -> Result<Result<Vec<u8>, LoadFault>, Wrong>
+    requires { (H.state heap.old).kind ≡ Moving }
+    ensures { (H.state heap.new).kind ≡ Moving }
+{
+    let mut session = Session::start(rt, alloc)?;
+    let cuts = Vec::from_elem(alloc, most, ROOM)?;
+    let mut source = MemSource::new(Vec::from_slice(alloc, bytes)?, cuts, Vec::new(alloc));
+    match load(&mut source, heap, &mut session) {
+        Ok(settings) => Ok(Ok(image(rt, alloc, heap, &session, &settings)?)),
+        Err(fault) => Ok(Err(fault)),
+    }
+}

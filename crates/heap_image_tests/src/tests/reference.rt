@@ -1,0 +1,127 @@
+//! Which bytes are an image: a plain program, slow, by the rules in the order in which they are told.
+
+use std::alloc::{AllocError, Global};
+
+/// The sizes of a page in bytes.
+const PAGE_BYTES: [u32; 9] = [
+    512, 1_024, 2_048, 4_096, 8_192, 16_384, 32_768, 65_536, 131_072,
+];
+
+/// The fields before the entries.
+#[derive(Clone, Copy)]
+struct Header {
+    pages: u32,
+    page_words: u32,
+    count: u32,
+}
+
+/// The offset of the first field that breaks a rule or is cut by the end, or else of the first byte
+/// past the image; none where the bytes are an image.
+pub fn broken_at(alloc: Global, bytes: &[u8]) -> Result<Option<usize>, AllocError> {
+    match read_header(bytes) {
+        Ok(header) => read_entries(alloc, bytes, header),
+        Err(at) => Ok(Some(at)),
+    }
+}
+
+/// The fields before the entries, or the offset of the first of them that is broken.
+fn read_header(bytes: &[u8]) -> Result<Header, usize> {
+    if !bytes.starts_with(b"CFI1") {
+        return Err(0);
+    }
+    let pages = number(bytes, 4, 4).ok_or(4_usize)?;
+    if pages < 1 || 4_096 < pages {
+        return Err(4);
+    }
+    let page_bytes = number(bytes, 8, 4).ok_or(8_usize)?;
+    if !PAGE_BYTES.contains(&page_bytes) || 67_108_864 < pages.wrapping_mul(page_bytes) {
+        return Err(8);
+    }
+    let proxies = number(bytes, 12, 4).ok_or(12_usize)?;
+    if proxies < 1 || 65_536 < proxies {
+        return Err(12);
+    }
+    let count = number(bytes, 16, 4).ok_or(16_usize)?;
+    if proxies < count {
+        return Err(16);
+    }
+    Ok(Header {
+        pages,
+        page_words: page_bytes / 8,
+        count,
+    })
+}
+
+/// The offset of the first field from the entries on that is broken.
+fn read_entries(alloc: Global, bytes: &[u8], header: Header) -> Result<Option<usize>, AllocError> {
+    let mut lengths = Vec::new(alloc);
+    let mut least = 0;
+    let mut at = 20_usize;
+    for _i in 0..header.count {
+        match number(bytes, at, 2) {
+            Some(id) if least <= id => least = id.saturating_add(1),
+            _ => return Ok(Some(at)),
+        }
+        let Some(length) = number(bytes, at.saturating_add(2), 4) else {
+            return Ok(Some(at.saturating_add(2)));
+        };
+        lengths.push(length)?;
+        if header.page_words < words(length)
+            || header.pages < pages_needed(&lengths, header.page_words)
+        {
+            return Ok(Some(at.saturating_add(2)));
+        }
+        at = at.saturating_add(6);
+        let end = at.saturating_add(length as usize);
+        if bytes.len() < end {
+            return Ok(Some(at));
+        }
+        at = end;
+    }
+    Ok(if at < bytes.len() { Some(at) } else { None })
+}
+
+/// The number of `width` bytes at this offset, the least byte first; none where it is cut.
+fn number(bytes: &[u8], at: usize, width: usize) -> Option<u32> {
+    let field = bytes.get(at..at.checked_add(width)?)?;
+    let mut number = 0_u32;
+    for byte in field.iter().rev() {
+        number = number.wrapping_mul(256).wrapping_add(u32::from(*byte));
+    }
+    Some(number)
+}
+
+/// The words of an object of so many bytes: a header, and eight bytes to a word.
+fn words(length: u32) -> u32 {
+    length / 8 + if length % 8 == 0 { 1 } else { 2 }
+}
+
+/// The pages for objects of these lengths where each class but its last page is full. The slots have
+/// 4 words, then each time nine eighths of that, rounded up, and a page at last.
+fn pages_needed(lengths: &[u32], page_words: u32) -> u32 {
+    let mut pages = 0_u32;
+    let mut below = 0;
+    let mut slot = 4_u32;
+    for _class in 0..page_words {
+        let slots = (page_words / slot.max(1)).max(1);
+        pages = pages.saturating_add(count(lengths, below, slot).div_ceil(slots));
+        if slot == page_words {
+            break;
+        }
+        below = slot;
+        slot = (slot.saturating_mul(9).saturating_add(7) / 8).min(page_words);
+    }
+    pages
+}
+
+/// How many of these lengths need more than `below` words, and at most those of a slot.
+fn count(lengths: &[u32], below: u32, slot: u32) -> u32 {
+    let mut count = 0_u32;
+    for length in lengths {
+        let need = words(*length);
+        if below < need && need <= slot {
+            count = count.saturating_add(1);
+        }
+    }
+    count
+}

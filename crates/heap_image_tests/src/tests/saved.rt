@@ -1,0 +1,140 @@
+//! Images worked out by hand.
+ghost use Rattle.std.specs.Bool.{OnTrue};
+ghost use Rattle.cf_base.specs.Settings.{Profile};
+ghost use Rattle.cf_session.specs.Apply.{run_at};
+ghost use Rattle.run_model.specs.Sessions.{IsGoing};
+ghost use Rattle.script_reader.specs.Commands.{IsWellFormed};
+ghost use Rattle.script_reader.specs.Owned.{owned_command};
+ghost use Rattle.heap_image_tests.specs.Ready.{IsReady};
+
+use super::images::{give, image, open};
+use cf_base::Settings;
+use cf_model::Manager;
+use cf_session::Session;
+use moving_heap::MovingHeap;
+use script_reader::CommandRef;
+use std::alloc::Global;
+use std::rt::Runtime;
+use std::test::Fail;
+use wrong_answers::Wrong;
+
+/// A heap, what is done on it, and its image.
+pub struct Row {
+    pub shows: &'static str,
+    /// Pages, bytes of a page, the bound of partly full pages, proxies.
+    settings: [u32; 4],
+    commands: &'static [CommandRef<'static>],
+    pub image: &'static [u8],
+}
+
+pub static ROWS: [Row; 4] = [
+    Row {
+        shows: "an object of three bytes",
+        settings: [1, 512, 1, 4],
+        commands: &[
+            CommandRef::Malloc { id: 7, bytes: 3 },
+            CommandRef::Write {
+                id: 7,
+                at: 0,
+                bytes: b"abc",
+            },
+        ],
+        image: b"CFI1\x01\0\0\0\0\x02\0\0\x04\0\0\0\x01\0\0\0\x07\0\x03\0\0\0abc",
+    },
+    Row {
+        shows: "no object",
+        settings: [4096, 512, 64, 65536],
+        commands: &[],
+        image: b"CFI1\0\x10\0\0\0\x02\0\0\0\0\x01\0\0\0\0\0",
+    },
+    Row {
+        shows: "ids rise, whatever came first, and an object may have no bytes",
+        settings: [2, 512, 2, 3],
+        commands: &[
+            CommandRef::Malloc {
+                id: 65_535,
+                bytes: 1,
+            },
+            CommandRef::Malloc { id: 5, bytes: 8 },
+            CommandRef::Malloc { id: 9, bytes: 100 },
+            CommandRef::Free { id: 9 },
+            CommandRef::Malloc { id: 6, bytes: 2 },
+            CommandRef::Resize { id: 5, bytes: 0 },
+            CommandRef::Write {
+                id: 6,
+                at: 0,
+                bytes: b"\xa1\xb2",
+            },
+        ],
+        image: b"CFI1\x02\0\0\0\0\x02\0\0\x03\0\0\0\x03\0\0\0\
+            \x05\0\0\0\0\0\x06\0\x02\0\0\0\xa1\xb2\xff\xff\x01\0\0\0\0",
+    },
+    Row {
+        shows: "two objects on the one page",
+        settings: [1, 512, 1, 2],
+        commands: &[
+            CommandRef::Malloc { id: 3, bytes: 1 },
+            CommandRef::Malloc { id: 4, bytes: 1 },
+            CommandRef::Write {
+                id: 4,
+                at: 0,
+                bytes: b"\x80",
+            },
+        ],
+        image: b"CFI1\x01\0\0\0\0\x02\0\0\x02\0\0\0\x02\0\0\0\
+            \x03\0\x01\0\0\0\0\x04\0\x01\0\0\0\x80",
+    },
+];
+
+/// Whether the command is a malloc, a free, a resize, or a write of 1 to 4,096 bytes.
+fn is_change(command: CommandRef) -> bool
+    ensures { OnTrue result (IsWellFormed (owned_command command.entry)) }
+{
+    match command {
+        CommandRef::Malloc { .. } | CommandRef::Free { .. } | CommandRef::Resize { .. } => true,
+        CommandRef::Write { bytes, .. } => 1 <= bytes.len() && bytes.len() <= 4_096,
+        _ => false,
+    }
+}
+
+/// Does the command, if it is a change.
+fn give_change<H: Manager>(heap: &mut H, session: &mut Session, command: CommandRef)
+    requires { IsGoing (run_at session.old (H.state heap.old)) }
+    ensures going { IsGoing (run_at session.new (H.state heap.new)) }
+    ensures ready { (p : Profile) → IsReady p (run_at session.old (H.state heap.old)) → IsReady p (run_at session.new (H.state heap.new)) }
+{
+    if !is_change(command) {
+        return;
+    }
+    give(heap, session, command);
+}
+
+/// Does these commands, one after another.
+fn give_all<H: Manager>(heap: &mut H, session: &mut Session, commands: &[CommandRef])
+    requires { IsGoing (run_at session.old (H.state heap.old)) }
+    ensures { (p : Profile) → IsReady p (run_at session.old (H.state heap.old)) → IsReady p (run_at session.new (H.state heap.new)) }
+{
+    'commands: for command in commands {
+        give_change(heap, session, *command);
+    }
+}
+
+/// The image of the heap of a row.
+fn image_of_row<R: Runtime>(rt: &R, alloc: Global, row: &Row) -> Result<Vec<u8>, Wrong> {
+    let [pages, page_bytes, k, proxies] = row.settings;
+    let settings = Settings::check(pages, page_bytes, k, proxies)?;
+    let mut heap = MovingHeap::closed(alloc);
+    let mut session = Session::start(rt, alloc)?;
+    open(&mut heap, &session, &settings)?;
+    give_all(&mut heap, &mut session, row.commands);
+    image(rt, alloc, &heap, &session, &settings)
+}
+
+#[test]
+fn images_are_as_worked_out_by_hand(rt: HostRuntime) -> Result<(), Fail> {
+    for row in ROWS.iter() {
+        let saved = image_of_row(&rt, rt.alloc(), row)?;
+        assert_eq!(rt; saved.as_slice(), row.image, "{}", row.shows);
+    }
+    Ok(())
+}
