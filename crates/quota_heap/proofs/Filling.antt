@@ -1,6 +1,5 @@
 -- The object that is found to fill a freed slot.
-use Rattle.std.proofs.Common.{◌≡◌, ◌≢◌, ℕ, ◌+◌, ◌-◌, ◌*◌, ◌%◌, ◌^◌, ◌<◌, ◌≤◌, length, get_or, Some, arith, sym, ◌∙◌, ap, subst}
-use Rattle.std.specs.Prelude.{◌⊎◌}
+use Rattle.std.proofs.Common.{◌≡◌, ℕ, ◌+◌, ◌-◌, ◌*◌, ◌%◌, ◌^◌, ◌<◌, ◌≤◌, length, get_or, Some, arith, sym, ◌∙◌, ap, subst}
 use Rattle.std.specs.FinMap.{get, remove}
 use Rattle.cf_lemmas.proofs.Maps.{get_remove_other}
 use Rattle.page_model.specs.Image.{IsDisjoint}
@@ -8,10 +7,10 @@ use Rattle.page_slots.specs.Freeing.{FillsFrom}
 use Rattle.page_slots.specs.Tables.{AreTables, Tables}
 use Rattle.quota_model.specs.Parts.{key_of}
 use Rattle.quota_heap.specs.Calls.{IsMoving, IsObjectAt}
-use Rattle.quota_heap.specs.Layout.{IsGround, IsTask, held_of, tables_of}
+use Rattle.quota_heap.specs.Layout.{IsGround, IsTask, tables_of}
 use Rattle.quota_heap.specs.declared.ground.Ground.{Ground}
 use Rattle.quota_heap.specs.declared.task.Task.{Task}
-use Rattle.quota_heap.proofs.Facts.{number_small, place_known}
+use Rattle.quota_heap.proofs.Facts.{place_known}
 use Rattle.quota_heap.proofs.FreeCalls.{filled_account, is_other, number_told, other, slots_apart, source_in}
 
 -- the number that the header at b tells, and where it stands

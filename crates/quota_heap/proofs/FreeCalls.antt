@@ -1,5 +1,5 @@
 -- The two kinds of a free: one that moves no other object, and one that does.
-use Rattle.std.proofs.Common.{◌≡◌, ◌≢◌, ℕ, ◌+◌, ◌-◌, ◌*◌, ◌%◌, ◌^◌, ◌<◌, ◌≤◌, List, length, get_or, set, Option, Some, None, arith, refl, sym, ◌∙◌, ap, subst, inl, inr}
+use Rattle.std.proofs.Common.{◌≡◌, ◌≢◌, ℕ, ◌+◌, ◌%◌, ◌^◌, ◌<◌, ◌≤◌, List, length, get_or, set, Option, Some, None, arith, refl, sym, ◌∙◌, ap, subst, inl, inr}
 use Rattle.std.specs.Prelude.{◌⊎◌, option_map}
 use Rattle.std.proofs.lemmas.List.{get_or-set_same, length-set, set-set}
 use Rattle.std.proofs.lemmas.Option.{slice_get_within}
@@ -12,8 +12,8 @@ use Rattle.cf_lemmas.proofs.Maps.{some_removed}
 use Rattle.cf_model.specs.Steps.{number_of}
 use Rattle.page_model.specs.Arrangement.{class_at}
 use Rattle.page_model.specs.Bytes.{bytes_at}
-use Rattle.page_model.specs.Held.{Held, Placed, places}
-use Rattle.page_model.specs.Image.{Clears, IsSlotImage, MovesWords, header_word, slot_for}
+use Rattle.page_model.specs.Held.{Placed, places}
+use Rattle.page_model.specs.Image.{Clears, MovesWords, header_word, slot_for}
 use Rattle.page_model.specs.Paging.{slot_words}
 use Rattle.page_model.specs.Steps.{MayFill, Moves, MustMove, moved_to, without}
 use Rattle.page_model.proofs.CallerLemmas.{mover_is_other, sound_apart_from}
@@ -33,7 +33,7 @@ use Rattle.quota_heap.specs.declared.ground.Ground.{Ground}
 use Rattle.quota_heap.specs.declared.open_tasks.OpenTasks.{OpenTasks}
 use Rattle.quota_heap.specs.declared.task.Task.{Task}
 use Rattle.quota_heap.proofs.Facts.{has_place, number_small, paging_ok, place_known, slot_there, table_is, tables_ok}
-use Rattle.quota_heap.proofs.FreedObject.{goes, goes_freed, goes_kept, it, it_class, it_found, it_inside, it_slot, moving, must, page_same, part_found, removed, slot_same}
+use Rattle.quota_heap.proofs.FreedObject.{goes, goes_freed, goes_kept, it, it_class, it_found, it_slot, moving, must, page_same, removed, slot_same}
 use Rattle.quota_heap.proofs.PageAccount.{fill_accounts, vacate_accounts}
 use Rattle.quota_heap.proofs.PagesAfter.{used_after}
 use Rattle.quota_heap.proofs.Preserved.{Becomes, places_are}

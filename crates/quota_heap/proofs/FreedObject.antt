@@ -1,5 +1,5 @@
 -- An object of a task goes: what is known of it, and what is left.
-use Rattle.std.proofs.Common.{◌≡◌, ◌≢◌, ℕ, ◌+◌, ◌-◌, ◌*◌, ◌<◌, ◌≤◌, List, length, get_or, set, Option, Some, None, arith, refl, sym, ◌∙◌, ap, subst, inl, inr}
+use Rattle.std.proofs.Common.{◌≡◌, ℕ, ◌+◌, ◌-◌, ◌<◌, ◌≤◌, List, length, get_or, set, Option, Some, arith, refl, sym, ◌∙◌, ap, subst, inl, inr}
 use Rattle.std.specs.Prelude.{nat_eq, option_map}
 use Rattle.std.proofs.lemmas.Bool.{cases_eq}
 use Rattle.std.proofs.lemmas.List.{get_or-set_other, get_or-set_same, length-set}
@@ -17,7 +17,7 @@ use Rattle.page_model.specs.Held.{Held, Placed, objects, places}
 use Rattle.page_model.specs.Image.{IsSlotImage, slot_for}
 use Rattle.page_model.specs.Paging.{bound_of, class_for, classes, page_of, slot_words}
 use Rattle.page_model.specs.Steps.{Moves, MustMove, without}
-use Rattle.page_model.proofs.CallerLemmas.{live_taken, sound_without, storable_without}
+use Rattle.page_model.proofs.CallerLemmas.{live_taken, storable_without}
 use Rattle.page_slots.specs.Freeing.{MovesObject}
 use Rattle.page_slots.specs.Occupying.{Occupies, TellPart, class_table}
 use Rattle.page_slots.specs.Tables.{IsUsed, page_at, slot_at, slots_on}
@@ -37,8 +37,8 @@ use Rattle.quota_heap.specs.declared.task.Task.{Task}
 use Rattle.quota_heap.proofs.Facts.{as_many, at_one, bytes_held, few_classes, has_place, paging_ok, size_is, slot_there, table_is}
 use Rattle.quota_heap.proofs.PageAccount.{Accounts}
 use Rattle.quota_heap.proofs.PagesAfter.{pages_after}
-use Rattle.quota_heap.proofs.Preserved.{Becomes, becomes_kept, becomes_state, places_are, stored}
-use Rattle.quota_heap.proofs.Tasks.{part_is, task_below}
+use Rattle.quota_heap.proofs.Preserved.{Becomes, becomes_kept, becomes_state, stored}
+use Rattle.quota_heap.proofs.Tasks.{part_is}
 
 -- one object fewer in class c
 pub counted_out : (live : List ℕ) (c d : ℕ) → c < length live → 1 ≤ get_or live c 0 → get_or (set live c (get_or live c 0 - 1)) d 0 + one (nat_eq c d) ≡ get_or live d 0

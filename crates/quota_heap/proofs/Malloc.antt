@@ -1,10 +1,9 @@
 -- An object comes to a task.
-use Rattle.std.proofs.Common.{◌≡◌, ◌≢◌, ℕ, ◌+◌, ◌*◌, ◌^◌, ◌<◌, ◌≤◌, List, length, get_or, set, replicate, Some, None, arith, refl, sym, ◌∙◌, ap, subst, inl, inr}
-use Rattle.std.specs.Prelude.{◌⊎◌, nat_eq}
+use Rattle.std.proofs.Common.{◌≡◌, ◌≢◌, ℕ, ◌+◌, ◌<◌, ◌≤◌, List, length, get_or, set, replicate, Some, None, arith, refl, sym, ◌∙◌, ap, subst, inl, inr}
+use Rattle.std.specs.Prelude.{nat_eq}
 use Rattle.std.proofs.lemmas.Bool.{cases_eq}
 use Rattle.std.proofs.lemmas.List.{length-replicate, length-set}
-use Rattle.std.specs.FinMap.{get, insert, len}
-use Rattle.cf_base.specs.Classes.{need}
+use Rattle.std.specs.FinMap.{get, insert}
 use Rattle.cf_base.specs.Settings.{profile_of}
 use Rattle.cf_lemmas.proofs.Ranges.{one}
 use Rattle.class_lists.specs.declared.Which.{Which}
@@ -12,7 +11,7 @@ use Rattle.class_lists.specs.declared.Which.TheVariants.{Full, NotFull}
 use Rattle.class_lists.specs.PageLists.{pages_in}
 use Rattle.std.specs.List.{Contains}
 use Rattle.page_model.specs.Arrangement.{class_at, live}
-use Rattle.page_model.specs.Held.{Held, Placed, objects, places}
+use Rattle.page_model.specs.Held.{Held, Placed, objects}
 use Rattle.page_model.specs.Image.{IsSlotImage, header_word}
 use Rattle.page_model.specs.Paging.{class_for, classes, page_of}
 use Rattle.page_model.specs.Steps.{IsFreePlace, Request, zeros_at}
@@ -22,10 +21,9 @@ use Rattle.page_slots.specs.Tables.{AreTables, IsElsewhere, IsOf, Tables}
 use Rattle.page_slots.specs.Taking.{TakesAt}
 use Rattle.page_slots.proofs.CallerLemmas.{taken_is_free, taken_occupied, taken_part}
 use Rattle.proxy_table.specs.Proxies.{Proxies}
-use Rattle.quota_images.specs.Joined.{joined, places_at}
-use Rattle.quota_images.proofs.CallerLemmas.{image_of_malloc, joined_insert, place_inside}
+use Rattle.quota_images.specs.Joined.{joined}
+use Rattle.quota_images.proofs.CallerLemmas.{image_of_malloc, joined_insert}
 use Rattle.quota_model.specs.Parts.{key_of, number_of, part_of, task_of}
-use Rattle.quota_model.specs.Refusals.{malloc_refusal}
 use Rattle.quota_model.specs.Shared.{PlacesForTask}
 use Rattle.quota_model.proofs.CallerLemmas.{found_part, others_stay, part_inserted, quotas_stay, stays_shared}
 use Rattle.quota_heap.specs.Calls.{Comes}
@@ -225,7 +223,7 @@ module _ (h n : OpenTasks) (k : IsValid h) (t : ℕ) (x x' : Task) (at : IsTaskI
     rest = co.rest;
     places =
         let l : t < length (places_of h.tasks.items) = (
-            let e = length_map (λ (y : Task). y.proxies.places) h.tasks.items in let w = slice_get_within h.tasks.items t x at in omega arith) in
+        let e = length_map (λ (y : Task). y.proxies.places) h.tasks.items in let w = slice_get_within h.tasks.items t x at in omega arith) in
         ap joined (map_set (λ (y : Task). y.proxies.places) h.tasks.items t x'
         ∙ ap (λ p. set (places_of h.tasks.items) t p) (ap (λ (p : Proxies). p.places) co.proxies
         ∙ ap (λ m. insert m q co.place) (sym (places_here h k t x at))))

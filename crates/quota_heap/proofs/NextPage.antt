@@ -1,5 +1,5 @@
 -- An object more needs a page more exactly where no page of its class is partly full.
-use Rattle.std.proofs.Common.{◌≡◌, ◌≢◌, ℕ, zero, suc, ◌+◌, ◌-◌, ◌*◌, ◌<◌, ◌≤◌, length, cond, arith, refl, sym, ◌∙◌, ap, subst, inl, inr}
+use Rattle.std.proofs.Common.{◌≡◌, ℕ, zero, suc, ◌+◌, ◌-◌, ◌*◌, ◌<◌, ◌≤◌, cond, arith, refl, sym, subst, inl, inr}
 use Rattle.std.specs.Prelude.{nat_eq}
 use Rattle.std.proofs.lemmas.Bool.{cases_eq, cases_lt}
 use Rattle.cf_lemmas.proofs.Tests.{eq_no, eq_yes}
@@ -19,12 +19,15 @@ one_more h n m zero pos s =
     let f : h + (1 - 0) - 1 ≡ h = omega arith in
     let g : h + (1 - 0) - 0 ≡ suc h = omega arith in
     elim (cases_eq m 1) [
-      | inl is ↦ (0, record {
-        few = omega arith;
-        within = omega arith;
-        least = rw (g, is) (let low' : h * 1 + 0 ≤ n = rw is at low in omega arith);
-        most = rw (g, is) (let high' : n ≤ h * 1 + 0 * (1 - 1) = rw is at high in omega arith);
-      })
+      | inl is ↦ (
+        0,
+        record {
+          few = omega arith;
+          within = omega arith;
+          least = rw (g, is) (let low' : h * 1 + 0 ≤ n = rw is at low in omega arith);
+          most = rw (g, is) (let high' : n ≤ h * 1 + 0 * (1 - 1) = rw is at high in omega arith);
+        },
+      )
       | inr ne ↦ (1, record { few = omega arith; within = omega arith; least = rw f (omega arith); most = rw f (omega arith) })
     ]
 one_more zero n m (suc zero) pos s = absurd (let w : 1 ≤ 0 = s.within in omega arith)

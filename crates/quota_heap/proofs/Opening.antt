@@ -1,14 +1,13 @@
 -- An open heap without objects.
-use Rattle.std.proofs.Common.{◌≡◌, ◌≢◌, ℕ, zero, suc, Bool, false, ◌+◌, ◌*◌, ◌^◌, ◌<◌, ◌≤◌, List, [], ◌∷◌, length, get_or, map, replicate, Option, Some, None, arith, refl}
+use Rattle.std.proofs.Common.{◌≡◌, ℕ, zero, suc, Bool, false, ◌+◌, ◌*◌, ◌^◌, ◌<◌, List, [], ◌∷◌, length, get_or, map, replicate, Some, None, arith, refl}
 use Rattle.std.proofs.Common.{sym, ◌∙◌, ap, subst, inl, inr}
-use Rattle.std.specs.Prelude.{count_by, nat_eq, slice_get, sum, sum_by}
+use Rattle.std.specs.Prelude.{slice_get, sum, sum_by}
 use Rattle.std.specs.List.{Contains, range_with_len}
 use Rattle.std.proofs.lemmas.Bool.{cases_lt}
 use Rattle.std.proofs.lemmas.List.{get_or-replicate, get_or_past, length-replicate}
 use Rattle.std.proofs.lemmas.List.Sums.{sum_by-cons}
-use Rattle.std.proofs.lemmas.Option.{slice_get_within}
 use Rattle.std.specs.Ordering.{nat_cmp}
-use Rattle.std.specs.FinMap.{FinMap, empty, get, get-empty, len-empty}
+use Rattle.std.specs.FinMap.{empty, get, get-empty, len-empty}
 use Rattle.cf_base.specs.Classes.{sizes}
 use Rattle.cf_base.specs.Settings.{profile_of}
 use Rattle.cf_base.specs.declared.kind.Layout.TheVariants.{Words}
@@ -16,18 +15,17 @@ use Rattle.cf_base.specs.declared.settings.Settings.{Settings}
 use Rattle.cf_base.proofs.CallerLemmas.{are_sizes}
 use Rattle.cf_lemmas.proofs.Maps.{equal_maps}
 use Rattle.cf_lemmas.proofs.Values.{map_values-empty, no_values}
-use Rattle.class_lists.specs.PageLists.{PageLists, empty_lists, pages_in}
-use Rattle.class_lists.specs.declared.Which.{Which}
+use Rattle.class_lists.specs.PageLists.{empty_lists, pages_in}
 use Rattle.class_lists.proofs.CallerLemmas.{contains_nil}
 use Rattle.page_model.specs.Arrangement.{IsSound, live, pages_needed}
 use Rattle.page_model.specs.Bytes.{bytes_at, held_at}
-use Rattle.page_model.specs.Held.{Held, Placed, objects}
+use Rattle.page_model.specs.Held.{Placed, objects}
 use Rattle.page_model.specs.Image.{IsSlotImage, slot_for}
-use Rattle.page_model.specs.Paging.{Paging, class_for, classes}
+use Rattle.page_model.specs.Paging.{Paging}
 use Rattle.page_model.proofs.CallerLemmas.{image_empty, sound_empty}
 use Rattle.page_pool.specs.Pool.{Pool}
-use Rattle.page_slots.specs.Occupying.{Occupies, TellPart, class_table}
-use Rattle.page_slots.specs.Tables.{AreOthers, AreTables, tables, used_in}
+use Rattle.page_slots.specs.Occupying.{Occupies, class_table}
+use Rattle.page_slots.specs.Tables.{AreTables, tables, used_in}
 use Rattle.page_slots.proofs.CallerLemmas.{first_occupied, first_table, first_tables, no_pages}
 use Rattle.proxy_table.specs.Proxies.{AreBelowLimit, no_proxies}
 use Rattle.quota_images.specs.Joined.{AreNumbers, joined, places_at}
@@ -36,12 +34,10 @@ use Rattle.quota_model.specs.Parts.{number_of, part_of, task_of}
 use Rattle.quota_model.specs.Shared.{AreQuotas, IsShared}
 use Rattle.quota_model.proofs.CallerLemmas.{first_quotas, first_shared, no_part}
 use Rattle.size_classes.specs.Table.{ClassTable, table_of}
-use Rattle.quota_heap.specs.Layout.{IsFirstGround, IsGround, IsTask, IsTaskIn, IsValid, first_task, held_in, held_of, objects_of, pages_of, paging_at, places_of, quotas_of, state_of, tables_of}
-use Rattle.quota_heap.specs.State.{QuotaState, empty_state}
-use Rattle.quota_heap.specs.declared.ground.Ground.{Ground}
+use Rattle.quota_heap.specs.Layout.{IsFirstGround, IsGround, IsTask, IsTaskIn, IsValid, first_task, held_in, held_of, pages_of, paging_at, places_of, quotas_of, state_of}
+use Rattle.quota_heap.specs.State.{empty_state}
 use Rattle.quota_heap.specs.declared.open_tasks.OpenTasks.{OpenTasks}
 use Rattle.quota_heap.specs.declared.task.Task.{Task}
-use Rattle.quota_heap.proofs.Facts.{table_is}
 
 nothing_held : (words : List ℕ) → held_at words empty ≡ empty
 nothing_held words = map_values-empty (λ a. record { place = a; bytes = bytes_at words a })

@@ -1,8 +1,8 @@
 -- The pages that a task uses, and those of the pool, before and after a slot is taken or freed.
-use Rattle.std.proofs.Common.{◌≡◌, ◌≢◌, ℕ, zero, suc, Bool, true, false, ◌+◌, ◌-◌, ◌*◌, ◌<◌, ◌≤◌, List, [], ◌∷◌, length, cond, eqb, Some, arith, refl, sym, ◌∙◌, ap}
+use Rattle.std.proofs.Common.{◌≡◌, ◌≢◌, ℕ, false, ◌+◌, ◌<◌, List, [], ◌∷◌, length, cond, eqb, Some, arith, refl, sym, ◌∙◌, ap}
 use Rattle.std.proofs.Common.{inl, inr, subst}
-use Rattle.std.specs.Prelude.{◌⊎◌, not, nat_eq, slice_get}
-use Rattle.std.specs.List.{Contains, IsDistinct, range_with_len}
+use Rattle.std.specs.Prelude.{not, nat_eq, slice_get}
+use Rattle.std.specs.List.{Contains, IsDistinct}
 use Rattle.std.proofs.lemmas.Bool.{cases_eq, eq-eqb}
 use Rattle.std.proofs.lemmas.Bool.Decides.{nat_tests}
 use Rattle.size_classes.specs.Table.{ClassTable}
@@ -14,10 +14,10 @@ use Rattle.page_model.specs.Arrangement.{home_pages, used_pages}
 use Rattle.page_model.specs.Held.{Held}
 use Rattle.page_model.specs.Paging.{IsPaging, Paging, classes}
 use Rattle.page_pool.specs.Pool.{Pool}
-use Rattle.page_slots.specs.Freeing.{FillsFrom, OpensPage, Vacates}
+use Rattle.page_slots.specs.Freeing.{FillsFrom, Vacates}
 use Rattle.page_slots.specs.Occupying.{Occupies, TellPart}
 use Rattle.page_slots.specs.Tables.{AreTables, JoinsList, LeavesList, Tables, slots_in, slots_on, used_in}
-use Rattle.page_slots.specs.Taking.{FillsPage, TakesAt, TakesOnFreePage, TakesOnOpenPage}
+use Rattle.page_slots.specs.Taking.{TakesAt, TakesOnFreePage, TakesOnOpenPage}
 use Rattle.page_slots.proofs.CallerLemmas.{home_pages_are}
 use Rattle.quota_heap.proofs.Sums.{sum_changed}
 

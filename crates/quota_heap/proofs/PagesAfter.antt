@@ -1,5 +1,5 @@
 -- The pages of a task after a call, by what the pool gave or got.
-use Rattle.std.proofs.Common.{◌≡◌, ℕ, ◌+◌, ◌<◌, ◌≤◌, length, arith, sym, ◌∙◌}
+use Rattle.std.proofs.Common.{◌≡◌, ℕ, ◌+◌, ◌<◌, length, arith}
 use Rattle.page_model.specs.Arrangement.{IsSound, pages_needed, used_pages}
 use Rattle.page_model.specs.Held.{Held, objects}
 use Rattle.page_model.specs.Paging.{classes}

@@ -1,7 +1,7 @@
 -- Parts of a task's objects that are read or written.
-use Rattle.std.proofs.Common.{◌≡◌, ◌≢◌, ℕ, zero, suc, ◌+◌, ◌-◌, ◌*◌, ◌/◌, ◌%◌, ◌^◌, ◌<◌, ◌≤◌, List, [], ◌∷◌, length, get_or, set, take, drop, Some, None, Result}
+use Rattle.std.proofs.Common.{◌≡◌, ℕ, suc, ◌+◌, ◌-◌, ◌*◌, ◌/◌, ◌%◌, ◌^◌, ◌<◌, ◌≤◌, List, [], ◌∷◌, length, get_or, set, take, drop, Some, None, Result}
 use Rattle.std.proofs.Common.{Ok, Err, arith, refl, sym, ◌∙◌, ap, subst, inl, inr}
-use Rattle.std.specs.Prelude.{IfNone, IfSome, Option, option_map, slice_get}
+use Rattle.std.specs.Prelude.{IfNone, IfSome, Option, option_map}
 use Rattle.std.proofs.lemmas.Bool.{cases_lt}
 use Rattle.std.proofs.lemmas.Grind.{same_number_lists}
 use Rattle.std.proofs.lemmas.List.{get_or-drop, get_or-take, length-drop, length-take, set-get_or}
@@ -11,11 +11,11 @@ use Rattle.cf_base.specs.Settings.{profile_of}
 use Rattle.cf_base.specs.declared.answers.AccessFault.{AccessFault}
 use Rattle.cf_base.specs.declared.answers.AccessFault.TheVariants.{Unknown, Range}
 use Rattle.cf_lemmas.proofs.MapValues.{get-map_values, map_values-insert}
-use Rattle.page_model.specs.Arrangement.{class_at, live, pages_needed}
+use Rattle.page_model.specs.Arrangement.{live, pages_needed}
 use Rattle.page_model.specs.Bytes.{AreBytes, byte_of, bytes_at, written}
 use Rattle.page_model.specs.Held.{Held, Placed, objects, places}
 use Rattle.page_model.specs.Image.{IsSlotImage, Rewrites, object_word, slot_for}
-use Rattle.page_model.specs.Paging.{class_for, classes}
+use Rattle.page_model.specs.Paging.{class_for}
 use Rattle.page_model.proofs.CallerLemmas.{byte_is, byte_of_object, bytes_at-AreBytes, inserted_there, length-written, object_word_small, storable_added}
 use Rattle.page_model.proofs.CallerLemmas.{word_by_bytes, written_are_bytes, written_before, written_behind, written_inside, written_nothing}
 use Rattle.page_slots.specs.Occupying.{Occupies}
@@ -28,10 +28,10 @@ use Rattle.cf_model.specs.Steps.{Part}
 use Rattle.word_bytes.specs.Cells.{overwritten}
 use Rattle.word_bytes.specs.Overwriting.{Overwrites, byte_from}
 use Rattle.word_bytes.proofs.CallerLemmas.{overwritten_before, overwritten_behind, overwritten_inside}
-use Rattle.quota_heap.specs.Calls.{IsFound, IsFoundIn, IsMissing, Lies, Passes}
+use Rattle.quota_heap.specs.Calls.{IsFound, IsFoundIn, IsMissing, Lies}
 use Rattle.quota_heap.specs.Layout.{IsTask, IsTaskIn, IsValid, held_in, held_of, paging_at, places_of, quotas_of, state_of, tables_of}
 use Rattle.quota_heap.specs.State.{held_by}
-use Rattle.quota_heap.specs.Steps.{IsFault, PassesEnd, ReadsOfTask, WritesForTask, with_held}
+use Rattle.quota_heap.specs.Steps.{IsFault, ReadsOfTask, WritesForTask, with_held}
 use Rattle.quota_heap.specs.declared.open_tasks.OpenTasks.{OpenTasks}
 use Rattle.quota_heap.specs.declared.task.Task.{Task}
 use Rattle.quota_heap.proofs.Facts.{bytes_few, has_place, holds, no_place, number_small, slot_there, tables_ok}
@@ -52,8 +52,11 @@ module _ (h : OpenTasks) (k : IsValid h) (t : ℕ) (x : Task) (at : IsTaskIn h t
   -- why there is no part
   pub fault_is : (part : Part) (count : ℕ) (e : AccessFault) → IsMissing h.ground x part count e → IsFault (state_of h) t part count e
   fault_is part count Unknown none = no_object part.number none
-  fault_is part count Range p = record { object = record { place = p.place; bytes = bytes_at h.ground.region p.place };
-      found = object_by part.number p.place p.found; past = p.past }
+  fault_is part count Range p = record {
+    object = record { place = p.place; bytes = bytes_at h.ground.region p.place };
+    found = object_by part.number p.place p.found;
+    past = p.past;
+  }
 
   -- what was found of the task is so of the heap
   pub found_in : (part : Part) (count : ℕ) (r : Result ℕ AccessFault) → IsFound h.ground x part count r → IsFoundIn h t part count r

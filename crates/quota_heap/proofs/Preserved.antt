@@ -1,37 +1,33 @@
 -- An open heap of which one task, and the ground with it, changed keeps what it keeps.
-use Rattle.std.proofs.Common.{◌≡◌, ◌≢◌, ℕ, ◌+◌, ◌*◌, ◌<◌, ◌≤◌, List, length, get_or, set, Option, Some, None, arith, refl, sym, ◌∙◌, ap, subst, inl, inr}
+use Rattle.std.proofs.Common.{◌≡◌, ◌≢◌, ℕ, ◌+◌, ◌<◌, length, get_or, set, Some, arith, sym, ◌∙◌, ap, subst, inl, inr}
 use Rattle.std.specs.Prelude.{slice_get, sum}
 use Rattle.std.proofs.lemmas.Bool.{cases_eq}
 use Rattle.std.proofs.lemmas.List.{length-set}
 use Rattle.std.proofs.lemmas.Option.{slice_get_within}
 use Rattle.std.specs.FinMap.{empty, get}
 use Rattle.cf_base.specs.Settings.{profile_of}
-use Rattle.class_lists.specs.declared.Which.{Which}
-use Rattle.class_lists.specs.PageLists.{PageLists, pages_in}
-use Rattle.page_model.specs.Arrangement.{IsSound, class_at, live, pages_needed}
+use Rattle.page_model.specs.Arrangement.{IsSound, live, pages_needed}
 use Rattle.page_model.specs.Bytes.{AreStorable, held_at}
 use Rattle.page_model.specs.Held.{Held, Placed, objects, places}
-use Rattle.page_model.specs.Image.{IsSlotImage, header_word, slot_for}
+use Rattle.page_model.specs.Image.{IsSlotImage, header_word}
 use Rattle.page_model.specs.Paging.{classes}
 use Rattle.page_model.proofs.CallerLemmas.{class_holds, held_at_bytes, held_from_image, places-held_at}
 use Rattle.page_slots.specs.Occupying.{Occupies, TellPart}
-use Rattle.page_slots.specs.Tables.{AreOthers, AreTables, tables}
+use Rattle.page_slots.specs.Tables.{AreOthers, AreTables}
 use Rattle.page_slots.proofs.CallerLemmas.{mine_elsewhere, others_elsewhere, others_occupied, others_tables}
-use Rattle.quota_images.specs.Joined.{AreNumbers, joined, places_at}
+use Rattle.quota_images.specs.Joined.{AreNumbers, joined}
 use Rattle.quota_images.proofs.CallerLemmas.{own_image, numbers_set, part_joined}
 use Rattle.quota_model.specs.Parts.{key_of, part_of}
 use Rattle.quota_model.specs.Shared.{AreQuotas, IsShared}
 use Rattle.quota_model.proofs.CallerLemmas.{found_whole}
 use Rattle.quota_heap.specs.Calls.{KeepsRest}
-use Rattle.quota_heap.specs.Layout.{IsGround, IsTask, IsTaskIn, IsValid, held_in, held_of, objects_of, pages_of, paging_at, places_of, quotas_of, state_of, tables_of}
-use Rattle.quota_heap.specs.State.{QuotaState}
+use Rattle.quota_heap.specs.Layout.{IsTask, IsTaskIn, IsValid, held_in, held_of, pages_of, paging_at, places_of, quotas_of, state_of, tables_of}
 use Rattle.quota_heap.specs.Steps.{with_held}
-use Rattle.quota_heap.specs.declared.ground.Ground.{Ground}
 use Rattle.quota_heap.specs.declared.open_tasks.OpenTasks.{OpenTasks}
 use Rattle.quota_heap.specs.declared.task.Task.{Task}
 use Rattle.quota_heap.proofs.Facts.{paging_ok, table_is}
 use Rattle.quota_heap.proofs.Sums.{sum_set}
-use Rattle.quota_heap.proofs.Tasks.{length_map, map_set, map_set_same, mapped_here, numbers, part_is, places_here, set_here, set_there, task_below}
+use Rattle.quota_heap.proofs.Tasks.{length_map, map_set, map_set_same, mapped_here, numbers, part_is, set_here, set_there}
 
 -- In n the tasks have the objects m: only task t, which was x and is x', has others than in h.
 pub record Becomes (h n : OpenTasks) (t : ℕ) (x x' : Task) (m : Held) : Type 0 where

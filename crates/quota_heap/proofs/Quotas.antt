@@ -1,8 +1,8 @@
 -- A quota is changed.
-use Rattle.std.proofs.Common.{◌≡◌, ◌≢◌, ℕ, Bool, true, false, cond, zero, suc, ◌+◌, ◌-◌, ◌<◌, ◌≤◌, List, [], ◌∷◌, length, get_or, map, set, Option, Some, None, arith, refl}
+use Rattle.std.proofs.Common.{◌≡◌, ℕ, Bool, true, false, cond, zero, suc, ◌+◌, ◌<◌, ◌≤◌, List, [], ◌∷◌, length, get_or, set, Option, Some, None, arith, refl}
 use Rattle.std.proofs.Common.{sym, ◌∙◌, ap, subst, inl, inr}
 use Rattle.std.specs.Prelude.{nat_lt, slice_get, sum}
-use Rattle.std.proofs.lemmas.Bool.{cases_eq, cases_lt}
+use Rattle.std.proofs.lemmas.Bool.{cases_eq}
 use Rattle.std.proofs.lemmas.List.{length-set}
 use Rattle.std.proofs.lemmas.List.Sums.{sum_by-cons}
 use Rattle.std.proofs.lemmas.Option.{slice_get_within}
@@ -10,7 +10,6 @@ use Rattle.cf_base.specs.Settings.{profile_of}
 use Rattle.cf_lemmas.proofs.Tests.{lt_no, lt_yes}
 use Rattle.page_model.specs.Arrangement.{pages_needed}
 use Rattle.page_model.specs.Bytes.{held_at}
-use Rattle.page_model.specs.Held.{objects}
 use Rattle.quota_images.specs.Joined.{joined}
 use Rattle.quota_model.specs.Refusals.{quota_refusal}
 use Rattle.quota_model.specs.Shared.{AreQuotas, IsShared}
@@ -23,9 +22,9 @@ use Rattle.quota_heap.specs.Layout.{IsTask, IsTaskIn, IsValid, held_in, pages_of
 use Rattle.quota_heap.specs.State.{objects_by, quota_of}
 use Rattle.quota_heap.specs.declared.open_tasks.OpenTasks.{OpenTasks}
 use Rattle.quota_heap.specs.declared.task.Task.{Task}
-use Rattle.quota_heap.proofs.Refusals.{objects_same, quota_same}
+use Rattle.quota_heap.proofs.Refusals.{objects_same}
 use Rattle.quota_heap.proofs.Sums.{sum_set}
-use Rattle.quota_heap.proofs.Tasks.{map_set, map_set_same, set_here, set_there, task_below}
+use Rattle.quota_heap.proofs.Tasks.{map_set, map_set_same, set_here, set_there}
 
 -- a sum of which one number is another
 sum_changed_at : (xs : List ℕ) (i n : ℕ) → i < length xs → sum (set xs i n) + get_or xs i 0 ≡ sum xs + n

@@ -1,7 +1,7 @@
 -- Why a malloc is refused, and that there is a slot where it isn't.
-use Rattle.std.proofs.Common.{◌≡◌, ◌≢◌, ℕ, Bool, true, false, cond, ◌+◌, ◌-◌, ◌<◌, ◌≤◌, List, [], ◌∷◌, length, get_or, Option, Some, None, arith, refl, sym, ◌∙◌, ap, subst}
+use Rattle.std.proofs.Common.{◌≡◌, ◌≢◌, ℕ, Bool, true, false, cond, ◌+◌, ◌-◌, ◌<◌, ◌≤◌, List, [], ◌∷◌, length, Option, Some, None, arith, refl, sym, ◌∙◌, ap, subst}
 use Rattle.std.proofs.Common.{inl, inr}
-use Rattle.std.specs.Prelude.{nat_eq, nat_lt, slice_get, sum, sum_by}
+use Rattle.std.specs.Prelude.{nat_lt, slice_get, sum, sum_by}
 use Rattle.std.proofs.lemmas.Bool.{cases_eq, cases_lt}
 use Rattle.std.proofs.lemmas.List.Sums.{sum_by-cons}
 use Rattle.std.specs.FinMap.{len}
@@ -17,7 +17,7 @@ use Rattle.page_model.specs.Held.{objects}
 use Rattle.page_model.specs.Paging.{class_for, classes}
 use Rattle.page_slots.proofs.CallerLemmas.{not_full_pages_are}
 use Rattle.quota_model.specs.Refusals.{malloc_refusal}
-use Rattle.quota_heap.specs.Layout.{IsTask, IsTaskIn, IsValid, held_of, objects_of, pages_of, paging_at, quotas_of, state_of, tables_of}
+use Rattle.quota_heap.specs.Layout.{IsTask, IsTaskIn, IsValid, held_of, objects_of, paging_at, quotas_of, state_of, tables_of}
 use Rattle.quota_heap.specs.State.{objects_by, quota_of}
 use Rattle.quota_heap.specs.declared.open_tasks.OpenTasks.{OpenTasks}
 use Rattle.quota_heap.specs.declared.task.Task.{Task}

@@ -1,5 +1,5 @@
 -- All that contracts see of a heap that tasks share.
-use Rattle.std.specs.Prelude.{◌≡◌, ℕ, ◌*◌, ◌≤◌, Bool, true, false, List, [], IsTrue, length, replicate, slice_index, refl}
+use Rattle.std.specs.Prelude.{◌≡◌, ℕ, ◌≤◌, Bool, true, false, List, [], IsTrue, length, replicate, slice_index, refl}
 use Rattle.std.specs.FinMap as map
 use Rattle.std.specs.Coded.{Coded, code_by, coded×, coded_ℕ, coded_list, coded_bool}
 use Rattle.cf_base.specs.Limits.{is_page_size}

@@ -1,5 +1,5 @@
 -- What each call does to a heap that tasks share.
-use Rattle.std.specs.Prelude.{◌≡◌, ℕ, ◌+◌, ◌<◌, ◌≤◌, List, Option, Some, None, Result, Ok, Err, length, take, drop, if◌then◌else◌, nat_lt, option_map, slice_set}
+use Rattle.std.specs.Prelude.{◌≡◌, ℕ, ◌+◌, ◌<◌, ◌≤◌, List, Option, Some, None, Result, Ok, Err, length, take, drop, if◌then◌else◌, nat_lt, slice_set}
 use Rattle.std.specs.FinMap.{get, insert}
 use Rattle.cf_base.specs.declared.answers.AccessFault.{AccessFault}
 use Rattle.cf_base.specs.declared.answers.AccessFault.TheVariants.{Unknown, Range}

@@ -1,4 +1,4 @@
-use Rattle.std.proofs.Common.{length, get_or, set, ◌+◌, ◌-◌, ◌≡◌, ◌≤◌, arith, refl, sym, ◌∙◌, ap, subst}
+use Rattle.std.proofs.Common.{length, get_or, set, ◌-◌, arith, ◌∙◌, ap, subst}
 use Rattle.page_model.specs.Image.{Clears}
 use Rattle.proxy_table.specs.Proxies.{without_place}
 use Rattle.quota_heap.specs.Layout.{tables_of}

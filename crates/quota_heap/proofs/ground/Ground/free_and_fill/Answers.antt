@@ -1,6 +1,6 @@
-use Rattle.std.proofs.Common.{length, get_or, set, ◌≡◌, ◌+◌, ◌-◌, ◌*◌, ◌%◌, ◌^◌, arith, refl, sym, ◌∙◌, ap, subst}
+use Rattle.std.proofs.Common.{length, get_or, set, ◌-◌, ◌*◌, ◌%◌, ◌^◌, arith, ◌∙◌, ap, subst}
 use Rattle.std.specs.Prelude.{is_some}
-use Rattle.std.specs.FinMap.{get, remove}
+use Rattle.std.specs.FinMap.{get}
 use Rattle.page_model.specs.Image.{MovesWords}
 use Rattle.proxy_table.specs.Proxies.{Proxies, with_place, without_place}
 use Rattle.quota_heap.specs.Layout.{tables_of}

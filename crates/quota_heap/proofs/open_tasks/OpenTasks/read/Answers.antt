@@ -1,5 +1,4 @@
-use Rattle.std.proofs.Common.{length, ◌+◌, ◌*◌, ◌/◌, ◌%◌, arith, refl, subst}
-use Rattle.word_bytes.specs.Overwriting.{Overwrites}
+use Rattle.std.proofs.Common.{length, arith, refl}
 use Rattle.quota_heap.proofs.Parts.{count_few, place_small, read_is, reads_nothing, words_in}
 use Rattle.quota_heap.proofs.Tasks.{a_task}
 use Rattle.quota_heap.proofs.open_tasks.OpenTasks.read.Goals as goal

@@ -1,4 +1,4 @@
-use Rattle.std.proofs.Common.{length, ◌+◌, ◌*◌, ◌/◌, ◌%◌, arith, refl, subst}
+use Rattle.std.proofs.Common.{length, ◌+◌, ◌/◌, ◌%◌, arith, subst}
 use Rattle.word_bytes.specs.Overwriting.{Overwrites}
 use Rattle.quota_heap.proofs.Parts.{count_few, place_small, words_in, wrote, wrote_kept, wrote_nothing}
 use Rattle.quota_heap.proofs.Tasks.{a_task}
