@@ -21,7 +21,7 @@ use Rattle.quota_model.specs.declared.answers.QuotaFault.TheVariants.{Sum, Used}
 use Rattle.quota_model.proofs.Ceilings.{pages_of_none, pages_same}
 use Rattle.quota_model.proofs.TaskParts.{get_part, get_part_past}
 
-no_part : (task : ℕ) → part_of empty task ≡ empty
+pub no_part : (task : ℕ) → part_of empty task ≡ empty
 no_part task = equal_maps _ _ (λ q. elim (cases_lt q 65536) [
   | inl lt ↦ get_part empty task q lt ∙ get-empty nat_cmp (key_of task q) ∙ sym (get-empty nat_cmp q)
   | inr le ↦ get_part_past empty task q le ∙ sym (get-empty nat_cmp q)

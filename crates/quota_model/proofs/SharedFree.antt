@@ -32,7 +32,7 @@ module _ (s : Profile) (old : Held) (task h : ℕ) (x : Placed) (found : get (pa
   moves_own : (q : ℕ) → Moves (task_paging s) (part_of old task) x (Some q) → (y : Placed) × (get (part_of old task) q ≡ Some y)
   moves_own q (must, (y, there, may)) = (y, there)
 
-  own_without : (moved : Option ℕ) → Moves (task_paging s) (part_of old task) x moved
+  pub own_without : (moved : Option ℕ) → Moves (task_paging s) (part_of old task) x moved
       → part_of (without old (key_of task h) x.place (option_map (key_of task) moved)) task ≡ without (part_of old task) h x.place moved
   own_without None moves = part_removed old task h small
   own_without (Some q) moves =

@@ -24,7 +24,7 @@ use Rattle.quota_model.proofs.SharedPages.{tasks_paged}
 use Rattle.quota_model.proofs.TaskParts.{part_inserted, part_other_inserted}
 use Rattle.std.specs.Prelude.{option_map}
 
-needed_added : (p : Paging) (o : Objects) (h n : ℕ) → get o h ≡ None → pages_needed p (insert o h (replicate n 0)) ≡ pages_needed_with p o n
+pub needed_added : (p : Paging) (o : Objects) (h n : ℕ) → get o h ≡ None → pages_needed p (insert o h (replicate n 0)) ≡ pages_needed_with p o n
 unfolding pages_needed pages_needed_with
 needed_added p o h n none = pages_same p (live p (insert o h (replicate n 0))) (λ c. live p o c + one (nat_eq (class_for p n) c)) (λ c. (
     let a = live_added p o h (replicate n 0) c none in

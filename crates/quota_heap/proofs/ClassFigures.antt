@@ -1,0 +1,60 @@
+-- The figures of a class of a task.
+use Rattle.std.proofs.Common.{◌≡◌, ℕ, ◌+◌, ◌<◌, ◌≤◌, length, get_or, arith, refl, sym, ◌∙◌, ap}
+use Rattle.cf_base.specs.declared.answers.Figures.{Figures}
+use Rattle.cf_lemmas.proofs.Ranges.{count_at_most}
+use Rattle.class_lists.specs.PageLists.{pages_in}
+use Rattle.class_lists.specs.declared.Which.TheVariants.{Full, NotFull}
+use Rattle.page_model.specs.Arrangement.{home_pages, live, not_full_pages}
+use Rattle.page_model.specs.Figures.{figures_of}
+use Rattle.page_model.specs.Held.{Held, objects}
+use Rattle.page_model.specs.Paging.{Paging, classes, slot_words, slots_of}
+use Rattle.page_slots.proofs.CallerLemmas.{home_pages_are, not_full_pages_are}
+use Rattle.quota_heap.specs.Layout.{IsGround, IsTask, IsTaskIn, IsValid, held_of, paging_at, state_of, tables_of}
+use Rattle.quota_heap.specs.State.{held_by}
+use Rattle.quota_heap.specs.declared.ground.Ground.{Ground}
+use Rattle.quota_heap.specs.declared.open_tasks.OpenTasks.{OpenTasks}
+use Rattle.quota_heap.specs.declared.task.Task.{Task}
+use Rattle.quota_heap.proofs.Facts.{as_many, few_classes, paging_ok, size_is, table_is}
+use Rattle.quota_heap.proofs.Tasks.{part_is}
+use Rattle.size_classes.specs.Table.{ClassTable}
+use Rattle.cf_base.specs.Classes.{slots}
+
+home_at_most : (p : Paging) (m : Held) (c : ℕ) → home_pages p m c ≤ p.pages
+unfolding home_pages
+home_at_most p m c = count_at_most _ 0 p.pages
+
+figures_same : (p : Paging) (m : Held) (c w s l g n : ℕ) → w ≡ slot_words p c → s ≡ slots_of p c → l ≡ live p (objects m) c → g ≡ home_pages p m c
+    → n ≡ not_full_pages p m c → ◌≡◌ {A = Figures} (record { slot_words = w; slots = s; live = l; pages = g; not_full = n }) (figures_of p m c)
+figures_same p m c w s l g n ew es el eg en = rw (ew, es, el, eg, en) refl
+
+module _ (g : Ground) (k : IsGround g) (t : ℕ) (x : Task) (i : IsTask g t x) (c : ℕ) (lt : c < classes (paging_at g)) where
+  pub class_in : c < x.lists.classes
+  class_in = (let e = i.tell.tables.classes in omega arith)
+
+  pub class_listed : c < length g.classes.sizes
+  class_listed = (let e = as_many g k in omega arith)
+
+  pub class_few : c < 128
+  class_few = (let few = few_classes g k t x i in omega arith)
+
+  pub pages_few : length (pages_in x.lists c Full) + length (pages_in x.lists c NotFull) ≤ 4096
+  pages_few = (
+      let e = home_pages_are (paging_at g) (paging_ok g) (held_of g x) (tables_of g x) i.tell i.occupied c in
+      let l = home_at_most (paging_at g) (held_of g x) c in
+      let few = g.settings.few_pages in
+      omega arith)
+
+  pub figures_are : (w s l p n : ℕ) → w ≡ get_or g.classes.sizes c 0 → s ≡ slots g.classes.page_words g.classes.sizes c → l ≡ get_or x.live c 0
+      → p ≡ length (pages_in x.lists c Full) + length (pages_in x.lists c NotFull) → n ≡ length (pages_in x.lists c NotFull)
+      → ◌≡◌ {A = Figures} (record { slot_words = w; slots = s; live = l; pages = p; not_full = n }) (figures_of (paging_at g) (held_of g x) c)
+  figures_are w s l p n ew es el ep en = figures_same (paging_at g) (held_of g x) c w s l p n
+      (ew ∙ size_is g k c)
+      (es ∙ ap (λ (d : ClassTable). slots d.page_words d.sizes c) (sym (table_is g k)))
+      (el ∙ i.counted c lt)
+      (ep ∙ sym (home_pages_are (paging_at g) (paging_ok g) (held_of g x) (tables_of g x) i.tell i.occupied c))
+      (en ∙ sym (not_full_pages_are (paging_at g) (paging_ok g) (held_of g x) (tables_of g x) i.tell i.occupied c))
+
+-- the same as callers see it
+pub figures_seen : (h : OpenTasks) (k : IsValid h) (t : ℕ) (x : Task) (at : IsTaskIn h t x) (c : ℕ) (f : Figures)
+    → f ≡ figures_of (paging_at h.ground) (held_of h.ground x) c → f ≡ figures_of (paging_at h.ground) (held_by (state_of h) t) c
+figures_seen h k t x at c f e = e ∙ ap (λ m. figures_of (paging_at h.ground) m c) (sym (part_is h k t x at))

@@ -1,0 +1,223 @@
+-- An object of a task goes: what is known of it, and what is left.
+use Rattle.std.proofs.Common.{◌≡◌, ℕ, ◌+◌, ◌-◌, ◌<◌, ◌≤◌, List, length, get_or, set, Option, Some, arith, refl, sym, ◌∙◌, ap, subst, inl, inr}
+use Rattle.std.specs.Prelude.{nat_eq, option_map}
+use Rattle.std.proofs.lemmas.Bool.{cases_eq}
+use Rattle.std.proofs.lemmas.List.{get_or-set_other, get_or-set_same, length-set}
+use Rattle.std.specs.FinMap.{get, remove}
+use Rattle.cf_base.specs.Settings.{profile_of}
+use Rattle.cf_base.specs.declared.answers.Freed.{Freed}
+use Rattle.cf_lemmas.proofs.Ranges.{one}
+use Rattle.cf_lemmas.proofs.Tests.{eq_no, eq_yes}
+use Rattle.class_lists.specs.PageLists.{pages_in}
+use Rattle.class_lists.specs.declared.Which.TheVariants.{NotFull}
+use Rattle.cf_model.specs.Steps.{number_of}
+use Rattle.page_model.specs.Arrangement.{class_at, live}
+use Rattle.page_model.specs.Bytes.{bytes_at}
+use Rattle.page_model.specs.Held.{Held, Placed, objects, places}
+use Rattle.page_model.specs.Image.{IsSlotImage, slot_for}
+use Rattle.page_model.specs.Paging.{bound_of, class_for, classes, page_of, slot_words}
+use Rattle.page_model.specs.Steps.{Moves, MustMove, without}
+use Rattle.page_model.proofs.CallerLemmas.{live_taken, storable_without}
+use Rattle.page_slots.specs.Freeing.{MovesObject}
+use Rattle.page_slots.specs.Occupying.{Occupies, TellPart, class_table}
+use Rattle.page_slots.specs.Tables.{IsUsed, page_at, slot_at, slots_on}
+use Rattle.page_slots.proofs.CallerLemmas.{found_page, moves_is, moves_some}
+use Rattle.quota_images.specs.Joined.{joined}
+use Rattle.quota_model.specs.Parts.{key_of, part_of}
+use Rattle.quota_model.specs.Shared.{IsShared, RemovesForTask}
+use Rattle.quota_model.proofs.CallerLemmas.{free_quotas, free_shared, others_kept, own_freed, own_without}
+use Rattle.size_classes.specs.Table.{ClassTable}
+use Rattle.quota_heap.specs.Calls.{IsMoving, IsObjectAt, KeepsRest}
+use Rattle.quota_heap.specs.Layout.{IsGround, IsTask, IsTaskIn, IsValid, held_in, held_of, objects_of, paging_at, places_of, quotas_of, state_of, tables_of}
+use Rattle.quota_heap.specs.State.{QuotaState}
+use Rattle.quota_heap.specs.Steps.{FreesOfTask, with_held}
+use Rattle.quota_heap.specs.declared.ground.Ground.{Ground}
+use Rattle.quota_heap.specs.declared.open_tasks.OpenTasks.{OpenTasks}
+use Rattle.quota_heap.specs.declared.task.Task.{Task}
+use Rattle.quota_heap.proofs.Facts.{as_many, at_one, bytes_held, few_classes, has_place, paging_ok, size_is, slot_there, table_is}
+use Rattle.quota_heap.proofs.PageAccount.{Accounts}
+use Rattle.quota_heap.proofs.PagesAfter.{pages_after}
+use Rattle.quota_heap.proofs.Preserved.{Becomes, becomes_kept, becomes_state, stored}
+use Rattle.quota_heap.proofs.Tasks.{part_is}
+
+-- one object fewer in class c
+pub counted_out : (live : List ℕ) (c d : ℕ) → c < length live → 1 ≤ get_or live c 0 → get_or (set live c (get_or live c 0 - 1)) d 0 + one (nat_eq c d) ≡ get_or live d 0
+counted_out live c d lt some = elim (cases_eq d c) [
+  | inl is ↦ (
+      let y : one (nat_eq c d) ≡ 1 = ap one (eq_yes c d (sym is)) in
+      let e : get_or (set live c (get_or live c 0 - 1)) d 0 ≡ get_or live c 0 - 1 =
+      ap (λ j. get_or (set live c (get_or live c 0 - 1)) j 0) is ∙ get_or-set_same live c (get_or live c 0 - 1) 0 lt in
+      let f : get_or live d 0 ≡ get_or live c 0 = ap (λ j. get_or live j 0) is in
+      omega arith)
+  | inr ne ↦ (
+      let y : one (nat_eq c d) ≡ 0 = ap one (eq_no c d (λ e. ne (sym e))) in
+      let e = get_or-set_other live c d (get_or live c 0 - 1) 0 ne in
+      omega arith)
+]
+
+module _ {g : Ground} (k : IsGround g) {t : ℕ} {x : Task} (i : IsTask g t x) {q a size c : ℕ} (o : IsObjectAt g x q a size c) where
+  abbrev pub it : Placed
+  it = record { place = a; bytes = bytes_at g.region a }
+
+  pub it_found : get (held_of g x) q ≡ Some it
+  it_found = has_place g k t x i q a o.known
+
+  pub it_class : class_at (paging_at g) it ≡ c
+  it_class = ap (class_for (paging_at g)) o.long ∙ o.class
+
+  pub it_slot : get_or g.classes.sizes c 0 ≡ slot_for (paging_at g) (length (bytes_at g.region a))
+  it_slot = size_is g k c ∙ ap (slot_words (paging_at g)) (sym it_class)
+
+  pub it_inside : a + get_or g.classes.sizes c 0 ≤ length g.region
+  it_inside = (let s = slot_there g k t x i q a o.known in let e = it_slot in omega arith)
+
+  pub it_bytes : get (objects_of g x) q ≡ Some (bytes_at g.region a)
+  it_bytes = bytes_held (held_of g x) q it it_found
+
+  pub class_listed : c < length g.classes.sizes
+  class_listed = (let lt = o.in_range in let e = as_many g k in omega arith)
+
+  pub class_live : c < length x.live
+  class_live = (let lt = o.in_range in let few = few_classes g k t x i in let long = i.live_long in omega arith)
+
+  pub live_some : 1 ≤ get_or x.live c 0
+  live_some =
+      let e = i.counted c o.in_range in
+      let l = live_taken (paging_at g) (objects_of g x) q (bytes_at g.region a) c it_bytes in
+      let y : one (nat_eq (class_for (paging_at g) (length (bytes_at g.region a))) c) ≡ 1 = ap one (eq_yes _ _ it_class) in
+      omega arith
+
+  pub page_same : page_of (paging_at g) a ≡ page_at g.classes a
+  page_same = ap (λ (s : ClassTable). page_at s a) (table_is g k)
+
+  pub slot_same : slot_at (class_table (paging_at g)) c a ≡ slot_at g.classes c a
+  slot_same = ap (λ (s : ClassTable). slot_at s c a) (table_is g k)
+
+  pub it_used : IsUsed (tables_of g x) c (page_at g.classes a) (slot_at g.classes c a)
+  it_used =
+      let u = i.occupied.stands q it it_found in
+      let v : IsUsed (tables_of g x) c (page_of (paging_at g) a) (slot_at (class_table (paging_at g)) c a) =
+      subst (λ d. IsUsed (tables_of g x) d (page_of (paging_at g) a) (slot_at (class_table (paging_at g)) d a)) it_class u in
+      subst (λ (s : ClassTable). IsUsed (tables_of g x) c (page_at s a) (slot_at s c a)) (table_is g k) v
+
+  pub page_there : page_at g.classes a < length g.maps.items
+  page_there =
+      let lt = found_page (paging_ok g) i.tell i.occupied q it_found in
+      subst (λ p. p < length g.maps.items) page_same lt
+
+  along : (p p' d d' b b' : ℕ) → p ≡ p' → d ≡ d' → b ≡ b' → MovesObject (slots_on (tables_of g x) p) (length (pages_in x.lists d NotFull)) b
+      → MovesObject (slots_on (tables_of g x) p') (length (pages_in x.lists d' NotFull)) b'
+  along p p' d d' b b' ep ed eb m =
+      subst (λ b. MovesObject (slots_on (tables_of g x) p') (length (pages_in x.lists d' NotFull)) b) eb
+      (subst (λ d. MovesObject (slots_on (tables_of g x) p') (length (pages_in x.lists d NotFull)) b) ed
+      (subst (λ p. MovesObject (slots_on (tables_of g x) p) (length (pages_in x.lists d NotFull)) b) ep m))
+
+  bound_same : 1 ≡ bound_of (paging_at g) (class_at (paging_at g) it)
+  bound_same = sym (at_one g (class_at (paging_at g) it) (let e = it_class in let lt = o.in_range in omega arith))
+
+  -- the test of a move is the model's
+  pub must : IsMoving g x a c → MustMove (paging_at g) (held_of g x) it
+  must v = (moves_is (paging_ok g) i.tell i.occupied q it_found).0 (along _ _ _ _ _ _ (sym page_same) (sym it_class) bound_same v)
+
+  pub moving : MustMove (paging_at g) (held_of g x) it → IsMoving g x a c
+  moving v = along _ _ _ _ _ _ page_same it_class (sym bound_same) ((moves_is (paging_ok g) i.tell i.occupied q it_found).1 v)
+
+  pub some_not_full : IsMoving g x a c → 1 ≤ length (pages_in x.lists c NotFull)
+  some_not_full v =
+      let l = moves_some (paging_ok g) i.tell i.occupied q it_found (must v) (let e = it_class in let lt = o.in_range in omega arith) in
+      subst (λ d. 1 ≤ length (pages_in x.lists d NotFull)) it_class l
+
+-- what a free leaves, by the other object that moves
+module _ (h n : OpenTasks) (k : IsValid h) (t : ℕ) (x x' : Task) (at : IsTaskIn h t x) (tasks : n.tasks.items ≡ set h.tasks.items t x') (granted : n.granted ≡ h.granted) (q a size c : ℕ)
+    (o : IsObjectAt h.ground x q a size c) (moved : Option ℕ) (mv : Moves (paging_at h.ground) (held_of h.ground x) (it k.ground (k.task t x at) o) moved) where
+  abbrev i : IsTask h.ground t x
+  i = k.task t x at
+
+  abbrev pub after : Held
+  after = without (held_in h) (key_of t q) a (option_map (key_of t) moved)
+
+  part : part_of (held_in h) t ≡ held_of h.ground x
+  part = part_is h k t x at
+
+  pub part_found : get (part_of (held_in h) t) q ≡ Some (it k.ground i o)
+  part_found = ap (λ m. get m q) part ∙ it_found k.ground i o
+
+  pub part_moves : Moves (paging_at h.ground) (part_of (held_in h) t) (it k.ground i o) moved
+  part_moves = subst (λ m. Moves (paging_at h.ground) m (it k.ground i o) moved) (sym part) mv
+
+  unfoldable pub removed : RemovesForTask (profile_of h.ground.settings) (held_in h) t q moved after
+  removed = record { freed = it k.ground i o; found = part_found; moves = part_moves; left = refl }
+
+  own_part : part_of after t ≡ without (held_of h.ground x) q a moved
+  own_part = own_without (profile_of h.ground.settings) (held_in h) t q (it k.ground i o) part_found moved part_moves
+      ∙ ap (λ m. without m q a moved) part
+
+  objects_are : objects (part_of after t) ≡ remove (objects_of h.ground x) q
+  objects_are = own_freed (profile_of h.ground.settings) (held_in h) t q moved after h.ground.settings.page_size k.shared removed
+      ∙ ap (λ m. remove (objects m) q) part
+
+  shared_after : IsShared (profile_of h.ground.settings) after
+  shared_after = free_shared (profile_of h.ground.settings) (held_in h) t q moved after h.ground.settings.page_size k.shared removed
+
+  module _ (rest : KeepsRest h.ground x n.ground x') (live_is : x'.live ≡ set x.live c (get_or x.live c 0 - 1)) where
+    counts : (d : ℕ) → d < classes (paging_at h.ground) → get_or x'.live d 0 ≡ live (paging_at h.ground) (objects (part_of after t)) d
+    counts d l =
+        let less = live_taken (paging_at h.ground) (objects_of h.ground x) q (bytes_at h.ground.region a) d (it_bytes k.ground i o) in
+        let was = i.counted d l in
+        let all : live (paging_at h.ground) (objects (part_of after t)) d ≡ live (paging_at h.ground) (remove (objects_of h.ground x) q) d =
+        ap (λ v. live (paging_at h.ground) v d) objects_are in
+        let now : get_or x'.live d 0 ≡ get_or (set x.live c (get_or x.live c 0 - 1)) d 0 = ap (λ v. get_or v d 0) live_is in
+        let out = counted_out x.live c d (class_live k.ground i o) (live_some k.ground i o) in
+        let same : one (nat_eq (class_for (paging_at h.ground) (length (bytes_at h.ground.region a))) d) ≡ one (nat_eq c d) =
+        ap (λ e. one (nat_eq e d)) (it_class k.ground i o) in
+        omega arith
+
+    pub goes : joined (places_of (set h.tasks.items t x')) ≡ places after → length n.ground.region ≡ length h.ground.region
+        → IsSlotImage (paging_at h.ground) after n.ground.region → TellPart (paging_at h.ground) (tables_of n.ground x')
+        → Occupies (paging_at h.ground) (without (held_of h.ground x) q a moved) (tables_of n.ground x') → x'.proxies.limit ≡ x.proxies.limit
+        → Accounts (tables_of h.ground x) (tables_of n.ground x') c → Becomes h n t x x' after
+    goes at_places long image tell occupied limit accounts =
+        let occupied' : Occupies (paging_at h.ground) (part_of after t) (tables_of n.ground x') =
+        subst (λ m. Occupies (paging_at h.ground) m (tables_of n.ground x')) (sym own_part) occupied in
+        record {
+          at = at;
+          tasks = tasks;
+          granted = granted;
+          rest = rest;
+          places = at_places;
+          storable = storable_without (held_in h) (key_of t q) a (option_map (key_of t) moved) (stored h k);
+          long = long;
+          image = image;
+          shared = shared_after;
+          quotas = free_quotas (profile_of h.ground.settings) (held_in h) t q moved after h.ground.settings.page_size k.shared removed (quotas_of h.tasks.items)
+              k.quotas;
+          others = λ u ne. others_kept (profile_of h.ground.settings) (held_in h) t q moved after h.ground.settings.page_size k.shared removed u ne;
+          tell = tell;
+          occupied = occupied';
+          limit = limit;
+          live_long = ap length live_is ∙ length-set x.live c (get_or x.live c 0 - 1) ∙ i.live_long;
+          counted = counts;
+          pages = pages_after h.ground k.ground t x i c o.in_range (part_of after t) (tables_of n.ground x') tell occupied' accounts (shared_after.sound t)
+              x'.pages rest.account;
+        }
+
+  module _ (b : Becomes h n t x x' after) where
+    pub goes_kept : IsValid n
+    goes_kept = becomes_kept h n k t x x' after b
+
+    pub goes_freed : (freed : Freed) → freed.slot_words ≡ get_or h.ground.classes.sizes c 0 → number_of freed.moved ≡ moved
+        → FreesOfTask (state_of h) t q freed (state_of n)
+    goes_freed freed words is =
+        let whole = becomes_state h n k t x x' after b in
+        let held : (state_of n).held ≡ after = ap (λ (s : QuotaState). s.held) whole in
+        let held' : after ≡ (state_of n).held = sym held in
+        record {
+          removed = record {
+            freed = it k.ground i o;
+            found = part_found;
+            moves = subst (Moves (paging_at h.ground) (part_of (held_in h) t) (it k.ground i o)) (sym is) part_moves;
+            left = held ∙ ap (λ v. without (held_in h) (key_of t q) a (option_map (key_of t) v)) (sym is);
+          };
+          slot = words ∙ it_slot k.ground i o;
+          whole = whole ∙ ap (λ m. with_held (state_of h) m n.ground.region) held';
+        }

@@ -1,0 +1,30 @@
+-- The pages of a task after a call, by what the pool gave or got.
+use Rattle.std.proofs.Common.{◌≡◌, ℕ, ◌+◌, ◌<◌, length, arith}
+use Rattle.page_model.specs.Arrangement.{IsSound, pages_needed, used_pages}
+use Rattle.page_model.specs.Held.{Held, objects}
+use Rattle.page_model.specs.Paging.{classes}
+use Rattle.page_model.proofs.CallerLemmas.{used_at_one}
+use Rattle.page_slots.specs.Occupying.{Occupies, TellPart}
+use Rattle.page_slots.specs.Tables.{Tables}
+use Rattle.quota_heap.specs.Layout.{IsGround, IsTask, held_of, paging_at, tables_of}
+use Rattle.quota_heap.specs.declared.ground.Ground.{Ground}
+use Rattle.quota_heap.specs.declared.task.Task.{Task}
+use Rattle.quota_heap.proofs.Facts.{at_one, paging_ok, used_is}
+use Rattle.quota_heap.proofs.PageAccount.{Accounts, used_accounts}
+
+module _ (g : Ground) (k : IsGround g) (t : ℕ) (x : Task) (i : IsTask g t x) (c : ℕ) (lt : c < classes (paging_at g)) (m : Held) (new : Tables)
+    (tell : TellPart (paging_at g) new) (occupied : Occupies (paging_at g) m new) (a : Accounts (tables_of g x) new c) where
+  -- what the pool lost the task has
+  pub used_after : used_pages (paging_at g) m + length new.pool.free ≡ x.pages + length g.pool.free
+  used_after =
+      let e = used_accounts (paging_at g) (paging_ok g) (held_of g x) m (tables_of g x) new i.tell i.occupied tell occupied c lt a in
+      let f = used_is g k t x i in
+      omega arith
+
+  -- and that is what its objects need
+  pub pages_after : IsSound (paging_at g) m → (pages : ℕ) → pages + length new.pool.free ≡ x.pages + length g.pool.free
+      → pages ≡ pages_needed (paging_at g) (objects m)
+  pages_after s pages account =
+      let e = used_after in
+      let f = used_at_one (paging_at g) (paging_ok g) (at_one g) m s in
+      omega arith

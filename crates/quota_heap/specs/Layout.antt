@@ -1,0 +1,128 @@
+-- What an open heap of tasks is made of, and what it keeps. No public clause cites this module.
+use Rattle.std.specs.Prelude.{◌≡◌, ◌≢◌, ℕ, ◌+◌, ◌*◌, ◌<◌, List, true, false, Option, Some, None, length, map, replicate, slice_get, slice_index, sum, sum_by}
+use Rattle.std.specs.List.{range_with_len}
+use Rattle.std.specs.Ordering.{nat_cmp}
+use Rattle.std.specs.FinMap.{FinMap, get}
+use Rattle.cf_base.specs.Settings.{profile_of}
+use Rattle.cf_base.specs.declared.kind.Layout.TheVariants.{Words}
+use Rattle.cf_base.specs.declared.settings.Settings.{Settings}
+use Rattle.class_lists.specs.PageLists.{empty_lists}
+use Rattle.page_model.specs.Arrangement.{IsSound, live, pages_needed}
+use Rattle.page_model.specs.Bytes.{held_at}
+use Rattle.page_model.specs.Held.{Held, Objects, Placed, objects}
+use Rattle.page_model.specs.Image.{IsSlotImage, header_word}
+use Rattle.page_model.specs.Paging.{Paging, classes}
+use Rattle.page_slots.specs.Occupying.{Occupies, TellPart}
+use Rattle.page_slots.specs.Tables.{AreOthers, Tables, tables}
+use Rattle.proxy_table.specs.Proxies.{AreBelowLimit, no_proxies}
+use Rattle.quota_images.specs.Joined.{joined}
+use Rattle.quota_model.specs.Parts.{key_of}
+use Rattle.quota_model.specs.Refusals.{task_paging}
+use Rattle.quota_model.specs.Shared.{AreQuotas, IsShared}
+use Rattle.size_classes.specs.Table.{table_of}
+use Rattle.quota_heap.specs.State.{QuotaState, closed_state}
+use Rattle.quota_heap.specs.declared.ground.Ground.{Ground}
+use Rattle.quota_heap.specs.declared.open_tasks.OpenTasks.{OpenTasks}
+use Rattle.quota_heap.specs.declared.task.Task.{Task}
+
+-- the pages and classes of the tasks
+abbrev pub paging_at : Ground → Paging
+paging_at g = task_paging (profile_of g.settings)
+
+-- which slots of a task's pages are used
+abbrev pub tables_of : Ground → Task → Tables
+tables_of g x = tables g.maps.items x.lists g.pool
+
+-- a task's objects, by the words at their addresses
+abbrev pub held_of : Ground → Task → Held
+held_of g x = held_at g.region x.proxies.places
+
+abbrev pub objects_of : Ground → Task → Objects
+objects_of g x = objects (held_of g x)
+
+-- the classes are those of the pages, and the words are as many as these have
+pub record IsGround (g : Ground) : Type 0 where
+  pub table : g.classes ≡ table_of g.settings.page_words Words
+  pub words_long : length g.region ≡ g.settings.pages * g.settings.page_words
+
+-- What holds of task t: its objects are a sound arrangement, which its tables tell; each has its header; and its numbers and counts are theirs.
+pub record IsTask (g : Ground) (t : ℕ) (x : Task) : Type 0 where
+  pub sound : IsSound (paging_at g) (held_of g x)
+  pub tell : TellPart (paging_at g) (tables_of g x)
+  pub occupied : Occupies (paging_at g) (held_of g x) (tables_of g x)
+  pub headed : (q : ℕ) (y : Placed) → get (held_of g x) q ≡ Some y → slice_index g.region y.place ≡ header_word (key_of t q) (length y.bytes)
+  pub numbers : x.proxies.limit ≡ g.settings.proxies
+  pub handles : AreBelowLimit x.proxies
+  pub live_long : length x.live ≡ 128
+  pub counted : (c : ℕ) → c < classes (paging_at g) → slice_index x.live c ≡ live (paging_at g) (objects_of g x) c
+  pub pages : x.pages ≡ pages_needed (paging_at g) (objects_of g x)
+
+-- one of the tasks of a heap
+abbrev pub IsTaskIn : OpenTasks → ℕ → Task → Type 0
+IsTaskIn h t x = slice_get h.tasks.items t ≡ Some x
+
+-- the addresses and the quotas by task
+abbrev pub places_of : List Task → List (FinMap nat_cmp ℕ)
+places_of tasks = map (λ (x : Task). x.proxies.places) tasks
+
+abbrev pub quotas_of : List Task → List ℕ
+quotas_of tasks = map (λ (x : Task). x.quota) tasks
+
+-- the pages that all tasks use
+abbrev pub pages_of : List Task → ℕ
+pages_of tasks = sum_by (λ (x : Task). x.pages) tasks
+
+-- the objects of all tasks, under their keys
+abbrev pub held_in : OpenTasks → Held
+held_in h = held_at h.ground.region (joined (places_of h.tasks.items))
+
+-- an open heap as callers see it
+abbrev pub state_of : OpenTasks → QuotaState
+state_of h = record {
+  is_open = true;
+  profile = profile_of h.ground.settings;
+  quotas = quotas_of h.tasks.items;
+  held = held_in h;
+  words = h.ground.region;
+}
+
+-- What an open heap of sixteen tasks keeps: each task as above, no page in the hands of two, all together the arrangement and the words of one heap, and no
+-- page lost: those that are free and those that tasks use are all.
+pub record IsValid (h : OpenTasks) : Type 0 where
+  pub ground : IsGround h.ground
+  pub many : length h.tasks.items ≡ 16
+  pub task : (t : ℕ) (x : Task) → IsTaskIn h t x → IsTask h.ground t x
+  pub others : (t u : ℕ) (x y : Task) → IsTaskIn h t x → IsTaskIn h u y → u ≢ t → AreOthers (tables_of h.ground x) y.lists
+  pub shared : IsShared (profile_of h.ground.settings) (held_in h)
+  pub image : IsSlotImage (paging_at h.ground) (held_in h) h.ground.region
+  pub quotas : AreQuotas (profile_of h.ground.settings) (quotas_of h.tasks.items) (held_in h)
+  pub granted : h.granted ≡ sum (quotas_of h.tasks.items)
+  pub accounted : length h.ground.pool.free + pages_of h.tasks.items ≡ h.ground.settings.pages
+
+-- a heap that may be closed
+abbrev pub state_in : Option OpenTasks → QuotaState
+state_in None = closed_state
+state_in (Some h) = state_of h
+
+-- what it keeps where it is open
+abbrev pub IsValidIn : Option OpenTasks → Type 0
+IsValidIn None = Unit {0}
+IsValidIn (Some h) = IsValid h
+
+-- a ground on which all pages are free and all words are 0
+pub record IsFirstGround (s : Settings) (g : Ground) : Type 0 where
+  pub settings : g.settings ≡ s
+  pub classes : g.classes ≡ table_of s.page_words Words
+  pub region : g.region ≡ replicate (s.pages * s.page_words) 0
+  pub maps : g.maps.items ≡ replicate s.pages (replicate 1 false)
+  pub pool : g.pool ≡ record { pages = s.pages; free = range_with_len 0 s.pages }
+
+-- a task without objects and without a quota
+abbrev pub first_task : ℕ → ℕ → ℕ → Task
+first_task classes pages proxies = record {
+  quota = 0;
+  pages = 0;
+  live = replicate 128 0;
+  lists = empty_lists classes pages;
+  proxies = no_proxies proxies;
+}

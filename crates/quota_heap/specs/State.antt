@@ -1,0 +1,58 @@
+-- All that contracts see of a heap that tasks share.
+use Rattle.std.specs.Prelude.{◌≡◌, ℕ, ◌≤◌, Bool, true, false, List, [], IsTrue, length, replicate, slice_index, refl}
+use Rattle.std.specs.FinMap as map
+use Rattle.std.specs.Coded.{Coded, code_by, coded×, coded_ℕ, coded_list, coded_bool}
+use Rattle.cf_base.specs.Limits.{is_page_size}
+use Rattle.cf_base.specs.Settings.{Profile}
+use Rattle.cf_model.specs.State.{no_profile, profile_code, region_words}
+use Rattle.page_model.specs.Held.{Held, Objects, objects, placed_code}
+use Rattle.page_model.specs.Image.{IsImage, IsSlotImage}
+use Rattle.quota_model.specs.Parts.{part_of}
+use Rattle.quota_model.specs.Refusals.{task_paging}
+use Rattle.quota_model.specs.Shared.{AreQuotas, IsShared}
+
+-- whether it is open, its settings, the quota of each task in pages, the objects of all tasks by their keys, and the words of the region
+pub record QuotaState : Type 0 where
+  pub is_open : Bool
+  pub profile : Profile
+  pub quotas : List ℕ
+  pub held : Held
+  pub words : List ℕ
+
+-- a heap that was never open
+abbrev pub closed_state : QuotaState
+closed_state = record { is_open = false; profile = no_profile; quotas = []; held = map.empty; words = [] }
+
+-- a heap that was opened: no task has an object or a quota, and all words are 0
+abbrev pub empty_state : Profile → QuotaState
+empty_state p = record { is_open = true; profile = p; quotas = replicate 16 0; held = map.empty; words = replicate (region_words p) 0 }
+
+-- the objects of a task, with their addresses, and by their bytes alone
+abbrev pub held_by : QuotaState → ℕ → Held
+held_by s task = part_of s.held task
+
+abbrev pub objects_by : QuotaState → ℕ → Objects
+objects_by s task = objects (held_by s task)
+
+-- the pages of a task's quota
+abbrev pub quota_of : QuotaState → ℕ → ℕ
+quota_of s task = slice_index s.quotas task
+
+-- What every call keeps of an open heap: the tasks stand apart and within their quotas, and the words are those of all objects.
+pub record KeepsTasks (s : QuotaState) : Type 0 where
+  pub opened : IsTrue s.is_open
+  pub page_size : IsTrue (is_page_size s.profile.page_words)
+  pub few_proxies : s.profile.proxies ≤ 65536
+  pub shared : IsShared s.profile s.held
+  pub quotas : AreQuotas s.profile s.quotas s.held
+  pub region : length s.words ≡ region_words s.profile
+  pub image : IsImage s.held s.words
+  pub slots : IsSlotImage (task_paging s.profile) s.held s.words
+
+-- the parts of a state, as nested pairs
+abbrev pub state_code : Coded QuotaState
+state_code =
+    code_by (Bool × (Profile × (List ℕ × (Held × List ℕ))))
+    (coded× coded_bool (coded× profile_code (coded× (coded_list coded_ℕ) (coded× (map.code coded_ℕ placed_code) (coded_list coded_ℕ)))))
+    (λ s. (s.is_open, (s.profile, (s.quotas, (s.held, s.words)))))
+    (λ q. record { is_open = q.0; profile = q.1.0; quotas = q.1.1.0; held = q.1.1.1.0; words = q.1.1.1.1 }) (λ _. refl)

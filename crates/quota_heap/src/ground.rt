@@ -1,0 +1,144 @@
+//! What the tasks share.
+ghost use Rattle.std.specs.Prelude.{◌≡◌, ℕ, ◌*◌, ◌+◌, ◌<◌, ◌≤◌, false, length, replicate, slice_get, slice_index, None, IfNone, IfOk, IfSome};
+ghost use Rattle.std.specs.List.{range_with_len};
+ghost use Rattle.std.specs.FinMap.{get};
+ghost use Rattle.step_ledger.specs.Counting.{RoseAtMost};
+ghost use Rattle.page_model.specs.Image.{Clears, IsDisjoint, MovesWords};
+ghost use Rattle.quota_heap.specs.Calls.{IsFound, IsObjectAt};
+ghost use Rattle.quota_heap.specs.Layout.{IsFirstGround, IsGround, IsTask};
+
+use crate::task::Task;
+use cf_base::{AccessFault, Handle, Layout, OutOfMemory, Settings};
+use object_header::Header;
+use page_pool::PagePool;
+use region::Region;
+use size_classes::Classes;
+use slot_bitmap::SlotMap;
+use std::alloc::{AllocError, Global};
+use step_ledger::Steps;
+
+/// The region of all tasks, the bitmap of each of its pages, and the pages that no task uses.
+#[derive(Drop)]
+pub(crate) struct Ground {
+    pub(crate) settings: Settings,
+    pub(crate) classes: Classes,
+    pub(crate) region: Region,
+    pub(crate) maps: Vec<SlotMap>,
+    pub(crate) pool: PagePool,
+}
+
+/// An object of a task: the first word of its slot, its bytes, and its class.
+#[derive(Clone, Copy)]
+pub(crate) struct Found {
+    pub(crate) place: u32,
+    pub(crate) length: u32,
+    pub(crate) class: u32,
+}
+
+impl Ground {
+    /// A ground on which all pages are free. It alone takes memory.
+    pub(crate) fn new(alloc: Global, s: &Settings) -> Result<Ground, OutOfMemory>
+        ensures { IfOk result (λ g. IsFirstGround s.now g) }
+    {
+        let classes = Classes::new(alloc, s.page_words, Layout::Words)?;
+        let region = Region::new(alloc, s.pages * s.page_words)?;
+        let maps = free_maps(alloc, s.pages)?;
+        let pool = PagePool::new(alloc, s.pages)?;
+        Ok(Ground {
+            settings: *s,
+            classes,
+            region,
+            maps,
+            pool,
+        })
+    }
+
+    /// The object of a task under this number; none where it isn't live.
+    pub(crate) fn object(&self, task: &Task, h: Handle, steps: &mut Steps) -> Option<Found>
+        requires ground { IsGround self.now }
+        requires kept { (t : ℕ) × IsTask self.now t task.now }
+        ensures none { IfNone result (get task.now.proxies.places h.0 ≡ None) }
+        ensures found { IfSome result (λ f. IsObjectAt self.now task.now h.0 f.place f.length f.class) }
+        ensures bound { RoseAtMost steps.old steps.new 10 }
+    {
+        let Some(place) = task.proxies.lookup(h, steps) else {
+            return None;
+        };
+        let length = Header::unpack(self.region.read(place, steps)).length;
+        let Some(class) = self.classes.class_of(length, steps) else {
+            unreachable!();
+        };
+        Some(Found {
+            place,
+            length,
+            class,
+        })
+    }
+
+    /// The address of an object of a task, of which `count` bytes from `at` on are asked for.
+    pub(crate) fn find(
+        &self,
+        task: &Task,
+        h: Handle,
+        at: u32,
+        count: usize,
+        steps: &mut Steps,
+    ) -> Result<u32, AccessFault>
+        requires ground { IsGround self.now }
+        requires kept { (t : ℕ) × IsTask self.now t task.now }
+        ensures found { IsFound self.now task.now (record { number = h.0; from = at }) count result }
+        ensures bound { RoseAtMost steps.old steps.new 3 }
+    {
+        let Some(place) = task.proxies.lookup(h, steps) else {
+            return Err(AccessFault::Unknown);
+        };
+        let length = Header::unpack(self.region.read(place, steps)).length as usize;
+        if length < count || length - count < at as usize {
+            return Err(AccessFault::Range);
+        }
+        Ok(place)
+    }
+}
+
+/// The words of a slot become zeros.
+pub(crate) fn wipe(region: &mut Region, place: u32, slot_words: u32, steps: &mut Steps)
+    requires within { place + slot_words ≤ length region.old }
+    ensures words { Clears region.old region.new (record { from = place; count = slot_words }) }
+    ensures len { length region.new ≡ length region.old }
+    ensures bound { RoseAtMost steps.old steps.new slot_words }
+{
+    region.clear(place, slot_words, steps);
+}
+
+/// The words of a slot go to another one, and leave zeros.
+pub(crate) fn shift(region: &mut Region, from: u32, to: u32, slot_words: u32, steps: &mut Steps)
+    requires source { from + slot_words ≤ length region.old }
+    requires target { to + slot_words ≤ length region.old }
+    requires apart { IsDisjoint from slot_words to slot_words }
+    ensures words { MovesWords region.old region.new (record { from = from; count = slot_words }) to }
+    ensures len { length region.new ≡ length region.old }
+    ensures bound { RoseAtMost steps.old steps.new slot_words }
+{
+    region.move_words(from, to, slot_words, steps);
+}
+
+/// So many maps, for pages that are free.
+fn free_maps(alloc: Global, pages: u32) -> Result<Vec<SlotMap>, OutOfMemory>
+    ensures { IfOk result (λ maps. maps.items ≡ replicate pages (replicate 1 false)) }
+{
+    match maps_of_one(alloc, pages) {
+        Ok(maps) => Ok(maps),
+        Err(_) => Err(OutOfMemory),
+    }
+}
+
+/// So many maps of one slot.
+fn maps_of_one(alloc: Global, n: u32) -> Result<Vec<SlotMap>, AllocError>
+    ensures { IfOk result (λ maps. maps.items ≡ replicate n (replicate 1 false)) }
+{
+    let mut maps = Vec::with_capacity(alloc, n as usize)?;
+    for _i in 0..n {
+        maps.push(SlotMap::new(1))?;
+    }
+    Ok(maps)
+}

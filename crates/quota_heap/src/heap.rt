@@ -1,0 +1,193 @@
+//! The heap that a caller holds: closed, or open.
+ghost use Rattle.std.specs.Prelude.{◌≡◌, ◌^◌, ◌<◌, ◌≤◌, IsTrue, IfErr, IfOk, false, length, slice_get};
+ghost use Rattle.step_ledger.specs.Counting.{RoseAtMost};
+ghost use Rattle.cf_base.specs.Settings.{profile_of};
+ghost use Rattle.cf_model.specs.Costs.{access_bound, free_bound};
+ghost use Rattle.quota_heap.specs.State.{KeepsTasks, closed_state, empty_state, quota_of};
+ghost use Rattle.quota_heap.specs.Steps.{IsFreeStep, IsMallocStep, IsQuotaStep, IsReadAnswer, IsWriteStep, figures_by};
+
+use crate::open_tasks::OpenTasks;
+use cf_base::{AccessFault, Figures, Freed, Handle, NotLive, OutOfMemory, Refusal, Settings};
+use quota_model::QuotaFault;
+use std::alloc::Global;
+use std::marker::Model;
+use step_ledger::Steps;
+
+/// Sixteen tasks on one region, each with a quota of pages. All calls but `closed` and `open_heap`
+/// are made on an open heap.
+#[derive(Drop)]
+pub struct QuotaHeap {
+    alloc: Global,
+    inner: Option<OpenTasks>,
+}
+
+impl Model for QuotaHeap {
+    ghost use Rattle.quota_heap.specs.State.{QuotaState, state_code};
+
+    ghost Value = { QuotaState };
+
+    ghost coded = { state_code };
+
+    ghost use Rattle.quota_heap.specs.Layout.{IsValidIn, state_in};
+
+    ghost view = { λ h. state_in h.inner };
+
+    ghost invariant = { λ h. IsValidIn h.inner };
+}
+
+impl QuotaHeap {
+    /// A closed heap, which takes no memory.
+    pub fn closed(alloc: Global) -> QuotaHeap
+        ensures { result ≡ closed_state }
+    {
+        QuotaHeap { alloc, inner: None }
+    }
+
+    /// Opens the heap: no task has an object, all quotas are 0, and each task has as many proxies as
+    /// the settings say. Where memory is lacking the heap is closed.
+    pub fn open_heap(&mut self, s: &Settings) -> Result<(), OutOfMemory>
+        ensures opened { IfOk result (λ done. self.new ≡ empty_state (profile_of s.now)) }
+        ensures kept { IfOk result (λ done. KeepsTasks self.new) }
+        ensures closed { IfErr result (λ e. self.new ≡ closed_state) }
+    {
+        self.inner = None;
+        self.inner = Some(OpenTasks::new(self.alloc, s)?);
+        Ok(())
+    }
+
+    /// What every call keeps.
+    pub fn rules(&self)
+        requires { IsTrue self.now.is_open }
+        ensures { KeepsTasks self.now }
+    {
+        let _inner = &self.inner;
+    }
+
+    /// The pages of a task's quota.
+    pub fn quota(&self, task: u32) -> u32
+        requires opened { IsTrue self.now.is_open }
+        requires sixteen { task < 16 }
+        ensures { result ≡ quota_of self.now task }
+    {
+        match &self.inner {
+            Some(open) => open.quota(task),
+            None => unreachable!(),
+        }
+    }
+
+    /// Makes `pages` pages the quota of a task: `Sum` where the quotas would add up to more pages
+    /// than there are, else `Used` where the task uses more.
+    pub fn set_quota(&mut self, task: u32, pages: u32) -> Result<(), QuotaFault>
+        requires opened { IsTrue self.old.is_open }
+        requires sixteen { task < 16 }
+        ensures step { IsQuotaStep self.old task pages result self.new }
+        ensures kept { KeepsTasks self.new }
+    {
+        match &mut self.inner {
+            Some(open) => open.set_quota(task, pages),
+            None => unreachable!(),
+        }
+    }
+
+    /// Adds an object of `bytes` bytes, all zero, to those of a task: `Size` where it is larger than a
+    /// page, else `Proxy` where the task's proxies are all in use, else `Space` where the task's
+    /// objects with this one need more pages than its quota has.
+    pub fn malloc(&mut self, task: u32, bytes: u32, steps: &mut Steps) -> Result<Handle, Refusal>
+        requires opened { IsTrue self.old.is_open }
+        requires sixteen { task < 16 }
+        requires room { steps.old ≤ 2 ^ 63 }
+        ensures step { IsMallocStep self.old task bytes result self.new }
+        ensures kept { KeepsTasks self.new }
+        ensures bound { RoseAtMost steps.old steps.new 64 }
+    {
+        match &mut self.inner {
+            Some(open) => open.malloc(task, bytes, steps),
+            None => unreachable!(),
+        }
+    }
+
+    /// Takes an object of a task away; another one of the task may move to its slot.
+    pub fn free(&mut self, task: u32, h: Handle, steps: &mut Steps) -> Result<Freed, NotLive>
+        requires opened { IsTrue self.old.is_open }
+        requires sixteen { task < 16 }
+        requires room { steps.old ≤ 2 ^ 63 }
+        ensures step { IsFreeStep self.old task h.0 result self.new }
+        ensures kept { KeepsTasks self.new }
+        ensures bound { RoseAtMost steps.old steps.new (free_bound result) }
+    {
+        match &mut self.inner {
+            Some(open) => open.free(task, h, steps),
+            None => unreachable!(),
+        }
+    }
+
+    /// Writes bytes into an object of a task from byte `at` on: `Unknown` where the task has no such
+    /// object, `Range` where they would pass its end.
+    pub fn write(
+        &mut self,
+        task: u32,
+        h: Handle,
+        at: u32,
+        bytes: &[u8],
+        steps: &mut Steps,
+    ) -> Result<(), AccessFault>
+        requires opened { IsTrue self.old.is_open }
+        requires sixteen { task < 16 }
+        requires room { steps.old ≤ 2 ^ 63 }
+        ensures step { IsWriteStep self.old task (record { number = h.0; from = at }) bytes.now result self.new }
+        ensures kept { KeepsTasks self.new }
+        ensures bound { RoseAtMost steps.old steps.new (access_bound at (length bytes.now)) }
+    {
+        match &mut self.inner {
+            Some(open) => open.write(task, h, at, bytes, steps),
+            None => unreachable!(),
+        }
+    }
+
+    /// Reads the bytes of an object of a task from byte `at` on, as many as `out` holds; refused as a
+    /// write is, and then `out` is left.
+    pub fn read(
+        &self,
+        task: u32,
+        h: Handle,
+        at: u32,
+        out: &mut [u8],
+        steps: &mut Steps,
+    ) -> Result<(), AccessFault>
+        requires opened { IsTrue self.now.is_open }
+        requires sixteen { task < 16 }
+        requires room { steps.old ≤ 2 ^ 63 }
+        ensures answer { IsReadAnswer self.now task (record { number = h.0; from = at }) out.old result out.new }
+        ensures bound { RoseAtMost steps.old steps.new (access_bound at (length out.old)) }
+    {
+        match &self.inner {
+            Some(open) => open.read(task, h, at, out, steps),
+            None => unreachable!(),
+        }
+    }
+
+    /// The figures of class c of a task; none where there is no such class.
+    pub fn figures(&self, task: u32, c: u32) -> Option<Figures>
+        requires opened { IsTrue self.now.is_open }
+        requires sixteen { task < 16 }
+        ensures { result ≡ figures_by self.now task c }
+    {
+        match &self.inner {
+            Some(open) => open.figures(task, c),
+            None => unreachable!(),
+        }
+    }
+
+    /// A word of the region; none past its end.
+    pub fn peek(&self, word: u32, steps: &mut Steps) -> Option<u64>
+        requires opened { IsTrue self.now.is_open }
+        requires room { steps.old ≤ 2 ^ 63 }
+        ensures value { result ≡ slice_get self.now.words word }
+        ensures rises { RoseAtMost steps.old steps.new 1 }
+    {
+        match &self.inner {
+            Some(open) => open.peek(word, steps),
+            None => unreachable!(),
+        }
+    }
+}

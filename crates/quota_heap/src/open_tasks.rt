@@ -1,0 +1,283 @@
+//! An open heap of sixteen tasks.
+ghost use Rattle.std.specs.Prelude.{◌≡◌, ℕ, ◌+◌, ◌<◌, ◌≤◌, None, Some, IfNone, IfOk, IfSome, length, slice_get, slice_set};
+ghost use Rattle.std.specs.FinMap.{get};
+ghost use Rattle.step_ledger.specs.Counting.{RoseAtMost};
+ghost use Rattle.cf_base.specs.Classes.{need};
+ghost use Rattle.cf_base.specs.Settings.{profile_of};
+ghost use Rattle.cf_model.specs.Costs.{access_bound, free_bound};
+ghost use Rattle.page_model.specs.Figures.{figures_of};
+ghost use Rattle.page_model.specs.Paging.{class_for, classes};
+ghost use Rattle.quota_model.specs.Refusals.{malloc_refusal, quota_refusal};
+ghost use Rattle.quota_heap.specs.Calls.{IsFoundIn, IsObjectAt};
+ghost use Rattle.quota_heap.specs.Layout.{IsValid, paging_at, state_of};
+ghost use Rattle.quota_heap.specs.declared.task.Task.{Task};
+ghost use Rattle.quota_heap.specs.State.{empty_state, held_by, objects_by, quota_of};
+ghost use Rattle.quota_heap.specs.Steps.{IsFreeStep, IsMallocStep, IsQuotaStep, IsReadAnswer, IsWriteStep, figures_by};
+
+use crate::ground::{Found, Ground};
+use crate::task::{Task, first_tasks};
+use cf_base::{AccessFault, Figures, Freed, Handle, NotLive, OutOfMemory, Refusal, Settings};
+use class_lists::Which;
+use quota_model::QuotaFault;
+use std::alloc::Global;
+use step_ledger::Steps;
+use word_bytes::{read_run, words_with, write_run};
+
+/// The tasks, what they share, and the pages of all quotas.
+#[derive(Drop)]
+pub(crate) struct OpenTasks {
+    pub(crate) ground: Ground,
+    pub(crate) tasks: Vec<Task>,
+    pub(crate) granted: u32,
+}
+
+impl OpenTasks {
+    /// Sixteen tasks without objects and quotas. It alone takes memory.
+    pub(crate) fn new(alloc: Global, s: &Settings) -> Result<OpenTasks, OutOfMemory>
+        ensures kept { IfOk result IsValid }
+        ensures empty { IfOk result (λ h. state_of h ≡ empty_state (profile_of s.now)) }
+    {
+        let ground = Ground::new(alloc, s)?;
+        let tasks = first_tasks(alloc, ground.classes.len(), s.pages, s.proxies)?;
+        Ok(OpenTasks {
+            ground,
+            tasks,
+            granted: 0,
+        })
+    }
+
+    /// The pages of a task's quota.
+    pub(crate) fn quota(&self, t: u32) -> u32
+        requires kept { IsValid self.now }
+        requires sixteen { t < 16 }
+        ensures { result ≡ quota_of (state_of self.now) t }
+    {
+        let task = &self.tasks[t as usize];
+        task.quota
+    }
+
+    /// Makes `pages` pages the quota of a task.
+    pub(crate) fn set_quota(&mut self, t: u32, pages: u32) -> Result<(), QuotaFault>
+        requires kept { IsValid self.old }
+        requires sixteen { t < 16 }
+        ensures step { IsQuotaStep (state_of self.old) t pages result (state_of self.new) }
+        ensures kept { IsValid self.new }
+    {
+        let besides = self.granted - self.quota(t);
+        if u64::from(besides) + u64::from(pages) > u64::from(self.ground.settings.pages) {
+            return Err(QuotaFault::Sum);
+        }
+        if self.pages(t) > pages {
+            return Err(QuotaFault::Used);
+        }
+        self.grant(t, pages, besides + pages);
+        Ok(())
+    }
+
+    /// The pages that a task uses.
+    fn pages(&self, t: u32) -> u32
+        requires kept { IsValid self.now }
+        requires sixteen { t < 16 }
+        ensures { (x : Task) → slice_get self.now.tasks.items t ≡ Some x → result ≡ x.pages }
+    {
+        let task = &self.tasks[t as usize];
+        task.pages
+    }
+
+    /// The quota of a task becomes this one, with which all quotas sum to `granted`.
+    fn grant(&mut self, t: u32, pages: u32, granted: u32)
+        requires kept { IsValid self.old }
+        requires sixteen { t < 16 }
+        requires fits { quota_refusal (profile_of self.old.ground.settings) (state_of self.old).quotas t pages (objects_by (state_of self.old) t) ≡ None }
+        requires sums { granted + quota_of (state_of self.old) t ≡ self.old.granted + pages }
+        ensures state { state_of self.new ≡ record (state_of self.old) { quotas = slice_set (state_of self.old).quotas t pages } }
+        ensures kept { IsValid self.new }
+    {
+        let task = &mut self.tasks[t as usize];
+        task.quota = pages;
+        self.granted = granted;
+    }
+
+    /// Adds an object of `bytes` bytes, all zero, to those of a task.
+    pub(crate) fn malloc(
+        &mut self,
+        t: u32,
+        bytes: u32,
+        steps: &mut Steps,
+    ) -> Result<Handle, Refusal>
+        requires kept { IsValid self.old }
+        requires sixteen { t < 16 }
+        ensures step { IsMallocStep (state_of self.old) t bytes result (state_of self.new) }
+        ensures kept { IsValid self.new }
+        ensures bound { RoseAtMost steps.old steps.new 64 }
+    {
+        let Some(c) = self.ground.classes.class_of(bytes, steps) else {
+            return Err(Refusal::Size);
+        };
+        if let Some(refusal) = self.refusal(t, c) {
+            return Err(refusal);
+        }
+        let task = &mut self.tasks[t as usize];
+        Ok(self.ground.give(task, t, c, bytes, steps))
+    }
+
+    /// Why a task gets no object of class c, if it gets none.
+    fn refusal(&self, t: u32, c: u32) -> Option<Refusal>
+        requires kept { IsValid self.now }
+        requires sixteen { t < 16 }
+        requires class { c < classes (paging_at self.now.ground) }
+        ensures { (bytes : ℕ) → need bytes ≤ self.now.ground.settings.page_words → class_for (paging_at self.now.ground) bytes ≡ c
+            → result ≡ malloc_refusal (profile_of self.now.ground.settings) (quota_of (state_of self.now) t) (objects_by (state_of self.now) t) bytes }
+    {
+        let task = &self.tasks[t as usize];
+        if task.proxies.live() == self.ground.settings.proxies {
+            return Some(Refusal::Proxy);
+        }
+        if task.lists.len(c, Which::NotFull) == 0 && task.pages >= task.quota {
+            return Some(Refusal::Space);
+        }
+        None
+    }
+
+    /// Takes an object of a task away.
+    pub(crate) fn free(&mut self, t: u32, h: Handle, steps: &mut Steps) -> Result<Freed, NotLive>
+        requires kept { IsValid self.old }
+        requires sixteen { t < 16 }
+        ensures step { IsFreeStep (state_of self.old) t h.0 result (state_of self.new) }
+        ensures kept { IsValid self.new }
+        ensures bound { RoseAtMost steps.old steps.new (free_bound result) }
+    {
+        let Some(x) = self.object(t, h, steps) else {
+            return Err(NotLive);
+        };
+        let owner = &mut self.tasks[t as usize];
+        Ok(self.ground.take_away(owner, t, h, x, steps))
+    }
+
+    /// The object of a task under this number; none where it isn't live.
+    fn object(&self, t: u32, h: Handle, steps: &mut Steps) -> Option<Found>
+        requires kept { IsValid self.now }
+        requires sixteen { t < 16 }
+        ensures none { IfNone result (get (held_by (state_of self.now) t) h.0 ≡ None) }
+        ensures found { IfSome result (λ f. (x : Task) → slice_get self.now.tasks.items t ≡ Some x
+            → IsObjectAt self.now.ground x h.0 f.place f.length f.class) }
+        ensures bound { RoseAtMost steps.old steps.new 10 }
+    {
+        let task = &self.tasks[t as usize];
+        self.ground.object(task, h, steps)
+    }
+
+    /// The address of an object of a task, of which `count` bytes from `at` on are asked for.
+    fn find(
+        &self,
+        t: u32,
+        h: Handle,
+        at: u32,
+        count: usize,
+        steps: &mut Steps,
+    ) -> Result<u32, AccessFault>
+        requires kept { IsValid self.now }
+        requires sixteen { t < 16 }
+        ensures found { IsFoundIn self.now t (record { number = h.0; from = at }) count result }
+        ensures bound { RoseAtMost steps.old steps.new 3 }
+    {
+        let task = &self.tasks[t as usize];
+        self.ground.find(task, h, at, count, steps)
+    }
+
+    /// Writes bytes into an object of a task from byte `at` on.
+    pub(crate) fn write(
+        &mut self,
+        t: u32,
+        h: Handle,
+        at: u32,
+        bytes: &[u8],
+        steps: &mut Steps,
+    ) -> Result<(), AccessFault>
+        requires kept { IsValid self.old }
+        requires sixteen { t < 16 }
+        ensures step { IsWriteStep (state_of self.old) t (record { number = h.0; from = at }) bytes.now result (state_of self.new) }
+        ensures kept { IsValid self.new }
+        ensures bound { RoseAtMost steps.old steps.new (access_bound at (length bytes.now)) }
+    {
+        let len = bytes.len();
+        let place = self.find(t, h, at, len, steps)?;
+        if len == 0 {
+            return Ok(());
+        }
+        let first = place + 1 + at / 8;
+        let from = (at % 8) as usize;
+        let n = words_with(from, len);
+        write_run(&mut self.ground.region, first, n, from, bytes, steps);
+        Ok(())
+    }
+
+    /// Reads the bytes of an object of a task from byte `at` on, as many as `out` holds.
+    pub(crate) fn read(
+        &self,
+        t: u32,
+        h: Handle,
+        at: u32,
+        out: &mut [u8],
+        steps: &mut Steps,
+    ) -> Result<(), AccessFault>
+        requires kept { IsValid self.now }
+        requires sixteen { t < 16 }
+        ensures answer { IsReadAnswer (state_of self.now) t (record { number = h.0; from = at }) out.old result out.new }
+        ensures bound { RoseAtMost steps.old steps.new (access_bound at (length out.old)) }
+    {
+        let len = out.len();
+        let place = self.find(t, h, at, len, steps)?;
+        if len == 0 {
+            return Ok(());
+        }
+        let first = place + 1 + at / 8;
+        let from = (at % 8) as usize;
+        let n = words_with(from, len);
+        read_run(&self.ground.region, first, n, from, out, steps);
+        Ok(())
+    }
+
+    /// The figures of a class of a task; none where there is no such class.
+    pub(crate) fn figures(&self, t: u32, c: u32) -> Option<Figures>
+        requires kept { IsValid self.now }
+        requires sixteen { t < 16 }
+        ensures { result ≡ figures_by (state_of self.now) t c }
+    {
+        if c < self.ground.classes.len() {
+            Some(self.figures_of(t, c))
+        } else {
+            None
+        }
+    }
+
+    /// The figures of a class that there is.
+    fn figures_of(&self, t: u32, c: u32) -> Figures
+        requires kept { IsValid self.now }
+        requires sixteen { t < 16 }
+        requires class { c < classes (paging_at self.now.ground) }
+        ensures { result ≡ figures_of (paging_at self.now.ground) (held_by (state_of self.now) t) c }
+    {
+        let task = &self.tasks[t as usize];
+        let not_full = task.lists.len(c, Which::NotFull);
+        Figures {
+            slot_words: self.ground.classes.slot_words(c),
+            slots: self.ground.classes.slots(c),
+            live: task.live[c as usize],
+            pages: task.lists.len(c, Which::Full) + not_full,
+            not_full,
+        }
+    }
+
+    /// A word of the region; none past its end.
+    pub(crate) fn peek(&self, word: u32, steps: &mut Steps) -> Option<u64>
+        ensures value { result ≡ slice_get self.now.ground.region word }
+        ensures bound { RoseAtMost steps.old steps.new 1 }
+    {
+        if word < self.ground.region.len() {
+            Some(self.ground.region.read(word, steps))
+        } else {
+            None
+        }
+    }
+}

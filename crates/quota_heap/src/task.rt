@@ -1,0 +1,68 @@
+//! What a task has of its own.
+ghost use Rattle.std.specs.Prelude.{◌≡◌, IfOk, replicate};
+ghost use Rattle.quota_heap.specs.Layout.{first_task};
+
+use cf_base::OutOfMemory;
+use class_lists::ClassLists;
+use proxy_table::ProxyTable;
+use std::alloc::Global;
+
+/// How many tasks there are.
+pub(crate) const TASKS: u32 = 16;
+
+/// No task has more size classes.
+pub(crate) const CLASSES: usize = 128;
+
+/// A task: its quota and the pages that it uses, how many objects of each class are live, and its
+/// pages and numbers.
+#[derive(Drop)]
+pub(crate) struct Task {
+    pub(crate) quota: u32,
+    pub(crate) pages: u32,
+    pub(crate) live: [u32; CLASSES],
+    pub(crate) lists: ClassLists,
+    pub(crate) proxies: ProxyTable,
+}
+
+impl Task {
+    /// A task without objects and without a quota.
+    pub(crate) fn new(
+        alloc: Global,
+        classes: u32,
+        pages: u32,
+        proxies: u32,
+    ) -> Result<Task, OutOfMemory>
+        ensures { IfOk result (λ x. x ≡ first_task classes pages proxies) }
+    {
+        let lists = ClassLists::new(alloc, classes, pages)?;
+        let proxies = ProxyTable::new(alloc, proxies)?;
+        Ok(Task {
+            quota: 0,
+            pages: 0,
+            live: [0; CLASSES],
+            lists,
+            proxies,
+        })
+    }
+}
+
+/// Sixteen tasks without objects and without quotas.
+pub(crate) fn first_tasks(
+    alloc: Global,
+    classes: u32,
+    pages: u32,
+    proxies: u32,
+) -> Result<Vec<Task>, OutOfMemory>
+    ensures { IfOk result (λ tasks. tasks.items ≡ replicate 16 (first_task classes pages proxies)) }
+{
+    let Ok(mut tasks) = Vec::with_capacity(alloc, TASKS as usize) else {
+        return Err(OutOfMemory);
+    };
+    for _i in 0..TASKS {
+        let task = Task::new(alloc, classes, pages, proxies)?;
+        let Ok(()) = tasks.push(task) else {
+            return Err(OutOfMemory);
+        };
+    }
+    Ok(tasks)
+}

@@ -1,0 +1,5 @@
+pub mod JoinedPlaces
+pub mod WholeSound
+pub mod Written
+pub mod TaskImages
+pub mod CallerLemmas
