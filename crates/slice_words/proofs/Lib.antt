@@ -1,0 +1,5 @@
+pub mod Moves
+pub mod OnePiece
+pub mod TwoPieces
+pub mod ObjectBytes
+pub mod CallerLemmas

@@ -1,0 +1,76 @@
+//! An object that stands in two halves.
+ghost use Rattle.std.specs.Prelude.{◌≡◌, ℕ, ◌+◌, ◌-◌, ◌*◌, ◌/◌, ◌^◌, ◌<◌, ◌≤◌, length, min, slice_index};
+ghost use Rattle.cf_model.specs.Costs.{words_touched};
+ghost use Rattle.step_ledger.specs.Counting.{RoseAtMost, RoseBy};
+ghost use Rattle.slice_words.specs.Halves.{AreApart, byte_in, first_bytes, place_of_word};
+ghost use Rattle.slice_words.specs.Writes.{WritesBytes};
+
+use crate::pieces::{read_piece, write_piece};
+use region::Region;
+use step_ledger::Steps;
+
+/// The bytes of a word.
+const CELL: usize = 8;
+
+/// Where the words of an object stand, its header among them: the first `done` from word `to` on, at
+/// its new address, and those behind as far from word `from` on. Of an object that isn't carried
+/// both are its address.
+#[derive(Clone, Copy, Debug, PartialEq, Eq)]
+pub struct Halves {
+    pub to: u32,
+    pub from: u32,
+    pub done: u32,
+}
+
+/// Word `i` of the object, for one step.
+pub fn read_word(region: &Region, s: Halves, i: u32, steps: &mut Steps) -> u64
+    requires small { length region.now < 2 ^ 32 }
+    requires to { s.to + i < length region.now }
+    requires from { s.from + i < length region.now }
+    ensures value { result ≡ slice_index region.now (place_of_word s i) }
+    ensures steps { RoseBy steps.old steps.new 1 }
+{
+    let start = if s.done <= i { s.from } else { s.to };
+    region.read(start + i, steps)
+}
+
+/// How many of `count` bytes of the object from byte `at` on stand in its first half.
+fn first_bytes(s: Halves, at: u32, count: usize) -> usize
+    ensures { result ≡ first_bytes s at count }
+{
+    (CELL * (s.done as usize).saturating_sub(1))
+        .saturating_sub(at as usize)
+        .min(count)
+}
+
+/// Copies the bytes of the object from byte `at` on, each from the half where it stands.
+pub fn read_halves(region: &Region, s: Halves, at: u32, out: &mut [u8], steps: &mut Steps)
+    requires small { length region.now < 2 ^ 32 }
+    requires short { at + length out.old < 2 ^ 32 }
+    requires to { s.to + 1 + (at + length out.old + 7) / 8 ≤ length region.now }
+    requires from { s.from + 1 + (at + length out.old + 7) / 8 ≤ length region.now }
+    ensures bytes { (j : ℕ) → j < length out.new → slice_index out.new j ≡ byte_in s region.now (at + j) }
+    ensures bound { RoseAtMost steps.old steps.new (words_touched at (length out.old)) }
+{
+    let first = first_bytes(s, at, out.len());
+    let (low, high) = out.split_at_mut(first);
+    read_piece(region, s.to, at, low, steps);
+    read_piece(region, s.from, at + first as u32, high, steps);
+}
+
+/// Writes the bytes over those of the object from byte `at` on, each in the half where it stands.
+pub fn write_halves(region: &mut Region, s: Halves, at: u32, bytes: &[u8], steps: &mut Steps)
+    requires small { length region.old < 2 ^ 32 }
+    requires short { at + length bytes.now < 2 ^ 32 }
+    requires to { s.to + 1 + (at + length bytes.now + 7) / 8 ≤ length region.old }
+    requires from { s.from + 1 + (at + length bytes.now + 7) / 8 ≤ length region.old }
+    requires apart { AreApart s (1 + (at + length bytes.now + 7) / 8) }
+    ensures bytes { WritesBytes region.old region.new (place_of_word s) at bytes.now }
+    ensures len { length region.new ≡ length region.old }
+    ensures bound { RoseAtMost steps.old steps.new (words_touched at (length bytes.now)) }
+{
+    let first = first_bytes(s, at, bytes.len());
+    let (low, high) = bytes.split_at(first);
+    write_piece(region, s.to, at, low, steps);
+    write_piece(region, s.from, at + first as u32, high, steps);
+}

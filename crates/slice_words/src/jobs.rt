@@ -1,0 +1,42 @@
+//! The next words of a pending job.
+ghost use Rattle.std.specs.Prelude.{◌≡◌, ◌+◌, ◌-◌, ◌^◌, ◌<◌, ◌≤◌, length, min};
+ghost use Rattle.page_model.specs.Image.{Clears, IsDisjoint, MovesWords};
+ghost use Rattle.step_ledger.specs.Counting.{RoseBy};
+
+use region::Region;
+use slice_model::JobSlot;
+use step_ledger::Steps;
+
+/// How many words of a job a slice does, of which `done` of `size` are done: a quantum, or those
+/// that are left.
+pub fn words_of_slice(size: u32, done: u32, quantum: u32) -> u32
+    requires { done ≤ size }
+    ensures { result ≡ min quantum (size - done) }
+{
+    quantum.min(size - done)
+}
+
+/// The next `n` words of the job's slot become 0, for a step each.
+pub fn clear_next(region: &mut Region, k: JobSlot, n: u32, steps: &mut Steps)
+    requires small { length region.old < 2 ^ 32 }
+    requires within { k.address + k.done + n ≤ length region.old }
+    ensures words { Clears region.old region.new (record { from = k.address + k.done; count = n }) }
+    ensures len { length region.new ≡ length region.old }
+    ensures steps { RoseBy steps.old steps.new n }
+{
+    region.clear(k.address + k.done, n, steps);
+}
+
+/// The next `n` words of the job's slot go to where they are to stand from word `to` on, and leave
+/// zeros behind, for a step each.
+pub fn carry_next(region: &mut Region, k: JobSlot, to: u32, n: u32, steps: &mut Steps)
+    requires small { length region.old < 2 ^ 32 }
+    requires source { k.address + k.done + n ≤ length region.old }
+    requires target { to + k.done + n ≤ length region.old }
+    requires apart { IsDisjoint (k.address + k.done) n (to + k.done) n }
+    ensures words { MovesWords region.old region.new (record { from = k.address + k.done; count = n }) (to + k.done) }
+    ensures len { length region.new ≡ length region.old }
+    ensures steps { RoseBy steps.old steps.new n }
+{
+    region.move_words(k.address + k.done, to + k.done, n, steps);
+}

@@ -1,0 +1,25 @@
+//! What the halves of an object are beside a pending job.
+ghost use Rattle.std.specs.Prelude.{ℕ, ◌≡◌, ◌+◌, ◌/◌, ◌%◌, ◌^◌, ◌<◌, ◌≤◌, List, length, slice_index};
+ghost use Rattle.page_model.specs.Bytes.{AreBytes, written};
+ghost use Rattle.page_model.specs.Held.{Placed};
+ghost use Rattle.page_model.specs.Image.{object_word};
+ghost use Rattle.slice_model.specs.State.{Job};
+ghost use Rattle.slice_model.specs.Words.{RewritesObject, byte_read, word_at};
+ghost use Rattle.slice_words.specs.Halves.{byte_in, halves_of, place_of_word};
+ghost use Rattle.slice_words.specs.Writes.{WritesBytes};
+
+/// Beside every job each word of an object stands where its halves say, so its bytes are read there.
+pub fn halves_are_where_the_words_stand()
+    ensures words { (j : Job) (h : ℕ) (x : Placed) (i : ℕ) → place_of_word (halves_of j h x.place) i ≡ word_at j h x i }
+    ensures bytes { (j : Job) (h : ℕ) (x : Placed) (words : List ℕ) (k : ℕ) → byte_in (halves_of j h x.place) words k ≡ byte_read j words h x k }
+{}
+
+/// Bytes that are written over those of an object make its words, where they stand, those of the
+/// object with these bytes.
+pub fn written_bytes_are_those_of_the_object()
+    ensures { (j : Job) (h : ℕ) (x : Placed) (old new : List ℕ) (at : ℕ) (bytes : List ℕ)
+        → h < 2 ^ 32 → length x.bytes < 2 ^ 32 → AreBytes x.bytes → AreBytes bytes → at + length bytes ≤ length x.bytes
+        → ((i : ℕ) → i < 1 + (length x.bytes + 7) / 8 → slice_index old (word_at j h x i) ≡ object_word h x.bytes i)
+        → WritesBytes old new (place_of_word (halves_of j h x.place)) at bytes
+        → RewritesObject j h x (written x.bytes at bytes) (record { from = 1 + at / 8; count = (at % 8 + length bytes + 7) / 8 }) old new }
+{}

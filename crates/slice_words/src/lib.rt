@@ -1,0 +1,13 @@
+//! The words of an object while a sliced heap carries it from one slot to another: the first of them
+//! stand at its new address, those behind in the slot that it leaves. Its bytes are read and written
+//! where they stand, in at most two pieces; and the next words of a job are cleared or carried.
+#![tactic(auto)]
+
+mod halves;
+mod jobs;
+mod laws;
+mod pieces;
+
+pub use halves::{Halves, read_halves, read_word, write_halves};
+pub use jobs::{carry_next, clear_next, words_of_slice};
+pub use laws::{halves_are_where_the_words_stand, written_bytes_are_those_of_the_object};

@@ -1,0 +1,128 @@
+-- A job ends: its slot is free.
+use Rattle.std.proofs.Common.{◌≡◌, ◌≢◌, ℕ, ◌+◌, ◌-◌, ◌/◌, ◌%◌, ◌<◌, ◌≤◌, length, get_or, Some, None, arith, refl, sym, ◌∙◌, ap, subst, inl, inr}
+use Rattle.std.specs.FinMap.{get, insert, remove}
+use Rattle.page_model.specs.Arrangement.{class_at, live, not_full_pages, pages_needed}
+use Rattle.page_model.specs.Held.{Held, Placed, objects}
+use Rattle.page_model.specs.Paging.{page_of, slot_words}
+use Rattle.page_model.specs.Steps.{MustMove}
+use Rattle.page_model.proofs.CallerLemmas.{within_or}
+use Rattle.page_slots.specs.Freeing.{Vacates}
+use Rattle.page_slots.specs.Occupying.{Occupies, Tell, class_table}
+use Rattle.page_slots.specs.Tables.{AreTables, IsUsed, Tables, page_at, slot_at}
+use Rattle.page_slots.proofs.CallerLemmas.{vacated_occupied, vacated_tell}
+use Rattle.proxy_table.specs.Proxies.{AreBelowLimit}
+use Rattle.size_classes.specs.Table.{ClassTable}
+use Rattle.slice_model.specs.declared.job_slot.JobSlot.{JobSlot}
+use Rattle.slice_model.specs.State.{Sliced, IsKept, occupied, stand_in, Idle, Clear}
+use Rattle.slice_model.specs.Steps.{Chains, Ends, IsSlice}
+use Rattle.slice_model.specs.Words.{HasWords}
+use Rattle.slice_model.proofs.CallerLemmas.{kept_slice, two_is_must}
+use Rattle.sliced_heap.specs.Heap.{Heap}
+use Rattle.sliced_heap.specs.Layout.{IsValid, paging_at, plan_of, state_of, tables_in}
+use Rattle.sliced_heap.specs.Steps.{IsFilled}
+use Rattle.sliced_heap.proofs.Facts.{held_bytes, paging_ok, places_are, plan_ok, table_is}
+use Rattle.sliced_heap.proofs.Filling.{all_are, at_last, class_in, kept_clear, last_done, none_there, occupied_clear, sound_clear, stand_class, stand_there, two, words_clear}
+use Rattle.sliced_heap.proofs.Places.{taken_again}
+use Rattle.sliced_heap.proofs.Preserved.{Becomes, becomes_plan, becomes_state, becomes_valid}
+
+-- where an object is to be carried to the slot, the next job follows
+pub filled_ends : (h : Heap) (k : IsValid h) (g : JobSlot) → h.job ≡ Clear g → (n : Heap) → IsFilled h g n → Ends (paging_at h) (state_of h).held g (state_of n)
+filled_ends h k g at n f =
+    let must : MustMove (paging_at h) (insert (state_of h).held h.settings.proxies (stand_in (paging_at h) g)) (stand_in (paging_at h) g) =
+    subst (λ o. MustMove (paging_at h) o (stand_in (paging_at h) g)) (all_are h k g at) f.must in
+    inr (record { two = two h k g at must; object = f.object; beside = f.beside; carries = f.carries })
+
+module _ (h : Heap) (k : IsValid h) (g : JobSlot) (at : h.job ≡ Clear g) where
+  abbrev m : Held
+  m = (state_of h).held
+
+  -- the slot is used in the tables
+  pub slot_used : IsUsed (tables_in h) g.class (page_at h.classes g.address) (slot_at h.classes g.class g.address)
+  slot_used =
+      let u = (occupied_clear h k g at).stands h.settings.proxies (stand_in (paging_at h) g) (stand_there h k g at) in
+      subst (λ (t : ClassTable). IsUsed (tables_in h) g.class (page_at t g.address) (slot_at t g.class g.address)) (table_is h k)
+      (subst (λ c. IsUsed (tables_in h) c (page_of (paging_at h) g.address) (slot_at (class_table (paging_at h)) c g.address)) (stand_class h k g at) u)
+
+  -- it becomes free
+  module _ (stays : ¬ MustMove (paging_at h) (occupied (plan_of h) (state_of h)) (stand_in (paging_at h) g))
+      (zeros : (i : ℕ) → i < slot_words (paging_at h) g.class → get_or h.words (g.address + i) 0 ≡ 0) (n : Heap)
+      (rest : n ≡ record h { maps = n.maps; lists = n.lists; pool = n.pool; job = Idle })
+      (v : Vacates (tables_in h) g.class (page_at h.classes g.address) (slot_at h.classes g.class g.address) (tables_in n))
+      (tables : AreTables h.classes (tables_in n)) where
+    abbrev s : Sliced
+    s = record { held = m; job = Idle }
+
+    not_two : not_full_pages (paging_at h) m g.class ≢ 2
+    not_two e = stays (subst (λ o. MustMove (paging_at h) o (stand_in (paging_at h) g)) (sym (all_are h k g at))
+        (two_is_must (plan_of h) (plan_ok h k) m g (none_there h k g at) (class_in h k g at) (sound_clear h k g at) e))
+
+    pub ends_idle : Ends (paging_at h) (state_of h).held g (record { held = (state_of h).held; job = Idle })
+    ends_idle = inl (not_two, refl)
+
+    kept : IsKept (plan_of h) s
+    kept = kept_slice (plan_of h) (plan_ok h k) (record { held = m; job = Clear (record g { done = slot_words (paging_at h) g.class - 1 }) }) s
+        (at_last (plan_of h) (plan_ok h k) m g (kept_clear h k g at))
+        (inr (record { all = last_done (plan_of h) (plan_ok h k) m g (kept_clear h k g at); ends = inl (not_two, refl) }))
+
+    words_idle : HasWords (paging_at h) s h.words
+    words_idle =
+        let has = words_clear h k g at in
+        record {
+          held = λ q x there i lt. has.held q x there i lt;
+          done = λ f e i lt. absurd (let e' : None ≡ Some f = e in cc);
+          zeros = λ w out beyond. elim (within_or g.address (slot_words (paging_at h) g.class) w) [
+            | inl (i, lt, is) ↦ subst (λ w. get_or h.words w 0 ≡ 0) is (zeros i lt)
+            | inr apart ↦ has.zeros w out (λ f e. (let e' : Some g ≡ Some f = e in let i : g ≡ f = cc in rw i at apart))
+          ];
+        }
+
+    at_table : Vacates (tables_in h) g.class (page_of (paging_at h) g.address) (slot_at (class_table (paging_at h)) g.class g.address) (tables_in n)
+    at_table = subst (λ (t : ClassTable). Vacates (tables_in h) g.class (page_at t g.address) (slot_at t g.class g.address) (tables_in n)) (sym (table_is h k)) v
+
+    of_table : AreTables (class_table (paging_at h)) (tables_in n)
+    of_table = subst (λ t. AreTables t (tables_in n)) (sym (table_is h k)) tables
+
+    becomes : Becomes h n s
+    becomes = record {
+      settings = ap (λ (z : Heap). z.settings) rest;
+      quantum = ap (λ (z : Heap). z.quantum) rest;
+      table = ap (λ (z : Heap). z.classes) rest;
+      job = ap (λ (z : Heap). z.job) rest;
+      long = ap (λ (z : Heap). length z.words) rest;
+      kept = kept;
+      words = subst (HasWords (paging_at h) s) (sym (ap (λ (z : Heap). z.words) rest)) words_idle;
+      bytes = held_bytes h k;
+      addresses = ap (λ (z : Heap). z.proxies.places) rest ∙ places_are h k;
+      limit = ap (λ (z : Heap). z.proxies.limit) rest;
+      handles = subst AreBelowLimit (sym (ap (λ (z : Heap). z.proxies) rest)) k.handles;
+      tell = vacated_tell (paging_ok h k) k.tell.part (occupied_clear h k g at) of_table (sound_clear h k g at) h.settings.proxies (stand_there h k g at) at_table
+          (stand_class h k g at) refl refl k.tell.whole;
+      occupied = subst (λ o. Occupies (paging_at h) o (tables_in n)) (taken_again m h.settings.proxies (stand_in (paging_at h) g) (none_there h k g at))
+          (vacated_occupied (paging_ok h k) k.tell.part (occupied_clear h k g at) of_table (sound_clear h k g at) h.settings.proxies (stand_there h k g at) at_table
+          (stand_class h k g at) refl refl);
+      live_long = ap (λ (z : Heap). length z.live) rest ∙ k.live_long;
+      counted = λ c lt. ap (λ (z : Heap). get_or z.live c 0) rest ∙ k.counted c lt;
+      needed = ap (λ (z : Heap). z.needed) rest ∙ k.needed;
+      within = (let now = ap (λ (z : Heap). z.needed) rest in let w = k.within in omega arith);
+    }
+
+    pub idle_valid : IsValid n
+    idle_valid = becomes_valid h n k s becomes
+
+    pub idle_plan : plan_of n ≡ plan_of h
+    idle_plan = becomes_plan h n k s becomes
+
+    pub idle_ends : Ends (paging_at h) (state_of h).held g (state_of n)
+    idle_ends = subst (Ends (paging_at h) m g) (sym (becomes_state h n k s becomes)) ends_idle
+
+-- the same where the heap is one that equals h
+pub idle_at : (h : Heap) (k : IsValid h) (g : JobSlot) → h.job ≡ Clear g → ¬ MustMove (paging_at h) (occupied (plan_of h) (state_of h)) (stand_in (paging_at h) g)
+    → ((i : ℕ) → i < slot_words (paging_at h) g.class → get_or h.words (g.address + i) 0 ≡ 0) → (t n : Heap) → t ≡ h
+    → n ≡ record t { maps = n.maps; lists = n.lists; pool = n.pool; job = Idle }
+    → Vacates (tables_in t) g.class (page_at t.classes g.address) (slot_at t.classes g.class g.address) (tables_in n) → AreTables t.classes (tables_in n)
+    → IsValid n × Ends (paging_at h) (state_of h).held g (state_of n)
+idle_at h k g at stays zeros t n same =
+    subst (λ (t : Heap). n ≡ record t { maps = n.maps; lists = n.lists; pool = n.pool; job = Idle }
+    → Vacates (tables_in t) g.class (page_at t.classes g.address) (slot_at t.classes g.class g.address) (tables_in n) → AreTables t.classes (tables_in n)
+    → IsValid n × Ends (paging_at h) (state_of h).held g (state_of n)) (sym same)
+    (λ rest v tables. (idle_valid h k g at stays zeros n rest v tables, idle_ends h k g at stays zeros n rest v tables))

@@ -1,0 +1,75 @@
+-- What an open heap's invariant tells: its paging, its tables, its objects.
+use Rattle.std.proofs.Common.{◌≡◌, ℕ, ◌*◌, ◌^◌, ◌<◌, ◌≤◌, length, get_or, Option, Some, None, arith, refl, sym, ◌∙◌, ap, subst}
+use Rattle.std.specs.Prelude.{option_map}
+use Rattle.std.specs.FinMap.{get, len}
+use Rattle.cf_base.specs.declared.kind.Layout.TheVariants.{Words}
+use Rattle.cf_lemmas.proofs.MapValues.{get-map_values}
+use Rattle.cf_lemmas.proofs.Values.{len-map_values}
+use Rattle.page_model.specs.Bytes.{AreBytes, AreStorable, bytes_at, held_at}
+use Rattle.page_model.specs.Held.{Placed, places}
+use Rattle.page_model.specs.Paging.{Paging, IsPaging, AreOne, classes}
+use Rattle.page_model.proofs.CallerLemmas.{first_ones, first_paged, held_at_bytes, places-held_at}
+use Rattle.page_slots.specs.Tables.{AreTables}
+use Rattle.page_slots.specs.Occupying.{class_table}
+use Rattle.size_classes.specs.Table.{ClassTable, IsClassTable}
+use Rattle.slice_model.specs.State.{IsPlan, Sliced}
+use Rattle.sliced_heap.specs.Heap.{Heap}
+use Rattle.sliced_heap.specs.Layout.{IsValid, completed, paging_at, plan_of, profile_at, state_of, tables_in}
+
+module _ (h : Heap) (k : IsValid h) where
+  pub paging_ok : IsPaging (paging_at h)
+  paging_ok = first_paged (profile_at h.settings) Words h.settings.page_size (omega arith)
+
+  pub ones : AreOne (paging_at h)
+  ones = first_ones (profile_at h.settings) Words refl
+
+  pub plan_ok : IsPlan (plan_of h)
+  plan_ok = record { paging = paging_ok; ones = ones; quantum = k.quantum }
+
+  -- the classes are those of the paging
+  pub table_is : class_table (paging_at h) ≡ h.classes
+  table_is = sym k.table
+
+  pub as_many : length h.classes.sizes ≡ classes (paging_at h)
+  as_many = ap (λ (t : ClassTable). length t.sizes) k.table
+
+  pub few_classes : classes (paging_at h) ≤ 67
+  few_classes = k.tell.part.tables.table.are_sizes.few
+
+  pub tables_ok : AreTables h.classes (tables_in h)
+  tables_ok = subst (λ t. AreTables t (tables_in h)) table_is k.tell.part.tables
+
+  pub table_ok : IsClassTable h.classes.page_words h.classes.sizes
+  table_ok = subst (λ (t : ClassTable). IsClassTable t.page_words t.sizes) table_is k.tell.part.tables.table
+
+  pub region_small : length h.words < 2 ^ 32
+  region_small = (let long = k.words_long in let small = h.settings.small_region in omega arith)
+
+  -- the addresses are the proxies', and what has none isn't held
+  pub places_are : h.proxies.places ≡ places (state_of h).held
+  places_are = sym (places-held_at (completed (paging_at h) h.job h.proxies.places h.words) h.proxies.places)
+
+  pub held_is_at : (q : ℕ) → get (state_of h).held q
+      ≡ option_map (λ a. record { place = a; bytes = bytes_at (completed (paging_at h) h.job h.proxies.places h.words) a }) (get h.proxies.places q)
+  held_is_at q = get-map_values (λ a. record { place = a; bytes = bytes_at (completed (paging_at h) h.job h.proxies.places h.words) a }) h.proxies.places q
+
+  pub no_place : (q : ℕ) → get h.proxies.places q ≡ None → get (state_of h).held q ≡ None
+  no_place q e = held_is_at q
+      ∙ ap (option_map (λ a. record { place = a; bytes = bytes_at (completed (paging_at h) h.job h.proxies.places h.words) a })) e
+
+  pub has_place : (q a : ℕ) → get h.proxies.places q ≡ Some a → (x : Placed) × (get (state_of h).held q ≡ Some x) × (x.place ≡ a)
+  has_place q a e = (
+    record { place = a; bytes = bytes_at (completed (paging_at h) h.job h.proxies.places h.words) a },
+    held_is_at q ∙ ap (option_map (λ a. record { place = a; bytes = bytes_at (completed (paging_at h) h.job h.proxies.places h.words) a })) e,
+    refl,
+  )
+
+  pub place_known : (q : ℕ) (x : Placed) → get (state_of h).held q ≡ Some x → get h.proxies.places q ≡ Some x.place
+  place_known q x there = ap (λ m. get m q) places_are ∙ get-map_values (λ (y : Placed). y.place) (state_of h).held q
+      ∙ ap (option_map (λ (y : Placed). y.place)) there
+
+  pub held_len : len (state_of h).held ≡ len h.proxies.places
+  held_len = len-map_values (λ a. record { place = a; bytes = bytes_at (completed (paging_at h) h.job h.proxies.places h.words) a }) h.proxies.places
+
+  pub held_bytes : (q : ℕ) (x : Placed) → get (state_of h).held q ≡ Some x → AreBytes x.bytes
+  held_bytes q x there = held_at_bytes (completed (paging_at h) h.job h.proxies.places h.words) h.proxies.places q x there

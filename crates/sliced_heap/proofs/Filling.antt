@@ -1,0 +1,269 @@
+-- A slot that is to be cleared is filled: an object of another partly full page gets its address.
+use Rattle.std.proofs.Common.{◌≡◌, ◌≢◌, ℕ, ◌+◌, ◌-◌, ◌*◌, ◌/◌, ◌%◌, ◌^◌, ◌<◌, ◌≤◌, List, [], length, get_or, replicate, Option, Some, None, arith, refl, sym, ◌∙◌, ap, subst, inl, inr}
+use Rattle.std.specs.Prelude.{◌↔◌, IsSome, slice_index_or, min, option_map}
+use Rattle.std.specs.FinMap.{get, insert}
+use Rattle.cf_lemmas.proofs.Maps.{get_inserted, get_insert_other, some_inserted}
+use Rattle.cf_lemmas.proofs.MapValues.{map_values-insert}
+use Rattle.class_lists.specs.PageLists.{pages_in}
+use Rattle.class_lists.specs.declared.Which.TheVariants.{NotFull}
+use Rattle.page_model.specs.Arrangement.{IsSound, class_at, live, not_full_pages, objects_on, pages_needed}
+use Rattle.page_model.specs.Bytes.{AreBytes}
+use Rattle.page_model.specs.Held.{Held, Objects, Placed, objects, places}
+use Rattle.page_model.specs.Paging.{bound_of, class_for, classes, page_of, slot_words, slots_of}
+use Rattle.page_model.specs.Steps.{MustMove}
+use Rattle.page_slots.specs.Freeing.{IsFiller, MovesObject}
+use Rattle.page_slots.specs.Occupying.{Occupies, Tell, class_table}
+use Rattle.page_slots.specs.Tables.{page_at, slot_at, slots_on}
+use Rattle.page_slots.proofs.CallerLemmas.{filler, filler_is, filler_not_full, found_class, found_page, moves_is, moves_some}
+use Rattle.proxy_table.specs.Proxies.{AreBelowLimit, with_place}
+use Rattle.size_classes.specs.Table.{ClassTable}
+use Rattle.slice_model.specs.declared.job_slot.JobSlot.{JobSlot}
+use Rattle.slice_model.specs.State.{Plan, IsPlan, Sliced, IsKept, IsJobOf, IsUnderWay, job_slot, occupied, stand_in, with_slot, Clear, Move}
+use Rattle.slice_model.specs.Steps.{Carries, Chains, IsBeside, IsSlice, done_after, fresh_slot}
+use Rattle.slice_model.specs.Words.{HasWords, word_at}
+use Rattle.slice_model.proofs.CallerLemmas.{changed_places, kept_slice, must_is_two, no_stand_in, objects_sliced, on_more, other_than, some_beside, stand_in_class, words_to_carry}
+use Rattle.sliced_heap.specs.Heap.{Heap}
+use Rattle.sliced_heap.specs.Layout.{IsValid, paging_at, plan_of, state_of, tables_in}
+use Rattle.sliced_heap.specs.Steps.{IsFilled, StartsCarry}
+use Rattle.sliced_heap.proofs.Facts.{held_bytes, ones, paging_ok, place_known, places_are, plan_ok, table_is}
+use Rattle.sliced_heap.proofs.Headers.{head_number, holds, inside}
+use Rattle.sliced_heap.proofs.HeldIs.{place_there}
+use Rattle.sliced_heap.proofs.Places.{changed_occupied}
+use Rattle.sliced_heap.proofs.Preserved.{Becomes, becomes_plan, becomes_state, becomes_valid}
+
+-- A job ends where all of its words but one are done: that tells what every state keeps where its slot gets an object.
+module _ (plan : Plan) (ok : IsPlan plan) (m : Held) (k : JobSlot) (kept : IsKept plan (record { held = m; job = Clear k })) where
+  abbrev last : JobSlot
+  last = record k { done = slot_words plan.paging k.class - 1 }
+
+  pub at_last : IsKept plan (record { held = m; job = Clear (record k { done = slot_words plan.paging k.class - 1 }) })
+  at_last = record {
+    numbers = kept.numbers;
+    job = (let some = kept.job.under_way in record { class = kept.job.class; under_way = omega arith });
+    sound = kept.sound;
+  }
+
+  pub last_done : done_after plan (record k { done = slot_words plan.paging k.class - 1 }) ≡ slot_words plan.paging k.class
+  last_done = (let some = kept.job.under_way in let q = ok.quantum in omega arith)
+
+  module _ (q : ℕ) (y : Placed) (there : get m q ≡ Some y) (two : not_full_pages plan.paging m k.class ≡ 2) (b : IsBeside plan.paging m k.address k.class q) where
+    abbrev new : Sliced
+    new = record { held = insert m q (record { place = k.address; bytes = y.bytes }); job = Move q (fresh_slot y.place k.class) }
+
+    chain : IsSlice plan (record { held = m; job = Clear (record k { done = slot_words plan.paging k.class - 1 }) }) new
+    chain = inr (record {
+      all = last_done;
+      ends = inr (record { two = two; object = q; beside = b; carries = record { object = y; found = there; whole = refl } });
+    })
+
+    pub kept_carried : IsKept plan (record { held = insert m q (record { place = k.address; bytes = y.bytes }); job = Move q (fresh_slot y.place k.class) })
+    kept_carried = kept_slice plan ok (record { held = m; job = Clear last }) new at_last chain
+
+    pub same_objects : objects (insert m q (record { place = k.address; bytes = y.bytes })) ≡ objects m
+    same_objects = objects_sliced plan (record { held = m; job = Clear last }) new chain
+
+module _ (h : Heap) (k : IsValid h) (g : JobSlot) (at : h.job ≡ Clear g) where
+  abbrev m : Held
+  m = (state_of h).held
+
+  abbrev stand : Placed
+  stand = stand_in (paging_at h) g
+
+  abbrev all : Held
+  all = insert m h.settings.proxies stand
+
+  pub kept_clear : IsKept (plan_of h) (record { held = (state_of h).held; job = Clear g })
+  kept_clear = subst (λ j. IsKept (plan_of h) (record { held = m; job = j })) at k.kept
+
+  pub words_clear : HasWords (paging_at h) (record { held = (state_of h).held; job = Clear g }) h.words
+  words_clear = subst (λ j. HasWords (paging_at h) (record { held = m; job = j }) h.words) at k.words
+
+  pub occupied_clear : Occupies (paging_at h) (insert (state_of h).held h.settings.proxies (stand_in (paging_at h) g)) (tables_in h)
+  occupied_clear = subst (λ j. Occupies (paging_at h) (occupied (plan_of h) (record { held = m; job = j })) (tables_in h)) at k.occupied
+
+  pub all_are : occupied (plan_of h) (state_of h) ≡ insert (state_of h).held h.settings.proxies (stand_in (paging_at h) g)
+  all_are = ap (λ j. occupied (plan_of h) (record { held = m; job = j })) at
+
+  pub sound_clear : IsSound (paging_at h) (insert (state_of h).held h.settings.proxies (stand_in (paging_at h) g))
+  sound_clear = kept_clear.sound
+
+  pub none_there : get (state_of h).held h.settings.proxies ≡ None
+  none_there = no_stand_in (plan_of h) m k.kept.numbers
+
+  pub stand_there : get (insert (state_of h).held h.settings.proxies (stand_in (paging_at h) g)) h.settings.proxies ≡ Some (stand_in (paging_at h) g)
+  stand_there = get_inserted m h.settings.proxies stand
+
+  pub class_in : g.class < classes (paging_at h)
+  class_in = kept_clear.job.class
+
+  pub stand_class : class_at (paging_at h) (stand_in (paging_at h) g) ≡ g.class
+  stand_class = stand_in_class (paging_at h) (paging_ok h k) g class_in
+
+  page_is : page_at h.classes g.address ≡ page_of (paging_at h) g.address
+  page_is = ap (λ (t : ClassTable). g.address / t.page_words) k.table
+
+  -- what the test of a move asks for
+  pub page_within : page_at h.classes g.address < length h.maps
+  page_within = (let lt = found_page (paging_ok h k) k.tell.part occupied_clear h.settings.proxies stand_there in let e = page_is in rw e lt)
+
+  pub class_listed : g.class < h.lists.classes
+  class_listed = (let lt = found_class (paging_ok h k) k.tell.part occupied_clear h.settings.proxies stand_there in rw stand_class at lt)
+
+  -- and what it tells
+  pub must_is : MovesObject (slice_index_or h.maps (page_at h.classes g.address) []) (length (pages_in h.lists g.class NotFull)) 1
+      ↔ MustMove (paging_at h) (insert (state_of h).held h.settings.proxies (stand_in (paging_at h) g)) (stand_in (paging_at h) g)
+  must_is =
+      let is = moves_is (paging_ok h k) k.tell.part occupied_clear h.settings.proxies stand_there in
+      let bound : bound_of (paging_at h) g.class ≡ 1 = ones h k g.class class_in in
+      let c = stand_class in
+      let same : MovesObject (slice_index_or h.maps (page_at h.classes g.address) []) (length (pages_in h.lists g.class NotFull)) 1
+      ≡ MovesObject (slots_on (tables_in h) (page_of (paging_at h) g.address)) (length (pages_in h.lists (class_at (paging_at h) stand) NotFull))
+      (bound_of (paging_at h) (class_at (paging_at h) stand)) =
+      ap (λ page. MovesObject (slice_index_or h.maps page []) (length (pages_in h.lists g.class NotFull)) 1) page_is
+      ∙ ap (λ b. MovesObject (slots_on (tables_in h) (page_of (paging_at h) g.address)) (length (pages_in h.lists g.class NotFull)) b) (sym bound)
+      ∙ ap (λ d. MovesObject (slots_on (tables_in h) (page_of (paging_at h) g.address)) (length (pages_in h.lists d NotFull)) (bound_of (paging_at h) d)) (sym stand_class) in
+      subst (λ A. A ↔ MustMove (paging_at h) all stand) (sym same) is
+
+  -- where an object has to move
+  module _ (must : MustMove (paging_at h) (insert (state_of h).held h.settings.proxies (stand_in (paging_at h) g)) (stand_in (paging_at h) g)) where
+    pub two : not_full_pages (paging_at h) (state_of h).held g.class ≡ 2
+    two = must_is_two (plan_of h) (plan_ok h k) m g none_there class_in sound_clear must
+
+    pub one_listed : 1 ≤ length (pages_in h.lists g.class NotFull)
+    one_listed = (let some = moves_some (paging_ok h k) k.tell.part occupied_clear h.settings.proxies stand_there must (rw stand_class class_in) in rw stand_class at some)
+
+    -- the object that fills the slot
+    module _ (a : ℕ) (f : IsFiller h.classes h.maps h.lists g.class a) where
+      abbrev f' : IsFiller (class_table (paging_at h)) (tables_in h).maps (tables_in h).lists g.class a
+      f' = subst (λ t. IsFiller t h.maps h.lists g.class a) (sym (table_is h k)) f
+
+      abbrev found : (q : ℕ) × (y : Placed) × (get all q ≡ Some y) × (y.place ≡ a)
+      found = filler (paging_ok h k) k.tell.part occupied_clear f'
+
+      abbrev q : ℕ
+      q = found.0
+
+      abbrev y : Placed
+      y = found.1
+
+      is : (class_at (paging_at h) y ≡ g.class) × (page_of (paging_at h) y.place ≡ f'.page)
+          × (slot_at (class_table (paging_at h)) g.class y.place ≡ f'.slot)
+      is = filler_is (paging_ok h k) k.tell.part occupied_clear f' sound_clear q found.2 found.3
+
+      less : objects_on (paging_at h) all g.class (page_of (paging_at h) y.place) < slots_of (paging_at h) g.class
+      less = filler_not_full (paging_ok h k) k.tell.part occupied_clear f' sound_clear q found.2 found.3
+
+      pub other_page : page_of (paging_at h) y.place ≢ page_of (paging_at h) g.address
+      other_page e =
+          let full : objects_on (paging_at h) all g.class (page_of (paging_at h) g.address) ≡ slots_of (paging_at h) g.class = rw stand_class at must.full in
+          let l = less in
+          let l' : objects_on (paging_at h) all g.class (page_of (paging_at h) g.address) < slots_of (paging_at h) g.class = rw e at l in
+          omega arith
+
+      pub y_there : get (state_of h).held q ≡ Some y
+      y_there = elim (some_beside (plan_of h) m (Some g) q y found.2) [
+        | inl was ↦ was
+        | inr (g', e, _, same) ↦ absurd (other_page (
+            let e' : Some g ≡ Some g' = e in
+            let i : g ≡ g' = cc in
+            ap (λ (z : Placed). page_of (paging_at h) z.place) (sym same) ∙ ap (λ (z : JobSlot). page_of (paging_at h) z.address) (sym i)))
+      ]
+
+      -- its header is in the region, and has its number, which is live
+      pub from_within : a < length h.words
+      from_within = (let i = inside h k q y y_there in let o = holds h k q y y_there in let e : y.place ≡ a = found.3 in omega arith)
+
+      pub number_is : get_or h.words a 0 % 2 ^ 32 ≡ q
+      number_is = head_number h k q y y_there a (sym found.3 ∙ (let e : y.place ≡ y.place + 0 = omega arith in e) ∙ sym (ap (λ j. word_at j q y 0) at))
+
+      pub number_live : IsSome (get h.proxies.places (get_or h.words a 0 % 2 ^ 32))
+      number_live = rw (number_is, place_known h k q y y_there) refl
+
+      pub lies_beside : IsBeside (paging_at h) (state_of h).held g.address g.class q
+      lies_beside = record {
+        object = y;
+        found = y_there;
+        class = is.0;
+        page = other_page;
+        not_full = (
+            let l = less in
+            let more = on_more (plan_of h) (plan_ok h k) (record { held = m; job = Clear g }) kept_clear g.class (page_of (paging_at h) y.place) in
+            omega arith);
+      }
+
+      -- it gets the slot's address, and is to be carried there
+      module _ (fresh : g.done ≡ 0) (n : Heap) (handles : AreBelowLimit n.proxies) (whole : n ≡ record h {
+        proxies = with_place h.proxies (get_or h.words a 0 % 2 ^ 32) g.address;
+        job = Move (get_or h.words a 0 % 2 ^ 32) (fresh_slot a g.class);
+      }) where
+        rest : n ≡ record h { proxies = with_place h.proxies q g.address; job = Move q (fresh_slot y.place g.class) }
+        rest = whole ∙ ap (λ r. record h { proxies = with_place h.proxies r g.address; job = Move r (fresh_slot a g.class) }) number_is
+            ∙ ap (λ b. record h { proxies = with_place h.proxies q g.address; job = Move q (fresh_slot b g.class) }) (sym found.3)
+
+        abbrev s : Sliced
+        s = record { held = insert m q (record { place = g.address; bytes = y.bytes }); job = Move q (fresh_slot y.place g.class) }
+
+        kept : IsKept (plan_of h) s
+        kept = kept_carried (plan_of h) (plan_ok h k) m g kept_clear q y y_there two lies_beside
+
+        objects_same : objects s.held ≡ objects m
+        objects_same = same_objects (plan_of h) (plan_ok h k) m g kept_clear q y y_there two lies_beside
+
+        not_stand : q ≢ h.settings.proxies
+        not_stand = other_than m h.settings.proxies q y none_there y_there
+
+        counts : (c page : ℕ) → objects_on (paging_at h) (insert (insert m q (record { place = g.address; bytes = y.bytes })) h.settings.proxies
+            (record { place = y.place; bytes = replicate (8 * (slot_words (paging_at h) g.class - 1)) 0 })) c page ≡ objects_on (paging_at h) all c page
+        counts = (changed_places (paging_at h) h.settings.proxies m g.address (replicate (8 * (slot_words (paging_at h) g.class - 1)) 0) q y not_stand
+            (λ e. absurd (let l = k.kept.numbers q y y_there in omega arith)) (past (get m (h.settings.proxies + 1)) refl) y_there
+            (is.0 ∙ sym stand_class) sound_clear).counts
+          where
+            past : (o : Option Placed) → get m (h.settings.proxies + 1) ≡ o → get m (h.settings.proxies + 1) ≡ None
+            past None e = e
+            past (Some x) e = absurd (let l = k.kept.numbers (h.settings.proxies + 1) x e in omega arith)
+
+        stands : Occupies (paging_at h) (occupied (plan_of h) s) (tables_in h)
+        stands = changed_occupied (paging_at h) m (tables_in h) h.settings.proxies stand occupied_clear q y y_there not_stand (is.0 ∙ sym stand_class) counts
+
+        words_now : HasWords (paging_at h) s h.words
+        words_now = words_to_carry (paging_at h) m h.words q y g.address g.class y_there is.0 (λ r x there i lt. words_clear.held r x there i lt)
+            (λ w out beyond. words_clear.zeros w out (λ f e. (let e' : Some g ≡ Some f = e in let i : g ≡ f = cc in rw i at beyond)))
+
+        becomes : Becomes h n s
+        becomes = record {
+          settings = ap (λ (z : Heap). z.settings) rest;
+          quantum = ap (λ (z : Heap). z.quantum) rest;
+          table = ap (λ (z : Heap). z.classes) rest;
+          job = ap (λ (z : Heap). z.job) rest;
+          long = ap (λ (z : Heap). length z.words) rest;
+          kept = kept;
+          words = subst (HasWords (paging_at h) s) (sym (ap (λ (z : Heap). z.words) rest)) words_now;
+          bytes = λ r x there. elim (some_inserted m q (record { place = g.address; bytes = y.bytes }) r x there) [
+            | inl (_, same) ↦ subst (λ (z : Placed). AreBytes z.bytes) same (held_bytes h k q y y_there)
+            | inr (_, was) ↦ held_bytes h k r x was
+          ];
+          addresses = ap (λ (z : Heap). z.proxies.places) rest ∙ ap (λ n. insert n q g.address) (places_are h k)
+              ∙ sym (map_values-insert (λ (x : Placed). x.place) m q (record { place = g.address; bytes = y.bytes }));
+          limit = ap (λ (z : Heap). z.proxies.limit) rest;
+          handles = handles;
+          tell = subst (Tell (paging_at h)) (sym (ap tables_in rest)) k.tell;
+          occupied = subst (Occupies (paging_at h) (occupied (plan_of h) s)) (sym (ap tables_in rest)) stands;
+          live_long = ap (λ (z : Heap). length z.live) rest ∙ k.live_long;
+          counted = λ c lt. ap (λ (z : Heap). get_or z.live c 0) rest ∙ k.counted c lt ∙ ap (λ o. live (paging_at h) o c) (sym objects_same);
+          needed = ap (λ (z : Heap). z.needed) rest ∙ k.needed ∙ ap (pages_needed (paging_at h)) (sym objects_same);
+          within = (let now = ap (λ (z : Heap). z.needed) rest in let w = k.within in omega arith);
+        }
+
+        pub carried_valid : IsValid n
+        carried_valid = becomes_valid h n k s becomes
+
+        pub is_filled : IsFilled h g n
+        is_filled = record {
+          must = subst (λ o. MustMove (paging_at h) o stand) (sym all_are) must;
+          object = q;
+          beside = lies_beside;
+          carries = record { object = y; found = y_there; whole = becomes_state h n k s becomes };
+          words = ap (λ (z : Heap). z.words) rest;
+          plan = becomes_plan h n k s becomes;
+          quantum = ap (λ (z : Heap). z.quantum) rest;
+        }

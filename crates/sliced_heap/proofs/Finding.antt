@@ -1,0 +1,39 @@
+-- An object that is found by its number, while no job is pending.
+use Rattle.std.proofs.Common.{◌≡◌, ℕ, ◌+◌, ◌/◌, ◌^◌, ◌<◌, ◌≤◌, length, get_or, Some, None, arith, sym, ◌∙◌, ap}
+use Rattle.std.specs.FinMap.{get}
+use Rattle.cf_base.specs.Classes.{class_of}
+use Rattle.page_model.specs.Arrangement.{class_at}
+use Rattle.page_model.specs.Held.{Placed}
+use Rattle.slice_model.specs.State.{Idle}
+use Rattle.slice_model.specs.Words.{word_at}
+use Rattle.sliced_heap.specs.Heap.{Heap}
+use Rattle.sliced_heap.specs.Layout.{IsValid, paging_at, state_of}
+use Rattle.sliced_heap.proofs.Facts.{has_place}
+use Rattle.sliced_heap.proofs.Headers.{class_known_at, head_length, holds, inside}
+
+pub found : (h : Heap) (k : IsValid h) (q a : ℕ) → get h.proxies.places q ≡ Some a → (x : Placed) × (get (state_of h).held q ≡ Some x) × (x.place ≡ a)
+found h k q a known = has_place h k q a known
+
+module _ (h : Heap) (k : IsValid h) (idle : h.job ≡ Idle) (q a : ℕ) (known : get h.proxies.places q ≡ Some a) where
+  abbrev w : (x : Placed) × (get (state_of h).held q ≡ Some x) × (x.place ≡ a)
+  w = found h k q a known
+
+  pub place_in : a < length h.words
+  place_in = (let i = inside h k q w.0 w.1 in let o = holds h k q w.0 w.1 in let e = w.2 in omega arith)
+
+  head_at : a ≡ word_at h.job q w.0 0
+  head_at = sym w.2 ∙ (let e : w.0.place ≡ w.0.place + 0 = omega arith in e) ∙ sym (ap (λ j. word_at j q w.0 0) idle)
+
+  -- its header tells its length
+  module _ (size : ℕ) (told : size ≡ get_or h.words a 0 / 2 ^ 32) where
+    pub length_told : size ≡ length (found h k q a known).0.bytes
+    length_told = told ∙ head_length h k q w.0 w.1 a head_at
+
+    known_class : class_of h.classes.sizes size ≡ Some (class_at (paging_at h) w.0)
+    known_class = ap (class_of h.classes.sizes) length_told ∙ class_known_at h k q w.0 w.1
+
+    pub has_class : None ≡ class_of h.classes.sizes size → ⊥
+    has_class none = (let z : None ≡ Some (class_at (paging_at h) w.0) = none ∙ known_class in cc)
+
+    pub class_found : (c : ℕ) → Some c ≡ class_of h.classes.sizes size → class_at (paging_at h) (found h k q a known).0 ≡ c
+    class_found c is = (let z : Some c ≡ Some (class_at (paging_at h) w.0) = is ∙ known_class in cc)

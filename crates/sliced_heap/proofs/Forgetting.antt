@@ -1,0 +1,171 @@
+-- An object goes, and its slot is to be cleared.
+use Rattle.std.proofs.Common.{◌≡◌, ℕ, ◌+◌, ◌-◌, ◌*◌, ◌<◌, ◌≤◌, List, length, get_or, set, replicate, Some, None, arith, refl, sym, ◌∙◌, ap, subst}
+use Rattle.std.specs.Prelude.{nat_eq, option_map}
+use Rattle.std.proofs.lemmas.List.{length-set}
+use Rattle.std.specs.FinMap.{get, remove}
+use Rattle.cf_base.specs.Classes.{slots}
+use Rattle.cf_lemmas.proofs.Maps.{get_remove_other, some_removed}
+use Rattle.cf_lemmas.proofs.MapValues.{get-map_values, map_values-remove}
+use Rattle.cf_lemmas.proofs.Ranges.{one}
+use Rattle.cf_lemmas.proofs.Tests.{eq_yes}
+use Rattle.page_model.specs.Arrangement.{class_at, live, pages_needed}
+use Rattle.page_model.specs.Held.{Held, Objects, Placed, objects, places}
+use Rattle.page_model.specs.Paging.{class_for, classes, slot_words, slots_of}
+use Rattle.page_model.proofs.CallerLemmas.{live_taken, sound_exchanged}
+use Rattle.page_slots.specs.Occupying.{Occupies, Tell}
+use Rattle.proxy_table.specs.Proxies.{AreBelowLimit, Proxies, without_place}
+use Rattle.size_classes.specs.Table.{ClassTable}
+use Rattle.slice_model.specs.State.{Plan, IsPlan, Sliced, IsKept, occupied, with_slot, job_slot, stand_in, Idle, Clear}
+use Rattle.slice_model.specs.Steps.{fresh_slot}
+use Rattle.slice_model.specs.Words.{HasWords}
+use Rattle.slice_model.proofs.CallerLemmas.{bytes_there, no_stand_in, other_than, stand_in_class, words_to_clear}
+use Rattle.sliced_heap.specs.Heap.{Heap}
+use Rattle.sliced_heap.specs.Layout.{IsValid, opens, paging_at, plan_of, state_of, tables_in}
+use Rattle.sliced_heap.specs.Steps.{Forgets}
+use Rattle.sliced_heap.proofs.Counts.{counted_out, needed_more, needed_taken}
+use Rattle.sliced_heap.proofs.Facts.{few_classes, held_bytes, paging_ok, places_are, plan_ok}
+use Rattle.sliced_heap.proofs.Headers.{in_class}
+use Rattle.sliced_heap.proofs.Places.{stood_in}
+use Rattle.sliced_heap.proofs.Preserved.{Becomes, becomes_plan, becomes_state, becomes_valid}
+
+-- the rules stay
+pub kept_vacant : (plan : Plan) → IsPlan plan → (m : Held) → IsKept plan (record { held = m; job = Idle }) → (q : ℕ) (x : Placed) → get m q ≡ Some x
+    → IsKept plan (record { held = remove m q; job = Clear (fresh_slot x.place (class_at plan.paging x)) })
+kept_vacant plan ok m kept q x there =
+    let none = no_stand_in plan m kept.numbers in
+    let lt = (kept.sound.slots q x there).class in
+    let class = stand_in_class plan.paging ok.paging (fresh_slot x.place (class_at plan.paging x)) lt in
+    let size = ok.paging.sized.least (class_at plan.paging x) lt in
+    let ne = other_than m plan.proxies q x none there in
+    record {
+      numbers = λ r y there'. kept.numbers r y (some_removed m q r y there').1;
+      job = record { class = lt; under_way = omega arith };
+      sound = sound_exchanged plan.paging m q x there plan.proxies (replicate (8 * (slot_words plan.paging (class_at plan.paging x) - 1)) 0)
+          (get_remove_other m q plan.proxies (λ e. ne (sym e)) ∙ none) class kept.sound;
+    }
+
+-- in n the number q was given back, an object of class c was counted out, and the slot at a is the job's
+pub record GoesAway (h n : Heap) (q a c : ℕ) : Type 0 where
+  pub rest : n ≡ record h {
+    proxies = without_place h.proxies q;
+    live = set h.live c (get_or h.live c 0 - 1);
+    needed = h.needed - opens (slots h.classes.page_words h.classes.sizes c) (get_or h.live c 0 - 1);
+    job = Clear (fresh_slot a c);
+  }
+  pub handles : AreBelowLimit n.proxies
+
+module _ (h : Heap) (k : IsValid h) (idle : h.job ≡ Idle) (q : ℕ) (x : Placed) (there : get (state_of h).held q ≡ Some x) where
+  abbrev m : Held
+  m = (state_of h).held
+
+  abbrev c : ℕ
+  c = class_at (paging_at h) x
+
+  left : get (objects (state_of h).held) q ≡ Some x.bytes
+  left = bytes_there m q x there
+
+  listed : c < length h.live
+  listed = (let few = few_classes h k in let lt = in_class h k q x there in let long = k.live_long in omega arith)
+
+  objects_are : objects (remove m q) ≡ remove (objects m) q
+  objects_are = map_values-remove (λ (x : Placed). x.bytes) m q
+
+  live_less : (d : ℕ) → live (paging_at h) (remove (objects m) q) d + one (nat_eq c d) ≡ live (paging_at h) (objects m) d
+  live_less d = live_taken (paging_at h) (objects m) q x.bytes d left
+
+  pub live_some : 1 ≤ get_or h.live (class_at (paging_at h) x) 0
+  live_some =
+      let l = live_less c in
+      let y : one (nat_eq c c) ≡ 1 = ap one (eq_yes c c refl) in
+      let e = k.counted c (in_class h k q x there) in
+      omega arith
+
+  live_here : live (paging_at h) (remove (objects m) q) c ≡ get_or h.live c 0 - 1
+  live_here =
+      let l = live_less c in
+      let y : one (nat_eq c c) ≡ 1 = ap one (eq_yes c c refl) in
+      let e = k.counted c (in_class h k q x there) in
+      omega arith
+
+  slots_are : slots h.classes.page_words h.classes.sizes c ≡ slots_of (paging_at h) c
+  slots_are = ap (λ (t : ClassTable). slots t.page_words t.sizes c) k.table
+
+  needed_less : h.needed ≡ pages_needed (paging_at h) (remove (objects m) q) + opens (slots h.classes.page_words h.classes.sizes c) (get_or h.live c 0 - 1)
+  needed_less =
+      k.needed ∙ needed_taken (paging_at h) (objects m) q x.bytes left
+      ∙ needed_more (paging_at h) (paging_ok h k) (remove (objects m) q) (length x.bytes) (in_class h k q x there)
+      ∙ ap (λ l. pages_needed (paging_at h) (remove (objects m) q) + opens (slots_of (paging_at h) c) l) live_here
+      ∙ ap (λ s. pages_needed (paging_at h) (remove (objects m) q) + opens s (get_or h.live c 0 - 1)) (sym slots_are)
+
+  pub needed_some : opens (slots h.classes.page_words h.classes.sizes (class_at (paging_at h) x)) (get_or h.live (class_at (paging_at h) x) 0 - 1) ≤ h.needed
+  needed_some = (let e = needed_less in omega arith)
+
+  module _ (n : Heap) (g : GoesAway h n q x.place (class_at (paging_at h) x)) where
+    abbrev s : Sliced
+    s = record { held = remove m q; job = Clear (fresh_slot x.place c) }
+
+    at_idle : IsKept (plan_of h) (record { held = m; job = Idle })
+    at_idle = subst (λ j. IsKept (plan_of h) (record { held = m; job = j })) idle k.kept
+
+    words_idle : HasWords (paging_at h) (record { held = m; job = Idle }) h.words
+    words_idle = subst (λ j. HasWords (paging_at h) (record { held = m; job = j }) h.words) idle k.words
+
+    stands_idle : Occupies (paging_at h) m (tables_in h)
+    stands_idle = subst (λ j. Occupies (paging_at h) (occupied (plan_of h) (record { held = m; job = j })) (tables_in h)) idle k.occupied
+
+    becomes : Becomes h n s
+    becomes = record {
+      settings = ap (λ (z : Heap). z.settings) g.rest;
+      quantum = ap (λ (z : Heap). z.quantum) g.rest;
+      table = ap (λ (z : Heap). z.classes) g.rest;
+      job = ap (λ (z : Heap). z.job) g.rest;
+      long = ap (λ (z : Heap). length z.words) g.rest;
+      kept = kept_vacant (plan_of h) (plan_ok h k) m at_idle q x there;
+      words = subst (HasWords (paging_at h) s) (sym (ap (λ (z : Heap). z.words) g.rest)) (words_to_clear (paging_at h) m h.words words_idle q x there);
+      bytes = λ r y there'. held_bytes h k r y (some_removed m q r y there').1;
+      addresses = ap (λ (z : Heap). z.proxies.places) g.rest ∙ ap (λ n. remove n q) (places_are h k) ∙ sym (map_values-remove (λ (x : Placed). x.place) m q);
+      limit = ap (λ (z : Heap). z.proxies.limit) g.rest;
+      handles = g.handles;
+      tell = subst (Tell (paging_at h)) (sym (ap tables_in g.rest)) k.tell;
+      occupied = subst (Occupies (paging_at h) (occupied (plan_of h) s)) (sym (ap tables_in g.rest))
+          (stood_in (paging_at h) m (tables_in h) stands_idle q x there h.settings.proxies (no_stand_in (plan_of h) m k.kept.numbers)
+          (replicate (8 * (slot_words (paging_at h) c - 1)) 0)
+          (stand_in_class (paging_at h) (paging_ok h k) (fresh_slot x.place c) (in_class h k q x there)));
+      live_long = ap (λ (z : Heap). length z.live) g.rest ∙ length-set h.live c (get_or h.live c 0 - 1) ∙ k.live_long;
+      counted = λ d lt. (
+          let l = live_less d in
+          let was = k.counted d lt in
+          let now = ap (λ (z : Heap). get_or z.live d 0) g.rest in
+          let less = counted_out h.live c d listed live_some in
+          let all : live (paging_at h) (objects (remove m q)) d ≡ live (paging_at h) (remove (objects m) q) d = ap (λ o. live (paging_at h) o d) objects_are in
+          omega arith);
+      needed = (
+          let e = needed_less in
+          let now = ap (λ (z : Heap). z.needed) g.rest in
+          let all : pages_needed (paging_at h) (objects (remove m q)) ≡ pages_needed (paging_at h) (remove (objects m) q) = ap (pages_needed (paging_at h)) objects_are in
+          omega arith);
+      within = (let now = ap (λ (z : Heap). z.needed) g.rest in let w = k.within in omega arith);
+    }
+
+    pub forgotten_valid : IsValid n
+    forgotten_valid = becomes_valid h n k s becomes
+
+    pub forgets : Forgets h q (fresh_slot x.place (class_at (paging_at h) x)) n
+    forgets = record {
+      object = x;
+      found = there;
+      slot = refl;
+      state = becomes_state h n k s becomes;
+      job = ap (λ (z : Heap). z.job) g.rest;
+      words = ap (λ (z : Heap). z.words) g.rest;
+      plan = becomes_plan h n k s becomes;
+      quantum = ap (λ (z : Heap). z.quantum) g.rest;
+    }
+
+-- the same by the address and the class that the code has
+pub forgets_at : (h : Heap) (k : IsValid h) → h.job ≡ Idle → (q : ℕ) (x : Placed) → get (state_of h).held q ≡ Some x → (a c : ℕ) → x.place ≡ a
+    → class_at (paging_at h) x ≡ c → (n : Heap) → GoesAway h n q a c → Forgets h q (fresh_slot a c) n × IsValid n
+forgets_at h k idle q x there a c at is n =
+    subst (λ a. GoesAway h n q a c → Forgets h q (fresh_slot a c) n × IsValid n) at
+    (subst (λ c. GoesAway h n q x.place c → Forgets h q (fresh_slot x.place c) n × IsValid n) is
+    (λ g. (forgets h k idle q x there n g, forgotten_valid h k idle q x there n g)))

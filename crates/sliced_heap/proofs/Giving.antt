@@ -1,0 +1,313 @@
+-- An object comes: a malloc, and why one is refused.
+use Rattle.std.proofs.Common.{◌≡◌, ◌≢◌, ℕ, ◌+◌, ◌*◌, ◌^◌, ◌<◌, ◌≤◌, List, length, get_or, set, replicate, Option, Some, None, arith, refl, sym, ◌∙◌, ap, subst, inl, inr}
+use Rattle.std.specs.Prelude.{◌↔◌, Bool, IsTrue, false, nat_eq, option_map}
+use Rattle.std.proofs.lemmas.Bool.{cases_lt, false≢true}
+use Rattle.std.proofs.lemmas.List.{get_or-set_same, get_or-set_other, length-replicate, length-set}
+use Rattle.std.specs.FinMap.{get, insert, len, values}
+use Rattle.cf_base.specs.Classes.{class_of, need, slots}
+use Rattle.cf_lemmas.proofs.Maps.{some_inserted}
+use Rattle.cf_lemmas.proofs.MapValues.{get-map_values}
+use Rattle.cf_lemmas.proofs.Ranges.{one}
+use Rattle.cf_lemmas.proofs.Values.{sum_at_most}
+use Rattle.page_model.specs.Arrangement.{LacksRoom, class_at, live, pages_needed, pages_needed_with}
+use Rattle.page_model.specs.Bytes.{AreBytes}
+use Rattle.page_model.specs.Held.{Held, Objects, Placed, objects, places}
+use Rattle.page_model.specs.Image.{IsOutside, Rewrites, header_word}
+use Rattle.page_model.specs.Paging.{Paging, class_for, classes, slots_of}
+use Rattle.page_model.specs.Steps.{IsFreePlace, Request, zeros_at}
+use Rattle.page_model.proofs.CallerLemmas.{len-objects, live_added, malloc_objects, malloc_places, one_le, slot_inside, zeros_are_bytes}
+use Rattle.page_slots.specs.Tables.{AreTables, Tables}
+use Rattle.page_slots.specs.Taking.{TakesAt, TakesSlot}
+use Rattle.page_slots.specs.Occupying.{Occupies, Tell, class_table}
+use Rattle.page_slots.proofs.CallerLemmas.{refused_lacks_room, taken_is_free, taken_occupied, taken_tell}
+use Rattle.proxy_table.specs.Proxies.{AreBelowLimit, with_place}
+use Rattle.size_classes.specs.Table.{ClassTable}
+use Rattle.slice_model.specs.State.{IsPlaceFor, NoPlace, Sliced, IsKept, job_slot, occupied, with_slot}
+use Rattle.slice_model.specs.Steps.{GivesObject, WantsProxy, WantsSlot, WantsSpace}
+use Rattle.slice_model.specs.Runs.{Mallocs}
+use Rattle.slice_model.specs.Words.{HasWords}
+use Rattle.slice_model.proofs.CallerLemmas.{free_is_place, get_beside, inserted_beside, kept_malloc, lacking_is_no_place, words_given}
+use Rattle.sliced_heap.specs.Heap.{Heap}
+use Rattle.sliced_heap.specs.Layout.{IsValid, opens, paging_at, plan_of, state_of, tables_in, working_of}
+use Rattle.sliced_heap.proofs.Counts.{counted_in, needed_added, needed_more}
+use Rattle.sliced_heap.proofs.Facts.{few_classes, held_bytes, held_len, no_place, paging_ok, places_are, plan_ok, table_is}
+use Rattle.sliced_heap.proofs.Headers.{class_is}
+use Rattle.sliced_heap.proofs.Preserved.{Becomes, becomes_plan, becomes_state, becomes_valid}
+
+-- no more objects of a class than there are
+live_few : (p : Paging) (m : Held) (c : ℕ) → live p (objects m) c ≤ len m
+unfolding live
+live_few p m c =
+    let a = sum_at_most (λ v. one (nat_eq (class_for p (length v)) c)) 1 (objects m) (λ q v e. one_le (nat_eq (class_for p (length v)) c)) in
+    let l = len-objects m in
+    omega arith
+
+-- one word becomes another
+pub one_word : (words : List ℕ) (a v : ℕ) → a < length words → Rewrites words (set words a v) (record { from = a; count = 1 }) (λ _. v)
+one_word words a v lt = record {
+  within = λ i low. (let e : a ≡ a + i = omega arith in subst (λ w. get_or (set words a v) w 0 ≡ v) e (get_or-set_same words a v 0 lt));
+  others = λ w out. get_or-set_other words a w v 0 (other w out);
+}
+  where
+    other : (w : ℕ) → IsOutside a 1 w → w ≢ a
+    other w (inl l) e = omega arith
+    other w (inr r) e = omega arith
+
+module _ (h : Heap) (k : IsValid h) (bytes c : ℕ) (found : Some c ≡ class_of h.classes.sizes bytes) where
+  is : (need bytes ≤ h.settings.page_words) × (class_for (paging_at h) bytes ≡ c) × (c < classes (paging_at h))
+  is = class_is h k bytes c found
+
+  pub class_listed : c < length h.classes.sizes
+  class_listed = (let e : length h.classes.sizes ≡ classes (paging_at h) = ap (λ (t : ClassTable). length t.sizes) k.table in let lt = is.2 in omega arith)
+
+  pub class_counted : c < length h.live
+  class_counted = (let few = few_classes h k in let lt = is.2 in let long = k.live_long in omega arith)
+
+  pub live_room : get_or h.live c 0 ≤ 65536
+  live_room =
+      let e = k.counted c is.2 in
+      let l = live_few (paging_at h) (state_of h).held c in
+      let n = held_len h k in
+      let f = k.handles.few in
+      let limit = k.numbers in
+      let few = h.settings.few_proxies in
+      omega arith
+
+  -- the pages that are needed with the object, by the counts
+  pub needed_is : pages_needed_with (paging_at h) (objects (state_of h).held) bytes
+      ≡ h.needed + opens (slots h.classes.page_words h.classes.sizes c) (get_or h.live c 0)
+  needed_is =
+      let lt : class_for (paging_at h) bytes < classes (paging_at h) = rw is.1 is.2 in
+      needed_more (paging_at h) (paging_ok h k) (objects (state_of h).held) bytes lt
+      ∙ ap (λ d. pages_needed (paging_at h) (objects (state_of h).held) + opens (slots_of (paging_at h) d) (live (paging_at h) (objects (state_of h).held) d)) is.1
+      ∙ ap (λ l. pages_needed (paging_at h) (objects (state_of h).held) + opens (slots_of (paging_at h) c) l) (sym (k.counted c is.2))
+      ∙ ap (λ n. n + opens (slots_of (paging_at h) c) (get_or h.live c 0)) (sym k.needed)
+      ∙ ap (λ (t : ClassTable). h.needed + opens (slots t.page_words t.sizes c) (get_or h.live c 0)) (sym k.table)
+
+  pub wants_proxy : len h.proxies.places ≡ h.settings.proxies → WantsProxy (plan_of h) (state_of h) bytes
+  wants_proxy all = record { fits = is.0; all = held_len h k ∙ all }
+
+  module _ (ne : len h.proxies.places ≢ h.settings.proxies) where
+    pub few : len (state_of h).held < h.settings.proxies
+    few = (let e = held_len h k in let f = k.handles.few in let n = k.numbers in omega arith)
+
+    pub wants_space : h.settings.pages < h.needed + opens (slots h.classes.page_words h.classes.sizes c) (get_or h.live c 0)
+        → WantsSpace (plan_of h) (state_of h) bytes
+    wants_space over = record { fits = is.0; few = few; over = (let e = needed_is in omega arith) }
+
+    module _ (within : h.needed + opens (slots h.classes.page_words h.classes.sizes c) (get_or h.live c 0) ≤ h.settings.pages) where
+      pub wants_slot : (new : Tables) → TakesSlot h.classes (tables_in h) c None new → WantsSlot (plan_of h) (state_of h) bytes
+      wants_slot new none =
+          let t : TakesSlot (class_table (paging_at h)) (tables_in h) c None new = subst (λ t. TakesSlot t (tables_in h) c None new) (sym (table_is h k)) none in
+          let lacks = refused_lacks_room (paging_ok h k) k.tell.part k.occupied k.tell.whole c new t in
+          record {
+            fits = is.0;
+            few = few;
+            within = (let e = needed_is in omega arith);
+            lacking = lacking_is_no_place (plan_of h) (plan_ok h k) (state_of h) k.kept (class_for (paging_at h) bytes)
+                (subst (LacksRoom (paging_at h) (occupied (plan_of h) (state_of h))) (sym is.1) lacks);
+          }
+
+      -- a slot is taken
+      module _ (new : Tables) (a : ℕ) (t : TakesAt h.classes (tables_in h) c a new) (tables : AreTables h.classes new) where
+        at_table : TakesAt (class_table (paging_at h)) (tables_in h) c a new
+        at_table = subst (λ t. TakesAt t (tables_in h) c a new) (sym (table_is h k)) t
+
+        of_table : AreTables (class_table (paging_at h)) new
+        of_table = subst (λ t. AreTables t new) (sym (table_is h k)) tables
+
+        free : IsFreePlace (paging_at h) (occupied (plan_of h) (state_of h)) bytes a
+        free = taken_is_free (paging_ok h k) k.tell.part k.occupied of_table is.2 at_table bytes is.1
+
+        -- its address is in the region
+        pub place_inside : a < length h.words
+        place_inside =
+            let inside = slot_inside (paging_at h) (class_for (paging_at h) bytes) a free.slot in
+            let least = (paging_ok h k).sized.least (class_for (paging_at h) bytes) free.slot.class in
+            let long = k.words_long in
+            omega arith
+
+        -- and the object is bound there and counted
+        module _ (n : Heap) (q : ℕ) (unused : get h.proxies.places q ≡ None) (below : q < h.proxies.limit) (handles : AreBelowLimit n.proxies)
+            (on : tables_in n ≡ new) (rest : n ≡ record h {
+              maps = n.maps;
+              lists = n.lists;
+              pool = n.pool;
+              proxies = with_place h.proxies q a;
+              words = set h.words a (header_word q bytes);
+              live = set h.live c (get_or h.live c 0 + 1);
+              needed = h.needed + opens (slots h.classes.page_words h.classes.sizes c) (get_or h.live c 0);
+            }) where
+          abbrev m : Held
+          m = (state_of h).held
+
+          abbrev s : Sliced
+          s = record { held = insert m q (zeros_at a bytes); job = h.job }
+
+          none : get m q ≡ None
+          none = no_place h k q unused
+
+          in_range : q < h.settings.proxies
+          in_range = (let e = k.numbers in omega arith)
+
+          is_place : IsPlaceFor (paging_at h) (state_of h) (class_for (paging_at h) bytes) a
+          is_place = free_is_place (plan_of h) (plan_ok h k) (state_of h) k.kept bytes a free
+
+          gives : GivesObject (plan_of h) (state_of h) (record { number = q; length = bytes }) s
+          gives = record {
+            fits = is.0;
+            few = few;
+            in_range = in_range;
+            unused = none;
+            place = a;
+            free = is_place;
+            placed = refl;
+          }
+
+          size : length (replicate {A = ℕ} bytes 0) ≡ bytes
+          size = length-replicate {A = ℕ} bytes 0
+
+          class_of_zeros : class_at (paging_at h) (zeros_at a bytes) ≡ c
+          class_of_zeros = ap (class_for (paging_at h)) size ∙ is.1
+
+          objects_are : objects (insert m q (zeros_at a bytes)) ≡ insert (objects m) q (replicate bytes 0)
+          objects_are = malloc_objects m q a bytes
+
+          no_bytes : get (objects m) q ≡ None
+          no_bytes = get-map_values (λ (x : Placed). x.bytes) m q ∙ ap (option_map (λ (x : Placed). x.bytes)) none
+
+          writes : Rewrites h.words n.words (record { from = a; count = 1 }) (λ _. header_word q bytes)
+          writes = subst (λ w. Rewrites h.words w (record { from = a; count = 1 }) (λ _. header_word q bytes)) (sym (ap (λ (z : Heap). z.words) rest))
+              (one_word h.words a (header_word q bytes) place_inside)
+
+          stands : Occupies (paging_at h) (occupied (plan_of h) s) new
+          stands = subst (λ o. Occupies (paging_at h) o new) (inserted_beside (plan_of h) m (job_slot h.job) q (zeros_at a bytes) in_range)
+              (taken_occupied (paging_ok h k) k.tell.part k.occupied of_table is.2 at_table q (zeros_at a bytes)
+              (get_beside (plan_of h) m (job_slot h.job) q in_range ∙ none) refl class_of_zeros)
+
+          becomes : Becomes h n s
+          unfolding gives
+          becomes = record {
+            settings = ap (λ (z : Heap). z.settings) rest;
+            quantum = ap (λ (z : Heap). z.quantum) rest;
+            table = ap (λ (z : Heap). z.classes) rest;
+            job = ap (λ (z : Heap). z.job) rest;
+            long = ap (λ (z : Heap). length z.words) rest ∙ length-set h.words a (header_word q bytes);
+            kept = kept_malloc (plan_of h) (plan_ok h k) (state_of h) k.kept (record { number = q; length = bytes }) s gives;
+            words = words_given (plan_of h) (plan_ok h k) (state_of h) k.kept h.words n.words k.words (record { number = q; length = bytes }) s gives writes;
+            bytes = λ r x there. elim (some_inserted m q (zeros_at a bytes) r x there) [
+              | inl (_, same) ↦ subst (λ (z : Placed). AreBytes z.bytes) same (zeros_are_bytes bytes)
+              | inr (_, was) ↦ held_bytes h k r x was
+            ];
+            addresses = ap (λ (z : Heap). z.proxies.places) rest ∙ ap (λ n. insert n q a) (places_are h k) ∙ sym (malloc_places m q a bytes);
+            limit = ap (λ (z : Heap). z.proxies.limit) rest;
+            handles = handles;
+            tell = subst (Tell (paging_at h)) (sym on) (taken_tell (paging_ok h k) k.tell.part k.occupied of_table is.2 at_table k.tell.whole);
+            occupied = subst (Occupies (paging_at h) (occupied (plan_of h) s)) (sym on) stands;
+            live_long = ap (λ (z : Heap). length z.live) rest ∙ length-set h.live c (get_or h.live c 0 + 1) ∙ k.live_long;
+            counted = λ d lt. (
+                let add = live_added (paging_at h) (objects m) q (replicate bytes 0) d no_bytes in
+                let was = k.counted d lt in
+                let all : live (paging_at h) (objects (insert m q (zeros_at a bytes))) d ≡ live (paging_at h) (insert (objects m) q (replicate bytes 0)) d =
+                ap (λ o. live (paging_at h) o d) objects_are in
+                let now = ap (λ (z : Heap). get_or z.live d 0) rest in
+                let more = counted_in h.live c d class_counted in
+                let same : one (nat_eq (class_for (paging_at h) (length (replicate {A = ℕ} bytes 0))) d) ≡ one (nat_eq c d) =
+                ap (λ e. one (nat_eq e d)) class_of_zeros in
+                omega arith);
+            needed = ap (λ (z : Heap). z.needed) rest ∙ sym (ap (pages_needed (paging_at h)) objects_are
+                ∙ needed_added (paging_at h) (objects m) q (replicate bytes 0) no_bytes ∙ ap (pages_needed_with (paging_at h) (objects m)) size ∙ needed_is);
+            within = (let now = ap (λ (z : Heap). z.needed) rest in omega arith);
+          }
+
+          pub given_valid : IsValid n
+          given_valid = becomes_valid h n k s becomes
+
+          pub given_plan : plan_of n ≡ plan_of h
+          given_plan = becomes_plan h n k s becomes
+
+          state_now : state_of n ≡ s
+          state_now = becomes_state h n k s becomes
+
+          pub given : Mallocs (plan_of h) (working_of h) (record { number = q; length = bytes }) (working_of n)
+          given = record {
+            gives = record {
+              fits = is.0;
+              few = few;
+              in_range = in_range;
+              unused = none;
+              place = a;
+              free = is_place;
+              placed = state_now;
+            };
+            words = writes;
+          }
+
+-- where the test that the sum is over fails
+pub within_of : (b : Bool) (x y : ℕ) → (IsTrue b ↔ (y < x)) → b ≡ false → x ≤ y
+within_of b x y iff fails = elim (cases_lt y x) [
+  | inl lt ↦ absurd (false≢true (sym fails ∙ iff.1 lt))
+  | inr le ↦ le
+]
+
+-- a slot is taken, the object is bound, and it is counted
+module _ (h t b n : Heap) (a q c w : ℕ) (et : t ≡ record h { maps = t.maps; lists = t.lists; pool = t.pool })
+    (eb : b ≡ record t { proxies = with_place t.proxies q a; words = set t.words a w })
+    (en : n ≡ record b {
+      live = set b.live c (get_or b.live c 0 + 1);
+      needed = b.needed + opens (slots b.classes.page_words b.classes.sizes c) (get_or b.live c 0);
+    }) where
+  with_tables : Tables → Heap
+  with_tables u = record h {
+    maps = u.maps;
+    lists = u.lists;
+    pool = u.pool;
+    proxies = with_place h.proxies q a;
+    words = set h.words a w;
+    live = set h.live c (get_or h.live c 0 + 1);
+    needed = h.needed + opens (slots h.classes.page_words h.classes.sizes c) (get_or h.live c 0);
+  }
+
+  by_taken : n ≡ with_tables (tables_in t)
+  unfolding with_tables
+  by_taken = en ∙ ap (λ (b : Heap). record b {
+    live = set b.live c (get_or b.live c 0 + 1);
+    needed = b.needed + opens (slots b.classes.page_words b.classes.sizes c) (get_or b.live c 0);
+  }) (eb ∙ ap (λ (t : Heap). record t { proxies = with_place t.proxies q a; words = set t.words a w }) et)
+
+  pub on_taken : tables_in n ≡ tables_in t
+  unfolding with_tables
+  on_taken = ap tables_in by_taken
+
+  pub all_changes : n ≡ record h {
+    maps = n.maps;
+    lists = n.lists;
+    pool = n.pool;
+    proxies = with_place h.proxies q a;
+    words = set h.words a w;
+    live = set h.live c (get_or h.live c 0 + 1);
+    needed = h.needed + opens (slots h.classes.page_words h.classes.sizes c) (get_or h.live c 0);
+  }
+  unfolding with_tables
+  all_changes = by_taken ∙ ap with_tables (sym on_taken)
+
+-- so the object has come
+pub given_from : (h : Heap) (k : IsValid h) (bytes c : ℕ) → Some c ≡ class_of h.classes.sizes bytes → len h.proxies.places ≢ h.settings.proxies
+    → h.needed + opens (slots h.classes.page_words h.classes.sizes c) (get_or h.live c 0) ≤ h.settings.pages → (t b n : Heap) (a q : ℕ)
+    → TakesAt h.classes (tables_in h) c a (tables_in t) → AreTables h.classes (tables_in t) → t ≡ record h { maps = t.maps; lists = t.lists; pool = t.pool }
+    → get t.proxies.places q ≡ None → q < t.proxies.limit
+    → b ≡ record t { proxies = with_place t.proxies q a; words = set t.words a (header_word q bytes) } → AreBelowLimit b.proxies
+    → n ≡ record b {
+      live = set b.live c (get_or b.live c 0 + 1);
+      needed = b.needed + opens (slots b.classes.page_words b.classes.sizes c) (get_or b.live c 0);
+    } → Mallocs (plan_of h) (working_of h) (record { number = q; length = bytes }) (working_of n) × IsValid n
+given_from h k bytes c found ne within t b n a q taken tables et unused below eb handles en =
+    let none : get h.proxies.places q ≡ None = sym (ap (λ (z : Heap). get z.proxies.places q) et) ∙ unused in
+    let low : q < h.proxies.limit = (let e = ap (λ (z : Heap). z.proxies.limit) et in omega arith) in
+    let good : AreBelowLimit n.proxies = subst AreBelowLimit (sym (ap (λ (z : Heap). z.proxies) en)) handles in
+    let on = on_taken h t b n a q c (header_word q bytes) et eb en in
+    let rest = all_changes h t b n a q c (header_word q bytes) et eb en in
+    (
+      given h k bytes c found ne within (tables_in t) a taken tables n q none low good on rest,
+      given_valid h k bytes c found ne within (tables_in t) a taken tables n q none low good on rest,
+    )

@@ -1,0 +1,74 @@
+-- What the header of an object tells, where it stands; and the class of a length.
+use Rattle.std.proofs.Common.{◌≡◌, ℕ, ◌+◌, ◌*◌, ◌/◌, ◌%◌, ◌^◌, ◌<◌, ◌≤◌, length, get_or, Some, None, arith, sym, ◌∙◌, ap, subst, inl, inr}
+use Rattle.std.proofs.lemmas.Bool.{cases_lt}
+use Rattle.std.specs.FinMap.{get}
+use Rattle.cf_base.specs.Classes.{need, class_of}
+use Rattle.page_model.specs.Arrangement.{class_at}
+use Rattle.page_model.specs.Held.{Placed}
+use Rattle.page_model.specs.Image.{slot_for}
+use Rattle.page_model.specs.Paging.{class_for, classes}
+use Rattle.page_model.proofs.CallerLemmas.{class_fits, class_holds, class_known, class_none, slot_fits}
+use Rattle.size_classes.specs.Table.{ClassTable}
+use Rattle.slice_model.specs.Words.{word_at}
+use Rattle.sliced_heap.specs.Heap.{Heap}
+use Rattle.sliced_heap.specs.Layout.{IsValid, paging_at, plan_of, state_of}
+use Rattle.sliced_heap.proofs.Facts.{paging_ok, plan_ok, table_ok}
+use Rattle.sliced_heap.proofs.HeldIs.{object_slot, object_within}
+
+module _ (h : Heap) (k : IsValid h) (q : ℕ) (x : Placed) (there : get (state_of h).held q ≡ Some x) where
+  pub number_low : q < 2 ^ 32
+  number_low = (let lt = k.kept.numbers q x there in let few = h.settings.few_proxies in omega arith)
+
+  pub in_class : class_at (paging_at h) x < classes (paging_at h)
+  in_class = (object_slot (plan_of h) (plan_ok h k) (state_of h).held h.job k.kept q x there).class
+
+  pub holds : need (length x.bytes) ≤ slot_for (paging_at h) (length x.bytes)
+  holds = class_holds (paging_at h) (paging_ok h k) (length x.bytes) in_class
+
+  -- its slot is in the region
+  pub inside : x.place + slot_for (paging_at h) (length x.bytes) ≤ length h.words
+  inside = (let l = object_within (plan_of h) (plan_ok h k) (state_of h).held h.job k.kept q x there in let long = k.words_long in omega arith)
+
+  pub bytes_few : length x.bytes ≤ 131072
+  bytes_few =
+      let o = holds in
+      let fits = slot_fits (paging_at h) (paging_ok h k) (class_at (paging_at h) x) in_class in
+      let small = k.tell.part.tables.table.small in
+      omega arith
+
+  pub head : get_or h.words (word_at h.job q x 0) 0 ≡ q + 2 ^ 32 * length x.bytes
+  head = (let o = holds in k.words.held q x there 0 (omega arith))
+
+  pub head_number : (w : ℕ) → w ≡ word_at h.job q x 0 → get_or h.words w 0 % 2 ^ 32 ≡ q
+  head_number w is = (let low = number_low in let e = head in let f : get_or h.words w 0 ≡ q + 2 ^ 32 * length x.bytes = ap (λ a. get_or h.words a 0) is ∙ e in omega arith)
+
+  pub head_length : (w : ℕ) → w ≡ word_at h.job q x 0 → get_or h.words w 0 / 2 ^ 32 ≡ length x.bytes
+  head_length w is = (let low = number_low in let e = head in let f : get_or h.words w 0 ≡ q + 2 ^ 32 * length x.bytes = ap (λ a. get_or h.words a 0) is ∙ e in omega arith)
+
+  -- its length has a class
+  pub class_known_at : class_of h.classes.sizes (length x.bytes) ≡ Some (class_at (paging_at h) x)
+  class_known_at = ap (λ (t : ClassTable). class_of t.sizes (length x.bytes)) k.table ∙ class_known (paging_at h) (paging_ok h k) (length x.bytes) in_class
+
+-- a request that has a class fits, and it is that of the model
+pub class_is : (h : Heap) → IsValid h → (bytes c : ℕ) → Some c ≡ class_of h.classes.sizes bytes → (need bytes ≤ h.settings.page_words)
+    × (class_for (paging_at h) bytes ≡ c) × (c < classes (paging_at h))
+class_is h k bytes c e =
+    let e' : Some c ≡ class_of (paging_at h).sizes bytes = e ∙ ap (λ (t : ClassTable). class_of t.sizes bytes) k.table in
+    elim (cases_lt h.settings.page_words (need bytes)) [
+      | inl more ↦ absurd (let z : Some c ≡ None = e' ∙ class_none (paging_at h) (paging_ok h k) bytes more in cc)
+      | inr fits ↦ (
+          let lt = class_fits (paging_at h) (paging_ok h k) bytes fits in
+          let z : Some c ≡ Some (class_for (paging_at h) bytes) = e' ∙ class_known (paging_at h) (paging_ok h k) bytes lt in
+          let is : class_for (paging_at h) bytes ≡ c = cc in
+          (fits, is, subst (λ c. c < classes (paging_at h)) is lt))
+    ]
+
+-- a request that has none is larger than a page
+pub no_class : (h : Heap) → IsValid h → (bytes : ℕ) → None ≡ class_of h.classes.sizes bytes → h.settings.page_words < need bytes
+no_class h k bytes e = elim (cases_lt h.settings.page_words (need bytes)) [
+  | inl more ↦ more
+  | inr fits ↦ absurd (
+      let lt = class_fits (paging_at h) (paging_ok h k) bytes fits in
+      let z : None ≡ Some (class_for (paging_at h) bytes) = e ∙ ap (λ (t : ClassTable). class_of t.sizes bytes) k.table
+      ∙ class_known (paging_at h) (paging_ok h k) bytes lt in cc)
+]

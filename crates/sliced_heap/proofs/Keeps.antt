@@ -1,0 +1,35 @@
+-- An open heap keeps the rules that callers see.
+use Rattle.std.proofs.Common.{◌≡◌, ℕ, List, Option, Some, None, refl, sym, ◌∙◌, ap, subst}
+use Rattle.std.specs.Prelude.{IsTrue, is_some, option_map}
+use Rattle.std.proofs.lemmas.Bool.{false≢true}
+use Rattle.std.specs.FinMap.{get}
+use Rattle.cf_lemmas.proofs.MapValues.{get-map_values}
+use Rattle.page_model.specs.Bytes.{AreBytes}
+use Rattle.page_model.specs.Held.{Held, Placed, objects}
+use Rattle.sliced_heap.specs.Heap.{Heap, seen}
+use Rattle.sliced_heap.specs.Layout.{IsValid, state_of}
+use Rattle.sliced_heap.specs.Shown.{IsValidIn, KeepsRules, SlicedState, shown}
+use Rattle.sliced_heap.specs.declared.open_heap.OpenHeap.{OpenHeap}
+use Rattle.sliced_heap.proofs.Facts.{held_bytes, plan_ok}
+
+all_bytes : (m : Held) → ((q : ℕ) (x : Placed) → get m q ≡ Some x → AreBytes x.bytes) → (q : ℕ) (v : List ℕ) → get (objects m) q ≡ Some v → AreBytes v
+all_bytes m each q v there = go (get m q) (each q) (sym (get-map_values (λ (x : Placed). x.bytes) m q) ∙ there)
+  where
+    go : (o : Option Placed) → ((x : Placed) → o ≡ Some x → AreBytes x.bytes) → option_map (λ (x : Placed). x.bytes) o ≡ Some v → AreBytes v
+    go None each e = absurd (let z : None ≡ Some v = e in cc)
+    go (Some x) each e = (let z : Some x.bytes ≡ Some v = e in let is : x.bytes ≡ v = cc in subst AreBytes is (each x refl))
+
+pub keeps : (h : OpenHeap) → IsValid (seen h) → KeepsRules (shown (Some h))
+keeps h k = record {
+  plan = plan_ok (seen h) k;
+  consistent = record { kept = k.kept; words = k.words; bytes = all_bytes (state_of (seen h)).held (held_bytes (seen h) k) };
+}
+
+-- the same in the terms of the value
+pub keeps_of : (o : Option OpenHeap) → IsValidIn o → (s : SlicedState) → shown o ≡ s → IsTrue s.is_open → KeepsRules s
+keeps_of None k s is open_now = absurd (false≢true (ap (λ (t : SlicedState). t.is_open) is ∙ open_now))
+keeps_of (Some h) k s is open_now = subst KeepsRules is (keeps h k)
+
+pub keeps_open : (o : Option OpenHeap) → IsValidIn o → IsTrue (is_some o) → KeepsRules (shown o)
+keeps_open None k open_now = absurd (false≢true open_now)
+keeps_open (Some h) k open_now = keeps h k

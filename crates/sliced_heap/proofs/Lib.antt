@@ -1,0 +1,17 @@
+pub mod Counts
+pub mod Facts
+pub mod HeldIs
+pub mod Preserved
+pub mod Headers
+pub mod Places
+pub mod Finding
+pub mod Forgetting
+pub mod Filling
+pub mod Ending
+pub mod ClearSlices
+pub mod Slicing
+pub mod Removing
+pub mod Giving
+pub mod Reaching
+pub mod Opening
+pub mod Keeps

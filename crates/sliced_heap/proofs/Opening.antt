@@ -1,0 +1,177 @@
+-- An open heap without objects.
+use Rattle.std.proofs.Common.{◌≡◌, ℕ, zero, suc, Bool, false, ◌+◌, ◌-◌, ◌*◌, ◌/◌, ◌<◌, ◌≤◌, List, [], length, replicate, get_or, Some, None, arith, refl, sym, ◌∙◌, ap, subst, inl, inr}
+use Rattle.std.specs.Prelude.{sum_by}
+use Rattle.std.specs.List.{range_with_len}
+use Rattle.std.proofs.lemmas.Bool.{cases_lt}
+use Rattle.std.proofs.lemmas.List.{get_or-replicate, get_or_past, length-replicate}
+use Rattle.std.proofs.lemmas.List.Sums.{sum_by-cons}
+use Rattle.std.proofs.lemmas.Nat.{div-mul-add}
+use Rattle.std.specs.Ordering.{nat_cmp}
+use Rattle.std.specs.FinMap.{empty, get, get-empty}
+use Rattle.cf_base.specs.Classes.{sizes}
+use Rattle.cf_base.specs.declared.settings.Settings.{Settings}
+use Rattle.cf_base.specs.declared.kind.Layout.TheVariants.{Words}
+use Rattle.cf_base.proofs.CallerLemmas.{are_sizes, page_size}
+use Rattle.cf_lemmas.proofs.Values.{no_values, map_values-empty}
+use Rattle.page_model.specs.Arrangement.{live, pages_needed}
+use Rattle.page_model.specs.Bytes.{bytes_at, held_at}
+use Rattle.page_model.specs.Counts.{ceil_div}
+use Rattle.page_model.specs.Held.{Placed, objects}
+use Rattle.page_model.specs.Paging.{Paging, IsPaging, class_for, classes, slots_of}
+use Rattle.page_model.proofs.CallerLemmas.{first_paged, slots_some, sound_empty}
+use Rattle.size_classes.specs.Table.{ClassTable, IsClassTable, table_of}
+use Rattle.class_lists.specs.PageLists.{empty_lists}
+use Rattle.page_pool.specs.Pool.{Pool}
+use Rattle.proxy_table.specs.Proxies.{Proxies, AreBelowLimit, no_proxies}
+use Rattle.page_slots.specs.Tables.{AreTables, NoneElsewhere, tables, used_in}
+use Rattle.page_slots.specs.Occupying.{Occupies, Tell, class_table}
+use Rattle.page_slots.proofs.CallerLemmas.{first_occupied, first_tables, first_whole}
+use Rattle.slice_model.specs.State.{Sliced, IsKept, Idle, occupied}
+use Rattle.slice_model.specs.Words.{HasWords}
+use Rattle.sliced_heap.specs.Heap.{Heap}
+use Rattle.sliced_heap.specs.Layout.{IsNew, IsValid, completed, paging_at, plan_of, profile_at, state_of, tables_in, working_of}
+
+no_objects : objects empty ≡ empty
+no_objects = map_values-empty (λ (x : Placed). x.bytes)
+
+none_live : (p : Paging) (c : ℕ) → live p empty c ≡ 0
+unfolding live
+none_live p c = ap (sum_by _) no_values
+
+-- no objects need no pages
+none_needed : (p : Paging) → IsPaging p → pages_needed p empty ≡ 0
+unfolding pages_needed
+none_needed p ok = sum_range (classes p) 0 (omega arith)
+  where
+    nothing : (m : ℕ) → 0 < m → ceil_div 0 m ≡ 0
+    nothing m pos = ap (λ z. z / m) (let e : 0 + (m - 1) ≡ 0 * m + (m - 1) = omega arith in e) ∙ div-mul-add 0 m (m - 1) (omega arith)
+
+    sum_range : (n a : ℕ) → a + n ≤ classes p → sum_by (λ c. ceil_div (live p empty c) (slots_of p c)) (range_with_len a n) ≡ 0
+    sum_range zero a le = refl
+    sum_range (suc n) a le =
+        let x = sum_by-cons (λ c. ceil_div (live p empty c) (slots_of p c)) a (range_with_len (a + 1) n) in
+        let e : ceil_div (live p empty a) (slots_of p a) ≡ 0 = ap (λ l. ceil_div l (slots_of p a)) (none_live p a)
+        ∙ nothing (slots_of p a) (slots_some p ok a (omega arith)) in
+        let rest = sum_range n (a + 1) (omega arith) in
+        omega arith
+
+-- what an opened heap is made of
+pub record IsFirst (s : Settings) (n : ℕ) (h : Heap) : Type 0 where
+  pub settings : h.settings ≡ s
+  pub asked : h.quantum ≡ n
+  pub table : h.classes ≡ table_of h.settings.page_words Words
+  pub quantum : 1 ≤ h.quantum
+  pub live : h.live ≡ replicate 128 0
+  pub needed : h.needed ≡ 0
+  pub words : h.words ≡ replicate (h.settings.pages * h.settings.page_words) 0
+  pub maps : h.maps ≡ replicate h.settings.pages (replicate 1 false)
+  pub lists : h.lists ≡ empty_lists (length h.classes.sizes) h.settings.pages
+  pub pool : h.pool ≡ record { pages = h.settings.pages; free = range_with_len 0 h.settings.pages }
+  pub proxies : h.proxies ≡ no_proxies h.settings.proxies
+  pub handles : AreBelowLimit h.proxies
+  pub job : h.job ≡ Idle
+
+module _ (s : Settings) (n : ℕ) (h : Heap) (f : IsFirst s n h) where
+  abbrev first : Sliced
+  first = record { held = empty; job = Idle }
+
+  state_is : state_of h ≡ first
+  state_is =
+      ap (λ (x : Proxies). record { held = held_at (completed (paging_at h) h.job x.places h.words) x.places; job = h.job }) f.proxies
+      ∙ ap (λ m. record { held = m; job = h.job })
+      (map_values-empty (λ a. record { place = a; bytes = bytes_at (completed (paging_at h) h.job empty h.words) a }))
+      ∙ ap (λ j. record { held = empty; job = j }) f.job
+
+  objects_are : objects (state_of h).held ≡ empty
+  objects_are = ap (λ (z : Sliced). objects z.held) state_is ∙ no_objects
+
+  many : length h.classes.sizes ≡ classes (paging_at h)
+  many = ap (λ (t : ClassTable). length t.sizes) f.table
+
+  paging_ok : IsPaging (paging_at h)
+  paging_ok = first_paged (profile_at h.settings) Words h.settings.page_size (omega arith)
+
+  few : classes (paging_at h) ≤ 67
+  few = (are_sizes h.settings.page_words Words h.settings.page_size).few
+
+  tell : Tell (paging_at h) (tables_in h)
+  tell = record {
+    part = record { tables = told; pages = ap (λ (q : Pool). q.pages) f.pool };
+    whole = subst NoneElsewhere (sym tables_are) (first_whole (length h.classes.sizes) h.settings.pages h.maps);
+  }
+    where
+      unused : (page : ℕ) → used_in (get_or h.maps page []) ≡ 0
+      unused page = ap (λ (maps : List (List Bool)). used_in (get_or maps page [])) f.maps ∙ elim (cases_lt page h.settings.pages) [
+        | inl lt ↦ ap used_in (get_or-replicate h.settings.pages page (replicate 1 false) [] lt)
+        | inr past ↦ ap used_in (get_or_past (replicate h.settings.pages (replicate 1 false)) page []
+            (let e = length-replicate h.settings.pages (replicate 1 false) in omega arith))
+      ]
+
+      told : AreTables (class_table (paging_at h)) (tables_in h)
+      told =
+          let small = h.settings.small_region in
+          let t : IsClassTable h.settings.page_words (sizes h.settings.page_words Words) =
+          record {
+            are_sizes = are_sizes h.settings.page_words Words h.settings.page_size;
+            small = (page_size h.settings.page_words h.settings.page_size).small;
+          } in
+          let long : length h.maps ≡ h.settings.pages = ap length f.maps ∙ length-replicate h.settings.pages (replicate 1 false) in
+          let all = first_tables (length h.classes.sizes) h.settings.pages (class_table (paging_at h)) h.maps t (omega arith) long unused many in
+          let l = subst (λ l. AreTables (class_table (paging_at h))
+          (tables h.maps l (record { pages = h.settings.pages; free = range_with_len 0 h.settings.pages }))) (sym f.lists) all in
+          subst (λ q. AreTables (class_table (paging_at h)) (tables h.maps h.lists q)) (sym f.pool) l
+
+      tables_are : tables_in h ≡ tables h.maps (empty_lists (length h.classes.sizes) h.settings.pages)
+          (record { pages = h.settings.pages; free = range_with_len 0 h.settings.pages })
+      tables_are = ap (λ l. tables h.maps l h.pool) f.lists ∙ ap (tables h.maps (empty_lists (length h.classes.sizes) h.settings.pages)) f.pool
+
+  kept_first : IsKept (plan_of h) first
+  kept_first = record {
+    numbers = λ q x e. absurd (let none : get {X = Placed} {R = nat_cmp} empty q ≡ None = get-empty nat_cmp q in let z : Some x ≡ None = sym e ∙ none in cc);
+    job = tt;
+    sound = sound_empty (paging_at h);
+  }
+
+  words_first : HasWords (paging_at h) first h.words
+  words_first = record {
+    held = λ q x e. absurd (let none : get {X = Placed} {R = nat_cmp} empty q ≡ None = get-empty nat_cmp q in let z : Some x ≡ None = sym e ∙ none in cc);
+    done = λ k e i lt. absurd (let z : None ≡ Some k = e in cc);
+    zeros = λ w out beyond. ap (λ ws. get_or ws w 0) f.words ∙ all_zero (h.settings.pages * h.settings.page_words) w;
+  }
+    where
+      all_zero : (z w : ℕ) → ◌≡◌ {A = ℕ} (get_or (replicate {A = ℕ} z 0) w 0) 0
+      all_zero z w = elim (cases_lt w z) [
+        | inl lt ↦ get_or-replicate {A = ℕ} z w 0 0 lt
+        | inr past ↦ get_or_past (replicate {A = ℕ} z 0) w 0 (let e = length-replicate {A = ℕ} z 0 in omega arith)
+      ]
+
+  pub first_valid : IsValid h
+  first_valid = record {
+    table = f.table;
+    quantum = f.quantum;
+    words_long = ap length f.words ∙ length-replicate {A = ℕ} (h.settings.pages * h.settings.page_words) 0;
+    kept = subst (IsKept (plan_of h)) (sym state_is) kept_first;
+    words = subst (λ z. HasWords (paging_at h) z h.words) (sym state_is) words_first;
+    tell = tell;
+    occupied =
+        let o = first_occupied (length h.classes.sizes) h.settings.pages (paging_at h) h.maps h.pool in
+        let l : Occupies (paging_at h) empty (tables_in h) = subst (λ l. Occupies (paging_at h) empty (tables h.maps l h.pool)) (sym f.lists) o in
+        subst (λ z. Occupies (paging_at h) (occupied (plan_of h) z) (tables_in h)) (sym state_is) l;
+    numbers = ap (λ (x : Proxies). x.limit) f.proxies;
+    handles = f.handles;
+    live_long = ap length f.live ∙ length-replicate {A = ℕ} 128 0;
+    counted = λ c lt. (
+        let l = few in
+        let here : c < 128 = omega arith in
+        ap (λ b. get_or b c 0) f.live ∙ get_or-replicate {A = ℕ} 128 c 0 0 here ∙ sym (ap (λ o. live (paging_at h) o c) objects_are ∙ none_live (paging_at h) c));
+    needed = f.needed ∙ sym (ap (pages_needed (paging_at h)) objects_are ∙ none_needed (paging_at h) paging_ok);
+    within = (let e = f.needed in omega arith);
+  }
+
+  pub first_new : IsNew s n h
+  first_new = record {
+    settings = f.settings;
+    quantum = f.asked;
+    working = ap (λ z. record { state = z; words = h.words }) state_is ∙ ap (λ w. record { state = first; words = w })
+        (f.words ∙ ap (λ (x : Settings). replicate (x.pages * x.page_words) 0) f.settings);
+  }

@@ -1,0 +1,80 @@
+-- An open heap whose objects, words, tables and counts changed together keeps what it keeps, and has that state.
+use Rattle.std.proofs.Common.{◌≡◌, ℕ, ◌*◌, ◌^◌, ◌<◌, ◌≤◌, length, get_or, Some, arith, sym, ◌∙◌, ap, subst}
+use Rattle.std.specs.FinMap.{get}
+use Rattle.page_model.specs.Arrangement.{live, pages_needed}
+use Rattle.page_model.specs.Bytes.{AreBytes, AreStorable}
+use Rattle.page_model.specs.Held.{Held, Placed, objects, places}
+use Rattle.page_model.specs.Paging.{classes}
+use Rattle.page_slots.specs.Occupying.{Occupies, Tell}
+use Rattle.proxy_table.specs.Proxies.{AreBelowLimit}
+use Rattle.slice_model.specs.State.{Sliced, IsKept, job_slot, occupied, with_slot}
+use Rattle.slice_model.specs.Words.{HasWords}
+use Rattle.sliced_heap.specs.Heap.{Heap}
+use Rattle.sliced_heap.specs.Layout.{IsValid, completed, paging_at, plan_of, state_of, tables_in}
+use Rattle.sliced_heap.proofs.Facts.{plan_ok}
+use Rattle.sliced_heap.proofs.HeldIs.{held_told}
+
+-- n has the state s, and is h in what no call changes
+pub record Becomes (h n : Heap) (s : Sliced) : Type 0 where
+  pub settings : n.settings ≡ h.settings
+  pub quantum : n.quantum ≡ h.quantum
+  pub table : n.classes ≡ h.classes
+  pub job : n.job ≡ s.job
+  pub long : length n.words ≡ length h.words
+  pub kept : IsKept (plan_of h) s
+  pub words : HasWords (paging_at h) s n.words
+  pub bytes : (q : ℕ) (x : Placed) → get s.held q ≡ Some x → AreBytes x.bytes
+  pub addresses : n.proxies.places ≡ places s.held
+  pub limit : n.proxies.limit ≡ h.proxies.limit
+  pub handles : AreBelowLimit n.proxies
+  pub tell : Tell (paging_at h) (tables_in n)
+  pub occupied : Occupies (paging_at h) (occupied (plan_of h) s) (tables_in n)
+  pub live_long : length n.live ≡ 128
+  pub counted : (c : ℕ) → c < classes (paging_at h) → get_or n.live c 0 ≡ live (paging_at h) (objects s.held) c
+  pub needed : n.needed ≡ pages_needed (paging_at h) (objects s.held)
+  pub within : n.needed ≤ h.settings.pages
+
+-- n, with what no call changes as h has it, and this job
+abbrev with_rest : Heap → Heap → Sliced → Heap
+with_rest h n s = record n { settings = h.settings; quantum = h.quantum; classes = h.classes; job = s.job }
+
+module _ (h n : Heap) (k : IsValid h) (s : Sliced) (b : Becomes h n s) where
+  is_rest : n ≡ with_rest h n s
+  is_rest =
+      ap (λ x. record n { settings = x }) b.settings
+      ∙ ap (λ x. record n { settings = h.settings; quantum = x }) b.quantum
+      ∙ ap (λ x. record n { settings = h.settings; quantum = h.quantum; classes = x }) b.table
+      ∙ ap (λ x. record n { settings = h.settings; quantum = h.quantum; classes = h.classes; job = x }) b.job
+
+  good : AreStorable s.held
+  good q x there = (let lt = b.kept.numbers q x there in let few = h.settings.few_proxies in omega arith, b.bytes q x there)
+
+  state_is : state_of (with_rest h n s) ≡ s
+  state_is = ap (λ m. record { held = m; job = s.job })
+      (held_told (plan_of h) (plan_ok h k) s.held s.job b.kept n.proxies.places b.addresses n.words (b.long ∙ k.words_long) b.words good)
+
+  rest_valid : IsValid (with_rest h n s)
+  rest_valid = record {
+    table = k.table;
+    quantum = k.quantum;
+    words_long = b.long ∙ k.words_long;
+    kept = subst (IsKept (plan_of h)) (sym state_is) b.kept;
+    words = subst (λ z. HasWords (paging_at h) z n.words) (sym state_is) b.words;
+    tell = b.tell;
+    occupied = subst (λ z. Occupies (paging_at h) (occupied (plan_of h) z) (tables_in n)) (sym state_is) b.occupied;
+    numbers = b.limit ∙ k.numbers;
+    handles = b.handles;
+    live_long = b.live_long;
+    counted = λ c lt. b.counted c lt ∙ ap (λ (z : Sliced). live (paging_at h) (objects z.held) c) (sym state_is);
+    needed = b.needed ∙ ap (λ (z : Sliced). pages_needed (paging_at h) (objects z.held)) (sym state_is);
+    within = b.within;
+  }
+
+  pub becomes_valid : IsValid n
+  becomes_valid = subst IsValid (sym is_rest) rest_valid
+
+  pub becomes_state : state_of n ≡ s
+  becomes_state = ap state_of is_rest ∙ state_is
+
+  pub becomes_plan : plan_of n ≡ plan_of h
+  becomes_plan = ap plan_of is_rest

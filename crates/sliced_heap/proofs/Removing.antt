@@ -1,0 +1,165 @@
+-- A free put together: the object goes, its slot is filled where it must be, and a slice follows.
+use Rattle.std.proofs.Common.{◌≡◌, ◌≢◌, ℕ, ◌*◌, ◌-◌, ◌<◌, List, length, replicate, Bool, true, false, Some, None, arith, refl, sym, ◌∙◌, ap, subst}
+use Rattle.std.specs.FinMap.{get, insert, remove}
+use Rattle.cf_lemmas.proofs.Maps.{get_remove_other, some_removed}
+use Rattle.page_model.specs.Arrangement.{IsSound, class_at, not_full_pages, objects_on}
+use Rattle.page_model.specs.Held.{Held, Placed}
+use Rattle.page_model.specs.Paging.{bound_of, page_of, slot_words, slots_of}
+use Rattle.page_model.specs.Steps.{Moves, MustMove}
+use Rattle.page_model.proofs.CallerLemmas.{not_full-same, objects_on-exchanged}
+use Rattle.slice_model.specs.State.{Sliced, IsKept, occupied, stand_in, Clear, Idle}
+use Rattle.slice_model.specs.Steps.{Carries, RemovesObject, fresh_slot}
+use Rattle.slice_model.specs.Runs.{Frees, Slices, Working}
+use Rattle.slice_model.proofs.CallerLemmas.{no_stand_in, other_than, same_elsewhere, stand_in_class}
+use Rattle.slice_model.specs.declared.job_slot.JobSlot.{JobSlot}
+use Rattle.sliced_heap.specs.Heap.{Heap}
+use Rattle.sliced_heap.specs.Layout.{IsValid, paging_at, plan_of, state_of, working_of}
+use Rattle.sliced_heap.specs.Steps.{Fills, Forgets, IsFilled, StaysVacant}
+use Rattle.sliced_heap.proofs.Facts.{paging_ok, plan_ok}
+
+use Rattle.sliced_heap.proofs.Headers.{in_class}
+
+module _ (h : Heap) (k : IsValid h) (idle : h.job ≡ Idle) (q : ℕ) (x : Placed) (there : get (state_of h).held q ≡ Some x) where
+  abbrev m : Held
+  m = (state_of h).held
+
+  abbrev c : ℕ
+  c = class_at (paging_at h) x
+
+  abbrev g : JobSlot
+  g = fresh_slot x.place c
+
+  abbrev all : Held
+  all = insert (remove m q) h.settings.proxies (stand_in (paging_at h) g)
+
+  at_idle : IsKept (plan_of h) (record { held = m; job = Idle })
+  at_idle = subst (λ j. IsKept (plan_of h) (record { held = m; job = j })) idle k.kept
+
+  stand_class : class_at (paging_at h) (stand_in (paging_at h) g) ≡ c
+  stand_class = stand_in_class (paging_at h) (paging_ok h k) g (in_class h k q x there)
+
+  none_left : get (remove m q) h.settings.proxies ≡ None
+  none_left =
+      let none = no_stand_in (plan_of h) m k.kept.numbers in
+      get_remove_other m q h.settings.proxies (λ e. other_than m h.settings.proxies q x none there (sym e)) ∙ none
+
+  -- as many objects of each class stand on each page, with the slot's stand-in in the place of the object
+  same_counts : (d page : ℕ) → objects_on (paging_at h) all d page ≡ objects_on (paging_at h) m d page
+  same_counts d page = objects_on-exchanged (paging_at h) m q x there h.settings.proxies (replicate (8 * (slot_words (paging_at h) c - 1)) 0) none_left stand_class d page
+
+  same_open : not_full_pages (paging_at h) all c ≡ not_full_pages (paging_at h) m c
+  same_open = not_full-same (paging_at h) m all c (λ page. same_counts c page)
+
+  -- so a free of the one has to move an object exactly where a free of the other has
+  pub must_of_stand : MustMove (paging_at h) (insert (remove (state_of h).held q) h.settings.proxies (stand_in (paging_at h) (fresh_slot x.place (class_at (paging_at h) x))))
+      (stand_in (paging_at h) (fresh_slot x.place (class_at (paging_at h) x))) → MustMove (paging_at h) (state_of h).held x
+  must_of_stand must = record {
+    full = sym (same_counts c (page_of (paging_at h) x.place)) ∙ rw stand_class at must.full;
+    several = rw stand_class at must.several;
+    many = sym same_open ∙ rw stand_class at must.many;
+  }
+
+  pub stand_of_must : MustMove (paging_at h) (state_of h).held x → MustMove (paging_at h)
+      (insert (remove (state_of h).held q) h.settings.proxies (stand_in (paging_at h) (fresh_slot x.place (class_at (paging_at h) x))))
+      (stand_in (paging_at h) (fresh_slot x.place (class_at (paging_at h) x)))
+  stand_of_must must = record {
+    full = rw stand_class (same_counts c (page_of (paging_at h) x.place) ∙ must.full);
+    several = rw stand_class must.several;
+    many = rw stand_class (same_open ∙ must.many);
+  }
+
+  -- the slot is vacant, then filled or not, and a slice follows
+  module _ (a n : Heap) (f : Forgets h q g a) (ka : IsValid a) where
+    occupied_is : occupied (plan_of a) (state_of a) ≡ all
+    occupied_is = ap (λ p. occupied p (state_of a)) f.plan ∙ ap (occupied (plan_of h)) f.state
+
+    held_is : (state_of a).held ≡ remove m q
+    held_is = ap (λ (z : Sliced). z.held) f.state
+
+    pages_are : paging_at a ≡ paging_at h
+    pages_are = ap (λ p. p.paging) f.plan
+
+    vacant_moves : (b : Heap) → StaysVacant a g b → Moves (paging_at h) m x None
+    vacant_moves b v must = v.stays (subst (λ p. MustMove p (occupied (plan_of a) (state_of a)) (stand_in p g)) (sym pages_are)
+        (subst (λ o. MustMove (paging_at h) o (stand_in (paging_at h) g)) (sym occupied_is) (stand_of_must must)))
+
+    filled_must : (b : Heap) → IsFilled a g b → MustMove (paging_at h) m x
+    filled_must b v = must_of_stand (subst (λ o. MustMove (paging_at h) o (stand_in (paging_at h) g)) occupied_is
+        (subst (λ p. MustMove p (occupied (plan_of a) (state_of a)) (stand_in p g)) pages_are v.must))
+
+    -- the object that moves is of the same class, on a page that isn't full with the freed object there
+    filled_moves : (b : Heap) → (v : IsFilled a g b) → Moves (paging_at h) m x (Some v.object)
+    filled_moves b v =
+        let y_left : get (remove m q) v.object ≡ Some v.beside.object = ap (λ n. get n v.object) (sym held_is) ∙ v.beside.found in
+        let y_there : get m v.object ≡ Some v.beside.object = (some_removed m q v.object v.beside.object y_left).1 in
+        let class : class_at (paging_at h) v.beside.object ≡ c = ap (λ p. class_at p v.beside.object) (sym pages_are) ∙ v.beside.class in
+        let apart : page_of (paging_at h) v.beside.object.place ≢ page_of (paging_at h) x.place =
+        subst (λ p. page_of p v.beside.object.place ≢ page_of p x.place) pages_are v.beside.page in
+        let less : objects_on (paging_at h) (remove m q) c (page_of (paging_at h) v.beside.object.place) < slots_of (paging_at h) c =
+        subst (λ n. objects_on (paging_at h) n c (page_of (paging_at h) v.beside.object.place) < slots_of (paging_at h) c) held_is
+        (subst (λ p. objects_on p (state_of a).held c (page_of p v.beside.object.place) < slots_of p c) pages_are v.beside.not_full) in
+        let sound : IsSound (paging_at h) all = subst (IsSound (paging_at h)) occupied_is
+        (subst (λ p. IsSound p (occupied (plan_of a) (state_of a))) pages_are ka.kept.sound) in
+        let same = same_elsewhere (plan_of h) (plan_ok h k) (remove m q) g none_left (in_class h k q x there) sound
+        (page_of (paging_at h) v.beside.object.place) apart in
+        let with_x = same_counts c (page_of (paging_at h) v.beside.object.place) in
+        (filled_must b v, (v.beside.object, y_there, record { class = class; not_full = omega arith }))
+
+    -- and the slice
+    module _ (b : Heap) (s : Slices (plan_of b) (working_of b) (working_of n)) where
+      vacant_frees : StaysVacant a g b → Frees (plan_of h) (working_of h) q (working_of n)
+      vacant_frees v =
+          let plan_b : plan_of b ≡ plan_of h = ap plan_of v.same ∙ f.plan in
+          let state_b : state_of b ≡ record { held = remove m q; job = Clear g } = ap state_of v.same ∙ f.state in
+          let words_b : b.words ≡ h.words = ap (λ (z : Heap). z.words) v.same ∙ f.words in
+          let s' : Slices (plan_of h) (record { state = state_of b; words = h.words }) (working_of n) =
+          subst (λ w. Slices (plan_of h) (record { state = state_of b; words = w }) (working_of n)) words_b
+          (subst (λ p. Slices p (working_of b) (working_of n)) plan_b s) in
+          record {
+            removes = record {
+              idle = idle;
+              freed = x;
+              found = there;
+              moved = None;
+              moves = vacant_moves b v;
+              begun = state_of b;
+              begins = state_b;
+              slice = s'.slice;
+            };
+            words = s'.words;
+          }
+
+      filled_frees : IsFilled a g b → Frees (plan_of h) (working_of h) q (working_of n)
+      filled_frees v =
+          let plan_b : plan_of b ≡ plan_of h = v.plan ∙ f.plan in
+          let words_b : b.words ≡ h.words = v.words ∙ f.words in
+          let carries = subst (λ n. Carries n v.object x.place c (state_of b)) held_is v.carries in
+          let s' : Slices (plan_of h) (record { state = state_of b; words = h.words }) (working_of n) =
+          subst (λ w. Slices (plan_of h) (record { state = state_of b; words = w }) (working_of n)) words_b
+          (subst (λ p. Slices p (working_of b) (working_of n)) plan_b s) in
+          record {
+            removes = record {
+              idle = idle;
+              freed = x;
+              found = there;
+              moved = Some v.object;
+              moves = filled_moves b v;
+              begun = state_of b;
+              begins = carries;
+              slice = s'.slice;
+            };
+            words = s'.words;
+          }
+
+      pub frees : (filled : Bool) → Fills a g filled b → Frees (plan_of h) (working_of h) q (working_of n)
+      frees true v = filled_frees v
+      frees false v = vacant_frees v
+
+-- the same by what the parts of a free tell
+pub frees_from : (h : Heap) (k : IsValid h) → h.job ≡ Idle → (q : ℕ) (g : JobSlot) (a b n : Heap) → Forgets h q g a → IsValid a → (filled : Bool) → Fills a g filled b
+    → Slices (plan_of b) (working_of b) (working_of n) → Frees (plan_of h) (working_of h) q (working_of n)
+frees_from h k idle q g a b n f ka filled fills s =
+    let same : g ≡ fresh_slot f.object.place (class_at (paging_at h) f.object) = f.slot in
+    let f' : Forgets h q (fresh_slot f.object.place (class_at (paging_at h) f.object)) a = subst (λ g. Forgets h q g a) same f in
+    let v' : Fills a (fresh_slot f.object.place (class_at (paging_at h) f.object)) filled b = subst (λ g. Fills a g filled b) same fills in
+    frees h k idle q f.object f.found a n f' ka b s filled v'

@@ -1,0 +1,49 @@
+use Rattle.std.proofs.Common.{arith, refl}
+use Rattle.slice_model.specs.State.{Clear}
+use Rattle.sliced_heap.specs.Heap.{seen}
+use Rattle.sliced_heap.proofs.ClearSlices.{clear_ended, clear_within}
+use Rattle.sliced_heap.proofs.Slicing.{all_zeros, goes_on, goes_on_valid, goes_to_end, vacated_valid}
+use Rattle.sliced_heap.proofs.open_heap.OpenHeap.clear_slice.Goals as goal
+
+pub clear_next-requires-clause-within : goal.clear_next-requires-clause-within
+clear_next-requires-clause-within c = clear_within (seen c.args.self.now) c.requires.kept c.args.k c.requires.job c.words_of-n.result c.words_of-n.ensures
+
+pub returns-then-done-slot_words-clause-step : goal.returns-then-done-slot_words-clause-step
+returns-then-done-slot_words-clause-step c =
+    let h = seen c.args.self.now in
+    let s = c.slot_words.ensures.value in
+    goes_on h c.requires.kept (Clear c.args.k) c.requires.job c.args.k refl c.clear_next.new.region c.clear_next.ensures.len c.words_of-n.result c.words_of-n.ensures
+    c.clear_next.ensures.words (clear_ended h c.requires.kept c.args.k c.requires.job c.clear_next.new.region c.words_of-n.result c.clear_next.ensures.words)
+    (let t = c.if-done-slot_words.true in omega arith)
+
+pub returns-then-done-slot_words-clause-kept : goal.returns-then-done-slot_words-clause-kept
+returns-then-done-slot_words-clause-kept c =
+    let h = seen c.args.self.now in
+    let s = c.slot_words.ensures.value in
+    goes_on_valid h c.requires.kept (Clear c.args.k) c.requires.job c.args.k refl c.clear_next.new.region c.clear_next.ensures.len c.words_of-n.result c.words_of-n.ensures
+    c.clear_next.ensures.words (clear_ended h c.requires.kept c.args.k c.requires.job c.clear_next.new.region c.words_of-n.result c.clear_next.ensures.words)
+    (let t = c.if-done-slot_words.true in omega arith)
+
+pub end-requires-clause-kept : goal.end-requires-clause-kept
+end-requires-clause-kept c =
+    let h = seen c.args.self.now in
+    let s = c.slot_words.ensures.value in
+    vacated_valid h c.requires.kept (Clear c.args.k) c.requires.job c.args.k refl c.clear_next.new.region c.clear_next.ensures.len c.words_of-n.result c.words_of-n.ensures
+    c.clear_next.ensures.words (clear_ended h c.requires.kept c.args.k c.requires.job c.clear_next.new.region c.words_of-n.result c.clear_next.ensures.words)
+    (let t = c.if-done-slot_words.false in omega arith)
+
+pub end-requires-clause-zeros : goal.end-requires-clause-zeros
+end-requires-clause-zeros c =
+    let h = seen c.args.self.now in
+    let s = c.slot_words.ensures.value in
+    all_zeros h c.requires.kept (Clear c.args.k) c.requires.job c.args.k refl c.clear_next.new.region c.clear_next.ensures.len c.words_of-n.result c.words_of-n.ensures
+    c.clear_next.ensures.words (clear_ended h c.requires.kept c.args.k c.requires.job c.clear_next.new.region c.words_of-n.result c.clear_next.ensures.words)
+    (let t = c.if-done-slot_words.false in omega arith)
+
+pub returns-clause-step : goal.returns-clause-step
+returns-clause-step c =
+    let h = seen c.args.self.now in
+    let s = c.slot_words.ensures.value in
+    goes_to_end h c.requires.kept (Clear c.args.k) c.requires.job c.args.k refl c.clear_next.new.region c.clear_next.ensures.len c.words_of-n.result c.words_of-n.ensures
+    c.clear_next.ensures.words (clear_ended h c.requires.kept c.args.k c.requires.job c.clear_next.new.region c.words_of-n.result c.clear_next.ensures.words)
+    (let t = c.if-done-slot_words.false in omega arith) (seen c.end.new.self) c.end.ensures.ended c.end.ensures.words

@@ -1,0 +1,37 @@
+use Rattle.std.proofs.Common.{refl}
+use Rattle.sliced_heap.proofs.Opening.{first_new, first_valid}
+use Rattle.sliced_heap.proofs.open_heap.OpenHeap.empty.Goals as goal
+
+pub returns-clause-kept : goal.returns-clause-kept
+returns-clause-kept c = first_valid c.args.s.now c.args.quantum _ (record {
+  settings = refl;
+  asked = refl;
+  table = c.requires.classes;
+  quantum = c.requires.least;
+  live = refl;
+  needed = refl;
+  words = c.requires.region;
+  maps = c.requires.maps;
+  lists = c.requires.lists;
+  pool = c.requires.pool;
+  proxies = c.requires.proxies;
+  handles = c.requires.handles;
+  job = refl;
+})
+
+pub returns-clause-new : goal.returns-clause-new
+returns-clause-new c = first_new c.args.s.now c.args.quantum _ (record {
+  settings = refl;
+  asked = refl;
+  table = c.requires.classes;
+  quantum = c.requires.least;
+  live = refl;
+  needed = refl;
+  words = c.requires.region;
+  maps = c.requires.maps;
+  lists = c.requires.lists;
+  pool = c.requires.pool;
+  proxies = c.requires.proxies;
+  handles = c.requires.handles;
+  job = refl;
+})

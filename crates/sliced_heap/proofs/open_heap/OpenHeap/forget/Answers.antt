@@ -1,0 +1,72 @@
+use Rattle.std.proofs.Common.{◌≡◌, ◌+◌, ◌-◌, ℕ, length, get_or, set, Some, None, arith, refl, sym, ◌∙◌, ap, subst}
+use Rattle.cf_base.specs.Classes.{class_of, slots}
+use Rattle.page_model.specs.Arrangement.{class_at}
+use Rattle.proxy_table.specs.Proxies.{AreBelowLimit}
+use Rattle.slice_model.specs.State.{Clear}
+use Rattle.slice_model.specs.Steps.{fresh_slot}
+use Rattle.sliced_heap.specs.Heap.{Heap, seen}
+use Rattle.sliced_heap.specs.Layout.{opens, paging_at}
+use Rattle.sliced_heap.specs.declared.open_heap.OpenHeap.{OpenHeap}
+use Rattle.sliced_heap.proofs.Forgetting.{GoesAway, forgets_at, live_some, needed_some}
+use Rattle.sliced_heap.proofs.Finding.{class_found, found, has_class, length_told, place_in}
+use Rattle.sliced_heap.proofs.open_heap.OpenHeap.forget.Goals as goal
+
+pub read-requires : goal.read-requires
+read-requires c = record {
+  within = place_in (seen c.args.self.now) c.requires.kept c.requires.idle c.args.h.0 c.args.place c.requires.known;
+}
+
+pub unreachable-requires : goal.unreachable-requires
+unreachable-requires c =
+    has_class (seen c.args.self.now) c.requires.kept c.requires.idle c.args.h.0 c.args.place c.requires.known c.unpack-length.result.length
+    (let v = c.read.ensures.value in let u = c.unpack-length.ensures.length in omega arith) c.in_default.ensures.found
+
+pub count_out-requires-clause-live : goal.count_out-requires-clause-live
+count_out-requires-clause-live c =
+    let h = seen c.args.self.now in
+    let w = found h c.requires.kept c.args.h.0 c.args.place c.requires.known in
+    let is = class_found h c.requires.kept c.requires.idle c.args.h.0 c.args.place c.requires.known c.unpack-length.result.length
+    (let v = c.read.ensures.value in let u = c.unpack-length.ensures.length in omega arith) c.in-Some.c c.in-Some.ensures.found in
+    rw (← is) (live_some h c.requires.kept c.requires.idle c.args.h.0 w.0 w.1)
+
+pub count_out-requires-clause-needed : goal.count_out-requires-clause-needed
+count_out-requires-clause-needed c =
+    let h = seen c.args.self.now in
+    let w = found h c.requires.kept c.args.h.0 c.args.place c.requires.known in
+    let is = class_found h c.requires.kept c.requires.idle c.args.h.0 c.args.place c.requires.known c.unpack-length.result.length
+    (let v = c.read.ensures.value in let u = c.unpack-length.ensures.length in omega arith) c.in-Some.c c.in-Some.ensures.found in
+    rw (← is) (needed_some h c.requires.kept c.requires.idle c.args.h.0 w.0 w.1)
+
+pub returns-clause-gone : goal.returns-clause-gone
+returns-clause-gone c =
+    let h = seen c.args.self.now in
+    let w = found h c.requires.kept c.args.h.0 c.args.place c.requires.known in
+    let is = class_found h c.requires.kept c.requires.idle c.args.h.0 c.args.place c.requires.known c.unpack-length.result.length
+    (let v = c.read.ensures.value in let u = c.unpack-length.ensures.length in omega arith) c.in-Some.c c.in-Some.ensures.found in
+    (forgets_at h c.requires.kept c.requires.idle c.args.h.0 w.0 w.1 c.args.place c.in-Some.c w.2 is _ (record {
+      rest = ap (λ (x : OpenHeap). record (seen x) { job = Clear (fresh_slot c.args.place c.in-Some.c) }) c.count_out.ensures
+          ∙ ap (λ p. record h {
+            proxies = p;
+            live = set h.live c.in-Some.c (get_or h.live c.in-Some.c 0 - 1);
+            needed = h.needed - opens (slots h.classes.page_words h.classes.sizes c.in-Some.c) (get_or h.live c.in-Some.c 0 - 1);
+            job = Clear (fresh_slot c.args.place c.in-Some.c);
+          }) c.release.ensures.places;
+      handles = subst AreBelowLimit (sym (ap (λ (x : OpenHeap). x.proxies) c.count_out.ensures)) c.release.ensures.kept;
+    })).0
+
+pub returns-clause-kept : goal.returns-clause-kept
+returns-clause-kept c =
+    let h = seen c.args.self.now in
+    let w = found h c.requires.kept c.args.h.0 c.args.place c.requires.known in
+    let is = class_found h c.requires.kept c.requires.idle c.args.h.0 c.args.place c.requires.known c.unpack-length.result.length
+    (let v = c.read.ensures.value in let u = c.unpack-length.ensures.length in omega arith) c.in-Some.c c.in-Some.ensures.found in
+    (forgets_at h c.requires.kept c.requires.idle c.args.h.0 w.0 w.1 c.args.place c.in-Some.c w.2 is _ (record {
+      rest = ap (λ (x : OpenHeap). record (seen x) { job = Clear (fresh_slot c.args.place c.in-Some.c) }) c.count_out.ensures
+          ∙ ap (λ p. record h {
+            proxies = p;
+            live = set h.live c.in-Some.c (get_or h.live c.in-Some.c 0 - 1);
+            needed = h.needed - opens (slots h.classes.page_words h.classes.sizes c.in-Some.c) (get_or h.live c.in-Some.c 0 - 1);
+            job = Clear (fresh_slot c.args.place c.in-Some.c);
+          }) c.release.ensures.places;
+      handles = subst AreBelowLimit (sym (ap (λ (x : OpenHeap). x.proxies) c.count_out.ensures)) c.release.ensures.kept;
+    })).1

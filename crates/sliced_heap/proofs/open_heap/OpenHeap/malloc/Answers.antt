@@ -1,0 +1,59 @@
+use Rattle.std.proofs.Common.{◌≡◌, ◌+◌, length, get_or, set, arith, refl, sym, ◌∙◌, ap, subst}
+use Rattle.cf_base.specs.Classes.{slots}
+use Rattle.proxy_table.specs.Proxies.{AreBelowLimit}
+use Rattle.page_model.specs.Image.{header_word}
+use Rattle.sliced_heap.specs.Heap.{Heap, seen}
+use Rattle.sliced_heap.specs.Layout.{opens, tables_in, working_of}
+use Rattle.sliced_heap.specs.declared.open_heap.OpenHeap.{OpenHeap}
+use Rattle.sliced_heap.proofs.Giving.{given_from, live_room, place_inside, wants_proxy, wants_slot, wants_space, within_of}
+use Rattle.sliced_heap.proofs.open_heap.OpenHeap.malloc.Goals as goal
+
+pub returns-then-live-self-clause-step : goal.returns-then-live-self-clause-step
+returns-then-live-self-clause-step c = (
+  wants_proxy (seen c.args.self.now) c.requires c.args.bytes c.in-Some.c c.in-Some.ensures.found (sym c.live.ensures.count ∙ c.if-live-self.true),
+  refl,
+)
+
+pub returns-then-is_over-clause-step : goal.returns-then-is_over-clause-step
+returns-then-is_over-clause-step c = (
+  wants_space (seen c.args.self.now) c.requires c.args.bytes c.in-Some.c c.in-Some.ensures.found (λ e. c.if-live-self.false (c.live.ensures.count ∙ e))
+      (c.is_over.ensures.0 c.if-is_over.true),
+  refl,
+)
+
+pub returns-in_default-take_slot-clause-step : goal.returns-in_default-take_slot-clause-step
+returns-in_default-take_slot-clause-step c = (
+  wants_slot (seen c.args.self.now) c.requires c.args.bytes c.in-Some.c c.in-Some.ensures.found (λ e. c.if-live-self.false (c.live.ensures.count ∙ e))
+      (within_of c.is_over.result _ _ c.is_over.ensures c.if-is_over.false) _ c.in_default-take_slot.ensures.taken,
+  ap (λ (x : OpenHeap). working_of (seen x)) c.take_slot.ensures.rest,
+)
+
+pub bind-handle-requires-clause-within : goal.bind-handle-requires-clause-within
+bind-handle-requires-clause-within c =
+    let lt = place_inside (seen c.args.self.now) c.requires c.args.bytes c.in-Some.c c.in-Some.ensures.found (λ e. c.if-live-self.false (c.live.ensures.count ∙ e))
+    (within_of c.is_over.result _ _ c.is_over.ensures c.if-is_over.false) _ c.in-Some-take_slot.place c.in-Some-take_slot.ensures.taken c.take_slot.ensures.tables in
+    let e = ap (λ (x : OpenHeap). length x.region) c.take_slot.ensures.rest in
+    omega arith
+
+pub count_in-requires-clause-live : goal.count_in-requires-clause-live
+count_in-requires-clause-live c =
+    let l = live_room (seen c.args.self.now) c.requires c.args.bytes c.in-Some.c c.in-Some.ensures.found in
+    let e = ap (λ (x : OpenHeap). get_or x.live c.in-Some.c 0) c.bind-handle.ensures.whole in
+    let f = ap (λ (x : OpenHeap). get_or x.live c.in-Some.c 0) c.take_slot.ensures.rest in
+    omega arith
+
+pub returns-clause-step : goal.returns-clause-step
+returns-clause-step c =
+    (given_from (seen c.args.self.now) c.requires c.args.bytes c.in-Some.c c.in-Some.ensures.found (λ e. c.if-live-self.false (c.live.ensures.count ∙ e))
+    (within_of c.is_over.result _ _ c.is_over.ensures c.if-is_over.false) (seen c.take_slot.new.self) (seen c.bind-handle.new.self) (seen c.count_in.new.self)
+    c.in-Some-take_slot.place c.bind-handle.result.0 c.in-Some-take_slot.ensures.taken c.take_slot.ensures.tables (ap seen c.take_slot.ensures.rest)
+    c.bind-handle.ensures.unused c.bind-handle.ensures.below (ap seen c.bind-handle.ensures.whole) c.bind-handle.ensures.handles
+    (ap seen c.count_in.ensures)).0
+
+pub returns-clause-kept : goal.returns-clause-kept
+returns-clause-kept c =
+    (given_from (seen c.args.self.now) c.requires c.args.bytes c.in-Some.c c.in-Some.ensures.found (λ e. c.if-live-self.false (c.live.ensures.count ∙ e))
+    (within_of c.is_over.result _ _ c.is_over.ensures c.if-is_over.false) (seen c.take_slot.new.self) (seen c.bind-handle.new.self) (seen c.count_in.new.self)
+    c.in-Some-take_slot.place c.bind-handle.result.0 c.in-Some-take_slot.ensures.taken c.take_slot.ensures.tables (ap seen c.take_slot.ensures.rest)
+    c.bind-handle.ensures.unused c.bind-handle.ensures.below (ap seen c.bind-handle.ensures.whole) c.bind-handle.ensures.handles
+    (ap seen c.count_in.ensures)).1

@@ -1,0 +1,45 @@
+-- What definitions see of an open heap: its parts, the words of its region, and the pending job.
+use Rattle.std.specs.Prelude.{ℕ, Bool, List}
+use Rattle.cf_base.specs.declared.settings.Settings.{Settings}
+use Rattle.size_classes.specs.Table.{ClassTable}
+use Rattle.class_lists.specs.PageLists.{PageLists}
+use Rattle.page_pool.specs.Pool.{Pool}
+use Rattle.proxy_table.specs.Proxies.{Proxies}
+use Rattle.slice_model.specs.State.{Job, Idle, Clear, Move}
+use Rattle.sliced_heap.specs.declared.open_heap.OpenHeap.{OpenHeap}
+use Rattle.sliced_heap.specs.declared.open_heap.Pending.{Pending}
+use Rattle.sliced_heap.specs.declared.open_heap.Pending.TheVariants as pending
+
+pub record Heap : Type 0 where
+  pub settings : Settings
+  pub quantum : ℕ
+  pub classes : ClassTable
+  pub live : List ℕ
+  pub needed : ℕ
+  pub words : List ℕ
+  pub maps : List (List Bool)
+  pub lists : PageLists
+  pub pool : Pool
+  pub proxies : Proxies
+  pub job : Job
+
+-- the job of the model
+abbrev pub job_of : Pending → Job
+job_of pending.Idle = Idle
+job_of (pending.Clear k) = Clear k
+job_of (pending.Carry h k) = Move h.0 k
+
+abbrev pub seen : OpenHeap → Heap
+seen h = record {
+  settings = h.settings;
+  quantum = h.quantum;
+  classes = h.classes;
+  live = h.live;
+  needed = h.needed;
+  words = h.region;
+  maps = h.maps.items;
+  lists = h.lists;
+  pool = h.pool;
+  proxies = h.proxies;
+  job = job_of h.job;
+}

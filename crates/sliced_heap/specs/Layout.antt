@@ -1,0 +1,84 @@
+-- What contracts see of an open heap, and what it keeps.
+use Rattle.std.specs.Prelude.{◌≡◌, ℕ, ◌+◌, ◌-◌, ◌*◌, ◌%◌, ◌≤◌, ◌<◌, List, Option, Some, None, length, replicate, slice_index, nat_eq, if◌then◌else◌}
+use Rattle.std.specs.Ordering.{nat_cmp}
+use Rattle.std.specs.FinMap.{FinMap, get, empty}
+use Rattle.cf_base.specs.Settings.{Profile}
+use Rattle.cf_base.specs.declared.settings.Settings.{Settings}
+use Rattle.cf_base.specs.declared.kind.Layout.TheVariants.{Words}
+use Rattle.page_model.specs.Arrangement.{live, pages_needed}
+use Rattle.page_model.specs.Bytes.{held_at}
+use Rattle.page_model.specs.Held.{objects}
+use Rattle.page_model.specs.Paging.{Paging, classes, first_bounds, paging_of, slot_words}
+use Rattle.region.specs.Words.{cleared, moved}
+use Rattle.size_classes.specs.Table.{table_of}
+use Rattle.proxy_table.specs.Proxies.{AreBelowLimit}
+use Rattle.page_slots.specs.Tables.{Tables, tables}
+use Rattle.page_slots.specs.Occupying.{Occupies, Tell}
+use Rattle.slice_model.specs.declared.job_slot.JobSlot.{JobSlot}
+use Rattle.slice_model.specs.State.{Plan, Job, Sliced, IsKept, occupied, Idle, Clear, Move}
+use Rattle.slice_model.specs.Words.{HasWords}
+use Rattle.slice_model.specs.Runs.{Working}
+use Rattle.sliced_heap.specs.Heap.{Heap}
+
+-- the numbers of the settings, where each class has at most one partly full page, whatever bound they name
+abbrev pub profile_at : Settings → Profile
+profile_at s = record { pages = s.pages; page_words = s.page_words; k = 1; proxies = s.proxies }
+
+abbrev pub paging_for : Settings → Paging
+paging_for s = paging_of (profile_at s) Words (first_bounds (profile_at s) Words)
+
+abbrev pub paging_at : Heap → Paging
+paging_at h = paging_for h.settings
+
+abbrev pub plan_of : Heap → Plan
+plan_of h = record { paging = paging_for h.settings; proxies = h.settings.proxies; quantum = h.quantum }
+
+-- the words when those left of this slot stand from `a + done` on
+abbrev pub carried_to : Paging → JobSlot → Option ℕ → List ℕ → List ℕ
+carried_to p k None words = words
+carried_to p k (Some a) words = moved words (k.address + k.done) (a + k.done) (slot_words p k.class - k.done)
+
+-- the words when all that is left of the job is done
+abbrev pub completed : Paging → Job → FinMap nat_cmp ℕ → List ℕ → List ℕ
+completed p Idle places words = words
+completed p (Clear k) places words = cleared words (k.address + k.done) (slot_words p k.class - k.done)
+completed p (Move q k) places words = carried_to p k (get places q) words
+
+-- the objects by the words at their addresses when the job is done, and the job
+abbrev pub state_of : Heap → Sliced
+state_of h = record { held = held_at (completed (paging_at h) h.job h.proxies.places h.words) h.proxies.places; job = h.job }
+
+-- the same with the words as they are
+abbrev pub working_of : Heap → Working
+working_of h = record { state = state_of h; words = h.words }
+
+-- which slots of which pages are used
+abbrev pub tables_in : Heap → Tables
+tables_in h = tables h.maps h.lists h.pool
+
+-- how many pages more one more of n objects needs, where a page has m slots
+abbrev pub opens : ℕ → ℕ → ℕ
+opens m n = if nat_eq (n % m) 0 then 1 else 0
+
+-- What an open heap keeps: the rules of its state; words that are those of the state; tables that tell which slots the objects and the job occupy; and
+-- the counts of the objects.
+pub record IsValid (h : Heap) : Type 0 where
+  pub table : h.classes ≡ table_of h.settings.page_words Words
+  pub quantum : 1 ≤ h.quantum
+  pub words_long : length h.words ≡ h.settings.pages * h.settings.page_words
+  pub kept : IsKept (plan_of h) (state_of h)
+  pub words : HasWords (paging_at h) (state_of h) h.words
+  pub tell : Tell (paging_at h) (tables_in h)
+  pub occupied : Occupies (paging_at h) (occupied (plan_of h) (state_of h)) (tables_in h)
+  pub numbers : h.proxies.limit ≡ h.settings.proxies
+  pub handles : AreBelowLimit h.proxies
+  pub live_long : length h.live ≡ 128
+  pub counted : (c : ℕ) → c < classes (paging_at h) → slice_index h.live c ≡ live (paging_at h) (objects (state_of h).held) c
+  pub needed : h.needed ≡ pages_needed (paging_at h) (objects (state_of h).held)
+  pub within : h.needed ≤ h.settings.pages
+
+-- a heap that was just opened, with slices of n words
+pub record IsNew (s : Settings) (n : ℕ) (h : Heap) : Type 0 where
+  pub settings : h.settings ≡ s
+  pub quantum : h.quantum ≡ n
+  pub working : working_of h ≡ record { state = record { held = empty; job = Idle }; words = replicate (s.pages * s.page_words) 0 }

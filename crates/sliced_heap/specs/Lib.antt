@@ -1,0 +1,5 @@
+pub mod Shown
+pub mod Heap
+pub mod Layout
+pub mod Steps
+pub mod Access

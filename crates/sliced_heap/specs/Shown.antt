@@ -1,0 +1,111 @@
+-- What contracts see of a sliced heap, in one record.
+use Rattle.std.specs.Prelude.{◌≡◌, ℕ, ◌*◌, Bool, true, false, List, [], Option, Some, None, refl, replicate}
+use Rattle.std.specs.FinMap as map
+use Rattle.std.specs.Coded.{Coded, code_by, coded×, coded_ℕ, coded_list, coded_bool, coded_option}
+use Rattle.cf_base.specs.Settings.{Profile}
+use Rattle.cf_base.specs.declared.settings.Settings.{Settings}
+use Rattle.cf_base.specs.declared.kind.Layout.TheVariants.{Words}
+use Rattle.cf_model.specs.State.{no_profile, profile_code}
+use Rattle.page_model.specs.Held.{Held, placed_code}
+use Rattle.page_model.specs.Paging.{first_bounds, paging_of}
+use Rattle.slice_model.specs.State.{Plan, Job, IsPlan, Idle, Clear, Move}
+use Rattle.slice_model.specs.Runs.{IsConsistent, Working}
+use Rattle.slice_model.specs.declared.job_slot.JobSlot.{JobSlot}
+use Rattle.sliced_heap.specs.declared.open_heap.OpenHeap.{OpenHeap}
+use Rattle.sliced_heap.specs.Heap.{seen}
+use Rattle.sliced_heap.specs.Layout.{IsValid, profile_at, state_of}
+
+pub record SlicedState : Type 0 where
+  pub is_open : Bool
+  -- the settings, with the bound 1
+  pub profile : Profile
+  -- the most words of a slice
+  pub quantum : ℕ
+  -- the objects by number, each with its address and its bytes
+  pub held : Held
+  pub job : Job
+  -- the words of the region
+  pub words : List ℕ
+
+abbrev pub closed_state : SlicedState
+closed_state = record { is_open = false; profile = no_profile; quantum = 0; held = map.empty; job = Idle; words = [] }
+
+-- the pages and the quantum, and the state with the words: what the model speaks of
+abbrev pub plan_in : SlicedState → Plan
+plan_in s = record { paging = paging_of s.profile Words (first_bounds s.profile Words); proxies = s.profile.proxies; quantum = s.quantum }
+
+abbrev pub working_in : SlicedState → Working
+working_in s = record { state = record { held = s.held; job = s.job }; words = s.words }
+
+-- a heap without objects and without a job, just opened
+abbrev pub opened_state : Settings → ℕ → SlicedState
+opened_state s quantum = record {
+  is_open = true;
+  profile = profile_at s;
+  quantum = quantum;
+  held = map.empty;
+  job = Idle;
+  words = replicate (s.pages * s.page_words) 0;
+}
+
+-- what an open heap keeps
+pub record KeepsRules (s : SlicedState) : Type 0 where
+  pub plan : IsPlan (plan_in s)
+  pub consistent : IsConsistent (plan_in s) (working_in s)
+
+-- the heap stays open, with its pages and its quantum
+pub record StaysOpen (old new : SlicedState) : Type 0 where
+  pub is_open : new.is_open ≡ old.is_open
+  pub profile : new.profile ≡ old.profile
+  pub quantum : new.quantum ≡ old.quantum
+
+-- a heap that may be closed
+abbrev pub shown : Option OpenHeap → SlicedState
+shown None = closed_state
+shown (Some h) = record {
+  is_open = true;
+  profile = profile_at h.settings;
+  quantum = h.quantum;
+  held = (state_of (seen h)).held;
+  job = (seen h).job;
+  words = h.region;
+}
+
+-- what it keeps where it is open
+abbrev pub IsValidIn : Option OpenHeap → Type 0
+IsValidIn None = Unit {0}
+IsValidIn (Some h) = IsValid (seen h)
+
+-- a job as the number of the object that is carried, if one is, and its slot
+abbrev pub JobParts : Type 0
+JobParts = Option (Option ℕ × (ℕ × (ℕ × ℕ)))
+
+abbrev pub parts_of_job : Job → JobParts
+parts_of_job Idle = None
+parts_of_job (Clear k) = Some (None, (k.address, (k.class, k.done)))
+parts_of_job (Move h k) = Some (Some h, (k.address, (k.class, k.done)))
+
+abbrev pub job_by : Option ℕ → JobSlot → Job
+job_by None k = Clear k
+job_by (Some h) k = Move h k
+
+abbrev pub job_of_parts : JobParts → Job
+job_of_parts None = Idle
+job_of_parts (Some q) = job_by q.0 (record { address = q.1.0; class = q.1.1.0; done = q.1.1.1 })
+
+abbrev pub job_again : (j : Job) → job_of_parts (parts_of_job j) ≡ j
+job_again Idle = refl
+job_again (Clear k) = refl
+job_again (Move h k) = refl
+
+abbrev pub job_code : Coded Job
+job_code = code_by JobParts (coded_option (coded× (coded_option coded_ℕ) (coded× coded_ℕ (coded× coded_ℕ coded_ℕ)))) parts_of_job job_of_parts job_again
+
+abbrev pub StateParts : Type 0
+StateParts = Bool × (Profile × (ℕ × (Held × (Job × List ℕ))))
+
+abbrev pub sliced_code : Coded SlicedState
+sliced_code = code_by StateParts (coded× coded_bool (coded× profile_code (coded× coded_ℕ (coded× (map.code coded_ℕ placed_code) (coded× job_code (coded_list coded_ℕ))))))
+    (λ s. (s.is_open, (s.profile, (s.quantum, (s.held, (s.job, s.words))))))
+    (λ q. record { is_open = q.0; profile = q.1.0; quantum = q.1.1.0; held = q.1.1.1.0; job = q.1.1.1.1.0; words = q.1.1.1.1.1 })
+    (λ _. refl)

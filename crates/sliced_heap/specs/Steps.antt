@@ -1,0 +1,59 @@
+-- The parts of a free and of a slice. No public clause cites this module but `fault_in`.
+use Rattle.std.specs.Prelude.{◌≡◌, ℕ, ◌%◌, ◌^◌, Bool, true, false, Option, Some, None, Result, Ok, Err, slice_index}
+use Rattle.std.specs.FinMap.{get, remove}
+use Rattle.page_model.specs.Arrangement.{class_at}
+use Rattle.page_model.specs.Held.{Placed}
+use Rattle.page_model.specs.Steps.{MustMove}
+use Rattle.page_slots.specs.Freeing.{IsFiller}
+use Rattle.proxy_table.specs.Proxies.{AreBelowLimit, with_place}
+use Rattle.slice_model.specs.declared.job_slot.JobSlot.{JobSlot}
+use Rattle.slice_model.specs.State.{Sliced, occupied, stand_in, Clear, Move}
+use Rattle.slice_model.specs.Steps.{Carries, IsBeside, fresh_slot}
+use Rattle.slice_model.specs.declared.answers.SliceFault.{SliceFault}
+use Rattle.sliced_heap.specs.Heap.{Heap}
+use Rattle.sliced_heap.specs.Layout.{paging_at, plan_of, state_of}
+
+-- why a free was refused, if it was
+abbrev pub fault_in : {T : Type 0} → Result T SliceFault → Option SliceFault
+fault_in (Ok u) = None
+fault_in (Err e) = Some e
+
+-- object q goes, and its slot is to be cleared
+pub record Forgets (old : Heap) (q : ℕ) (k : JobSlot) (new : Heap) : Type 0 where
+  pub object : Placed
+  pub found : get (state_of old).held q ≡ Some object
+  pub slot : k ≡ fresh_slot object.place (class_at (paging_at old) object)
+  pub state : state_of new ≡ record { held = remove (state_of old).held q; job = Clear k }
+  pub job : new.job ≡ Clear k
+  pub words : new.words ≡ old.words
+  pub plan : plan_of new ≡ plan_of old
+  pub quantum : new.quantum ≡ old.quantum
+
+-- an object of another partly full page gets the slot's address, and is to be carried there
+pub record IsFilled (old : Heap) (k : JobSlot) (new : Heap) : Type 0 where
+  pub must : MustMove (paging_at old) (occupied (plan_of old) (state_of old)) (stand_in (paging_at old) k)
+  pub object : ℕ
+  pub beside : IsBeside (paging_at old) (state_of old).held k.address k.class object
+  pub carries : Carries (state_of old).held object k.address k.class (state_of new)
+  pub words : new.words ≡ old.words
+  pub plan : plan_of new ≡ plan_of old
+  pub quantum : new.quantum ≡ old.quantum
+
+-- the slot needs no object
+pub record StaysVacant (old : Heap) (k : JobSlot) (new : Heap) : Type 0 where
+  pub stays : ¬ MustMove (paging_at old) (occupied (plan_of old) (state_of old)) (stand_in (paging_at old) k)
+  pub same : new ≡ old
+
+abbrev pub Fills : Heap → JobSlot → Bool → Heap → Type 0
+Fills old k true new = IsFilled old k new
+Fills old k false new = StaysVacant old k new
+
+-- the object whose header is at the address that fills a slot of class c gets the slot's address, and is to be carried there
+pub record StartsCarry (old : Heap) (k : JobSlot) (new : Heap) : Type 0 where
+  pub from : ℕ
+  pub filler : IsFiller old.classes old.maps old.lists k.class from
+  pub handles : AreBelowLimit new.proxies
+  pub whole : new ≡ record old {
+    proxies = with_place old.proxies (slice_index old.words from % 2 ^ 32) k.address;
+    job = Move (slice_index old.words from % 2 ^ 32) (fresh_slot from k.class);
+  }

@@ -1,0 +1,119 @@
+//! Reading and writing what stands in an open heap, an object in motion included.
+ghost use Rattle.std.specs.Prelude.{◌≡◌, ◌+◌, ◌≤◌, length, slice_get, IsErr};
+ghost use Rattle.step_ledger.specs.Counting.{RoseAtMost};
+ghost use Rattle.cf_model.specs.Costs.{access_bound};
+ghost use Rattle.slice_model.specs.Runs.{Happens, Read, Write};
+ghost use Rattle.slice_words.specs.Halves.{halves_of};
+ghost use Rattle.sliced_heap.specs.Access.{IsFound, access_fault, bytes_or_fault};
+ghost use Rattle.sliced_heap.specs.Heap.{job_of, seen};
+ghost use Rattle.sliced_heap.specs.Layout.{IsValid, plan_of, working_of};
+
+use crate::open_heap::{OpenHeap, Pending};
+use cf_base::{AccessFault, Handle};
+use object_header::Header;
+use slice_words::{read_halves, read_word, write_halves, Halves};
+use step_ledger::Steps;
+
+impl OpenHeap {
+    /// A word of the region; none past its end.
+    pub fn peek(&self, word: u32, steps: &mut Steps) -> Option<u64>
+        ensures value { result ≡ slice_get self.now.region word }
+        ensures bound { RoseAtMost steps.old steps.new 1 }
+    {
+        if word < self.region.len() {
+            Some(self.region.read(word, steps))
+        } else {
+            None
+        }
+    }
+
+    /// Reads the bytes of an object from byte `at` on, as many as `out` holds.
+    pub fn read(
+        &self,
+        h: Handle,
+        at: u32,
+        out: &mut [u8],
+        steps: &mut Steps,
+    ) -> Result<(), AccessFault>
+        requires { IsValid (seen self.now) }
+        ensures step { Happens (plan_of (seen self.now)) (working_of (seen self.now)) (Read (record { number = h.0; from = at }) (length out.old)
+            (bytes_or_fault result out.new)) (working_of (seen self.now)) }
+        ensures refused { IsErr result → out.new ≡ out.old }
+        ensures bound { RoseAtMost steps.old steps.new (access_bound at (length out.old)) }
+    {
+        let len = out.len();
+        let halves = self.find(h, at, len, steps)?;
+        read_halves(&self.region, halves, at, out, steps);
+        Ok(())
+    }
+
+    /// Writes bytes into an object from byte `at` on.
+    pub fn write(
+        &mut self,
+        h: Handle,
+        at: u32,
+        bytes: &[u8],
+        steps: &mut Steps,
+    ) -> Result<(), AccessFault>
+        requires { IsValid (seen self.old) }
+        ensures step { Happens (plan_of (seen self.old)) (working_of (seen self.old)) (Write (record { number = h.0; from = at }) bytes.now
+            (access_fault result)) (working_of (seen self.new)) }
+        ensures kept { IsValid (seen self.new) }
+        ensures plan { plan_of (seen self.new) ≡ plan_of (seen self.old) }
+        ensures bound { RoseAtMost steps.old steps.new (access_bound at (length bytes.now)) }
+    {
+        let len = bytes.len();
+        let halves = self.find(h, at, len, steps)?;
+        write_halves(&mut self.region, halves, at, bytes, steps);
+        Ok(())
+    }
+
+    /// Where the words of the object stand, of which `count` bytes from `at` on are asked for.
+    fn find(
+        &self,
+        h: Handle,
+        at: u32,
+        count: usize,
+        steps: &mut Steps,
+    ) -> Result<Halves, AccessFault>
+        requires { IsValid (seen self.now) }
+        ensures found { IsFound (seen self.now) (record { number = h.0; from = at }) count result }
+        ensures bound { RoseAtMost steps.old steps.new 2 }
+    {
+        let Some(place) = self.proxies.lookup(h, steps) else {
+            return Err(AccessFault::Unknown);
+        };
+        let halves = self.halves(h, place);
+        let length = Header::unpack(read_word(&self.region, halves, 0, steps)).length as usize;
+        if length < count || length - count < at as usize {
+            return Err(AccessFault::Range);
+        }
+        Ok(halves)
+    }
+
+    /// Where the words of the object of this address stand.
+    fn halves(&self, h: Handle, place: u32) -> Halves
+        ensures { result ≡ halves_of (job_of self.now.job) h.0 place }
+    {
+        let together = Halves {
+            to: place,
+            from: place,
+            done: 0,
+        };
+        match self.job {
+            Pending::Idle => together,
+            Pending::Clear(_) => together,
+            Pending::Carry(q, k) => {
+                if q == h {
+                    Halves {
+                        to: place,
+                        from: k.address,
+                        done: k.done,
+                    }
+                } else {
+                    together
+                }
+            }
+        }
+    }
+}

@@ -1,0 +1,58 @@
+//! A job ends.
+ghost use Rattle.std.specs.Prelude.{◌≡◌, ℕ, ◌+◌, ◌<◌, ◌≤◌, slice_index};
+ghost use Rattle.step_ledger.specs.Counting.{RoseAtMost};
+ghost use Rattle.page_model.specs.Paging.{slot_words};
+ghost use Rattle.page_slots.specs.Freeing.{Vacates};
+ghost use Rattle.page_slots.specs.Tables.{AreTables, IsUsed, page_at, slot_at, tables};
+ghost use Rattle.slice_model.specs.State.{Clear};
+ghost use Rattle.slice_model.specs.Steps.{Ends};
+ghost use Rattle.sliced_heap.specs.Heap.{job_of, seen};
+ghost use Rattle.sliced_heap.specs.Layout.{IsValid, paging_at, plan_of, state_of};
+
+use crate::open_heap::{OpenHeap, Pending};
+use page_slots::drop_slot;
+use slice_model::JobSlot;
+use step_ledger::Steps;
+
+impl OpenHeap {
+    /// The slot of the job is zeros: it is filled where it must be, and else it is free, and no job is
+    /// pending.
+    pub(crate) fn end(&mut self, k: JobSlot, steps: &mut Steps)
+        requires kept { IsValid (seen self.old) }
+        requires job { job_of self.old.job ≡ Clear k }
+        requires fresh { k.done ≡ 0 }
+        requires zeros { (i : ℕ) → i < slot_words (paging_at (seen self.old)) k.class → slice_index self.old.region (k.address + i) ≡ 0 }
+        ensures ended { Ends (paging_at (seen self.old)) (state_of (seen self.old)).held k (state_of (seen self.new)) }
+        ensures kept { IsValid (seen self.new) }
+        ensures words { self.new.region ≡ self.old.region }
+        ensures plan { plan_of (seen self.new) ≡ plan_of (seen self.old) }
+        ensures bound { RoseAtMost steps.old steps.new 30 }
+    {
+        if self.fill(k, steps) {
+            return;
+        }
+        self.release_slot(k.class, k.address, steps);
+        self.job = Pending::Idle;
+    }
+
+    /// The used slot of class c at an address becomes free.
+    fn release_slot(&mut self, c: u32, place: u32, steps: &mut Steps)
+        requires tables { AreTables self.old.classes (tables self.old.maps.items self.old.lists self.old.pool) }
+        requires used { IsUsed (tables self.old.maps.items self.old.lists self.old.pool) c (page_at self.old.classes place) (slot_at self.old.classes c place) }
+        ensures freed { Vacates (tables self.old.maps.items self.old.lists self.old.pool) c (page_at self.old.classes place)
+            (slot_at self.old.classes c place) (tables self.new.maps.items self.new.lists self.new.pool) }
+        ensures tables { AreTables self.old.classes (tables self.new.maps.items self.new.lists self.new.pool) }
+        ensures rest { self.new ≡ record self.old { maps = self.new.maps; lists = self.new.lists; pool = self.new.pool } }
+        ensures bound { RoseAtMost steps.old steps.new 18 }
+    {
+        drop_slot(
+            &self.classes,
+            &mut self.maps,
+            &mut self.lists,
+            &mut self.pool,
+            c,
+            place,
+            steps,
+        );
+    }
+}

@@ -1,0 +1,91 @@
+//! An object goes.
+ghost use Rattle.std.specs.Prelude.{◌≡◌, ◌+◌, ◌*◌, ◌-◌, ◌<◌, ◌≤◌, Some, length, slice_index, slice_set};
+ghost use Rattle.std.specs.FinMap as map;
+ghost use Rattle.cf_base.specs.Classes.{slots};
+ghost use Rattle.step_ledger.specs.Counting.{RoseAtMost};
+ghost use Rattle.slice_model.specs.Runs.{Frees, Free, Happens};
+ghost use Rattle.slice_model.specs.State.{Idle};
+ghost use Rattle.sliced_heap.specs.Heap.{job_of, seen};
+ghost use Rattle.sliced_heap.specs.Layout.{IsValid, opens, plan_of, working_of};
+ghost use Rattle.sliced_heap.specs.Steps.{Forgets, fault_in};
+
+use crate::open_heap::{OpenHeap, Pending};
+use cf_base::Handle;
+use object_header::Header;
+use slice_model::{JobSlot, SliceFault};
+use step_ledger::Steps;
+
+impl OpenHeap {
+    /// Takes an object away, and does the first slice of the job that it leaves.
+    pub fn free(&mut self, h: Handle, steps: &mut Steps) -> Result<(), SliceFault>
+        requires { IsValid (seen self.old) }
+        ensures step { Happens (plan_of (seen self.old)) (working_of (seen self.old)) (Free h.0 (fault_in result)) (working_of (seen self.new)) }
+        ensures kept { IsValid (seen self.new) }
+        ensures plan { plan_of (seen self.new) ≡ plan_of (seen self.old) }
+        ensures bound { RoseAtMost steps.old steps.new (64 + self.old.quantum) }
+    {
+        let Some(place) = self.proxies.lookup(h, steps) else {
+            return Err(SliceFault::Unknown);
+        };
+        match self.job {
+            Pending::Idle => {}
+            _ => return Err(SliceFault::Busy),
+        }
+        self.free_live(h, place, steps);
+        Ok(())
+    }
+
+    /// Takes a live object away while no job is pending.
+    fn free_live(&mut self, h: Handle, place: u32, steps: &mut Steps)
+        requires kept { IsValid (seen self.old) }
+        requires idle { job_of self.old.job ≡ Idle }
+        requires known { map.get self.old.proxies.places h.0 ≡ Some place }
+        ensures step { Frees (plan_of (seen self.old)) (working_of (seen self.old)) h.0 (working_of (seen self.new)) }
+        ensures kept { IsValid (seen self.new) }
+        ensures plan { plan_of (seen self.new) ≡ plan_of (seen self.old) }
+        ensures bound { RoseAtMost steps.old steps.new (60 + self.old.quantum) }
+    {
+        let k = self.forget(h, place, steps);
+        let _filled = self.fill(k, steps);
+        self.slice(steps);
+    }
+
+    /// Takes a live object away: its slot is to be cleared.
+    fn forget(&mut self, h: Handle, place: u32, steps: &mut Steps) -> JobSlot
+        requires kept { IsValid (seen self.old) }
+        requires idle { job_of self.old.job ≡ Idle }
+        requires known { map.get self.old.proxies.places h.0 ≡ Some place }
+        ensures gone { Forgets (seen self.old) h.0 result (seen self.new) }
+        ensures kept { IsValid (seen self.new) }
+        ensures bound { RoseAtMost steps.old steps.new 11 }
+    {
+        let length = Header::unpack(self.region.read(place, steps)).length;
+        let Some(c) = self.classes.class_of(length, steps) else {
+            unreachable!();
+        };
+        self.proxies.release(h, steps);
+        self.count_out(c);
+        let k = JobSlot {
+            address: place,
+            class: c,
+            done: 0,
+        };
+        self.job = Pending::Clear(k);
+        k
+    }
+
+    /// Counts an object less in class c.
+    fn count_out(&mut self, c: u32)
+        requires class { c < length self.old.classes.sizes }
+        requires listed { c < length self.old.live }
+        requires live { 1 ≤ slice_index self.old.live c }
+        requires needed { opens (slots self.old.classes.page_words self.old.classes.sizes c) (slice_index self.old.live c - 1) ≤ self.old.needed }
+        ensures { self.new ≡ record self.old {
+          live = slice_set self.old.live c (slice_index self.old.live c - 1);
+          needed = self.old.needed - opens (slots self.old.classes.page_words self.old.classes.sizes c) (slice_index self.old.live c - 1);
+        } }
+    {
+        self.live[c as usize] -= 1;
+        self.needed -= self.opens_page(c);
+    }
+}

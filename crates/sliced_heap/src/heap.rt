@@ -1,0 +1,184 @@
+//! The heap that a caller holds: closed, or open.
+ghost use Rattle.std.specs.Prelude.{◌≡◌, ◌+◌, ◌*◌, ◌≤◌, false, length, slice_get, IsErr, IsTrue, OnErr, OnOk};
+ghost use Rattle.cf_model.specs.Costs.{access_bound};
+ghost use Rattle.slice_model.specs.Runs.{Happens, Free, Malloc, Read, Step, Write};
+ghost use Rattle.slice_model.specs.State.{left_of};
+ghost use Rattle.step_ledger.specs.Counting.{RoseAtMost};
+ghost use Rattle.sliced_heap.specs.Access.{access_fault, bytes_or_fault};
+ghost use Rattle.sliced_heap.specs.Shown.{KeepsRules, StaysOpen, closed_state, opened_state, plan_in, working_in};
+ghost use Rattle.sliced_heap.specs.Steps.{fault_in};
+
+use crate::open_heap::OpenHeap;
+use cf_base::{AccessFault, Handle, OutOfMemory, Settings};
+use slice_model::{SliceFault, SliceRefusal};
+use std::alloc::Global;
+use std::marker::Model;
+use step_ledger::Steps;
+
+/// A moving heap for several tasks. A free leaves its long work, to clear a slot or to carry an
+/// object to another one, as a job, of which each free and each step does a slice of at most so many
+/// words as the quantum says. Every class has at most one partly full page, and one more beside a job.
+#[derive(Drop)]
+pub struct SlicedHeap {
+    alloc: Global,
+    inner: Option<OpenHeap>,
+}
+
+impl Model for SlicedHeap {
+    ghost use Rattle.sliced_heap.specs.Shown.{SlicedState, sliced_code};
+
+    ghost Value = { SlicedState };
+
+    ghost coded = { sliced_code };
+
+    ghost use Rattle.sliced_heap.specs.Shown.{IsValidIn, shown};
+
+    ghost view = { λ h. shown h.inner };
+
+    ghost invariant = { λ h. IsValidIn h.inner };
+}
+
+impl SlicedHeap {
+    /// A closed heap, which takes no memory.
+    pub fn closed(alloc: Global) -> SlicedHeap
+        ensures { result ≡ closed_state }
+    {
+        SlicedHeap { alloc, inner: None }
+    }
+
+    /// Whether the heap is open. An open one keeps its rules.
+    pub fn is_open(&self) -> bool
+        ensures value { result ≡ self.now.is_open }
+        ensures rules { IsTrue result → KeepsRules self.now }
+    {
+        self.inner.is_some()
+    }
+
+    /// Opens an empty heap with these settings, whatever stood before, and slices of `quantum` words.
+    /// The bound of partly full pages is 1, whatever the settings say. All memory is taken here. At
+    /// `OutOfMemory` the heap is closed, and may be opened again.
+    pub fn open_heap(&mut self, s: &Settings, quantum: u32) -> Result<(), OutOfMemory>
+        requires least { 1 ≤ quantum }
+        requires most { quantum ≤ 16384 }
+        ensures ok { OnOk result (self.new ≡ opened_state s.now quantum) }
+        ensures rules { OnOk result (KeepsRules self.new) }
+        ensures err { OnErr result (self.new.is_open ≡ false) }
+    {
+        self.inner = None;
+        self.inner = Some(OpenHeap::new(self.alloc, s, quantum)?);
+        Ok(())
+    }
+
+    /// Adds an object of `bytes` bytes, all zero, under a handle that wasn't live. It is refused for
+    /// `Size` where it needs more than a page, then for `Proxy` where every proxy is in use, then for
+    /// `Space` where with it the objects need more pages than there are, then as `Busy` where the only
+    /// room left is what a job still holds. A refusal changes nothing.
+    pub fn malloc(&mut self, bytes: u32, steps: &mut Steps) -> Result<Handle, SliceRefusal>
+        requires open { IsTrue self.old.is_open }
+        ensures step { Happens (plan_in self.old) (working_in self.old) (Malloc bytes result) (working_in self.new) }
+        ensures same { StaysOpen self.old self.new }
+        ensures rules { KeepsRules self.new }
+        ensures bound { RoseAtMost steps.old steps.new (128 + 2 * self.old.quantum) }
+    {
+        match &mut self.inner {
+            Some(open) => open.malloc(bytes, steps),
+            None => unreachable!(),
+        }
+    }
+
+    /// Takes an object away and does the first slice of the job that is left. It is refused as
+    /// `Unknown` where the handle isn't live, then as `Busy` where a job is pending, and then changes
+    /// nothing.
+    pub fn free(&mut self, h: Handle, steps: &mut Steps) -> Result<(), SliceFault>
+        requires open { IsTrue self.old.is_open }
+        ensures step { Happens (plan_in self.old) (working_in self.old) (Free h.0 (fault_in result)) (working_in self.new) }
+        ensures same { StaysOpen self.old self.new }
+        ensures rules { KeepsRules self.new }
+        ensures bound { RoseAtMost steps.old steps.new (128 + 2 * self.old.quantum) }
+    {
+        match &mut self.inner {
+            Some(open) => open.free(h, steps),
+            None => unreachable!(),
+        }
+    }
+
+    /// Does one slice of the job, where one is pending.
+    pub fn step(&mut self, steps: &mut Steps)
+        requires open { IsTrue self.old.is_open }
+        ensures step { Happens (plan_in self.old) (working_in self.old) Step (working_in self.new) }
+        ensures same { StaysOpen self.old self.new }
+        ensures rules { KeepsRules self.new }
+        ensures bound { RoseAtMost steps.old steps.new (128 + 2 * self.old.quantum) }
+    {
+        match &mut self.inner {
+            Some(open) => open.step(steps),
+            None => unreachable!(),
+        }
+    }
+
+    /// The words left of the job, 0 where none is pending.
+    pub fn left(&self) -> u32
+        requires open { IsTrue self.now.is_open }
+        ensures { result ≡ left_of (plan_in self.now) (working_in self.now).state }
+    {
+        match &self.inner {
+            Some(open) => open.left(),
+            None => unreachable!(),
+        }
+    }
+
+    /// Reads the bytes of an object from byte `at` on, as many as `out` holds, each where it stands. A
+    /// refusal leaves `out` as it was.
+    pub fn read(
+        &self,
+        h: Handle,
+        at: u32,
+        out: &mut [u8],
+        steps: &mut Steps,
+    ) -> Result<(), AccessFault>
+        requires open { IsTrue self.now.is_open }
+        ensures step { Happens (plan_in self.now) (working_in self.now) (Read (record { number = h.0; from = at }) (length out.old)
+            (bytes_or_fault result out.new)) (working_in self.now) }
+        ensures refused { IsErr result → out.new ≡ out.old }
+        ensures bound { RoseAtMost steps.old steps.new (access_bound at (length out.old)) }
+    {
+        match &self.inner {
+            Some(open) => open.read(h, at, out, steps),
+            None => unreachable!(),
+        }
+    }
+
+    /// Writes bytes into an object from byte `at` on, each where it stands, and changes nothing else;
+    /// nor does a refusal.
+    pub fn write(
+        &mut self,
+        h: Handle,
+        at: u32,
+        bytes: &[u8],
+        steps: &mut Steps,
+    ) -> Result<(), AccessFault>
+        requires open { IsTrue self.old.is_open }
+        ensures step { Happens (plan_in self.old) (working_in self.old) (Write (record { number = h.0; from = at }) bytes.now
+            (access_fault result)) (working_in self.new) }
+        ensures same { StaysOpen self.old self.new }
+        ensures rules { KeepsRules self.new }
+        ensures bound { RoseAtMost steps.old steps.new (access_bound at (length bytes.now)) }
+    {
+        match &mut self.inner {
+            Some(open) => open.write(h, at, bytes, steps),
+            None => unreachable!(),
+        }
+    }
+
+    /// A word of the region; none past its end.
+    pub fn peek(&self, word: u32, steps: &mut Steps) -> Option<u64>
+        requires open { IsTrue self.now.is_open }
+        ensures value { result ≡ slice_get self.now.words word }
+        ensures bound { RoseAtMost steps.old steps.new 1 }
+    {
+        match &self.inner {
+            Some(open) => open.peek(word, steps),
+            None => unreachable!(),
+        }
+    }
+}

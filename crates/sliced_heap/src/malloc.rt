@@ -1,0 +1,130 @@
+//! An object comes.
+ghost use Rattle.std.specs.Prelude.{◌≡◌, ◌≢◌, ◌+◌, ◌<◌, ◌≤◌, ◌↔◌, IsTrue, None, length, slice_index, slice_set};
+ghost use Rattle.std.specs.FinMap as map;
+ghost use Rattle.cf_base.specs.Classes.{slots};
+ghost use Rattle.step_ledger.specs.Counting.{RoseAtMost};
+ghost use Rattle.page_model.specs.Image.{header_word};
+ghost use Rattle.page_slots.specs.Tables.{AreTables, tables};
+ghost use Rattle.page_slots.specs.Taking.{TakesSlot};
+ghost use Rattle.proxy_table.specs.Proxies.{AreBelowLimit, with_place};
+ghost use Rattle.slice_model.specs.Runs.{Happens, Malloc};
+ghost use Rattle.sliced_heap.specs.Heap.{seen};
+ghost use Rattle.sliced_heap.specs.Layout.{IsValid, opens, plan_of, working_of};
+
+use crate::open_heap::OpenHeap;
+use cf_base::Handle;
+use object_header::Header;
+use page_slots::take_slot;
+use slice_model::SliceRefusal;
+use step_ledger::Steps;
+
+impl OpenHeap {
+    /// Adds an object of `bytes` bytes, all zero.
+    pub fn malloc(&mut self, bytes: u32, steps: &mut Steps) -> Result<Handle, SliceRefusal>
+        requires { IsValid (seen self.old) }
+        ensures step { Happens (plan_of (seen self.old)) (working_of (seen self.old)) (Malloc bytes result) (working_of (seen self.new)) }
+        ensures kept { IsValid (seen self.new) }
+        ensures plan { plan_of (seen self.new) ≡ plan_of (seen self.old) }
+        ensures bound { RoseAtMost steps.old steps.new 64 }
+    {
+        let Some(c) = self.classes.class_of(bytes, steps) else {
+            return Err(SliceRefusal::Size);
+        };
+        if self.proxies.live() == self.settings.proxies {
+            return Err(SliceRefusal::Proxy);
+        }
+        if self.is_over(c) {
+            return Err(SliceRefusal::Space);
+        }
+        let Some(place) = self.take_slot(c, steps) else {
+            return Err(SliceRefusal::Busy);
+        };
+        let handle = self.bind(place, bytes, steps);
+        self.count_in(c);
+        Ok(handle)
+    }
+
+    /// How many pages more are needed for one more object of class c: one, or none.
+    pub(crate) fn opens_page(&self, c: u32) -> u32
+        requires class { c < length self.now.classes.sizes }
+        requires listed { c < length self.now.live }
+        ensures value { result ≡ opens (slots self.now.classes.page_words self.now.classes.sizes c) (slice_index self.now.live c) }
+        ensures few { result ≤ 1 }
+    {
+        if self.live[c as usize] % self.classes.slots(c) == 0 {
+            1
+        } else {
+            0
+        }
+    }
+
+    /// Whether with one more object of class c more pages are needed than there are.
+    fn is_over(&self, c: u32) -> bool
+        requires class { c < length self.now.classes.sizes }
+        requires listed { c < length self.now.live }
+        requires within { self.now.needed ≤ self.now.settings.pages }
+        ensures { IsTrue result ↔ (self.now.settings.pages < self.now.needed
+            + opens (slots self.now.classes.page_words self.now.classes.sizes c) (slice_index self.now.live c)) }
+    {
+        self.needed + self.opens_page(c) > self.settings.pages
+    }
+
+    /// Takes a free slot of class c; none where there is no room.
+    fn take_slot(&mut self, c: u32, steps: &mut Steps) -> Option<u32>
+        requires tables { AreTables self.old.classes (tables self.old.maps.items self.old.lists self.old.pool) }
+        requires class { c < length self.old.classes.sizes }
+        ensures taken { TakesSlot self.old.classes (tables self.old.maps.items self.old.lists self.old.pool) c result
+            (tables self.new.maps.items self.new.lists self.new.pool) }
+        ensures tables { AreTables self.old.classes (tables self.new.maps.items self.new.lists self.new.pool) }
+        ensures rest { self.new ≡ record self.old { maps = self.new.maps; lists = self.new.lists; pool = self.new.pool } }
+        ensures bound { RoseAtMost steps.old steps.new 26 }
+    {
+        take_slot(
+            &self.classes,
+            &mut self.maps,
+            &mut self.lists,
+            &mut self.pool,
+            c,
+            steps,
+        )
+    }
+
+    /// Gives an object of so many zeros at an address its number and its header.
+    fn bind(&mut self, place: u32, bytes: u32, steps: &mut Steps) -> Handle
+        requires some { map.len self.old.proxies.places ≢ self.old.proxies.limit }
+        requires within { place < length self.old.region }
+        ensures unused { map.get self.old.proxies.places result.0 ≡ None }
+        ensures below { result.0 < self.old.proxies.limit }
+        ensures whole { self.new ≡ record self.old {
+          proxies = with_place self.old.proxies result.0 place;
+          region = slice_set self.old.region place (header_word result.0 bytes);
+        } }
+        ensures handles { AreBelowLimit self.new.proxies }
+        ensures bound { RoseAtMost steps.old steps.new 3 }
+    {
+        let Some(handle) = self.proxies.bind(place, steps) else {
+            unreachable!();
+        };
+        let header = Header {
+            handle,
+            length: bytes,
+        };
+        self.region.write(place, header.pack(), steps);
+        handle
+    }
+
+    /// Counts one more object in class c.
+    fn count_in(&mut self, c: u32)
+        requires class { c < length self.old.classes.sizes }
+        requires listed { c < length self.old.live }
+        requires live { slice_index self.old.live c ≤ 65536 }
+        requires needed { self.old.needed ≤ 4096 }
+        ensures { self.new ≡ record self.old {
+          live = slice_set self.old.live c (slice_index self.old.live c + 1);
+          needed = self.old.needed + opens (slots self.old.classes.page_words self.old.classes.sizes c) (slice_index self.old.live c);
+        } }
+    {
+        self.needed += self.opens_page(c);
+        self.live[c as usize] += 1;
+    }
+}

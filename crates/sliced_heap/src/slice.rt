@@ -1,0 +1,107 @@
+//! A slice of the pending job.
+ghost use Rattle.std.specs.Prelude.{◌≡◌, ◌+◌, ◌-◌, ◌<◌, ◌≤◌, length, min, slice_index};
+ghost use Rattle.step_ledger.specs.Counting.{RoseAtMost};
+ghost use Rattle.slice_model.specs.Runs.{Happens, Slices, Step};
+ghost use Rattle.slice_model.specs.State.{Clear, Move, left_of};
+ghost use Rattle.sliced_heap.specs.Heap.{job_of, seen};
+ghost use Rattle.sliced_heap.specs.Layout.{IsValid, plan_of, state_of, working_of};
+
+use crate::open_heap::{OpenHeap, Pending};
+use cf_base::Handle;
+use slice_model::JobSlot;
+use slice_words::{carry_next, clear_next, words_of_slice};
+use step_ledger::Steps;
+
+impl OpenHeap {
+    /// Does one slice of the job, where one is pending.
+    pub fn step(&mut self, steps: &mut Steps)
+        requires { IsValid (seen self.old) }
+        ensures step { Happens (plan_of (seen self.old)) (working_of (seen self.old)) Step (working_of (seen self.new)) }
+        ensures kept { IsValid (seen self.new) }
+        ensures plan { plan_of (seen self.new) ≡ plan_of (seen self.old) }
+        ensures bound { RoseAtMost steps.old steps.new (32 + self.old.quantum) }
+    {
+        self.slice(steps);
+    }
+
+    /// The words left of the job, 0 where none is pending.
+    pub fn left(&self) -> u32
+        requires { IsValid (seen self.now) }
+        ensures { result ≡ left_of (plan_of (seen self.now)) (state_of (seen self.now)) }
+    {
+        match self.job {
+            Pending::Idle => 0,
+            Pending::Clear(k) => self.classes.slot_words(k.class) - k.done,
+            Pending::Carry(_, k) => self.classes.slot_words(k.class) - k.done,
+        }
+    }
+
+    /// One slice, whatever the job is.
+    pub(crate) fn slice(&mut self, steps: &mut Steps)
+        requires { IsValid (seen self.old) }
+        ensures step { Slices (plan_of (seen self.old)) (working_of (seen self.old)) (working_of (seen self.new)) }
+        ensures kept { IsValid (seen self.new) }
+        ensures plan { plan_of (seen self.new) ≡ plan_of (seen self.old) }
+        ensures bound { RoseAtMost steps.old steps.new (32 + self.old.quantum) }
+    {
+        match self.job {
+            Pending::Idle => {}
+            Pending::Clear(k) => self.clear_slice(k, steps),
+            Pending::Carry(h, k) => self.carry_slice(h, k, steps),
+        }
+    }
+
+    /// How many words of the job of this slot a slice does.
+    fn words_of(&self, k: JobSlot) -> u32
+        requires class { k.class < length self.now.classes.sizes }
+        requires done { k.done ≤ slice_index self.now.classes.sizes k.class }
+        ensures { result ≡ min self.now.quantum (slice_index self.now.classes.sizes k.class - k.done) }
+    {
+        words_of_slice(self.classes.slot_words(k.class), k.done, self.quantum)
+    }
+
+    /// A slice of a job that clears its slot.
+    fn clear_slice(&mut self, k: JobSlot, steps: &mut Steps)
+        requires kept { IsValid (seen self.old) }
+        requires job { job_of self.old.job ≡ Clear k }
+        ensures step { Slices (plan_of (seen self.old)) (working_of (seen self.old)) (working_of (seen self.new)) }
+        ensures kept { IsValid (seen self.new) }
+        ensures plan { plan_of (seen self.new) ≡ plan_of (seen self.old) }
+        ensures bound { RoseAtMost steps.old steps.new (30 + self.old.quantum) }
+    {
+        let n = self.words_of(k);
+        clear_next(&mut self.region, k, n, steps);
+        let done = k.done + n;
+        if done < self.classes.slot_words(k.class) {
+            self.job = Pending::Clear(JobSlot { done, ..k });
+            return;
+        }
+        let vacant = JobSlot { done: 0, ..k };
+        self.job = Pending::Clear(vacant);
+        self.end(vacant, steps);
+    }
+
+    /// A slice of a job that carries an object.
+    fn carry_slice(&mut self, h: Handle, k: JobSlot, steps: &mut Steps)
+        requires kept { IsValid (seen self.old) }
+        requires job { job_of self.old.job ≡ Move h.0 k }
+        ensures step { Slices (plan_of (seen self.old)) (working_of (seen self.old)) (working_of (seen self.new)) }
+        ensures kept { IsValid (seen self.new) }
+        ensures plan { plan_of (seen self.new) ≡ plan_of (seen self.old) }
+        ensures bound { RoseAtMost steps.old steps.new (32 + self.old.quantum) }
+    {
+        let Some(to) = self.proxies.lookup(h, steps) else {
+            unreachable!();
+        };
+        let n = self.words_of(k);
+        carry_next(&mut self.region, k, to, n, steps);
+        let done = k.done + n;
+        if done < self.classes.slot_words(k.class) {
+            self.job = Pending::Carry(h, JobSlot { done, ..k });
+            return;
+        }
+        let vacant = JobSlot { done: 0, ..k };
+        self.job = Pending::Clear(vacant);
+        self.end(vacant, steps);
+    }
+}
