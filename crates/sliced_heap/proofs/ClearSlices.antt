@@ -1,14 +1,14 @@
 -- A slice of a job that clears its slot, and of one that carries an object, by the words that it leaves.
-use Rattle.std.proofs.Common.{◌≡◌, ℕ, ◌+◌, ◌-◌, ◌*◌, ◌<◌, ◌≤◌, List, length, get_or, Option, Some, None, arith, refl, sym, ◌∙◌, ap, subst}
+use Rattle.std.proofs.Common.{◌≡◌, ℕ, ◌+◌, ◌-◌, ◌≤◌, List, length, get_or, Some, None, arith, refl, sym, ◌∙◌, ap, subst}
 use Rattle.std.specs.Prelude.{min}
 use Rattle.std.specs.FinMap.{get}
 use Rattle.page_model.specs.Arrangement.{class_at}
-use Rattle.page_model.specs.Held.{Held, Placed}
+use Rattle.page_model.specs.Held.{Placed}
 use Rattle.page_model.specs.Image.{Clears, IsDisjoint, MovesWords, slot_for}
 use Rattle.page_model.specs.Paging.{slot_words}
 use Rattle.size_classes.specs.Table.{ClassTable}
 use Rattle.slice_model.specs.declared.job_slot.JobSlot.{JobSlot}
-use Rattle.slice_model.specs.State.{Job, IsKept, IsUnderWay, Clear, Move, job_slot}
+use Rattle.slice_model.specs.State.{IsKept, Clear, Move}
 use Rattle.slice_model.specs.Words.{DoesWords, HasWords}
 use Rattle.sliced_heap.specs.Heap.{Heap}
 use Rattle.sliced_heap.specs.Layout.{IsValid, paging_at, plan_of, state_of}

@@ -1,20 +1,20 @@
 -- A job ends: its slot is free.
-use Rattle.std.proofs.Common.{◌≡◌, ◌≢◌, ℕ, ◌+◌, ◌-◌, ◌/◌, ◌%◌, ◌<◌, ◌≤◌, length, get_or, Some, None, arith, refl, sym, ◌∙◌, ap, subst, inl, inr}
-use Rattle.std.specs.FinMap.{get, insert, remove}
-use Rattle.page_model.specs.Arrangement.{class_at, live, not_full_pages, pages_needed}
-use Rattle.page_model.specs.Held.{Held, Placed, objects}
+use Rattle.std.proofs.Common.{◌≡◌, ◌≢◌, ℕ, ◌+◌, ◌-◌, ◌<◌, length, get_or, Some, None, arith, refl, sym, ◌∙◌, ap, subst, inl, inr}
+use Rattle.std.specs.FinMap.{insert}
+use Rattle.page_model.specs.Arrangement.{not_full_pages}
+use Rattle.page_model.specs.Held.{Held}
 use Rattle.page_model.specs.Paging.{page_of, slot_words}
 use Rattle.page_model.specs.Steps.{MustMove}
 use Rattle.page_model.proofs.CallerLemmas.{within_or}
 use Rattle.page_slots.specs.Freeing.{Vacates}
-use Rattle.page_slots.specs.Occupying.{Occupies, Tell, class_table}
-use Rattle.page_slots.specs.Tables.{AreTables, IsUsed, Tables, page_at, slot_at}
+use Rattle.page_slots.specs.Occupying.{Occupies, class_table}
+use Rattle.page_slots.specs.Tables.{AreTables, IsUsed, page_at, slot_at}
 use Rattle.page_slots.proofs.CallerLemmas.{vacated_occupied, vacated_tell}
 use Rattle.proxy_table.specs.Proxies.{AreBelowLimit}
 use Rattle.size_classes.specs.Table.{ClassTable}
 use Rattle.slice_model.specs.declared.job_slot.JobSlot.{JobSlot}
 use Rattle.slice_model.specs.State.{Sliced, IsKept, occupied, stand_in, Idle, Clear}
-use Rattle.slice_model.specs.Steps.{Chains, Ends, IsSlice}
+use Rattle.slice_model.specs.Steps.{Ends}
 use Rattle.slice_model.specs.Words.{HasWords}
 use Rattle.slice_model.proofs.CallerLemmas.{kept_slice, two_is_must}
 use Rattle.sliced_heap.specs.Heap.{Heap}

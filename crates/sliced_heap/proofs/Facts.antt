@@ -1,18 +1,18 @@
 -- What an open heap's invariant tells: its paging, its tables, its objects.
-use Rattle.std.proofs.Common.{◌≡◌, ℕ, ◌*◌, ◌^◌, ◌<◌, ◌≤◌, length, get_or, Option, Some, None, arith, refl, sym, ◌∙◌, ap, subst}
+use Rattle.std.proofs.Common.{◌≡◌, ℕ, ◌^◌, ◌<◌, ◌≤◌, length, Some, None, arith, refl, sym, ◌∙◌, ap, subst}
 use Rattle.std.specs.Prelude.{option_map}
 use Rattle.std.specs.FinMap.{get, len}
 use Rattle.cf_base.specs.declared.kind.Layout.TheVariants.{Words}
 use Rattle.cf_lemmas.proofs.MapValues.{get-map_values}
 use Rattle.cf_lemmas.proofs.Values.{len-map_values}
-use Rattle.page_model.specs.Bytes.{AreBytes, AreStorable, bytes_at, held_at}
+use Rattle.page_model.specs.Bytes.{AreBytes, bytes_at}
 use Rattle.page_model.specs.Held.{Placed, places}
-use Rattle.page_model.specs.Paging.{Paging, IsPaging, AreOne, classes}
+use Rattle.page_model.specs.Paging.{IsPaging, AreOne, classes}
 use Rattle.page_model.proofs.CallerLemmas.{first_ones, first_paged, held_at_bytes, places-held_at}
 use Rattle.page_slots.specs.Tables.{AreTables}
 use Rattle.page_slots.specs.Occupying.{class_table}
 use Rattle.size_classes.specs.Table.{ClassTable, IsClassTable}
-use Rattle.slice_model.specs.State.{IsPlan, Sliced}
+use Rattle.slice_model.specs.State.{IsPlan}
 use Rattle.sliced_heap.specs.Heap.{Heap}
 use Rattle.sliced_heap.specs.Layout.{IsValid, completed, paging_at, plan_of, profile_at, state_of, tables_in}
 

@@ -1,15 +1,15 @@
 -- A slot that is to be cleared is filled: an object of another partly full page gets its address.
-use Rattle.std.proofs.Common.{◌≡◌, ◌≢◌, ℕ, ◌+◌, ◌-◌, ◌*◌, ◌/◌, ◌%◌, ◌^◌, ◌<◌, ◌≤◌, List, [], length, get_or, replicate, Option, Some, None, arith, refl, sym, ◌∙◌, ap, subst, inl, inr}
-use Rattle.std.specs.Prelude.{◌↔◌, IsSome, slice_index_or, min, option_map}
+use Rattle.std.proofs.Common.{◌≡◌, ◌≢◌, ℕ, ◌+◌, ◌-◌, ◌*◌, ◌/◌, ◌%◌, ◌^◌, ◌<◌, ◌≤◌, [], length, get_or, replicate, Option, Some, None, arith, refl, sym, ◌∙◌, ap, subst, inl, inr}
+use Rattle.std.specs.Prelude.{◌↔◌, IsSome, slice_index_or}
 use Rattle.std.specs.FinMap.{get, insert}
-use Rattle.cf_lemmas.proofs.Maps.{get_inserted, get_insert_other, some_inserted}
+use Rattle.cf_lemmas.proofs.Maps.{get_inserted, some_inserted}
 use Rattle.cf_lemmas.proofs.MapValues.{map_values-insert}
 use Rattle.class_lists.specs.PageLists.{pages_in}
 use Rattle.class_lists.specs.declared.Which.TheVariants.{NotFull}
 use Rattle.page_model.specs.Arrangement.{IsSound, class_at, live, not_full_pages, objects_on, pages_needed}
 use Rattle.page_model.specs.Bytes.{AreBytes}
-use Rattle.page_model.specs.Held.{Held, Objects, Placed, objects, places}
-use Rattle.page_model.specs.Paging.{bound_of, class_for, classes, page_of, slot_words, slots_of}
+use Rattle.page_model.specs.Held.{Held, Placed, objects}
+use Rattle.page_model.specs.Paging.{bound_of, classes, page_of, slot_words, slots_of}
 use Rattle.page_model.specs.Steps.{MustMove}
 use Rattle.page_slots.specs.Freeing.{IsFiller, MovesObject}
 use Rattle.page_slots.specs.Occupying.{Occupies, Tell, class_table}
@@ -18,16 +18,15 @@ use Rattle.page_slots.proofs.CallerLemmas.{filler, filler_is, filler_not_full, f
 use Rattle.proxy_table.specs.Proxies.{AreBelowLimit, with_place}
 use Rattle.size_classes.specs.Table.{ClassTable}
 use Rattle.slice_model.specs.declared.job_slot.JobSlot.{JobSlot}
-use Rattle.slice_model.specs.State.{Plan, IsPlan, Sliced, IsKept, IsJobOf, IsUnderWay, job_slot, occupied, stand_in, with_slot, Clear, Move}
-use Rattle.slice_model.specs.Steps.{Carries, Chains, IsBeside, IsSlice, done_after, fresh_slot}
+use Rattle.slice_model.specs.State.{Plan, IsPlan, Sliced, IsKept, occupied, stand_in, Clear, Move}
+use Rattle.slice_model.specs.Steps.{IsBeside, IsSlice, done_after, fresh_slot}
 use Rattle.slice_model.specs.Words.{HasWords, word_at}
 use Rattle.slice_model.proofs.CallerLemmas.{changed_places, kept_slice, must_is_two, no_stand_in, objects_sliced, on_more, other_than, some_beside, stand_in_class, words_to_carry}
 use Rattle.sliced_heap.specs.Heap.{Heap}
 use Rattle.sliced_heap.specs.Layout.{IsValid, paging_at, plan_of, state_of, tables_in}
-use Rattle.sliced_heap.specs.Steps.{IsFilled, StartsCarry}
+use Rattle.sliced_heap.specs.Steps.{IsFilled}
 use Rattle.sliced_heap.proofs.Facts.{held_bytes, ones, paging_ok, place_known, places_are, plan_ok, table_is}
 use Rattle.sliced_heap.proofs.Headers.{head_number, holds, inside}
-use Rattle.sliced_heap.proofs.HeldIs.{place_there}
 use Rattle.sliced_heap.proofs.Places.{changed_occupied}
 use Rattle.sliced_heap.proofs.Preserved.{Becomes, becomes_plan, becomes_state, becomes_valid}
 

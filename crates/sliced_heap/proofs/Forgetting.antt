@@ -1,21 +1,21 @@
 -- An object goes, and its slot is to be cleared.
-use Rattle.std.proofs.Common.{◌≡◌, ℕ, ◌+◌, ◌-◌, ◌*◌, ◌<◌, ◌≤◌, List, length, get_or, set, replicate, Some, None, arith, refl, sym, ◌∙◌, ap, subst}
-use Rattle.std.specs.Prelude.{nat_eq, option_map}
+use Rattle.std.proofs.Common.{◌≡◌, ℕ, ◌+◌, ◌-◌, ◌*◌, ◌<◌, ◌≤◌, length, get_or, set, replicate, Some, arith, refl, sym, ◌∙◌, ap, subst}
+use Rattle.std.specs.Prelude.{nat_eq}
 use Rattle.std.proofs.lemmas.List.{length-set}
 use Rattle.std.specs.FinMap.{get, remove}
 use Rattle.cf_base.specs.Classes.{slots}
 use Rattle.cf_lemmas.proofs.Maps.{get_remove_other, some_removed}
-use Rattle.cf_lemmas.proofs.MapValues.{get-map_values, map_values-remove}
+use Rattle.cf_lemmas.proofs.MapValues.{map_values-remove}
 use Rattle.cf_lemmas.proofs.Ranges.{one}
 use Rattle.cf_lemmas.proofs.Tests.{eq_yes}
 use Rattle.page_model.specs.Arrangement.{class_at, live, pages_needed}
-use Rattle.page_model.specs.Held.{Held, Objects, Placed, objects, places}
-use Rattle.page_model.specs.Paging.{class_for, classes, slot_words, slots_of}
+use Rattle.page_model.specs.Held.{Held, Placed, objects}
+use Rattle.page_model.specs.Paging.{slot_words, slots_of}
 use Rattle.page_model.proofs.CallerLemmas.{live_taken, sound_exchanged}
 use Rattle.page_slots.specs.Occupying.{Occupies, Tell}
-use Rattle.proxy_table.specs.Proxies.{AreBelowLimit, Proxies, without_place}
+use Rattle.proxy_table.specs.Proxies.{AreBelowLimit, without_place}
 use Rattle.size_classes.specs.Table.{ClassTable}
-use Rattle.slice_model.specs.State.{Plan, IsPlan, Sliced, IsKept, occupied, with_slot, job_slot, stand_in, Idle, Clear}
+use Rattle.slice_model.specs.State.{Plan, IsPlan, Sliced, IsKept, occupied, Idle, Clear}
 use Rattle.slice_model.specs.Steps.{fresh_slot}
 use Rattle.slice_model.specs.Words.{HasWords}
 use Rattle.slice_model.proofs.CallerLemmas.{bytes_there, no_stand_in, other_than, stand_in_class, words_to_clear}

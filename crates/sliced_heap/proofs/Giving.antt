@@ -1,9 +1,9 @@
 -- An object comes: a malloc, and why one is refused.
-use Rattle.std.proofs.Common.{◌≡◌, ◌≢◌, ℕ, ◌+◌, ◌*◌, ◌^◌, ◌<◌, ◌≤◌, List, length, get_or, set, replicate, Option, Some, None, arith, refl, sym, ◌∙◌, ap, subst, inl, inr}
+use Rattle.std.proofs.Common.{◌≡◌, ◌≢◌, ℕ, ◌+◌, ◌<◌, ◌≤◌, List, length, get_or, set, replicate, Some, None, arith, refl, sym, ◌∙◌, ap, subst, inl, inr}
 use Rattle.std.specs.Prelude.{◌↔◌, Bool, IsTrue, false, nat_eq, option_map}
 use Rattle.std.proofs.lemmas.Bool.{cases_lt, false≢true}
 use Rattle.std.proofs.lemmas.List.{get_or-set_same, get_or-set_other, length-replicate, length-set}
-use Rattle.std.specs.FinMap.{get, insert, len, values}
+use Rattle.std.specs.FinMap.{get, insert, len}
 use Rattle.cf_base.specs.Classes.{class_of, need, slots}
 use Rattle.cf_lemmas.proofs.Maps.{some_inserted}
 use Rattle.cf_lemmas.proofs.MapValues.{get-map_values}
@@ -11,10 +11,10 @@ use Rattle.cf_lemmas.proofs.Ranges.{one}
 use Rattle.cf_lemmas.proofs.Values.{sum_at_most}
 use Rattle.page_model.specs.Arrangement.{LacksRoom, class_at, live, pages_needed, pages_needed_with}
 use Rattle.page_model.specs.Bytes.{AreBytes}
-use Rattle.page_model.specs.Held.{Held, Objects, Placed, objects, places}
+use Rattle.page_model.specs.Held.{Held, Placed, objects}
 use Rattle.page_model.specs.Image.{IsOutside, Rewrites, header_word}
 use Rattle.page_model.specs.Paging.{Paging, class_for, classes, slots_of}
-use Rattle.page_model.specs.Steps.{IsFreePlace, Request, zeros_at}
+use Rattle.page_model.specs.Steps.{IsFreePlace, zeros_at}
 use Rattle.page_model.proofs.CallerLemmas.{len-objects, live_added, malloc_objects, malloc_places, one_le, slot_inside, zeros_are_bytes}
 use Rattle.page_slots.specs.Tables.{AreTables, Tables}
 use Rattle.page_slots.specs.Taking.{TakesAt, TakesSlot}
@@ -22,10 +22,9 @@ use Rattle.page_slots.specs.Occupying.{Occupies, Tell, class_table}
 use Rattle.page_slots.proofs.CallerLemmas.{refused_lacks_room, taken_is_free, taken_occupied, taken_tell}
 use Rattle.proxy_table.specs.Proxies.{AreBelowLimit, with_place}
 use Rattle.size_classes.specs.Table.{ClassTable}
-use Rattle.slice_model.specs.State.{IsPlaceFor, NoPlace, Sliced, IsKept, job_slot, occupied, with_slot}
+use Rattle.slice_model.specs.State.{IsPlaceFor, Sliced, job_slot, occupied}
 use Rattle.slice_model.specs.Steps.{GivesObject, WantsProxy, WantsSlot, WantsSpace}
 use Rattle.slice_model.specs.Runs.{Mallocs}
-use Rattle.slice_model.specs.Words.{HasWords}
 use Rattle.slice_model.proofs.CallerLemmas.{free_is_place, get_beside, inserted_beside, kept_malloc, lacking_is_no_place, words_given}
 use Rattle.sliced_heap.specs.Heap.{Heap}
 use Rattle.sliced_heap.specs.Layout.{IsValid, opens, paging_at, plan_of, state_of, tables_in, working_of}
@@ -306,8 +305,7 @@ given_from h k bytes c found ne within t b n a q taken tables et unused below eb
     let low : q < h.proxies.limit = (let e = ap (λ (z : Heap). z.proxies.limit) et in omega arith) in
     let good : AreBelowLimit n.proxies = subst AreBelowLimit (sym (ap (λ (z : Heap). z.proxies) en)) handles in
     let on = on_taken h t b n a q c (header_word q bytes) et eb en in
-    let rest = all_changes h t b n a q c (header_word q bytes) et eb en in
-    (
+    let rest = all_changes h t b n a q c (header_word q bytes) et eb en in (
       given h k bytes c found ne within (tables_in t) a taken tables n q none low good on rest,
       given_valid h k bytes c found ne within (tables_in t) a taken tables n q none low good on rest,
     )

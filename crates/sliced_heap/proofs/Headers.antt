@@ -1,5 +1,5 @@
 -- What the header of an object tells, where it stands; and the class of a length.
-use Rattle.std.proofs.Common.{◌≡◌, ℕ, ◌+◌, ◌*◌, ◌/◌, ◌%◌, ◌^◌, ◌<◌, ◌≤◌, length, get_or, Some, None, arith, sym, ◌∙◌, ap, subst, inl, inr}
+use Rattle.std.proofs.Common.{◌≡◌, ℕ, ◌+◌, ◌*◌, ◌/◌, ◌%◌, ◌^◌, ◌<◌, ◌≤◌, length, get_or, Some, None, arith, ◌∙◌, ap, subst, inl, inr}
 use Rattle.std.proofs.lemmas.Bool.{cases_lt}
 use Rattle.std.specs.FinMap.{get}
 use Rattle.cf_base.specs.Classes.{need, class_of}
@@ -12,7 +12,7 @@ use Rattle.size_classes.specs.Table.{ClassTable}
 use Rattle.slice_model.specs.Words.{word_at}
 use Rattle.sliced_heap.specs.Heap.{Heap}
 use Rattle.sliced_heap.specs.Layout.{IsValid, paging_at, plan_of, state_of}
-use Rattle.sliced_heap.proofs.Facts.{paging_ok, plan_ok, table_ok}
+use Rattle.sliced_heap.proofs.Facts.{paging_ok, plan_ok}
 use Rattle.sliced_heap.proofs.HeldIs.{object_slot, object_within}
 
 module _ (h : Heap) (k : IsValid h) (q : ℕ) (x : Placed) (there : get (state_of h).held q ≡ Some x) where

@@ -1,13 +1,12 @@
 -- The objects that words and addresses tell beside a job are those whose words they are.
-use Rattle.std.proofs.Common.{◌≡◌, ◌≢◌, ℕ, ◌+◌, ◌-◌, ◌*◌, ◌^◌, ◌<◌, ◌≤◌, List, Option, Some, None, length, get_or, arith, refl, sym, ◌∙◌, ap, subst, inl, inr}
+use Rattle.std.proofs.Common.{◌≡◌, ℕ, ◌+◌, ◌-◌, ◌*◌, ◌<◌, ◌≤◌, List, Option, Some, None, length, get_or, arith, refl, sym, ◌∙◌, ap, subst}
 use Rattle.std.specs.Prelude.{option_map}
 use Rattle.std.specs.Ordering.{nat_cmp}
 use Rattle.std.specs.FinMap.{FinMap, get}
-use Rattle.cf_base.specs.Classes.{need}
 use Rattle.cf_lemmas.proofs.Maps.{equal_maps}
 use Rattle.cf_lemmas.proofs.MapValues.{get-map_values}
 use Rattle.page_model.specs.Arrangement.{class_at, IsSlotAt}
-use Rattle.page_model.specs.Bytes.{AreBytes, AreStorable, bytes_at, held_at}
+use Rattle.page_model.specs.Bytes.{AreStorable, bytes_at, held_at}
 use Rattle.page_model.specs.Held.{Held, Placed, places}
 use Rattle.page_model.specs.Image.{Clears, IsDisjoint, MovesWords, slot_for}
 use Rattle.page_model.specs.Paging.{Paging, slot_words}

@@ -6,7 +6,7 @@ use Rattle.std.specs.FinMap.{get}
 use Rattle.cf_lemmas.proofs.MapValues.{get-map_values}
 use Rattle.page_model.specs.Bytes.{AreBytes}
 use Rattle.page_model.specs.Held.{Held, Placed, objects}
-use Rattle.sliced_heap.specs.Heap.{Heap, seen}
+use Rattle.sliced_heap.specs.Heap.{seen}
 use Rattle.sliced_heap.specs.Layout.{IsValid, state_of}
 use Rattle.sliced_heap.specs.Shown.{IsValidIn, KeepsRules, SlicedState, shown}
 use Rattle.sliced_heap.specs.declared.open_heap.OpenHeap.{OpenHeap}

@@ -17,7 +17,7 @@ use Rattle.page_model.specs.Arrangement.{live, pages_needed}
 use Rattle.page_model.specs.Bytes.{bytes_at, held_at}
 use Rattle.page_model.specs.Counts.{ceil_div}
 use Rattle.page_model.specs.Held.{Placed, objects}
-use Rattle.page_model.specs.Paging.{Paging, IsPaging, class_for, classes, slots_of}
+use Rattle.page_model.specs.Paging.{Paging, IsPaging, classes, slots_of}
 use Rattle.page_model.proofs.CallerLemmas.{first_paged, slots_some, sound_empty}
 use Rattle.size_classes.specs.Table.{ClassTable, IsClassTable, table_of}
 use Rattle.class_lists.specs.PageLists.{empty_lists}
@@ -29,7 +29,7 @@ use Rattle.page_slots.proofs.CallerLemmas.{first_occupied, first_tables, first_w
 use Rattle.slice_model.specs.State.{Sliced, IsKept, Idle, occupied}
 use Rattle.slice_model.specs.Words.{HasWords}
 use Rattle.sliced_heap.specs.Heap.{Heap}
-use Rattle.sliced_heap.specs.Layout.{IsNew, IsValid, completed, paging_at, plan_of, profile_at, state_of, tables_in, working_of}
+use Rattle.sliced_heap.specs.Layout.{IsNew, IsValid, completed, paging_at, plan_of, profile_at, state_of, tables_in}
 
 no_objects : objects empty ≡ empty
 no_objects = map_values-empty (λ (x : Placed). x.bytes)

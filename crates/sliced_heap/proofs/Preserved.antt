@@ -1,16 +1,16 @@
 -- An open heap whose objects, words, tables and counts changed together keeps what it keeps, and has that state.
-use Rattle.std.proofs.Common.{◌≡◌, ℕ, ◌*◌, ◌^◌, ◌<◌, ◌≤◌, length, get_or, Some, arith, sym, ◌∙◌, ap, subst}
+use Rattle.std.proofs.Common.{◌≡◌, ℕ, ◌<◌, ◌≤◌, length, get_or, Some, arith, sym, ◌∙◌, ap, subst}
 use Rattle.std.specs.FinMap.{get}
 use Rattle.page_model.specs.Arrangement.{live, pages_needed}
 use Rattle.page_model.specs.Bytes.{AreBytes, AreStorable}
-use Rattle.page_model.specs.Held.{Held, Placed, objects, places}
+use Rattle.page_model.specs.Held.{Placed, objects, places}
 use Rattle.page_model.specs.Paging.{classes}
 use Rattle.page_slots.specs.Occupying.{Occupies, Tell}
 use Rattle.proxy_table.specs.Proxies.{AreBelowLimit}
-use Rattle.slice_model.specs.State.{Sliced, IsKept, job_slot, occupied, with_slot}
+use Rattle.slice_model.specs.State.{Sliced, IsKept, occupied}
 use Rattle.slice_model.specs.Words.{HasWords}
 use Rattle.sliced_heap.specs.Heap.{Heap}
-use Rattle.sliced_heap.specs.Layout.{IsValid, completed, paging_at, plan_of, state_of, tables_in}
+use Rattle.sliced_heap.specs.Layout.{IsValid, paging_at, plan_of, state_of, tables_in}
 use Rattle.sliced_heap.proofs.Facts.{plan_ok}
 use Rattle.sliced_heap.proofs.HeldIs.{held_told}
 

@@ -1,13 +1,13 @@
 -- Parts of objects that are read or written, where their words stand.
-use Rattle.std.proofs.Common.{◌≡◌, ◌≢◌, ℕ, ◌+◌, ◌-◌, ◌*◌, ◌/◌, ◌%◌, ◌^◌, ◌<◌, ◌≤◌, List, length, get_or, Some, None, arith, refl, sym, ◌∙◌, ap, subst, inl, inr}
-use Rattle.std.specs.Prelude.{nat_eq, option_map}
-use Rattle.std.proofs.lemmas.Bool.{cases_eq, cases_lt}
+use Rattle.std.proofs.Common.{◌≡◌, ℕ, ◌+◌, ◌/◌, ◌%◌, ◌^◌, ◌<◌, ◌≤◌, List, length, get_or, Some, None, arith, refl, sym, ◌∙◌, ap, subst, inl, inr}
+use Rattle.std.specs.Prelude.{option_map}
+use Rattle.std.proofs.lemmas.Bool.{cases_eq}
 use Rattle.std.specs.FinMap.{get, insert}
 use Rattle.cf_base.specs.declared.answers.AccessFault.TheVariants as access
 use Rattle.cf_lemmas.proofs.Maps.{some_inserted}
 use Rattle.cf_lemmas.proofs.MapValues.{get-map_values, map_values-insert}
 use Rattle.cf_lemmas.proofs.Tests.{eq_no, eq_yes}
-use Rattle.page_model.specs.Arrangement.{class_at, live, pages_needed}
+use Rattle.page_model.specs.Arrangement.{class_at, live}
 use Rattle.page_model.specs.Bytes.{AreBytes, written}
 use Rattle.page_model.specs.Held.{Held, Placed, objects, places}
 use Rattle.page_model.specs.Image.{slot_for}
@@ -17,11 +17,11 @@ use Rattle.page_slots.specs.Occupying.{Occupies, Tell}
 use Rattle.page_slots.proofs.CallerLemmas.{rewritten_occupied}
 use Rattle.proxy_table.specs.Proxies.{AreBelowLimit}
 use Rattle.slice_model.specs.declared.job_slot.JobSlot.{JobSlot}
-use Rattle.slice_model.specs.State.{Job, Sliced, IsKept, job_slot, occupied, Idle, Clear, Move}
-use Rattle.slice_model.specs.Runs.{IsOutOfReach, Part, Reads, Writes}
-use Rattle.slice_model.specs.Words.{HasWords, RewritesObject, byte_read, word_at}
+use Rattle.slice_model.specs.State.{Job, Sliced, job_slot, occupied, Idle, Clear, Move}
+use Rattle.slice_model.specs.Runs.{IsOutOfReach, Reads, Writes}
+use Rattle.slice_model.specs.Words.{RewritesObject}
 use Rattle.slice_model.proofs.CallerLemmas.{beside, bytes_there, inserted_beside, kept_apart, kept_write, mover_class, own_words_at, words_written}
-use Rattle.slice_words.specs.Halves.{AreApart, byte_in, halves_of, place_of_word, together}
+use Rattle.slice_words.specs.Halves.{AreApart, byte_in, halves_of, place_of_word}
 use Rattle.slice_words.specs.Writes.{WritesBytes}
 use Rattle.slice_words.specs.declared.halves.Halves.{Halves}
 use Rattle.slice_words.proofs.CallerLemmas.{byte_by_halves, object_rewritten, word_by_halves, word_high, word_low}

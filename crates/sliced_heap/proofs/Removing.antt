@@ -1,22 +1,21 @@
 -- A free put together: the object goes, its slot is filled where it must be, and a slice follows.
-use Rattle.std.proofs.Common.{◌≡◌, ◌≢◌, ℕ, ◌*◌, ◌-◌, ◌<◌, List, length, replicate, Bool, true, false, Some, None, arith, refl, sym, ◌∙◌, ap, subst}
+use Rattle.std.proofs.Common.{◌≡◌, ◌≢◌, ℕ, ◌*◌, ◌-◌, ◌<◌, replicate, Bool, true, false, Some, None, arith, sym, ◌∙◌, ap, subst}
 use Rattle.std.specs.FinMap.{get, insert, remove}
 use Rattle.cf_lemmas.proofs.Maps.{get_remove_other, some_removed}
 use Rattle.page_model.specs.Arrangement.{IsSound, class_at, not_full_pages, objects_on}
 use Rattle.page_model.specs.Held.{Held, Placed}
-use Rattle.page_model.specs.Paging.{bound_of, page_of, slot_words, slots_of}
+use Rattle.page_model.specs.Paging.{page_of, slot_words, slots_of}
 use Rattle.page_model.specs.Steps.{Moves, MustMove}
 use Rattle.page_model.proofs.CallerLemmas.{not_full-same, objects_on-exchanged}
 use Rattle.slice_model.specs.State.{Sliced, IsKept, occupied, stand_in, Clear, Idle}
-use Rattle.slice_model.specs.Steps.{Carries, RemovesObject, fresh_slot}
-use Rattle.slice_model.specs.Runs.{Frees, Slices, Working}
+use Rattle.slice_model.specs.Steps.{Carries, fresh_slot}
+use Rattle.slice_model.specs.Runs.{Frees, Slices}
 use Rattle.slice_model.proofs.CallerLemmas.{no_stand_in, other_than, same_elsewhere, stand_in_class}
 use Rattle.slice_model.specs.declared.job_slot.JobSlot.{JobSlot}
 use Rattle.sliced_heap.specs.Heap.{Heap}
 use Rattle.sliced_heap.specs.Layout.{IsValid, paging_at, plan_of, state_of, working_of}
 use Rattle.sliced_heap.specs.Steps.{Fills, Forgets, IsFilled, StaysVacant}
 use Rattle.sliced_heap.proofs.Facts.{paging_ok, plan_ok}
-
 use Rattle.sliced_heap.proofs.Headers.{in_class}
 
 module _ (h : Heap) (k : IsValid h) (idle : h.job ≡ Idle) (q : ℕ) (x : Placed) (there : get (state_of h).held q ≡ Some x) where

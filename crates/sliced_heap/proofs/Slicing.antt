@@ -1,16 +1,14 @@
 -- A slice of the pending job: some of its words, or the last ones.
-use Rattle.std.proofs.Common.{◌≡◌, ℕ, ◌+◌, ◌-◌, ◌*◌, ◌<◌, ◌≤◌, List, length, get_or, Option, Some, None, arith, refl, sym, ◌∙◌, ap, subst, inl, inr}
-use Rattle.std.specs.Prelude.{◌⊎◌, min}
-use Rattle.std.specs.FinMap.{get}
-use Rattle.page_model.specs.Arrangement.{IsSound, live, pages_needed}
-use Rattle.page_model.specs.Held.{Held, Placed, objects}
-use Rattle.page_model.specs.Image.{Clears, IsOutside, MovesWords}
-use Rattle.page_model.specs.Paging.{Paging, slot_words}
+use Rattle.std.proofs.Common.{◌≡◌, ℕ, ◌+◌, ◌-◌, ◌<◌, ◌≤◌, List, length, get_or, Some, None, arith, refl, sym, ◌∙◌, ap, subst, inl, inr}
+use Rattle.std.specs.Prelude.{min}
+use Rattle.page_model.specs.Arrangement.{IsSound}
+use Rattle.page_model.specs.Held.{Held}
+use Rattle.page_model.specs.Paging.{slot_words}
 use Rattle.page_slots.specs.Occupying.{Occupies, Tell}
 use Rattle.proxy_table.specs.Proxies.{AreBelowLimit}
 use Rattle.size_classes.specs.Table.{ClassTable}
 use Rattle.slice_model.specs.declared.job_slot.JobSlot.{JobSlot}
-use Rattle.slice_model.specs.State.{Plan, IsPlan, Job, Sliced, IsKept, IsJobOf, IsUnderWay, advanced, job_slot, occupied, with_slot, Idle, Clear, Move}
+use Rattle.slice_model.specs.State.{Plan, Job, Sliced, IsKept, IsJobOf, IsUnderWay, advanced, job_slot, occupied, with_slot, Clear}
 use Rattle.slice_model.specs.Steps.{Ends, IsSlice, SliceOf, done_after}
 use Rattle.slice_model.specs.Words.{DoesWords, HasWords}
 use Rattle.slice_model.specs.Runs.{Slices, Working, words_of_slice}

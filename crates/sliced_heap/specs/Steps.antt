@@ -7,7 +7,7 @@ use Rattle.page_model.specs.Steps.{MustMove}
 use Rattle.page_slots.specs.Freeing.{IsFiller}
 use Rattle.proxy_table.specs.Proxies.{AreBelowLimit, with_place}
 use Rattle.slice_model.specs.declared.job_slot.JobSlot.{JobSlot}
-use Rattle.slice_model.specs.State.{Sliced, occupied, stand_in, Clear, Move}
+use Rattle.slice_model.specs.State.{occupied, stand_in, Clear, Move}
 use Rattle.slice_model.specs.Steps.{Carries, IsBeside, fresh_slot}
 use Rattle.slice_model.specs.declared.answers.SliceFault.{SliceFault}
 use Rattle.sliced_heap.specs.Heap.{Heap}

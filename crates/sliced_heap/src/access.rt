@@ -11,7 +11,7 @@ ghost use Rattle.sliced_heap.specs.Layout.{IsValid, plan_of, working_of};
 use crate::open_heap::{OpenHeap, Pending};
 use cf_base::{AccessFault, Handle};
 use object_header::Header;
-use slice_words::{read_halves, read_word, write_halves, Halves};
+use slice_words::{Halves, read_halves, read_word, write_halves};
 use step_ledger::Steps;
 
 impl OpenHeap {

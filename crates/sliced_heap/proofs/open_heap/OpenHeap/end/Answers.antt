@@ -1,4 +1,4 @@
-use Rattle.std.proofs.Common.{◌≡◌, refl, sym, ◌∙◌, ap, subst}
+use Rattle.std.proofs.Common.{sym, ap, subst}
 use Rattle.page_slots.specs.Tables.{IsUsed, page_at, slot_at}
 use Rattle.slice_model.specs.State.{Idle}
 use Rattle.sliced_heap.specs.Heap.{Heap, seen}

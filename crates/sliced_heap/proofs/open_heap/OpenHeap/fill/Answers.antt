@@ -1,4 +1,4 @@
-use Rattle.std.proofs.Common.{◌≡◌, [], length, true, refl, subst, ◌∙◌, sym, ap}
+use Rattle.std.proofs.Common.{[], length, refl, subst, ◌∙◌, sym}
 use Rattle.std.specs.Prelude.{IsTrue, slice_index_or}
 use Rattle.std.proofs.lemmas.Bool.{false≢true}
 use Rattle.class_lists.specs.PageLists.{pages_in}
@@ -7,8 +7,8 @@ use Rattle.page_model.specs.Steps.{MustMove}
 use Rattle.page_slots.specs.Freeing.{MovesObject}
 use Rattle.page_slots.specs.Tables.{page_at}
 use Rattle.slice_model.specs.State.{stand_in}
-use Rattle.sliced_heap.specs.Heap.{Heap, seen}
-use Rattle.sliced_heap.specs.Layout.{paging_at, plan_of, state_of}
+use Rattle.sliced_heap.specs.Heap.{seen}
+use Rattle.sliced_heap.specs.Layout.{paging_at}
 use Rattle.sliced_heap.proofs.Filling.{all_are, carried_valid, from_within, is_filled, must_is, number_live, page_within}
 use Rattle.sliced_heap.proofs.open_heap.OpenHeap.fill.Goals as goal
 

@@ -1,4 +1,4 @@
-use Rattle.std.proofs.Common.{arith, sym, ◌∙◌, ap}
+use Rattle.std.proofs.Common.{arith, sym}
 use Rattle.sliced_heap.specs.Heap.{seen}
 use Rattle.sliced_heap.proofs.Reaching.{head_from, head_to, lies, passes, unknown}
 use Rattle.sliced_heap.proofs.open_heap.OpenHeap.find.Goals as goal

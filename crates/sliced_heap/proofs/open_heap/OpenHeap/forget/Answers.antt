@@ -1,14 +1,13 @@
-use Rattle.std.proofs.Common.{◌≡◌, ◌+◌, ◌-◌, ℕ, length, get_or, set, Some, None, arith, refl, sym, ◌∙◌, ap, subst}
-use Rattle.cf_base.specs.Classes.{class_of, slots}
-use Rattle.page_model.specs.Arrangement.{class_at}
+use Rattle.std.proofs.Common.{◌-◌, get_or, set, arith, sym, ◌∙◌, ap, subst}
+use Rattle.cf_base.specs.Classes.{slots}
 use Rattle.proxy_table.specs.Proxies.{AreBelowLimit}
 use Rattle.slice_model.specs.State.{Clear}
 use Rattle.slice_model.specs.Steps.{fresh_slot}
-use Rattle.sliced_heap.specs.Heap.{Heap, seen}
-use Rattle.sliced_heap.specs.Layout.{opens, paging_at}
+use Rattle.sliced_heap.specs.Heap.{seen}
+use Rattle.sliced_heap.specs.Layout.{opens}
 use Rattle.sliced_heap.specs.declared.open_heap.OpenHeap.{OpenHeap}
-use Rattle.sliced_heap.proofs.Forgetting.{GoesAway, forgets_at, live_some, needed_some}
-use Rattle.sliced_heap.proofs.Finding.{class_found, found, has_class, length_told, place_in}
+use Rattle.sliced_heap.proofs.Forgetting.{forgets_at, live_some, needed_some}
+use Rattle.sliced_heap.proofs.Finding.{class_found, found, has_class, place_in}
 use Rattle.sliced_heap.proofs.open_heap.OpenHeap.forget.Goals as goal
 
 pub read-requires : goal.read-requires

@@ -1,9 +1,6 @@
-use Rattle.std.proofs.Common.{◌≡◌, ◌+◌, length, get_or, set, arith, refl, sym, ◌∙◌, ap, subst}
-use Rattle.cf_base.specs.Classes.{slots}
-use Rattle.proxy_table.specs.Proxies.{AreBelowLimit}
-use Rattle.page_model.specs.Image.{header_word}
-use Rattle.sliced_heap.specs.Heap.{Heap, seen}
-use Rattle.sliced_heap.specs.Layout.{opens, tables_in, working_of}
+use Rattle.std.proofs.Common.{length, get_or, arith, refl, sym, ◌∙◌, ap}
+use Rattle.sliced_heap.specs.Heap.{seen}
+use Rattle.sliced_heap.specs.Layout.{working_of}
 use Rattle.sliced_heap.specs.declared.open_heap.OpenHeap.{OpenHeap}
 use Rattle.sliced_heap.proofs.Giving.{given_from, live_room, place_inside, wants_proxy, wants_slot, wants_space, within_of}
 use Rattle.sliced_heap.proofs.open_heap.OpenHeap.malloc.Goals as goal
