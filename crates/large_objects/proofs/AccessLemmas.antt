@@ -160,7 +160,7 @@ module _ (old now : LargeState) (h at done count piece : ℕ) (bytes : List ℕ)
   write_index_small =
       let below = piece_below piece (at + done) positive (length now_bytes) (let l = same_bytes in let w = has.within in omega arith) in
       index_small now kept.parts h now_bytes there still_long ((at + done) / piece) (subst (λ k. (at + done) / piece < pieces k (length now_bytes))
-          (sym piece_now) below)
+      (sym piece_now) below)
 
   pub write_within_small : (at + done) % piece < 2 ^ 32
   write_within_small = (let i = inside_piece piece (at + done) positive in let s = piece_small now kept.parts in let e = piece_now in omega arith)
@@ -181,7 +181,7 @@ module _ (old now : LargeState) (h at done count piece : ℕ) (bytes : List ℕ)
       let from : piece_in now * ((at + done) / piece) + (at + done) % piece ≡ at + done =
       ap (λ k. k * ((at + done) / piece) + (at + done) % piece) piece_now ∙ place_is piece (at + done) positive in
       wrote_more old now new h at done count bytes v chunk (piece_in now * ((at + done) / piece) + (at + done) % piece) found within few (so_far v found)
-          chunk_is from wrote
+      chunk_is from wrote
 
 -- a read of the chunk that comes next
 module _ (s : LargeState) (h at done count piece total : ℕ) (has : HasLong s h at total) (parts : KeepsParts s) (piece_is : piece ≡ piece_in s)
@@ -216,7 +216,7 @@ length_put a k xs ys same within =
     let front = ap length (take-put_mid a k xs ys (a + k) (omega arith) (omega arith)) ∙ length-append (take a xs) ys in
     let back = ap length (drop-put_mid a k xs ys (a + k) (omega arith) (omega arith) same) ∙ length-drop (a + k) xs in
     let whole = ap length (sym (take-append-drop (a + k) (put_mid a k xs ys)))
-        ∙ length-append (take (a + k) (put_mid a k xs ys)) (drop (a + k) (put_mid a k xs ys)) in
+    ∙ length-append (take (a + k) (put_mid a k xs ys)) (drop (a + k) (put_mid a k xs ys)) in
     let first = length-take a xs in
     omega arith
 

@@ -117,7 +117,7 @@ piece_of_zeros u n i =
     same_number_lists (piece_of u (replicate n 0) i) (replicate (piece_length u n i) 0) (omega arith) (λ k lt.
     let in_both = part_below u (u * i) (replicate n 0) k lt in
     part_at u (u * i) (replicate n 0) k in_both.0 ∙ zero_anywhere n (u * i + k) (replicate n 0) refl
-        ∙ sym (zero_anywhere (piece_length u n i) k (replicate (piece_length u n i) 0) refl))
+    ∙ sym (zero_anywhere (piece_length u n i) k (replicate (piece_length u n i) 0) refl))
 
 -- a part of a piece is a part of the object
 pub part_of_piece : (u : ℕ) (v : List ℕ) (i off count : ℕ) → off + count ≤ u → take count (drop off (piece_of u v i)) ≡ take count (drop (u * i + off) v)
@@ -191,7 +191,7 @@ pieces_joined u v f k (suc n) same =
     let s : u * (k + 1) ≡ u * k + u = omega arith in
     flat_map-cons f k (range_with_len (k + 1) n) ∙ ap (λ w. w ++ flat_map f (range_with_len (k + 1) n)) first
     ∙ ap (λ w. piece_of u v k ++ w) (rest ∙ ap (λ x. take (u * n) (drop x v)) s) ∙ sym (ap (λ x. take x (drop (u * k) v)) t
-        ∙ take_drop_more v (u * k) u (u * n))
+    ∙ take_drop_more v (u * k) u (u * n))
 
 -- all pieces are the object
 pub pieces_whole : (u : ℕ) (v : List ℕ) (f : ℕ → List ℕ) (n : ℕ) → length v ≤ u * n → ((i : ℕ) → i < n → f i ≡ piece_of u v i)

@@ -170,7 +170,7 @@ module _ (p : Paging) (u n : ℕ) (some : 0 < u) (long : u < n) (old : Objects) 
         let b = live_rewritten p mid h spine spine' c there (length-written spine (4 * i) (to_le_bytes w32 q) room) in
         let ll = length_long u n some long in
         let m : in_class p c (take (suc i + 1) (parts u n)) ≡ in_class p c (take (suc i) (parts u n)) + one
-            (nat_eq (class_for p (get_or (parts u n) (suc i) 0)) c) =
+        (nat_eq (class_for p (get_or (parts u n) (suc i) 0)) c) =
         in_class_more p c (parts u n) (suc i) (omega arith) in
         let x = ap (λ k. one (nat_eq (class_for p k) c)) (part_is u n some long i below) in
         let s : in_class p c (take (1 + (i + 1)) (parts u n)) ≡ in_class p c (take (suc i + 1) (parts u n)) =
@@ -256,7 +256,7 @@ module _ (u n : ℕ) (old now : HeapState) (h i : ℕ) (some : 0 < u) (long : u 
       (λ c. live (paging_in old) (objects old.held) c + in_class (paging_in old) c (parts u n)) old.profile.pages room.pages each in
       let family : Paging → Type 0 = λ p. pages_needed_with p (objects now.held) (piece_length u n i) ≤ old.profile.pages in
       let within' : pages_needed_with (paging_in now) (objects now.held) (piece_length u n i) ≤ old.profile.pages = subst family (sym (same_paging old now k))
-          within in
+      within in
       record {
         fits = piece_fits now.profile (piece_length u n i) (omega arith) (omega arith);
         few = omega arith;

@@ -155,7 +155,7 @@ part_small s r q v is =
     let small = r.rules.settings.small_region in
     let one = r.rules.settings.some_pages in
     let m : 1 * s.profile.page_words ≤ s.profile.pages * s.profile.page_words = mul-le 1 s.profile.page_words s.profile.pages s.profile.page_words one
-        (omega arith) in
+    (omega arith) in
     omega arith
 
 -- a handle that is live is below the number of proxies

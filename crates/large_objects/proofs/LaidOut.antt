@@ -258,8 +258,14 @@ module _ (u : ℕ) (large inner : Objects) (laid : AreLaidOut u large inner) (h 
           let l : length k.bytes ≡ length v = sym (ap length is) ∙ same in
           let there : get large g ≡ Some v = ap (get large) at ∙ found in
           let long : u < length v = (let was = k.long in omega arith) in
-          record { bytes = v; found = there; long = long; below = (let below = k.below in rw (ap (pieces u) l) at below); is = k.is
-              ∙ named_same g v there long i })
+          record {
+            bytes = v;
+            found = there;
+            long = long;
+            below = (let below = k.below in rw (ap (pieces u) l) at below);
+            is = k.is
+                ∙ named_same g v there long i;
+          })
       | inr (ne, there) ↦ record { bytes = k.bytes; found = there; long = k.long; below = k.below; is = k.is ∙ named_same g k.bytes there k.long i }
     ]
 

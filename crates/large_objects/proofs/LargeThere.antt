@@ -124,7 +124,7 @@ module _ (old : LargeState) (opened : IsTrue old.is_open) (kept : KeepsParts old
   free_there h v found =
       let is : option_map length (get old.objects h) ≡ Some (length v) = ap (option_map length) found in
       let r = releases_there u (length v) old.inner h some ready (has_parts true old.inner.profile.pages u lengths old.inner old view opened valid h
-          (length v) is) in (
+      (length v) is) in (
         large_state true u (set lengths h None) r.0,
         gone_frees true old.inner.profile.pages u lengths old.inner old view opened valid h (length v) is r.0 r.1,
         gone_kept true old.inner.profile.pages u lengths old.inner old view opened valid h (length v) is r.0 r.1,
@@ -177,7 +177,7 @@ module _ (old : LargeState) (opened : IsTrue old.is_open) (kept : KeepsParts old
       let part = next_write old now h at done count piece bytes has w.so_far w.stays refl positive (omega arith) more (omega arith) in
       let c = chunk_there now w.stays.stays.open_now w.stays.parts h ((at + done) / piece) ((at + done) % piece) (take count (drop done bytes))
       (subst (λ k. HasLongPart now h ((at + done) / piece) ((at + done) % piece) k) (sym long) part) (part_bytes count done bytes are) (omega arith)
-          (omega arith) in (
+      (omega arith) in (
         count,
         more,
         c.0,

@@ -59,7 +59,7 @@ pub read_back : (old new : LargeState) (part : Part) (bytes out : List ℕ) → 
     ≡ bytes
 read_back old new part bytes out w r =
     let there : get new.objects part.number ≡ Some (written w.object part.from bytes) = ap (λ (o : Objects). get o part.number) w.left
-        ∙ get_inserted old.objects part.number _ in
+    ∙ get_inserted old.objects part.number _ in
     let same = same_Some r.object (written w.object part.from bytes) (sym r.found ∙ there) in
     r.value ∙ ap (λ (b : List ℕ). take (length bytes) (drop part.from b)) same ∙ part_same w.object part.from bytes w.within
 

@@ -131,5 +131,5 @@ module _ (s : HeapState) (ready : IsReady s) where
           let x = ap (λ k. ceil_div (k + (within - before)) f.slots) live_is in
           let y = ap (λ k. ceil_div (live (paging_in s) (objects s.held) c + k) f.slots) class_is in
           let z = ap (λ k. ceil_div (live (paging_in s) (objects s.held) c + in_class (paging_in s) c (parts u n)) k)
-              (ap (λ (f : Figures). f.slots) figures_are) in
+          (ap (λ (f : Figures). f.slots) figures_are) in
           let b = pages_more (paging_in s) (objects s.held) (parts u n) c in omega arith)

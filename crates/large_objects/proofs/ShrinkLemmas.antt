@@ -88,7 +88,7 @@ module _ (u n : ℕ) (old now : HeapState) (h i : ℕ) (some : 0 < u) (long : u 
     stays = then_ready old now next g.stays frees.stays;
     shrinking = subst (λ (o : Objects). IsShrinking (paging_in old) u n (objects old.held) h (i + 1) o)
         (sym (frees.left ∙ ap (λ q. remove (objects now.held) q) (named_there (paging_in old) u n some long (objects old.held) h has i below
-            (objects now.held) g.shrinking)))
+        (objects now.held) g.shrinking)))
         (shrinking_more (paging_in old) u n some long (objects old.held) h has i below (objects now.held) g.shrinking);
   }
 

@@ -40,7 +40,7 @@ at run written = record { run = run; written = written }
 -- a reply that was put, whole or in part
 pub reported : (old new : LargeRun) (c : Command) (reply : Reply) (w y : Told) (r : Result Unit Failed) (outcome : Outcome) (answer : Result Outcome Failed)
     → LargeStep old c reply new → outcome ≡ outcome_of reply → Puts w (led [] reply) r y → IsEndedAs r outcome answer
-        → AppliesLarge (at old w) c answer (at new y)
+    → AppliesLarge (at old w) c answer (at new y)
 reported old new c reply w y (Ok u) outcome answer step told put is =
     subst (λ (a : Result Outcome Failed). AppliesLarge (at old w) c a (at new y)) (sym is) (record { reply = reply; step = step; written = put }, told)
 reported old new c reply w y (Err e) outcome answer step told (front, lost, parts, put) is =
@@ -75,7 +75,7 @@ told_frag old inner c w y r answer is same put told =
 -- a line that was written, and put
 pub told_line : (old new : LargeRun) (c : Command) (line : List ℕ) (w y : Told) (r : Result Unit Failed) (outcome : Outcome) (answer : Result Outcome Failed)
     → Speaks old c new line → outcome ≡ outcome_in line → Puts w (line ++ 10 ∷ []) r y → IsEndedAs r outcome answer
-        → AppliesLarge (at old w) c answer (at new y)
+    → AppliesLarge (at old w) c answer (at new y)
 told_line old new c line w y r outcome answer speaks told put is =
     reported old new c (said line) w y r outcome answer speaks.step told (puts_line w y [] line line r refl put) is
 

@@ -25,7 +25,7 @@ returns-in-Ok-clause-text g c =
     let is = (pushed c.push_text-in-Ok.new.line (encode_lower c.read.new.out) _ c.push_hex.result c.push_hex.ensures (omega arith)).1 in
     is ∙ ap (λ (l : List ℕ). l ++ encode_lower c.read.new.out) (c.push_text-in-Ok.ensures ∙ ap (λ (l : List ℕ). l ++ codes "=") c.requires.empty)
     ∙ sym (read_said (large_run c.args.ids.now c.args.heap.now) c.args.id c.args.at (length c.args.room.now) c.in-Some.h.0 c.read.new.out
-        c.in-Some.ensures.found
+    c.in-Some.ensures.found
     c.in-Ok.ensures.answer)
 
 pub returns-in-Ok-clause-room : goal.returns-in-Ok-clause-room
@@ -39,5 +39,5 @@ returns-in-Ok-clause-room g c =
 pub returns-in-Err-clause-text : goal.returns-in-Err-clause-text
 returns-in-Err-clause-text g c = c.push_text-in-Err.ensures ∙ ap (λ (l : List ℕ). l ++ c.fault_text.result.now) c.requires.empty ∙ c.fault_text.ensures.value
     ∙ sym (read_fault (large_run c.args.ids.now c.args.heap.now) c.args.id c.args.at (length c.args.room.now) c.in-Some.h.0 c.in-Err.fault
-        c.in-Some.ensures.found
+    c.in-Some.ensures.found
     c.in-Err.ensures.answer.0)

@@ -16,28 +16,28 @@ loop-c-init g c = record {
 pub overflow_sub-within : goal.overflow_sub-within
 overflow_sub-within g c = before_within (g.H.Manager.state c.args.inner.now) c.requires.ready c.args.piece c.args.bytes c.requires.some (omega arith) c.loop-c.c
     (let lt = c.loop-c-test.true in let e = c.classes-c-end.ensures in omega arith) c.in-Some.figures c.in-Some.ensures c.parts_within-within.result
-        c.loop-c.before
+    c.loop-c.before
     c.parts_within-within.ensures c.loop-c.invariant.before
 
 pub overflow_add-figures : goal.overflow_add-figures
 overflow_add-figures g c =
     let small = objects_small (g.H.Manager.state c.args.inner.now) c.requires.ready c.args.piece c.args.bytes c.requires.some (omega arith) c.loop-c.c
     (let lt = c.loop-c-test.true in let e = c.classes-c-end.ensures in omega arith) c.in-Some.figures c.in-Some.ensures c.parts_within-within.result
-        c.loop-c.before
+    c.loop-c.before
     c.parts_within-within.ensures c.loop-c.invariant.before in omega arith
 
 pub div_ceil-pages-requires : goal.div_ceil-pages-requires
 div_ceil-pages-requires g c = slots_positive (g.H.Manager.state c.args.inner.now) c.requires.ready c.args.piece c.args.bytes c.requires.some (omega arith)
     c.loop-c.c
     (let lt = c.loop-c-test.true in let e = c.classes-c-end.ensures in omega arith) c.in-Some.figures c.in-Some.ensures c.parts_within-within.result
-        c.loop-c.before
+    c.loop-c.before
     c.parts_within-within.ensures c.loop-c.invariant.before
 
 pub overflow_add-pages : goal.overflow_add-pages
 overflow_add-pages g c =
     let fit = pages_fit (g.H.Manager.state c.args.inner.now) c.requires.ready c.args.piece c.args.bytes c.requires.some (omega arith) c.loop-c.c
     (let lt = c.loop-c-test.true in let e = c.classes-c-end.ensures in omega arith) c.in-Some.figures c.in-Some.ensures c.parts_within-within.result
-        c.loop-c.before
+    c.loop-c.before
     c.parts_within-within.ensures c.loop-c.invariant.before c.loop-c.pages c.div_ceil-pages.result c.loop-c.invariant.sum c.loop-c.invariant.small
     c.div_ceil-pages.ensures in omega arith
 

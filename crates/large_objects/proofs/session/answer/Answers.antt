@@ -13,7 +13,7 @@ pub returns-in-Frag-clause-answers : goal.returns-in-Frag-clause-answers
 returns-in-Frag-clause-answers g c = told_frag (large_run c.args.ids.now c.args.heap.now) (g.H.Manager.state c.inner-in-Frag.result.now)
     (owned_command c.args.c) _ _
     c.frag_line-written.result c.ended-in-Frag.result (ap owned_command c.in-Frag.is) c.inner-in-Frag.ensures c.frag_line-written.ensures.puts
-        c.ended-in-Frag.ensures
+    c.ended-in-Frag.ensures
 
 pub returns-in_default-clause-answers : goal.returns-in_default-clause-answers
 returns-in_default-clause-answers g c = told_line (large_run c.args.ids.now c.args.heap.now) (large_run c.speak.new.ids c.speak.new.heap)

@@ -25,7 +25,7 @@ pub overflow_cast-i : goal.overflow_cast-i
 overflow_cast-i g c =
     let i = c.pieces.invariant in
     let small = read_index_small c.args.self.now c.args.h.0 c.args.at c.pieces.done c.min-count.result c.self.inside.piece (length c.args.out.now)
-        c.requires.has i.parts i.piece
+    c.requires.has i.parts i.piece
     i.positive (let e = i.room in omega arith) (omega arith) in omega arith
 
 pub read_piece-requires-clause-has : goal.read_piece-requires-clause-has
@@ -37,7 +37,7 @@ read_piece-requires-clause-has g c =
     length-take (c.pieces.done + n - c.pieces.done) (drop c.pieces.done c.pieces.out)
     ∙ (let d = length-drop c.pieces.done c.pieces.out in let e = i.room in omega arith) in
     subst (λ k. HasLongPart c.args.self.now c.args.h.0 ((c.args.at + c.pieces.done) / c.self.inside.piece) ((c.args.at + c.pieces.done) % c.self.inside.piece)
-        k)
+    k)
     (sym long)
     (next_read c.args.self.now c.args.h.0 c.args.at c.pieces.done n c.self.inside.piece (length c.args.out.now) c.requires.has i.parts i.piece i.positive few
     (omega arith) (omega arith))
@@ -69,7 +69,7 @@ pieces-preserved g c =
       some = omega arith;
       so_far = λ v found. read_put c.args.at c.pieces.done n (c.pieces.done + n - c.pieces.done) v c.pieces.out c.read_piece.new.out long within
           (read_more c.args.self.now c.args.h.0 c.args.at c.pieces.done n c.self.inside.piece (length c.args.out.now) c.requires.has i.parts i.piece
-              i.positive few
+          i.positive few
           (omega arith) v c.read_piece.new.out (take c.pieces.done c.pieces.out) (i.so_far v found)
           (c.read_piece.ensures v found
           ∙ ap (λ m. take m (drop (piece_in c.args.self.now * ((c.args.at + c.pieces.done) / c.self.inside.piece)

@@ -7,33 +7,33 @@ pub overflow_add-live : goal.overflow_add-live
 overflow_add-live g c =
     let live = ap (λ (t : Totals). t.live) c.totals-live.ensures.value in
     let small = count_small c.self.inside.is_open c.self.inside.pages c.self.inside.piece c.self.inside.lengths.items (g.H.Manager.state c.self.inside.inner)
-        c.args.self.now c.self.view_is
+    c.args.self.now c.self.view_is
     c.requires c.self.invariant c.args.bytes c.totals-live.result.live c.part_count.result live c.part_count.ensures (omega arith) in omega arith
 
 pub returns-then-len-live-clause-cause : goal.returns-then-len-live-clause-cause
 returns-then-len-live-clause-cause g c =
     let live = ap (λ (t : Totals). t.live) c.totals-live.ensures.value in
     refused_proxies c.self.inside.is_open c.self.inside.pages c.self.inside.piece c.self.inside.lengths.items (g.H.Manager.state c.self.inside.inner)
-        c.args.self.now c.self.view_is
+    c.args.self.now c.self.view_is
     c.requires c.self.invariant c.args.bytes c.totals-live.result.live c.part_count.result (c.if-not-has_spine_that_fits.ensures.0 refl) live
-        c.part_count.ensures (omega arith)
+    c.part_count.ensures (omega arith)
 
 pub returns-then-self-pages_with-clause-cause : goal.returns-then-self-pages_with-clause-cause
 returns-then-self-pages_with-clause-cause g c =
     let live = ap (λ (t : Totals). t.live) c.totals-live.ensures.value in
     refused_pages c.self.inside.is_open c.self.inside.pages c.self.inside.piece c.self.inside.lengths.items (g.H.Manager.state c.self.inside.inner)
-        c.args.self.now c.self.view_is
+    c.args.self.now c.self.view_is
     c.requires c.self.invariant c.args.bytes c.totals-live.result.live c.part_count.result c.pages_with.result (c.if-not-has_spine_that_fits.ensures.0 refl)
-        live
+    live
     c.part_count.ensures (omega arith) c.pages_with.ensures (omega arith)
 
 pub returns-clause-cause : goal.returns-clause-cause
 returns-clause-cause g c =
     let live = ap (λ (t : Totals). t.live) c.totals-live.ensures.value in
     not_refused c.self.inside.is_open c.self.inside.pages c.self.inside.piece c.self.inside.lengths.items (g.H.Manager.state c.self.inside.inner)
-        c.args.self.now c.self.view_is
+    c.args.self.now c.self.view_is
     c.requires c.self.invariant c.args.bytes c.totals-live.result.live c.part_count.result c.pages_with.result (c.if-not-has_spine_that_fits.ensures.0 refl)
-        live
+    live
     c.part_count.ensures (omega arith) c.pages_with.ensures (omega arith)
 
 pub returns-then-not-has_spine_that_fits-clause-kept : goal.returns-then-not-has_spine_that_fits-clause-kept

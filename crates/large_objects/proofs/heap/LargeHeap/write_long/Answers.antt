@@ -30,18 +30,18 @@ write_piece-requires-clause-has g c =
     let few : c.pieces.done + n ≤ length c.args.bytes.now = omega arith in
     let long : length (take (c.pieces.done + n - c.pieces.done) (drop c.pieces.done c.args.bytes.now)) ≡ n =
     length-take (c.pieces.done + n - c.pieces.done) (drop c.pieces.done c.args.bytes.now) ∙ (let d = length-drop c.pieces.done c.args.bytes.now in omega
-        arith) in
+    arith) in
     subst (λ k. HasLongPart c.pieces.self c.args.h.0 ((c.args.at + c.pieces.done) / c.self.inside.piece) ((c.args.at + c.pieces.done) % c.self.inside.piece)
-        k) (sym long)
+    k) (sym long)
     (next_write c.args.self.now c.pieces.self c.args.h.0 c.args.at c.pieces.done n c.self.inside.piece c.args.bytes.now c.requires.has i.so_far i.kept i.piece
-        i.positive few
+    i.positive few
     (omega arith) (omega arith))
 
 pub overflow_cast-i : goal.overflow_cast-i
 overflow_cast-i g c =
     let i = c.pieces.invariant in
     let small = write_index_small c.args.self.now c.pieces.self c.args.h.0 c.args.at c.pieces.done c.min-count.result c.self.inside.piece c.args.bytes.now
-        c.requires.has i.so_far
+    c.requires.has i.so_far
     i.kept i.piece i.positive (omega arith) (omega arith) in omega arith
 
 pub pieces-preserved : goal.pieces-preserved
