@@ -14,7 +14,8 @@ use Rattle.page_model.specs.Bytes.{bytes_at}
 use Rattle.page_model.specs.Held.{Held, Placed, objects}
 use Rattle.page_model.specs.Image.{slot_for}
 use Rattle.page_model.specs.Paging.{AreOne, IsPaging, Paging, class_for, classes, slot_words}
-use Rattle.page_model.proofs.CallerLemmas.{class_fits, class_holds, class_known, class_none, held_at_is, len-objects, object_inside, one_le, slot_fits, used_at_one}
+use Rattle.page_model.proofs.CallerLemmas.{class_fits, class_holds, class_known, class_none, held_at_is, len-objects, object_inside, one_le, slot_fits}
+use Rattle.page_model.proofs.CallerLemmas.{used_at_one}
 use Rattle.page_slots.specs.Occupying.{class_table}
 use Rattle.page_slots.specs.Tables.{AreTables}
 use Rattle.quota_model.proofs.CallerLemmas.{tasks_at_one, tasks_paged}

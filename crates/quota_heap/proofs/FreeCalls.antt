@@ -129,7 +129,8 @@ module _ {g : Ground} (k : IsGround g) {t : ℕ} {x : Task} (i : IsTask g t x) {
           low v l lt = omega arith
 
 -- a free that moves no other object
-module _ (h n : OpenTasks) (k : IsValid h) (t : ℕ) (x x' : Task) (at : IsTaskIn h t x) (tasks : n.tasks.items ≡ set h.tasks.items t x') (granted : n.granted ≡ h.granted) (q a size c : ℕ)
+module _ (h n : OpenTasks) (k : IsValid h) (t : ℕ) (x x' : Task) (at : IsTaskIn h t x) (tasks : n.tasks.items ≡ set h.tasks.items t x')
+    (granted : n.granted ≡ h.granted) (q a size c : ℕ)
     (o : IsObjectAt h.ground x q a size c) (still : IsMoving h.ground x a c → ⊥) (go : Goes h.ground x q a c n.ground x') where
   abbrev i : IsTask h.ground t x
   i = k.task t x at
@@ -169,7 +170,8 @@ module _ (h n : OpenTasks) (k : IsValid h) (t : ℕ) (x x' : Task) (at : IsTaskI
   alone_freed freed words is = goes_freed h n k t x x' at tasks granted q a size c o None stays becomes freed words is
 
 -- a free that moves another object to the freed slot
-module _ (h n : OpenTasks) (k : IsValid h) (t : ℕ) (x x' : Task) (at : IsTaskIn h t x) (tasks : n.tasks.items ≡ set h.tasks.items t x') (granted : n.granted ≡ h.granted) (q a size c r : ℕ)
+module _ (h n : OpenTasks) (k : IsValid h) (t : ℕ) (x x' : Task) (at : IsTaskIn h t x) (tasks : n.tasks.items ≡ set h.tasks.items t x')
+    (granted : n.granted ≡ h.granted) (q a size c r : ℕ)
     (o : IsObjectAt h.ground x q a size c) (moves : IsMoving h.ground x a c) (fi : Fills h.ground x q a c r n.ground x') where
   abbrev i' : IsTask h.ground t x
   i' = k.task t x at
@@ -184,7 +186,10 @@ module _ (h n : OpenTasks) (k : IsValid h) (t : ℕ) (x x' : Task) (at : IsTaskI
   there = has_place h.ground k.ground t x i' r fi.from fi.there
 
   mover : Moves (paging_at h.ground) (held_of h.ground x) (it k.ground i' o) (Some r)
-  mover = (due k.ground i' o new fi.rest.tables fi.from moves fi.filled, (y, there, may k.ground i' o new fi.rest.tables fi.from moves fi.filled r y there refl))
+  mover = (
+    due k.ground i' o new fi.rest.tables fi.from moves fi.filled,
+    (y, there, may k.ground i' o new fi.rest.tables fi.from moves fi.filled r y there refl),
+  )
 
   few' : t < length (places_of h.tasks.items)
   few' = (let e = length_map (λ (y : Task). y.proxies.places) h.tasks.items in let w = slice_get_within h.tasks.items t x at in omega arith)

@@ -41,7 +41,8 @@ use Rattle.quota_heap.proofs.Preserved.{Becomes, becomes_kept, becomes_state, st
 use Rattle.quota_heap.proofs.Tasks.{part_is}
 
 -- one object fewer in class c
-pub counted_out : (live : List ℕ) (c d : ℕ) → c < length live → 1 ≤ get_or live c 0 → get_or (set live c (get_or live c 0 - 1)) d 0 + one (nat_eq c d) ≡ get_or live d 0
+pub counted_out : (live : List ℕ) (c d : ℕ) → c < length live → 1 ≤ get_or live c 0
+    → get_or (set live c (get_or live c 0 - 1)) d 0 + one (nat_eq c d) ≡ get_or live d 0
 counted_out live c d lt some = elim (cases_eq d c) [
   | inl is ↦ (
       let y : one (nat_eq c d) ≡ 1 = ap one (eq_yes c d (sym is)) in
@@ -128,7 +129,8 @@ module _ {g : Ground} (k : IsGround g) {t : ℕ} {x : Task} (i : IsTask g t x) {
       subst (λ d. 1 ≤ length (pages_in x.lists d NotFull)) it_class l
 
 -- what a free leaves, by the other object that moves
-module _ (h n : OpenTasks) (k : IsValid h) (t : ℕ) (x x' : Task) (at : IsTaskIn h t x) (tasks : n.tasks.items ≡ set h.tasks.items t x') (granted : n.granted ≡ h.granted) (q a size c : ℕ)
+module _ (h n : OpenTasks) (k : IsValid h) (t : ℕ) (x x' : Task) (at : IsTaskIn h t x) (tasks : n.tasks.items ≡ set h.tasks.items t x')
+    (granted : n.granted ≡ h.granted) (q a size c : ℕ)
     (o : IsObjectAt h.ground x q a size c) (moved : Option ℕ) (mv : Moves (paging_at h.ground) (held_of h.ground x) (it k.ground (k.task t x at) o) moved) where
   abbrev i : IsTask h.ground t x
   i = k.task t x at

@@ -104,7 +104,8 @@ module _ (g : Ground) (k : IsGround g) (t : ℕ) (x : Task) (i : IsTask g t x) (
       (take_accounts g.classes (tables_of g x) (tables_ok g k t x i) c new a taken) in
       omega arith
 
-module _ (h n : OpenTasks) (k : IsValid h) (t : ℕ) (x x' : Task) (at : IsTaskIn h t x) (tasks : n.tasks.items ≡ set h.tasks.items t x') (granted : n.granted ≡ h.granted) (c bytes q : ℕ)
+module _ (h n : OpenTasks) (k : IsValid h) (t : ℕ) (x x' : Task) (at : IsTaskIn h t x) (tasks : n.tasks.items ≡ set h.tasks.items t x')
+    (granted : n.granted ≡ h.granted) (c bytes q : ℕ)
     (class : class_for (paging_at h.ground) bytes ≡ c) (lt : c < classes (paging_at h.ground)) (co : Comes h.ground x t c bytes q n.ground x')
     (none : None ≡ reason h k t x at bytes) where
   abbrev i : IsTask h.ground t x
@@ -208,7 +209,8 @@ module _ (h n : OpenTasks) (k : IsValid h) (t : ℕ) (x x' : Task) (at : IsTaskI
       let now : get_or x'.live d 0 ≡ get_or (set x.live c (get_or x.live c 0 + 1)) d 0 = ap (λ v. get_or v d 0) co.live in
       let inside : c < length x.live = (let f = few_classes h.ground k.ground t x i in let long = i.live_long in omega arith) in
       let more = counted_in x.live c d inside in
-      let same : one (nat_eq (class_for (paging_at h.ground) (length (replicate {A = ℕ} bytes 0))) d) ≡ one (nat_eq c d) = ap (λ e. one (nat_eq e d)) class_zeros in
+      let same : one (nat_eq (class_for (paging_at h.ground) (length (replicate {A = ℕ} bytes 0))) d) ≡ one (nat_eq c d) =
+      ap (λ e. one (nat_eq e d)) class_zeros in
       omega arith
 
   shared_after : IsShared (profile_of h.ground.settings) after
@@ -234,7 +236,8 @@ module _ (h n : OpenTasks) (k : IsValid h) (t : ℕ) (x x' : Task) (at : IsTaskI
         (zeros_are_bytes bytes);
     long = ap length co.words ∙ length-set h.ground.region co.place (header_word (key_of t q) bytes);
     image = subst (λ w. IsSlotImage (paging_at h.ground) after w) (sym co.words)
-        (image_of_malloc (profile_of h.ground.settings) (held_in h) k.shared h.ground.settings.page_size h.ground.region k.image t asked after few sixteen placed
+        (image_of_malloc (profile_of h.ground.settings) (held_in h) k.shared h.ground.settings.page_size h.ground.region k.image t asked after few
+        sixteen placed
         k.ground.words_long);
     shared = shared_after;
     quotas = quotas_stay (profile_of h.ground.settings) (held_in h) t asked after few placed (quotas_of h.tasks.items) k.quotas (sym none);

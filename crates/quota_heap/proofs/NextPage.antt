@@ -59,7 +59,8 @@ module _ (p : Paging) (ok : IsPaging p) (ones : AreOne p) (m : Held) (s : IsSoun
   needed_next n fits =
       let c : ℕ = class_for p n in
       let yes = eq_yes (class_for p n) (class_for p n) refl in
-      let next = can_hold_one _ _ _ (slots_some p ok (class_for p n) fits) (one_more _ _ _ _ (slots_some p ok (class_for p n) fits) (stand (class_for p n) fits)) in
+      let next = can_hold_one _ _ _ (slots_some p ok (class_for p n) fits)
+      (one_more _ _ _ _ (slots_some p ok (class_for p n) fits) (stand (class_for p n) fits)) in
       let at : ceil_div (live p (objects m) (class_for p n) + cond (nat_eq (class_for p n) (class_for p n)) 1 0) (slots_of p (class_for p n))
       ≡ home_pages p m (class_for p n) + (1 - not_full_pages p m (class_for p n)) = rw yes (sym next) in
       let was = home_is (class_for p n) fits in

@@ -34,7 +34,8 @@ use Rattle.quota_model.specs.Parts.{number_of, part_of, task_of}
 use Rattle.quota_model.specs.Shared.{AreQuotas, IsShared}
 use Rattle.quota_model.proofs.CallerLemmas.{first_quotas, first_shared, no_part}
 use Rattle.size_classes.specs.Table.{ClassTable, table_of}
-use Rattle.quota_heap.specs.Layout.{IsFirstGround, IsGround, IsTask, IsTaskIn, IsValid, first_task, held_in, held_of, pages_of, paging_at, places_of, quotas_of, state_of}
+use Rattle.quota_heap.specs.Layout.{IsFirstGround, IsGround, IsTask, IsTaskIn, IsValid, first_task, held_in, held_of, pages_of, paging_at, places_of}
+use Rattle.quota_heap.specs.Layout.{quotas_of, state_of}
 use Rattle.quota_heap.specs.State.{empty_state}
 use Rattle.quota_heap.specs.declared.open_tasks.OpenTasks.{OpenTasks}
 use Rattle.quota_heap.specs.declared.task.Task.{Task}
@@ -205,5 +206,6 @@ module _ (s : Settings) (h : OpenTasks) (f : IsFirstGround s h.ground) (n : ℕ)
       ap (λ qs. record (state_of h) { quotas = qs }) quotas_none
       ∙ ap (λ m. record (state_of h) { quotas = replicate 16 0; held = m }) all_none
       ∙ ap (λ ws. record (state_of h) { quotas = replicate 16 0; held = empty; words = ws }) f.region
-      ∙ ap (λ (t : Settings). record (state_of h) { profile = profile_of t; quotas = replicate 16 0; held = empty; words = replicate (s.pages * s.page_words) 0 })
+      ∙ ap (λ (t : Settings). record (state_of h)
+      { profile = profile_of t; quotas = replicate 16 0; held = empty; words = replicate (s.pages * s.page_words) 0 })
       f.settings

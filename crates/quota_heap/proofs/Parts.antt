@@ -257,7 +257,8 @@ module _ (h : OpenTasks) (k : IsValid h) (t : ℕ) (x : Task) (at : IsTaskIn h t
   same_places : places changed ≡ places (held_in h)
   same_places =
       map_values-insert (λ (y : Placed). y.place) (held_in h) key (record { place = a; bytes = new })
-      ∙ inserted_there (places (held_in h)) key a (get-map_values (λ (y : Placed). y.place) (held_in h) key ∙ ap (option_map (λ (y : Placed). y.place)) whole_found)
+      ∙ inserted_there (places (held_in h)) key a
+      (get-map_values (λ (y : Placed). y.place) (held_in h) key ∙ ap (option_map (λ (y : Placed). y.place)) whole_found)
 
   becomes : Becomes h left t x x changed
   becomes = record {

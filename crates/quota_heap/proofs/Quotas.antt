@@ -101,7 +101,8 @@ module _ (h : OpenTasks) (k : IsValid h) (t : ℕ) (sixteen : t < 16) (n : ℕ) 
     was : (u : ℕ) (y : Task) → IsTaskIn left u y → (z : Task) × IsTaskIn h u z × (y ≡ record z { quota = y.quota })
     was u y e = elim (cases_eq u t) [
       | inl is ↦ (
-          let same : Some x' ≡ Some y = sym (set_here h.tasks.items t x' lt) ∙ sym (ap (λ ts. slice_get ts t) tasks) ∙ subst (λ v. slice_get new.tasks.items v ≡ Some y) is e in
+          let same : Some x' ≡ Some y = sym (set_here h.tasks.items t x' lt) ∙ sym (ap (λ ts. slice_get ts t) tasks)
+          ∙ subst (λ v. slice_get new.tasks.items v ≡ Some y) is e in
           let y_is : x' ≡ y = cc in
           (x, subst (λ v. IsTaskIn h v x) (sym is) at, subst (λ (v : Task). v ≡ record x { quota = v.quota }) y_is refl))
       | inr ne ↦ (y, sym (set_there h.tasks.items t u x' ne) ∙ sym (ap (λ ts. slice_get ts u) tasks) ∙ e, refl)

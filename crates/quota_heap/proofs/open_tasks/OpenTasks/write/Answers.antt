@@ -8,14 +8,16 @@ pub returns-then-len-eq0-clause-step : goal.returns-then-len-eq0-clause-step
 returns-then-len-eq0-clause-step c =
     let h = c.args.self.now in let k = c.requires.kept in
     let w = a_task h k c.args.t c.requires.sixteen in
-    wrote_nothing h k c.args.t w.0 w.1 (record { number = c.args.h.0; from = c.args.at }) c.in_ok-place.place c.args.bytes.now c.if-len-eq0.true (c.in_ok-place.ensures.found w.0 w.1)
+    wrote_nothing h k c.args.t w.0 w.1 (record { number = c.args.h.0; from = c.args.at })
+    c.in_ok-place.place c.args.bytes.now c.if-len-eq0.true (c.in_ok-place.ensures.found w.0 w.1)
 
 pub overflow_add-first : goal.overflow_add-first
 overflow_add-first c =
     let h = c.args.self.now in let k = c.requires.kept in
     let w = a_task h k c.args.t c.requires.sixteen in
     let ne = c.if-len-eq0.false in
-    let s = place_small h k c.args.t w.0 w.1 (record { number = c.args.h.0; from = c.args.at }) (length c.args.bytes.now) c.in_ok-place.place (c.in_ok-place.ensures.found w.0 w.1) (omega arith) in
+    let s = place_small h k c.args.t w.0 w.1 (record { number = c.args.h.0; from = c.args.at }) (length c.args.bytes.now)
+    c.in_ok-place.place (c.in_ok-place.ensures.found w.0 w.1) (omega arith) in
     omega arith
 
 pub overflow_add-first-2 : goal.overflow_add-first-2
@@ -23,14 +25,16 @@ overflow_add-first-2 c =
     let h = c.args.self.now in let k = c.requires.kept in
     let w = a_task h k c.args.t c.requires.sixteen in
     let ne = c.if-len-eq0.false in
-    let s = place_small h k c.args.t w.0 w.1 (record { number = c.args.h.0; from = c.args.at }) (length c.args.bytes.now) c.in_ok-place.place (c.in_ok-place.ensures.found w.0 w.1) (omega arith) in
+    let s = place_small h k c.args.t w.0 w.1 (record { number = c.args.h.0; from = c.args.at }) (length c.args.bytes.now)
+    c.in_ok-place.place (c.in_ok-place.ensures.found w.0 w.1) (omega arith) in
     omega arith
 
 pub words_with-n-requires : goal.words_with-n-requires
 words_with-n-requires c =
     let h = c.args.self.now in let k = c.requires.kept in
     let w = a_task h k c.args.t c.requires.sixteen in
-    let f = count_few h k c.args.t w.0 w.1 (record { number = c.args.h.0; from = c.args.at }) (length c.args.bytes.now) c.in_ok-place.place (c.in_ok-place.ensures.found w.0 w.1) in
+    let f = count_few h k c.args.t w.0 w.1 (record { number = c.args.h.0; from = c.args.at }) (length c.args.bytes.now)
+    c.in_ok-place.place (c.in_ok-place.ensures.found w.0 w.1) in
     omega arith
 
 pub write_run-requires-clause-within : goal.write_run-requires-clause-within
@@ -38,7 +42,8 @@ write_run-requires-clause-within c =
     let h = c.args.self.now in let k = c.requires.kept in
     let w = a_task h k c.args.t c.requires.sixteen in
     let ne = c.if-len-eq0.false in
-    let i = words_in h k c.args.t w.0 w.1 (record { number = c.args.h.0; from = c.args.at }) (length c.args.bytes.now) c.in_ok-place.place (c.in_ok-place.ensures.found w.0 w.1) (omega arith) in
+    let i = words_in h k c.args.t w.0 w.1 (record { number = c.args.h.0; from = c.args.at }) (length c.args.bytes.now)
+    c.in_ok-place.place (c.in_ok-place.ensures.found w.0 w.1) (omega arith) in
     let e = c.words_with-n.ensures in
     omega arith
 
@@ -57,5 +62,6 @@ returns-clause-kept c =
     let w = a_task h k c.args.t c.requires.sixteen in
     let o = subst (λ n. Overwrites h.ground.region c.write_run.new.region (record { from = c.in_ok-place.place + 1 + c.args.at / 8; count = n })
     (c.args.at % 8) c.args.bytes.now) c.words_with-n.ensures c.write_run.ensures.words in
-    wrote_kept h k c.args.t w.0 w.1 (record { number = c.args.h.0; from = c.args.at }) c.in_ok-place.place c.args.bytes.now (c.in_ok-place.ensures.found w.0 w.1)
+    wrote_kept h k c.args.t w.0 w.1 (record { number = c.args.h.0; from = c.args.at })
+    c.in_ok-place.place c.args.bytes.now (c.in_ok-place.ensures.found w.0 w.1)
     (λ i. (let f = c.type_inv.bytes i in omega arith)) c.write_run.new.region o
