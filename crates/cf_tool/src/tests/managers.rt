@@ -23,7 +23,7 @@ struct Case {
 /// The kinds of the program's managers, in its order.
 const FOUR: [Kind; 4] = [Kind::Moving, Kind::NonMoving, Kind::Tlsf, Kind::HalfFit];
 
-const CASES: [Case; 26] = [
+const CASES: [Case; 19] = [
     Case {
         shows: "the first of the kind answers, and no other one is touched",
         words: &[],
@@ -187,69 +187,6 @@ const CASES: [Case; 26] = [
         live: &[],
     },
     Case {
-        shows: "the image of what lives at the end",
-        words: &["save"],
-        managers: &[Kind::Moving],
-        script: b"heap 1 512 1 4\nm 7 3\nw 7 0 616263\n",
-        status: Status::Done,
-        text: b"CFI1\x01\0\0\0\0\x02\0\0\x04\0\0\0\x01\0\0\0\x07\0\x03\0\0\0abc",
-        live: &[None],
-    },
-    Case {
-        shows: "no image where no heap was opened",
-        words: &["save", "--manager=nm"],
-        managers: &[],
-        script: b"# nothing\n",
-        status: Status::Done,
-        text: b"",
-        live: &[],
-    },
-    Case {
-        shows: "no image after a bad line",
-        words: &["save"],
-        managers: &[],
-        script: b"heap 1 512 1 4\nm 7 3\nx\n",
-        status: Status::BadScript,
-        text: b"",
-        live: &[],
-    },
-    Case {
-        shows: "the script of an image",
-        words: &["load"],
-        managers: &[Kind::Moving],
-        script: b"CFI1\x01\0\0\0\0\x02\0\0\x04\0\0\0\x01\0\0\0\x07\0\x03\0\0\0abc",
-        status: Status::Done,
-        text: b"heap 1 512 1 4\nm 7 3\nw 7 0 616263\n",
-        live: &[None],
-    },
-    Case {
-        shows: "an image that is cut",
-        words: &["load"],
-        managers: &[],
-        script: b"CFI1\x01\0\0\0\0\x02\0\0\x04\0\0\0\x01\0\0\0\x07\0\x03\0\0\0ab",
-        status: Status::BadImage,
-        text: b"bad image 26\n",
-        live: &[],
-    },
-    Case {
-        shows: "a byte past an image",
-        words: &["load"],
-        managers: &[],
-        script: b"CFI1\x01\0\0\0\0\x02\0\0\x04\0\0\0\x01\0\0\0\x07\0\x03\0\0\0abc\0",
-        status: Status::BadImage,
-        text: b"bad image 29\n",
-        live: &[],
-    },
-    Case {
-        shows: "a script is no image",
-        words: &["load"],
-        managers: &[],
-        script: b"heap 1 512 1 4\n",
-        status: Status::BadImage,
-        text: b"bad image 0\n",
-        live: &[],
-    },
-    Case {
         shows: "a bench of Half-Fit",
         words: &["bench", "--manager=half", "--count=4"],
         managers: &[],
@@ -278,6 +215,65 @@ fn a_mode_answers_on_the_managers_that_it_names(rt: HostRuntime) -> Result<(), F
         assert_eq!(rt; left.status, status, "{shows}");
         assert_eq!(rt; sink.written(), text, "{shows}");
         assert_eq!(rt; left.live.as_slice(), live, "{shows}");
+    }
+    Ok(())
+}
+
+/// Of modes `save` and `load`: the words, what is read, the status, and what is written.
+const IMAGES: [(&[&str], &[u8], Status, &[u8]); 7] = [
+    (
+        &["save"],
+        b"heap 1 512 1 4\nm 7 3\nw 7 0 616263\n",
+        Status::Done,
+        b"CFI1\x01\0\0\0\0\x02\0\0\x04\0\0\0\x01\0\0\0\x07\0\x03\0\0\0abc",
+    ),
+    // No heap was opened.
+    (&["save", "--manager=nm"], b"# nothing\n", Status::Done, b""),
+    (
+        &["save"],
+        b"heap 1 512 1 4\nm 7 3\nx\n",
+        Status::BadScript,
+        b"",
+    ),
+    (
+        &["load"],
+        b"CFI1\x01\0\0\0\0\x02\0\0\x04\0\0\0\x01\0\0\0\x07\0\x03\0\0\0abc",
+        Status::Done,
+        b"heap 1 512 1 4\nm 7 3\nw 7 0 616263\n",
+    ),
+    // The image is cut.
+    (
+        &["load"],
+        b"CFI1\x01\0\0\0\0\x02\0\0\x04\0\0\0\x01\0\0\0\x07\0\x03\0\0\0ab",
+        Status::BadImage,
+        b"bad image 26\n",
+    ),
+    // A byte stands past the image.
+    (
+        &["load"],
+        b"CFI1\x01\0\0\0\0\x02\0\0\x04\0\0\0\x01\0\0\0\x07\0\x03\0\0\0abc\0",
+        Status::BadImage,
+        b"bad image 29\n",
+    ),
+    // A script is no image.
+    (
+        &["load"],
+        b"heap 1 512 1 4\n",
+        Status::BadImage,
+        b"bad image 0\n",
+    ),
+];
+
+#[test]
+fn images_are_saved_and_loaded(rt: HostRuntime) -> Result<(), Fail> {
+    for (words, read, status, text) in IMAGES {
+        let mut source = SureSource::new(read.to_vec(rt.alloc())?);
+        let mut sink = plain_sink(&rt)?;
+        let left = answer_with(&rt, words, &[Kind::Moving], &mut source, &mut sink)?;
+        assert_eq!(rt; left.status, status);
+        assert_eq!(rt; sink.written(), text);
+        // No manager that is handed in is touched.
+        assert_eq!(rt; left.live.as_slice(), &[None]);
     }
     Ok(())
 }
