@@ -273,7 +273,7 @@ fn images_are_saved_and_loaded(rt: HostRuntime) -> Result<(), Fail> {
         assert_eq!(rt; left.status, status);
         assert_eq!(rt; sink.written(), text);
         // No manager that is handed in is touched.
-        assert_eq!(rt; left.live.as_slice(), &[None]);
+        assert_eq!(rt; left.live.as_slice(), [None].as_slice());
     }
     Ok(())
 }
