@@ -13,3 +13,4 @@ pub mod SwappedRuns
 pub mod Permutations
 pub mod Renaming
 pub mod Searches
+pub mod Tallies

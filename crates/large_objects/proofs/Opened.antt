@@ -2,27 +2,19 @@
 use Rattle.std.proofs.Common.{◌≡◌, ℕ, List, Some, None, sym, ◌∙◌, ap, subst}
 use Rattle.std.specs.Prelude.{Option, codes}
 use Rattle.std.specs.Option.{MatchOption}
-use Rattle.std.specs.Ordering.{nat_cmp}
-use Rattle.std.specs.FinMap.{empty, get, get-empty}
+use Rattle.std.specs.FinMap.{empty, get}
 use Rattle.cf_base.specs.Settings.{profile_of, Profile}
 use Rattle.cf_base.specs.declared.settings.Settings.{Settings}
 use Rattle.cf_io.specs.Texts.{Reply}
 use Rattle.cf_model.specs.Steps.{IsOpeningWords, empty_heap}
 use Rattle.id_table.specs.Ids.{Ids}
-use Rattle.page_model.specs.Held.{Objects}
 use Rattle.script_reader.specs.declared.command.Command.{Command}
 use Rattle.script_reader.specs.declared.command.Command.TheVariants as command
+use Rattle.session_model.proofs.CallerLemmas.{none_tied}
 use Rattle.large_objects.specs.Large.{KeepsParts, LargeState}
-use Rattle.large_objects.specs.LargeRun.{AreTiedLarge, FreesIdLarge, IsGoingLarge, LargeRun, LargeStep, MallocsLarge, StaysLarge, WritesIdLarge, large_run}
+use Rattle.large_objects.specs.LargeRun.{FreesIdLarge, IsGoingLarge, LargeRun, LargeStep, MallocsLarge, StaysLarge, WritesIdLarge, large_run}
 use Rattle.large_objects.specs.LargeSteps.{IsEmptyLarge}
 use Rattle.large_objects.specs.Playing.{BeginsLarge, at_bound_one}
-
-pub none_tied : (ids : Ids) (large : Objects) → ids ≡ empty → large ≡ empty → AreTiedLarge ids large
-none_tied ids large no_ids no_objects = record {
-  named = λ id h is. absurd (let z : Some h ≡ None = sym is ∙ ap (λ (i : Ids). get i id) no_ids ∙ get-empty nat_cmp id in cc);
-  once = λ id other h is. absurd (let z : Some h ≡ None = sym is ∙ ap (λ (i : Ids). get i id) no_ids ∙ get-empty nat_cmp id in cc);
-  all = λ h v is. absurd (let z : Some v ≡ None = sym is ∙ ap (λ (o : Objects). get o h) no_objects ∙ get-empty nat_cmp h in cc);
-}
 
 module _ (ids : Ids) (old new : LargeState) (settings : Settings) (fresh : ids ≡ empty) (opened : IsEmptyLarge old settings new) (parts : KeepsParts new) where
   pub opened_going : IsGoingLarge (large_run ids new)

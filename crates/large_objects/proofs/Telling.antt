@@ -12,40 +12,35 @@ use Rattle.cf_base.specs.declared.answers.Totals.{Totals}
 use Rattle.cf_base.specs.declared.kind.Kind.{Kind}
 use Rattle.cf_base.specs.declared.kind.Kind.TheVariants.{Moving, NonMoving, Tlsf, HalfFit}
 use Rattle.cf_io.specs.Feeds.{Puts}
-use Rattle.cf_io.specs.Lines.{line_room}
 use Rattle.cf_io.specs.Texts.{Reply, led, said}
-use Rattle.cf_io.proofs.CallerLemmas.{puts_line}
 use Rattle.cf_lemmas.proofs.Tests.{le_no, le_yes}
 use Rattle.cf_model.specs.Answers.{totals_in}
 use Rattle.cf_model.specs.State.{HeapState, paging_in}
-use Rattle.cf_session.specs.Apply.{outcome_in, outcome_of}
+use Rattle.cf_session.specs.Apply.{outcome_of}
 use Rattle.cf_session.specs.declared.outcome.Outcome.{Outcome}
 use Rattle.cf_session.specs.declared.outcome.Outcome.TheVariants.{Other}
 use Rattle.page_model.specs.Figures.{figures_of}
 use Rattle.run_model.specs.Replies.{write_text}
 use Rattle.run_model.specs.Reports.{class_line, frag_of, live_classes, total_line, walk_of}
+use Rattle.script_loop.specs.Semantics.{Snapshot, snapshot}
 use Rattle.script_reader.specs.declared.command.Command.{Command}
 use Rattle.script_reader.specs.declared.command.Command.TheVariants.{Walk, Frag}
-use Rattle.large_objects.specs.LargeRun.{AppliesLarge, IsGoingLarge, LargeMoment, LargeRun, LargeStep, large_object_of, large_read_text}
+use Rattle.session_model.specs.Applying.{Applies, IsEndedAs, TurnsInPart}
+use Rattle.session_model.proofs.CallerLemmas.{reported}
+use Rattle.large_objects.specs.LargeRun.{IsGoingLarge, LargeRun, LargeStep, large_object_of, large_read_text}
 use Rattle.large_objects.specs.LargeSteps.{IsLargeFault, ReadsLarge}
-use Rattle.large_objects.specs.Speaking.{IsEndedAs, Speaks}
+use Rattle.large_objects.specs.Playing.{large_heap}
 use Rattle.large_objects.proofs.Going.{still_going}
 
 abbrev Told : Type 0
 Told = Option (List ℕ)
 
-abbrev at : LargeRun → Told → LargeMoment
-at run written = record { run = run; written = written }
+abbrev at : LargeRun → Told → Snapshot LargeRun
+at = snapshot
 
--- a reply that was put, whole or in part
-pub reported : (old new : LargeRun) (c : Command) (reply : Reply) (w y : Told) (r : Result Unit Failed) (outcome : Outcome) (answer : Result Outcome Failed)
-    → LargeStep old c reply new → outcome ≡ outcome_of reply → Puts w (led [] reply) r y → IsEndedAs r outcome answer
-    → AppliesLarge (at old w) c answer (at new y)
-reported old new c reply w y (Ok u) outcome answer step told put is =
-    subst (λ (a : Result Outcome Failed). AppliesLarge (at old w) c a (at new y)) (sym is) (record { reply = reply; step = step; written = put }, told)
-reported old new c reply w y (Err e) outcome answer step told (front, lost, parts, put) is =
-    subst (λ (a : Result Outcome Failed). AppliesLarge (at old w) c a (at new y)) (sym is)
-    (record { reply = reply; front = front; lost = lost; step = step; cut = parts; written = put })
+-- a reply that was cut is told as the loop has it
+pub in_part : (old : LargeRun) (c : Command) (out : List ℕ) (new : LargeRun) → TurnsInPart LargeStep old c out new → TurnsInPart LargeStep old c out new
+in_part old c out new turn = turn
 
 -- a report is neither good nor a refusal
 pages_other : (f : ℕ → Figures) (t : Totals) (cs : List ℕ) → Other ≡ outcome_of (map (λ c. class_line (f c)) cs ++ said (total_line t))
@@ -59,39 +54,24 @@ walk_other Tlsf s = refl
 walk_other HalfFit s = refl
 
 pub told_walk : (old : LargeRun) (inner : HeapState) (c : Command) (w y : Told) (r : Result Unit Failed) (answer : Result Outcome Failed) → c ≡ Walk
-    → inner ≡ old.heap.inner → Puts w (led [] (walk_of inner.kind inner)) r y → IsEndedAs r Other answer → AppliesLarge (at old w) c answer (at old y)
+    → inner ≡ old.heap.inner → Puts w (led [] (walk_of inner.kind inner)) r y → IsEndedAs r Other answer → Applies large_heap (at old w) c answer (at old y)
 told_walk old inner c w y r answer is same put told =
-    subst (λ (k : Command). AppliesLarge (at old w) k answer (at old y)) (sym is)
-    (reported old old Walk (walk_of old.heap.inner.kind old.heap.inner) w y r Other answer (refl, refl) (walk_other old.heap.inner.kind old.heap.inner)
+    subst (λ (k : Command). Applies large_heap (at old w) k answer (at old y)) (sym is)
+    (reported large_heap in_part old old Walk (walk_of old.heap.inner.kind old.heap.inner) w y r Other answer (refl, refl) (walk_other old.heap.inner.kind old.heap.inner)
     (subst (λ (s : HeapState). Puts w (led [] (walk_of s.kind s)) r y) same put) told)
 
 pub told_frag : (old : LargeRun) (inner : HeapState) (c : Command) (w y : Told) (r : Result Unit Failed) (answer : Result Outcome Failed) → c ≡ Frag
-    → inner ≡ old.heap.inner → Puts w (led [] (frag_of inner)) r y → IsEndedAs r Other answer → AppliesLarge (at old w) c answer (at old y)
+    → inner ≡ old.heap.inner → Puts w (led [] (frag_of inner)) r y → IsEndedAs r Other answer → Applies large_heap (at old w) c answer (at old y)
 told_frag old inner c w y r answer is same put told =
-    subst (λ (k : Command). AppliesLarge (at old w) k answer (at old y)) (sym is)
-    (reported old old Frag (frag_of old.heap.inner) w y r Other answer (refl, refl) refl
+    subst (λ (k : Command). Applies large_heap (at old w) k answer (at old y)) (sym is)
+    (reported large_heap in_part old old Frag (frag_of old.heap.inner) w y r Other answer (refl, refl) refl
     (subst (λ (s : HeapState). Puts w (led [] (frag_of s)) r y) same put) told)
-
--- a line that was written, and put
-pub told_line : (old new : LargeRun) (c : Command) (line : List ℕ) (w y : Told) (r : Result Unit Failed) (outcome : Outcome) (answer : Result Outcome Failed)
-    → Speaks old c new line → outcome ≡ outcome_in line → Puts w (line ++ 10 ∷ []) r y → IsEndedAs r outcome answer
-    → AppliesLarge (at old w) c answer (at new y)
-told_line old new c line w y r outcome answer speaks told put is =
-    reported old new c (said line) w y r outcome answer speaks.step told (puts_line w y [] line line r refl put) is
 
 -- a run goes on after an answer
 pub applied_going : (old new : LargeRun) (c : Command) (w y : Told) (answer : Result Outcome Failed) → IsGoingLarge old
-    → AppliesLarge (at old w) c answer (at new y) → IsGoingLarge new
-applied_going old new c w y (Ok outcome) going a = still_going old new going a.0.reply c a.0.step
-applied_going old new c w y (Err e) going a = still_going old new going a.reply c a.step
-
--- a command that was answered by a text on the line
-pub speaks_of : (old new : LargeRun) (asked c : Command) (text line : List ℕ) → asked ≡ c → LargeStep old c (said text) new → line ≡ text
-    → length line < line_room → Speaks old asked new line
-speaks_of old new asked c text line is step on room = record {
-  step = subst (λ (k : Command). LargeStep old k (said line) new) (sym is) (subst (λ (t : List ℕ). LargeStep old c (said t) new) (sym on) step);
-  room = room;
-}
+    → Applies large_heap (at old w) c answer (at new y) → IsGoingLarge new
+applied_going old new c w y (Ok outcome) going a = still_going old new going a.0.reply c a.0.turns
+applied_going old new c w y (Err e) going a = still_going old new going a.turns.reply c a.turns.turn
 
 -- the object of a handle, where there is one
 abbrev object_at : LargeRun → Option ℕ → Option (List ℕ)

@@ -26,7 +26,7 @@ use Rattle.script_reader.specs.declared.command.Command.TheVariants.{Malloc, Fre
 use Rattle.large_objects.specs.LargeRun.{FreesIdLarge, IsGoingLarge, LargeRun, LargeStep, MallocsLarge, StaysLarge, WritesIdLarge, large_told}
 use Rattle.large_objects.specs.Playing.{BeginsAtOne, BeginsLarge, RunsLarge, at_bound_one}
 use Rattle.large_objects.proofs.Going.{still_going}
-use Rattle.large_objects.proofs.Opened.{none_tied}
+use Rattle.session_model.proofs.CallerLemmas.{none_tied}
 use Rattle.large_objects.proofs.Opening.{parts as empty_parts}
 use Rattle.large_objects.proofs.LargeThere.{free_there, kept_same, malloc_there, room_or_cause, write_there}
 

@@ -4,21 +4,19 @@ use Rattle.std.specs.Option.{MatchOption}
 use Rattle.std.specs.FinMap.{get, remove}
 use Rattle.hex.specs.Hex.{encode_lower}
 use Rattle.cf_base.specs.declared.answers.AccessFault.{AccessFault}
-use Rattle.cf_base.specs.declared.answers.Failed.{Failed}
 use Rattle.cf_base.specs.declared.answers.Handle.{Handle}
 use Rattle.cf_base.specs.declared.answers.Refusal.{Refusal}
-use Rattle.cf_io.specs.Feeds.{appended}
-use Rattle.cf_io.specs.Texts.{Reply, led, said}
+use Rattle.cf_io.specs.Texts.{Reply, said}
 use Rattle.cf_model.specs.Steps.{Part}
-use Rattle.cf_session.specs.Apply.{outcome_of}
-use Rattle.cf_session.specs.declared.outcome.Outcome.{Outcome}
 use Rattle.id_table.specs.Ids.{Ids}
 use Rattle.page_model.specs.Held.{Objects}
 use Rattle.run_model.specs.Replies.{malloc_text, write_text}
 use Rattle.run_model.specs.Reports.{frag_of, walk_of}
 use Rattle.run_model.specs.Steps.{ids_given}
+use Rattle.script_loop.specs.Semantics.{Snapshot, snapshot}
 use Rattle.script_reader.specs.declared.command.Command.{Command}
 use Rattle.script_reader.specs.declared.command.Command.TheVariants.{Malloc, Free, Write, Read, Walk, Frag}
+use Rattle.session_model.specs.Ties.{AreTiedTo}
 use Rattle.large_objects.specs.Large.{KeepsParts, LargeState}
 use Rattle.large_objects.specs.LargeSteps.{FreesLarge, IsLargeMalloc, IsLargeWrite, StaysKept}
 
@@ -30,17 +28,11 @@ pub record LargeRun : Type 0 where
 abbrev pub large_run : Ids → LargeState → LargeRun
 large_run ids heap = record { ids = ids; heap = heap }
 
--- the live ids name just the objects, each once
-pub record AreTiedLarge (ids : Ids) (large : Objects) : Type 0 where
-  pub named : (id h : ℕ) → get ids id ≡ Some h → (v : List ℕ) × (get large h ≡ Some v)
-  pub once : (id other h : ℕ) → get ids id ≡ Some h → get ids other ≡ Some h → other ≡ id
-  pub all : (h : ℕ) (v : List ℕ) → get large h ≡ Some v → (id : ℕ) × (get ids id ≡ Some h)
-
 -- the run goes on: the heap is open and keeps its parts, and the ids are those of its objects
 pub record IsGoingLarge (s : LargeRun) : Type 0 where
   pub opened : IsTrue s.heap.is_open
   pub parts : KeepsParts s.heap
-  pub tied : AreTiedLarge s.ids s.heap.objects
+  pub tied : AreTiedTo s.ids s.heap.objects
 
 -- the object that an id names, where it is live
 abbrev pub large_object_of : LargeRun → ℕ → Option (List ℕ)
@@ -93,30 +85,6 @@ LargeStep old (Write id at bytes) reply new =
     MatchOption (get old.ids id) (StaysLarge old (codes "unknown") reply new) (λ h. WritesIdLarge old (record { number = h; from = at }) bytes reply new)
 LargeStep old command reply new = (reply ≡ large_told old command) × (new ≡ old)
 
--- a run at one moment, and the bytes written by then, where the sink is observable
-pub record LargeMoment : Type 0 where
-  pub run : LargeRun
-  pub written : Option (List ℕ)
-
-abbrev pub large_moment : Ids → LargeState → Option (List ℕ) → LargeMoment
-large_moment ids heap written = record { run = large_run ids heap; written = written }
-
--- the command took effect, and its whole reply was written
-pub record IsAnsweredLarge (old : LargeMoment) (command : Command) (new : LargeMoment) : Type 0 where
-  pub reply : Reply
-  pub step : LargeStep old.run command reply new.run
-  pub written : new.written ≡ appended old.written (led [] reply)
-
--- the command took effect, and a prefix of its reply was written
-pub record IsCutShortLarge (old : LargeMoment) (command : Command) (new : LargeMoment) : Type 0 where
-  pub reply : Reply
-  pub front : List ℕ
-  pub lost : List ℕ
-  pub step : LargeStep old.run command reply new.run
-  pub cut : led [] reply ≡ front ++ lost
-  pub written : new.written ≡ appended old.written front
-
--- by how it ended; the outcome is that of the reply
-abbrev pub AppliesLarge : LargeMoment → Command → Result Outcome Failed → LargeMoment → Type 0
-AppliesLarge old command (Ok outcome) new = (a : IsAnsweredLarge old command new) × (outcome ≡ outcome_of a.reply)
-AppliesLarge old command (Err failed) new = IsCutShortLarge old command new
+-- the state at one moment, and the bytes written by then
+abbrev pub large_moment : Ids → LargeState → Option (List ℕ) → Snapshot LargeRun
+large_moment ids heap written = snapshot (large_run ids heap) written

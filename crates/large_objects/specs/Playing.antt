@@ -1,15 +1,15 @@
 -- A session over a heap of large objects, as a player.
-use Rattle.std.specs.Prelude.{◌≡◌, ◌++◌, ℕ, true, false, List, [], Option, codes}
+use Rattle.std.specs.Prelude.{◌≡◌, ℕ, true, false, List, Option, codes}
 use Rattle.std.specs.FinMap.{empty}
 use Rattle.cf_base.specs.Settings.{Profile}
 use Rattle.cf_base.specs.declared.kind.Kind.{Kind}
-use Rattle.cf_io.specs.Texts.{Reply, led, said}
+use Rattle.cf_io.specs.Texts.{Reply, said}
 use Rattle.cf_model.specs.Families.{IsPaged}
 use Rattle.cf_model.specs.Steps.{IsOpeningWords, empty_heap}
 use Rattle.run_model.specs.Plays.{PlayRun}
 use Rattle.script_loop.specs.Semantics.{Semantics}
 use Rattle.script_reader.specs.Items.{Item}
-use Rattle.script_reader.specs.declared.command.Command.{Command}
+use Rattle.session_model.specs.Applying.{TurnsInPart}
 use Rattle.large_objects.specs.Large.{KeepsParts}
 use Rattle.large_objects.specs.LargeRun.{IsGoingLarge, LargeRun, LargeStep}
 
@@ -34,13 +34,6 @@ BeginsAtOne kind p reply new = BeginsLarge kind p new × (reply ≡ said (codes 
 abbrev pub RunsLarge : Kind → Option LargeRun → List Item → List Reply → Option LargeRun → Type 0
 RunsLarge kind = PlayRun (BeginsAtOne kind) LargeStep
 
--- the command took effect, and just these bytes of its reply were written
-pub record LargeStepInPart (old : LargeRun) (command : Command) (out : List ℕ) (new : LargeRun) : Type 0 where
-  pub reply : Reply
-  pub lost : List ℕ
-  pub step : LargeStep old command reply new
-  pub cut : led [] reply ≡ out ++ lost
-
 -- before the `heap` line no id is live, and the inner manager has pages
 pub record IsFreshLarge (s : LargeRun) : Type 0 where
   pub ids : s.ids ≡ empty
@@ -58,6 +51,6 @@ large_heap = record {
   is_going = IsGoingLarge;
   begins = BeginsAtOne;
   turns = LargeStep;
-  turns_in_part = LargeStepInPart;
+  turns_in_part = TurnsInPart LargeStep;
   lacks = LacksLarge;
 }

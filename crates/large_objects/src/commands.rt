@@ -4,7 +4,8 @@ ghost use Rattle.cf_io.specs.Lines.{line_room};
 ghost use Rattle.cf_io.specs.Texts.{said};
 ghost use Rattle.run_model.specs.Replies.{malloc_text, write_text};
 ghost use Rattle.script_reader.specs.declared.command.Command.TheVariants.{Malloc, Free, Write};
-ghost use Rattle.large_objects.specs.LargeRun.{AreTiedLarge, LargeStep, large_object_of, large_read_text, large_run};
+ghost use Rattle.session_model.specs.Ties.{AreTiedTo};
+ghost use Rattle.large_objects.specs.LargeRun.{LargeStep, large_object_of, large_read_text, large_run};
 
 use crate::heap::LargeHeap;
 use cf_base::{AccessFault, Refusal};
@@ -57,7 +58,7 @@ pub(crate) fn free<H: Manager>(
     meter: &mut Meter,
 ) -> &'static [u8]
     requires open { IsTrue heap.old.is_open }
-    requires tied { AreTiedLarge ids.old heap.old.objects }
+    requires tied { AreTiedTo ids.old heap.old.objects }
     ensures step { LargeStep (large_run ids.old heap.old) (Free id) (said result.now) (large_run ids.new heap.new) }
     ensures short { length result.now ≤ 20 }
 {

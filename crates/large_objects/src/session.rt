@@ -3,11 +3,12 @@ ghost use Rattle.std.specs.Prelude.{◌≡◌, ◌<◌, ◌≤◌, [], IsTrue, I
 ghost use Rattle.std.specs.FinMap as map;
 ghost use Rattle.cf_io.specs.Feeds.{Rose};
 ghost use Rattle.cf_io.specs.Lines.{line_room};
-ghost use Rattle.cf_session.specs.Apply.{outcome_in};
 ghost use Rattle.script_reader.specs.Commands.{IsWellFormed};
 ghost use Rattle.script_reader.specs.Owned.{owned_command};
-ghost use Rattle.large_objects.specs.LargeRun.{AppliesLarge, IsGoingLarge, large_moment, large_run};
-ghost use Rattle.large_objects.specs.Speaking.{IsEndedAs, IsOneLine, Speaks};
+ghost use Rattle.session_model.specs.Applying.{Applies, Speaks};
+ghost use Rattle.large_objects.specs.LargeRun.{IsGoingLarge, LargeStep, large_moment, large_run};
+ghost use Rattle.large_objects.specs.Playing.{large_heap};
+ghost use Rattle.large_objects.specs.Speaking.{IsOneLine};
 
 use crate::commands::{free, malloc, read, write};
 use crate::heap::LargeHeap;
@@ -18,6 +19,7 @@ use cf_session::Outcome;
 use frag_report::{frag_line, walk_lines};
 use id_table::IdTable;
 use script_reader::{Command, CommandRef};
+use session_model::{ended, outcome_of_text};
 use std::alloc::Global;
 use std::marker::Model;
 use step_ledger::Meter;
@@ -66,7 +68,7 @@ impl LargeSession {
     ) -> Result<Outcome, Failed>
         requires going { IsGoingLarge (large_run self.old heap.old) }
         requires formed { IsWellFormed c.now }
-        ensures answers { AppliesLarge (large_moment self.old heap.old (K.written out.old)) c.now result
+        ensures answers { Applies large_heap (large_moment self.old heap.old (K.written out.old)) c.now result
             (large_moment self.new heap.new (K.written out.new)) }
         ensures going { IsGoingLarge (large_run self.new heap.new) }
         ensures grows { K.faults out.old ≤ K.faults out.new }
@@ -86,7 +88,7 @@ impl LargeSession {
     ) -> Result<Outcome, Failed>
         requires going { IsGoingLarge (large_run self.old heap.old) }
         requires formed { IsWellFormed (owned_command c) }
-        ensures answers { AppliesLarge (large_moment self.old heap.old (K.written out.old)) (owned_command c.entry) result
+        ensures answers { Applies large_heap (large_moment self.old heap.old (K.written out.old)) (owned_command c.entry) result
             (large_moment self.new heap.new (K.written out.new)) }
         ensures going { IsGoingLarge (large_run self.new heap.new) }
         ensures grows { K.faults out.old ≤ K.faults out.new }
@@ -109,7 +111,7 @@ fn answer<H: Manager, K: Sink>(
     requires going { IsGoingLarge (large_run ids.old heap.old) }
     requires formed { IsWellFormed (owned_command c) }
     requires place { length room.old ≡ 4096 }
-    ensures answers { AppliesLarge (large_moment ids.old heap.old (K.written out.old)) (owned_command c.entry) result
+    ensures answers { Applies large_heap (large_moment ids.old heap.old (K.written out.old)) (owned_command c.entry) result
         (large_moment ids.new heap.new (K.written out.new)) }
     ensures grows { K.faults out.old ≤ K.faults out.new }
     ensures failed { OnErr result (Rose (K.faults out.old) (K.faults out.new)) }
@@ -131,29 +133,6 @@ fn answer<H: Manager, K: Sink>(
     }
 }
 
-/// The outcome of what was written.
-fn ended(written: Result<(), Failed>, outcome: Outcome) -> Result<Outcome, Failed>
-    ensures { IsEndedAs written outcome result }
-{
-    match written {
-        Ok(()) => Ok(outcome),
-        Err(failed) => Err(failed),
-    }
-}
-
-/// Good where the reply is `ok` or begins with `=`, refused where it begins with `refused`.
-fn outcome_of_text(text: &[u8]) -> Outcome
-    ensures { result ≡ outcome_in text.now }
-{
-    if text == b"ok".as_slice() || text.starts_with(b"=") {
-        Outcome::Good
-    } else if text.starts_with(b"refused") {
-        Outcome::Refused
-    } else {
-        Outcome::Other
-    }
-}
-
 /// Does a command whose reply is one line, and writes its text on the line.
 fn speak<H: Manager>(
     ids: &mut IdTable,
@@ -167,7 +146,7 @@ fn speak<H: Manager>(
     requires formed { IsWellFormed (owned_command c) }
     requires one { IsOneLine (owned_command c) }
     requires place { length room.old ≡ 4096 }
-    ensures { Speaks (large_run ids.old heap.old) (owned_command c.entry) (large_run ids.new heap.new) line.new }
+    ensures { Speaks LargeStep (large_run ids.old heap.old) (owned_command c.entry) (large_run ids.new heap.new) line.new }
 {
     line.clear();
     match c {

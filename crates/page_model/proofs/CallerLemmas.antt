@@ -15,7 +15,7 @@ pub use Rattle.page_model.proofs.Sizes.{paged, first_paged, class_fits, class_ho
 pub use Rattle.page_model.proofs.Resizing.{length-resized, class-resized, changes_class, change_is, sound_resize}
 pub use Rattle.page_model.proofs.Parts.{inserted_there, malloc_objects, malloc_places, still_places, free_objects, moved_places}
 pub use Rattle.page_model.proofs.SlotImages.{slot_inside, sound_apart, object_inside, sound_apart_from, place_apart, place_is_zeros}
-pub use Rattle.page_model.proofs.SlotImages.{image_after_malloc, image_after_free, image_after_write, image_after_move, own_words}
+pub use Rattle.page_model.proofs.SlotImages.{image_after_malloc, image_after_free, image_after_write, image_after_move, image_exchanged, own_words}
 pub use Rattle.page_model.proofs.Frames.{first_permuted, place_is_block, physical_word}
 pub use Rattle.page_model.proofs.Writing.{byte_of_object, word_by_bytes, object_word_small, length-written, written_before, written_inside}
 pub use Rattle.page_model.proofs.Writing.{written_behind, zeros_are_bytes, written_are_bytes, resized_are_bytes, resized_before, resized_behind}

@@ -27,7 +27,7 @@ use Rattle.cf_model.specs.Steps.{FreesObject, MovesIn, frames_left, number_of, l
 use Rattle.paged_heap.specs.Heap.{Heap}
 use Rattle.paged_heap.specs.Layout.{IsFramed, IsValid, held_in, paging_at, state_of, tables_in}
 use Rattle.paged_heap.specs.Free.{IsMoving, IsObjectAt}
-use Rattle.paged_heap.proofs.ClassCounts.{counted_out}
+use Rattle.cf_lemmas.proofs.Tallies.{counted_out}
 use Rattle.paged_heap.proofs.ByKind.{moves_in, slot_in_is, tiling_stays}
 use Rattle.paged_heap.proofs.LayoutFacts.{as_many, bound_is, few_classes, paged_kind, paging_ok, sizes_are, table_is}
 use Rattle.paged_heap.proofs.Preserved.{Becomes, becomes_kept, becomes_state, bytes_held, has_place, held_is, stored, with_parts}

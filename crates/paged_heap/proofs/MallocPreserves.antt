@@ -22,7 +22,7 @@ use Rattle.page_slots.proofs.CallerLemmas.{taken_is_free, taken_occupied, taken_
 use Rattle.cf_model.specs.Steps.{GivesObject}
 use Rattle.paged_heap.specs.Heap.{Heap}
 use Rattle.paged_heap.specs.Layout.{IsValid, held_in, paging_at, state_of, tables_in}
-use Rattle.paged_heap.proofs.ClassCounts.{counted_in}
+use Rattle.cf_lemmas.proofs.Tallies.{counted_in}
 use Rattle.paged_heap.proofs.ByKind.{framed_kept, placed_in}
 use Rattle.paged_heap.proofs.LayoutFacts.{few_classes, held_len, paged_kind, paging_ok}
 use Rattle.paged_heap.proofs.Preserved.{Becomes, becomes_kept, becomes_state, no_place, places_are, stored, with_parts}

@@ -29,7 +29,7 @@ use Rattle.paged_heap.specs.ResizeClass.{EntersAt, IsChange, old_words}
 use Rattle.paged_heap.specs.Layout.{IsFramed, IsValid, held_in, paging_at, state_of, tables_in}
 use Rattle.paged_heap.proofs.LayoutFacts.{few_classes, paged_kind, paging_ok, sizes_are, table_is}
 use Rattle.paged_heap.proofs.Preserved.{Becomes, becomes_kept, becomes_state, held_is, rest_from, stored}
-use Rattle.paged_heap.proofs.ClassCounts.{counted_in, counted_out}
+use Rattle.cf_lemmas.proofs.Tallies.{counted_in, counted_out}
 use Rattle.paged_heap.proofs.TwoWrites.{between, cleared_then, moved_then, written_first}
 use Rattle.paged_heap.proofs.ResizeCopy.{are_now, arrived, carried_long, untouched}
 use Rattle.paged_heap.proofs.ResizeEnter.{at_table, is_free, new_inside, none_spare, of_table, slots_apart}

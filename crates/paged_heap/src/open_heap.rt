@@ -17,8 +17,8 @@ use page_pool::PagePool;
 use proxy_table::ProxyTable;
 use region::Region;
 use size_classes::Classes;
-use slot_bitmap::SlotMap;
-use std::alloc::{AllocError, Global};
+use slot_bitmap::{SlotMap, free_maps};
+use std::alloc::Global;
 use virtual_words::Mapping;
 
 /// No heap has more size classes.
@@ -105,25 +105,4 @@ impl OpenHeap {
             proxies,
         }
     }
-}
-
-/// So many maps, for pages that are free.
-fn free_maps(alloc: Global, pages: u32) -> Result<Vec<SlotMap>, OutOfMemory>
-    ensures { IfOk result (λ maps. maps.items ≡ replicate pages (replicate 1 false)) }
-{
-    match maps_of_one(alloc, pages) {
-        Ok(maps) => Ok(maps),
-        Err(_) => Err(OutOfMemory),
-    }
-}
-
-/// So many maps of one slot.
-fn maps_of_one(alloc: Global, n: u32) -> Result<Vec<SlotMap>, AllocError>
-    ensures { IfOk result (λ maps. maps.items ≡ replicate n (replicate 1 false)) }
-{
-    let mut maps = Vec::with_capacity(alloc, n as usize)?;
-    for _i in 0..n {
-        maps.push(SlotMap::new(1))?;
-    }
-    Ok(maps)
 }

@@ -8,6 +8,7 @@ use Rattle.cf_base.specs.Settings.{profile_of}
 use Rattle.cf_base.specs.declared.answers.Freed.{Freed}
 use Rattle.cf_lemmas.proofs.Ranges.{one}
 use Rattle.cf_lemmas.proofs.Tests.{eq_no, eq_yes}
+use Rattle.cf_lemmas.proofs.Tallies.{counted_out}
 use Rattle.class_lists.specs.PageLists.{pages_in}
 use Rattle.class_lists.specs.declared.Which.TheVariants.{NotFull}
 use Rattle.cf_model.specs.Steps.{number_of}
@@ -39,22 +40,6 @@ use Rattle.quota_heap.proofs.PageAccount.{Accounts}
 use Rattle.quota_heap.proofs.PagesAfter.{pages_after}
 use Rattle.quota_heap.proofs.Preserved.{Becomes, becomes_kept, becomes_state, stored}
 use Rattle.quota_heap.proofs.Tasks.{part_is}
-
--- one object fewer in class c
-pub counted_out : (live : List ℕ) (c d : ℕ) → c < length live → 1 ≤ get_or live c 0
-    → get_or (set live c (get_or live c 0 - 1)) d 0 + one (nat_eq c d) ≡ get_or live d 0
-counted_out live c d lt some = elim (cases_eq d c) [
-  | inl is ↦ (
-      let y : one (nat_eq c d) ≡ 1 = ap one (eq_yes c d (sym is)) in
-      let e : get_or (set live c (get_or live c 0 - 1)) d 0 ≡ get_or live c 0 - 1 =
-      ap (λ j. get_or (set live c (get_or live c 0 - 1)) j 0) is ∙ get_or-set_same live c (get_or live c 0 - 1) 0 lt in
-      let f : get_or live d 0 ≡ get_or live c 0 = ap (λ j. get_or live j 0) is in
-      omega arith)
-  | inr ne ↦ (
-      let y : one (nat_eq c d) ≡ 0 = ap one (eq_no c d (λ e. ne (sym e))) in
-      let e = get_or-set_other live c d (get_or live c 0 - 1) 0 ne in
-      omega arith)
-]
 
 module _ {g : Ground} (k : IsGround g) {t : ℕ} {x : Task} (i : IsTask g t x) {q a size c : ℕ} (o : IsObjectAt g x q a size c) where
   abbrev pub it : Placed

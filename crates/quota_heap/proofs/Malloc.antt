@@ -39,6 +39,7 @@ use Rattle.quota_heap.proofs.Preserved.{Becomes, becomes_kept, becomes_state, pl
 use Rattle.quota_heap.proofs.Refusals.{reason}
 use Rattle.quota_heap.proofs.Tasks.{length_map, map_set, numbers, part_is, places_here, task_below}
 use Rattle.std.proofs.lemmas.Option.{slice_get_within}
+use Rattle.cf_lemmas.proofs.Tallies.{counted_in}
 use Rattle.cf_lemmas.proofs.Tests.{eq_no, eq_yes}
 use Rattle.std.proofs.lemmas.List.{get_or-set_other, get_or-set_same}
 use Rattle.page_model.proofs.CallerLemmas.{slot_inside}
@@ -49,21 +50,6 @@ use Rattle.std.proofs.lemmas.Option.{slice_get-get_or}
 use Rattle.quota_model.specs.Shared.{IsShared}
 use Rattle.quota_heap.specs.State.{QuotaState}
 use Rattle.quota_heap.specs.Steps.{with_held}
-
--- one more object in class c
-pub counted_in : (live : List ℕ) (c d : ℕ) → c < length live → get_or (set live c (get_or live c 0 + 1)) d 0 ≡ get_or live d 0 + one (nat_eq c d)
-counted_in live c d lt = elim (cases_eq d c) [
-  | inl is ↦ (
-      let y : one (nat_eq c d) ≡ 1 = ap one (eq_yes c d (sym is)) in
-      let e : get_or (set live c (get_or live c 0 + 1)) d 0 ≡ get_or live c 0 + 1 =
-      ap (λ j. get_or (set live c (get_or live c 0 + 1)) j 0) is ∙ get_or-set_same live c (get_or live c 0 + 1) 0 lt in
-      let f : get_or live d 0 ≡ get_or live c 0 = ap (λ j. get_or live j 0) is in
-      omega arith)
-  | inr ne ↦ (
-      let y : one (nat_eq c d) ≡ 0 = ap one (eq_no c d (λ e. ne (sym e))) in
-      let e = get_or-set_other live c d (get_or live c 0 + 1) 0 ne in
-      omega arith)
-]
 
 -- A slot of class c of the task is taken: what is known of the ground and the task alone.
 module _ (g : Ground) (k : IsGround g) (t : ℕ) (x : Task) (i : IsTask g t x) (c : ℕ) (lt : c < classes (paging_at g)) (a : ℕ) (new : Tables)

@@ -13,8 +13,8 @@ use object_header::Header;
 use page_pool::PagePool;
 use region::Region;
 use size_classes::Classes;
-use slot_bitmap::SlotMap;
-use std::alloc::{AllocError, Global};
+use slot_bitmap::{SlotMap, free_maps};
+use std::alloc::Global;
 use step_ledger::Steps;
 
 /// The region of all tasks, the bitmap of each of its pages, and the pages that no task uses.
@@ -120,25 +120,4 @@ pub(crate) fn shift(region: &mut Region, from: u32, to: u32, slot_words: u32, st
     ensures bound { RoseAtMost steps.old steps.new slot_words }
 {
     region.move_words(from, to, slot_words, steps);
-}
-
-/// So many maps, for pages that are free.
-fn free_maps(alloc: Global, pages: u32) -> Result<Vec<SlotMap>, OutOfMemory>
-    ensures { IfOk result (λ maps. maps.items ≡ replicate pages (replicate 1 false)) }
-{
-    match maps_of_one(alloc, pages) {
-        Ok(maps) => Ok(maps),
-        Err(_) => Err(OutOfMemory),
-    }
-}
-
-/// So many maps of one slot.
-fn maps_of_one(alloc: Global, n: u32) -> Result<Vec<SlotMap>, AllocError>
-    ensures { IfOk result (λ maps. maps.items ≡ replicate n (replicate 1 false)) }
-{
-    let mut maps = Vec::with_capacity(alloc, n as usize)?;
-    for _i in 0..n {
-        maps.push(SlotMap::new(1))?;
-    }
-    Ok(maps)
 }

@@ -2,19 +2,18 @@
 use Rattle.std.proofs.Common.{◌≡◌, ◌≢◌, ℕ, zero, suc, ◌+◌, ◌-◌, ◌*◌, ◌/◌, ◌%◌, ◌<◌, ◌≤◌, List, Some, None, length, get_or, set, replicate, take, arith, ap, sym}
 use Rattle.std.proofs.Common.{◌∙◌, refl, inl, inr, subst}
 use Rattle.std.specs.Prelude.{IsTrue}
-use Rattle.std.proofs.lemmas.Bool.{cases_eq}
 use Rattle.std.proofs.lemmas.List.{drop-replicate, get_or-set_other, get_or-set_same, length-replicate}
 use Rattle.std.specs.FinMap.{get, insert, remove}
 use Rattle.cf_base.specs.Limits.{is_page_size}
 use Rattle.cf_base.specs.Settings.{Profile}
-use Rattle.cf_lemmas.proofs.Maps.{get_insert_other, get_inserted, get_remove_other, some_inserted, some_removed}
+use Rattle.cf_lemmas.proofs.Maps.{get_insert_other, get_inserted}
 use Rattle.page_model.specs.Bytes.{written}
 use Rattle.page_model.specs.Held.{Held, Placed}
-use Rattle.page_model.specs.Image.{Clears, IsApartFrom, IsDisjoint, IsImage, IsImageOver, IsOutside, IsSlotImage, MovesWords, Rewrites, header_word, object_word}
+use Rattle.page_model.specs.Image.{Clears, IsApartFrom, IsDisjoint, IsImage, IsOutside, IsSlotImage, MovesWords, Rewrites, header_word, object_word}
 use Rattle.page_model.specs.Image.{slot_for, word_of_bytes}
 use Rattle.page_model.specs.Paging.{class_for, slot_words}
 use Rattle.page_model.specs.Steps.{MayFill, MustMove, Request, moved_to, zeros_at}
-use Rattle.page_model.proofs.CallerLemmas.{disjoint_outside, image_added, image_after_bytes, image_after_free, mover_is_other, own_words, slot_inside}
+use Rattle.page_model.proofs.CallerLemmas.{disjoint_outside, image_added, image_after_bytes, image_after_free, image_exchanged, mover_is_other, own_words, slot_inside}
 use Rattle.page_model.proofs.CallerLemmas.{sound_apart_from, within_or}
 use Rattle.quota_model.specs.Parts.{key_of, part_of}
 use Rattle.quota_model.specs.Refusals.{task_paging}
@@ -30,38 +29,6 @@ take_zeros (suc m) (suc n) = omega (arith, take_zeros m n)
 -- past its header a fresh object has zeros
 fresh_word : (h n i : ℕ) → object_word h (replicate n 0) (suc i) ≡ 0
 fresh_word h n i = ap (λ xs. word_of_bytes (take 8 xs)) (drop-replicate (8 * i) n 0) ∙ take_zeros 8 (n - 8 * i)
-
--- y goes from its address to that of x, which goes
-image_exchanged : (extent : ℕ → ℕ) (m : Held) (words words' : List ℕ) → IsImageOver extent m words → (h q : ℕ) (x y : Placed) → get m h ≡ Some x
-    → get m q ≡ Some y → q ≢ h
-    → IsApartFrom extent m h x → IsApartFrom extent m q y → extent (length y.bytes) ≡ extent (length x.bytes)
-    → MovesWords words words' (record { from = y.place; count = extent (length y.bytes) }) x.place
-    → IsImageOver extent (insert (remove m h) q (record { place = x.place; bytes = y.bytes })) words'
-image_exchanged extent m words words' im h q x y is-x is-y ne free_x free_y size mo = record {
-  held = λ r z p i lt. elim (some_inserted (remove m h) q (record { place = x.place; bytes = y.bytes }) r z p) [
-    | inl (is, same) ↦ (let l : i < extent (length y.bytes) = rw (← same) at lt in rw (is, ← same) (mo.arrived i l ∙ im.held q y is-y i l))
-    | inr (nq, p') ↦ (
-        let was = some_removed m h r z p' in
-        mo.others (z.place + i)
-        (disjoint_outside y.place (extent (length y.bytes)) z.place (extent (length z.bytes)) i (free_y r z was.1 nq) lt)
-        (rw size (disjoint_outside x.place (extent (length x.bytes)) z.place (extent (length z.bytes)) i (free_x r z was.1 was.0) lt))
-        ∙ im.held r z was.1 i lt)
-  ];
-  zeros = λ w out.
-      let at_x : IsOutside x.place (extent (length y.bytes)) w =
-      out q (record { place = x.place; bytes = y.bytes }) (get_inserted (remove m h) q (record { place = x.place; bytes = y.bytes })) in
-      elim (within_or y.place (extent (length y.bytes)) w) [
-        | inl (i, lt, at) ↦ subst (λ v. get_or words' v 0 ≡ 0) at (mo.left_zeros i lt)
-        | inr at_y ↦ mo.others w at_y at_x ∙ im.zeros w (λ r z p. elim (cases_eq r h) [
-          | inl is ↦ (let same : x ≡ z = (let p' : get m h ≡ Some z = rw is at p in cc) in let at_x' : IsOutside x.place (extent (length x.bytes)) w =
-              rw size at at_x in rw same at at_x')
-          | inr nh ↦ elim (cases_eq r q) [
-            | inl is ↦ (let same : y ≡ z = (let p' : get m q ≡ Some z = rw is at p in cc) in rw same at at_y)
-            | inr nq ↦ out r z (get_insert_other (remove m h) q (record { place = x.place; bytes = y.bytes }) r nq ∙ get_remove_other m h r nh ∙ p)
-          ]
-        ])
-      ];
-}
 
 turned : (a n b m : ℕ) → IsDisjoint a n b m → IsDisjoint b m a n
 turned a n b m (inl x) = inr x

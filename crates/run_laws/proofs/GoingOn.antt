@@ -8,7 +8,7 @@ use Rattle.run_model.specs.Runs.{BeginsOne, ItemStep, Run, Turn}
 use Rattle.run_model.specs.Sessions.{RunState}
 use Rattle.run_model.specs.Texts.{Reply, bad_line, said, text_of}
 use Rattle.run_model.proofs.CallerLemmas.{begins_going, step_going, step_same}
-use Rattle.run_model.proofs.Plays.{run_joined, text_joined}
+use Rattle.run_model.proofs.CallerLemmas.{run_joined, text_joined}
 use Rattle.run_laws.specs.Sayable.{AreSayable, IsSayableItem, IsUnderWay}
 use Rattle.run_laws.proofs.CommandAnswers.{begins_there, turn_there}
 

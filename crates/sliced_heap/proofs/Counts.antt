@@ -3,7 +3,6 @@ use Rattle.std.proofs.Common.{◌≡◌, ◌≢◌, ℕ, zero, suc, ◌+◌, ◌
 use Rattle.std.specs.Prelude.{nat_eq, sum_by}
 use Rattle.std.specs.List.{range_with_len}
 use Rattle.std.proofs.lemmas.Bool.{cases_eq}
-use Rattle.std.proofs.lemmas.List.{get_or-set_same, get_or-set_other}
 use Rattle.std.proofs.lemmas.List.Sums.{sum_by-cons}
 use Rattle.std.proofs.lemmas.Nat.{div-add-mod', div-mul-add}
 use Rattle.std.proofs.Math.Nat.{mod-lt}
@@ -111,30 +110,3 @@ pub needed_same : (p : Paging) (o u : Objects) → ((c : ℕ) → live p o c ≡
 unfolding pages_needed
 needed_same p o u same = sum_same (λ c. ceil_div (live p o c) (slots_of p c)) (λ c. ceil_div (live p u c) (slots_of p c)) (range_with_len 0 (classes p))
     (λ c. ap (λ k. ceil_div k (slots_of p c)) (same c))
-
--- how many objects each class has, where one is counted in or out
-module _ (counts : List ℕ) (c d : ℕ) (lt : c < length counts) where
-  pub counted_in : get_or (set counts c (get_or counts c 0 + 1)) d 0 ≡ get_or counts d 0 + one (nat_eq c d)
-  counted_in = elim (cases_eq d c) [
-    | inl is ↦ (
-        let here : get_or (set counts c (get_or counts c 0 + 1)) d 0 ≡ get_or counts d 0 + 1 = rw is (get_or-set_same counts c (get_or counts c 0 + 1) 0 lt) in
-        let y : one (nat_eq c d) ≡ 1 = ap one (eq_yes c d (sym is)) in
-        omega arith)
-    | inr ne ↦ (
-        let here = get_or-set_other counts c d (get_or counts c 0 + 1) 0 ne in
-        let y : one (nat_eq c d) ≡ 0 = ap one (eq_no c d (λ e. ne (sym e))) in
-        omega arith)
-  ]
-
-  pub counted_out : 1 ≤ get_or counts c 0 → get_or (set counts c (get_or counts c 0 - 1)) d 0 + one (nat_eq c d) ≡ get_or counts d 0
-  counted_out some = elim (cases_eq d c) [
-    | inl is ↦ (
-        let here : get_or (set counts c (get_or counts c 0 - 1)) d 0 ≡ get_or counts d 0 - 1 = rw is (get_or-set_same counts c (get_or counts c 0 - 1) 0 lt) in
-        let same : get_or counts d 0 ≡ get_or counts c 0 = ap (λ i. get_or counts i 0) is in
-        let y : one (nat_eq c d) ≡ 1 = ap one (eq_yes c d (sym is)) in
-        omega arith)
-    | inr ne ↦ (
-        let here = get_or-set_other counts c d (get_or counts c 0 - 1) 0 ne in
-        let y : one (nat_eq c d) ≡ 0 = ap one (eq_no c d (λ e. ne (sym e))) in
-        omega arith)
-  ]

@@ -8,6 +8,7 @@ use Rattle.cf_lemmas.proofs.Maps.{get_remove_other, some_removed}
 use Rattle.cf_lemmas.proofs.MapValues.{map_values-remove}
 use Rattle.cf_lemmas.proofs.Ranges.{one}
 use Rattle.cf_lemmas.proofs.Tests.{eq_yes}
+use Rattle.cf_lemmas.proofs.Tallies.{counted_out}
 use Rattle.page_model.specs.Arrangement.{class_at, live, pages_needed}
 use Rattle.page_model.specs.Held.{Held, Placed, objects}
 use Rattle.page_model.specs.Paging.{slot_words, slots_of}
@@ -22,7 +23,7 @@ use Rattle.slice_model.proofs.CallerLemmas.{bytes_there, no_stand_in, other_than
 use Rattle.sliced_heap.specs.Heap.{Heap}
 use Rattle.sliced_heap.specs.Layout.{IsValid, opens, paging_at, plan_of, state_of, tables_in}
 use Rattle.sliced_heap.specs.Steps.{Forgets}
-use Rattle.sliced_heap.proofs.Counts.{counted_out, needed_more, needed_taken}
+use Rattle.sliced_heap.proofs.Counts.{needed_more, needed_taken}
 use Rattle.sliced_heap.proofs.Facts.{few_classes, held_bytes, paging_ok, places_are, plan_ok}
 use Rattle.sliced_heap.proofs.Headers.{in_class}
 use Rattle.sliced_heap.proofs.Places.{stood_in}

@@ -9,6 +9,7 @@ use Rattle.cf_lemmas.proofs.Maps.{some_inserted}
 use Rattle.cf_lemmas.proofs.MapValues.{get-map_values}
 use Rattle.cf_lemmas.proofs.Ranges.{one}
 use Rattle.cf_lemmas.proofs.Values.{sum_at_most}
+use Rattle.cf_lemmas.proofs.Tallies.{counted_in}
 use Rattle.page_model.specs.Arrangement.{LacksRoom, class_at, live, pages_needed, pages_needed_with}
 use Rattle.page_model.specs.Bytes.{AreBytes}
 use Rattle.page_model.specs.Held.{Held, Placed, objects}
@@ -28,7 +29,7 @@ use Rattle.slice_model.specs.Runs.{Mallocs}
 use Rattle.slice_model.proofs.CallerLemmas.{free_is_place, get_beside, inserted_beside, kept_malloc, lacking_is_no_place, words_given}
 use Rattle.sliced_heap.specs.Heap.{Heap}
 use Rattle.sliced_heap.specs.Layout.{IsValid, opens, paging_at, plan_of, state_of, tables_in, working_of}
-use Rattle.sliced_heap.proofs.Counts.{counted_in, needed_added, needed_more}
+use Rattle.sliced_heap.proofs.Counts.{needed_added, needed_more}
 use Rattle.sliced_heap.proofs.Facts.{few_classes, held_bytes, held_len, no_place, paging_ok, places_are, plan_ok, table_is}
 use Rattle.sliced_heap.proofs.Headers.{class_is}
 use Rattle.sliced_heap.proofs.Preserved.{Becomes, becomes_plan, becomes_state, becomes_valid}

@@ -3,6 +3,8 @@
 #![tactic(auto)]
 
 mod bits;
+mod maps;
 mod slot_map;
 
+pub use maps::free_maps;
 pub use slot_map::SlotMap;

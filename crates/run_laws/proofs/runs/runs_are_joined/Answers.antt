@@ -1,4 +1,4 @@
-use Rattle.run_model.proofs.Plays.{run_joined}
+use Rattle.run_model.proofs.CallerLemmas.{run_joined}
 use Rattle.run_model.specs.Runs.{BeginsOne, Turn}
 use Rattle.run_laws.proofs.runs.runs_are_joined.Goals as goal
 

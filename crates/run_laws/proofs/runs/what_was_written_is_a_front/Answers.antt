@@ -1,5 +1,5 @@
 use Rattle.script_reader.specs.Items.{items}
-use Rattle.run_model.proofs.Plays.{text_joined}
+use Rattle.run_model.proofs.CallerLemmas.{text_joined}
 use Rattle.run_laws.proofs.GoingOn.{front_written}
 use Rattle.run_laws.proofs.Items.{items_sayable}
 use Rattle.run_laws.proofs.runs.what_was_written_is_a_front.Goals as goal

@@ -1,4 +1,4 @@
--- How many objects each class has, where one is counted in or out.
+-- A list of counts, one of which is one more or one less.
 use Rattle.std.proofs.Common.{◌≡◌, ℕ, ◌+◌, ◌-◌, ◌<◌, ◌≤◌, List, length, get_or, set, arith, sym, ap, inl, inr}
 use Rattle.std.specs.Prelude.{nat_eq}
 use Rattle.std.proofs.lemmas.Bool.{cases_eq}

@@ -1,0 +1,27 @@
+//! A map for each page of a heap that has no objects.
+ghost use Rattle.std.specs.Prelude.{◌≡◌, false, replicate, IfOk};
+
+use crate::SlotMap;
+use cf_base::OutOfMemory;
+use std::alloc::{AllocError, Global};
+
+/// So many maps of one free slot each, as a page has that no class uses yet. All their memory is
+/// taken here.
+pub fn free_maps(alloc: Global, pages: u32) -> Result<Vec<SlotMap>, OutOfMemory>
+    ensures { IfOk result (λ maps. maps.items ≡ replicate pages (replicate 1 false)) }
+{
+    match maps_of_one(alloc, pages) {
+        Ok(maps) => Ok(maps),
+        Err(_) => Err(OutOfMemory),
+    }
+}
+
+fn maps_of_one(alloc: Global, n: u32) -> Result<Vec<SlotMap>, AllocError>
+    ensures { IfOk result (λ maps. maps.items ≡ replicate n (replicate 1 false)) }
+{
+    let mut maps = Vec::with_capacity(alloc, n as usize)?;
+    for _i in 0..n {
+        maps.push(SlotMap::new(1))?;
+    }
+    Ok(maps)
+}
