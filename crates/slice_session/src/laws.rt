@@ -19,6 +19,8 @@ ghost use Rattle.sliced_heap.specs.Shown.{plan_in, working_in};
 ghost use Rattle.slice_session.specs.Playing.{BeginsSliced, IsQuantum, RunsSliced, SlicePlay, run_of_play, slices};
 ghost use Rattle.slice_session.specs.SliceRun.{IsGoingSliced, SliceRun, SliceStep, slice_free_text, slice_malloc_text};
 
+use slice_model::{a_malloc_waits_for_a_job_alone, an_empty_heap_is_consistent};
+
 /// Over every list of commands of several tasks, and wherever slices of the jobs stand between them,
 /// each read gives the bytes last written through its id, also of an object in motion. What the lines
 /// and their replies tell of ids is all that it depends on: no address, no handle and no job.
@@ -31,20 +33,22 @@ pub fn reads_give_what_was_written()
 /// `busy` only where a job is pending; and `refused space` is the answer to a malloc exactly where
 /// the pages that are needed are more than there are, whether a job is pending or not.
 pub fn replies_tell_their_causes()
-    ensures malloc { (old new : SliceRun) (id n : ℕ) (e : SliceRefusal) → IsGoingSliced old → get old.ids id ≡ None
+    ensures malloc { (old new : SliceRun) (id n : ℕ) (e : SliceRefusal) → get old.ids id ≡ None
         → SliceStep old (Malloc id n) (said (slice_malloc_text (Err e))) new
         → IsRefusedBy (plan_in old.heap) (working_in old.heap).state n e × (new ≡ old) }
     ensures refused { (old new : SliceRun) (id n : ℕ) (e : SliceRefusal) (reply : Reply) → IsGoingSliced old → get old.ids id ≡ None
         → IsRefusedBy (plan_in old.heap) (working_in old.heap).state n e → SliceStep old (Malloc id n) reply new
         → reply ≡ said (slice_malloc_text (Err e)) }
-    ensures free { (old new : SliceRun) (id h : ℕ) (e : SliceFault) → IsGoingSliced old → get old.ids id ≡ Some h
+    ensures free { (old new : SliceRun) (id h : ℕ) (e : SliceFault) → get old.ids id ≡ Some h
         → SliceStep old (Free id) (said (slice_free_text (Some e))) new
         → IsFaultOf (working_in old.heap).state h e × (new ≡ old) }
     ensures busy_malloc { (old new : SliceRun) (id n : ℕ) → IsGoingSliced old
         → SliceStep old (Malloc id n) (said (codes "busy")) new → old.heap.job ≢ Idle }
-    ensures busy_free { (old new : SliceRun) (id : ℕ) → IsGoingSliced old
+    ensures busy_free { (old new : SliceRun) (id : ℕ)
         → SliceStep old (Free id) (said (codes "busy")) new → old.heap.job ≢ Idle }
-{}
+{
+    a_malloc_waits_for_a_job_alone();
+}
 
 /// A run begins under any settings in their ranges, with slices of any quantum; and from each state
 /// of a run that goes on every command that a script can say gets a reply, after which the run goes
@@ -57,7 +61,9 @@ pub fn each_command_has_its_turn()
         → (reply : Reply) × (new : SliceRun) × SliceStep old command reply new }
     ensures going { (old new : SliceRun) (command : Command) (reply : Reply) → IsGoingSliced old
         → SliceStep old command reply new → IsGoingSliced new }
-{}
+{
+    an_empty_heap_is_consistent();
+}
 
 /// There is a run over the items of any bytes, and each run over a prefix of them can go on to the end.
 pub fn a_sliced_run_can_always_go_on()
@@ -67,7 +73,9 @@ pub fn a_sliced_run_can_always_go_on()
         (mid : Option SliceRun)
         → IsQuantum quantum → items given ended ≡ done ++ after → RunsSliced quantum None done replies mid
         → (more : List Reply) × (new : Option SliceRun) × RunsSliced quantum None (items given ended) (replies ++ more) new }
-{}
+{
+    an_empty_heap_is_consistent();
+}
 
 /// What a player answers over a script is a run of its session, with slices of its quantum.
 pub fn plays_are_runs()
