@@ -72,20 +72,20 @@ module _ (s : SlicedState) (rules : KeepsRules s) where
       → (answer : Option AccessFault) × (new : SlicedState) × Does s (Write (record { number = h; from = from }) bytes answer) new
   write_there h from bytes are = elim (there_or_not s.held h) [
     | inr none ↦ (
-        Some access.Unknown,
-        s,
-        stands (Write (record { number = h; from = from }) bytes (Some access.Unknown))
-            (get-map_values (λ (x : Placed). x.bytes) s.held h ∙ ap (option_map (λ (x : Placed). x.bytes)) none, refl),
-      )
+      Some access.Unknown,
+      s,
+      stands (Write (record { number = h; from = from }) bytes (Some access.Unknown))
+          (get-map_values (λ (x : Placed). x.bytes) s.held h ∙ ap (option_map (λ (x : Placed). x.bytes)) none, refl),
+    )
     | inl (x, found) ↦ elim (cases_lt (length x.bytes) (from + length bytes)) [
       | inl past ↦ (
-          Some access.Range,
-          s,
-          stands (Write (record { number = h; from = from }) bytes (Some access.Range)) ((x.bytes, bytes_there s.held h x found, past), refl),
-        )
+        Some access.Range,
+        s,
+        stands (Write (record { number = h; from = from }) bytes (Some access.Range)) ((x.bytes, bytes_there s.held h x found, past), refl),
+      )
       | inr within ↦ (
           let v = written x.bytes from bytes in
-          let w = written_there plan rules.plan state kept s.words h x found v from (length bytes) within in
+          let w = written_there plan rules.plan state kept h x found from (length bytes) within s.words v in
           let new : Sliced = record { held = insert s.held h (record { place = x.place; bytes = v }); job = s.job } in (
             None,
             working_with s new w.0,
