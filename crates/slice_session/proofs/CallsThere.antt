@@ -1,19 +1,18 @@
 -- Each call of a sliced heap has an answer, and a state after it.
-use Rattle.std.proofs.Common.{◌≡◌, ℕ, ◌+◌, ◌<◌, ◌≤◌, List, Some, None, length, ◌∙◌, ap, refl, subst, inl, inr}
+use Rattle.std.proofs.Common.{ℕ, ◌+◌, List, Some, None, length, ◌∙◌, ap, refl, subst, inl, inr}
 use Rattle.std.specs.Prelude.{Option, Result, Ok, Err, option_map}
 use Rattle.std.proofs.lemmas.Bool.{cases_lt}
-use Rattle.std.specs.FinMap.{get, insert}
+use Rattle.std.specs.FinMap.{insert}
 use Rattle.cf_base.specs.declared.answers.AccessFault.{AccessFault}
 use Rattle.cf_base.specs.declared.answers.AccessFault.TheVariants as access
 use Rattle.cf_base.specs.declared.answers.Handle.{Handle}
 use Rattle.cf_lemmas.proofs.MapValues.{get-map_values}
 use Rattle.cf_lemmas.proofs.Searches.{there_or_not}
-use Rattle.page_model.specs.Arrangement.{class_at}
 use Rattle.page_model.specs.Bytes.{AreBytes, written}
 use Rattle.page_model.specs.Held.{Placed, objects}
 use Rattle.page_model.specs.Image.{header_word}
-use Rattle.slice_model.specs.Runs.{Event, Frees, Happens, Mallocs, Slices, Writes, Malloc, Free, Step, Write}
-use Rattle.slice_model.specs.State.{Idle, IsKept, IsPlan, Plan, Sliced}
+use Rattle.slice_model.specs.Runs.{Event, Happens, Malloc, Free, Step, Write}
+use Rattle.slice_model.specs.State.{Idle, IsKept, Plan, Sliced}
 use Rattle.slice_model.specs.declared.answers.SliceFault.{SliceFault}
 use Rattle.slice_model.specs.declared.answers.SliceRefusal.{SliceRefusal}
 use Rattle.slice_model.proofs.CallerLemmas.{answered, bytes_there, free_answered, kept_begun, slice_there}

@@ -1,12 +1,12 @@
 -- What a reply tells of the cause of a refusal.
-use Rattle.std.proofs.Common.{◌≡◌, ◌≢◌, ℕ, ◌<◌, ◌≤◌, List, [], ◌∷◌, Some, None, get_or, arith, refl, sym, ◌∙◌, ap, subst}
+use Rattle.std.proofs.Common.{◌≡◌, ◌≢◌, ℕ, List, [], ◌∷◌, Some, None, get_or, refl, sym, ◌∙◌, ap, subst}
 use Rattle.std.specs.Prelude.{Option, Result, Ok, Err, codes, nat_eq, if◌then◌else◌}
 use Rattle.std.specs.Option.{MatchOption}
 use Rattle.std.specs.FinMap.{get}
 use Rattle.cf_base.specs.declared.answers.Handle.{Handle}
 use Rattle.cf_io.specs.Texts.{Reply, said}
 use Rattle.script_reader.specs.declared.command.Command.TheVariants as command
-use Rattle.slice_model.specs.Runs.{Event, Happens, Working, Malloc, Free}
+use Rattle.slice_model.specs.Runs.{Working, Malloc, Free}
 use Rattle.slice_model.specs.State.{Idle, Sliced}
 use Rattle.slice_model.specs.Steps.{IsFaultOf, IsRefusedBy}
 use Rattle.slice_model.specs.declared.answers.SliceFault.{SliceFault}

@@ -1,5 +1,5 @@
 -- A run over a sliced heap goes on after each command.
-use Rattle.std.proofs.Common.{◌≡◌, ℕ, List, Some, None, replicate, sym, ◌∙◌, ap, ap₂, refl, subst}
+use Rattle.std.proofs.Common.{◌≡◌, ℕ, List, Some, None, replicate, sym, ap₂, refl, subst}
 use Rattle.std.specs.Prelude.{IsTrue, Bool, Option, Result, Ok, Err, codes}
 use Rattle.std.specs.Option.{MatchOption}
 use Rattle.std.specs.FinMap.{get}
@@ -90,7 +90,8 @@ module _ (old new : SliceRun) (going : IsGoingSliced old) (reply : Reply) where
   writes h from bytes w = goes_on (Write (record { number = h; from = from }) bytes w.answer) w.does
       (by_answer w.answer (on_map (Write (record { number = h; from = from }) bytes w.answer) w.does))
     where
-      by_answer : (r : Option AccessFault) → HappensOnMap (live_in old) (Write (record { number = h; from = from }) bytes r) (live_in new) → AreTiedTo new.ids (live_in new)
+      by_answer : (r : Option AccessFault) → HappensOnMap (live_in old) (Write (record { number = h; from = from }) bytes r) (live_in new)
+          → AreTiedTo new.ids (live_in new)
       by_answer None (v, found, fits, is) = tied_by _ _ w.ids is (tied_same old.ids (live_in old) going.tied h v _ found)
       by_answer (Some e) (_, is) = tied_by _ _ w.ids is going.tied
 

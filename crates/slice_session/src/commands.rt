@@ -1,7 +1,7 @@
 //! The commands of a session over a sliced heap: each writes the text of its reply on the line.
-ghost use Rattle.std.specs.Prelude.{◌≡◌, ◌+◌, ◌*◌, ◌<◌, ◌≤◌, [], IsTrue, Err, Some, codes, length, slice_get};
+ghost use Rattle.std.specs.Prelude.{◌≡◌, ◌+◌, ◌*◌, ◌<◌, ◌≤◌, [], IsTrue, Err, Some, length, slice_get};
 ghost use Rattle.cf_io.specs.Lines.{line_room};
-ghost use Rattle.cf_io.specs.Texts.{said, with_number};
+ghost use Rattle.cf_io.specs.Texts.{said};
 ghost use Rattle.cf_model.specs.Costs.{access_bound};
 ghost use Rattle.run_model.specs.Replies.{peek_text, read_text};
 ghost use Rattle.script_reader.specs.declared.command.Command.TheVariants.{Malloc, Free, Slice, Write};
