@@ -1,0 +1,5 @@
+use Rattle.slice_session.proofs.Plays.{play_seen}
+use Rattle.slice_session.proofs.laws.plays_are_runs.Goals as goal
+
+pub returns : goal.returns
+returns c = play_seen
