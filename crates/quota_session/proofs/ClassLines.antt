@@ -104,9 +104,9 @@ module _ (s : QuotaState) (task : ℕ) where
       next ∙ ap (λ (g : Figures). appended x (led [] (class_if_live g))) is ∙ ap (appended x) (line_is c)
       ∙ ap (λ (o : Told). appended o (here c)) first ∙ appended_then w (below c) (here c) ∙ ap (appended w) (sym (below_more c))
 
-  pub pages_more : (c used pages : ℕ) (f : Figures) → f ≡ figures_of p held c → used ≡ sum_by (home_pages p held) (range_with_len 0 c)
+  pub pages_more : (c used : ℕ) (f : Figures) → f ≡ figures_of p held c → used ≡ sum_by (home_pages p held) (range_with_len 0 c)
       → used + f.pages ≡ sum_by (home_pages p held) (range_with_len 0 (c + 1))
-  pages_more c used pages f is so_far =
+  pages_more c used f is so_far =
       let a : sum_by (home_pages p held) (range_with_len 0 (c + 1)) ≡ sum_by (home_pages p held) (range_with_len 0 c ++ c ∷ []) =
       ap (sum_by (home_pages p held)) (one_class_more c) in
       let b = sum-append (home_pages p held) (range_with_len 0 c) c in
@@ -124,9 +124,9 @@ module _ (s : QuotaState) (task : ℕ) where
             ∙ led-append [] (class_lines s task (classes_below s task (c + 1))) _,
       )
 
-  pub class_cut : {T : Type 0} (c : ℕ) (f : Figures) (w x y : Told) (e : Failed) → c < classes p → f ≡ figures_of p held c → x ≡ appended w (below c)
+  pub class_cut : (T : Type 0) (c : ℕ) (f : Figures) (w x y : Told) (e : Failed) → c < classes p → f ≡ figures_of p held c → x ≡ appended w (below c)
       → Puts {T = Unit {0}} x (led [] (class_if_live f)) (Err e) y → Puts {T = T} w (below (classes p)) (Err e) y
-  class_cut c f w x y e lt is first cut =
+  class_cut T c f w x y e lt is first cut =
       let rest = rest_of c lt in
       let P : List ℕ → Type 0 = λ bytes. Puts {T = Unit {0}} w bytes (Err e) y in
       let Q : List ℕ → Type 0 = λ bytes. Puts {T = Unit {0}} x bytes (Err e) y in

@@ -22,7 +22,7 @@ use Rattle.session_model.specs.Applying.{Applies}
 use Rattle.session_model.specs.Ties.{AreTiedTo}
 use Rattle.quota_session.specs.Playing.{quota_tasks}
 use Rattle.quota_session.specs.QuotaRun.{AreTasksTied, HasSixteen, IsGoingQuotas, QuotaRun, QuotaStep, SetsQuota, StepsPresent, TaskSession, ids_of, needs_of, one_more}
-use Rattle.quota_session.specs.QuotaRun.{present_run, with_ids, with_need, with_present}
+use Rattle.quota_session.specs.QuotaRun.{present_run, quota_run, with_ids, with_need, with_present}
 use Rattle.quota_session.specs.TaskRun.{TaskRun, TaskStep, task_run}
 use Rattle.quota_session.proofs.TaskKept.{IsKept, task_kept}
 
@@ -129,3 +129,14 @@ module _ (old : QuotaRun) (going : IsGoingQuotas old) where
       → Applies quota_tasks (snapshot old w) c answer (snapshot new y) → IsGoingQuotas new
   applied_going new c w y (Ok outcome) formed a = still_going c a.0.reply new formed a.0.turns
   applied_going new c w y (Err e) formed a = still_going c a.turns.reply new formed a.turns.turn
+
+-- a session whose heap is open with these settings, as its record has it
+pub going_before : (p : Profile) (session view : TaskSession) (heap : QuotaState) → IsTrue heap.is_open → KeepsTasks heap → heap.profile ≡ p → session ≡ view
+    → HasSixteen session → AreTasksTied view heap → IsGoingQuotas (quota_run (Some p) session heap)
+going_before p session view heap opened rules profile is sixteen tied = record {
+  opened = opened;
+  settings = ap (λ q. Some q) (sym profile);
+  rules = rules;
+  sixteen = sixteen;
+  tied = subst (λ (s : TaskSession). AreTasksTied s heap) (sym is) tied;
+}

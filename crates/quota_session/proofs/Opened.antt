@@ -2,8 +2,7 @@
 use Rattle.std.proofs.Common.{◌≡◌, ℕ, ◌<◌, ◌≤◌, zero, suc, List, [], Some, length, get_or, replicate, arith, sym, ◌∙◌, ap, refl, subst, lit<}
 use Rattle.std.proofs.lemmas.List.{get_or-replicate, length-replicate}
 use Rattle.std.specs.FinMap.{empty}
-use Rattle.cf_base.specs.Settings.{Profile, profile_of}
-use Rattle.cf_base.specs.declared.settings.Settings.{Settings}
+use Rattle.cf_base.specs.Settings.{Profile}
 use Rattle.id_table.specs.Ids.{Ids}
 use Rattle.page_model.specs.Held.{objects}
 use Rattle.cf_lemmas.proofs.Values.{map_values-empty}
@@ -46,24 +45,23 @@ begins_going p s b = record {
       (subst (λ (t : TaskSession). AreTasksTied t (empty_state (at_bound_one p))) (sym b.session) (first_tied (at_bound_one p)));
 }
 
-module _ (session : TaskSession) (settings : Settings) (heap : QuotaState) (fresh : session ≡ first_session) (opened : heap ≡ empty_state (profile_of settings))
+module _ (session : TaskSession) (p : Profile) (heap : QuotaState) (fresh : session ≡ first_session) (opened : heap ≡ empty_state p)
     (rules : KeepsTasks heap) where
   -- with the settings of the line, at the bound 1
-  pub opened_begins : (line : Settings) → profile_of settings ≡ at_bound_one (profile_of line)
-      → BeginsQuotas (profile_of line) (quota_run (Some (profile_of settings)) session heap)
+  pub opened_begins : (line : Profile) → p ≡ at_bound_one line → BeginsQuotas line (quota_run (Some p) session heap)
   opened_begins line is = record {
-    settings = ap (λ p. Some p) is;
+    settings = ap (λ q. Some q) is;
     session = fresh;
     heap = opened ∙ ap empty_state is;
     rules = rules;
   }
 
-  pub opened_going : IsGoingQuotas (quota_run (Some (profile_of settings)) session heap)
+  pub opened_going : IsGoingQuotas (quota_run (Some p) session heap)
   opened_going = record {
     opened = rules.opened;
     settings = ap (λ (h : QuotaState). Some h.profile) (sym opened);
     rules = rules;
     sixteen = subst HasSixteen (sym fresh) first_sixteen;
     tied = subst (λ (h : QuotaState). AreTasksTied session h) (sym opened)
-        (subst (λ (t : TaskSession). AreTasksTied t (empty_state (profile_of settings))) (sym fresh) (first_tied (profile_of settings)));
+        (subst (λ (t : TaskSession). AreTasksTied t (empty_state p)) (sym fresh) (first_tied p));
   }

@@ -4,6 +4,7 @@ use Rattle.std.specs.Prelude.{Option, Result, Ok, Err, codes}
 use Rattle.std.specs.FinMap.{empty, get, len}
 use Rattle.std.proofs.lemmas.List.{set-get_or}
 use Rattle.hex.specs.Hex.{encode_lower}
+use Rattle.cf_base.specs.Settings.{Profile}
 use Rattle.cf_base.specs.declared.answers.AccessFault.{AccessFault}
 use Rattle.cf_base.specs.declared.answers.AccessFault.TheVariants as access
 use Rattle.cf_base.specs.declared.answers.Failed.{Failed}
@@ -31,12 +32,13 @@ use Rattle.script_reader.specs.declared.command.Command.{Command}
 use Rattle.script_reader.specs.declared.command.Command.TheVariants.{Walk}
 use Rattle.session_model.specs.Applying.{Applies, IsEndedAs, TurnsInPart}
 use Rattle.session_model.specs.Ties.{AreTiedTo}
-use Rattle.session_model.proofs.CallerLemmas.{reported}
+use Rattle.session_model.proofs.CallerLemmas.{clash, reported}
 use Rattle.transcript_laws.proofs.CallerLemmas.{by_id_counts}
 use Rattle.quota_session.specs.Layout.{totals_with}
 use Rattle.quota_session.specs.Playing.{quota_tasks}
-use Rattle.quota_session.specs.QuotaRun.{HasSixteen, QuotaRun, QuotaStep, TaskSession, ids_of, with_ids}
-use Rattle.quota_session.specs.TaskRun.{TaskRun, class_lines, task_classes, task_object, task_report, task_totals}
+use Rattle.quota_session.specs.QuotaRun.{QuotaRun, QuotaStep, StepsPresent, TaskSession, ids_of, quota_run, with_ids}
+use Rattle.quota_session.specs.TaskRun.{TaskRun, TaskStep, class_lines, task_classes, task_object, task_report, task_run, task_totals}
+use Rattle.quota_session.proofs.TaskKept.{bytes_by}
 
 -- a reply that was cut is told as the loop has it
 pub in_part : (old : QuotaRun) (c : Command) (out : List ℕ) (new : QuotaRun) → TurnsInPart QuotaStep old c out new → TurnsInPart QuotaStep old c out new
@@ -108,3 +110,19 @@ pub totals_are : (s : QuotaState) (task live used quota : ℕ) → live ≡ len 
     → quota ≡ quota_of s task → total_line (totals_with live used (quota - used)) ≡ total_line (task_totals s task)
 totals_are s task live used quota is so_many own =
     λ i. total_line (record (task_totals s task) { live = is i; used = so_many i; free = own i - so_many i })
+
+-- the handle of a live id is one of an object
+pub free_found : (s : QuotaState) (task : ℕ) (ids : Ids) (id h : ℕ) → AreTiedTo ids (objects_by s task) → Some h ≡ get ids id → get (held_by s task) h ≡ None → ⊥
+free_found s task ids id h tied live none =
+    let x = tied.named id h (sym live) in
+    clash (get (objects_by s task) h) x.0 x.1 (bytes_by s task h None none)
+
+-- a command of the present task is one of the session
+pub present_step : (old : TaskSession) (heap heap' : QuotaState) (x x' : Ids) (c : Command) (reply : Reply) → x ≡ ids_of old old.present
+    → TaskStep (task_run old.present x heap) c reply (task_run old.present x' heap') → (settings : Option Profile)
+    → StepsPresent (quota_run settings old heap) c reply (quota_run settings (with_ids old x') heap')
+present_step old heap heap' x x' c reply is step settings = record {
+  ids = x';
+  step = subst (λ (i : Ids). TaskStep (task_run old.present i heap) c reply (task_run old.present x' heap')) is step;
+  whole = refl;
+}

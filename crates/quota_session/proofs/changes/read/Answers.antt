@@ -11,14 +11,14 @@ returns-in_default-clause-text c = c.push_text.ensures ∙ ap (λ (l : List ℕ)
     ∙ sym (read_unknown (task_run c.args.task c.args.ids.now c.args.heap.now) c.args.id c.args.at (length c.args.room.now) c.in_default.ensures.found)
 
 pub unwrap-requires : goal.unwrap-requires
-unwrap-requires g c =
+unwrap-requires c =
     let few : length c.read.new.out ≤ 4096 = omega (arith, c.read.auto.out, c.requires.few) in
     let digits = length_in_hex c.read.new.out in
     let line : length c.push_text-in-Ok.new.line ≤ 9 = rw (c.push_text-in-Ok.ensures, length-append, c.requires.empty) (omega arith) in
     (pushed c.push_text-in-Ok.new.line (encode_lower c.read.new.out) _ c.push_hex.result c.push_hex.ensures (omega arith)).0
 
 pub returns-in-Ok-clause-text : goal.returns-in-Ok-clause-text
-returns-in-Ok-clause-text g c =
+returns-in-Ok-clause-text c =
     let few : length c.read.new.out ≤ 4096 = omega (arith, c.read.auto.out, c.requires.few) in
     let digits = length_in_hex c.read.new.out in
     let line : length c.push_text-in-Ok.new.line ≤ 9 = rw (c.push_text-in-Ok.ensures, length-append, c.requires.empty) (omega arith) in
@@ -29,7 +29,7 @@ returns-in-Ok-clause-text g c =
     c.in-Ok.ensures.answer)
 
 pub returns-in-Ok-clause-room : goal.returns-in-Ok-clause-room
-returns-in-Ok-clause-room g c =
+returns-in-Ok-clause-room c =
     let few : length c.read.new.out ≤ 4096 = omega (arith, c.read.auto.out, c.requires.few) in
     let digits = length_in_hex c.read.new.out in
     let line : length c.push_text-in-Ok.new.line ≤ 9 = rw (c.push_text-in-Ok.ensures, length-append, c.requires.empty) (omega arith) in

@@ -16,3 +16,7 @@ returns-in_default-clause-answers g c = told_line quota_tasks in_part
     (owned_command c.args.c)
     c.speak.new.line _ _ c.put_line.result c.outcome_of_text-outcome.result c.ended-in_default.result c.speak.ensures
     (c.outcome_of_text-outcome.ensures ∙ ap outcome_in c.bytes.ensures.value) c.put_line.ensures.puts c.ended-in_default.ensures
+
+pub returns-in-Walk-clause-answers : goal.returns-in-Walk-clause-answers
+returns-in-Walk-clause-answers g c = told_walk (quota_run (Some (profile_of c.args.s.now)) (session_of c.args.records.now) c.args.heap.now)
+    (owned_command c.args.c) _ _ c.walk-written.result c.ended.result (ap owned_command c.in-Walk.is) c.walk-written.ensures.puts c.ended.ensures
