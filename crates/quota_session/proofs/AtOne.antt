@@ -1,15 +1,14 @@
 -- What is told of a task follows from its objects by id.
-use Rattle.std.proofs.Common.{◌≡◌, ℕ, zero, suc, ◌+◌, ◌-◌, ◌*◌, ◌%◌, ◌<◌, ◌≤◌, List, [], ◌∷◌, Bool, true, false, cond, length, Some, None, Option, map, arith, sym, ◌∙◌, ap, refl, subst}
-use Rattle.std.specs.Prelude.{◌++◌, IsTrue, filter, nat_eq, nat_lt, not, slice_index}
+use Rattle.std.proofs.Common.{◌≡◌, ℕ, zero, suc, ◌+◌, ◌-◌, ◌*◌, ◌%◌, ◌<◌, ◌≤◌, List, ◌∷◌, Bool, true, false, cond, length, Some, None}
+use Rattle.std.proofs.Common.{map, arith, sym, ◌∙◌, ap, refl, subst}
+use Rattle.std.specs.Prelude.{◌++◌, filter, nat_eq, nat_lt, not, slice_index}
 use Rattle.std.specs.List.{range_with_len}
-use Rattle.std.specs.FinMap.{len}
 use Rattle.std.proofs.lemmas.Nat.{mod-mul-add}
 use Rattle.std.proofs.Math.Nat.{mul-mod_left}
 use Rattle.cf_base.specs.Classes.{need}
 use Rattle.cf_base.specs.Settings.{Profile}
-use Rattle.cf_base.specs.declared.answers.Refusal.{Refusal}
 use Rattle.cf_base.specs.declared.answers.Refusal.TheVariants as refusal
-use Rattle.cf_io.specs.Texts.{Reply, said}
+use Rattle.cf_io.specs.Texts.{said}
 use Rattle.cf_lemmas.proofs.Ranges.{one}
 use Rattle.cf_lemmas.proofs.Renaming.{CountAlike}
 use Rattle.cf_lemmas.proofs.Tests.{eq_no, eq_yes}
@@ -17,7 +16,7 @@ use Rattle.page_model.specs.Arrangement.{IsSound, home_pages, live, not_full_pag
 use Rattle.page_model.specs.Counts.{Stand, ceil_div}
 use Rattle.page_model.specs.Figures.{figures_of}
 use Rattle.page_model.specs.Held.{Held, Objects, objects}
-use Rattle.page_model.specs.Paging.{AreOne, IsPaging, Paging, class_for, classes, slots_of, slot_words}
+use Rattle.page_model.specs.Paging.{IsPaging, Paging, class_for, classes, slots_of, slot_words}
 use Rattle.page_model.proofs.CallerLemmas.{can_hold_one, slots_some, sound_stand, sum_same, used_at_one}
 use Rattle.quota_heap.specs.State.{KeepsTasks, QuotaState, held_by, objects_by, quota_of}
 use Rattle.quota_laws.specs.Tasks.{Tasks, own_heap}
@@ -25,7 +24,7 @@ use Rattle.quota_model.specs.Refusals.{malloc_refusal, task_paging}
 use Rattle.quota_model.proofs.CallerLemmas.{tasks_at_one, tasks_paged}
 use Rattle.run_model.specs.Reports.{class_line, total_line}
 use Rattle.transcript_laws.specs.AtOne.{classes_in_use, figures_at_one, part_pages, totals_at_one, walk_at_one}
-use Rattle.transcript_laws.specs.ById.{ById, paging_by_id}
+use Rattle.transcript_laws.specs.ById.{paging_by_id}
 use Rattle.transcript_laws.specs.Replies.{malloc_fault}
 use Rattle.quota_session.specs.Layout.{totals_with}
 use Rattle.quota_session.specs.TaskRun.{class_lines, task_classes, task_report, task_totals}
@@ -144,7 +143,7 @@ module _ (s : QuotaState) (rules : KeepsTasks s) (task : ℕ) (all : ℕ → Obj
     figures_are : figures_of p m c ≡ figures_at_one p o c
     figures_are =
         (λ i. record { slot_words = slot_words p c; slots = slots_of p c; live = live p (objects m) c; pages = home_is i; not_full = not_full_is i })
-        ∙ ap (λ k. record { slot_words = slot_words p c; slots = slots_of p c; live = k; pages = ceil_div k (slots_of p c); not_full = part_pages k (slots_of p c) })
+        ∙ ap (λ k. record (figures_at_one p o c) { live = k; pages = ceil_div k (slots_of p c); not_full = part_pages k (slots_of p c) })
         (sym (live_alike p (objects m) o a c))
 
   used_is : used_pages p m ≡ pages_needed p o

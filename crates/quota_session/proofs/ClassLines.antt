@@ -1,16 +1,16 @@
 -- The lines of the classes of a task, one class more, and the pages of these classes.
-use Rattle.std.proofs.Common.{◌≡◌, ◌∙◌, ℕ, zero, suc, ◌+◌, ◌-◌, ◌<◌, ◌≤◌, ◌++◌, List, [], ◌∷◌, Bool, true, false, cond, Option, Some, None, ap, sym, subst, refl, arith, inl, inr, append-nil}
+use Rattle.std.proofs.Common.{◌≡◌, ◌∙◌, ℕ, zero, suc, ◌+◌, ◌-◌, ◌<◌, ◌≤◌, ◌++◌, List, [], ◌∷◌, Bool, true, false, cond, Option, Some, None, ap, sym}
+use Rattle.std.proofs.Common.{subst, refl, arith, inl, inr}
 use Rattle.std.proofs.lemmas.Bool.{cases_lt}
 use Rattle.std.proofs.lemmas.List.{map-append}
 use Rattle.std.proofs.lemmas.List.Elements.{filter-append}
 use Rattle.std.proofs.lemmas.List.Sums.{sum_by-cons}
-use Rattle.std.specs.Prelude.{IsTrue, Result, Ok, Err, filter, map, not, nat_eq, sum_by}
+use Rattle.std.specs.Prelude.{Result, Err, filter, not, nat_eq, sum_by}
 use Rattle.std.specs.List.{range_with_len}
 use Rattle.cf_base.specs.declared.answers.Failed.{Failed}
 use Rattle.cf_base.specs.declared.answers.Figures.{Figures}
-use Rattle.cf_base.specs.declared.answers.Totals.{Totals}
 use Rattle.cf_io.specs.Feeds.{appended, Puts}
-use Rattle.cf_io.specs.Texts.{Reply, led, said}
+use Rattle.cf_io.specs.Texts.{led, said}
 use Rattle.cf_io.proofs.CallerLemmas.{appended_then, led-append, puts_cut, puts_then}
 use Rattle.cf_lemmas.proofs.Tests.{lt_no, lt_yes}
 use Rattle.page_model.specs.Arrangement.{home_pages, live, used_pages}

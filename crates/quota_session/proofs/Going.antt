@@ -1,6 +1,7 @@
 -- A run over tasks with quotas goes on after each command.
-use Rattle.std.proofs.Common.{◌≡◌, ◌≢◌, ℕ, ◌+◌, ◌<◌, ◌≤◌, List, [], ◌∷◌, ◌++◌, Some, None, Bool, true, false, cond, length, get_or, set, arith, sym, ◌∙◌, ap, refl, subst, inl, inr}
-use Rattle.std.specs.Prelude.{IsTrue, Option, Result, Ok, Err, nat_lt}
+use Rattle.std.proofs.Common.{◌≡◌, ◌≢◌, ℕ, ◌<◌, ◌≤◌, List, [], ◌∷◌, ◌++◌, Some, cond, length, arith, sym}
+use Rattle.std.proofs.Common.{◌∙◌, ap, subst, inl, inr}
+use Rattle.std.specs.Prelude.{IsTrue, Option, Result, Ok, Err}
 use Rattle.std.specs.FinMap.{empty}
 use Rattle.std.proofs.lemmas.Bool.{cases_eq, cases_lt}
 use Rattle.std.proofs.lemmas.List.{get_or-set_same, get_or-set_other, length-set, length-append}
@@ -12,7 +13,6 @@ use Rattle.cf_session.specs.declared.outcome.Outcome.{Outcome}
 use Rattle.id_table.specs.Ids.{Ids}
 use Rattle.page_model.specs.Held.{Objects}
 use Rattle.quota_heap.specs.State.{KeepsTasks, QuotaState, objects_by}
-use Rattle.quota_laws.specs.Tasks.{quotas_after}
 use Rattle.quota_model.specs.declared.answers.Need.{Need}
 use Rattle.script_loop.specs.Semantics.{snapshot}
 use Rattle.script_reader.specs.Commands.{IsWellFormed}
@@ -21,8 +21,9 @@ use Rattle.script_reader.specs.declared.command.Command.TheVariants as command
 use Rattle.session_model.specs.Applying.{Applies}
 use Rattle.session_model.specs.Ties.{AreTiedTo}
 use Rattle.quota_session.specs.Playing.{quota_tasks}
-use Rattle.quota_session.specs.QuotaRun.{AreTasksTied, HasSixteen, IsGoingQuotas, QuotaRun, QuotaStep, SetsQuota, StepsPresent, TaskSession, ids_of, needs_of, one_more}
-use Rattle.quota_session.specs.QuotaRun.{present_run, quota_run, with_ids, with_need, with_present}
+use Rattle.quota_session.specs.QuotaRun.{AreTasksTied, HasSixteen, IsGoingQuotas, QuotaRun, QuotaStep, SetsQuota, StepsPresent, TaskSession, ids_of}
+use Rattle.quota_session.specs.QuotaRun.{needs_of, one_more}
+use Rattle.quota_session.specs.QuotaRun.{present_run, quota_run, with_ids, with_need}
 use Rattle.quota_session.specs.TaskRun.{TaskRun, TaskStep, task_run}
 use Rattle.quota_session.proofs.TaskKept.{IsKept, task_kept}
 

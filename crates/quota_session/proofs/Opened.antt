@@ -1,6 +1,6 @@
 -- A run over tasks with quotas begins.
-use Rattle.std.proofs.Common.{◌≡◌, ℕ, ◌<◌, ◌≤◌, zero, suc, List, [], Some, length, get_or, replicate, arith, sym, ◌∙◌, ap, refl, subst, lit<}
-use Rattle.std.proofs.lemmas.List.{get_or-replicate, length-replicate}
+use Rattle.std.proofs.Common.{◌≡◌, ℕ, zero, suc, List, [], Some, length, get_or, replicate, arith, sym, ◌∙◌, ap, refl, subst, lit<}
+use Rattle.std.proofs.lemmas.List.{length-replicate}
 use Rattle.std.specs.FinMap.{empty}
 use Rattle.cf_base.specs.Settings.{Profile}
 use Rattle.id_table.specs.Ids.{Ids}
@@ -9,10 +9,9 @@ use Rattle.cf_lemmas.proofs.Values.{map_values-empty}
 use Rattle.quota_heap.specs.State.{KeepsTasks, QuotaState, empty_state, objects_by}
 use Rattle.quota_model.specs.declared.answers.Need.{Need}
 use Rattle.quota_model.proofs.CallerLemmas.{no_part}
-use Rattle.session_model.specs.Ties.{AreTiedTo}
 use Rattle.session_model.proofs.CallerLemmas.{none_tied}
 use Rattle.quota_session.specs.Playing.{BeginsQuotas, at_bound_one}
-use Rattle.quota_session.specs.QuotaRun.{AreTasksTied, HasSixteen, IsGoingQuotas, QuotaRun, TaskSession, first_session, ids_of, needs_of, quota_run}
+use Rattle.quota_session.specs.QuotaRun.{AreTasksTied, HasSixteen, IsGoingQuotas, QuotaRun, TaskSession, first_session, ids_of, quota_run}
 
 -- every one of so many values is the default
 pub all_same : {X : Type 0} (n i : ℕ) (x : X) → get_or (replicate n x) i x ≡ x

@@ -1,6 +1,6 @@
 -- A call of the present task is answered from its own objects by id, and changes no others.
-use Rattle.std.proofs.Common.{◌≡◌, ◌≢◌, ℕ, ◌+◌, ◌<◌, ◌≤◌, List, Some, None, true, false, length, replicate, arith, sym, ◌∙◌, ap, refl, subst, inl, inr}
-use Rattle.std.specs.Prelude.{Option, option_map, Result, Ok, Err, codes, slice_index}
+use Rattle.std.proofs.Common.{◌≡◌, ℕ, ◌+◌, ◌<◌, ◌≤◌, List, Some, None, length, replicate, sym, ◌∙◌, ap, refl, subst, inl, inr}
+use Rattle.std.specs.Prelude.{Option, option_map, Result, Ok, Err, codes}
 use Rattle.std.specs.Option.{MatchOption}
 use Rattle.std.proofs.lemmas.Bool.{cases_eq}
 use Rattle.std.specs.FinMap.{get, insert, remove}
@@ -12,12 +12,10 @@ use Rattle.cf_io.specs.Texts.{Reply, said}
 use Rattle.cf_lemmas.proofs.Maps.{equal_maps, get_remove_other, get_removed}
 use Rattle.cf_lemmas.proofs.Renaming.{CountAlike}
 use Rattle.cf_lemmas.proofs.Tests.{le_no, le_yes}
-use Rattle.cf_model.specs.Steps.{Part}
-use Rattle.id_table.specs.Ids.{Ids}
 use Rattle.page_model.specs.Bytes.{written}
 use Rattle.page_model.specs.Held.{Objects, Placed}
-use Rattle.quota_heap.specs.State.{KeepsTasks, QuotaState, held_by, objects_by, quota_of}
-use Rattle.quota_heap.specs.Steps.{IsFault, IsMallocStep, IsWriteStep}
+use Rattle.quota_heap.specs.State.{KeepsTasks, held_by, objects_by, quota_of}
+use Rattle.quota_heap.specs.Steps.{IsMallocStep, IsWriteStep}
 use Rattle.quota_laws.specs.Tasks.{Tasks, own_heap, task_leaves, task_reply}
 use Rattle.quota_model.specs.Refusals.{malloc_refusal}
 use Rattle.run_model.specs.Replies.{malloc_text, read_text, write_text}
@@ -29,9 +27,10 @@ use Rattle.session_model.specs.Ties.{AreTiedTo}
 use Rattle.session_model.proofs.CallerLemmas.{clash}
 use Rattle.transcript_laws.specs.ById.{ById}
 use Rattle.transcript_laws.specs.Histories.{objects_by_id}
-use Rattle.transcript_laws.specs.Replies.{free_said, malloc_fault, malloc_leaves, malloc_said, ok_or, put_unless, read_said, write_fault, write_leaves, write_said}
+use Rattle.transcript_laws.specs.Replies.{free_said, malloc_fault, malloc_leaves, malloc_said, ok_or, put_unless, read_said, write_fault}
+use Rattle.transcript_laws.specs.Replies.{write_leaves, write_said}
 use Rattle.transcript_laws.proofs.CallerLemmas.{by_id_changed, by_id_counts, by_id_given, by_id_gone, gone_by_id, live_by_id}
-use Rattle.quota_session.specs.TaskRun.{FreesIdOfTask, MallocsForTask, StaysTask, TaskRun, TaskStep, WritesIdOfTask, task_object, task_run}
+use Rattle.quota_session.specs.TaskRun.{FreesIdOfTask, MallocsForTask, StaysTask, TaskRun, TaskStep, WritesIdOfTask, task_object}
 use Rattle.quota_session.proofs.AtOne.{fault_is, refusal_alike, walk_is}
 use Rattle.quota_session.proofs.TaskKept.{bytes_by, freed_objects, given_objects, given_unused, written_found, written_objects}
 
@@ -180,7 +179,8 @@ module _ (old new : TaskRun) (rules : KeepsTasks old.heap) (tied : AreTiedTo old
     where
       go : (o : Option ℕ) → get old.ids id ≡ o → MatchOption o (StaysTask old (codes "unknown") reply new) (λ k. FreesIdOfTask old id k reply new)
           → IsTold (command.Free id)
-      go None free s = stays (command.Free id) s.1 (s.0 ∙ ap (λ o. said (free_said o)) (sym (gone id free))) (sym (remove_none (all old.task) id (gone id free)))
+      go None free s = stays (command.Free id) s.1 (s.0 ∙ ap (λ o. said (free_said o)) (sym (gone id free)))
+          (sym (remove_none (all old.task) id (gone id free)))
       go (Some k) named f = frees id k named f
   told (command.Write id at bytes) step = go (get old.ids id) refl step
     where

@@ -1,37 +1,38 @@
 -- The replies to a task in a script are those that its calls get on the tasks by id, so no other task is seen in them.
-use Rattle.std.proofs.Common.{◌≡◌, ◌≢◌, ℕ, ◌<◌, ◌≤◌, List, [], ◌∷◌, Some, None, Bool, true, false, cond, length, replicate, arith, sym, ◌∙◌, ap, refl, subst, inl, inr}
-use Rattle.std.specs.Prelude.{⊤, Option, ◌&&◌, map, nat_eq, nat_lt, not, slice_index, slice_set, sum}
+use Rattle.std.proofs.Common.{◌≡◌, ℕ, ◌<◌, ◌≤◌, List, [], ◌∷◌, Some, None, Bool, true, false, cond, arith, sym, ◌∙◌, ap, refl}
+use Rattle.std.proofs.Common.{subst, inl, inr}
+use Rattle.std.specs.Prelude.{Option, ◌&&◌, map, nat_eq, nat_lt, not, slice_set, sum}
 use Rattle.std.proofs.lemmas.Bool.{cases_eq}
 use Rattle.std.specs.Ordering.{nat_cmp}
-use Rattle.std.specs.FinMap.{empty, get, get-empty}
+use Rattle.std.specs.FinMap.{empty, get-empty}
 use Rattle.cf_base.specs.Settings.{Profile}
-use Rattle.cf_io.specs.Texts.{Reply, said}
+use Rattle.cf_io.specs.Texts.{Reply}
 use Rattle.cf_lemmas.proofs.Maps.{equal_maps}
 use Rattle.cf_lemmas.proofs.Renaming.{CountAlike}
 use Rattle.cf_lemmas.proofs.Tests.{eq_no, eq_yes}
 use Rattle.id_table.specs.Ids.{Ids}
 use Rattle.page_model.specs.Held.{Objects}
-use Rattle.quota_heap.specs.State.{QuotaState, empty_state, objects_by}
+use Rattle.quota_heap.specs.State.{empty_state, objects_by}
 use Rattle.quota_laws.specs.Runs.{is_accepted, own_items, replies_to}
-use Rattle.quota_laws.specs.Tasks.{TaskItem, Tasks, after_item, calls, is_for_task, no_tasks, quotas_after, set_refusal, sets, task_leaves, task_reply}
+use Rattle.quota_laws.specs.Tasks.{Tasks, after_item, calls, is_for_task, no_tasks, quotas_after, set_refusal, sets, task_leaves, task_reply}
 use Rattle.quota_laws.proofs.Alone.{same_reply}
 use Rattle.quota_laws.proofs.Isolated.{isolated_from_nothing}
-use Rattle.quota_model.specs.Refusals.{quota_refusal, task_paging}
+use Rattle.quota_model.specs.Refusals.{task_paging}
 use Rattle.quota_model.specs.declared.answers.QuotaFault.{QuotaFault}
 use Rattle.quota_model.specs.declared.answers.QuotaFault.TheVariants.{Sum, Used}
 use Rattle.run_laws.specs.Sayable.{IsSayable}
-use Rattle.run_model.specs.Plays.{PlayRun}
 use Rattle.run_model.proofs.CallerLemmas.{AreNames}
-use Rattle.script_reader.specs.Items.{Item, asks, starts}
+use Rattle.script_reader.specs.Items.{asks}
 use Rattle.script_reader.specs.declared.command.Command.{Command}
 use Rattle.script_reader.specs.declared.command.Command.TheVariants as command
 use Rattle.transcript_laws.specs.Histories.{objects_by_id}
 use Rattle.transcript_laws.proofs.CallerLemmas.{by_id_counts, gone_by_id}
-use Rattle.quota_session.specs.Alone.{AreAlikeFor, CanBeSaid, after_if, is_call_of, is_left_out, item_before, item_of, own_commands, present_after}
+use Rattle.quota_session.specs.Alone.{AreAlikeFor, CanBeSaid, after_if, is_left_out, item_of, own_commands, present_after}
 use Rattle.quota_session.specs.Alone.{replies_of, script_of, task_items, tasks_of}
-use Rattle.quota_session.specs.Playing.{BeginsAtOne, BeginsQuotas, RunsQuotas, at_bound_one}
-use Rattle.quota_session.specs.QuotaRun.{IsGoingQuotas, QuotaRun, QuotaStep, SetsQuota, StepsPresent, TaskSession, first_session, ids_of, present_run, quota_fault, with_ids}
-use Rattle.quota_session.specs.TaskRun.{TaskRun, TaskStep, task_run}
+use Rattle.quota_session.specs.Playing.{BeginsQuotas, RunsQuotas, at_bound_one}
+use Rattle.quota_session.specs.QuotaRun.{IsGoingQuotas, QuotaRun, QuotaStep, SetsQuota, StepsPresent, TaskSession, ids_of, present_run}
+use Rattle.quota_session.specs.QuotaRun.{quota_fault, with_ids}
+use Rattle.quota_session.specs.TaskRun.{TaskRun, task_run}
 use Rattle.quota_session.proofs.AtOne.{needed_alike}
 use Rattle.quota_session.proofs.Going.{ids_here, ids_there, present_kept, still_going}
 use Rattle.quota_session.proofs.Opened.{all_same, begins_going}
@@ -88,7 +89,8 @@ module _ (old : QuotaRun) (going : IsGoingQuotas old) where
   fault_same task pages lt = λ i. cond (nat_lt old.heap.profile.pages (sum (slice_set old.heap.quotas task pages))) (Some Sum)
       (cond (nat_lt pages (sym (needed_alike (task_paging old.heap.profile) (objects_by old.heap task) (t.objects task) (counts task lt)) i)) (Some Used) None)
 
-  quota_after : (task pages : ℕ) (reply : Reply) (new : QuotaRun) → task < 16 → SetsQuota old task pages reply new → tasks_of new ≡ after_item t (sets task pages)
+  quota_after : (task pages : ℕ) (reply : Reply) (new : QuotaRun) → task < 16 → SetsQuota old task pages reply new
+      → tasks_of new ≡ after_item t (sets task pages)
   quota_after task pages reply new lt s = ap tasks_of s.whole
       ∙ ap (λ (f : Option QuotaFault). record t { quotas = quotas_after f old.heap.quotas task pages }) (fault_same task pages lt)
 

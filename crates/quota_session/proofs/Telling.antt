@@ -1,6 +1,6 @@
 -- What a command of a session over tasks did and told, put together.
-use Rattle.std.proofs.Common.{◌≡◌, ◌∙◌, ℕ, ◌+◌, ◌-◌, ◌<◌, ◌≤◌, ◌++◌, List, [], ◌∷◌, Some, None, cond, length, take, drop, map, ap, refl, sym, subst}
-use Rattle.std.specs.Prelude.{Option, Result, Ok, Err, codes}
+use Rattle.std.proofs.Common.{◌≡◌, ◌∙◌, ℕ, ◌+◌, ◌-◌, ◌<◌, ◌≤◌, ◌++◌, List, [], ◌∷◌, Some, None, length, take, drop, ap, refl, sym, subst}
+use Rattle.std.specs.Prelude.{Option, Result, Err, codes}
 use Rattle.std.specs.FinMap.{empty, get, len}
 use Rattle.std.proofs.lemmas.List.{set-get_or}
 use Rattle.hex.specs.Hex.{encode_lower}
@@ -8,8 +8,6 @@ use Rattle.cf_base.specs.Settings.{Profile}
 use Rattle.cf_base.specs.declared.answers.AccessFault.{AccessFault}
 use Rattle.cf_base.specs.declared.answers.AccessFault.TheVariants as access
 use Rattle.cf_base.specs.declared.answers.Failed.{Failed}
-use Rattle.cf_base.specs.declared.answers.Figures.{Figures}
-use Rattle.cf_base.specs.declared.answers.Totals.{Totals}
 use Rattle.cf_io.specs.Feeds.{Puts}
 use Rattle.cf_io.specs.Texts.{Reply, led, said}
 use Rattle.cf_lemmas.proofs.Tests.{le_no, le_yes}
@@ -19,13 +17,12 @@ use Rattle.cf_session.specs.declared.outcome.Outcome.{Outcome}
 use Rattle.cf_session.specs.declared.outcome.Outcome.TheVariants.{Other}
 use Rattle.id_table.specs.Ids.{Ids}
 use Rattle.page_model.specs.Arrangement.{used_pages}
-use Rattle.page_model.specs.Figures.{figures_of}
 use Rattle.page_model.specs.Held.{Objects, Placed}
 use Rattle.quota_heap.specs.State.{QuotaState, held_by, objects_by, quota_of}
 use Rattle.quota_heap.specs.Steps.{IsFault, ReadsOfTask}
 use Rattle.quota_model.specs.Refusals.{task_paging}
 use Rattle.run_model.specs.Replies.{read_text, write_text}
-use Rattle.run_model.specs.Reports.{class_line, total_line}
+use Rattle.run_model.specs.Reports.{total_line}
 use Rattle.run_model.proofs.CallerLemmas.{AreNames}
 use Rattle.script_loop.specs.Semantics.{snapshot}
 use Rattle.script_reader.specs.declared.command.Command.{Command}
@@ -112,7 +109,8 @@ totals_are s task live used quota is so_many own =
     λ i. total_line (record (task_totals s task) { live = is i; used = so_many i; free = own i - so_many i })
 
 -- the handle of a live id is one of an object
-pub free_found : (s : QuotaState) (task : ℕ) (ids : Ids) (id h : ℕ) → AreTiedTo ids (objects_by s task) → Some h ≡ get ids id → get (held_by s task) h ≡ None → ⊥
+pub free_found : (s : QuotaState) (task : ℕ) (ids : Ids) (id h : ℕ) → AreTiedTo ids (objects_by s task) → Some h ≡ get ids id
+    → get (held_by s task) h ≡ None → ⊥
 free_found s task ids id h tied live none =
     let x = tied.named id h (sym live) in
     clash (get (objects_by s task) h) x.0 x.1 (bytes_by s task h None none)

@@ -1,5 +1,5 @@
 -- The tasks of a session by the ids of a script, and what a script is to one of them.
-use Rattle.std.specs.Prelude.{◌≡◌, ⊤, ℕ, Bool, true, false, ◌&&◌, List, [], ◌∷◌, Option, Some, None, if◌then◌else◌, map, nat_eq, not, slice_index}
+use Rattle.std.specs.Prelude.{◌≡◌, ⊤, ℕ, Bool, false, ◌&&◌, List, [], ◌∷◌, Option, Some, None, if◌then◌else◌, map, nat_eq, not}
 use Rattle.cf_base.specs.Settings.{Profile}
 use Rattle.cf_io.specs.Texts.{Reply}
 use Rattle.quota_heap.specs.State.{objects_by, quota_of}

@@ -1,6 +1,4 @@
-use Rattle.std.proofs.Common.{ℕ, ◌≡◌, ◌+◌, ◌≤◌, ◌∙◌, arith, rules}
-use Rattle.page_model.specs.Paging.{classes}
-use Rattle.quota_model.specs.Refusals.{task_paging}
+use Rattle.std.proofs.Common.{ℕ, ◌∙◌, arith, rules}
 use Rattle.quota_session.proofs.ClassLines.{all_pages, all_put, class_cut, class_past, class_put, class_there, few_classes, pages_more}
 use Rattle.quota_session.proofs.reports.put_classes.Goals as goal
 
