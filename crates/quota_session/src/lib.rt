@@ -1,0 +1,16 @@
+//! A session over a heap that tasks share: which task is present, the ids of each task's objects,
+//! what each task declared, and a script on all of them.
+#![tactic(auto)]
+
+mod changes;
+mod laws;
+mod needs;
+mod player;
+mod records;
+mod reports;
+mod session;
+mod tasks;
+
+pub use laws::{a_run_goes_on, a_task_is_answered_from_its_own, tasks_are_isolated_in_a_script};
+pub use player::{QuotaPlayer, run_quotas};
+pub use session::QuotaSession;
