@@ -74,7 +74,7 @@ mark_accepted : (bytes : List ℕ) → IsImage bytes → (take 4 bytes ≡ mark)
 unfolding decoded
 mark_accepted bytes is =
     let whole = first_whole (bytes_eq (take 4 bytes) mark) (pages_decoded (drop 4 bytes)) (record (unopened 0) { is_cut = nat_lt (length bytes) 4 }) 0 refl
-        is in
+    is in
     ((bytes_eq-Decides (take 4 bytes) mark).0 whole.0, whole.1)
 
 -- tests of the settings that hold
@@ -85,9 +85,12 @@ page_of : (pages n : ℕ) → is_page_of pages n ≡ true → (8 * (n / 8) ≡ n
 page_of pages n e =
     let size = first_true (is_page_bytes n) (nat_le (pages * n) 67108864) e in
     let whole_words : (n % 8 == 0) ≡ true = first_true (n % 8 == 0) (is_page_size (n / 8)) size in
-    let no_rest : n % 8 ≡ 0 = grind (arith, nat_tests) in
-    (omega arith, second_true (n % 8 == 0) (is_page_size (n / 8)) size, le_told (pages * n) 67108864
-        (second_true (is_page_bytes n) (nat_le (pages * n) 67108864) e))
+    let no_rest : n % 8 ≡ 0 = grind (arith, nat_tests) in (
+      omega arith,
+      second_true (n % 8 == 0) (is_page_size (n / 8)) size,
+      le_told (pages * n) 67108864
+          (second_true (is_page_bytes n) (nat_le (pages * n) 67108864) e),
+    )
 
 in_range : (pages n proxies : ℕ) → is_within 1 4096 pages ≡ true → is_page_of pages n ≡ true → is_within 1 65536 proxies ≡ true
     → AreInRange (profile_from pages n 1 proxies)
@@ -138,7 +141,7 @@ image_of_objects bytes b is =
         are = sym (take-append-drop 4 bytes) ∙ (λ i. m.0 i ++ (x.are
             ∙ (λ j. pages_are j ++ (y.are ∙ (λ k. page_is k ++ (z.are ∙ (λ l. proxies_are l ++ o.are l)) k)) j)) i)
             ∙ sym (joined mark (number_bytes w32 x.n) (number_bytes w32 (8 * (y.n / 8))) (number_bytes w32 z.n) (number_bytes w32 (len o.objects))
-                (entries_of (entries o.objects)));
+            (entries_of (entries o.objects)));
       },
     )
 

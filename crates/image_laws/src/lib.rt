@@ -1,8 +1,8 @@
-//! Which bytes are heap images: just those that are the image of some objects. The public function
-//! does nothing: its contract is a law of the definitions of `heap_image`.
+//! Which bytes are heap images: just those that are the image of some objects. The public functions
+//! do nothing: each one's contract is a law of the definitions of `heap_image`.
 #![tactic(auto)]
 
-ghost use Rattle.std.specs.Prelude.{◌≡◌, ◌↔◌, ℕ, List};
+ghost use Rattle.std.specs.Prelude.{◌≡◌, ◌↔◌, ◌++◌, ℕ, List, Some, false};
 ghost use Rattle.cf_base.specs.Settings.{Profile};
 ghost use Rattle.heap_image.specs.Decoded.{IsImage, decoded, whole};
 ghost use Rattle.image_laws.specs.Images.{IsImageOf};
@@ -22,3 +22,10 @@ pub fn only_images_are_read()
 {
     an_image_is_read_back();
 }
+
+/// Bytes that break a rule break it whatever follows: so where no rule is broken without the last
+/// byte of some bytes, none is by any fewer of them.
+pub fn a_broken_rule_stays_broken()
+    ensures { (bytes more : List ℕ) (at : ℕ) → (decoded bytes).broken ≡ Some at → (decoded bytes).is_cut ≡ false
+        → decoded (bytes ++ more) ≡ decoded bytes }
+{}
