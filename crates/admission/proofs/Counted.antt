@@ -64,7 +64,8 @@ module _ (t : Share) (is_page : IsTrue (is_page_size t.profile.page_words)) (nee
     here : class_for (task_paging t.profile) (get_or needs i d).bytes < classes (task_paging t.profile)
     here = class_fits (task_paging t.profile) (tasks_paged t.profile is_page) (get_or needs i d).bytes entry_fits
 
-    had_is : get_or counts class 0 ≡ count_of_class (task_paging t.profile) (in_order (take i needs)) (class_for (task_paging t.profile) (get_or needs i d).bytes)
+    had_is : get_or counts class 0 ≡ count_of_class (task_paging t.profile) (in_order (take i needs))
+        (class_for (task_paging t.profile) (get_or needs i d).bytes)
     had_is = ap (λ c. get_or counts c 0) is ∙ k.counts_are (class_for (task_paging t.profile) (get_or needs i d).bytes) here
 
     -- with the entry there are no more mallocs than proxies
@@ -138,7 +139,8 @@ module _ (t : Share) (is_page : IsTrue (is_page_size t.profile.page_words)) (nee
                   let e : count_of_class (task_paging t.profile) (in_order (take i needs) ++ replicate (get_or needs i d).count (get_or needs i d).bytes) c
                   ≡ count_of_class (task_paging t.profile) (in_order (take i needs) ++ replicate (get_or needs i d).count (get_or needs i d).bytes)
                   (class_for (task_paging t.profile) (get_or needs i d).bytes) =
-                  ap (count_of_class (task_paging t.profile) (in_order (take i needs) ++ replicate (get_or needs i d).count (get_or needs i d).bytes)) (same ∙ is) in
+                  ap (count_of_class (task_paging t.profile) (in_order (take i needs) ++ replicate (get_or needs i d).count (get_or needs i d).bytes)) (same
+                      ∙ is) in
                   let h = had_is in
                   omega arith)
               | inr other ↦ (

@@ -86,7 +86,8 @@ module _ (p : Paging) (ok : IsPaging p) (n : ℕ) (fits : need n ≤ p.page_word
 
   -- the pages of the class, and those of all classes
   pub ceil_within : ceil_div (count_of_class p pre (class_for p n)) (slots_of p (class_for p n)) ≤ pages_of p pre
-  ceil_within = sum_at_least (λ c. ceil_div (count_of_class p pre c) (slots_of p c)) 0 (classes p) (class_for p n) (omega arith) (let lt = there_is in omega arith)
+  ceil_within = sum_at_least (λ c. ceil_div (count_of_class p pre c) (slots_of p c)) 0 (classes p) (class_for p n) (omega arith)
+      (let lt = there_is in omega arith)
 
   -- so many more objects of these bytes change the pages of their class alone
   pub pages_with : (j : ℕ) → pages_of p (pre ++ replicate j n) + ceil_div (count_of_class p pre (class_for p n)) (slots_of p (class_for p n))
@@ -125,7 +126,8 @@ module _ (needs : List Need) (i : ℕ) (d : Need) (lt : i < length needs) where
       ∙ in_order-append (take i needs) (entry ∷ drop (suc i) needs)
 
   -- up to the malloc after j of the entry
-  pub take_within : (j : ℕ) → j ≤ entry.count → take (length (in_order (take i needs)) + j) (in_order needs) ≡ in_order (take i needs) ++ replicate j entry.bytes
+  pub take_within : (j : ℕ) → j ≤ entry.count → take (length (in_order (take i needs)) + j) (in_order needs)
+      ≡ in_order (take i needs) ++ replicate j entry.bytes
   take_within j le =
       let pre : List ℕ = in_order (take i needs) in
       let e : length (replicate {A = ℕ} entry.count entry.bytes) ≡ entry.count = length-replicate {A = ℕ} entry.count entry.bytes in

@@ -41,7 +41,8 @@ module _ (page count : ℕ) (table : List ℕ) (is_page : IsTrue (is_page_size p
       → IsFilled page (set table count size) (count + 1) next
   filled_next size next lt is f = go f.left f.enough f.made
     where
-      go : (left : ℕ) → page ≤ size + left → take count table ++ sizes_from left size page ≡ sizes page Words → IsFilled page (set table count size) (count + 1) next
+      go : (left : ℕ) → page ≤ size + left → take count table ++ sizes_from left size page ≡ sizes page Words
+          → IsFilled page (set table count size) (count + 1) next
       go zero enough made = absurd (omega arith)
       go (suc left) enough made = record {
         left = left;

@@ -1,5 +1,6 @@
 -- Decimal digits, one after the other.
-use Rattle.std.proofs.Common.{◌≡◌, ◌∙◌, ◌<◌, ◌≤◌, ◌+◌, ◌-◌, ◌*◌, ◌&&◌, if◌then◌else◌, nat_le, not, Bool, List, ℕ, None, Some, true, false, refl, ap, sym, take, length, get_or, arith, inl, inr}
+use Rattle.std.proofs.Common.{◌≡◌, ◌∙◌, ◌<◌, ◌≤◌, ◌+◌, ◌-◌, ◌*◌, ◌&&◌, if◌then◌else◌, nat_le, not, Bool, List, ℕ, None, Some, true, false, refl, ap, sym, take}
+use Rattle.std.proofs.Common.{length, get_or, arith, inl, inr}
 use Rattle.std.proofs.Common.{Option, min, option_map}
 use Rattle.std.proofs.Math.Bool.{and-false}
 use Rattle.std.specs.List.{list_all}
@@ -94,7 +95,8 @@ first_passes text i v within all value large =
 pub first_spell : (text : List ℕ) (i v : ℕ) → 0 < i → i ≤ length text → list_all is_digit (take i text) ≡ true
     → (i < length text → is_digit (get_or text i 0) ≡ false) → v ≡ digits_value 10 (take i text) → v ≤ 4294967295 → Some (v, i) ≡ leading_number text
 first_spell text i v some within all ends value fits =
-    let is : number_in (take i text) ≡ Some v = number_spelled (take i text) v (record { some = omega (arith, length-take i text); digits = all; value = value; bound = fits }) in
+    let is : number_in (take i text) ≡ Some v = number_spelled (take i text) v (record { some = omega (arith, length-take i text); digits = all; value =
+        value; bound = fits }) in
     rw (digits_end text i within all ends, is) refl
 
 -- no digit comes first
@@ -108,7 +110,8 @@ first_told text v n told = go (number_in (take (digits_first text) text)) refl t
     go : (o : Option ℕ) → number_in (take (digits_first text) text) ≡ o → ◌≡◌ {A = Option (ℕ × ℕ)} (Some (v, n)) (option_map (λ m. (m, digits_first text)) o)
         → (n ≡ digits_first text) × (number_in (take n text) ≡ Some v)
     go None is told = absurd cc
-    go (Some m) is told = let e : ◌≡◌ {A = ℕ × ℕ} (v, n) (m, digits_first text) = cc in (ap (λ p. p.1) e, rw (ap (λ p. p.1) e) (is ∙ ap Some (sym (ap (λ p. p.0) e))))
+    go (Some m) is told = let e : ◌≡◌ {A = ℕ × ℕ} (v, n) (m, digits_first text) = cc in
+        (ap (λ p. p.1) e, rw (ap (λ p. p.1) e) (is ∙ ap Some (sym (ap (λ p. p.0) e))))
 
 pub whole_none : (text : List ℕ) → None ≡ leading_number text → None ≡ number_in text
 whole_none text none = elim (cases_lt (digits_first text) (length text)) [

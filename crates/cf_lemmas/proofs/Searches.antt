@@ -69,7 +69,8 @@ module _ {V : Type 0} where
       ]) in
       rw e (let z = len-empty nat_cmp V in omega arith)
   few_keys (suc n) m below = elim (there_or_not m n) [
-    | inr none ↦ (let l = few_keys n m (λ h x there. (let b = below h x there in lower h b (λ is. (let z : Some x ≡ None = sym there ∙ ap (get m) is ∙ none in cc)))) in omega arith)
+    | inr none ↦ (let l = few_keys n m (λ h x there. (let b = below h x there in lower h b
+        (λ is. (let z : Some x ≡ None = sym there ∙ ap (get m) is ∙ none in cc)))) in omega arith)
     | inl (v, some) ↦ (
         let less = len_without m n v some in
         let l = few_keys n (remove m n) (λ h x there. (let was = some_removed m n h x there in let b = below h x was.1 in lower h b was.0)) in

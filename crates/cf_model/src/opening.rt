@@ -10,7 +10,8 @@ use cf_base::{OutOfMemory, Settings};
 /// open and empty, that one is closed, and those after it are as they were.
 pub fn open_all<H: Manager>(managers: &mut Vec<H>, s: &Settings) -> Result<(), OutOfMemory>
     ensures ok { OnOk result (Pairwise (λ old new. Opens s.now (H.state old) (H.state new)) managers.old.items managers.new.items) }
-    ensures err { OnErr result (Stops (λ old new. Opens s.now (H.state old) (H.state new)) (λ old new. IsClosed (H.state old) (H.state new)) managers.old.items managers.new.items) }
+    ensures err { OnErr result (Stops (λ old new. Opens s.now (H.state old) (H.state new))
+        (λ old new. IsClosed (H.state old) (H.state new)) managers.old.items managers.new.items) }
 {
     for i in 0..managers.len() {
         open_one(&mut managers[i], s)?;

@@ -1,5 +1,6 @@
 -- What a command that only looks writes on the line.
-use Rattle.std.proofs.Common.{◌≡◌, ◌∙◌, ◌<◌, ◌/◌, ◌%◌, ◌^◌, ◌++◌, ℕ, List, ◌∷◌, Option, Some, None, Err, option_map, length, nat_eq, false, refl, sym, ap, arith, lit<}
+use Rattle.std.proofs.Common.{◌≡◌, ◌∙◌, ◌<◌, ◌/◌, ◌%◌, ◌^◌, ◌++◌, ℕ, List, ◌∷◌, Option, Some, None, Err, option_map}
+use Rattle.std.proofs.Common.{length, nat_eq, false, refl, sym, ap, arith, lit<}
 use Rattle.std.specs.Prelude.{codes, slice_index}
 use Rattle.std.specs.Int.{byte_at, bytes_high_first}
 use Rattle.std.proofs.Math.Nat.{mod-lt}
@@ -62,7 +63,8 @@ digit_other d n rest is =
 bytes_other : (b : ℕ) (rest : List ℕ) → b < 256 → Other ≡ outcome_in (encode_lower (b ∷ rest))
 unfolding encode_with
 bytes_other b rest fits =
-    digit_other (slice_index lower_digits (b / 16)) (b / 16) (slice_index lower_digits (b % 16) ∷ encode_lower rest) (IsDigits-lower_digits (b / 16) (omega arith))
+    digit_other (slice_index lower_digits (b / 16)) (b / 16) (slice_index lower_digits (b % 16) ∷ encode_lower rest)
+        (IsDigits-lower_digits (b / 16) (omega arith))
 
 pub word_other : (v : ℕ) → Other ≡ outcome_in (word_text v)
 word_other v = bytes_other (byte_at 7 v) (bytes_high_first 7 v) (mod-lt (v / 256 ^ 7) {m = 256} (lit< tt))

@@ -57,7 +57,8 @@ pub told_walk : (old : LargeRun) (inner : HeapState) (c : Command) (w y : Told) 
     → inner ≡ old.heap.inner → Puts w (led [] (walk_of inner.kind inner)) r y → IsEndedAs r Other answer → Applies large_heap (at old w) c answer (at old y)
 told_walk old inner c w y r answer is same put told =
     subst (λ (k : Command). Applies large_heap (at old w) k answer (at old y)) (sym is)
-    (reported large_heap in_part old old Walk (walk_of old.heap.inner.kind old.heap.inner) w y r Other answer (refl, refl) (walk_other old.heap.inner.kind old.heap.inner)
+    (reported large_heap in_part old old Walk (walk_of old.heap.inner.kind old.heap.inner) w y r Other answer (refl, refl)
+    (walk_other old.heap.inner.kind old.heap.inner)
     (subst (λ (s : HeapState). Puts w (led [] (walk_of s.kind s)) r y) same put) told)
 
 pub told_frag : (old : LargeRun) (inner : HeapState) (c : Command) (w y : Told) (r : Result Unit Failed) (answer : Result Outcome Failed) → c ≡ Frag

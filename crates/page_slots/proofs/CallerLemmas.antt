@@ -16,7 +16,8 @@ use Rattle.page_model.specs.Paging.{Paging, IsPaging, bound_of, class_for, class
 use Rattle.page_model.specs.Arrangement.{class_at, objects_on, not_full_pages, standing_on, IsSlotAt, IsSound, LacksRoom}
 use Rattle.page_model.specs.Steps.{IsFreePlace, MayFill, MustMove, moved_to, without}
 use Rattle.page_model.proofs.CallerLemmas.{mover_is_other, removed_twice}
-use Rattle.page_slots.specs.Tables.{Tables, AreOthers, AreTables, IsOf, IsPageOf, IsPlaced, IsUsed, NoneElsewhere, KeepsElsewhere, slot_at, slots_on, tables, used_in}
+use Rattle.page_slots.specs.Tables.{Tables, AreOthers, AreTables, IsOf, IsPageOf, IsPlaced, IsUsed, NoneElsewhere}
+use Rattle.page_slots.specs.Tables.{KeepsElsewhere, slot_at, slots_on, tables, used_in}
 use Rattle.page_slots.specs.Taking.{TakesAt, TakesSlot}
 use Rattle.page_slots.specs.Freeing.{FillsFrom, IsFiller, MovesObject, Vacates}
 use Rattle.page_slots.specs.Occupying.{Occupies, Tell, TellPart, class_table}

@@ -9,7 +9,8 @@ use Rattle.class_lists.specs.declared.Which.{Which}
 use Rattle.class_lists.specs.declared.Which.TheVariants.{Full, NotFull}
 use Rattle.class_lists.specs.PageLists.{AreApart, pages_in}
 use Rattle.page_pool.specs.Pool.{IsPool, is_in_pool}
-use Rattle.page_slots.specs.Tables.{Tables, AreTables, IsOf, IsPlaced, IsPageOf, IsFreePage, IsElsewhere, NoneElsewhere, KeepsElsewhere, slots_in, slots_on, used_in}
+use Rattle.page_slots.specs.Tables.{Tables, AreTables, IsOf, IsPlaced, IsPageOf, IsFreePage, IsElsewhere, NoneElsewhere}
+use Rattle.page_slots.specs.Tables.{KeepsElsewhere, slots_in, slots_on, used_in}
 
 -- a page is as it was
 pub record IsSame (old new : Tables) (g : ℕ) : Type 0 where

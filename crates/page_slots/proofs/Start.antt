@@ -1,5 +1,6 @@
 -- The tables of a heap without objects: all pages are free.
-use Rattle.std.proofs.Common.{◌≡◌, ℕ, zero, suc, Bool, true, ◌+◌, ◌*◌, ◌^◌, ◌<◌, ◌≤◌, List, [], ◌∷◌, length, get_or, replicate, Some, None, arith, refl, sym, ◌∙◌, ap}
+use Rattle.std.proofs.Common.{◌≡◌, ℕ, zero, suc, Bool, true, ◌+◌, ◌*◌, ◌^◌, ◌<◌, ◌≤◌, List, [], ◌∷◌, length, get_or}
+use Rattle.std.proofs.Common.{replicate, Some, None, arith, refl, sym, ◌∙◌, ap}
 use Rattle.std.proofs.Common.{subst, inl, inr}
 use Rattle.std.specs.Prelude.{IsTrue, nat_eq}
 use Rattle.std.specs.List.{Contains, IsDistinct, range_with_len}
@@ -73,10 +74,12 @@ module _ (classes pages : ℕ) where
     classes = all;
     pool = pooled_range pages;
     lists = apart;
-    placed = λ page lt. inl (record { free = range_has 0 pages page (omega arith) (omega arith); unlisted = λ c w. none_listed c w page; unused = unused page });
+    placed = λ page lt. inl (record { free = range_has 0 pages page (omega arith) (omega arith); unlisted = λ c w. none_listed c w page; unused =
+        unused page });
   }
 
-  pub first_whole : (maps : List (List Bool)) → NoneElsewhere (tables maps (empty_lists classes pages) (record { pages = pages; free = range_with_len 0 pages }))
+  pub first_whole : (maps : List (List Bool)) → NoneElsewhere (tables maps (empty_lists classes pages)
+      (record { pages = pages; free = range_with_len 0 pages }))
   first_whole maps page lt e = true≢false (sym (range_has 0 pages page (omega arith) (omega arith)) ∙ e.taken)
 
   -- no object stands there

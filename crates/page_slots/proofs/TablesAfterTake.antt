@@ -14,7 +14,8 @@ use Rattle.class_lists.specs.PageLists.{PageLists, AreApart, pages_in}
 use Rattle.class_lists.proofs.CallerLemmas.{contains_head}
 use Rattle.page_pool.specs.Pool.{Pool, IsPool, TakesFront, is_in_pool}
 use Rattle.page_pool.proofs.CallerLemmas.{front_gone, front_below}
-use Rattle.page_slots.specs.Tables.{Tables, AreTables, IsOf, IsPageOf, IsFreePage, IsElsewhere, JoinsList, NoneElsewhere, KeepsElsewhere, slots_in, slots_on, used_in}
+use Rattle.page_slots.specs.Tables.{Tables, AreTables, IsOf, IsPageOf, IsFreePage, IsElsewhere, JoinsList, NoneElsewhere}
+use Rattle.page_slots.specs.Tables.{KeepsElsewhere, slots_in, slots_on, used_in}
 use Rattle.page_slots.specs.Taking.{FillsPage, TakesAt, TakesOnOpenPage, TakesOnFreePage}
 use Rattle.page_slots.proofs.Listing.{along, joined_here, joined_comes, joined_stays, joined_pages, joined_classes, left_comes, left_stays, left_pages}
 use Rattle.page_slots.proofs.Listing.{left_classes}

@@ -155,10 +155,12 @@ module _ (all : List (FinMap nat_cmp ℕ)) (small : AreNumbers all) (t : ℕ) (l
           | inr ne ↦ small t q b (sym (get_insert_other (places_at all t) h a q ne) ∙ f)
         ]) in
         get_by_key (set all t now) kept key ∙ elim (cases_eq (task_of key) t) [
-          | inl is ↦ ap (λ u. get (places_at (set all t now) u) (number_of key)) is ∙ ap (λ m. get m (number_of key)) (here now) ∙ elim (cases_eq (number_of key) h) [
+          | inl is ↦ ap (λ u. get (places_at (set all t now) u) (number_of key)) is ∙ ap (λ m. get m (number_of key)) (here now)
+              ∙ elim (cases_eq (number_of key) h) [
             | inl at ↦ (
                 let k : key ≡ key_of t h = omega arith in
-                ap (get now) at ∙ get_inserted (places_at all t) h a ∙ sym (ap (get (insert (joined all) (key_of t h) a)) k ∙ get_inserted (joined all) (key_of t h) a))
+                ap (get now) at ∙ get_inserted (places_at all t) h a ∙ sym (ap (get (insert (joined all) (key_of t h) a)) k
+                    ∙ get_inserted (joined all) (key_of t h) a))
             | inr ne ↦ get_insert_other (places_at all t) h a (number_of key) ne ∙ sym (ap (λ u. get (places_at all u) (number_of key)) is)
                 ∙ sym (get_by_key all small key) ∙ sym (get_insert_other (joined all) (key_of t h) a key (key_other key is ne))
           ]
@@ -174,7 +176,8 @@ module _ (all : List (FinMap nat_cmp ℕ)) (small : AreNumbers all) (t : ℕ) (l
           | inr ne ↦ small t q b (sym (get_remove_other (places_at all t) h q ne) ∙ f)
         ]) in
         get_by_key (set all t now) kept key ∙ elim (cases_eq (task_of key) t) [
-          | inl is ↦ ap (λ u. get (places_at (set all t now) u) (number_of key)) is ∙ ap (λ m. get m (number_of key)) (here now) ∙ elim (cases_eq (number_of key) h) [
+          | inl is ↦ ap (λ u. get (places_at (set all t now) u) (number_of key)) is ∙ ap (λ m. get m (number_of key)) (here now)
+              ∙ elim (cases_eq (number_of key) h) [
             | inl at ↦ (
                 let k : key ≡ key_of t h = omega arith in
                 ap (get now) at ∙ get_removed (places_at all t) h ∙ sym (ap (get (remove (joined all) (key_of t h))) k ∙ get_removed (joined all) (key_of t h)))
@@ -186,7 +189,8 @@ module _ (all : List (FinMap nat_cmp ℕ)) (small : AreNumbers all) (t : ℕ) (l
         ])
 
 -- a task's part of what stands at the addresses of all is what stands at its own
-pub part_joined : (words : List ℕ) (all : List (FinMap nat_cmp ℕ)) → AreNumbers all → (t : ℕ) → part_of (held_at words (joined all)) t ≡ held_at words (places_at all t)
+pub part_joined : (words : List ℕ) (all : List (FinMap nat_cmp ℕ)) → AreNumbers all → (t : ℕ)
+    → part_of (held_at words (joined all)) t ≡ held_at words (places_at all t)
 part_joined words all small t = equal_maps _ _ (λ q. elim (cases_lt q 65536) [
   | inl lt ↦ get_part (held_at words (joined all)) t q lt ∙ get-map_values f (joined all) (key_of t q) ∙ ap (option_map f) (get_joined all small t q lt)
       ∙ sym (get-map_values f (places_at all t) q)

@@ -13,7 +13,8 @@ use Rattle.page_model.specs.Image.{Clears, IsApartFrom, IsDisjoint, IsImage, IsO
 use Rattle.page_model.specs.Image.{slot_for, word_of_bytes}
 use Rattle.page_model.specs.Paging.{class_for, slot_words}
 use Rattle.page_model.specs.Steps.{MayFill, MustMove, Request, moved_to, zeros_at}
-use Rattle.page_model.proofs.CallerLemmas.{disjoint_outside, image_added, image_after_bytes, image_after_free, image_exchanged, mover_is_other, own_words, slot_inside}
+use Rattle.page_model.proofs.CallerLemmas.{disjoint_outside, image_added, image_after_bytes, image_after_free, image_exchanged}
+use Rattle.page_model.proofs.CallerLemmas.{mover_is_other, own_words, slot_inside}
 use Rattle.page_model.proofs.CallerLemmas.{sound_apart_from, within_or}
 use Rattle.quota_model.specs.Parts.{key_of, part_of}
 use Rattle.quota_model.specs.Refusals.{task_paging}

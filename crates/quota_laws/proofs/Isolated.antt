@@ -185,7 +185,8 @@ module _ (task : ℕ) (lt : task < 16) where
           → (IsOwn task (after_item all (sets u pages)) (after_item own (sets u pages))
           → replies_to task (after_item own (sets u pages)) (own_items task (after_item all (sets u pages)) rest)
           ≡ replies_to task (after_item all (sets u pages)) rest)
-          → replies_to task own (cond b (sets u pages ∷ own_items task (after_item all (sets u pages)) rest) (own_items task (after_item all (sets u pages)) rest))
+          → replies_to task own (cond b (sets u pages ∷ own_items task (after_item all (sets u pages)) rest)
+              (own_items task (after_item all (sets u pages)) rest))
           ≡ replies_to task (after_item all (sets u pages)) rest
       go false is out kept = out (left_set all own u pages (set_refusal all u pages) is o)
       go true is out kept = kept (kept_set is)
@@ -194,7 +195,8 @@ module _ (task : ℕ) (lt : task < 16) where
           first_yes true b e = (refl, e)
           first_yes false b e = absurd (let e' : false ≡ true = e in cc)
 
-          kept_set : (nat_eq u task && is_accepted (set_refusal all u pages)) ≡ true → IsOwn task (after_item all (sets u pages)) (after_item own (sets u pages))
+          kept_set : (nat_eq u task && is_accepted (set_refusal all u pages)) ≡ true
+              → IsOwn task (after_item all (sets u pages)) (after_item own (sets u pages))
           kept_set is = elim (cases_eq u task) [
             | inr ne ↦ absurd (let e : true ≡ false = sym (first_yes (nat_eq u task) _ is).0 ∙ eq_no u task ne in cc)
             | inl same ↦ (

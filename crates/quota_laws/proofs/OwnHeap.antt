@@ -9,7 +9,8 @@ use Rattle.quota_model.specs.declared.answers.QuotaFault.{QuotaFault}
 use Rattle.run_model.specs.Texts.{said}
 use Rattle.script_reader.specs.Items.{asks}
 use Rattle.script_reader.specs.declared.command.Command.{Command}
-use Rattle.script_reader.specs.declared.command.Command.TheVariants.{Malloc, Free, Write, Read, Walk, Place, Block, Peek, Frag, Steps, Bound, Resize, Slice, Task, Quota, Need, Admit}
+use Rattle.script_reader.specs.declared.command.Command.TheVariants.{Malloc, Free, Write, Read, Walk, Place, Block, Peek, Frag, Steps, Bound, Resize, Slice}
+use Rattle.script_reader.specs.declared.command.Command.TheVariants.{Task, Quota, Need, Admit}
 use Rattle.transcript_laws.specs.ById.{ById}
 use Rattle.transcript_laws.specs.Replies.{after_by_id, bounds_after, objects_after, reply_by_id}
 use Rattle.transcript_laws.specs.Transcripts.{replies_from}
@@ -63,7 +64,8 @@ module _ (task : ℕ) where
     where
       go : (r : Option QuotaFault) → own_heap (record s { quotas = quotas_after r s.quotas u pages }) task ≡ own_heap s task
       go (Some e) = refl
-      go None = ap (λ n. record (own_heap s task) { profile = record s.profile { pages = n; k = 1 } }) (get_or-set_other s.quotas u task pages 0 (λ e. ne (sym e)))
+      go None = ap (λ n. record (own_heap s task) { profile = record s.profile { pages = n; k = 1 } })
+          (get_or-set_other s.quotas u task pages 0 (λ e. ne (sym e)))
 
   pub as_alone : (items : List TaskItem) (s : Tasks) → LeaveQuota task items → AreAnswered task items
       → replies_to task s items ≡ replies_from Moving (Some (own_heap s task)) (commands_of task items)

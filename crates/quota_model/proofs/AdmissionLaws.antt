@@ -8,7 +8,8 @@ use Rattle.std.specs.Ordering.{nat_cmp}
 use Rattle.std.specs.FinMap.{empty, get-empty, len-empty}
 use Rattle.cf_lemmas.proofs.Values.{no_values}
 use Rattle.page_model.specs.Paging.{Paging, class_for}
-use Rattle.quota_model.specs.Admission.{CanBeAsked, IsAdmission, IsEnough, Share, count_of_class, first_large, first_short, in_order, live_of, mallocs, pages_of}
+use Rattle.quota_model.specs.Admission.{CanBeAsked, IsAdmission, IsEnough, Share, count_of_class, first_large, first_short}
+use Rattle.quota_model.specs.Admission.{in_order, live_of, mallocs, pages_of}
 use Rattle.quota_model.specs.Refusals.{task_paging}
 use Rattle.quota_model.specs.declared.answers.Admission.{Admission}
 use Rattle.quota_model.specs.declared.answers.Admission.TheVariants.{Yes, No, Size, Proxies}

@@ -55,7 +55,8 @@ find_past task h (e ∷ es) le =
 module _ (m : Held) (task : ℕ) where
   pub get_part : (h : ℕ) → h < 65536 → get (part_of m task) h ≡ get m (key_of task h)
   unfolding part_of
-  get_part h lt = get-from_entries nat_cmp_total (renumbered (of_task task (entries m))) h ∙ find_part task h (entries m) lt ∙ sym (get-entries m (key_of task h))
+  get_part h lt = get-from_entries nat_cmp_total (renumbered (of_task task (entries m))) h ∙ find_part task h (entries m) lt
+      ∙ sym (get-entries m (key_of task h))
 
   pub get_part_past : (h : ℕ) → 65536 ≤ h → get (part_of m task) h ≡ None
   unfolding part_of

@@ -1,5 +1,6 @@
 -- Admission: what a task declares before it runs, and whether a quota is enough for it.
-use Rattle.std.specs.Prelude.{◌≡◌, ⊤, ℕ, Bool, true, false, ◌+◌, ◌<◌, ◌≤◌, ◌⊎◌, List, [], ◌∷◌, ◌++◌, Option, Some, None, IsSome, count_by, if◌then◌else◌, length, nat_eq, nat_lt}
+use Rattle.std.specs.Prelude.{◌≡◌, ⊤, ℕ, Bool, true, false, ◌+◌, ◌<◌, ◌≤◌, ◌⊎◌, List, [], ◌∷◌, ◌++◌, Option, Some, None, IsSome, count_by, if◌then◌else◌}
+use Rattle.std.specs.Prelude.{length, nat_eq, nat_lt}
 use Rattle.std.specs.Prelude.{position, replicate, sum_by}
 use Rattle.std.specs.FinMap.{empty, get, insert, remove, values}
 use Rattle.cf_base.specs.Classes.{need}

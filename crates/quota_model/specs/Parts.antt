@@ -17,4 +17,5 @@ number_of key = key % 65536
 
 -- the objects of a task, by their numbers there
 unfoldable pub part_of : Held → ℕ → Held
-part_of m task = from_entries {R = nat_cmp} (map (λ (e : ℕ × Placed). (number_of e.0, e.1)) (filter (λ (e : ℕ × Placed). nat_eq (task_of e.0) task) (entries m)))
+part_of m task = from_entries {R = nat_cmp} (map (λ (e : ℕ × Placed). (number_of e.0, e.1))
+    (filter (λ (e : ℕ × Placed). nat_eq (task_of e.0) task) (entries m)))

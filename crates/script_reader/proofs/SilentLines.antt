@@ -66,7 +66,8 @@ silent_gaps t h = go (nat_lt (gaps_in t) (length t)) refl h
         sym (ap (λ (ts : List (List ℕ)). says_nothing (tokens_say ts)) none)
 
 -- a line that is no comment says what its item is
-pub speaks : (word : List ℕ) (args : List (List ℕ)) → says_nothing (tokens_say (word ∷ args)) ≡ false → tokens_say (word ∷ args) ≡ item_or_wrong (item_in word args)
+pub speaks : (word : List ℕ) (args : List (List ℕ)) → says_nothing (tokens_say (word ∷ args)) ≡ false
+    → tokens_say (word ∷ args) ≡ item_or_wrong (item_in word args)
 speaks word args says = go (is_comment word) says
   where
     go : (b : Bool) → says_nothing (if b then nothing else item_or_wrong (item_in word args)) ≡ false

@@ -17,10 +17,13 @@ stand_beside plan ok s kept k is =
     subst (λ o. IsSound plan.paging (with_slot plan s.held o)) is kept.sound in
     let here = get_inserted s.held plan.proxies (stand_in plan.paging k) in
     record {
-      address = λ h x there. sound.own_place h x plan.proxies (stand_in plan.paging k) (beside h x there) here (λ e. other_than s.held plan.proxies h x none there (sym e));
-      class = λ h x there on. sound.one_class h x plan.proxies (stand_in plan.paging k) (beside h x there) here on ∙ stand_in_class plan.paging ok.paging k class;
+      address = λ h x there. sound.own_place h x plan.proxies (stand_in plan.paging k) (beside h x there) here
+          (λ e. other_than s.held plan.proxies h x none there (sym e));
+      class = λ h x there on. sound.one_class h x plan.proxies (stand_in plan.paging k) (beside h x there) here on
+          ∙ stand_in_class plan.paging ok.paging k class;
       others = λ c lt ne. (
-          let same = not_full-same plan.paging s.held (insert s.held plan.proxies (stand_in plan.paging k)) c (same_class plan ok s.held k none class sound c ne) in
+          let same = not_full-same plan.paging s.held (insert s.held plan.proxies (stand_in plan.paging k)) c
+              (same_class plan ok s.held k none class sound c ne) in
           let few = sound.few_not_full c lt in
           let o = ok.ones c lt in
           omega arith);

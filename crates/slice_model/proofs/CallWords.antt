@@ -1,5 +1,6 @@
 -- The words after each call, and the bytes that are read from them.
-use Rattle.std.proofs.Common.{◌≡◌, ◌≢◌, ℕ, zero, suc, ◌+◌, ◌-◌, ◌*◌, ◌/◌, ◌%◌, ◌<◌, ◌≤◌, List, Option, Some, None, length, get_or, replicate, take, drop, arith, sym, ◌∙◌, ap, refl, subst, inl, inr, length-drop}
+use Rattle.std.proofs.Common.{◌≡◌, ◌≢◌, ℕ, zero, suc, ◌+◌, ◌-◌, ◌*◌, ◌/◌, ◌%◌, ◌<◌, ◌≤◌, List, Option, Some, None, length, get_or, replicate, take, drop, arith}
+use Rattle.std.proofs.Common.{sym, ◌∙◌, ap, refl, subst, inl, inr, length-drop}
 use Rattle.std.specs.Prelude.{◌⊎◌, min}
 use Rattle.std.proofs.lemmas.Bool.{cases_eq, cases_lt}
 use Rattle.std.proofs.lemmas.List.{length-take, length-replicate, drop-replicate, get_or-take, get_or-drop}
@@ -14,7 +15,8 @@ use Rattle.page_model.specs.Held.{Held, Placed}
 use Rattle.page_model.specs.Image.{IsDisjoint, IsOutside, Rewrites, header_word, object_word, slot_for, word_of_bytes}
 use Rattle.page_model.specs.Paging.{Paging, class_for, slot_words}
 use Rattle.page_model.specs.Steps.{Moves, Request, zeros_at}
-use Rattle.page_model.proofs.CallerLemmas.{within_or, disjoint_outside, byte_of_object, class_holds, mover_is_other, length-written, written_before, written_behind}
+use Rattle.page_model.proofs.CallerLemmas.{within_or, disjoint_outside, byte_of_object, class_holds, mover_is_other}
+use Rattle.page_model.proofs.CallerLemmas.{length-written, written_before, written_behind}
 use Rattle.slice_model.specs.State.{Plan, IsPlan, JobSlot, Job, Sliced, IsKept, IsJobOf, advanced, job_slot, Idle, Clear, Move}
 use Rattle.slice_model.specs.Steps.{Ends, GivesObject, GoesOn, IsDone, SliceOf, Vacates, done_after}
 use Rattle.slice_model.specs.Words.{HasWords, DoesWords, RewritesObject, byte_read, word_at}
@@ -25,7 +27,8 @@ use Rattle.slice_model.proofs.SliceWords.{carried, cleared, words_ended, words_t
 use Rattle.slice_model.proofs.Standing.{AreApart, kept_apart, not_done, not_outside, own_words_at, where_word, word_done, word_left, word_of_other}
 
 -- the object that a job carries is of the class of its slot
-pub mover_class : (p : Paging) (m : Held) (j : Job) → IsJobOf p m j → (k : JobSlot) (h : ℕ) (x : Placed) → j ≡ Move h k → get m h ≡ Some x → class_at p x ≡ k.class
+pub mover_class : (p : Paging) (m : Held) (j : Job) → IsJobOf p m j → (k : JobSlot) (h : ℕ) (x : Placed) → j ≡ Move h k → get m h ≡ Some x
+    → class_at p x ≡ k.class
 mover_class p m Idle is k h x e there = absurd (let e' : Idle ≡ Move h k = e in cc)
 mover_class p m (Clear g) is k h x e there = absurd (let e' : Clear g ≡ Move h k = e in cc)
 mover_class p m (Move q g) is k h x e there =

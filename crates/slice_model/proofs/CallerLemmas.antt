@@ -2,7 +2,8 @@
 pub use Rattle.slice_model.proofs.Slots.{less_where_vacant}
 pub use Rattle.slice_model.proofs.Occupied.{stand_in_class, no_stand_in, get_beside, some_beside, inserted_beside, job_class, beside, slot_class, slot_there}
 pub use Rattle.slice_model.proofs.Occupied.{on_more, place_is_free, free_is_place, lacking_is_no_place, no_place_is_lacking, place_or_none}
-pub use Rattle.slice_model.proofs.Keeping.{IsAlike, moved_away, changed_places, other_than, job_stays, slot_stays, kept_malloc, kept_write, kept_begun, kept_slice}
+pub use Rattle.slice_model.proofs.Keeping.{IsAlike, moved_away, changed_places, other_than, job_stays, slot_stays}
+pub use Rattle.slice_model.proofs.Keeping.{kept_malloc, kept_write, kept_begun, kept_slice}
 pub use Rattle.slice_model.proofs.Keeping.{kept_free, one_more, same_elsewhere, must_is_two, two_is_must, two_is_last, sound_without_slot}
 pub use Rattle.slice_model.proofs.RoomBeside.{over_is_no_place, place_is_within, idle_is_over, one_cause, given_or_refused, answered}
 pub use Rattle.slice_model.proofs.Standing.{AreApart, kept_apart, where_word, word_of_other, word_done, word_left, own_words_at, not_done, not_outside}

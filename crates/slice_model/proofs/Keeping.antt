@@ -13,7 +13,8 @@ use Rattle.page_model.specs.Arrangement.{IsSound, class_at, not_full_pages, obje
 use Rattle.page_model.specs.Held.{Held, Placed}
 use Rattle.page_model.specs.Paging.{Paging, bound_of, class_for, classes, page_of, slot_words, slots_of}
 use Rattle.page_model.specs.Steps.{Moves, MustMove, Request, zeros_at}
-use Rattle.page_model.proofs.CallerLemmas.{mover_is_other, objects_on-exchanged, objects_on-inserted, objects_on-elsewhere, part_full, part_yes, sound_exchanged, sound_placed, sound_without, on_yes, one_le}
+use Rattle.page_model.proofs.CallerLemmas.{mover_is_other, objects_on-exchanged, objects_on-inserted, objects_on-elsewhere, part_full, part_yes}
+use Rattle.page_model.proofs.CallerLemmas.{sound_exchanged, sound_placed, sound_without, on_yes, one_le}
 use Rattle.slice_model.specs.State.{Plan, IsPlan, JobSlot, Job, Sliced, IsJobOf, IsKept, advanced, job_slot, occupied, stand_in, with_slot, Idle, Clear, Move}
 use Rattle.slice_model.specs.Steps.{Ends, GivesObject, IsSlice, RemovesObject, SliceOf, Vacates, done_after, fresh_slot}
 use Rattle.slice_model.proofs.Occupied.{get_beside, inserted_beside, job_class, no_stand_in, place_is_free, stand_in_class}
@@ -135,7 +136,8 @@ module _ (p : Paging) (P : ℕ) where
         subst (IsAlike p (insert m P f)) third_map (alike_then p _ _ _ (alike_then p _ _ _ first second) third)
 
 -- a job stays one where its object stays of its class
-pub job_stays : (p : Paging) (m n : Held) (j : Job) → ((q : ℕ) (y : Placed) → get m q ≡ Some y → (z : Placed) × (get n q ≡ Some z) × (class_at p z ≡ class_at p y))
+pub job_stays : (p : Paging) (m n : Held) (j : Job) → ((q : ℕ) (y : Placed) → get m q ≡ Some y
+    → (z : Placed) × (get n q ≡ Some z) × (class_at p z ≡ class_at p y))
     → IsJobOf p m j → IsJobOf p n j
 job_stays p m n Idle stays is = tt
 job_stays p m n (Clear k) stays is = is
@@ -147,7 +149,8 @@ slot_stays plan m Idle d = refl
 slot_stays plan m (Clear k) d = refl
 slot_stays plan m (Move h k) d = refl
 
-job_goes_on : (p : Paging) (m : Held) (j : Job) (d : ℕ) → ((k : JobSlot) → job_slot j ≡ Some k → d < slot_words p k.class) → IsJobOf p m j → IsJobOf p m (advanced j d)
+job_goes_on : (p : Paging) (m : Held) (j : Job) (d : ℕ) → ((k : JobSlot) → job_slot j ≡ Some k → d < slot_words p k.class) → IsJobOf p m j
+    → IsJobOf p m (advanced j d)
 job_goes_on p m Idle d lt is = tt
 job_goes_on p m (Clear k) d lt is = record { class = is.class; under_way = lt k refl }
 job_goes_on p m (Move h k) d lt is = (record { class = is.0.class; under_way = lt k refl }, is.1)
@@ -254,7 +257,8 @@ module _ (plan : Plan) (ok : IsPlan plan) where
       (replicate (8 * (slot_words plan.paging (class_at plan.paging x) - 1)) 0) may.class class kept.sound in
       let found : Some is.object ≡ Some y = sym is.found ∙ get_remove_other m h q ne ∙ there' in
       let same : is.object ≡ y = cc in
-      let e : new ≡ record { held = insert (remove m h) q (record { place = x.place; bytes = y.bytes }); job = Move q (fresh_slot y.place (class_at plan.paging x)) } =
+      let e : new ≡ record { held = insert (remove m h) q (record { place = x.place; bytes = y.bytes }); job =
+          Move q (fresh_slot y.place (class_at plan.paging x)) } =
       is.whole ∙ ap (λ (o : Placed). record {
         held = insert (remove m h) q (record { place = x.place; bytes = o.bytes });
         job = Move q (fresh_slot o.place (class_at plan.paging x));
@@ -407,7 +411,8 @@ module _ (plan : Plan) (ok : IsPlan plan) where
         sound = alike.sound;
       })
     where
-      past : (m : Held) (o : Option Placed) → get m (plan.proxies + 1) ≡ o → ((h : ℕ) (x : Placed) → get m h ≡ Some x → h < plan.proxies) → get m (plan.proxies + 1) ≡ None
+      past : (m : Held) (o : Option Placed) → get m (plan.proxies + 1) ≡ o → ((h : ℕ) (x : Placed) → get m h ≡ Some x → h < plan.proxies)
+          → get m (plan.proxies + 1) ≡ None
       past m None e low = e
       past m (Some x) e low = absurd (let l = low (plan.proxies + 1) x e in omega arith)
 

@@ -1,5 +1,6 @@
 -- The arrangement with the job's slot as one more object, and the places that it leaves.
-use Rattle.std.proofs.Common.{◌≡◌, ◌≢◌, ℕ, false, ◌+◌, ◌-◌, ◌*◌, ◌/◌, ◌<◌, ◌≤◌, Option, Some, None, length, get_or, replicate, arith, sym, ◌∙◌, ap, refl, inl, inr}
+use Rattle.std.proofs.Common.{◌≡◌, ◌≢◌, ℕ, false, ◌+◌, ◌-◌, ◌*◌, ◌/◌, ◌<◌, ◌≤◌, Option, Some, None, length, get_or}
+use Rattle.std.proofs.Common.{replicate, arith, sym, ◌∙◌, ap, refl, inl, inr}
 use Rattle.std.specs.Prelude.{◌⊎◌, nat_le}
 use Rattle.std.specs.List.{position_or_len}
 use Rattle.std.proofs.lemmas.Bool.{cases_eq, cases_lt}
@@ -13,8 +14,10 @@ use Rattle.page_model.specs.Arrangement.{IsSlotAt, LacksRoom, class_at, not_full
 use Rattle.page_model.specs.Held.{Held, Placed}
 use Rattle.page_model.specs.Paging.{IsPaging, Paging, address_of, class_for, classes, page_of, slot_words}
 use Rattle.page_model.specs.Steps.{IsFreePlace}
-use Rattle.page_model.proofs.CallerLemmas.{class_fits, class_holds, slot_fits, slots_some, address_is_slot, nothing_on, on_page, on_yes, standing, objects_on-inserted, objects_on-left}
-use Rattle.slice_model.specs.State.{Plan, IsPlan, JobSlot, Job, Sliced, IsUnderWay, IsJobOf, IsKept, IsUsable, IsFreePage, NoPlace, IsPlaceFor, job_slot, occupied, stand_in, with_slot, Idle, Clear, Move}
+use Rattle.page_model.proofs.CallerLemmas.{class_fits, class_holds, slot_fits, slots_some, address_is_slot, nothing_on, on_page}
+use Rattle.page_model.proofs.CallerLemmas.{on_yes, standing, objects_on-inserted, objects_on-left}
+use Rattle.slice_model.specs.State.{Plan, IsPlan, JobSlot, Job, Sliced, IsUnderWay, IsJobOf, IsKept, IsUsable, IsFreePage, NoPlace, IsPlaceFor, job_slot}
+use Rattle.slice_model.specs.State.{occupied, stand_in, with_slot, Idle, Clear, Move}
 use Rattle.cf_lemmas.proofs.Searches.{search_below}
 use Rattle.page_model.proofs.CallerLemmas.{IsOpen, IsVacant, vacant_where_less, open_counts, open_page}
 use Rattle.slice_model.proofs.Slots.{less_where_vacant}
@@ -130,7 +133,8 @@ module _ (plan : Plan) (ok : IsPlan plan) (s : Sliced) (kept : IsKept plan s) wh
   on_job k page e on =
       let i = objects_on-inserted p s.held plan.proxies (stand_in p k) fresh k.class page in
       let yes = on_yes p k.class page (stand_in p k) on (slot_class k e) in
-      let more : 0 < objects_on p (with_slot plan s.held (Some k)) k.class page = (let i' : objects_on p (insert s.held plan.proxies (stand_in p k)) k.class page
+      let more : 0 < objects_on p (with_slot plan s.held (Some k)) k.class page =
+          (let i' : objects_on p (insert s.held plan.proxies (stand_in p k)) k.class page
       ≡ objects_on p s.held k.class page + 1 = rw yes at i in omega arith) in
       rw e more
 

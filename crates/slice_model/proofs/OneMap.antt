@@ -1,5 +1,6 @@
 -- The calls of all tasks are those of one map of objects.
-use Rattle.std.proofs.Common.{◌≡◌, ℕ, ◌+◌, ◌<◌, ◌≤◌, List, [], ◌∷◌, Option, Some, None, length, get_or, replicate, take, drop, arith, sym, ◌∙◌, ap, refl, subst, inl, inr, length-drop}
+use Rattle.std.proofs.Common.{◌≡◌, ℕ, ◌+◌, ◌<◌, ◌≤◌, List, [], ◌∷◌, Option, Some, None, length, get_or, replicate, take, drop, arith, sym, ◌∙◌, ap, refl, subst}
+use Rattle.std.proofs.Common.{inl, inr, length-drop}
 use Rattle.std.specs.Prelude.{Ok, Err, option_map}
 use Rattle.std.proofs.lemmas.List.{length-take, get_or-take, get_or-drop}
 use Rattle.std.proofs.lemmas.Grind.{same_number_lists}
@@ -13,7 +14,8 @@ use Rattle.page_model.specs.Held.{Held, Objects, Placed, objects}
 use Rattle.page_model.proofs.CallerLemmas.{inserted_there, malloc_objects, length-written, written_are_bytes, zeros_are_bytes}
 use Rattle.slice_model.specs.State.{Plan, IsPlan, JobSlot, Sliced, IsKept, job_slot, Idle}
 use Rattle.slice_model.specs.Steps.{Carries, Ends, IsSlice, SliceOf, Vacates}
-use Rattle.slice_model.specs.Runs.{Event, Frees, Happens, HappensOnMap, IsConsistent, Mallocs, Part, Runs, RunsOnMap, Slices, Turn, Working, Writes, Malloc, Free, Step, Write, Read}
+use Rattle.slice_model.specs.Runs.{Event, Frees, Happens, HappensOnMap, IsConsistent, Mallocs, Part, Runs, RunsOnMap, Slices, Turn, Working, Writes, Malloc}
+use Rattle.slice_model.specs.Runs.{Free, Step, Write, Read}
 use Rattle.slice_model.specs.declared.answers.SliceFault.TheVariants as fault
 use Rattle.slice_model.specs.Words.{HasWords}
 use Rattle.slice_model.proofs.Keeping.{kept_begun, kept_malloc, kept_slice, kept_write}
@@ -96,7 +98,8 @@ module _ (plan : Plan) (ok : IsPlan plan) where
   free_on_map old h new good is =
       let r = is.removes in
       let idle = r.idle in
-      let kept : IsKept plan (record { held = old.state.held; job = Idle }) = subst (λ j. IsKept plan (record { held = old.state.held; job = j })) idle good.kept in
+      let kept : IsKept plan (record { held = old.state.held; job = Idle }) =
+          subst (λ j. IsKept plan (record { held = old.state.held; job = j })) idle good.kept in
       let words : HasWords plan.paging (record { held = old.state.held; job = Idle }) old.words =
       subst (λ j. HasWords plan.paging (record { held = old.state.held; job = j }) old.words) idle good.words in
       let kept' = kept_begun plan ok old.state.held kept h r.freed r.found r.moved r.moves r.begun r.begins in
@@ -129,7 +132,8 @@ module _ (plan : Plan) (ok : IsPlan plan) where
       let v : List ℕ = written is.object.bytes part.from bytes in
       let o : objects new.state.held ≡ insert (objects old.state.held) part.number (written is.object.bytes part.from bytes) =
       ap (λ (s : Sliced). objects s.held) is.state
-      ∙ map_values-insert (λ (x : Placed). x.bytes) old.state.held part.number (record { place = is.object.place; bytes = written is.object.bytes part.from bytes }) in
+      ∙ map_values-insert (λ (x : Placed). x.bytes) old.state.held part.number
+          (record { place = is.object.place; bytes = written is.object.bytes part.from bytes }) in
       let there = bytes_there old.state.held part.number is.object is.found in (
         (is.object.bytes, there, is.fits, o),
         record {

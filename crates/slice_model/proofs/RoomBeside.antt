@@ -12,7 +12,8 @@ use Rattle.page_model.specs.Held.{Held, Objects, Placed, objects}
 use Rattle.page_model.specs.Paging.{IsPaging, Paging, class_for, classes, slots_of, page_of}
 use Rattle.page_model.specs.Steps.{Request, zeros_at}
 use Rattle.page_model.proofs.CallerLemmas.{ceil_mono, class_fits, lacks_room_at_one, live_added}
-use Rattle.slice_model.specs.State.{Plan, IsPlan, JobSlot, Sliced, IsKept, IsFreePage, IsPlaceFor, IsUsable, NoPlace, job_slot, occupied, stand_in, with_slot, Idle}
+use Rattle.slice_model.specs.State.{Plan, IsPlan, JobSlot, Sliced, IsKept, IsFreePage, IsPlaceFor, IsUsable, NoPlace}
+use Rattle.slice_model.specs.State.{job_slot, occupied, stand_in, with_slot, Idle}
 use Rattle.slice_model.specs.Steps.{GivesObject, IsRefusedBy}
 use Rattle.slice_model.specs.declared.answers.SliceRefusal.{SliceRefusal}
 use Rattle.slice_model.specs.declared.answers.SliceRefusal.TheVariants as refusal
@@ -23,7 +24,8 @@ needed_le : (p : Paging) → IsPaging p → (o u : Objects) (n : ℕ) → ((c : 
 unfolding pages_needed_with
 needed_le p ok o u n le = sum_le (λ c. ceil_div (live p o c + one (nat_eq (class_for p n) c)) (slots_of p c))
     (λ c. ceil_div (live p u c + one (nat_eq (class_for p n) c)) (slots_of p c)) 0 (classes p)
-    (λ c _ lt. (let l = le c in ceil_mono (live p o c + one (nat_eq (class_for p n) c)) (live p u c + one (nat_eq (class_for p n) c)) (slots_of p c) (omega arith)))
+    (λ c _ lt. (let l = le c in ceil_mono (live p o c + one (nat_eq (class_for p n) c)) (live p u c + one (nat_eq (class_for p n) c)) (slots_of p c)
+        (omega arith)))
 
 -- the objects alone need no more pages than with the job's slot
 needed_beside : (plan : Plan) → IsPlan plan → (m : Held) → get m plan.proxies ≡ None → (o : Option JobSlot) (n : ℕ)
@@ -77,7 +79,8 @@ module _ (plan : Plan) (ok : IsPlan plan) (s : Sliced) (kept : IsKept plan s) (n
   -- without a job there is no place only where the sum is over
   pub idle_is_over : s.job ≡ Idle → NoPlace plan.paging s (class_for plan.paging n) → plan.paging.pages < pages_needed_with plan.paging (objects s.held) n
   idle_is_over idle none =
-      let l = (lacks_room_at_one plan.paging ok.paging ok.ones (occupied plan s) kept.sound n lt).0 (no_place_is_lacking plan ok s kept (class_for plan.paging n) lt none) in
+      let l = (lacks_room_at_one plan.paging ok.paging ok.ones (occupied plan s) kept.sound n lt).0
+          (no_place_is_lacking plan ok s kept (class_for plan.paging n) lt none) in
       subst (λ j. plan.paging.pages < pages_needed_with plan.paging (objects (with_slot plan s.held (job_slot j))) n) idle l
 
 -- a refusal has one cause

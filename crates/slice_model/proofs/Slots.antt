@@ -44,7 +44,8 @@ module _ (p : Paging) (ok : IsPaging p) (c : ℕ) (lt : c < classes p) (page : �
           | inr vacant ↦ (
               let low : StandBelow m n j = record {
                 class = s.class;
-                slot = λ q y there on. (let k = s.slot q y there on in (k.0, lower k.0 k.1 (λ is. vacant q y there (k.3 ∙ ap (address_of p c page) is)), k.2, k.3));
+                slot = λ q y there on. (let k = s.slot q y there on in (k.0, lower k.0 k.1
+                    (λ is. vacant q y there (k.3 ∙ ap (address_of p c page) is)), k.2, k.3));
                 own = s.own;
               } in
               let rest = stand_few n m j (omega arith) low in
@@ -92,7 +93,8 @@ module _ (p : Paging) (ok : IsPaging p) (c : ℕ) (lt : c < classes p) (page : �
               ∙ ap (λ g. address_of p c g (y.place % p.page_words / slot_words p c)) on' in (
                 y.place % p.page_words / slot_words p c,
                 theirs.1,
-                (λ e. vacant q y there (at ∙ ap (address_of p c page) e ∙ ap (λ g. address_of p c g (a % p.page_words / slot_words p c)) (sym on) ∙ sym mine.0)),
+                (λ e. vacant q y there (at ∙ ap (address_of p c page) e ∙ ap (λ g. address_of p c g (a % p.page_words / slot_words p c)) (sym on)
+                    ∙ sym mine.0)),
                 at,
               ));
           own = λ q y r z. s.own_place q y r z;

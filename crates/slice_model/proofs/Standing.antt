@@ -18,7 +18,8 @@ use Rattle.slice_model.proofs.Keeping.{other_than}
 pub record AreApart (p : Paging) (m : Held) (o : Option JobSlot) : Type 0 where
   pub objects : (h : ℕ) (x : Placed) (q : ℕ) (y : Placed) → get m h ≡ Some x → get m q ≡ Some y → q ≢ h
       → IsDisjoint x.place (slot_for p (length x.bytes)) y.place (slot_for p (length y.bytes))
-  pub job : (k : JobSlot) (h : ℕ) (x : Placed) → o ≡ Some k → get m h ≡ Some x → IsDisjoint k.address (slot_words p k.class) x.place (slot_for p (length x.bytes))
+  pub job : (k : JobSlot) (h : ℕ) (x : Placed) → o ≡ Some k → get m h ≡ Some x
+      → IsDisjoint k.address (slot_words p k.class) x.place (slot_for p (length x.bytes))
 
 pub kept_apart : (plan : Plan) → IsPlan plan → (s : Sliced) → IsKept plan s → AreApart plan.paging s.held (job_slot s.job)
 kept_apart plan ok s kept = record {
@@ -68,7 +69,8 @@ apart_words a n b m i k (inl l) x y e = omega arith
 apart_words a n b m i k (inr r) x y e = omega arith
 
 -- no two words of objects stand at one address
-pub own_words_at : (p : Paging) (m : Held) (j : Job) → AreApart p m (job_slot j) → ((k : JobSlot) (h : ℕ) (x : Placed) → j ≡ Move h k → get m h ≡ Some x → class_at p x ≡ k.class)
+pub own_words_at : (p : Paging) (m : Held) (j : Job) → AreApart p m (job_slot j) → ((k : JobSlot) (h : ℕ) (x : Placed) → j ≡ Move h k → get m h ≡ Some x
+    → class_at p x ≡ k.class)
     → (h : ℕ) (x : Placed) (q : ℕ) (y : Placed) → get m h ≡ Some x → get m q ≡ Some y → (i : ℕ) → i < slot_for p (length x.bytes)
     → (k : ℕ) → k < slot_for p (length y.bytes) → word_at j h x i ≡ word_at j q y k → (q ≡ h) × (i ≡ k)
 own_words_at p m j apart class h x q y there there' i lt k lt' same = elim (where_word j h x i) [

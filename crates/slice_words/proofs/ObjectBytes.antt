@@ -78,14 +78,16 @@ module _ (place : ℕ → ℕ) (h : ℕ) (v : List ℕ) (old new : List ℕ) (at
       let a : byte_by place new (8 * i + j) ≡ byte_of j (get_or new (place (suc i)) 0) =
       ap (λ r. byte_of r (get_or new (place (1 + (8 * i + j) / 8)) 0)) rem ∙ ap (λ d. byte_of j (get_or new (place d) 0)) word in
       let b : byte_of ((8 * i + j) % 8) (object_word h (written v at bytes) (suc ((8 * i + j) / 8))) ≡ byte_of j (object_word h (written v at bytes) (suc i)) =
-      ap (λ r. byte_of r (object_word h (written v at bytes) (suc ((8 * i + j) / 8)))) rem ∙ ap (λ d. byte_of j (object_word h (written v at bytes) (suc d))) div in
+      ap (λ r. byte_of r (object_word h (written v at bytes) (suc ((8 * i + j) / 8)))) rem
+          ∙ ap (λ d. byte_of j (object_word h (written v at bytes) (suc d))) div in
       sym a ∙ w.value (8 * i + j) touched ∙ new_byte (8 * i + j) (omega arith) ∙ sym (byte_of_object h (written v at bytes) (8 * i + j) good) ∙ b))
 
   -- where no byte is written nothing changes
   pub nothing_written : length bytes ≡ 0 → (a : ℕ) → get_or new a 0 ≡ get_or old a 0
   nothing_written none a = w.others a (λ i t. absurd (let some = t.some in omega arith))
 
-  pub written_words : (i : ℕ) → i < (at % 8 + length bytes + 7) / 8 → get_or new (place (1 + at / 8 + i)) 0 ≡ object_word h (written v at bytes) (1 + at / 8 + i)
+  pub written_words : (i : ℕ) → i < (at % 8 + length bytes + 7) / 8 → get_or new (place (1 + at / 8 + i)) 0
+      ≡ object_word h (written v at bytes) (1 + at / 8 + i)
   written_words i lt = elim (cases_eq (length bytes) 0) [
     | inl none ↦ nothing_written none (place (1 + at / 8 + i)) ∙ was (1 + at / 8 + i) (omega arith)
         ∙ ap (λ z. object_word h z (1 + at / 8 + i)) (sym (same bytes none fits))

@@ -1,5 +1,6 @@
 -- The pages that the objects need by arithmetic, where one comes or goes.
-use Rattle.std.proofs.Common.{◌≡◌, ◌≢◌, ℕ, zero, suc, ◌+◌, ◌-◌, ◌*◌, ◌/◌, ◌%◌, ◌<◌, ◌≤◌, List, Some, None, length, get_or, set, arith, refl, sym, ◌∙◌, ap, inl, inr}
+use Rattle.std.proofs.Common.{◌≡◌, ◌≢◌, ℕ, zero, suc, ◌+◌, ◌-◌, ◌*◌, ◌/◌, ◌%◌, ◌<◌, ◌≤◌, List, Some, None, length}
+use Rattle.std.proofs.Common.{get_or, set, arith, refl, sym, ◌∙◌, ap, inl, inr}
 use Rattle.std.specs.Prelude.{nat_eq, sum_by}
 use Rattle.std.specs.List.{range_with_len}
 use Rattle.std.proofs.lemmas.Bool.{cases_eq}
@@ -79,7 +80,8 @@ module _ (p : Paging) (ok : IsPaging p) (o : Objects) (n : ℕ) (lt : class_for 
       let z : live p o d + one (nat_eq (class_for p n) d) ≡ live p o d = omega arith in ap (λ k. ceil_div k (slots_of p d)) z)) in
       let t : one (nat_eq (class_for p n) (class_for p n)) ≡ 1 = ap one (eq_yes (class_for p n) (class_for p n) refl) in
       let here : ceil_div (live p o (class_for p n) + one (nat_eq (class_for p n) (class_for p n))) (slots_of p (class_for p n))
-      ≡ ceil_div (live p o (class_for p n) + 1) (slots_of p (class_for p n)) = ap (λ k. ceil_div (live p o (class_for p n) + k) (slots_of p (class_for p n))) t in
+      ≡ ceil_div (live p o (class_for p n) + 1) (slots_of p (class_for p n)) =
+      ap (λ k. ceil_div (live p o (class_for p n) + k) (slots_of p (class_for p n))) t in
       let more = ceil_more (live p o (class_for p n)) (slots_of p (class_for p n)) (slots_some p ok (class_for p n) lt) in
       omega arith
 

@@ -21,7 +21,8 @@ use Rattle.sliced_heap.specs.Heap.{Heap}
 use Rattle.sliced_heap.specs.Layout.{IsValid, paging_at, plan_of, state_of, tables_in}
 use Rattle.sliced_heap.specs.Steps.{IsFilled}
 use Rattle.sliced_heap.proofs.Facts.{held_bytes, paging_ok, places_are, plan_ok, table_is}
-use Rattle.sliced_heap.proofs.Filling.{all_are, at_last, class_in, kept_clear, last_done, none_there, occupied_clear, sound_clear, stand_class, stand_there, two, words_clear}
+use Rattle.sliced_heap.proofs.Filling.{all_are, at_last, class_in, kept_clear, last_done, none_there, occupied_clear, sound_clear}
+use Rattle.sliced_heap.proofs.Filling.{stand_class, stand_there, two, words_clear}
 use Rattle.sliced_heap.proofs.Places.{taken_again}
 use Rattle.sliced_heap.proofs.Preserved.{Becomes, becomes_plan, becomes_state, becomes_valid}
 
@@ -77,7 +78,8 @@ module _ (h : Heap) (k : IsValid h) (g : JobSlot) (at : h.job ≡ Clear g) where
         }
 
     at_table : Vacates (tables_in h) g.class (page_of (paging_at h) g.address) (slot_at (class_table (paging_at h)) g.class g.address) (tables_in n)
-    at_table = subst (λ (t : ClassTable). Vacates (tables_in h) g.class (page_at t g.address) (slot_at t g.class g.address) (tables_in n)) (sym (table_is h k)) v
+    at_table = subst (λ (t : ClassTable). Vacates (tables_in h) g.class (page_at t g.address) (slot_at t g.class g.address) (tables_in n))
+        (sym (table_is h k)) v
 
     of_table : AreTables (class_table (paging_at h)) (tables_in n)
     of_table = subst (λ t. AreTables t (tables_in n)) (sym (table_is h k)) tables
@@ -95,10 +97,12 @@ module _ (h : Heap) (k : IsValid h) (g : JobSlot) (at : h.job ≡ Clear g) where
       addresses = ap (λ (z : Heap). z.proxies.places) rest ∙ places_are h k;
       limit = ap (λ (z : Heap). z.proxies.limit) rest;
       handles = subst AreBelowLimit (sym (ap (λ (z : Heap). z.proxies) rest)) k.handles;
-      tell = vacated_tell (paging_ok h k) k.tell.part (occupied_clear h k g at) of_table (sound_clear h k g at) h.settings.proxies (stand_there h k g at) at_table
+      tell = vacated_tell (paging_ok h k) k.tell.part (occupied_clear h k g at) of_table (sound_clear h k g at) h.settings.proxies
+          (stand_there h k g at) at_table
           (stand_class h k g at) refl refl k.tell.whole;
       occupied = subst (λ o. Occupies (paging_at h) o (tables_in n)) (taken_again m h.settings.proxies (stand_in (paging_at h) g) (none_there h k g at))
-          (vacated_occupied (paging_ok h k) k.tell.part (occupied_clear h k g at) of_table (sound_clear h k g at) h.settings.proxies (stand_there h k g at) at_table
+          (vacated_occupied (paging_ok h k) k.tell.part (occupied_clear h k g at) of_table (sound_clear h k g at) h.settings.proxies
+          (stand_there h k g at) at_table
           (stand_class h k g at) refl refl);
       live_long = ap (λ (z : Heap). length z.live) rest ∙ k.live_long;
       counted = λ c lt. ap (λ (z : Heap). get_or z.live c 0) rest ∙ k.counted c lt;
@@ -116,7 +120,8 @@ module _ (h : Heap) (k : IsValid h) (g : JobSlot) (at : h.job ≡ Clear g) where
     idle_ends = subst (Ends (paging_at h) m g) (sym (becomes_state h n k s becomes)) ends_idle
 
 -- the same where the heap is one that equals h
-pub idle_at : (h : Heap) (k : IsValid h) (g : JobSlot) → h.job ≡ Clear g → ¬ MustMove (paging_at h) (occupied (plan_of h) (state_of h)) (stand_in (paging_at h) g)
+pub idle_at : (h : Heap) (k : IsValid h) (g : JobSlot) → h.job ≡ Clear g → ¬ MustMove (paging_at h) (occupied (plan_of h) (state_of h))
+    (stand_in (paging_at h) g)
     → ((i : ℕ) → i < slot_words (paging_at h) g.class → get_or h.words (g.address + i) 0 ≡ 0) → (t n : Heap) → t ≡ h
     → n ≡ record t { maps = n.maps; lists = n.lists; pool = n.pool; job = Idle }
     → Vacates (tables_in t) g.class (page_at t.classes g.address) (slot_at t.classes g.class g.address) (tables_in n) → AreTables t.classes (tables_in n)

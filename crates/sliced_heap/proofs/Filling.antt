@@ -1,5 +1,6 @@
 -- A slot that is to be cleared is filled: an object of another partly full page gets its address.
-use Rattle.std.proofs.Common.{◌≡◌, ◌≢◌, ℕ, ◌+◌, ◌-◌, ◌*◌, ◌/◌, ◌%◌, ◌^◌, ◌<◌, ◌≤◌, [], length, get_or, replicate, Option, Some, None, arith, refl, sym, ◌∙◌, ap, subst, inl, inr}
+use Rattle.std.proofs.Common.{◌≡◌, ◌≢◌, ℕ, ◌+◌, ◌-◌, ◌*◌, ◌/◌, ◌%◌, ◌^◌, ◌<◌, ◌≤◌, [], length, get_or, replicate, Option, Some, None, arith, refl, sym, ◌∙◌, ap}
+use Rattle.std.proofs.Common.{subst, inl, inr}
 use Rattle.std.specs.Prelude.{◌↔◌, IsSome, slice_index_or}
 use Rattle.std.specs.FinMap.{get, insert}
 use Rattle.cf_lemmas.proofs.Maps.{get_inserted, some_inserted}
@@ -21,7 +22,8 @@ use Rattle.slice_model.specs.declared.job_slot.JobSlot.{JobSlot}
 use Rattle.slice_model.specs.State.{Plan, IsPlan, Sliced, IsKept, occupied, stand_in, Clear, Move}
 use Rattle.slice_model.specs.Steps.{IsBeside, IsSlice, done_after, fresh_slot}
 use Rattle.slice_model.specs.Words.{HasWords, word_at}
-use Rattle.slice_model.proofs.CallerLemmas.{changed_places, kept_slice, must_is_two, no_stand_in, objects_sliced, on_more, other_than, some_beside, stand_in_class, words_to_carry}
+use Rattle.slice_model.proofs.CallerLemmas.{changed_places, kept_slice, must_is_two, no_stand_in, objects_sliced, on_more}
+use Rattle.slice_model.proofs.CallerLemmas.{other_than, some_beside, stand_in_class, words_to_carry}
 use Rattle.sliced_heap.specs.Heap.{Heap}
 use Rattle.sliced_heap.specs.Layout.{IsValid, paging_at, plan_of, state_of, tables_in}
 use Rattle.sliced_heap.specs.Steps.{IsFilled}
@@ -45,7 +47,8 @@ module _ (plan : Plan) (ok : IsPlan plan) (m : Held) (k : JobSlot) (kept : IsKep
   pub last_done : done_after plan (record k { done = slot_words plan.paging k.class - 1 }) ≡ slot_words plan.paging k.class
   last_done = (let some = kept.job.under_way in let q = ok.quantum in omega arith)
 
-  module _ (q : ℕ) (y : Placed) (there : get m q ≡ Some y) (two : not_full_pages plan.paging m k.class ≡ 2) (b : IsBeside plan.paging m k.address k.class q) where
+  module _ (q : ℕ) (y : Placed) (there : get m q ≡ Some y) (two : not_full_pages plan.paging m k.class ≡ 2)
+      (b : IsBeside plan.paging m k.address k.class q) where
     abbrev new : Sliced
     new = record { held = insert m q (record { place = k.address; bytes = y.bytes }); job = Move q (fresh_slot y.place k.class) }
 
@@ -120,7 +123,8 @@ module _ (h : Heap) (k : IsValid h) (g : JobSlot) (at : h.job ≡ Clear g) where
       (bound_of (paging_at h) (class_at (paging_at h) stand)) =
       ap (λ page. MovesObject (slice_index_or h.maps page []) (length (pages_in h.lists g.class NotFull)) 1) page_is
       ∙ ap (λ b. MovesObject (slots_on (tables_in h) (page_of (paging_at h) g.address)) (length (pages_in h.lists g.class NotFull)) b) (sym bound)
-      ∙ ap (λ d. MovesObject (slots_on (tables_in h) (page_of (paging_at h) g.address)) (length (pages_in h.lists d NotFull)) (bound_of (paging_at h) d)) (sym stand_class) in
+      ∙ ap (λ d. MovesObject (slots_on (tables_in h) (page_of (paging_at h) g.address)) (length (pages_in h.lists d NotFull)) (bound_of (paging_at h) d))
+      (sym stand_class) in
       subst (λ A. A ↔ MustMove (paging_at h) all stand) (sym same) is
 
   -- where an object has to move
@@ -129,7 +133,8 @@ module _ (h : Heap) (k : IsValid h) (g : JobSlot) (at : h.job ≡ Clear g) where
     two = must_is_two (plan_of h) (plan_ok h k) m g none_there class_in sound_clear must
 
     pub one_listed : 1 ≤ length (pages_in h.lists g.class NotFull)
-    one_listed = (let some = moves_some (paging_ok h k) k.tell.part occupied_clear h.settings.proxies stand_there must (rw stand_class class_in) in rw stand_class at some)
+    one_listed = (let some = moves_some (paging_ok h k) k.tell.part occupied_clear h.settings.proxies stand_there must (rw stand_class class_in) in
+        rw stand_class at some)
 
     -- the object that fills the slot
     module _ (a : ℕ) (f : IsFiller h.classes h.maps h.lists g.class a) where

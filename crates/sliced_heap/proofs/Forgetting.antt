@@ -143,7 +143,8 @@ module _ (h : Heap) (k : IsValid h) (idle : h.job ≡ Idle) (q : ℕ) (x : Place
       needed = (
           let e = needed_less in
           let now = ap (λ (z : Heap). z.needed) g.rest in
-          let all : pages_needed (paging_at h) (objects (remove m q)) ≡ pages_needed (paging_at h) (remove (objects m) q) = ap (pages_needed (paging_at h)) objects_are in
+          let all : pages_needed (paging_at h) (objects (remove m q)) ≡ pages_needed (paging_at h) (remove (objects m) q) =
+          ap (pages_needed (paging_at h)) objects_are in
           omega arith);
       within = (let now = ap (λ (z : Heap). z.needed) g.rest in let w = k.within in omega arith);
     }

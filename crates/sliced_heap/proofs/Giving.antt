@@ -79,7 +79,8 @@ module _ (h : Heap) (k : IsValid h) (bytes c : ℕ) (found : Some c ≡ class_of
   needed_is =
       let lt : class_for (paging_at h) bytes < classes (paging_at h) = rw is.1 is.2 in
       needed_more (paging_at h) (paging_ok h k) (objects (state_of h).held) bytes lt
-      ∙ ap (λ d. pages_needed (paging_at h) (objects (state_of h).held) + opens (slots_of (paging_at h) d) (live (paging_at h) (objects (state_of h).held) d)) is.1
+      ∙ ap (λ d. pages_needed (paging_at h) (objects (state_of h).held) + opens (slots_of (paging_at h) d)
+      (live (paging_at h) (objects (state_of h).held) d)) is.1
       ∙ ap (λ l. pages_needed (paging_at h) (objects (state_of h).held) + opens (slots_of (paging_at h) c) l) (sym (k.counted c is.2))
       ∙ ap (λ n. n + opens (slots_of (paging_at h) c) (get_or h.live c 0)) (sym k.needed)
       ∙ ap (λ (t : ClassTable). h.needed + opens (slots t.page_words t.sizes c) (get_or h.live c 0)) (sym k.table)
@@ -98,7 +99,8 @@ module _ (h : Heap) (k : IsValid h) (bytes c : ℕ) (found : Some c ≡ class_of
     module _ (within : h.needed + opens (slots h.classes.page_words h.classes.sizes c) (get_or h.live c 0) ≤ h.settings.pages) where
       pub wants_slot : (new : Tables) → TakesSlot h.classes (tables_in h) c None new → WantsSlot (plan_of h) (state_of h) bytes
       wants_slot new none =
-          let t : TakesSlot (class_table (paging_at h)) (tables_in h) c None new = subst (λ t. TakesSlot t (tables_in h) c None new) (sym (table_is h k)) none in
+          let t : TakesSlot (class_table (paging_at h)) (tables_in h) c None new =
+          subst (λ t. TakesSlot t (tables_in h) c None new) (sym (table_is h k)) none in
           let lacks = refused_lacks_room (paging_ok h k) k.tell.part k.occupied k.tell.whole c new t in
           record {
             fits = is.0;

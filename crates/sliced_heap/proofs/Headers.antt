@@ -40,10 +40,12 @@ module _ (h : Heap) (k : IsValid h) (q : ℕ) (x : Placed) (there : get (state_o
   head = (let o = holds in k.words.held q x there 0 (omega arith))
 
   pub head_number : (w : ℕ) → w ≡ word_at h.job q x 0 → get_or h.words w 0 % 2 ^ 32 ≡ q
-  head_number w is = (let low = number_low in let e = head in let f : get_or h.words w 0 ≡ q + 2 ^ 32 * length x.bytes = ap (λ a. get_or h.words a 0) is ∙ e in omega arith)
+  head_number w is = (let low = number_low in let e = head in let f : get_or h.words w 0 ≡ q + 2 ^ 32 * length x.bytes = ap (λ a. get_or h.words a 0) is
+      ∙ e in omega arith)
 
   pub head_length : (w : ℕ) → w ≡ word_at h.job q x 0 → get_or h.words w 0 / 2 ^ 32 ≡ length x.bytes
-  head_length w is = (let low = number_low in let e = head in let f : get_or h.words w 0 ≡ q + 2 ^ 32 * length x.bytes = ap (λ a. get_or h.words a 0) is ∙ e in omega arith)
+  head_length w is = (let low = number_low in let e = head in let f : get_or h.words w 0 ≡ q + 2 ^ 32 * length x.bytes = ap (λ a. get_or h.words a 0) is
+      ∙ e in omega arith)
 
   -- its length has a class
   pub class_known_at : class_of h.classes.sizes (length x.bytes) ≡ Some (class_at (paging_at h) x)

@@ -36,7 +36,8 @@ module _ (plan : Plan) (ok : IsPlan plan) (m : Held) (j : Job) (kept : IsKept pl
 
   -- so is the job's
   pub job_at : (k : JobSlot) → job_slot j ≡ Some k → IsSlotAt plan.paging k.class k.address
-  job_at k e = subst (λ c. IsSlotAt p c k.address) (slot_class plan ok s kept k e) (kept.sound.slots plan.proxies (stand_in p k) (slot_there plan ok s kept k e))
+  job_at k e = subst (λ c. IsSlotAt p c k.address) (slot_class plan ok s kept k e)
+      (kept.sound.slots plan.proxies (stand_in p k) (slot_there plan ok s kept k e))
 
   pub job_within : (k : JobSlot) → job_slot j ≡ Some k → k.address + slot_words plan.paging k.class ≤ plan.paging.pages * plan.paging.page_words
   job_within k e = slot_inside p k.class k.address (job_at k e)

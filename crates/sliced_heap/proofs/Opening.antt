@@ -1,5 +1,6 @@
 -- An open heap without objects.
-use Rattle.std.proofs.Common.{◌≡◌, ℕ, zero, suc, Bool, false, ◌+◌, ◌-◌, ◌*◌, ◌/◌, ◌<◌, ◌≤◌, List, [], length, replicate, get_or, Some, None, arith, refl, sym, ◌∙◌, ap, subst, inl, inr}
+use Rattle.std.proofs.Common.{◌≡◌, ℕ, zero, suc, Bool, false, ◌+◌, ◌-◌, ◌*◌, ◌/◌, ◌<◌, ◌≤◌, List, [], length, replicate, get_or, Some, None, arith, refl, sym}
+use Rattle.std.proofs.Common.{◌∙◌, ap, subst, inl, inr}
 use Rattle.std.specs.Prelude.{sum_by}
 use Rattle.std.specs.List.{range_with_len}
 use Rattle.std.proofs.lemmas.Bool.{cases_lt}
@@ -163,7 +164,8 @@ module _ (s : Settings) (n : ℕ) (h : Heap) (f : IsFirst s n h) where
     counted = λ c lt. (
         let l = few in
         let here : c < 128 = omega arith in
-        ap (λ b. get_or b c 0) f.live ∙ get_or-replicate {A = ℕ} 128 c 0 0 here ∙ sym (ap (λ o. live (paging_at h) o c) objects_are ∙ none_live (paging_at h) c));
+        ap (λ b. get_or b c 0) f.live ∙ get_or-replicate {A = ℕ} 128 c 0 0 here
+        ∙ sym (ap (λ o. live (paging_at h) o c) objects_are ∙ none_live (paging_at h) c));
     needed = f.needed ∙ sym (ap (pages_needed (paging_at h)) objects_are ∙ none_needed (paging_at h) paging_ok);
     within = (let e = f.needed in omega arith);
   }

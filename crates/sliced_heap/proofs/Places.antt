@@ -41,7 +41,8 @@ stood_in p m t o q x there P none bytes class =
     without (inr ne) = get_remove_other m q P ne ∙ none
 
 -- An object gets the place of the stand-in, which comes where the object stood.
-module _ (p : Paging) (m : Held) (t : Tables) (P : ℕ) (f : Placed) (o : Occupies p (insert m P f) t) (q : ℕ) (y : Placed) (there : get m q ≡ Some y) (ne : q ≢ P)
+module _ (p : Paging) (m : Held) (t : Tables) (P : ℕ) (f : Placed) (o : Occupies p (insert m P f) t) (q : ℕ) (y : Placed) (there : get m q ≡ Some y)
+    (ne : q ≢ P)
     (class : class_at p y ≡ class_at p f) where
   abbrev z : Placed
   z = record { place = f.place; bytes = y.bytes }

@@ -71,7 +71,8 @@ module _ (h : Heap) (k : IsValid h) (q : ℕ) (x : Placed) (there : get (state_o
   apart n le i j lt ge less same =
       let a = word_low s i lt in
       let b = word_high s j ge in
-      let own = own_words_at (paging_at h) m h.job (kept_apart (plan_of h) (plan_ok h k) (state_of h) k.kept) class q x q x there there i (omega arith) j (omega arith)
+      let own = own_words_at (paging_at h) m h.job (kept_apart (plan_of h) (plan_ok h k) (state_of h) k.kept) class q x q x there there i (omega arith) j
+      (omega arith)
       (sym (word_by_halves h.job q x i) ∙ a ∙ same ∙ sym b ∙ word_by_halves h.job q x j) in
       let e = own.1 in
       omega arith
@@ -187,7 +188,8 @@ module _ (h : Heap) (k : IsValid h) (q a : ℕ) (known : get h.proxies.places q 
   halves_are = is ∙ ap (halves_of h.job q) (sym found.2)
 
   pub head_to : s.to + 0 < length h.words
-  head_to = (let w = (within h k q x found.1).0 in let o = holds h k q x found.1 in let e : s.to ≡ (halves_of h.job q x.place).to = ap (λ (y : Halves). y.to) halves_are in
+  head_to = (let w = (within h k q x found.1).0 in let o = holds h k q x found.1 in let e : s.to ≡ (halves_of h.job q x.place).to =
+      ap (λ (y : Halves). y.to) halves_are in
       omega arith)
 
   pub head_from : s.from + 0 < length h.words

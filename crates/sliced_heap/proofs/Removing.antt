@@ -44,13 +44,15 @@ module _ (h : Heap) (k : IsValid h) (idle : h.job ≡ Idle) (q : ℕ) (x : Place
 
   -- as many objects of each class stand on each page, with the slot's stand-in in the place of the object
   same_counts : (d page : ℕ) → objects_on (paging_at h) all d page ≡ objects_on (paging_at h) m d page
-  same_counts d page = objects_on-exchanged (paging_at h) m q x there h.settings.proxies (replicate (8 * (slot_words (paging_at h) c - 1)) 0) none_left stand_class d page
+  same_counts d page = objects_on-exchanged (paging_at h) m q x there h.settings.proxies
+      (replicate (8 * (slot_words (paging_at h) c - 1)) 0) none_left stand_class d page
 
   same_open : not_full_pages (paging_at h) all c ≡ not_full_pages (paging_at h) m c
   same_open = not_full-same (paging_at h) m all c (λ page. same_counts c page)
 
   -- so a free of the one has to move an object exactly where a free of the other has
-  pub must_of_stand : MustMove (paging_at h) (insert (remove (state_of h).held q) h.settings.proxies (stand_in (paging_at h) (fresh_slot x.place (class_at (paging_at h) x))))
+  pub must_of_stand : MustMove (paging_at h) (insert (remove (state_of h).held q) h.settings.proxies
+      (stand_in (paging_at h) (fresh_slot x.place (class_at (paging_at h) x))))
       (stand_in (paging_at h) (fresh_slot x.place (class_at (paging_at h) x))) → MustMove (paging_at h) (state_of h).held x
   must_of_stand must = record {
     full = sym (same_counts c (page_of (paging_at h) x.place)) ∙ rw stand_class at must.full;
@@ -155,7 +157,8 @@ module _ (h : Heap) (k : IsValid h) (idle : h.job ≡ Idle) (q : ℕ) (x : Place
       frees false v = vacant_frees v
 
 -- the same by what the parts of a free tell
-pub frees_from : (h : Heap) (k : IsValid h) → h.job ≡ Idle → (q : ℕ) (g : JobSlot) (a b n : Heap) → Forgets h q g a → IsValid a → (filled : Bool) → Fills a g filled b
+pub frees_from : (h : Heap) (k : IsValid h) → h.job ≡ Idle → (q : ℕ) (g : JobSlot) (a b n : Heap) → Forgets h q g a → IsValid a → (filled : Bool)
+    → Fills a g filled b
     → Slices (plan_of b) (working_of b) (working_of n) → Frees (plan_of h) (working_of h) q (working_of n)
 frees_from h k idle q g a b n f ka filled fills s =
     let same : g ≡ fresh_slot f.object.place (class_at (paging_at h) f.object) = f.slot in

@@ -44,7 +44,8 @@ pub record KeepsTables (h n : Heap) : Type 0 where
 
 -- with another job, whose slot is the same
 module _ (h n : Heap) (k : IsValid h) (same : KeepsTables h n) (j : Job) (is : n.job ≡ j)
-    (kept : IsKept (plan_of h) (record { held = (state_of h).held; job = j })) (words : HasWords (paging_at h) (record { held = (state_of h).held; job = j }) n.words)
+    (kept : IsKept (plan_of h) (record { held = (state_of h).held; job = j }))
+    (words : HasWords (paging_at h) (record { held = (state_of h).held; job = j }) n.words)
     (slot : occupied (plan_of h) (record { held = (state_of h).held; job = j }) ≡ occupied (plan_of h) (state_of h)) where
   abbrev s : Sliced
   s = record { held = (state_of h).held; job = j }
@@ -63,7 +64,8 @@ module _ (h n : Heap) (k : IsValid h) (same : KeepsTables h n) (j : Job) (is : n
     limit = ap (λ z. z.limit) same.proxies;
     handles = subst AreBelowLimit (sym same.proxies) k.handles;
     tell = subst (Tell (paging_at h)) (sym same.tables) k.tell;
-    occupied = subst (λ o. Occupies (paging_at h) o (tables_in n)) (sym slot) (subst (Occupies (paging_at h) (occupied (plan_of h) (state_of h))) (sym same.tables) k.occupied);
+    occupied = subst (λ o. Occupies (paging_at h) o (tables_in n)) (sym slot) (subst (Occupies (paging_at h) (occupied (plan_of h) (state_of h)))
+        (sym same.tables) k.occupied);
     live_long = ap length same.live ∙ k.live_long;
     counted = λ c lt. ap (λ l. get_or l c 0) same.live ∙ k.counted c lt;
     needed = same.needed ∙ k.needed;
@@ -105,7 +107,8 @@ module _ (h n : Heap) (k : IsValid h) (same : KeepsTables h n) (j : Job) (at : h
           (inl (record { left = left; whole = refl }))
 
       kept_on : IsKept (plan_of h) (record { held = m; job = advanced j (done_after (plan_of h) g) })
-      kept_on = kept_slice (plan_of h) (plan_ok h k) (record { held = m; job = j }) (record { held = m; job = advanced j (done_after (plan_of h) g) }) kept_at goes
+      kept_on = kept_slice (plan_of h) (plan_ok h k) (record { held = m; job = j })
+          (record { held = m; job = advanced j (done_after (plan_of h) g) }) kept_at goes
 
       words_on : HasWords (paging_at h) (record { held = m; job = advanced j (done_after (plan_of h) g) }) n.words
       words_on = words_sliced (plan_of h) (plan_ok h k) h.words n.words m j kept_at words_at
@@ -122,7 +125,8 @@ module _ (h n : Heap) (k : IsValid h) (same : KeepsTables h n) (j : Job) (at : h
 
       pub on_slices : Slices (plan_of h) (working_of h) (working_of n)
       on_slices = slices_at (plan_of h) (working_of h) j at (working_of n)
-          (subst (IsSlice (plan_of h) (record { held = m; job = j })) (sym (job_state h n k same (advanced j (done_after (plan_of h) g)) is kept_on words_on same_slot)) goes)
+          (subst (IsSlice (plan_of h) (record { held = m; job = j })) (sym (job_state h n k same
+          (advanced j (done_after (plan_of h) g)) is kept_on words_on same_slot)) goes)
           does_slice
 
     -- all are done, and the slot is vacant
@@ -173,7 +177,8 @@ module _ (h n : Heap) (k : IsValid h) (same : KeepsTables h n) (j : Job) (at : h
     vacant_plan = job_plan h n k same (Clear (record g { done = 0 })) is kept_vacant words_vacant same_slot_vacant
 
 -- A slice of n words of the job j, whose slot is g, which leaves the words w.
-module _ (h : Heap) (k : IsValid h) (j : Job) (at : h.job ≡ j) (g : JobSlot) (slot : job_slot j ≡ Some g) (w : List ℕ) (long : length w ≡ length h.words) (n : ℕ)
+module _ (h : Heap) (k : IsValid h) (j : Job) (at : h.job ≡ j) (g : JobSlot) (slot : job_slot j ≡ Some g) (w : List ℕ) (long : length w ≡ length h.words)
+    (n : ℕ)
     (n_is : n ≡ min h.quantum (get_or h.classes.sizes g.class 0 - g.done)) (does : DoesWords (state_of h).held j n h.words w)
     (ended : g.done + n ≡ slot_words (paging_at h) g.class → AreEnded (paging_at h) (state_of h).held g w) where
   sizes_are : get_or h.classes.sizes g.class 0 ≡ slot_words (paging_at h) g.class
@@ -228,10 +233,13 @@ module _ (h : Heap) (k : IsValid h) (j : Job) (at : h.job ≡ j) (g : JobSlot) (
     vacated_valid = vacant_valid h (record h { words = w; job = Clear (record g { done = 0 }) }) k (same_tables (Clear (record g { done = 0 }))) j at g slot
         (ended all) refl
 
-    pub goes_to_end : (z : Heap) → Ends (paging_at h) (state_of (record h { words = w; job = Clear (record g { done = 0 }) })).held (record g { done = 0 }) (state_of z)
+    pub goes_to_end : (z : Heap) → Ends (paging_at h) (state_of (record h { words = w; job = Clear (record g { done = 0 }) })).held (record g { done = 0 })
+        (state_of z)
         → z.words ≡ w → Slices (plan_of h) (working_of h) (working_of z)
     goes_to_end z ends same =
-        end_slices h (record h { words = w; job = Clear (record g { done = 0 }) }) k (same_tables (Clear (record g { done = 0 }))) j at g slot does_so (sym done_is ∙ all) z
+        end_slices h (record h { words = w; job = Clear (record g { done = 0 }) }) k (same_tables (Clear (record g { done = 0 }))) j at g slot does_so
+        (sym done_is ∙ all) z
         (subst (λ m. Ends (paging_at h) m (record g { done = 0 }) (state_of z))
-        (ap (λ (y : Sliced). y.held) (vacant_state h (record h { words = w; job = Clear (record g { done = 0 }) }) k (same_tables (Clear (record g { done = 0 }))) j at g slot
+        (ap (λ (y : Sliced). y.held) (vacant_state h (record h { words = w; job = Clear (record g { done = 0 }) }) k
+        (same_tables (Clear (record g { done = 0 }))) j at g slot
         (ended all) refl)) ends) same

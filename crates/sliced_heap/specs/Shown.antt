@@ -105,7 +105,8 @@ abbrev pub StateParts : Type 0
 StateParts = Bool × (Profile × (ℕ × (Held × (Job × List ℕ))))
 
 abbrev pub sliced_code : Coded SlicedState
-sliced_code = code_by StateParts (coded× coded_bool (coded× profile_code (coded× coded_ℕ (coded× (map.code coded_ℕ placed_code) (coded× job_code (coded_list coded_ℕ))))))
+sliced_code = code_by StateParts (coded× coded_bool (coded× profile_code (coded× coded_ℕ
+    (coded× (map.code coded_ℕ placed_code) (coded× job_code (coded_list coded_ℕ))))))
     (λ s. (s.is_open, (s.profile, (s.quantum, (s.held, (s.job, s.words))))))
     (λ q. record { is_open = q.0; profile = q.1.0; quantum = q.1.1.0; held = q.1.1.1.0; job = q.1.1.1.1.0; words = q.1.1.1.1.1 })
     (λ _. refl)

@@ -188,11 +188,13 @@ alive : (o : Objects) → entries o ≡ left → (c : ℕ) → live pages o c �
 unfolding live
 alive o e c = ap (λ es. count_by (λ v. nat_eq (class_for pages (length v)) c) (map (λ e. e.1) es)) e
 
-reported : report alive_left 3 ≡ codes "class 23 slots 2 live 2 pages 1 notfull 0" ∷ codes "class 64 slots 1 live 1 pages 1 notfull 0" ∷ codes "total live 3 pages 2 free 0" ∷ []
+reported : report alive_left 3 ≡ codes "class 23 slots 2 live 2 pages 1 notfull 0" ∷ codes "class 64 slots 1 live 1 pages 1 notfull 0" ∷ codes
+    "total live 3 pages 2 free 0" ∷ []
 unfolding sizes_from class_for digits
 reported = refl
 
-walked : reply_by_id (with o8) Walk ≡ codes "class 23 slots 2 live 2 pages 1 notfull 0" ∷ codes "class 64 slots 1 live 1 pages 1 notfull 0" ∷ codes "total live 3 pages 2 free 0" ∷ []
+walked : reply_by_id (with o8) Walk ≡ codes "class 23 slots 2 live 2 pages 1 notfull 0" ∷ codes "class 64 slots 1 live 1 pages 1 notfull 0" ∷ codes
+    "total live 3 pages 2 free 0" ∷ []
 walked = report_is o8 ∙ (λ i. report (λ c. alive o8 left_is c i) ((counted o8 ∙ ap length left_is) i)) ∙ reported
 
 -- one command of a transcript, before the rest

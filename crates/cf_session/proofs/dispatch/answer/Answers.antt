@@ -6,7 +6,8 @@ use Rattle.cf_session.proofs.Reporting.{has_room, reported_walk, reported_frag, 
 use Rattle.cf_session.proofs.dispatch.answer.Goals as goal
 
 pub returns-in-Malloc-clause-answers : goal.returns-in-Malloc-clause-answers
-returns-in-Malloc-clause-answers g c = told_step _ _ _ (Malloc _ _) c.args.lead.now _ _ _ _ (ap owned_command c.in-Malloc.is) c.requires.going c.malloc.ensures.step
+returns-in-Malloc-clause-answers g c = told_step _ _ _ (Malloc _ _) c.args.lead.now _ _ _ _
+    (ap owned_command c.in-Malloc.is) c.requires.going c.malloc.ensures.step
     c.tell_short.ensures.told
 
 pub returns-in-Free-clause-answers : goal.returns-in-Free-clause-answers
@@ -14,15 +15,18 @@ returns-in-Free-clause-answers g c = told_step _ _ _ (Free _) c.args.lead.now _ 
     c.tell_short-in-Free.ensures.told
 
 pub returns-in-Write-clause-answers : goal.returns-in-Write-clause-answers
-returns-in-Write-clause-answers g c = told_step _ _ _ (Write _ _ _) c.args.lead.now _ _ _ _ (ap owned_command c.in-Write.is) c.requires.going c.write.ensures.step
+returns-in-Write-clause-answers g c = told_step _ _ _ (Write _ _ _) c.args.lead.now _ _ _ _
+    (ap owned_command c.in-Write.is) c.requires.going c.write.ensures.step
     c.tell_short-in-Write.ensures.told
 
 pub returns-in-Resize-clause-answers : goal.returns-in-Resize-clause-answers
-returns-in-Resize-clause-answers g c = told_step _ _ _ (Resize _ _) c.args.lead.now _ _ _ _ (ap owned_command c.in-Resize.is) c.requires.going c.resize.ensures.step
+returns-in-Resize-clause-answers g c = told_step _ _ _ (Resize _ _) c.args.lead.now _ _ _ _
+    (ap owned_command c.in-Resize.is) c.requires.going c.resize.ensures.step
     c.tell_short-in-Resize.ensures.told
 
 pub returns-in-Bound-clause-answers : goal.returns-in-Bound-clause-answers
-returns-in-Bound-clause-answers g c = told_step _ _ _ (Bound _ _) c.args.lead.now _ _ _ _ (ap owned_command c.in-Bound.is) c.requires.going c.set_bound.ensures.step
+returns-in-Bound-clause-answers g c = told_step _ _ _ (Bound _ _) c.args.lead.now _ _ _ _
+    (ap owned_command c.in-Bound.is) c.requires.going c.set_bound.ensures.step
     c.tell_short-in-Bound.ensures.told
 
 pub tell-requires-clause-room : goal.tell-requires-clause-room

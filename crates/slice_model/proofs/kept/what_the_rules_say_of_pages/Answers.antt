@@ -15,7 +15,9 @@ pub returns-clause-slots : goal.returns-clause-slots
 returns-clause-slots c = λ plan s h x ok kept there. kept.sound.slots h x (beside plan ok s kept h x there)
 
 pub returns-clause-own_place : goal.returns-clause-own_place
-returns-clause-own_place c = λ plan s h x q y ok kept there there'. kept.sound.own_place h x q y (beside plan ok s kept h x there) (beside plan ok s kept q y there')
+returns-clause-own_place c = λ plan s h x q y ok kept there there'. kept.sound.own_place h x q y (beside plan ok s kept h x there)
+    (beside plan ok s kept q y there')
 
 pub returns-clause-one_class : goal.returns-clause-one_class
-returns-clause-one_class c = λ plan s h x q y ok kept there there'. kept.sound.one_class h x q y (beside plan ok s kept h x there) (beside plan ok s kept q y there')
+returns-clause-one_class c = λ plan s h x q y ok kept there there'. kept.sound.one_class h x q y (beside plan ok s kept h x there)
+    (beside plan ok s kept q y there')

@@ -7,4 +7,5 @@ pub returns-clause-kind : goal.returns-clause-kind
 returns-clause-kind c = ap (λ (s : HeapState). s.kind) (sym c.open-open.ensures.state)
 
 pub returns-clause-words : goal.returns-clause-words
-returns-clause-words c = let heap = c.open-open.result.now in rw (sym c.open-open.ensures.state, sym c.open-open.ensures.physical) (mapped_once heap.blocks heap.region c.open-open.ensures.kept.laid).2
+returns-clause-words c = let heap = c.open-open.result.now in rw (sym c.open-open.ensures.state, sym c.open-open.ensures.physical)
+    (mapped_once heap.blocks heap.region c.open-open.ensures.kept.laid).2

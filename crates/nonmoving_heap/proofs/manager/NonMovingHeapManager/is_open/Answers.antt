@@ -6,4 +6,5 @@ use Rattle.nonmoving_heap.specs.MappedState.{MappedState}
 use Rattle.nonmoving_heap.proofs.manager.NonMovingHeapManager.is_open.Goals as goal
 
 pub returns-clause-rules : goal.returns-clause-rules
-returns-clause-rules c = λ t. subst (λ (v : MappedState). KeepsRules v.state) c.self.view_is (rules_in NonMoving c.self.inside.inner c.self.invariant (sym c.is_some.ensures ∙ t))
+returns-clause-rules c = λ t. subst (λ (v : MappedState). KeepsRules v.state) c.self.view_is
+    (rules_in NonMoving c.self.inside.inner c.self.invariant (sym c.is_some.ensures ∙ t))

@@ -10,15 +10,18 @@ unreachable-requires c = carry_known (seen c.args.self.now) c.requires.kept c.ar
 
 pub carry_next-requires-clause-source : goal.carry_next-requires-clause-source
 carry_next-requires-clause-source c =
-    carry_source (seen c.args.self.now) c.requires.kept c.args.k c.args.h.0 c.requires.job c.in-Some.to c.in-Some.ensures.found c.words_of-n.result c.words_of-n.ensures
+    carry_source (seen c.args.self.now) c.requires.kept c.args.k c.args.h.0 c.requires.job c.in-Some.to c.in-Some.ensures.found c.words_of-n.result
+    c.words_of-n.ensures
 
 pub carry_next-requires-clause-target : goal.carry_next-requires-clause-target
 carry_next-requires-clause-target c =
-    carry_target (seen c.args.self.now) c.requires.kept c.args.k c.args.h.0 c.requires.job c.in-Some.to c.in-Some.ensures.found c.words_of-n.result c.words_of-n.ensures
+    carry_target (seen c.args.self.now) c.requires.kept c.args.k c.args.h.0 c.requires.job c.in-Some.to c.in-Some.ensures.found c.words_of-n.result
+    c.words_of-n.ensures
 
 pub carry_next-requires-clause-apart : goal.carry_next-requires-clause-apart
 carry_next-requires-clause-apart c =
-    carry_apart (seen c.args.self.now) c.requires.kept c.args.k c.args.h.0 c.requires.job c.in-Some.to c.in-Some.ensures.found c.words_of-n.result c.words_of-n.ensures
+    carry_apart (seen c.args.self.now) c.requires.kept c.args.k c.args.h.0 c.requires.job c.in-Some.to c.in-Some.ensures.found c.words_of-n.result
+    c.words_of-n.ensures
 
 pub returns-then-done-slot_words-clause-step : goal.returns-then-done-slot_words-clause-step
 returns-then-done-slot_words-clause-step c =

@@ -12,7 +12,8 @@ pub returns-then-done-slot_words-clause-step : goal.returns-then-done-slot_words
 returns-then-done-slot_words-clause-step c =
     let h = seen c.args.self.now in
     let s = c.slot_words.ensures.value in
-    goes_on h c.requires.kept (Clear c.args.k) c.requires.job c.args.k refl c.clear_next.new.region c.clear_next.ensures.len c.words_of-n.result c.words_of-n.ensures
+    goes_on h c.requires.kept (Clear c.args.k) c.requires.job c.args.k refl c.clear_next.new.region c.clear_next.ensures.len c.words_of-n.result
+    c.words_of-n.ensures
     c.clear_next.ensures.words (clear_ended h c.requires.kept c.args.k c.requires.job c.clear_next.new.region c.words_of-n.result c.clear_next.ensures.words)
     (let t = c.if-done-slot_words.true in omega arith)
 
@@ -20,7 +21,8 @@ pub returns-then-done-slot_words-clause-kept : goal.returns-then-done-slot_words
 returns-then-done-slot_words-clause-kept c =
     let h = seen c.args.self.now in
     let s = c.slot_words.ensures.value in
-    goes_on_valid h c.requires.kept (Clear c.args.k) c.requires.job c.args.k refl c.clear_next.new.region c.clear_next.ensures.len c.words_of-n.result c.words_of-n.ensures
+    goes_on_valid h c.requires.kept (Clear c.args.k) c.requires.job c.args.k refl c.clear_next.new.region c.clear_next.ensures.len c.words_of-n.result
+    c.words_of-n.ensures
     c.clear_next.ensures.words (clear_ended h c.requires.kept c.args.k c.requires.job c.clear_next.new.region c.words_of-n.result c.clear_next.ensures.words)
     (let t = c.if-done-slot_words.true in omega arith)
 
@@ -28,7 +30,8 @@ pub end-requires-clause-kept : goal.end-requires-clause-kept
 end-requires-clause-kept c =
     let h = seen c.args.self.now in
     let s = c.slot_words.ensures.value in
-    vacated_valid h c.requires.kept (Clear c.args.k) c.requires.job c.args.k refl c.clear_next.new.region c.clear_next.ensures.len c.words_of-n.result c.words_of-n.ensures
+    vacated_valid h c.requires.kept (Clear c.args.k) c.requires.job c.args.k refl c.clear_next.new.region c.clear_next.ensures.len c.words_of-n.result
+    c.words_of-n.ensures
     c.clear_next.ensures.words (clear_ended h c.requires.kept c.args.k c.requires.job c.clear_next.new.region c.words_of-n.result c.clear_next.ensures.words)
     (let t = c.if-done-slot_words.false in omega arith)
 
@@ -36,7 +39,8 @@ pub end-requires-clause-zeros : goal.end-requires-clause-zeros
 end-requires-clause-zeros c =
     let h = seen c.args.self.now in
     let s = c.slot_words.ensures.value in
-    all_zeros h c.requires.kept (Clear c.args.k) c.requires.job c.args.k refl c.clear_next.new.region c.clear_next.ensures.len c.words_of-n.result c.words_of-n.ensures
+    all_zeros h c.requires.kept (Clear c.args.k) c.requires.job c.args.k refl c.clear_next.new.region c.clear_next.ensures.len c.words_of-n.result
+    c.words_of-n.ensures
     c.clear_next.ensures.words (clear_ended h c.requires.kept c.args.k c.requires.job c.clear_next.new.region c.words_of-n.result c.clear_next.ensures.words)
     (let t = c.if-done-slot_words.false in omega arith)
 
@@ -44,6 +48,7 @@ pub returns-clause-step : goal.returns-clause-step
 returns-clause-step c =
     let h = seen c.args.self.now in
     let s = c.slot_words.ensures.value in
-    goes_to_end h c.requires.kept (Clear c.args.k) c.requires.job c.args.k refl c.clear_next.new.region c.clear_next.ensures.len c.words_of-n.result c.words_of-n.ensures
+    goes_to_end h c.requires.kept (Clear c.args.k) c.requires.job c.args.k refl c.clear_next.new.region c.clear_next.ensures.len c.words_of-n.result
+    c.words_of-n.ensures
     c.clear_next.ensures.words (clear_ended h c.requires.kept c.args.k c.requires.job c.clear_next.new.region c.words_of-n.result c.clear_next.ensures.words)
     (let t = c.if-done-slot_words.false in omega arith) (seen c.end.new.self) c.end.ensures.ended c.end.ensures.words

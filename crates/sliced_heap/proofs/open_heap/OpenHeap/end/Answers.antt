@@ -17,7 +17,8 @@ pub release_slot-requires-clause-used : goal.release_slot-requires-clause-used
 release_slot-requires-clause-used c =
     let v : StaysVacant (seen c.args.self.now) c.args.k (seen c.fill.new.self) =
     subst (λ b. Fills (seen c.args.self.now) c.args.k b (seen c.fill.new.self)) c.if-fill.false c.fill.ensures.filled in
-    subst (λ (x : Heap). IsUsed (tables_in x) c.args.k.class (page_at x.classes c.args.k.address) (slot_at x.classes c.args.k.class c.args.k.address)) (sym v.same)
+    subst (λ (x : Heap). IsUsed (tables_in x) c.args.k.class (page_at x.classes c.args.k.address) (slot_at x.classes c.args.k.class c.args.k.address))
+    (sym v.same)
     (slot_used (seen c.args.self.now) c.requires.kept c.args.k c.requires.job)
 
 pub returns-clause-ended : goal.returns-clause-ended

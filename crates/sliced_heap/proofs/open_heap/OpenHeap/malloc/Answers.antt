@@ -27,8 +27,10 @@ returns-in_default-take_slot-clause-step c = (
 
 pub bind-handle-requires-clause-within : goal.bind-handle-requires-clause-within
 bind-handle-requires-clause-within c =
-    let lt = place_inside (seen c.args.self.now) c.requires c.args.bytes c.in-Some.c c.in-Some.ensures.found (λ e. c.if-live-self.false (c.live.ensures.count ∙ e))
-    (within_of c.is_over.result _ _ c.is_over.ensures c.if-is_over.false) _ c.in-Some-take_slot.place c.in-Some-take_slot.ensures.taken c.take_slot.ensures.tables in
+    let lt = place_inside (seen c.args.self.now) c.requires c.args.bytes c.in-Some.c c.in-Some.ensures.found
+    (λ e. c.if-live-self.false (c.live.ensures.count ∙ e))
+    (within_of c.is_over.result _ _ c.is_over.ensures c.if-is_over.false) _ c.in-Some-take_slot.place c.in-Some-take_slot.ensures.taken
+    c.take_slot.ensures.tables in
     let e = ap (λ (x : OpenHeap). length x.region) c.take_slot.ensures.rest in
     omega arith
 
