@@ -1,0 +1,102 @@
+-- Each call of a sliced heap has an answer, and a state after it.
+use Rattle.std.proofs.Common.{◌≡◌, ℕ, ◌+◌, ◌<◌, ◌≤◌, List, Some, None, length, ◌∙◌, ap, refl, subst, inl, inr}
+use Rattle.std.specs.Prelude.{Option, Result, Ok, Err, option_map}
+use Rattle.std.proofs.lemmas.Bool.{cases_lt}
+use Rattle.std.specs.FinMap.{get, insert}
+use Rattle.cf_base.specs.declared.answers.AccessFault.{AccessFault}
+use Rattle.cf_base.specs.declared.answers.AccessFault.TheVariants as access
+use Rattle.cf_base.specs.declared.answers.Handle.{Handle}
+use Rattle.cf_lemmas.proofs.MapValues.{get-map_values}
+use Rattle.cf_lemmas.proofs.Searches.{there_or_not}
+use Rattle.page_model.specs.Arrangement.{class_at}
+use Rattle.page_model.specs.Bytes.{AreBytes, written}
+use Rattle.page_model.specs.Held.{Placed, objects}
+use Rattle.page_model.specs.Image.{header_word}
+use Rattle.slice_model.specs.Runs.{Event, Frees, Happens, Mallocs, Slices, Writes, Malloc, Free, Step, Write}
+use Rattle.slice_model.specs.State.{Idle, IsKept, IsPlan, Plan, Sliced}
+use Rattle.slice_model.specs.declared.answers.SliceFault.{SliceFault}
+use Rattle.slice_model.specs.declared.answers.SliceRefusal.{SliceRefusal}
+use Rattle.slice_model.proofs.CallerLemmas.{answered, bytes_there, free_answered, kept_begun, slice_there}
+use Rattle.sliced_heap.specs.Shown.{KeepsRules, SlicedState, plan_in, working_in}
+use Rattle.slice_session.specs.SliceRun.{Does}
+use Rattle.slice_session.proofs.WordsThere.{does_there, rewrites_there, written_there}
+
+-- the heap with other objects, another job and other words
+abbrev working_with : SlicedState → Sliced → List ℕ → SlicedState
+working_with s w words = record s { held = w.held; job = w.job; words = words }
+
+module _ (s : SlicedState) (rules : KeepsRules s) where
+  abbrev plan : Plan
+  plan = plan_in s
+
+  abbrev state : Sliced
+  state = (working_in s).state
+
+  kept : IsKept (plan_in s) (working_in s).state
+  kept = rules.consistent.kept
+
+  stands : (event : Event) → Happens (plan_in s) (working_in s) event (working_in s) → Does s event s
+  stands event happens = record { happens = happens; stays = record { is_open = refl; profile = refl; quantum = refl } }
+
+  does : (event : Event) (w : Sliced) (words : List ℕ) → Happens (plan_in s) (working_in s) event (record { state = w; words = words })
+      → Does s event (working_with s w words)
+  does event w words happens = record { happens = happens; stays = record { is_open = refl; profile = refl; quantum = refl } }
+
+  pub malloc_there : (n : ℕ) → (answer : Result Handle SliceRefusal) × (new : SlicedState) × Does s (Malloc n answer) new
+  malloc_there n = elim (answered plan rules.plan state kept n) [
+    | inl (e, cause) ↦ (Err e, s, stands (Malloc n (Err e)) (cause, refl))
+    | inr (h, new, gives) ↦ (
+        let w = rewrites_there s.words (record { from = gives.place; count = 1 }) (λ _. header_word h n) in
+        let handle : Handle = record { 0 = h } in
+        (Ok handle, working_with s new w.0, does (Malloc n (Ok handle)) new w.0 (record { gives = gives; words = w.1 })))
+  ]
+
+  pub free_there : (h : ℕ) → (answer : Option SliceFault) × (new : SlicedState) × Does s (Free h answer) new
+  free_there h = elim (free_answered plan rules.plan state kept h) [
+    | inl (e, cause) ↦ (Some e, s, stands (Free h (Some e)) (cause, refl))
+    | inr (new, removes) ↦ (
+        let idle : IsKept plan (record { held = s.held; job = Idle }) =
+        subst (λ j. IsKept (plan_in s) (record { held = s.held; job = j })) removes.idle kept in
+        let begun = kept_begun plan rules.plan s.held idle h removes.freed removes.found removes.moved removes.moves removes.begun removes.begins in
+        let w = does_there plan rules.plan removes.begun.held removes.begun.job begun s.words in
+        (None, working_with s new w.0, does (Free h None) new w.0 (record { removes = removes; words = w.1 })))
+  ]
+
+  pub step_there : (new : SlicedState) × Does s Step new
+  step_there =
+      let slice = slice_there plan rules.plan state kept in
+      let w = does_there plan rules.plan s.held s.job kept s.words in
+      (working_with s slice.0 w.0, does Step slice.0 w.0 (record { slice = slice.1; words = w.1 }))
+
+  pub write_there : (h from : ℕ) (bytes : List ℕ) → AreBytes bytes
+      → (answer : Option AccessFault) × (new : SlicedState) × Does s (Write (record { number = h; from = from }) bytes answer) new
+  write_there h from bytes are = elim (there_or_not s.held h) [
+    | inr none ↦ (
+        Some access.Unknown,
+        s,
+        stands (Write (record { number = h; from = from }) bytes (Some access.Unknown))
+            (get-map_values (λ (x : Placed). x.bytes) s.held h ∙ ap (option_map (λ (x : Placed). x.bytes)) none, refl),
+      )
+    | inl (x, found) ↦ elim (cases_lt (length x.bytes) (from + length bytes)) [
+      | inl past ↦ (
+          Some access.Range,
+          s,
+          stands (Write (record { number = h; from = from }) bytes (Some access.Range)) ((x.bytes, bytes_there s.held h x found, past), refl),
+        )
+      | inr within ↦ (
+          let v = written x.bytes from bytes in
+          let w = written_there plan rules.plan state kept s.words h x found v from (length bytes) within in
+          let new : Sliced = record { held = insert s.held h (record { place = x.place; bytes = v }); job = s.job } in (
+            None,
+            working_with s new w.0,
+            does (Write (record { number = h; from = from }) bytes None) new w.0 (record {
+              object = x;
+              found = found;
+              fits = within;
+              are_bytes = are;
+              state = refl;
+              words = w.1;
+            }),
+          ))
+    ]
+  ]

@@ -1,0 +1,143 @@
+-- What a reply tells of the cause of a refusal.
+use Rattle.std.proofs.Common.{◌≡◌, ◌≢◌, ℕ, ◌<◌, ◌≤◌, List, [], ◌∷◌, Some, None, get_or, arith, refl, sym, ◌∙◌, ap, subst}
+use Rattle.std.specs.Prelude.{Option, Result, Ok, Err, codes, nat_eq, if◌then◌else◌}
+use Rattle.std.specs.Option.{MatchOption}
+use Rattle.std.specs.FinMap.{get}
+use Rattle.cf_base.specs.declared.answers.Handle.{Handle}
+use Rattle.cf_io.specs.Texts.{Reply, said}
+use Rattle.script_reader.specs.declared.command.Command.TheVariants as command
+use Rattle.slice_model.specs.Runs.{Event, Happens, Working, Malloc, Free}
+use Rattle.slice_model.specs.State.{Idle, Sliced}
+use Rattle.slice_model.specs.Steps.{IsFaultOf, IsRefusedBy}
+use Rattle.slice_model.specs.declared.answers.SliceFault.{SliceFault}
+use Rattle.slice_model.specs.declared.answers.SliceFault.TheVariants as fault
+use Rattle.slice_model.specs.declared.answers.SliceRefusal.{SliceRefusal}
+use Rattle.slice_model.specs.declared.answers.SliceRefusal.TheVariants as refusal
+use Rattle.slice_model.proofs.CallerLemmas.{given_or_refused, one_cause}
+use Rattle.sliced_heap.specs.Shown.{SlicedState, plan_in, working_in}
+use Rattle.slice_session.specs.SliceRun.{Does, FreesSliced, IsGoingSliced, MallocsSliced, SliceRun, SliceStep, StaysSliced}
+use Rattle.slice_session.specs.SliceRun.{ids_with, ids_without, slice_free_text, slice_malloc_text}
+use Rattle.cf_base.specs.Settings.{Profile}
+use Rattle.std.specs.Prelude.{Bool}
+use Rattle.std.proofs.Common.{ap₂}
+use Rattle.slice_model.specs.State.{IsKept, IsPlan, Plan}
+use Rattle.slice_model.specs.Steps.{WantsSlot}
+use Rattle.sliced_heap.specs.Shown.{StaysOpen}
+use Rattle.slice_session.specs.SliceRun.{slice_run}
+
+-- the same heap, with the same words
+abbrev heap_by : Bool → Profile → ℕ → Working → SlicedState
+heap_by b p q w = record { is_open = b; profile = p; quantum = q; held = w.state.held; job = w.state.job; words = w.words }
+
+heap_same : (old new : SlicedState) → StaysOpen old new → working_in new ≡ working_in old → new ≡ old
+heap_same old new s is = ap (λ b. heap_by b new.profile new.quantum (working_in new)) s.is_open
+    ∙ ap (λ p. heap_by old.is_open p new.quantum (working_in new)) s.profile
+    ∙ ap (λ q. heap_by old.is_open old.profile q (working_in new)) s.quantum ∙ ap (heap_by old.is_open old.profile old.quantum) is
+
+-- the refusal that a text tells of: by one of its letters
+refusal_in : List ℕ → Option SliceRefusal
+refusal_in t = if nat_eq (get_or t 9 0) 105 then Some refusal.Size else (if nat_eq (get_or t 9 0) 114 then Some refusal.Proxy
+    else (if nat_eq (get_or t 9 0) 112 then Some refusal.Space else (if nat_eq (get_or t 0 0) 98 then Some refusal.Busy else None)))
+
+fault_in : List ℕ → Option SliceFault
+fault_in t = if nat_eq (get_or t 0 0) 117 then Some fault.Unknown else (if nat_eq (get_or t 0 0) 98 then Some fault.Busy else None)
+
+first : {T : Type 0} → (List ℕ → Option T) → Reply → Option T
+first f [] = None
+first f (text ∷ rest) = f text
+
+refusal_of : Result Handle SliceRefusal → Option SliceRefusal
+refusal_of (Ok h) = None
+refusal_of (Err e) = Some e
+
+refusal_told : (a : Result Handle SliceRefusal) → refusal_in (slice_malloc_text a) ≡ refusal_of a
+refusal_told (Ok h) = refl
+refusal_told (Err refusal.Size) = refl
+refusal_told (Err refusal.Proxy) = refl
+refusal_told (Err refusal.Space) = refl
+refusal_told (Err refusal.Busy) = refl
+
+same_refusal : (a : Result Handle SliceRefusal) (e : SliceRefusal) → said (slice_malloc_text (Err e)) ≡ said (slice_malloc_text a) → a ≡ Err e
+same_refusal a e is = go a (sym (refusal_told (Err e)) ∙ ap (first refusal_in) is ∙ refusal_told a)
+  where
+    go : (a : Result Handle SliceRefusal) → Some e ≡ refusal_of a → a ≡ Err e
+    go (Ok h) is = absurd (let z : Some e ≡ None = is in cc)
+    go (Err f) is = (let z : Some e ≡ Some f = is in cc)
+
+fault_told : (a : Option SliceFault) → fault_in (slice_free_text a) ≡ a
+fault_told None = refl
+fault_told (Some fault.Unknown) = refl
+fault_told (Some fault.Busy) = refl
+
+same_fault : (a : Option SliceFault) (e : SliceFault) → said (slice_free_text (Some e)) ≡ said (slice_free_text a) → a ≡ Some e
+same_fault a e is = sym (sym (fault_told (Some e)) ∙ ap (first fault_in) is ∙ fault_told a)
+
+module _ (old new : SliceRun) (id : ℕ) where
+  -- a malloc for an id that isn't live, and a free of one that is
+  mallocs_at : (n : ℕ) (reply : Reply) → get old.ids id ≡ None → SliceStep old (command.Malloc id n) reply new → MallocsSliced old id n reply new
+  mallocs_at n reply none step = go (get old.ids id) none step
+    where
+      go : (o : Option ℕ) → o ≡ None → MatchOption o (MallocsSliced old id n reply new) (λ h. StaysSliced old (codes "live") reply new)
+          → MallocsSliced old id n reply new
+      go None is m = m
+      go (Some h) is s = absurd (let z : Some h ≡ None = is in cc)
+
+  frees_at : (h : ℕ) (reply : Reply) → get old.ids id ≡ Some h → SliceStep old (command.Free id) reply new → FreesSliced old id h reply new
+  frees_at h reply live step = go (get old.ids id) live step
+    where
+      go : (o : Option ℕ) → o ≡ Some h → MatchOption o (StaysSliced old (codes "unknown") reply new) (λ q. FreesSliced old id q reply new)
+          → FreesSliced old id h reply new
+      go None is s = absurd (let z : ◌≡◌ {A = Option ℕ} None (Some h) = is in cc)
+      go (Some q) is f = (let e : q ≡ h = (let z : Some q ≡ Some h = is in cc) in subst (λ k. FreesSliced old id k reply new) e f)
+
+  pub malloc_cause : (n : ℕ) (e : SliceRefusal) → get old.ids id ≡ None → SliceStep old (command.Malloc id n) (said (slice_malloc_text (Err e))) new
+      → IsRefusedBy (plan_in old.heap) (working_in old.heap).state n e × (new ≡ old)
+  malloc_cause n e none step =
+      let m = mallocs_at n _ none step in
+      let is : m.answer ≡ Err e = same_refusal m.answer e m.reply_is in
+      let d = subst (λ (a : Result Handle SliceRefusal). Does old.heap (Malloc n a) new.heap) is m.does in
+      let ids : new.ids ≡ old.ids = m.ids ∙ ap (ids_with old.ids id) is in
+      (d.happens.0, ap₂ slice_run ids (heap_same old.heap new.heap d.stays d.happens.1))
+
+  pub free_cause : (h : ℕ) (e : SliceFault) → get old.ids id ≡ Some h → SliceStep old (command.Free id) (said (slice_free_text (Some e))) new
+      → IsFaultOf (working_in old.heap).state h e × (new ≡ old)
+  free_cause h e live step =
+      let f = frees_at h _ live step in
+      let is : f.answer ≡ Some e = same_fault f.answer e f.reply_is in
+      let d = subst (λ (a : Option SliceFault). Does old.heap (Free h a) new.heap) is f.does in
+      let ids : new.ids ≡ old.ids = f.ids ∙ ap (ids_without old.ids id) is in
+      (d.happens.0, ap₂ slice_run ids (heap_same old.heap new.heap d.stays d.happens.1))
+
+  -- where there is a cause, it is the one that is told
+  pub cause_told : (n : ℕ) (e : SliceRefusal) (reply : Reply) → IsGoingSliced old → get old.ids id ≡ None
+      → IsRefusedBy (plan_in old.heap) (working_in old.heap).state n e → SliceStep old (command.Malloc id n) reply new
+      → reply ≡ said (slice_malloc_text (Err e))
+  cause_told n e reply going none cause step = (let m = mallocs_at n reply none step in go m.answer m.does m.reply_is)
+    where
+      go : (a : Result Handle SliceRefusal) → Does old.heap (Malloc n a) new.heap → reply ≡ said (slice_malloc_text a)
+          → reply ≡ said (slice_malloc_text (Err e))
+      go (Ok h) d is = absurd (given_or_refused (plan_in old.heap) going.rules.plan (working_in old.heap).state going.rules.consistent.kept
+          (record { number = h.0; length = n }) (working_in new.heap).state d.happens.gives e cause)
+      go (Err f) d is = is ∙ ap (λ (f : SliceRefusal). said (slice_malloc_text (Err f)))
+          (one_cause (plan_in old.heap) (working_in old.heap).state n f e d.happens.0 cause)
+
+  -- who has to wait, by the law of the model that a malloc waits for a job alone
+  pub malloc_waits : ((plan : Plan) (s : Sliced) (n : ℕ) → IsPlan plan → IsKept plan s → WantsSlot plan s n → s.job ≢ Idle)
+      → (n : ℕ) → IsGoingSliced old → SliceStep old (command.Malloc id n) (said (codes "busy")) new → old.heap.job ≢ Idle
+  malloc_waits law n going step = go (get old.ids id) refl step
+    where
+      go : (o : Option ℕ) → get old.ids id ≡ o
+          → MatchOption o (MallocsSliced old id n (said (codes "busy")) new) (λ h. StaysSliced old (codes "live") (said (codes "busy")) new)
+          → old.heap.job ≢ Idle
+      go None none m = law (plan_in old.heap) (working_in old.heap).state n going.rules.plan going.rules.consistent.kept
+          (malloc_cause n refusal.Busy none step).0
+      go (Some h) live s = absurd (let z : ◌≡◌ {A = Option SliceRefusal} (Some refusal.Busy) None = ap (first refusal_in) s.0 in cc)
+
+  pub free_waits : SliceStep old (command.Free id) (said (codes "busy")) new → old.heap.job ≢ Idle
+  free_waits step = go (get old.ids id) refl step
+    where
+      go : (o : Option ℕ) → get old.ids id ≡ o
+          → MatchOption o (StaysSliced old (codes "unknown") (said (codes "busy")) new) (λ h. FreesSliced old id h (said (codes "busy")) new)
+          → old.heap.job ≢ Idle
+      go None none s = absurd (let z : Some fault.Busy ≡ Some fault.Unknown = ap (first fault_in) s.0 in cc)
+      go (Some h) live f = (free_cause h fault.Busy live step).0.pending

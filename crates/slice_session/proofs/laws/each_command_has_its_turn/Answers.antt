@@ -1,0 +1,16 @@
+use Rattle.slice_session.proofs.Going.{still_going}
+use Rattle.slice_session.proofs.Opened.{begins_going}
+use Rattle.slice_session.proofs.Turns.{begins_sliced, turn_there}
+use Rattle.slice_session.proofs.laws.each_command_has_its_turn.Goals as goal
+
+pub returns-clause-begins : goal.returns-clause-begins
+returns-clause-begins c = begins_sliced c.an_empty_heap_is_consistent.ensures
+
+pub returns-clause-begun : goal.returns-clause-begun
+returns-clause-begun c = begins_going
+
+pub returns-clause-answered : goal.returns-clause-answered
+returns-clause-answered c = turn_there
+
+pub returns-clause-going : goal.returns-clause-going
+returns-clause-going c = λ old new command reply going step. still_going old new going reply command step

@@ -1,0 +1,2 @@
+pub mod SliceRun
+pub mod Playing

@@ -1,0 +1,89 @@
+-- A session over a sliced heap, as a player.
+use Rattle.std.specs.Prelude.{◌≡◌, ◌≤◌, ◌*◌, ℕ, true, false, List, Option, codes, replicate}
+use Rattle.std.specs.FinMap.{empty}
+use Rattle.cf_base.specs.Settings.{Profile}
+use Rattle.cf_io.specs.Texts.{Reply, said}
+use Rattle.id_table.specs.Ids.{Ids}
+use Rattle.run_model.specs.Plays.{PlayRun}
+use Rattle.script_loop.specs.Semantics.{Semantics}
+use Rattle.script_reader.specs.Items.{Item}
+use Rattle.session_model.specs.Applying.{TurnsInPart}
+use Rattle.slice_model.specs.State.{Idle}
+use Rattle.sliced_heap.specs.Shown.{KeepsRules, SlicedState}
+use Rattle.slice_session.specs.SliceRun.{IsGoingSliced, SliceRun, SliceStep, slice_run}
+
+-- an open heap without objects and without a job, with the settings of a `heap` line at the bound 1, whatever it says
+abbrev pub first_heap : ℕ → Profile → SlicedState
+first_heap quantum p = record {
+  is_open = true;
+  profile = record p { k = 1 };
+  quantum = quantum;
+  held = empty;
+  job = Idle;
+  words = replicate (p.pages * p.page_words) 0;
+}
+
+-- a heap with slices of so many words was opened, and a session begun
+pub record BeginsSliced (quantum : ℕ) (p : Profile) (new : SliceRun) : Type 0 where
+  pub ids : new.ids ≡ empty
+  pub heap : new.heap ≡ first_heap quantum p
+  pub rules : KeepsRules new.heap
+
+-- the same, and `ok` is the reply
+abbrev pub BeginsSlices : ℕ → Profile → Reply → SliceRun → Type 0
+BeginsSlices quantum p reply new = BeginsSliced quantum p new × (reply ≡ said (codes "ok"))
+
+-- The items of a script may get these replies, one each, and lead to the new state.
+abbrev pub RunsSliced : ℕ → Option SliceRun → List Item → List Reply → Option SliceRun → Type 0
+RunsSliced quantum = PlayRun (BeginsSlices quantum) SliceStep
+
+-- an allocation failed: the heap is closed, and the session is as it was
+pub record LacksSliced (old new : SliceRun) : Type 0 where
+  pub closed : new.heap.is_open ≡ false
+  pub ids : new.ids ≡ old.ids
+
+-- A session over a sliced heap. The plan is the words of a slice.
+abbrev pub sliced : Semantics SliceRun ℕ
+sliced = record {
+  plan = λ s. s.heap.quantum;
+  is_fresh = λ s. s.ids ≡ empty;
+  is_going = IsGoingSliced;
+  begins = BeginsSlices;
+  turns = SliceStep;
+  turns_in_part = TurnsInPart SliceStep;
+  lacks = LacksSliced;
+}
+
+-- a player: its run, and how many words a slice has on the heap that it opens
+pub record SlicePlay : Type 0 where
+  pub run : SliceRun
+  pub quantum : ℕ
+
+abbrev pub slice_play : Ids → ℕ → SlicedState → SlicePlay
+slice_play ids quantum heap = record { run = slice_run ids heap; quantum = quantum }
+
+-- a slice has one word at least, and 16,384 at most
+pub record IsQuantum (n : ℕ) : Type 0 where
+  pub least : 1 ≤ n
+  pub most : n ≤ 16384
+
+-- before the `heap` line no id is live
+pub record IsFreshPlay (s : SlicePlay) : Type 0 where
+  pub ids : s.run.ids ≡ empty
+  pub quantum : IsQuantum s.quantum
+
+-- The same session as a player, which opens the heap with slices of its own quantum. No item changes that.
+abbrev pub slices : Semantics SlicePlay ℕ
+slices = record {
+  plan = λ s. s.quantum;
+  is_fresh = IsFreshPlay;
+  is_going = λ s. IsGoingSliced s.run;
+  begins = λ quantum p reply new. BeginsSlices quantum p reply new.run;
+  turns = λ old command reply new. SliceStep old.run command reply new.run;
+  turns_in_part = λ old command out new. TurnsInPart SliceStep old.run command out new.run;
+  lacks = λ old new. LacksSliced old.run new.run;
+}
+
+-- the run of a player
+abbrev pub run_of_play : SlicePlay → SliceRun
+run_of_play s = s.run

@@ -1,0 +1,123 @@
+-- A session over a sliced heap, and what each command does there.
+use Rattle.std.specs.Prelude.{◌≡◌, ℕ, IsTrue, List, Option, Some, None, Result, Ok, Err, codes, slice_get}
+use Rattle.std.specs.Option.{MatchOption}
+use Rattle.std.specs.FinMap.{get, insert, remove}
+use Rattle.cf_base.specs.declared.answers.AccessFault.{AccessFault}
+use Rattle.cf_base.specs.declared.answers.Handle.{Handle}
+use Rattle.cf_base.specs.declared.answers.Refusal.TheVariants as told
+use Rattle.cf_io.specs.Texts.{Reply, said, with_number}
+use Rattle.id_table.specs.Ids.{Ids}
+use Rattle.page_model.specs.Held.{Objects, Placed, objects}
+use Rattle.run_model.specs.Replies.{malloc_text, peek_text, read_text, write_text}
+use Rattle.script_reader.specs.declared.command.Command.{Command}
+use Rattle.script_reader.specs.declared.command.Command.TheVariants as command
+use Rattle.session_model.specs.Ties.{AreTiedTo}
+use Rattle.slice_model.specs.Runs.{Event, Happens, Malloc, Free, Step, Write}
+use Rattle.slice_model.specs.State.{left_of}
+use Rattle.slice_model.specs.declared.answers.SliceFault.{SliceFault}
+use Rattle.slice_model.specs.declared.answers.SliceFault.TheVariants as fault
+use Rattle.slice_model.specs.declared.answers.SliceRefusal.{SliceRefusal}
+use Rattle.slice_model.specs.declared.answers.SliceRefusal.TheVariants as refusal
+use Rattle.sliced_heap.specs.Shown.{KeepsRules, SlicedState, StaysOpen, plan_in, working_in}
+
+-- the live ids with the handles that they name, and the heap
+pub record SliceRun : Type 0 where
+  pub ids : Ids
+  pub heap : SlicedState
+
+abbrev pub slice_run : Ids → SlicedState → SliceRun
+slice_run ids heap = record { ids = ids; heap = heap }
+
+-- the objects of a run, by the numbers of their handles
+abbrev pub live_in : SliceRun → Objects
+live_in s = objects s.heap.held
+
+-- the run goes on: the heap is open and keeps its rules, and the ids are those of its objects
+pub record IsGoingSliced (s : SliceRun) : Type 0 where
+  pub opened : IsTrue s.heap.is_open
+  pub rules : KeepsRules s.heap
+  pub tied : AreTiedTo s.ids (live_in s)
+
+-- the object that an id names, where it is live
+abbrev pub sliced_object_of : SliceRun → ℕ → Option Placed
+sliced_object_of s id = elim (get s.ids id) [ None ↦ None | Some h ↦ get s.heap.held h ]
+
+-- m: as on every manager, and `busy` where a job still holds the only room
+abbrev pub slice_malloc_text : Result Handle SliceRefusal → List ℕ
+slice_malloc_text (Ok h) = malloc_text (Ok h)
+slice_malloc_text (Err refusal.Size) = malloc_text (Err told.Size)
+slice_malloc_text (Err refusal.Proxy) = malloc_text (Err told.Proxy)
+slice_malloc_text (Err refusal.Space) = malloc_text (Err told.Space)
+slice_malloc_text (Err refusal.Busy) = codes "busy"
+
+-- f: None says that it was done
+abbrev pub slice_free_text : Option SliceFault → List ℕ
+slice_free_text None = codes "ok"
+slice_free_text (Some fault.Unknown) = codes "unknown"
+slice_free_text (Some fault.Busy) = codes "busy"
+
+-- w: None says that it was done
+abbrev pub slice_write_text : Option AccessFault → List ℕ
+slice_write_text None = write_text (Ok tt)
+slice_write_text (Some e) = write_text (Err e)
+
+-- the ids after a malloc for an id, and after a free of one
+abbrev pub ids_with : Ids → ℕ → Result Handle SliceRefusal → Ids
+ids_with ids id (Ok h) = insert ids id h.0
+ids_with ids id (Err e) = ids
+
+abbrev pub ids_without : Ids → ℕ → Option SliceFault → Ids
+ids_without ids id None = remove ids id
+ids_without ids id (Some e) = ids
+
+-- the heap answered this call, and stays open with its pages and its quantum
+pub record Does (old : SlicedState) (event : Event) (new : SlicedState) : Type 0 where
+  pub happens : Happens (plan_in old) (working_in old) event (working_in new)
+  pub stays : StaysOpen old new
+
+-- the command does nothing, and gets this reply
+abbrev pub StaysSliced : SliceRun → List ℕ → Reply → SliceRun → Type 0
+StaysSliced old text reply new = (reply ≡ said text) × (new ≡ old)
+
+-- a malloc for an id that isn't live
+pub record MallocsSliced (old : SliceRun) (id bytes : ℕ) (reply : Reply) (new : SliceRun) : Type 0 where
+  pub answer : Result Handle SliceRefusal
+  pub does : Does old.heap (Malloc bytes answer) new.heap
+  pub ids : new.ids ≡ ids_with old.ids id answer
+  pub reply_is : reply ≡ said (slice_malloc_text answer)
+
+-- a free of a live id, with the first slice of the job that it leaves
+pub record FreesSliced (old : SliceRun) (id h : ℕ) (reply : Reply) (new : SliceRun) : Type 0 where
+  pub answer : Option SliceFault
+  pub does : Does old.heap (Free h answer) new.heap
+  pub ids : new.ids ≡ ids_without old.ids id answer
+  pub reply_is : reply ≡ said (slice_free_text answer)
+
+-- a slice of the job, and the words that are left of it then
+pub record StepsSliced (old : SliceRun) (reply : Reply) (new : SliceRun) : Type 0 where
+  pub does : Does old.heap Step new.heap
+  pub ids : new.ids ≡ old.ids
+  pub reply_is : reply ≡ said (with_number (codes "left ") (left_of (plan_in new.heap) (working_in new.heap).state))
+
+-- a write into a live object, at byte `from` of it
+pub record WritesSliced (old : SliceRun) (h from : ℕ) (bytes : List ℕ) (reply : Reply) (new : SliceRun) : Type 0 where
+  pub answer : Option AccessFault
+  pub does : Does old.heap (Write (record { number = h; from = from }) bytes answer) new.heap
+  pub ids : new.ids ≡ old.ids
+  pub reply_is : reply ≡ said (slice_write_text answer)
+
+-- the reply of a command that changes nothing: a read tells the bytes of the object, in motion or not, and `none` answers all that isn't of this mode
+abbrev pub slice_told : SliceRun → Command → Reply
+slice_told s (command.Read id from count) = said (read_text (sliced_object_of s id) from count)
+slice_told s (command.Peek word) = said (peek_text (slice_get s.heap.words word))
+slice_told s other = said (codes "none")
+
+-- One command: its reply, and the state after it.
+abbrev pub SliceStep : SliceRun → Command → Reply → SliceRun → Type 0
+SliceStep old (command.Malloc id bytes) reply new =
+    MatchOption (get old.ids id) (MallocsSliced old id bytes reply new) (λ h. StaysSliced old (codes "live") reply new)
+SliceStep old (command.Free id) reply new = MatchOption (get old.ids id) (StaysSliced old (codes "unknown") reply new) (λ h. FreesSliced old id h reply new)
+SliceStep old command.Slice reply new = StepsSliced old reply new
+SliceStep old (command.Write id from bytes) reply new =
+    MatchOption (get old.ids id) (StaysSliced old (codes "unknown") reply new) (λ h. WritesSliced old h from bytes reply new)
+SliceStep old other reply new = (reply ≡ slice_told old other) × (new ≡ old)

@@ -1,0 +1,85 @@
+//! Laws of sessions over sliced heaps. The functions do nothing: what each ensures is the law.
+ghost use Rattle.std.specs.Prelude.{◌≡◌, ◌≢◌, ℕ, ◌++◌, ◌↔◌, Bool, List, Option, Err, None, Some, codes};
+ghost use Rattle.std.specs.Option.{option_map};
+ghost use Rattle.std.specs.FinMap.{get};
+ghost use Rattle.cf_base.specs.Settings.{Profile};
+ghost use Rattle.cf_io.specs.Texts.{Reply, said};
+ghost use Rattle.cf_model.specs.Rules.{AreInRange};
+ghost use Rattle.run_laws.specs.Sayable.{IsSayable};
+ghost use Rattle.run_laws.specs.Told.{AreReadsOf};
+ghost use Rattle.script_loop.specs.Semantics.{RunBy};
+ghost use Rattle.script_reader.specs.Items.{Item, items};
+ghost use Rattle.script_reader.specs.declared.command.Command.{Command};
+ghost use Rattle.script_reader.specs.declared.command.Command.TheVariants.{Malloc, Free};
+ghost use Rattle.slice_model.specs.State.{Idle};
+ghost use Rattle.slice_model.specs.Steps.{IsFaultOf, IsRefusedBy};
+ghost use Rattle.slice_model.specs.declared.answers.SliceFault.{SliceFault};
+ghost use Rattle.slice_model.specs.declared.answers.SliceRefusal.{SliceRefusal};
+ghost use Rattle.sliced_heap.specs.Shown.{plan_in, working_in};
+ghost use Rattle.slice_session.specs.Playing.{BeginsSliced, IsQuantum, RunsSliced, SlicePlay, run_of_play, slices};
+ghost use Rattle.slice_session.specs.SliceRun.{IsGoingSliced, SliceRun, SliceStep, slice_free_text, slice_malloc_text};
+
+use slice_model::{a_malloc_waits_for_a_job_alone, an_empty_heap_is_consistent};
+
+/// Over every list of commands of several tasks, and wherever slices of the jobs stand between them,
+/// each read gives the bytes last written through its id, also of an object in motion. What the lines
+/// and their replies tell of ids is all that it depends on: no address, no handle and no job.
+pub fn reads_give_what_was_written()
+    ensures { (quantum : ℕ) (items : List Item) (replies : List Reply) (new : Option SliceRun)
+        → RunsSliced quantum None items replies new → AreReadsOf None items replies }
+{}
+
+/// A refusal's reply tells its cause, and nothing has changed. A malloc and a free are answered
+/// `busy` only where a job is pending; and `refused space` is the answer to a malloc exactly where
+/// the pages that are needed are more than there are, whether a job is pending or not.
+pub fn replies_tell_their_causes()
+    ensures malloc { (old new : SliceRun) (id n : ℕ) (e : SliceRefusal) → get old.ids id ≡ None
+        → SliceStep old (Malloc id n) (said (slice_malloc_text (Err e))) new
+        → IsRefusedBy (plan_in old.heap) (working_in old.heap).state n e × (new ≡ old) }
+    ensures refused { (old new : SliceRun) (id n : ℕ) (e : SliceRefusal) (reply : Reply) → IsGoingSliced old → get old.ids id ≡ None
+        → IsRefusedBy (plan_in old.heap) (working_in old.heap).state n e → SliceStep old (Malloc id n) reply new
+        → reply ≡ said (slice_malloc_text (Err e)) }
+    ensures free { (old new : SliceRun) (id h : ℕ) (e : SliceFault) → get old.ids id ≡ Some h
+        → SliceStep old (Free id) (said (slice_free_text (Some e))) new
+        → IsFaultOf (working_in old.heap).state h e × (new ≡ old) }
+    ensures busy_malloc { (old new : SliceRun) (id n : ℕ) → IsGoingSliced old
+        → SliceStep old (Malloc id n) (said (codes "busy")) new → old.heap.job ≢ Idle }
+    ensures busy_free { (old new : SliceRun) (id : ℕ)
+        → SliceStep old (Free id) (said (codes "busy")) new → old.heap.job ≢ Idle }
+{
+    a_malloc_waits_for_a_job_alone();
+}
+
+/// A run begins under any settings in their ranges, with slices of any quantum; and from each state
+/// of a run that goes on every command that a script can say gets a reply, after which the run goes
+/// on.
+pub fn each_command_has_its_turn()
+    ensures begins { (quantum : ℕ) (p : Profile) → IsQuantum quantum → AreInRange p
+        → (new : SliceRun) × BeginsSliced quantum p new }
+    ensures begun { (quantum : ℕ) (p : Profile) (new : SliceRun) → BeginsSliced quantum p new → IsGoingSliced new }
+    ensures answered { (old : SliceRun) (command : Command) → IsGoingSliced old → IsSayable command
+        → (reply : Reply) × (new : SliceRun) × SliceStep old command reply new }
+    ensures going { (old new : SliceRun) (command : Command) (reply : Reply) → IsGoingSliced old
+        → SliceStep old command reply new → IsGoingSliced new }
+{
+    an_empty_heap_is_consistent();
+}
+
+/// There is a run over the items of any bytes, and each run over a prefix of them can go on to the end.
+pub fn a_sliced_run_can_always_go_on()
+    ensures there { (quantum : ℕ) (given : List ℕ) (ended : Bool) → IsQuantum quantum
+        → (replies : List Reply) × (new : Option SliceRun) × RunsSliced quantum None (items given ended) replies new }
+    ensures on { (quantum : ℕ) (given : List ℕ) (ended : Bool) (done after : List Item) (replies : List Reply)
+        (mid : Option SliceRun)
+        → IsQuantum quantum → items given ended ≡ done ++ after → RunsSliced quantum None done replies mid
+        → (more : List Reply) × (new : Option SliceRun) × RunsSliced quantum None (items given ended) (replies ++ more) new }
+{
+    an_empty_heap_is_consistent();
+}
+
+/// What a player answers over a script is a run of its session, with slices of its quantum.
+pub fn plays_are_runs()
+    ensures { (from : SlicePlay) (items : List Item) (replies : List Reply) (new : Option SlicePlay)
+        → RunBy slices from None items replies new
+        → RunsSliced from.quantum None items replies (option_map run_of_play new) }
+{}

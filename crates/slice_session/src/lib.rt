@@ -1,0 +1,15 @@
+//! A session over a sliced heap, for several tasks whose commands come in any order, and a script on
+//! it. One command gets one reply.
+#![tactic(auto)]
+
+mod commands;
+mod laws;
+mod player;
+mod session;
+
+pub use laws::{
+    a_sliced_run_can_always_go_on, each_command_has_its_turn, plays_are_runs,
+    reads_give_what_was_written, replies_tell_their_causes,
+};
+pub use player::{SlicePlayer, run_slices};
+pub use session::SliceSession;

@@ -1,0 +1,117 @@
+//! A script on a sliced heap.
+ghost use Rattle.std.specs.Prelude.{◌≡◌, ◌<◌, ◌+◌, ◌⊎◌, ℕ, IfOk};
+ghost use Rattle.std.specs.FinMap as map;
+ghost use Rattle.cf_io.specs.Feeds.{Rose, last_count};
+ghost use Rattle.script_loop.specs.ScriptOutcome.{MOST_BYTES, MeetsOutcome};
+ghost use Rattle.slice_session.specs.Playing.{IsQuantum, SlicePlay, slice_play, slices};
+
+use crate::session::SliceSession;
+use cf_base::{Failed, OutOfMemory, Settings, Status};
+use cf_io::{Sink, Source, put_all};
+use script_loop::{OpenFault, Player, play_script};
+use script_reader::CommandRef;
+use sliced_heap::SlicedHeap;
+use std::alloc::Global;
+use std::rt::Runtime;
+use step_ledger::Meter;
+
+/// A session over a sliced heap that answers a script, with the words of a slice and the ledger that
+/// it uses.
+#[derive(Drop)]
+pub struct SlicePlayer {
+    pub session: SliceSession,
+    /// How many words a slice has at most on the heap that is opened.
+    pub quantum: u32,
+    meter: Meter,
+}
+
+impl SlicePlayer {
+    /// A session in which no id is live, for a heap with slices of `quantum` words.
+    pub fn start<R: Runtime>(
+        rt: &R,
+        alloc: Global,
+        quantum: u32,
+    ) -> Result<SlicePlayer, OutOfMemory>
+        requires { IsQuantum quantum }
+        ensures session { IfOk result (λ p. p.session ≡ map.empty) }
+        ensures quantum { IfOk result (λ p. p.quantum ≡ quantum) }
+    {
+        Ok(SlicePlayer {
+            session: SliceSession::start(alloc)?,
+            quantum,
+            meter: Meter::new(rt),
+        })
+    }
+}
+
+impl Player<SlicedHeap> for SlicePlayer {
+    ghost State = { SlicePlay };
+
+    ghost Plan = { ℕ };
+
+    ghost state = { λ player heap. slice_play player.session player.quantum heap };
+
+    ghost semantics = { slices };
+
+    fn open<K: Sink>(
+        &mut self,
+        heap: &mut SlicedHeap,
+        settings: &Settings,
+        sink: &mut K,
+    ) -> Result<(), OpenFault> {
+        // Every class has the bound 1, whatever the line says.
+        match heap.open_heap(settings, self.quantum) {
+            Ok(()) => {}
+            Err(_) => return Err(OpenFault::OutOfMemory),
+        }
+        match put_all(sink, b"ok\n") {
+            Ok(()) => Ok(()),
+            Err(_) => Err(OpenFault::Failed),
+        }
+    }
+
+    fn answer<K: Sink>(
+        &mut self,
+        heap: &mut SlicedHeap,
+        command: CommandRef,
+        sink: &mut K,
+    ) -> Result<(), Failed> {
+        match self
+            .session
+            .apply_ref(heap, command, sink, &mut self.meter)
+        {
+            Ok(_) => Ok(()),
+            Err(failed) => Err(failed),
+        }
+    }
+}
+
+/// Answers each line of a script before it takes the next chunk of it: its `heap` line opens the
+/// heap, with the bound 1 for each class, and each command is answered from its objects. It stops at
+/// a bad line, at a fault of the source or the sink, where an allocation fails at the `heap` line, and
+/// past 268,435,455 bytes.
+pub fn run_slices<S: Source, K: Sink>(
+    player: &mut SlicePlayer,
+    heap: &mut SlicedHeap,
+    source: &mut S,
+    sink: &mut K,
+) -> Status
+    requires fresh { player.old.session ≡ map.empty }
+    requires quantum { IsQuantum player.old.quantum }
+    ensures outcome { MeetsOutcome slices (slice_play player.old.session player.old.quantum heap.old) (record {
+      had = S.rest source.old;
+      left = S.rest source.new;
+      before = K.written sink.old;
+      after = K.written sink.new;
+      status = result;
+    }) (slice_play player.new.session player.new.quantum heap.new) }
+    ensures quantum { player.new.quantum ≡ player.old.quantum }
+    // The causes, also where the source isn't observable.
+    ensures silent { result ≡ Status.OutOfMemory → K.written sink.new ≡ K.written sink.old }
+    ensures read_fault { result ≡ Status.ReadFault → Rose (S.faults source.old) (S.faults source.new) }
+    ensures write_fault { result ≡ Status.WriteFault → Rose (K.faults sink.old) (K.faults sink.new) }
+    ensures too_long { result ≡ Status.TooLong
+        → (S.given source.old + MOST_BYTES < S.given source.new) ⊎ (S.given source.new ≡ last_count) }
+{
+    play_script(player, heap, source, sink)
+}

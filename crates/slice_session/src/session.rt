@@ -1,0 +1,163 @@
+//! A session over a sliced heap.
+ghost use Rattle.std.specs.Prelude.{◌≡◌, ◌<◌, ◌≤◌, [], IsTrue, IfOk, OnErr, length};
+ghost use Rattle.std.specs.FinMap as map;
+ghost use Rattle.cf_io.specs.Feeds.{Rose};
+ghost use Rattle.cf_io.specs.Lines.{line_room};
+ghost use Rattle.script_reader.specs.Commands.{IsWellFormed};
+ghost use Rattle.script_reader.specs.Owned.{owned_command};
+ghost use Rattle.script_loop.specs.Semantics.{snapshot};
+ghost use Rattle.session_model.specs.Applying.{Applies, Speaks};
+ghost use Rattle.slice_session.specs.SliceRun.{IsGoingSliced, SliceStep, slice_run};
+ghost use Rattle.slice_session.specs.Playing.{sliced};
+
+use crate::commands::{free, malloc, peek, read, step, write};
+use cf_base::{Failed, OutOfMemory};
+use cf_io::{Line, Sink, push_text, put_line};
+use cf_session::Outcome;
+use id_table::IdTable;
+use script_reader::{Command, CommandRef};
+use session_model::{ended, outcome_of_text};
+use sliced_heap::SlicedHeap;
+use std::alloc::Global;
+use std::marker::Model;
+use step_ledger::{Meter, Steps};
+
+/// The most bytes that are read at once.
+const MOST: usize = 4_096;
+
+/// The ids of the objects of one sliced heap. Its tasks are callers whose commands come in any order.
+#[derive(Drop)]
+pub struct SliceSession {
+    ids: IdTable,
+    /// The line that a reply is built in.
+    line: Line,
+    /// Room for the bytes that are read.
+    room: [u8; MOST],
+}
+
+impl Model for SliceSession {
+    ghost use Rattle.id_table.specs.Ids.{Ids, ids_code};
+
+    ghost Value = { Ids };
+
+    ghost coded = { ids_code };
+
+    ghost view = { λ s. s.ids };
+}
+
+impl SliceSession {
+    /// A session in which no id is live. The table of all 65,536 ids is taken here.
+    pub fn start(alloc: Global) -> Result<SliceSession, OutOfMemory>
+        ensures { IfOk result (λ s. s ≡ map.empty) }
+    {
+        Ok(SliceSession {
+            ids: IdTable::new(alloc)?,
+            line: Line::new(),
+            room: [0; MOST],
+        })
+    }
+
+    /// Does the command on the heap, with a ledger that is lapped first, and writes its reply.
+    /// `Failed` only where the sink failed; the command has taken effect then, and a prefix of its
+    /// reply was written.
+    pub fn apply<K: Sink>(
+        &mut self,
+        heap: &mut SlicedHeap,
+        c: &Command,
+        out: &mut K,
+        meter: &mut Meter,
+    ) -> Result<Outcome, Failed>
+        requires going { IsGoingSliced (slice_run self.old heap.old) }
+        requires formed { IsWellFormed c.now }
+        ensures answers { Applies sliced (snapshot (slice_run self.old heap.old) (K.written out.old)) c.now result
+            (snapshot (slice_run self.new heap.new) (K.written out.new)) }
+        ensures going { IsGoingSliced (slice_run self.new heap.new) }
+        ensures grows { K.faults out.old ≤ K.faults out.new }
+        ensures failed { OnErr result (Rose (K.faults out.old) (K.faults out.new)) }
+    {
+        self.apply_ref(heap, c.as_ref(), out, meter)
+    }
+
+    /// The same for a command whose bytes are borrowed.
+    pub fn apply_ref<K: Sink>(
+        &mut self,
+        heap: &mut SlicedHeap,
+        c: CommandRef,
+        out: &mut K,
+        meter: &mut Meter,
+    ) -> Result<Outcome, Failed>
+        requires going { IsGoingSliced (slice_run self.old heap.old) }
+        requires formed { IsWellFormed (owned_command c) }
+        ensures answers { Applies sliced (snapshot (slice_run self.old heap.old) (K.written out.old)) (owned_command c.entry) result
+            (snapshot (slice_run self.new heap.new) (K.written out.new)) }
+        ensures going { IsGoingSliced (slice_run self.new heap.new) }
+        ensures grows { K.faults out.old ≤ K.faults out.new }
+        ensures failed { OnErr result (Rose (K.faults out.old) (K.faults out.new)) }
+    {
+        meter.lap();
+        answer(
+            &mut self.ids,
+            heap,
+            c,
+            &mut self.room,
+            &mut self.line,
+            out,
+            meter.steps(),
+        )
+    }
+}
+
+/// Does the command, and writes its reply.
+fn answer<K: Sink>(
+    ids: &mut IdTable,
+    heap: &mut SlicedHeap,
+    c: CommandRef,
+    room: &mut [u8],
+    line: &mut Line,
+    out: &mut K,
+    steps: &mut Steps,
+) -> Result<Outcome, Failed>
+    requires going { IsGoingSliced (slice_run ids.old heap.old) }
+    requires formed { IsWellFormed (owned_command c) }
+    requires place { length room.old ≡ 4096 }
+    ensures answers { Applies sliced (snapshot (slice_run ids.old heap.old) (K.written out.old)) (owned_command c.entry) result
+        (snapshot (slice_run ids.new heap.new) (K.written out.new)) }
+    ensures grows { K.faults out.old ≤ K.faults out.new }
+    ensures failed { OnErr result (Rose (K.faults out.old) (K.faults out.new)) }
+{
+    speak(ids, heap, c, room, line, steps);
+    let outcome = outcome_of_text(line.bytes());
+    ended(put_line(line, out), outcome)
+}
+
+/// Does a command, and writes the text of its reply on the line.
+fn speak(
+    ids: &mut IdTable,
+    heap: &mut SlicedHeap,
+    c: CommandRef,
+    room: &mut [u8],
+    line: &mut Line,
+    steps: &mut Steps,
+)
+    requires going { IsGoingSliced (slice_run ids.old heap.old) }
+    requires formed { IsWellFormed (owned_command c) }
+    requires place { length room.old ≡ 4096 }
+    ensures { Speaks SliceStep (slice_run ids.old heap.old) (owned_command c.entry) (slice_run ids.new heap.new) line.new }
+{
+    line.clear();
+    match c {
+        CommandRef::Malloc { id, bytes } => {
+            push_text(line, malloc(ids, heap, id, bytes, steps));
+        }
+        CommandRef::Free { id } => push_text(line, free(ids, heap, id, steps)),
+        CommandRef::Slice => step(ids, heap, line, steps),
+        CommandRef::Write { id, at, bytes } => {
+            push_text(line, write(ids, heap, id, at, bytes, steps));
+        }
+        CommandRef::Read { id, at, len } => {
+            read(ids, heap, id, at, &mut room[..len as usize], line, steps);
+        }
+        CommandRef::Peek { word } => peek(heap, word, line, steps),
+        _ => push_text(line, b"none"),
+    }
+}
