@@ -1,11 +1,11 @@
 -- What callers know of an open heap.
-use Rattle.std.proofs.Common.{◌≡◌, Option, Some, None, refl, ap, ◌∙◌, subst}
-use Rattle.std.specs.Prelude.{IsTrue}
+use Rattle.std.proofs.Common.{◌≡◌, Option, Some, None, refl}
+use Rattle.std.specs.Prelude.{is_some, true}
 use Rattle.std.proofs.lemmas.Bool.{false≢true}
 use Rattle.cf_base.specs.Settings.{profile_of}
 use Rattle.quota_images.proofs.CallerLemmas.{own_image}
 use Rattle.quota_heap.specs.Layout.{IsValid, IsValidIn, held_in, state_in, state_of}
-use Rattle.quota_heap.specs.State.{KeepsTasks, QuotaState}
+use Rattle.quota_heap.specs.State.{KeepsTasks}
 use Rattle.quota_heap.specs.declared.open_tasks.OpenTasks.{OpenTasks}
 
 pub rules : (h : OpenTasks) → IsValid h → KeepsTasks (state_of h)
@@ -20,7 +20,7 @@ rules h k = record {
   slots = k.image;
 }
 
--- the same in the terms of the value
-pub rules_of : (o : Option OpenTasks) → IsValidIn o → (s : QuotaState) → state_in o ≡ s → IsTrue s.is_open → KeepsTasks s
-rules_of None k s is open_now = absurd (false≢true (ap (λ (t : QuotaState). t.is_open) is ∙ open_now))
-rules_of (Some h) k s is open_now = subst KeepsTasks is (rules h k)
+-- the same of a heap that may be closed
+pub open_rules : (o : Option OpenTasks) → IsValidIn o → is_some o ≡ true → KeepsTasks (state_in o)
+open_rules None k is = absurd (false≢true is)
+open_rules (Some h) k is = rules h k

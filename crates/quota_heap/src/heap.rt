@@ -55,12 +55,12 @@ impl QuotaHeap {
         Ok(())
     }
 
-    /// What every call keeps.
-    pub fn rules(&self)
-        requires { IsTrue self.now.is_open }
-        ensures { KeepsTasks self.now }
+    /// Whether the heap is open. Where it is, it keeps its tasks apart and within their quotas.
+    pub fn is_open(&self) -> bool
+        ensures value { result ≡ self.now.is_open }
+        ensures rules { IsTrue result → KeepsTasks self.now }
     {
-        let _inner = &self.inner;
+        self.inner.is_some()
     }
 
     /// The pages of a task's quota.

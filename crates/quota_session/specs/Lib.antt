@@ -1,0 +1,4 @@
+pub mod TaskRun
+pub mod QuotaRun
+pub mod Playing
+pub mod Layout

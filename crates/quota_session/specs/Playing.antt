@@ -1,0 +1,47 @@
+-- A session over a heap that tasks share, as a player.
+use Rattle.std.specs.Prelude.{◌≡◌, ⊤, List, Option, Some, None, codes, false}
+use Rattle.cf_base.specs.Settings.{Profile}
+use Rattle.cf_io.specs.Texts.{Reply, said}
+use Rattle.quota_heap.specs.State.{KeepsTasks, empty_state}
+use Rattle.run_model.specs.Plays.{PlayRun}
+use Rattle.script_loop.specs.Semantics.{Semantics}
+use Rattle.script_reader.specs.Items.{Item}
+use Rattle.script_reader.specs.declared.command.Command.{Command}
+use Rattle.session_model.specs.Applying.{TurnsInPart}
+use Rattle.quota_session.specs.QuotaRun.{IsGoingQuotas, QuotaRun, QuotaStep, first_session}
+
+-- the settings of a `heap` line, with the bound 1 whatever it says
+abbrev pub at_bound_one : Profile → Profile
+at_bound_one p = record p { k = 1 }
+
+-- a heap that tasks share was opened with the settings of the line, and a session begun
+pub record BeginsQuotas (p : Profile) (new : QuotaRun) : Type 0 where
+  pub settings : new.settings ≡ Some (at_bound_one p)
+  pub session : new.session ≡ first_session
+  pub heap : new.heap ≡ empty_state (at_bound_one p)
+  pub rules : KeepsTasks new.heap
+
+-- the same, and `ok` is the reply
+abbrev pub BeginsAtOne : Profile → Reply → QuotaRun → Type 0
+BeginsAtOne p reply new = BeginsQuotas p new × (reply ≡ said (codes "ok"))
+
+-- The items of a script may get these replies, one each, and lead to the new state.
+abbrev pub RunsQuotas : Option QuotaRun → List Item → List Reply → Option QuotaRun → Type 0
+RunsQuotas = PlayRun BeginsAtOne QuotaStep
+
+-- an allocation failed: the heap is closed, and the session is as it was
+pub record LacksQuotas (old new : QuotaRun) : Type 0 where
+  pub closed : new.heap.is_open ≡ false
+  pub settings : new.settings ≡ old.settings
+  pub session : new.session ≡ old.session
+
+abbrev pub quota_tasks : Semantics QuotaRun ⊤
+quota_tasks = record {
+  plan = λ s. tt;
+  is_fresh = λ s. s.session ≡ first_session;
+  is_going = IsGoingQuotas;
+  begins = λ plan. BeginsAtOne;
+  turns = QuotaStep;
+  turns_in_part = TurnsInPart QuotaStep;
+  lacks = LacksQuotas;
+}

@@ -1,0 +1,138 @@
+-- A session over a heap that tasks share, and what each command does there.
+use Rattle.std.specs.Prelude.{◌≡◌, ℕ, ◌<◌, ◌≤◌, ◌++◌, IsTrue, List, [], ◌∷◌, Option, Some, None, codes, length, if◌then◌else◌, nat_lt, replicate, refl}
+use Rattle.std.specs.Prelude.{slice_index_or, slice_set}
+use Rattle.std.specs.Coded.{Coded, code_by, coded×, coded_ℕ, coded_list}
+use Rattle.std.specs.FinMap.{empty}
+use Rattle.cf_base.specs.Settings.{Profile}
+use Rattle.cf_io.specs.Texts.{Reply, said, with_number}
+use Rattle.id_table.specs.Ids.{Ids, ids_code}
+use Rattle.quota_heap.specs.State.{KeepsTasks, QuotaState, objects_by, quota_of}
+use Rattle.quota_laws.specs.Tasks.{quota_text, quotas_after}
+use Rattle.quota_model.specs.Admission.{IsAdmission}
+use Rattle.quota_model.specs.Refusals.{quota_refusal}
+use Rattle.quota_model.specs.contracts.Need as need
+use Rattle.quota_model.specs.declared.answers.Admission.{Admission}
+use Rattle.quota_model.specs.declared.answers.Admission.TheVariants as admission
+use Rattle.quota_model.specs.declared.answers.Need.{Need}
+use Rattle.quota_model.specs.declared.answers.QuotaFault.{QuotaFault}
+use Rattle.script_loop.specs.Semantics.{Snapshot, snapshot}
+use Rattle.script_reader.specs.declared.command.Command.{Command}
+use Rattle.script_reader.specs.declared.command.Command.TheVariants as command
+use Rattle.session_model.specs.Ties.{AreTiedTo}
+use Rattle.quota_session.specs.TaskRun.{TaskRun, TaskStep, task_run}
+
+-- by task its live ids with the handles that they name, and the entries that it declared; and the present task
+pub record TaskSession : Type 0 where
+  pub ids : List Ids
+  pub needs : List (List Need)
+  pub present : ℕ
+
+-- a session that was just begun: no id is live, nothing is declared, and task 0 is present
+abbrev pub first_session : TaskSession
+first_session = record { ids = replicate 16 empty; needs = replicate 16 []; present = 0 }
+
+-- the ids of a task, and what it declared
+abbrev pub ids_of : TaskSession → ℕ → Ids
+ids_of s task = slice_index_or s.ids task empty
+
+abbrev pub needs_of : TaskSession → ℕ → List Need
+needs_of s task = slice_index_or s.needs task []
+
+-- there are sixteen tasks, the present one among them, and each declared 64 entries at most
+pub record HasSixteen (s : TaskSession) : Type 0 where
+  pub ids : length s.ids ≡ 16
+  pub needs : length s.needs ≡ 16
+  pub few : (task : ℕ) → length (needs_of s task) ≤ 64
+  pub present : s.present < 16
+
+abbrev pub session_code : Coded TaskSession
+session_code = code_by (List Ids × (List (List Need) × ℕ)) (coded× (coded_list ids_code) (coded× (coded_list (coded_list need.the_row.coded)) coded_ℕ))
+    (λ s. (s.ids, (s.needs, s.present))) (λ q. record { ids = q.0; needs = q.1.0; present = q.1.1 }) (λ _. refl)
+
+-- the ids of each task name just its objects, each once
+abbrev pub AreTasksTied : TaskSession → QuotaState → Type 0
+AreTasksTied session heap = (task : ℕ) → task < 16 → AreTiedTo (ids_of session task) (objects_by heap task)
+
+-- the settings of the `heap` line, where there was one; the session; and its heap
+pub record QuotaRun : Type 0 where
+  pub settings : Option Profile
+  pub session : TaskSession
+  pub heap : QuotaState
+
+abbrev pub quota_run : Option Profile → TaskSession → QuotaState → QuotaRun
+quota_run settings session heap = record { settings = settings; session = session; heap = heap }
+
+-- The run goes on: the heap is open with the settings of the line and keeps its tasks apart, and the ids are those of its objects.
+pub record IsGoingQuotas (s : QuotaRun) : Type 0 where
+  pub opened : IsTrue s.heap.is_open
+  pub settings : s.settings ≡ Some s.heap.profile
+  pub rules : KeepsTasks s.heap
+  pub sixteen : HasSixteen s.session
+  pub tied : AreTasksTied s.session s.heap
+
+-- the present task, with its ids
+abbrev pub present_run : TaskSession → QuotaState → TaskRun
+present_run session heap = task_run session.present (ids_of session session.present) heap
+
+-- the session, with other ids of the present task
+abbrev pub with_ids : TaskSession → Ids → TaskSession
+with_ids s ids = record s { ids = slice_set s.ids s.present ids }
+
+-- a command of the present task, which changes the ids of no other one
+pub record StepsPresent (old : QuotaRun) (command : Command) (reply : Reply) (new : QuotaRun) : Type 0 where
+  pub ids : Ids
+  pub step : TaskStep (present_run old.session old.heap) command reply (task_run old.session.present ids new.heap)
+  pub whole : new ≡ record old { session = with_ids old.session ids; heap = new.heap }
+
+-- t: another task is present
+abbrev pub with_present : QuotaRun → ℕ → QuotaRun
+with_present s task = record s { session = record s.session { present = task } }
+
+-- why a quota line is refused, if it is
+abbrev pub quota_fault : QuotaState → ℕ → ℕ → Option QuotaFault
+quota_fault s task pages = quota_refusal s.profile s.quotas task pages (objects_by s task)
+
+-- quota: the task has another quota, or the line is refused and changes nothing
+pub record SetsQuota (old : QuotaRun) (task pages : ℕ) (reply : Reply) (new : QuotaRun) : Type 0 where
+  pub whole : new ≡ record old { heap = record old.heap { quotas = quotas_after (quota_fault old.heap task pages) old.heap.quotas task pages } }
+  pub rules : KeepsTasks new.heap
+  pub reply_is : reply ≡ said (quota_text (quota_fault old.heap task pages))
+
+-- need: `full` where the task declared 64 entries
+abbrev pub need_text : List Need → List ℕ
+need_text needs = if nat_lt (length needs) 64 then codes "ok" else codes "full"
+
+-- the entries with one more, where there is room for it
+abbrev pub one_more : List Need → Need → List Need
+one_more needs entry = if nat_lt (length needs) 64 then needs ++ entry ∷ [] else needs
+
+-- the session, with one more entry of a task
+abbrev pub with_need : TaskSession → ℕ → Need → TaskSession
+with_need s task entry = record s { needs = slice_set s.needs task (one_more (needs_of s task) entry) }
+
+-- admit
+abbrev pub admission_text : Admission → List ℕ
+admission_text (admission.Size entry) = codes "size"
+admission_text admission.Proxies = codes "proxies"
+admission_text (admission.No nth) = with_number (codes "no ") nth
+admission_text admission.Yes = codes "yes"
+
+-- admit: the answer to what a task declared, at its quota
+pub record Admits (s : QuotaRun) (task : ℕ) (reply : Reply) : Type 0 where
+  pub answer : Admission
+  pub meets : IsAdmission (record { profile = s.heap.profile; quota = quota_of s.heap task }) (needs_of s.session task) answer
+  pub reply_is : reply ≡ said (admission_text answer)
+
+-- One command: its reply, and the state after it.
+abbrev pub QuotaStep : QuotaRun → Command → Reply → QuotaRun → Type 0
+QuotaStep old (command.Task task) reply new = (reply ≡ said (codes "ok")) × (new ≡ with_present old task)
+QuotaStep old (command.Quota task pages) reply new = SetsQuota old task pages reply new
+QuotaStep old (command.Need task bytes count) reply new =
+    (reply ≡ said (need_text (needs_of old.session task)))
+    × (new ≡ record old { session = with_need old.session task (record { bytes = bytes; count = count }) })
+QuotaStep old (command.Admit task) reply new = Admits old task reply × (new ≡ old)
+QuotaStep old command reply new = StepsPresent old command reply new
+
+-- the state at one moment, and the bytes written by then
+abbrev pub quota_moment : Option Profile → TaskSession → QuotaState → Option (List ℕ) → Snapshot QuotaRun
+quota_moment settings session heap written = snapshot (quota_run settings session heap) written

@@ -1,0 +1,101 @@
+-- One task of a session, and what each of its commands does.
+use Rattle.std.specs.Prelude.{◌≡◌, ℕ, ◌-◌, ◌++◌, List, Option, Some, None, Result, Ok, Err, codes, filter, map, nat_eq, not}
+use Rattle.std.specs.List.{range_with_len}
+use Rattle.std.specs.Option.{MatchOption}
+use Rattle.std.specs.FinMap.{get, remove}
+use Rattle.cf_base.specs.declared.answers.AccessFault.{AccessFault}
+use Rattle.cf_base.specs.declared.answers.Freed.{Freed}
+use Rattle.cf_base.specs.declared.answers.Handle.{Handle}
+use Rattle.cf_base.specs.declared.answers.Refusal.{Refusal}
+use Rattle.cf_base.specs.declared.answers.Totals.{Totals}
+use Rattle.cf_io.specs.Texts.{Reply, said}
+use Rattle.cf_model.specs.Steps.{Part}
+use Rattle.id_table.specs.Ids.{Ids}
+use Rattle.page_model.specs.Arrangement.{live, used_pages}
+use Rattle.page_model.specs.Figures.{figures_of, totals_of}
+use Rattle.page_model.specs.Held.{Placed}
+use Rattle.page_model.specs.Paging.{Paging, classes}
+use Rattle.quota_heap.specs.State.{KeepsTasks, QuotaState, held_by, objects_by, quota_of}
+use Rattle.quota_heap.specs.Steps.{FreesOfTask, IsMallocStep, IsWriteStep}
+use Rattle.quota_model.specs.Refusals.{task_paging}
+use Rattle.run_model.specs.Replies.{malloc_text, read_text, write_text}
+use Rattle.run_model.specs.Reports.{class_line, total_line}
+use Rattle.run_model.specs.Steps.{ids_given}
+use Rattle.script_reader.specs.declared.command.Command.{Command}
+use Rattle.script_reader.specs.declared.command.Command.TheVariants.{Malloc, Free, Write, Read, Walk}
+
+-- a task, its live ids with the handles that they name, and the heap of all tasks
+pub record TaskRun : Type 0 where
+  pub task : ℕ
+  pub ids : Ids
+  pub heap : QuotaState
+
+abbrev pub task_run : ℕ → Ids → QuotaState → TaskRun
+task_run task ids heap = record { task = task; ids = ids; heap = heap }
+
+-- the object that an id of the task names, where it is live
+abbrev pub task_object : TaskRun → ℕ → Option Placed
+task_object s id = elim (get s.ids id) [ None ↦ None | Some h ↦ get (held_by s.heap s.task) h ]
+
+-- the classes of a task with live objects, in rising order
+abbrev pub task_classes : QuotaState → ℕ → List ℕ
+task_classes s task = filter (λ c. not (nat_eq (live (task_paging s.profile) (objects_by s task) c) 0)) (range_with_len 0 (classes (task_paging s.profile)))
+
+-- the lines of these classes of a task
+abbrev pub class_lines : QuotaState → ℕ → List ℕ → Reply
+class_lines s task cs = map (λ c. class_line (figures_of (task_paging s.profile) (held_by s task) c)) cs
+
+-- the figures of a whole task; the pages of its quota that it doesn't use are its free ones
+abbrev pub task_totals : QuotaState → ℕ → Totals
+task_totals s task = record (totals_of (task_paging s.profile) (held_by s task)) {
+  free = quota_of s task - used_pages (task_paging s.profile) (held_by s task);
+}
+
+-- walk: a line for each class of the task with live objects, and then the last line
+abbrev pub task_report : QuotaState → ℕ → Reply
+task_report s task = class_lines s task (task_classes s task) ++ said (total_line (task_totals s task))
+
+-- the command does nothing, and gets this reply
+abbrev pub StaysTask : TaskRun → List ℕ → Reply → TaskRun → Type 0
+StaysTask old text reply new = (reply ≡ said text) × (new ≡ old)
+
+-- a malloc for an id that isn't live
+pub record MallocsForTask (old : TaskRun) (id bytes : ℕ) (reply : Reply) (new : TaskRun) : Type 0 where
+  pub answer : Result Handle Refusal
+  pub step : IsMallocStep old.heap old.task bytes answer new.heap
+  pub rules : KeepsTasks new.heap
+  pub ids : new.ids ≡ ids_given old.ids id answer
+  pub task : new.task ≡ old.task
+  pub reply_is : reply ≡ said (malloc_text answer)
+
+-- a free of a live id
+pub record FreesIdOfTask (old : TaskRun) (id h : ℕ) (reply : Reply) (new : TaskRun) : Type 0 where
+  pub freed : Freed
+  pub step : FreesOfTask old.heap old.task h freed new.heap
+  pub rules : KeepsTasks new.heap
+  pub ids : new.ids ≡ remove old.ids id
+  pub task : new.task ≡ old.task
+  pub reply_is : reply ≡ said (codes "ok")
+
+-- a write into a live object
+pub record WritesIdOfTask (old : TaskRun) (part : Part) (bytes : List ℕ) (reply : Reply) (new : TaskRun) : Type 0 where
+  pub answer : Result Unit AccessFault
+  pub step : IsWriteStep old.heap old.task part bytes answer new.heap
+  pub rules : KeepsTasks new.heap
+  pub ids : new.ids ≡ old.ids
+  pub task : new.task ≡ old.task
+  pub reply_is : reply ≡ said (write_text answer)
+
+-- the reply of a command that changes nothing; `none` answers all that isn't of this mode
+abbrev pub task_told : TaskRun → Command → Reply
+task_told s (Read id at count) = said (read_text (task_object s id) at count)
+task_told s Walk = task_report s.heap s.task
+task_told s command = said (codes "none")
+
+-- One command of a task: its reply, and the state after it.
+abbrev pub TaskStep : TaskRun → Command → Reply → TaskRun → Type 0
+TaskStep old (Malloc id bytes) reply new = MatchOption (get old.ids id) (MallocsForTask old id bytes reply new) (λ h. StaysTask old (codes "live") reply new)
+TaskStep old (Free id) reply new = MatchOption (get old.ids id) (StaysTask old (codes "unknown") reply new) (λ h. FreesIdOfTask old id h reply new)
+TaskStep old (Write id at bytes) reply new =
+    MatchOption (get old.ids id) (StaysTask old (codes "unknown") reply new) (λ h. WritesIdOfTask old (record { number = h; from = at }) bytes reply new)
+TaskStep old command reply new = (reply ≡ task_told old command) × (new ≡ old)

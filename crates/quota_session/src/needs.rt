@@ -1,0 +1,65 @@
+//! What a task declares.
+ghost use Rattle.std.specs.Prelude.{◌≡◌, ◌<◌, ◌≤◌, [], IsTrue, length, nat_lt};
+ghost use Rattle.quota_model.specs.declared.answers.Need.{Need as ANeed};
+ghost use Rattle.quota_session.specs.QuotaRun.{one_more};
+
+use admission::Need;
+use std::marker::Model;
+
+/// The most entries of a task.
+const MOST: usize = 64;
+
+/// The entries of a task: 64 at most.
+#[derive(Drop)]
+pub(crate) struct Needs {
+    entries: [Need; MOST],
+    count: usize,
+}
+
+impl Model for Needs {
+    ghost use Rattle.std.specs.Prelude.{◌≤◌, List, take};
+    ghost use Rattle.std.specs.Coded.{coded_list};
+    ghost use Rattle.quota_model.specs.contracts.Need as need;
+    ghost use Rattle.quota_model.specs.declared.answers.Need.{Need as ANeed};
+
+    ghost Value = { List ANeed };
+
+    ghost coded = { coded_list need.the_row.coded };
+
+    ghost view = { λ n. take n.count n.entries };
+
+    ghost invariant = { λ n. n.count ≤ 64 };
+}
+
+impl Needs {
+    /// Nothing is declared.
+    pub(crate) fn new() -> Needs
+        ensures { result ≡ [] }
+    {
+        Needs {
+            entries: [Need { bytes: 0, count: 0 }; MOST],
+            count: 0,
+        }
+    }
+
+    /// The entries.
+    pub(crate) fn entries(&self) -> &[Need]
+        ensures value { result.now ≡ self.now }
+        ensures few { length self.now ≤ 64 }
+    {
+        &self.entries[..self.count]
+    }
+
+    /// Adds an entry, where there are fewer than 64; and whether there were.
+    pub(crate) fn push(&mut self, entry: Need) -> bool
+        ensures room { result ≡ nat_lt (length self.old) 64 }
+        ensures value { self.new ≡ one_more self.old entry }
+    {
+        if self.count == MOST {
+            return false;
+        }
+        self.entries[self.count] = entry;
+        self.count += 1;
+        true
+    }
+}

@@ -1,0 +1,120 @@
+//! A script on a heap that tasks share.
+ghost use Rattle.std.specs.Prelude.{◌≡◌, ◌<◌, ◌+◌, ◌⊎◌, ⊤, IfOk, None, option_map};
+ghost use Rattle.cf_base.specs.Settings.{profile_of};
+ghost use Rattle.cf_io.specs.Feeds.{Rose, last_count};
+ghost use Rattle.script_loop.specs.ScriptOutcome.{MOST_BYTES, MeetsOutcome};
+ghost use Rattle.quota_session.specs.Playing.{quota_tasks};
+ghost use Rattle.quota_session.specs.QuotaRun.{QuotaRun, first_session, quota_run};
+
+use crate::session::QuotaSession;
+use cf_base::{Failed, OutOfMemory, Settings, Status};
+use cf_io::{Sink, Source, put_all};
+use quota_heap::QuotaHeap;
+use script_loop::{OpenFault, Player, play_script};
+use script_reader::CommandRef;
+use std::alloc::Global;
+use std::rt::Runtime;
+use step_ledger::Meter;
+
+/// A session over sixteen tasks that answers a script, with the settings of its `heap` line and the
+/// ledger that it uses.
+#[derive(Drop)]
+pub struct QuotaPlayer {
+    pub session: QuotaSession,
+    pub settings: Option<Settings>,
+    meter: Meter,
+}
+
+impl QuotaPlayer {
+    /// A session that was just begun, with no settings yet. All its memory is taken here.
+    pub fn start<R: Runtime>(rt: &R, alloc: Global) -> Result<QuotaPlayer, OutOfMemory>
+        ensures session { IfOk result (λ p. p.session ≡ first_session) }
+        ensures settings { IfOk result (λ p. p.settings ≡ None) }
+    {
+        Ok(QuotaPlayer {
+            session: QuotaSession::start(alloc)?,
+            settings: None,
+            meter: Meter::new(rt),
+        })
+    }
+}
+
+impl Player<QuotaHeap> for QuotaPlayer {
+    ghost State = { QuotaRun };
+
+    ghost Plan = { ⊤ };
+
+    ghost state = { λ player heap. quota_run (option_map profile_of player.settings) player.session heap };
+
+    ghost semantics = { quota_tasks };
+
+    fn open<K: Sink>(
+        &mut self,
+        heap: &mut QuotaHeap,
+        settings: &Settings,
+        sink: &mut K,
+    ) -> Result<(), OpenFault> {
+        // Every class has the bound 1, whatever the line says.
+        let settings = Settings {
+            pages: settings.pages,
+            page_words: settings.page_words,
+            k: 1,
+            proxies: settings.proxies,
+        };
+        match heap.open_heap(&settings) {
+            Ok(()) => {}
+            Err(_) => return Err(OpenFault::OutOfMemory),
+        }
+        self.settings = Some(settings);
+        match put_all(sink, b"ok\n") {
+            Ok(()) => Ok(()),
+            Err(_) => Err(OpenFault::Failed),
+        }
+    }
+
+    fn answer<K: Sink>(
+        &mut self,
+        heap: &mut QuotaHeap,
+        command: CommandRef,
+        sink: &mut K,
+    ) -> Result<(), Failed> {
+        let Some(settings) = self.settings else {
+            unreachable!();
+        };
+        match self
+            .session
+            .apply_ref(heap, &settings, command, sink, &mut self.meter)
+        {
+            Ok(_) => Ok(()),
+            Err(failed) => Err(failed),
+        }
+    }
+}
+
+/// Answers each line of a script before it takes the next chunk of it: its `heap` line opens the
+/// heap, with the bound 1 for each class, and each command is answered for the task that is present
+/// or that it names. It stops at a bad line, at a fault of the source or the sink, where an allocation
+/// fails at the `heap` line, and past 268,435,455 bytes.
+pub fn run_quotas<S: Source, K: Sink>(
+    player: &mut QuotaPlayer,
+    heap: &mut QuotaHeap,
+    source: &mut S,
+    sink: &mut K,
+) -> Status
+    requires { player.old.session ≡ first_session }
+    ensures outcome { MeetsOutcome quota_tasks (quota_run (option_map profile_of player.old.settings) player.old.session heap.old) (record {
+      had = S.rest source.old;
+      left = S.rest source.new;
+      before = K.written sink.old;
+      after = K.written sink.new;
+      status = result;
+    }) (quota_run (option_map profile_of player.new.settings) player.new.session heap.new) }
+    // The causes, also where the source isn't observable.
+    ensures silent { result ≡ Status.OutOfMemory → K.written sink.new ≡ K.written sink.old }
+    ensures read_fault { result ≡ Status.ReadFault → Rose (S.faults source.old) (S.faults source.new) }
+    ensures write_fault { result ≡ Status.WriteFault → Rose (K.faults sink.old) (K.faults sink.new) }
+    ensures too_long { result ≡ Status.TooLong
+        → (S.given source.old + MOST_BYTES < S.given source.new) ⊎ (S.given source.new ≡ last_count) }
+{
+    play_script(player, heap, source, sink)
+}

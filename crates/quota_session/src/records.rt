@@ -1,0 +1,67 @@
+//! What a session keeps of its tasks.
+ghost use Rattle.std.specs.Prelude.{◌≡◌, IfOk, [], replicate};
+ghost use Rattle.std.specs.FinMap as map;
+ghost use Rattle.quota_session.specs.Layout.{session_of};
+ghost use Rattle.quota_session.specs.QuotaRun.{first_session};
+
+use crate::needs::Needs;
+use cf_base::OutOfMemory;
+use id_table::IdTable;
+use std::alloc::Global;
+
+/// How many tasks there are.
+pub(crate) const TASKS: u32 = 16;
+
+/// By task, the handles of its live ids and the entries that it declared; and the present task.
+#[derive(Drop)]
+pub(crate) struct Records {
+    pub(crate) ids: Vec<IdTable>,
+    pub(crate) needs: Vec<Needs>,
+    pub(crate) present: u32,
+}
+
+impl Records {
+    /// No id of any task is live, nothing is declared, and task 0 is present. All memory is taken here.
+    pub(crate) fn new(alloc: Global) -> Result<Records, OutOfMemory>
+        ensures { IfOk result (λ r. session_of r ≡ first_session) }
+    {
+        let ids = first_ids(alloc)?;
+        let needs = first_needs(alloc)?;
+        Ok(Records {
+            ids,
+            needs,
+            present: 0,
+        })
+    }
+}
+
+/// The tables of sixteen tasks in which no id is live.
+fn first_ids(alloc: Global) -> Result<Vec<IdTable>, OutOfMemory>
+    ensures { IfOk result (λ ids. ids.items ≡ replicate 16 map.empty) }
+{
+    let Ok(mut all) = Vec::with_capacity(alloc, TASKS as usize) else {
+        return Err(OutOfMemory);
+    };
+    for _i in 0..TASKS {
+        let ids = IdTable::new(alloc)?;
+        let Ok(()) = all.push(ids) else {
+            return Err(OutOfMemory);
+        };
+    }
+    Ok(all)
+}
+
+/// The entries of sixteen tasks of which none declared any.
+fn first_needs(alloc: Global) -> Result<Vec<Needs>, OutOfMemory>
+    ensures { IfOk result (λ needs. needs.items ≡ replicate 16 []) }
+{
+    let Ok(mut all) = Vec::with_capacity(alloc, TASKS as usize) else {
+        return Err(OutOfMemory);
+    };
+    for _i in 0..TASKS {
+        let Ok(()) = all.push(Needs::new()) else {
+            return Err(OutOfMemory);
+        };
+    }
+    Ok(all)
+}

@@ -1,0 +1,269 @@
+//! A session over a heap that tasks share.
+ghost use Rattle.std.specs.Prelude.{◌≡◌, ◌<◌, ◌^◌, ◌≤◌, [], IfOk, IsTrue, OnErr, Option, Some, length};
+ghost use Rattle.cf_base.specs.Settings.{Profile, profile_of};
+ghost use Rattle.cf_io.specs.Feeds.{Rose};
+ghost use Rattle.cf_io.specs.Lines.{line_room};
+ghost use Rattle.cf_io.specs.Texts.{said};
+ghost use Rattle.quota_heap.specs.State.{KeepsTasks, objects_by};
+ghost use Rattle.script_reader.specs.Commands.{IsWellFormed};
+ghost use Rattle.script_reader.specs.Owned.{owned_command};
+ghost use Rattle.session_model.specs.Applying.{Applies, Speaks};
+ghost use Rattle.session_model.specs.Ties.{AreTiedTo};
+ghost use Rattle.quota_session.specs.Layout.{IsOfTask, IsOneLine, session_of};
+ghost use Rattle.quota_session.specs.Playing.{quota_tasks};
+ghost use Rattle.quota_session.specs.QuotaRun.{AreTasksTied, HasSixteen, IsGoingQuotas, QuotaStep, StepsPresent, first_session, quota_moment, quota_run};
+ghost use Rattle.quota_session.specs.TaskRun.{TaskStep, task_run};
+
+use crate::changes::{free, malloc, read, write};
+use crate::records::Records;
+use crate::reports::walk;
+use crate::tasks::{declare, push_admission, set_quota};
+use admission::{Need, admit};
+use cf_base::{Failed, OutOfMemory, Settings};
+use cf_io::{Line, Sink, push_text, put_line};
+use cf_session::Outcome;
+use id_table::IdTable;
+use quota_heap::QuotaHeap;
+use script_reader::{Command, CommandRef};
+use session_model::{ended, outcome_of_text};
+use std::alloc::Global;
+use std::marker::Model;
+use step_ledger::{Meter, Steps};
+
+/// The most bytes that are read at once.
+const MOST: usize = 4_096;
+
+/// The ids of the objects of sixteen tasks, what each task declared, and which task is present.
+#[derive(Drop)]
+pub struct QuotaSession {
+    records: Records,
+    line: Line,
+    /// Room for the bytes that are read.
+    room: [u8; MOST],
+}
+
+impl Model for QuotaSession {
+    ghost use Rattle.quota_session.specs.Layout.{session_of};
+    ghost use Rattle.quota_session.specs.QuotaRun.{HasSixteen, TaskSession, session_code};
+
+    ghost Value = { TaskSession };
+
+    ghost coded = { session_code };
+
+    ghost view = { λ s. session_of s.records };
+
+    ghost invariant = { λ s. HasSixteen (session_of s.records) };
+}
+
+impl QuotaSession {
+    /// A session in which no id of any task is live, no task declared anything, and task 0 is present.
+    /// All its memory is taken here: a table of 65,536 ids for each task.
+    pub fn start(alloc: Global) -> Result<QuotaSession, OutOfMemory>
+        ensures { IfOk result (λ s. s ≡ first_session) }
+    {
+        Ok(QuotaSession {
+            records: Records::new(alloc)?,
+            line: Line::new(),
+            room: [0; MOST],
+        })
+    }
+
+    /// Does the command on the heap, which is open with the settings `s`, and writes its reply. The
+    /// ledger is lapped first. `Failed` only where the sink failed; the command has taken effect
+    /// then, and a prefix of its reply was written.
+    pub fn apply<K: Sink>(
+        &mut self,
+        heap: &mut QuotaHeap,
+        s: &Settings,
+        c: &Command,
+        out: &mut K,
+        meter: &mut Meter,
+    ) -> Result<Outcome, Failed>
+        requires opened { IsTrue heap.old.is_open }
+        requires settings { heap.old.profile ≡ profile_of s.now }
+        requires tied { AreTasksTied self.old heap.old }
+        requires formed { IsWellFormed c.now }
+        ensures answers { Applies quota_tasks (quota_moment (Some (profile_of s.now)) self.old heap.old (K.written out.old)) c.now result
+            (quota_moment (Some (profile_of s.now)) self.new heap.new (K.written out.new)) }
+        ensures going { IsGoingQuotas (quota_run (Some (profile_of s.now)) self.new heap.new) }
+        ensures grows { K.faults out.old ≤ K.faults out.new }
+        ensures failed { OnErr result (Rose (K.faults out.old) (K.faults out.new)) }
+    {
+        self.apply_ref(heap, s, c.as_ref(), out, meter)
+    }
+
+    /// The same for a command whose bytes are borrowed.
+    pub fn apply_ref<K: Sink>(
+        &mut self,
+        heap: &mut QuotaHeap,
+        s: &Settings,
+        c: CommandRef,
+        out: &mut K,
+        meter: &mut Meter,
+    ) -> Result<Outcome, Failed>
+        requires opened { IsTrue heap.old.is_open }
+        requires settings { heap.old.profile ≡ profile_of s.now }
+        requires tied { AreTasksTied self.old heap.old }
+        requires formed { IsWellFormed (owned_command c) }
+        ensures answers { Applies quota_tasks (quota_moment (Some (profile_of s.now)) self.old heap.old (K.written out.old))
+            (owned_command c.entry) result (quota_moment (Some (profile_of s.now)) self.new heap.new (K.written out.new)) }
+        ensures going { IsGoingQuotas (quota_run (Some (profile_of s.now)) self.new heap.new) }
+        ensures grows { K.faults out.old ≤ K.faults out.new }
+        ensures failed { OnErr result (Rose (K.faults out.old) (K.faults out.new)) }
+    {
+        // An open heap keeps its tasks apart.
+        let _open = heap.is_open();
+        meter.lap();
+        answer(
+            &mut self.records,
+            heap,
+            s,
+            c,
+            &mut self.room,
+            &mut self.line,
+            out,
+            meter.steps(),
+        )
+    }
+}
+
+/// Does the command, and writes its reply.
+fn answer<K: Sink>(
+    records: &mut Records,
+    heap: &mut QuotaHeap,
+    s: &Settings,
+    c: CommandRef,
+    room: &mut [u8],
+    line: &mut Line,
+    out: &mut K,
+    steps: &mut Steps,
+) -> Result<Outcome, Failed>
+    requires going { IsGoingQuotas (quota_run (Some (profile_of s.now)) (session_of records.old) heap.old) }
+    requires formed { IsWellFormed (owned_command c) }
+    requires place { length room.old ≡ 4096 }
+    requires count { steps.old ≤ 2 ^ 63 }
+    ensures answers { Applies quota_tasks (quota_moment (Some (profile_of s.now)) (session_of records.old) heap.old (K.written out.old))
+        (owned_command c.entry) result (quota_moment (Some (profile_of s.now)) (session_of records.new) heap.new (K.written out.new)) }
+    ensures grows { K.faults out.old ≤ K.faults out.new }
+    ensures failed { OnErr result (Rose (K.faults out.old) (K.faults out.new)) }
+{
+    match c {
+        CommandRef::Walk => {
+            let task = records.present;
+            let written = walk(&records.ids[task as usize], heap, task, line, out);
+            ended(written, Outcome::Other)
+        }
+        _ => {
+            speak(records, heap, s, c, room, line, steps);
+            let outcome = outcome_of_text(line.bytes());
+            ended(put_line(line, out), outcome)
+        }
+    }
+}
+
+/// Does a command whose reply is one line, and writes its text on the line.
+fn speak(
+    records: &mut Records,
+    heap: &mut QuotaHeap,
+    s: &Settings,
+    c: CommandRef,
+    room: &mut [u8],
+    line: &mut Line,
+    steps: &mut Steps,
+)
+    requires going { IsGoingQuotas (quota_run (Some (profile_of s.now)) (session_of records.old) heap.old) }
+    requires formed { IsWellFormed (owned_command c) }
+    requires one { IsOneLine (owned_command c) }
+    requires place { length room.old ≡ 4096 }
+    requires count { steps.old ≤ 2 ^ 63 }
+    ensures { Speaks QuotaStep (quota_run (Some (profile_of s.now)) (session_of records.old) heap.old) (owned_command c.entry)
+        (quota_run (Some (profile_of s.now)) (session_of records.new) heap.new) line.new }
+{
+    line.clear();
+    match c {
+        CommandRef::Task { task } => {
+            records.present = task;
+            push_text(line, b"ok");
+        }
+        CommandRef::Quota { task, pages } => push_text(line, set_quota(heap, task, pages)),
+        CommandRef::Need { task, bytes, count } => {
+            push_text(line, declare(records, task, Need { bytes, count }));
+        }
+        CommandRef::Admit { task } => {
+            let quota = heap.quota(task);
+            let needs = &records.needs[task as usize];
+            push_admission(line, admit(s, quota, needs.entries()));
+        }
+        _ => speak_present(records, heap, c, room, line, steps),
+    }
+}
+
+/// Does a command of the present task whose reply is one line, and writes its text on the line.
+fn speak_present(
+    records: &mut Records,
+    heap: &mut QuotaHeap,
+    c: CommandRef,
+    room: &mut [u8],
+    line: &mut Line,
+    steps: &mut Steps,
+)
+    requires opened { IsTrue heap.old.is_open }
+    requires sixteen { HasSixteen (session_of records.old) }
+    requires tied { AreTasksTied (session_of records.old) heap.old }
+    requires formed { IsWellFormed (owned_command c) }
+    requires own { IsOfTask (owned_command c) }
+    requires place { length room.old ≡ 4096 }
+    requires count { steps.old ≤ 2 ^ 63 }
+    requires empty { line.old ≡ [] }
+    ensures step { (settings : Option Profile) → StepsPresent (quota_run settings (session_of records.old) heap.old)
+        (owned_command c.entry) (said line.new) (quota_run settings (session_of records.new) heap.new) }
+    ensures room { length line.new < line_room }
+{
+    let task = records.present;
+    let ids = &mut records.ids[task as usize];
+    speak_task(ids, heap, task, c, room, line, steps);
+}
+
+/// The same, with the ids of the task.
+fn speak_task(
+    ids: &mut IdTable,
+    heap: &mut QuotaHeap,
+    task: u32,
+    c: CommandRef,
+    room: &mut [u8],
+    line: &mut Line,
+    steps: &mut Steps,
+)
+    requires opened { IsTrue heap.old.is_open }
+    requires sixteen { task < 16 }
+    requires tied { AreTiedTo ids.old (objects_by heap.old task) }
+    requires formed { IsWellFormed (owned_command c) }
+    requires own { IsOfTask (owned_command c) }
+    requires place { length room.old ≡ 4096 }
+    requires count { steps.old ≤ 2 ^ 63 }
+    requires empty { line.old ≡ [] }
+    ensures { Speaks TaskStep (task_run task ids.old heap.old) (owned_command c.entry) (task_run task ids.new heap.new) line.new }
+{
+    match c {
+        CommandRef::Malloc { id, bytes } => {
+            push_text(line, malloc(ids, heap, task, id, bytes, steps));
+        }
+        CommandRef::Free { id } => push_text(line, free(ids, heap, task, id, steps)),
+        CommandRef::Write { id, at, bytes } => {
+            push_text(line, write(ids, heap, task, id, at, bytes, steps));
+        }
+        CommandRef::Read { id, at, len } => {
+            read(
+                ids,
+                heap,
+                task,
+                id,
+                at,
+                &mut room[..len as usize],
+                line,
+                steps,
+            );
+        }
+        _ => push_text(line, b"none"),
+    }
+}

@@ -1,0 +1,54 @@
+//! The commands that name a task.
+ghost use Rattle.std.specs.Prelude.{◌≡◌, ◌+◌, ◌<◌, ◌≤◌, [], IsTrue, length, slice_set};
+ghost use Rattle.cf_io.specs.Lines.{line_room};
+ghost use Rattle.quota_heap.specs.State.{KeepsTasks};
+ghost use Rattle.quota_laws.specs.Tasks.{quota_text, quotas_after};
+ghost use Rattle.quota_session.specs.Layout.{session_of};
+ghost use Rattle.quota_session.specs.QuotaRun.{HasSixteen, admission_text, need_text, needs_of, quota_fault, with_need};
+
+use crate::records::Records;
+use admission::{Admission, Need};
+use cf_io::{Line, push_field, push_text};
+use quota_heap::{QuotaFault, QuotaHeap};
+
+/// `quota`: gives a task another quota.
+pub(crate) fn set_quota(heap: &mut QuotaHeap, task: u32, pages: u32) -> &'static [u8]
+    requires opened { IsTrue heap.old.is_open }
+    requires sixteen { task < 16 }
+    ensures heap { heap.new ≡ record heap.old { quotas = quotas_after (quota_fault heap.old task pages) heap.old.quotas task pages } }
+    ensures rules { KeepsTasks heap.new }
+    ensures text { result.now ≡ quota_text (quota_fault heap.old task pages) }
+    ensures short { length result.now ≤ 20 }
+{
+    match heap.set_quota(task, pages) {
+        Ok(()) => b"ok",
+        Err(QuotaFault::Sum) => b"refused sum",
+        Err(QuotaFault::Used) => b"refused used",
+    }
+}
+
+/// `need`: a task declares one more entry, where it has fewer than 64.
+pub(crate) fn declare(records: &mut Records, task: u32, entry: Need) -> &'static [u8]
+    requires sixteen { task < 16 }
+    requires kept { HasSixteen (session_of records.old) }
+    ensures session { session_of records.new ≡ with_need (session_of records.old) task entry }
+    ensures text { result.now ≡ need_text (needs_of (session_of records.old) task) }
+    ensures short { length result.now ≤ 20 }
+{
+    let needs = &mut records.needs[task as usize];
+    if needs.push(entry) { b"ok" } else { b"full" }
+}
+
+/// `admit`: writes the answer on the line.
+pub(crate) fn push_admission(line: &mut Line, answer: Admission)
+    requires { line.old ≡ [] }
+    ensures text { line.new ≡ admission_text answer }
+    ensures room { length line.new < line_room }
+{
+    match answer {
+        Admission::Size { .. } => push_text(line, b"size"),
+        Admission::Proxies => push_text(line, b"proxies"),
+        Admission::No { nth } => push_field(line, b"no ", nth as u64),
+        Admission::Yes => push_text(line, b"yes"),
+    }
+}
