@@ -1,19 +1,18 @@
 -- Each call of a sliced heap has an answer, and a state after it.
-use Rattle.std.proofs.Common.{◌≡◌, ℕ, ◌+◌, ◌<◌, ◌≤◌, List, Some, None, length, ◌∙◌, ap, refl, subst, inl, inr}
+use Rattle.std.proofs.Common.{ℕ, ◌+◌, List, Some, None, length, ◌∙◌, ap, refl, subst, inl, inr}
 use Rattle.std.specs.Prelude.{Option, Result, Ok, Err, option_map}
 use Rattle.std.proofs.lemmas.Bool.{cases_lt}
-use Rattle.std.specs.FinMap.{get, insert}
+use Rattle.std.specs.FinMap.{insert}
 use Rattle.cf_base.specs.declared.answers.AccessFault.{AccessFault}
 use Rattle.cf_base.specs.declared.answers.AccessFault.TheVariants as access
 use Rattle.cf_base.specs.declared.answers.Handle.{Handle}
 use Rattle.cf_lemmas.proofs.MapValues.{get-map_values}
 use Rattle.cf_lemmas.proofs.Searches.{there_or_not}
-use Rattle.page_model.specs.Arrangement.{class_at}
 use Rattle.page_model.specs.Bytes.{AreBytes, written}
 use Rattle.page_model.specs.Held.{Placed, objects}
 use Rattle.page_model.specs.Image.{header_word}
-use Rattle.slice_model.specs.Runs.{Event, Frees, Happens, Mallocs, Slices, Writes, Malloc, Free, Step, Write}
-use Rattle.slice_model.specs.State.{Idle, IsKept, IsPlan, Plan, Sliced}
+use Rattle.slice_model.specs.Runs.{Event, Happens, Malloc, Free, Step, Write}
+use Rattle.slice_model.specs.State.{Idle, IsKept, Plan, Sliced}
 use Rattle.slice_model.specs.declared.answers.SliceFault.{SliceFault}
 use Rattle.slice_model.specs.declared.answers.SliceRefusal.{SliceRefusal}
 use Rattle.slice_model.proofs.CallerLemmas.{answered, bytes_there, free_answered, kept_begun, slice_there}
@@ -72,20 +71,20 @@ module _ (s : SlicedState) (rules : KeepsRules s) where
       → (answer : Option AccessFault) × (new : SlicedState) × Does s (Write (record { number = h; from = from }) bytes answer) new
   write_there h from bytes are = elim (there_or_not s.held h) [
     | inr none ↦ (
-        Some access.Unknown,
-        s,
-        stands (Write (record { number = h; from = from }) bytes (Some access.Unknown))
-            (get-map_values (λ (x : Placed). x.bytes) s.held h ∙ ap (option_map (λ (x : Placed). x.bytes)) none, refl),
-      )
+      Some access.Unknown,
+      s,
+      stands (Write (record { number = h; from = from }) bytes (Some access.Unknown))
+          (get-map_values (λ (x : Placed). x.bytes) s.held h ∙ ap (option_map (λ (x : Placed). x.bytes)) none, refl),
+    )
     | inl (x, found) ↦ elim (cases_lt (length x.bytes) (from + length bytes)) [
       | inl past ↦ (
-          Some access.Range,
-          s,
-          stands (Write (record { number = h; from = from }) bytes (Some access.Range)) ((x.bytes, bytes_there s.held h x found, past), refl),
-        )
+        Some access.Range,
+        s,
+        stands (Write (record { number = h; from = from }) bytes (Some access.Range)) ((x.bytes, bytes_there s.held h x found, past), refl),
+      )
       | inr within ↦ (
           let v = written x.bytes from bytes in
-          let w = written_there plan rules.plan state kept s.words h x found v from (length bytes) within in
+          let w = written_there plan rules.plan state kept h x found from (length bytes) within s.words v in
           let new : Sliced = record { held = insert s.held h (record { place = x.place; bytes = v }); job = s.job } in (
             None,
             working_with s new w.0,

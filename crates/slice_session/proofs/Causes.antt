@@ -1,12 +1,12 @@
 -- What a reply tells of the cause of a refusal.
-use Rattle.std.proofs.Common.{◌≡◌, ◌≢◌, ℕ, ◌<◌, ◌≤◌, List, [], ◌∷◌, Some, None, get_or, arith, refl, sym, ◌∙◌, ap, subst}
+use Rattle.std.proofs.Common.{◌≡◌, ◌≢◌, ℕ, List, [], ◌∷◌, Some, None, get_or, refl, sym, ◌∙◌, ap, subst}
 use Rattle.std.specs.Prelude.{Option, Result, Ok, Err, codes, nat_eq, if◌then◌else◌}
 use Rattle.std.specs.Option.{MatchOption}
 use Rattle.std.specs.FinMap.{get}
 use Rattle.cf_base.specs.declared.answers.Handle.{Handle}
 use Rattle.cf_io.specs.Texts.{Reply, said}
 use Rattle.script_reader.specs.declared.command.Command.TheVariants as command
-use Rattle.slice_model.specs.Runs.{Event, Happens, Working, Malloc, Free}
+use Rattle.slice_model.specs.Runs.{Working, Malloc, Free}
 use Rattle.slice_model.specs.State.{Idle, Sliced}
 use Rattle.slice_model.specs.Steps.{IsFaultOf, IsRefusedBy}
 use Rattle.slice_model.specs.declared.answers.SliceFault.{SliceFault}
@@ -35,18 +35,18 @@ heap_same old new s is = ap (λ b. heap_by b new.profile new.quantum (working_in
     ∙ ap (λ q. heap_by old.is_open old.profile q (working_in new)) s.quantum ∙ ap (heap_by old.is_open old.profile old.quantum) is
 
 -- the refusal that a text tells of: by one of its letters
-refusal_in : List ℕ → Option SliceRefusal
+abbrev refusal_in : List ℕ → Option SliceRefusal
 refusal_in t = if nat_eq (get_or t 9 0) 105 then Some refusal.Size else (if nat_eq (get_or t 9 0) 114 then Some refusal.Proxy
     else (if nat_eq (get_or t 9 0) 112 then Some refusal.Space else (if nat_eq (get_or t 0 0) 98 then Some refusal.Busy else None)))
 
-fault_in : List ℕ → Option SliceFault
+abbrev fault_in : List ℕ → Option SliceFault
 fault_in t = if nat_eq (get_or t 0 0) 117 then Some fault.Unknown else (if nat_eq (get_or t 0 0) 98 then Some fault.Busy else None)
 
-first : {T : Type 0} → (List ℕ → Option T) → Reply → Option T
+abbrev first : {T : Type 0} → (List ℕ → Option T) → Reply → Option T
 first f [] = None
 first f (text ∷ rest) = f text
 
-refusal_of : Result Handle SliceRefusal → Option SliceRefusal
+abbrev refusal_of : Result Handle SliceRefusal → Option SliceRefusal
 refusal_of (Ok h) = None
 refusal_of (Err e) = Some e
 

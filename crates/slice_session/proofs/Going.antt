@@ -1,5 +1,5 @@
 -- A run over a sliced heap goes on after each command.
-use Rattle.std.proofs.Common.{◌≡◌, ℕ, List, Some, None, replicate, sym, ◌∙◌, ap, ap₂, refl, subst}
+use Rattle.std.proofs.Common.{◌≡◌, ℕ, List, Some, None, replicate, sym, ap₂, refl, subst}
 use Rattle.std.specs.Prelude.{IsTrue, Bool, Option, Result, Ok, Err, codes}
 use Rattle.std.specs.Option.{MatchOption}
 use Rattle.std.specs.FinMap.{get}
@@ -15,7 +15,7 @@ use Rattle.script_reader.specs.declared.command.Command.{Command}
 use Rattle.script_reader.specs.declared.command.Command.TheVariants as command
 use Rattle.session_model.specs.Ties.{AreTiedTo}
 use Rattle.session_model.proofs.CallerLemmas.{tied_less, tied_more, tied_same}
-use Rattle.slice_model.specs.Runs.{Event, HappensOnMap, IsConsistent, Part, Malloc, Free, Step, Write}
+use Rattle.slice_model.specs.Runs.{Event, HappensOnMap, IsConsistent, Malloc, Free, Step, Write}
 use Rattle.slice_model.specs.State.{IsPlan, Plan}
 use Rattle.slice_model.specs.declared.answers.SliceFault.{SliceFault}
 use Rattle.slice_model.specs.declared.answers.SliceFault.TheVariants as fault
@@ -87,12 +87,11 @@ module _ (old new : SliceRun) (going : IsGoingSliced old) (reply : Reply) where
   steps s = goes_on Step s.does (tied_by _ _ s.ids (on_map Step s.does) going.tied)
 
   writes : (h from : ℕ) (bytes : List ℕ) → WritesSliced old h from bytes reply new → IsGoingSliced new
-  writes h from bytes w = goes_on (Write part bytes w.answer) w.does (by_answer w.answer (on_map (Write part bytes w.answer) w.does))
+  writes h from bytes w = goes_on (Write (record { number = h; from = from }) bytes w.answer) w.does
+      (by_answer w.answer (on_map (Write (record { number = h; from = from }) bytes w.answer) w.does))
     where
-      abbrev part : Part
-      part = record { number = h; from = from }
-
-      by_answer : (r : Option AccessFault) → HappensOnMap (live_in old) (Write part bytes r) (live_in new) → AreTiedTo new.ids (live_in new)
+      by_answer : (r : Option AccessFault) → HappensOnMap (live_in old) (Write (record { number = h; from = from }) bytes r) (live_in new)
+          → AreTiedTo new.ids (live_in new)
       by_answer None (v, found, fits, is) = tied_by _ _ w.ids is (tied_same old.ids (live_in old) going.tied h v _ found)
       by_answer (Some e) (_, is) = tied_by _ _ w.ids is going.tied
 

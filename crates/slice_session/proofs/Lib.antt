@@ -6,3 +6,4 @@ pub mod CallsThere
 pub mod Turns
 pub mod ReadBack
 pub mod Causes
+pub mod Plays

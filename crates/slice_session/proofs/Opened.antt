@@ -1,5 +1,5 @@
 -- A run over a sliced heap begins.
-use Rattle.std.proofs.Common.{◌≡◌, ℕ, ◌≤◌, ◌*◌, replicate, arith, sym, ◌∙◌, ap, refl, subst}
+use Rattle.std.proofs.Common.{◌≡◌, ℕ, ◌*◌, replicate, arith, sym, ◌∙◌, ap, refl, subst}
 use Rattle.std.specs.Prelude.{IsTrue}
 use Rattle.std.specs.FinMap.{empty}
 use Rattle.cf_base.specs.Settings.{Profile, profile_of}
@@ -8,7 +8,7 @@ use Rattle.cf_base.specs.declared.kind.Layout.TheVariants.{Words}
 use Rattle.cf_lemmas.proofs.Values.{map_values-empty}
 use Rattle.cf_model.specs.Rules.{AreInRange}
 use Rattle.id_table.specs.Ids.{Ids}
-use Rattle.page_model.specs.Held.{Held, Placed, objects}
+use Rattle.page_model.specs.Held.{Placed, objects}
 use Rattle.page_model.proofs.CallerLemmas.{first_ones, first_paged}
 use Rattle.session_model.proofs.CallerLemmas.{none_tied}
 use Rattle.slice_model.specs.Runs.{IsConsistent}

@@ -23,7 +23,7 @@ use Rattle.script_reader.specs.declared.command.Command.{Command}
 use Rattle.script_reader.specs.declared.command.Command.TheVariants as command
 use Rattle.session_model.specs.Ties.{AreTiedTo}
 use Rattle.session_model.proofs.CallerLemmas.{clash}
-use Rattle.slice_model.specs.Runs.{Event, HappensOnMap, Part, Malloc, Free, Step, Write}
+use Rattle.slice_model.specs.Runs.{Event, HappensOnMap, Malloc, Free, Step, Write}
 use Rattle.slice_model.specs.declared.answers.SliceFault.{SliceFault}
 use Rattle.slice_model.specs.declared.answers.SliceFault.TheVariants as fault
 use Rattle.slice_model.specs.declared.answers.SliceRefusal.{SliceRefusal}

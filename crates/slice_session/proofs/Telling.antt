@@ -1,5 +1,5 @@
 -- What a command of a session over a sliced heap did and told, put together.
-use Rattle.std.proofs.Common.{◌≡◌, ◌≢◌, ◌∙◌, ◌+◌, ◌≤◌, ◌<◌, ℕ, ◌++◌, List, Option, Result, Ok, Err, length, take, drop, Some, None, ap, refl, sym, subst}
+use Rattle.std.proofs.Common.{◌≡◌, ◌∙◌, ◌+◌, ◌≤◌, ◌<◌, ℕ, ◌++◌, List, Option, Result, Ok, Err, length, take, drop, Some, None, ap, refl, sym}
 use Rattle.std.specs.Prelude.{codes, option_map}
 use Rattle.std.specs.FinMap.{get}
 use Rattle.hex.specs.Hex.{encode_lower}
@@ -18,7 +18,7 @@ use Rattle.script_loop.specs.Semantics.{snapshot}
 use Rattle.script_reader.specs.declared.command.Command.{Command}
 use Rattle.script_reader.specs.declared.command.Command.TheVariants as command
 use Rattle.session_model.specs.Applying.{Applies, Speaks, TurnsInPart}
-use Rattle.slice_model.specs.Runs.{Happens, HappensOnMap, IsOutOfReach, Read, Step}
+use Rattle.slice_model.specs.Runs.{Happens, IsOutOfReach, Read, Step}
 use Rattle.slice_model.specs.State.{left_of}
 use Rattle.slice_model.proofs.CallerLemmas.{call_on_map}
 use Rattle.sliced_heap.specs.Shown.{KeepsRules, SlicedState, plan_in, working_in}

@@ -1,5 +1,6 @@
 -- Words as each call of a sliced heap leaves them.
-use Rattle.std.proofs.Common.{◌≡◌, ◌≢◌, ℕ, zero, suc, ◌+◌, ◌-◌, ◌/◌, ◌%◌, ◌<◌, ◌≤◌, List, [], ◌∷◌, Some, None, length, get_or, arith, sym, ◌∙◌, ap, refl, subst, inl, inr}
+use Rattle.std.proofs.Common.{◌≡◌, ◌≢◌, ℕ, zero, suc, ◌+◌, ◌-◌, ◌/◌, ◌%◌, ◌<◌, ◌≤◌, List, [], ◌∷◌, length, get_or}
+use Rattle.std.proofs.Common.{arith, sym, ◌∙◌, ap, refl, subst, inl, inr}
 use Rattle.std.specs.Prelude.{min}
 use Rattle.std.proofs.lemmas.Bool.{cases_eq}
 use Rattle.std.specs.FinMap.{get}
@@ -14,7 +15,7 @@ use Rattle.slice_model.specs.Words.{DoesWords, RewritesObject, word_at}
 use Rattle.slice_model.proofs.CallerLemmas.{beside, kept_apart, mover_class, own_words_at}
 
 -- the words with v at w, behind zeros where there were none
-put : List ℕ → ℕ → ℕ → List ℕ
+abbrev put : List ℕ → ℕ → ℕ → List ℕ
 put [] zero v = v ∷ []
 put [] (suc w) v = 0 ∷ put [] w v
 put (x ∷ xs) zero v = v ∷ xs
@@ -37,7 +38,7 @@ put_other (x ∷ xs) (suc w) v zero ne = refl
 put_other (x ∷ xs) (suc w) v (suc u) ne = put_other xs w v u (λ e. ne (ap suc e))
 
 -- the words with f i at the place a i, for each i below n
-put_all : (ℕ → ℕ) → (ℕ → ℕ) → ℕ → List ℕ → List ℕ
+abbrev put_all : (ℕ → ℕ) → (ℕ → ℕ) → ℕ → List ℕ → List ℕ
 put_all a f zero words = words
 put_all a f (suc n) words = put (put_all a f n words) (a n) (f n)
 
@@ -78,20 +79,25 @@ rewrites_there words run f = (
 )
 
 -- words of a range go to another one
-moves_there : (words : List ℕ) (run : WordRange) (b : ℕ) → IsDisjoint run.from run.count b run.count → (new : List ℕ) × MovesWords words new run b
-moves_there words run b apart =
-    let f = (λ i. get_or words (run.from + i) 0) in
-    let mid = put_all (λ i. b + i) f run.count words in
-    let new = put_all (λ i. run.from + i) (λ _. 0) run.count mid in (
-      new,
-      record {
-        arrived = λ i lt. put_outside (λ i. run.from + i) (λ _. 0) mid run.count (b + i) (λ k low. elsewhere run.from b run.count k i apart low lt)
-            ∙ put_inside (λ i. b + i) f words run.count (λ i k low high e. in_range b i k e) i lt;
-        left_zeros = put_inside (λ i. run.from + i) (λ _. 0) mid run.count (λ i k low high e. in_range run.from i k e);
-        others = λ w out other. put_outside (λ i. run.from + i) (λ _. 0) mid run.count w (λ i lt. beyond run.from run.count w i out lt)
-            ∙ put_outside (λ i. b + i) f words run.count w (λ i lt. beyond b run.count w i other lt);
-      },
-    )
+module _ (words : List ℕ) (run : WordRange) (b : ℕ) (apart : IsDisjoint run.from run.count b run.count) where
+  abbrev carried : ℕ → ℕ
+  carried i = get_or words (run.from + i) 0
+
+  -- they are copied first, and then the range is cleared
+  abbrev copied : List ℕ
+  copied = put_all (λ i. b + i) carried run.count words
+
+  moves_there : (new : List ℕ) × MovesWords words new run b
+  moves_there = (
+    put_all (λ i. run.from + i) (λ _. 0) run.count copied,
+    record {
+      arrived = λ i lt. put_outside (λ i. run.from + i) (λ _. 0) copied run.count (b + i) (λ k low. elsewhere run.from b run.count k i apart low lt)
+          ∙ put_inside (λ i. b + i) carried words run.count (λ i k low high e. in_range b i k e) i lt;
+      left_zeros = put_inside (λ i. run.from + i) (λ _. 0) copied run.count (λ i k low high e. in_range run.from i k e);
+      others = λ w out other. put_outside (λ i. run.from + i) (λ _. 0) copied run.count w (λ i lt. beyond run.from run.count w i out lt)
+          ∙ put_outside (λ i. b + i) carried words run.count w (λ i lt. beyond b run.count w i other lt);
+    },
+  )
 
 -- parts of two slots that have no word in common
 parts_apart : (a b size done n : ℕ) → IsDisjoint a size b size → IsDisjoint (a + done) (min n (size - done)) (b + done) (min n (size - done))
@@ -116,34 +122,33 @@ module _ (plan : Plan) (ok : IsPlan plan) where
       (x.0.place + k.done) (parts_apart k.address x.0.place (slot_words plan.paging k.class) k.done plan.quantum apart') in
       (done.0, (x.0, x.1, done.1))
 
+module _ (plan : Plan) (ok : IsPlan plan) (s : Sliced) (kept : IsKept plan s) (h : ℕ) (x : Placed) (there : get s.held h ≡ Some x) (from n : ℕ)
+    (fits : from + n ≤ length x.bytes) where
+  abbrev count : ℕ
+  count = (from % 8 + n + 7) / 8
+
+  abbrev place_of : ℕ → ℕ
+  place_of i = word_at s.job h x (1 + from / 8 + i)
+
+  inside : (i : ℕ) → i < (from % 8 + n + 7) / 8 → 1 + from / 8 + i < slot_for plan.paging (length x.bytes)
+  inside i low =
+      let l = class_holds plan.paging ok.paging (length x.bytes) (kept.sound.slots h x (beside plan ok s kept h x there)).class in
+      omega arith
+
+  own : (i k : ℕ) → i < (from % 8 + n + 7) / 8 → k < (from % 8 + n + 7) / 8
+      → word_at s.job h x (1 + from / 8 + i) ≡ word_at s.job h x (1 + from / 8 + k) → i ≡ k
+  own i k low high e =
+      let same = (own_words_at plan.paging s.held s.job (kept_apart plan ok s kept) (mover_class plan.paging s.held s.job kept.job) h x h x there there
+      (1 + from / 8 + i) (inside i low) (1 + from / 8 + k) (inside k high) e).1 in
+      omega arith
+
   -- bytes can be written into an object
-  pub written_there : (s : Sliced) → IsKept plan s → (words : List ℕ) (h : ℕ) (x : Placed) → get s.held h ≡ Some x → (v : List ℕ) (from n : ℕ)
-      → from + n ≤ length x.bytes
+  pub written_there : (words v : List ℕ)
       → (new : List ℕ) × RewritesObject s.job h x v (record { from = 1 + from / 8; count = (from % 8 + n + 7) / 8 }) words new
-  written_there s kept words h x there v from n fits = (
-    put_all a f count words,
+  written_there words v = (
+    put_all place_of (λ i. object_word h v (1 + from / 8 + i)) count words,
     record {
-      within = put_inside a f words count own;
-      others = λ w out. put_outside a f words count w out;
+      within = put_inside place_of (λ i. object_word h v (1 + from / 8 + i)) words count own;
+      others = λ w out. put_outside place_of (λ i. object_word h v (1 + from / 8 + i)) words count w out;
     },
   )
-    where
-      abbrev count : ℕ
-      count = (from % 8 + n + 7) / 8
-
-      abbrev a : ℕ → ℕ
-      a i = word_at s.job h x (1 + from / 8 + i)
-
-      abbrev f : ℕ → ℕ
-      f i = object_word h v (1 + from / 8 + i)
-
-      inside : (i : ℕ) → i < (from % 8 + n + 7) / 8 → 1 + from / 8 + i < slot_for plan.paging (length x.bytes)
-      inside i low =
-          let l = class_holds plan.paging ok.paging (length x.bytes) (kept.sound.slots h x (beside plan ok s kept h x there)).class in
-          omega arith
-
-      own : (i k : ℕ) → i < (from % 8 + n + 7) / 8 → k < (from % 8 + n + 7) / 8 → a i ≡ a k → i ≡ k
-      own i k low high e =
-          let same = (own_words_at plan.paging s.held s.job (kept_apart plan ok s kept) (mover_class plan.paging s.held s.job kept.job) h x h x there there
-          (1 + from / 8 + i) (inside i low) (1 + from / 8 + k) (inside k high) e).1 in
-          omega arith

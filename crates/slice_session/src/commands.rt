@@ -1,11 +1,13 @@
 //! The commands of a session over a sliced heap: each writes the text of its reply on the line.
-ghost use Rattle.std.specs.Prelude.{◌≡◌, ◌<◌, ◌≤◌, [], IsTrue, Err, Some, codes, length, slice_get};
+ghost use Rattle.std.specs.Prelude.{◌≡◌, ◌+◌, ◌*◌, ◌<◌, ◌≤◌, [], IsTrue, Err, Some, length, slice_get};
 ghost use Rattle.cf_io.specs.Lines.{line_room};
-ghost use Rattle.cf_io.specs.Texts.{said, with_number};
+ghost use Rattle.cf_io.specs.Texts.{said};
+ghost use Rattle.cf_model.specs.Costs.{access_bound};
 ghost use Rattle.run_model.specs.Replies.{peek_text, read_text};
 ghost use Rattle.script_reader.specs.declared.command.Command.TheVariants.{Malloc, Free, Slice, Write};
 ghost use Rattle.session_model.specs.Applying.{Speaks};
 ghost use Rattle.sliced_heap.specs.Shown.{KeepsRules};
+ghost use Rattle.step_ledger.specs.Counting.{RoseAtMost};
 ghost use Rattle.slice_session.specs.SliceRun.{SliceStep, slice_free_text, slice_malloc_text, slice_run, slice_write_text, sliced_object_of};
 
 use cf_base::AccessFault;
@@ -26,6 +28,7 @@ pub(crate) fn malloc(
     requires { IsTrue heap.old.is_open }
     ensures step { SliceStep (slice_run ids.old heap.old) (Malloc id bytes) (said result.now) (slice_run ids.new heap.new) }
     ensures short { length result.now ≤ 20 }
+    ensures bound { RoseAtMost steps.old steps.new (128 + 2 * heap.old.quantum) }
 {
     if ids.handle(id).is_some() {
         return b"live";
@@ -62,6 +65,7 @@ pub(crate) fn free(
     requires { IsTrue heap.old.is_open }
     ensures step { SliceStep (slice_run ids.old heap.old) (Free id) (said result.now) (slice_run ids.new heap.new) }
     ensures short { length result.now ≤ 20 }
+    ensures bound { RoseAtMost steps.old steps.new (128 + 2 * heap.old.quantum) }
 {
     let Some(h) = ids.handle(id) else {
         return b"unknown";
@@ -98,6 +102,7 @@ pub(crate) fn write(
     requires { IsTrue heap.old.is_open }
     ensures step { SliceStep (slice_run ids.now heap.old) (Write id at bytes.now) (said result.now) (slice_run ids.now heap.new) }
     ensures short { length result.now ≤ 20 }
+    ensures bound { RoseAtMost steps.old steps.new (access_bound at (length bytes.now)) }
 {
     let Some(h) = ids.handle(id) else {
         return b"unknown";
@@ -135,6 +140,7 @@ pub(crate) fn read(
     requires empty { line.old ≡ [] }
     ensures text { line.new ≡ read_text (sliced_object_of (slice_run ids.now heap.now) id) at (length room.old) }
     ensures room { length line.new < line_room }
+    ensures bound { RoseAtMost steps.old steps.new (access_bound at (length room.old)) }
 {
     let Some(h) = ids.handle(id) else {
         return push_text(line, b"unknown");
@@ -152,10 +158,11 @@ pub(crate) fn read(
 pub(crate) fn step(ids: &IdTable, heap: &mut SlicedHeap, line: &mut Line, steps: &mut Steps)
     requires open { IsTrue heap.old.is_open }
     requires empty { line.old ≡ [] }
-    ensures { Speaks SliceStep (slice_run ids.now heap.old) Slice (slice_run ids.now heap.new) line.new }
+    ensures speaks { Speaks SliceStep (slice_run ids.now heap.old) Slice (slice_run ids.now heap.new) line.new }
+    ensures bound { RoseAtMost steps.old steps.new (128 + 2 * heap.old.quantum) }
 {
     heap.step(steps);
-    push_field(line, b"left ", u64::from(heap.left()));
+    push_field(line, b"left ", heap.left() as u64);
 }
 
 /// `p`: a word of the region.
@@ -164,6 +171,7 @@ pub(crate) fn peek(heap: &SlicedHeap, word: u32, line: &mut Line, steps: &mut St
     requires empty { line.old ≡ [] }
     ensures text { line.new ≡ peek_text (slice_get heap.now.words word) }
     ensures room { length line.new < line_room }
+    ensures bound { RoseAtMost steps.old steps.new 1 }
 {
     match heap.peek(word, steps) {
         Some(v) => line.push_word(v).unwrap(),

@@ -1,5 +1,5 @@
 //! Laws of sessions over sliced heaps. The functions do nothing: what each ensures is the law.
-ghost use Rattle.std.specs.Prelude.{◌≡◌, ◌≢◌, ℕ, ◌++◌, ◌↔◌, Bool, List, Option, Err, None, Some, codes};
+ghost use Rattle.std.specs.Prelude.{◌≡◌, ◌≢◌, ℕ, ◌++◌, Bool, List, Option, Err, None, Some, codes};
 ghost use Rattle.std.specs.Option.{option_map};
 ghost use Rattle.std.specs.FinMap.{get};
 ghost use Rattle.cf_base.specs.Settings.{Profile};
@@ -25,8 +25,10 @@ use slice_model::{a_malloc_waits_for_a_job_alone, an_empty_heap_is_consistent};
 /// each read gives the bytes last written through its id, also of an object in motion. What the lines
 /// and their replies tell of ids is all that it depends on: no address, no handle and no job.
 pub fn reads_give_what_was_written()
-    ensures { (quantum : ℕ) (items : List Item) (replies : List Reply) (new : Option SliceRun)
+    ensures run { (quantum : ℕ) (items : List Item) (replies : List Reply) (new : Option SliceRun)
         → RunsSliced quantum None items replies new → AreReadsOf None items replies }
+    ensures play { (from : SlicePlay) (items : List Item) (replies : List Reply) (new : Option SlicePlay)
+        → RunBy slices from None items replies new → AreReadsOf None items replies }
 {}
 
 /// A refusal's reply tells its cause, and nothing has changed. A malloc and a free are answered

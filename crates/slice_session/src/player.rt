@@ -76,10 +76,7 @@ impl Player<SlicedHeap> for SlicePlayer {
         command: CommandRef,
         sink: &mut K,
     ) -> Result<(), Failed> {
-        match self
-            .session
-            .apply_ref(heap, command, sink, &mut self.meter)
-        {
+        match self.session.apply_ref(heap, command, sink, &mut self.meter) {
             Ok(_) => Ok(()),
             Err(failed) => Err(failed),
         }

@@ -6,8 +6,9 @@ ghost use Rattle.cf_io.specs.Lines.{line_room};
 ghost use Rattle.script_reader.specs.Commands.{IsWellFormed};
 ghost use Rattle.script_reader.specs.Owned.{owned_command};
 ghost use Rattle.script_loop.specs.Semantics.{snapshot};
+ghost use Rattle.step_ledger.specs.Counting.{RoseAtMost};
 ghost use Rattle.session_model.specs.Applying.{Applies, Speaks};
-ghost use Rattle.slice_session.specs.SliceRun.{IsGoingSliced, SliceStep, slice_run};
+ghost use Rattle.slice_session.specs.SliceRun.{IsGoingSliced, SliceStep, most_steps, slice_run};
 ghost use Rattle.slice_session.specs.Playing.{sliced};
 
 use crate::commands::{free, malloc, peek, read, step, write};
@@ -72,6 +73,8 @@ impl SliceSession {
         ensures answers { Applies sliced (snapshot (slice_run self.old heap.old) (K.written out.old)) c.now result
             (snapshot (slice_run self.new heap.new) (K.written out.new)) }
         ensures going { IsGoingSliced (slice_run self.new heap.new) }
+        // The ledger counts from 0 in each command.
+        ensures steps { meter.new ≤ most_steps heap.old.quantum c.now }
         ensures grows { K.faults out.old ≤ K.faults out.new }
         ensures failed { OnErr result (Rose (K.faults out.old) (K.faults out.new)) }
     {
@@ -91,6 +94,7 @@ impl SliceSession {
         ensures answers { Applies sliced (snapshot (slice_run self.old heap.old) (K.written out.old)) (owned_command c.entry) result
             (snapshot (slice_run self.new heap.new) (K.written out.new)) }
         ensures going { IsGoingSliced (slice_run self.new heap.new) }
+        ensures steps { meter.new ≤ most_steps heap.old.quantum (owned_command c.entry) }
         ensures grows { K.faults out.old ≤ K.faults out.new }
         ensures failed { OnErr result (Rose (K.faults out.old) (K.faults out.new)) }
     {
@@ -122,6 +126,7 @@ fn answer<K: Sink>(
     requires place { length room.old ≡ 4096 }
     ensures answers { Applies sliced (snapshot (slice_run ids.old heap.old) (K.written out.old)) (owned_command c.entry) result
         (snapshot (slice_run ids.new heap.new) (K.written out.new)) }
+    ensures steps { RoseAtMost steps.old steps.new (most_steps heap.old.quantum (owned_command c.entry)) }
     ensures grows { K.faults out.old ≤ K.faults out.new }
     ensures failed { OnErr result (Rose (K.faults out.old) (K.faults out.new)) }
 {
@@ -142,7 +147,8 @@ fn speak(
     requires going { IsGoingSliced (slice_run ids.old heap.old) }
     requires formed { IsWellFormed (owned_command c) }
     requires place { length room.old ≡ 4096 }
-    ensures { Speaks SliceStep (slice_run ids.old heap.old) (owned_command c.entry) (slice_run ids.new heap.new) line.new }
+    ensures speaks { Speaks SliceStep (slice_run ids.old heap.old) (owned_command c.entry) (slice_run ids.new heap.new) line.new }
+    ensures steps { RoseAtMost steps.old steps.new (most_steps heap.old.quantum (owned_command c.entry)) }
 {
     line.clear();
     match c {

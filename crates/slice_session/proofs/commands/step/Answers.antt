@@ -4,8 +4,8 @@ use Rattle.cf_io.specs.Texts.{with_number}
 use Rattle.slice_session.proofs.Telling.{speaks_left}
 use Rattle.slice_session.proofs.commands.step.Goals as goal
 
-pub returns : goal.returns
-returns c =
+pub returns-clause-speaks : goal.returns-clause-speaks
+returns-clause-speaks c =
     let more = c.push_field.ensures.short in
     let begun : length c.args.line.now ≤ 8 = rw c.requires.empty (omega arith) in
     let short : length c.push_field.new.line < 9000 = omega (arith, more, begun) in
