@@ -140,7 +140,7 @@ module _ (t : Share) (is_page : IsTrue (is_page_size t.profile.page_words)) (nee
                   ≡ count_of_class (task_paging t.profile) (in_order (take i needs) ++ replicate (get_or needs i d).count (get_or needs i d).bytes)
                   (class_for (task_paging t.profile) (get_or needs i d).bytes) =
                   ap (count_of_class (task_paging t.profile) (in_order (take i needs) ++ replicate (get_or needs i d).count (get_or needs i d).bytes)) (same
-                      ∙ is) in
+                  ∙ is) in
                   let h = had_is in
                   omega arith)
               | inr other ↦ (

@@ -95,8 +95,13 @@ first_passes text i v within all value large =
 pub first_spell : (text : List ℕ) (i v : ℕ) → 0 < i → i ≤ length text → list_all is_digit (take i text) ≡ true
     → (i < length text → is_digit (get_or text i 0) ≡ false) → v ≡ digits_value 10 (take i text) → v ≤ 4294967295 → Some (v, i) ≡ leading_number text
 first_spell text i v some within all ends value fits =
-    let is : number_in (take i text) ≡ Some v = number_spelled (take i text) v (record { some = omega (arith, length-take i text); digits = all; value =
-        value; bound = fits }) in
+    let is : number_in (take i text) ≡ Some v = number_spelled (take i text) v (record {
+      some = omega (arith, length-take i text);
+      digits = all;
+      value =
+          value;
+      bound = fits;
+    }) in
     rw (digits_end text i within all ends, is) refl
 
 -- no digit comes first

@@ -64,7 +64,7 @@ bytes_other : (b : ℕ) (rest : List ℕ) → b < 256 → Other ≡ outcome_in (
 unfolding encode_with
 bytes_other b rest fits =
     digit_other (slice_index lower_digits (b / 16)) (b / 16) (slice_index lower_digits (b % 16) ∷ encode_lower rest)
-        (IsDigits-lower_digits (b / 16) (omega arith))
+    (IsDigits-lower_digits (b / 16) (omega arith))
 
 pub word_other : (v : ℕ) → Other ≡ outcome_in (word_text v)
 word_other v = bytes_other (byte_at 7 v) (bytes_high_first 7 v) (mod-lt (v / 256 ^ 7) {m = 256} (lit< tt))

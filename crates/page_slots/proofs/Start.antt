@@ -74,8 +74,12 @@ module _ (classes pages : ℕ) where
     classes = all;
     pool = pooled_range pages;
     lists = apart;
-    placed = λ page lt. inl (record { free = range_has 0 pages page (omega arith) (omega arith); unlisted = λ c w. none_listed c w page; unused =
-        unused page });
+    placed = λ page lt. inl (record {
+      free = range_has 0 pages page (omega arith) (omega arith);
+      unlisted = λ c w. none_listed c w page;
+      unused =
+          unused page;
+    });
   }
 
   pub first_whole : (maps : List (List Bool)) → NoneElsewhere (tables maps (empty_lists classes pages)

@@ -157,13 +157,13 @@ module _ (all : List (FinMap nat_cmp ℕ)) (small : AreNumbers all) (t : ℕ) (l
         get_by_key (set all t now) kept key ∙ elim (cases_eq (task_of key) t) [
           | inl is ↦ ap (λ u. get (places_at (set all t now) u) (number_of key)) is ∙ ap (λ m. get m (number_of key)) (here now)
               ∙ elim (cases_eq (number_of key) h) [
-            | inl at ↦ (
-                let k : key ≡ key_of t h = omega arith in
-                ap (get now) at ∙ get_inserted (places_at all t) h a ∙ sym (ap (get (insert (joined all) (key_of t h) a)) k
+                | inl at ↦ (
+                    let k : key ≡ key_of t h = omega arith in
+                    ap (get now) at ∙ get_inserted (places_at all t) h a ∙ sym (ap (get (insert (joined all) (key_of t h) a)) k
                     ∙ get_inserted (joined all) (key_of t h) a))
-            | inr ne ↦ get_insert_other (places_at all t) h a (number_of key) ne ∙ sym (ap (λ u. get (places_at all u) (number_of key)) is)
-                ∙ sym (get_by_key all small key) ∙ sym (get_insert_other (joined all) (key_of t h) a key (key_other key is ne))
-          ]
+                | inr ne ↦ get_insert_other (places_at all t) h a (number_of key) ne ∙ sym (ap (λ u. get (places_at all u) (number_of key)) is)
+                    ∙ sym (get_by_key all small key) ∙ sym (get_insert_other (joined all) (key_of t h) a key (key_other key is ne))
+              ]
           | inr ne ↦ ap (λ m. get m (number_of key)) (changed now (task_of key) ne) ∙ sym (get_by_key all small key)
               ∙ sym (get_insert_other (joined all) (key_of t h) a key (λ e. ne (omega arith)))
         ])
@@ -178,12 +178,12 @@ module _ (all : List (FinMap nat_cmp ℕ)) (small : AreNumbers all) (t : ℕ) (l
         get_by_key (set all t now) kept key ∙ elim (cases_eq (task_of key) t) [
           | inl is ↦ ap (λ u. get (places_at (set all t now) u) (number_of key)) is ∙ ap (λ m. get m (number_of key)) (here now)
               ∙ elim (cases_eq (number_of key) h) [
-            | inl at ↦ (
-                let k : key ≡ key_of t h = omega arith in
-                ap (get now) at ∙ get_removed (places_at all t) h ∙ sym (ap (get (remove (joined all) (key_of t h))) k ∙ get_removed (joined all) (key_of t h)))
-            | inr ne ↦ get_remove_other (places_at all t) h (number_of key) ne ∙ sym (ap (λ u. get (places_at all u) (number_of key)) is)
-                ∙ sym (get_by_key all small key) ∙ sym (get_remove_other (joined all) (key_of t h) key (key_other key is ne))
-          ]
+                | inl at ↦ (
+                    let k : key ≡ key_of t h = omega arith in
+                    ap (get now) at ∙ get_removed (places_at all t) h ∙ sym (ap (get (remove (joined all) (key_of t h))) k ∙ get_removed (joined all) (key_of t h)))
+                | inr ne ↦ get_remove_other (places_at all t) h (number_of key) ne ∙ sym (ap (λ u. get (places_at all u) (number_of key)) is)
+                    ∙ sym (get_by_key all small key) ∙ sym (get_remove_other (joined all) (key_of t h) key (key_other key is ne))
+              ]
           | inr ne ↦ ap (λ m. get m (number_of key)) (changed now (task_of key) ne) ∙ sym (get_by_key all small key)
               ∙ sym (get_remove_other (joined all) (key_of t h) key (λ e. ne (omega arith)))
         ])

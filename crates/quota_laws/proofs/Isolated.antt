@@ -186,7 +186,7 @@ module _ (task : ℕ) (lt : task < 16) where
           → replies_to task (after_item own (sets u pages)) (own_items task (after_item all (sets u pages)) rest)
           ≡ replies_to task (after_item all (sets u pages)) rest)
           → replies_to task own (cond b (sets u pages ∷ own_items task (after_item all (sets u pages)) rest)
-              (own_items task (after_item all (sets u pages)) rest))
+          (own_items task (after_item all (sets u pages)) rest))
           ≡ replies_to task (after_item all (sets u pages)) rest
       go false is out kept = out (left_set all own u pages (set_refusal all u pages) is o)
       go true is out kept = kept (kept_set is)

@@ -119,7 +119,7 @@ module _ (old : HeapState) (rules : KeepsRules old) (with_blocks : IsTiled old.k
       | inl few ↦ (
           let key = fresh_key old.profile.proxies old.held few in
           elim (carved_or_lacking (free_lists_of old.kind) (region_words old.profile) old.tiling
-              (record { need = block_need n; owner = key.0 }) tiling.tiling) [
+          (record { need = block_need n; owner = key.0 }) tiling.tiling) [
             | inl at ↦ malloc_given n at.0 key.0 at.1 fits few key.1 key.2 at.2
             | inr lacks ↦ record {
               answer = Err refusal.Space;

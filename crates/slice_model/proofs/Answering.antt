@@ -91,7 +91,7 @@ module _ (plan : Plan) (ok : IsPlan plan) where
                 let e = on.3 in
                 let l = (at.1).less in
                 let less : objects_on plan.paging m (class_at plan.paging x) (page_of plan.paging (on.1).place) < slots_of plan.paging
-                    (class_at plan.paging x) =
+                (class_at plan.paging x) =
                 rw e l in
                 (Some on.0, (record { full = full; several = several; many = many }, (on.1, on.2, record { class = on.4; not_full = less }))))
           ]

@@ -23,7 +23,7 @@ stand_beside plan ok s kept k is =
           ∙ stand_in_class plan.paging ok.paging k class;
       others = λ c lt ne. (
           let same = not_full-same plan.paging s.held (insert s.held plan.proxies (stand_in plan.paging k)) c
-              (same_class plan ok s.held k none class sound c ne) in
+          (same_class plan ok s.held k none class sound c ne) in
           let few = sound.few_not_full c lt in
           let o = ok.ones c lt in
           omega arith);

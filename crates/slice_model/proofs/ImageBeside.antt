@@ -53,7 +53,7 @@ closed_words plan ok s kept words clean w has im closed = elim (cases_eq (get_or
           let size : slot_for plan.paging (length x.bytes) ≡ slot_words plan.paging k.class = ap (slot_words plan.paging)
           (mover_class plan.paging s.held s.job kept.job k h x move there) in
           not_behind x.place k.done (slot_words plan.paging k.class) w i (closed_mover plan.paging s.held s.job w closed k h x move there) at left
-              (omega arith))
+          (omega arith))
     ]
 
     outside : get_or words w 0 ≢ get_or clean w 0 → (h : ℕ) (x : Placed) → get s.held h ≡ Some x → IsOutsideOf (slot_for plan.paging) x w

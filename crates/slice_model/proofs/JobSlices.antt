@@ -148,18 +148,18 @@ module _ (plan : Plan) where
         let class : class_at plan.paging c.carries.object ≡ k.class = rw same at c.beside.class in
         let apart : page_of plan.paging c.carries.object.place ≢ page_of plan.paging k.address = rw same at c.beside.page in
         let less : objects_on plan.paging m k.class (page_of plan.paging c.carries.object.place) < slots_of plan.paging k.class =
-            rw same at c.beside.not_full in
+        rw same at c.beside.not_full in
         let z : Placed = record { place = k.address; bytes = c.carries.object.bytes } in
         let away : objects_on plan.paging (insert (remove m c.object) c.object (record { place = k.address; bytes = c.carries.object.bytes })) k.class
         (page_of plan.paging c.carries.object.place) ≡ objects_on plan.paging (remove m c.object) k.class (page_of plan.paging c.carries.object.place) =
         objects_on-elsewhere plan.paging (remove m c.object) c.object (record { place = k.address; bytes = c.carries.object.bytes })
-            (get_removed m c.object) k.class
+        (get_removed m c.object) k.class
         (page_of plan.paging c.carries.object.place) (inl (λ e. apart (sym e))) in
         let left = objects_on-left plan.paging m c.object c.carries.object c.carries.found k.class class in
         let again = insert_again m c.object (record { place = k.address; bytes = c.carries.object.bytes }) in
         let away' : objects_on plan.paging (insert m c.object (record { place = k.address; bytes = c.carries.object.bytes })) k.class
         (page_of plan.paging c.carries.object.place) ≡ objects_on plan.paging (remove m c.object) k.class (page_of plan.paging c.carries.object.place) =
-            rw again at away in
+        rw again at away in
         let kept' : IsKept plan (record {
           held = insert m c.object (record { place = k.address; bytes = c.carries.object.bytes });
           job = Move c.object (fresh_slot c.carries.object.place k.class);
@@ -167,9 +167,9 @@ module _ (plan : Plan) where
         let two' : not_full_pages plan.paging (insert m c.object (record { place = k.address; bytes = c.carries.object.bytes })) k.class ≡ 2 =
         sym (ap (λ (s : Sliced). not_full_pages plan.paging s.held k.class) w) ∙ two in
         let l = two_is_last plan ok (insert m c.object (record { place = k.address; bytes = c.carries.object.bytes }))
-            (fresh_slot c.carries.object.place k.class)
+        (fresh_slot c.carries.object.place k.class)
         (no_stand_in plan (insert m c.object (record { place = k.address; bytes = c.carries.object.bytes })) kept'.numbers) kept'.job.0.class kept'.sound
-            two' in
+        two' in
         let filled = l.filled in
         omega arith
 
@@ -184,7 +184,7 @@ module _ (plan : Plan) where
     slices_end_all old new k kept e s =
         let under = job_class plan.paging old.held old.job kept.job k e in
         let parts = slices_split (ceil_div (slot_words plan.paging k.class - k.done) plan.quantum)
-            (ceil_div (slot_words plan.paging k.class) plan.quantum) old new s in
+        (ceil_div (slot_words plan.paging k.class) plan.quantum) old new s in
         let end = slices_end old parts.0 k ok.quantum e under.under_way parts.1 in
         let kept' = kept_slices (ceil_div (slot_words plan.paging k.class - k.done) plan.quantum) old parts.0 kept parts.1 in
         then parts.0 end kept' parts.2

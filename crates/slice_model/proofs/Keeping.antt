@@ -257,8 +257,11 @@ module _ (plan : Plan) (ok : IsPlan plan) where
       (replicate (8 * (slot_words plan.paging (class_at plan.paging x) - 1)) 0) may.class class kept.sound in
       let found : Some is.object ≡ Some y = sym is.found ∙ get_remove_other m h q ne ∙ there' in
       let same : is.object ≡ y = cc in
-      let e : new ≡ record { held = insert (remove m h) q (record { place = x.place; bytes = y.bytes }); job =
-          Move q (fresh_slot y.place (class_at plan.paging x)) } =
+      let e : new ≡ record {
+        held = insert (remove m h) q (record { place = x.place; bytes = y.bytes });
+        job =
+            Move q (fresh_slot y.place (class_at plan.paging x));
+      } =
       is.whole ∙ ap (λ (o : Placed). record {
         held = insert (remove m h) q (record { place = x.place; bytes = o.bytes });
         job = Move q (fresh_slot o.place (class_at plan.paging x));

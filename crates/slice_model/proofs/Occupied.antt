@@ -134,7 +134,7 @@ module _ (plan : Plan) (ok : IsPlan plan) (s : Sliced) (kept : IsKept plan s) wh
       let i = objects_on-inserted p s.held plan.proxies (stand_in p k) fresh k.class page in
       let yes = on_yes p k.class page (stand_in p k) on (slot_class k e) in
       let more : 0 < objects_on p (with_slot plan s.held (Some k)) k.class page =
-          (let i' : objects_on p (insert s.held plan.proxies (stand_in p k)) k.class page
+      (let i' : objects_on p (insert s.held plan.proxies (stand_in p k)) k.class page
       ≡ objects_on p s.held k.class page + 1 = rw yes at i in omega arith) in
       rw e more
 

@@ -99,7 +99,7 @@ module _ (plan : Plan) (ok : IsPlan plan) where
       let r = is.removes in
       let idle = r.idle in
       let kept : IsKept plan (record { held = old.state.held; job = Idle }) =
-          subst (λ j. IsKept plan (record { held = old.state.held; job = j })) idle good.kept in
+      subst (λ j. IsKept plan (record { held = old.state.held; job = j })) idle good.kept in
       let words : HasWords plan.paging (record { held = old.state.held; job = Idle }) old.words =
       subst (λ j. HasWords plan.paging (record { held = old.state.held; job = j }) old.words) idle good.words in
       let kept' = kept_begun plan ok old.state.held kept h r.freed r.found r.moved r.moves r.begun r.begins in
@@ -133,7 +133,7 @@ module _ (plan : Plan) (ok : IsPlan plan) where
       let o : objects new.state.held ≡ insert (objects old.state.held) part.number (written is.object.bytes part.from bytes) =
       ap (λ (s : Sliced). objects s.held) is.state
       ∙ map_values-insert (λ (x : Placed). x.bytes) old.state.held part.number
-          (record { place = is.object.place; bytes = written is.object.bytes part.from bytes }) in
+      (record { place = is.object.place; bytes = written is.object.bytes part.from bytes }) in
       let there = bytes_there old.state.held part.number is.object is.found in (
         (is.object.bytes, there, is.fits, o),
         record {

@@ -25,7 +25,7 @@ unfolding pages_needed_with
 needed_le p ok o u n le = sum_le (λ c. ceil_div (live p o c + one (nat_eq (class_for p n) c)) (slots_of p c))
     (λ c. ceil_div (live p u c + one (nat_eq (class_for p n) c)) (slots_of p c)) 0 (classes p)
     (λ c _ lt. (let l = le c in ceil_mono (live p o c + one (nat_eq (class_for p n) c)) (live p u c + one (nat_eq (class_for p n) c)) (slots_of p c)
-        (omega arith)))
+    (omega arith)))
 
 -- the objects alone need no more pages than with the job's slot
 needed_beside : (plan : Plan) → IsPlan plan → (m : Held) → get m plan.proxies ≡ None → (o : Option JobSlot) (n : ℕ)
@@ -80,7 +80,7 @@ module _ (plan : Plan) (ok : IsPlan plan) (s : Sliced) (kept : IsKept plan s) (n
   pub idle_is_over : s.job ≡ Idle → NoPlace plan.paging s (class_for plan.paging n) → plan.paging.pages < pages_needed_with plan.paging (objects s.held) n
   idle_is_over idle none =
       let l = (lacks_room_at_one plan.paging ok.paging ok.ones (occupied plan s) kept.sound n lt).0
-          (no_place_is_lacking plan ok s kept (class_for plan.paging n) lt none) in
+      (no_place_is_lacking plan ok s kept (class_for plan.paging n) lt none) in
       subst (λ j. plan.paging.pages < pages_needed_with plan.paging (objects (with_slot plan s.held (job_slot j))) n) idle l
 
 -- a refusal has one cause

@@ -44,8 +44,13 @@ module _ (p : Paging) (ok : IsPaging p) (c : ℕ) (lt : c < classes p) (page : �
           | inr vacant ↦ (
               let low : StandBelow m n j = record {
                 class = s.class;
-                slot = λ q y there on. (let k = s.slot q y there on in (k.0, lower k.0 k.1
-                    (λ is. vacant q y there (k.3 ∙ ap (address_of p c page) is)), k.2, k.3));
+                slot = λ q y there on. (let k = s.slot q y there on in (
+                  k.0,
+                  lower k.0 k.1
+                      (λ is. vacant q y there (k.3 ∙ ap (address_of p c page) is)),
+                  k.2,
+                  k.3,
+                ));
                 own = s.own;
               } in
               let rest = stand_few n m j (omega arith) low in

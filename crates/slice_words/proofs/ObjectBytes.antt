@@ -79,7 +79,7 @@ module _ (place : ℕ → ℕ) (h : ℕ) (v : List ℕ) (old new : List ℕ) (at
       ap (λ r. byte_of r (get_or new (place (1 + (8 * i + j) / 8)) 0)) rem ∙ ap (λ d. byte_of j (get_or new (place d) 0)) word in
       let b : byte_of ((8 * i + j) % 8) (object_word h (written v at bytes) (suc ((8 * i + j) / 8))) ≡ byte_of j (object_word h (written v at bytes) (suc i)) =
       ap (λ r. byte_of r (object_word h (written v at bytes) (suc ((8 * i + j) / 8)))) rem
-          ∙ ap (λ d. byte_of j (object_word h (written v at bytes) (suc d))) div in
+      ∙ ap (λ d. byte_of j (object_word h (written v at bytes) (suc d))) div in
       sym a ∙ w.value (8 * i + j) touched ∙ new_byte (8 * i + j) (omega arith) ∙ sym (byte_of_object h (written v at bytes) (8 * i + j) good) ∙ b))
 
   -- where no byte is written nothing changes

@@ -15,7 +15,7 @@ class_at-class-requires-clause-fits c =
 pub pages_with-requires-clause-counted : goal.pages_with-requires-clause-counted
 pages_with-requires-clause-counted c =
     ceil_counted (record { profile = profile_of c.args.s.now; quota = c.args.quota }) c.args.s.now.page_size c.args.needs.now c.requires.asked
-        c.needs.entry-index
+    c.needs.entry-index
     (record { bytes = 0; count = 0 }) c.needs-test.true
     c.needs.counts c.needs.pages c.needs.before c.needs.invariant c.class_at-class.result c.class_at-class.ensures.class
     c.slots_at-slots.result c.slots_at-slots.ensures.slots
@@ -23,7 +23,7 @@ pages_with-requires-clause-counted c =
 pub overflow_add-result : goal.overflow_add-result
 overflow_add-result c =
     let few = few_before (record { profile = profile_of c.args.s.now; quota = c.args.quota }) c.args.s.now.page_size c.args.needs.now c.requires.asked
-        c.needs.entry-index
+    c.needs.entry-index
     (record { bytes = 0; count = 0 }) c.needs-test.true
     c.needs.counts c.needs.pages c.needs.before c.needs.invariant c.class_at-class.result c.class_at-class.ensures.class in
     let fewer = c.in-Err.ensures.past.fewer in
@@ -33,7 +33,7 @@ overflow_add-result c =
 pub overflow_add-result-in-Err : goal.overflow_add-result-in-Err
 overflow_add-result-in-Err c =
     let few = few_before (record { profile = profile_of c.args.s.now; quota = c.args.quota }) c.args.s.now.page_size c.args.needs.now c.requires.asked
-        c.needs.entry-index
+    c.needs.entry-index
     (record { bytes = 0; count = 0 }) c.needs-test.true
     c.needs.counts c.needs.pages c.needs.before c.needs.invariant c.class_at-class.result c.class_at-class.ensures.class in
     let fewer = c.in-Err.ensures.past.fewer in
@@ -50,7 +50,7 @@ returns-in-Err c =
 pub overflow_add-counts : goal.overflow_add-counts
 overflow_add-counts c =
     let few = few_had (record { profile = profile_of c.args.s.now; quota = c.args.quota }) c.args.s.now.page_size c.args.needs.now c.requires.asked
-        c.needs.entry-index
+    c.needs.entry-index
     (record { bytes = 0; count = 0 }) c.needs-test.true
     c.needs.counts c.needs.pages c.needs.before c.needs.invariant c.class_at-class.result c.class_at-class.ensures.class in
     let proxies = c.args.s.now.few_proxies in
@@ -59,7 +59,7 @@ overflow_add-counts c =
 pub overflow_add-before : goal.overflow_add-before
 overflow_add-before c =
     let few = few_before (record { profile = profile_of c.args.s.now; quota = c.args.quota }) c.args.s.now.page_size c.args.needs.now c.requires.asked
-        c.needs.entry-index
+    c.needs.entry-index
     (record { bytes = 0; count = 0 }) c.needs-test.true
     c.needs.counts c.needs.pages c.needs.before c.needs.invariant c.class_at-class.result c.class_at-class.ensures.class in
     let proxies = c.args.s.now.few_proxies in
@@ -68,7 +68,7 @@ overflow_add-before c =
 pub needs-preserved : goal.needs-preserved
 needs-preserved c =
     counted_next (record { profile = profile_of c.args.s.now; quota = c.args.quota }) c.args.s.now.page_size c.args.needs.now c.requires.asked
-        c.needs.entry-index
+    c.needs.entry-index
     (record { bytes = 0; count = 0 }) c.needs-test.true
     c.needs.counts c.needs.pages c.needs.before c.needs.invariant c.class_at-class.result c.class_at-class.ensures.class
     c.slots_at-slots.result c.slots_at-slots.ensures.slots c.in-Ok.sum c.in-Ok.ensures.sum c.in-Ok.ensures.within
