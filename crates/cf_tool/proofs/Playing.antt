@@ -13,12 +13,13 @@ use Rattle.script_loop.specs.OneManager.{one_manager}
 use Rattle.image_run.specs.Loads.{EndsLoad}
 use Rattle.image_run.specs.Saves.{EndsSave}
 use Rattle.script_loop.specs.ScriptOutcome.{Effects, MOST_BYTES, MeetsOutcome}
+use Rattle.script_loop.specs.Semantics.{Semantics}
 use Rattle.side_by_side.proofs.CallerLemmas.{begun_many, chosen_first, chosen_kinds, chosen_none, first_within, with_first, with_none}
 use Rattle.side_by_side.specs.First.{chosen_of, first_of_kind, with_chosen}
 use Rattle.side_by_side.specs.Many.{AreFresh, Many, kinds_of, many_at, many_managers}
 use Rattle.bench_run.specs.Bench.{EndsBench}
 use Rattle.command_line.specs.declared.choice.Choice.{Choice}
-use Rattle.cf_tool.specs.TopOutcome.{Benches, Compares, Ends, Handed, Loads, OrLacks, Runs, Saves, SinkState, SourceState, effects_of, handed}
+use Rattle.cf_tool.specs.TopOutcome.{Benches, Compares, Ends, Handed, Loads, OrLacks, PlaysOwn, Runs, Saves, SinkState, SourceState, effects_of, handed}
 
 -- what a mode asks was done, and nothing was written where memory was wanting
 or_lacks : (Does : Handed → Status → Handed → Type 0) (old : Handed) (st : Status) (new : Handed)
@@ -180,6 +181,13 @@ module _ (choice : Choice) (k k' : SinkState) (st : Status) (session : SessionSt
         unread = refl;
         untouched = refl;
       })
+
+-- a script was played on a heap that was made for it
+pub made_ends : {S P : Type 0} (m : Semantics S P) (IsMade : S → Type 0) (s s' : SourceState) (k k' : SinkState) (hs : List HeapState) (st : Status)
+    → HaveCauses s k st s' k' → (begin end : S) → IsMade begin → MeetsOutcome m begin (effects_of (handed s k hs) st (handed s' k' hs)) end
+    → Ends (PlaysOwn m IsMade) (handed s k hs) st (handed s' k' hs)
+made_ends m IsMade s s' k k' hs st causes begin end made met = ends_of (PlaysOwn m IsMade) s k hs st s' k' hs causes refl
+    (record { begin = begin; made = made; end = end; outcome = met; untouched = refl })
 
 -- a moving manager was made, and its session begun
 module _ (s s' : SourceState) (k k' : SinkState) (hs : List HeapState) (st : Status) (session : SessionState) (old : HeapState) (end : RunState)

@@ -15,7 +15,7 @@ use Rattle.command_line.proofs.CallerLemmas.{one_choice}
 use Rattle.command_line.specs.Choices.{Chooses}
 use Rattle.command_line.specs.declared.choice.Choice.{Choice}
 use Rattle.command_line.specs.declared.choice.Mode.{Mode}
-use Rattle.command_line.specs.declared.choice.Mode.TheVariants.{Run, Compare, Bench, Large, Save, Load}
+use Rattle.command_line.specs.declared.choice.Mode.TheVariants.{Run}
 use Rattle.script_reader.specs.Items.{items}
 use Rattle.run_model.specs.Sessions.{RunState, fresh_session}
 use Rattle.headline_laws.proofs.CallerLemmas.{headline_met}
@@ -27,13 +27,11 @@ use Rattle.script_loop.specs.Semantics.{Semantics}
 use Rattle.heap_image.specs.Decoded.{Decoded}
 use Rattle.heap_image.specs.Load.{LoadsBroken}
 use Rattle.image_run.specs.Saves.{unseen}
-use Rattle.large_objects.specs.LargeRun.{LargeRun}
-use Rattle.large_objects.specs.Playing.{large_heap}
 use Rattle.side_by_side.proofs.CallerLemmas.{chosen_kind}
 use Rattle.side_by_side.specs.First.{chosen_of}
 use Rattle.side_by_side.specs.Many.{Many, fresh_many, many_managers}
 use Rattle.cf_tool.specs.TopOutcome.{Benches, Compares, DoesChosen, Ends, EndsWell, EndsWhole, Handed, HasRightInput, HoldsImage, InMode, IsRightInput, Loads}
-use Rattle.cf_tool.specs.TopOutcome.{OrLacks, PlaysLarge, Runs, Saves, TellsChosen, TellsHeadline, TellsInMode, effects_of}
+use Rattle.cf_tool.specs.TopOutcome.{OrLacks, PlaysOwn, Runs, Saves, TellsChosen, TellsHeadline, TellsInMode, effects_of}
 
 -- no script ends by `Words`
 never_words : {S P : Type 0} (m : Semantics S P) (from to : S) (had left : Option (List ℕ)) (call : Effects) → call.status ≡ Words
@@ -42,23 +40,30 @@ never_words m from to (Some all) (Some left) call is met = subst (λ (st : Statu
 never_words m from to (Some all) None call is met = met
 never_words m from to None left call is met = subst IsEnding is met
 
--- A mode was chosen, and done.
-module _ (words : List Text) (choice : Choice) (Does : Handed → Status → Handed → Type 0) (chosen : Chooses words choice)
-    (in_mode : (old : Handed) (st : Status) (new : Handed) → Does old st new → InMode choice.mode choice old st new)
-    (never : (old new : Handed) → Does old Words new → ⊥) where
-  does : (old : Handed) (st : Status) (new : Handed) → Does old st new → DoesChosen words old st new
-  does old st new done = record { choice = choice; chosen = chosen; done = in_mode old st new done }
+-- A mode was chosen.
+module _ (words : List Text) (choice : Choice) (mode : Mode) (chosen : Chooses words choice) (is : choice.mode ≡ mode) where
+  done_so : (old : Handed) (st : Status) (new : Handed) → InMode mode choice old st new → DoesChosen words old st new
+  done_so old st new done = record { choice = choice; chosen = chosen; done = subst (λ (m : Mode). InMode m choice old st new) (sym is) done }
 
-  pub ends_mode : (old : Handed) (st : Status) (new : Handed) → OrLacks Does old st new → EndsWell words old st new
-  ends_mode old Words new done = absurd (never old new done)
-  ends_mode old OutOfMemory new (silent, inl same) = (silent, inl same)
-  ends_mode old OutOfMemory new (silent, inr done) = (silent, inr (does old OutOfMemory new done))
-  ends_mode old Done new done = does old Done new done
-  ends_mode old BadScript new done = does old BadScript new done
-  ends_mode old ReadFault new done = does old ReadFault new done
-  ends_mode old WriteFault new done = does old WriteFault new done
-  ends_mode old TooLong new done = does old TooLong new done
-  ends_mode old BadImage new done = does old BadImage new done
+  -- and done
+  pub mode_ends : ((old new : Handed) → InMode mode choice old Words new → ⊥) → (old : Handed) (st : Status) (new : Handed)
+      → Ends (InMode mode choice) old st new → EndsWell words old st new
+  mode_ends never old st new ends = go st ends.outcome
+    where
+      go : (st : Status) → OrLacks (InMode mode choice) old st new → EndsWell words old st new
+      go Words done = absurd (never old new done)
+      go OutOfMemory (silent, inl same) = (silent, inl same)
+      go OutOfMemory (silent, inr done) = (silent, inr (done_so old OutOfMemory new done))
+      go Done done = done_so old Done new done
+      go BadScript done = done_so old BadScript new done
+      go ReadFault done = done_so old ReadFault new done
+      go WriteFault done = done_so old WriteFault new done
+      go TooLong done = done_so old TooLong new done
+      go BadImage done = done_so old BadImage new done
+
+  -- and what it claims of its output holds
+  pub mode_tells : (call : Effects) → TellsInMode mode choice.kind call → TellsChosen words call
+  mode_tells call tells = record { choice = choice; chosen = chosen; tells = subst (λ (m : Mode). TellsInMode m choice.kind call) (sym is) tells }
 
 within_all : (all : List ℕ) → length all ≤ MOST_BYTES → items_within all ≡ items all true
 within_all all fits = ap (λ (l : List ℕ). items l (nat_le (length all) MOST_BYTES)) (take_all MOST_BYTES all fits)
@@ -142,7 +147,7 @@ module _ (kind : Kind) where
       subst (λ (k : Kind). TellsInMode Run k call) (chosen_kind kind old.managers)
       (headline_of from done.end call call.had refl done.outcome is, transcript_told from done.end call done.outcome is)
 
-  run_told : (old : Handed) (st : Status) (new : Handed) → OrLacks (Runs kind) old st new → AnswersAll st
+  pub run_told : (old : Handed) (st : Status) (new : Handed) → OrLacks (Runs kind) old st new → AnswersAll st
       → TellsInMode Run kind (effects_of old st new)
   run_told old Done new done is = told old Done new done is
   run_told old BadScript new done is = told old BadScript new done is
@@ -153,50 +158,20 @@ module _ (kind : Kind) where
   run_told old OutOfMemory new done is = absurd is
   run_told old BadImage new done is = absurd is
 
--- Mode `run` was chosen.
-module _ (words : List Text) (choice : Choice) (chosen : Chooses words choice) (is_run : choice.mode ≡ Run) (old : Handed) (st : Status) (new : Handed)
-    (ends : Ends (Runs choice.kind) old st new) where
-  pub run_ends : EndsWell words old st new
-  run_ends = ends_mode words choice (Runs choice.kind) chosen
-      (λ from status to done. subst (λ (m : Mode). InMode m choice from status to) (sym is_run) done)
-      (run_never_words choice.kind) old st new ends.outcome
-
-  pub run_tells : AnswersAll st → TellsChosen words (effects_of old st new)
-  run_tells is = record {
-    choice = choice;
-    chosen = chosen;
-    tells = subst (λ (m : Mode). TellsInMode m choice.kind (effects_of old st new)) (sym is_run) (run_told choice.kind old st new ends.outcome is);
-  }
-
 -- Mode `compare`.
 compare_met : (old : Handed) (st : Status) (new : Handed) → Compares old st new → (ends : Many × Many) × MeetsOutcome many_managers ends.0 (effects_of old st new) ends.1
 compare_met old st new done = ((fresh_many old.managers, done.end), done.outcome)
 
-compare_never_words : (old new : Handed) → Compares old Words new → ⊥
+pub compare_never_words : (old new : Handed) → Compares old Words new → ⊥
 compare_never_words = script_never_words many_managers Compares compare_met
 
 pub compare_whole : (old : Handed) (st : Status) (new : Handed) → Ends Compares old st new → IsClean old.source.rest
     → ¬ Rose old.source.faults new.source.faults → ¬ Rose old.sink.faults new.sink.faults → EndsWhole st
 compare_whole = script_whole many_managers Compares compare_met
 
--- Mode `compare` was chosen.
-module _ (words : List Text) (choice : Choice) (chosen : Chooses words choice) (is_compare : choice.mode ≡ Compare) (old : Handed) (st : Status) (new : Handed)
-    (ends : Ends Compares old st new) where
-  pub compare_ends : EndsWell words old st new
-  compare_ends = ends_mode words choice Compares chosen
-      (λ from status to done. subst (λ (m : Mode). InMode m choice from status to) (sym is_compare) done)
-      compare_never_words old st new ends.outcome
-
-  pub compare_tells : AnswersAll st → TellsChosen words (effects_of old st new)
-  compare_tells is = record {
-    choice = choice;
-    chosen = chosen;
-    tells = subst (λ (m : Mode). TellsInMode m choice.kind (effects_of old st new)) (sym is_compare) tt;
-  }
-
 -- Mode `bench`.
 module _ (choice : Choice) where
-  bench_never_words : (old new : Handed) → Benches choice old Words new → ⊥
+  pub bench_never_words : (old new : Handed) → Benches choice old Words new → ⊥
   bench_never_words old new done = done.outcome.written
 
   pub bench_whole : (old : Handed) (st : Status) (new : Handed) → Ends (Benches choice) old st new → ¬ Rose old.sink.faults new.sink.faults → EndsWhole st
@@ -209,50 +184,20 @@ module _ (choice : Choice) where
   bench_whole old TooLong new ends firm = absurd ends.outcome.outcome.written
   bench_whole old BadImage new ends firm = absurd ends.outcome.outcome.written
 
--- Mode `bench` was chosen.
-module _ (words : List Text) (choice : Choice) (chosen : Chooses words choice) (is_bench : choice.mode ≡ Bench) (old : Handed) (st : Status) (new : Handed)
-    (ends : Ends (Benches choice) old st new) where
-  pub bench_ends : EndsWell words old st new
-  bench_ends = ends_mode words choice (Benches choice) chosen
-      (λ from status to done. subst (λ (m : Mode). InMode m choice from status to) (sym is_bench) done)
-      (bench_never_words choice) old st new ends.outcome
+-- A mode that plays a script on a heap that is made for it.
+module _ {S P : Type 0} (m : Semantics S P) (IsMade : S → Type 0) where
+  own_met : (old : Handed) (st : Status) (new : Handed) → PlaysOwn m IsMade old st new → (ends : S × S) × MeetsOutcome m ends.0 (effects_of old st new) ends.1
+  own_met old st new done = ((done.begin, done.end), done.outcome)
 
--- What mode `bench` prints is no answer to a script.
-pub bench_tells : (words : List Text) (choice : Choice) → Chooses words choice → choice.mode ≡ Bench → (call : Effects) → TellsChosen words call
-bench_tells words choice chosen is_bench call = record {
-  choice = choice;
-  chosen = chosen;
-  tells = subst (λ (m : Mode). TellsInMode m choice.kind call) (sym is_bench) tt;
-}
+  pub own_never_words : (old new : Handed) → PlaysOwn m IsMade old Words new → ⊥
+  own_never_words = script_never_words m (PlaysOwn m IsMade) own_met
 
--- Mode `large`.
-large_met : (old : Handed) (st : Status) (new : Handed) → PlaysLarge old st new → (ends : LargeRun × LargeRun) × MeetsOutcome large_heap ends.0 (effects_of old st new) ends.1
-large_met old st new done = ((done.begin, done.end), done.outcome)
-
-large_never_words : (old new : Handed) → PlaysLarge old Words new → ⊥
-large_never_words = script_never_words large_heap PlaysLarge large_met
-
-pub large_whole : (old : Handed) (st : Status) (new : Handed) → Ends PlaysLarge old st new → IsClean old.source.rest
-    → ¬ Rose old.source.faults new.source.faults → ¬ Rose old.sink.faults new.sink.faults → EndsWhole st
-large_whole = script_whole large_heap PlaysLarge large_met
-
--- Mode `large` was chosen.
-module _ (words : List Text) (choice : Choice) (chosen : Chooses words choice) (is_large : choice.mode ≡ Large) (old : Handed) (st : Status) (new : Handed)
-    (ends : Ends PlaysLarge old st new) where
-  pub large_ends : EndsWell words old st new
-  large_ends = ends_mode words choice PlaysLarge chosen
-      (λ from status to done. subst (λ (m : Mode). InMode m choice from status to) (sym is_large) done)
-      large_never_words old st new ends.outcome
-
-  pub large_tells : AnswersAll st → TellsChosen words (effects_of old st new)
-  large_tells is = record {
-    choice = choice;
-    chosen = chosen;
-    tells = subst (λ (m : Mode). TellsInMode m choice.kind (effects_of old st new)) (sym is_large) tt;
-  }
+  pub own_whole : (old : Handed) (st : Status) (new : Handed) → Ends (PlaysOwn m IsMade) old st new → IsClean old.source.rest
+      → ¬ Rose old.source.faults new.source.faults → ¬ Rose old.sink.faults new.sink.faults → EndsWhole st
+  own_whole = script_whole m (PlaysOwn m IsMade) own_met
 
 -- Mode `save`.
-save_never_words : (old new : Handed) → Saves old Words new → ⊥
+pub save_never_words : (old new : Handed) → Saves old Words new → ⊥
 save_never_words old new done =
     never_words one_manager (run_at fresh_session (closed_state Moving)) done.end old.source.rest new.source.rest (unseen (effects_of old Words new)) refl
     done.outcome.script
@@ -275,23 +220,8 @@ save_whole old st new ends clean sure firm = go st ends.outcome ends.read_fault 
     go BadImage done read wrote = met_whole one_manager (run_at fresh_session (closed_state Moving)) done.end old.source.rest new.source.rest
         (unseen (effects_of old BadImage new)) _ _ _ _ done.outcome.script read wrote clean sure firm
 
--- Mode `save` was chosen.
-module _ (words : List Text) (choice : Choice) (chosen : Chooses words choice) (is_save : choice.mode ≡ Save) (old : Handed) (st : Status) (new : Handed)
-    (ends : Ends Saves old st new) where
-  pub save_ends : EndsWell words old st new
-  save_ends = ends_mode words choice Saves chosen
-      (λ from status to done. subst (λ (m : Mode). InMode m choice from status to) (sym is_save) done)
-      save_never_words old st new ends.outcome
-
-  pub save_tells : AnswersAll st → TellsChosen words (effects_of old st new)
-  save_tells is = record {
-    choice = choice;
-    chosen = chosen;
-    tells = subst (λ (m : Mode). TellsInMode m choice.kind (effects_of old st new)) (sym is_save) tt;
-  }
-
 -- Mode `load`.
-load_never_words : (old new : Handed) → Loads old Words new → ⊥
+pub load_never_words : (old new : Handed) → Loads old Words new → ⊥
 load_never_words old new done = done.outcome
 
 -- an image isn't broken
@@ -315,21 +245,6 @@ load_whole old st new ends image sure firm = go st ends.outcome ends.read_fault 
     go Words done read wrote = absurd done.outcome
     go BadScript done read wrote = absurd done.outcome
     go TooLong done read wrote = absurd done.outcome
-
--- Mode `load` was chosen.
-module _ (words : List Text) (choice : Choice) (chosen : Chooses words choice) (is_load : choice.mode ≡ Load) (old : Handed) (st : Status) (new : Handed)
-    (ends : Ends Loads old st new) where
-  pub load_ends : EndsWell words old st new
-  load_ends = ends_mode words choice Loads chosen
-      (λ from status to done. subst (λ (m : Mode). InMode m choice from status to) (sym is_load) done)
-      load_never_words old st new ends.outcome
-
-  pub load_tells : AnswersAll st → TellsChosen words (effects_of old st new)
-  load_tells is = record {
-    choice = choice;
-    chosen = chosen;
-    tells = subst (λ (m : Mode). TellsInMode m choice.kind (effects_of old st new)) (sym is_load) tt;
-  }
 
 -- What the mode that was chosen reads is right.
 pub right_input : (words : List Text) (choice : Choice) (had : Option (List ℕ)) (mode : Mode) → Chooses words choice → choice.mode ≡ mode

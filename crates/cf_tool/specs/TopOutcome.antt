@@ -1,5 +1,6 @@
 -- How the top call may end, by the mode that the words choose.
 use Rattle.std.specs.Prelude.{◌≡◌, ◌<◌, ◌+◌, ◌⊎◌, ⊤, ℕ, List, [], Option, Some, None, map}
+use Rattle.std.specs.FinMap.{empty}
 use Rattle.cf_base.specs.declared.kind.Kind.{Kind}
 use Rattle.cf_base.specs.declared.status.Status.{Status}
 use Rattle.cf_base.specs.declared.status.Status.TheVariants.{Done, Words, ReadFault, WriteFault, OutOfMemory, TooLong}
@@ -12,7 +13,7 @@ use Rattle.cf_session.specs.Apply.{run_at}
 use Rattle.command_line.specs.Choices.{AreRefused, Chooses}
 use Rattle.command_line.specs.declared.choice.Choice.{Choice}
 use Rattle.command_line.specs.declared.choice.Mode.{Mode}
-use Rattle.command_line.specs.declared.choice.Mode.TheVariants.{Run, Compare, Bench, Large, Save, Load}
+use Rattle.command_line.specs.declared.choice.Mode.TheVariants.{Run, Compare, Bench, Large, Save, Load, Slice, Quota}
 use Rattle.script_reader.specs.Items.{Item}
 use Rattle.run_model.specs.Sessions.{RunState, fresh_session}
 use Rattle.run_model.specs.Texts.{Reply, text_of}
@@ -20,13 +21,19 @@ use Rattle.headline_laws.specs.Headline.{MeetsHeadline}
 use Rattle.script_loop.specs.Consequences.{AnswersAll, TellsTranscript}
 use Rattle.script_loop.specs.OneManager.{one_manager}
 use Rattle.script_loop.specs.ScriptOutcome.{Effects, IsClean, MOST_BYTES, MeetsOutcome, items_within}
+use Rattle.script_loop.specs.Semantics.{Semantics}
 use Rattle.heap_image.specs.Decoded.{IsImage}
 use Rattle.image_run.specs.Loads.{EndsLoad}
 use Rattle.image_run.specs.Saves.{EndsSave}
 use Rattle.large_objects.specs.LargeRun.{LargeRun}
 use Rattle.large_objects.specs.Playing.{IsFreshLarge, large_heap}
+use Rattle.quota_heap.specs.State as quota_state
+use Rattle.quota_session.specs.Playing.{quota_tasks}
+use Rattle.quota_session.specs.QuotaRun.{QuotaRun, first_session, quota_run}
 use Rattle.side_by_side.specs.First.{chosen_of, with_chosen}
 use Rattle.side_by_side.specs.Many.{Many, fresh_many, many_managers}
+use Rattle.slice_session.specs.Playing.{SlicePlay, slice_play, slices}
+use Rattle.sliced_heap.specs.Shown as sliced_state
 
 -- what a source tells: the bytes that it has left, where it is observable, how many it gave, and how often it failed
 pub record SourceState : Type 0 where
@@ -80,14 +87,38 @@ pub record Benches (choice : Choice) (old : Handed) (status : Status) (new : Han
   pub unread : new.source ≡ old.source
   pub untouched : new.managers ≡ old.managers
 
--- Mode `large`: a moving manager, which was never open, is made for the script, whose objects may be larger than a page. No manager handed in is touched.
-pub record PlaysLarge (old : Handed) (status : Status) (new : Handed) : Type 0 where
-  pub begin : LargeRun
-  pub fresh : IsFreshLarge begin
-  pub made : begin.heap.inner ≡ closed_state Moving
-  pub end : LargeRun
-  pub outcome : MeetsOutcome large_heap begin (effects_of old status new) end
+-- A heap is made for the script, which is played on it from such a state. No manager handed in is touched.
+pub record PlaysOwn {S P : Type 0} (m : Semantics S P) (IsMade : S → Type 0) (old : Handed) (status : Status) (new : Handed) : Type 0 where
+  pub begin : S
+  pub made : IsMade begin
+  pub end : S
+  pub outcome : MeetsOutcome m begin (effects_of old status new) end
   pub untouched : new.managers ≡ old.managers
+
+-- no id is live, and objects are kept on a moving manager that was never open
+pub record IsMadeLarge (s : LargeRun) : Type 0 where
+  pub fresh : IsFreshLarge s
+  pub inner : s.heap.inner ≡ closed_state Moving
+
+-- no id is live; a heap that was never open is to have slices of at most so many words
+abbrev pub IsMadeSliced : ℕ → SlicePlay → Type 0
+IsMadeSliced quantum s = s ≡ slice_play empty quantum sliced_state.closed_state
+
+-- a session was just begun over a heap of tasks that was never open
+abbrev pub IsMadeForTasks : QuotaRun → Type 0
+IsMadeForTasks s = s ≡ quota_run None first_session quota_state.closed_state
+
+-- Mode `large`: objects may be larger than a page.
+abbrev pub PlaysLarge : Handed → Status → Handed → Type 0
+PlaysLarge = PlaysOwn large_heap IsMadeLarge
+
+-- Mode `slice`: a free leaves its work in slices.
+abbrev pub PlaysSlices : ℕ → Handed → Status → Handed → Type 0
+PlaysSlices quantum = PlaysOwn slices (IsMadeSliced quantum)
+
+-- Mode `quota`: tasks share the pages, each with a quota.
+abbrev pub PlaysQuotas : Handed → Status → Handed → Type 0
+PlaysQuotas = PlaysOwn quota_tasks IsMadeForTasks
 
 -- Mode `save`: a moving manager, which was never open, is made for the script, whose replies are not printed; what lives at its end is, as an image. No manager
 -- handed in is touched.
@@ -104,12 +135,14 @@ pub record Loads (old : Handed) (status : Status) (new : Handed) : Type 0 where
   pub untouched : new.managers ≡ old.managers
 
 abbrev pub InMode : Mode → Choice → Handed → Status → Handed → Type 0
-InMode Run choice old status new = Runs choice.kind old status new
-InMode Compare choice old status new = Compares old status new
-InMode Bench choice old status new = Benches choice old status new
-InMode Large choice old status new = PlaysLarge old status new
-InMode Save choice old status new = Saves old status new
-InMode Load choice old status new = Loads old status new
+InMode Run choice = Runs choice.kind
+InMode Compare choice = Compares
+InMode Bench choice = Benches choice
+InMode Large choice = PlaysLarge
+InMode Save choice = Saves
+InMode Load choice = Loads
+InMode Slice choice = PlaysSlices choice.quantum
+InMode Quota choice = PlaysQuotas
 
 -- the words choose a mode and a kind, and the call did what they ask
 pub record DoesChosen (words : List Text) (old : Handed) (status : Status) (new : Handed) : Type 0 where

@@ -6,7 +6,9 @@ mod boxed;
 mod comparing;
 mod images;
 mod large;
+mod quota;
 mod running;
+mod slice;
 mod top;
 
 use boxed::Boxed;

@@ -3,6 +3,7 @@ mod faults;
 mod keeping;
 mod managers;
 mod opening;
+mod own_heaps;
 mod padded;
 mod rows;
 

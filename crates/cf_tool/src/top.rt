@@ -9,7 +9,9 @@ use crate::boxed::Boxed;
 use crate::comparing::compare;
 use crate::images::{load_image, save_image};
 use crate::large::play_large;
+use crate::quota::play_quotas;
 use crate::running::run_chosen;
+use crate::slice::play_slices;
 use cf_base::Status;
 use cf_io::{Sink, Source};
 use cf_model::Manager;
@@ -25,8 +27,9 @@ use std::rt::Runtime;
 /// In mode `compare` every manager handed in answers, in order: each line of its replies after its
 /// name, and `bad line` once and without a name. Mode `save` prints no reply, and at the end what lives
 /// as an image; mode `load` reads an image, and prints the script that makes what it holds, or answers
-/// `BadImage`. The call ends at the end of the script with `Done`; at a line that isn't in the grammar at its
-/// place with `BadScript`; where more bytes come with `TooLong`; at a fault with `ReadFault` or
+/// `BadImage`. In the modes `large`, `slice` and `quota` a heap that is made for it answers the script.
+/// The call ends at the end of the script with `Done`; at a line that isn't in the grammar at its place with
+/// `BadScript`; where more bytes come with `TooLong`; at a fault with `ReadFault` or
 /// `WriteFault`; and out of memory with `OutOfMemory`, before any reply. It answers `Words` exactly
 /// where `clap` refuses the words for another cause than memory.
 pub fn cf_main<R: Runtime, S: Source, K: Sink>(
@@ -74,5 +77,7 @@ pub fn cf_main<R: Runtime, S: Source, K: Sink>(
         Mode::Large => play_large(rt, alloc, source, sink),
         Mode::Save => save_image(rt, alloc, source, sink),
         Mode::Load => load_image(rt, alloc, source, sink),
+        Mode::Slice => play_slices(rt, alloc, choice.quantum, source, sink),
+        Mode::Quota => play_quotas(rt, alloc, source, sink),
     }
 }

@@ -7,10 +7,10 @@ use Rattle.cf_base.specs.declared.kind.Kind.{Kind}
 use Rattle.cf_base.specs.declared.kind.Kind.TheVariants.{Moving, NonMoving, Tlsf, HalfFit}
 use Rattle.clap.specs.Words.{App, Row, Text, first_of, one_of, fault_of, matches_of}
 use Rattle.clap.specs.ValueTests.{accepts}
-use Rattle.command_line.specs.Command.{IsCfApp, any_u64, mode_name}
+use Rattle.command_line.specs.Command.{IsCfApp, any_u64, mode_name, quantum_parser}
 use Rattle.command_line.specs.declared.choice.Choice.{Choice}
 use Rattle.command_line.specs.declared.choice.Mode.{Mode}
-use Rattle.command_line.specs.declared.choice.Mode.TheVariants.{Run, Compare, Bench, Large, Save, Load}
+use Rattle.command_line.specs.declared.choice.Mode.TheVariants.{Run, Compare, Bench, Large, Save, Load, Slice, Quota}
 use Rattle.command_line.specs.declared.choice.WordsFault.{WordsFault}
 use Rattle.command_line.specs.declared.choice.WordsFault.TheVariants.{Refused, OutOfMemory}
 
@@ -20,7 +20,9 @@ mode_named None = Run
 mode_named (Some name) = if bytes_eq name (mode_name Compare) then Compare
     else (if bytes_eq name (mode_name Bench) then Bench
     else (if bytes_eq name (mode_name Large) then Large
-    else (if bytes_eq name (mode_name Save) then Save else (if bytes_eq name (mode_name Load) then Load else Run))))
+    else (if bytes_eq name (mode_name Save) then Save
+    else (if bytes_eq name (mode_name Load) then Load
+    else (if bytes_eq name (mode_name Slice) then Slice else (if bytes_eq name (mode_name Quota) then Quota else Run))))))
 
 -- the kind of a name; the command lets no other name through
 abbrev pub kind_named : Option Text → Kind
@@ -33,6 +35,11 @@ abbrev pub u64_in : Option Text → ℕ
 u64_in None = 0
 u64_in (Some text) = if accepts false any_u64 text then digits_value 10 (without_leading_plus text) else 0
 
+-- the quantum that a text says; the command lets no other text through
+abbrev pub quantum_in : Option Text → ℕ
+quantum_in None = 16
+quantum_in (Some text) = if accepts false quantum_parser text then digits_value 10 (without_leading_plus text) else 16
+
 -- what the rows of the matches choose
 abbrev pub choice_of : List Row → Choice
 choice_of rows = record {
@@ -40,6 +47,7 @@ choice_of rows = record {
   kind = kind_named (first_of (codes "manager") rows);
   seed = u64_in (one_of (codes "seed") rows);
   count = u64_in (one_of (codes "count") rows);
+  quantum = quantum_in (one_of (codes "quantum") rows);
 }
 
 -- The command finds no fault in the arguments. Which references to its names it has doesn't matter, here and below: all such commands read alike.
@@ -67,6 +75,6 @@ ReadsAs words (Ok choice) = Chooses words choice
 ReadsAs words (Err Refused) = AreRefused words
 ReadsAs words (Err OutOfMemory) = ⊤
 
--- this mode and this kind, with this seed and this count
-abbrev pub chosen : Mode → Kind → ℕ → ℕ → Choice
-chosen mode kind seed count = record { mode = mode; kind = kind; seed = seed; count = count }
+-- this mode and this kind, with this seed, this count and this quantum
+abbrev pub chosen : Mode → Kind → ℕ → ℕ → ℕ → Choice
+chosen mode kind seed count quantum = record { mode = mode; kind = kind; seed = seed; count = count; quantum = quantum }

@@ -7,7 +7,7 @@ use Rattle.clap.specs.Words.{App, Rule, Text, new_app, new_rule, with_rule}
 use Rattle.clap.specs.declared.builder.value_parser.ValueParser.{ValueParser}
 use Rattle.clap.specs.declared.builder.value_parser.ValueParser.TheVariants.{Names, Unsigned}
 use Rattle.command_line.specs.declared.choice.Mode.{Mode}
-use Rattle.command_line.specs.declared.choice.Mode.TheVariants.{Run, Compare, Bench, Large, Save, Load}
+use Rattle.command_line.specs.declared.choice.Mode.TheVariants.{Run, Compare, Bench, Large, Save, Load, Slice, Quota}
 
 -- a borrowed list of borrowed names, as `clap` keeps it
 abbrev pub NameList : Type 0
@@ -24,9 +24,11 @@ mode_name Bench = codes "bench"
 mode_name Large = codes "large"
 mode_name Save = codes "save"
 mode_name Load = codes "load"
+mode_name Slice = codes "slice"
+mode_name Quota = codes "quota"
 
 abbrev pub mode_names : List Text
-mode_names = map mode_name (Run ∷ Compare ∷ Bench ∷ Large ∷ Save ∷ Load ∷ [])
+mode_names = map mode_name (Run ∷ Compare ∷ Bench ∷ Large ∷ Save ∷ Load ∷ Slice ∷ Quota ∷ [])
 
 abbrev pub manager_names : List Text
 manager_names = kind_name Moving ∷ kind_name NonMoving ∷ kind_name Tlsf ∷ kind_name HalfFit ∷ []
@@ -53,10 +55,18 @@ seed_rule = option_rule (codes "seed") any_u64 (codes "0")
 abbrev pub count_rule : Rule
 count_rule = option_rule (codes "count") (Unsigned 0 1000000) (codes "1000")
 
+-- a whole number from 1 to 16,384
+abbrev pub quantum_parser : ValueParser
+quantum_parser = Unsigned 1 16384
+
+abbrev pub quantum_rule : Rule
+quantum_rule = option_rule (codes "quantum") quantum_parser (codes "16")
+
 -- the command, with these references to the names
 abbrev pub cf_app : NameList → NameList → App
 cf_app modes managers =
-    with_rule (with_rule (with_rule (with_rule (new_app (codes "cf_tool")) (mode_rule modes)) (manager_rule managers)) seed_rule) count_rule
+    with_rule (with_rule (with_rule (with_rule (with_rule (new_app (codes "cf_tool")) (mode_rule modes)) (manager_rule managers)) seed_rule) count_rule)
+    quantum_rule
 
 -- The command, with some references to its names: a rule holds the references themselves, and where those of a static point is known to nobody.
 pub record IsCfApp (app : App) : Type 0 where

@@ -17,16 +17,21 @@ pub enum Mode {
     Save,
     /// Load a heap image, and write the script that makes what it holds.
     Load,
+    /// Answer a script on a heap whose frees leave their work in slices.
+    Slice,
+    /// Answer a script of tasks that share the pages of one heap, each with a quota.
+    Quota,
 }
 
-/// What the arguments chose: the mode, the manager's kind, and the seed and the number of commands of a
-/// generated script.
+/// What the arguments chose: the mode, the manager's kind, the seed and the number of commands of a
+/// generated script, and the most words that a slice moves or clears.
 #[derive(Clone, Copy, Debug, PartialEq, Eq)]
 pub struct Choice {
     pub mode: Mode,
     pub kind: Kind,
     pub seed: u64,
     pub count: u64,
+    pub quantum: u32,
 }
 
 /// Why there is no choice.

@@ -1,13 +1,15 @@
 //! The one command that reads the arguments, and its arguments.
 ghost use Rattle.std.specs.Prelude.{◌≡◌, IfOk, false};
 ghost use Rattle.clap.specs.Words.{app_of, rule_of};
-ghost use Rattle.command_line.specs.Command.{IsCfApp, count_rule, manager_rule, mode_rule, seed_rule};
+ghost use Rattle.command_line.specs.Command.{IsCfApp, count_rule, manager_rule, mode_rule, quantum_rule, seed_rule};
 ghost use Rattle.command_line.specs.Command.{manager_names, mode_names, texts_of};
 
 use clap::{Arg, Command, value_parser};
 use std::alloc::{AllocError, Global};
 
-static MODES: [&str; 6] = ["run", "compare", "bench", "large", "save", "load"];
+static MODES: [&str; 8] = [
+    "run", "compare", "bench", "large", "save", "load", "slice", "quota",
+];
 
 static MANAGERS: [&str; 4] = ["cf", "nm", "tlsf", "half"];
 
@@ -62,8 +64,18 @@ fn count_arg<'a>(alloc: Global) -> Arg<'a>
         .default_value("1000")
 }
 
-/// The command: MODE, `--manager`, `--seed` and `--count`, with their values, ranges and defaults,
-/// and nothing else.
+fn quantum_arg<'a>(alloc: Global) -> Arg<'a>
+    ensures rule { rule_of result ≡ quantum_rule }
+    ensures local { result.global ≡ false }
+{
+    Arg::new(alloc, "quantum")
+        .long("quantum")
+        .value_parser(value_parser!(u64).range(1..=16_384))
+        .default_value("16")
+}
+
+/// The command: MODE, `--manager`, `--seed`, `--count` and `--quantum`, with their values, ranges and
+/// defaults, and nothing else.
 pub fn cf_command<'a>(alloc: Global) -> Result<Command<'a>, AllocError>
     ensures { IfOk result (λ command. IsCfApp (app_of command)) }
 {
@@ -73,5 +85,6 @@ pub fn cf_command<'a>(alloc: Global) -> Result<Command<'a>, AllocError>
         .arg(mode)?
         .arg(manager)?
         .arg(seed_arg(alloc))?
-        .arg(count_arg(alloc))
+        .arg(count_arg(alloc))?
+        .arg(quantum_arg(alloc))
 }

@@ -45,14 +45,14 @@ pub fn known_words_are_refused()
 
 /// The program's name alone chooses the defaults.
 pub fn no_words_are_taken()
-    ensures { (name : Text) → Chooses (name ∷ []) (chosen Run Moving 0 1000) }
+    ensures { (name : Text) → Chooses (name ∷ []) (chosen Run Moving 0 1000 16) }
 {}
 
 /// Arguments choose what they say, whatever the mode and the kind.
 pub fn words_choose_what_they_say()
     ensures { (name : Text) (mode : Mode) (kind : Kind) → Chooses
-        (name ∷ mode_name mode ∷ codes "--manager" ∷ kind_name kind ∷ codes "--seed" ∷ codes "5" ∷ codes "--count=7" ∷ [])
-        (chosen mode kind 5 7) }
+        (name ∷ mode_name mode ∷ codes "--manager" ∷ kind_name kind ∷ codes "--seed" ∷ codes "5" ∷ codes "--count=7" ∷ codes "--quantum=8" ∷ [])
+        (chosen mode kind 5 7 8) }
 {}
 
 /// A mode or a manager by any other name is refused; these names differ in a letter or in its case.
@@ -69,4 +69,10 @@ pub fn help_is_refused()
 /// So is a count past 1,000,000.
 pub fn a_count_too_far_is_refused()
     ensures { (name : Text) → AreRefused (name ∷ codes "--count=1000001" ∷ []) }
+{}
+
+/// And so is a quantum of no words, or of more than 16,384.
+pub fn a_quantum_out_of_range_is_refused()
+    ensures none { (name : Text) → AreRefused (name ∷ codes "--quantum=0" ∷ []) }
+    ensures too_far { (name : Text) → AreRefused (name ∷ codes "--quantum=16385" ∷ []) }
 {}

@@ -1,8 +1,8 @@
 //! The arguments of the command line to a choice.
-ghost use Rattle.std.specs.Prelude.{◌≡◌, map, option_map, string_bytes};
+ghost use Rattle.std.specs.Prelude.{◌≡◌, ◌≤◌, IfOk, map, option_map, string_bytes};
 ghost use Rattle.clap.specs.Words.{found_of, one_text};
 ghost use Rattle.command_line.specs.Choices.{ReadsAs, kind_named as kind_by, mode_named as mode_by};
-ghost use Rattle.command_line.specs.Choices.{u64_in as number_by};
+ghost use Rattle.command_line.specs.Choices.{quantum_in as quantum_by, u64_in as number_by};
 
 use crate::choice::{Choice, Mode, WordsFault};
 use crate::command::cf_command;
@@ -21,6 +21,8 @@ fn mode_named(name: Option<&str>) -> Mode
         Some("large") => Mode::Large,
         Some("save") => Mode::Save,
         Some("load") => Mode::Load,
+        Some("slice") => Mode::Slice,
+        Some("quota") => Mode::Quota,
         _ => Mode::Run,
     }
 }
@@ -43,12 +45,29 @@ fn u64_in(matches: &ArgMatches<'_>, id: &str) -> u64
     matches.get_one::<u64>(id).unwrap_or(0)
 }
 
+/// The quantum that a text says; the command lets no other number through.
+fn quantum_in(matches: &ArgMatches<'_>, id: &str) -> u32
+    ensures value { result ≡ quantum_by (one_text (found_of matches.now) id.now) }
+    ensures least { 1 ≤ result }
+    ensures most { result ≤ 16384 }
+{
+    let quantum = matches.get_one::<u32>(id).unwrap_or(16);
+    if 1 <= quantum && quantum <= 16_384 {
+        quantum
+    } else {
+        16
+    }
+}
+
 /// What the arguments of the command line choose, of which the first is the program's name. They are
-/// refused exactly where `clap` refuses them for another cause than memory.
+/// refused exactly where `clap` refuses them for another cause than memory. A slice has from 1 to
+/// 16,384 words.
 // a goal that no proof answers is refused at once: a search for a command would be long
 #[tactic(none)]
 pub fn read_words(alloc: Global, words: &[String]) -> Result<Choice, WordsFault>
-    ensures { ReadsAs (map (λ word. string_bytes word) words.now) result }
+    ensures reads { ReadsAs (map (λ word. string_bytes word) words.now) result }
+    ensures least { IfOk result (λ choice. 1 ≤ choice.quantum) }
+    ensures most { IfOk result (λ choice. choice.quantum ≤ 16384) }
 {
     let Ok(command) = cf_command(alloc) else {
         return Err(WordsFault::OutOfMemory);
@@ -59,6 +78,7 @@ pub fn read_words(alloc: Global, words: &[String]) -> Result<Choice, WordsFault>
             kind: kind_named(matches.get_str("manager")),
             seed: u64_in(&matches, "seed"),
             count: u64_in(&matches, "count"),
+            quantum: quantum_in(&matches, "quantum"),
         }),
         Err(error) => match error.kind() {
             ErrorKind::OutOfMemory => Err(WordsFault::OutOfMemory),

@@ -30,6 +30,8 @@ fn words_are_taken(rt: HostRuntime) -> Result<(), Fail> {
         (["large"].as_slice(), Mode::Large, Kind::Moving, 0, 1_000),
         (["save"].as_slice(), Mode::Save, Kind::Moving, 0, 1_000),
         (["load"].as_slice(), Mode::Load, Kind::Moving, 0, 1_000),
+        (["slice"].as_slice(), Mode::Slice, Kind::Moving, 0, 1_000),
+        (["quota"].as_slice(), Mode::Quota, Kind::Moving, 0, 1_000),
         (["--", "run"].as_slice(), Mode::Run, Kind::Moving, 0, 1_000),
         (
             ["--manager", "cf"].as_slice(),
@@ -90,6 +92,36 @@ fn words_are_taken(rt: HostRuntime) -> Result<(), Fail> {
             kind,
             seed,
             count,
+            quantum: 16,
+        };
+        assert_eq!(rt;
+            read_words(rt.alloc(), all.as_slice()),
+            Ok(wanted),
+            "{words:?}"
+        );
+    }
+    Ok(())
+}
+
+#[test]
+fn a_quantum_is_taken_in_each_mode(rt: HostRuntime) -> Result<(), Fail> {
+    for (words, mode, quantum) in [
+        (["slice", "--quantum", "8"].as_slice(), Mode::Slice, 8),
+        (["--quantum=1", "slice"].as_slice(), Mode::Slice, 1),
+        (
+            ["slice", "--quantum=+16384"].as_slice(),
+            Mode::Slice,
+            16_384,
+        ),
+        (["--quantum=007"].as_slice(), Mode::Run, 7),
+    ] {
+        let all = texts(rt.alloc(), words)?;
+        let wanted = Choice {
+            mode,
+            kind: Kind::Moving,
+            seed: 0,
+            count: 1_000,
+            quantum,
         };
         assert_eq!(rt;
             read_words(rt.alloc(), all.as_slice()),
@@ -108,7 +140,7 @@ fn words_are_refused(rt: HostRuntime) -> Result<(), Fail> {
         ["help"].as_slice(),
         ["--version"].as_slice(),
         ["-V"].as_slice(),
-        ["slice"].as_slice(),
+        ["slices"].as_slice(),
         ["Bench"].as_slice(),
         ["compare", "bench"].as_slice(),
         ["Run"].as_slice(),
@@ -117,7 +149,11 @@ fn words_are_refused(rt: HostRuntime) -> Result<(), Fail> {
         ["run", "extra"].as_slice(),
         ["run", "--help"].as_slice(),
         ["--other"].as_slice(),
-        ["--quantum=1"].as_slice(),
+        ["--quantum"].as_slice(),
+        ["--quantum=0"].as_slice(),
+        ["--quantum=-1"].as_slice(),
+        ["--quantum", "16385"].as_slice(),
+        ["slice", "--quantum=8", "--quantum=8"].as_slice(),
         ["--manager"].as_slice(),
         ["--manager", "other"].as_slice(),
         ["--manager=NM"].as_slice(),

@@ -23,7 +23,7 @@ struct Case {
 /// The kinds of the program's managers, in its order.
 const FOUR: [Kind; 4] = [Kind::Moving, Kind::NonMoving, Kind::Tlsf, Kind::HalfFit];
 
-const CASES: [Case; 19] = [
+const CASES: [Case; 16] = [
     Case {
         shows: "the first of the kind answers, and no other one is touched",
         words: &[],
@@ -160,33 +160,6 @@ const CASES: [Case; 19] = [
         live: &[],
     },
     Case {
-        shows: "objects above one page, their ranges, and room again after a free",
-        words: &["large"],
-        managers: &[Kind::Moving],
-        script: b"heap 4 512 1 16\nm 1 1000\nm 2 505\nm 3 505\nw 1 500 0102030405060708\nr 1 500 8\nr 1 996 5\nf 1\nm 3 505\nwalk\n",
-        status: Status::Done,
-        text: b"ok\nok\nok\nrefused space\nok\n=0102030405060708\nrange\nok\nok\nclass 4 slots 16 live 4 pages 1 notfull 1\nclass 64 slots 1 live 2 pages 2 notfull 0\ntotal live 6 pages 3 free 1\n",
-        live: &[None],
-    },
-    Case {
-        shows: "the longest object whose spine fits a page, and one byte more",
-        words: &["large"],
-        managers: &[],
-        script: b"heap 200 512 1 512\nm 1 63504\nm 2 63505\n",
-        status: Status::Done,
-        text: b"ok\nok\nrefused size\n",
-        live: &[],
-    },
-    Case {
-        shows: "words that this mode doesn't have, and a bad line",
-        words: &["large"],
-        managers: &[],
-        script: b"heap 4 512 3 16\nm 1 1000\nq 1\nz 1 8\nsteps\nk 23 2\n",
-        status: Status::BadScript,
-        text: b"ok\nok\nnone\nnone\nnone\nbad line 6\n",
-        live: &[],
-    },
-    Case {
         shows: "a bench of Half-Fit",
         words: &["bench", "--manager=half", "--count=4"],
         managers: &[],
@@ -215,65 +188,6 @@ fn a_mode_answers_on_the_managers_that_it_names(rt: HostRuntime) -> Result<(), F
         assert_eq!(rt; left.status, status, "{shows}");
         assert_eq!(rt; sink.written(), text, "{shows}");
         assert_eq!(rt; left.live.as_slice(), live, "{shows}");
-    }
-    Ok(())
-}
-
-/// Of modes `save` and `load`: the words, what is read, the status, and what is written.
-const IMAGES: [(&[&str], &[u8], Status, &[u8]); 7] = [
-    (
-        &["save"],
-        b"heap 1 512 1 4\nm 7 3\nw 7 0 616263\n",
-        Status::Done,
-        b"CFI1\x01\0\0\0\0\x02\0\0\x04\0\0\0\x01\0\0\0\x07\0\x03\0\0\0abc",
-    ),
-    // No heap was opened.
-    (&["save", "--manager=nm"], b"# nothing\n", Status::Done, b""),
-    (
-        &["save"],
-        b"heap 1 512 1 4\nm 7 3\nx\n",
-        Status::BadScript,
-        b"",
-    ),
-    (
-        &["load"],
-        b"CFI1\x01\0\0\0\0\x02\0\0\x04\0\0\0\x01\0\0\0\x07\0\x03\0\0\0abc",
-        Status::Done,
-        b"heap 1 512 1 4\nm 7 3\nw 7 0 616263\n",
-    ),
-    // The image is cut.
-    (
-        &["load"],
-        b"CFI1\x01\0\0\0\0\x02\0\0\x04\0\0\0\x01\0\0\0\x07\0\x03\0\0\0ab",
-        Status::BadImage,
-        b"bad image 26\n",
-    ),
-    // A byte stands past the image.
-    (
-        &["load"],
-        b"CFI1\x01\0\0\0\0\x02\0\0\x04\0\0\0\x01\0\0\0\x07\0\x03\0\0\0abc\0",
-        Status::BadImage,
-        b"bad image 29\n",
-    ),
-    // A script is no image.
-    (
-        &["load"],
-        b"heap 1 512 1 4\n",
-        Status::BadImage,
-        b"bad image 0\n",
-    ),
-];
-
-#[test]
-fn images_are_saved_and_loaded(rt: HostRuntime) -> Result<(), Fail> {
-    for (words, read, status, text) in IMAGES {
-        let mut source = SureSource::new(read.to_vec(rt.alloc())?);
-        let mut sink = plain_sink(&rt)?;
-        let left = answer_with(&rt, words, &[Kind::Moving], &mut source, &mut sink)?;
-        assert_eq!(rt; left.status, status);
-        assert_eq!(rt; sink.written(), text);
-        // No manager that is handed in is touched.
-        assert_eq!(rt; left.live.as_slice(), [None].as_slice());
     }
     Ok(())
 }

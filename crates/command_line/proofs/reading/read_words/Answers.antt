@@ -1,7 +1,7 @@
 use Rattle.std.proofs.Common.{◌∙◌, ap, refl, codes}
 use Rattle.clap.specs.Words.{app_of, first_of, found_of, one_of}
 use Rattle.clap.proofs.WalkLemmas.{first_value-rows, one_text-rows}
-use Rattle.command_line.specs.Choices.{kind_named, mode_named, u64_in}
+use Rattle.command_line.specs.Choices.{kind_named, mode_named, quantum_in, u64_in}
 use Rattle.command_line.proofs.ClapReads.{another_kind_is_found, cf_is_free, cf_is_simple}
 use Rattle.command_line.proofs.reading.read_words.Goals as goal
 
@@ -16,11 +16,16 @@ returns-in-Ok-try_get_matches_from c =
     ∙ ap kind_named (c.get_str-in-Ok-try_get_matches_from.ensures ∙ (first_value-rows f (codes "manager") ∙ ap (first_of (codes "manager")) rows)) in
     let seed = c.u64_in.ensures ∙ ap u64_in (one_text-rows f (codes "seed") ∙ ap (one_of (codes "seed")) rows) in
     let count = c.u64_in-in-Ok-try_get_matches_from.ensures ∙ ap u64_in (one_text-rows f (codes "count") ∙ ap (one_of (codes "count")) rows) in
+    let quantum = c.quantum_in.ensures.value ∙ ap quantum_in (one_text-rows f (codes "quantum") ∙ ap (one_of (codes "quantum")) rows) in
     record {
-      app = app;
-      is_app = c.in-Ok.ensures;
-      accepted = got.ensures.kinds (cf_is_free app c.in-Ok.ensures);
-      chosen = rw (mode, kind, seed, count) refl;
+      reads = record {
+        app = app;
+        is_app = c.in-Ok.ensures;
+        accepted = got.ensures.kinds (cf_is_free app c.in-Ok.ensures);
+        chosen = rw (mode, kind, seed, count, quantum) refl;
+      };
+      least = c.quantum_in.ensures.least;
+      most = c.quantum_in.ensures.most;
     }
 
 -- an error other than out of memory is among those that `clap` finds
@@ -29,7 +34,11 @@ returns c =
     let app = app_of c.in-Ok.command in
     let found = c.in-Err.ensures.kinds (cf_is_free app c.in-Ok.ensures) in
     record {
-      app = app;
-      is_app = c.in-Ok.ensures;
-      refused = another_kind_is_found _ c.in-Err.error found (λ wanting. c.in_default-kind.not-OutOfMemory (c.kind.ensures ∙ wanting));
+      reads = record {
+        app = app;
+        is_app = c.in-Ok.ensures;
+        refused = another_kind_is_found _ c.in-Err.error found (λ wanting. c.in_default-kind.not-OutOfMemory (c.kind.ensures ∙ wanting));
+      };
+      least = tt;
+      most = tt;
     }
