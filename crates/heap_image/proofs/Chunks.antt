@@ -32,7 +32,8 @@ module _ (w x y : Told) (bytes chunk : List ℕ) (i n : ℕ) (first : x ≡ appe
       let part = subst (λ (b : List ℕ). Puts {T = Unit {0}} x b (Err e) y) is put in
       let rest = subst (λ (b : List ℕ). Puts {T = Unit {0}} x b (Err e) y) (split n (drop i bytes))
       (puts_cut x y (take n (drop i bytes)) (drop n (drop i bytes)) e part) in
-      subst (λ (b : List ℕ). Puts {T = Unit {0}} w b (Err e) y) (split i bytes) (puts_then {T = Unit {0}} w x y (take i bytes) (drop i bytes) (Err e) first rest)
+      subst (λ (b : List ℕ). Puts {T = Unit {0}} w b (Err e) y) (split i bytes) (puts_then {T = Unit {0}} w x y (take i bytes) (drop i bytes) (Err e) first
+      rest)
 
 -- all chunks
 pub chunks_put : (w x : Told) (bytes : List ℕ) (i : ℕ) → x ≡ appended w (take i bytes) → length bytes ≤ i → x ≡ appended w bytes

@@ -1,5 +1,5 @@
 -- The entries of an image that is loaded, one after the other, and its end.
-use Rattle.std.proofs.Common.{◌≡◌, ◌≢◌, ◌∙◌, ◌++◌, ◌+◌, ◌-◌, ◌≤◌, ◌<◌, ℕ, suc, List, [], ◌∷◌, Option, Some, None, refl, ap, sym, subst, arith}
+use Rattle.std.proofs.Common.{◌≡◌, ◌≢◌, ◌∙◌, ◌++◌, ◌+◌, ◌-◌, ◌≤◌, ◌<◌, ℕ, suc, List, [], ◌∷◌, Option, Some, None, length, refl, ap, sym, subst, arith, inl}
 use Rattle.std.specs.Prelude.{Result, Ok, Err}
 use Rattle.std.specs.FinMap.{empty, get, get-empty, insert, len, len-empty}
 use Rattle.std.specs.Ordering.{nat_cmp}
@@ -8,7 +8,7 @@ use Rattle.cf_io.specs.Feeds.{preceded}
 use Rattle.cf_lemmas.proofs.Maps.{get_insert_other, len_fresh}
 use Rattle.page_model.specs.Held.{Objects}
 use Rattle.run_model.specs.Sessions.{RunState}
-use Rattle.heap_image.specs.Decoded.{Decoded, Reached, at_first, breaks_in, end_decoded, entries_decoded, entry_decoded, passed, whole}
+use Rattle.heap_image.specs.Decoded.{BreaksNoRule, Decoded, Reached, at_first, breaks_in, end_decoded, entries_decoded, entry_decoded, passed, whole}
 use Rattle.heap_image.specs.Ends.{EndTold, EndsBy}
 use Rattle.heap_image.specs.Entries.{EntryBy, reached_in}
 use Rattle.heap_image.specs.Heaps.{objects_of}
@@ -18,7 +18,7 @@ use Rattle.heap_image.specs.declared.fault.LoadFault.{LoadFault}
 use Rattle.heap_image.specs.declared.fault.LoadFault.TheVariants as fault
 use Rattle.heap_image.specs.declared.objects_in.Entry.{Entry}
 use Rattle.heap_image.proofs.ImageDecoded.{entries_next}
-use Rattle.heap_image.proofs.StageLemmas.{part_then, passes_ends, passes_part, passes_spent, passes_then, tells_then}
+use Rattle.heap_image.proofs.StageLemmas.{broken_then, field_breaks, part_then, passes_part, passes_spent, passes_then}
 
 abbrev Rest : Type 0
 Rest = Option (List ℕ)
@@ -55,7 +55,8 @@ nothing_counts s none = ap len none ∙ len-empty nat_cmp (List ℕ)
 -- one more entry
 module _ (p q : Profile) (count i next at : ℕ) (had mid left : Rest) (old new : RunState) (e : Entry) (lt : i < count) (same : q ≡ p)
     (before : Passes (entries_decoded p count at_first) had mid (entries_decoded p (count - i) (reached_in old next at)))
-    (entry : (go : Reached → List ℕ → Decoded) → EntryBy (λ bytes. entry_decoded q (reached_in old next at) bytes go) go old (reached_in old next at) mid (Ok e) left new)
+    (entry : (go : Reached → List ℕ → Decoded) → EntryBy (λ bytes. entry_decoded q (reached_in old next at) bytes go) go old (reached_in old next at) mid
+    (Ok e) left new)
     (fresh : (id : ℕ) → next ≤ id → get (objects_of old) id ≡ None) where
   abbrev go : Reached → List ℕ → Decoded
   go r rest = entries_decoded p (count - (i + 1)) r rest
@@ -93,7 +94,8 @@ module _ (p q : Profile) (count i next at : ℕ) (had mid left : Rest) (old new 
 -- an entry was not read
 pub entry_ends : (p q : Profile) (count i next at : ℕ) (had mid left : Rest) (old new : RunState) (f : LoadFault) → i < count → q ≡ p → old.heap.profile ≡ p
     → Passes (entries_decoded p count at_first) had mid (entries_decoded p (count - i) (reached_in old next at))
-    → ((go : Reached → List ℕ → Decoded) → EntryBy (λ bytes. entry_decoded q (reached_in old next at) bytes go) go old (reached_in old next at) mid (Err f) left new)
+    → ((go : Reached → List ℕ → Decoded) → EntryBy (λ bytes. entry_decoded q (reached_in old next at) bytes go) go old (reached_in old next at) mid (Err f)
+    left new)
     → EndsBy (entries_decoded p count at_first) p had (Err f) left new
 entry_ends p q count i next at had mid left old new f lt same profile before entry = by f (entry go).0 (entry go).1
   where
@@ -111,8 +113,8 @@ entry_ends p q count i next at had mid left old new f lt same profile before ent
 
     by : (f : LoadFault) → StopsBy (Some old.heap.profile) (objects_of old) (λ bytes. entry_decoded q (reached_in old next at) bytes go) mid f left
         → LeadsTo old new (objects_of old) → EndsBy (entries_decoded p count at_first) p had (Err f) left new
-    by (fault.Bad b) s w = (s.0, s.1, s.2 ∙ ap (λ p. Some p) profile, tells_then _ _ had mid left all s.0 s.4, holds s.0 s.3 w)
-    by fault.Read s w = (s.0, s.1 ∙ ap (λ p. Some p) profile, part_then _ _ had mid left all s.0 s.3, holds s.0 s.2 w)
+    by (fault.Bad b) s w = (s.0, s.1, s.2 ∙ ap (λ p. Some p) profile, broken_then _ _ had mid left all s.0 s.4, holds s.0 s.3 w)
+    by fault.Read s w = (s.0, s.1 ∙ ap (λ p. Some p) profile, part_then _ _ had mid left all s.0 s.3, s.4, holds s.0 s.2 w)
     by fault.OutOfMemory s w = absurd s
 
 -- no entry is left
@@ -128,7 +130,13 @@ end_broken : (p : Profile) (r : Reached) (byte : ℕ) (more : List ℕ) → end_
 unfolding end_decoded
 end_broken p r byte more = refl
 
-pub all_end : (p : Profile) (count i next at : ℕ) (had mid left : Rest) (s : RunState) (answer : Result Unit LoadFault) → count ≤ i → IsLoading s → s.heap.profile ≡ p
+-- without a byte past the image no rule is broken
+end_sound : (p : Profile) (r : Reached) (few : List ℕ) → length few < 1 → BreaksNoRule (end_decoded p r few)
+end_sound p r [] short = inl (ap (λ (d : Decoded). d.broken) (end_whole p r))
+end_sound p r (x ∷ rest) short = absurd (omega arith)
+
+pub all_end : (p : Profile) (count i next at : ℕ) (had mid left : Rest) (s : RunState) (answer : Result Unit LoadFault) → count ≤ i → IsLoading s
+    → s.heap.profile ≡ p
     → Passes (entries_decoded p count at_first) had mid (entries_decoded p (count - i) (reached_in s next at)) → EndTold at mid answer left
     → EndsBy (entries_decoded p count at_first) p had answer left s
 all_end p count i next at had mid left s answer past loading profile before end = by answer end
@@ -155,12 +163,11 @@ all_end p count i next at had mid left s answer past loading profile before end 
       breaks_in p r 0,
       (let z : at + 0 ≡ b = omega (arith, end.0) in ap (λ k. Some k) z),
       refl,
-      passes_ends _ had left (breaks_in p r 0) (passes_then _ _ had mid left all _ (record {
-        taken = end.1.0 ∷ [];
-        took = end.1.1;
-        tells = λ more. end_broken p r end.1.0 more;
-      })),
+      broken_then _ _ had mid left all (breaks_in p r 0)
+          (field_breaks (end_decoded p r) (end.1.0 ∷ []) mid left (breaks_in p r 0) refl (omega arith) end.1.1 (λ more. end_broken p r end.1.0 more)
+          (λ few short. end_sound p r few short)),
       holds,
     )
-    by (Err fault.Read) end = (whole p (objects_of s), refl, passes_part _ _ had left (whole p (objects_of s)) (here end) (end_whole p r), holds)
+    by (Err fault.Read) end =
+        (whole p (objects_of s), refl, passes_part _ _ had left (whole p (objects_of s)) (here end) (end_whole p r), inl refl, holds)
     by (Err fault.OutOfMemory) end = absurd end

@@ -1,16 +1,14 @@
 -- A buffer that is filled chunk by chunk.
-use Rattle.std.proofs.Common.{◌≡◌, ◌∙◌, ◌++◌, ◌+◌, ◌≤◌, ℕ, List, [], ◌∷◌, Option, Some, None, length, take, drop, get_or, refl, ap, sym, arith, append_assoc, length-append}
+use Rattle.std.proofs.Common.{◌≡◌, ◌∙◌, ◌++◌, ◌+◌, ◌≤◌, ℕ, List, [], ◌∷◌, Option, Some, None, length, take, drop, get_or, refl, ap, sym, arith}
+use Rattle.std.proofs.Common.{append_assoc, length-append}
 use Rattle.std.proofs.lemmas.List.{length-take-le, take-append-le}
 use Rattle.std.proofs.Math.Seq.{take-add, take-append_seam, drop-append_seam}
 use borrow.Rule.Slice.PartMut.{put_mid, post_of}
 use Rattle.cf_io.specs.Feeds.{preceded}
+use Rattle.heap_image.proofs.StageLemmas.{preceded_then}
 
 abbrev Rest : Type 0
 Rest = Option (List ℕ)
-
-preceded_twice : (a b : List ℕ) (o : Rest) → preceded a (preceded b o) ≡ preceded (a ++ b) o
-preceded_twice a b None = refl
-preceded_twice a b (Some r) = ap Some (sym (append_assoc a b r))
 
 -- the front of a list, and a part of what follows it
 front_and : (a b : List ℕ) (n k : ℕ) → k ≡ length a → take (k + n) (a ++ b) ≡ a ++ take n b
@@ -32,7 +30,7 @@ module _ (at n k : ℕ) (buffer chunk : List ℕ) (within : at ≤ length buffer
   pub filled_more : (had mid left : Rest) → had ≡ preceded (take at buffer) mid → mid ≡ preceded (take n chunk) left
       → had ≡ preceded (take (at + n) (put_mid at k buffer chunk)) left
   filled_more had mid left before more =
-      before ∙ ap (preceded (take at buffer)) more ∙ preceded_twice (take at buffer) (take n chunk) left
+      before ∙ ap (preceded (take at buffer)) more ∙ preceded_then (take at buffer) (take n chunk) left
       ∙ ap (λ (b : List ℕ). preceded b left) (sym (front_and (take at buffer) (chunk ++ post_of at k buffer) n at front
       ∙ ap (λ (b : List ℕ). take at buffer ++ b) (take-append-le n chunk (post_of at k buffer) few)))
 

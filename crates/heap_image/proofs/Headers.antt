@@ -35,7 +35,8 @@ module _ (s : HeapState) (moving : s.kind ≡ Moving) (rules : KeepsRules s) (h 
       omega arith
 
   pub header_is_there : slice_get s.words place ≡ None → ⊥
-  header_is_there none = (let e : Some (get_or s.words x.place 0) ≡ None = sym (there s.words x.place inside) ∙ ap (slice_get s.words) (sym at_place) ∙ none in absurd (let z = e in cc))
+  header_is_there none = (let e : Some (get_or s.words x.place 0) ≡ None = sym (there s.words x.place inside) ∙ ap (slice_get s.words) (sym at_place)
+      ∙ none in absurd (let z = e in cc))
 
   pub header_says : (header : ℕ) → Some header ≡ slice_get s.words place → header / 2 ^ 32 ≡ length x.bytes
   header_says header is =

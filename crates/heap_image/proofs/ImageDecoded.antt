@@ -1,5 +1,6 @@
 -- The fields of an image, one after the other.
-use Rattle.std.proofs.Common.{◌≡◌, ◌∙◌, ◌++◌, ◌+◌, ◌*◌, ◌/◌, ◌%◌, ◌≤◌, ◌<◌, ◌^◌, ℕ, zero, suc, Bool, true, false, List, [], Option, Some, None, length, refl, ap, sym, arith, append_assoc}
+use Rattle.std.proofs.Common.{◌≡◌, ◌∙◌, ◌++◌, ◌+◌, ◌*◌, ◌/◌, ◌%◌, ◌≤◌, ◌<◌, ◌^◌, ℕ, zero, suc, Bool, true, false, List, [], Option, Some, None}
+use Rattle.std.proofs.Common.{length, refl, ap, sym, arith, append_assoc}
 use Rattle.std.proofs.Common.{inl, inr, length-append}
 use Rattle.std.specs.Prelude.{nat_le, nat_lt, if◌then◌else◌, ◌&&◌, ◌==◌}
 use Rattle.std.specs.Int.{w16, w32}
@@ -57,7 +58,8 @@ module _ (p : Profile) (r : Reached) (go : Reached → List ℕ → Decoded) whe
   length_read : (id : ℕ) (v rest : List ℕ) → length v < 2 ^ 32 → has_room p r.objects (length v) ≡ true
       → length_decoded p r id (number_bytes w32 (length v) ++ (v ++ rest)) go ≡ go (passed r id v) rest
   unfolding length_decoded
-  length_read id v rest small room = field_read_4 (length v) (v ++ rest) (breaks_in p r 2) (λ n. has_room p r.objects n) (λ n rest. bytes_decoded p r id n rest go) room small ∙ bytes_read id v rest
+  length_read id v rest small room = field_read_4 (length v) (v ++ rest) (breaks_in p r 2) (λ n. has_room p r.objects n)
+      (λ n rest. bytes_decoded p r id n rest go) room small ∙ bytes_read id v rest
 
   pub entry_read : (id : ℕ) (v rest : List ℕ) → id < 2 ^ 16 → r.next ≤ id → length v < 2 ^ 32 → has_room p r.objects (length v) ≡ true
       → entry_decoded p r (entry_of id v ++ rest) go ≡ go (passed r id v) rest
@@ -85,7 +87,8 @@ mark_read rest = refl
 
 -- the settings are small
 page_small : (p : Profile) → AreInRange p → p.page_words ≤ 8388608
-page_small p h = (let least = h.some_pages in let most = h.small_region in let m = mul-le 1 p.page_words p.pages p.page_words least (omega arith) in omega arith)
+page_small p h = (let least = h.some_pages in let most = h.small_region in let m = mul-le 1 p.page_words p.pages p.page_words least (omega arith) in omega
+    arith)
 
 module _ (p : Profile) (o : Objects) (h : HaveImage p o) where
   ends : (q : ℕ) → 65536 ≤ q → get o q ≡ None
@@ -192,14 +195,16 @@ module _ (p : Profile) (o : Objects) (h : HaveImage p o) where
       (λ n rest. count_decoded (profile_from p.pages (8 * p.page_words) 1 n) rest) (within 1 65536 p.proxies least most) (omega arith)
       ∙ ap (λ (q : Profile). count_decoded q (number_bytes w32 (len o) ++ behind)) profile_is ∙ count_read
 
-  page_bytes_read : page_bytes_decoded p.pages (number_bytes w32 (8 * p.page_words) ++ (number_bytes w32 p.proxies ++ (number_bytes w32 (len o) ++ behind))) ≡ whole p o
+  page_bytes_read : page_bytes_decoded p.pages (number_bytes w32 (8 * p.page_words) ++
+      (number_bytes w32 p.proxies ++ (number_bytes w32 (len o) ++ behind))) ≡ whole p o
   unfolding page_bytes_decoded
   page_bytes_read =
       let small = page_small p h.settings in
       field_read_4 (8 * p.page_words) (number_bytes w32 p.proxies ++ (number_bytes w32 (len o) ++ behind)) (unopened 8) (λ n. is_page_of p.pages n)
       (λ n rest. proxies_decoded p.pages n rest) page_is (omega arith) ∙ proxies_read
 
-  pages_read : pages_decoded (number_bytes w32 p.pages ++ (number_bytes w32 (8 * p.page_words) ++ (number_bytes w32 p.proxies ++ (number_bytes w32 (len o) ++ behind)))) ≡ whole p o
+  pages_read : pages_decoded (number_bytes w32 p.pages ++ (number_bytes w32 (8 * p.page_words) ++
+      (number_bytes w32 p.proxies ++ (number_bytes w32 (len o) ++ behind)))) ≡ whole p o
   unfolding pages_decoded
   pages_read =
       let least = h.settings.some_pages in let most = h.settings.few_pages in

@@ -1,5 +1,6 @@
 -- The entries of a map of ids are the objects of all ids, one id after the other.
-use Rattle.std.proofs.Common.{◌≡◌, ◌≢◌, ℕ, zero, suc, ◌+◌, ◌≤◌, ◌<◌, Bool, List, Option, Some, None, true, false, cond, arith, sym, ◌∙◌, ap, subst, refl, inl, inr}
+use Rattle.std.proofs.Common.{◌≡◌, ◌≢◌, ℕ, zero, suc, ◌+◌, ◌≤◌, ◌<◌, Bool, List, Option, Some, None, true, false, cond, arith, sym, ◌∙◌, ap, subst}
+use Rattle.std.proofs.Common.{refl, inl, inr}
 use Rattle.std.specs.Prelude.{T, ◌&&◌, ◌⊎◌}
 use Rattle.std.proofs.Common.{eq-eqb}
 use Rattle.std.proofs.lemmas.Bool.{cases_eq, cases_lt}
@@ -52,7 +53,8 @@ module _ (o : Objects) where
     where
       go : (v : Option (List ℕ)) → find nat_cmp q (listed o (k + 1) n) ≡ None → find nat_cmp q (listed_before k v (listed o (k + 1) n)) ≡ None
       go None h = h
-      go (Some v) h = ap (λ b. cond b (Some v) (find nat_cmp q (listed o (k + 1) n))) (apart q k (elim out [ inl h ↦ (λ e. omega arith) | inr h ↦ (λ e. omega arith) ])) ∙ h
+      go (Some v) h = ap (λ b. cond b (Some v) (find nat_cmp q (listed o (k + 1) n)))
+          (apart q k (elim out [ inl h ↦ (λ e. omega arith) | inr h ↦ (λ e. omega arith) ])) ∙ h
 
   found : (q k n : ℕ) → k ≤ q → q < k + n → find nat_cmp q (listed o k n) ≡ get o q
   unfolding listed

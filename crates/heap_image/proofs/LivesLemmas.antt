@@ -83,7 +83,8 @@ module _ (s : RunState) (going : IsGoing s) (ids : AreWithin s.session.ids) (mov
       let fit = slot.fits in
       omega arith
 
-  pub lives_have_image : pages_needed (image_paging s.heap.profile) (objects s.heap.held) ≤ s.heap.profile.pages → HaveImage (at_bound_one s.heap.profile) (objects_of s)
+  pub lives_have_image : pages_needed (image_paging s.heap.profile) (objects s.heap.held) ≤ s.heap.profile.pages
+      → HaveImage (at_bound_one s.heap.profile) (objects_of s)
   lives_have_image room =
       let r = going.rules.settings in
       let counts = by_id_counts s.session.ids (objects s.heap.held) names in
@@ -114,7 +115,8 @@ pub room_of : (s : RunState) → IsGoing s → s.heap.kind ≡ Moving
     → pages_needed (image_paging s.heap.profile) (objects s.heap.held) ≤ s.heap.profile.pages
 room_of s going moving enough adds =
     let keeps = pages_of s.heap moving going.rules in
-    let same : paging_in s.heap ≡ paging_of s.heap.profile Words s.heap.bounds = ap (λ (k : Kind). paging_of s.heap.profile (layout_of k) s.heap.bounds) moving in
+    let same : paging_in s.heap ≡ paging_of s.heap.profile Words s.heap.bounds = ap (λ (k : Kind). paging_of s.heap.profile (layout_of k) s.heap.bounds)
+    moving in
     let paging = subst IsPaging same keeps.paging in
     let sound = subst (λ (p : Paging). IsSound p s.heap.held) same keeps.sound in
     needed_within s.heap.profile s.heap.bounds s.heap.held (enough (paging_of s.heap.profile Words s.heap.bounds) s.heap.held paging sound)

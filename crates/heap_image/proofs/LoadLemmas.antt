@@ -1,5 +1,5 @@
 -- The stages of a load put together.
-use Rattle.std.proofs.Common.{◌≡◌, ◌∙◌, ℕ, List, [], Option, Some, None, refl, ap, sym, subst}
+use Rattle.std.proofs.Common.{◌≡◌, ◌∙◌, ℕ, List, [], Option, Some, None, refl, ap, sym, subst, append-nil}
 use Rattle.std.specs.Prelude.{Result, Ok, Err}
 use Rattle.std.specs.FinMap.{empty, get, get-empty}
 use Rattle.std.specs.Ordering.{nat_cmp}
@@ -18,15 +18,15 @@ use Rattle.page_model.specs.Paging.{AreOne, first_bounds, paging_of}
 use Rattle.page_model.proofs.CallerLemmas.{first_ones}
 use Rattle.run_model.specs.Sessions.{RunState, SessionState}
 use Rattle.run_model.proofs.CallerLemmas.{costs_nothing}
-use Rattle.heap_image.specs.Decoded.{Decoded, breaks_behind, count_decoded, decoded, whole}
+use Rattle.heap_image.specs.Decoded.{Decoded, breaks_behind, count_decoded, cut, decoded, whole}
 use Rattle.heap_image.specs.Ends.{EndsBy}
 use Rattle.heap_image.specs.Heaps.{objects_of}
-use Rattle.heap_image.specs.Load.{HoldsObjects, HoldsTold, IsLoading, LoadsBy, LoadsNothing, Tells}
-use Rattle.heap_image.specs.Stages.{Passes, StopsBy}
+use Rattle.heap_image.specs.Load.{HoldsObjects, HoldsTold, IsLoading, LoadsBy, LoadsNothing, TellsBroken}
+use Rattle.heap_image.specs.Stages.{Passes, ReadsSettings, StopsBy}
 use Rattle.heap_image.specs.declared.fault.LoadFault.{LoadFault}
 use Rattle.heap_image.specs.declared.fault.LoadFault.TheVariants as fault
 use Rattle.transcript_laws.proofs.CallerLemmas.{gone_by_id}
-use Rattle.heap_image.proofs.StageLemmas.{part_then, passes_part, tells_then}
+use Rattle.heap_image.proofs.StageLemmas.{broken_then, part_then, tells_then}
 
 abbrev Rest : Type 0
 Rest = Option (List ℕ)
@@ -45,22 +45,28 @@ settings_stop from had left (fault.Bad at) s = record {
 settings_stop from had left fault.Read s = record {
   told = s.0;
   tells = s.3;
+  sound = s.4;
   holds = subst (λ (p : Option Profile). HoldsTold from p s.0.objects from) (sym s.1) refl;
 }
 settings_stop from had left fault.OutOfMemory s = absurd s
 
-nothing_counted : (p : Profile) → count_decoded p [] ≡ breaks_behind p empty 16
+nothing_counted : (p : Profile) → count_decoded p [] ≡ cut (breaks_behind p empty 16)
 unfolding count_decoded
 nothing_counted p = refl
 
 -- no memory was found
-pub settings_lack : (from to : RunState) (p : Profile) (had left : Rest) → Passes decoded had left (count_decoded p) → IsClosed from.heap to.heap
+pub settings_lack : (from to : RunState) (had left : Rest) (s : Settings) → ReadsSettings 16 decoded had left s → IsClosed from.heap to.heap
     → to.session ≡ from.session → LoadsNothing from had left to
-settings_lack from to p had left passes closed session = record {
-  profile = p;
-  told = breaks_behind p empty 16;
-  tells = passes_part decoded (count_decoded p) had left (breaks_behind p empty 16) passes (nothing_counted p);
+settings_lack from to had left s q closed session = record {
+  profile = profile_of s;
+  told = cut (breaks_behind (profile_of s) empty 16);
+  tells = record {
+    taken = q.taken;
+    took = q.took;
+    taken_tell = ap decoded (sym (append-nil q.taken)) ∙ q.tells [] ∙ nothing_counted (profile_of s);
+  };
   settings = refl;
+  few = q.few;
   lacks = record { closed = closed; session = session };
 }
 
@@ -77,21 +83,23 @@ module _ (from to : RunState) (settings : Settings) (q : Profile) (had mid left 
         holds = ends.3;
       }
 
-  pub loads_bad : (f : LoadFault) → q ≡ profile_of settings → Passes decoded had mid (count_decoded (profile_of settings)) → EndsBy (count_decoded q) q mid (Err f) left to
+  pub loads_bad : (f : LoadFault) → q ≡ profile_of settings → Passes decoded had mid (count_decoded (profile_of settings))
+      → EndsBy (count_decoded q) q mid (Err f) left to
       → LoadsBy from had (Err f) left to
   loads_bad f same passes told = by f (subst (λ (p : Profile). EndsBy (count_decoded p) p mid (Err f) left to) same told)
     where
       by : (f : LoadFault) → EndsBy (count_decoded (profile_of settings)) (profile_of settings) mid (Err f) left to → LoadsBy from had (Err f) left to
       by (fault.Bad at) ends = record {
         told = ends.0;
-        tells = tells_then _ _ had mid left passes ends.0 ends.3;
+        tells = broken_then _ _ had mid left passes ends.0 ends.3;
         broken = ends.1;
         holds = subst (λ (p : Option Profile). HoldsTold from p ends.0.objects to) (sym ends.2) ends.4;
       }
       by fault.Read ends = record {
         told = ends.0;
         tells = part_then _ _ had mid left passes ends.0 ends.2;
-        holds = subst (λ (p : Option Profile). HoldsTold from p ends.0.objects to) (sym ends.1) ends.3;
+        sound = ends.3;
+        holds = subst (λ (p : Option Profile). HoldsTold from p ends.0.objects to) (sym ends.1) ends.4;
       }
       by fault.OutOfMemory ends = absurd ends
 
@@ -99,8 +107,8 @@ module _ (from to : RunState) (settings : Settings) (q : Profile) (had mid left 
 pub ends_then : (T U : Reading) (p : Profile) (had mid left : Rest) (r : Result Unit LoadFault) (to : RunState) → Passes T had mid U
     → EndsBy U p mid r left to → EndsBy T p had r left to
 ends_then T U p had mid left (Ok u) to passes ends = (ends.0, tells_then T U had mid left passes _ ends.1, ends.2, ends.3)
-ends_then T U p had mid left (Err (fault.Bad at)) to passes ends = (ends.0, ends.1, ends.2, tells_then T U had mid left passes ends.0 ends.3, ends.4)
-ends_then T U p had mid left (Err fault.Read) to passes ends = (ends.0, ends.1, part_then T U had mid left passes ends.0 ends.2, ends.3)
+ends_then T U p had mid left (Err (fault.Bad at)) to passes ends = (ends.0, ends.1, ends.2, broken_then T U had mid left passes ends.0 ends.3, ends.4)
+ends_then T U p had mid left (Err fault.Read) to passes ends = (ends.0, ends.1, part_then T U had mid left passes ends.0 ends.2, ends.3, ends.4)
 ends_then T U p had mid left (Err fault.OutOfMemory) to passes ends = absurd ends
 
 -- the number of objects was not read
@@ -110,14 +118,15 @@ module _ (T : Reading) (p : Profile) (had left : Rest) (s : RunState) (loading :
 
   pub stops_end : (f : LoadFault) → StopsBy (Some p) empty T had f left → EndsBy T p had (Err f) left s
   stops_end (fault.Bad at) q = (q.0, q.1, q.2, q.4, holds q.0 q.3)
-  stops_end fault.Read q = (q.0, q.1, q.3, holds q.0 q.2)
+  stops_end fault.Read q = (q.0, q.1, q.3, q.4, holds q.0 q.2)
   stops_end fault.OutOfMemory q = absurd q
 
-  pub bad_end : (at : ℕ) → Tells T had left (breaks_behind p empty at) → EndsBy T p had (Err (fault.Bad at)) left s
+  pub bad_end : (at : ℕ) → TellsBroken T had left (breaks_behind p empty at) → EndsBy T p had (Err (fault.Bad at)) left s
   bad_end at tells = (breaks_behind p empty at, refl, refl, tells, holds (breaks_behind p empty at) refl)
 
 -- a manager that was just opened, and a session without ids
-module _ (kind : Kind) (moving : kind ≡ Moving) (session : SessionState) (heap : HeapState) (settings : Settings) (one : settings.k ≡ 1) (idle : session.ids ≡ empty)
+module _ (kind : Kind) (moving : kind ≡ Moving) (session : SessionState) (heap : HeapState) (settings : Settings) (one : settings.k ≡ 1)
+    (idle : session.ids ≡ empty)
     (opened : IsEmptyHeap kind settings heap) (rules : KeepsRules heap) where
   no_id : (id h : ℕ) → get session.ids id ≡ Some h → ⊥
   no_id id h is = (let e : Some h ≡ None = sym is ∙ ap (λ m. get m id) idle ∙ get-empty nat_cmp id in absurd (let z = e in cc))
@@ -153,4 +162,5 @@ module _ (kind : Kind) (moving : kind ≡ Moving) (session : SessionState) (heap
   }
 
   pub opened_none : objects_of (run_at session heap) ≡ empty
-  opened_none = equal_maps _ _ (λ id. gone_by_id session.ids (objects heap.held) id (ap (λ m. get m id) idle ∙ get-empty nat_cmp id) ∙ sym (get-empty nat_cmp id))
+  opened_none = equal_maps _ _ (λ id. gone_by_id session.ids (objects heap.held) id (ap (λ m. get m id) idle ∙ get-empty nat_cmp id)
+      ∙ sym (get-empty nat_cmp id))

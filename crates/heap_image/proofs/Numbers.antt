@@ -6,7 +6,7 @@ use Rattle.std.proofs.Common.{length-append}
 use Rattle.std.proofs.Math.Seq.{drop-append_seam, take-append_seam}
 use Rattle.std.proofs.lemmas.Bool.Decides.{nat_tests}
 use Rattle.std.proofs.lemmas.Nat.{from_le_bytes-to_le_bytes_2, from_le_bytes-to_le_bytes_4, le_bytes_2, le_bytes_4}
-use Rattle.heap_image.specs.Decoded.{Decoded, number}
+use Rattle.heap_image.specs.Decoded.{Decoded, cut, number}
 use Rattle.heap_image.specs.Image.{number_bytes, number_of_bytes}
 
 pub length-number_2 : (n : ℕ) → length (number_bytes w16 n) ≡ 2
@@ -33,38 +33,38 @@ pub bytes_back_4 : (bytes : List ℕ) → length bytes ≡ 4 → ((i : ℕ) → 
 unfolding number_bytes number_of_bytes
 bytes_back_4 bytes four small = le_bytes_4 bytes _ four small refl
 
-module _ (w : Width) (bytes : List ℕ) (cut : Decoded) (go : ℕ → List ℕ → Decoded) where
+module _ (w : Width) (bytes : List ℕ) (bad : Decoded) (go : ℕ → List ℕ → Decoded) where
   -- a whole field, and what follows it
-  pub number_whole : (rest : List ℕ) → length bytes ≡ byte_len w → number w (bytes ++ rest) cut go ≡ go (number_of_bytes w bytes) rest
+  pub number_whole : (rest : List ℕ) → length bytes ≡ byte_len w → number w (bytes ++ rest) bad go ≡ go (number_of_bytes w bytes) rest
   number_whole rest same =
       let more = length-append bytes rest in
       let long : nat_lt (length (bytes ++ rest)) (byte_len w) ≡ false = grind (arith, nat_tests) in
       let front : take (byte_len w) (bytes ++ rest) ≡ bytes = ap (λ n. take n (bytes ++ rest)) (sym same) ∙ take-append_seam bytes rest in
       let back : drop (byte_len w) (bytes ++ rest) ≡ rest = ap (λ n. drop n (bytes ++ rest)) (sym same) ∙ drop-append_seam bytes rest in
-      ap (λ b. if b then cut else go (number_of_bytes w (take (byte_len w) (bytes ++ rest))) (drop (byte_len w) (bytes ++ rest))) long
+      ap (λ b. if b then cut bad else go (number_of_bytes w (take (byte_len w) (bytes ++ rest))) (drop (byte_len w) (bytes ++ rest))) long
       ∙ (λ i. go (number_of_bytes w (front i)) (back i))
 
   -- a field that is cut
-  pub number_cut : length bytes < byte_len w → number w bytes cut go ≡ cut
+  pub number_cut : length bytes < byte_len w → number w bytes bad go ≡ cut bad
   number_cut short =
       let less : nat_lt (length bytes) (byte_len w) ≡ true = grind (arith, nat_tests) in
-      ap (λ b. if b then cut else go (number_of_bytes w (take (byte_len w) bytes)) (drop (byte_len w) bytes)) less
+      ap (λ b. if b then cut bad else go (number_of_bytes w (take (byte_len w) bytes)) (drop (byte_len w) bytes)) less
 
 -- a number that was written
-module _ (n : ℕ) (rest : List ℕ) (cut : Decoded) (go : ℕ → List ℕ → Decoded) where
-  pub number_read_2 : n < 2 ^ 16 → number w16 (number_bytes w16 n ++ rest) cut go ≡ go n rest
-  number_read_2 small = number_whole w16 (number_bytes w16 n) cut go rest (length-number_2 n) ∙ ap (λ n. go n rest) (number_back_2 n small)
+module _ (n : ℕ) (rest : List ℕ) (bad : Decoded) (go : ℕ → List ℕ → Decoded) where
+  pub number_read_2 : n < 2 ^ 16 → number w16 (number_bytes w16 n ++ rest) bad go ≡ go n rest
+  number_read_2 small = number_whole w16 (number_bytes w16 n) bad go rest (length-number_2 n) ∙ ap (λ n. go n rest) (number_back_2 n small)
 
-  pub number_read_4 : n < 2 ^ 32 → number w32 (number_bytes w32 n ++ rest) cut go ≡ go n rest
-  number_read_4 small = number_whole w32 (number_bytes w32 n) cut go rest (length-number_4 n) ∙ ap (λ n. go n rest) (number_back_4 n small)
+  pub number_read_4 : n < 2 ^ 32 → number w32 (number_bytes w32 n ++ rest) bad go ≡ go n rest
+  number_read_4 small = number_whole w32 (number_bytes w32 n) bad go rest (length-number_4 n) ∙ ap (λ n. go n rest) (number_back_4 n small)
 
 -- a number that was written and is accepted
-module _ (n : ℕ) (rest : List ℕ) (cut : Decoded) (test : ℕ → Bool) (yes : ℕ → List ℕ → Decoded) (good : test n ≡ true) where
-  accepted : (if test n then yes n rest else cut) ≡ yes n rest
-  accepted = ap (λ b. if b then yes n rest else cut) good
+module _ (n : ℕ) (rest : List ℕ) (bad : Decoded) (test : ℕ → Bool) (yes : ℕ → List ℕ → Decoded) (good : test n ≡ true) where
+  accepted : (if test n then yes n rest else bad) ≡ yes n rest
+  accepted = ap (λ b. if b then yes n rest else bad) good
 
-  pub field_read_2 : n < 2 ^ 16 → number w16 (number_bytes w16 n ++ rest) cut (λ n rest. if test n then yes n rest else cut) ≡ yes n rest
-  field_read_2 small = number_read_2 n rest cut (λ n rest. if test n then yes n rest else cut) small ∙ accepted
+  pub field_read_2 : n < 2 ^ 16 → number w16 (number_bytes w16 n ++ rest) bad (λ n rest. if test n then yes n rest else bad) ≡ yes n rest
+  field_read_2 small = number_read_2 n rest bad (λ n rest. if test n then yes n rest else bad) small ∙ accepted
 
-  pub field_read_4 : n < 2 ^ 32 → number w32 (number_bytes w32 n ++ rest) cut (λ n rest. if test n then yes n rest else cut) ≡ yes n rest
-  field_read_4 small = number_read_4 n rest cut (λ n rest. if test n then yes n rest else cut) small ∙ accepted
+  pub field_read_4 : n < 2 ^ 32 → number w32 (number_bytes w32 n ++ rest) bad (λ n rest. if test n then yes n rest else bad) ≡ yes n rest
+  field_read_4 small = number_read_4 n rest bad (λ n rest. if test n then yes n rest else bad) small ∙ accepted

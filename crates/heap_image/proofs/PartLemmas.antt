@@ -1,5 +1,6 @@
 -- An object that is filled part by part.
-use Rattle.std.proofs.Common.{◌≡◌, ◌∙◌, ◌++◌, ◌+◌, ◌-◌, ◌≤◌, ◌<◌, ℕ, true, List, [], Option, Some, None, length, take, drop, refl, ap, sym, subst, arith, append_assoc, inl, inr, length-append}
+use Rattle.std.proofs.Common.{◌≡◌, ◌∙◌, ◌++◌, ◌+◌, ◌-◌, ◌≤◌, ◌<◌, ℕ, true, List, [], Option, Some, None, length, take, drop, refl, ap, sym, subst}
+use Rattle.std.proofs.Common.{arith, append_assoc, inl, inr, length-append}
 use Rattle.std.specs.Prelude.{replicate, Result, Ok, Err}
 use Rattle.std.specs.FinMap.{get, insert, remove}
 use Rattle.std.specs.Int.{w32}
@@ -12,7 +13,7 @@ use Rattle.cf_lemmas.proofs.Maps.{equal_maps, get_inserted, get_insert_other, ge
 use Rattle.page_model.specs.Bytes.{written}
 use Rattle.page_model.specs.Held.{Objects}
 use Rattle.run_model.specs.Sessions.{RunState}
-use Rattle.heap_image.specs.Decoded.{Decoded, Reached, breaks_in, bytes_decoded, has_room, length_decoded, passed}
+use Rattle.heap_image.specs.Decoded.{Decoded, Reached, breaks_in, bytes_decoded, cut, has_room, length_decoded, passed}
 use Rattle.heap_image.specs.Entries.{EntryBy, FillsObject}
 use Rattle.heap_image.specs.Heaps.{objects_of}
 use Rattle.heap_image.specs.Load.{IsLoading}
@@ -20,14 +21,10 @@ use Rattle.heap_image.specs.Stages.{Falls, LeadsTo, Passes, ReadsNumber, StopsBy
 use Rattle.heap_image.specs.declared.fault.LoadFault.{LoadFault}
 use Rattle.heap_image.specs.declared.objects_in.Entry.{Entry}
 use Rattle.heap_image.proofs.ImageDecoded.{bytes_read, if_true, lt_yes}
-use Rattle.heap_image.proofs.StageLemmas.{falls_stops, field_good, passes_then, stops_then}
+use Rattle.heap_image.proofs.StageLemmas.{falls_stops, field_good, passes_then, preceded_then, stops_then}
 
 abbrev Rest : Type 0
 Rest = Option (List ℕ)
-
-preceded_twice : (a b : List ℕ) (o : Rest) → preceded a (preceded b o) ≡ preceded (a ++ b) o
-preceded_twice a b None = refl
-preceded_twice a b (Some r) = ap Some (sym (append_assoc a b r))
 
 module _ (m : Objects) (k : ℕ) (v w : List ℕ) where
   insert_same : get m k ≡ Some v → m ≡ insert m k v
@@ -81,7 +78,8 @@ module _ (old mid new : RunState) (id : ℕ) where
 pub leads_still : (s : RunState) → IsLoading s → LeadsTo s s (objects_of s)
 leads_still s loading = record { loading = loading; profile = refl; objects = refl }
 
-pub leads_first : (s : RunState) (id n : ℕ) → IsLoading s → get (objects_of s) id ≡ Some (replicate n 0) → LeadsTo s s (insert (objects_of s) id ([] ++ replicate (n - 0) 0))
+pub leads_first : (s : RunState) (id n : ℕ) → IsLoading s → get (objects_of s) id ≡ Some (replicate n 0)
+    → LeadsTo s s (insert (objects_of s) id ([] ++ replicate (n - 0) 0))
 leads_first s id n loading some =
     let same : n ≡ n - 0 = omega arith in
     record {
@@ -114,7 +112,7 @@ part_fits bytes n done count is fits =
 
 -- a part more was taken
 pub took_more : (a b : List ℕ) (had mid left : Rest) → had ≡ preceded a mid → mid ≡ preceded b left → had ≡ preceded (a ++ b) left
-took_more a b had mid left first next = first ∙ ap (preceded a) next ∙ preceded_twice a b left
+took_more a b had mid left first next = first ∙ ap (preceded a) next ∙ preceded_then a b left
 
 pub falls_more : (a : List ℕ) (n done count : ℕ) (had mid left : Rest) → length a ≡ done → done + count ≤ n → had ≡ preceded a mid → Falls count mid left
     → Falls n had left
@@ -142,7 +140,7 @@ module _ (p : Profile) (r : Reached) (id n : ℕ) (go : Reached → List ℕ →
     tells = λ more. ap (λ k. bytes_decoded p r id k (v ++ more) go) (sym is) ∙ bytes_read p r go id v more;
   }
 
-  bytes_short : (bytes : List ℕ) → length bytes < n → bytes_decoded p r id n bytes go ≡ breaks_in p r 6
+  bytes_short : (bytes : List ℕ) → length bytes < n → bytes_decoded p r id n bytes go ≡ cut (breaks_in p r 6)
   unfolding bytes_decoded
   bytes_short bytes short = if_true _ _ _ (lt_yes (length bytes) n short)
 

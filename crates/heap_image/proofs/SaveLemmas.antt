@@ -1,5 +1,6 @@
 -- The image of what is live, written object by object.
-use Rattle.std.proofs.Common.{◌≡◌, ◌∙◌, ◌++◌, ◌+◌, ◌-◌, ◌*◌, ℕ, suc, List, [], ◌∷◌, Option, Some, None, length, refl, ap, sym, subst, arith, append_assoc, append-nil}
+use Rattle.std.proofs.Common.{◌≡◌, ◌∙◌, ◌++◌, ◌+◌, ◌-◌, ◌*◌, ℕ, suc, List, [], ◌∷◌, Option, Some, None, length, refl, ap, sym, subst, arith}
+use Rattle.std.proofs.Common.{append_assoc, append-nil}
 use Rattle.std.specs.Prelude.{Result, Err, option_map}
 use Rattle.std.specs.FinMap.{entries, get, len}
 use Rattle.std.specs.Int.{w16, w32}
@@ -71,7 +72,8 @@ module _ (s : RunState) (tied : AreTied s.session s.heap) where
       ∙ len-objects s.heap.held
 
   -- the mark and the settings were written
-  pub came_first : (w x : Told) (pages page_words proxies live : ℕ) → AreWithin s.session.ids → s.heap.profile.pages ≡ pages → s.heap.profile.page_words ≡ page_words
+  pub came_first : (w x : Told) (pages page_words proxies live : ℕ) → AreWithin s.session.ids → s.heap.profile.pages ≡ pages
+      → s.heap.profile.page_words ≡ page_words
       → s.heap.profile.proxies ≡ proxies → live ≡ len s.heap.held → x ≡ appended w (header_of pages (8 * page_words) proxies live) → CameTo s w x 0
   came_first w x pages page_words proxies live ids p q r l put =
       let all = listed_all (objects_of s) 65536 (λ id v is.

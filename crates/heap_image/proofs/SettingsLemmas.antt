@@ -13,7 +13,8 @@ fault_by pages size proxies region =
     if pages then (if size then (if proxies then (if region then None else Some Region) else Some Proxies) else Some PageBytes) else Some Pages
 
 fault_is : (pages page_bytes proxies : ℕ)
-    → setting_fault pages page_bytes 1 proxies ≡ fault_by (is_within 1 4096 pages) (is_page_bytes page_bytes) (is_within 1 65536 proxies) (nat_le (pages * page_bytes) 67108864)
+    → setting_fault pages page_bytes 1 proxies ≡ fault_by (is_within 1 4096 pages) (is_page_bytes page_bytes) (is_within 1 65536 proxies)
+    (nat_le (pages * page_bytes) 67108864)
 unfolding fault_by
 fault_is pages page_bytes proxies = refl
 
@@ -43,7 +44,8 @@ module _ (pages page_bytes : ℕ) (good : is_within 1 4096 pages ≡ true) where
   fault_then proxies o is = is ∙ fault_is pages page_bytes proxies
       ∙ ap (λ t. fault_by t (is_page_bytes page_bytes) (is_within 1 65536 proxies) (nat_le (pages * page_bytes) 67108864)) good
 
-  pub settings_pass : (proxies : ℕ) → None ≡ setting_fault pages page_bytes 1 proxies → (is_page_of pages page_bytes ≡ true) × (is_within 1 65536 proxies ≡ true)
+  pub settings_pass : (proxies : ℕ) → None ≡ setting_fault pages page_bytes 1 proxies
+      → (is_page_of pages page_bytes ≡ true) × (is_within 1 65536 proxies ≡ true)
   settings_pass proxies is = none_passes _ _ _ (fault_then proxies None is)
 
   pub page_breaks : (f : SettingFault) → Some f ≡ setting_fault pages page_bytes 1 1 → is_page_of pages page_bytes ≡ false

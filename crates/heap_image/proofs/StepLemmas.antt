@@ -52,7 +52,8 @@ needed_with_any p bounds o n = refl
 
 needed_with_alike : (p : Paging) (m o : Objects) (n : ℕ) → CountAlike m o → pages_needed_with p o n ≡ pages_needed_with p m n
 unfolding pages_needed_with live
-needed_with_alike p m o n alike = sum_same _ _ (range_with_len 0 (classes p)) (λ c. ap (λ k. ceil_div (k + cond (nat_eq (class_for p n) c) 1 0) (slots_of p c)) (alike.sums _))
+needed_with_alike p m o n alike = sum_same _ _ (range_with_len 0 (classes p)) (λ c. ap
+    (λ k. ceil_div (k + cond (nat_eq (class_for p n) c) 1 0) (slots_of p c)) (alike.sums _))
 
 fits_not : (a b : ℕ) (c : Bool) → b < a → (nat_le a b && c) ≡ false
 fits_not a b c lt = (let e : nat_le a b ≡ false = grind (arith, nat_tests) in ap (λ t. t && c) e)
@@ -62,7 +63,8 @@ room_not true b c lt = grind (arith, nat_tests)
 room_not false b c lt = refl
 
 room_yes : (a b c d : ℕ) → a ≤ b → (d < c → ⊥) → (nat_le a b && nat_le c d) ≡ true
-room_yes a b c d fit not = (let x : nat_le a b ≡ true = grind (arith, nat_tests) in let y : nat_le c d ≡ true = grind (arith, nat_tests) in ap (λ t. t && nat_le c d) x ∙ y)
+room_yes a b c d fit not = (let x : nat_le a b ≡ true = grind (arith, nat_tests) in let y : nat_le c d ≡ true = grind (arith, nat_tests) in ap
+    (λ t. t && nat_le c d) x ∙ y)
 
 module _ (old new : RunState) (loading : IsLoading old) (going : IsGoing new) where
   abbrev ids : Ids

@@ -1,5 +1,6 @@
 -- Which bytes are a heap image: what bytes tell of one, field by field, up to the first field that breaks a rule or is cut by the end.
-use Rattle.std.specs.Prelude.{◌≡◌, ℕ, zero, suc, Bool, ◌&&◌, ◌+◌, ◌*◌, List, [], ◌∷◌, Option, Some, None, length, take, drop, if◌then◌else◌, nat_le, nat_lt}
+use Rattle.std.specs.Prelude.{◌≡◌, ℕ, zero, suc, Bool, true, false, ◌⊎◌, ◌&&◌, ◌+◌, ◌*◌, List, [], ◌∷◌, Option, Some, None, length, take, drop}
+use Rattle.std.specs.Prelude.{if◌then◌else◌, nat_le, nat_lt}
 use Rattle.std.specs.Int.{Width, w16, w32, byte_len}
 use Rattle.std.specs.Str.{bytes_eq}
 use Rattle.std.specs.FinMap.{empty, insert}
@@ -20,23 +21,33 @@ pub record Decoded : Type 0 where
   pub objects : Objects
   -- the offset of the first field that breaks a rule or is cut by the end, or of the first byte past the image; none where the bytes are an image
   pub broken : Option ℕ
+  -- whether the end cuts that field
+  pub is_cut : Bool
 
--- they break at an offset before the proxies are accepted
+-- they break a rule at an offset, before the proxies are accepted
 abbrev pub unopened : ℕ → Decoded
-unopened at = record { settings = None; objects = empty; broken = Some at }
+unopened at = record { settings = None; objects = empty; broken = Some at; is_cut = false }
 
--- they break after that, behind these objects
+-- they break a rule after that, behind these objects
 abbrev pub breaks_behind : Profile → Objects → ℕ → Decoded
-breaks_behind p objects at = record { settings = Some p; objects = objects; broken = Some at }
+breaks_behind p objects at = record { settings = Some p; objects = objects; broken = Some at; is_cut = false }
 
 -- they are an image
 abbrev pub whole : Profile → Objects → Decoded
-whole p objects = record { settings = Some p; objects = objects; broken = None }
+whole p objects = record { settings = Some p; objects = objects; broken = None; is_cut = false }
 
--- a number, and what it and the bytes after it tell; and what is told where it is cut
+-- where a field would break a rule, the end cuts it
+abbrev pub cut : Decoded → Decoded
+cut d = record d { is_cut = true }
+
+-- they break no rule: they are an image, or the end cuts them
+abbrev pub BreaksNoRule : Decoded → Type 0
+BreaksNoRule d = (d.broken ≡ None) ⊎ (d.is_cut ≡ true)
+
+-- a number, and what it and the bytes after it tell; what is told where it breaks a rule, and so where it is cut
 abbrev pub number : Width → List ℕ → Decoded → (ℕ → List ℕ → Decoded) → Decoded
-number w bytes cut go =
-    if nat_lt (length bytes) (byte_len w) then cut else go (number_of_bytes w (take (byte_len w) bytes)) (drop (byte_len w) bytes)
+number w bytes bad go =
+    if nat_lt (length bytes) (byte_len w) then cut bad else go (number_of_bytes w (take (byte_len w) bytes)) (drop (byte_len w) bytes)
 
 -- the pages and size classes of the moving manager
 abbrev pub image_paging : Profile → Paging
@@ -62,7 +73,7 @@ breaks_in p r n = breaks_behind p r.objects (r.at + n)
 
 -- an entry: its n bytes
 unfoldable pub bytes_decoded : Profile → Reached → ℕ → ℕ → List ℕ → (Reached → List ℕ → Decoded) → Decoded
-bytes_decoded p r id n bytes go = if nat_lt (length bytes) n then breaks_in p r 6 else go (passed r id (take n bytes)) (drop n bytes)
+bytes_decoded p r id n bytes go = if nat_lt (length bytes) n then cut (breaks_in p r 6) else go (passed r id (take n bytes)) (drop n bytes)
 
 -- its length: the object has room
 unfoldable pub length_decoded : Profile → Reached → ℕ → List ℕ → (Reached → List ℕ → Decoded) → Decoded
@@ -113,7 +124,8 @@ pages_decoded bytes = number w32 bytes (unopened 4) (λ pages rest. if is_within
 
 -- what bytes tell: an image begins with its mark
 unfoldable pub decoded : List ℕ → Decoded
-decoded bytes = if bytes_eq (take 4 bytes) mark then pages_decoded (drop 4 bytes) else unopened 0
+decoded bytes =
+    if bytes_eq (take 4 bytes) mark then pages_decoded (drop 4 bytes) else record (unopened 0) { is_cut = nat_lt (length bytes) 4 }
 
 -- the bytes are a heap image
 abbrev pub IsImage : List ℕ → Type 0

@@ -14,8 +14,10 @@ abbrev pub reached_in : RunState → ℕ → ℕ → Reached
 reached_in s next at = record { next = next; objects = objects_of s; at = at }
 
 -- an entry was read, and its object is held; or the objects are as they were
-abbrev pub EntryBy : (List ℕ → Decoded) → (Reached → List ℕ → Decoded) → RunState → Reached → Option (List ℕ) → Result Entry LoadFault → Option (List ℕ) → RunState → Type 0
-EntryBy reading go old r had (Ok e) left new = (v : List ℕ) × (length v ≡ e.length) × (r.next ≤ e.id) × Passes reading had left (go (passed r e.id v)) × LeadsTo old new (insert r.objects e.id v)
+abbrev pub EntryBy : (List ℕ → Decoded) → (Reached → List ℕ → Decoded) → RunState → Reached → Option (List ℕ) → Result Entry LoadFault → Option (List ℕ)
+    → RunState → Type 0
+EntryBy reading go old r had (Ok e) left new = (v : List ℕ) × (length v ≡ e.length) × (r.next ≤ e.id) × Passes reading had left (go (passed r e.id v))
+    × LeadsTo old new (insert r.objects e.id v)
 EntryBy reading go old r had (Err f) left new = StopsBy (Some old.heap.profile) r.objects reading had f left × LeadsTo old new r.objects
 
 -- an object got its n bytes; or it is gone

@@ -7,10 +7,10 @@ use Rattle.cf_base.specs.declared.settings.Settings.{Settings}
 use Rattle.cf_io.specs.Feeds.{IsSpent, preceded}
 use Rattle.page_model.specs.Held.{Objects}
 use Rattle.run_model.specs.Sessions.{RunState}
-use Rattle.heap_image.specs.Decoded.{Decoded, count_decoded}
+use Rattle.heap_image.specs.Decoded.{BreaksNoRule, Decoded, count_decoded}
 use Rattle.heap_image.specs.Heaps.{objects_of}
 use Rattle.heap_image.specs.Image.{number_of_bytes}
-use Rattle.heap_image.specs.Load.{IsLoading, Tells, TellsInPart}
+use Rattle.heap_image.specs.Load.{IsLoading, TellsBroken, TellsInPart}
 use Rattle.heap_image.specs.declared.fault.LoadFault.{LoadFault}
 use Rattle.heap_image.specs.declared.fault.LoadFault.TheVariants as fault
 use Rattle.heap_image.specs.declared.filling.Filled.{Filled}
@@ -42,19 +42,30 @@ StopsShort room at had fault.OutOfMemory left = ⊥
 
 -- a number at an offset was read, or cut, or couldn't be read
 abbrev pub ReadsNumber : Width → ℕ → Option (List ℕ) → Result ℕ LoadFault → Option (List ℕ) → Type 0
-ReadsNumber w at had (Ok n) left = (bytes : List ℕ) × (length bytes ≡ byte_len w) × (number_of_bytes w bytes ≡ n) × (had ≡ preceded bytes left)
+ReadsNumber w at had (Ok n) left =
+    (bytes : List ℕ) × (length bytes ≡ byte_len w) × (number_of_bytes w bytes ≡ n) × (had ≡ preceded bytes left)
 ReadsNumber w at had (Err e) left = StopsShort (byte_len w) at had e left
 
 -- by a fault, a reading tells these settings and objects, and where it breaks
 abbrev pub StopsBy : Option Profile → Objects → (List ℕ → Decoded) → Option (List ℕ) → LoadFault → Option (List ℕ) → Type 0
-StopsBy settings o reading had (fault.Bad at) left = (t : Decoded) × (t.broken ≡ Some at) × (t.settings ≡ settings) × (t.objects ≡ o) × Tells reading had left t
-StopsBy settings o reading had fault.Read left = (t : Decoded) × (t.settings ≡ settings) × (t.objects ≡ o) × TellsInPart reading had left t
+StopsBy settings o reading had (fault.Bad at) left =
+    (t : Decoded) × (t.broken ≡ Some at) × (t.settings ≡ settings) × (t.objects ≡ o) × TellsBroken reading had left t
+StopsBy settings o reading had fault.Read left =
+    (t : Decoded) × (t.settings ≡ settings) × (t.objects ≡ o) × TellsInPart reading had left t × BreaksNoRule t
 StopsBy settings o reading had fault.OutOfMemory left = ⊥
 
--- the settings were read, with the bound 1, and what follows them is told by another reading; or they were not told
-abbrev pub SettingsBy : (List ℕ → Decoded) → Option (List ℕ) → Result Settings LoadFault → Option (List ℕ) → Type 0
-SettingsBy reading had (Ok s) left = Passes reading had left (count_decoded (profile_of s)) × (s.k ≡ 1)
-SettingsBy reading had (Err e) left = StopsBy None empty reading had e left
+-- the settings were read, in so many bytes and with the bound 1, and what follows them is told by another reading
+pub record ReadsSettings (n : ℕ) (reading : List ℕ → Decoded) (had left : Option (List ℕ)) (s : Settings) : Type 0 where
+  pub taken : List ℕ
+  pub few : length taken ≡ n
+  pub took : had ≡ preceded taken left
+  pub tells : (more : List ℕ) → reading (taken ++ more) ≡ count_decoded (profile_of s) more
+  pub one : s.k ≡ 1
+
+-- the settings were read in so many bytes, or they were not told
+abbrev pub SettingsBy : ℕ → (List ℕ → Decoded) → Option (List ℕ) → Result Settings LoadFault → Option (List ℕ) → Type 0
+SettingsBy n reading had (Ok s) left = ReadsSettings n reading had left s
+SettingsBy n reading had (Err e) left = StopsBy None empty reading had e left
 
 -- a run goes on, with these objects
 pub record LeadsTo (old new : RunState) (o : Objects) : Type 0 where

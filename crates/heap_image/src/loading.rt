@@ -20,10 +20,11 @@ use cf_session::Session;
 
 /// Loads an image into a heap of kind Moving at the bound 1, however the source cuts its bytes. At `Ok`
 /// the heap is open with the settings of the image and holds its objects by id, and nothing is left
-/// in the source. `Read` comes only where the source failed. `Bad` comes where the bytes aren't an
-/// image; no byte behind the field that breaks is read. After either the heap is as it was where the
-/// field of the proxies wasn't accepted yet, and else holds the objects of the whole entries before.
-/// `OutOfMemory` comes only at the opening, and the heap is closed then.
+/// in the source. `Read` comes only where the source failed, and the bytes before break no rule. `Bad`
+/// comes where the bytes aren't an image; no byte past the field that breaks is read. After either the
+/// heap is as it was where the field of the proxies wasn't accepted yet, and else holds the objects of
+/// the whole entries before. `OutOfMemory` comes only at the opening, when just the 16 bytes of the
+/// mark and the settings were read, and the heap is closed then.
 pub fn load<S: Source, H: Manager>(
     source: &mut S,
     heap: &mut H,

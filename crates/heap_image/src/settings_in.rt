@@ -14,7 +14,7 @@ use cf_io::Source;
 
 /// Reads the mark and the settings, which have the bound 1.
 pub(crate) fn read_settings<S: Source>(source: &mut S) -> Result<Settings, LoadFault>
-    ensures settings { SettingsBy decoded (S.rest source.old) result (S.rest source.new) }
+    ensures settings { SettingsBy 16 decoded (S.rest source.old) result (S.rest source.new) }
     ensures grows { S.faults source.old ≤ S.faults source.new }
     ensures failed { result ≡ Err LoadFault.Read → Rose (S.faults source.old) (S.faults source.new) }
 {
@@ -46,7 +46,7 @@ fn are_pages(pages: u32) -> bool
 
 /// Reads the settings from the pages on.
 fn read_pages<S: Source>(source: &mut S) -> Result<Settings, LoadFault>
-    ensures settings { SettingsBy pages_decoded (S.rest source.old) result (S.rest source.new) }
+    ensures settings { SettingsBy 12 pages_decoded (S.rest source.old) result (S.rest source.new) }
     ensures grows { S.faults source.old ≤ S.faults source.new }
     ensures failed { result ≡ Err LoadFault.Read → Rose (S.faults source.old) (S.faults source.new) }
 {
@@ -63,7 +63,7 @@ fn read_pages<S: Source>(source: &mut S) -> Result<Settings, LoadFault>
 /// Reads the settings from the bytes of a page on.
 fn read_page_bytes<S: Source>(source: &mut S, pages: u32) -> Result<Settings, LoadFault>
     requires pages { IsTrue (is_within 1 4096 pages) }
-    ensures settings { SettingsBy (page_bytes_decoded pages) (S.rest source.old) result (S.rest source.new) }
+    ensures settings { SettingsBy 8 (page_bytes_decoded pages) (S.rest source.old) result (S.rest source.new) }
     ensures grows { S.faults source.old ≤ S.faults source.new }
     ensures failed { result ≡ Err LoadFault.Read → Rose (S.faults source.old) (S.faults source.new) }
 {
@@ -85,7 +85,7 @@ fn read_proxies<S: Source>(
 ) -> Result<Settings, LoadFault>
     requires pages { IsTrue (is_within 1 4096 pages) }
     requires page { IsTrue (is_page_of pages page_bytes) }
-    ensures settings { SettingsBy (proxies_decoded pages page_bytes) (S.rest source.old) result (S.rest source.new) }
+    ensures settings { SettingsBy 4 (proxies_decoded pages page_bytes) (S.rest source.old) result (S.rest source.new) }
     ensures grows { S.faults source.old ≤ S.faults source.new }
     ensures failed { result ≡ Err LoadFault.Read → Rose (S.faults source.old) (S.faults source.new) }
 {

@@ -32,7 +32,8 @@ lines_joined (c ∷ cs) ds = ap (λ (l : List ℕ). line_of c ++ l) (lines_joine
 pub object_put : {T : Type 0} (w x y : Told) (id n : ℕ) (bytes : List ℕ) (r : Result T Failed) → n ≡ length bytes → x ≡ appended w (line_of (Malloc id n))
     → Puts x (lines_of (writes_of id bytes)) r y → Puts w (lines_of (object_commands id bytes)) r y
 object_put {T} w x y id n bytes r same put rest =
-    puts_then {T = T} w x y (line_of (Malloc id (length bytes))) (lines_of (writes_of id bytes)) r (put ∙ ap (λ n. appended w (line_of (Malloc id n))) same) rest
+    puts_then {T = T} w x y (line_of (Malloc id (length bytes))) (lines_of (writes_of id bytes)) r
+    (put ∙ ap (λ n. appended w (line_of (Malloc id n))) same) rest
 
 pub object_cut : (w y : Told) (id n : ℕ) (bytes : List ℕ) (e : Failed) → n ≡ length bytes → Puts {T = Unit {0}} w (line_of (Malloc id n)) (Err e) y
     → Puts {T = Unit {0}} w (lines_of (object_commands id bytes)) (Err e) y

@@ -1,5 +1,6 @@
 -- The bytes of an object, written line by line.
-use Rattle.std.proofs.Common.{◌≡◌, ◌∙◌, ◌++◌, ◌+◌, ◌-◌, ◌<◌, ◌≤◌, ℕ, zero, suc, List, [], ◌∷◌, Option, length, take, drop, refl, ap, sym, arith, append_assoc, append-nil, inl, inr}
+use Rattle.std.proofs.Common.{◌≡◌, ◌∙◌, ◌++◌, ◌+◌, ◌-◌, ◌<◌, ◌≤◌, ℕ, zero, suc, List, [], ◌∷◌, Option, length, take, drop, refl, ap, sym, arith}
+use Rattle.std.proofs.Common.{append_assoc, append-nil, inl, inr}
 use Rattle.std.proofs.Common.{length-drop}
 use Rattle.std.specs.Prelude.{Err, min}
 use Rattle.std.specs.Int.{div_ceil}
@@ -19,7 +20,8 @@ use Rattle.script_reader.specs.declared.command.Command.TheVariants.{Write}
 abbrev Told : Type 0
 Told = Option (List ℕ)
 
-one_more : (more id at : ℕ) (bytes : List ℕ) → writes_from (suc more) id at bytes ≡ Write id at (take 4096 bytes) ∷ writes_from more id (at + 4096) (drop 4096 bytes)
+one_more : (more id at : ℕ) (bytes : List ℕ) → writes_from (suc more) id at bytes ≡ Write id at (take 4096 bytes) ∷ writes_from more id (at + 4096)
+    (drop 4096 bytes)
 unfolding writes_from
 one_more more id at bytes = refl
 
@@ -31,7 +33,8 @@ none_more id at bytes = refl
 pub whole_chunk : (count at : ℕ) (bytes : List ℕ) → count ≡ min (length bytes - at) 4096 → take count (drop at bytes) ≡ take 4096 (drop at bytes)
 whole_chunk count at bytes is = elim (cases_lt 4096 (length bytes - at)) [
   | inl more ↦ (let full : count ≡ 4096 = omega (arith, is, more) in ap (λ n. take n (drop at bytes)) full)
-  | inr less ↦ (let long = length-drop at bytes in take_all count (drop at bytes) (omega (arith, is, less, long)) ∙ sym (take_all 4096 (drop at bytes) (omega (arith, less, long))))
+  | inr less ↦ (let long = length-drop at bytes in take_all count (drop at bytes) (omega (arith, is, less, long))
+      ∙ sym (take_all 4096 (drop at bytes) (omega (arith, less, long))))
 ]
 
 -- the lines came to an offset: what was written by then, and the lines from there on

@@ -30,7 +30,8 @@ EndsLoadBy Done from call to = (settings : Settings) × LoadsBy from call.had (O
 EndsLoadBy BadImage from call to = (at : ℕ) × LoadsBy from call.had (Err (fault.Bad at)) call.left to × (call.after ≡ appended call.before (bad_image at))
 EndsLoadBy ReadFault from call to = LoadsBy from call.had (Err fault.Read) call.left to × (call.after ≡ call.before)
 EndsLoadBy OutOfMemory from call to = LoadsBy from call.had (Err fault.OutOfMemory) call.left to × (call.after ≡ call.before)
-EndsLoadBy WriteFault from call to = (result : Result Settings LoadFault) × LoadsBy from call.had result call.left to × IsCutOff result call.before to call.after
+EndsLoadBy WriteFault from call to = (result : Result Settings LoadFault) × LoadsBy from call.had result call.left to
+    × IsCutOff result call.before to call.after
 EndsLoadBy status from call to = ⊥
 
 -- how an image that is loaded may end

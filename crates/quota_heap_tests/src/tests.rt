@@ -1,3 +1,5 @@
-//! Worked calls of two tasks, and a long run of drawn calls of all sixteen.
+//! Worked calls of two tasks, their calls in every order, and a long run of drawn calls of all sixteen.
+mod calls;
 mod drawn;
+mod interleaved;
 mod rows;

@@ -1,6 +1,6 @@
 -- What a command of a task keeps: the heap stays open and within its quotas, the ids of the task are those of its objects, and no other task has changed.
-use Rattle.std.proofs.Common.{◌≡◌, ◌≢◌, ℕ, ◌<◌, ◌≤◌, List, Some, None, length, replicate, sym, ◌∙◌, ap, refl, subst}
-use Rattle.std.specs.Prelude.{IsTrue, Option, option_map, Result, Ok, Err, codes}
+use Rattle.std.proofs.Common.{◌≡◌, ◌≢◌, ℕ, List, Some, None, length, replicate, sym, ◌∙◌, ap, refl, subst}
+use Rattle.std.specs.Prelude.{Option, option_map, Result, Ok, Err, codes}
 use Rattle.std.specs.Option.{MatchOption}
 use Rattle.std.specs.FinMap.{get, insert, remove}
 use Rattle.cf_base.specs.declared.answers.AccessFault.{AccessFault}

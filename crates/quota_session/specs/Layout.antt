@@ -1,5 +1,5 @@
 -- How a session lays out what it keeps, and how far a report has come. No public clause cites this module.
-use Rattle.std.specs.Prelude.{◌≡◌, ℕ, List, [], filter, if◌then◌else◌, nat_eq, not}
+use Rattle.std.specs.Prelude.{ℕ, List, [], filter, if◌then◌else◌, nat_eq, not}
 use Rattle.std.specs.List.{range_with_len}
 use Rattle.cf_base.specs.declared.answers.Figures.{Figures}
 use Rattle.cf_base.specs.declared.answers.Totals.{Totals}

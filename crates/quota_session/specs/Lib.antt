@@ -1,4 +1,5 @@
 pub mod TaskRun
 pub mod QuotaRun
 pub mod Playing
+pub mod Alone
 pub mod Layout

@@ -1,12 +1,11 @@
 -- A session over a heap that tasks share, as a player.
-use Rattle.std.specs.Prelude.{◌≡◌, ⊤, List, Option, Some, None, codes, false}
+use Rattle.std.specs.Prelude.{◌≡◌, ⊤, List, Option, Some, codes, false}
 use Rattle.cf_base.specs.Settings.{Profile}
 use Rattle.cf_io.specs.Texts.{Reply, said}
 use Rattle.quota_heap.specs.State.{KeepsTasks, empty_state}
 use Rattle.run_model.specs.Plays.{PlayRun}
 use Rattle.script_loop.specs.Semantics.{Semantics}
 use Rattle.script_reader.specs.Items.{Item}
-use Rattle.script_reader.specs.declared.command.Command.{Command}
 use Rattle.session_model.specs.Applying.{TurnsInPart}
 use Rattle.quota_session.specs.QuotaRun.{IsGoingQuotas, QuotaRun, QuotaStep, first_session}
 

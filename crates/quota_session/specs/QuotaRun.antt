@@ -1,5 +1,5 @@
 -- A session over a heap that tasks share, and what each command does there.
-use Rattle.std.specs.Prelude.{◌≡◌, ℕ, ◌<◌, ◌≤◌, ◌++◌, IsTrue, List, [], ◌∷◌, Option, Some, None, codes, length, if◌then◌else◌, nat_lt, replicate, refl}
+use Rattle.std.specs.Prelude.{◌≡◌, ℕ, ◌<◌, ◌≤◌, ◌++◌, IsTrue, List, [], ◌∷◌, Option, Some, codes, length, if◌then◌else◌, nat_lt, replicate, refl}
 use Rattle.std.specs.Prelude.{slice_index_or, slice_set}
 use Rattle.std.specs.Coded.{Coded, code_by, coded×, coded_ℕ, coded_list}
 use Rattle.std.specs.FinMap.{empty}

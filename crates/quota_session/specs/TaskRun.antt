@@ -1,5 +1,5 @@
 -- One task of a session, and what each of its commands does.
-use Rattle.std.specs.Prelude.{◌≡◌, ℕ, ◌-◌, ◌++◌, List, Option, Some, None, Result, Ok, Err, codes, filter, map, nat_eq, not}
+use Rattle.std.specs.Prelude.{◌≡◌, ℕ, ◌-◌, ◌++◌, List, Option, Some, None, Result, codes, filter, map, nat_eq, not}
 use Rattle.std.specs.List.{range_with_len}
 use Rattle.std.specs.Option.{MatchOption}
 use Rattle.std.specs.FinMap.{get, remove}
@@ -14,7 +14,7 @@ use Rattle.id_table.specs.Ids.{Ids}
 use Rattle.page_model.specs.Arrangement.{live, used_pages}
 use Rattle.page_model.specs.Figures.{figures_of, totals_of}
 use Rattle.page_model.specs.Held.{Placed}
-use Rattle.page_model.specs.Paging.{Paging, classes}
+use Rattle.page_model.specs.Paging.{classes}
 use Rattle.quota_heap.specs.State.{KeepsTasks, QuotaState, held_by, objects_by, quota_of}
 use Rattle.quota_heap.specs.Steps.{FreesOfTask, IsMallocStep, IsWriteStep}
 use Rattle.quota_model.specs.Refusals.{task_paging}

@@ -3,6 +3,7 @@
 #![tactic(auto)]
 
 mod changes;
+mod laws;
 mod needs;
 mod player;
 mod records;
@@ -10,5 +11,6 @@ mod reports;
 mod session;
 mod tasks;
 
+pub use laws::{a_run_goes_on, a_task_is_answered_from_its_own, tasks_are_isolated_in_a_script};
 pub use player::{QuotaPlayer, run_quotas};
 pub use session::QuotaSession;

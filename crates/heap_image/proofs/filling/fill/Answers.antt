@@ -4,7 +4,8 @@ use Rattle.heap_image.proofs.filling.fill.Goals as goal
 
 pub fills-preserved : goal.fills-preserved
 fills-preserved g c = record {
-  within = filled_within c.fills.at c.in-Ok.n (length c.fills.buffer - c.fills.at) c.fills.buffer c.take.new.buf c.fills.invariant.within c.in-Ok.ensures.within;
+  within = filled_within c.fills.at c.in-Ok.n (length c.fills.buffer - c.fills.at) c.fills.buffer c.take.new.buf c.fills.invariant.within
+      c.in-Ok.ensures.within;
   took = filled_more c.fills.at c.in-Ok.n (length c.fills.buffer - c.fills.at) c.fills.buffer c.take.new.buf c.fills.invariant.within c.in-Ok.ensures.within
       _ _ _ c.fills.invariant.took c.in-Ok.ensures.piece;
   grows = omega (arith, c.fills.invariant.grows, c.in-Ok.ensures.grows);

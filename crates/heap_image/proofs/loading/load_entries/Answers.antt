@@ -50,4 +50,5 @@ pub returns-clause-ends : goal.returns-clause-ends
 returns-clause-ends g c =
     let inv = c.entries.invariant in
     all_end (g.H.Manager.state c.args.heap.now).profile c.args.count c.entries.i c.entries.next c.entries.at _ _ _
-    (run_at c.entries.session (g.H.Manager.state c.entries.heap)) c.read_end.result c.entries-test.false inv.loading inv.profile inv.passed c.read_end.ensures.end
+    (run_at c.entries.session (g.H.Manager.state c.entries.heap)) c.read_end.result c.entries-test.false inv.loading inv.profile inv.passed
+    c.read_end.ensures.end

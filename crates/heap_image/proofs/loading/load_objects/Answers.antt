@@ -25,7 +25,7 @@ returns-then-count-proxies-clause-ends g c =
     let no : nat_le c.in-Ok.count p.proxies ≡ false = grind (arith, nat_tests) in
     bad_end (count_decoded p) p _ _ (run_at c.args.session.now (g.H.Manager.state c.args.heap.now)) c.requires.loading refl c.requires.none 16
     (field_bad w32 (breaks_behind p empty 16) (λ n. nat_le n p.proxies) (λ n rest. entries_decoded p n at_first rest) _ _ 16 c.in-Ok.count
-    c.in-Ok.ensures.reads no)
+    c.in-Ok.ensures.reads no refl (omega arith))
 
 pub returns-clause-ends : goal.returns-clause-ends
 unfolding count_decoded

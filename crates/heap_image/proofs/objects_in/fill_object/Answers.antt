@@ -21,14 +21,16 @@ pub free_object-requires-clause-live : goal.free_object-requires-clause-live
 free_object-requires-clause-live g c =
     let so_far = c.chunks.invariant in (
       so_far.bytes ++ replicate (c.args.n - c.chunks.done) 0,
-      held_in (run_at c.args.session.now (g.H.Manager.state c.args.heap.now)) (run_at c.chunks.session (g.H.Manager.state c.chunks.heap)) c.args.id _ so_far.leads,
+      held_in (run_at c.args.session.now (g.H.Manager.state c.args.heap.now)) (run_at c.chunks.session (g.H.Manager.state c.chunks.heap)) c.args.id _
+          so_far.leads,
     )
 
 pub free_object-requires-in-Failed-clause-live : goal.free_object-requires-in-Failed-clause-live
 free_object-requires-in-Failed-clause-live g c =
     let so_far = c.chunks.invariant in (
       so_far.bytes ++ replicate (c.args.n - c.chunks.done) 0,
-      held_in (run_at c.args.session.now (g.H.Manager.state c.args.heap.now)) (run_at c.chunks.session (g.H.Manager.state c.chunks.heap)) c.args.id _ so_far.leads,
+      held_in (run_at c.args.session.now (g.H.Manager.state c.args.heap.now)) (run_at c.chunks.session (g.H.Manager.state c.chunks.heap)) c.args.id _
+          so_far.leads,
     )
 
 pub returns-in-Cut-clause-fills : goal.returns-in-Cut-clause-fills
@@ -52,7 +54,8 @@ returns-in-Failed-clause-fills g c =
     let falls = subst (λ k. Falls k (g.S.Source.rest c.chunks.source) (g.S.Source.rest c.fill.new.source)) size c.in-Failed.ensures.fills in (
       falls_more so_far.bytes c.args.n c.chunks.done c.min-count.result _ _ _ so_far.count fits so_far.took falls,
       leads_removed (run_at c.args.session.now (g.H.Manager.state c.args.heap.now)) (run_at c.chunks.session (g.H.Manager.state c.chunks.heap))
-          (run_at c.free_object-in-Failed.new.session (g.H.Manager.state c.free_object-in-Failed.new.heap)) c.args.id _ so_far.leads c.free_object-in-Failed.ensures,
+          (run_at c.free_object-in-Failed.new.session (g.H.Manager.state c.free_object-in-Failed.new.heap)) c.args.id _ so_far.leads
+          c.free_object-in-Failed.ensures,
     )
 
 pub write_part-requires-clause-within : goal.write_part-requires-clause-within
@@ -62,7 +65,8 @@ write_part-requires-clause-within g c =
     (omega (arith, c.min-count.ensures, c.requires.place, c.chunks.auto.room)) in
     let fits : c.chunks.done + length c.fill.new.buffer ≤ c.args.n = omega (arith, c.min-count.ensures, size) in (
       so_far.bytes ++ replicate (c.args.n - c.chunks.done) 0,
-      held_in (run_at c.args.session.now (g.H.Manager.state c.args.heap.now)) (run_at c.chunks.session (g.H.Manager.state c.chunks.heap)) c.args.id _ so_far.leads,
+      held_in (run_at c.args.session.now (g.H.Manager.state c.args.heap.now)) (run_at c.chunks.session (g.H.Manager.state c.chunks.heap)) c.args.id _
+          so_far.leads,
       part_fits so_far.bytes c.args.n c.chunks.done (length c.fill.new.buffer) so_far.count fits,
     )
 

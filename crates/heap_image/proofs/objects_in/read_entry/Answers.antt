@@ -35,7 +35,7 @@ returns-then-id-next-clause-entry g c = λ go.
         refl,
         refl,
         field_bad w16 (breaks_in p r 0) (λ id. nat_le r.next id) (λ id rest. length_decoded p r id rest go) _ _ c.args.at c.in-Ok.id
-            c.in-Ok.ensures.reads no,
+            c.in-Ok.ensures.reads no refl (omega arith),
       ),
       leads_still old c.requires.loading,
     )

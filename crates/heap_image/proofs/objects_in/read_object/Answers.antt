@@ -1,4 +1,4 @@
-use Rattle.std.proofs.Common.{◌≡◌, ◌∙◌, ◌+◌, Some, false, true, refl, subst, sym}
+use Rattle.std.proofs.Common.{◌≡◌, ◌∙◌, ◌+◌, Some, false, true, refl, subst, sym, arith}
 use Rattle.std.specs.Prelude.{replicate}
 use Rattle.std.specs.Bool.{OnFalse, OnTrue}
 use Rattle.std.specs.FinMap.{insert}
@@ -37,7 +37,7 @@ returns-then-not-make_object-clause-entry g c = λ go.
         refl,
         refl,
         field_bad w32 (breaks_in p r 2) (λ n. has_room p r.objects n) (λ n rest. bytes_decoded p r c.args.id n rest go) _ _ (c.args.at + 2) c.in-Ok.n
-            c.in-Ok.ensures.reads (sym c.make_object.ensures.test ∙ no),
+            c.in-Ok.ensures.reads (sym c.make_object.ensures.test ∙ no) refl (omega arith),
       ),
       subst (λ b. OnFalse b (LeadsTo old new (objects_of old))) no c.make_object.ensures.refused,
     )

@@ -16,7 +16,8 @@ chunks-preserved g c = record {
       let is = chunk_is _ _ _ _ x some c.in-Ok.ensures.answer in
       chunk_put (g.K.Sink.written c.args.out.now) (g.K.Sink.written c.chunks.out) (g.K.Sink.written c.put_all.new.sink) x.bytes c.read.new.out
       c.chunks.at c.min-count.result (c.chunks.invariant.written x some) (is ∙ ap (λ n. take n (drop c.chunks.at x.bytes))
-      (length-take-le c.min-count.result c.chunks.room (omega (arith, c.min-count.ensures, c.requires.place, c.chunks.auto.room)))) c.in-Ok-put_all.ensures.puts;
+      (length-take-le c.min-count.result c.chunks.room (omega (arith, c.min-count.ensures, c.requires.place, c.chunks.auto.room))))
+      c.in-Ok-put_all.ensures.puts;
   grows = omega (arith, c.chunks.invariant.grows, c.in-Ok-put_all.ensures.grows);
 }
 

@@ -26,4 +26,5 @@ returns-clause-puts g c =
     (omega (arith, c.push_field.ensures.short, c.push_field-2.ensures.short, ap length c.clear.ensures)) in
     let is = (pushed c.push_text.new.line (encode_lower c.args.bytes.now) _ c.push_hex.result c.push_hex.ensures (omega (arith, c.requires.few))).1 in
     puts_same _ _ _ _ c.put_line.result (write_line c.args.id c.args.at c.args.bytes.now c.clear.new.self c.push_field.new.line c.push_field-2.new.line
-    c.push_text.new.line c.push_hex.new.self c.clear.ensures c.push_field.ensures.text c.push_field-2.ensures.text c.push_text.ensures is) c.put_line.ensures.puts
+    c.push_text.new.line c.push_hex.new.self c.clear.ensures c.push_field.ensures.text c.push_field-2.ensures.text c.push_text.ensures is)
+    c.put_line.ensures.puts

@@ -12,7 +12,8 @@ returns-in-Err-clause-puts g c =
 
 pub ids-init : goal.ids-init
 ids-init g c = record {
-  came = came_first (run_at c.args.session.now (g.H.Manager.state c.args.heap.now)) _ _ _ c.handle-first.ensures.within c.requires.settings c.in-Ok.ensures.puts;
+  came = came_first (run_at c.args.session.now (g.H.Manager.state c.args.heap.now)) _ _ _ c.handle-first.ensures.within c.requires.settings
+      c.in-Ok.ensures.puts;
   grows = c.in-Ok.ensures.grows;
 }
 

@@ -1,0 +1,4 @@
+pub mod Rising
+pub mod OnlyEntries
+pub mod OnlyImages
+pub mod BrokenStays

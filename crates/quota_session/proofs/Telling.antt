@@ -1,0 +1,126 @@
+-- What a command of a session over tasks did and told, put together.
+use Rattle.std.proofs.Common.{◌≡◌, ◌∙◌, ℕ, ◌+◌, ◌-◌, ◌<◌, ◌≤◌, ◌++◌, List, [], ◌∷◌, Some, None, length, take, drop, ap, refl, sym, subst}
+use Rattle.std.specs.Prelude.{Option, Result, Err, codes}
+use Rattle.std.specs.FinMap.{empty, get, len}
+use Rattle.std.proofs.lemmas.List.{set-get_or}
+use Rattle.hex.specs.Hex.{encode_lower}
+use Rattle.cf_base.specs.Settings.{Profile}
+use Rattle.cf_base.specs.declared.answers.AccessFault.{AccessFault}
+use Rattle.cf_base.specs.declared.answers.AccessFault.TheVariants as access
+use Rattle.cf_base.specs.declared.answers.Failed.{Failed}
+use Rattle.cf_io.specs.Feeds.{Puts}
+use Rattle.cf_io.specs.Texts.{Reply, led, said}
+use Rattle.cf_lemmas.proofs.Tests.{le_no, le_yes}
+use Rattle.cf_lemmas.proofs.Values.{len-map_values}
+use Rattle.cf_session.specs.Apply.{outcome_of}
+use Rattle.cf_session.specs.declared.outcome.Outcome.{Outcome}
+use Rattle.cf_session.specs.declared.outcome.Outcome.TheVariants.{Other}
+use Rattle.id_table.specs.Ids.{Ids}
+use Rattle.page_model.specs.Arrangement.{used_pages}
+use Rattle.page_model.specs.Held.{Objects, Placed}
+use Rattle.quota_heap.specs.State.{QuotaState, held_by, objects_by, quota_of}
+use Rattle.quota_heap.specs.Steps.{IsFault, ReadsOfTask}
+use Rattle.quota_model.specs.Refusals.{task_paging}
+use Rattle.run_model.specs.Replies.{read_text, write_text}
+use Rattle.run_model.specs.Reports.{total_line}
+use Rattle.run_model.proofs.CallerLemmas.{AreNames}
+use Rattle.script_loop.specs.Semantics.{snapshot}
+use Rattle.script_reader.specs.declared.command.Command.{Command}
+use Rattle.script_reader.specs.declared.command.Command.TheVariants.{Walk}
+use Rattle.session_model.specs.Applying.{Applies, IsEndedAs, TurnsInPart}
+use Rattle.session_model.specs.Ties.{AreTiedTo}
+use Rattle.session_model.proofs.CallerLemmas.{clash, reported}
+use Rattle.transcript_laws.proofs.CallerLemmas.{by_id_counts}
+use Rattle.quota_session.specs.Layout.{totals_with}
+use Rattle.quota_session.specs.Playing.{quota_tasks}
+use Rattle.quota_session.specs.QuotaRun.{QuotaRun, QuotaStep, StepsPresent, TaskSession, ids_of, quota_run, with_ids}
+use Rattle.quota_session.specs.TaskRun.{TaskRun, TaskStep, class_lines, task_classes, task_object, task_report, task_run, task_totals}
+use Rattle.quota_session.proofs.TaskKept.{bytes_by}
+
+-- a reply that was cut is told as the loop has it
+pub in_part : (old : QuotaRun) (c : Command) (out : List ℕ) (new : QuotaRun) → TurnsInPart QuotaStep old c out new → TurnsInPart QuotaStep old c out new
+in_part old c out new turn = turn
+
+-- a report is neither good nor a refusal
+report_other : (s : QuotaState) (task : ℕ) → Other ≡ outcome_of (task_report s task)
+report_other s task = go (task_classes s task)
+  where
+    go : (cs : List ℕ) → Other ≡ outcome_of (class_lines s task cs ++ said (total_line (task_totals s task)))
+    go [] = refl
+    go (c ∷ cs) = refl
+
+-- ids as they are change nothing
+pub same_ids : (s : TaskSession) → with_ids s (ids_of s s.present) ≡ s
+same_ids s = ap (λ (all : List Ids). record s { ids = all }) (set-get_or s.ids s.present empty)
+
+pub told_walk : (old : QuotaRun) (c : Command) (w y : Option (List ℕ)) (r : Result Unit Failed) (answer : Result Outcome Failed) → c ≡ Walk
+    → Puts w (led [] (task_report old.heap old.session.present)) r y → IsEndedAs r Other answer
+    → Applies quota_tasks (snapshot old w) c answer (snapshot old y)
+told_walk old c w y r answer is put told =
+    subst (λ (k : Command). Applies quota_tasks (snapshot old w) k answer (snapshot old y)) (sym is)
+    (reported quota_tasks in_part old old Walk (task_report old.heap old.session.present) w y r Other answer
+    (record {
+      ids = ids_of old.session old.session.present;
+      step = (refl, refl);
+      whole = ap (λ (s : TaskSession). record old { session = s }) (sym (same_ids old.session));
+    }) (report_other old.heap old.session.present) put told)
+
+-- the object of a handle, where there is one
+abbrev object_at : TaskRun → Option ℕ → Option Placed
+object_at s o = elim o [ None ↦ None | Some h ↦ get (held_by s.heap s.task) h ]
+
+-- a part that the object has, and one that passes its end
+within_text : (x : Placed) (at count : ℕ) → at + count ≤ length x.bytes → read_text (Some x) at count ≡ codes "=" ++ encode_lower (take count (drop at x.bytes))
+within_text x at count le = rw (le_yes (at + count) (length x.bytes) le) refl
+
+past_text : (x : Placed) (at count : ℕ) → length x.bytes < at + count → read_text (Some x) at count ≡ codes "range"
+past_text x at count lt = rw (le_no (at + count) (length x.bytes) lt) refl
+
+-- What a read tells.
+module _ (s : TaskRun) (id at count : ℕ) where
+  object_is : (o : Option ℕ) → o ≡ get s.ids id → task_object s id ≡ object_at s o
+  object_is o is = ap (object_at s) (sym is)
+
+  pub read_unknown : None ≡ get s.ids id → read_text (task_object s id) at count ≡ codes "unknown"
+  read_unknown is = ap (λ (o : Option Placed). read_text o at count) (object_is None is)
+
+  pub read_said : (h : ℕ) (bytes : List ℕ) → Some h ≡ get s.ids id → ReadsOfTask s.heap s.task (record { number = h; from = at }) count bytes
+      → read_text (task_object s id) at count ≡ codes "=" ++ encode_lower bytes
+  read_said h bytes is r =
+      ap (λ (o : Option Placed). read_text o at count) (object_is (Some h) is ∙ r.found)
+      ∙ within_text r.object at count r.within ∙ ap (λ (b : List ℕ). codes "=" ++ encode_lower b) (sym r.value)
+
+  pub read_fault : (h : ℕ) (e : AccessFault) → Some h ≡ get s.ids id → IsFault s.heap s.task (record { number = h; from = at }) count e
+      → read_text (task_object s id) at count ≡ write_text (Err e)
+  read_fault h access.Unknown is none = ap (λ (o : Option Placed). read_text o at count) (object_is (Some h) is ∙ none)
+  read_fault h access.Range is past =
+      ap (λ (o : Option Placed). read_text o at count) (object_is (Some h) is ∙ past.found) ∙ past_text past.object at count past.past
+
+-- the ids of a task are as many as its objects
+pub as_many : (ids : Ids) (m : Objects) → AreTiedTo ids m → len ids ≡ len m
+as_many ids m tied =
+    let names : AreNames ids m = record { named = tied.named; once = tied.once; all = tied.all } in
+    sym (len-map_values _ ids) ∙ (by_id_counts ids m names).count
+
+-- the last line of a report
+pub totals_are : (s : QuotaState) (task live used quota : ℕ) → live ≡ len (objects_by s task) → used ≡ used_pages (task_paging s.profile) (held_by s task)
+    → quota ≡ quota_of s task → total_line (totals_with live used (quota - used)) ≡ total_line (task_totals s task)
+totals_are s task live used quota is so_many own =
+    λ i. total_line (record (task_totals s task) { live = is i; used = so_many i; free = own i - so_many i })
+
+-- the handle of a live id is one of an object
+pub free_found : (s : QuotaState) (task : ℕ) (ids : Ids) (id h : ℕ) → AreTiedTo ids (objects_by s task) → Some h ≡ get ids id
+    → get (held_by s task) h ≡ None → ⊥
+free_found s task ids id h tied live none =
+    let x = tied.named id h (sym live) in
+    clash (get (objects_by s task) h) x.0 x.1 (bytes_by s task h None none)
+
+-- a command of the present task is one of the session
+pub present_step : (old : TaskSession) (heap heap' : QuotaState) (x x' : Ids) (c : Command) (reply : Reply) → x ≡ ids_of old old.present
+    → TaskStep (task_run old.present x heap) c reply (task_run old.present x' heap') → (settings : Option Profile)
+    → StepsPresent (quota_run settings old heap) c reply (quota_run settings (with_ids old x') heap')
+present_step old heap heap' x x' c reply is step settings = record {
+  ids = x';
+  step = subst (λ (i : Ids). TaskStep (task_run old.present i heap) c reply (task_run old.present x' heap')) is step;
+  whole = refl;
+}

@@ -1,0 +1,47 @@
+//! Laws of a session over tasks. The functions do nothing: what each ensures is the law.
+ghost use Rattle.std.specs.Prelude.{◌≡◌, ℕ, ◌<◌, ◌∷◌, List, None, Option, true};
+ghost use Rattle.cf_base.specs.Settings.{Profile};
+ghost use Rattle.cf_io.specs.Texts.{Reply};
+ghost use Rattle.quota_laws.specs.Tasks.{is_for_task, no_tasks, task_reply};
+ghost use Rattle.run_laws.specs.Sayable.{IsSayable};
+ghost use Rattle.script_reader.specs.Commands.{IsWellFormed};
+ghost use Rattle.script_reader.specs.declared.command.Command.{Command};
+ghost use Rattle.quota_session.specs.Alone.{AreAlikeFor, CanBeSaid, after_if, item_of, own_commands, replies_of, script_of, tasks_of};
+ghost use Rattle.quota_session.specs.Playing.{BeginsQuotas, RunsQuotas, at_bound_one};
+ghost use Rattle.quota_session.specs.QuotaRun.{IsGoingQuotas, QuotaRun, QuotaStep};
+
+/// The reply to a call of a task is a function of the settings, its quota and its objects by id:
+/// that of a heap of its own with as many pages as its quota. And a command changes the objects by id
+/// of no task but the present one, and the quota of no task but the one that it names.
+pub fn a_task_is_answered_from_its_own()
+    ensures reply { (old new : QuotaRun) (command : Command) (reply : Reply) → IsGoingQuotas old
+        → is_for_task command ≡ true → QuotaStep old command reply new
+        → reply ≡ task_reply (tasks_of old) old.session.present command }
+    ensures after { (old new : QuotaRun) (command : Command) (reply : Reply) → IsGoingQuotas old
+        → IsSayable command → QuotaStep old command reply new
+        → tasks_of new ≡ after_if (tasks_of old) (item_of old.session.present command) }
+    ensures alike { (task : ℕ) (one other after later : QuotaRun) (command : Command) (reply told : Reply)
+        → IsGoingQuotas one → IsGoingQuotas other → AreAlikeFor task one other
+        → is_for_task command ≡ true
+        → QuotaStep one command reply after → QuotaStep other command told later
+        → told ≡ reply }
+{}
+
+/// Isolation: leave out of a script all calls and quotas of tasks other than one, and every quota
+/// that is refused; the replies to the calls of that task are the same, in the same order.
+pub fn tasks_are_isolated_in_a_script()
+    ensures { (p : Profile) (task : ℕ) (commands : List Command) (first second : Reply) (replies told : List Reply)
+        (end last : Option QuotaRun)
+        → task < 16 → CanBeSaid commands
+        → RunsQuotas None (script_of p commands) (first ∷ replies) end
+        → RunsQuotas None (script_of p (own_commands task (no_tasks (at_bound_one p)) 0 commands)) (second ∷ told) last
+        → replies_of task 0 (own_commands task (no_tasks (at_bound_one p)) 0 commands) told
+        ≡ replies_of task 0 commands replies }
+{}
+
+/// A run that began goes on, and it goes on after each command that a script can say.
+pub fn a_run_goes_on()
+    ensures begun { (p : Profile) (new : QuotaRun) → BeginsQuotas p new → IsGoingQuotas new }
+    ensures going { (old new : QuotaRun) (command : Command) (reply : Reply) → IsGoingQuotas old
+        → IsWellFormed command → QuotaStep old command reply new → IsGoingQuotas new }
+{}
