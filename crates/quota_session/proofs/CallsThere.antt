@@ -1,13 +1,13 @@
 -- Each call of a task has its step: a malloc that isn't refused has a place, a free that must move an object can, and the words are there.
-use Rattle.std.proofs.Common.{◌≡◌, ◌≢◌, ℕ, zero, suc, ◌+◌, ◌-◌, ◌*◌, ◌/◌, ◌%◌, ◌<◌, ◌≤◌, List, [], ◌∷◌, Bool, true, false, cond, Some, None}
+use Rattle.std.proofs.Common.{◌≡◌, ◌≢◌, ℕ, zero, suc, ◌+◌, ◌-◌, ◌*◌, ◌/◌, ◌%◌, ◌<◌, ◌≤◌, List, Bool, true, false, cond, Some, None}
 use Rattle.std.proofs.Common.{length, get_or, set, map, arith, sym, ◌∙◌, ap, refl, subst, inl, inr}
-use Rattle.std.specs.Prelude.{◌⊎◌, ◌&&◌, IsTrue, Option, Result, Ok, Err, nat_eq, nat_le, nat_lt, sum_by}
+use Rattle.std.specs.Prelude.{◌&&◌, IsTrue, Option, Result, Ok, Err, nat_eq, nat_le, nat_lt}
 use Rattle.std.specs.List.{range_with_len}
 use Rattle.std.proofs.lemmas.Bool.{cases_eq, cases_lt, false≢true}
 use Rattle.std.proofs.lemmas.Bool.Decides.{nat_tests}
 use Rattle.std.proofs.lemmas.List.{get_or_past, length-set}
 use Rattle.std.proofs.lemmas.List.FromFn.{get_or-map-range_with_len, length-map-range_with_len}
-use Rattle.std.specs.FinMap.{get, insert, len, remove}
+use Rattle.std.specs.FinMap.{get, insert, len}
 use Rattle.cf_base.specs.Classes.{need}
 use Rattle.cf_base.specs.Limits.{is_page_size}
 use Rattle.cf_base.specs.Settings.{Profile}
@@ -19,18 +19,19 @@ use Rattle.cf_base.specs.declared.answers.Refusal.{Refusal}
 use Rattle.cf_base.specs.declared.answers.Refusal.TheVariants as refusal
 use Rattle.cf_lemmas.proofs.Ranges.{one, sum_at_least, sum_le}
 use Rattle.cf_lemmas.proofs.Searches.{few_keys, fresh_key}
-use Rattle.cf_lemmas.proofs.Tests.{and_false, eq_no, eq_yes, lt_no, lt_yes}
+use Rattle.cf_lemmas.proofs.Tests.{and_false, eq_no, eq_yes, lt_yes}
 use Rattle.cf_model.specs.State.{region_words}
-use Rattle.cf_model.specs.Steps.{Part, number_of}
-use Rattle.page_model.specs.Arrangement.{IsSound, class_at, home_pages, live, not_full_pages, objects_on, pages_needed, pages_needed_with, standing_on, used_pages}
+use Rattle.page_model.specs.Arrangement.{IsSound, class_at, home_pages, live, not_full_pages, objects_on, pages_needed, pages_needed_with}
+use Rattle.page_model.specs.Arrangement.{standing_on, used_pages}
 use Rattle.page_model.specs.Bytes.{written}
 use Rattle.page_model.specs.Counts.{Stand, ceil_div}
-use Rattle.page_model.specs.Held.{Held, Objects, Placed, objects}
-use Rattle.page_model.specs.Image.{Clears, IsOutside, IsSlotImage, MovesWords, Rewrites, header_word, object_word, slot_for}
+use Rattle.page_model.specs.Held.{Held, Placed, objects}
+use Rattle.page_model.specs.Image.{IsOutside, IsSlotImage, MovesWords, Rewrites, header_word, object_word, slot_for}
 use Rattle.page_model.specs.Paging.{IsPaging, Paging, address_of, bound_of, class_for, classes, page_of, slot_words, slots_of}
 use Rattle.page_model.specs.Steps.{IsFreePlace, Moves, Request, without, zeros_at}
-use Rattle.page_model.proofs.CallerLemmas.{IsOpen, address_is_slot, between_multiples, can_hold_one, class_fits, len-objects, nothing_on, on_page, open_page}
-use Rattle.page_model.proofs.CallerLemmas.{class_holds, length-written, mover_is_other, slot_inside, slots_some, sound_apart, sound_stand, standing, sum_plus, used_at_one}
+use Rattle.page_model.proofs.CallerLemmas.{IsOpen, address_is_slot, between_multiples, class_fits, len-objects, nothing_on, on_page, open_page}
+use Rattle.page_model.proofs.CallerLemmas.{class_holds, length-written, mover_is_other, slot_inside, slots_some, sound_apart, sound_stand, standing}
+use Rattle.page_model.proofs.CallerLemmas.{sum_plus, used_at_one}
 use Rattle.page_model.proofs.CallerLemmas.{vacant_where_less}
 use Rattle.quota_heap.specs.State.{KeepsTasks, QuotaState, held_by, objects_by, quota_of}
 use Rattle.quota_heap.specs.Steps.{FreesOfTask, IsMallocStep, IsWriteStep, with_held}
@@ -173,7 +174,8 @@ module _ (law : PageLaw) (s : QuotaState) (rules : KeepsTasks s) (task : ℕ) (l
   sound = (rules.shared).sound task
 
   -- other objects in other words
-  rules_with : (held : Held) (words : List ℕ) → IsShared s.profile held × AreQuotas s.profile s.quotas held → length words ≡ region_words s.profile → IsSlotImage p held words → KeepsTasks (with_held s held words)
+  rules_with : (held : Held) (words : List ℕ) → IsShared s.profile held × AreQuotas s.profile s.quotas held
+      → length words ≡ region_words s.profile → IsSlotImage p held words → KeepsTasks (with_held s held words)
   rules_with held words share long slots = record {
     opened = rules.opened;
     page_size = rules.page_size;

@@ -257,7 +257,8 @@ script_told p task commands first replies end can run =
     ∙ (λ i. replies_to task (begun_is p s begins i) (task_items (zero' i) commands))
 
 -- the replies to a task are the same without the others
-pub isolated : IsolationLaw → (p : Profile) (task : ℕ) (commands : List Command) (first second : Reply) (replies told_ : List Reply) (end last : Option QuotaRun) → task < 16
+pub isolated : IsolationLaw → (p : Profile) (task : ℕ) (commands : List Command) (first second : Reply)
+    (replies told_ : List Reply) (end last : Option QuotaRun) → task < 16
     → CanBeSaid commands
     → RunsQuotas None (script_of p commands) (first ∷ replies) end
     → RunsQuotas None (script_of p (own_commands task (no_tasks (at_bound_one p)) 0 commands)) (second ∷ told_) last

@@ -1,8 +1,8 @@
 -- Each command of a run over tasks has its turn, and a run goes on to the end of its items.
-use Rattle.std.proofs.Common.{◌≡◌, ◌++◌, ℕ, ◌+◌, ◌*◌, ◌<◌, ◌≤◌, List, [], ◌∷◌, Some, None, length, replicate, arith, refl, sym, ◌∙◌, ap, subst, inl, inr}
-use Rattle.std.specs.Prelude.{⊤, Bool, true, Option, option_map, Result, Ok, Err, codes}
+use Rattle.std.proofs.Common.{◌≡◌, ℕ, ◌<◌, ◌≤◌, List, [], ◌∷◌, Some, None, arith, refl, sym, subst, inl, inr}
+use Rattle.std.specs.Prelude.{⊤, Bool, Option, codes}
 use Rattle.std.specs.Option.{MatchOption}
-use Rattle.std.specs.FinMap.{empty, get, insert, remove}
+use Rattle.std.specs.FinMap.{empty, get, remove}
 use Rattle.std.proofs.lemmas.List.{length-replicate}
 use Rattle.std.proofs.lemmas.Bool.{cases_lt}
 use Rattle.cf_base.specs.Classes.{need}
@@ -24,18 +24,18 @@ use Rattle.quota_model.specs.declared.answers.Need.{Need}
 use Rattle.quota_model.specs.declared.answers.QuotaFault.{QuotaFault}
 use Rattle.quota_model.proofs.CallerLemmas.{enough_iff, first_quotas, first_shared, granted_quotas, none_iff}
 use Rattle.run_laws.specs.Sayable.{AreSayable, IsSayable, IsSayableItem}
-use Rattle.run_laws.proofs.CallerLemmas.{items_sayable, sayable_behind}
+use Rattle.run_laws.proofs.CallerLemmas.{items_sayable}
 use Rattle.run_model.specs.Plays.{PlayStep}
 use Rattle.run_model.specs.Replies.{malloc_text, write_text}
 use Rattle.run_model.specs.Steps.{ids_given}
 use Rattle.run_model.specs.Texts.{bad_line}
-use Rattle.run_model.proofs.CallerLemmas.{run_joined}
 use Rattle.script_reader.specs.Items.{Item, asks, bad, items, starts}
 use Rattle.script_reader.specs.declared.command.Command.{Command}
 use Rattle.script_reader.specs.declared.command.Command.TheVariants as command
 use Rattle.session_model.proofs.CallerLemmas.{clash}
 use Rattle.quota_session.specs.Playing.{BeginsAtOne, BeginsQuotas, RunsQuotas, at_bound_one}
-use Rattle.quota_session.specs.QuotaRun.{IsGoingQuotas, QuotaRun, QuotaStep, StepsPresent, admission_text, first_session, need_text, needs_of, present_run, quota_fault}
+use Rattle.quota_session.specs.QuotaRun.{IsGoingQuotas, QuotaRun, QuotaStep, StepsPresent, admission_text, first_session, need_text, needs_of}
+use Rattle.quota_session.specs.QuotaRun.{present_run, quota_fault}
 use Rattle.quota_session.specs.QuotaRun.{with_ids, with_need, with_present}
 use Rattle.quota_session.specs.TaskRun.{FreesIdOfTask, MallocsForTask, StaysTask, TaskRun, TaskStep, WritesIdOfTask, task_run, task_told}
 use Rattle.quota_session.proofs.CallsThere.{PageLaw, free_there, malloc_there, write_there}
@@ -202,8 +202,8 @@ step_on None (asks c) reply new on can step = subst IsOn (sym step.1) tt
 step_on (Some old) (asks c) reply new on can step = subst IsOn (sym step.2) (still_going old on c reply step.0 can.formed step.1)
 step_on old (bad n) reply new on can step = subst IsOn (sym step.1) on
 
-run_on : (old : Option QuotaRun) (items : List Item) (replies : List Reply) (new : Option QuotaRun) → IsOn old → AreSayable items → RunsQuotas old items replies new
-    → IsOn new
+run_on : (old : Option QuotaRun) (items : List Item) (replies : List Reply) (new : Option QuotaRun) → IsOn old → AreSayable items
+    → RunsQuotas old items replies new → IsOn new
 run_on old [] replies new on can run = subst IsOn (sym run.1) on
 run_on old (item ∷ rest) replies new on can run = run_on run.0 rest run.2 new (step_on old item run.1 run.0 on can.0 run.3) can.1 run.5
 
