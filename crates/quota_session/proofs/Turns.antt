@@ -1,5 +1,5 @@
 -- Each command of a run over tasks has its turn, and a run goes on to the end of its items.
-use Rattle.std.proofs.Common.{◌≡◌, ℕ, ◌<◌, ◌≤◌, List, [], ◌∷◌, Some, None, arith, refl, sym, subst, inl, inr}
+use Rattle.std.proofs.Common.{◌≡◌, ◌++◌, ℕ, ◌<◌, ◌≤◌, List, [], ◌∷◌, Some, None, arith, refl, sym, subst, inl, inr}
 use Rattle.std.specs.Prelude.{⊤, Bool, Option, codes}
 use Rattle.std.specs.Option.{MatchOption}
 use Rattle.std.specs.FinMap.{empty, get, remove}
@@ -24,11 +24,12 @@ use Rattle.quota_model.specs.declared.answers.Need.{Need}
 use Rattle.quota_model.specs.declared.answers.QuotaFault.{QuotaFault}
 use Rattle.quota_model.proofs.CallerLemmas.{enough_iff, first_quotas, first_shared, granted_quotas, none_iff}
 use Rattle.run_laws.specs.Sayable.{AreSayable, IsSayable, IsSayableItem}
-use Rattle.run_laws.proofs.CallerLemmas.{items_sayable}
+use Rattle.run_laws.proofs.CallerLemmas.{items_sayable, sayable_behind}
 use Rattle.run_model.specs.Plays.{PlayStep}
 use Rattle.run_model.specs.Replies.{malloc_text, write_text}
 use Rattle.run_model.specs.Steps.{ids_given}
 use Rattle.run_model.specs.Texts.{bad_line}
+use Rattle.run_model.proofs.CallerLemmas.{run_joined}
 use Rattle.script_reader.specs.Items.{Item, asks, bad, items, starts}
 use Rattle.script_reader.specs.declared.command.Command.{Command}
 use Rattle.script_reader.specs.declared.command.Command.TheVariants as command
@@ -222,5 +223,23 @@ run_there law old (item ∷ rest) on can =
     let more = run_there law first.1 rest (step_on old item first.0 first.1 on can.0 first.2) can.1 in
     (first.0 ∷ more.0, more.1, (first.1, first.0, more.0, first.2, refl, more.2))
 
+-- the items that come first can be said
+sayable_before : (done after : List Item) → AreSayable (done ++ after) → AreSayable done
+sayable_before [] after can = tt
+sayable_before (item ∷ rest) after can = (can.0, sayable_before rest after can.1)
+
 pub runs_there : PageLaw → (given : List ℕ) (ended : Bool) → (replies : List Reply) × (new : Option QuotaRun) × RunsQuotas None (items given ended) replies new
 runs_there law given ended = run_there law None (items given ended) tt (items_sayable given ended)
+
+pub runs_on : PageLaw → (given : List ℕ) (ended : Bool) (done after : List Item) (replies : List Reply) (mid : Option QuotaRun)
+    → items given ended ≡ done ++ after → RunsQuotas None done replies mid
+    → (more : List Reply) × (new : Option QuotaRun) × RunsQuotas None (items given ended) (replies ++ more) new
+runs_on law given ended done after replies mid parts run =
+    let all = subst AreSayable parts (items_sayable given ended) in
+    let can = sayable_behind done after all in
+    let rest = run_there law mid after (run_on None done replies mid tt (sayable_before done after all) run) can in (
+      rest.0,
+      rest.1,
+      subst (λ (i : List Item). RunsQuotas None i (replies ++ rest.0) rest.1) (sym parts)
+          (run_joined BeginsAtOne QuotaStep None done after replies rest.0 mid rest.1 run rest.2),
+    )

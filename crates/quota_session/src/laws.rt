@@ -1,12 +1,12 @@
 //! Laws of a session over tasks. What each function ensures is the law; it calls the laws that it follows from.
-ghost use Rattle.std.specs.Prelude.{◌≡◌, ℕ, ◌<◌, ◌∷◌, Bool, List, None, Option, true};
+ghost use Rattle.std.specs.Prelude.{◌≡◌, ℕ, ◌<◌, ◌∷◌, ◌++◌, Bool, List, None, Option, true};
 ghost use Rattle.cf_base.specs.Settings.{Profile};
 ghost use Rattle.cf_io.specs.Texts.{Reply};
 ghost use Rattle.cf_model.specs.Rules.{AreInRange};
 ghost use Rattle.quota_laws.specs.Tasks.{is_for_task, no_tasks, task_reply};
 ghost use Rattle.run_laws.specs.Sayable.{IsSayable};
 ghost use Rattle.script_reader.specs.Commands.{IsWellFormed};
-ghost use Rattle.script_reader.specs.Items.{items};
+ghost use Rattle.script_reader.specs.Items.{Item, items};
 ghost use Rattle.script_reader.specs.declared.command.Command.{Command};
 ghost use Rattle.quota_session.specs.Alone.{AreAlikeFor, CanBeSaid, after_if, item_of, own_commands, replies_of, script_of, tasks_of};
 ghost use Rattle.quota_session.specs.Playing.{BeginsQuotas, RunsQuotas, at_bound_one};
@@ -61,10 +61,14 @@ pub fn each_command_has_its_turn()
     a_page_is_there_for_each_quota();
 }
 
-/// There is a run over the items of any bytes.
-pub fn there_is_a_run_of_tasks()
-    ensures { (given : List ℕ) (ended : Bool)
+/// There is a run over the items of any bytes, and each run over a prefix of them can go on to the end.
+pub fn a_run_of_tasks_can_always_go_on()
+    ensures there { (given : List ℕ) (ended : Bool)
         → (replies : List Reply) × (new : Option QuotaRun) × RunsQuotas None (items given ended) replies new }
+    ensures on { (given : List ℕ) (ended : Bool) (done after : List Item) (replies : List Reply)
+        (mid : Option QuotaRun)
+        → items given ended ≡ done ++ after → RunsQuotas None done replies mid
+        → (more : List Reply) × (new : Option QuotaRun) × RunsQuotas None (items given ended) (replies ++ more) new }
 {
     a_page_is_there_for_each_quota();
 }
