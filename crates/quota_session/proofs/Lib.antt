@@ -6,3 +6,5 @@ pub mod ClassLines
 pub mod AtOne
 pub mod OwnTask
 pub mod ScriptTold
+pub mod CallsThere
+pub mod Turns

@@ -1,5 +1,5 @@
 -- The replies to a task in a script are those that its calls get on the tasks by id, so no other task is seen in them.
-use Rattle.std.proofs.Common.{◌≡◌, ℕ, ◌<◌, ◌≤◌, List, [], ◌∷◌, Some, None, Bool, true, false, cond, arith, sym, ◌∙◌, ap, refl}
+use Rattle.std.proofs.Common.{◌≡◌, ℕ, ◌<◌, ◌≤◌, List, [], ◌∷◌, Some, None, Bool, true, false, cond, get_or, arith, sym, ◌∙◌, ap, refl}
 use Rattle.std.proofs.Common.{subst, inl, inr}
 use Rattle.std.specs.Prelude.{Option, ◌&&◌, map, nat_eq, nat_lt, not, slice_set, sum}
 use Rattle.std.proofs.lemmas.Bool.{cases_eq}
@@ -14,9 +14,7 @@ use Rattle.id_table.specs.Ids.{Ids}
 use Rattle.page_model.specs.Held.{Objects}
 use Rattle.quota_heap.specs.State.{empty_state, objects_by}
 use Rattle.quota_laws.specs.Runs.{is_accepted, own_items, replies_to}
-use Rattle.quota_laws.specs.Tasks.{Tasks, after_item, calls, is_for_task, no_tasks, quotas_after, set_refusal, sets, task_leaves, task_reply}
-use Rattle.quota_laws.proofs.Alone.{same_reply}
-use Rattle.quota_laws.proofs.Isolated.{isolated_from_nothing}
+use Rattle.quota_laws.specs.Tasks.{TaskItem, Tasks, after_item, calls, is_for_task, no_tasks, quotas_after, set_refusal, sets, task_leaves, task_reply}
 use Rattle.quota_model.specs.Refusals.{task_paging}
 use Rattle.quota_model.specs.declared.answers.QuotaFault.{QuotaFault}
 use Rattle.quota_model.specs.declared.answers.QuotaFault.TheVariants.{Sum, Used}
@@ -120,13 +118,23 @@ module _ (old : QuotaRun) (going : IsGoingQuotas old) where
   reply_told (command.Admit task) reply new own step = absurd (let e : false ≡ true = own in cc)
   reply_told c reply new own step = call_reply c reply new step
 
+-- a reply to a task follows from the settings, its quota and its objects
+abbrev pub ReplyLaw : Type 0
+ReplyLaw = (one other : Tasks) (task : ℕ) (command : Command) → other.profile ≡ one.profile → get_or other.quotas task 0 ≡ get_or one.quotas task 0
+    → other.objects task ≡ one.objects task → task_reply other task command ≡ task_reply one task command
+
+-- the replies to a task are the same without the others
+abbrev pub IsolationLaw : Type 0
+IsolationLaw = (s : Profile) (task : ℕ) (items : List TaskItem) → task < 16
+    → replies_to task (no_tasks s) (own_items task (no_tasks s) items) ≡ replies_to task (no_tasks s) items
+
 -- two runs that are alike for a task answer it alike
-pub alike_replies : (task : ℕ) (one other after later : QuotaRun) (c : Command) (reply told_ : Reply) → IsGoingQuotas one → IsGoingQuotas other
+pub alike_replies : ReplyLaw → (task : ℕ) (one other after later : QuotaRun) (c : Command) (reply told_ : Reply) → IsGoingQuotas one → IsGoingQuotas other
     → AreAlikeFor task one other → is_for_task c ≡ true → QuotaStep one c reply after → QuotaStep other c told_ later → told_ ≡ reply
-alike_replies task one other after later c reply told_ goes going a own step more =
+alike_replies law task one other after later c reply told_ goes going a own step more =
     reply_told other going c told_ later own more
     ∙ ap (λ v. task_reply (tasks_of other) v c) a.there
-    ∙ same_reply (tasks_of one) (tasks_of other) task a.profile a.quota a.objects c
+    ∙ law (tasks_of one) (tasks_of other) task c a.profile a.quota a.objects
     ∙ sym (reply_told one goes c reply after own step ∙ ap (λ v. task_reply (tasks_of one) v c) a.here)
 
 module _ (task : ℕ) where
@@ -249,14 +257,15 @@ script_told p task commands first replies end can run =
     ∙ (λ i. replies_to task (begun_is p s begins i) (task_items (zero' i) commands))
 
 -- the replies to a task are the same without the others
-pub isolated : (p : Profile) (task : ℕ) (commands : List Command) (first second : Reply) (replies told_ : List Reply) (end last : Option QuotaRun) → task < 16
+pub isolated : IsolationLaw → (p : Profile) (task : ℕ) (commands : List Command) (first second : Reply)
+    (replies told_ : List Reply) (end last : Option QuotaRun) → task < 16
     → CanBeSaid commands
     → RunsQuotas None (script_of p commands) (first ∷ replies) end
     → RunsQuotas None (script_of p (own_commands task (no_tasks (at_bound_one p)) 0 commands)) (second ∷ told_) last
     → replies_of task 0 (own_commands task (no_tasks (at_bound_one p)) 0 commands) told_ ≡ replies_of task 0 commands replies
-isolated p task commands first second replies told_ end last lt can run fewer =
+isolated law p task commands first second replies told_ end last lt can run fewer =
     let own = own_commands task (no_tasks (at_bound_one p)) 0 commands in
     script_told p task own second told_ last (own_can task commands (no_tasks (at_bound_one p)) 0 can) fewer
     ∙ ap (replies_to task (no_tasks (at_bound_one p))) (own_are task commands (no_tasks (at_bound_one p)) 0)
-    ∙ isolated_from_nothing task lt (at_bound_one p) (task_items 0 commands)
+    ∙ law (at_bound_one p) task (task_items 0 commands) lt
     ∙ sym (script_told p task commands first replies end can run)

@@ -1,14 +1,19 @@
-//! Laws of a session over tasks. The functions do nothing: what each ensures is the law.
-ghost use Rattle.std.specs.Prelude.{◌≡◌, ℕ, ◌<◌, ◌∷◌, List, None, Option, true};
+//! Laws of a session over tasks. What each function ensures is the law; it calls the laws that it follows from.
+ghost use Rattle.std.specs.Prelude.{◌≡◌, ℕ, ◌<◌, ◌∷◌, ◌++◌, Bool, List, None, Option, true};
 ghost use Rattle.cf_base.specs.Settings.{Profile};
 ghost use Rattle.cf_io.specs.Texts.{Reply};
+ghost use Rattle.cf_model.specs.Rules.{AreInRange};
 ghost use Rattle.quota_laws.specs.Tasks.{is_for_task, no_tasks, task_reply};
 ghost use Rattle.run_laws.specs.Sayable.{IsSayable};
 ghost use Rattle.script_reader.specs.Commands.{IsWellFormed};
+ghost use Rattle.script_reader.specs.Items.{Item, items};
 ghost use Rattle.script_reader.specs.declared.command.Command.{Command};
 ghost use Rattle.quota_session.specs.Alone.{AreAlikeFor, CanBeSaid, after_if, item_of, own_commands, replies_of, script_of, tasks_of};
 ghost use Rattle.quota_session.specs.Playing.{BeginsQuotas, RunsQuotas, at_bound_one};
 ghost use Rattle.quota_session.specs.QuotaRun.{IsGoingQuotas, QuotaRun, QuotaStep};
+
+use quota_laws::{a_reply_follows_from_the_task_alone, tasks_are_isolated};
+use quota_model::a_page_is_there_for_each_quota;
 
 /// The reply to a call of a task is a function of the settings, its quota and its objects by id:
 /// that of a heap of its own with as many pages as its quota. And a command changes the objects by id
@@ -25,7 +30,9 @@ pub fn a_task_is_answered_from_its_own()
         → is_for_task command ≡ true
         → QuotaStep one command reply after → QuotaStep other command told later
         → told ≡ reply }
-{}
+{
+    a_reply_follows_from_the_task_alone();
+}
 
 /// Isolation: leave out of a script all calls and quotas of tasks other than one, and every quota
 /// that is refused; the replies to the calls of that task are the same, in the same order.
@@ -37,11 +44,31 @@ pub fn tasks_are_isolated_in_a_script()
         → RunsQuotas None (script_of p (own_commands task (no_tasks (at_bound_one p)) 0 commands)) (second ∷ told) last
         → replies_of task 0 (own_commands task (no_tasks (at_bound_one p)) 0 commands) told
         ≡ replies_of task 0 commands replies }
-{}
+{
+    tasks_are_isolated();
+}
 
-/// A run that began goes on, and it goes on after each command that a script can say.
-pub fn a_run_goes_on()
+/// A run begins under any settings in their ranges; and from each state of a run that goes on every
+/// command that a script can say gets a reply, after which the run goes on.
+pub fn each_command_has_its_turn()
+    ensures begins { (p : Profile) → AreInRange p → (new : QuotaRun) × BeginsQuotas p new }
     ensures begun { (p : Profile) (new : QuotaRun) → BeginsQuotas p new → IsGoingQuotas new }
+    ensures answered { (old : QuotaRun) (command : Command) → IsGoingQuotas old → IsSayable command
+        → (reply : Reply) × (new : QuotaRun) × QuotaStep old command reply new }
     ensures going { (old new : QuotaRun) (command : Command) (reply : Reply) → IsGoingQuotas old
         → IsWellFormed command → QuotaStep old command reply new → IsGoingQuotas new }
-{}
+{
+    a_page_is_there_for_each_quota();
+}
+
+/// There is a run over the items of any bytes, and each run over a prefix of them can go on to the end.
+pub fn a_run_of_tasks_can_always_go_on()
+    ensures there { (given : List ℕ) (ended : Bool)
+        → (replies : List Reply) × (new : Option QuotaRun) × RunsQuotas None (items given ended) replies new }
+    ensures on { (given : List ℕ) (ended : Bool) (done after : List Item) (replies : List Reply)
+        (mid : Option QuotaRun)
+        → items given ended ≡ done ++ after → RunsQuotas None done replies mid
+        → (more : List Reply) × (new : Option QuotaRun) × RunsQuotas None (items given ended) (replies ++ more) new }
+{
+    a_page_is_there_for_each_quota();
+}

@@ -8,4 +8,4 @@ pub returns-clause-after : goal.returns-clause-after
 returns-clause-after c = λ old new command reply going can step. tasks_after old going command reply new can step
 
 pub returns-clause-alike : goal.returns-clause-alike
-returns-clause-alike c = alike_replies
+returns-clause-alike c = alike_replies c.a_reply_follows_from_the_task_alone.ensures.reply
