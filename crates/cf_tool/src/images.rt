@@ -1,10 +1,8 @@
-//! Modes `save` and `load`. Their manager stands behind a box as those handed in do, so that the code of
-//! a session over one that doesn't is the bench's alone, and stands in its loop.
+//! Modes `save` and `load`.
 ghost use Rattle.std.specs.Prelude.{List};
 ghost use Rattle.cf_model.specs.State.{HeapState};
 ghost use Rattle.cf_tool.specs.TopOutcome.{Ends, Loads, Saves, handed, sink_at, source_at};
 
-use crate::boxed::Boxed;
 use cf_base::Status;
 use cf_io::{Sink, Source};
 use cf_session::Session;
@@ -36,10 +34,7 @@ pub fn save_image<R: Runtime, S: Source, K: Sink>(
         player: session,
         settings: None,
     };
-    let Ok(inner) = Box::new(alloc, MovingHeap::closed(alloc)) else {
-        return Status::OutOfMemory;
-    };
-    let mut heap = Boxed { inner };
+    let mut heap = MovingHeap::closed(alloc);
     save_script(rt, &mut player, &mut heap, source, sink)
 }
 
@@ -61,9 +56,6 @@ pub fn load_image<R: Runtime, S: Source, K: Sink>(
     let Ok(mut session) = Session::start(rt, alloc) else {
         return Status::OutOfMemory;
     };
-    let Ok(inner) = Box::new(alloc, MovingHeap::closed(alloc)) else {
-        return Status::OutOfMemory;
-    };
-    let mut heap = Boxed { inner };
+    let mut heap = MovingHeap::closed(alloc);
     load_script(rt, &mut session, &mut heap, source, sink)
 }
