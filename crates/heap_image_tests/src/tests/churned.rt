@@ -1,6 +1,7 @@
 //! Heaps on which many drawn commands were done.
 ghost use Rattle.std.specs.Prelude.{◌≡◌, ◌<◌, ◌≤◌};
 ghost use Rattle.cf_base.specs.Settings.{Profile};
+ghost use Rattle.cf_base.specs.declared.kind.Kind.TheVariants.{Moving};
 ghost use Rattle.cf_session.specs.Apply.{run_at};
 ghost use Rattle.run_model.specs.Sessions.{IsGoing};
 ghost use Rattle.heap_image_tests.specs.Ready.{IsReady};
@@ -13,7 +14,10 @@ use moving_heap::MovingHeap;
 use rand_core::{Rng, SeedableRng};
 use rand_xoshiro::SplitMix64;
 use script_reader::CommandRef;
+use std::alloc::Global;
+use std::rt::Runtime;
 use std::test::Fail;
+use wrong_answers::Wrong;
 
 /// So many commands are done on a heap.
 const COMMANDS: u32 = 3_000;
@@ -35,39 +39,25 @@ fn length(draw: &mut SplitMix64) -> u32 {
     }
 }
 
-/// Writes up to 40 bytes, which may pass the end of the object.
-fn write<H: Manager>(heap: &mut H, session: &mut Session, draw: &mut SplitMix64, id: u16)
-    requires { IsGoing (run_at session.old (H.state heap.old)) }
-    ensures going { IsGoing (run_at session.new (H.state heap.new)) }
-    ensures ready { (p : Profile) → IsReady p (run_at session.old (H.state heap.old)) → IsReady p (run_at session.new (H.state heap.new)) }
-{
-    let bytes = [below(draw, 256) as u8; 40];
-    let n = 1 + below(draw, 40) as usize;
-    let at = below(draw, 160);
-    give(
-        heap,
-        session,
-        CommandRef::Write {
-            id,
-            at,
-            bytes: &bytes[..n],
-        },
-    );
-}
-
-/// A malloc, a free, a resize or a write, drawn, of one of 64 ids. Some are refused.
-fn change<H: Manager>(heap: &mut H, session: &mut Session, draw: &mut SplitMix64)
-    requires { IsGoing (run_at session.old (H.state heap.old)) }
-    ensures going { IsGoing (run_at session.new (H.state heap.new)) }
-    ensures ready { (p : Profile) → IsReady p (run_at session.old (H.state heap.old)) → IsReady p (run_at session.new (H.state heap.new)) }
-{
+/// A malloc, a free, a resize or a write, drawn, of one of 64 ids. Some are refused: a write is of up
+/// to 40 bytes, which may pass the end of the object.
+fn drawn<'a>(draw: &mut SplitMix64, bytes: &'a [u8; 40]) -> CommandRef<'a> {
     let id = 1_040 * below(draw, 64) as u16;
-    let bytes = length(draw);
     match below(draw, 8) {
-        0 | 1 | 2 => give(heap, session, CommandRef::Malloc { id, bytes }),
-        3 | 4 => give(heap, session, CommandRef::Free { id }),
-        5 => give(heap, session, CommandRef::Resize { id, bytes }),
-        _ => write(heap, session, draw, id),
+        0 | 1 | 2 => CommandRef::Malloc {
+            id,
+            bytes: length(draw),
+        },
+        3 | 4 => CommandRef::Free { id },
+        5 => CommandRef::Resize {
+            id,
+            bytes: length(draw),
+        },
+        _ => CommandRef::Write {
+            id,
+            at: below(draw, 160),
+            bytes: &bytes[..1 + below(draw, 40) as usize],
+        },
     }
 }
 
@@ -77,7 +67,46 @@ fn churn<H: Manager>(heap: &mut H, session: &mut Session, draw: &mut SplitMix64)
     ensures { (p : Profile) → IsReady p (run_at session.old (H.state heap.old)) → IsReady p (run_at session.new (H.state heap.new)) }
 {
     'commands: for _i in 0..COMMANDS {
-        change(heap, session, draw);
+        let bytes = [below(draw, 256) as u8; 40];
+        give(heap, session, drawn(draw, &bytes));
+    }
+}
+
+/// The image of what lives in the heap after many drawn commands, with this bound.
+fn churned_image<R: Runtime, H: Manager>(
+    rt: &R,
+    alloc: Global,
+    heap: &mut H,
+    k: u32,
+) -> Result<Vec<u8>, Wrong>
+    requires { (H.state heap.old).kind ≡ Moving }
+    ensures { (H.state heap.new).kind ≡ Moving }
+{
+    let settings = Settings::check(24, 512, k, 48)?;
+    let mut session = Session::start(rt, alloc)?;
+    open(heap, &session, &settings)?;
+    churn(
+        heap,
+        &mut session,
+        &mut SplitMix64::seed_from_u64(u64::from(k)),
+    );
+    image(rt, alloc, heap, &session, &settings)
+}
+
+/// Whether the image is loaded and saved again as it is, by at most so many bytes at a time.
+fn is_saved_again<R: Runtime, H: Manager>(
+    rt: &R,
+    alloc: Global,
+    heap: &mut H,
+    image: &[u8],
+    most: usize,
+) -> Result<bool, Wrong>
+    requires { (H.state heap.old).kind ≡ Moving }
+    ensures { (H.state heap.new).kind ≡ Moving }
+{
+    match load_and_save(rt, alloc, heap, image, most)? {
+        Ok(again) => Ok(again.as_slice() == image),
+        Err(_) => Ok(false),
     }
 }
 
@@ -85,22 +114,12 @@ fn churn<H: Manager>(heap: &mut H, session: &mut Session, draw: &mut SplitMix64)
 #[test]
 fn what_was_saved_is_loaded_and_saved_again(rt: HostRuntime) -> Result<(), Fail> {
     let alloc = rt.alloc();
-    let mut other = MovingHeap::closed(alloc);
+    let mut heap = MovingHeap::closed(alloc);
     'bounds: for k in [1, 2, 64] {
-        let settings = Settings::check(24, 512, k, 48)?;
-        let mut heap = MovingHeap::closed(alloc);
-        let mut session = Session::start(&rt, alloc)?;
-        open(&mut heap, &session, &settings)?;
-        let mut draw = SplitMix64::seed_from_u64(u64::from(k));
-        churn(&mut heap, &mut session, &mut draw);
-        let saved = image(&rt, alloc, &heap, &session, &settings)?;
+        let saved = churned_image(&rt, alloc, &mut heap, k)?;
         assert!(rt; 2_000 < saved.len(), "few objects at the bound {k}");
         'chunks: for most in [1, 7, 4_096] {
-            let again = load_and_save(&rt, alloc, &mut other, saved.as_slice(), most)?;
-            let same = match &again {
-                Ok(image) => image.as_slice() == saved.as_slice(),
-                Err(_) => false,
-            };
+            let same = is_saved_again(&rt, alloc, &mut heap, saved.as_slice(), most)?;
             assert!(rt; same, "at the bound {k}, by {most} bytes");
         }
     }

@@ -1,5 +1,6 @@
 //! Heaps, their images, and what is loaded of bytes.
 ghost use Rattle.std.specs.Prelude.{◌≡◌, OnOk};
+ghost use Rattle.std.specs.Bool.{OnTrue};
 ghost use Rattle.cf_base.specs.Settings.{Profile, profile_of};
 ghost use Rattle.cf_base.specs.declared.kind.Kind.TheVariants.{Moving};
 ghost use Rattle.cf_session.specs.Apply.{run_at};
@@ -26,19 +27,33 @@ const ROOM: usize = 16_384;
 pub fn open<H: Manager>(heap: &mut H, session: &Session, settings: &Settings) -> Result<(), Wrong>
     requires moving { (H.state heap.old).kind ≡ Moving }
     requires fresh { session.now ≡ fresh_session }
-    ensures { OnOk result (IsReady (profile_of settings.now) (run_at session.now (H.state heap.new))) }
+    ensures opened { OnOk result (IsReady (profile_of settings.now) (run_at session.now (H.state heap.new))) }
+    ensures kind { (H.state heap.new).kind ≡ Moving }
 {
     heap.open_heap(settings)?;
     Ok(())
 }
 
-/// Does a command, whatever its reply.
+/// Whether the command is a malloc, a free, a resize, or a write of 1 to 4,096 bytes.
+fn is_change(command: CommandRef) -> bool
+    ensures { OnTrue result (IsWellFormed (owned_command command.entry)) }
+{
+    match command {
+        CommandRef::Malloc { .. } | CommandRef::Free { .. } | CommandRef::Resize { .. } => true,
+        CommandRef::Write { bytes, .. } => 1 <= bytes.len() && bytes.len() <= 4_096,
+        _ => false,
+    }
+}
+
+/// Does the command, whatever its reply, if it is a change.
 pub fn give<H: Manager>(heap: &mut H, session: &mut Session, command: CommandRef)
-    requires going { IsGoing (run_at session.old (H.state heap.old)) }
-    requires formed { IsWellFormed (owned_command command) }
+    requires { IsGoing (run_at session.old (H.state heap.old)) }
     ensures going { IsGoing (run_at session.new (H.state heap.new)) }
     ensures ready { (p : Profile) → IsReady p (run_at session.old (H.state heap.old)) → IsReady p (run_at session.new (H.state heap.new)) }
 {
+    if !is_change(command) {
+        return;
+    }
     match session.apply_ref(heap, command, b"", &mut NullSink) {
         Ok(_) => {}
         Err(_) => unreachable!(),

@@ -1,10 +1,9 @@
 //! Images worked out by hand.
-ghost use Rattle.std.specs.Bool.{OnTrue};
+ghost use Rattle.std.specs.Prelude.{◌≡◌};
 ghost use Rattle.cf_base.specs.Settings.{Profile};
+ghost use Rattle.cf_base.specs.declared.kind.Kind.TheVariants.{Moving};
 ghost use Rattle.cf_session.specs.Apply.{run_at};
 ghost use Rattle.run_model.specs.Sessions.{IsGoing};
-ghost use Rattle.script_reader.specs.Commands.{IsWellFormed};
-ghost use Rattle.script_reader.specs.Owned.{owned_command};
 ghost use Rattle.heap_image_tests.specs.Ready.{IsReady};
 
 use super::images::{give, image, open};
@@ -86,55 +85,40 @@ pub static ROWS: [Row; 4] = [
     },
 ];
 
-/// Whether the command is a malloc, a free, a resize, or a write of 1 to 4,096 bytes.
-fn is_change(command: CommandRef) -> bool
-    ensures { OnTrue result (IsWellFormed (owned_command command.entry)) }
-{
-    match command {
-        CommandRef::Malloc { .. } | CommandRef::Free { .. } | CommandRef::Resize { .. } => true,
-        CommandRef::Write { bytes, .. } => 1 <= bytes.len() && bytes.len() <= 4_096,
-        _ => false,
-    }
-}
-
-/// Does the command, if it is a change.
-fn give_change<H: Manager>(heap: &mut H, session: &mut Session, command: CommandRef)
-    requires { IsGoing (run_at session.old (H.state heap.old)) }
-    ensures going { IsGoing (run_at session.new (H.state heap.new)) }
-    ensures ready { (p : Profile) → IsReady p (run_at session.old (H.state heap.old)) → IsReady p (run_at session.new (H.state heap.new)) }
-{
-    if !is_change(command) {
-        return;
-    }
-    give(heap, session, command);
-}
-
 /// Does these commands, one after another.
 fn give_all<H: Manager>(heap: &mut H, session: &mut Session, commands: &[CommandRef])
     requires { IsGoing (run_at session.old (H.state heap.old)) }
     ensures { (p : Profile) → IsReady p (run_at session.old (H.state heap.old)) → IsReady p (run_at session.new (H.state heap.new)) }
 {
     'commands: for command in commands {
-        give_change(heap, session, *command);
+        give(heap, session, *command);
     }
 }
 
-/// The image of the heap of a row.
-fn image_of_row<R: Runtime>(rt: &R, alloc: Global, row: &Row) -> Result<Vec<u8>, Wrong> {
+/// The image of what lives in the heap after the commands of a row.
+fn image_of_row<R: Runtime, H: Manager>(
+    rt: &R,
+    alloc: Global,
+    heap: &mut H,
+    row: &Row,
+) -> Result<Vec<u8>, Wrong>
+    requires { (H.state heap.old).kind ≡ Moving }
+    ensures { (H.state heap.new).kind ≡ Moving }
+{
     let [pages, page_bytes, k, proxies] = row.settings;
     let settings = Settings::check(pages, page_bytes, k, proxies)?;
-    let mut heap = MovingHeap::closed(alloc);
     let mut session = Session::start(rt, alloc)?;
-    open(&mut heap, &session, &settings)?;
-    give_all(&mut heap, &mut session, row.commands);
-    image(rt, alloc, &heap, &session, &settings)
+    open(heap, &session, &settings)?;
+    give_all(heap, &mut session, row.commands);
+    image(rt, alloc, heap, &session, &settings)
 }
 
 #[test]
 fn images_are_as_worked_out_by_hand(rt: HostRuntime) -> Result<(), Fail> {
-    for row in ROWS.iter() {
-        let saved = image_of_row(&rt, rt.alloc(), row)?;
-        assert_eq!(rt; saved.as_slice(), row.image, "{}", row.shows);
+    let mut heap = MovingHeap::closed(rt.alloc());
+    'rows: for row in ROWS.iter() {
+        let saved = image_of_row(&rt, rt.alloc(), &mut heap, row)?;
+        assert!(rt; saved.as_slice() == row.image, "{}", row.shows);
     }
     Ok(())
 }

@@ -3,7 +3,7 @@ use Rattle.cf_base.specs.declared.kind.Kind.TheVariants.{Moving}
 use Rattle.heap_image_tests.proofs.tests.churned.what_was_saved_is_loaded_and_saved_again.Given as goal
 
 abbrev pub invariant-chunks : goal.invariant-chunks
-invariant-chunks g l = l.other.kind ≡ Moving
+invariant-chunks g l = l.heap.kind ≡ Moving
 
 abbrev pub invariant-bounds : goal.invariant-bounds
-invariant-bounds g l = l.other.kind ≡ Moving
+invariant-bounds g l = l.heap.kind ≡ Moving
