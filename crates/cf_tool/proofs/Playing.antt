@@ -131,7 +131,8 @@ pub each_ends : (s s' : SourceState) (k k' : SinkState) (st : Status) (causes : 
 each_ends s s' k k' st causes f ss ms started ss' ms' kinds met =
     ends_of Compares s k (map f ms) st s' k' (map f ms') causes kinds (record {
       end = many_at ss' (map f ms');
-      outcome = subst (λ (from : Many). MeetsOutcome many_managers from (effects_of (handed s k (map f ms)) st (handed s' k' (map f ms'))) (many_at ss' (map f ms')))
+      outcome = subst
+          (λ (from : Many). MeetsOutcome many_managers from (effects_of (handed s k (map f ms)) st (handed s' k' (map f ms'))) (many_at ss' (map f ms')))
           (begun_many f ss ms started) met;
       stand = refl;
     })

@@ -159,7 +159,8 @@ module _ (kind : Kind) where
   run_told old BadImage new done is = absurd is
 
 -- Mode `compare`.
-compare_met : (old : Handed) (st : Status) (new : Handed) → Compares old st new → (ends : Many × Many) × MeetsOutcome many_managers ends.0 (effects_of old st new) ends.1
+compare_met : (old : Handed) (st : Status) (new : Handed) → Compares old st new
+    → (ends : Many × Many) × MeetsOutcome many_managers ends.0 (effects_of old st new) ends.1
 compare_met old st new done = ((fresh_many old.managers, done.end), done.outcome)
 
 pub compare_never_words : (old new : Handed) → Compares old Words new → ⊥

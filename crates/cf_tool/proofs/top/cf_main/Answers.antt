@@ -14,7 +14,8 @@ returns-in-Refused-clause-complete g c = λ have sure firm.
     absurd (not_accepted _ (rw c.in-Refused.is at c.in-Err.ensures.reads) (chosen_are_accepted _ have.choice have.chosen))
 
 pub returns-in-Run-clause-outcome : goal.returns-in-Run-clause-outcome
-returns-in-Run-clause-outcome g c = mode_ends _ c.in-Ok.choice Run c.in-Ok.ensures.reads c.in-Run.is (run_never_words c.in-Ok.choice.kind) _ c.run_chosen.result _ c.run_chosen.ensures
+returns-in-Run-clause-outcome g c = mode_ends _ c.in-Ok.choice Run c.in-Ok.ensures.reads c.in-Run.is
+    (run_never_words c.in-Ok.choice.kind) _ c.run_chosen.result _ c.run_chosen.ensures
 
 pub returns-in-Run-clause-claimed : goal.returns-in-Run-clause-claimed
 returns-in-Run-clause-claimed g c = λ is. mode_tells _ c.in-Ok.choice Run c.in-Ok.ensures.reads c.in-Run.is _
@@ -25,7 +26,8 @@ returns-in-Run-clause-complete g c = λ have. run_whole c.in-Ok.choice.kind _ c.
     (right_input _ c.in-Ok.choice _ Run c.in-Ok.ensures.reads c.in-Run.is have)
 
 pub returns-in-Compare-clause-outcome : goal.returns-in-Compare-clause-outcome
-returns-in-Compare-clause-outcome g c = mode_ends _ c.in-Ok.choice Compare c.in-Ok.ensures.reads c.in-Compare.is compare_never_words _ c.compare.result _ c.compare.ensures
+returns-in-Compare-clause-outcome g c = mode_ends _ c.in-Ok.choice Compare c.in-Ok.ensures.reads c.in-Compare.is
+    compare_never_words _ c.compare.result _ c.compare.ensures
 
 pub returns-in-Compare-clause-claimed : goal.returns-in-Compare-clause-claimed
 returns-in-Compare-clause-claimed g c = λ is. mode_tells _ c.in-Ok.choice Compare c.in-Ok.ensures.reads c.in-Compare.is _ tt
@@ -35,7 +37,8 @@ returns-in-Compare-clause-complete g c = λ have. compare_whole _ c.compare.resu
     (right_input _ c.in-Ok.choice _ Compare c.in-Ok.ensures.reads c.in-Compare.is have)
 
 pub returns-in-Bench-clause-outcome : goal.returns-in-Bench-clause-outcome
-returns-in-Bench-clause-outcome g c = mode_ends _ c.in-Ok.choice Bench c.in-Ok.ensures.reads c.in-Bench.is (bench_never_words c.in-Ok.choice) _ c.bench.result _ (c.bench.ensures _ _)
+returns-in-Bench-clause-outcome g c = mode_ends _ c.in-Ok.choice Bench c.in-Ok.ensures.reads c.in-Bench.is
+    (bench_never_words c.in-Ok.choice) _ c.bench.result _ (c.bench.ensures _ _)
 
 pub returns-in-Bench-clause-claimed : goal.returns-in-Bench-clause-claimed
 returns-in-Bench-clause-claimed g c = λ is. mode_tells _ c.in-Ok.choice Bench c.in-Ok.ensures.reads c.in-Bench.is _ tt
@@ -53,7 +56,8 @@ pub returns-in-Bench-clause-too_long : goal.returns-in-Bench-clause-too_long
 returns-in-Bench-clause-too_long g c = (c.bench.ensures (source_at None (g.S.Source.given c.args.source.now) 0) []).too_long
 
 pub returns-in-Large-clause-outcome : goal.returns-in-Large-clause-outcome
-returns-in-Large-clause-outcome g c = mode_ends _ c.in-Ok.choice Large c.in-Ok.ensures.reads c.in-Large.is (own_never_words large_heap IsMadeLarge) _ c.play_large.result _ (c.play_large.ensures _)
+returns-in-Large-clause-outcome g c = mode_ends _ c.in-Ok.choice Large c.in-Ok.ensures.reads c.in-Large.is
+    (own_never_words large_heap IsMadeLarge) _ c.play_large.result _ (c.play_large.ensures _)
 
 pub returns-in-Large-clause-claimed : goal.returns-in-Large-clause-claimed
 returns-in-Large-clause-claimed g c = λ is. mode_tells _ c.in-Ok.choice Large c.in-Ok.ensures.reads c.in-Large.is _ tt
@@ -72,7 +76,8 @@ pub returns-in-Large-clause-too_long : goal.returns-in-Large-clause-too_long
 returns-in-Large-clause-too_long g c = (c.play_large.ensures []).too_long
 
 pub returns-in-Save-clause-outcome : goal.returns-in-Save-clause-outcome
-returns-in-Save-clause-outcome g c = mode_ends _ c.in-Ok.choice Save c.in-Ok.ensures.reads c.in-Save.is save_never_words _ c.save_image.result _ (c.save_image.ensures _)
+returns-in-Save-clause-outcome g c = mode_ends _ c.in-Ok.choice Save c.in-Ok.ensures.reads c.in-Save.is
+    save_never_words _ c.save_image.result _ (c.save_image.ensures _)
 
 pub returns-in-Save-clause-claimed : goal.returns-in-Save-clause-claimed
 returns-in-Save-clause-claimed g c = λ is. mode_tells _ c.in-Ok.choice Save c.in-Ok.ensures.reads c.in-Save.is _ tt
@@ -91,7 +96,8 @@ pub returns-in-Save-clause-too_long : goal.returns-in-Save-clause-too_long
 returns-in-Save-clause-too_long g c = (c.save_image.ensures []).too_long
 
 pub returns-in-Load-clause-outcome : goal.returns-in-Load-clause-outcome
-returns-in-Load-clause-outcome g c = mode_ends _ c.in-Ok.choice Load c.in-Ok.ensures.reads c.in-Load.is load_never_words _ c.load_image.result _ (c.load_image.ensures _)
+returns-in-Load-clause-outcome g c = mode_ends _ c.in-Ok.choice Load c.in-Ok.ensures.reads c.in-Load.is
+    load_never_words _ c.load_image.result _ (c.load_image.ensures _)
 
 pub returns-in-Load-clause-claimed : goal.returns-in-Load-clause-claimed
 returns-in-Load-clause-claimed g c = λ is. mode_tells _ c.in-Ok.choice Load c.in-Ok.ensures.reads c.in-Load.is _ tt
@@ -110,7 +116,8 @@ pub returns-in-Load-clause-too_long : goal.returns-in-Load-clause-too_long
 returns-in-Load-clause-too_long g c = (c.load_image.ensures []).too_long
 
 pub returns-in-Slice-clause-outcome : goal.returns-in-Slice-clause-outcome
-returns-in-Slice-clause-outcome g c = mode_ends _ c.in-Ok.choice Slice c.in-Ok.ensures.reads c.in-Slice.is (own_never_words slices (IsMadeSliced c.in-Ok.choice.quantum)) _ c.play_slices.result _ (c.play_slices.ensures _)
+returns-in-Slice-clause-outcome g c = mode_ends _ c.in-Ok.choice Slice c.in-Ok.ensures.reads c.in-Slice.is
+    (own_never_words slices (IsMadeSliced c.in-Ok.choice.quantum)) _ c.play_slices.result _ (c.play_slices.ensures _)
 
 pub returns-in-Slice-clause-claimed : goal.returns-in-Slice-clause-claimed
 returns-in-Slice-clause-claimed g c = λ is. mode_tells _ c.in-Ok.choice Slice c.in-Ok.ensures.reads c.in-Slice.is _ tt
@@ -129,7 +136,8 @@ pub returns-in-Slice-clause-too_long : goal.returns-in-Slice-clause-too_long
 returns-in-Slice-clause-too_long g c = (c.play_slices.ensures []).too_long
 
 pub returns-in-Quota-clause-outcome : goal.returns-in-Quota-clause-outcome
-returns-in-Quota-clause-outcome g c = mode_ends _ c.in-Ok.choice Quota c.in-Ok.ensures.reads c.in-Quota.is (own_never_words quota_tasks IsMadeForTasks) _ c.play_quotas.result _ (c.play_quotas.ensures _)
+returns-in-Quota-clause-outcome g c = mode_ends _ c.in-Ok.choice Quota c.in-Ok.ensures.reads c.in-Quota.is
+    (own_never_words quota_tasks IsMadeForTasks) _ c.play_quotas.result _ (c.play_quotas.ensures _)
 
 pub returns-in-Quota-clause-claimed : goal.returns-in-Quota-clause-claimed
 returns-in-Quota-clause-claimed g c = λ is. mode_tells _ c.in-Ok.choice Quota c.in-Ok.ensures.reads c.in-Quota.is _ tt
