@@ -1,6 +1,6 @@
 -- A run over large objects goes on after each command.
 use Rattle.std.proofs.Common.{◌≡◌, ℕ, List, Some, None, replicate, sym, ◌∙◌, ap, refl, subst, inl, inr}
-use Rattle.std.specs.Prelude.{Option, Result, Ok, Err, codes}
+use Rattle.std.specs.Prelude.{IsTrue, Option, Result, Ok, Err, codes}
 use Rattle.std.specs.Option.{MatchOption}
 use Rattle.std.specs.FinMap.{get, insert, remove}
 use Rattle.cf_base.specs.declared.answers.Handle.{Handle}
@@ -15,9 +15,18 @@ use Rattle.cf_model.specs.Steps.{Part}
 use Rattle.run_model.specs.Steps.{ids_given}
 use Rattle.session_model.specs.Ties.{AreTiedTo}
 use Rattle.session_model.proofs.CallerLemmas.{tied_less, tied_more, tied_same}
-use Rattle.large_objects.specs.Large.{LargeState}
+use Rattle.large_objects.specs.Large.{KeepsParts, LargeState}
 use Rattle.large_objects.specs.LargeSteps.{IsLargeMalloc, IsLargeWrite}
-use Rattle.large_objects.specs.LargeRun.{FreesIdLarge, IsGoingLarge, LargeRun, LargeStep, MallocsLarge, StaysLarge, WritesIdLarge}
+use Rattle.large_objects.specs.LargeRun.{FreesIdLarge, IsGoingLarge, LargeRun, LargeStep, MallocsLarge, StaysLarge, WritesIdLarge, large_run}
+
+-- an open heap whose objects the ids name goes on; the session keeps these ids
+pub going_before : (ids inside : Ids) → ids ≡ inside → (heap : LargeState) → IsTrue heap.is_open → KeepsParts heap → AreTiedTo ids heap.objects
+    → IsGoingLarge (large_run inside heap)
+going_before ids inside same heap opened parts tied = record {
+  opened = opened;
+  parts = parts;
+  tied = subst (λ (i : Ids). AreTiedTo i heap.objects) same tied;
+}
 
 module _ (old new : LargeRun) (going : IsGoingLarge old) (reply : Reply) where
   stays : (text : List ℕ) → StaysLarge old text reply new → IsGoingLarge new

@@ -6,6 +6,7 @@ ghost use Rattle.cf_io.specs.Lines.{line_room};
 ghost use Rattle.script_reader.specs.Commands.{IsWellFormed};
 ghost use Rattle.script_reader.specs.Owned.{owned_command};
 ghost use Rattle.session_model.specs.Applying.{Applies, Speaks};
+ghost use Rattle.session_model.specs.Ties.{AreTiedTo};
 ghost use Rattle.large_objects.specs.LargeRun.{IsGoingLarge, LargeStep, large_moment, large_run};
 ghost use Rattle.large_objects.specs.Playing.{large_heap};
 ghost use Rattle.large_objects.specs.Speaking.{IsOneLine};
@@ -66,7 +67,8 @@ impl LargeSession {
         out: &mut K,
         meter: &mut Meter,
     ) -> Result<Outcome, Failed>
-        requires going { IsGoingLarge (large_run self.old heap.old) }
+        requires open { IsTrue heap.old.is_open }
+        requires tied { AreTiedTo self.old heap.old.objects }
         requires formed { IsWellFormed c.now }
         ensures answers { Applies large_heap (large_moment self.old heap.old (K.written out.old)) c.now result
             (large_moment self.new heap.new (K.written out.new)) }
@@ -86,7 +88,8 @@ impl LargeSession {
         out: &mut K,
         meter: &mut Meter,
     ) -> Result<Outcome, Failed>
-        requires going { IsGoingLarge (large_run self.old heap.old) }
+        requires open { IsTrue heap.old.is_open }
+        requires tied { AreTiedTo self.old heap.old.objects }
         requires formed { IsWellFormed (owned_command c) }
         ensures answers { Applies large_heap (large_moment self.old heap.old (K.written out.old)) (owned_command c.entry) result
             (large_moment self.new heap.new (K.written out.new)) }
@@ -94,6 +97,8 @@ impl LargeSession {
         ensures grows { K.faults out.old ≤ K.faults out.new }
         ensures failed { OnErr result (Rose (K.faults out.old) (K.faults out.new)) }
     {
+        // An open heap keeps its inner objects in order.
+        let _open = heap.is_open();
         answer(&mut self.ids, heap, c, &mut self.room, line, out, meter)
     }
 }

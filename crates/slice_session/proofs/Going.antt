@@ -22,7 +22,7 @@ use Rattle.slice_model.specs.declared.answers.SliceFault.TheVariants as fault
 use Rattle.slice_model.specs.declared.answers.SliceRefusal.{SliceRefusal}
 use Rattle.slice_model.proofs.CallerLemmas.{call_on_map}
 use Rattle.sliced_heap.specs.Shown.{KeepsRules, SlicedState, StaysOpen, plan_in, working_in}
-use Rattle.slice_session.specs.SliceRun.{Does, IsGoingSliced, SliceRun, SliceStep, ids_with, ids_without, live_in}
+use Rattle.slice_session.specs.SliceRun.{Does, IsGoingSliced, SliceRun, SliceStep, ids_with, ids_without, live_in, slice_run}
 use Rattle.slice_session.specs.SliceRun.{FreesSliced, MallocsSliced, StaysSliced, StepsSliced, WritesSliced}
 
 -- the plan by the settings and the quantum
@@ -44,6 +44,15 @@ done_on_map old new rules event d =
         consistent = subst (λ (p : Plan). IsConsistent p (working_in new)) (sym same) one.1;
       },
     )
+
+-- an open heap whose objects the ids name goes on; the session keeps these ids
+pub going_before : (ids inside : Ids) → ids ≡ inside → (heap : SlicedState) → IsTrue heap.is_open → KeepsRules heap → AreTiedTo ids (objects heap.held)
+    → IsGoingSliced (slice_run inside heap)
+going_before ids inside same heap opened rules tied = record {
+  opened = opened;
+  rules = rules;
+  tied = subst (λ (i : Ids). AreTiedTo i (objects heap.held)) same tied;
+}
 
 module _ (old new : SliceRun) (going : IsGoingSliced old) (reply : Reply) where
   stays : (text : List ℕ) → StaysSliced old text reply new → IsGoingSliced new

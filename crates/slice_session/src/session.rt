@@ -3,11 +3,13 @@ ghost use Rattle.std.specs.Prelude.{◌≡◌, ◌<◌, ◌≤◌, [], IsTrue, I
 ghost use Rattle.std.specs.FinMap as map;
 ghost use Rattle.cf_io.specs.Feeds.{Rose};
 ghost use Rattle.cf_io.specs.Lines.{line_room};
+ghost use Rattle.page_model.specs.Held.{objects};
 ghost use Rattle.script_reader.specs.Commands.{IsWellFormed};
 ghost use Rattle.script_reader.specs.Owned.{owned_command};
 ghost use Rattle.script_loop.specs.Semantics.{snapshot};
 ghost use Rattle.step_ledger.specs.Counting.{RoseAtMost};
 ghost use Rattle.session_model.specs.Applying.{Applies, Speaks};
+ghost use Rattle.session_model.specs.Ties.{AreTiedTo};
 ghost use Rattle.slice_session.specs.SliceRun.{IsGoingSliced, SliceStep, most_steps, slice_run};
 ghost use Rattle.slice_session.specs.Playing.{sliced};
 
@@ -68,7 +70,8 @@ impl SliceSession {
         out: &mut K,
         meter: &mut Meter,
     ) -> Result<Outcome, Failed>
-        requires going { IsGoingSliced (slice_run self.old heap.old) }
+        requires open { IsTrue heap.old.is_open }
+        requires tied { AreTiedTo self.old (objects heap.old.held) }
         requires formed { IsWellFormed c.now }
         ensures answers { Applies sliced (snapshot (slice_run self.old heap.old) (K.written out.old)) c.now result
             (snapshot (slice_run self.new heap.new) (K.written out.new)) }
@@ -89,7 +92,8 @@ impl SliceSession {
         out: &mut K,
         meter: &mut Meter,
     ) -> Result<Outcome, Failed>
-        requires going { IsGoingSliced (slice_run self.old heap.old) }
+        requires open { IsTrue heap.old.is_open }
+        requires tied { AreTiedTo self.old (objects heap.old.held) }
         requires formed { IsWellFormed (owned_command c) }
         ensures answers { Applies sliced (snapshot (slice_run self.old heap.old) (K.written out.old)) (owned_command c.entry) result
             (snapshot (slice_run self.new heap.new) (K.written out.new)) }
@@ -98,6 +102,8 @@ impl SliceSession {
         ensures grows { K.faults out.old ≤ K.faults out.new }
         ensures failed { OnErr result (Rose (K.faults out.old) (K.faults out.new)) }
     {
+        // An open heap keeps its rules.
+        let _open = heap.is_open();
         meter.lap();
         answer(
             &mut self.ids,
