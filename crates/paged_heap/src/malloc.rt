@@ -13,6 +13,7 @@ ghost use Rattle.paged_heap.specs.Layout.{Holds, state_at};
 
 use crate::open_heap::OpenHeap;
 use cf_base::{Handle, Refusal};
+use class_lists::Which;
 use object_header::Header;
 use page_slots::take_slot;
 use step_ledger::Steps;
@@ -65,6 +66,10 @@ impl OpenHeap {
         ensures rest { self.new ≡ record self.old { maps = self.new.maps; lists = self.new.lists; pool = self.new.pool } }
         ensures bound { RoseAtMost steps.old steps.new 26 }
     {
+        // Two counts tell that there is no room.
+        if self.lists.len(c, Which::NotFull) == 0 && self.pool.left() == 0 {
+            return None;
+        }
         take_slot(
             &self.classes,
             &mut self.maps,
