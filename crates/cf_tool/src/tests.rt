@@ -101,6 +101,26 @@ fn answer_with<S: Source>(
     Ok(Left { status, live })
 }
 
+/// What a call on closed managers leaves, and what was written.
+#[derive(Drop)]
+struct OutputOn {
+    left: Left,
+    sink: MemSink,
+}
+
+/// Answers a script as these words choose, with closed managers of these kinds.
+fn answered_on(
+    rt: &HostRuntime,
+    words: &[&str],
+    kinds: &[Kind],
+    script: &[u8],
+) -> Result<OutputOn, Fail> {
+    let mut source = SureSource::new(script.to_vec(rt.alloc())?);
+    let mut sink = plain_sink(rt)?;
+    let left = answer_with(rt, words, kinds, &mut source, &mut sink)?;
+    Ok(OutputOn { left, sink })
+}
+
 /// Answers a script as these words choose, with the managers that the program has, and gives the
 /// status.
 fn answer_by<S: Source>(
@@ -114,39 +134,62 @@ fn answer_by<S: Source>(
     Ok(left.status)
 }
 
-/// Answers a script by the default manager, and gives the status.
-fn answer<S: Source>(rt: &HostRuntime, source: &mut S, sink: &mut MemSink) -> Result<Status, Fail> {
-    answer_by(rt, &[], source, sink)
+/// How a script was answered: the status, and what was written.
+#[derive(Drop)]
+struct Output {
+    status: Status,
+    sink: MemSink,
+}
+
+/// Answers a script as these words choose, with the managers that the program has.
+fn answered(rt: &HostRuntime, words: &[&str], script: &[u8]) -> Result<Output, Fail> {
+    let source = SureSource::new(script.to_vec(rt.alloc())?);
+    answered_from(rt, words, source)
+}
+
+/// The same, from this source.
+fn answered_from<S: Source + Drop>(
+    rt: &HostRuntime,
+    words: &[&str],
+    source: S,
+) -> Result<Output, Fail> {
+    let mut from = source;
+    let mut sink = plain_sink(rt)?;
+    let status = answer_by(rt, words, &mut from, &mut sink)?;
+    Ok(Output { status, sink })
+}
+
+/// Whether a script is answered so.
+fn is_answered_so(
+    rt: &HostRuntime,
+    words: &[&str],
+    script: &[u8],
+    status: Status,
+    text: &[u8],
+) -> Result<bool, Fail> {
+    let got = answered(rt, words, script)?;
+    Ok(got.status == status && got.sink.written() == text)
 }
 
 #[test]
 fn each_script_prints_its_replies(rt: HostRuntime) -> Result<(), Fail> {
     for (shows, script, status, text) in ROWS {
-        let mut source = SureSource::new(script.to_vec(rt.alloc())?);
-        let mut sink = plain_sink(&rt)?;
-        assert_eq!(rt; answer(&rt, &mut source, &mut sink)?, status, "{shows}");
-        assert_eq!(rt; sink.written(), text, "{shows}");
+        assert!(rt; is_answered_so(&rt, &[], script, status, text)?, "{shows}");
     }
     Ok(())
+}
+
+/// The number between these two texts.
+fn number_between(text: &[u8], before: &[u8], after: &[u8]) -> Option<u32> {
+    number_of(text.strip_prefix(before)?.strip_suffix(after)?)
 }
 
 #[test]
 fn the_steps_of_a_call_are_within_its_bound(rt: HostRuntime) -> Result<(), Fail> {
     for (words, script, before, least, most, after) in STEPS {
-        let mut source = SureSource::new(script.to_vec(rt.alloc())?);
-        let mut sink = plain_sink(&rt)?;
-        assert_eq!(rt;
-            answer_by(&rt, words, &mut source, &mut sink)?,
-            Status::Done
-        );
-        let rest = sink
-            .written()
-            .strip_prefix(before)
-            .ok_or("another text before the count")?;
-        let digits = rest
-            .strip_suffix(after)
-            .ok_or("another text behind the count")?;
-        let count = number_of(digits).ok_or("no count")?;
+        let got = answered(&rt, words, script)?;
+        assert_eq!(rt; got.status, Status::Done);
+        let count = number_between(got.sink.written(), before, after).ok_or("another text")?;
         assert!(rt; least <= count && count <= most, "{count} steps");
     }
     Ok(())
@@ -156,63 +199,70 @@ fn the_steps_of_a_call_are_within_its_bound(rt: HostRuntime) -> Result<(), Fail>
 fn the_same_bytes_are_answered_alike_however_they_are_cut(rt: HostRuntime) -> Result<(), Fail> {
     let alloc = rt.alloc();
     let cuts = vec![in alloc; 1; MOVE.len()]?;
-    let mut source = MemSource::new(MOVE.to_vec(alloc)?, cuts, Vec::new(alloc));
-    let mut sink = plain_sink(&rt)?;
-    assert_eq!(rt; answer(&rt, &mut source, &mut sink)?, Status::Done);
-    assert_eq!(rt; sink.written(), MOVED);
+    let source = MemSource::new(MOVE.to_vec(alloc)?, cuts, Vec::new(alloc));
+    let got = answered_from(&rt, &[], source)?;
+    assert_eq!(rt; got.status, Status::Done);
+    assert_eq!(rt; got.sink.written(), MOVED);
     Ok(())
+}
+
+/// A comment of so many bytes, its line feed not counted.
+fn comment(rt: &HostRuntime, length: usize) -> Result<Vec<u8>, AllocError> {
+    let mut line = vec![in rt.alloc(); b'#'; length]?;
+    line.push(b'\n')?;
+    Ok(line)
 }
 
 #[test]
 fn a_line_has_at_most_8999_bytes(rt: HostRuntime) -> Result<(), Fail> {
-    let alloc = rt.alloc();
     for (length, status, text) in [
         (8_999, Status::Done, b"".as_slice()),
         (9_000, Status::BadScript, b"bad line 1\n".as_slice()),
     ] {
-        let mut script = vec![in alloc; b'#'; length]?;
-        script.push(b'\n')?;
-        let mut source = SureSource::new(script);
-        let mut sink = plain_sink(&rt)?;
-        assert_eq!(rt; answer(&rt, &mut source, &mut sink)?, status);
-        assert_eq!(rt; sink.written(), text);
+        let script = comment(&rt, length)?;
+        assert!(rt; is_answered_so(&rt, &[], script.as_slice(), status, text)?);
     }
     Ok(())
 }
 
 #[test]
 fn a_script_with_no_end_is_too_long(rt: HostRuntime) -> Result<(), Fail> {
-    let mut line = vec![in rt.alloc(); b'#'; 8_999]?;
-    line.push(b'\n')?;
-    let mut source = LoopSource::new(line);
-    let mut sink = plain_sink(&rt)?;
-    assert_eq!(rt; answer(&rt, &mut source, &mut sink)?, Status::TooLong);
-    assert_eq!(rt; sink.written().len(), 0);
+    let source = LoopSource::new(comment(&rt, 8_999)?);
+    let got = answered_from(&rt, &[], source)?;
+    assert_eq!(rt; got.status, Status::TooLong);
+    assert_eq!(rt; got.sink.written().len(), 0);
+    Ok(())
+}
+
+/// The line that asks for an object of 24 bytes.
+fn push_small(script: &mut Vec<u8>, id: u64) -> Result<(), Fail> {
+    let mut line = Line::new();
+    line.push(b"m ").map_err(|_| "full")?;
+    line.push_number(id).map_err(|_| "full")?;
+    line.push(b" 24\n").map_err(|_| "full")?;
+    script.extend_from_slice(line.bytes())?;
     Ok(())
 }
 
 #[test]
 fn a_page_of_131072_bytes_has_4096_slots(rt: HostRuntime) -> Result<(), Fail> {
-    let alloc = rt.alloc();
-    let mut script = b"heap 1 131072 1 8192\n".to_vec(alloc)?;
-    let mut text = b"ok\n".to_vec(alloc)?;
-    let mut line = Line::new();
+    let mut script = b"heap 1 131072 1 8192\n".to_vec(rt.alloc())?;
     for id in 0..=4_096 {
-        line.clear();
-        line.push(b"m ").map_err(|_| "full")?;
-        line.push_number(id).map_err(|_| "full")?;
-        line.push(b" 24\n").map_err(|_| "full")?;
-        script.extend_from_slice(line.bytes())?;
-        text.extend_from_slice(if id < 4_096 {
-            b"ok\n".as_slice()
-        } else {
-            b"refused space\n".as_slice()
-        })?;
+        push_small(&mut script, id)?;
     }
-    let mut source = SureSource::new(script);
-    let mut sink = plain_sink(&rt)?;
-    assert_eq!(rt; answer(&rt, &mut source, &mut sink)?, Status::Done);
-    assert_eq!(rt; sink.written(), text.as_slice());
+    let got = answered(&rt, &[], script.as_slice())?;
+    assert_eq!(rt; got.status, Status::Done);
+    let rest = got
+        .sink
+        .written()
+        .strip_suffix(b"\nrefused space\n")
+        .ok_or("no last refusal")?;
+    let mut count: u32 = 0;
+    for line in rest.split(|b| *b == b'\n') {
+        assert!(rt; line == b"ok".as_slice());
+        count = count.wrapping_add(1);
+    }
+    assert_eq!(rt; count, 4_097);
     Ok(())
 }
 
@@ -227,13 +277,7 @@ fn words_that_are_not_taken_read_nothing(rt: HostRuntime) -> Result<(), Fail> {
         &["run", "again"],
     ];
     for words in refused {
-        let mut source = SureSource::new(b"heap 1 512 1 4\n".to_vec(rt.alloc())?);
-        let mut sink = plain_sink(&rt)?;
-        assert_eq!(rt;
-            answer_by(&rt, words, &mut source, &mut sink)?,
-            Status::Words
-        );
-        assert_eq!(rt; sink.written().len(), 0);
+        assert!(rt; is_answered_so(&rt, words, b"heap 1 512 1 4\n", Status::Words, b"")?);
     }
     Ok(())
 }

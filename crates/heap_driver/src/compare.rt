@@ -48,7 +48,7 @@ impl<H: Manager> RandomRun<H> {
         }
         self.compare_word(w, None)?;
         for number in 0..PROXIES {
-            self.read(alloc, Handle(number))?;
+            self.read(Handle(number))?;
             self.compare_blocks(Handle(number))?;
         }
         Ok(())

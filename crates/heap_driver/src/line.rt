@@ -5,29 +5,78 @@ use std::alloc::Global;
 use std::fmt::Write;
 use wrong_answers::Wrong;
 
-/// Word i of a call.
-pub fn text<'a>(words: &[&'a str], i: usize) -> Result<&'a str, Wrong> {
+/// The numbers of a call, at most.
+pub const NUMBERS: usize = 4;
+
+/// What a call returned.
+#[derive(Clone, Copy, Debug)]
+pub enum Reply {
+    Said(&'static str),
+    Number(u32),
+    /// The id of the object that moved.
+    Moves(u32),
+    /// The cost was within this bound.
+    Within(u64),
+    /// The cost was none, or past its bound.
+    Costs(u64),
+    Word(u64),
+    /// So many bytes.
+    Bytes([u8; 16], usize),
+    Class(Figures),
+    Whole(Totals),
+}
+
+/// Word i of a call; an empty one behind the last.
+pub fn word<'a>(words: &[&'a str], i: usize) -> &'a str {
     match words.get(i) {
-        Some(word) => Ok(*word),
-        None => Err(Wrong::Line),
+        Some(word) => *word,
+        None => "",
     }
 }
 
-/// Word i of a call, a number.
-pub fn number(words: &[&str], i: usize) -> Result<u32, Wrong> {
-    match text(words, i)?.parse::<u32>() {
-        Ok(number) => Ok(number),
-        Err(_) => Err(Wrong::Line),
+/// The numbers behind the first word of a call; the largest one where there is none.
+pub fn numbers(words: &[&str]) -> [u32; NUMBERS] {
+    let mut numbers = [4_294_967_295; NUMBERS];
+    for i in 0..NUMBERS {
+        if let Ok(number) = word(words, i + 1).parse::<u32>() {
+            numbers[i] = number;
+        }
+    }
+    numbers
+}
+
+/// What was returned, as text.
+pub fn text_of(alloc: Global, reply: Reply) -> Result<String, Wrong> {
+    match reply {
+        Reply::Said(text) => said(alloc, text),
+        Reply::Number(number) => number_text(alloc, "", u64::from(number)),
+        Reply::Moves(id) => number_text(alloc, "moves ", u64::from(id)),
+        Reply::Within(bound) => number_text(alloc, "within ", bound),
+        Reply::Costs(cost) => number_text(alloc, "costs ", cost),
+        Reply::Word(word) => word_text(alloc, word),
+        Reply::Bytes(bytes, count) => hex_text(alloc, &bytes[..count.min(16)]),
+        Reply::Class(figures) => class_text(alloc, figures),
+        Reply::Whole(totals) => totals_text(alloc, totals),
     }
 }
 
 /// The text.
-pub fn said(alloc: Global, text: &str) -> Result<String, Wrong> {
+fn said(alloc: Global, text: &str) -> Result<String, Wrong> {
     Ok(String::from_str(alloc, text)?)
 }
 
+/// A number behind a text.
+fn number_text(alloc: Global, before: &str, number: u64) -> Result<String, Wrong> {
+    Ok(format!(in alloc; "{before}{number}")?)
+}
+
+/// A word in hexadecimal.
+fn word_text(alloc: Global, word: u64) -> Result<String, Wrong> {
+    Ok(format!(in alloc; "{word:016x}")?)
+}
+
 /// Bytes in hexadecimal, after a `=`.
-pub fn hex_text(alloc: Global, bytes: &[u8]) -> Result<String, Wrong> {
+fn hex_text(alloc: Global, bytes: &[u8]) -> Result<String, Wrong> {
     let mut text = String::from_str(alloc, "=")?;
     for byte in bytes {
         let digits = format!(in alloc; "{byte:02x}")?;
@@ -37,7 +86,7 @@ pub fn hex_text(alloc: Global, bytes: &[u8]) -> Result<String, Wrong> {
 }
 
 /// The figures of a class.
-pub fn class_text(alloc: Global, figures: Figures) -> Result<String, Wrong> {
+fn class_text(alloc: Global, figures: Figures) -> Result<String, Wrong> {
     let Figures {
         slot_words,
         slots,
@@ -51,7 +100,7 @@ pub fn class_text(alloc: Global, figures: Figures) -> Result<String, Wrong> {
 }
 
 /// The figures of a heap.
-pub fn totals_text(alloc: Global, totals: Totals) -> Result<String, Wrong> {
+fn totals_text(alloc: Global, totals: Totals) -> Result<String, Wrong> {
     let Totals {
         live,
         asked,

@@ -3,7 +3,9 @@ ghost use Rattle.std.specs.Prelude.{◌≡◌, ◌≤◌, ◌<◌, IfOk};
 
 use crate::bounds::open_bounded;
 use crate::failures::RunFailure;
-use cf_base::{Handle, Layout, Refusal, ResizeFault, Resized, Settings};
+use cf_base::{
+    AccessFault, Freed, Handle, Layout, NotLive, Refusal, ResizeFault, Resized, Settings,
+};
 use cf_model::Manager;
 use page_reference::Plain;
 use page_reference::frames::{exchange, new_frames};
@@ -40,11 +42,12 @@ pub enum Bounds {
     OfClasses,
 }
 
-/// What is known of a live object.
-#[derive(Drop)]
+/// What is known of a live object. Its bytes are followed by zeros.
+#[derive(Clone, Copy)]
 struct Live {
     place: u32,
-    bytes: Vec<u8>,
+    length: u32,
+    bytes: [u8; MOST],
 }
 
 /// The heap and the reference implementation, and what is known of each object, by number.
@@ -190,7 +193,7 @@ impl<H: Manager> RandomRun<H> {
             3 => self.free(alloc, handle),
             4 | 5 => self.resize(alloc, handle),
             6 | 7 => self.write(alloc, handle),
-            _ => self.read(alloc, handle),
+            _ => self.read(handle),
         }
     }
 
@@ -198,17 +201,13 @@ impl<H: Manager> RandomRun<H> {
     fn malloc(&mut self, alloc: Global) -> Result<(), Wrong> {
         let length = self.length();
         let want = self.refusal(length);
-        if !self.heap.is_open() {
-            return Err(Wrong::Closed);
-        }
-        self.meter.lap();
-        match self.heap.malloc(length, self.meter.steps()) {
-            Ok(handle) => {
-                hold(want.is_none(), Wrong::Malloc(Ok(handle)))?;
-                self.put(alloc, handle, Vec::from_elem(alloc, 0, length as usize)?)?;
+        match self.heap_malloc(length) {
+            Some(Ok(handle)) if want.is_none() => {
+                self.put(alloc, handle, length, &[0; MOST])?;
                 self.compare_figures(self.reference.class_for(length))
             }
-            Err(why) => hold(want == Some(why), Wrong::Malloc(Err(why))),
+            Some(given) => hold(want.is_some() && given.err() == want, Wrong::Malloc(given)),
+            None => Err(Wrong::Closed),
         }
     }
 
@@ -227,22 +226,38 @@ impl<H: Manager> RandomRun<H> {
     }
 
     /// A number that has no object gets one with these bytes, which stands where the heap says.
-    fn put(&mut self, alloc: Global, handle: Handle, bytes: Vec<u8>) -> Result<(), Wrong> {
-        if !self.heap.is_open() {
-            return Err(Wrong::Closed);
-        }
-        let Some(place) = self.heap.place(handle, self.meter.steps()) else {
+    fn put(
+        &mut self,
+        alloc: Global,
+        handle: Handle,
+        length: u32,
+        bytes: &[u8; MOST],
+    ) -> Result<(), Wrong> {
+        let Some(place) = self.heap_place(handle) else {
             return Err(Wrong::Place(None));
         };
         let number = number_of(handle)?;
-        let entry = usize::from(number);
-        if entry >= self.objects.len() || self.objects[entry].is_some() {
-            return Err(Wrong::Differs("the number of a new object"));
+        self.reference.put(alloc, number, place, length, bytes)?;
+        let bytes = *bytes;
+        self.note(
+            number,
+            Live {
+                place,
+                length,
+                bytes,
+            },
+        )
+    }
+
+    /// This is known of a number of which nothing was.
+    fn note(&mut self, number: u16, live: Live) -> Result<(), Wrong> {
+        match self.objects.get_mut(usize::from(number)) {
+            Some(entry) if entry.is_none() => {
+                *entry = Some(live);
+                Ok(())
+            }
+            _ => Err(Wrong::Differs("the number of a new object")),
         }
-        let length = bytes.len().min(MOST) as u32;
-        self.reference.put(alloc, number, place, length, &bytes)?;
-        self.objects[entry] = Some(Live { place, bytes });
-        Ok(())
     }
 
     /// The object of this number goes, where there is one, and what was known of it is returned.
@@ -259,7 +274,7 @@ impl<H: Manager> RandomRun<H> {
     /// The address and the length of a live object.
     pub fn known(&self, handle: Handle) -> Option<(u32, u32)> {
         match self.objects.get(handle.0 as usize) {
-            Some(Some(live)) => Some((live.place, live.bytes.len().min(MOST) as u32)),
+            Some(Some(live)) => Some((live.place, live.length)),
             _ => None,
         }
     }
@@ -267,22 +282,31 @@ impl<H: Manager> RandomRun<H> {
     /// A free.
     fn free(&mut self, alloc: Global, handle: Handle) -> Result<(), Wrong> {
         let known = self.known(handle);
-        if !self.heap.is_open() {
-            return Err(Wrong::Closed);
+        match (known, self.heap_free(handle)) {
+            (Some((place, length)), Some(Ok(freed))) => {
+                self.freed(alloc, handle, place, length, freed)
+            }
+            (None, Some(Err(_))) => Ok(()),
+            (_, Some(freed)) => Err(Wrong::Free(freed)),
+            (_, None) => Err(Wrong::Closed),
         }
-        self.meter.lap();
-        let freed = self.heap.free(handle, self.meter.steps());
-        let (Some((place, length)), Ok(done)) = (known, freed) else {
-            return hold(known.is_none() && freed.is_err(), Wrong::Free(freed));
-        };
+    }
+
+    /// An object of so many bytes at an address was freed.
+    fn freed(
+        &mut self,
+        alloc: Global,
+        handle: Handle,
+        place: u32,
+        length: u32,
+        freed: Freed,
+    ) -> Result<(), Wrong> {
         let class = self.reference.class_for(length);
-        let hole = self.leaves_hole(place, class);
-        hold(
-            done.moved.is_some() == hole && done.slot_words == self.reference.slot_words(class),
-            Wrong::Free(freed),
-        )?;
+        let right = freed.moved.is_some() == self.leaves_hole(place, class)
+            && freed.slot_words == self.reference.slot_words(class);
+        hold(right, Wrong::Free(Ok(freed)))?;
         let _gone = self.take(handle);
-        self.fill_hole(alloc, done.moved, place, done.slot_words)?;
+        self.fill_hole(alloc, freed.moved, place, freed.slot_words)?;
         self.compare_figures(class)
     }
 
@@ -313,15 +337,21 @@ impl<H: Manager> RandomRun<H> {
         let Some((from, _length)) = self.known(other) else {
             return Err(Wrong::Differs("the object that moved"));
         };
-        self.moves = self.moves.wrapping_add(1);
-        self.reference.move_to(number_of(other)?, to);
-        if let Some(Some(live)) = self.objects.get_mut(other.0 as usize) {
-            live.place = to;
-        }
+        self.move_to(other, to)?;
         if self.frames.is_empty() {
             return Ok(());
         }
         self.frames = exchanged(alloc, &self.frames, [from / 4, to / 4, slot_words / 4])?;
+        Ok(())
+    }
+
+    /// An object moved to an address.
+    fn move_to(&mut self, handle: Handle, to: u32) -> Result<(), Wrong> {
+        self.moves = self.moves.wrapping_add(1);
+        self.reference.move_to(number_of(handle)?, to);
+        if let Some(Some(live)) = self.objects.get_mut(handle.0 as usize) {
+            live.place = to;
+        }
         Ok(())
     }
 
@@ -330,36 +360,40 @@ impl<H: Manager> RandomRun<H> {
         let length = self.length();
         let known = self.known(handle);
         let want = self.resize_fault(known, length);
-        if !self.heap.is_open() {
-            return Err(Wrong::Closed);
-        }
-        self.meter.lap();
-        let resized = self.heap.resize(handle, length, self.meter.steps());
-        let (Some((place, old)), Ok(done)) = (known, resized) else {
-            return hold(
+        match (known, self.heap_resize(handle, length)) {
+            (Some(known), Some(Ok(done))) if want.is_none() => {
+                self.resized(alloc, handle, known, length, done)
+            }
+            (_, Some(resized)) => hold(
                 want.is_some() && resized.err() == want,
                 Wrong::Resize(resized),
-            );
-        };
-        hold(want.is_none(), Wrong::Resize(resized))?;
+            ),
+            (_, None) => Err(Wrong::Closed),
+        }
+    }
+
+    /// An object was given this length: where it stood, and what it had.
+    fn resized(
+        &mut self,
+        alloc: Global,
+        handle: Handle,
+        known: (u32, u32),
+        length: u32,
+        done: Resized,
+    ) -> Result<(), Wrong> {
+        let (place, old) = known;
         let before = self.reference.class_for(old);
         let after = self.reference.class_for(length);
         let hole = before != after && self.leaves_hole(place, before);
-        let right = Resized {
-            old_slot_words: self.reference.slot_words(before),
-            slot_words: self.reference.slot_words(after),
-            moved: done.moved,
-        };
-        hold(
-            done == right && done.moved.is_some() == hole,
-            Wrong::Resize(resized),
-        )?;
-        let Some(mut live) = self.take(handle) else {
+        let right = done.old_slot_words == self.reference.slot_words(before)
+            && done.slot_words == self.reference.slot_words(after)
+            && done.moved.is_some() == hole;
+        hold(right, Wrong::Resize(Ok(done)))?;
+        let Some(live) = self.take(handle) else {
             return Ok(());
         };
-        live.bytes.resize(length as usize, 0)?;
         self.fill_hole(alloc, done.moved, place, done.old_slot_words)?;
-        self.put(alloc, handle, live.bytes)?;
+        self.put(alloc, handle, length, &cut(&live.bytes, length))?;
         self.compare_figures(before)?;
         self.compare_figures(after)
     }
@@ -388,56 +422,143 @@ impl<H: Manager> RandomRun<H> {
         };
         let at = self.below(8 + length);
         let n = self.below(41);
-        let first = self.below(256) as u8;
-        let mut piece = Vec::new(alloc);
-        for i in 0..n {
-            piece.push(first.wrapping_add(i as u8))?;
+        let bytes = counted_from(self.below(256) as u8);
+        let bytes = &bytes[..n as usize];
+        let fits = known.is_some() && at + n <= length;
+        match self.heap_write(handle, at, bytes) {
+            Some(written) => hold(written.is_ok() == fits, Wrong::Access(written))?,
+            None => return Err(Wrong::Closed),
         }
-        if !self.heap.is_open() {
-            return Err(Wrong::Closed);
+        if fits {
+            return self.written(alloc, handle, at, bytes);
         }
-        self.meter.lap();
-        let written = self
-            .heap
-            .write(handle, at, piece.as_slice(), self.meter.steps());
-        let end = at + n;
-        let fits = known.is_some_and(|(_place, length)| end <= length);
-        hold(written.is_ok() == fits, Wrong::Access(written))?;
-        if !fits {
-            return Ok(());
-        }
+        Ok(())
+    }
+
+    /// These bytes were written into an object from byte `at` on.
+    fn written(
+        &mut self,
+        alloc: Global,
+        handle: Handle,
+        at: u32,
+        bytes: &[u8],
+    ) -> Result<(), Wrong> {
         let Some(mut live) = self.take(handle) else {
             return Ok(());
         };
-        let mut i = at as usize;
-        for byte in piece.iter() {
-            if let Some(kept) = live.bytes.get_mut(i) {
-                *kept = *byte;
-            }
-            i = i.wrapping_add(1);
-        }
-        self.put(alloc, handle, live.bytes)
+        overwrite(&mut live.bytes, at as usize, bytes);
+        self.put(alloc, handle, live.length, &live.bytes)
     }
 
     /// Reads a whole object.
-    pub fn read(&mut self, alloc: Global, handle: Handle) -> Result<(), Wrong> {
+    pub fn read(&mut self, handle: Handle) -> Result<(), Wrong> {
+        let mut out = [0xee; MOST];
+        let Some((_place, length)) = self.known(handle) else {
+            return match self.heap_read(handle, &mut []) {
+                Some(done) => hold(done.is_err(), Wrong::Access(done)),
+                None => Err(Wrong::Closed),
+            };
+        };
+        let out = &mut out[..(length as usize).min(MOST)];
+        match self.heap_read(handle, out) {
+            Some(done) => hold(
+                done.is_ok() && self.has_bytes(handle, out),
+                Wrong::Access(done),
+            ),
+            None => Err(Wrong::Closed),
+        }
+    }
+
+    /// Whether an object begins with these bytes.
+    fn has_bytes(&self, handle: Handle, bytes: &[u8]) -> bool {
+        match self.objects.get(handle.0 as usize) {
+            Some(Some(live)) => live.bytes.starts_with(bytes),
+            _ => false,
+        }
+    }
+
+    /// Each of these calls the heap, where it is open.
+    fn heap_malloc(&mut self, length: u32) -> Option<Result<Handle, Refusal>> {
         if !self.heap.is_open() {
-            return Err(Wrong::Closed);
+            return None;
         }
         self.meter.lap();
-        let Some(Some(live)) = self.objects.get(handle.0 as usize) else {
-            let done = self.heap.read(handle, 0, &mut [], self.meter.steps());
-            return hold(done.is_err(), Wrong::Access(done));
-        };
-        let mut out = Vec::from_elem(alloc, 0xee, live.bytes.len())?;
-        let done = self
-            .heap
-            .read(handle, 0, out.as_mut_slice(), self.meter.steps());
-        hold(done.is_ok(), Wrong::Access(done))?;
-        hold(
-            out.as_slice() == live.bytes.as_slice(),
-            Wrong::Differs("the bytes of an object"),
-        )
+        Some(self.heap.malloc(length, self.meter.steps()))
+    }
+
+    fn heap_free(&mut self, handle: Handle) -> Option<Result<Freed, NotLive>> {
+        if !self.heap.is_open() {
+            return None;
+        }
+        self.meter.lap();
+        Some(self.heap.free(handle, self.meter.steps()))
+    }
+
+    fn heap_resize(&mut self, handle: Handle, length: u32) -> Option<Result<Resized, ResizeFault>> {
+        if !self.heap.is_open() {
+            return None;
+        }
+        self.meter.lap();
+        Some(self.heap.resize(handle, length, self.meter.steps()))
+    }
+
+    fn heap_write(
+        &mut self,
+        handle: Handle,
+        at: u32,
+        bytes: &[u8],
+    ) -> Option<Result<(), AccessFault>> {
+        if !self.heap.is_open() {
+            return None;
+        }
+        self.meter.lap();
+        Some(self.heap.write(handle, at, bytes, self.meter.steps()))
+    }
+
+    fn heap_read(&mut self, handle: Handle, out: &mut [u8]) -> Option<Result<(), AccessFault>> {
+        if !self.heap.is_open() {
+            return None;
+        }
+        self.meter.lap();
+        Some(self.heap.read(handle, 0, out, self.meter.steps()))
+    }
+
+    fn heap_place(&mut self, handle: Handle) -> Option<u32> {
+        if !self.heap.is_open() {
+            return None;
+        }
+        self.heap.place(handle, self.meter.steps())
+    }
+}
+
+/// Bytes that count up.
+fn counted_from(first: u8) -> [u8; 41] {
+    let mut bytes = [0; 41];
+    let mut byte = first;
+    for i in 0..41 {
+        bytes[i] = byte;
+        byte = byte.wrapping_add(1);
+    }
+    bytes
+}
+
+/// The first bytes, and zeros behind them.
+fn cut(bytes: &[u8; MOST], length: u32) -> [u8; MOST] {
+    let mut kept = *bytes;
+    if (length as usize) < MOST {
+        kept[length as usize..].fill(0);
+    }
+    kept
+}
+
+/// The bytes stand from byte `at` on, as far as there is room.
+fn overwrite(object: &mut [u8; MOST], at: usize, bytes: &[u8]) {
+    let mut i = at;
+    for byte in bytes {
+        if let Some(kept) = object.get_mut(i) {
+            *kept = *byte;
+        }
+        i = i.wrapping_add(1);
     }
 }
 

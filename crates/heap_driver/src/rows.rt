@@ -1,5 +1,16 @@
 //! Worked rows: calls, and what was worked out by hand that they return.
 
+/// How many rows there are.
+pub const ROWS: usize = 28;
+
+/// What row i shows, and its lines.
+pub fn row(i: usize) -> (&'static str, &'static str) {
+    match TEXTS.get(i) {
+        Some(row) => *row,
+        None => ("", ""),
+    }
+}
+
 /// What each row shows, and its lines. A line is a call, and after `: ` what it returns, where that isn't
 /// `ok`; where the two layouts differ, first what it returns with slots of words, and after ` | ` what
 /// it returns with slots of blocks. Objects go by ids from 0 to 9.
@@ -10,7 +21,7 @@
 /// the class of so many bytes, `totals` of the heap, and `cost` whether the last malloc, free or resize
 /// cost something within its bound. `fill COUNT BYTES SLOTWORDS` fills the region with so many objects,
 /// one after another.
-pub static ROWS: [(&str, &str); 28] = [
+static TEXTS: [(&str, &str); ROWS] = [
     (
         "a whole page, one byte more, and no proxy left",
         "heap 1 512 1 1

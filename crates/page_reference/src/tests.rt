@@ -1,7 +1,7 @@
 use crate::Plain;
 use crate::frames::{block_of, exchange, new_frames};
 use cf_base::{Figures, Layout, Settings, Totals};
-use std::alloc::Global;
+use std::alloc::{AllocError, Global};
 use std::process::Abort;
 use std::test::Fail;
 
@@ -28,7 +28,7 @@ type Entry = (u16, u32, u32);
 type Case = (u32, &'static [Entry], Numbers);
 
 /// Arrangements in slots of words.
-const CASES: [Case; 14] = [
+static CASES: [Case; 14] = [
     // two pages of two slots, exactly full
     (
         2,
@@ -210,7 +210,7 @@ const CASES: [Case; 14] = [
 ];
 
 /// Arrangements in slots of whole blocks.
-const BLOCK_CASES: [Case; 2] = [
+static BLOCK_CASES: [Case; 2] = [
     // two pages of two slots, exactly full
     (
         2,
@@ -241,7 +241,7 @@ const BLOCK_CASES: [Case; 2] = [
 
 /// How many pages, the bound of not-full pages, the objects, the one that is freed, and whether
 /// another must move.
-const FREES: [(u32, u32, &[Entry], u16, bool); 13] = [
+static FREES: [(u32, u32, &[Entry], u16, bool); 13] = [
     // the first free of a class has no page to fill from, and the second one has
     (
         2,
@@ -312,102 +312,129 @@ fn laid(
     Ok(plain)
 }
 
-/// Asserts what is computed of the objects.
-fn assert_numbers(rt: &impl Abort, plain: &Plain, want: Numbers) {
-    let [slot_words, slots, live, pages, not_full] = want.figures;
-    let [count, used, free, largest] = want.totals;
+/// Whether the figures of a class are these: slot words, slots, live, pages, not full.
+fn has_figures(plain: &Plain, class: u32, want: [u32; 5]) -> bool {
+    let [slot_words, slots, live, pages, not_full] = want;
+    let want = Figures {
+        slot_words,
+        slots,
+        live,
+        pages,
+        not_full,
+    };
+    class < plain.classes() && plain.figures(class) == want
+}
+
+/// Whether the figures of the whole are these.
+fn has_totals(plain: &Plain, want: &Numbers) -> bool {
+    let [live, used, free, largest] = want.totals;
     let [asked, taken, held] = want.in_bytes;
+    let want = Totals {
+        live,
+        asked,
+        taken,
+        held,
+        used,
+        free,
+        largest,
+    };
+    plain.totals() == want
+}
+
+/// Whether this is computed of the objects.
+fn has_numbers(plain: &Plain, want: &Numbers) -> bool {
     let class = plain.class_for(want.bytes);
-    assert!(rt; class < plain.classes());
-    assert_eq!(rt;
-        plain.figures(class),
-        Figures {
-            slot_words,
-            slots,
-            live,
-            pages,
-            not_full,
+    has_figures(plain, class, want.figures)
+        && has_totals(plain, want)
+        && plain.pages_needed() == want.needed[0]
+        && plain.pages_needed_with(want.bytes) == want.needed[1]
+        && class < plain.classes()
+        && plain.lacks_room(class) == want.lacks
+}
+
+/// The first of the cases that has other numbers.
+fn first_wrong(
+    rt: &impl Abort,
+    alloc: Global,
+    layout: Layout,
+    cases: &[Case],
+) -> Result<Option<usize>, Fail> {
+    for i in 0..cases.len() {
+        let plain = laid(rt, alloc, layout, cases[i].0, 1, cases[i].1)?;
+        if !has_numbers(&plain, &cases[i].2) {
+            return Ok(Some(i));
         }
-    );
-    assert_eq!(rt;
-        plain.totals(),
-        Totals {
-            live: count,
-            asked,
-            taken,
-            held,
-            used,
-            free,
-            largest,
-        }
-    );
-    assert_eq!(rt; plain.pages_needed(), want.needed[0]);
-    assert_eq!(rt; plain.pages_needed_with(want.bytes), want.needed[1]);
-    assert_eq!(rt; plain.lacks_room(class), want.lacks);
+    }
+    Ok(None)
 }
 
 #[test]
 fn worked_arrangements_have_their_numbers(rt: HostRuntime) -> Result<(), Fail> {
     let alloc = rt.alloc();
-    for (pages, objects, numbers) in CASES {
-        let plain = laid(&rt, alloc, Layout::Words, pages, 1, objects)?;
-        assert_numbers(&rt, &plain, numbers);
-    }
-    for (pages, objects, numbers) in BLOCK_CASES {
-        let plain = laid(&rt, alloc, Layout::Blocks, pages, 1, objects)?;
-        assert_numbers(&rt, &plain, numbers);
-    }
+    assert_eq!(rt; first_wrong(&rt, alloc, Layout::Words, &CASES)?, None);
+    assert_eq!(rt;
+        first_wrong(&rt, alloc, Layout::Blocks, &BLOCK_CASES)?,
+        None
+    );
     Ok(())
 }
 
 #[test]
 fn a_free_moves_an_object_where_it_must(rt: HostRuntime) -> Result<(), Fail> {
     let alloc = rt.alloc();
-    for (pages, k, objects, number, moves) in FREES {
-        let plain = laid(&rt, alloc, Layout::Words, pages, k, objects)?;
-        assert_eq!(rt; plain.must_move(number), moves, "{number} of {pages} pages");
+    for (pages, k, objects, number, moves) in FREES.iter() {
+        let plain = laid(&rt, alloc, Layout::Words, *pages, *k, objects)?;
+        assert_eq!(rt;
+            plain.must_move(*number),
+            *moves,
+            "{number} of {pages} pages"
+        );
     }
     Ok(())
 }
 
 #[test]
 fn what_was_put_and_removed_again_is_as_nothing(rt: HostRuntime) -> Result<(), Fail> {
-    let alloc = rt.alloc();
-    let mut plain = laid(
-        &rt,
-        alloc,
-        Layout::Words,
-        2,
-        1,
-        &[(0, 0, 504), (1, 64, 504)],
-    )?;
+    let objects = [(0, 0, 504), (1, 64, 504)];
+    let mut plain = laid(&rt, rt.alloc(), Layout::Words, 2, 1, &objects)?;
     for number in [0, 1, 7] {
         plain.remove(number);
     }
-    assert_eq!(rt; plain.count(), 0);
-    assert_eq!(rt; plain.used_pages(), 0);
+    assert!(rt; plain.count() == 0 && plain.used_pages() == 0);
     Ok(())
 }
 
 #[test]
 fn an_object_that_moves_leaves_its_page(rt: HostRuntime) -> Result<(), Fail> {
-    let alloc = rt.alloc();
-    let mut plain = laid(
-        &rt,
-        alloc,
-        Layout::Words,
-        3,
-        1,
-        &[(1, 23, 176), (3, 87, 176), (5, 151, 176)],
-    )?;
+    let objects = [(1, 23, 176), (3, 87, 176), (5, 151, 176)];
+    let mut plain = laid(&rt, rt.alloc(), Layout::Words, 3, 1, &objects)?;
     for number in [3, 4, 7] {
         plain.move_to(number, 128);
     }
-    assert_eq!(rt; plain.count(), 3);
-    for (page, standing) in [(0, 1), (1, 0), (2, 2)] {
-        assert_eq!(rt; plain.standing_on(page), standing, "page {page}");
-    }
+    let standing = [0, 1, 2].map(|page| plain.standing_on(page));
+    assert!(rt; plain.count() == 3 && standing == [1, 0, 2]);
     Ok(())
+}
+
+/// Whether the region has so many words, and these among them.
+fn has_words(
+    alloc: Global,
+    plain: &Plain,
+    count: usize,
+    wants: &[(usize, u64)],
+) -> Result<bool, AllocError> {
+    let words = plain.image(alloc)?;
+    Ok(words.len() == count && are_words(&words, wants))
+}
+
+/// Whether these are among the words.
+fn are_words(words: &[u64], wants: &[(usize, u64)]) -> bool {
+    for (w, want) in wants {
+        if words.get(*w) != Some(want) {
+            return false;
+        }
+    }
+    true
 }
 
 #[test]
@@ -415,9 +442,7 @@ fn words_are_headers_and_bytes_and_zeros(rt: HostRuntime) -> Result<(), Fail> {
     let alloc = rt.alloc();
     let mut plain = laid(&rt, alloc, Layout::Words, 2, 1, &[(3, 87, 176)])?;
     plain.put(alloc, 1, 64, 176, &[0xa1, 0xb2])?;
-    let words = plain.image(alloc)?;
-    assert_eq!(rt; words.len(), 128);
-    for (w, want) in [
+    let wants = [
         (0, 0),
         (23, 0),
         (64, 0x0000_00b0_0000_0001),
@@ -425,9 +450,8 @@ fn words_are_headers_and_bytes_and_zeros(rt: HostRuntime) -> Result<(), Fail> {
         (66, 0),
         (87, 0x0000_00b0_0000_0003),
         (127, 0),
-    ] {
-        assert_eq!(rt; words.get(w), Some(&want), "word {w}");
-    }
+    ];
+    assert!(rt; has_words(alloc, &plain, 128, &wants)?);
     Ok(())
 }
 
@@ -436,11 +460,8 @@ fn bytes_past_the_length_dont_count(rt: HostRuntime) -> Result<(), Fail> {
     let alloc = rt.alloc();
     let mut plain = laid(&rt, alloc, Layout::Words, 1, 1, &[])?;
     plain.put(alloc, 0, 0, 3, b"abcd")?;
-    let words = plain.image(alloc)?;
-    assert_eq!(rt; words.len(), 64);
-    for (w, want) in [(0, 0x0000_0003_0000_0000), (1, 0x0063_6261), (63, 0)] {
-        assert_eq!(rt; words.get(w), Some(&want), "word {w}");
-    }
+    let wants = [(0, 0x0000_0003_0000_0000), (1, 0x0063_6261), (63, 0)];
+    assert!(rt; has_words(alloc, &plain, 64, &wants)?);
     Ok(())
 }
 
@@ -451,52 +472,68 @@ fn a_resized_object_keeps_its_first_bytes(rt: HostRuntime) -> Result<(), Fail> {
     let mut plain = laid(&rt, alloc, Layout::Words, 3, 1, &objects)?;
     plain.put(alloc, 0, 128, 504, &[0xa1, 0xb2])?;
     plain.move_to(2, 0);
-    let words = plain.image(alloc)?;
-    for (w, want) in [
+    let wants = [
         (0, 0x0000_00b0_0000_0002),
         (23, 0x0000_00b0_0000_0001),
         (64, 0),
         (128, 0x0000_01f8_0000_0000),
         (129, 0xb2a1),
         (130, 0),
-    ] {
-        assert_eq!(rt; words.get(w), Some(&want), "word {w}");
-    }
+    ];
+    assert!(rt; has_words(alloc, &plain, 192, &wants)?);
     Ok(())
 }
 
-// Two pages of 16 blocks: the object at word 24 has blocks 6 to 11, and fills the hole at word 64.
+/// Whether block i of an object at this address is the wanted one, for each.
+fn has_blocks(frames: &[u32], place: u32, wants: &[(u32, u32)]) -> bool {
+    for (i, want) in wants {
+        if !has_block(frames, place, *i, *want) {
+            return false;
+        }
+    }
+    true
+}
+
+/// Whether block i is.
+fn has_block(frames: &[u32], place: u32, i: u32, want: u32) -> bool {
+    (place / 4) as usize + (i as usize) < frames.len() && block_of(frames, place, i) == want
+}
+
+/// The six blocks of an object, from this one on.
+fn six_from(first: u32) -> [(u32, u32); 6] {
+    [0, 1, 2, 3, 4, 5].map(|i| (i, first.wrapping_add(i)))
+}
+
+// Two pages of 16 blocks: the object at word 24 has blocks 6 to 11, and fills the hole at word 64. The free
+// page has the other blocks of both.
 #[test]
 fn an_object_that_moves_keeps_its_blocks(rt: HostRuntime) -> Result<(), Fail> {
     let alloc = rt.alloc();
+    let frames = new_frames(alloc, 32)?;
+    assert!(rt; has_blocks(&frames, 24, &six_from(6)));
+    let frames = exchange(alloc, &frames, 24 / 4, 64 / 4, 24 / 4)?;
+    let free = [(0, 0), (5, 5), (6, 16), (11, 21), (12, 12), (15, 15)];
+    assert!(rt;
+        has_blocks(&frames, 64, &six_from(6))
+            && has_blocks(&frames, 88, &six_from(22))
+            && has_blocks(&frames, 0, &free)
+    );
+    Ok(())
+}
+
+#[test]
+fn an_object_that_fills_a_hole_leaves_zeros(rt: HostRuntime) -> Result<(), Fail> {
+    let alloc = rt.alloc();
     let objects = [(1, 24, 176), (2, 64, 176), (3, 88, 176)];
     let mut plain = laid(&rt, alloc, Layout::Blocks, 2, 1, &objects)?;
-    let frames = new_frames(alloc, 32)?;
-    for i in 0..6 {
-        assert_eq!(rt; block_of(&frames, 24, i), 6 + i);
-    }
     assert!(rt; plain.must_move(2));
     plain.remove(2);
     plain.move_to(1, 64);
-    let frames = exchange(alloc, &frames, 24 / 4, 64 / 4, 24 / 4)?;
-    for i in 0..6 {
-        assert_eq!(rt; block_of(&frames, 64, i), 6 + i);
-        assert_eq!(rt; block_of(&frames, 88, i), 22 + i);
-    }
-    for (i, block) in [(0, 0), (5, 5), (6, 16), (11, 21), (12, 12), (15, 15)] {
-        assert_eq!(rt;
-            block_of(&frames, 0, i),
-            block,
-            "block {i} of the free page"
-        );
-    }
-    let words = plain.image(alloc)?;
-    for (w, want) in [
+    let wants = [
         (24, 0),
         (64, 0x0000_00b0_0000_0001),
         (88, 0x0000_00b0_0000_0003),
-    ] {
-        assert_eq!(rt; words.get(w), Some(&want), "word {w}");
-    }
+    ];
+    assert!(rt; has_words(alloc, &plain, 128, &wants)?);
     Ok(())
 }

@@ -1,7 +1,7 @@
 //! A read or a write that fails, at each call, on each manager and side by side.
 
 use super::rows::{MOVE, MOVED};
-use super::{ROOM, answer, answer_on, closed_managers, plain_sink};
+use super::{ROOM, answer_by, answer_on, answered_from, closed_managers};
 use crate::boxed::Boxed;
 use cf_base::{Handle, Kind, Status};
 use cf_io::{MemSink, MemSource, SureSource};
@@ -276,12 +276,11 @@ const TWO_LINES: &[u8] = b"heap 1 512 1 4\nm 1 8\n";
 #[test]
 fn a_part_of_a_line_is_not_done(rt: HostRuntime) -> Result<(), Fail> {
     let alloc = rt.alloc();
-    let cuts = vec![in alloc; 18; 1]?;
-    let fails = vec![in alloc; 1; 1]?;
-    let mut source = MemSource::new(TWO_LINES.to_vec(alloc)?, cuts, fails);
-    let mut sink = plain_sink(&rt)?;
-    assert_eq!(rt; answer(&rt, &mut source, &mut sink)?, Status::ReadFault);
-    assert_eq!(rt; sink.written(), b"ok\n".as_slice());
+    let (cuts, fails) = (vec![in alloc; 18; 1]?, vec![in alloc; 1; 1]?);
+    let source = MemSource::new(TWO_LINES.to_vec(alloc)?, cuts, fails);
+    let got = answered_from(&rt, &[], source)?;
+    assert_eq!(rt; got.status, Status::ReadFault);
+    assert_eq!(rt; got.sink.written(), b"ok\n".as_slice());
     Ok(())
 }
 
@@ -291,7 +290,10 @@ fn a_reply_that_is_not_taken_ends_the_run(rt: HostRuntime) -> Result<(), Fail> {
     let fails = vec![in alloc; 1; 1]?;
     let mut source = SureSource::new(TWO_LINES.to_vec(alloc)?);
     let mut sink = MemSink::new(alloc, ROOM, Vec::new(alloc), fails).map_err(|_| "room")?;
-    assert_eq!(rt; answer(&rt, &mut source, &mut sink)?, Status::WriteFault);
+    assert_eq!(rt;
+        answer_by(&rt, &[], &mut source, &mut sink)?,
+        Status::WriteFault
+    );
     assert_eq!(rt; sink.written(), b"ok\n".as_slice());
     Ok(())
 }

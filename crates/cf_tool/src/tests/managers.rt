@@ -1,7 +1,7 @@
 //! Scripts on the managers that are handed in, and where these stand afterwards.
 
 use super::rows::{MOVE, MOVED};
-use super::{ROOM, answer_by, answer_with, plain_sink};
+use super::{OutputOn, ROOM, answer_with, answered, answered_on};
 use cf_base::{Kind, Status};
 use cf_io::{Line, MemSink, SureSource};
 use generator::{Generator, command_text};
@@ -182,12 +182,10 @@ fn a_mode_answers_on_the_managers_that_it_names(rt: HostRuntime) -> Result<(), F
             text,
             live,
         } = case;
-        let mut source = SureSource::new(script.to_vec(rt.alloc())?);
-        let mut sink = plain_sink(&rt)?;
-        let left = answer_with(&rt, words, managers, &mut source, &mut sink)?;
-        assert_eq!(rt; left.status, status, "{shows}");
-        assert_eq!(rt; sink.written(), text, "{shows}");
-        assert_eq!(rt; left.live.as_slice(), live, "{shows}");
+        let got = answered_on(&rt, words, managers, script)?;
+        assert_eq!(rt; got.left.status, status, "{shows}");
+        assert_eq!(rt; got.sink.written(), text, "{shows}");
+        assert_eq!(rt; got.left.live.as_slice(), live, "{shows}");
     }
     Ok(())
 }
@@ -206,21 +204,12 @@ fn long_script(rt: &HostRuntime) -> Result<Vec<u8>, Fail> {
 
 #[test]
 fn what_is_saved_is_loaded_as_its_script(rt: HostRuntime) -> Result<(), Fail> {
-    let alloc = rt.alloc();
     let script = long_script(&rt)?;
-    let mut source = SureSource::new(script.clone()?);
-    let mut image = plain_sink(&rt)?;
-    assert_eq!(rt;
-        answer_by(&rt, &["save"], &mut source, &mut image)?,
-        Status::Done
-    );
-    let mut source = SureSource::new(image.written().to_vec(alloc)?);
-    let mut sink = plain_sink(&rt)?;
-    assert_eq!(rt;
-        answer_by(&rt, &["load"], &mut source, &mut sink)?,
-        Status::Done
-    );
-    assert_eq!(rt; sink.written(), script.as_slice());
+    let saved = answered(&rt, &["save"], script.as_slice())?;
+    assert_eq!(rt; saved.status, Status::Done);
+    let loaded = answered(&rt, &["load"], saved.sink.written())?;
+    assert_eq!(rt; loaded.status, Status::Done);
+    assert_eq!(rt; loaded.sink.written(), script.as_slice());
     Ok(())
 }
 
@@ -234,18 +223,24 @@ const CUTS: [(u64, &[u8], [Option<u32>; 2]); 5] = [
     (4, b"cf ok\nnm ok\ncf ok\nnm ok\n", [Some(1), Some(1)]),
 ];
 
+/// Answers two commands on two managers side by side, while this call of the sink fails.
+fn answered_until(rt: &HostRuntime, call: u64) -> Result<OutputOn, Fail> {
+    let alloc = rt.alloc();
+    let fails = vec![in alloc; call; 1]?;
+    let mut sink = MemSink::new(alloc, ROOM, Vec::new(alloc), fails).map_err(|_| "room")?;
+    let mut source = SureSource::new(b"heap 1 512 1 4\nm 1 8\nx\n".to_vec(alloc)?);
+    let kinds = [Kind::Moving, Kind::NonMoving];
+    let left = answer_with(rt, &["compare"], &kinds, &mut source, &mut sink)?;
+    Ok(OutputOn { left, sink })
+}
+
 #[test]
 fn a_cut_stops_between_two_managers(rt: HostRuntime) -> Result<(), Fail> {
-    let alloc = rt.alloc();
     for (call, text, live) in CUTS {
-        let fails = vec![in alloc; call; 1]?;
-        let mut source = SureSource::new(b"heap 1 512 1 4\nm 1 8\nx\n".to_vec(alloc)?);
-        let mut sink = MemSink::new(alloc, ROOM, Vec::new(alloc), fails).map_err(|_| "room")?;
-        let kinds = [Kind::Moving, Kind::NonMoving];
-        let left = answer_with(&rt, &["compare"], &kinds, &mut source, &mut sink)?;
-        assert_eq!(rt; left.status, Status::WriteFault, "call {call}");
-        assert_eq!(rt; sink.written(), text, "call {call}");
-        assert_eq!(rt; left.live.as_slice(), live.as_slice(), "call {call}");
+        let got = answered_until(&rt, call)?;
+        assert_eq!(rt; got.left.status, Status::WriteFault, "call {call}");
+        assert_eq!(rt; got.sink.written(), text, "call {call}");
+        assert_eq!(rt; got.left.live.as_slice(), live.as_slice(), "call {call}");
     }
     Ok(())
 }
@@ -267,33 +262,36 @@ fn generated_script(rt: &HostRuntime, seed: u64, count: u32) -> Result<Vec<u8>, 
 /// What leads the lines of each of the four.
 const NAMES: [&[u8]; 4] = [b"cf ", b"nm ", b"tlsf ", b"half "];
 
+/// How many lines four managers printed, where all of them print the same and none is refused space.
+fn lines_alike(text: &[u8]) -> Option<u32> {
+    let mut count = 0u32;
+    let mut reply: &[u8] = b"";
+    for line in text.strip_suffix(b"\n")?.split(|b| *b == b'\n') {
+        let told = line.strip_prefix(NAMES[count as usize % 4])?;
+        if count % 4 == 0 {
+            reply = told;
+        }
+        if told != reply || told == b"refused space".as_slice() {
+            return None;
+        }
+        count = count.wrapping_add(1);
+    }
+    Some(count)
+}
+
 // 3,000 commands and the `heap` line, which four managers answer alike: there is room for all of it.
 #[test]
 fn four_managers_answer_a_long_script_alike(rt: HostRuntime) -> Result<(), Fail> {
-    let alloc = rt.alloc();
-    let script = generated_script(&rt, 1, 3_000)?;
-    let mut source = SureSource::new(script);
-    let mut sink = MemSink::new(alloc, 1 << 20, Vec::new(alloc), Vec::new(alloc)).map_err(
-        |_| "room",
-    )?;
+    let mut source = SureSource::new(generated_script(&rt, 1, 3_000)?);
+    let mut sink = MemSink::new(
+        rt.alloc(),
+        1 << 20,
+        Vec::new(rt.alloc()),
+        Vec::new(rt.alloc()),
+    )
+    .map_err(|_| "room")?;
     let left = answer_with(&rt, &["compare"], &FOUR, &mut source, &mut sink)?;
     assert_eq!(rt; left.status, Status::Done);
-    let mut count = 0u32;
-    let mut reply: &[u8] = b"";
-    for line in sink.written().split(|b| *b == b'\n') {
-        if line.is_empty() {
-            // after the last line feed
-            continue;
-        }
-        let name = NAMES[count as usize % 4];
-        let told = line.strip_prefix(name).ok_or("another manager's line")?;
-        if count % 4 == 0 {
-            assert!(rt; told != b"refused space".as_slice());
-            reply = told;
-        }
-        assert_eq!(rt; told, reply, "line {count}");
-        count = count.wrapping_add(1);
-    }
-    assert_eq!(rt; count, 12_004);
+    assert_eq!(rt; lines_alike(sink.written()), Some(12_004));
     Ok(())
 }

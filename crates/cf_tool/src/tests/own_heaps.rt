@@ -1,8 +1,7 @@
 //! Scripts in the modes that play them on a heap of their own, and images.
 
-use super::{answer_with, plain_sink};
+use super::answered_on;
 use cf_base::{Kind, Status};
-use cf_io::SureSource;
 use std::test::Fail;
 
 /// The words of a call, what is read, the status, and what is written.
@@ -146,12 +145,10 @@ const IMAGES: [Row; 7] = [
 fn are_answered(rt: &HostRuntime, rows: &[Row]) -> Result<bool, Fail> {
     for row in rows {
         let (words, read, status, text) = *row;
-        let mut source = SureSource::new(read.to_vec(rt.alloc())?);
-        let mut sink = plain_sink(rt)?;
-        let left = answer_with(rt, words, &[Kind::NonMoving], &mut source, &mut sink)?;
-        if left.status != status
-            || sink.written() != text
-            || left.live.as_slice() != [None].as_slice()
+        let got = answered_on(rt, words, &[Kind::NonMoving], read)?;
+        if got.left.status != status
+            || got.sink.written() != text
+            || got.left.live.as_slice() != [None].as_slice()
         {
             return Ok(false);
         }

@@ -11,7 +11,7 @@ use cf_base::{
     AccessFault, Figures, Freed, Handle, Kind, NotLive, OutOfMemory, Refusal, ResizeFault, Resized,
     Settings, Status, Totals,
 };
-use cf_io::SureSource;
+use cf_io::{MemSink, SureSource};
 use cf_model::Manager;
 use moving_heap::MovingHeap;
 use std::test::Fail;
@@ -164,33 +164,43 @@ fn led(rt: &HostRuntime, lead: &[u8], text: &[u8]) -> Result<Vec<u8>, Fail> {
     Ok(all)
 }
 
+/// What a script prints on a padded manager, in this mode.
+fn padded_text(rt: &HostRuntime, mode: &str, slack: u64, script: &[u8]) -> Result<MemSink, Fail> {
+    let alloc = rt.alloc();
+    let padded = PaddedHeap {
+        heap: MovingHeap::closed(alloc),
+        slack,
+        cost: 0,
+    };
+    let mut managers = Vec::new(alloc);
+    managers.push(Boxed {
+        inner: Box::new(alloc, padded)?,
+    })?;
+    let mut source = SureSource::new(script.to_vec(alloc)?);
+    let mut sink = plain_sink(rt)?;
+    match answer_on(rt, &[mode], &mut managers, &mut source, &mut sink)? {
+        Status::Done => Ok(sink),
+        _ => Err("another status")?,
+    }
+}
+
+/// Whether a script prints this text on a padded manager, in mode `run`, and in mode `compare` after
+/// its name.
+fn prints_padded(rt: &HostRuntime, slack: u64, script: &[u8], text: &[u8]) -> Result<bool, Fail> {
+    let alone = padded_text(rt, "run", slack, script)?;
+    let beside = padded_text(rt, "compare", slack, script)?;
+    Ok(alone.written() == text && beside.written() == led(rt, b"cf ", text)?.as_slice())
+}
+
 /// What a `steps` line prints is what the manager handed in has ticked, to the step.
 #[test]
 fn each_steps_line_tells_the_steps_of_the_manager_handed_in(rt: HostRuntime) -> Result<(), Fail> {
-    let alloc = rt.alloc();
     for (slack, calls, resizes) in PADDED {
-        for (script, text) in [(PADDED_CALLS, calls), (PADDED_RESIZES, resizes)] {
-            for (mode, lead) in [("run", b"".as_slice()), ("compare", b"cf ".as_slice())] {
-                let padded = PaddedHeap {
-                    heap: MovingHeap::closed(alloc),
-                    slack,
-                    cost: 0,
-                };
-                let mut managers = Vec::new(alloc);
-                managers.push(Boxed {
-                    inner: Box::new(alloc, padded)?,
-                })?;
-                let mut source = SureSource::new(script.to_vec(alloc)?);
-                let mut sink = plain_sink(&rt)?;
-                let status = answer_on(&rt, &[mode], &mut managers, &mut source, &mut sink)?;
-                assert_eq!(rt; status, Status::Done, "{mode} {slack}");
-                assert_eq!(rt;
-                    sink.written(),
-                    led(&rt, lead, text)?.as_slice(),
-                    "{mode} {slack}"
-                );
-            }
-        }
+        assert!(rt; prints_padded(&rt, slack, PADDED_CALLS, calls)?, "{slack}");
+        assert!(rt;
+            prints_padded(&rt, slack, PADDED_RESIZES, resizes)?,
+            "{slack}"
+        );
     }
     Ok(())
 }

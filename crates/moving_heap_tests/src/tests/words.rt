@@ -21,6 +21,15 @@ static BYTES: &str = "r 3 0 16: =0102030405060708090a0b0c0d0e0f10
     f 1
     f 3";
 
+/// The whole words of the first object, and those that the third one gets.
+static TWO: [u64; 2] = [0x0807_0605_0403_0201, 0x8000_0000_0000_0009];
+
+static THREE: [u64; 3] = [
+    0x0807_0605_0403_0201,
+    0x100f_0e0d_0c0b_0a09,
+    0xff16_1514_1312_1110,
+];
+
 /// Whether the whole words of an object are these; with none, whether it isn't live.
 fn has_words(heap: &MovingHeap, h: Handle, want: Option<&[u64]>, meter: &mut Meter) -> bool {
     if !heap.is_open() {
@@ -48,6 +57,15 @@ fn write_words(heap: &mut MovingHeap, h: Handle, words: &[u64], meter: &mut Mete
     true
 }
 
+/// Whether objects of 21, 7 and 24 bytes have two whole words, none and three, and these three are
+/// written.
+fn words_agree(heap: &mut MovingHeap, handles: [Handle; 3], meter: &mut Meter) -> bool {
+    let [long, short, whole] = handles;
+    has_words(heap, long, Some(&TWO), meter)
+        && has_words(heap, short, Some(&[]), meter)
+        && write_words(heap, whole, &THREE, meter)
+}
+
 /// An object of 21 bytes has two whole words; its last five bytes are no part of the borrow. Three words
 /// that are written are the 24 bytes of an object.
 #[test]
@@ -57,18 +75,11 @@ fn whole_words_are_read_and_written(rt: HostRuntime) -> Result<(), Fail> {
     let mut driver = Driver::new(alloc, heap, Layout::Words, Meter::new(&rt));
     let mut meter = Meter::new(&rt);
     driver.play_row(alloc, "objects", OBJECTS)?;
-    let [long, short, whole] = [driver.handle(1), driver.handle(2), driver.handle(3)];
-    let two = [0x0807_0605_0403_0201, 0x8000_0000_0000_0009];
-    let three = [
-        0x0807_0605_0403_0201,
-        0x100f_0e0d_0c0b_0a09,
-        0xff16_1514_1312_1110,
-    ];
-    assert!(rt; has_words(&driver.heap, long, Some(&two), &mut meter));
-    assert!(rt; has_words(&driver.heap, short, Some(&[]), &mut meter));
-    assert!(rt; write_words(&mut driver.heap, whole, &three, &mut meter));
+    let handles = [driver.handle(1), driver.handle(2), driver.handle(3)];
+    assert!(rt; words_agree(&mut driver.heap, handles, &mut meter));
     driver.play_row(alloc, "the bytes of three words", BYTES)?;
+    let [long, _, whole] = handles;
     assert!(rt; has_words(&driver.heap, long, None, &mut meter));
-    assert!(rt; !write_words(&mut driver.heap, whole, &three, &mut meter));
+    assert!(rt; !write_words(&mut driver.heap, whole, &THREE, &mut meter));
     Ok(())
 }
