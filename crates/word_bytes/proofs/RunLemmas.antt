@@ -1,9 +1,9 @@
 -- Bytes of a run of words, and what a borrow of them leaves.
-use Rattle.std.proofs.Common.{◌≡◌, ℕ, zero, suc, ◌+◌, ◌-◌, ◌*◌, ◌/◌, ◌%◌, ◌^◌, ◌<◌, ◌≤◌, List, length, get_or, take, drop, arith}
+use Rattle.std.proofs.Common.{◌≡◌, ℕ, zero, suc, ◌+◌, ◌-◌, ◌*◌, ◌/◌, ◌%◌, ◌^◌, ◌<◌, ◌≤◌, List, length, get_or, set, take, drop, arith}
 use Rattle.std.proofs.Common.{◌∙◌, ap, inl, inr, sym}
 use Rattle.std.specs.Prelude.{◌&&◌, nat_le, nat_lt, if◌then◌else◌}
-use Rattle.std.proofs.lemmas.Bool.{cases_lt}
-use Rattle.std.proofs.lemmas.List.{get_or-take, get_or-drop}
+use Rattle.std.proofs.lemmas.Bool.{cases_eq, cases_lt}
+use Rattle.std.proofs.lemmas.List.{get_or-take, get_or-drop, get_or-set_same, get_or-set_other}
 use Rattle.page_model.specs.Bytes.{byte_of}
 use Rattle.region.specs.Lending.{with_words}
 use Rattle.region.proofs.CallerLemmas.{fit_below, fit_within, length-with_words, with_words_others, with_words_within}
@@ -37,6 +37,20 @@ byte_shift words first d k le =
 -- with a byte that is the same where nothing is written
 pub overwritten_same : (f g : ℕ → ℕ) (at : ℕ) (part : List ℕ) (k : ℕ) → f k ≡ g k → overwritten f at part k ≡ overwritten g at part k
 overwritten_same f g at part k e = ap (λ (z : ℕ). if nat_le at k && nat_lt k (at + length part) then get_or part (k - at) 0 else z) e
+
+-- bytes of the first word alone are written
+pub first_overwritten : (words : List ℕ) (at word : ℕ) (bytes : List ℕ) → 0 < length words → at + length bytes ≤ 8
+    → ((j : ℕ) → j < 8 → byte_of j word ≡ overwritten (λ i. byte_of i (get_or words 0 0)) at bytes j)
+    → (k : ℕ) → byte_in (set words 0 word) k ≡ overwritten (byte_in words) at bytes k
+first_overwritten words at word bytes some fits patch k = elim (cases_eq (k / 8) 0) [
+  | inl is ↦ (
+      let low : k % 8 ≡ k = omega arith in
+      let was : byte_of k (get_or words 0 0) ≡ byte_in words k =
+      ap (λ i. byte_of i (get_or words 0 0)) (sym low) ∙ ap (λ i. byte_of (k % 8) (get_or words i 0)) (sym is) in
+      ap (λ i. byte_of (k % 8) (get_or (set words 0 word) i 0)) is ∙ ap (byte_of (k % 8)) (get_or-set_same words 0 word 0 some)
+      ∙ ap (λ i. byte_of i word) low ∙ patch k (omega arith) ∙ overwritten_same (λ i. byte_of i (get_or words 0 0)) (byte_in words) at bytes k was)
+  | inr ne ↦ ap (byte_of (k % 8)) (get_or-set_other words 0 (k / 8) word 0 ne) ∙ sym (overwritten_behind (byte_in words) at bytes k (omega arith))
+]
 
 -- what a borrow leaves where bytes were written
 pub loan_overwrites : (old ws : List ℕ) (first n from : ℕ) (bytes : List ℕ) → first + n ≤ length old → length ws ≡ n

@@ -20,7 +20,7 @@ fn overwrite(cell: &mut [u8], from: usize, part: &[u8])
 }
 
 /// The word with `part` over its bytes from byte `from` on.
-fn patched(word: u64, from: usize, part: &[u8]) -> u64
+pub(crate) fn patched(word: u64, from: usize, part: &[u8]) -> u64
     requires { from + length part.now ≤ 8 }
     ensures { (j : ℕ) → j < 8 → byte_of j result ≡ overwritten (λ k. byte_of k word) from part.now j }
 {
@@ -30,7 +30,7 @@ fn patched(word: u64, from: usize, part: &[u8]) -> u64
 }
 
 /// Copies the bytes of a word from byte `from` on.
-fn copy_cell(word: u64, from: usize, out: &mut [u8])
+pub(crate) fn copy_cell(word: u64, from: usize, out: &mut [u8])
     requires { from + length out.old ≤ 8 }
     ensures { (j : ℕ) → j < length out.new → slice_index out.new j ≡ byte_of (from + j) word }
 {

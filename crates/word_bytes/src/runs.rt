@@ -3,7 +3,7 @@ ghost use Rattle.std.specs.Prelude.{◌≡◌, ℕ, ◌+◌, ◌*◌, ◌<◌, �
 ghost use Rattle.step_ledger.specs.Counting.{RoseBy};
 ghost use Rattle.word_bytes.specs.Overwriting.{Overwrites, byte_from, words_with};
 
-use crate::cells::{read_bytes, write_bytes};
+use crate::cells::{copy_cell, patched, read_bytes, write_bytes};
 use region::Region;
 use step_ledger::Steps;
 
@@ -45,4 +45,26 @@ pub fn write_run(
 {
     let words = region.payload_mut(first, n, steps);
     write_bytes(words, at, bytes);
+}
+
+/// Copies bytes of the word at `i` from its byte `at` on, for one step.
+pub fn read_word(region: &Region, i: u32, at: usize, out: &mut [u8], steps: &mut Steps)
+    requires within { i < length region.now }
+    requires fits { at + length out.old ≤ 8 }
+    ensures bytes { (j : ℕ) → j < length out.new → slice_index out.new j ≡ byte_from region.now i (at + j) }
+    ensures steps { RoseBy steps.old steps.new 1 }
+{
+    copy_cell(region.read(i, steps), at, out);
+}
+
+/// Writes the bytes over those of the word at `i` from its byte `at` on, for one step.
+pub fn write_word(region: &mut Region, i: u32, at: usize, bytes: &[u8], steps: &mut Steps)
+    requires within { i < length region.old }
+    requires fits { at + length bytes.now ≤ 8 }
+    ensures words { Overwrites region.old region.new (record { from = i; count = 1 }) at bytes.now }
+    ensures len { length region.new ≡ length region.old }
+    ensures steps { RoseBy steps.old steps.new 1 }
+{
+    let words = region.payload_mut(i, 1, steps);
+    words[0] = patched(words[0], at, bytes);
 }

@@ -1,5 +1,5 @@
 -- The words of a block stand side by side, and so do those of blocks that do.
-use Rattle.std.proofs.Common.{◌≡◌, ◌+◌, ◌*◌, ◌/◌, ◌<◌, ℕ, inl, inr, length, get_or, arith, sym, ◌∙◌, ap}
+use Rattle.std.proofs.Common.{◌≡◌, ◌+◌, ◌/◌, ◌<◌, ℕ, inl, inr, length, get_or, arith, sym, ◌∙◌, ap}
 use Rattle.std.proofs.lemmas.Bool.{cases_lt}
 use Rattle.block_table.proofs.CallerLemmas.{frame_below}
 use Rattle.virtual_words.proofs.Standing.{blocks_stand, stand_run}
