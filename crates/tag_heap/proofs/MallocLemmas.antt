@@ -1,11 +1,9 @@
 -- An object comes, in a block that was carved for it.
 use Rattle.std.proofs.Common.{◌≡◌, ◌≢◌, ℕ, zero, suc, ◌+◌, ◌^◌, ◌<◌, ◌≤◌, Option, Some, None, length, replicate, arith, refl, sym, ◌∙◌, ap, subst, inl, inr}
-use Rattle.std.proofs.lemmas.Bool.{cases_eq}
 use Rattle.std.proofs.lemmas.List.{length-replicate}
-use Rattle.std.specs.Ordering.{nat_cmp}
-use Rattle.std.specs.FinMap.{FinMap, get, insert, remove, len}
+use Rattle.std.specs.FinMap.{get, insert, len}
 use Rattle.std.specs.Prelude.{option_map}
-use Rattle.cf_lemmas.proofs.Maps.{equal_maps, get_inserted, get_insert_other, get_removed, get_remove_other, some_inserted}
+use Rattle.cf_lemmas.proofs.Maps.{get_inserted, get_insert_other, some_inserted}
 use Rattle.cf_lemmas.proofs.MapValues.{get-map_values}
 use Rattle.cf_base.specs.Classes.{need}
 use Rattle.cf_base.specs.declared.kind.Kind.{Kind}
@@ -19,7 +17,7 @@ use Rattle.block_model.specs.Buckets.{FreeLists}
 use Rattle.block_model.specs.Tiling.{Carves, IsCarvedTo, LacksBlock, block_need, size_at, used_words}
 use Rattle.block_model.specs.Words.{AreTilingWords}
 use Rattle.block_model.proofs.CallerLemmas.{used_after_malloc, used_within}
-use Rattle.proxy_table.specs.Proxies.{Proxies, AreBelowLimit, with_place, without_place}
+use Rattle.proxy_table.specs.Proxies.{AreBelowLimit, with_place}
 use Rattle.tag_blocks.specs.Blocks.{Tagged, AreTags, CarvesAt, demand, owner_of}
 use Rattle.tag_blocks.proofs.CallerLemmas.{carve_words}
 use Rattle.cf_model.specs.Families.{IsTiled, free_lists_of}
@@ -29,23 +27,6 @@ use Rattle.cf_model.proofs.CallerLemmas.{fresh_word, owned_malloc}
 use Rattle.tag_heap.specs.Heap.{Heap, IsValid, held_in, state_of}
 use Rattle.tag_heap.proofs.ByKind.{of_tiled}
 use Rattle.tag_heap.proofs.Preserved.{Becomes, are_bytes, becomes_rules, becomes_state, becomes_valid, held_many, no_place, places_are}
-
--- a number that was bound and is given back leaves the addresses as they were
-pub given_back_places : (m : FinMap nat_cmp ℕ) (q a : ℕ) → get m q ≡ None → remove (insert m q a) q ≡ m
-given_back_places m q a none = equal_maps (remove (insert m q a) q) m (λ i. elim (cases_eq i q) [
-  | inl is ↦ rw is (get_removed (insert m q a) q ∙ sym none)
-  | inr other ↦ get_remove_other (insert m q a) q i other ∙ get_insert_other m q a i other
-])
-
-pub given_back : (p : Proxies) (q a : ℕ) → get p.places q ≡ None → without_place (with_place p q a) q ≡ p
-given_back p q a none = ap (λ m. record p { places = m }) (given_back_places p.places q a none)
-
--- and one that is bound twice has its last address
-pub bound_again : (m : FinMap nat_cmp ℕ) (q a b : ℕ) → insert (insert m q a) q b ≡ insert m q b
-bound_again m q a b = equal_maps (insert (insert m q a) q b) (insert m q b) (λ i. elim (cases_eq i q) [
-  | inl is ↦ rw is (get_inserted (insert m q a) q b ∙ sym (get_inserted m q b))
-  | inr other ↦ get_insert_other (insert m q a) q b i other ∙ get_insert_other m q a i other ∙ sym (get_insert_other m q b i other)
-])
 
 no_one : {A : Type 0} (o : Option A) (x : A) → o ≡ None → o ≡ Some x → ⊥
 no_one o x e f = (let g : None ≡ Some x = sym e ∙ f in cc)
@@ -61,7 +42,7 @@ module _ (rule : FreeLists) (h : Heap) (v : IsValid h) (q n a : ℕ) (fits : nee
     (unused : get h.proxies.places q ≡ None)
     (few : q < h.proxies.limit) (some : len h.proxies.places ≢ h.proxies.limit) (t : Tagged)
     (needed tag : ℕ) (needed_is : needed ≡ need n) (tag_is : tag ≡ header_word q n) (carve : CarvesAt rule h.tagged (needed + 1) tag a t)
-    (long : length t.words ≡ length h.tagged.words) (tags : AreTags t) (below : AreBelowLimit (with_place (with_place h.proxies q 0) q a))
+    (long : length t.words ≡ length h.tagged.words) (tags : AreTags t) (below : AreBelowLimit (with_place h.proxies q a))
     (size : ℕ) (size_is : size ≡ size_at t.blocks a) where
   abbrev grown : Held
   grown = insert (held_in h) q (zeros_at a n)
@@ -70,7 +51,7 @@ module _ (rule : FreeLists) (h : Heap) (v : IsValid h) (q n a : ℕ) (fits : nee
   abbrev pub given : Heap
   given = record h {
     tagged = t;
-    proxies = with_place (with_place h.proxies q 0) q a;
+    proxies = with_place h.proxies q a;
     asked = h.asked + n;
     used_words =
         h.used_words + size;
@@ -142,7 +123,7 @@ module _ (rule : FreeLists) (h : Heap) (v : IsValid h) (q n a : ℕ) (fits : nee
   becomes = record {
     tags = tags;
     words_long = long ∙ v.words_long;
-    places = bound_again h.proxies.places q 0 a ∙ ap (λ m. insert m q a) (places_are h v) ∙ sym (malloc_places (held_in h) q a n);
+    places = ap (λ m. insert m q a) (places_are h v) ∙ sym (malloc_places (held_in h) q a n);
     bytes = are_bytes_now;
     owned = owned_malloc rule (length h.tagged.words) (held_in h) h.tagged.blocks t.blocks q n a v.tags.tiling v.owned none carves carved_to;
     contents = contents_now;

@@ -1,15 +1,13 @@
 -- What stands at an address, and the parts of objects that are read.
-use Rattle.std.proofs.Common.{◌≡◌, ℕ, ◌+◌, ◌/◌, ◌%◌, ◌^◌, ◌<◌, ◌≤◌, List, length, get_or, Some, arith, sym, ◌∙◌, ap}
+use Rattle.std.proofs.Common.{◌≡◌, ℕ, ◌+◌, ◌/◌, ◌^◌, ◌<◌, ◌≤◌, List, length, Some, arith, sym, ◌∙◌, ap}
 use Rattle.std.specs.Prelude.{option_map}
-use Rattle.std.proofs.lemmas.List.FromFn.{length-map-range_with_len, get_or-map-range_with_len}
 use Rattle.std.specs.Ordering.{nat_cmp}
 use Rattle.std.specs.FinMap.{FinMap, get}
 use Rattle.cf_lemmas.proofs.MapValues.{get-map_values}
 use Rattle.cf_base.specs.declared.kind.Kind.{Kind}
 use Rattle.page_model.specs.Held.{Placed}
-use Rattle.page_model.specs.Bytes.{byte_of, bytes_at}
+use Rattle.page_model.specs.Bytes.{bytes_at}
 use Rattle.block_model.specs.Tiling.{size_at, size_of}
-use Rattle.page_model.proofs.CallerLemmas.{bytes_long, byte_is}
 use Rattle.block_model.proofs.CallerLemmas.{lies}
 use Rattle.cf_model.specs.ReadObjects.{read_objects}
 use Rattle.cf_model.specs.Steps.{PassesEnd}

@@ -26,8 +26,8 @@ impl<B: Yardstick> OpenHeap<B> {
         result
     }
 
-    /// Adds an object of `bytes` bytes, all zero. Its number comes before its address, since the tag of
-    /// its block has it, and is given back where no block serves.
+    /// Adds an object of `bytes` bytes, all zero. The block is found before the object has a number, and
+    /// carved after, since its tag has the number.
     fn malloc_inner(&mut self, bytes: u32, steps: &mut Steps) -> Result<Handle, Refusal>
         ensures same { StaysOpen (state_of B.kind self.old) (state_of B.kind self.new) }
         ensures step { IsMallocStep (state_of B.kind self.old) bytes result (state_of B.kind self.new) }
@@ -38,19 +38,21 @@ impl<B: Yardstick> OpenHeap<B> {
         if self.settings.page_words < need {
             return Err(Refusal::Size);
         }
-        let Some(handle) = self.proxies.bind(0, steps) else {
+        let words = need + 1;
+        let Some(place) = self.blocks.find(words, steps) else {
+            if self.proxies.live() == self.settings.proxies {
+                return Err(Refusal::Proxy);
+            }
+            return Err(Refusal::Space);
+        };
+        let Some(handle) = self.proxies.bind(place, steps) else {
             return Err(Refusal::Proxy);
         };
         let tag = Header {
             handle,
             length: bytes,
         };
-        let Some(place) = self.blocks.carve(need + 1, tag.pack(), steps) else {
-            self.proxies.release(handle, steps);
-            return Err(Refusal::Space);
-        };
-        self.proxies.rebind(handle, place, steps);
-        self.used_words += self.blocks.size_of(place, steps);
+        self.used_words += self.blocks.carve_at(place, words, tag.pack(), steps);
         self.asked += u64::from(bytes);
         Ok(handle)
     }
