@@ -18,12 +18,15 @@ use Rattle.run_model.specs.Texts.{led, said}
 use Rattle.frag_report.specs.Classes.{lines_of, classes_below, class_if_live}
 
 -- the numbers up to n begin with those up to c
-range_from : (a n m : ℕ) → range_with_len a (n + m) ≡ range_with_len a n ++ range_with_len (a + n) m
+pub range_from : (a n m : ℕ) → range_with_len a (n + m) ≡ range_with_len a n ++ range_with_len (a + n) m
 range_from a zero m = let e : a ≡ a + 0 = omega arith in let z : 0 + m ≡ m = omega arith in ap (range_with_len a) z ∙ ap (λ b. range_with_len b m) e
 range_from a (suc n) m =
     let next : suc n + m ≡ suc (n + m) = omega arith in
     let last : (a + 1) + n ≡ a + suc n = omega arith in
     ap (range_with_len a) next ∙ ap (λ r. a ∷ r) (range_from (a + 1) n m) ∙ ap (λ k. a ∷ (range_with_len (a + 1) n ++ range_with_len k m)) last
+
+pub one_class_more : (c : ℕ) → range_with_len 0 (c + 1) ≡ range_with_len 0 c ++ c ∷ []
+one_class_more c = let here : 0 + c ≡ c = omega arith in range_from 0 c 1 ∙ ap (λ k. range_with_len 0 c ++ k ∷ []) here
 
 lines-append : (s : HeapState) (some more : List ℕ) → lines_of s (some ++ more) ≡ lines_of s some ++ lines_of s more
 lines-append s some more =
@@ -32,8 +35,7 @@ lines-append s some more =
 
 pub below_more : (s : HeapState) (lead : List ℕ) (c : ℕ) → led lead (classes_below s (c + 1)) ≡ led lead (classes_below s c) ++ led lead (class_if_live s c)
 below_more s lead c =
-    let here : 0 + c ≡ c = omega arith in
-    ap (λ r. led lead (lines_of s r)) (range_from 0 c 1 ∙ ap (λ k. range_with_len 0 c ++ k ∷ []) here)
+    ap (λ r. led lead (lines_of s r)) (one_class_more c)
     ∙ ap (led lead) (lines-append s (range_with_len 0 c) (c ∷ [])) ∙ led-append lead (classes_below s c) (class_if_live s c)
 
 abbrev Told : Type 0

@@ -1,12 +1,10 @@
 -- Each call of a task has its step: a malloc that isn't refused has a place, a free that must move an object can, and the words are there.
 use Rattle.std.proofs.Common.{◌≡◌, ◌≢◌, ℕ, zero, suc, ◌+◌, ◌-◌, ◌*◌, ◌/◌, ◌%◌, ◌<◌, ◌≤◌, List, Bool, true, false, cond, Some, None}
-use Rattle.std.proofs.Common.{length, get_or, set, map, arith, sym, ◌∙◌, ap, refl, subst, inl, inr}
-use Rattle.std.specs.Prelude.{◌&&◌, IsTrue, Option, Result, Ok, Err, nat_eq, nat_le, nat_lt}
+use Rattle.std.proofs.Common.{length, get_or, set, arith, sym, ◌∙◌, ap, refl, subst, inl, inr}
+use Rattle.std.specs.Prelude.{IsTrue, Option, Result, Ok, Err, nat_eq, nat_lt}
 use Rattle.std.specs.List.{range_with_len}
 use Rattle.std.proofs.lemmas.Bool.{cases_eq, cases_lt, false≢true}
-use Rattle.std.proofs.lemmas.Bool.Decides.{nat_tests}
-use Rattle.std.proofs.lemmas.List.{get_or_past, length-set}
-use Rattle.std.proofs.lemmas.List.FromFn.{get_or-map-range_with_len, length-map-range_with_len}
+use Rattle.std.proofs.lemmas.List.{length-set}
 use Rattle.std.specs.FinMap.{get, insert, len}
 use Rattle.cf_base.specs.Classes.{need}
 use Rattle.cf_base.specs.Limits.{is_page_size}
@@ -19,14 +17,14 @@ use Rattle.cf_base.specs.declared.answers.Refusal.{Refusal}
 use Rattle.cf_base.specs.declared.answers.Refusal.TheVariants as refusal
 use Rattle.cf_lemmas.proofs.Ranges.{one, sum_at_least, sum_le}
 use Rattle.cf_lemmas.proofs.Searches.{few_keys, fresh_key}
-use Rattle.cf_lemmas.proofs.Tests.{and_false, eq_no, eq_yes, lt_yes}
+use Rattle.cf_lemmas.proofs.Tests.{eq_no, eq_yes, lt_yes}
 use Rattle.cf_model.specs.State.{region_words}
-use Rattle.page_model.specs.Arrangement.{IsSound, class_at, home_pages, live, not_full_pages, objects_on, pages_needed, pages_needed_with}
+use Rattle.page_model.specs.Arrangement.{IsSound, class_at, home_pages, live, not_full_pages, pages_needed, pages_needed_with}
 use Rattle.page_model.specs.Arrangement.{standing_on, used_pages}
 use Rattle.page_model.specs.Bytes.{written}
 use Rattle.page_model.specs.Counts.{Stand, ceil_div}
 use Rattle.page_model.specs.Held.{Held, Placed, objects}
-use Rattle.page_model.specs.Image.{IsOutside, IsSlotImage, MovesWords, Rewrites, header_word, object_word, slot_for}
+use Rattle.page_model.specs.Image.{IsSlotImage, MovesWords, header_word, object_word, slot_for}
 use Rattle.page_model.specs.Paging.{IsPaging, Paging, address_of, bound_of, class_for, classes, page_of, slot_words, slots_of}
 use Rattle.page_model.specs.Steps.{IsFreePlace, Moves, Request, without, zeros_at}
 use Rattle.page_model.proofs.CallerLemmas.{IsOpen, address_is_slot, between_multiples, class_fits, len-objects, nothing_on, on_page, open_page}
@@ -41,6 +39,7 @@ use Rattle.quota_model.specs.Refusals.{malloc_refusal, task_paging}
 use Rattle.quota_model.specs.Shared.{AreQuotas, IsShared, PlacesForTask, RemovesForTask}
 use Rattle.quota_model.proofs.CallerLemmas.{free_quotas, free_shared, found_small, found_whole, quotas_stay, stays_shared}
 use Rattle.quota_model.proofs.CallerLemmas.{tasks_at_one, tasks_paged}
+use Rattle.run_laws.proofs.CallerLemmas.{is_rewritten, length-rewritten, rewritten, some_move}
 
 -- what none of the three causes says
 no_cause : (a b c : Bool) → cond a (Some refusal.Size) (cond b (Some refusal.Proxy) (cond c (Some refusal.Space) None)) ≡ None
@@ -111,42 +110,6 @@ module _ (p : Paging) (ok : IsPaging p) (m : Held) (s : IsSound p m) (ones : (c 
       let here = sum_at_least (λ d. one (nat_eq c d)) 0 (classes p) c (omega arith) (omega arith) in
       let yes : one (nat_eq c c) ≡ 1 = ap one (eq_yes c c refl) in
       omega arith
-
--- whether w is one of the n words from a on
-abbrev is_in : ℕ → ℕ → ℕ → Bool
-is_in a n w = nat_le a w && nat_lt w (a + n)
-
-is_in_yes : (a n i : ℕ) → i < n → is_in a n (a + i) ≡ true
-is_in_yes a n i lt = (let x : nat_le a (a + i) ≡ true = grind (arith, nat_tests) in let y : nat_lt (a + i) (a + n) ≡ true =
-    grind (arith, nat_tests) in rw (x, y) refl)
-
-is_in_no : (a n w : ℕ) → IsOutside a n w → is_in a n w ≡ false
-is_in_no a n w (inl l) = (let x : nat_le a w ≡ false = grind (arith, nat_tests) in rw x refl)
-is_in_no a n w (inr r) = (let y : nat_lt w (a + n) ≡ false = grind (arith, nat_tests) in rw y (and_false (nat_le a w)))
-
--- the words with those of a run replaced
-module _ (words : List ℕ) (a n : ℕ) (f : ℕ → ℕ) where
-  unfoldable pub word_at : ℕ → ℕ
-  word_at w = cond (is_in a n w) (f (w - a)) (get_or words w 0)
-
-  abbrev pub rewritten : List ℕ
-  rewritten = map word_at (range_with_len 0 (length words))
-
-  pub length-rewritten : length rewritten ≡ length words
-  length-rewritten = length-map-range_with_len word_at 0 (length words)
-
-  get-rewritten : (w : ℕ) → w < length words → get_or rewritten w 0 ≡ word_at w
-  get-rewritten w lt = get_or-map-range_with_len word_at 0 (length words) w w 0 lt (omega arith)
-
-  pub is_rewritten : a + n ≤ length words → Rewrites words rewritten (record { from = a; count = n }) f
-  unfolding word_at
-  is_rewritten inside = record {
-    within = λ i lt. get-rewritten (a + i) (omega arith) ∙ (let y = is_in_yes a n i lt in let e : a + i - a ≡ i = omega arith in rw (y, e) refl);
-    others = λ w out. elim (cases_lt w (length words)) [
-      | inl lt ↦ get-rewritten w lt ∙ (let no' = is_in_no a n w out in rw no' refl)
-      | inr past ↦ (let len = length-rewritten in get_or_past rewritten w 0 (omega arith) ∙ sym (get_or_past words w 0 past))
-    ];
-  }
 
 -- a call of a task that is there: its answer, and the heap after it
 pub record IsThere (T : Type 0) (R : T → QuotaState → Type 0) : Type 0 where
@@ -299,25 +262,6 @@ module _ (law : PageLaw) (s : QuotaState) (rules : KeepsTasks s) (task : ℕ) (l
       go None granted = malloc_granted n granted
       go (Some e) cause = record { answer = Err e; heap = s; step = (cause, refl); rules = rules }
 
-  -- a free moves nothing, or there is an object to move
-  some_move : (h : ℕ) (x : Placed) → get m h ≡ Some x → (moved : Option ℕ) × Moves p m x moved
-  some_move h x there = elim (cases_eq (objects_on p m (class_at p x) (page_of p x.place)) (slots_of p (class_at p x))) [
-    | inr ne ↦ (None, λ must. ne must.full)
-    | inl full ↦ elim (cases_lt 1 (slots_of p (class_at p x))) [
-      | inr single ↦ (None, λ must. (let several = must.several in omega arith))
-      | inl several ↦ elim (cases_eq (not_full_pages p m (class_at p x)) (bound_of p (class_at p x))) [
-        | inr ne ↦ (None, λ must. ne must.many)
-        | inl many ↦ (
-            let class = (sound.slots h x there).class in
-            let some = ok.some (class_at p x) class in
-            let at = open_page p m (class_at p x) (omega arith) in
-            let on = on_page p m (class_at p x) at.0 (at.1).some in
-            let less : objects_on p m (class_at p x) (page_of p (on.1).place) < slots_of p (class_at p x) = (let e = on.3 in let l = (at.1).less in rw e l) in
-            (Some on.0, (record { full = full; several = several; many = many }, (on.1, on.2, record { class = on.4; not_full = less }))))
-      ]
-    ]
-  ]
-
   -- the words of a slot of an object
   slot_in : (h : ℕ) (x : Placed) → get m h ≡ Some x → x.place + slot_for p (length x.bytes) ≤ length s.words
   slot_in h x there = (let i = slot_inside p (class_at p x) x.place (sound.slots h x there) in let l = rules.region in omega arith)
@@ -383,7 +327,7 @@ module _ (law : PageLaw) (s : QuotaState) (rules : KeepsTasks s) (task : ℕ) (l
       }
 
   pub free_there : (h : ℕ) (x : Placed) → get m h ≡ Some x → Frees h
-  free_there h x there = (let at = some_move h x there in go at.0 at.1)
+  free_there h x there = (let at = some_move p ok m sound h x there in go at.0 at.1)
     where
       go : (moved : Option ℕ) → Moves p m x moved → Frees h
       go None moves = freed_still h x there moves

@@ -1,5 +1,5 @@
 -- The lines of the classes of a task, one class more, and the pages of these classes.
-use Rattle.std.proofs.Common.{◌≡◌, ◌∙◌, ℕ, zero, suc, ◌+◌, ◌-◌, ◌<◌, ◌≤◌, ◌++◌, List, [], ◌∷◌, Bool, true, false, cond, Option, Some, None, ap, sym}
+use Rattle.std.proofs.Common.{◌≡◌, ◌∙◌, ℕ, ◌+◌, ◌-◌, ◌<◌, ◌≤◌, ◌++◌, List, [], ◌∷◌, Bool, true, false, cond, Option, Some, None, ap, sym}
 use Rattle.std.proofs.Common.{subst, refl, arith, inl, inr}
 use Rattle.std.proofs.lemmas.Bool.{cases_lt}
 use Rattle.std.proofs.lemmas.List.{map-append}
@@ -13,6 +13,7 @@ use Rattle.cf_io.specs.Feeds.{appended, Puts}
 use Rattle.cf_io.specs.Texts.{led, said}
 use Rattle.cf_io.proofs.CallerLemmas.{appended_then, led-append, puts_cut, puts_then}
 use Rattle.cf_lemmas.proofs.Tests.{lt_no, lt_yes}
+use Rattle.frag_report.proofs.CallerLemmas.{one_class_more, range_from}
 use Rattle.page_model.specs.Arrangement.{home_pages, live, used_pages}
 use Rattle.page_model.specs.Figures.{figures_of}
 use Rattle.page_model.specs.Held.{Held}
@@ -24,17 +25,6 @@ use Rattle.quota_model.proofs.CallerLemmas.{tasks_paged}
 use Rattle.run_model.specs.Reports.{class_line, total_line}
 use Rattle.quota_session.specs.Layout.{class_if_live, classes_below}
 use Rattle.quota_session.specs.TaskRun.{class_lines, task_classes, task_report, task_totals}
-
--- the numbers up to n begin with those up to c
-range_from : (a n m : ℕ) → range_with_len a (n + m) ≡ range_with_len a n ++ range_with_len (a + n) m
-range_from a zero m = let e : a ≡ a + 0 = omega arith in let z : 0 + m ≡ m = omega arith in ap (range_with_len a) z ∙ ap (λ b. range_with_len b m) e
-range_from a (suc n) m =
-    let next : suc n + m ≡ suc (n + m) = omega arith in
-    let last : (a + 1) + n ≡ a + suc n = omega arith in
-    ap (range_with_len a) next ∙ ap (λ r. a ∷ r) (range_from (a + 1) n m) ∙ ap (λ k. a ∷ (range_with_len (a + 1) n ++ range_with_len k m)) last
-
-one_class_more : (c : ℕ) → range_with_len 0 (c + 1) ≡ range_with_len 0 c ++ c ∷ []
-one_class_more c = let here : 0 + c ≡ c = omega arith in range_from 0 c 1 ∙ ap (λ k. range_with_len 0 c ++ k ∷ []) here
 
 sum-append : (f : ℕ → ℕ) (xs : List ℕ) (c : ℕ) → sum_by f (xs ++ c ∷ []) ≡ sum_by f xs + f c
 sum-append f [] c = let a = sum_by-cons f c [] in omega arith

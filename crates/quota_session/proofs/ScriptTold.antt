@@ -24,14 +24,13 @@ use Rattle.script_reader.specs.Items.{asks}
 use Rattle.script_reader.specs.declared.command.Command.{Command}
 use Rattle.script_reader.specs.declared.command.Command.TheVariants as command
 use Rattle.transcript_laws.specs.Histories.{objects_by_id}
-use Rattle.transcript_laws.proofs.CallerLemmas.{by_id_counts, gone_by_id}
+use Rattle.transcript_laws.proofs.CallerLemmas.{by_id_counts, gone_by_id, needed_alike}
 use Rattle.quota_session.specs.Alone.{AreAlikeFor, CanBeSaid, after_if, is_left_out, item_of, own_commands, present_after}
 use Rattle.quota_session.specs.Alone.{replies_of, script_of, task_items, tasks_of}
 use Rattle.quota_session.specs.Playing.{BeginsQuotas, RunsQuotas, at_bound_one}
 use Rattle.quota_session.specs.QuotaRun.{IsGoingQuotas, QuotaRun, QuotaStep, SetsQuota, StepsPresent, TaskSession, ids_of, present_run}
 use Rattle.quota_session.specs.QuotaRun.{quota_fault, with_ids}
 use Rattle.quota_session.specs.TaskRun.{TaskRun, task_run}
-use Rattle.quota_session.proofs.AtOne.{needed_alike}
 use Rattle.quota_session.proofs.Going.{ids_here, ids_there, present_kept, still_going}
 use Rattle.quota_session.proofs.Opened.{all_same, begins_going}
 use Rattle.quota_session.proofs.OwnTask.{IsTold, told}

@@ -32,19 +32,19 @@ is_in_no a n w (inr r) = (let y : nat_lt w (a + n) ≡ false = grind (arith, nat
 
 -- the words with those of a run replaced
 module _ (words : List ℕ) (a n : ℕ) (f : ℕ → ℕ) where
-  unfoldable word_at : ℕ → ℕ
+  unfoldable pub word_at : ℕ → ℕ
   word_at w = cond (is_in a n w) (f (w - a)) (get_or words w 0)
 
-  abbrev rewritten : List ℕ
+  abbrev pub rewritten : List ℕ
   rewritten = map word_at (range_with_len 0 (length words))
 
-  length-rewritten : length rewritten ≡ length words
+  pub length-rewritten : length rewritten ≡ length words
   length-rewritten = length-map-range_with_len word_at 0 (length words)
 
   get-rewritten : (w : ℕ) → w < length words → get_or rewritten w 0 ≡ word_at w
   get-rewritten w lt = get_or-map-range_with_len word_at 0 (length words) w w 0 lt (omega arith)
 
-  is_rewritten : a + n ≤ length words → Rewrites words rewritten (record { from = a; count = n }) f
+  pub is_rewritten : a + n ≤ length words → Rewrites words rewritten (record { from = a; count = n }) f
   unfolding word_at
   is_rewritten inside = record {
     within = λ i lt. get-rewritten (a + i) (omega arith) ∙ (let y = is_in_yes a n i lt in let e : a + i - a ≡ i = omega arith in rw (y, e) refl);

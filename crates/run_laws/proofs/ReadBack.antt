@@ -38,12 +38,12 @@ use Rattle.run_model.proofs.CallerLemmas.{AreNames, bytes_held, bytes_missing, c
 use Rattle.run_laws.specs.Told.{AreReadsOf, IsReadOf, Told, changed, done_by, is_ok, read_told, told_after}
 
 -- the bytes under the number that an id names
-abbrev through : Objects → Option ℕ → Option (List ℕ)
+abbrev pub through : Objects → Option ℕ → Option (List ℕ)
 through o None = None
 through o (Some h) = get o h
 
 -- each id has the bytes that are told of it
-abbrev IsTold : Ids → Objects → Told → Type 0
+abbrev pub IsTold : Ids → Objects → Told → Type 0
 IsTold ids o m = (q : ℕ) → get m q ≡ through o (get ids q)
 
 module _ (ids : Ids) (o : Objects) (m : Told) (names : AreNames ids o) (told : IsTold ids o m) (id h : ℕ) where
@@ -52,7 +52,7 @@ module _ (ids : Ids) (o : Objects) (m : Told) (names : AreNames ids o) (told : I
   through_other v None other = refl
   through_other v (Some q) other = get_insert_other o h v q (λ is. other (ap (λ k. Some k) is))
 
-  told_added : (v : List ℕ) → get o h ≡ None → IsTold (insert ids id h) (insert o h v) (insert m id v)
+  pub told_added : (v : List ℕ) → get o h ≡ None → IsTold (insert ids id h) (insert o h v) (insert m id v)
   told_added v unused q = elim (cases_eq q id) [
     | inl is ↦ rw is (get_inserted m id v ∙ sym (ap (through (insert o h v)) (get_inserted ids id h) ∙ get_inserted o h v))
     | inr ne ↦ get_insert_other m id v q ne ∙ told q ∙ sym (ap (through (insert o h v)) (get_insert_other ids id h q ne)
@@ -60,13 +60,13 @@ module _ (ids : Ids) (o : Objects) (m : Told) (names : AreNames ids o) (told : I
   ]
 
   module _ (some : get ids id ≡ Some h) where
-    told_changed : (v : List ℕ) → IsTold ids (insert o h v) (insert m id v)
+    pub told_changed : (v : List ℕ) → IsTold ids (insert o h v) (insert m id v)
     told_changed v q = elim (cases_eq q id) [
       | inl is ↦ rw is (get_inserted m id v ∙ sym (ap (through (insert o h v)) some ∙ get_inserted o h v))
       | inr ne ↦ get_insert_other m id v q ne ∙ told q ∙ sym (through_other v (get ids q) (λ is. ne (names.once id q h some is)))
     ]
 
-    told_gone : IsTold (remove ids id) (remove o h) (remove m id)
+    pub told_gone : IsTold (remove ids id) (remove o h) (remove m id)
     told_gone q = elim (cases_eq q id) [
       | inl is ↦ rw is (get_removed m id ∙ sym (ap (through (remove o h)) (get_removed ids id)))
       | inr ne ↦ get_remove_other m id q ne ∙ told q ∙ sym (ap (through (remove o h)) (get_remove_other ids id q ne)
@@ -78,7 +78,7 @@ module _ (ids : Ids) (o : Objects) (m : Told) (names : AreNames ids o) (told : I
         still (Some k) other = get_remove_other o h k (λ is. other (ap (λ j. Some j) is))
 
     -- the bytes that are told of the id
-    told_here : (v : List ℕ) → get o h ≡ Some v → get m id ≡ Some v
+    pub told_here : (v : List ℕ) → get o h ≡ Some v → get m id ≡ Some v
     told_here v there = told id ∙ ap (through o) some ∙ there
 
 pub changed_is : (m : Told) (id : ℕ) (f : List ℕ → List ℕ) (v : List ℕ) → get m id ≡ Some v → changed m id f ≡ insert m id (f v)

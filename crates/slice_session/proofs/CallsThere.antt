@@ -9,7 +9,7 @@ use Rattle.cf_base.specs.declared.answers.Handle.{Handle}
 use Rattle.cf_lemmas.proofs.MapValues.{get-map_values}
 use Rattle.cf_lemmas.proofs.Searches.{there_or_not}
 use Rattle.page_model.specs.Bytes.{AreBytes, written}
-use Rattle.page_model.specs.Held.{Placed, objects}
+use Rattle.page_model.specs.Held.{Placed}
 use Rattle.page_model.specs.Image.{header_word}
 use Rattle.slice_model.specs.Runs.{Event, Happens, Malloc, Free, Step, Write}
 use Rattle.slice_model.specs.State.{Idle, IsKept, Plan, Sliced}

@@ -1,8 +1,7 @@
 -- Over a run, reads give the bytes that the lines and their replies tell of.
-use Rattle.std.proofs.Common.{◌≡◌, ◌≢◌, ℕ, cond, true, false, List, [], ◌∷◌, Some, None, replicate, sym, ◌∙◌, ap, refl, subst, inl, inr}
+use Rattle.std.proofs.Common.{◌≡◌, ℕ, cond, true, false, List, [], ◌∷◌, Some, None, replicate, sym, ◌∙◌, ap, refl, subst}
 use Rattle.std.specs.Prelude.{Bool, Option, Result, Ok, Err, codes, option_map}
 use Rattle.std.specs.Option.{MatchOption}
-use Rattle.std.proofs.lemmas.Bool.{cases_eq}
 use Rattle.std.specs.Ordering.{nat_cmp}
 use Rattle.std.specs.FinMap.{empty, get, insert, remove, get-empty}
 use Rattle.cf_base.specs.Settings.{Profile}
@@ -10,19 +9,18 @@ use Rattle.cf_base.specs.declared.answers.AccessFault.{AccessFault}
 use Rattle.cf_base.specs.declared.answers.AccessFault.TheVariants as access
 use Rattle.cf_base.specs.declared.answers.Handle.{Handle}
 use Rattle.cf_io.specs.Texts.{Reply, said}
-use Rattle.cf_lemmas.proofs.Maps.{get_inserted, get_insert_other, get_removed, get_remove_other}
 use Rattle.cf_lemmas.proofs.MapValues.{get-map_values}
 use Rattle.id_table.specs.Ids.{Ids}
 use Rattle.page_model.specs.Bytes.{written}
-use Rattle.page_model.specs.Held.{Objects, Placed, objects}
-use Rattle.run_laws.specs.Told.{AreReadsOf, IsReadOf, Told, changed, done_by, is_ok, read_told, told_after}
+use Rattle.page_model.specs.Held.{Objects, Placed}
+use Rattle.run_laws.specs.Told.{AreReadsOf, IsReadOf, Told, done_by, is_ok, read_told, told_after}
+use Rattle.run_laws.proofs.CallerLemmas.{IsTold, changed_is, through, told_added, told_changed, told_gone, told_here}
 use Rattle.run_model.specs.Plays.{PlayStep}
 use Rattle.run_model.specs.Replies.{read_text}
+use Rattle.run_model.proofs.CallerLemmas.{AreNames}
 use Rattle.script_reader.specs.Items.{Item, asks, bad, starts}
 use Rattle.script_reader.specs.declared.command.Command.{Command}
 use Rattle.script_reader.specs.declared.command.Command.TheVariants as command
-use Rattle.session_model.specs.Ties.{AreTiedTo}
-use Rattle.session_model.proofs.CallerLemmas.{clash}
 use Rattle.slice_model.specs.Runs.{Event, HappensOnMap, Malloc, Free, Step, Write}
 use Rattle.slice_model.specs.declared.answers.SliceFault.{SliceFault}
 use Rattle.slice_model.specs.declared.answers.SliceFault.TheVariants as fault
@@ -34,54 +32,14 @@ use Rattle.slice_session.specs.SliceRun.{FreesSliced, MallocsSliced, StaysSliced
 use Rattle.slice_session.proofs.Going.{done_on_map, still_going}
 use Rattle.slice_session.proofs.Opened.{begins_going}
 
--- the bytes under the number that an id names
-abbrev through : Objects → Option ℕ → Option (List ℕ)
-through o None = None
-through o (Some h) = get o h
-
--- each id has the bytes that are told of it
-abbrev IsTold : Ids → Objects → Told → Type 0
-IsTold ids o m = (q : ℕ) → get m q ≡ through o (get ids q)
-
-module _ (ids : Ids) (o : Objects) (m : Told) (tied : AreTiedTo ids o) (told : IsTold ids o m) (id h : ℕ) where
-  -- what is named otherwise stays
-  through_other : (v : List ℕ) (r : Option ℕ) → r ≢ Some h → through (insert o h v) r ≡ through o r
-  through_other v None other = refl
-  through_other v (Some q) other = get_insert_other o h v q (λ is. other (ap (λ k. Some k) is))
-
-  through_left : (r : Option ℕ) → r ≢ Some h → through (remove o h) r ≡ through o r
-  through_left None other = refl
-  through_left (Some q) other = get_remove_other o h q (λ is. other (ap (λ k. Some k) is))
-
-  told_added : (v : List ℕ) → get o h ≡ None → IsTold (insert ids id h) (insert o h v) (insert m id v)
-  told_added v unused q = elim (cases_eq q id) [
-    | inl is ↦ rw is (get_inserted m id v ∙ sym (ap (through (insert o h v)) (get_inserted ids id h) ∙ get_inserted o h v))
-    | inr ne ↦ get_insert_other m id v q ne ∙ told q ∙ sym (ap (through (insert o h v)) (get_insert_other ids id h q ne)
-        ∙ through_other v (get ids q) (λ is. (let x = tied.named q h is in clash (get o h) x.0 x.1 unused)))
-  ]
-
-  module _ (some : get ids id ≡ Some h) where
-    told_changed : (v : List ℕ) → IsTold ids (insert o h v) (insert m id v)
-    told_changed v q = elim (cases_eq q id) [
-      | inl is ↦ rw is (get_inserted m id v ∙ sym (ap (through (insert o h v)) some ∙ get_inserted o h v))
-      | inr ne ↦ get_insert_other m id v q ne ∙ told q ∙ sym (through_other v (get ids q) (λ is. ne (tied.once id q h some is)))
-    ]
-
-    told_gone : IsTold (remove ids id) (remove o h) (remove m id)
-    told_gone q = elim (cases_eq q id) [
-      | inl is ↦ rw is (get_removed m id ∙ sym (ap (through (remove o h)) (get_removed ids id)))
-      | inr ne ↦ get_remove_other m id q ne ∙ told q ∙ sym (ap (through (remove o h)) (get_remove_other ids id q ne)
-          ∙ through_left (get ids q) (λ is. ne (tied.once id q h some is)))
-    ]
-
-changed_is : (m : Told) (id : ℕ) (f : List ℕ → List ℕ) (v : List ℕ) → get m id ≡ Some v → changed m id f ≡ insert m id (f v)
-changed_is m id f v here = ap (λ (o : Option (List ℕ)). elim o as (λ _. Told) [ None ↦ m | Some u ↦ insert m id (f u) ]) here
-
 -- what is told after a reply
 abbrev next : Command → Told → Reply → Told
 next c m reply = cond (is_ok reply) (done_by c m) m
 
 module _ (old new : SliceRun) (m : Told) (going : IsGoingSliced old) (told : IsTold old.ids (live_in old) m) where
+  names : AreNames old.ids (live_in old)
+  names = record { named = going.tied.named; once = going.tied.once; all = going.tied.all }
+
   -- of equal ids and objects
   told_with : (ids : Ids) (o : Objects) (after : Told) → new.ids ≡ ids → live_in new ≡ o → IsTold ids o after → IsTold new.ids (live_in new) after
   told_with ids o after e f is = subst (λ i. IsTold i (live_in new) after) (sym e) (subst (λ b. IsTold ids b after) (sym f) is)
@@ -112,7 +70,7 @@ module _ (old new : SliceRun) (m : Told) (going : IsGoingSliced old) (told : IsT
       → new.ids ≡ ids_with old.ids id answer → reply ≡ said (slice_malloc_text answer) → IsTold new.ids (live_in new) (next (command.Malloc id n) m reply)
   malloc_told id n (Ok h) reply (unused, on) e is = moved (command.Malloc id n) (codes "ok") reply refl is
       (told_with (insert old.ids id h.0) (insert (live_in old) h.0 (replicate n 0)) (insert m id (replicate n 0)) e on
-      (told_added old.ids (live_in old) m going.tied told id h.0 (replicate n 0) unused))
+      (told_added old.ids (live_in old) m names told id h.0 (replicate n 0) unused))
   malloc_told id n (Err refusal.Size) reply on e is = refused (command.Malloc id n) (codes "refused size") reply refl is e on
   malloc_told id n (Err refusal.Proxy) reply on e is = refused (command.Malloc id n) (codes "refused proxy") reply refl is e on
   malloc_told id n (Err refusal.Space) reply on e is = refused (command.Malloc id n) (codes "refused space") reply refl is e on
@@ -127,7 +85,7 @@ module _ (old new : SliceRun) (m : Told) (going : IsGoingSliced old) (told : IsT
   free_told : (id h : ℕ) (answer : Option SliceFault) (reply : Reply) → get old.ids id ≡ Some h → HappensOnMap (live_in old) (Free h answer) (live_in new)
       → new.ids ≡ ids_without old.ids id answer → reply ≡ said (slice_free_text answer) → IsTold new.ids (live_in new) (next (command.Free id) m reply)
   free_told id h None reply some (_, on) e is = moved (command.Free id) (codes "ok") reply refl is
-      (told_with (remove old.ids id) (remove (live_in old) h) (remove m id) e on (told_gone old.ids (live_in old) m going.tied told id h some))
+      (told_with (remove old.ids id) (remove (live_in old) h) (remove m id) e on (told_gone old.ids (live_in old) m names told id h some))
   free_told id h (Some fault.Unknown) reply some (_, on) e is = refused (command.Free id) (codes "unknown") reply refl is e on
   free_told id h (Some fault.Busy) reply some (_, on) e is = refused (command.Free id) (codes "busy") reply refl is e on
 
@@ -141,10 +99,10 @@ module _ (old new : SliceRun) (m : Told) (going : IsGoingSliced old) (told : IsT
       → HappensOnMap (live_in old) (Write (record { number = h; from = from }) bytes answer) (live_in new) → new.ids ≡ old.ids
       → reply ≡ said (slice_write_text answer) → IsTold new.ids (live_in new) (next (command.Write id from bytes) m reply)
   write_told id h from bytes None reply some (v, found, fits, on) e is = moved (command.Write id from bytes) (codes "ok") reply refl is (
-      let here : get m id ≡ Some v = told id ∙ ap (through (live_in old)) some ∙ found in
+      let here = told_here old.ids (live_in old) m names told id h some v found in
       subst (λ t. IsTold new.ids (live_in new) t) (sym (changed_is m id (λ v. written v from bytes) v here))
       (told_with old.ids (insert (live_in old) h (written v from bytes)) (insert m id (written v from bytes)) e on
-      (told_changed old.ids (live_in old) m going.tied told id h some (written v from bytes))))
+      (told_changed old.ids (live_in old) m names told id h some (written v from bytes))))
   write_told id h from bytes (Some access.Unknown) reply some (_, on) e is = refused (command.Write id from bytes) (codes "unknown") reply refl is e on
   write_told id h from bytes (Some access.Range) reply some (_, on) e is = refused (command.Write id from bytes) (codes "range") reply refl is e on
 

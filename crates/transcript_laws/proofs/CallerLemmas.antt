@@ -2,3 +2,5 @@
 pub use Rattle.transcript_laws.proofs.Telling.{run_tells}
 pub use Rattle.transcript_laws.proofs.ByIds.{by_id_changed, by_id_counts, by_id_given, by_id_gone, found_by_id}
 pub use Rattle.transcript_laws.proofs.ByIds.{gone_by_id, live_by_id, numbered_by_id, unnumbered_by_id}
+pub use Rattle.transcript_laws.proofs.PagesAtOne.{figures_alike, figures_are, live_alike, needed_alike, needed_with_alike}
+pub use Rattle.transcript_laws.proofs.Reports.{said_alike}

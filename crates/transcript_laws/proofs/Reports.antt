@@ -21,7 +21,7 @@ use Rattle.transcript_laws.proofs.PagesAtOne.{figures_alike, figures_are, live_a
 
 -- what is said of the numbers of a range that pass a test, where both functions and both tests agree
 module _ {X : Type 0} (f g : ℕ → X) (t u : ℕ → Bool) where
-  said_alike : (a n : ℕ) → ((d : ℕ) → d < a + n → f d ≡ g d) → ((d : ℕ) → t d ≡ u d)
+  pub said_alike : (a n : ℕ) → ((d : ℕ) → d < a + n → f d ≡ g d) → ((d : ℕ) → t d ≡ u d)
       → map f (filter t (range_with_len a n)) ≡ map g (filter u (range_with_len a n))
   said_alike a zero same test = refl
   said_alike a (suc n) same test = go (t a) (u a) (test a) (said_alike (a + 1) n (λ d lt. same d (omega arith)) test)
