@@ -227,8 +227,9 @@ fn a_line_has_at_most_8999_bytes(rt: HostRuntime) -> Result<(), Fail> {
 
 #[test]
 fn a_script_with_no_end_is_too_long(rt: HostRuntime) -> Result<(), Fail> {
-    let source = LoopSource::new(comment(&rt, 8_999)?);
-    let got = answered_from(&rt, &[], source)?;
+    let mut line = vec![in rt.alloc(); b'#'; 8_999]?;
+    line.push(b'\n')?;
+    let got = answered_from(&rt, &[], LoopSource::new(line))?;
     assert_eq!(rt; got.status, Status::TooLong);
     assert_eq!(rt; got.sink.written().len(), 0);
     Ok(())
