@@ -7,6 +7,3 @@ mod sizes;
 
 pub use enough::admit;
 pub use quota_model::{Admission, Need};
-
-#[cfg(test)]
-mod tests;

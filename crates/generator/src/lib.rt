@@ -8,6 +8,3 @@ mod line_text;
 pub use commands::Generator;
 pub use laws::{commands_are_read_back, generated_scripts_are_read_back};
 pub use line_text::command_text;
-
-#[cfg(test)]
-mod tests;

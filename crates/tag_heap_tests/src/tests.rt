@@ -1,4 +1,7 @@
 //! Long runs of drawn calls on both managers of blocks, against plain lists of blocks.
+mod half_fit;
+mod tlsf;
+
 use cf_model::Manager;
 use half_fit_heap::HalfFitHeap;
 use std::test::Fail;

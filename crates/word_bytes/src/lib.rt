@@ -7,6 +7,3 @@ mod runs;
 
 pub use cells::{read_bytes, write_bytes};
 pub use runs::{read_run, read_word, words_with, write_run, write_word};
-
-#[cfg(test)]
-mod tests;

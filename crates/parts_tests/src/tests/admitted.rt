@@ -1,4 +1,5 @@
-use super::*;
+//! What is admitted, by hand, and against all short lists of calls.
+use admission::{Admission, Need, admit};
 use cf_base::Settings;
 use std::test::Fail;
 

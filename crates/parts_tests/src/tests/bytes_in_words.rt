@@ -1,5 +1,6 @@
-use super::*;
+//! Bytes written and read across words.
 use std::test::Fail;
+use word_bytes::{read_bytes, write_bytes};
 
 #[test]
 fn bytes_are_written_and_read_across_words(rt: HostRuntime) -> Result<(), Fail> {

@@ -1,6 +1,6 @@
 //! The first commands of seed 0, worked out by hand from SplitMix64's first words.
-use crate::{Generator, command_text};
 use cf_io::Line;
+use generator::{Generator, command_text};
 use std::test::Fail;
 
 #[test]

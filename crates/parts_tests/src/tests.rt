@@ -1,0 +1,13 @@
+mod admitted;
+mod bytes_in_words;
+mod free_lists;
+mod free_pages;
+mod generated;
+mod ledgers;
+mod page_lists;
+mod proxies;
+mod region_words;
+mod requests;
+mod session_ids;
+mod slot_maps;
+mod virtual_blocks;

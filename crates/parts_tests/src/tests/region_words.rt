@@ -1,0 +1,30 @@
+//! Words moved, lent, cleared and written by halves, with what each costs.
+use region::Region;
+use std::test::Fail;
+use step_ledger::Meter;
+
+// Of 8 words, 7 and 9 at 1 and 2 are moved to 5. A borrow of both writes 4 over the first.
+#[test]
+fn words_are_moved_lent_and_cleared(rt: HostRuntime) -> Result<(), Fail> {
+    let mut meter = Meter::new(&rt);
+    let mut region = Region::new(rt.alloc(), 8)?;
+    region.write(1, 7, meter.steps());
+    region.write(2, 9, meter.steps());
+    region.move_words(1, 5, 2, meter.steps());
+    assert_eq!(rt; meter.lap(), 4);
+    let lent = region.payload_mut(5, 2, meter.steps());
+    lent[0] = 4;
+    assert_eq!(rt; region.len(), 8);
+    for (at, want) in [(0, 0), (1, 0), (2, 0), (4, 0), (5, 4), (6, 9), (7, 0)] {
+        assert_eq!(rt; region.read(at, meter.steps()), want, "at {at}");
+    }
+    region.clear(5, 1, meter.steps());
+    assert_eq!(rt; region.payload(5, 2, meter.steps()), [0, 9].as_slice());
+    assert_eq!(rt; meter.lap(), 2 + 7 + 1 + 2);
+    region.set_low(6, 3, meter.steps());
+    region.set_high(6, 8, meter.steps());
+    region.set_low(6, 5, meter.steps());
+    assert_eq!(rt; region.read(6, meter.steps()), 5 + (8 << 32));
+    assert_eq!(rt; meter.lap(), 2 + 2 + 2 + 1);
+    Ok(())
+}

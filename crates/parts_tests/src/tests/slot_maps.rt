@@ -1,0 +1,31 @@
+//! Slots taken and given back, of pages of 1 to 4,096.
+use slot_bitmap::SlotMap;
+use std::rt::HostRuntime;
+use step_ledger::Meter;
+
+#[test]
+fn slots_are_taken_and_given_back_in_order(rt: HostRuntime) {
+    let mut meter = Meter::new(&rt);
+    let steps = meter.steps();
+    for slots in [1, 63, 64, 65, 130, 4096] {
+        let mut map = SlotMap::new(slots);
+        assert_eq!(rt; map.first_used(steps), None, "of {slots}");
+        for next in 0..slots {
+            if let Some(i) = map.first_free(steps) {
+                assert_eq!(rt; i, next, "of {slots}");
+                map.set(i, steps);
+            }
+        }
+        assert_eq!(rt; map.count(steps), slots);
+        assert_eq!(rt; map.first_free(steps), None, "of {slots}");
+        for next in 0..slots {
+            if let Some(i) = map.first_used(steps) {
+                assert_eq!(rt; i, next, "of {slots}");
+                map.unset(i, steps);
+                assert_eq!(rt; map.first_free(steps), Some(0), "of {slots}");
+            }
+        }
+        assert_eq!(rt; map.count(steps), 0);
+        assert_eq!(rt; map.first_used(steps), None, "of {slots}");
+    }
+}
