@@ -21,6 +21,3 @@ pub use sinks::{MemSink, NullSink};
 pub use source::Source;
 pub use sources::{LoopSource, MemSource, SureSource};
 pub use writing::put_all;
-
-#[cfg(test)]
-mod tests;

@@ -15,6 +15,3 @@ pub use laws::{
     words_choose_what_they_say,
 };
 pub use reading::read_words;
-
-#[cfg(test)]
-mod tests;

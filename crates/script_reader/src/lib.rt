@@ -22,6 +22,3 @@ pub use next_ref::NextRef;
 pub use payload::Payload;
 pub use reader::Reader;
 pub use room::Room;
-
-#[cfg(test)]
-mod tests;

@@ -1,6 +1,6 @@
 //! Arguments that are taken, with what they choose, and arguments that are refused.
-use crate::{Choice, Mode, WordsFault, read_words};
 use cf_base::Kind;
+use command_line::{Choice, Mode, WordsFault, read_words};
 use std::alloc::{AllocError, Global};
 use std::test::Fail;
 

@@ -1,5 +1,5 @@
 use Rattle.std.proofs.Common.{◌≡◌, false}
-use Rattle.script_reader.proofs.tests.read.Given as goal
+use Rattle.input_tests.proofs.tests.scripts.read.Given as goal
 
 abbrev pub invariant-pieces : goal.invariant-pieces
 invariant-pieces l = l.reader.ended ≡ false

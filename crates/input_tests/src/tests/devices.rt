@@ -1,5 +1,9 @@
-use super::*;
+//! Sources and sinks, what fails in them and what is cut, the buffer of a line, and numbers in text.
 use cf_base::Failed;
+use cf_io::{
+    Full, Line, LoopSource, MemSink, MemSource, NullSink, Sink, Source, StdSink, StdSource,
+    SureSource, number_of, put_all,
+};
 use std::io;
 use std::io::{Read, Write};
 use std::process::Abort;

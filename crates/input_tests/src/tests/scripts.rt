@@ -1,6 +1,7 @@
+//! Scripts and their items, in every cut, payloads, and a command that borrows its bytes.
 ghost use Rattle.std.specs.Prelude.{◌≡◌, ◌<◌, false};
 
-use crate::{Command, CommandRef, Next, NextRef, Payload, Reader, Room};
+use script_reader::{Command, CommandRef, Next, NextRef, Payload, Reader, Room};
 use std::alloc::{AllocError, Global};
 use std::test::Fail;
 

@@ -1,0 +1,4 @@
+mod arguments;
+mod devices;
+mod scripts;
+mod tables;
