@@ -23,7 +23,7 @@ module _ (session : SessionState) (heap : HeapState) (tied : AreTied session hea
   no_object : (o : Option Placed) (q : ℕ) → get heap.held q ≡ o → o ≡ None
   no_object None q is = refl
   no_object (Some x) q is = absurd (
-      let id = tied.all q x is in
+      let id = tied.ids.all q x is in
       let e : get session.ids id.0 ≡ None = ap (λ i. get i id.0) none ∙ get-empty nat_cmp id.0 in
       let s = id.1 in
       cc)
@@ -36,7 +36,7 @@ module _ (session : SessionState) (heap : HeapState) (tied : AreTied session hea
   no_id : (o : Option ℕ) (id : ℕ) → get session.ids id ≡ o → o ≡ None
   no_id None id is = refl
   no_id (Some h) id is = absurd (
-      let object = tied.named id h is in
+      let object = tied.ids.named id h is in
       let e : get heap.held h ≡ None = ap (λ i. get i h) none ∙ get-empty nat_cmp h in
       let s = object.1 in
       cc)

@@ -22,7 +22,8 @@ use Rattle.run_model.specs.Replies.{resize_text}
 use Rattle.run_model.specs.Sessions.{IsGoing, RunState, SessionState, counted}
 use Rattle.run_model.specs.Steps.{Step, session_resized}
 use Rattle.run_model.specs.Texts.{Reply, said}
-use Rattle.run_model.proofs.CallerLemmas.{AreNames, FreesAt, MallocsAt, ResizesAt, WritesAt, names_in, names_of_objects}
+use Rattle.run_model.proofs.CallerLemmas.{FreesAt, MallocsAt, ResizesAt, WritesAt, names_of_objects}
+use Rattle.id_table.specs.Ties.{AreTiedTo}
 use Rattle.run_laws.specs.Told.{is_ok}
 use Rattle.headline_laws.specs.ToldHeap.{ToldHeap, paging_told, slot_told, steps_by}
 use Rattle.headline_laws.proofs.Bounds.{AreBounds}
@@ -76,7 +77,7 @@ module _ (kind : Kind) (s : RunState) (t : ToldHeap) (holds : Holds kind s t) wh
 
     pub told_live : (id h : ℕ) → get s.session.ids id ≡ Some h → (v : List ℕ) × (get t.bytes id ≡ Some v)
     told_live id h named =
-        let x = holds.going.tied.named id h named in
+        let x = holds.going.tied.ids.named id h named in
         let v = told_some id h x.0 named x.1 in
         (v.0, v.1)
 
@@ -87,8 +88,8 @@ module _ (kind : Kind) (s : RunState) (t : ToldHeap) (holds : Holds kind s t) wh
         get-map_values length t.bytes id ∙ lengths_told kind s t.bytes holds.going tells id ∙ ap (λ o. option_map length (at o)) named
         ∙ ap (option_map length) (sym (get-map_values (λ (x : Placed). x.bytes) s.heap.held h)) ∙ sym (get-map_values length (objects s.heap.held) h)
 
-    pub names : AreNames s.session.ids (objects s.heap.held)
-    names = names_of_objects s.session.ids s.heap.held (names_in s.session s.heap holds.going.tied)
+    pub names : AreTiedTo s.session.ids (objects s.heap.held)
+    names = names_of_objects s.session.ids s.heap.held holds.going.tied.ids
 
     -- the lengths that are told are those of the objects
     pub paired : AreRenamed s.session.ids (map_values length (objects s.heap.held)) (map_values length t.bytes)
@@ -98,7 +99,7 @@ module _ (kind : Kind) (s : RunState) (t : ToldHeap) (holds : Holds kind s t) wh
           let w = some_length (get (objects s.heap.held) h) v (sym (get-map_values length (objects s.heap.held) h) ∙ e) in
           let id = names.all h w.0 w.1 in
           (id.0, id.1, same_at id.0 h id.1 ∙ e);
-      once = holds.going.tied.once;
+      once = holds.going.tied.ids.once;
     }
       where
         found : (id v : ℕ) → get (map_values length t.bytes) id ≡ Some v → (o : Option ℕ) → get s.session.ids id ≡ o

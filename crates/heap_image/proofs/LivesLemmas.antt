@@ -4,7 +4,7 @@ use Rattle.std.specs.Prelude.{option_map}
 use Rattle.std.specs.List.{range_with_len}
 use Rattle.std.specs.FinMap.{get}
 use Rattle.cf_base.specs.Classes.{need}
-use Rattle.cf_base.specs.Settings.{Profile}
+use Rattle.cf_base.specs.Settings.{Profile, at_bound_one}
 use Rattle.cf_base.specs.declared.kind.Kind.{Kind}
 use Rattle.cf_base.specs.declared.kind.Kind.TheVariants.{Moving}
 use Rattle.cf_base.specs.declared.kind.Layout.TheVariants.{Words}
@@ -19,10 +19,11 @@ use Rattle.page_model.specs.Held.{Held, Objects, Placed, objects}
 use Rattle.page_model.specs.Paging.{IsPaging, Paging, class_for, classes, paging_of, slots_of}
 use Rattle.page_model.proofs.CallerLemmas.{class_holds, len-objects, sum_same}
 use Rattle.run_model.specs.Sessions.{AreTied, IsGoing, RunState}
-use Rattle.run_model.proofs.CallerLemmas.{AreNames, bytes_held, names_in, names_of_objects}
+use Rattle.run_model.proofs.CallerLemmas.{bytes_held, names_of_objects}
+use Rattle.id_table.specs.Ties.{AreTiedTo}
 use Rattle.transcript_laws.specs.Histories.{bytes_of}
 use Rattle.heap_image.specs.Decoded.{IsImage, image_paging}
-use Rattle.heap_image.specs.Heaps.{HaveImage, at_bound_one, heap_image, objects_of}
+use Rattle.heap_image.specs.Heaps.{HaveImage, heap_image, objects_of}
 use Rattle.heap_image.specs.Image.{image_of}
 use Rattle.heap_image.proofs.Headers.{pages_of}
 use Rattle.transcript_laws.proofs.CallerLemmas.{by_id_counts, found_by_id, gone_by_id, live_by_id, numbered_by_id}
@@ -50,7 +51,7 @@ objects_of_is s tied id = go (get s.session.ids id) refl
     go None e = gone_by_id s.session.ids (objects s.heap.held) id e
         ∙ sym (ap (λ (o : Option ℕ). option_map (λ (x : Placed). x.bytes) (elim o as (λ _. Option Placed) [ None ↦ None | Some h ↦ get s.heap.held h ])) e)
     go (Some h) e =
-        let x = tied.named id h e in
+        let x = tied.ids.named id h e in
         live_by_id s.session.ids (objects s.heap.held) id h x.0.bytes e (bytes_held s.heap.held h x.0 x.1)
         ∙ sym (ap (λ (o : Option ℕ). option_map (λ (x : Placed). x.bytes) (elim o as (λ _. Option Placed) [ None ↦ None | Some h ↦ get s.heap.held h ])) e
         ∙ ap (option_map (λ (x : Placed). x.bytes)) x.1)
@@ -64,13 +65,13 @@ same_image one other t u pages words proxies same =
 
 -- the numbers under which an object by id is held
 module _ (s : RunState) (going : IsGoing s) (ids : AreWithin s.session.ids) (moving : s.heap.kind ≡ Moving) where
-  names : AreNames s.session.ids (objects s.heap.held)
-  names = names_of_objects s.session.ids s.heap.held (names_in s.session s.heap going.tied)
+  names : AreTiedTo s.session.ids (objects s.heap.held)
+  names = names_of_objects s.session.ids s.heap.held going.tied.ids
 
   placed : (id : ℕ) (v : List ℕ) → get (objects_of s) id ≡ Some v → (h : ℕ) × (x : Placed) × (get s.heap.held h ≡ Some x) × (v ≡ x.bytes)
   placed id v is =
       let h = found_by_id s.session.ids (objects s.heap.held) names id v is in
-      let x = going.tied.named id h.0 h.1 in
+      let x = going.tied.ids.named id h.0 h.1 in
       let e : Some v ≡ Some x.0.bytes = sym h.2 ∙ bytes_held s.heap.held h.0 x.0 x.1 in
       let same : v ≡ x.0.bytes = cc in
       (h.0, x.0, x.1, same)

@@ -18,7 +18,7 @@ use Rattle.id_table.specs.Ids.{AreWithin}
 use Rattle.page_model.specs.Held.{Objects, Placed, objects}
 use Rattle.page_model.proofs.CallerLemmas.{len-objects}
 use Rattle.run_model.specs.Sessions.{AreTied, RunState}
-use Rattle.run_model.proofs.CallerLemmas.{bytes_held, names_in, names_of_objects}
+use Rattle.run_model.proofs.CallerLemmas.{bytes_held, names_of_objects}
 use Rattle.heap_image.specs.Heaps.{heap_image, objects_of}
 use Rattle.heap_image.specs.Image.{entries_of, entry_of, header_of, number_bytes}
 use Rattle.heap_image.specs.Listed.{listed, listed_before}
@@ -68,7 +68,7 @@ pub record CameTo (s : RunState) (w x : Told) (id : ℕ) : Type 0 where
 module _ (s : RunState) (tied : AreTied s.session s.heap) where
   -- the objects are as many by id as by number
   pub as_many : len (objects_of s) ≡ len s.heap.held
-  as_many = (by_id_counts s.session.ids (objects s.heap.held) (names_of_objects s.session.ids s.heap.held (names_in s.session s.heap tied))).count
+  as_many = (by_id_counts s.session.ids (objects s.heap.held) (names_of_objects s.session.ids s.heap.held tied.ids)).count
       ∙ len-objects s.heap.held
 
   -- the mark and the settings were written

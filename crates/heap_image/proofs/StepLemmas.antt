@@ -34,7 +34,8 @@ use Rattle.run_model.specs.Runs.{Turn}
 use Rattle.run_model.specs.Sessions.{Ids, IsGoing, RunState, SessionState}
 use Rattle.run_model.specs.Steps.{Frees, Mallocs, Writes, ids_given}
 use Rattle.run_model.specs.Texts.{Reply, said}
-use Rattle.run_model.proofs.CallerLemmas.{AreNames, FreesAt, MallocsAt, WritesAt, bytes_held, bytes_missing, counted_ids, names_in, names_of_objects, step_same}
+use Rattle.run_model.proofs.CallerLemmas.{FreesAt, MallocsAt, WritesAt, bytes_held, bytes_missing, counted_ids, names_of_objects, step_same}
+use Rattle.id_table.specs.Ties.{AreTiedTo}
 use Rattle.script_reader.specs.declared.command.Command.TheVariants.{Free, Malloc, Write}
 use Rattle.transcript_laws.specs.Histories.{objects_by_id}
 use Rattle.heap_image.specs.Decoded.{has_room, image_paging}
@@ -76,8 +77,8 @@ module _ (old new : RunState) (loading : IsLoading old) (going : IsGoing new) wh
   abbrev o : Objects
   o = objects_of old
 
-  names : AreNames ids m
-  names = names_of_objects ids old.heap.held (names_in old.session old.heap loading.going.tied)
+  names : AreTiedTo ids m
+  names = names_of_objects ids old.heap.held loading.going.tied.ids
 
   leads : (after : Objects) → new.heap.kind ≡ old.heap.kind → new.heap.profile ≡ old.heap.profile → new.heap.bounds ≡ old.heap.bounds
       → objects_of new ≡ after → LeadsTo old new after
@@ -184,7 +185,7 @@ module _ (old new : RunState) (loading : IsLoading old) (going : IsGoing new) wh
     bytes_are x is = (let e : Some x.bytes ≡ Some v = sym (bytes_held old.heap.held handle.0 x is) ∙ handle.2 in cc)
 
     object : (x : Placed) × (get old.heap.held handle.0 ≡ Some x)
-    object = loading.going.tied.named id handle.0 handle.1
+    object = loading.going.tied.ids.named id handle.0 handle.1
 
     no_fault : (e : AccessFault) → IsFault old.heap (record { number = handle.0; from = at }) (length bytes) e → ⊥
     no_fault access.Unknown none = (let e : Some object.0 ≡ None = sym object.1 ∙ none in absurd (let z = e in cc))

@@ -24,10 +24,6 @@ image_under p objects = image_of p.pages (8 * p.page_words) p.proxies objects
 abbrev pub heap_image : RunState → List ℕ
 heap_image s = image_under s.heap.profile (objects_of s)
 
--- the settings with the bound 1
-abbrev pub at_bound_one : Profile → Profile
-at_bound_one p = record p { k = 1 }
-
 -- Settings with the bound 1, and objects by id that a heap of kind Moving may hold at once: they have an image.
 pub record HaveImage (p : Profile) (objects : Objects) : Type 0 where
   pub settings : AreInRange p

@@ -1,6 +1,6 @@
 //! Laws of heap images. The functions do nothing: what each ensures is the law.
 ghost use Rattle.std.specs.Prelude.{◌≡◌, ◌≤◌, ℕ, List};
-ghost use Rattle.cf_base.specs.Settings.{Profile};
+ghost use Rattle.cf_base.specs.Settings.{Profile, at_bound_one};
 ghost use Rattle.cf_base.specs.declared.kind.Kind.TheVariants.{Moving};
 ghost use Rattle.cf_base.specs.declared.kind.Layout.TheVariants.{Words};
 ghost use Rattle.cf_model.specs.State.{HeapState};
@@ -11,7 +11,7 @@ ghost use Rattle.page_model.specs.Paging.{IsPaging, paging_of};
 ghost use Rattle.run_model.specs.Sessions.{AreTied, IsGoing, RunState};
 ghost use Rattle.transcript_laws.specs.Histories.{bytes_of};
 ghost use Rattle.heap_image.specs.Decoded.{IsImage, decoded, image_paging, whole};
-ghost use Rattle.heap_image.specs.Heaps.{HaveImage, at_bound_one, heap_image, image_under, objects_of};
+ghost use Rattle.heap_image.specs.Heaps.{HaveImage, heap_image, image_under, objects_of};
 
 use page_model::{objects_need_no_more_pages, pages_and_objects_add_up};
 

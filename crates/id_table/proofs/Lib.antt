@@ -1,1 +1,3 @@
 pub mod LayoutFacts
+pub mod Ties
+pub mod CallerLemmas

@@ -1,3 +1,4 @@
 pub mod Ids
 pub mod Counters
 pub mod Layout
+pub mod Ties

@@ -13,8 +13,8 @@ use Rattle.script_reader.specs.declared.command.Command.{Command}
 use Rattle.script_reader.specs.declared.command.Command.TheVariants as command
 use Rattle.cf_model.specs.Steps.{Part}
 use Rattle.run_model.specs.Steps.{ids_given}
-use Rattle.session_model.specs.Ties.{AreTiedTo}
-use Rattle.session_model.proofs.CallerLemmas.{tied_less, tied_more, tied_same}
+use Rattle.id_table.specs.Ties.{AreTiedTo}
+use Rattle.id_table.proofs.CallerLemmas.{tied_less, tied_more, tied_same}
 use Rattle.large_objects.specs.Large.{KeepsParts, LargeState}
 use Rattle.large_objects.specs.LargeSteps.{IsLargeMalloc, IsLargeWrite}
 use Rattle.large_objects.specs.LargeRun.{FreesIdLarge, IsGoingLarge, LargeRun, LargeStep, MallocsLarge, StaysLarge, WritesIdLarge, large_run}

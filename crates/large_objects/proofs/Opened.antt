@@ -3,18 +3,18 @@ use Rattle.std.proofs.Common.{◌≡◌, ℕ, List, Some, None, sym, ◌∙◌, 
 use Rattle.std.specs.Prelude.{Option, codes}
 use Rattle.std.specs.Option.{MatchOption}
 use Rattle.std.specs.FinMap.{empty, get}
-use Rattle.cf_base.specs.Settings.{profile_of, Profile}
+use Rattle.cf_base.specs.Settings.{profile_of, Profile, at_bound_one}
 use Rattle.cf_base.specs.declared.settings.Settings.{Settings}
 use Rattle.cf_io.specs.Texts.{Reply}
 use Rattle.cf_model.specs.Steps.{IsOpeningWords, empty_heap}
 use Rattle.id_table.specs.Ids.{Ids}
 use Rattle.script_reader.specs.declared.command.Command.{Command}
 use Rattle.script_reader.specs.declared.command.Command.TheVariants as command
-use Rattle.session_model.proofs.CallerLemmas.{none_tied}
+use Rattle.id_table.proofs.CallerLemmas.{none_tied}
 use Rattle.large_objects.specs.Large.{KeepsParts, LargeState}
 use Rattle.large_objects.specs.LargeRun.{FreesIdLarge, IsGoingLarge, LargeRun, LargeStep, MallocsLarge, StaysLarge, WritesIdLarge, large_run}
 use Rattle.large_objects.specs.LargeSteps.{IsEmptyLarge}
-use Rattle.large_objects.specs.Playing.{BeginsLarge, at_bound_one}
+use Rattle.large_objects.specs.Playing.{BeginsLarge}
 
 module _ (ids : Ids) (old new : LargeState) (settings : Settings) (fresh : ids ≡ empty) (opened : IsEmptyLarge old settings new) (parts : KeepsParts new) where
   pub opened_going : IsGoingLarge (large_run ids new)

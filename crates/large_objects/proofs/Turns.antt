@@ -4,7 +4,7 @@ use Rattle.std.specs.Prelude.{⊤, Bool, true, Option, Ok, Err, codes}
 use Rattle.std.specs.Option.{MatchOption}
 use Rattle.std.specs.FinMap.{empty, get, remove}
 use Rattle.std.proofs.lemmas.Bool.{cases_lt}
-use Rattle.cf_base.specs.Settings.{Profile}
+use Rattle.cf_base.specs.Settings.{Profile, at_bound_one}
 use Rattle.cf_base.specs.declared.answers.AccessFault.TheVariants as access
 use Rattle.cf_base.specs.declared.kind.Kind.{Kind}
 use Rattle.cf_base.specs.declared.settings.Settings.{Settings}
@@ -24,9 +24,9 @@ use Rattle.script_reader.specs.Items.{Item, asks, bad, items, starts}
 use Rattle.script_reader.specs.declared.command.Command.{Command}
 use Rattle.script_reader.specs.declared.command.Command.TheVariants.{Malloc, Free, Write}
 use Rattle.large_objects.specs.LargeRun.{FreesIdLarge, IsGoingLarge, LargeRun, LargeStep, MallocsLarge, StaysLarge, WritesIdLarge, large_told}
-use Rattle.large_objects.specs.Playing.{BeginsAtOne, BeginsLarge, RunsLarge, at_bound_one}
+use Rattle.large_objects.specs.Playing.{BeginsAtOne, BeginsLarge, RunsLarge}
 use Rattle.large_objects.proofs.Going.{still_going}
-use Rattle.session_model.proofs.CallerLemmas.{none_tied}
+use Rattle.id_table.proofs.CallerLemmas.{none_tied}
 use Rattle.large_objects.proofs.Opening.{parts as empty_parts}
 use Rattle.large_objects.proofs.LargeThere.{free_there, kept_same, malloc_there, room_or_cause, write_there}
 

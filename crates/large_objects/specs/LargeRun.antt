@@ -16,7 +16,7 @@ use Rattle.run_model.specs.Steps.{ids_given}
 use Rattle.script_loop.specs.Semantics.{Snapshot, snapshot}
 use Rattle.script_reader.specs.declared.command.Command.{Command}
 use Rattle.script_reader.specs.declared.command.Command.TheVariants.{Malloc, Free, Write, Read, Walk, Frag}
-use Rattle.session_model.specs.Ties.{AreTiedTo}
+use Rattle.id_table.specs.Ties.{AreTiedTo}
 use Rattle.large_objects.specs.Large.{KeepsParts, LargeState}
 use Rattle.large_objects.specs.LargeSteps.{FreesLarge, IsLargeMalloc, IsLargeWrite, StaysKept}
 

@@ -1,7 +1,7 @@
 -- A session over a heap of large objects, as a player.
 use Rattle.std.specs.Prelude.{◌≡◌, ℕ, true, false, List, Option, codes}
 use Rattle.std.specs.FinMap.{empty}
-use Rattle.cf_base.specs.Settings.{Profile}
+use Rattle.cf_base.specs.Settings.{Profile, at_bound_one}
 use Rattle.cf_base.specs.declared.kind.Kind.{Kind}
 use Rattle.cf_io.specs.Texts.{Reply, said}
 use Rattle.cf_model.specs.Families.{IsPaged}
@@ -12,10 +12,6 @@ use Rattle.script_reader.specs.Items.{Item}
 use Rattle.session_model.specs.Applying.{TurnsInPart}
 use Rattle.large_objects.specs.Large.{KeepsParts}
 use Rattle.large_objects.specs.LargeRun.{IsGoingLarge, LargeRun, LargeStep}
-
--- the settings of a `heap` line, with the bound 1 whatever it says
-abbrev pub at_bound_one : Profile → Profile
-at_bound_one p = record p { k = 1 }
 
 -- a heap of large objects was opened over a manager of the kind, and a session begun
 pub record BeginsLarge (kind : Kind) (p : Profile) (new : LargeRun) : Type 0 where

@@ -4,7 +4,7 @@ ghost use Rattle.cf_io.specs.Lines.{line_room};
 ghost use Rattle.cf_io.specs.Texts.{said};
 ghost use Rattle.run_model.specs.Replies.{malloc_text, write_text};
 ghost use Rattle.script_reader.specs.declared.command.Command.TheVariants.{Malloc, Free, Write};
-ghost use Rattle.session_model.specs.Ties.{AreTiedTo};
+ghost use Rattle.id_table.specs.Ties.{AreTiedTo};
 ghost use Rattle.large_objects.specs.LargeRun.{LargeStep, large_object_of, large_read_text, large_run};
 
 use crate::heap::LargeHeap;

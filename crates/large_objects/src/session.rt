@@ -6,7 +6,7 @@ ghost use Rattle.cf_io.specs.Lines.{line_room};
 ghost use Rattle.script_reader.specs.Commands.{IsWellFormed};
 ghost use Rattle.script_reader.specs.Owned.{owned_command};
 ghost use Rattle.session_model.specs.Applying.{Applies, Speaks};
-ghost use Rattle.session_model.specs.Ties.{AreTiedTo};
+ghost use Rattle.id_table.specs.Ties.{AreTiedTo};
 ghost use Rattle.large_objects.specs.LargeRun.{IsGoingLarge, LargeStep, large_moment, large_run};
 ghost use Rattle.large_objects.specs.Playing.{large_heap};
 ghost use Rattle.large_objects.specs.Speaking.{IsOneLine};

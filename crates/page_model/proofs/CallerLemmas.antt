@@ -21,7 +21,7 @@ pub use Rattle.page_model.proofs.Writing.{byte_of_object, word_by_bytes, object_
 pub use Rattle.page_model.proofs.Writing.{written_behind, zeros_are_bytes, written_are_bytes, resized_are_bytes, resized_before, resized_behind}
 pub use Rattle.page_model.proofs.Writing.{written_nothing, image_after_bytes, storable_added, storable_without, header_told}
 pub use Rattle.page_model.proofs.Addresses.{address_is_slot, slot_is_address}
-pub use Rattle.page_model.proofs.OpenPages.{IsOpen, IsTaken, IsVacant, taken_or_vacant, open_counts, open_page, classed, vacant_where_less}
+pub use Rattle.page_model.proofs.OpenPages.{IsOpen, IsTaken, IsVacant, taken_or_vacant, open_counts, open_page, classed, some_move, vacant_where_less}
 pub use Rattle.page_model.proofs.Nothing.{sound_empty, image_empty}
 pub use Rattle.page_model.proofs.BlockSteps.{free_blocks, free_frames, resize_blocks, resize_frames}
 pub use Rattle.page_model.proofs.Adding.{len-objects, live_added, live_taken, taken_added, taken_taken, asked_added, asked_taken}

@@ -1,7 +1,7 @@
--- Pages that are partly full, and their vacant slots.
-use Rattle.std.proofs.Common.{◌≡◌, ◌≢◌, ℕ, zero, suc, true, ◌+◌, ◌/◌, ◌%◌, ◌<◌, ◌≤◌, Some, arith, sym, ◌∙◌, ap, inl, inr}
+-- Pages that are partly full, their vacant slots, and the object on one that a free moves.
+use Rattle.std.proofs.Common.{◌≡◌, ◌≢◌, ℕ, zero, suc, true, ◌+◌, ◌/◌, ◌%◌, ◌<◌, ◌≤◌, Option, Some, None, arith, sym, ◌∙◌, ap, inl, inr}
 use Rattle.std.specs.Prelude.{◌⊎◌, ◌&&◌, count_by, nat_eq, nat_lt}
-use Rattle.std.proofs.lemmas.Bool.{cases_eq, false≢true, and_parts as both}
+use Rattle.std.proofs.lemmas.Bool.{cases_eq, cases_lt, false≢true, and_parts as both}
 use Rattle.std.proofs.lemmas.Bool.Decides.{nat_tests}
 use Rattle.std.specs.FinMap.{get, remove, values}
 use Rattle.cf_lemmas.proofs.Maps.{get_remove_other, some_removed}
@@ -9,7 +9,8 @@ use Rattle.cf_lemmas.proofs.Ranges.{some_in_range}
 use Rattle.cf_lemmas.proofs.Tests.{eq_yes}
 use Rattle.page_model.specs.Arrangement.{IsSound, class_at, not_full_pages, objects_on}
 use Rattle.page_model.specs.Held.{Held, Placed}
-use Rattle.page_model.specs.Paging.{IsPaging, Paging, address_of, classes, page_of, slot_words, slots_of}
+use Rattle.page_model.specs.Paging.{IsPaging, Paging, address_of, bound_of, classes, page_of, slot_words, slots_of}
+use Rattle.page_model.specs.Steps.{Moves}
 use Rattle.page_model.proofs.Counting.{none_counted, on_page, part_yes, some_counted}
 use Rattle.page_model.proofs.Freeing.{objects_on-left}
 use Rattle.page_model.proofs.Addresses.{address_is_slot}
@@ -99,3 +100,22 @@ module _ (p : Paging) (ok : IsPaging p) (c : ℕ) (lt : c < classes p) (page : �
           | inr found ↦ found
           | inl all ↦ absurd (let l = used_are_few (slots_of p c) m (omega arith) classed all in omega arith)
         ]
+
+-- a free moves nothing, or there is an object to move
+pub some_move : (p : Paging) → IsPaging p → (m : Held) → IsSound p m → (h : ℕ) (x : Placed) → get m h ≡ Some x → (moved : Option ℕ) × Moves p m x moved
+some_move p ok m s h x there = elim (cases_eq (objects_on p m (class_at p x) (page_of p x.place)) (slots_of p (class_at p x))) [
+  | inr ne ↦ (None, λ must. ne must.full)
+  | inl full ↦ elim (cases_lt 1 (slots_of p (class_at p x))) [
+    | inr single ↦ (None, λ must. (let several = must.several in omega arith))
+    | inl several ↦ elim (cases_eq (not_full_pages p m (class_at p x)) (bound_of p (class_at p x))) [
+      | inr ne ↦ (None, λ must. ne must.many)
+      | inl many ↦ (
+          let class = (s.slots h x there).class in
+          let some = ok.some (class_at p x) class in
+          let at = open_page p m (class_at p x) (omega arith) in
+          let on = on_page p m (class_at p x) at.0 (at.1).some in
+          let less : objects_on p m (class_at p x) (page_of p (on.1).place) < slots_of p (class_at p x) = (let e = on.3 in let l = (at.1).less in rw e l) in
+          (Some on.0, (record { full = full; several = several; many = many }, (on.1, on.2, record { class = on.4; not_full = less }))))
+    ]
+  ]
+]

@@ -29,7 +29,7 @@ use Rattle.page_model.specs.Paging.{IsPaging, Paging, address_of, bound_of, clas
 use Rattle.page_model.specs.Steps.{IsFreePlace, Moves, Request, without, zeros_at}
 use Rattle.page_model.proofs.CallerLemmas.{IsOpen, address_is_slot, between_multiples, class_fits, len-objects, nothing_on, on_page, open_page}
 use Rattle.page_model.proofs.CallerLemmas.{class_holds, length-written, mover_is_other, slot_inside, slots_some, sound_apart, sound_stand, standing}
-use Rattle.page_model.proofs.CallerLemmas.{sum_plus, used_at_one}
+use Rattle.page_model.proofs.CallerLemmas.{some_move, sum_plus, used_at_one}
 use Rattle.page_model.proofs.CallerLemmas.{vacant_where_less}
 use Rattle.quota_heap.specs.State.{KeepsTasks, QuotaState, held_by, objects_by, quota_of}
 use Rattle.quota_heap.specs.Steps.{FreesOfTask, IsMallocStep, IsWriteStep, with_held}
@@ -39,7 +39,7 @@ use Rattle.quota_model.specs.Refusals.{malloc_refusal, task_paging}
 use Rattle.quota_model.specs.Shared.{AreQuotas, IsShared, PlacesForTask, RemovesForTask}
 use Rattle.quota_model.proofs.CallerLemmas.{free_quotas, free_shared, found_small, found_whole, quotas_stay, stays_shared}
 use Rattle.quota_model.proofs.CallerLemmas.{tasks_at_one, tasks_paged}
-use Rattle.run_laws.proofs.CallerLemmas.{is_rewritten, length-rewritten, rewritten, some_move}
+use Rattle.run_laws.proofs.CallerLemmas.{is_rewritten, length-rewritten, rewritten}
 
 -- what none of the three causes says
 no_cause : (a b c : Bool) → cond a (Some refusal.Size) (cond b (Some refusal.Proxy) (cond c (Some refusal.Space) None)) ≡ None

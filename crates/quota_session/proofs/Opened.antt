@@ -2,15 +2,15 @@
 use Rattle.std.proofs.Common.{◌≡◌, ℕ, zero, suc, List, [], Some, length, get_or, replicate, arith, sym, ◌∙◌, ap, refl, subst, lit<}
 use Rattle.std.proofs.lemmas.List.{length-replicate}
 use Rattle.std.specs.FinMap.{empty}
-use Rattle.cf_base.specs.Settings.{Profile}
+use Rattle.cf_base.specs.Settings.{Profile, at_bound_one}
 use Rattle.id_table.specs.Ids.{Ids}
 use Rattle.page_model.specs.Held.{objects}
 use Rattle.cf_lemmas.proofs.Values.{map_values-empty}
 use Rattle.quota_heap.specs.State.{KeepsTasks, QuotaState, empty_state, objects_by}
 use Rattle.quota_model.specs.declared.answers.Need.{Need}
 use Rattle.quota_model.proofs.CallerLemmas.{no_part}
-use Rattle.session_model.proofs.CallerLemmas.{none_tied}
-use Rattle.quota_session.specs.Playing.{BeginsQuotas, at_bound_one}
+use Rattle.id_table.proofs.CallerLemmas.{none_tied}
+use Rattle.quota_session.specs.Playing.{BeginsQuotas}
 use Rattle.quota_session.specs.QuotaRun.{AreTasksTied, HasSixteen, IsGoingQuotas, QuotaRun, TaskSession, first_session, ids_of, quota_run}
 
 -- every one of so many values is the default

@@ -20,11 +20,10 @@ use Rattle.quota_laws.specs.Tasks.{Tasks, own_heap, task_leaves, task_reply}
 use Rattle.quota_model.specs.Refusals.{malloc_refusal}
 use Rattle.run_model.specs.Replies.{malloc_text, read_text, write_text}
 use Rattle.run_model.specs.Steps.{ids_given}
-use Rattle.run_model.proofs.CallerLemmas.{AreNames}
 use Rattle.script_reader.specs.declared.command.Command.{Command}
 use Rattle.script_reader.specs.declared.command.Command.TheVariants as command
-use Rattle.session_model.specs.Ties.{AreTiedTo}
-use Rattle.session_model.proofs.CallerLemmas.{clash}
+use Rattle.id_table.specs.Ties.{AreTiedTo}
+use Rattle.id_table.proofs.CallerLemmas.{clash}
 use Rattle.transcript_laws.specs.ById.{ById}
 use Rattle.transcript_laws.specs.Histories.{objects_by_id}
 use Rattle.transcript_laws.specs.Replies.{free_said, malloc_fault, malloc_leaves, malloc_said, ok_or, put_unless, read_said, write_fault}
@@ -63,8 +62,8 @@ module _ (old new : TaskRun) (rules : KeepsTasks old.heap) (tied : AreTiedTo old
   abbrev h : ById
   h = own_heap t old.task
 
-  names : AreNames old.ids m
-  names = record { named = tied.named; once = tied.once; all = tied.all }
+  names : AreTiedTo old.ids m
+  names = tied
 
   counts : CountAlike m (all old.task)
   counts = subst (λ (o : Objects). CountAlike m o) (sym own) (by_id_counts old.ids m names)

@@ -5,7 +5,7 @@ use Rattle.std.specs.Prelude.{Option, ◌&&◌, map, nat_eq, nat_lt, not, slice_
 use Rattle.std.proofs.lemmas.Bool.{cases_eq}
 use Rattle.std.specs.Ordering.{nat_cmp}
 use Rattle.std.specs.FinMap.{empty, get-empty}
-use Rattle.cf_base.specs.Settings.{Profile}
+use Rattle.cf_base.specs.Settings.{Profile, at_bound_one}
 use Rattle.cf_io.specs.Texts.{Reply}
 use Rattle.cf_lemmas.proofs.Maps.{equal_maps}
 use Rattle.cf_lemmas.proofs.Renaming.{CountAlike}
@@ -19,7 +19,7 @@ use Rattle.quota_model.specs.Refusals.{task_paging}
 use Rattle.quota_model.specs.declared.answers.QuotaFault.{QuotaFault}
 use Rattle.quota_model.specs.declared.answers.QuotaFault.TheVariants.{Sum, Used}
 use Rattle.run_laws.specs.Sayable.{IsSayable}
-use Rattle.run_model.proofs.CallerLemmas.{AreNames}
+use Rattle.id_table.specs.Ties.{AreTiedTo}
 use Rattle.script_reader.specs.Items.{asks}
 use Rattle.script_reader.specs.declared.command.Command.{Command}
 use Rattle.script_reader.specs.declared.command.Command.TheVariants as command
@@ -27,7 +27,7 @@ use Rattle.transcript_laws.specs.Histories.{objects_by_id}
 use Rattle.transcript_laws.proofs.CallerLemmas.{by_id_counts, gone_by_id, needed_alike}
 use Rattle.quota_session.specs.Alone.{AreAlikeFor, CanBeSaid, after_if, is_left_out, item_of, own_commands, present_after}
 use Rattle.quota_session.specs.Alone.{replies_of, script_of, task_items, tasks_of}
-use Rattle.quota_session.specs.Playing.{BeginsQuotas, RunsQuotas, at_bound_one}
+use Rattle.quota_session.specs.Playing.{BeginsQuotas, RunsQuotas}
 use Rattle.quota_session.specs.QuotaRun.{IsGoingQuotas, QuotaRun, QuotaStep, SetsQuota, StepsPresent, TaskSession, ids_of, present_run}
 use Rattle.quota_session.specs.QuotaRun.{quota_fault, with_ids}
 use Rattle.quota_session.specs.TaskRun.{TaskRun, task_run}
@@ -78,7 +78,7 @@ module _ (old : QuotaRun) (going : IsGoingQuotas old) where
   counts : (task : ℕ) → task < 16 → CountAlike (objects_by old.heap task) (t.objects task)
   counts task lt =
       let tied = going.tied task lt in
-      let names : AreNames (ids_of old.session task) (objects_by old.heap task) = record { named = tied.named; once = tied.once; all = tied.all } in
+      let names : AreTiedTo (ids_of old.session task) (objects_by old.heap task) = tied in
       by_id_counts (ids_of old.session task) (objects_by old.heap task) names
 
   -- a quota line is refused by the objects by id as by those by number

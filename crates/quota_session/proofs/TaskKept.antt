@@ -23,8 +23,8 @@ use Rattle.quota_model.proofs.CallerLemmas.{others_kept, others_stay, own_freed,
 use Rattle.run_model.specs.Steps.{ids_given}
 use Rattle.script_reader.specs.declared.command.Command.{Command}
 use Rattle.script_reader.specs.declared.command.Command.TheVariants as command
-use Rattle.session_model.specs.Ties.{AreTiedTo}
-use Rattle.session_model.proofs.CallerLemmas.{tied_less, tied_more, tied_same}
+use Rattle.id_table.specs.Ties.{AreTiedTo}
+use Rattle.id_table.proofs.CallerLemmas.{tied_less, tied_more, tied_same}
 use Rattle.quota_session.specs.TaskRun.{FreesIdOfTask, MallocsForTask, StaysTask, TaskRun, TaskStep, WritesIdOfTask}
 
 -- the heap keeps its settings and quotas, and a call of one task leaves the objects of the others

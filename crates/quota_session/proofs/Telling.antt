@@ -23,12 +23,11 @@ use Rattle.quota_heap.specs.Steps.{IsFault, ReadsOfTask}
 use Rattle.quota_model.specs.Refusals.{task_paging}
 use Rattle.run_model.specs.Replies.{read_text, write_text}
 use Rattle.run_model.specs.Reports.{total_line}
-use Rattle.run_model.proofs.CallerLemmas.{AreNames}
 use Rattle.script_loop.specs.Semantics.{snapshot}
 use Rattle.script_reader.specs.declared.command.Command.{Command}
 use Rattle.script_reader.specs.declared.command.Command.TheVariants.{Walk}
 use Rattle.session_model.specs.Applying.{Applies, IsEndedAs, TurnsInPart}
-use Rattle.session_model.specs.Ties.{AreTiedTo}
+use Rattle.id_table.specs.Ties.{AreTiedTo}
 use Rattle.session_model.proofs.CallerLemmas.{clash, reported}
 use Rattle.transcript_laws.proofs.CallerLemmas.{by_id_counts}
 use Rattle.quota_session.specs.Layout.{totals_with}
@@ -99,7 +98,7 @@ module _ (s : TaskRun) (id at count : ℕ) where
 -- the ids of a task are as many as its objects
 pub as_many : (ids : Ids) (m : Objects) → AreTiedTo ids m → len ids ≡ len m
 as_many ids m tied =
-    let names : AreNames ids m = record { named = tied.named; once = tied.once; all = tied.all } in
+    let names : AreTiedTo ids m = tied in
     sym (len-map_values _ ids) ∙ (by_id_counts ids m names).count
 
 -- the last line of a report

@@ -6,7 +6,7 @@ use Rattle.std.specs.FinMap.{empty, get, remove}
 use Rattle.std.proofs.lemmas.List.{length-replicate}
 use Rattle.std.proofs.lemmas.Bool.{cases_lt}
 use Rattle.cf_base.specs.Classes.{need}
-use Rattle.cf_base.specs.Settings.{Profile}
+use Rattle.cf_base.specs.Settings.{Profile, at_bound_one}
 use Rattle.cf_io.specs.Texts.{Reply, said}
 use Rattle.cf_model.specs.Rules.{AreInRange}
 use Rattle.cf_model.specs.State.{region_words}
@@ -33,8 +33,8 @@ use Rattle.run_model.proofs.CallerLemmas.{run_joined}
 use Rattle.script_reader.specs.Items.{Item, asks, bad, items, starts}
 use Rattle.script_reader.specs.declared.command.Command.{Command}
 use Rattle.script_reader.specs.declared.command.Command.TheVariants as command
-use Rattle.session_model.proofs.CallerLemmas.{clash}
-use Rattle.quota_session.specs.Playing.{BeginsAtOne, BeginsQuotas, RunsQuotas, at_bound_one}
+use Rattle.id_table.proofs.CallerLemmas.{clash}
+use Rattle.quota_session.specs.Playing.{BeginsAtOne, BeginsQuotas, RunsQuotas}
 use Rattle.quota_session.specs.QuotaRun.{IsGoingQuotas, QuotaRun, QuotaStep, StepsPresent, admission_text, first_session, need_text, needs_of}
 use Rattle.quota_session.specs.QuotaRun.{present_run, quota_fault}
 use Rattle.quota_session.specs.QuotaRun.{with_ids, with_need, with_present}

@@ -1,6 +1,6 @@
 -- A session over a heap that tasks share, as a player.
 use Rattle.std.specs.Prelude.{◌≡◌, ⊤, List, Option, Some, codes, false}
-use Rattle.cf_base.specs.Settings.{Profile}
+use Rattle.cf_base.specs.Settings.{Profile, at_bound_one}
 use Rattle.cf_io.specs.Texts.{Reply, said}
 use Rattle.quota_heap.specs.State.{KeepsTasks, empty_state}
 use Rattle.run_model.specs.Plays.{PlayRun}
@@ -8,10 +8,6 @@ use Rattle.script_loop.specs.Semantics.{Semantics}
 use Rattle.script_reader.specs.Items.{Item}
 use Rattle.session_model.specs.Applying.{TurnsInPart}
 use Rattle.quota_session.specs.QuotaRun.{IsGoingQuotas, QuotaRun, QuotaStep, first_session}
-
--- the settings of a `heap` line, with the bound 1 whatever it says
-abbrev pub at_bound_one : Profile → Profile
-at_bound_one p = record p { k = 1 }
 
 -- a heap that tasks share was opened with the settings of the line, and a session begun
 pub record BeginsQuotas (p : Profile) (new : QuotaRun) : Type 0 where

@@ -18,7 +18,7 @@ use Rattle.quota_model.specs.declared.answers.QuotaFault.{QuotaFault}
 use Rattle.script_loop.specs.Semantics.{Snapshot, snapshot}
 use Rattle.script_reader.specs.declared.command.Command.{Command}
 use Rattle.script_reader.specs.declared.command.Command.TheVariants as command
-use Rattle.session_model.specs.Ties.{AreTiedTo}
+use Rattle.id_table.specs.Ties.{AreTiedTo}
 use Rattle.quota_session.specs.TaskRun.{TaskRun, TaskStep, task_run}
 
 -- by task its live ids with the handles that they name, and the entries that it declared; and the present task

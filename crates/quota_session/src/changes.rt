@@ -6,7 +6,7 @@ ghost use Rattle.cf_io.specs.Texts.{said};
 ghost use Rattle.quota_heap.specs.State.{objects_by};
 ghost use Rattle.run_model.specs.Replies.{malloc_text, read_text, write_text};
 ghost use Rattle.script_reader.specs.declared.command.Command.TheVariants.{Malloc, Free, Write};
-ghost use Rattle.session_model.specs.Ties.{AreTiedTo};
+ghost use Rattle.id_table.specs.Ties.{AreTiedTo};
 ghost use Rattle.quota_session.specs.TaskRun.{TaskStep, task_object, task_run};
 
 use cf_base::{AccessFault, Refusal};

@@ -1,6 +1,6 @@
 //! Laws of a session over tasks. What each function ensures is the law; it calls the laws that it follows from.
 ghost use Rattle.std.specs.Prelude.{◌≡◌, ℕ, ◌<◌, ◌∷◌, ◌++◌, Bool, List, None, Option, true};
-ghost use Rattle.cf_base.specs.Settings.{Profile};
+ghost use Rattle.cf_base.specs.Settings.{Profile, at_bound_one};
 ghost use Rattle.cf_io.specs.Texts.{Reply};
 ghost use Rattle.cf_model.specs.Rules.{AreInRange};
 ghost use Rattle.quota_laws.specs.Tasks.{is_for_task, no_tasks, task_reply};
@@ -9,7 +9,7 @@ ghost use Rattle.script_reader.specs.Commands.{IsWellFormed};
 ghost use Rattle.script_reader.specs.Items.{Item, items};
 ghost use Rattle.script_reader.specs.declared.command.Command.{Command};
 ghost use Rattle.quota_session.specs.Alone.{AreAlikeFor, CanBeSaid, after_if, item_of, own_commands, replies_of, script_of, tasks_of};
-ghost use Rattle.quota_session.specs.Playing.{BeginsQuotas, RunsQuotas, at_bound_one};
+ghost use Rattle.quota_session.specs.Playing.{BeginsQuotas, RunsQuotas};
 ghost use Rattle.quota_session.specs.QuotaRun.{IsGoingQuotas, QuotaRun, QuotaStep};
 
 use quota_laws::{a_reply_follows_from_the_task_alone, tasks_are_isolated};

@@ -6,7 +6,7 @@ ghost use Rattle.page_model.specs.Arrangement.{used_pages};
 ghost use Rattle.quota_heap.specs.State.{held_by, objects_by};
 ghost use Rattle.quota_model.specs.Refusals.{task_paging};
 ghost use Rattle.run_model.specs.Reports.{class_line, total_line};
-ghost use Rattle.session_model.specs.Ties.{AreTiedTo};
+ghost use Rattle.id_table.specs.Ties.{AreTiedTo};
 ghost use Rattle.quota_session.specs.Layout.{class_if_live, totals_with};
 ghost use Rattle.quota_session.specs.TaskRun.{class_lines, task_classes, task_report};
 

@@ -8,7 +8,7 @@ ghost use Rattle.quota_heap.specs.State.{KeepsTasks, objects_by};
 ghost use Rattle.script_reader.specs.Commands.{IsWellFormed};
 ghost use Rattle.script_reader.specs.Owned.{owned_command};
 ghost use Rattle.session_model.specs.Applying.{Applies, Speaks};
-ghost use Rattle.session_model.specs.Ties.{AreTiedTo};
+ghost use Rattle.id_table.specs.Ties.{AreTiedTo};
 ghost use Rattle.quota_session.specs.Layout.{IsOfTask, IsOneLine, session_of};
 ghost use Rattle.quota_session.specs.Playing.{quota_tasks};
 ghost use Rattle.quota_session.specs.QuotaRun.{AreTasksTied, HasSixteen, IsGoingQuotas, QuotaStep, StepsPresent, first_session, quota_moment, quota_run};

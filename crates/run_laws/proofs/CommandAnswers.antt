@@ -46,7 +46,7 @@ module _ (old : RunState) (going : IsGoing old) where
   free_at : (o : Option ℕ) (id : ℕ) → get old.session.ids id ≡ o → HasAnswer (FreesAt o old id)
   free_at None id is = record { reply = said (codes "unknown"); new = old; done = (refl, refl) }
   free_at (Some h) id is =
-      let x = going.tied.named id h is in
+      let x = going.tied.ids.named id h is in
       let f = heap.free h x.0 x.1 in
       record {
         reply = said (codes "ok");
@@ -61,7 +61,7 @@ module _ (old : RunState) (going : IsGoing old) where
   write_at : (o : Option ℕ) (id at : ℕ) (bytes : List ℕ) → AreBytes bytes → get old.session.ids id ≡ o → HasAnswer (WritesAt o old at bytes)
   write_at None id at bytes are is = record { reply = said (codes "unknown"); new = old; done = (refl, refl) }
   write_at (Some h) id at bytes are is =
-      let x = going.tied.named id h is in
+      let x = going.tied.ids.named id h is in
       let w = heap.write (record { number = h; from = at }) bytes x.0 are x.1 in
       record {
         reply = said (write_text w.answer);
@@ -72,7 +72,7 @@ module _ (old : RunState) (going : IsGoing old) where
   resize_at : (o : Option ℕ) (id bytes : ℕ) → get old.session.ids id ≡ o → HasAnswer (ResizesAt o old bytes)
   resize_at None id bytes is = record { reply = said (codes "unknown"); new = old; done = (refl, refl) }
   resize_at (Some h) id bytes is =
-      let x = going.tied.named id h is in
+      let x = going.tied.ids.named id h is in
       let r = heap.resize (record { number = h; length = bytes }) x.0 x.1 in
       record {
         reply = said (resize_text r.answer);

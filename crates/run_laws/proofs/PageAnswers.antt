@@ -25,7 +25,7 @@ use Rattle.page_model.specs.Paging.{Paging, class_for}
 use Rattle.page_model.specs.Steps.{IsFreePlace, RemovesObject, RefitsObject as IsResizedBy, Moves, Leaves, Request, resized, resized_at, without, zeros_at}
 use Rattle.page_model.proofs.CallerLemmas.{len-objects, free_frames, resize_frames, sound_free, sound_exchanged, sound_empty, free_objects, malloc_objects}
 use Rattle.cf_lemmas.proofs.Tests.{eq_no}
-use Rattle.page_model.proofs.CallerLemmas.{sound_malloc, changes_class, sound_resize, class_fits, own_words}
+use Rattle.page_model.proofs.CallerLemmas.{some_move, sound_malloc, changes_class, sound_resize, class_fits, own_words}
 use Rattle.page_model.proofs.CallerLemmas.{length-written, resized_are_bytes, written_are_bytes, zeros_are_bytes}
 use Rattle.cf_model.specs.Answers.{bound_put}
 use Rattle.cf_model.specs.Rules.{IsPaged, KeepsPages, KeepsRules, KeepsRulesOf, KeepsTable}
@@ -39,7 +39,7 @@ use Rattle.cf_lemmas.proofs.Searches.{fresh_key, len_without, there_or_not}
 use Rattle.run_laws.proofs.Images.{sound_image}
 use Rattle.run_laws.proofs.Answered.{AreFew, HasFree, HasMalloc, HasResize, HasWrite, few_added, few_changed, few_in, few_left, objects_in}
 use Rattle.run_laws.proofs.ByKind.{handle_of, number_of_handle, table_kept, table_moved, table_stepped}
-use Rattle.run_laws.proofs.Room.{room_or_not, some_move}
+use Rattle.run_laws.proofs.Room.{room_or_not}
 
 -- a map without keys is the empty one
 no_keys : (m : Held) → len m ≡ 0 → (h : ℕ) (x : Placed) → get m h ≡ Some x → ⊥

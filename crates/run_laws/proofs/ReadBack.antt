@@ -34,7 +34,8 @@ use Rattle.run_model.specs.Steps.{Step, class_to_bound, ids_given}
 use Rattle.run_model.proofs.CallerLemmas.{FreesAt, MallocsAt, ResizesAt, WritesAt}
 use Rattle.run_model.specs.Texts.{Reply, said}
 use Rattle.run_model.proofs.CallerLemmas.{begins_going, step_going}
-use Rattle.run_model.proofs.CallerLemmas.{AreNames, bytes_held, bytes_missing, counted_ids, names_in, names_of_objects, resized_ids, unmoved_held}
+use Rattle.run_model.proofs.CallerLemmas.{bytes_held, bytes_missing, counted_ids, names_of_objects, resized_ids, unmoved_held}
+use Rattle.id_table.specs.Ties.{AreTiedTo}
 use Rattle.run_laws.specs.Told.{AreReadsOf, IsReadOf, Told, changed, done_by, is_ok, read_told, told_after}
 
 -- the bytes under the number that an id names
@@ -46,7 +47,7 @@ through o (Some h) = get o h
 abbrev pub IsTold : Ids → Objects → Told → Type 0
 IsTold ids o m = (q : ℕ) → get m q ≡ through o (get ids q)
 
-module _ (ids : Ids) (o : Objects) (m : Told) (names : AreNames ids o) (told : IsTold ids o m) (id h : ℕ) where
+module _ (ids : Ids) (o : Objects) (m : Told) (names : AreTiedTo ids o) (told : IsTold ids o m) (id h : ℕ) where
   -- what is named otherwise stays
   through_other : (v : List ℕ) (r : Option ℕ) → (r ≡ Some h → ⊥) → through (insert o h v) r ≡ through o r
   through_other v None other = refl
@@ -89,8 +90,8 @@ abbrev next : Command → Told → Reply → Told
 next c m reply = cond (is_ok reply) (done_by c m) m
 
 module _ (old new : RunState) (m : Told) (going : IsGoing old) (told : IsTold old.session.ids (objects old.heap.held) m) where
-  names : AreNames old.session.ids (objects old.heap.held)
-  names = names_of_objects old.session.ids old.heap.held (names_in old.session old.heap going.tied)
+  names : AreTiedTo old.session.ids (objects old.heap.held)
+  names = names_of_objects old.session.ids old.heap.held going.tied.ids
 
   -- what is told, of equal ids and objects
   told_with : (ids : Ids) (o : Objects) (after : Told) → new.session.ids ≡ ids → objects new.heap.held ≡ o → IsTold ids o after

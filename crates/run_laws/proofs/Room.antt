@@ -1,14 +1,14 @@
--- Where a sound arrangement has room there is a free place, and a free that must move an object can.
+-- Where a sound arrangement has room there is a free place.
 use Rattle.std.proofs.Common.{◌≡◌, ◌≢◌, ℕ, zero, suc, true, ◌+◌, ◌/◌, ◌%◌, ◌<◌, ◌≤◌, Option, Some, None, arith, sym, ◌∙◌, ap, inl, inr}
 use Rattle.std.specs.Prelude.{◌⊎◌, ◌&&◌, count_by, nat_eq, nat_lt}
 use Rattle.std.proofs.lemmas.Bool.{cases_eq, cases_lt, false≢true, and_parts as both}
 use Rattle.std.proofs.lemmas.Bool.Decides.{nat_tests}
 use Rattle.std.specs.FinMap.{get, remove, values}
 use Rattle.cf_lemmas.proofs.Maps.{get_remove_other, some_removed}
-use Rattle.page_model.specs.Arrangement.{IsSound, LacksRoom, class_at, not_full_pages, objects_on, standing_on}
+use Rattle.page_model.specs.Arrangement.{IsSound, LacksRoom, not_full_pages, standing_on}
 use Rattle.page_model.specs.Held.{Held, Placed}
-use Rattle.page_model.specs.Paging.{IsPaging, Paging, address_of, bound_of, class_for, classes, page_of, slot_words, slots_of}
-use Rattle.page_model.specs.Steps.{IsFreePlace, Moves}
+use Rattle.page_model.specs.Paging.{IsPaging, Paging, address_of, class_for, classes, page_of, slot_words, slots_of}
+use Rattle.page_model.specs.Steps.{IsFreePlace}
 use Rattle.page_model.proofs.CallerLemmas.{IsOpen, address_is_slot, nothing_on, on_page, open_page, slots_some, vacant_where_less}
 use Rattle.cf_lemmas.proofs.Tests.{eq_yes}
 use Rattle.cf_lemmas.proofs.Searches.{search_below}
@@ -52,24 +52,5 @@ module _ (p : Paging) (ok : IsPaging p) (m : Held) (s : IsSound p m) where
     | inl none ↦ elim (search_below (λ g. 0 < standing_on p m g) (λ g. standing_on p m g ≡ 0) (bare_or_not p m) p.pages) [
       | inl all ↦ inl (record { full = none; taken = all })
       | inr bare ↦ inr (place_alone n lt none bare.0 bare.1 bare.2)
-    ]
-  ]
-
-  -- a free moves nothing, or there is an object to move
-  pub some_move : (h : ℕ) (x : Placed) → get m h ≡ Some x → (moved : Option ℕ) × Moves p m x moved
-  some_move h x there = elim (cases_eq (objects_on p m (class_at p x) (page_of p x.place)) (slots_of p (class_at p x))) [
-    | inr ne ↦ (None, λ must. ne must.full)
-    | inl full ↦ elim (cases_lt 1 (slots_of p (class_at p x))) [
-      | inr single ↦ (None, λ must. (let several = must.several in omega arith))
-      | inl several ↦ elim (cases_eq (not_full_pages p m (class_at p x)) (bound_of p (class_at p x))) [
-        | inr ne ↦ (None, λ must. ne must.many)
-        | inl many ↦ (
-            let class = (s.slots h x there).class in
-            let some = ok.some (class_at p x) class in
-            let at = open_page p m (class_at p x) (omega arith) in
-            let on = on_page p m (class_at p x) at.0 (at.1).some in
-            let less : objects_on p m (class_at p x) (page_of p (on.1).place) < slots_of p (class_at p x) = (let e = on.3 in let l = (at.1).less in rw e l) in
-            (Some on.0, (record { full = full; several = several; many = many }, (on.1, on.2, record { class = on.4; not_full = less }))))
-      ]
     ]
   ]

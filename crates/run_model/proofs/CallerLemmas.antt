@@ -1,7 +1,7 @@
 -- What upper crates may cite, passed on from one address. Declares nothing.
 pub use Rattle.run_model.proofs.Bounded.{pages_kept, step_meets_bounds}
 pub use Rattle.run_model.proofs.Going.{begins_going, costs_nothing, step_going, step_same}
-pub use Rattle.run_model.proofs.Tied.{AreNames, bytes_held, bytes_missing, counted_ids, names_in, names_of_objects, resized_ids, unmoved_changes_cost}
+pub use Rattle.run_model.proofs.Tied.{bytes_held, bytes_missing, counted_ids, names_of_objects, resized_ids, unmoved_changes_cost}
 pub use Rattle.run_model.proofs.Tied.{unmoved_held}
 pub use Rattle.run_model.proofs.Going.{step_rules}
 pub use Rattle.run_model.proofs.Plays.{led_joined, one_run, part_seen, run_joined, run_seen, text_joined}

@@ -10,7 +10,8 @@ use Rattle.cf_base.specs.declared.answers.Refusal.{Refusal}
 use Rattle.cf_base.specs.declared.answers.Resized.{Resized}
 use Rattle.cf_base.specs.declared.answers.ResizeFault.{ResizeFault}
 use Rattle.cf_base.specs.declared.kind.Kind.{Kind}
-use Rattle.cf_lemmas.proofs.Maps.{get_inserted, get_insert_other, get_remove_other, some_inserted, some_removed}
+use Rattle.id_table.specs.Ties.{AreTiedTo}
+use Rattle.id_table.proofs.CallerLemmas.{tied_less, tied_more, tied_same}
 use Rattle.cf_lemmas.proofs.MapValues.{get-map_values}
 use Rattle.page_model.specs.Held.{Held, Placed, objects}
 use Rattle.page_model.specs.Steps.{Request}
@@ -24,85 +25,6 @@ use Rattle.run_model.specs.Sessions.{AreTied, CostsAtMost, Ids, RunState, Sessio
 use Rattle.run_model.specs.Steps.{Frees, Mallocs, Resizes, Step, class_to_bound, ids_given, session_resized}
 use Rattle.run_model.proofs.NamedIds.{FreesAt, MallocsAt, ResizesAt, WritesAt}
 use Rattle.run_model.specs.Texts.{Reply}
-
--- the ids name just the keys of the map, each once
-pub record AreNames {V : Type 0} (ids : Ids) (m : FinMap nat_cmp V) : Type 0 where
-  pub named : (id h : ℕ) → get ids id ≡ Some h → (x : V) × (get m h ≡ Some x)
-  pub once : (id other h : ℕ) → get ids id ≡ Some h → get ids other ≡ Some h → other ≡ id
-  pub all : (h : ℕ) (x : V) → get m h ≡ Some x → (id : ℕ) × (get ids id ≡ Some h)
-
-module _ {V : Type 0} (ids : Ids) (m : FinMap nat_cmp V) (names : AreNames ids m) where
-  -- a fresh id names a fresh key
-  pub names_inserted : (id h : ℕ) (x : V) → get ids id ≡ None → get m h ≡ None → AreNames (insert ids id h) (insert m h x)
-  names_inserted id h x none unused = record {
-    named = λ i q is. elim (some_inserted ids id h i q is) [
-      | inl e ↦ (x, subst (λ k. get (insert m h x) k ≡ Some x) e.1 (get_inserted m h x))
-      | inr e ↦ kept q (names.named i q e.1)
-    ];
-    once = λ i j q a b. same i j q (some_inserted ids id h i q a) (some_inserted ids id h j q b);
-    all = λ q y is. elim (some_inserted m h x q y is) [
-      | inl e ↦ (id, get_inserted ids id h ∙ ap (λ k. Some k) (sym e.0))
-      | inr e ↦ found q (names.all q y e.1)
-    ];
-  }
-    where
-      kept : (q : ℕ) → (y : V) × (get m q ≡ Some y) → (y : V) × (get (insert m h x) q ≡ Some y)
-      kept q is = elim (cases_eq q h) [
-        | inl e ↦ (x, rw e (get_inserted m h x))
-        | inr ne ↦ (is.0, get_insert_other m h x q ne ∙ is.1)
-      ]
-
-      unnamed : (i : ℕ) → get ids i ≡ Some h → ⊥
-      unnamed i is = let y = names.named i h is in (let e : get m h ≡ Some y.0 = y.1 in cc)
-
-      found : (q : ℕ) → (i : ℕ) × (get ids i ≡ Some q) → (i : ℕ) × (get (insert ids id h) i ≡ Some q)
-      found q is = elim (cases_eq is.0 id) [
-        | inl e ↦ absurd (let a : get ids is.0 ≡ Some q = is.1 in let b : get ids is.0 ≡ None = rw e none in cc)
-        | inr ne ↦ (is.0, get_insert_other ids id h is.0 ne ∙ is.1)
-      ]
-
-      same : (i j q : ℕ) → ((i ≡ id) × (h ≡ q)) ⊎ ((i ≢ id) × (get ids i ≡ Some q)) → ((j ≡ id) × (h ≡ q)) ⊎ ((j ≢ id) × (get ids j ≡ Some q)) → j ≡ i
-      same i j q (inl a) (inl b) = b.0 ∙ sym a.0
-      same i j q (inl a) (inr b) = absurd (unnamed j (b.1 ∙ ap (λ k. Some k) (sym a.1)))
-      same i j q (inr a) (inl b) = absurd (unnamed i (a.1 ∙ ap (λ k. Some k) (sym b.1)))
-      same i j q (inr a) (inr b) = names.once i j q a.1 b.1
-
-  -- a key gets another value
-  pub names_replaced : (h : ℕ) (x y : V) → get m h ≡ Some x → AreNames ids (insert m h y)
-  names_replaced h x y some = record {
-    named = λ i q is. elim (cases_eq q h) [
-      | inl e ↦ (y, rw e (get_inserted m h y))
-      | inr ne ↦ ((names.named i q is).0, get_insert_other m h y q ne ∙ (names.named i q is).1)
-    ];
-    once = names.once;
-    all = λ q z is. elim (some_inserted m h y q z is) [
-      | inl e ↦ names.all q x (ap (get m) e.0 ∙ some)
-      | inr e ↦ names.all q z e.1
-    ];
-  }
-
-  -- an id goes, and the key that it names
-  pub names_removed : (id h : ℕ) → get ids id ≡ Some h → AreNames (remove ids id) (remove m h)
-  names_removed id h some = record {
-    named = λ i q is. kept i q (some_removed ids id i q is);
-    once = λ i j q a b. names.once i j q (some_removed ids id i q a).1 (some_removed ids id j q b).1;
-    all = λ q y is. found q y (some_removed m h q y is);
-  }
-    where
-      kept : (i q : ℕ) → (i ≢ id) × (get ids i ≡ Some q) → (y : V) × (get (remove m h) q ≡ Some y)
-      kept i q is = (
-        (names.named i q is.1).0,
-        get_remove_other m h q (λ e. is.0 (names.once id i h some (is.1 ∙ ap (λ k. Some k) e)))
-            ∙ (names.named i q is.1).1,
-      )
-
-      found : (q : ℕ) (y : V) → (q ≢ h) × (get m q ≡ Some y) → (i : ℕ) × (get (remove ids id) i ≡ Some q)
-      found q y is =
-          let n = names.all q y is.1 in (
-            n.0,
-            get_remove_other ids id n.0 (λ e. is.0 (let a : get ids n.0 ≡ Some q = n.1 in let b : get ids n.0 ≡ Some h = ap (get ids) e ∙ some in cc))
-                ∙ n.1,
-          )
 
 -- an option that is mapped to a value has one
 mapped : {X Y : Type 0} (f : X → Y) (o : Option X) (y : Y) → option_map f o ≡ Some y → (x : X) × (o ≡ Some x)
@@ -118,7 +40,7 @@ bytes_missing m h none = get-map_values (λ (y : Placed). y.bytes) m h ∙ ap (o
 
 -- the same of the objects without their addresses
 module _ (ids : Ids) (m : Held) where
-  pub names_of_objects : AreNames ids m → AreNames ids (objects m)
+  pub names_of_objects : AreTiedTo ids m → AreTiedTo ids (objects m)
   names_of_objects names = record {
     named = λ i q is. ((names.named i q is).0.bytes, bytes_held m q (names.named i q is).0 (names.named i q is).1);
     once = names.once;
@@ -127,16 +49,13 @@ module _ (ids : Ids) (m : Held) where
         names.all q x.0 x.1;
   }
 
-  pub names_of_held : AreNames ids (objects m) → AreNames ids m
+  pub names_of_held : AreTiedTo ids (objects m) → AreTiedTo ids m
   names_of_held names = record {
     named = λ i q is. mapped (λ (x : Placed). x.bytes) (get m q) (names.named i q is).0
         (sym (get-map_values (λ (x : Placed). x.bytes) m q) ∙ (names.named i q is).1);
     once = names.once;
     all = λ q x is. names.all q x.bytes (bytes_held m q x is);
   }
-
-pub names_in : (session : SessionState) (heap : HeapState) → AreTied session heap → AreNames session.ids heap.held
-names_in session heap tied = record { named = tied.named; once = tied.once; all = tied.all }
 
 -- a session whose counters alone differ
 pub counted_ids : {T : Type 0} (s : SessionState) (o : Option T) (n : ℕ) → (counted s o n).ids ≡ s.ids
@@ -168,23 +87,23 @@ pub unmoved_held : (k : Kind) (old new : HeapState) → IsUnmoved k old new → 
 unmoved_held k old new is = ap (λ (s : HeapState). s.held) (unmoved_changes_cost k old new is)
 
 module _ (old new : RunState) (tied : AreTied old.session old.heap) where
-  abbrev names : AreNames old.session.ids old.heap.held
-  names = names_in old.session old.heap tied
+  abbrev names : AreTiedTo old.session.ids old.heap.held
+  names = tied.ids
 
   -- session and heap are consistent, from the names and the cost, at equal parts
   tied_with : (session : SessionState) (ids : Ids) (m : Held) (bound : ℕ) → new.session ≡ session → session.ids ≡ ids → session.bound ≡ bound
-      → new.heap.held ≡ m → AreNames ids m → CostsAtMost new.heap.kind new.heap.cost bound → AreTied new.session new.heap
+      → new.heap.held ≡ m → AreTiedTo ids m → CostsAtMost new.heap.kind new.heap.cost bound → AreTied new.session new.heap
   tied_with session ids m bound e i b f names cost =
       let a : new.session.ids ≡ ids = ap (λ (s : SessionState). s.ids) e ∙ i in
       let c : new.session.bound ≡ bound = ap (λ (s : SessionState). s.bound) e ∙ b in
-      let n : AreNames new.session.ids new.heap.held = subst (λ k. AreNames k new.heap.held) (sym a) (subst (λ h. AreNames ids h) (sym f) names) in
+      let n : AreTiedTo new.session.ids new.heap.held = subst (λ k. AreTiedTo k new.heap.held) (sym a) (subst (λ h. AreTiedTo ids h) (sym f) names) in
       record { named = n.named; once = n.once; all = n.all; cost = subst (λ k. CostsAtMost new.heap.kind new.heap.cost k) (sym c) cost }
 
   malloc_names : (id n : ℕ) (answer : Result Handle Refusal) → get old.session.ids id ≡ None → IsMallocStep old.heap n answer new.heap
-      → AreNames (ids_given old.session.ids id answer) new.heap.held
-  malloc_names id n (Ok h) none step = subst (λ m. AreNames (insert old.session.ids id h.0) m) (sym (ap (λ (s : HeapState). s.held) step.whole))
-      (names_inserted old.session.ids old.heap.held names id h.0 _ none step.unused)
-  malloc_names id n (Err e) none step = subst (λ m. AreNames old.session.ids m) (sym (ap (λ (s : HeapState). s.held) step.1)) names
+      → AreTiedTo (ids_given old.session.ids id answer) new.heap.held
+  malloc_names id n (Ok h) none step = subst (λ m. AreTiedTo (insert old.session.ids id h.0) m) (sym (ap (λ (s : HeapState). s.held) step.whole))
+      (tied_more old.session.ids old.heap.held names id h.0 _ none step.unused)
+  malloc_names id n (Err e) none step = subst (λ m. AreTiedTo old.session.ids m) (sym (ap (λ (s : HeapState). s.held) step.1)) names
 
   malloc_tied : (asked : Request) (reply : Reply) → get old.session.ids asked.number ≡ None → Mallocs old asked reply new → AreTied new.session new.heap
   malloc_tied asked reply none step = tied_with _ _ _ 64 step.session refl refl refl
@@ -192,27 +111,27 @@ module _ (old new : RunState) (tied : AreTied old.session old.heap) where
 
   free_tied : (id h : ℕ) (reply : Reply) → get old.session.ids id ≡ Some h → Frees old (record { id = id; number = h }) reply new → AreTied new.session new.heap
   free_tied id h reply some step =
-      let gone = names_removed old.session.ids (objects old.heap.held) (names_of_objects old.session.ids old.heap.held names) id h some in
-      let left = names_of_held (remove old.session.ids id) new.heap.held (subst (λ m. AreNames (remove old.session.ids id) m) (sym step.step.left) gone) in
+      let gone = tied_less old.session.ids (objects old.heap.held) (names_of_objects old.session.ids old.heap.held names) id h some in
+      let left = names_of_held (remove old.session.ids id) new.heap.held (subst (λ m. AreTiedTo (remove old.session.ids id) m) (sym step.step.left) gone) in
       tied_with _ _ _ _ step.session (counted_ids _ step.freed.moved _) (counted_bound _ step.freed.moved _) refl left step.cost
 
   write_tied : (part : Part) (bytes : List ℕ) (answer : Result Unit AccessFault) → new.session ≡ old.session → IsWriteStep old.heap part bytes answer new.heap
       → AreTied new.session new.heap
   write_tied part bytes (Ok u) e step =
-      let kept = names_replaced old.session.ids old.heap.held names part.number step.object _ step.found in
+      let kept = tied_same old.session.ids old.heap.held names part.number step.object _ step.found in
       let whole = step.whole in
       tied_with _ _ _ _ e refl refl (ap (λ (s : HeapState). s.held) whole) kept
       (subst (λ (s : HeapState). CostsAtMost s.kind s.cost old.session.bound) (sym whole) tied.cost)
   write_tied part bytes (Err f) e step = subst (λ (s : SessionState). AreTied s new.heap) (sym e)
       (subst (λ (s : HeapState). AreTied old.session s) (sym step.1) tied)
 
-  resize_names : (asked : Request) (answer : Result Resized ResizeFault) → IsResizeStep old.heap asked answer new.heap → AreNames old.session.ids new.heap.held
+  resize_names : (asked : Request) (answer : Result Resized ResizeFault) → IsResizeStep old.heap asked answer new.heap → AreTiedTo old.session.ids new.heap.held
   resize_names asked (Ok done) step =
       let x : get (objects old.heap.held) asked.number ≡ Some step.object.bytes = bytes_held old.heap.held asked.number step.object step.found in
-      let kept = names_replaced old.session.ids (objects old.heap.held)
+      let kept = tied_same old.session.ids (objects old.heap.held)
       (names_of_objects old.session.ids old.heap.held names) asked.number step.object.bytes _ x in
-      names_of_held old.session.ids new.heap.held (subst (λ m. AreNames old.session.ids m) (sym step.left) kept)
-  resize_names asked (Err e) step = subst (λ m. AreNames old.session.ids m) (sym (unmoved_held old.heap.kind old.heap new.heap step.1)) names
+      names_of_held old.session.ids new.heap.held (subst (λ m. AreTiedTo old.session.ids m) (sym step.left) kept)
+  resize_names asked (Err e) step = subst (λ m. AreTiedTo old.session.ids m) (sym (unmoved_held old.heap.kind old.heap new.heap step.1)) names
 
   resize_tied : (asked : Request) (reply : Reply) → Resizes old asked reply new → AreTied new.session new.heap
   resize_tied asked reply step = tied_with _ _ _ _ step.session (resized_ids _ step.answer) (resized_bound _ step.answer) refl

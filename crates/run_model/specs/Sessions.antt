@@ -3,9 +3,9 @@ use Rattle.std.specs.Prelude.{◌≡◌, ℕ, ◌+◌, ◌≤◌, ⊤, Option, S
 use Rattle.std.specs.FinMap as map
 use Rattle.std.specs.Coded.{Coded, code_by, coded×, coded_ℕ}
 use Rattle.cf_base.specs.declared.kind.Kind.{Kind}
-use Rattle.page_model.specs.Held.{Placed}
 use Rattle.cf_io.specs.Feeds.{last_count}
 pub use Rattle.id_table.specs.Ids.{Ids}
+use Rattle.id_table.specs.Ties.{AreTiedTo}
 use Rattle.cf_model.specs.Families.{paged, tiled, family_of}
 use Rattle.cf_model.specs.Rules.{KeepsRules}
 use Rattle.cf_model.specs.State.{HeapState}
@@ -46,9 +46,7 @@ CostsAtMost kind cost n = elim (family_of kind) [ paged ↦ cost ≤ n | tiled �
 
 -- The live ids name just the live handles, each once; and with pages the last cost is within its bound.
 pub record AreTied (session : SessionState) (heap : HeapState) : Type 0 where
-  pub named : (id h : ℕ) → map.get session.ids id ≡ Some h → (x : Placed) × (map.get heap.held h ≡ Some x)
-  pub once : (id other h : ℕ) → map.get session.ids id ≡ Some h → map.get session.ids other ≡ Some h → other ≡ id
-  pub all : (h : ℕ) (x : Placed) → map.get heap.held h ≡ Some x → (id : ℕ) × (map.get session.ids id ≡ Some h)
+  pub ids : AreTiedTo session.ids heap.held
   pub cost : CostsAtMost heap.kind heap.cost session.bound
 
 -- the run goes on: its manager is open and keeps its rules, and its session is consistent with it

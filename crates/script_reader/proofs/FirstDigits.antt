@@ -15,11 +15,6 @@ use Rattle.std.proofs.lemmas.Str.{digit_value_digit}
 use Rattle.cf_io.proofs.CallerLemmas.{number_spelled}
 use Rattle.cf_io.specs.Numbers.{digits_first, is_digit, number_in}
 
--- one digit more
-pub digits_more : (text : List ℕ) (i : ℕ) → i < length text → is_digit (get_or text i 0) ≡ true → list_all is_digit (take i text) ≡ true
-    → list_all is_digit (take (i + 1) text) ≡ true
-digits_more text i inside digit before = list_all_more is_digit text i 0 inside ∙ ap (λ b. b && is_digit (get_or text i 0)) before ∙ digit
-
 digit_from_0 : (c : ℕ) → is_digit c ≡ true → digit_value c + 48 ≡ c
 digit_from_0 c is = digit_value_digit c (grind (arith, is))
 
@@ -34,23 +29,6 @@ value_wraps text i v w inside digit value =
     let next : digits_value 10 (take (i + 1) text) ≡ v * 10 + d + w * (all / w * 10) =
     omega (arith, digits_value_more 10 text i inside, digit_from_0 (get_or text i 0) digit, value, parts, tens) in
     mod-add-mod (v * 10) w d ∙ sym (add-mul-mod_self_left (v * 10 + d) w (all / w * 10)) ∙ ap (λ n. n % w) (sym next)
-
--- a byte before one up to which all are digits is a digit
-digit_before : (text : List ℕ) (i k : ℕ) → i ≤ length text → list_all is_digit (take i text) ≡ true → k < i → is_digit (get_or text k 0) ≡ true
-digit_before text i k within all below = go (is_digit (get_or text k 0)) refl
-  where
-    go : (b : Bool) → is_digit (get_or text k 0) ≡ b → is_digit (get_or text k 0) ≡ true
-    go true is = is
-    go false isnt =
-        let inside : k < length (take i text) = omega (arith, length-take i text) in
-        let no = list_all_at is_digit (take i text) k 0 inside (ap is_digit (get_or-take i text k 0 below) ∙ isnt) in
-        absurd (false≢true (sym no ∙ all))
-
--- the first digits end where digits do
-pub digits_end : (text : List ℕ) (i : ℕ) → i ≤ length text → list_all is_digit (take i text) ≡ true
-    → (i < length text → is_digit (get_or text i 0) ≡ false) → digits_first text ≡ i
-digits_end text i within all ends =
-    position_or_len_is (λ b. not (is_digit b)) text i 0 within (λ k below. ap not (digit_before text i k within all below)) (λ inside. ap not (ends inside))
 
 all_digits : (cs : List ℕ) → list_all is_digit cs ≡ true → AllDigits 10 cs
 all_digits [] all = tt

@@ -1,3 +1,2 @@
-pub mod Ties
 pub mod Reporting
 pub mod CallerLemmas

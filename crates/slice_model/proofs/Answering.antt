@@ -16,7 +16,7 @@ use Rattle.slice_model.specs.declared.answers.SliceFault.TheVariants as fault
 use Rattle.slice_model.proofs.Keeping.{kept_begun, one_more, same_elsewhere, two_is_last}
 use Rattle.slice_model.proofs.Occupied.{job_class, no_stand_in}
 use Rattle.cf_lemmas.proofs.Searches.{there_or_not}
-use Rattle.page_model.proofs.CallerLemmas.{open_page}
+use Rattle.page_model.proofs.CallerLemmas.{open_page, some_move}
 
 module _ (plan : Plan) (ok : IsPlan plan) where
   -- a job that is done ends, or another one follows
@@ -74,30 +74,6 @@ module _ (plan : Plan) (ok : IsPlan plan) where
   pub slice_there : (s : Sliced) → IsKept plan s → (new : Sliced) × IsSlice plan s new
   slice_there s kept = slice_of s.held s.job kept (job_slot s.job) refl
 
-  -- a free moves nothing, or there is an object to move
-  some_move : (m : Held) → IsSound plan.paging m → (h : ℕ) (x : Placed) → get m h ≡ Some x → (moved : Option ℕ) × Moves plan.paging m x moved
-  some_move m s h x there =
-      elim (cases_eq (objects_on plan.paging m (class_at plan.paging x) (page_of plan.paging x.place)) (slots_of plan.paging (class_at plan.paging x))) [
-        | inr ne ↦ (None, λ must. ne must.full)
-        | inl full ↦ elim (cases_lt 1 (slots_of plan.paging (class_at plan.paging x))) [
-          | inr single ↦ (None, λ must. (let several = must.several in omega arith))
-          | inl several ↦ elim (cases_eq (not_full_pages plan.paging m (class_at plan.paging x)) (bound_of plan.paging (class_at plan.paging x))) [
-            | inr ne ↦ (None, λ must. ne must.many)
-            | inl many ↦ (
-                let class = (s.slots h x there).class in
-                let some = ok.paging.some (class_at plan.paging x) class in
-                let at = open_page plan.paging m (class_at plan.paging x) (omega arith) in
-                let on = on_page plan.paging m (class_at plan.paging x) at.0 (at.1).some in
-                let e = on.3 in
-                let l = (at.1).less in
-                let less : objects_on plan.paging m (class_at plan.paging x) (page_of plan.paging (on.1).place) < slots_of plan.paging
-                (class_at plan.paging x) =
-                rw e l in
-                (Some on.0, (record { full = full; several = several; many = many }, (on.1, on.2, record { class = on.4; not_full = less }))))
-          ]
-        ]
-      ]
-
   begun_there : (m : Held) → IsSound plan.paging m → (h : ℕ) (x : Placed) → get m h ≡ Some x → (moved : Option ℕ) → Moves plan.paging m x moved
       → (begun : Sliced) × Vacates (remove m h) x.place (class_at plan.paging x) moved begun
   begun_there m s h x there None never = (record { held = remove m h; job = Clear (fresh_slot x.place (class_at plan.paging x)) }, refl)
@@ -123,7 +99,7 @@ module _ (plan : Plan) (ok : IsPlan plan) where
       | inr pending ↦ inl (fault.Busy, record { object = x; found = there; pending = pending })
       | inl idle ↦ inr (
           let kept' : IsKept plan (record { held = s.held; job = Idle }) = subst (λ j. IsKept plan (record { held = s.held; job = j })) idle kept in
-          let moves = some_move s.held kept'.sound h x there in
+          let moves = some_move plan.paging ok.paging s.held kept'.sound h x there in
           let begun = begun_there s.held kept'.sound h x there moves.0 moves.1 in
           let slice = slice_there begun.0 (kept_begun plan ok s.held kept' h x there moves.0 moves.1 begun.0 begun.1) in (
             slice.0,

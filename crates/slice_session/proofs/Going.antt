@@ -13,8 +13,8 @@ use Rattle.page_model.specs.Held.{Objects, objects}
 use Rattle.page_model.specs.Paging.{first_bounds, paging_of}
 use Rattle.script_reader.specs.declared.command.Command.{Command}
 use Rattle.script_reader.specs.declared.command.Command.TheVariants as command
-use Rattle.session_model.specs.Ties.{AreTiedTo}
-use Rattle.session_model.proofs.CallerLemmas.{tied_less, tied_more, tied_same}
+use Rattle.id_table.specs.Ties.{AreTiedTo}
+use Rattle.id_table.proofs.CallerLemmas.{tied_less, tied_more, tied_same}
 use Rattle.slice_model.specs.Runs.{Event, HappensOnMap, IsConsistent, Malloc, Free, Step, Write}
 use Rattle.slice_model.specs.State.{IsPlan, Plan}
 use Rattle.slice_model.specs.declared.answers.SliceFault.{SliceFault}

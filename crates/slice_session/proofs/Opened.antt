@@ -10,7 +10,7 @@ use Rattle.cf_model.specs.Rules.{AreInRange}
 use Rattle.id_table.specs.Ids.{Ids}
 use Rattle.page_model.specs.Held.{Placed, objects}
 use Rattle.page_model.proofs.CallerLemmas.{first_ones, first_paged}
-use Rattle.session_model.proofs.CallerLemmas.{none_tied}
+use Rattle.id_table.proofs.CallerLemmas.{none_tied}
 use Rattle.slice_model.specs.Runs.{IsConsistent}
 use Rattle.slice_model.specs.State.{Idle, Plan}
 use Rattle.sliced_heap.specs.Shown.{KeepsRules, SlicedState, opened_state, plan_in}

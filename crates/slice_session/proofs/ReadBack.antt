@@ -17,7 +17,7 @@ use Rattle.run_laws.specs.Told.{AreReadsOf, IsReadOf, Told, done_by, is_ok, read
 use Rattle.run_laws.proofs.CallerLemmas.{IsTold, changed_is, through, told_added, told_changed, told_gone, told_here}
 use Rattle.run_model.specs.Plays.{PlayStep}
 use Rattle.run_model.specs.Replies.{read_text}
-use Rattle.run_model.proofs.CallerLemmas.{AreNames}
+use Rattle.id_table.specs.Ties.{AreTiedTo}
 use Rattle.script_reader.specs.Items.{Item, asks, bad, starts}
 use Rattle.script_reader.specs.declared.command.Command.{Command}
 use Rattle.script_reader.specs.declared.command.Command.TheVariants as command
@@ -37,8 +37,8 @@ abbrev next : Command → Told → Reply → Told
 next c m reply = cond (is_ok reply) (done_by c m) m
 
 module _ (old new : SliceRun) (m : Told) (going : IsGoingSliced old) (told : IsTold old.ids (live_in old) m) where
-  names : AreNames old.ids (live_in old)
-  names = record { named = going.tied.named; once = going.tied.once; all = going.tied.all }
+  names : AreTiedTo old.ids (live_in old)
+  names = going.tied
 
   -- of equal ids and objects
   told_with : (ids : Ids) (o : Objects) (after : Told) → new.ids ≡ ids → live_in new ≡ o → IsTold ids o after → IsTold new.ids (live_in new) after

@@ -12,7 +12,7 @@ use Rattle.page_model.specs.Held.{Objects, Placed, objects}
 use Rattle.run_model.specs.Replies.{malloc_text, peek_text, read_text, write_text}
 use Rattle.script_reader.specs.declared.command.Command.{Command}
 use Rattle.script_reader.specs.declared.command.Command.TheVariants as command
-use Rattle.session_model.specs.Ties.{AreTiedTo}
+use Rattle.id_table.specs.Ties.{AreTiedTo}
 use Rattle.slice_model.specs.Runs.{Event, Happens, Malloc, Free, Step, Write}
 use Rattle.slice_model.specs.State.{left_of}
 use Rattle.slice_model.specs.declared.answers.SliceFault.{SliceFault}

@@ -9,7 +9,7 @@ ghost use Rattle.script_reader.specs.Owned.{owned_command};
 ghost use Rattle.script_loop.specs.Semantics.{snapshot};
 ghost use Rattle.step_ledger.specs.Counting.{RoseAtMost};
 ghost use Rattle.session_model.specs.Applying.{Applies, Speaks};
-ghost use Rattle.session_model.specs.Ties.{AreTiedTo};
+ghost use Rattle.id_table.specs.Ties.{AreTiedTo};
 ghost use Rattle.slice_session.specs.SliceRun.{IsGoingSliced, SliceStep, most_steps, slice_run};
 ghost use Rattle.slice_session.specs.Playing.{sliced};
 

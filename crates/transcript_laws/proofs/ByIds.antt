@@ -9,7 +9,7 @@ use Rattle.cf_lemmas.proofs.MapValues.{get-map_values}
 use Rattle.cf_lemmas.proofs.Renaming.{CountAlike, counted_alike}
 use Rattle.page_model.specs.Held.{Objects}
 use Rattle.run_model.specs.Sessions.{Ids}
-use Rattle.run_model.proofs.CallerLemmas.{AreNames}
+use Rattle.id_table.specs.Ties.{AreTiedTo}
 use Rattle.transcript_laws.specs.Histories.{objects_by_id}
 
 -- the bytes under a number
@@ -42,7 +42,7 @@ module _ (ids : Ids) (m : Objects) where
       go None e = e
       go (Some h) e = absurd (let f : Some (bytes_under m h) ≡ None = sym (get-by_id ids m id ∙ ap (option_map (bytes_under m)) e) ∙ is in cc)
 
-module _ (ids : Ids) (m : Objects) (names : AreNames ids m) where
+module _ (ids : Ids) (m : Objects) (names : AreTiedTo ids m) where
   -- an object by id is one by number
   pub found_by_id : (id : ℕ) (v : List ℕ) → get (objects_by_id ids m) id ≡ Some v → (h : ℕ) × (get ids id ≡ Some h) × (get m h ≡ Some v)
   found_by_id id v is =

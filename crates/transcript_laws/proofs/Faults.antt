@@ -23,7 +23,7 @@ use Rattle.cf_model.proofs.CallerLemmas.{both_kinds, given_is_not_refused, not_n
 use Rattle.cf_model.specs.State.{HeapState, paging_in}
 use Rattle.cf_model.specs.Steps.{GivesObject, IsFault, IsRefusedBy, IsResizeFault, LacksRoomIn, Part, ResizesObject}
 use Rattle.run_model.specs.Sessions.{IsGoing, RunState}
-use Rattle.run_model.proofs.CallerLemmas.{pages_kept, names_in, names_of_objects}
+use Rattle.run_model.proofs.CallerLemmas.{pages_kept, names_of_objects}
 use Rattle.transcript_laws.specs.Histories.{by_id}
 use Rattle.transcript_laws.specs.Replies.{is_in_class, malloc_fault, passes_pages, resize_fault, write_fault}
 use Rattle.transcript_laws.proofs.ByIds.{by_id_counts}
@@ -53,7 +53,7 @@ write_past s part count x access.Range found cause =
 
 -- the objects by id are as many, and count alike
 pub objects_alike : (s : RunState) → IsGoing s → CountAlike (objects s.heap.held) (by_id s).objects
-objects_alike s going = by_id_counts s.session.ids (objects s.heap.held) (names_of_objects s.session.ids s.heap.held (names_in s.session s.heap going.tied))
+objects_alike s going = by_id_counts s.session.ids (objects s.heap.held) (names_of_objects s.session.ids s.heap.held going.tied.ids)
 
 pub as_many : (s : RunState) → IsGoing s → len (by_id s).objects ≡ len s.heap.held
 as_many s going = (objects_alike s going).count ∙ len-objects s.heap.held

@@ -29,7 +29,8 @@ use Rattle.run_model.specs.Sessions.{Ids, IsGoing, RunState, SessionState, count
 use Rattle.run_model.specs.Steps.{Bounds, Step, bound_text, class_to_bound, ids_given, session_resized}
 use Rattle.run_model.proofs.CallerLemmas.{FreesAt, MallocsAt, ResizesAt, WritesAt}
 use Rattle.run_model.specs.Texts.{Reply, said}
-use Rattle.run_model.proofs.CallerLemmas.{step_same, AreNames, names_in, names_of_objects, unmoved_changes_cost, unmoved_held}
+use Rattle.run_model.proofs.CallerLemmas.{step_same, names_of_objects, unmoved_changes_cost, unmoved_held}
+use Rattle.id_table.specs.Ties.{AreTiedTo}
 use Rattle.transcript_laws.specs.ById.{ById}
 use Rattle.transcript_laws.specs.Histories.{by_id, objects_by_id}
 use Rattle.transcript_laws.specs.Replies.{after_by_id, bounds_with, class_bounded, free_said, malloc_leaves, malloc_said, ok_or, put_unless, read_said}
@@ -85,13 +86,13 @@ module _ (old : RunState) (going : IsGoing old) where
   abbrev t : ById
   t = by_id old
 
-  names : AreNames ids m
-  names = names_of_objects ids old.heap.held (names_in old.session old.heap going.tied)
+  names : AreTiedTo ids m
+  names = names_of_objects ids old.heap.held going.tied.ids
 
   -- the object of a live id
   object : (id h : ℕ) → get ids id ≡ Some h → (x : Placed) × (get old.heap.held h ≡ Some x) × (get t.objects id ≡ Some x.bytes)
   object id h named =
-      let x = going.tied.named id h named in (
+      let x = going.tied.ids.named id h named in (
         x.0,
         x.1,
         live_by_id ids m id h x.0.bytes named (get-map_values (λ (x : Placed). x.bytes) old.heap.held h

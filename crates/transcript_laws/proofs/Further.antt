@@ -105,7 +105,7 @@ module _ (s : RunState) (going : IsGoing s) where
       → option_map (λ (x : Placed). x.bytes) (elim o [ None ↦ None | Some h ↦ get s.heap.held h ]) ≡ get (by_id s).objects id
   found_at id None none = sym (gone_by_id s.session.ids (objects s.heap.held) id none)
   found_at id (Some h) named =
-      let x = going.tied.named id h named in
+      let x = going.tied.ids.named id h named in
       ap (option_map (λ (x : Placed). x.bytes)) x.1 ∙ sym (live_by_id s.session.ids (objects s.heap.held) id h x.0.bytes named
       (get-map_values (λ (x : Placed). x.bytes) s.heap.held h ∙ ap (option_map (λ (x : Placed). x.bytes)) x.1))
 

@@ -4,7 +4,7 @@ use Rattle.heap_image.proofs.SaveLemmas.{CameTo, came_first, came_last, came_on,
 use Rattle.heap_image.proofs.saving.save.Goals as goal
 
 pub put_object-requires-clause-live : goal.put_object-requires-clause-live
-put_object-requires-clause-live g c = c.requires.tied.named c.ids.id c.in-Some.h.0 (sym c.in-Some.ensures.found)
+put_object-requires-clause-live g c = c.requires.tied.ids.named c.ids.id c.in-Some.h.0 (sym c.in-Some.ensures.found)
 
 pub returns-in-Err-clause-puts : goal.returns-in-Err-clause-puts
 returns-in-Err-clause-puts g c =
@@ -31,14 +31,14 @@ ids-preserved-in_default g c = record {
 pub returns-in-Err-put_object-clause-puts : goal.returns-in-Err-put_object-clause-puts
 returns-in-Err-put_object-clause-puts g c =
     let named = sym c.in-Some.ensures.found in
-    let x = c.requires.tied.named c.ids.id c.in-Some.h.0 named in
+    let x = c.requires.tied.ids.named c.ids.id c.in-Some.h.0 named in
     came_short (run_at c.args.session.now (g.H.Manager.state c.args.heap.now)) c.requires.tied _ _ c.ids.id (65535 - c.ids.id) (omega arith) (omega arith)
     c.ids.invariant.came c.in-Some.h.0 named x.0 x.1 _ c.in-Err-put_object.failed (c.in-Err-put_object.ensures.puts x.0 x.1)
 
 pub ids-preserved : goal.ids-preserved
 ids-preserved g c =
     let named = sym c.in-Some.ensures.found in
-    let x = c.requires.tied.named c.ids.id c.in-Some.h.0 named in
+    let x = c.requires.tied.ids.named c.ids.id c.in-Some.h.0 named in
     record {
       came = came_on (run_at c.args.session.now (g.H.Manager.state c.args.heap.now)) c.requires.tied _ _ c.ids.id (65535 - c.ids.id) (omega arith) (omega arith)
           c.ids.invariant.came c.in-Some.h.0 named x.0 x.1 _ (c.in-Ok-put_object.ensures.puts x.0 x.1);

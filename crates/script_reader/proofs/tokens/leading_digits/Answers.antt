@@ -1,5 +1,6 @@
 use Rattle.std.proofs.Common.{sym, arith}
-use Rattle.script_reader.proofs.FirstDigits.{digits_end, digits_more, value_wraps}
+use Rattle.cf_io.proofs.CallerLemmas.{digits_end, digits_more}
+use Rattle.script_reader.proofs.FirstDigits.{value_wraps}
 use Rattle.script_reader.proofs.tokens.leading_digits.Goals as goal
 
 pub digits-preserved : goal.digits-preserved

@@ -7,7 +7,7 @@ use Rattle.std.specs.Ordering.{nat_cmp}
 use Rattle.std.specs.FinMap.{FinMap, empty, get, get-empty, insert, remove}
 use Rattle.cf_lemmas.proofs.Maps.{get_inserted, get_insert_other, get_remove_other, some_inserted, some_removed}
 use Rattle.id_table.specs.Ids.{Ids}
-use Rattle.session_model.specs.Ties.{AreTiedTo}
+use Rattle.id_table.specs.Ties.{AreTiedTo}
 
 -- nothing is there and not there
 pub clash : {T V : Type 0} (o : Option V) (v : V) → o ≡ Some v → o ≡ None → T
