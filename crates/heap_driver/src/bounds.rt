@@ -7,7 +7,7 @@ use cf_model::Manager;
 use wrong_answers::{Wrong, hold};
 
 /// Opens the heap, and gives classes bounds of their own: the words of a slot, and the bound.
-pub fn open_bounded<H: Manager>(
+pub(crate) fn open_bounded<H: Manager>(
     heap: &mut H,
     settings: &Settings,
     bounds: &[(u32, u32)],
@@ -32,7 +32,7 @@ fn set_bounds<H: Manager>(heap: &mut H, bounds: &[(u32, u32)]) -> Result<(), Wro
 }
 
 /// Gives a class of an empty heap its bound; false where there is no such class.
-pub fn set_bound<H: Manager>(heap: &mut H, slot_words: u32, k: u32) -> Result<bool, Wrong>
+pub(crate) fn set_bound<H: Manager>(heap: &mut H, slot_words: u32, k: u32) -> Result<bool, Wrong>
     requires { IsOpenedEmpty (H.state heap.old) }
     ensures { IsOpenedEmpty (H.state heap.new) }
 {

@@ -13,7 +13,7 @@ use wrong_answers::{Wrong, hold};
 
 impl<H: Manager> RandomRun<H> {
     /// Compares the figures of a class, which has at most as many pages partly full as it may.
-    pub fn compare_figures(&self, class: u32) -> Result<(), Wrong>
+    pub(crate) fn compare_figures(&self, class: u32) -> Result<(), Wrong>
         ensures same { OnOk result (class < classes self.now.reference.paging → figures_in (H.state self.now.heap) class
             ≡ Some (figures_of self.now.reference.paging self.now.reference.held class)) }
         ensures none { OnOk result (classes self.now.reference.paging ≤ class → figures_in (H.state self.now.heap) class ≡ None) }
@@ -35,7 +35,7 @@ impl<H: Manager> RandomRun<H> {
 
     /// Compares all figures, each word of the region, and the bytes, the address and the blocks of each
     /// object.
-    pub fn compare_all(&mut self, alloc: Global) -> Result<(), Wrong> {
+    pub(crate) fn compare_all(&mut self, alloc: Global) -> Result<(), Wrong> {
         for class in 0..self.reference.classes() {
             self.compare_figures(class)?;
         }

@@ -6,11 +6,11 @@ use std::fmt::Write;
 use wrong_answers::Wrong;
 
 /// The numbers of a call, at most.
-pub const NUMBERS: usize = 4;
+pub(crate) const NUMBERS: usize = 4;
 
 /// What a call returned.
 #[derive(Clone, Copy, Debug)]
-pub enum Reply {
+pub(crate) enum Reply {
     Said(&'static str),
     Number(u32),
     /// The id of the object that moved.
@@ -27,7 +27,7 @@ pub enum Reply {
 }
 
 /// Word i of a call; an empty one behind the last.
-pub fn word<'a>(words: &[&'a str], i: usize) -> &'a str {
+pub(crate) fn word<'a>(words: &[&'a str], i: usize) -> &'a str {
     match words.get(i) {
         Some(word) => *word,
         None => "",
@@ -35,7 +35,7 @@ pub fn word<'a>(words: &[&'a str], i: usize) -> &'a str {
 }
 
 /// The numbers behind the first word of a call; the largest one where there is none.
-pub fn numbers(words: &[&str]) -> [u32; NUMBERS] {
+pub(crate) fn numbers(words: &[&str]) -> [u32; NUMBERS] {
     let mut numbers = [4_294_967_295; NUMBERS];
     for i in 0..NUMBERS {
         if let Ok(number) = word(words, i + 1).parse::<u32>() {
@@ -46,7 +46,7 @@ pub fn numbers(words: &[&str]) -> [u32; NUMBERS] {
 }
 
 /// What was returned, as text.
-pub fn text_of(alloc: Global, reply: Reply) -> Result<String, Wrong> {
+pub(crate) fn text_of(alloc: Global, reply: Reply) -> Result<String, Wrong> {
     match reply {
         Reply::Said(text) => said(alloc, text),
         Reply::Number(number) => number_text(alloc, "", u64::from(number)),

@@ -272,7 +272,7 @@ impl<H: Manager> RandomRun<H> {
     }
 
     /// The address and the length of a live object.
-    pub fn known(&self, handle: Handle) -> Option<(u32, u32)> {
+    pub(crate) fn known(&self, handle: Handle) -> Option<(u32, u32)> {
         match self.objects.get(handle.0 as usize) {
             Some(Some(live)) => Some((live.place, live.length)),
             _ => None,
@@ -451,7 +451,7 @@ impl<H: Manager> RandomRun<H> {
     }
 
     /// Reads a whole object.
-    pub fn read(&mut self, handle: Handle) -> Result<(), Wrong> {
+    pub(crate) fn read(&mut self, handle: Handle) -> Result<(), Wrong> {
         let mut out = [0xee; MOST];
         let Some((_place, length)) = self.known(handle) else {
             return match self.heap_read(handle, &mut []) {

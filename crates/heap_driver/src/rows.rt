@@ -1,10 +1,10 @@
 //! Worked rows: calls, and what was worked out by hand that they return.
 
 /// How many rows there are.
-pub const ROWS: usize = 28;
+pub(crate) const ROWS: usize = 28;
 
 /// What row i shows, and its lines.
-pub fn row(i: usize) -> (&'static str, &'static str) {
+pub(crate) fn row(i: usize) -> (&'static str, &'static str) {
     match TEXTS.get(i) {
         Some(row) => *row,
         None => ("", ""),

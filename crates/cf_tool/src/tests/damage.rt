@@ -265,22 +265,30 @@ fn is_answered(rt: &HostRuntime, way: usize, script: &[u8], chunk: usize) -> Res
     }
 }
 
+/// Random bytes or damaged lines, with bits flipped.
+fn damaged_script(rt: &HostRuntime, draws: &mut Draws) -> Result<Vec<u8>, Fail> {
+    let mut script = if draws.below(4) == 0 {
+        random_bytes(rt, draws)?
+    } else {
+        damaged_lines(rt, draws)?
+    };
+    flip_bits(&mut script, draws);
+    Ok(script)
+}
+
+/// Whether the script of a seed is answered as it should be.
+fn is_seed_answered(rt: &HostRuntime, seed: u64) -> Result<bool, Fail> {
+    let mut draws = Draws { state: seed };
+    let script = damaged_script(rt, &mut draws)?;
+    let way = draws.below(9) / 2;
+    let chunk = 1 + draws.below(9);
+    is_answered(rt, way, script.as_slice(), chunk)
+}
+
 #[test]
 fn damaged_scripts_are_answered_up_to_their_first_bad_line(rt: HostRuntime) -> Result<(), Fail> {
     for seed in 0..SEEDS {
-        let mut draws = Draws { state: seed };
-        let mut script = if draws.below(4) == 0 {
-            random_bytes(&rt, &mut draws)?
-        } else {
-            damaged_lines(&rt, &mut draws)?
-        };
-        flip_bits(&mut script, &mut draws);
-        let way = draws.below(9) / 2;
-        let chunk = 1 + draws.below(9);
-        assert!(rt;
-            is_answered(&rt, way, script.as_slice(), chunk)?,
-            "seed {seed}"
-        );
+        assert!(rt; is_seed_answered(&rt, seed)?, "seed {seed}");
     }
     Ok(())
 }

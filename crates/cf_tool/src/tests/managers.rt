@@ -1,7 +1,7 @@
 //! Scripts on the managers that are handed in, and where these stand afterwards.
 
 use super::rows::{MOVE, MOVED};
-use super::{OutputOn, ROOM, answer_with, answered, answered_on};
+use super::{OutputOn, answer_with, answered, answered_on, failing_sink};
 use cf_base::{Kind, Status};
 use cf_io::{Line, MemSink, SureSource};
 use generator::{Generator, command_text};
@@ -23,7 +23,7 @@ struct Case {
 /// The kinds of the program's managers, in its order.
 const FOUR: [Kind; 4] = [Kind::Moving, Kind::NonMoving, Kind::Tlsf, Kind::HalfFit];
 
-const CASES: [Case; 16] = [
+static CASES: [Case; 16] = [
     Case {
         shows: "the first of the kind answers, and no other one is touched",
         words: &[],
@@ -170,23 +170,25 @@ const CASES: [Case; 16] = [
     },
 ];
 
+/// Whether a case ends, prints and leaves what it should.
+fn is_answered_so(rt: &HostRuntime, case: &Case) -> Result<bool, Fail> {
+    let got = answered_on(rt, case.words, case.managers, case.script)?;
+    Ok(got.is(case.status, case.text, case.live))
+}
+
+/// What the first of these cases shows that is not answered so; nothing where each is.
+fn first_other(rt: &HostRuntime, cases: &[Case]) -> Result<&'static str, Fail> {
+    for case in cases {
+        if !is_answered_so(rt, case)? {
+            return Ok(case.shows);
+        }
+    }
+    Ok("")
+}
+
 #[test]
 fn a_mode_answers_on_the_managers_that_it_names(rt: HostRuntime) -> Result<(), Fail> {
-    for case in CASES {
-        let Case {
-            shows,
-            words,
-            managers,
-            script,
-            status,
-            text,
-            live,
-        } = case;
-        let got = answered_on(&rt, words, managers, script)?;
-        assert_eq!(rt; got.left.status, status, "{shows}");
-        assert_eq!(rt; got.sink.written(), text, "{shows}");
-        assert_eq!(rt; got.left.live.as_slice(), live, "{shows}");
-    }
+    assert_eq!(rt; first_other(&rt, CASES.as_slice())?, "");
     Ok(())
 }
 
@@ -202,20 +204,24 @@ fn long_script(rt: &HostRuntime) -> Result<Vec<u8>, Fail> {
     Ok(script)
 }
 
+/// Whether a script is saved, and what is saved is loaded as the script.
+fn is_loaded_again(rt: &HostRuntime, script: &[u8]) -> Result<bool, Fail> {
+    let saved = answered(rt, &["save"], script)?;
+    let image = saved.sink.written();
+    let is_again = super::is_answered_so(rt, &["load"], image, Status::Done, script)?;
+    Ok(is_again && saved.status == Status::Done)
+}
+
 #[test]
 fn what_is_saved_is_loaded_as_its_script(rt: HostRuntime) -> Result<(), Fail> {
     let script = long_script(&rt)?;
-    let saved = answered(&rt, &["save"], script.as_slice())?;
-    assert_eq!(rt; saved.status, Status::Done);
-    let loaded = answered(&rt, &["load"], saved.sink.written())?;
-    assert_eq!(rt; loaded.status, Status::Done);
-    assert_eq!(rt; loaded.sink.written(), script.as_slice());
+    assert!(rt; is_loaded_again(&rt, script.as_slice())?);
     Ok(())
 }
 
 /// Of two managers side by side: the call of the sink that fails, what was written by then, and the
 /// live objects of each.
-const CUTS: [(u64, &[u8], [Option<u32>; 2]); 5] = [
+const CUTS: [(u64, &'static [u8], [Option<u32>; 2]); 5] = [
     (0, b"", [Some(0), Some(0)]),
     (1, b"cf ok\n", [Some(0), Some(0)]),
     (2, b"cf ok\nnm ok\n", [Some(1), Some(0)]),
@@ -225,22 +231,23 @@ const CUTS: [(u64, &[u8], [Option<u32>; 2]); 5] = [
 
 /// Answers two commands on two managers side by side, while this call of the sink fails.
 fn answered_until(rt: &HostRuntime, call: u64) -> Result<OutputOn, Fail> {
-    let alloc = rt.alloc();
-    let fails = vec![in alloc; call; 1]?;
-    let mut sink = MemSink::new(alloc, ROOM, Vec::new(alloc), fails).map_err(|_| "room")?;
-    let mut source = SureSource::new(b"heap 1 512 1 4\nm 1 8\nx\n".to_vec(alloc)?);
+    let mut sink = failing_sink(rt, call)?;
+    let mut source = SureSource::new(b"heap 1 512 1 4\nm 1 8\nx\n".to_vec(rt.alloc())?);
     let kinds = [Kind::Moving, Kind::NonMoving];
     let left = answer_with(rt, &["compare"], &kinds, &mut source, &mut sink)?;
     Ok(OutputOn { left, sink })
 }
 
+/// Whether a call of the sink that fails leaves this text and these objects.
+fn is_cut_so(rt: &HostRuntime, call: u64, text: &[u8], live: &[Option<u32>]) -> Result<bool, Fail> {
+    let got = answered_until(rt, call)?;
+    Ok(got.is(Status::WriteFault, text, live))
+}
+
 #[test]
 fn a_cut_stops_between_two_managers(rt: HostRuntime) -> Result<(), Fail> {
     for (call, text, live) in CUTS {
-        let got = answered_until(&rt, call)?;
-        assert_eq!(rt; got.left.status, Status::WriteFault, "call {call}");
-        assert_eq!(rt; got.sink.written(), text, "call {call}");
-        assert_eq!(rt; got.left.live.as_slice(), live.as_slice(), "call {call}");
+        assert!(rt; is_cut_so(&rt, call, text, live.as_slice())?, "call {call}");
     }
     Ok(())
 }
@@ -279,19 +286,31 @@ fn lines_alike(text: &[u8]) -> Option<u32> {
     Some(count)
 }
 
+/// A sink that takes every chunk whole, and has room for a long text.
+fn wide_sink(rt: &HostRuntime) -> Result<MemSink, Fail> {
+    let alloc = rt.alloc();
+    let sink = MemSink::new(alloc, 1 << 20, Vec::new(alloc), Vec::new(alloc)).map_err(|_| "room")?;
+    Ok(sink)
+}
+
+/// Answers a script on four managers side by side.
+fn compared(rt: &HostRuntime, script: Vec<u8>) -> Result<OutputOn, Fail> {
+    let mut source = SureSource::new(script);
+    let mut sink = wide_sink(rt)?;
+    let left = answer_with(rt, &["compare"], &FOUR, &mut source, &mut sink)?;
+    Ok(OutputOn { left, sink })
+}
+
+/// Whether four managers end well, and print so many lines, all alike.
+fn prints_alike(rt: &HostRuntime, lines: u32) -> Result<bool, Fail> {
+    let script = generated_script(rt, 1, 3_000)?;
+    let got = compared(rt, script)?;
+    Ok(got.left.status == Status::Done && lines_alike(got.sink.written()) == Some(lines))
+}
+
 // 3,000 commands and the `heap` line, which four managers answer alike: there is room for all of it.
 #[test]
 fn four_managers_answer_a_long_script_alike(rt: HostRuntime) -> Result<(), Fail> {
-    let mut source = SureSource::new(generated_script(&rt, 1, 3_000)?);
-    let mut sink = MemSink::new(
-        rt.alloc(),
-        1 << 20,
-        Vec::new(rt.alloc()),
-        Vec::new(rt.alloc()),
-    )
-    .map_err(|_| "room")?;
-    let left = answer_with(&rt, &["compare"], &FOUR, &mut source, &mut sink)?;
-    assert_eq!(rt; left.status, Status::Done);
-    assert_eq!(rt; lines_alike(sink.written()), Some(12_004));
+    assert!(rt; prints_alike(&rt, 12_004)?);
     Ok(())
 }

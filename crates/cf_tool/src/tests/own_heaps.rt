@@ -146,10 +146,7 @@ fn are_answered(rt: &HostRuntime, rows: &[Row]) -> Result<bool, Fail> {
     for row in rows {
         let (words, read, status, text) = *row;
         let got = answered_on(rt, words, &[Kind::NonMoving], read)?;
-        if got.left.status != status
-            || got.sink.written() != text
-            || got.left.live.as_slice() != [None].as_slice()
-        {
+        if !got.is(status, text, [None].as_slice()) {
             return Ok(false);
         }
     }

@@ -14,6 +14,7 @@ use cf_base::{
 use cf_io::{MemSink, SureSource};
 use cf_model::Manager;
 use moving_heap::MovingHeap;
+use std::alloc::{AllocError, Global};
 use std::test::Fail;
 use step_ledger::Steps;
 
@@ -164,9 +165,8 @@ fn led(rt: &HostRuntime, lead: &[u8], text: &[u8]) -> Result<Vec<u8>, Fail> {
     Ok(all)
 }
 
-/// What a script prints on a padded manager, in this mode.
-fn padded_text(rt: &HostRuntime, mode: &str, slack: u64, script: &[u8]) -> Result<MemSink, Fail> {
-    let alloc = rt.alloc();
+/// A closed padded manager, in a box.
+fn padded_managers(alloc: Global, slack: u64) -> Result<Vec<Boxed>, AllocError> {
     let padded = PaddedHeap {
         heap: MovingHeap::closed(alloc),
         slack,
@@ -176,20 +176,41 @@ fn padded_text(rt: &HostRuntime, mode: &str, slack: u64, script: &[u8]) -> Resul
     managers.push(Boxed {
         inner: Box::new(alloc, padded)?,
     })?;
-    let mut source = SureSource::new(script.to_vec(alloc)?);
+    Ok(managers)
+}
+
+/// Answers a script on a padded manager, in this mode.
+fn answer_padded(
+    rt: &HostRuntime,
+    mode: &str,
+    slack: u64,
+    source: &mut SureSource,
+    sink: &mut MemSink,
+) -> Result<Status, AllocError> {
+    let mut managers = padded_managers(rt.alloc(), slack)?;
+    answer_on(rt, &[mode], &mut managers, source, sink)
+}
+
+/// Whether a script is answered whole on a padded manager, in this mode, and prints this text.
+fn prints_in(
+    rt: &HostRuntime,
+    mode: &str,
+    slack: u64,
+    script: &[u8],
+    text: &[u8],
+) -> Result<bool, Fail> {
+    let mut source = SureSource::new(script.to_vec(rt.alloc())?);
     let mut sink = plain_sink(rt)?;
-    match answer_on(rt, &[mode], &mut managers, &mut source, &mut sink)? {
-        Status::Done => Ok(sink),
-        _ => Err("another status")?,
-    }
+    let status = answer_padded(rt, mode, slack, &mut source, &mut sink)?;
+    Ok(status == Status::Done && sink.written() == text)
 }
 
 /// Whether a script prints this text on a padded manager, in mode `run`, and in mode `compare` after
 /// its name.
 fn prints_padded(rt: &HostRuntime, slack: u64, script: &[u8], text: &[u8]) -> Result<bool, Fail> {
-    let alone = padded_text(rt, "run", slack, script)?;
-    let beside = padded_text(rt, "compare", slack, script)?;
-    Ok(alone.written() == text && beside.written() == led(rt, b"cf ", text)?.as_slice())
+    let beside = led(rt, b"cf ", text)?;
+    let is_beside = prints_in(rt, "compare", slack, script, beside.as_slice())?;
+    Ok(is_beside && prints_in(rt, "run", slack, script, text)?)
 }
 
 /// What a `steps` line prints is what the manager handed in has ticked, to the step.

@@ -10,8 +10,10 @@ pub const MOVE: &[u8] =
 pub const MOVED: &[u8] =
     b"ok\nok\nok\nok\nok\nrefused space\nok\nok\nat 23\nat 64\nok\nat 64\nok\n=a1b2\n";
 
-/// What each shows, the script, the status, and what is printed.
-pub const ROWS: [(&str, &[u8], Status, &[u8]); 30] = [
+/// What a row shows, the script, the status, and what is printed.
+pub type Row = (&'static str, &'static [u8], Status, &'static [u8]);
+
+pub static ROWS: [Row; 30] = [
     (
         "an object reads as zeros",
         b"heap 1 512 1 4\nm 1 24\nr 1 0 24\n",
