@@ -1,17 +1,6 @@
 //! The tool: reads a script from standard input and answers each command.
 #![tactic(auto)]
 
-mod benching;
-mod boxed;
-mod comparing;
-mod images;
-mod large;
-mod quota;
-mod running;
-mod slice;
-mod top;
-
-use boxed::Boxed;
 use cf_base::Status;
 use cf_io::{StdSink, StdSource};
 use half_fit_heap::HalfFitHeap;
@@ -22,7 +11,7 @@ use std::env;
 use std::io::ErrorKind;
 use std::process::ExitCode;
 use tlsf_heap::TlsfHeap;
-use top::cf_main;
+use top_call::{Boxed, cf_main};
 
 /// The line on standard error that goes with a status; none at 0.
 fn complaint(status: Status) -> Option<&'static str> {

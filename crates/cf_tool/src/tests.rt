@@ -7,9 +7,7 @@ mod own_heaps;
 mod padded;
 mod rows;
 
-use crate::boxed::Boxed;
 use crate::complaint;
-use crate::top::cf_main;
 use cf_base::{Kind, Status};
 use cf_io::{Line, LoopSource, MemSink, MemSource, Source, SureSource, number_of};
 use cf_model::Manager;
@@ -21,6 +19,7 @@ use std::alloc::AllocError;
 use std::test::Fail;
 use step_ledger::Meter;
 use tlsf_heap::TlsfHeap;
+use top_call::{Boxed, cf_main};
 
 /// The room of a sink in these tests, in bytes.
 const ROOM: usize = 65_536;

@@ -2,13 +2,13 @@
 
 use super::rows::{MOVE, MOVED};
 use super::{ROOM, answer_by, answer_on, answered_from, closed_managers, failing_sink};
-use crate::boxed::Boxed;
 use cf_base::{Handle, Kind, Status};
 use cf_io::{MemSink, MemSource, SureSource};
 use cf_model::Manager;
 use std::alloc::{AllocError, Global};
 use std::test::Fail;
 use step_ledger::Meter;
+use top_call::Boxed;
 
 /// The live objects of an open manager, and the address of object number 1, where it is live.
 type Stand = (u32, Option<u32>);

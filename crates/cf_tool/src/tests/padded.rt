@@ -6,7 +6,6 @@ ghost use Rattle.cf_model.specs.Costs.{free_bound, resize_bound};
 
 use super::rows::{PADDED, PADDED_CALLS, PADDED_RESIZES};
 use super::{answer_on, plain_sink};
-use crate::boxed::Boxed;
 use cf_base::{
     AccessFault, Figures, Freed, Handle, Kind, NotLive, OutOfMemory, Refusal, ResizeFault, Resized,
     Settings, Status, Totals,
@@ -17,6 +16,7 @@ use moving_heap::MovingHeap;
 use std::alloc::{AllocError, Global};
 use std::test::Fail;
 use step_ledger::Steps;
+use top_call::Boxed;
 
 /// A moving manager whose mallocs, frees and resizes each tick until they have added their bound less
 /// the slack, refused or not.

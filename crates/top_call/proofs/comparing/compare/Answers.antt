@@ -1,0 +1,21 @@
+use Rattle.std.proofs.Common.{◌≡◌, arith, length, subst}
+use Rattle.side_by_side.proofs.CallerLemmas.{begun_each}
+use Rattle.side_by_side.specs.Many.{AreFresh}
+use Rattle.top_call.proofs.Playing.{each_ends}
+use Rattle.top_call.proofs.comparing.compare.Goals as goal
+
+pub play_script-requires : goal.play_script-requires
+play_script-requires g c =
+    let many : c.len.result ≡ length c.args.managers.now.items = omega arith in
+    begun_each (λ m. g.H.Manager.state m) c.in-Ok.sessions.each.items c.args.managers.now.items
+    (subst (λ n. AreFresh n c.in-Ok.sessions.each.items) many c.in-Ok.ensures)
+
+pub returns : goal.returns
+returns g c =
+    let by = c.play_script.ensures in
+    let many : c.len.result ≡ length c.args.managers.now.items = omega arith in
+    let started = subst (λ n. AreFresh n c.in-Ok.sessions.each.items) many c.in-Ok.ensures in
+    each_ends _ _ _ _ c.play_script.result
+    (record { silent = by.silent; read_fault = by.read_fault; write_fault = by.write_fault; too_long = by.too_long })
+    (λ m. g.H.Manager.state m) c.in-Ok.sessions.each.items c.args.managers.now.items started
+    c.play_script.new.player.each.items c.play_script.new.heap.items by.plan by.outcome

@@ -1,0 +1,21 @@
+use Rattle.std.proofs.Common.{◌≡◌, ◌∙◌, List, refl, subst, sym}
+use Rattle.cf_base.specs.declared.kind.Kind.TheVariants.{Moving}
+use Rattle.cf_model.specs.Families.{IsPaged}
+use Rattle.cf_model.specs.State.{HeapState, closed_state}
+use Rattle.large_objects.specs.LargeRun.{large_run}
+use Rattle.large_objects.specs.Playing.{large_heap}
+use Rattle.top_call.proofs.Playing.{made_ends}
+use Rattle.top_call.specs.TopOutcome.{IsMadeLarge}
+use Rattle.top_call.proofs.large.play_large.Goals as goal
+
+pub returns : goal.returns
+returns g c = λ managers.
+    let by = c.run_large.ensures in
+    let inner = c.new-heap.ensures.inner ∙ c.closed.ensures in
+    made_ends large_heap IsMadeLarge _ _ _ _ managers c.run_large.result
+    (record { silent = by.silent; read_fault = by.read_fault; write_fault = by.write_fault; too_long = by.too_long })
+    (large_run c.in-Ok.player.session c.new-heap.result) (large_run c.run_large.new.player.session c.run_large.new.heap)
+    (record {
+      fresh = record { ids = c.in-Ok.ensures; pages = subst (λ (s : HeapState). IsPaged s.kind) (sym inner) refl };
+      inner = inner;
+    }) by.outcome

@@ -1,0 +1,17 @@
+use Rattle.std.proofs.Common.{refl}
+use Rattle.std.specs.Option.{option_map}
+use Rattle.cf_base.specs.Settings.{profile_of}
+use Rattle.quota_session.specs.Playing.{quota_tasks}
+use Rattle.quota_session.specs.QuotaRun.{quota_run}
+use Rattle.top_call.proofs.Playing.{made_ends}
+use Rattle.top_call.specs.TopOutcome.{IsMadeForTasks}
+use Rattle.top_call.proofs.quota.play_quotas.Goals as goal
+
+pub returns : goal.returns
+returns g c = λ managers.
+    let by = c.run_quotas.ensures in
+    made_ends quota_tasks IsMadeForTasks _ _ _ _ managers c.run_quotas.result
+    (record { silent = by.silent; read_fault = by.read_fault; write_fault = by.write_fault; too_long = by.too_long })
+    (quota_run (option_map profile_of c.in-Ok.player.settings) c.in-Ok.player.session c.closed-heap.result)
+    (quota_run (option_map profile_of c.run_quotas.new.player.settings) c.run_quotas.new.player.session c.run_quotas.new.heap)
+    (rw (c.in-Ok.ensures.session, c.in-Ok.ensures.settings, c.closed-heap.ensures) refl) by.outcome

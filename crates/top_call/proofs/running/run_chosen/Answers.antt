@@ -1,0 +1,18 @@
+use Rattle.std.proofs.Common.{refl, sym}
+use Rattle.cf_session.specs.Apply.{run_at}
+use Rattle.top_call.proofs.Playing.{first_ends, own_beside}
+use Rattle.top_call.proofs.running.run_chosen.Goals as goal
+
+-- the first of the kind answers
+pub returns-in-Some : goal.returns-in-Some
+returns-in-Some g c =
+    let f = λ (m : g.row.H.Denot). g.H.Manager.state m in
+    let by = c.run_script.ensures in
+    first_ends c.args.kind _ _ _ _ c.run_script.result
+    (record { silent = by.silent; read_fault = by.read_fault; write_fault = by.write_fault; too_long = by.too_long })
+    c.in-Ok.session (run_at c.run_script.new.session (f c.run_script.new.heap)) c.in-Ok.ensures f c.args.managers.now.items c.in-Some.i
+    c.index_mut.result.now c.run_script.new.heap (sym c.in-Some.ensures) c.index_mut.ensures.value refl by.kind by.outcome
+
+-- none is of the kind: one answers that is made for it
+pub returns : goal.returns
+returns g c = own_beside c.args.kind _ _ _ _ _ (sym c.in-None.ensures) c.run_own.result c.run_own.ensures

@@ -1,0 +1,32 @@
+//! Mode `compare`.
+ghost use Rattle.std.specs.Prelude.{map};
+ghost use Rattle.top_call.specs.TopOutcome.{Compares, Ends, handed, sink_at, source_at};
+
+use cf_base::Status;
+use cf_io::{Sink, Source};
+use cf_model::Manager;
+use script_loop::play_script;
+use side_by_side::Sessions;
+use std::alloc::Global;
+use std::rt::Runtime;
+
+/// Answers a script on each of the managers, in order, with a session each.
+pub fn compare<R: Runtime, H: Manager, S: Source, K: Sink>(
+    rt: &R,
+    alloc: Global,
+    managers: &mut Vec<H>,
+    source: &mut S,
+    sink: &mut K,
+) -> Status
+    ensures { Ends Compares
+        (handed (source_at (S.rest source.old) (S.given source.old) (S.faults source.old))
+        (sink_at (K.written sink.old) (K.faults sink.old)) (map (λ m. H.state m) managers.old.items))
+        result
+        (handed (source_at (S.rest source.new) (S.given source.new) (S.faults source.new))
+        (sink_at (K.written sink.new) (K.faults sink.new)) (map (λ m. H.state m) managers.new.items)) }
+{
+    let Ok(mut sessions) = Sessions::start(rt, alloc, managers.len()) else {
+        return Status::OutOfMemory;
+    };
+    play_script(&mut sessions, managers, source, sink)
+}

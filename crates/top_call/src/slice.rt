@@ -1,0 +1,35 @@
+//! Mode `slice`.
+ghost use Rattle.std.specs.Prelude.{◌≤◌, List};
+ghost use Rattle.cf_model.specs.State.{HeapState};
+ghost use Rattle.top_call.specs.TopOutcome.{Ends, PlaysSlices, handed, sink_at, source_at};
+
+use cf_base::Status;
+use cf_io::{Sink, Source};
+use slice_session::{SlicePlayer, run_slices};
+use sliced_heap::SlicedHeap;
+use std::alloc::Global;
+use std::rt::Runtime;
+
+/// Answers a script on a sliced heap that is made for it, with slices of at most `quantum` words.
+pub fn play_slices<R: Runtime, S: Source, K: Sink>(
+    rt: &R,
+    alloc: Global,
+    quantum: u32,
+    source: &mut S,
+    sink: &mut K,
+) -> Status
+    requires least { 1 ≤ quantum }
+    requires most { quantum ≤ 16384 }
+    ensures { (managers : List HeapState) → Ends (PlaysSlices quantum)
+        (handed (source_at (S.rest source.old) (S.given source.old) (S.faults source.old))
+        (sink_at (K.written sink.old) (K.faults sink.old)) managers)
+        result
+        (handed (source_at (S.rest source.new) (S.given source.new) (S.faults source.new))
+        (sink_at (K.written sink.new) (K.faults sink.new)) managers) }
+{
+    let Ok(mut player) = SlicePlayer::start(rt, alloc, quantum) else {
+        return Status::OutOfMemory;
+    };
+    let mut heap = SlicedHeap::closed(alloc);
+    run_slices(&mut player, &mut heap, source, sink)
+}
