@@ -13,7 +13,8 @@ use Rattle.cf_model.specs.Rules.{KeepsRules}
 use Rattle.cf_model.specs.State.{HeapState, layout_of}
 use Rattle.cf_model.specs.Steps.{IsClosed, IsEmptyHeap, opening_bounds}
 use Rattle.cf_session.specs.Apply.{run_at}
-use Rattle.page_model.specs.Held.{Placed, objects}
+use Rattle.id_table.proofs.CallerLemmas.{none_tied}
+use Rattle.page_model.specs.Held.{objects}
 use Rattle.page_model.specs.Paging.{AreOne, first_bounds, paging_of}
 use Rattle.page_model.proofs.CallerLemmas.{first_ones}
 use Rattle.run_model.specs.Sessions.{RunState, SessionState}
@@ -128,14 +129,6 @@ module _ (T : Reading) (p : Profile) (had left : Rest) (s : RunState) (loading :
 module _ (kind : Kind) (moving : kind ≡ Moving) (session : SessionState) (heap : HeapState) (settings : Settings) (one : settings.k ≡ 1)
     (idle : session.ids ≡ empty)
     (opened : IsEmptyHeap kind settings heap) (rules : KeepsRules heap) where
-  no_id : (id h : ℕ) → get session.ids id ≡ Some h → ⊥
-  no_id id h is = (let e : Some h ≡ None = sym is ∙ ap (λ m. get m id) idle ∙ get-empty nat_cmp id in absurd (let z = e in cc))
-
-  no_object : (h : ℕ) (x : Placed) → get heap.held h ≡ Some x → ⊥
-  no_object h x is =
-      let held : heap.held ≡ empty = ap (λ (s : HeapState). s.held) opened.whole in
-      let e : Some x ≡ None = sym is ∙ ap (λ m. get m h) held ∙ get-empty nat_cmp h in absurd (let z = e in cc)
-
   moves : heap.kind ≡ Moving
   moves = ap (λ (s : HeapState). s.kind) opened.whole ∙ moving
 
@@ -151,9 +144,7 @@ module _ (kind : Kind) (moving : kind ≡ Moving) (session : SessionState) (heap
       opened = ap (λ (s : HeapState). s.is_open) opened.whole;
       rules = rules;
       tied = record {
-        named = λ id h is. absurd (no_id id h is);
-        once = λ id other h is also. absurd (no_id id h is);
-        all = λ h x is. absurd (no_object h x is);
+        ids = none_tied session.ids heap.held idle (ap (λ (s : HeapState). s.held) opened.whole);
         cost = costs_nothing heap.kind heap.cost session.bound (ap (λ (s : HeapState). s.cost) opened.whole);
       };
     };

@@ -81,9 +81,11 @@ module _ (s : HeapState) (ready : IsReady s) where
 
   tied : AreTied session s
   tied = record {
-    named = λ id h is. (let l = id_live id h is in (l.1.0, ap (get s.held) l.0 ∙ l.1.1));
-    once = λ id other h is also. (let l = id_live id h is in let m = id_live other h also in sym m.0 ∙ l.0);
-    all = λ h x is. (h, id_is h ∙ ap (option_map (λ (x : Placed). h)) is);
+    ids = record {
+      named = λ id h is. (let l = id_live id h is in (l.1.0, ap (get s.held) l.0 ∙ l.1.1));
+      once = λ id other h is also. (let l = id_live id h is in let m = id_live other h also in sym m.0 ∙ l.0);
+      all = λ h x is. (h, id_is h ∙ ap (option_map (λ (x : Placed). h)) is);
+    };
     cost = costs;
   }
 

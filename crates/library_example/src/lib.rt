@@ -61,21 +61,3 @@ pub fn take_out<M: Manager>(
     let _ = heap.free(object, meter.steps());
     Ok(bytes)
 }
-
-#[cfg(test)]
-mod tests {
-    use super::*;
-    use std::test::Fail;
-
-    #[test]
-    fn what_was_stored_is_taken_out(rt: HostRuntime) -> Result<(), Fail> {
-        let (mut heap, object) = first_object(&rt, rt.alloc()).ok_or("out of memory")?;
-        let meter = &mut Meter::new(&rt);
-        assert_eq!(rt; take_out(&mut heap, object, meter)?, [0xca, 0xfe]);
-        assert_eq!(rt;
-            take_out(&mut heap, object, meter),
-            Err(AccessFault::Unknown)
-        );
-        Ok(())
-    }
-}

@@ -1,7 +1,6 @@
 -- A run goes on: after its opening, and after every step.
 use Rattle.std.proofs.Common.{◌≡◌, ℕ, List, Option, Some, None, Result, Ok, Err, sym, ◌∙◌, ap, subst, refl, arith}
-use Rattle.std.specs.Ordering.{nat_cmp}
-use Rattle.std.specs.FinMap.{get, get-empty}
+use Rattle.std.specs.FinMap.{get}
 use Rattle.cf_base.specs.Settings.{Profile}
 use Rattle.cf_base.specs.declared.answers.AccessFault.{AccessFault}
 use Rattle.cf_base.specs.declared.answers.Handle.{Handle}
@@ -9,7 +8,7 @@ use Rattle.cf_base.specs.declared.answers.Refusal.{Refusal}
 use Rattle.cf_base.specs.declared.answers.Resized.{Resized}
 use Rattle.cf_base.specs.declared.answers.ResizeFault.{ResizeFault}
 use Rattle.cf_base.specs.declared.kind.Kind.{Kind}
-use Rattle.page_model.specs.Held.{Placed}
+use Rattle.id_table.proofs.CallerLemmas.{none_tied}
 use Rattle.page_model.specs.Steps.{Request}
 use Rattle.cf_model.specs.Answers.{bound_put}
 use Rattle.cf_model.specs.Families.{Family, paged, tiled, family_of}
@@ -129,19 +128,7 @@ begins_going kind p s begins = record {
   opened = ap (λ (h : HeapState). h.is_open) begins.heap;
   rules = begins.rules;
   tied = record {
-    named = λ id h is. absurd (no_id id h is);
-    once = λ id other h is too. absurd (no_id id h is);
-    all = λ h x is. absurd (no_object h x is);
+    ids = none_tied s.session.ids s.heap.held (ap (λ (t : SessionState). t.ids) begins.session) (ap (λ (t : HeapState). t.held) begins.heap);
     cost = costs_nothing s.heap.kind s.heap.cost s.session.bound (ap (λ (h : HeapState). h.cost) begins.heap);
   };
 }
-  where
-    no_id : (id h : ℕ) → get s.session.ids id ≡ Some h → ⊥
-    no_id id h is = (
-        let e : get s.session.ids id ≡ None = ap (λ (t : SessionState). get t.ids id) begins.session ∙ get-empty nat_cmp id in
-        cc)
-
-    no_object : (h : ℕ) (x : Placed) → get s.heap.held h ≡ Some x → ⊥
-    no_object h x is = (
-        let e : get s.heap.held h ≡ None = ap (λ (t : HeapState). get t.held h) begins.heap ∙ get-empty nat_cmp h in
-        cc)

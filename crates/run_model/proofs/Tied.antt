@@ -97,7 +97,7 @@ module _ (old new : RunState) (tied : AreTied old.session old.heap) where
       let a : new.session.ids ≡ ids = ap (λ (s : SessionState). s.ids) e ∙ i in
       let c : new.session.bound ≡ bound = ap (λ (s : SessionState). s.bound) e ∙ b in
       let n : AreTiedTo new.session.ids new.heap.held = subst (λ k. AreTiedTo k new.heap.held) (sym a) (subst (λ h. AreTiedTo ids h) (sym f) names) in
-      record { named = n.named; once = n.once; all = n.all; cost = subst (λ k. CostsAtMost new.heap.kind new.heap.cost k) (sym c) cost }
+      record { ids = n; cost = subst (λ k. CostsAtMost new.heap.kind new.heap.cost k) (sym c) cost }
 
   malloc_names : (id n : ℕ) (answer : Result Handle Refusal) → get old.session.ids id ≡ None → IsMallocStep old.heap n answer new.heap
       → AreTiedTo (ids_given old.session.ids id answer) new.heap.held
