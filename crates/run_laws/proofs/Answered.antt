@@ -1,17 +1,14 @@
 -- What it is for a call of a heap to have an answer, and a state after it that keeps the rules.
-use Rattle.std.proofs.Common.{◌≡◌, ◌≢◌, ℕ, ◌+◌, ◌<◌, ◌≤◌, List, Option, Some, None, Result, arith, sym, ◌∙◌, refl}
+use Rattle.std.proofs.Common.{◌≡◌, ℕ, ◌<◌, ◌≤◌, List, Option, Some, None, Result, arith, sym, ◌∙◌, refl}
 use Rattle.std.proofs.Common.{subst, inl, inr}
-use Rattle.std.specs.Prelude.{◌⊎◌, option_map}
+use Rattle.std.specs.Prelude.{option_map}
 use Rattle.std.specs.FinMap.{get, insert, len, remove}
 use Rattle.cf_base.specs.declared.answers.AccessFault.{AccessFault}
-use Rattle.cf_base.specs.declared.answers.AccessFault.TheVariants as access
 use Rattle.cf_base.specs.declared.answers.Freed.{Freed}
 use Rattle.cf_base.specs.declared.answers.Handle.{Handle}
 use Rattle.cf_base.specs.declared.answers.Refusal.{Refusal}
-use Rattle.cf_base.specs.declared.answers.Refusal.TheVariants as refusal
 use Rattle.cf_base.specs.declared.answers.Resized.{Resized}
 use Rattle.cf_base.specs.declared.answers.ResizeFault.{ResizeFault}
-use Rattle.cf_base.specs.declared.answers.ResizeFault.TheVariants as resize
 use Rattle.cf_lemmas.proofs.Maps.{len_fresh, len_rebound, some_inserted, some_removed}
 use Rattle.cf_lemmas.proofs.MapValues.{get-map_values}
 use Rattle.page_model.specs.Bytes.{AreBytes}

@@ -1,7 +1,6 @@
 -- Every call of a heap with blocks has an answer, and a state after it that keeps the rules.
-use Rattle.std.proofs.Common.{◌≡◌, ◌≢◌, ℕ, ◌+◌, ◌*◌, ◌^◌, ◌<◌, ◌≤◌, List, Some, None, Ok, Err, length, replicate, arith, sym, ◌∙◌, ap}
+use Rattle.std.proofs.Common.{◌≡◌, ◌≢◌, ℕ, ◌+◌, ◌<◌, ◌≤◌, List, Some, None, Ok, Err, length, replicate, arith, sym, ◌∙◌, ap}
 use Rattle.std.proofs.Common.{refl, subst, inl, inr}
-use Rattle.std.specs.Prelude.{◌⊎◌}
 use Rattle.std.proofs.lemmas.Bool.{cases_eq, cases_lt}
 use Rattle.std.specs.FinMap.{get, insert, len, remove}
 use Rattle.cf_base.specs.Classes.{need}

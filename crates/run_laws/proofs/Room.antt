@@ -1,16 +1,12 @@
 -- Where a sound arrangement has room there is a free place.
-use Rattle.std.proofs.Common.{◌≡◌, ◌≢◌, ℕ, zero, suc, true, ◌+◌, ◌/◌, ◌%◌, ◌<◌, ◌≤◌, Option, Some, None, arith, sym, ◌∙◌, ap, inl, inr}
-use Rattle.std.specs.Prelude.{◌⊎◌, ◌&&◌, count_by, nat_eq, nat_lt}
-use Rattle.std.proofs.lemmas.Bool.{cases_eq, cases_lt, false≢true, and_parts as both}
-use Rattle.std.proofs.lemmas.Bool.Decides.{nat_tests}
-use Rattle.std.specs.FinMap.{get, remove, values}
-use Rattle.cf_lemmas.proofs.Maps.{get_remove_other, some_removed}
+use Rattle.std.proofs.Common.{◌≡◌, ℕ, ◌<◌, arith, ◌∙◌, ap, inl, inr}
+use Rattle.std.specs.Prelude.{◌⊎◌}
+use Rattle.std.proofs.lemmas.Bool.{cases_eq, cases_lt}
 use Rattle.page_model.specs.Arrangement.{IsSound, LacksRoom, not_full_pages, standing_on}
-use Rattle.page_model.specs.Held.{Held, Placed}
-use Rattle.page_model.specs.Paging.{IsPaging, Paging, address_of, class_for, classes, page_of, slot_words, slots_of}
+use Rattle.page_model.specs.Held.{Held}
+use Rattle.page_model.specs.Paging.{IsPaging, Paging, address_of, class_for, classes, page_of}
 use Rattle.page_model.specs.Steps.{IsFreePlace}
-use Rattle.page_model.proofs.CallerLemmas.{IsOpen, address_is_slot, nothing_on, on_page, open_page, slots_some, vacant_where_less}
-use Rattle.cf_lemmas.proofs.Tests.{eq_yes}
+use Rattle.page_model.proofs.CallerLemmas.{IsOpen, address_is_slot, nothing_on, open_page, slots_some, vacant_where_less}
 use Rattle.cf_lemmas.proofs.Searches.{search_below}
 
 -- a page holds something or nothing
