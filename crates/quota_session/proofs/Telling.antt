@@ -28,7 +28,8 @@ use Rattle.script_reader.specs.declared.command.Command.{Command}
 use Rattle.script_reader.specs.declared.command.Command.TheVariants.{Walk}
 use Rattle.session_model.specs.Applying.{Applies, IsEndedAs, TurnsInPart}
 use Rattle.id_table.specs.Ties.{AreTiedTo}
-use Rattle.session_model.proofs.CallerLemmas.{clash, reported}
+use Rattle.id_table.proofs.CallerLemmas.{clash}
+use Rattle.session_model.proofs.CallerLemmas.{reported}
 use Rattle.transcript_laws.proofs.CallerLemmas.{by_id_counts}
 use Rattle.quota_session.specs.Layout.{totals_with}
 use Rattle.quota_session.specs.Playing.{quota_tasks}
