@@ -1,7 +1,6 @@
-use Rattle.std.proofs.Common.{◌≡◌, ◌∙◌, List, refl, subst, sym}
-use Rattle.cf_base.specs.declared.kind.Kind.TheVariants.{Moving}
+use Rattle.std.proofs.Common.{◌∙◌, refl, subst, sym}
 use Rattle.cf_model.specs.Families.{IsPaged}
-use Rattle.cf_model.specs.State.{HeapState, closed_state}
+use Rattle.cf_model.specs.State.{HeapState}
 use Rattle.large_objects.specs.LargeRun.{large_run}
 use Rattle.large_objects.specs.Playing.{large_heap}
 use Rattle.top_call.proofs.Playing.{made_ends}
