@@ -23,9 +23,8 @@ use Rattle.heap_image.specs.Heaps.{HaveImage, image_under}
 use Rattle.heap_image.specs.Image.{entries_of, entry_of, mark, number_bytes}
 use Rattle.heap_image.specs.Listed.{listed}
 use Rattle.heap_image.proofs.Encoded.{AreBelow, below_none, below_some, needed_added, needed_more}
-use Rattle.heap_image.proofs.Listing.{listed_all}
+use Rattle.heap_image.proofs.Listing.{listed_all, listed_end, listed_none, listed_some}
 use Rattle.heap_image.proofs.Numbers.{field_read_2, field_read_4}
-use Rattle.heap_image.proofs.SaveLemmas.{listed_none, listed_some, listed_end}
 
 -- a test that holds, or that doesn't
 pub if_true : {X : Type 0} (b : Bool) (x y : X) → b ≡ true → (if b then x else y) ≡ x

@@ -1,6 +1,7 @@
 mod Listing
 mod Headers
 mod Chunks
+mod ObjectsOut
 mod SaveLemmas
 mod Numbers
 mod Encoded

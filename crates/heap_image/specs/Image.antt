@@ -19,10 +19,14 @@ mark = codes "CFI1"
 abbrev pub entry_of : ℕ → List ℕ → List ℕ
 entry_of id v = number_bytes w16 id ++ (number_bytes w32 (length v) ++ v)
 
--- objects one after the other
+-- objects one after the other, each written as it is by its id and its bytes
+abbrev pub texts_of : (ℕ → List ℕ → List ℕ) → List (ℕ × List ℕ) → List ℕ
+texts_of text [] = []
+texts_of text (e ∷ es) = text e.0 e.1 ++ texts_of text es
+
+-- each as an entry
 abbrev pub entries_of : List (ℕ × List ℕ) → List ℕ
-entries_of [] = []
-entries_of (e ∷ es) = entry_of e.0 e.1 ++ entries_of es
+entries_of es = texts_of entry_of es
 
 -- the mark, the settings, and how many objects there are
 abbrev pub header_of : ℕ → ℕ → ℕ → ℕ → List ℕ

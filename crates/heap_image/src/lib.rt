@@ -6,6 +6,7 @@ mod filling;
 mod laws;
 mod loading;
 mod objects_in;
+mod objects_out;
 mod saving;
 mod settings_in;
 
@@ -15,4 +16,5 @@ pub use laws::{
     what_lives_has_an_image,
 };
 pub use loading::load;
+pub use objects_out::{ObjectWriter, put_objects};
 pub use saving::{length_of, save};

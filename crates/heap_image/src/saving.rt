@@ -10,17 +10,40 @@ ghost use Rattle.run_model.specs.Sessions.{AreTied};
 ghost use Rattle.heap_image.specs.Heaps.{heap_image};
 ghost use Rattle.heap_image.specs.Image.{entry_of, header_of};
 
+use crate::objects_out::{CHUNK, ObjectWriter, put_objects};
 use cf_base::{Failed, Handle, Settings};
 use cf_io::{Line, Sink, push_text, put_all};
 use cf_model::Manager;
 use cf_session::Session;
 use step_ledger::Meter;
 
-/// The most bytes of an object that are read at once.
-const CHUNK: usize = 4_096;
+/// Writes an object as an entry of an image.
+struct Entries;
 
-/// How many ids there are.
-const IDS: u32 = 65_536;
+impl ObjectWriter for Entries {
+    ghost text = { entry_of };
+
+    fn put_object<H: Manager, K: Sink>(
+        &self,
+        heap: &H,
+        id: u16,
+        h: Handle,
+        room: &mut [u8],
+        line: &mut Line,
+        out: &mut K,
+        meter: &mut Meter,
+    ) -> Result<(), Failed> {
+        let n = length_of(heap, h, meter);
+        line.clear();
+        push_text(line, &id.to_le_bytes());
+        push_text(line, &n.to_le_bytes());
+        match put_all(out, line.bytes()) {
+            Ok(()) => {}
+            Err(failed) => return Err(failed),
+        }
+        put_bytes(heap, h, n, room, out, meter)
+    }
+}
 
 /// Writes the image of the objects that live in the heap: the settings, then the objects by rising
 /// id, each with its length and its bytes, in chunks of at most 4,096 bytes. `Failed` only where the
@@ -40,27 +63,16 @@ pub fn save<H: Manager, K: Sink>(
     ensures grows { K.faults out.old ≤ K.faults out.new }
     ensures failed { OnErr result (Rose (K.faults out.old) (K.faults out.new)) }
 {
-    // An open heap keeps its rules, and ids have 16 bits.
+    // An open heap keeps its rules.
     let _open = heap.is_open();
-    let _first = session.handle(0);
     let mut line = Line::new();
-    let mut room = [0; CHUNK];
     meter.lap();
     let totals = heap.totals(meter.steps());
     match put_header(s, totals.live, &mut line, out) {
         Ok(()) => {}
         Err(failed) => return Err(failed),
     }
-    'ids: for id in 0..IDS {
-        let Some(h) = session.handle(id as u16) else {
-            continue;
-        };
-        match put_object(heap, id as u16, h, &mut room, &mut line, out, meter) {
-            Ok(()) => {}
-            Err(failed) => return Err(failed),
-        }
-    }
-    Ok(())
+    put_objects(&Entries, heap, session, &mut line, out, meter)
 }
 
 /// Writes the mark, the settings, and the number of objects.
@@ -77,36 +89,6 @@ fn put_header<K: Sink>(s: &Settings, live: u32, line: &mut Line, out: &mut K) ->
     push_text(line, &s.proxies.to_le_bytes());
     push_text(line, &live.to_le_bytes());
     put_all(out, line.bytes())
-}
-
-/// Writes an object under its id.
-fn put_object<H: Manager, K: Sink>(
-    heap: &H,
-    id: u16,
-    h: Handle,
-    room: &mut [u8],
-    line: &mut Line,
-    out: &mut K,
-    meter: &mut Meter,
-) -> Result<(), Failed>
-    requires moving { (H.state heap.now).kind ≡ Moving }
-    requires open { IsTrue (H.state heap.now).is_open }
-    requires live { (x : Placed) × (map.get (H.state heap.now).held h.0 ≡ Some x) }
-    requires place { length room.old ≡ 4096 }
-    ensures puts { (x : Placed) → map.get (H.state heap.now).held h.0 ≡ Some x
-        → Puts (K.written out.old) (entry_of id x.bytes) result (K.written out.new) }
-    ensures grows { K.faults out.old ≤ K.faults out.new }
-    ensures failed { OnErr result (Rose (K.faults out.old) (K.faults out.new)) }
-{
-    let n = length_of(heap, h, meter);
-    line.clear();
-    push_text(line, &id.to_le_bytes());
-    push_text(line, &n.to_le_bytes());
-    match put_all(out, line.bytes()) {
-        Ok(()) => {}
-        Err(failed) => return Err(failed),
-    }
-    put_bytes(heap, h, n, room, out, meter)
 }
 
 /// The length of an object in bytes, as its header says.

@@ -23,6 +23,10 @@ writes_of id bytes = writes_from (div_ceil (length bytes) 4096) id 0 bytes
 abbrev pub object_commands : ℕ → List ℕ → List Command
 object_commands id bytes = Malloc id (length bytes) ∷ writes_of id bytes
 
+-- the lines of those commands
+abbrev pub object_lines : ℕ → List ℕ → List ℕ
+object_lines id bytes = lines_of (object_commands id bytes)
+
 -- the commands that make the objects of these ids
 abbrev pub commands_of : List (ℕ × List ℕ) → List Command
 commands_of [] = []

@@ -7,7 +7,7 @@ ghost use Rattle.cf_io.specs.Feeds.{Puts, Rose};
 ghost use Rattle.cf_session.specs.Apply.{run_at};
 ghost use Rattle.generator.specs.CommandText.{line_of};
 ghost use Rattle.generator.specs.ReadBack.{lines_of};
-ghost use Rattle.image_run.specs.Script.{heap_script, object_commands, opening_line, writes_of};
+ghost use Rattle.image_run.specs.Script.{heap_script, object_lines, opening_line, writes_of};
 ghost use Rattle.page_model.specs.Held.{Placed};
 ghost use Rattle.run_model.specs.Sessions.{AreTied};
 ghost use Rattle.script_reader.specs.declared.command.Command.TheVariants.{Malloc, Write};
@@ -16,14 +16,36 @@ use cf_base::{Failed, Handle, Settings};
 use cf_io::{Line, Sink, push_field, push_text, put_line};
 use cf_model::Manager;
 use cf_session::Session;
-use heap_image::length_of;
+use heap_image::{ObjectWriter, length_of, put_objects};
 use step_ledger::Meter;
 
 /// The most bytes of one write.
 const CHUNK: u64 = 4_096;
 
-/// How many ids there are.
-const IDS: u32 = 65_536;
+/// Writes an object as the lines of the script that make it.
+struct Lines;
+
+impl ObjectWriter for Lines {
+    ghost text = { object_lines };
+
+    fn put_object<H: Manager, K: Sink>(
+        &self,
+        heap: &H,
+        id: u16,
+        h: Handle,
+        room: &mut [u8],
+        line: &mut Line,
+        out: &mut K,
+        meter: &mut Meter,
+    ) -> Result<(), Failed> {
+        let n = length_of(heap, h, meter);
+        match put_malloc(id, n, line, out) {
+            Ok(()) => {}
+            Err(failed) => return Err(failed),
+        }
+        put_writes(heap, id, h, n, room, line, out, meter)
+    }
+}
 
 /// Writes the script that makes what lives in the heap: its `heap` line, with the bound 1, and for each
 /// id in rising order an `m` line and `w` lines of 4,096 bytes, the last one shorter. `Failed` only
@@ -43,24 +65,12 @@ pub fn tell_script<H: Manager, K: Sink>(
     ensures grows { K.faults out.old ≤ K.faults out.new }
     ensures failed { OnErr result (Rose (K.faults out.old) (K.faults out.new)) }
 {
-    // Ids have 16 bits.
-    let _first = session.handle(0);
     let mut line = Line::new();
-    let mut room = [0; CHUNK as usize];
     match put_heap(s, &mut line, out) {
         Ok(()) => {}
         Err(failed) => return Err(failed),
     }
-    'ids: for id in 0..IDS {
-        let Some(h) = session.handle(id as u16) else {
-            continue;
-        };
-        match put_object(heap, id as u16, h, &mut room, &mut line, out, meter) {
-            Ok(()) => {}
-            Err(failed) => return Err(failed),
-        }
-    }
-    Ok(())
+    put_objects(&Lines, heap, session, &mut line, out, meter)
 }
 
 /// Writes the `heap` line of the settings, with the bound 1.
@@ -75,33 +85,6 @@ fn put_heap<K: Sink>(s: &Settings, line: &mut Line, out: &mut K) -> Result<(), F
     push_field(line, b" ", 1);
     push_field(line, b" ", s.proxies as u64);
     put_line(line, out)
-}
-
-/// Writes the lines that make an object under its id.
-fn put_object<H: Manager, K: Sink>(
-    heap: &H,
-    id: u16,
-    h: Handle,
-    room: &mut [u8],
-    line: &mut Line,
-    out: &mut K,
-    meter: &mut Meter,
-) -> Result<(), Failed>
-    requires moving { (H.state heap.now).kind ≡ Moving }
-    requires open { IsTrue (H.state heap.now).is_open }
-    requires live { (x : Placed) × (map.get (H.state heap.now).held h.0 ≡ Some x) }
-    requires place { length room.old ≡ 4096 }
-    ensures puts { (x : Placed) → map.get (H.state heap.now).held h.0 ≡ Some x
-        → Puts (K.written out.old) (lines_of (object_commands id x.bytes)) result (K.written out.new) }
-    ensures grows { K.faults out.old ≤ K.faults out.new }
-    ensures failed { OnErr result (Rose (K.faults out.old) (K.faults out.new)) }
-{
-    let n = length_of(heap, h, meter);
-    match put_malloc(id, n, line, out) {
-        Ok(()) => {}
-        Err(failed) => return Err(failed),
-    }
-    put_writes(heap, id, h, n, room, line, out, meter)
 }
 
 /// Writes the line that makes an object of so many bytes.

@@ -1,10 +1,6 @@
-use Rattle.std.proofs.Common.{◌≡◌, ◌-◌, arith, subst, sym}
 use Rattle.cf_session.specs.Apply.{run_at}
-use Rattle.heap_image.proofs.SaveLemmas.{CameTo, came_first, came_last, came_on, came_past, came_short, header_cut, live_told, profile_parts}
+use Rattle.heap_image.proofs.SaveLemmas.{header_cut, header_then, live_told, profile_parts}
 use Rattle.heap_image.proofs.saving.save.Goals as goal
-
-pub put_object-requires-clause-live : goal.put_object-requires-clause-live
-put_object-requires-clause-live g c = c.requires.tied.ids.named c.ids.id c.in-Some.h.0 (sym c.in-Some.ensures.found)
 
 pub returns-in-Err-clause-puts : goal.returns-in-Err-clause-puts
 returns-in-Err-clause-puts g c =
@@ -12,41 +8,8 @@ returns-in-Err-clause-puts g c =
     header_cut (run_at c.args.session.now (g.H.Manager.state c.args.heap.now)) c.requires.tied _ _ _ _ _ _ c.in-Err.failed p.0 p.1 p.2
     (live_told (g.H.Manager.state c.args.heap.now) _ c.requires.moving c.totals-totals.ensures.value) c.in-Err.ensures.puts
 
-pub ids-init : goal.ids-init
-ids-init g c = record {
-  came = (
-      let p = profile_parts _ _ c.requires.settings in
-      came_first (run_at c.args.session.now (g.H.Manager.state c.args.heap.now)) c.requires.tied _ _ _ _ _ _ c.handle-first.ensures.within p.0 p.1 p.2
-      (live_told (g.H.Manager.state c.args.heap.now) _ c.requires.moving c.totals-totals.ensures.value) c.in-Ok.ensures.puts);
-  grows = c.in-Ok.ensures.grows;
-}
-
-pub ids-preserved-in_default : goal.ids-preserved-in_default
-ids-preserved-in_default g c = record {
-  came = came_past (run_at c.args.session.now (g.H.Manager.state c.args.heap.now)) c.requires.tied _ _ c.ids.id (65535 - c.ids.id) (omega arith) (omega arith)
-      c.ids.invariant.came (sym c.in_default.ensures.found);
-  grows = c.ids.invariant.grows;
-}
-
-pub returns-in-Err-put_object-clause-puts : goal.returns-in-Err-put_object-clause-puts
-returns-in-Err-put_object-clause-puts g c =
-    let named = sym c.in-Some.ensures.found in
-    let x = c.requires.tied.ids.named c.ids.id c.in-Some.h.0 named in
-    came_short (run_at c.args.session.now (g.H.Manager.state c.args.heap.now)) c.requires.tied _ _ c.ids.id (65535 - c.ids.id) (omega arith) (omega arith)
-    c.ids.invariant.came c.in-Some.h.0 named x.0 x.1 _ c.in-Err-put_object.failed (c.in-Err-put_object.ensures.puts x.0 x.1)
-
-pub ids-preserved : goal.ids-preserved
-ids-preserved g c =
-    let named = sym c.in-Some.ensures.found in
-    let x = c.requires.tied.ids.named c.ids.id c.in-Some.h.0 named in
-    record {
-      came = came_on (run_at c.args.session.now (g.H.Manager.state c.args.heap.now)) c.requires.tied _ _ c.ids.id (65535 - c.ids.id) (omega arith) (omega arith)
-          c.ids.invariant.came c.in-Some.h.0 named x.0 x.1 _ (c.in-Ok-put_object.ensures.puts x.0 x.1);
-      grows = omega (arith, c.ids.invariant.grows, c.in-Ok-put_object.ensures.grows);
-    }
-
 pub returns-clause-puts : goal.returns-clause-puts
-returns-clause-puts g c = came_last (run_at c.args.session.now (g.H.Manager.state c.args.heap.now)) c.requires.tied _ _
-    (let end : c.ids.id ≡ 65536 = omega (arith, c.ids-test.false, c.ids.auto.id-end) in
-    subst (CameTo (run_at c.args.session.now (g.H.Manager.state c.args.heap.now)) (g.K.Sink.written c.args.out.now) (g.K.Sink.written c.ids.out)) end
-    c.ids.invariant.came)
+returns-clause-puts g c =
+    let p = profile_parts _ _ c.requires.settings in
+    header_then (run_at c.args.session.now (g.H.Manager.state c.args.heap.now)) c.requires.tied _ _ _ _ _ _ _ c.put_objects.result p.0 p.1 p.2
+    (live_told (g.H.Manager.state c.args.heap.now) _ c.requires.moving c.totals-totals.ensures.value) c.in-Ok.ensures.puts c.put_objects.ensures.puts

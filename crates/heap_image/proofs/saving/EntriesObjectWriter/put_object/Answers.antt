@@ -3,7 +3,7 @@ use Rattle.std.specs.Prelude.{Err}
 use Rattle.cf_io.specs.Feeds.{Puts, appended}
 use Rattle.heap_image.specs.Image.{number_bytes}
 use Rattle.heap_image.proofs.SaveLemmas.{entry_cut, entry_put}
-use Rattle.heap_image.proofs.saving.put_object.Goals as goal
+use Rattle.heap_image.proofs.saving.EntriesObjectWriter.put_object.Goals as goal
 
 pub put_bytes-requires-clause-live : goal.put_bytes-requires-clause-live
 put_bytes-requires-clause-live g c = (c.requires.live.0, c.requires.live.1, c.length_of-n.ensures c.requires.live.0 c.requires.live.1)

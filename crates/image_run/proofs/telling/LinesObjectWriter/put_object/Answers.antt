@@ -1,5 +1,5 @@
 use Rattle.image_run.proofs.TellLemmas.{object_cut, object_put}
-use Rattle.image_run.proofs.telling.put_object.Goals as goal
+use Rattle.image_run.proofs.telling.LinesObjectWriter.put_object.Goals as goal
 
 pub put_writes-requires-clause-live : goal.put_writes-requires-clause-live
 put_writes-requires-clause-live g c = (c.requires.live.0, c.requires.live.1, c.length_of-n.ensures c.requires.live.0 c.requires.live.1)

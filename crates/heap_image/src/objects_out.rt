@@ -1,0 +1,82 @@
+//! Writing the objects that live in a heap, one after another.
+ghost use Rattle.std.specs.Prelude.{◌≡◌, ◌≤◌, ℕ, List, IsTrue, OnErr, Some, length};
+ghost use Rattle.std.specs.FinMap as map;
+ghost use Rattle.cf_base.specs.declared.kind.Kind.TheVariants.{Moving};
+ghost use Rattle.cf_io.specs.Feeds.{Puts, Rose};
+ghost use Rattle.cf_session.specs.Apply.{run_at};
+ghost use Rattle.page_model.specs.Held.{Placed};
+ghost use Rattle.run_model.specs.Sessions.{AreTied};
+ghost use Rattle.heap_image.specs.Heaps.{objects_of};
+ghost use Rattle.heap_image.specs.Image.{texts_of};
+
+use cf_base::{Failed, Handle};
+use cf_io::{Line, Sink};
+use cf_model::Manager;
+use cf_session::Session;
+use step_ledger::Meter;
+
+/// The most bytes of an object that are read at once.
+pub(crate) const CHUNK: usize = 4_096;
+
+/// How many ids there are.
+const IDS: u32 = 65_536;
+
+/// Writes one object of a heap of kind Moving: as an entry of an image, say, or as lines of a script.
+pub trait ObjectWriter {
+    /// What an object is written as, by its id and its bytes.
+    ghost text: { ℕ → List ℕ → List ℕ };
+
+    /// Writes an object under its id. `room` takes up to 4,096 of its bytes at once. `Failed` only
+    /// where the sink failed; a prefix was written then.
+    fn put_object<H: Manager, K: Sink>(
+        &self,
+        heap: &H,
+        id: u16,
+        h: Handle,
+        room: &mut [u8],
+        line: &mut Line,
+        out: &mut K,
+        meter: &mut Meter,
+    ) -> Result<(), Failed>
+        requires moving { (H.state heap.now).kind ≡ Moving }
+        requires open { IsTrue (H.state heap.now).is_open }
+        requires live { (x : Placed) × (map.get (H.state heap.now).held h.0 ≡ Some x) }
+        requires place { length room.old ≡ 4096 }
+        ensures puts { (x : Placed) → map.get (H.state heap.now).held h.0 ≡ Some x
+            → Puts (K.written out.old) (text id x.bytes) result (K.written out.new) }
+        ensures grows { K.faults out.old ≤ K.faults out.new }
+        ensures failed { OnErr result (Rose (K.faults out.old) (K.faults out.new)) };
+}
+
+/// Writes the objects that live in the heap one after another, by rising id. `Failed` only where the
+/// sink failed; a prefix was written then.
+pub fn put_objects<W: ObjectWriter, H: Manager, K: Sink>(
+    writer: &W,
+    heap: &H,
+    session: &Session,
+    line: &mut Line,
+    out: &mut K,
+    meter: &mut Meter,
+) -> Result<(), Failed>
+    requires moving { (H.state heap.now).kind ≡ Moving }
+    requires open { IsTrue (H.state heap.now).is_open }
+    requires tied { AreTied session.now (H.state heap.now) }
+    ensures puts { Puts (K.written out.old) (texts_of W.text (map.entries (objects_of (run_at session.now (H.state heap.now)))))
+        result (K.written out.new) }
+    ensures grows { K.faults out.old ≤ K.faults out.new }
+    ensures failed { OnErr result (Rose (K.faults out.old) (K.faults out.new)) }
+{
+    // Ids have 16 bits.
+    let _first = session.handle(0);
+    let mut room = [0; CHUNK];
+    'ids: for id in 0..IDS {
+        let Some(h) = session.handle(id as u16) else {
+            continue;
+        };
+        match writer.put_object(heap, id as u16, h, &mut room, line, out, meter) {
+            Ok(()) => {}
+            Err(failed) => return Err(failed),
+        }
+    }
+    Ok(())
+}
