@@ -10,6 +10,3 @@ mod plain;
 mod words;
 
 pub use plain::Plain;
-
-#[cfg(test)]
-mod tests;

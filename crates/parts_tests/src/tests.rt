@@ -1,4 +1,5 @@
 mod admitted;
+mod arrangements;
 mod bytes_in_words;
 mod free_lists;
 mod free_pages;

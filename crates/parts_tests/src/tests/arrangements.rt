@@ -1,6 +1,7 @@
-use crate::Plain;
-use crate::frames::{block_of, exchange, new_frames};
+//! Arrangements worked out by hand, and what the reference implementation makes of them.
 use cf_base::{Figures, Layout, Settings, Totals};
+use page_reference::Plain;
+use page_reference::frames::{block_of, exchange, new_frames};
 use std::alloc::{AllocError, Global};
 use std::process::Abort;
 use std::test::Fail;
