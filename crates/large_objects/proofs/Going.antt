@@ -1,5 +1,5 @@
 -- A run over large objects goes on after each command.
-use Rattle.std.proofs.Common.{◌≡◌, ℕ, List, Some, None, replicate, sym, ◌∙◌, ap, refl, subst, inl, inr}
+use Rattle.std.proofs.Common.{◌≡◌, ℕ, List, Some, None, replicate, sym, refl, subst}
 use Rattle.std.specs.Prelude.{IsTrue, Option, Result, Ok, Err, codes}
 use Rattle.std.specs.Option.{MatchOption}
 use Rattle.std.specs.FinMap.{get, insert, remove}

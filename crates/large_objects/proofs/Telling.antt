@@ -12,7 +12,7 @@ use Rattle.cf_base.specs.declared.answers.Totals.{Totals}
 use Rattle.cf_base.specs.declared.kind.Kind.{Kind}
 use Rattle.cf_base.specs.declared.kind.Kind.TheVariants.{Moving, NonMoving, Tlsf, HalfFit}
 use Rattle.cf_io.specs.Feeds.{Puts}
-use Rattle.cf_io.specs.Texts.{Reply, led, said}
+use Rattle.cf_io.specs.Texts.{led, said}
 use Rattle.cf_lemmas.proofs.Tests.{le_no, le_yes}
 use Rattle.cf_model.specs.Answers.{totals_in}
 use Rattle.cf_model.specs.State.{HeapState, paging_in}

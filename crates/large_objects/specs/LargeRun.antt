@@ -1,5 +1,5 @@
 -- A session over a heap of large objects, and what each command does there.
-use Rattle.std.specs.Prelude.{◌≡◌, ℕ, IsTrue, ◌+◌, ◌++◌, List, [], Option, Some, None, Result, Ok, Err, codes, length, take, drop, nat_le, if◌then◌else◌}
+use Rattle.std.specs.Prelude.{◌≡◌, ℕ, IsTrue, ◌+◌, ◌++◌, List, Option, Some, None, Result, codes, length, take, drop, nat_le, if◌then◌else◌}
 use Rattle.std.specs.Option.{MatchOption}
 use Rattle.std.specs.FinMap.{get, remove}
 use Rattle.hex.specs.Hex.{encode_lower}
@@ -9,7 +9,6 @@ use Rattle.cf_base.specs.declared.answers.Refusal.{Refusal}
 use Rattle.cf_io.specs.Texts.{Reply, said}
 use Rattle.cf_model.specs.Steps.{Part}
 use Rattle.id_table.specs.Ids.{Ids}
-use Rattle.page_model.specs.Held.{Objects}
 use Rattle.run_model.specs.Replies.{malloc_text, write_text}
 use Rattle.run_model.specs.Reports.{frag_of, walk_of}
 use Rattle.run_model.specs.Steps.{ids_given}

@@ -1,5 +1,5 @@
 -- A session over a heap of large objects, as a player.
-use Rattle.std.specs.Prelude.{◌≡◌, ℕ, true, false, List, Option, codes}
+use Rattle.std.specs.Prelude.{◌≡◌, true, false, List, Option, codes}
 use Rattle.std.specs.FinMap.{empty}
 use Rattle.cf_base.specs.Settings.{Profile, at_bound_one}
 use Rattle.cf_base.specs.declared.kind.Kind.{Kind}

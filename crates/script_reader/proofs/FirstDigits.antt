@@ -1,19 +1,17 @@
 -- The digits that a text begins with.
-use Rattle.std.proofs.Common.{◌≡◌, ◌∙◌, ◌<◌, ◌≤◌, ◌+◌, ◌-◌, ◌*◌, ◌/◌, ◌%◌, ◌^◌, ◌&&◌, ℕ, Bool, true, false, not, List, [], ◌∷◌, Some, length, take, get_or}
+use Rattle.std.proofs.Common.{◌≡◌, ◌∙◌, ◌<◌, ◌≤◌, ◌+◌, ◌-◌, ◌*◌, ◌/◌, ◌%◌, ◌^◌, ℕ, true, List, [], ◌∷◌, Some, length, take, get_or}
 use Rattle.std.proofs.Common.{refl, sym, ap, arith}
 use Rattle.std.proofs.Common.{mod-eq_of_lt, mul_assoc}
 use Rattle.std.proofs.Math.Nat.{add-mul-mod_self_left, div-add-mod, mod-add-mod, pow-le-pow_right}
 use Rattle.std.specs.Char.{digit_value}
 use Rattle.std.specs.List.{list_all}
 use Rattle.std.specs.Str.Parse.{AllDigits, digits_value}
-use Rattle.std.proofs.lemmas.Bool.{and_parts, false≢true}
+use Rattle.std.proofs.lemmas.Bool.{and_parts}
 use Rattle.std.proofs.lemmas.Int.Digits.{digits_value-lt, digits_value_more}
-use Rattle.std.proofs.lemmas.List.{get_or-take, length-take}
-use Rattle.std.proofs.lemmas.List.Folds.{list_all_at, list_all_more}
-use Rattle.std.proofs.lemmas.List.Sums.{position_or_len_is}
+use Rattle.std.proofs.lemmas.List.{length-take}
 use Rattle.std.proofs.lemmas.Str.{digit_value_digit}
 use Rattle.cf_io.proofs.CallerLemmas.{number_spelled}
-use Rattle.cf_io.specs.Numbers.{digits_first, is_digit, number_in}
+use Rattle.cf_io.specs.Numbers.{is_digit, number_in}
 
 digit_from_0 : (c : ℕ) → is_digit c ≡ true → digit_value c + 48 ≡ c
 digit_from_0 c is = digit_value_digit c (grind (arith, is))

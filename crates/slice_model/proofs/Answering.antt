@@ -1,12 +1,12 @@
 -- Each free and each slice has an answer.
-use Rattle.std.proofs.Common.{◌≡◌, ◌≢◌, ℕ, ◌<◌, Option, Some, None, arith, sym, ◌∙◌, ap, refl, subst, inl, inr}
+use Rattle.std.proofs.Common.{◌≡◌, ◌≢◌, ℕ, Option, Some, None, arith, sym, ◌∙◌, ap, refl, subst, inl, inr}
 use Rattle.std.specs.Prelude.{◌⊎◌}
 use Rattle.std.proofs.lemmas.Bool.{cases_eq, cases_lt}
 use Rattle.std.specs.FinMap.{get, insert, remove}
 use Rattle.cf_lemmas.proofs.Maps.{get_remove_other}
 use Rattle.page_model.specs.Arrangement.{IsSound, class_at, not_full_pages, objects_on}
 use Rattle.page_model.specs.Held.{Held, Placed}
-use Rattle.page_model.specs.Paging.{bound_of, page_of, slot_words, slots_of}
+use Rattle.page_model.specs.Paging.{page_of, slot_words}
 use Rattle.page_model.specs.Steps.{Moves}
 use Rattle.page_model.proofs.CallerLemmas.{mover_is_other, on_page}
 use Rattle.slice_model.specs.State.{Plan, IsPlan, JobSlot, Job, Sliced, IsKept, advanced, job_slot, stand_in, with_slot, Idle, Clear, Move}
