@@ -1,8 +1,10 @@
 //! Mode `run`.
 ghost use Rattle.std.specs.Prelude.{◌≡◌, [], map};
+ghost use Rattle.cf_model.specs.State.{closed_state};
 ghost use Rattle.run_model.specs.Sessions.{fresh_session};
 ghost use Rattle.top_call.specs.TopOutcome.{Ends, Runs, handed, sink_at, source_at};
 
+use crate::boxed::Boxed;
 use cf_base::{Kind, Status};
 use cf_io::{Sink, Source};
 use cf_model::Manager;
@@ -42,7 +44,9 @@ pub fn run_chosen<R: Runtime, H: Manager, S: Source, K: Sink>(
     }
 }
 
-/// Answers a script on a closed manager of the kind, which is made for it.
+/// Answers a script on a closed manager of the kind, which is made for it. It stands behind a box, as those
+/// handed in do, so that the code of a session over one that doesn't is the bench's alone, and stands in
+/// its loop.
 fn run_own<S: Source, K: Sink>(
     alloc: Global,
     kind: Kind,
@@ -60,20 +64,48 @@ fn run_own<S: Source, K: Sink>(
 {
     match kind {
         Kind::Moving => {
-            let mut own = MovingHeap::closed(alloc);
-            run_script(session, &mut own, source, sink)
+            let Ok(inner) = Box::new(alloc, MovingHeap::closed(alloc)) else {
+                return Status::OutOfMemory;
+            };
+            run_on(Kind::Moving, &mut Boxed { inner }, session, source, sink)
         }
         Kind::NonMoving => {
-            let mut own = NonMovingHeap::closed(alloc);
-            run_script(session, &mut own, source, sink)
+            let Ok(inner) = Box::new(alloc, NonMovingHeap::closed(alloc)) else {
+                return Status::OutOfMemory;
+            };
+            run_on(Kind::NonMoving, &mut Boxed { inner }, session, source, sink)
         }
         Kind::Tlsf => {
-            let mut own = TlsfHeap::closed(alloc);
-            run_script(session, &mut own, source, sink)
+            let Ok(inner) = Box::new(alloc, TlsfHeap::closed(alloc)) else {
+                return Status::OutOfMemory;
+            };
+            run_on(Kind::Tlsf, &mut Boxed { inner }, session, source, sink)
         }
         Kind::HalfFit => {
-            let mut own = HalfFitHeap::closed(alloc);
-            run_script(session, &mut own, source, sink)
+            let Ok(inner) = Box::new(alloc, HalfFitHeap::closed(alloc)) else {
+                return Status::OutOfMemory;
+            };
+            run_on(Kind::HalfFit, &mut Boxed { inner }, session, source, sink)
         }
     }
+}
+
+/// The same, on a manager of the kind that was never open.
+fn run_on<H: Manager, S: Source, K: Sink>(
+    kind: Kind,
+    heap: &mut H,
+    session: &mut Session,
+    source: &mut S,
+    sink: &mut K,
+) -> Status
+    requires fresh { session.old ≡ fresh_session }
+    requires closed { H.state heap.old ≡ closed_state kind }
+    ensures { Ends (Runs kind)
+        (handed (source_at (S.rest source.old) (S.given source.old) (S.faults source.old))
+        (sink_at (K.written sink.old) (K.faults sink.old)) [])
+        result
+        (handed (source_at (S.rest source.new) (S.given source.new) (S.faults source.new))
+        (sink_at (K.written sink.new) (K.faults sink.new)) []) }
+{
+    run_script(session, heap, source, sink)
 }

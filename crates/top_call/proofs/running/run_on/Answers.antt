@@ -1,0 +1,12 @@
+use Rattle.std.proofs.Common.{refl}
+use Rattle.cf_session.specs.Apply.{run_at}
+use Rattle.top_call.proofs.Playing.{own_ends}
+use Rattle.top_call.proofs.running.run_on.Goals as goal
+
+pub returns : goal.returns
+returns g c =
+    let by = c.run_script.ensures in
+    own_ends c.args.kind _ _ _ _ c.run_script.result
+    (record { silent = by.silent; read_fault = by.read_fault; write_fault = by.write_fault; too_long = by.too_long })
+    c.args.session.now (run_at c.run_script.new.session (g.H.Manager.state c.run_script.new.heap)) c.requires.fresh (g.H.Manager.state c.args.heap.now)
+    c.requires.closed by.outcome
