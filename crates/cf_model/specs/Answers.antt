@@ -11,6 +11,7 @@ use Rattle.page_model.specs.Frames.{block_of}
 use Rattle.page_model.specs.Image.{slot_for}
 use Rattle.page_model.specs.Paging.{classes}
 use Rattle.block_model.specs.Tiling.{used_words, used_blocks, free_blocks, largest_free}
+use Rattle.cf_model.specs.declared.usage.Usage.{Usage}
 use Rattle.cf_model.specs.Families.{paged, tiled, family_of}
 use Rattle.cf_model.specs.State.{HeapState, paging_in, region_words}
 
@@ -53,6 +54,13 @@ block_totals s = record {
 -- the figures of the whole heap
 abbrev pub totals_in : Kind → HeapState → Totals
 totals_in kind s = elim (family_of kind) [ paged ↦ totals_of (paging_in s) s.held | tiled ↦ block_totals s ]
+
+-- what a heap uses, of its figures
+abbrev pub usage_of : Totals → Usage
+usage_of t = record { asked = t.asked; taken = t.taken; held = t.held }
+
+abbrev pub usage_in : Kind → HeapState → Usage
+usage_in kind s = usage_of (totals_in kind s)
 
 -- the class whose slots have so many words
 abbrev pub class_with : Kind → HeapState → ℕ → Option ℕ

@@ -5,6 +5,8 @@
 pub mod laws;
 mod manager;
 mod opening;
+mod usage;
 
 pub use manager::Manager;
 pub use opening::open_all;
+pub use usage::Usage;

@@ -1,7 +1,7 @@
 //! The interface of the managers.
 ghost use Rattle.std.specs.Prelude.{◌≡◌, ◌+◌, ◌^◌, ◌≤◌, IsTrue, OnOk, OnErr, is_some, length, slice_get};
 ghost use Rattle.std.specs.FinMap as map;
-ghost use Rattle.cf_model.specs.Answers.{place_of, block_in, classes_in, figures_in, totals_in, class_with, bound_put};
+ghost use Rattle.cf_model.specs.Answers.{place_of, block_in, classes_in, figures_in, totals_in, usage_in, class_with, bound_put};
 ghost use Rattle.cf_model.specs.Costs.{TakesAtMost, free_bound, resize_bound, access_bound, TellsCost};
 ghost use Rattle.cf_model.specs.Rules.{KeepsRules};
 ghost use Rattle.cf_model.specs.State.{HeapState};
@@ -17,6 +17,7 @@ ghost use Rattle.cf_model.specs.Steps.{
   BlocksStayIn,
 };
 
+use crate::usage::Usage;
 use cf_base::{
     AccessFault, Figures, Freed, Handle, Kind, NotLive, OutOfMemory, Refusal, ResizeFault, Resized,
     Settings, Totals,
@@ -156,11 +157,27 @@ pub trait Manager: Drop {
         requires { IsTrue (state self.now).is_open }
         ensures { result ≡ figures_in (state self.now) c };
 
-    /// The figures of the whole heap.
+    /// The figures of the whole heap. With blocks it takes time linear in the free blocks, since it looks
+    /// for the largest one; `usage` doesn't.
     fn totals(&self, steps: &mut Steps) -> Totals
         requires { IsTrue (state self.now).is_open }
         ensures value { result ≡ totals_in (state self.now).kind (state self.now) }
         ensures rises { steps.old ≤ steps.new };
+
+    /// What the heap uses: three of its figures. It takes constant time: with pages `totals` does too,
+    /// and a manager with blocks has a body of its own.
+    fn usage(&self, steps: &mut Steps) -> Usage
+        requires { IsTrue (state self.now).is_open }
+        ensures value { result ≡ usage_in (state self.now).kind (state self.now) }
+        ensures rises { steps.old ≤ steps.new }
+    {
+        let totals = self.totals(steps);
+        Usage {
+            asked: totals.asked,
+            taken: totals.taken,
+            held: totals.held,
+        }
+    }
 
     /// By how much the last malloc or free since the opening, refused or not, raised the count of its
     /// ledger, with pages also the last resize; 0 before the first one.

@@ -3,3 +3,4 @@ pub mod Chains
 pub mod Rings
 pub mod Views
 pub mod CallerLemmas
+pub mod Pairs

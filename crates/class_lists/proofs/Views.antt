@@ -138,8 +138,8 @@ module _ (next previous lens : List ℕ) (pages : ℕ) (s : IsValid next previou
         go (x ∷ xs) ranged l = absurd (let e : first ≡ x = follower first read ∙ l.0 in let below : x < pages = ranged x (contains_head x xs) in omega arith)
 
     -- what the length says
-    pub counted : (len : ℕ) → len ≡ get_or lens k len → len ≡ length (pages_in v c w)
-    counted len read = get_or_read lens k len within read 0 ∙ s.linked.counted k within ∙ ap length (sym list_k)
+    pub counted : (len : ℕ) → len ≡ get_or lens k 0 → len ≡ length (pages_in v c w)
+    counted len read = read ∙ s.linked.counted k within ∙ ap length (sym list_k)
 
     pub follower_within : (first : ℕ) → first ≡ get_or next (pages + k) first → first < length next
     follower_within first read = rw (follower first read) (first_within next previous lens pages _ k within s.linked s.disjoint s.nodes s.backed)
@@ -186,12 +186,12 @@ module _ (next previous lens : List ℕ) (pages : ℕ) (s : IsValid next previou
           (λ q h. elim (contains_cases q p (pages_in v c w) h) [ inl is ↦ rw is below | inr in' ↦ rw pages_are at (apart.page c w q in') ]) in
           omega arith
 
-      pub pushed : (first len : ℕ) (next' previous' lens' : List ℕ) → first ≡ get_or next (pages + k) first → len ≡ get_or lens k len
+      pub pushed : (first len : ℕ) (next' previous' lens' : List ℕ) → first ≡ get_or next (pages + k) first → len ≡ get_or lens k 0
           → next' ≡ set (set next (pages + k) p) p first → previous' ≡ set (set previous p (pages + k)) first p → lens' ≡ set lens k (len + 1)
           → Changes next' previous' lens' pages v c w (p ∷ pages_in v c w)
       pushed first len next' previous' lens' reads counts n b m =
           let is = follower first reads in
-          let more : len + 1 ≡ get_or lens k 0 + 1 = ap (λ q. q + 1) (get_or_read lens k len within counts 0) in
+          let more : len + 1 ≡ get_or lens k 0 + 1 = ap (λ q. q + 1) counts in
           let linked : AreRings next' previous' lens' pages (set (chains next pages lens) k (p ∷ list_at (chains next pages lens) k)) =
           rw (n, b, m) (push_linked next previous lens pages _ k within s.linked s.disjoint s.nodes s.backed p first (len + 1) below unlisted (sym is) more) in
           changed next' previous' lens' (p ∷ list_at (chains next pages lens) k) (p ∷ pages_in v c w) (ap (λ xs. p ∷ xs) (sym list_k))
@@ -232,11 +232,11 @@ module _ (next previous lens : List ℕ) (pages : ℕ) (s : IsValid next previou
         pub after_inside : after < length next
         after_inside = after_within next previous lens pages _ k within s.linked s.disjoint s.nodes s.backed p before after at_list at_before at_after
 
-        pub unlinked : (len : ℕ) (next' previous' lens' : List ℕ) → len ≡ get_or lens k len
+        pub unlinked : (len : ℕ) (next' previous' lens' : List ℕ) → len ≡ get_or lens k 0
             → next' ≡ set next before after → previous' ≡ set previous after before → lens' ≡ set lens k (len - 1)
             → Changes next' previous' lens' pages v c w (without_page p (pages_in v c w))
         unlinked len next' previous' lens' counts n r m =
-            let fewer : len - 1 ≡ get_or lens k 0 - 1 = ap (λ q. q - 1) (get_or_read lens k len within counts 0) in
+            let fewer : len - 1 ≡ get_or lens k 0 - 1 = ap (λ q. q - 1) counts in
             let linked : AreRings next' previous' lens' pages (set (chains next pages lens) k (without_page p (list_at (chains next pages lens) k))) =
             rw (n, r, m) (unlink_linked next previous lens pages _ k within s.linked s.disjoint s.nodes s.backed p before after at_list at_before at_after
             (len - 1) fewer) in

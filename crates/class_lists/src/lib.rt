@@ -1,12 +1,16 @@
 //! The pages of each class, full and partly full, in lists that a page joins and leaves at once.
 #![tactic(auto)]
 
-ghost use Rattle.std.specs.Prelude.{◌≡◌, ◌+◌, ◌*◌, ◌<◌, ◌^◌, ◌↔◌, [], ◌∷◌, IfOk, IfSome, IsNone, length, slice_get, slice_set, vec_len};
+ghost use Rattle.std.specs.Prelude.{◌≡◌, ◌+◌, ◌*◌, ◌<◌, ◌^◌, ◌↔◌, [], ◌∷◌, IfOk, IfSome, IsNone, length, slice_get, slice_set};
 ghost use Rattle.std.specs.List.{Contains, range_with_len};
-ghost use Rattle.step_ledger.specs.Counting.{RoseBetween, RoseBy};
+ghost use Rattle.step_ledger.specs.Counting.{RoseBy};
 ghost use Rattle.class_lists.specs.PageLists.{AreApart, AreEmpty, IsUnlisted, KeepsOthers, empty_lists, list_number, pages_in, with_list, without_page};
 
+mod counts;
+
 use cf_base::{OutOfMemory, numbers_below};
+use counted_cells::Cells;
+use counts::Counts;
 use std::alloc::{AllocError, Global};
 use std::marker::Model;
 use step_ledger::Steps;
@@ -25,15 +29,15 @@ pub enum Which {
 pub struct ClassLists {
     // Each list is a ring through a node of its own, after those of the pages.
     links: Links,
-    lens: Vec<u32>,
+    lens: Counts,
     pages: u32,
 }
 
 /// For each node the next and the previous one on its ring.
 #[derive(Drop)]
 struct Links {
-    next: Vec<u32>,
-    previous: Vec<u32>,
+    next: Cells<u32>,
+    previous: Cells<u32>,
 }
 
 impl Model for ClassLists {
@@ -45,9 +49,9 @@ impl Model for ClassLists {
 
     ghost use Rattle.class_lists.specs.Layout.{lists_of, IsValid};
 
-    ghost view = { λ l. lists_of l.links.next.items l.lens.items l.pages };
+    ghost view = { λ l. lists_of l.links.next l.lens l.pages };
 
-    ghost invariant = { λ l. IsValid l.links.next.items l.links.previous.items l.lens.items l.pages };
+    ghost invariant = { λ l. IsValid l.links.next l.links.previous l.lens l.pages };
 }
 
 impl ClassLists {
@@ -58,14 +62,13 @@ impl ClassLists {
         ensures empty { IfOk result AreEmpty }
         ensures kept { IfOk result AreApart }
     {
-        let lists = 2 * u64::from(classes);
-        let Ok(nodes) = u32::try_from(u64::from(pages) + lists) else {
+        let Ok(nodes) = u32::try_from(u64::from(pages) + 2 * u64::from(classes)) else {
             return Err(OutOfMemory);
         };
         let Ok(links) = Links::new(alloc, nodes) else {
             return Err(OutOfMemory);
         };
-        let Ok(lens) = vec![in alloc; 0; lists as usize] else {
+        let Ok(lens) = Counts::new(alloc, classes) else {
             return Err(OutOfMemory);
         };
         Ok(ClassLists { links, lens, pages })
@@ -80,9 +83,8 @@ impl ClassLists {
         ensures kept { AreApart self.now }
         ensures steps { RoseBy steps.old steps.new 1 }
     {
-        steps.tick(1);
         let node = self.pages + number_of(c, which);
-        let first = self.links.next[node as usize];
+        let first = self.links.next.get(node as usize, steps);
         if first < self.pages {
             Some(first)
         } else {
@@ -96,7 +98,7 @@ impl ClassLists {
         ensures len { result ≡ length (pages_in self.now c which) }
         ensures kept { AreApart self.now }
     {
-        self.lens[number_of(c, which) as usize]
+        self.lens.of(c, which)
     }
 
     /// Makes a page that is in no list the head of this one.
@@ -108,15 +110,16 @@ impl ClassLists {
         ensures list { pages_in self.new c which ≡ page ∷ pages_in self.old c which }
         ensures others { KeepsOthers self.old self.new c which }
         ensures kept { AreApart self.new }
-        ensures steps { RoseBetween steps.old steps.new 1 4 }
+        ensures steps { RoseBy steps.old steps.new 4 }
     {
         let pages = self.pages;
         let list = number_of(c, which);
         let node = pages + list;
-        let first = self.links.next[node as usize];
-        self.links.join(node, page, steps);
+        let first = self.links.next.replace(node as usize, page, steps);
+        self.links.previous.set(page as usize, node, steps);
         self.links.join(page, first, steps);
-        self.lens[list as usize] += 1;
+        let len = self.lens.of(c, which);
+        self.lens.put(c, which, len + 1);
     }
 
     /// Takes a page out of its list, wherever it stands there.
@@ -130,38 +133,38 @@ impl ClassLists {
         ensures unlisted { IsUnlisted self.new page }
         ensures others { KeepsOthers self.old self.new c which }
         ensures kept { AreApart self.new }
-        ensures steps { RoseBetween steps.old steps.new 1 4 }
+        ensures steps { RoseBy steps.old steps.new 4 }
     {
-        let before = self.links.previous[page as usize];
-        let after = self.links.next[page as usize];
+        let before = self.links.previous.get(page as usize, steps);
+        let after = self.links.next.get(page as usize, steps);
         self.links.join(before, after, steps);
-        self.lens[number_of(c, which) as usize] -= 1;
+        let len = self.lens.of(c, which);
+        self.lens.put(c, which, len - 1);
     }
 }
 
 impl Links {
     /// Nodes that each are a ring of their own.
     fn new(alloc: Global, nodes: u32) -> Result<Links, AllocError>
-        ensures next { IfOk result (λ links. links.next.items ≡ range_with_len 0 nodes) }
-        ensures previous { IfOk result (λ links. links.previous.items ≡ range_with_len 0 nodes) }
+        ensures next { IfOk result (λ links. links.next ≡ range_with_len 0 nodes) }
+        ensures previous { IfOk result (λ links. links.previous ≡ range_with_len 0 nodes) }
     {
         Ok(Links {
-            next: numbers_below(alloc, nodes)?,
-            previous: numbers_below(alloc, nodes)?,
+            next: Cells::new(numbers_below(alloc, nodes)?),
+            previous: Cells::new(numbers_below(alloc, nodes)?),
         })
     }
 
     /// Lets one node be followed by another.
     fn join(&mut self, before: u32, after: u32, steps: &mut Steps)
-        requires before { before < vec_len self.old.next }
-        requires after { after < vec_len self.old.previous }
-        ensures next { self.new.next.items ≡ slice_set self.old.next.items before after }
-        ensures previous { self.new.previous.items ≡ slice_set self.old.previous.items after before }
-        ensures steps { RoseBetween steps.old steps.new 1 2 }
+        requires before { before < length self.old.next }
+        requires after { after < length self.old.previous }
+        ensures next { self.new.next ≡ slice_set self.old.next before after }
+        ensures previous { self.new.previous ≡ slice_set self.old.previous after before }
+        ensures steps { RoseBy steps.old steps.new 2 }
     {
-        steps.tick(2);
-        self.next[before as usize] = after;
-        self.previous[after as usize] = before;
+        self.next.set(before as usize, after, steps);
+        self.previous.set(after as usize, before, steps);
     }
 }
 
@@ -175,3 +178,6 @@ fn number_of(c: u32, which: Which) -> u32
         Which::NotFull => 2 * c + 1,
     }
 }
+
+#[cfg(test)]
+mod tests;

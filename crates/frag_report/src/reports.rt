@@ -1,14 +1,15 @@
 //! The reports on a heap.
-ghost use Rattle.std.specs.Prelude.{◌≡◌, ◌<◌, ◌≤◌, ◌++◌, IsTrue, OnErr, length};
+ghost use Rattle.std.specs.Prelude.{◌≡◌, ◌<◌, ◌≤◌, ◌++◌, IsTrue, OnErr, length, OnOk};
 ghost use Rattle.cf_io.specs.Feeds.{Rose, Puts};
-ghost use Rattle.cf_model.specs.Answers.{classes_in, totals_in};
+ghost use Rattle.cf_base.specs.declared.answers.Totals.{Totals};
+ghost use Rattle.cf_model.specs.Answers.{classes_in, totals_in, usage_of};
 ghost use Rattle.frag_report.specs.Classes.{classes_below, class_if_live};
 ghost use Rattle.run_model.specs.Reports.{blocks_line, class_line, frag_line as frag_text, frag_of, pages_report, total_line, walk_of};
 ghost use Rattle.run_model.specs.Texts.{led, said};
 
 use cf_base::{Failed, Figures, Kind, Totals};
 use cf_io::{Line, Sink, begin_line, push_field, put_line};
-use cf_model::Manager;
+use cf_model::{Manager, Usage};
 use step_ledger::Steps;
 
 /// Writes the report on classes and pages, or on blocks: each of its lines after the lead, built in
@@ -27,6 +28,7 @@ pub fn walk_lines<H: Manager, K: Sink>(
         (led lead.now (walk_of (H.state heap.now).kind (H.state heap.now)))
         result (K.written out.new) }
     ensures grows { K.faults out.old ≤ K.faults out.new }
+    ensures same { OnOk result (K.faults out.new ≡ K.faults out.old) }
     ensures failed { OnErr result (Rose (K.faults out.old) (K.faults out.new)) }
     ensures rises { steps.old ≤ steps.new }
 {
@@ -51,11 +53,12 @@ pub fn frag_line<H: Manager, K: Sink>(
     ensures puts { Puts (K.written out.old) (led lead.now (frag_of (H.state heap.now)))
         result (K.written out.new) }
     ensures grows { K.faults out.old ≤ K.faults out.new }
+    ensures same { OnOk result (K.faults out.new ≡ K.faults out.old) }
     ensures failed { OnErr result (Rose (K.faults out.old) (K.faults out.new)) }
     ensures rises { steps.old ≤ steps.new }
 {
-    let totals = heap.totals(steps);
-    put_frag(&totals, lead, line, out)
+    let usage = heap.usage(steps);
+    put_frag(&usage, lead, line, out)
 }
 
 /// Puts the report on classes and pages.
@@ -72,6 +75,7 @@ fn put_pages<H: Manager, K: Sink>(
     ensures puts { Puts (K.written out.old) (led lead.now (pages_report (H.state heap.now)))
         result (K.written out.new) }
     ensures grows { K.faults out.old ≤ K.faults out.new }
+    ensures same { OnOk result (K.faults out.new ≡ K.faults out.old) }
     ensures failed { OnErr result (Rose (K.faults out.old) (K.faults out.new)) }
 {
     match put_classes(heap, lead, line, out) {
@@ -93,6 +97,7 @@ fn put_classes<H: Manager, K: Sink>(
         (led lead.now (classes_below (H.state heap.now) (classes_in (H.state heap.now).kind (H.state heap.now))))
         result (K.written out.new) }
     ensures grows { K.faults out.old ≤ K.faults out.new }
+    ensures same { OnOk result (K.faults out.new ≡ K.faults out.old) }
     ensures failed { OnErr result (Rose (K.faults out.old) (K.faults out.new)) }
 {
     for c in 0..heap.classes() {
@@ -118,6 +123,7 @@ fn put_if_live<H: Manager, K: Sink>(
     ensures puts { Puts (K.written out.old) (led lead.now (class_if_live (H.state heap.now) c))
         result (K.written out.new) }
     ensures grows { K.faults out.old ≤ K.faults out.new }
+    ensures same { OnOk result (K.faults out.new ≡ K.faults out.old) }
     ensures failed { OnErr result (Rose (K.faults out.old) (K.faults out.new)) }
 {
     match heap.figures(c) {
@@ -137,6 +143,7 @@ fn put_class<K: Sink>(
     ensures puts { Puts (K.written out.old) (led lead.now (said (class_line figures.now)))
         result (K.written out.new) }
     ensures grows { K.faults out.old ≤ K.faults out.new }
+    ensures same { OnOk result (K.faults out.new ≡ K.faults out.old) }
     ensures failed { OnErr result (Rose (K.faults out.old) (K.faults out.new)) }
 {
     begin_line(line, lead);
@@ -159,6 +166,7 @@ fn put_total<K: Sink>(
     ensures puts { Puts (K.written out.old) (led lead.now (said (total_line totals.now)))
         result (K.written out.new) }
     ensures grows { K.faults out.old ≤ K.faults out.new }
+    ensures same { OnOk result (K.faults out.new ≡ K.faults out.old) }
     ensures failed { OnErr result (Rose (K.faults out.old) (K.faults out.new)) }
 {
     begin_line(line, lead);
@@ -179,6 +187,7 @@ fn put_blocks<K: Sink>(
     ensures puts { Puts (K.written out.old) (led lead.now (said (blocks_line totals.now)))
         result (K.written out.new) }
     ensures grows { K.faults out.old ≤ K.faults out.new }
+    ensures same { OnOk result (K.faults out.new ≡ K.faults out.old) }
     ensures failed { OnErr result (Rose (K.faults out.old) (K.faults out.new)) }
 {
     begin_line(line, lead);
@@ -189,21 +198,17 @@ fn put_blocks<K: Sink>(
 }
 
 /// Puts the report on the bytes asked for, taken and held.
-fn put_frag<K: Sink>(
-    totals: &Totals,
-    lead: &[u8],
-    line: &mut Line,
-    out: &mut K,
-) -> Result<(), Failed>
+fn put_frag<K: Sink>(usage: &Usage, lead: &[u8], line: &mut Line, out: &mut K) -> Result<(), Failed>
     requires { length lead.now ≤ 8 }
-    ensures puts { Puts (K.written out.old) (led lead.now (said (frag_text totals.now)))
-        result (K.written out.new) }
+    ensures puts { (totals : Totals) → usage_of totals ≡ usage.now
+        → Puts (K.written out.old) (led lead.now (said (frag_text totals))) result (K.written out.new) }
     ensures grows { K.faults out.old ≤ K.faults out.new }
+    ensures same { OnOk result (K.faults out.new ≡ K.faults out.old) }
     ensures failed { OnErr result (Rose (K.faults out.old) (K.faults out.new)) }
 {
     begin_line(line, lead);
-    push_field(line, b"frag asked ", totals.asked);
-    push_field(line, b" taken ", totals.taken);
-    push_field(line, b" held ", totals.held);
+    push_field(line, b"frag asked ", usage.asked);
+    push_field(line, b" taken ", usage.taken);
+    push_field(line, b" held ", usage.held);
     put_line(line, out)
 }

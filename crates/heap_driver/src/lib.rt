@@ -5,12 +5,14 @@
 
 mod bounds;
 mod compare;
+mod costs;
 mod driver;
 mod failures;
 mod line;
 mod random_run;
 mod rows;
 
+pub use costs::{Call, first_with_other_steps, steps_of};
 pub use driver::Driver;
 pub use failures::{RowFailure, RunFailure};
 pub use random_run::{Bounds, RandomRun};

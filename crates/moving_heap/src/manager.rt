@@ -1,10 +1,13 @@
 //! The heap that a caller holds: closed, or open.
-ghost use Rattle.std.specs.Prelude.{◌≡◌, ℕ, ◌<◌, List, IsTrue, option_copied, option_map};
+ghost use Rattle.std.specs.Prelude.{◌≡◌, ◌+◌, ◌^◌, ◌≤◌, ℕ, ◌<◌, List, IsTrue, option_copied, option_map};
 ghost use Rattle.page_model.specs.Arrangement.{home_pages, not_full_pages, free_pages};
 ghost use Rattle.cf_base.specs.declared.kind.Kind.TheVariants.{Moving};
 ghost use Rattle.cf_model.specs.Answers.{classes_in};
+ghost use Rattle.cf_model.specs.Costs.{TakesAtMost, free_bound};
 ghost use Rattle.cf_model.specs.Rules.{KeepsRules};
+ghost use Rattle.cf_model.specs.Steps.{BlocksStayIn, IsFreeStep, IsMallocStep, StaysOpen};
 ghost use Rattle.cf_model.specs.State.{closed_state, paging_in};
+ghost use Rattle.paged_heap.specs.Costs.{free_steps, malloc_steps};
 ghost use Rattle.std.specs.Borrow.{sem};
 ghost use Rattle.step_ledger.specs.Counting.{RoseAtMost};
 ghost use Rattle.paged_heap.specs.Layout.{Holds, state_at};
@@ -72,14 +75,33 @@ impl Manager for MovingHeap {
         Ok(())
     }
 
-    fn malloc(&mut self, bytes: u32, steps: &mut Steps) -> Result<Handle, Refusal> {
+    fn malloc(&mut self, bytes: u32, steps: &mut Steps) -> Result<Handle, Refusal>
+        requires open { IsTrue self.old.is_open }
+        requires room { steps.old ≤ 2 ^ 63 }
+        ensures same { StaysOpen self.old self.new }
+        ensures step { IsMallocStep self.old bytes result self.new }
+        ensures rules { KeepsRules self.new }
+        ensures bound { TakesAtMost self.old.kind steps.old steps.new 64 }
+        ensures told { steps.new ≡ steps.old + self.new.cost }
+        ensures steps { RoseAtMost steps.old steps.new (malloc_steps Moving) }
+    {
         match &mut self.inner {
             Some(open) => open.malloc::<Direct>(bytes, steps),
             None => unreachable!(),
         }
     }
 
-    fn free(&mut self, h: Handle, steps: &mut Steps) -> Result<Freed, NotLive> {
+    fn free(&mut self, h: Handle, steps: &mut Steps) -> Result<Freed, NotLive>
+        requires open { IsTrue self.old.is_open }
+        requires room { steps.old ≤ 2 ^ 63 }
+        ensures same { StaysOpen self.old self.new }
+        ensures step { IsFreeStep self.old h.0 result self.new }
+        ensures rules { KeepsRules self.new }
+        ensures bound { TakesAtMost self.old.kind steps.old steps.new (free_bound result) }
+        ensures told { steps.new ≡ steps.old + self.new.cost }
+        ensures blocks { BlocksStayIn self.old.kind self.old h.0 self.new }
+        ensures steps { RoseAtMost steps.old steps.new (free_steps Moving result) }
+    {
         match &mut self.inner {
             Some(open) => open.free::<Direct>(h, steps),
             None => unreachable!(),

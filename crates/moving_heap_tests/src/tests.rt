@@ -1,3 +1,4 @@
 mod calls;
+mod costs;
 mod example;
 mod words;

@@ -1,9 +1,13 @@
 //! The heap that a caller holds: closed, or open.
-ghost use Rattle.std.specs.Prelude.{◌≡◌, ◌<◌, ◌≤◌, [], IfOk, IsTrue};
+ghost use Rattle.std.specs.Prelude.{◌≡◌, ◌+◌, ◌^◌, ◌<◌, ◌≤◌, [], IfOk, IsTrue};
 ghost use Rattle.page_model.specs.Arrangement.{home_pages, not_full_pages, free_pages};
 ghost use Rattle.cf_base.specs.declared.kind.Kind.TheVariants.{NonMoving};
 ghost use Rattle.cf_model.specs.Answers.{classes_in};
-ghost use Rattle.cf_model.specs.Steps.{IsEmptyHeap};
+ghost use Rattle.cf_model.specs.Costs.{TakesAtMost, free_bound};
+ghost use Rattle.cf_model.specs.Rules.{KeepsRules};
+ghost use Rattle.paged_heap.specs.Costs.{free_steps, malloc_steps};
+ghost use Rattle.step_ledger.specs.Counting.{RoseAtMost};
+ghost use Rattle.cf_model.specs.Steps.{BlocksStayIn, IsEmptyHeap, IsFreeStep, IsMallocStep, StaysOpen};
 ghost use Rattle.cf_model.specs.State.{closed_state, paging_in};
 ghost use Rattle.page_model.specs.Frames.{block_of};
 ghost use Rattle.cf_model.specs.Answers.{block_in};
@@ -73,14 +77,33 @@ impl Manager for NonMovingHeap {
         Ok(())
     }
 
-    fn malloc(&mut self, bytes: u32, steps: &mut Steps) -> Result<Handle, Refusal> {
+    fn malloc(&mut self, bytes: u32, steps: &mut Steps) -> Result<Handle, Refusal>
+        requires open { IsTrue self.old.state.is_open }
+        requires room { steps.old ≤ 2 ^ 63 }
+        ensures same { StaysOpen self.old.state self.new.state }
+        ensures step { IsMallocStep self.old.state bytes result self.new.state }
+        ensures rules { KeepsRules self.new.state }
+        ensures bound { TakesAtMost self.old.state.kind steps.old steps.new 64 }
+        ensures told { steps.new ≡ steps.old + self.new.state.cost }
+        ensures steps { RoseAtMost steps.old steps.new (malloc_steps NonMoving) }
+    {
         match &mut self.inner {
             Some(open) => open.malloc::<Mapped>(bytes, steps),
             None => unreachable!(),
         }
     }
 
-    fn free(&mut self, h: Handle, steps: &mut Steps) -> Result<Freed, NotLive> {
+    fn free(&mut self, h: Handle, steps: &mut Steps) -> Result<Freed, NotLive>
+        requires open { IsTrue self.old.state.is_open }
+        requires room { steps.old ≤ 2 ^ 63 }
+        ensures same { StaysOpen self.old.state self.new.state }
+        ensures step { IsFreeStep self.old.state h.0 result self.new.state }
+        ensures rules { KeepsRules self.new.state }
+        ensures bound { TakesAtMost self.old.state.kind steps.old steps.new (free_bound result) }
+        ensures told { steps.new ≡ steps.old + self.new.state.cost }
+        ensures blocks { BlocksStayIn self.old.state.kind self.old.state h.0 self.new.state }
+        ensures steps { RoseAtMost steps.old steps.new (free_steps NonMoving result) }
+    {
         match &mut self.inner {
             Some(open) => open.free::<Mapped>(h, steps),
             None => unreachable!(),

@@ -28,3 +28,5 @@ pub use Rattle.page_model.proofs.Adding.{len-objects, live_added, live_taken, ta
 pub use Rattle.page_model.proofs.ResizedWords.{image_after_change, image_after_change_and_move}
 pub use Rattle.page_model.proofs.Reading.{bytes_of_held, bytes_long, byte_is}
 pub use Rattle.page_model.proofs.Enough.{ceil_mono}
+pub use Rattle.page_model.proofs.Following.{free_once, malloc_once, next_once}
+pub use Rattle.page_model.proofs.ImageSteps.{image_unique}

@@ -23,4 +23,6 @@ pub mod BlockSteps
 pub mod Adding
 pub mod ResizedWords
 pub mod Enough
+pub mod Following
+pub mod GoingOn
 pub mod CallerLemmas

@@ -7,3 +7,4 @@ pub mod Image
 pub mod Bytes
 pub mod Figures
 pub mod Frames
+pub mod Order

@@ -7,6 +7,7 @@ mod blocks;
 mod classes;
 mod counts;
 mod figures;
+mod order;
 mod room;
 mod soundness;
 mod words;
@@ -25,6 +26,7 @@ pub use counts::{
 pub use figures::{
     figures_where_an_object_comes, figures_where_an_object_goes, pages_and_objects_add_up,
 };
+pub use order::{a_malloc_can_follow_an_order, an_order_leaves_no_choice};
 pub use room::{
     lack_of_room_is_arithmetic_at_bound_one, lack_of_room_is_no_page_left,
     objects_need_no_more_pages, pages_are_those_needed_at_bound_one, pages_where_room_is_lacking,

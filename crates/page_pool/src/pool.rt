@@ -4,6 +4,7 @@ ghost use Rattle.step_ledger.specs.Counting.{RoseBy};
 ghost use Rattle.page_pool.specs.Pool.{is_in_pool, IsPool, TakesFront};
 
 use cf_base::{OutOfMemory, numbers_below};
+use counted_cells::Cells;
 use std::alloc::Global;
 use std::marker::Model;
 use step_ledger::Steps;
@@ -11,7 +12,7 @@ use step_ledger::Steps;
 /// The free ones of so many pages. The page that was given last is taken first.
 #[derive(Drop)]
 pub struct PagePool {
-    stack: Vec<u32>,
+    stack: Cells<u32>,
     first: usize,
 }
 
@@ -23,9 +24,9 @@ impl Model for PagePool {
 
     ghost coded = { pool_code };
 
-    ghost view = { λ p. pool_of p.stack.items p.first };
+    ghost view = { λ p. pool_of p.stack p.first };
 
-    ghost invariant = { λ p. IsValid p.stack.items p.first };
+    ghost invariant = { λ p. IsValid p.stack p.first };
 }
 
 impl PagePool {
@@ -35,7 +36,10 @@ impl PagePool {
         ensures kept { IfOk result (λ p. IsPool p) }
     {
         match numbers_below(alloc, n) {
-            Ok(stack) => Ok(PagePool { stack, first: 0 }),
+            Ok(pages) => Ok(PagePool {
+                stack: Cells::new(pages),
+                first: 0,
+            }),
             Err(_) => Err(OutOfMemory),
         }
     }
@@ -54,11 +58,11 @@ impl PagePool {
         ensures steps { RoseBy steps.old steps.new 1 }
         ensures kept { IsPool self.new }
     {
-        steps.tick(1);
         if self.first == self.stack.len() {
+            steps.tick(1); // the look that finds none
             return None;
         }
-        let page = self.stack[self.first];
+        let page = self.stack.get(self.first, steps);
         self.first += 1;
         Some(page)
     }
@@ -71,8 +75,10 @@ impl PagePool {
         ensures steps { RoseBy steps.old steps.new 1 }
         ensures kept { IsPool self.new }
     {
-        steps.tick(1);
         self.first -= 1;
-        self.stack[self.first] = page;
+        self.stack.set(self.first, page, steps);
     }
 }
+
+#[cfg(test)]
+mod tests;

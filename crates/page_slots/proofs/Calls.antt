@@ -1,21 +1,24 @@
 -- What the bodies of the calls need to know of the tables.
-use Rattle.std.proofs.Common.{◌≡◌, ◌≢◌, ℕ, Bool, true, false, not, ◌+◌, ◌*◌, ◌^◌, ◌<◌, ◌≤◌, List, [], ◌∷◌, length, get_or, set, replicate, Some, None, arith}
+use Rattle.std.proofs.Common.{◌≡◌, ◌≢◌, ℕ, Bool, true, false, not, ◌+◌, ◌*◌, ◌^◌, ◌<◌, ◌≤◌, List, [], ◌∷◌, length, drop, get_or, set, replicate, Some, None, arith, inl, inr}
 use Rattle.std.proofs.Common.{refl, sym, ◌∙◌, ap, subst}
-use Rattle.std.specs.Prelude.{slice_get, is_some}
+use Rattle.std.specs.Prelude.{slice_get, if◌then◌else◌, is_some, nat_eq}
 use Rattle.std.specs.List.{Contains, position}
-use Rattle.std.proofs.lemmas.Bool.{false≢true}
-use Rattle.std.proofs.lemmas.List.{get_or_default, get_or-set_same}
+use Rattle.std.proofs.lemmas.Bool.{cases_eq, cases_lt, false≢true}
+use Rattle.std.proofs.lemmas.List.{get_or_default, get_or-set_same, length-set}
 use Rattle.std.proofs.lemmas.Nat.{mul-le}
 use Rattle.std.proofs.lemmas.Option.{slice_get_within}
-use Rattle.slot_bitmap.proofs.CallerLemmas.{some_free, some_used}
+use Rattle.cf_lemmas.proofs.Tests.{eq_no, eq_yes}
+use Rattle.slot_bitmap.proofs.CallerLemmas.{count-set, count-unset, some_free, some_used}
+use Rattle.step_ledger.specs.Counting.{RoseBy}
 use Rattle.size_classes.specs.Table.{ClassTable}
 use Rattle.class_lists.specs.declared.Which.{Which}
 use Rattle.class_lists.specs.declared.Which.TheVariants.{Full, NotFull}
 use Rattle.class_lists.specs.PageLists.{PageLists, IsUnlisted, pages_in}
 use Rattle.page_pool.specs.Pool.{Pool, TakesFront, is_in_pool}
 use Rattle.page_slots.specs.Tables.{Tables, AreTables, IsOf, IsPageOf, JoinsList, slots_in, slots_on, tables, used_in}
-use Rattle.page_slots.specs.Freeing.{HasUsedSlot}
-use Rattle.page_slots.specs.Taking.{FillsPage, TakesOnOpenPage, TakesOnFreePage}
+use Rattle.page_model.specs.Order.{drop_steps}
+use Rattle.page_slots.specs.Freeing.{HasUsedSlot, steps_to_vacate}
+use Rattle.page_slots.specs.Taking.{FillsPage, TakesOnOpenPage, TakesOnFreePage, steps_to_take}
 use Rattle.page_slots.proofs.Pages.{placed_in, listed_page, listed_class, of_list}
 use Rattle.page_slots.proofs.TablesAfterTake.{front_listed, pool_front}
 
@@ -25,6 +28,11 @@ finds_free xs some none = false≢true (ap is_some none ∙ some_free xs some)
 
 pub finds_used : (xs : List Bool) → 0 < used_in xs → None ≡ position (λ used. used) xs → ⊥
 finds_used xs some none = false≢true (ap is_some none ∙ some_used xs some)
+
+-- a list and its head
+pub front_is : (xs : List ℕ) (page : ℕ) → slice_get xs 0 ≡ Some page → xs ≡ page ∷ drop 1 xs
+front_is [] page e = absurd (let lt = slice_get_within [] 0 page e in omega arith)
+front_is (x ∷ xs) page e = (let same : Some x ≡ Some page = e in let is : x ≡ page = cc in ap (λ y. y ∷ xs) is)
 
 -- a list with a head isn't empty, and one without is
 pub front_none : (xs : List ℕ) → None ≡ slice_get xs 0 → xs ≡ []
@@ -164,3 +172,90 @@ module _ (k : ClassTable) (t : Tables) (a : AreTables k t) where
             let ne : used_in (get_or t.maps page d) ≢ length (get_or t.maps page d) = (λ e. (
             let u = ap used_in same in let l = ap length same in let s = p.slots in let f = p.fills in let few = f.1 in omega arith)) in
             subst (λ v. Contains (pages_in t.lists c v) page) (sym (not_full ne)) p.listed)
+
+-- one count after the other
+pub rose_both : (a b c m n : ℕ) → RoseBy a b m → RoseBy b c n → RoseBy a c (m + n)
+rose_both a b c m n x y = record {
+  kept = (let p = x.kept in let q = y.kept in omega arith);
+  bound = (let p = x.bound in let q = y.bound in omega arith);
+  exact = λ small. (let p = x.exact (omega arith) in let q = y.exact (omega arith) in omega arith);
+  capped = λ fits past. elim (cases_lt (a + m) (2 ^ 64)) [
+    | inl lt ↦ (let p = x.exact lt in y.capped (omega arith) (omega arith))
+    | inr ge ↦ (let p = x.capped fits ge in let q = y.kept in let r = y.bound in elim (cases_lt 0 n) [
+      | inl some ↦ y.capped (omega arith) (omega arith)
+      | inr none ↦ omega arith
+    ])
+  ];
+}
+
+-- the steps on a partly full page
+module _ (k : ClassTable) (t : Tables) (a : AreTables k t) (c page : ℕ) (front : Some page ≡ slice_get (pages_in t.lists c NotFull) 0) (d : List Bool) where
+  filled_test : (slot : ℕ) (map : List Bool) → slice_get (get_or t.maps page d) slot ≡ Some false → map ≡ set (get_or t.maps page d) slot true
+      → nat_eq (used_in map) (length map) ≡ nat_eq (used_in (slots_on t page) + 1) (slots_in k c)
+  filled_test slot map free is =
+      let same = same_map k t a c page front d in
+      let used : used_in map ≡ used_in (slots_on t page) + 1 = ap used_in is ∙ count-set (get_or t.maps page d) slot free ∙ ap (λ xs. used_in xs + 1) same in
+      let long : length map ≡ slots_in k c = ap length is ∙ length-set (get_or t.maps page d) slot true ∙ front_long k t a c page front d in
+      λ i. nat_eq (used i) (long i)
+
+  pub took_open_steps : (slot : ℕ) (map : List Bool) → slice_get (get_or t.maps page d) slot ≡ Some false → map ≡ set (get_or t.maps page d) slot true
+      → (old first second new : ℕ) → RoseBy old first 1 → RoseBy first second 3 → RoseBy second new (if nat_eq (used_in map) (length map) then 9 else 1)
+      → RoseBy old new (steps_to_take k t c)
+  took_open_steps slot map free is old first second new x y z =
+      let e = front_is (pages_in t.lists c NotFull) page (sym front) in
+      let w : RoseBy second new (if nat_eq (used_in (slots_on t page) + 1) (slots_in k c) then 9 else 1) =
+      subst (λ b. RoseBy second new (if b then 9 else 1)) (filled_test slot map free is) z in
+      let four = rose_both old first second 1 3 x y in
+      rw (steps_to_take, e) (by_test (nat_eq (used_in (slots_on t page) + 1) (slots_in k c)) four w)
+    where
+      by_test : (b : Bool) → RoseBy old second 4 → RoseBy second new (if b then 9 else 1) → RoseBy old new (if b then 13 else 5)
+      by_test true four w = rose_both old second new 4 9 four w
+      by_test false four w = rose_both old second new 4 1 four w
+
+-- A slot of a page becomes free: how many are used still.
+pub used_still : (maps : List (List Bool)) (page slot count : ℕ) (d map : List Bool) → page < length maps
+    → slice_get (get_or maps page []) slot ≡ Some true → map ≡ set (get_or maps page d) slot false → count ≡ used_in map → count + 1 ≡ used_in (get_or maps page [])
+used_still maps page slot count d map inside used wrote many =
+    let same = get_or_default maps page d [] inside in
+    let n = count-unset (get_or maps page []) slot used in
+    let w : used_in map ≡ used_in (set (get_or maps page []) slot false) = ap used_in (wrote ∙ ap (λ xs. set xs slot false) same) in
+    omega arith
+
+-- the steps of freeing it, where it empties its page and where not
+module _ (maps : List (List Bool)) (page count : ℕ) (few : count + 1 ≡ used_in (get_or maps page [])) (which : Which) (a b c d : ℕ)
+    (first : RoseBy a b 3) (second : RoseBy b c 1) where
+  pub emptied_steps : (e : ℕ) → count ≡ 0 → RoseBy c d 4 → RoseBy d e 1 → RoseBy a e (steps_to_vacate which (used_in (get_or maps page [])))
+  emptied_steps e none third fourth =
+      let one : used_in (get_or maps page []) ≡ 1 = omega arith in
+      rw (eq_yes _ _ one) (rose_both a d e 8 1 (rose_both a c d 4 4 (rose_both a b c 3 1 first second) third) fourth)
+
+  pub kept_steps : count ≢ 0 → RoseBy c d (elim which [ Full ↦ 8 | NotFull ↦ 0 ]) → RoseBy a d (steps_to_vacate which (used_in (get_or maps page [])))
+  kept_steps some third =
+      let several : used_in (get_or maps page []) ≢ 1 = λ one. some (omega arith) in
+      rw (eq_no _ _ several) (by_list which third)
+    where
+      by_list : (w : Which) → RoseBy c d (elim w [ Full ↦ 8 | NotFull ↦ 0 ]) → RoseBy a d (elim w [ Full ↦ 12 | NotFull ↦ 4 ])
+      by_list Full third = rose_both a c d 4 8 (rose_both a b c 3 1 first second) third
+      by_list NotFull third = rose_both a c d 4 0 (rose_both a b c 3 1 first second) third
+
+-- the same with the step that finds its list
+pub dropped_steps : (xs map : List Bool) (which : Which) (a b c : ℕ) → map ≡ xs → (used_in map ≡ length map → which ≡ Full)
+    → (used_in map ≢ length map → which ≡ NotFull) → RoseBy a b 1 → RoseBy b c (steps_to_vacate which (used_in xs))
+    → RoseBy a c (drop_steps (used_in xs) (length xs))
+dropped_steps xs map which a b c same full part first second = elim (cases_eq (used_in xs) 1) [
+  | inl one ↦ (
+      let z : RoseBy b c 9 = rw (eq_yes _ _ one) at second in
+      rw (eq_yes _ _ one) (rose_both a b c 1 9 first z))
+  | inr several ↦ (
+      let z : RoseBy b c (elim which [ Full ↦ 12 | NotFull ↦ 4 ]) = rw (eq_no _ _ several) at second in
+      elim (cases_eq (used_in xs) (length xs)) [
+        | inl all ↦ (
+            let w : which ≡ Full = full (ap used_in same ∙ all ∙ sym (ap length same)) in
+            let y : RoseBy b c 12 = subst (λ v. RoseBy b c (elim v [ Full ↦ 12 | NotFull ↦ 4 ])) w z in
+            rw (eq_no _ _ several, eq_yes _ _ all) (rose_both a b c 1 12 first y))
+        | inr some ↦ (
+            let w : which ≡ NotFull = part (λ e. some (sym (ap used_in same) ∙ e ∙ ap length same)) in
+            let y : RoseBy b c 4 = subst (λ v. RoseBy b c (elim v [ Full ↦ 12 | NotFull ↦ 4 ])) w z in
+            rw (eq_no _ _ several, eq_no _ _ some) (rose_both a b c 1 4 first y))
+      ])
+]

@@ -10,4 +10,5 @@ pub mod OccupiedAfterFree
 pub mod Counted
 pub mod PageNumbers
 pub mod Start
+pub mod NextSlots
 pub mod CallerLemmas

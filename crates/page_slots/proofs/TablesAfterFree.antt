@@ -54,7 +54,7 @@ module _ (k : ClassTable) (old : Tables) (a : AreTables k old) (c page slot : �
   after : slots_on new page ≡ set (slots_on old page) slot false
   after = map_here old.maps new.maps page _ v.maps lt
 
-  used : used_in (slots_on new page) + 1 ≡ used_in (slots_on old page)
+  pub used : used_in (slots_on new page) + 1 ≡ used_in (slots_on old page)
   used = ap (λ xs. used_in xs + 1) after ∙ count-unset (slots_on old page) slot v.used
 
   long : length (slots_on new page) ≡ slots_in k c

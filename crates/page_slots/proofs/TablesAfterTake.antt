@@ -87,10 +87,10 @@ module _ (k : ClassTable) (old : Tables) (a : AreTables k old) (c page : ℕ) (n
     now : slots_on new page ≡ set (slots_on old page) slot true
     now = map_here old.maps new.maps page _ t.maps lt
 
-    used : used_in (slots_on new page) ≡ used_in (slots_on old page) + 1
+    pub used : used_in (slots_on new page) ≡ used_in (slots_on old page) + 1
     used = ap used_in now ∙ count-set (slots_on old page) slot t.free
 
-    long : length (slots_on new page) ≡ slots_in k c
+    pub long : length (slots_on new page) ≡ slots_in k c
     long = ap length now ∙ length-set (slots_on old page) slot true ∙ was.slots
 
     pool_same : (g : ℕ) → is_in_pool new.pool.free g ≡ is_in_pool old.pool.free g

@@ -1,10 +1,11 @@
 -- What it is to free a used slot.
-use Rattle.std.specs.Prelude.{◌≡◌, ◌≢◌, ℕ, Bool, true, false, ◌<◌, List, [], ◌∷◌, length, Some, slice_get, slice_index_or, slice_set}
+use Rattle.std.specs.Prelude.{◌≡◌, ◌≢◌, ℕ, Bool, true, false, ◌<◌, List, [], ◌∷◌, length, Some, nat_eq, slice_get, slice_index_or, slice_set, if◌then◌else◌}
 use Rattle.std.specs.List.{Contains, position}
 use Rattle.size_classes.specs.Table.{ClassTable}
 use Rattle.class_lists.specs.declared.Which.{Which}
 use Rattle.class_lists.specs.declared.Which.TheVariants.{Full, NotFull}
 use Rattle.class_lists.specs.PageLists.{PageLists, pages_in}
+use Rattle.page_model.specs.Order.{drop_steps, fill_steps}
 use Rattle.page_slots.specs.Tables.{Tables, JoinsList, LeavesList, address_in, slots_on, used_in}
 
 -- a page of which a slot becomes free goes to the list of the partly full pages
@@ -54,3 +55,15 @@ pub record MovesObject (slots : List Bool) (not_full bound : ℕ) : Type 0 where
   pub full : used_in slots ≡ length slots
   pub several : 1 < length slots
   pub many : not_full ≡ bound
+
+-- the steps of freeing a slot on the page
+abbrev pub steps_to_drop : Tables → ℕ → ℕ
+steps_to_drop t page = drop_steps (used_in (slots_on t page)) (length (slots_on t page))
+
+-- the same without the step that finds the page's list
+abbrev pub steps_to_vacate : Which → ℕ → ℕ
+steps_to_vacate which used = if nat_eq used 1 then 9 else elim which [ Full ↦ 12 | NotFull ↦ 4 ]
+
+-- the steps of freeing the slot of the object that fills a freed slot of class c
+abbrev pub steps_to_fill : Tables → ℕ → ℕ
+steps_to_fill t c = elim (pages_in t.lists c NotFull) [ [] ↦ 0 | page ∷ rest ↦ fill_steps (used_in (slots_on t page)) ]

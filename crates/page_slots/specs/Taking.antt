@@ -1,10 +1,11 @@
 -- What it is to take a free slot.
-use Rattle.std.specs.Prelude.{◌≡◌, ◌≢◌, ℕ, true, false, not, ◌⊎◌, [], length, replicate, Option, Some, None, slice_get, slice_set}
+use Rattle.std.specs.Prelude.{◌≡◌, ◌≢◌, ℕ, true, false, not, ◌⊎◌, [], ◌∷◌, length, replicate, Option, Some, None, slice_get, slice_set}
 use Rattle.std.specs.List.{position}
 use Rattle.size_classes.specs.Table.{ClassTable}
 use Rattle.class_lists.specs.declared.Which.TheVariants.{Full, NotFull}
 use Rattle.class_lists.specs.PageLists.{PageLists, pages_in}
 use Rattle.page_pool.specs.Pool.{TakesFront}
+use Rattle.page_model.specs.Order.{new_page_steps, open_steps}
 use Rattle.page_slots.specs.Tables.{Tables, JoinsList, LeavesList, address_in, slots_in, slots_on, used_in}
 
 -- a page that is filled goes from the list of the partly full pages to that of the full ones
@@ -42,3 +43,10 @@ pub record TakesAt (k : ClassTable) (old : Tables) (c a : ℕ) (new : Tables) : 
 abbrev pub TakesSlot : ClassTable → Tables → ℕ → Option ℕ → Tables → Type 0
 TakesSlot k old c None new = (pages_in old.lists c NotFull ≡ []) × (old.pool.free ≡ []) × (new ≡ old)
 TakesSlot k old c (Some a) new = TakesAt k old c a new
+
+-- the steps of taking a slot of class c: on a partly full page, on a free page, and if there is none
+abbrev pub steps_to_take : ClassTable → Tables → ℕ → ℕ
+steps_to_take k t c = elim (pages_in t.lists c NotFull) [
+  | [] ↦ elim t.pool.free [ [] ↦ 2 | page ∷ rest ↦ new_page_steps ]
+  | page ∷ rest ↦ open_steps (used_in (slots_on t page)) (slots_in k c)
+]

@@ -3,10 +3,11 @@ ghost use Rattle.std.specs.Prelude.{◌≡◌, ◌≢◌, ℕ, ◌<◌, ◌≤�
 ghost use Rattle.std.specs.List.{Contains, position};
 ghost use Rattle.step_ledger.specs.Counting.{RoseAtMost, RoseBy};
 ghost use Rattle.class_lists.specs.PageLists.{AreApart, pages_in};
+ghost use Rattle.class_lists.specs.declared.Which.TheVariants.{Full, NotFull};
 ghost use Rattle.page_pool.specs.Pool.{IsPool, Pool, is_in_pool};
 ghost use Rattle.size_classes.specs.Table.{IsClassTable};
 ghost use Rattle.page_slots.specs.Tables.{AreTables, IsUsed, KeepsElsewhere, page_at, slot_at, tables, used_in};
-ghost use Rattle.page_slots.specs.Freeing.{FillsFrom, HasUsedSlot, IsFiller, MovesObject, OpensPage, Vacates};
+ghost use Rattle.page_slots.specs.Freeing.{FillsFrom, HasUsedSlot, IsFiller, MovesObject, OpensPage, Vacates, steps_to_drop, steps_to_fill, steps_to_vacate};
 
 use crate::place::{address_of, slot_of};
 use class_lists::{ClassLists, Which};
@@ -56,7 +57,8 @@ pub fn drop_slot(
         (slot_at classes.now c at) (tables maps.new lists.new pool.new) }
     ensures others { KeepsElsewhere (tables maps.old lists.old pool.old) (tables maps.new lists.new pool.new) }
     ensures kept { AreTables classes.now (tables maps.new lists.new pool.new) }
-    ensures steps { RoseAtMost steps.old steps.new 18 }
+    ensures steps { RoseBy steps.old steps.new (steps_to_drop (tables maps.old lists.old pool.old) (page_at classes.now at)) }
+    ensures bound { RoseAtMost steps.old steps.new 13 }
 {
     let page = classes.page_of(at);
     let slot = slot_of(classes, c, at);
@@ -77,7 +79,7 @@ pub fn filler(
     requires class { c < length classes.now.sizes }
     requires some { 1 ≤ length (pages_in lists.now c Which.NotFull) }
     ensures filler { IsFiller classes.now maps.now lists.now c result }
-    ensures steps { RoseAtMost steps.old steps.new 9 }
+    ensures steps { RoseBy steps.old steps.new 3 }
 {
     let (page, slot) = filling_slot(maps, lists, c, steps);
     address_of(classes, c, page, slot)
@@ -100,7 +102,8 @@ pub fn fill_slot(
         (tables maps.new lists.new pool.new) }
     ensures others { KeepsElsewhere (tables maps.old lists.old pool.old) (tables maps.new lists.new pool.new) }
     ensures kept { AreTables classes.now (tables maps.new lists.new pool.new) }
-    ensures steps { RoseAtMost steps.old steps.new 26 }
+    ensures steps { RoseBy steps.old steps.new (steps_to_fill (tables maps.old lists.old pool.old) c) }
+    ensures bound { RoseAtMost steps.old steps.new 12 }
 {
     let (page, slot) = filling_slot(maps, lists, c, steps);
     vacate(maps, lists, pool, c, Which::NotFull, page, slot, steps);
@@ -115,7 +118,7 @@ fn filling_slot(maps: &[SlotMap], lists: &ClassLists, c: u32, steps: &mut Steps)
     ensures front { slice_get (pages_in lists.now c Which.NotFull) 0 ≡ Some result.0 }
     ensures least { position (λ used. used) (slice_index_or maps.now result.0 []) ≡ Some result.1 }
     ensures used { slice_get (slice_index_or maps.now result.0 []) result.1 ≡ Some true }
-    ensures steps { RoseAtMost steps.old steps.new 9 }
+    ensures steps { RoseBy steps.old steps.new 3 }
 {
     let Some(page) = lists.front(c, Which::NotFull, steps) else {
         unreachable!();
@@ -161,7 +164,8 @@ fn vacate(
     ensures freed { Vacates (tables maps.old lists.old pool.old) c page slot (tables maps.new lists.new pool.new) }
     ensures lists { AreApart lists.new }
     ensures pool { IsPool pool.new }
-    ensures steps { RoseAtMost steps.old steps.new 17 }
+    ensures steps { RoseBy steps.old steps.new (steps_to_vacate which (used_in (slice_index_or maps.old page []))) }
+    ensures bound { RoseAtMost steps.old steps.new 12 }
 {
     let map = &mut maps[page as usize];
     map.unset(slot, steps);
@@ -181,7 +185,7 @@ fn open_if_full(lists: &mut ClassLists, c: u32, which: Which, page: u32, steps: 
     ensures opened { which ≡ Which.Full → OpensPage lists.old c page lists.new }
     ensures still { which ≡ Which.NotFull → lists.new ≡ lists.old }
     ensures kept { AreApart lists.new }
-    ensures steps { RoseAtMost steps.old steps.new 8 }
+    ensures steps { RoseBy steps.old steps.new (elim which [ Full ↦ 8 | NotFull ↦ 0 ]) }
 {
     match which {
         Which::Full => {

@@ -3,9 +3,14 @@
 //! those of Compact-fit (2008), for slots alone: this crate knows nothing of objects.
 #![tactic(auto)]
 
+mod following;
 mod freeing;
 mod place;
 mod taking;
 
+pub use following::{
+    a_freed_slot_follows_the_order, steps_follow_the_order, the_filler_is_next_to_move,
+    the_next_slot_is_taken, the_order_is_of_the_arrangement,
+};
 pub use freeing::{drop_slot, fill_slot, filler, must_move};
 pub use taking::take_slot;

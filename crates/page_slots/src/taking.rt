@@ -1,10 +1,10 @@
 //! A free slot is taken.
-ghost use Rattle.std.specs.Prelude.{◌≡◌, ◌≢◌, ◌<◌, [], length, not, false, true, slice_get, slice_set};
+ghost use Rattle.std.specs.Prelude.{◌≡◌, ◌≢◌, ◌<◌, [], if◌then◌else◌, is_some, length, nat_eq, not, false, true, slice_get, slice_set};
 ghost use Rattle.std.specs.List.{Contains, position};
-ghost use Rattle.step_ledger.specs.Counting.{RoseAtMost};
+ghost use Rattle.step_ledger.specs.Counting.{RoseAtMost, RoseBy};
 ghost use Rattle.class_lists.specs.PageLists.{AreApart, IsUnlisted, pages_in};
 ghost use Rattle.page_slots.specs.Tables.{AreTables, JoinsList, KeepsElsewhere, tables, used_in};
-ghost use Rattle.page_slots.specs.Taking.{FillsPage, TakesSlot};
+ghost use Rattle.page_slots.specs.Taking.{FillsPage, TakesSlot, steps_to_take};
 
 use crate::place::address_of;
 use class_lists::{ClassLists, Which};
@@ -30,7 +30,8 @@ pub fn take_slot(
         (tables maps.new lists.new pool.new) }
     ensures others { KeepsElsewhere (tables maps.old lists.old pool.old) (tables maps.new lists.new pool.new) }
     ensures kept { AreTables classes.now (tables maps.new lists.new pool.new) }
-    ensures steps { RoseAtMost steps.old steps.new 26 }
+    ensures steps { RoseBy steps.old steps.new (steps_to_take classes.now (tables maps.old lists.old pool.old) c) }
+    ensures bound { RoseAtMost steps.old steps.new 13 }
 {
     match lists.front(c, Which::NotFull, steps) {
         Some(page) => {
@@ -49,12 +50,11 @@ fn take_least(map: &mut SlotMap, steps: &mut Steps) -> u32
     ensures least { position (λ used. not used) map.old ≡ Some result }
     ensures free { slice_get map.old result ≡ Some false }
     ensures map { map.new ≡ slice_set map.old result true }
-    ensures steps { RoseAtMost steps.old steps.new 16 }
+    ensures steps { RoseBy steps.old steps.new 3 }
 {
-    let Some(slot) = map.first_free(steps) else {
+    let Some(slot) = map.take_first(steps) else {
         unreachable!();
     };
-    map.set(slot, steps);
     slot
 }
 
@@ -66,7 +66,7 @@ fn leave_if_filled(map: &SlotMap, lists: &mut ClassLists, c: u32, page: u32, ste
     ensures filled { used_in map.now ≡ length map.now → FillsPage lists.old c page lists.new }
     ensures not_filled { used_in map.now ≢ length map.now → lists.new ≡ lists.old }
     ensures kept { AreApart lists.new }
-    ensures steps { RoseAtMost steps.old steps.new 9 }
+    ensures steps { RoseBy steps.old steps.new (if nat_eq (used_in map.now) (length map.now) then 9 else 1) }
 {
     if map.count(steps) == map.len() {
         lists.unlink(c, Which::NotFull, page, steps);
@@ -90,7 +90,7 @@ fn take_on_free_page(
         (tables maps.new lists.new pool.new) }
     ensures others { KeepsElsewhere (tables maps.old lists.old pool.old) (tables maps.new lists.new pool.new) }
     ensures kept { AreTables classes.now (tables maps.new lists.new pool.new) }
-    ensures steps { RoseAtMost steps.old steps.new 15 }
+    ensures steps { RoseBy steps.old steps.new (if is_some result then 10 else 1) }
 {
     let page = pool.take(steps)?;
     let slots = classes.slots(c);
@@ -109,7 +109,7 @@ fn join_with_one(lists: &mut ClassLists, c: u32, page: u32, slots: u32, steps: &
     ensures filled { slots ≡ 1 → JoinsList lists.old c Which.Full page lists.new }
     ensures not_filled { slots ≢ 1 → JoinsList lists.old c Which.NotFull page lists.new }
     ensures kept { AreApart lists.new }
-    ensures steps { RoseAtMost steps.old steps.new 4 }
+    ensures steps { RoseBy steps.old steps.new 4 }
 {
     if slots == 1 {
         lists.push(c, Which::Full, page, steps);

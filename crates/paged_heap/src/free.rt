@@ -3,6 +3,7 @@ ghost use Rattle.std.specs.Prelude.{◌≡◌, ◌≢◌, ◌+◌, ◌-◌, ◌*
 ghost use Rattle.std.specs.FinMap as map;
 ghost use Rattle.step_ledger.specs.Counting.{RoseAtMost};
 ghost use Rattle.page_model.specs.Image.{Clears, IsDisjoint};
+ghost use Rattle.page_model.specs.Order.{word_steps};
 ghost use Rattle.cf_model.specs.Costs.{free_bound};
 ghost use Rattle.cf_model.specs.Steps.{FreesObject, IsFreeStep};
 ghost use Rattle.class_lists.specs.PageLists.{pages_in};
@@ -10,7 +11,8 @@ ghost use Rattle.class_lists.specs.declared.Which.TheVariants.{NotFull};
 ghost use Rattle.page_slots.specs.Freeing.{FillsFrom, Vacates};
 ghost use Rattle.page_slots.specs.Tables.{AreTables, IsUsed, page_at, slot_at, tables};
 ghost use Rattle.proxy_table.specs.Proxies.{AreBelowLimit, with_place, without_place};
-ghost use Rattle.virtual_words.specs.Words.{AreLaid, IsWhole, run_bound};
+ghost use Rattle.virtual_words.specs.Words.{AreLaid, IsWhole, run_bound, run_steps, slot_steps};
+ghost use Rattle.paged_heap.specs.Costs.{free_steps};
 ghost use Rattle.paged_heap.specs.Free.{IsObjectAt, IsMoving, MovesSlot};
 ghost use Rattle.paged_heap.specs.Heap.{seen};
 ghost use Rattle.paged_heap.specs.Layout.{Holds, state_at};
@@ -30,6 +32,7 @@ impl OpenHeap {
         ensures step { IsFreeStep (state_at A.kind self.old) h.0 result (state_at A.kind self.new) }
         ensures kept { Holds A.kind self.new }
         ensures bound { RoseAtMost steps.old steps.new (free_bound result) }
+        ensures steps { RoseAtMost steps.old steps.new (free_steps A.kind result) }
         ensures told { steps.new ≡ steps.old + self.new.cost }
     {
         let before = steps.count();
@@ -44,6 +47,7 @@ impl OpenHeap {
         ensures step { IsFreeStep (state_at A.kind self.old) h.0 result (state_at A.kind self.new) }
         ensures kept { Holds A.kind self.new }
         ensures bound { RoseAtMost steps.old steps.new (free_bound result) }
+        ensures steps { RoseAtMost steps.old steps.new (free_steps A.kind result) }
     {
         let Some(place) = self.proxies.lookup(h, steps) else {
             return Err(NotLive);
@@ -83,6 +87,7 @@ impl OpenHeap {
         ensures step { FreesObject (state_at A.kind self.old) h.0 result (state_at A.kind self.new) }
         ensures kept { Holds A.kind self.new }
         ensures bound { RoseAtMost steps.old steps.new (80 + 2 * result.slot_words) }
+        ensures steps { RoseAtMost steps.old steps.new (15 + word_steps A.kind + slot_steps A.kind result.slot_words) }
     {
         let slot_words = self.classes.slot_words(c);
         self.erase::<A>(h, place, slot_words, steps);
@@ -109,6 +114,7 @@ impl OpenHeap {
         ensures step { FreesObject (state_at A.kind self.old) h.0 result (state_at A.kind self.new) }
         ensures kept { Holds A.kind self.new }
         ensures bound { RoseAtMost steps.old steps.new (80 + 2 * result.slot_words) }
+        ensures steps { RoseAtMost steps.old steps.new (15 + word_steps A.kind + slot_steps A.kind result.slot_words) }
     {
         let slot_words = self.classes.slot_words(c);
         let from = self.take_filler(c, steps);
@@ -136,6 +142,7 @@ impl OpenHeap {
         ensures laid { AreLaid A.kind self.new.blocks self.new.region }
         ensures handles { AreBelowLimit self.new.proxies }
         ensures bound { RoseAtMost steps.old steps.new (2 + run_bound slot_words) }
+        ensures steps { RoseAtMost steps.old steps.new (2 + run_steps A.kind place slot_words) }
     {
         self.proxies.release(h, steps);
         A::clear(&mut self.region, &self.blocks, place, slot_words, steps);
@@ -167,6 +174,7 @@ impl OpenHeap {
         ensures laid { AreLaid A.kind self.new.blocks self.new.region }
         ensures handles { AreBelowLimit self.new.proxies }
         ensures bound { RoseAtMost steps.old steps.new (1 + run_bound slot_words) }
+        ensures steps { RoseAtMost steps.old steps.new (1 + slot_steps A.kind slot_words) }
     {
         A::move_slot(
             &mut self.region,
@@ -205,7 +213,7 @@ impl OpenHeap {
             (slot_at self.old.classes c place) (tables self.new.maps.items self.new.lists self.new.pool) }
         ensures tables { AreTables self.old.classes (tables self.new.maps.items self.new.lists self.new.pool) }
         ensures rest { self.new ≡ record self.old { maps = self.new.maps; lists = self.new.lists; pool = self.new.pool } }
-        ensures bound { RoseAtMost steps.old steps.new 18 }
+        ensures bound { RoseAtMost steps.old steps.new 13 }
     {
         drop_slot(
             &self.classes,
@@ -227,7 +235,7 @@ impl OpenHeap {
             (tables self.new.maps.items self.new.lists self.new.pool) }
         ensures tables { AreTables self.old.classes (tables self.new.maps.items self.new.lists self.new.pool) }
         ensures rest { self.new ≡ record self.old { maps = self.new.maps; lists = self.new.lists; pool = self.new.pool } }
-        ensures bound { RoseAtMost steps.old steps.new 26 }
+        ensures bound { RoseAtMost steps.old steps.new 12 }
     {
         fill_slot(
             &self.classes,

@@ -3,11 +3,13 @@ ghost use Rattle.std.specs.Prelude.{◌≡◌, ◌≢◌, ◌+◌, ◌*◌, ◌^
 ghost use Rattle.std.specs.FinMap as map;
 ghost use Rattle.step_ledger.specs.Counting.{RoseAtMost};
 ghost use Rattle.page_model.specs.Image.{header_word};
+ghost use Rattle.page_model.specs.Order.{word_steps};
 ghost use Rattle.cf_model.specs.Steps.{IsMallocStep};
 ghost use Rattle.page_slots.specs.Tables.{AreTables, tables};
 ghost use Rattle.page_slots.specs.Taking.{TakesSlot};
 ghost use Rattle.proxy_table.specs.Proxies.{AreBelowLimit, with_place};
 ghost use Rattle.virtual_words.specs.Words.{AreLaid};
+ghost use Rattle.paged_heap.specs.Costs.{malloc_steps};
 ghost use Rattle.paged_heap.specs.Heap.{seen};
 ghost use Rattle.paged_heap.specs.Layout.{Holds, state_at};
 
@@ -26,7 +28,8 @@ impl OpenHeap {
         requires room { steps.old ≤ 2 ^ 63 }
         ensures step { IsMallocStep (state_at A.kind self.old) bytes result (state_at A.kind self.new) }
         ensures kept { Holds A.kind self.new }
-        ensures bound { RoseAtMost steps.old steps.new 64 }
+        ensures bound { RoseAtMost steps.old steps.new 18 }
+        ensures steps { RoseAtMost steps.old steps.new (malloc_steps A.kind) }
         ensures told { steps.new ≡ steps.old + self.new.cost }
     {
         let before = steps.count();
@@ -40,7 +43,8 @@ impl OpenHeap {
         requires { Holds A.kind self.old }
         ensures step { IsMallocStep (state_at A.kind self.old) bytes result (state_at A.kind self.new) }
         ensures kept { Holds A.kind self.new }
-        ensures bound { RoseAtMost steps.old steps.new 64 }
+        ensures bound { RoseAtMost steps.old steps.new 18 }
+        ensures steps { RoseAtMost steps.old steps.new (malloc_steps A.kind) }
     {
         let Some(c) = self.classes.class_of(bytes, steps) else {
             return Err(Refusal::Size);
@@ -64,7 +68,7 @@ impl OpenHeap {
             (tables self.new.maps.items self.new.lists self.new.pool) }
         ensures tables { AreTables self.old.classes (tables self.new.maps.items self.new.lists self.new.pool) }
         ensures rest { self.new ≡ record self.old { maps = self.new.maps; lists = self.new.lists; pool = self.new.pool } }
-        ensures bound { RoseAtMost steps.old steps.new 26 }
+        ensures bound { RoseAtMost steps.old steps.new 13 }
     {
         // Two counts tell that there is no room.
         if self.lists.len(c, Which::NotFull) == 0 && self.pool.left() == 0 {
@@ -94,6 +98,7 @@ impl OpenHeap {
         ensures laid { AreLaid A.kind self.new.blocks self.new.region }
         ensures handles { AreBelowLimit self.new.proxies }
         ensures bound { RoseAtMost steps.old steps.new 4 }
+        ensures steps { RoseAtMost steps.old steps.new (2 + word_steps A.kind) }
     {
         let Some(handle) = self.proxies.bind(place, steps) else {
             unreachable!();

@@ -48,6 +48,14 @@ pub top : (places : List (Option ℕ)) (stack : List ℕ) (left : ℕ) → IsVal
 top places stack left s some h read = get_or_read stack (left - 1) h (omega (arith, s.counted, s.as_long)) read 0
 
 module _ (places : List (Option ℕ)) (stack : List ℕ) (left h : ℕ) (s : IsValid places stack left) where
+  -- a live number is not on the stack
+  pub off_stack : IsSome (get_or places h None) → (i : ℕ) → i < left → get_or stack i 0 ≢ h
+  off_stack some i lt e = not_none _ some (ap (λ q. get_or places q None) (sym e) ∙ s.not_live i lt)
+
+  -- and the topmost number stands nowhere below
+  pub once_on_stack : 0 < left → h ≡ get_or stack (left - 1) 0 → (i : ℕ) → i < left - 1 → get_or stack i 0 ≢ h
+  once_on_stack some is i lt e = s.distinct i (left - 1) lt (omega arith) (e ∙ is)
+
   pub stack_rebound : (a : ℕ) → IsSome (get_or places h None) → h < length places → IsValid (set places h (Some a)) stack left
   stack_rebound a some lt = record {
     as_long = s.as_long ∙ sym (length-set places h (Some a));

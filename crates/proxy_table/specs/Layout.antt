@@ -1,11 +1,16 @@
 -- How a proxy table lays out its numbers. No public clause cites this module.
-use Rattle.std.specs.Prelude.{◌≡◌, ◌≢◌, ℕ, ◌+◌, ◌-◌, ◌^◌, ◌<◌, List, Option, None, length, slice_index, slice_index_or, count_by, is_some}
+use Rattle.std.specs.Prelude.{◌≡◌, ◌≢◌, ℕ, zero, suc, ◌+◌, ◌-◌, ◌^◌, ◌<◌, List, [], ◌∷◌, Option, None, length, slice_index, slice_index_or, count_by, is_some}
 use Rattle.cf_lemmas.specs.Maps.{numbered}
 use Rattle.proxy_table.specs.Proxies.{Proxies}
 
--- the proxies whose addresses stand in a list by number
-abbrev pub proxies_of : List (Option ℕ) → Proxies
-proxies_of places = record { limit = length places; places = numbered 0 places }
+-- the first `left` numbers of a stack, the topmost first
+abbrev pub top_down : List ℕ → ℕ → List ℕ
+top_down stack zero = []
+top_down stack (suc left) = slice_index stack left ∷ top_down stack left
+
+-- the proxies whose addresses stand in a list by number, and whose free numbers are the first `left` of a stack
+abbrev pub proxies_of : List (Option ℕ) → List ℕ → ℕ → Proxies
+proxies_of places stack left = record { limit = length places; places = numbered 0 places; free = top_down stack left }
 
 -- the numbers below n, the greatest first
 pub record IsFalling (n : ℕ) (numbers : List ℕ) : Type 0 where

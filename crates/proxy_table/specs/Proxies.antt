@@ -1,33 +1,44 @@
--- What a proxy table stands for: a finite map from the numbers below a limit to addresses.
-use Rattle.std.specs.Prelude.{◌≡◌, ℕ, ◌<◌, ◌≤◌, Some, refl}
+-- What a proxy table stands for: a finite map from the numbers below a limit to addresses, and the other numbers in the order in which they are given out.
+use Rattle.std.specs.Prelude.{◌≡◌, ℕ, ◌+◌, ◌<◌, ◌≤◌, List, ◌∷◌, ◌==◌, None, Some, length, not, nat_eq, refl}
+use Rattle.std.specs.List.{Contains, IsDistinct, filter, range_with_len}
 use Rattle.std.specs.Ordering.{nat_cmp}
 use Rattle.std.specs.FinMap as map
-use Rattle.std.specs.Coded.{Coded, code_by, coded×, coded_ℕ}
+use Rattle.std.specs.Coded.{Coded, code_by, coded×, coded_list, coded_ℕ}
 
--- how many numbers there are, and the address of each that is live
+-- how many numbers there are, the address of each that is live, and the numbers that are free, the next one first
 pub record Proxies : Type 0 where
   pub limit : ℕ
   pub places : map.FinMap nat_cmp ℕ
+  pub free : List ℕ
 
--- no number is live
+-- no number is live, and they are given out from 0 on
 abbrev pub no_proxies : ℕ → Proxies
-no_proxies limit = record { limit = limit; places = map.empty }
+no_proxies limit = record { limit = limit; places = map.empty; free = range_with_len 0 limit }
 
--- a number is live, and this is its address
+-- the others of a list of numbers, in order
+abbrev pub without_number : ℕ → List ℕ → List ℕ
+without_number number numbers = filter (λ other. not (other == number)) numbers
+
+-- a number is live, and this is its address; it isn't free
 abbrev pub with_place : Proxies → ℕ → ℕ → Proxies
-with_place proxies number place = record proxies { places = map.insert proxies.places number place }
+with_place proxies number place =
+    record proxies { places = map.insert proxies.places number place; free = without_number number proxies.free }
 
--- a number is live no more
+-- a number is live no more, and is the first of the free ones
 abbrev pub without_place : Proxies → ℕ → Proxies
-without_place proxies number = record proxies { places = map.remove proxies.places number }
+without_place proxies number = record proxies { places = map.remove proxies.places number; free = number ∷ proxies.free }
 
--- each live number is below the limit, so there are no more than that
+-- each number below the limit is live or free, and no number is both, or free twice
 pub record AreBelowLimit (proxies : Proxies) : Type 0 where
   pub below : (number place : ℕ) → map.get proxies.places number ≡ Some place → number < proxies.limit
   pub few : map.len proxies.places ≤ proxies.limit
+  pub free_below : (number : ℕ) → Contains proxies.free number → number < proxies.limit
+  pub not_live : (number : ℕ) → Contains proxies.free number → map.get proxies.places number ≡ None
+  pub once : IsDistinct nat_eq proxies.free
+  pub counted : length proxies.free + map.len proxies.places ≡ proxies.limit
 
--- it is stored as the pair of its parts
+-- it is stored as the tuple of its parts
 abbrev pub proxies_code : Coded Proxies
 proxies_code =
-    code_by (ℕ × map.FinMap nat_cmp ℕ) (coded× coded_ℕ (map.code coded_ℕ coded_ℕ))
-    (λ p. (p.limit, p.places)) (λ p. record { limit = p.0; places = p.1 }) (λ _. refl)
+    code_by (ℕ × (map.FinMap nat_cmp ℕ × List ℕ)) (coded× coded_ℕ (coded× (map.code coded_ℕ coded_ℕ) (coded_list coded_ℕ)))
+    (λ p. (p.limit, (p.places, p.free))) (λ p. record { limit = p.0; places = p.1.0; free = p.1.1 }) (λ _. refl)

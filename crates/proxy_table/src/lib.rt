@@ -1,14 +1,15 @@
 //! Numbers of objects to addresses: the one place where a move is told.
 #![tactic(auto)]
 
-ghost use Rattle.std.specs.Prelude.{◌≡◌, ◌<◌, ◌↔◌, IfNone, IfOk, IfSome, IsNone, IsSome, None, Some};
+ghost use Rattle.std.specs.Prelude.{◌≡◌, ◌∷◌, ◌<◌, ◌↔◌, IfNone, IfOk, IfSome, IsNone, IsSome, None, Some, if◌then◌else◌, is_some};
 ghost use Rattle.std.specs.FinMap as map;
-ghost use Rattle.step_ledger.specs.Counting.{RoseBetween, RoseBy};
+ghost use Rattle.step_ledger.specs.Counting.{RoseBy};
 ghost use Rattle.proxy_table.specs.Proxies.{AreBelowLimit, no_proxies, with_place, without_place};
 ghost use Rattle.cf_lemmas.specs.Maps.{vacant};
 ghost use Rattle.proxy_table.specs.Layout.{IsFalling};
 
 use cf_base::{Handle, OutOfMemory};
+use counted_cells::Cells;
 use std::alloc::{AllocError, Global};
 use std::marker::Model;
 use step_ledger::Steps;
@@ -17,8 +18,8 @@ use step_ledger::Steps;
 /// it isn't live; the one that was released last comes first, and number 0 is the first of all.
 #[derive(Drop)]
 pub struct ProxyTable {
-    places: Vec<Option<u32>>,
-    free: Vec<u32>,
+    places: Cells<Option<u32>>,
+    free: Cells<u32>,
     left: u32,
 }
 
@@ -31,9 +32,9 @@ impl Model for ProxyTable {
 
     ghost use Rattle.proxy_table.specs.Layout.{proxies_of, IsValid};
 
-    ghost view = { λ t. proxies_of t.places.items };
+    ghost view = { λ t. proxies_of t.places t.free t.left };
 
-    ghost invariant = { λ t. IsValid t.places.items t.free.items t.left };
+    ghost invariant = { λ t. IsValid t.places t.free t.left };
 }
 
 impl ProxyTable {
@@ -49,8 +50,8 @@ impl ProxyTable {
             return Err(OutOfMemory);
         };
         Ok(ProxyTable {
-            places,
-            free,
+            places: Cells::new(places),
+            free: Cells::new(free),
             left: n,
         })
     }
@@ -69,36 +70,36 @@ impl ProxyTable {
         ensures kept { AreBelowLimit self.now }
         ensures steps { RoseBy steps.old steps.new 1 }
     {
-        steps.tick(1);
         let number = h.0 as usize;
         if number < self.places.len() {
-            self.places[number]
+            self.places.get(number, steps)
         } else {
+            steps.tick(1); // the look that finds no such number
             None
         }
     }
 
-    /// Gives out a number for the address; none where every number is live.
+    /// Gives out the first free number for the address; returns none if every number is live.
     pub fn bind(&mut self, addr: u32, steps: &mut Steps) -> Option<Handle>
         ensures none { IsNone result ↔ (map.len self.old.places ≡ self.old.limit) }
         ensures fresh { IfSome result (λ h. map.get self.old.places h.0 ≡ None) }
         ensures within { IfSome result (λ h. h.0 < self.old.limit) }
 
         ensures full { IfNone result (self.new ≡ self.old) }
+        ensures first { IfSome result (λ h. self.old.free ≡ h.0 ∷ self.new.free) }
         ensures places { IfSome result (λ h. self.new ≡ with_place self.old h.0 addr) }
         ensures live { IfSome result (λ h. map.get self.new.places h.0 ≡ Some addr) }
         ensures kept { AreBelowLimit self.new }
 
-        ensures steps { RoseBetween steps.old steps.new 1 2 }
+        ensures steps { RoseBy steps.old steps.new (if is_some result then 2 else 1) }
     {
-        steps.tick(1);
         if self.left == 0 {
+            steps.tick(1); // the look that finds no free number
             return None;
         }
-        steps.tick(1);
         self.left -= 1;
-        let number = self.free[self.left as usize];
-        self.places[number as usize] = Some(addr);
+        let number = self.free.get(self.left as usize, steps);
+        self.places.set(number as usize, Some(addr), steps);
         Some(Handle(number))
     }
 
@@ -106,23 +107,22 @@ impl ProxyTable {
     pub fn rebind(&mut self, h: Handle, addr: u32, steps: &mut Steps)
         requires live { IsSome (map.get self.old.places h.0) }
         ensures places { self.new ≡ with_place self.old h.0 addr }
+        ensures free { self.new.free ≡ self.old.free }
         ensures kept { AreBelowLimit self.new }
         ensures steps { RoseBy steps.old steps.new 1 }
     {
-        steps.tick(1);
-        self.places[h.0 as usize] = Some(addr);
+        self.places.set(h.0 as usize, Some(addr), steps);
     }
 
-    /// Takes a live number back; it is the next to be given out.
+    /// Takes a live number back, which is the next to be given out.
     pub fn release(&mut self, h: Handle, steps: &mut Steps)
         requires live { IsSome (map.get self.old.places h.0) }
         ensures places { self.new ≡ without_place self.old h.0 }
         ensures kept { AreBelowLimit self.new }
-        ensures steps { RoseBetween steps.old steps.new 1 2 }
+        ensures steps { RoseBy steps.old steps.new 2 }
     {
-        steps.tick(2);
-        self.places[h.0 as usize] = None;
-        self.free[self.left as usize] = h.0;
+        self.places.set(h.0 as usize, None, steps);
+        self.free.set(self.left as usize, h.0, steps);
         self.left += 1;
     }
 }
@@ -144,3 +144,6 @@ fn falling(alloc: Global, n: u32) -> Result<Vec<u32>, AllocError>
     }
     Ok(numbers)
 }
+
+#[cfg(test)]
+mod tests;

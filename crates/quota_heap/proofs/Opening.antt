@@ -1,11 +1,13 @@
 -- An open heap without objects.
 use Rattle.std.proofs.Common.{◌≡◌, ℕ, zero, suc, Bool, false, ◌+◌, ◌*◌, ◌^◌, ◌<◌, List, [], ◌∷◌, length, get_or, map, replicate, Some, None, arith, refl}
-use Rattle.std.proofs.Common.{sym, ◌∙◌, ap, subst, inl, inr}
+use Rattle.std.proofs.Common.{sym, ◌∙◌, ap, eqb, subst, inl, inr}
 use Rattle.std.specs.Prelude.{slice_get, sum, sum_by}
 use Rattle.std.specs.List.{Contains, range_with_len}
-use Rattle.std.proofs.lemmas.Bool.{cases_lt}
+use Rattle.std.proofs.lemmas.Bool.{cases_lt, ne_eqb}
 use Rattle.std.proofs.lemmas.List.{get_or-replicate, get_or_past, length-replicate}
+use Rattle.std.proofs.lemmas.List.FromFn.{get_or-range_with_len, length-range_with_len}
 use Rattle.std.proofs.lemmas.List.Sums.{sum_by-cons}
+use Rattle.std.proofs.lemmas.Map.Keys.{IsDistinct-from_apart}
 use Rattle.std.specs.Ordering.{nat_cmp}
 use Rattle.std.specs.FinMap.{empty, get, get-empty, len-empty}
 use Rattle.cf_base.specs.Classes.{sizes}
@@ -94,6 +96,14 @@ below_none : (n : ℕ) → AreBelowLimit (no_proxies n)
 below_none n = record {
   below = λ q a f. absurd (let none : get (empty {X = ℕ} {R = nat_cmp}) q ≡ None = get-empty nat_cmp q in let e : Some a ≡ None = sym f ∙ none in cc);
   few = (let e = len-empty nat_cmp ℕ in omega arith);
+  free_below = λ number (k, lt, is). (
+      let l = length-range_with_len 0 n in let e = get_or-range_with_len 0 n k number (omega (arith, l, lt)) in omega (arith, e, is, l, lt));
+  not_live = λ number free. get-empty nat_cmp number;
+  once = IsDistinct-from_apart eqb (range_with_len 0 n) (λ i j d lt within. (
+      let l = length-range_with_len 0 n in
+      let ei = get_or-range_with_len 0 n i d (omega (arith, l, lt, within)) in let ej = get_or-range_with_len 0 n j d (omega (arith, l, within)) in
+      rw (ei, ej) (ne_eqb _ _ (λ same. omega (arith, same, lt)))));
+  counted = (let e = len-empty nat_cmp ℕ in let l = length-range_with_len 0 n in omega arith);
 }
 
 module _ (s : Settings) (h : OpenTasks) (f : IsFirstGround s h.ground) (n : ℕ) (many : n ≡ length h.ground.classes.sizes)

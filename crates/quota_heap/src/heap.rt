@@ -191,3 +191,6 @@ impl QuotaHeap {
         }
     }
 }
+
+#[cfg(test)]
+mod tests;

@@ -2,3 +2,4 @@ pub mod CallerLemmas
 pub mod Lists
 pub mod LayoutFacts
 pub mod AllocateResult
+pub mod Blocks

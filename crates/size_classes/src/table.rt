@@ -1,12 +1,13 @@
 //! The table of size classes.
 ghost use Rattle.std.specs.Prelude.{◌≡◌, ◌↔◌, ◌/◌, ◌%◌, ◌<◌, ◌≤◌, IsTrue, IsNone, IfOk, IfSome, length, slice_index};
-ghost use Rattle.step_ledger.specs.Counting.{RoseBetween};
+ghost use Rattle.step_ledger.specs.Counting.{RoseBy};
 ghost use Rattle.cf_base.specs.Classes.{need, slots, class_of};
 ghost use Rattle.cf_base.specs.Limits.{is_page_size};
 ghost use Rattle.size_classes.specs.Table.{table_of};
 
 use crate::needs::classes_by_need;
 use cf_base::{Layout, OutOfMemory, need_of, slot_sizes};
+use counted_cells::Cells;
 use std::alloc::Global;
 use std::marker::Model;
 use step_ledger::Steps;
@@ -17,7 +18,7 @@ use step_ledger::Steps;
 pub struct Classes {
     sizes: Vec<u32>,
     // For each need of at most a page its class.
-    by_need: Vec<u8>,
+    by_need: Cells<u8>,
     page_words: u32,
     // A page has two to this power of words.
     page_shift: u32,
@@ -31,7 +32,7 @@ impl Model for Classes {
 
     ghost view = { λ c. record { page_words = c.page_words; sizes = c.sizes.items } };
 
-    ghost invariant = { λ c. IsValid c.page_words c.sizes.items c.by_need.items c.page_shift };
+    ghost invariant = { λ c. IsValid c.page_words c.sizes.items c.by_need c.page_shift };
 }
 
 impl Classes {
@@ -48,7 +49,7 @@ impl Classes {
         };
         Ok(Classes {
             sizes,
-            by_need,
+            by_need: Cells::new(by_need),
             page_words,
             page_shift: page_words.trailing_zeros(),
         })
@@ -107,13 +108,17 @@ impl Classes {
         ensures found { result ≡ class_of self.now.sizes bytes }
         ensures none { IsNone result ↔ (self.now.page_words < need bytes) }
         ensures within { IfSome result (λ c. c < length self.now.sizes) }
-        ensures steps { RoseBetween steps.old steps.new 1 8 }
+        ensures steps { RoseBy steps.old steps.new 1 }
     {
         let words = need_of(bytes);
-        steps.tick(2); // the page, and the entry
+        // A need of more than a page reads the entry of the page.
+        let class = self.by_need.get(words.min(self.page_words) as usize, steps);
         if words > self.page_words {
             return None;
         }
-        Some(u32::from(self.by_need[words as usize]))
+        Some(u32::from(class))
     }
 }
+
+#[cfg(test)]
+mod tests;

@@ -182,3 +182,6 @@ impl SlicedHeap {
         }
     }
 }
+
+#[cfg(test)]
+mod tests;

@@ -82,6 +82,7 @@ each_word n full j few is =
 
 pub tidy_new : (n full : ℕ) → n ≤ 4096 → full + 1 ≡ 2 ^ div_ceil n 64 → IsValid cleared full 0 n 0
 tidy_new n full few is = record {
+  count = length-replicate {A = ℕ} 64 0;
   few = few;
   clean = λ j _. rw (cleared-at j) (pow_pos (bits_in n j));
   some_free = λ j _. rw (cleared-at j) (each_word n full j few is);
@@ -113,10 +114,6 @@ module _ (words : List ℕ) (f u n c : ℕ) (count : length words ≡ 64) (tidy 
 
   pub unused_count : c ≡ 0
   unused_count = tidy.counted ∙ none
-
-  pub none_with_used : u < 2 ^ 64 → u ≡ 0
-  none_with_used fits = same_from_bits_below 64 u 0 fits (omega arith) (λ j short.
-      rw (tidy.some_used j short, word_clear j short, bit_at-zero) refl)
 
 -- ---- one slot is written
 
@@ -164,6 +161,7 @@ tidy_written words n i w old b f f' u u' c c' bf bu count tidy was wrote below w
     let here : get_or (set words (i / 64) w) (i / 64) 0 ≡ w = get_or-set_same words (i / 64) w 0 (omega arith) in
     let there : (k : ℕ) → k ≢ i / 64 → get_or (set words (i / 64) w) k 0 ≡ get_or words k 0 = λ k ne. get_or-set_other words (i / 64) k w 0 ne in
     record {
+      count = length-set words (i / 64) w ∙ count;
       few = tidy.few;
       clean = λ k short. elim (cases_eq k (i / 64)) [ inl e ↦ rw (e, here) below | inr ne ↦ rw (there k ne) (tidy.clean k short) ];
       some_free = summary_kept (i / 64) f f' bf (has_free words n) (has_free (set words (i / 64) w) n) wrote_f (rw here is_f)
@@ -210,6 +208,26 @@ module _ (words : List ℕ) (n i w f f' u u' c : ℕ) (count : length words ≡ 
   tidy_unset was wrote wrote_f wrote_u =
       tidy_written words n i w true false f f' u u' c (c - 1) true _ count tidy was wrote (below true was)
       wrote_f (bit_makes_free w _ (i % 64) (place true was).1 wrote.at) wrote_u refl (omega (arith, tidy.counted, counted_some words n i was))
+
+-- the bit b of the word j is written
+pub tidy_take : (words : List ℕ) (n j b w f f' u u' c full : ℕ) → IsValid words f u n c → j < 64 → b < 64
+    → ((m : ℕ) → b < m → get_or words j 0 < 2 ^ m → w < 2 ^ m)
+    → slice_get (slots_told words n) (64 * j + b) ≡ Some false → WritesBit 64 (get_or words j 0) w b true → full + 1 ≡ 2 ^ bits_in n j
+    → WritesBit 64 f f' j (not (w == full)) → WritesBit 64 u u' j true → IsValid (set words j w) f' u' n (c + 1)
+tidy_take words n j b w f f' u u' c full tidy short low within was wrote is wrote_f wrote_u =
+    let row : (64 * j + b) / 64 ≡ j = omega arith in
+    let column : (64 * j + b) % 64 ≡ b = omega arith in
+    let all = tidy_set words n (64 * j + b) w f f' u u' c tidy.count tidy (rw (row, column) within) full was (rw (row, column) wrote) (rw row is)
+    (rw row wrote_f) (rw row wrote_u) in
+    rw row at all
+
+pub written_at : (words : List ℕ) (n j b w : ℕ) → length words ≡ 64 → n ≤ 4096 → 64 * j + b < n → b < 64 → WritesBit 64 (get_or words j 0) w b true
+    → slots_told (set words j w) n ≡ set (slots_told words n) (64 * j + b) true
+written_at words n j b w count few lt low wrote =
+    let row : (64 * j + b) / 64 ≡ j = omega arith in
+    let column : (64 * j + b) % 64 ≡ b = omega arith in
+    let all = written words n (64 * j + b) w true count few lt (rw (row, column) wrote) in
+    rw row at all
 
 -- ---- the first used slot, and the first free one
 

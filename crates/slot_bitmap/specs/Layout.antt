@@ -1,5 +1,5 @@
 -- How a map keeps its slots in words of 64 bits. No public clause cites this module.
-use Rattle.std.specs.Prelude.{◌≡◌, ℕ, ◌+◌, ◌-◌, ◌*◌, ◌/◌, ◌%◌, ◌^◌, ◌<◌, ◌≤◌, ◌==◌, not, min, List, map, Bool, cond, slice_index}
+use Rattle.std.specs.Prelude.{◌≡◌, ℕ, ◌+◌, ◌-◌, ◌*◌, ◌/◌, ◌%◌, ◌^◌, ◌<◌, ◌≤◌, ◌==◌, not, min, List, length, map, Bool, cond, slice_index}
 use Rattle.std.specs.Int.{bit_at}
 use Rattle.std.specs.List.{range_with_len, count_by}
 
@@ -22,8 +22,9 @@ has_free words n j = not (slice_index words j + 1 == 2 ^ bits_in n j)
 abbrev pub has_used : List ℕ → ℕ → Bool
 has_used words j = not (slice_index words j == 0)
 
--- no bit past the n slots is set, the summaries say which words have a free slot and which a used one, and the count is right
+-- There are 64 words, no bit past the n slots is set, the summaries say which words have a free slot and which a used one, and the count is right
 pub record IsValid (words : List ℕ) (with_free with_used n used : ℕ) : Type 0 where
+  pub count : length words ≡ 64
   pub few : n ≤ 4096
   pub clean : (j : ℕ) → j < 64 → slice_index words j < 2 ^ bits_in n j
   pub some_free : (j : ℕ) → j < 64 → bit_at with_free j ≡ cond (has_free words n j) 1 0

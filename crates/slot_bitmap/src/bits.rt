@@ -1,20 +1,6 @@
 //! Words of 64 bits, bit by bit.
 ghost use Rattle.std.specs.Prelude.{◌≡◌, ◌≢◌, ℕ, ◌+◌, ◌^◌, ◌<◌, ◌≤◌, cond};
 ghost use Rattle.std.specs.Int.{bit_at};
-ghost use Rattle.cf_lemmas.specs.Bits.{WritesBit};
-
-/// The word with that bit set, or cleared where it is off.
-pub(crate) fn with_bit(word: u64, bit: u32, on: bool) -> u64
-    requires { bit < 64 }
-    ensures written { WritesBit 64 word result bit on }
-    ensures within { (n : ℕ) → bit < n → word < 2 ^ n → result < 2 ^ n }
-{
-    if on {
-        word | (1 << bit)
-    } else {
-        word & !(1 << bit)
-    }
-}
 
 /// Whether that bit is set.
 pub(crate) fn has_bit(word: u64, bit: u32) -> bool

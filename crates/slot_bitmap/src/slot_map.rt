@@ -1,9 +1,10 @@
 //! Which slots of a page are used.
-ghost use Rattle.std.specs.Prelude.{◌≡◌, ◌<◌, ◌≤◌, length, replicate, slice_get, slice_set, not, true, false, IfSome};
+ghost use Rattle.std.specs.Prelude.{◌≡◌, ◌<◌, ◌≤◌, length, replicate, slice_get, slice_set, not, true, false, IfSome, IsNone, is_some, if◌then◌else◌};
 ghost use Rattle.std.specs.List.{position, count_by};
-ghost use Rattle.step_ledger.specs.Counting.{RoseBy, RoseBetween};
+ghost use Rattle.step_ledger.specs.Counting.{RoseBy};
 
 use crate::bits;
+use counted_cells::{CellArray, WordCell, with_bit};
 use std::marker::Model;
 use step_ledger::Steps;
 
@@ -13,9 +14,9 @@ use step_ledger::Steps;
 /// free slot and which have a used one. It takes no memory beside its own 536 bytes.
 #[derive(Drop)]
 pub struct SlotMap {
-    words: [u64; 64],
-    with_free: u64,
-    with_used: u64,
+    words: CellArray<u64, 64>,
+    with_free: WordCell,
+    with_used: WordCell,
     slots: u32,
     used: u32,
 }
@@ -40,9 +41,9 @@ impl SlotMap {
         ensures { result ≡ replicate slots false }
     {
         SlotMap {
-            words: [0; 64],
-            with_free: bits::ones(slots.div_ceil(64)),
-            with_used: 0,
+            words: CellArray::new([0; 64]),
+            with_free: WordCell::new(bits::ones(slots.div_ceil(64))),
+            with_used: WordCell::new(0),
             slots,
             used: 0,
         }
@@ -56,9 +57,9 @@ impl SlotMap {
         ensures value { self.new ≡ replicate slots false }
         ensures steps { RoseBy steps.old steps.new 2 }
     {
-        steps.tick(2); // the number of slots, and the summary of the free ones
         self.slots = slots;
-        self.with_free = bits::ones(slots.div_ceil(64));
+        self.with_free.set(bits::ones(slots.div_ceil(64)), steps);
+        self.with_used.set(0, steps);
     }
 
     /// The number of slots.
@@ -81,72 +82,92 @@ impl SlotMap {
     pub fn is_used(&self, i: u32, steps: &mut Steps) -> bool
         requires { i < length self.now }
         ensures value { slice_get self.now i ≡ Some result }
-        ensures steps { RoseBetween steps.old steps.new 1 8 }
+        ensures steps { RoseBy steps.old steps.new 1 }
     {
-        steps.tick(1);
-        bits::has_bit(self.words[(i / 64) as usize], i % 64)
+        bits::has_bit(self.words.get((i / 64) as usize, steps), i % 64)
     }
 
     /// The least free slot; none where all are used.
     pub fn first_free(&self, steps: &mut Steps) -> Option<u32>
         ensures found { result ≡ position (λ used. not used) self.now }
         ensures free { IfSome result (λ i. slice_get self.now i ≡ Some false) }
-        ensures steps { RoseBetween steps.old steps.new 1 8 }
+        ensures steps { RoseBy steps.old steps.new (if is_some result then 2 else 1) }
     {
-        steps.tick(1);
-        if self.with_free == 0 {
+        let summary = self.with_free.get(steps);
+        if summary == 0 {
             return None;
         }
-        let at = bits::lowest_set(self.with_free);
-        steps.tick(1);
-        Some(64 * at + bits::lowest_clear(self.words[at as usize]))
+        let at = bits::lowest_set(summary);
+        let word = self.words.get(at as usize, steps);
+        Some(64 * at + bits::lowest_clear(word))
     }
 
     /// The least used slot; none where all are free.
     pub fn first_used(&self, steps: &mut Steps) -> Option<u32>
         ensures found { result ≡ position (λ used. used) self.now }
         ensures used { IfSome result (λ i. slice_get self.now i ≡ Some true) }
-        ensures steps { RoseBetween steps.old steps.new 1 8 }
+        ensures steps { RoseBy steps.old steps.new (if is_some result then 2 else 1) }
     {
-        steps.tick(1);
-        if self.with_used == 0 {
+        let summary = self.with_used.get(steps);
+        if summary == 0 {
             return None;
         }
-        let at = bits::lowest_set(self.with_used);
-        steps.tick(1);
-        Some(64 * at + bits::lowest_set(self.words[at as usize]))
+        let at = bits::lowest_set(summary);
+        let word = self.words.get(at as usize, steps);
+        Some(64 * at + bits::lowest_set(word))
     }
 
     /// A free slot becomes used.
     pub fn set(&mut self, i: u32, steps: &mut Steps)
         requires { slice_get self.old i ≡ Some false }
         ensures value { self.new ≡ slice_set self.old i true }
-        ensures steps { RoseBetween steps.old steps.new 1 8 }
+        ensures steps { RoseBy steps.old steps.new 3 }
     {
         prove!(i < self.slots);
-        steps.tick(3); // the word and both summaries
         let at = i / 64;
-        let word = bits::with_bit(self.words[at as usize], i % 64, true);
+        let word = self.words.write_bit(at as usize, i % 64, true, steps);
         let full = bits::ones((self.slots - 64 * at).min(64));
-        self.words[at as usize] = word;
-        self.with_free = bits::with_bit(self.with_free, at, word != full);
-        self.with_used = bits::with_bit(self.with_used, at, true);
+        self.with_free.write_bit(at, word != full, steps);
+        self.with_used.write_bit(at, true, steps);
         self.used += 1;
+    }
+
+    /// The least free slot becomes used; none where all are used. The summary of the free slots, a
+    /// word and the summary of the used ones are each touched once.
+    pub fn take_first(&mut self, steps: &mut Steps) -> Option<u32>
+        ensures found { result ≡ position (λ used. not used) self.old }
+        ensures free { IfSome result (λ i. slice_get self.old i ≡ Some false) }
+        ensures taken { IfSome result (λ i. self.new ≡ slice_set self.old i true) }
+        ensures none { IsNone result → self.new ≡ self.old }
+        ensures steps { RoseBy steps.old steps.new (if is_some result then 3 else 1) }
+    {
+        let summary = self.with_free.lend(steps);
+        if *summary == 0 {
+            return None;
+        }
+        let at = bits::lowest_set(*summary);
+        let (bit, word) = self.words.set_least_clear(at as usize, steps);
+        let full = bits::ones((self.slots - 64 * at).min(64));
+        *summary = with_bit(*summary, at, word != full);
+        self.with_used.write_bit(at, true, steps);
+        self.used += 1;
+        Some(64 * at + bit)
     }
 
     /// A used slot becomes free.
     pub fn unset(&mut self, i: u32, steps: &mut Steps)
         requires { slice_get self.old i ≡ Some true }
         ensures value { self.new ≡ slice_set self.old i false }
-        ensures steps { RoseBetween steps.old steps.new 1 8 }
+        ensures steps { RoseBy steps.old steps.new 3 }
     {
         prove!(i < self.slots);
-        steps.tick(3);
         let at = i / 64;
-        let word = bits::with_bit(self.words[at as usize], i % 64, false);
-        self.words[at as usize] = word;
-        self.with_free = bits::with_bit(self.with_free, at, true);
-        self.with_used = bits::with_bit(self.with_used, at, word != 0);
+        let word = self.words.write_bit(at as usize, i % 64, false, steps);
+        self.with_free.write_bit(at, true, steps);
+        self.with_used.write_bit(at, word != 0, steps);
         self.used -= 1;
     }
 }
+
+#[cfg(test)]
+mod tests;

@@ -1,9 +1,11 @@
 //! Reading and writing what stands in an open heap.
-ghost use Rattle.std.specs.Prelude.{◌≡◌, ℕ, ◌≤◌, slice_get};
+ghost use Rattle.std.specs.Prelude.{◌≡◌, ℕ, if◌then◌else◌, is_some, length, slice_get};
+ghost use Rattle.step_ledger.specs.Counting.{RoseBy};
 ghost use Rattle.cf_model.specs.Answers.{place_of};
 ghost use Rattle.cf_model.specs.Rules.{KeepsRules};
 ghost use Rattle.cf_model.specs.Steps.{IsReadAnswer, IsResizeFault, IsWriteStep, StaysOpen};
 ghost use Rattle.tag_heap.specs.Access.{IsFound};
+ghost use Rattle.tag_heap.specs.Costs.{access_steps, found_steps};
 ghost use Rattle.tag_heap.specs.Heap.{state_of};
 
 use crate::open_heap::OpenHeap;
@@ -16,7 +18,7 @@ impl<B: Yardstick> OpenHeap<B> {
     /// The first word of the object's block; none where the handle isn't live.
     pub(crate) fn place(&self, h: Handle, steps: &mut Steps) -> Option<u32>
         ensures value { result ≡ place_of (state_of B.kind self.now) h.0 }
-        ensures rises { steps.old ≤ steps.new }
+        ensures steps { RoseBy steps.old steps.new 1 }
     {
         self.proxies.lookup(h, steps)
     }
@@ -25,7 +27,7 @@ impl<B: Yardstick> OpenHeap<B> {
     pub(crate) fn peek(&self, word: u32, steps: &mut Steps) -> Option<u64>
         ensures value { result ≡ slice_get (state_of B.kind self.now).words word }
         ensures rules { KeepsRules (state_of B.kind self.now) }
-        ensures rises { steps.old ≤ steps.new }
+        ensures steps { RoseBy steps.old steps.new (if is_some result then 1 else 0) }
     {
         if word < self.settings.pages * self.settings.page_words {
             Some(self.blocks.peek(word, steps))
@@ -44,7 +46,7 @@ impl<B: Yardstick> OpenHeap<B> {
     ) -> Result<(), AccessFault>
         ensures answer { IsReadAnswer (state_of B.kind self.now) (record { number = h.0; from = at }) out.old result out.new }
         ensures rules { KeepsRules (state_of B.kind self.now) }
-        ensures rises { steps.old ≤ steps.new }
+        ensures steps { RoseBy steps.old steps.new (access_steps at (length out.old) result) }
     {
         let blocks = &self.blocks;
         let place = self.find(h, at, out.len(), steps)?;
@@ -63,7 +65,7 @@ impl<B: Yardstick> OpenHeap<B> {
         ensures same { StaysOpen (state_of B.kind self.old) (state_of B.kind self.new) }
         ensures step { IsWriteStep (state_of B.kind self.old) (record { number = h.0; from = at }) bytes.now result (state_of B.kind self.new) }
         ensures rules { KeepsRules (state_of B.kind self.new) }
-        ensures rises { steps.old ≤ steps.new }
+        ensures steps { RoseBy steps.old steps.new (access_steps at (length bytes.now) result) }
     {
         let place = self.find(h, at, bytes.len(), steps)?;
         self.blocks.write_bytes(place, at as usize, bytes, steps);
@@ -73,7 +75,7 @@ impl<B: Yardstick> OpenHeap<B> {
     /// The address of the object, of which `count` bytes from `at` on are asked for.
     fn find(&self, h: Handle, at: u32, count: usize, steps: &mut Steps) -> Result<u32, AccessFault>
         ensures found { IsFound B.kind self.now (record { number = h.0; from = at }) count result }
-        ensures rises { steps.old ≤ steps.new }
+        ensures steps { RoseBy steps.old steps.new (found_steps result) }
     {
         let Some(place) = self.proxies.lookup(h, steps) else {
             return Err(AccessFault::Unknown);
@@ -89,7 +91,7 @@ impl<B: Yardstick> OpenHeap<B> {
     pub(crate) fn resize_fault(&self, h: Handle, steps: &mut Steps) -> ResizeFault
         ensures step { (bytes : ℕ) → IsResizeFault (state_of B.kind self.now) (record { number = h.0; length = bytes }) result }
         ensures rules { KeepsRules (state_of B.kind self.now) }
-        ensures rises { steps.old ≤ steps.new }
+        ensures steps { RoseBy steps.old steps.new 1 }
     {
         match self.proxies.lookup(h, steps) {
             Some(_) => ResizeFault::Kind,

@@ -1,18 +1,20 @@
 //! What an open heap tells of itself in numbers.
-ghost use Rattle.std.specs.Prelude.{◌≡◌, ◌≤◌};
-ghost use Rattle.cf_model.specs.Answers.{block_totals};
+ghost use Rattle.std.specs.Prelude.{◌≡◌, ◌+◌, ◌*◌};
+ghost use Rattle.step_ledger.specs.Counting.{RoseAtMost};
+ghost use Rattle.cf_model.specs.Answers.{block_totals, usage_of};
 ghost use Rattle.tag_heap.specs.Heap.{state_of};
 
 use crate::open_heap::OpenHeap;
 use crate::yardstick::Yardstick;
 use cf_base::Totals;
+use cf_model::Usage;
 use step_ledger::Steps;
 
 impl<B: Yardstick> OpenHeap<B> {
-    /// The figures of the whole heap.
+    /// The figures of the whole heap. The largest free block is looked for along the last free list.
     pub(crate) fn totals(&self, steps: &mut Steps) -> Totals
         ensures value { result ≡ block_totals (state_of B.kind self.now) }
-        ensures rises { steps.old ≤ steps.new }
+        ensures bound { RoseAtMost steps.old steps.new (3 + 2 * result.free) }
     {
         Totals {
             live: self.proxies.live(),
@@ -22,6 +24,17 @@ impl<B: Yardstick> OpenHeap<B> {
             used: self.blocks.used(),
             free: self.blocks.free(),
             largest: self.blocks.largest(steps),
+        }
+    }
+
+    /// What the heap uses.
+    pub(crate) fn usage(&self) -> Usage
+        ensures { result ≡ usage_of (block_totals (state_of B.kind self.now)) }
+    {
+        Usage {
+            asked: self.asked,
+            taken: 8 * u64::from(self.used_words),
+            held: 8 * u64::from(self.settings.pages * self.settings.page_words),
         }
     }
 }

@@ -1,7 +1,9 @@
 //! An object goes.
 ghost use Rattle.std.specs.Prelude.{◌≡◌, ◌+◌, ◌^◌, ◌≤◌};
+ghost use Rattle.step_ledger.specs.Counting.{RoseAtMost};
 ghost use Rattle.cf_model.specs.Rules.{KeepsRules};
 ghost use Rattle.cf_model.specs.Steps.{IsFreeStep, StaysOpen};
+ghost use Rattle.tag_heap.specs.Costs.{free_steps};
 ghost use Rattle.tag_heap.specs.Heap.{state_of};
 
 use crate::open_heap::OpenHeap;
@@ -18,6 +20,7 @@ impl<B: Yardstick> OpenHeap<B> {
         ensures step { IsFreeStep (state_of B.kind self.old) h.0 result (state_of B.kind self.new) }
         ensures rules { KeepsRules (state_of B.kind self.new) }
         ensures rises { steps.old ≤ steps.new }
+        ensures bound { RoseAtMost steps.old steps.new (free_steps result) }
         ensures told { steps.new ≡ steps.old + self.new.cost }
     {
         let before = steps.count();
@@ -32,6 +35,7 @@ impl<B: Yardstick> OpenHeap<B> {
         ensures step { IsFreeStep (state_of B.kind self.old) h.0 result (state_of B.kind self.new) }
         ensures rules { KeepsRules (state_of B.kind self.new) }
         ensures rises { steps.old ≤ steps.new }
+        ensures bound { RoseAtMost steps.old steps.new (free_steps result) }
     {
         let Some(place) = self.proxies.lookup(h, steps) else {
             return Err(NotLive);

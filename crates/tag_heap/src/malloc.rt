@@ -1,7 +1,9 @@
 //! An object comes.
 ghost use Rattle.std.specs.Prelude.{◌≡◌, ◌+◌, ◌^◌, ◌≤◌};
+ghost use Rattle.step_ledger.specs.Counting.{RoseAtMost};
 ghost use Rattle.cf_model.specs.Rules.{KeepsRules};
 ghost use Rattle.cf_model.specs.Steps.{IsMallocStep, StaysOpen};
+ghost use Rattle.tag_heap.specs.Costs.{malloc_steps};
 ghost use Rattle.tag_heap.specs.Heap.{state_of};
 
 use crate::open_heap::OpenHeap;
@@ -18,6 +20,7 @@ impl<B: Yardstick> OpenHeap<B> {
         ensures step { IsMallocStep (state_of B.kind self.old) bytes result (state_of B.kind self.new) }
         ensures rules { KeepsRules (state_of B.kind self.new) }
         ensures rises { steps.old ≤ steps.new }
+        ensures bound { RoseAtMost steps.old steps.new (malloc_steps result) }
         ensures told { steps.new ≡ steps.old + self.new.cost }
     {
         let before = steps.count();
@@ -33,6 +36,7 @@ impl<B: Yardstick> OpenHeap<B> {
         ensures step { IsMallocStep (state_of B.kind self.old) bytes result (state_of B.kind self.new) }
         ensures rules { KeepsRules (state_of B.kind self.new) }
         ensures rises { steps.old ≤ steps.new }
+        ensures bound { RoseAtMost steps.old steps.new (malloc_steps result) }
     {
         let need = need_of(bytes);
         if self.settings.page_words < need {

@@ -1,6 +1,12 @@
 //! The heap that a caller holds: closed, or open.
-ghost use Rattle.std.specs.Prelude.{◌≡◌, IsTrue};
+ghost use Rattle.std.specs.Prelude.{◌≡◌, ◌+◌, ◌*◌, ◌^◌, ◌≤◌, IsTrue, if◌then◌else◌, is_some, length, slice_get};
+ghost use Rattle.step_ledger.specs.Counting.{RoseAtMost, RoseBy};
+ghost use Rattle.cf_model.specs.Answers.{block_in, place_of, totals_in, usage_in};
+ghost use Rattle.cf_model.specs.Costs.{TakesAtMost, TellsCost, access_bound, free_bound, resize_bound};
+ghost use Rattle.cf_model.specs.Rules.{KeepsRules};
 ghost use Rattle.cf_model.specs.State.{closed_state};
+ghost use Rattle.cf_model.specs.Steps.{BlocksStayIn, IsFreeStep, IsMallocStep, IsReadAnswer, IsResizeStep, IsWriteStep, StaysOpen};
+ghost use Rattle.tag_heap.specs.Costs.{access_steps, free_steps, malloc_steps};
 ghost use Rattle.tag_heap.specs.Heap.{state_of};
 
 use crate::open_heap::OpenHeap;
@@ -9,7 +15,7 @@ use cf_base::{
     AccessFault, Figures, Freed, Handle, Kind, NotLive, OutOfMemory, Refusal, ResizeFault, Resized,
     Settings, Totals,
 };
-use cf_model::Manager;
+use cf_model::{Manager, Usage};
 use std::alloc::Global;
 use std::marker::Model;
 use step_ledger::Steps;
@@ -73,14 +79,33 @@ impl<B: Yardstick> Manager for TagHeap<B> {
         Ok(())
     }
 
-    fn malloc(&mut self, bytes: u32, steps: &mut Steps) -> Result<Handle, Refusal> {
+    fn malloc(&mut self, bytes: u32, steps: &mut Steps) -> Result<Handle, Refusal>
+        requires open { IsTrue self.old.is_open }
+        requires room { steps.old ≤ 2 ^ 63 }
+        ensures same { StaysOpen self.old self.new }
+        ensures step { IsMallocStep self.old bytes result self.new }
+        ensures rules { KeepsRules self.new }
+        ensures bound { TakesAtMost self.old.kind steps.old steps.new 64 }
+        ensures told { steps.new ≡ steps.old + self.new.cost }
+        ensures steps { RoseAtMost steps.old steps.new (malloc_steps result) }
+    {
         match &mut self.inner {
             Some(open) => open.malloc(bytes, steps),
             None => unreachable!(),
         }
     }
 
-    fn free(&mut self, h: Handle, steps: &mut Steps) -> Result<Freed, NotLive> {
+    fn free(&mut self, h: Handle, steps: &mut Steps) -> Result<Freed, NotLive>
+        requires open { IsTrue self.old.is_open }
+        requires room { steps.old ≤ 2 ^ 63 }
+        ensures same { StaysOpen self.old self.new }
+        ensures step { IsFreeStep self.old h.0 result self.new }
+        ensures rules { KeepsRules self.new }
+        ensures bound { TakesAtMost self.old.kind steps.old steps.new (free_bound result) }
+        ensures told { steps.new ≡ steps.old + self.new.cost }
+        ensures blocks { BlocksStayIn self.old.kind self.old h.0 self.new }
+        ensures steps { RoseAtMost steps.old steps.new (free_steps result) }
+    {
         match &mut self.inner {
             Some(open) => open.free(h, steps),
             None => unreachable!(),
@@ -93,32 +118,46 @@ impl<B: Yardstick> Manager for TagHeap<B> {
         at: u32,
         bytes: &[u8],
         steps: &mut Steps,
-    ) -> Result<(), AccessFault> {
+    ) -> Result<(), AccessFault>
+        requires open { IsTrue self.old.is_open }
+        requires room { steps.old ≤ 2 ^ 63 }
+        ensures same { StaysOpen self.old self.new }
+        ensures step { IsWriteStep self.old (record { number = h.0; from = at }) bytes.now result self.new }
+        ensures rules { KeepsRules self.new }
+        ensures bound { TakesAtMost self.old.kind steps.old steps.new (access_bound at (length bytes.now)) }
+        ensures steps { RoseBy steps.old steps.new (access_steps at (length bytes.now) result) }
+    {
         match &mut self.inner {
             Some(open) => open.write(h, at, bytes, steps),
             None => unreachable!(),
         }
     }
 
-    fn read(
-        &self,
-        h: Handle,
-        at: u32,
-        out: &mut [u8],
-        steps: &mut Steps,
-    ) -> Result<(), AccessFault> {
+    fn read(&self, h: Handle, at: u32, out: &mut [u8], steps: &mut Steps) -> Result<(), AccessFault>
+        requires open { IsTrue self.now.is_open }
+        requires room { steps.old ≤ 2 ^ 63 }
+        ensures answer { IsReadAnswer self.now (record { number = h.0; from = at }) out.old result out.new }
+        ensures rules { KeepsRules self.now }
+        ensures bound { TakesAtMost self.now.kind steps.old steps.new (access_bound at (length out.old)) }
+        ensures steps { RoseBy steps.old steps.new (access_steps at (length out.old) result) }
+    {
         match &self.inner {
             Some(open) => open.read(h, at, out, steps),
             None => unreachable!(),
         }
     }
 
-    fn resize(
-        &mut self,
-        h: Handle,
-        _bytes: u32,
-        steps: &mut Steps,
-    ) -> Result<Resized, ResizeFault> {
+    fn resize(&mut self, h: Handle, _bytes: u32, steps: &mut Steps) -> Result<Resized, ResizeFault>
+        requires open { IsTrue self.old.is_open }
+        requires room { steps.old ≤ 2 ^ 63 }
+        ensures same { StaysOpen self.old self.new }
+        ensures step { IsResizeStep self.old (record { number = h.0; length = _bytes }) result self.new }
+        ensures rules { KeepsRules self.new }
+        ensures bound { TakesAtMost self.old.kind steps.old steps.new (resize_bound result) }
+        ensures told { TellsCost self.old.kind steps.old steps.new self.new.cost }
+        ensures blocks { BlocksStayIn self.old.kind self.old h.0 self.new }
+        ensures steps { RoseBy steps.old steps.new 1 }
+    {
         match &self.inner {
             Some(open) => Err(open.resize_fault(h, steps)),
             None => unreachable!(),
@@ -130,18 +169,34 @@ impl<B: Yardstick> Manager for TagHeap<B> {
         false
     }
 
-    fn place(&self, h: Handle, steps: &mut Steps) -> Option<u32> {
+    fn place(&self, h: Handle, steps: &mut Steps) -> Option<u32>
+        requires { IsTrue self.now.is_open }
+        ensures value { result ≡ place_of self.now h.0 }
+        ensures rises { steps.old ≤ steps.new }
+        ensures steps { RoseBy steps.old steps.new 1 }
+    {
         self.open().place(h, steps)
     }
 
-    fn peek(&self, word: u32, steps: &mut Steps) -> Option<u64> {
+    fn peek(&self, word: u32, steps: &mut Steps) -> Option<u64>
+        requires { IsTrue self.now.is_open }
+        ensures value { result ≡ slice_get self.now.words word }
+        ensures rules { KeepsRules self.now }
+        ensures rises { steps.old ≤ steps.new }
+        ensures steps { RoseBy steps.old steps.new (if is_some result then 1 else 0) }
+    {
         match &self.inner {
             Some(open) => open.peek(word, steps),
             None => unreachable!(),
         }
     }
 
-    fn block(&self, _h: Handle, _i: u32, _steps: &mut Steps) -> Option<u32> {
+    fn block(&self, _h: Handle, _i: u32, _steps: &mut Steps) -> Option<u32>
+        requires { IsTrue self.now.is_open }
+        ensures value { result ≡ block_in self.now.kind self.now _h.0 _i }
+        ensures rises { _steps.old ≤ _steps.new }
+        ensures steps { _steps.new ≡ _steps.old }
+    {
         let _open = self.open();
         None
     }
@@ -156,8 +211,22 @@ impl<B: Yardstick> Manager for TagHeap<B> {
         None
     }
 
-    fn totals(&self, steps: &mut Steps) -> Totals {
+    fn totals(&self, steps: &mut Steps) -> Totals
+        requires { IsTrue self.now.is_open }
+        ensures value { result ≡ totals_in self.now.kind self.now }
+        ensures rises { steps.old ≤ steps.new }
+        ensures steps { RoseAtMost steps.old steps.new (3 + 2 * result.free) }
+    {
         self.open().totals(steps)
+    }
+
+    fn usage(&self, _steps: &mut Steps) -> Usage
+        requires { IsTrue self.now.is_open }
+        ensures value { result ≡ usage_in self.now.kind self.now }
+        ensures rises { _steps.old ≤ _steps.new }
+        ensures steps { _steps.new ≡ _steps.old }
+    {
+        self.open().usage()
     }
 
     fn cost(&self) -> u64 {

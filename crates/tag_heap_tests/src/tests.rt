@@ -1,4 +1,5 @@
 //! Long runs of drawn calls on both managers of blocks, against plain lists of blocks.
+mod costs;
 mod half_fit;
 mod tlsf;
 

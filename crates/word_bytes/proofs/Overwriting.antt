@@ -1,5 +1,5 @@
 -- Bytes that are written over others, cell by cell.
-use Rattle.std.proofs.Common.{◌≡◌, ℕ, zero, suc, ◌+◌, ◌-◌, ◌/◌, ◌%◌, ◌<◌, ◌≤◌, true, false, List, length, get_or, set, take, drop, arith, lit<, ◌^◌, sym, ◌∙◌}
+use Rattle.std.proofs.Common.{◌≡◌, ℕ, zero, suc, ◌+◌, ◌-◌, ◌/◌, ◌%◌, ◌<◌, ◌≤◌, true, false, List, [], ◌∷◌, length, get_or, set, take, drop, arith, lit<, ◌^◌, sym, ◌∙◌}
 use Rattle.std.proofs.Common.{inl, inr, ap, refl}
 use Rattle.std.specs.Prelude.{◌⊎◌, nat_le, nat_lt}
 use Rattle.std.proofs.lemmas.List.{get_or-set_same, get_or-set_other, get_or_past, get_or-take, get_or-drop, length-take, length-drop}
@@ -89,6 +89,23 @@ cell_written old words at done n word bytes fits inside lt so_far patch k =
           elim (cases_lt k (at + done)) [ inl below ↦ inl below | inr above ↦ inr (omega arith) ]))
     ]
 
+-- nothing is written
+pub none_overwritten : (f : ℕ → ℕ) (at : ℕ) (bytes : List ℕ) (k : ℕ) → overwritten f at (take 0 bytes) k ≡ f k
+none_overwritten f at bytes k = elim (cases_lt k at) [
+  | inl before ↦ overwritten_before f at (take 0 bytes) k before
+  | inr from ↦ overwritten_behind f at (take 0 bytes) k (let e = length-take 0 bytes in omega arith)
+]
+
+-- the same, where the cell, the byte in it and the part are given
+pub cell_put : (old words : List ℕ) (at done n more cell from word : ℕ) (part bytes : List ℕ) → more ≡ done + n → cell ≡ (at + done) / 8
+    → from ≡ (at + done) % 8 → part ≡ take n (drop done bytes) → more ≤ length bytes → from + n ≤ 8 → cell < length words
+    → ((k : ℕ) → byte_in words k ≡ overwritten (byte_in old) at (take done bytes) k)
+    → ((j : ℕ) → j < 8 → byte_of j word ≡ overwritten (λ i. byte_of i (get_or words cell 0)) from part j)
+    → (k : ℕ) → byte_in (set words cell word) k ≡ overwritten (byte_in old) at (take more bytes) k
+cell_put old words at done n more cell from word part bytes is_more is_cell is_from is_part fits inside lt so_far patch k =
+    rw (is_more, is_cell) (cell_written old words at done n word bytes (omega arith) (omega arith) (omega arith) so_far
+    (λ j l. rw (is_cell, is_from, is_part) at (patch j l)) k)
+
 -- the bytes of a word, as std has them
 pub cell_byte : (w j : ℕ) → j < 8 → get_or (to_le_bytes w64 w) j 0 ≡ byte_of j w
 cell_byte w zero lt = refl
@@ -129,3 +146,33 @@ word_patched word from result cell part small fits bytes is gives j lt =
       | inl l ↦ rw (cell_byte w i l) (byte_below i w)
       | inr past ↦ rw (get_or_past (to_le_bytes w64 w) i 0 past) (lit< tt)
     ]
+
+-- eight bytes as a word
+abbrev cell_of : List ℕ → List ℕ
+cell_of part =
+    get_or part 0 0 ∷ get_or part 1 0 ∷ get_or part 2 0 ∷ get_or part 3 0 ∷ get_or part 4 0 ∷ get_or part 5 0 ∷ get_or part 6 0 ∷ get_or part 7 0 ∷ []
+
+cell_same : (part : List ℕ) (j : ℕ) → j < 8 → get_or (cell_of part) j 0 ≡ get_or part j 0
+cell_same part zero lt = refl
+cell_same part (suc zero) lt = refl
+cell_same part (suc (suc zero)) lt = refl
+cell_same part (suc (suc (suc zero))) lt = refl
+cell_same part (suc (suc (suc (suc zero)))) lt = refl
+cell_same part (suc (suc (suc (suc (suc zero))))) lt = refl
+cell_same part (suc (suc (suc (suc (suc (suc zero)))))) lt = refl
+cell_same part (suc (suc (suc (suc (suc (suc (suc zero))))))) lt = refl
+cell_same part (suc (suc (suc (suc (suc (suc (suc (suc j)))))))) lt = absurd (omega arith)
+
+pub word_from : (part : List ℕ) (result : ℕ) → AreBytes part → result ≡ from_le_bytes w64 (cell_of part) → (j : ℕ) → j < 8 → byte_of j result ≡ get_or part j 0
+word_from part result bytes gives j lt =
+    let good : AreBytes (cell_of part) = λ i. elim (cases_lt i 8) [
+      | inl l ↦ rw (cell_same part i l) (bytes i)
+      | inr past ↦ rw (get_or_past (cell_of part) i 0 past) (lit< tt)
+    ] in
+    sym (cell_byte result j lt) ∙ ap (λ xs. get_or xs j 0) (le_bytes_8 (cell_of part) result refl good gives) ∙ cell_same part j lt
+
+-- it is written over all bytes of another one
+pub all_overwritten : (f : ℕ → ℕ) (word : ℕ) (part : List ℕ) → length part ≡ 8 → ((j : ℕ) → j < 8 → byte_of j word ≡ get_or part j 0)
+    → (j : ℕ) → j < 8 → byte_of j word ≡ overwritten f 0 part j
+all_overwritten f word part long each j lt =
+    each j lt ∙ ap (λ (i : ℕ). get_or part i 0) (let e : j ≡ j - 0 = omega arith in e) ∙ sym (overwritten_inside f 0 part j (omega arith) (omega arith))

@@ -29,6 +29,17 @@ pub(crate) fn patched(word: u64, from: usize, part: &[u8]) -> u64
     u64::from_le_bytes(cell)
 }
 
+/// The word of eight bytes.
+fn word_of(part: &[u8]) -> u64
+    requires { length part.now ≡ 8 }
+    ensures { (j : ℕ) → j < 8 → byte_of j result ≡ slice_index part.now j }
+{
+    // Eight bytes that stand together are one load.
+    u64::from_le_bytes([
+        part[0], part[1], part[2], part[3], part[4], part[5], part[6], part[7],
+    ])
+}
+
 /// Copies the bytes of a word from byte `from` on.
 pub(crate) fn copy_cell(word: u64, from: usize, out: &mut [u8])
     requires { from + length out.old ≤ 8 }
@@ -49,11 +60,16 @@ pub fn read_bytes(words: &[u64], at: usize, out: &mut [u8])
     ensures { (k : ℕ) → k < length out.new → slice_index out.new k ≡ byte_in words.now (at + k) }
 {
     let mut done = 0;
-    'cells: while done < out.len() {
-        let from = (at + done) % CELL;
-        let n = (CELL - from).min(out.len() - done);
-        copy_cell(words[(at + done) / CELL], from, &mut out[done..done + n]);
-        done += n;
+    if at % CELL > 0 {
+        done = (CELL - at % CELL).min(out.len());
+        copy_cell(words[at / CELL], at % CELL, &mut out[..done]);
+    }
+    'whole: while done + CELL <= out.len() {
+        copy_cell(words[(at + done) / CELL], 0, &mut out[done..done + CELL]);
+        done += CELL;
+    }
+    if done < out.len() {
+        copy_cell(words[(at + done) / CELL], 0, &mut out[done..]);
     }
 }
 
@@ -63,11 +79,16 @@ pub fn write_bytes(words: &mut [u64], at: usize, bytes: &[u8])
     ensures { (k : ℕ) → byte_in words.new k ≡ overwritten (byte_in words.old) at bytes.now k }
 {
     let mut done = 0;
-    'cells: while done < bytes.len() {
+    if at % CELL > 0 {
+        done = (CELL - at % CELL).min(bytes.len());
+        words[at / CELL] = patched(words[at / CELL], at % CELL, &bytes[..done]);
+    }
+    'whole: while done + CELL <= bytes.len() {
+        words[(at + done) / CELL] = word_of(&bytes[done..done + CELL]);
+        done += CELL;
+    }
+    if done < bytes.len() {
         let cell = (at + done) / CELL;
-        let from = (at + done) % CELL;
-        let n = (CELL - from).min(bytes.len() - done);
-        words[cell] = patched(words[cell], from, &bytes[done..done + n]);
-        done += n;
+        words[cell] = patched(words[cell], 0, &bytes[done..]);
     }
 }

@@ -1,6 +1,5 @@
 //! Slots taken and given back, of pages of 1 to 4,096.
 use slot_bitmap::SlotMap;
-use std::rt::HostRuntime;
 use step_ledger::Meter;
 
 #[test]
@@ -27,5 +26,10 @@ fn slots_are_taken_and_given_back_in_order(rt: HostRuntime) {
         }
         assert_eq!(rt; map.count(steps), 0);
         assert_eq!(rt; map.first_used(steps), None, "of {slots}");
+        for next in 0..slots {
+            assert_eq!(rt; map.take_first(steps), Some(next), "of {slots}");
+        }
+        assert_eq!(rt; map.take_first(steps), None, "of {slots}");
+        assert_eq!(rt; map.count(steps), slots);
     }
 }

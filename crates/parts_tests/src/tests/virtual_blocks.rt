@@ -1,5 +1,5 @@
-//! Runs of entries that change places, and runs that stand side by side.
-use block_table::{BlockRun, BlockTable};
+//! Runs of entries that change places, and runs that are lent.
+use block_table::BlockTable;
 use std::test::Fail;
 use step_ledger::Meter;
 
@@ -28,20 +28,12 @@ fn runs_of_entries_change_places(rt: HostRuntime) -> Result<(), Fail> {
     assert_eq!(rt; table.block(19, meter.steps()), 9);
     assert_eq!(rt; table.block(16, meter.steps()), 6);
     assert_eq!(rt; meter.lap(), 1 + 6 + 7 + 2);
-    // block, its entry, the most, and what stands side by side
-    for (v, first, most, count, next, steps) in [
-        (0, 0, 6, 6, 0, 5),
-        (0, 0, 7, 6, 16, 6),
-        (7, 17, 1, 1, 17, 0),
-        (7, 17, 9, 5, 12, 5),
-        (11, 21, 21, 1, 12, 1),
-        (22, 22, 10, 10, 22, 9),
-    ] {
-        let entry = table.block(v, meter.steps());
-        assert_eq!(rt; entry, first, "from {v}");
-        let run = table.run(v, entry, most, meter.steps());
-        assert_eq!(rt; run, BlockRun { count, next }, "from {v}");
-        assert_eq!(rt; meter.lap(), 1 + steps, "from {v}");
+    // The entries of blocks 6 to 17 are lent for a step each.
+    let run = table.run(6, 12, meter.steps());
+    assert_eq!(rt; meter.lap(), 12);
+    assert_eq!(rt; run.len(), 12);
+    for (i, want) in [(0, 16), (5, 21), (6, 12), (9, 15), (10, 6), (11, 7)] {
+        assert_eq!(rt; run.get(i).copied(), Some(want), "entry {i}");
     }
     Ok(())
 }

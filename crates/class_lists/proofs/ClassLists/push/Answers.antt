@@ -1,35 +1,45 @@
-use Rattle.std.proofs.Common.{length, arith, refl, ◌∙◌, ap, rules}
+use Rattle.std.proofs.Common.{◌+◌, length, get_or, arith, sym, ◌∙◌, ap, rules}
 use Rattle.std.proofs.Math.ListN.{set, length-set}
-use Rattle.class_lists.proofs.Views.{follower_within, room_for_one, counted, pushed}
+use Rattle.class_lists.proofs.Views.{list_within, follower_within, room_for_one, counted, pushed}
 use Rattle.class_lists.proofs.ClassLists.push.Goals as goal
 
-pub join-requires-2-clause-after : goal.join-requires-2-clause-after
-join-requires-2-clause-after c =
+pub join-requires-clause-after : goal.join-requires-clause-after
+join-requires-clause-after c =
     let within = follower_within _ _ _ _ c.self.invariant _ c.self.view_is c.args.c c.args.which _ c.number_of-list.ensures c.requires.class
-    c.index-first.result.now c.index-first.ensures in
-    let long = ap length c.join.ensures.previous ∙ length-set c.self.inside.links.previous.items c.args.page _ in
+    c.replace-first.result c.replace-first.ensures.value in
+    let long = ap length c.set.ensures.cells ∙ length-set c.self.inside.links.previous c.args.page _ in
     omega (arith, c.self.invariant.backed)
 
-pub overflow_add-index_mut : goal.overflow_add-index_mut
-overflow_add-index_mut c =
+pub of-len-requires : goal.of-len-requires
+of-len-requires c = list_within _ _ _ _ c.self.invariant _ c.self.view_is c.args.c c.args.which c.requires.class
+
+pub put-requires : goal.put-requires
+put-requires c = list_within _ _ _ _ c.self.invariant _ c.self.view_is c.args.c c.args.which c.requires.class
+
+pub overflow_add-len : goal.overflow_add-len
+overflow_add-len c =
     let room = room_for_one _ _ _ _ c.self.invariant _ c.self.view_is c.args.c c.args.which _ c.number_of-list.ensures c.requires.class
     c.args.page c.requires.page c.requires.unlisted in
     let len = counted _ _ _ _ c.self.invariant _ c.self.view_is c.args.c c.args.which _ c.number_of-list.ensures c.requires.class
-    c.index_mut.result.now c.index_mut.ensures.value in
+    c.of-len.result (c.of-len.ensures ∙ ap (λ k. get_or c.self.inside.lens k 0) (sym c.number_of-list.ensures)) in
     omega (arith, c.self.invariant.nodes, c.self.invariant.few)
 
 pub invariant_of-self : goal.invariant_of-self
 invariant_of-self c =
     let all = pushed _ _ _ _ c.self.invariant _ c.self.view_is c.args.c c.args.which _ c.number_of-list.ensures c.requires.class
-    c.args.page c.requires.page c.requires.unlisted c.index-first.result.now c.index_mut.result.now _ _ _ c.index-first.ensures c.index_mut.ensures.value
-    (c.join-2.ensures.next ∙ ap (λ xs. set xs c.args.page c.index-first.result.now) c.join.ensures.next)
-    (c.join-2.ensures.previous ∙ ap (λ xs. set xs c.index-first.result.now c.args.page) c.join.ensures.previous) refl in
+    c.args.page c.requires.page c.requires.unlisted c.replace-first.result c.of-len.result _ _ _ c.replace-first.ensures.value
+    (c.of-len.ensures ∙ ap (λ k. get_or c.self.inside.lens k 0) (sym c.number_of-list.ensures))
+    (c.join.ensures.next ∙ ap (λ xs. set xs c.args.page c.replace-first.result) c.replace-first.ensures.cells)
+    (c.join.ensures.previous ∙ ap (λ xs. set xs c.replace-first.result c.args.page) c.set.ensures.cells)
+    (c.put.ensures ∙ ap (λ k. set c.self.inside.lens k (c.of-len.result + 1)) (sym c.number_of-list.ensures)) in
     all.sound
 
 pub returns : goal.returns
 returns c =
     let all = pushed _ _ _ _ c.self.invariant _ c.self.view_is c.args.c c.args.which _ c.number_of-list.ensures c.requires.class
-    c.args.page c.requires.page c.requires.unlisted c.index-first.result.now c.index_mut.result.now _ _ _ c.index-first.ensures c.index_mut.ensures.value
-    (c.join-2.ensures.next ∙ ap (λ xs. set xs c.args.page c.index-first.result.now) c.join.ensures.next)
-    (c.join-2.ensures.previous ∙ ap (λ xs. set xs c.index-first.result.now c.args.page) c.join.ensures.previous) refl in
+    c.args.page c.requires.page c.requires.unlisted c.replace-first.result c.of-len.result _ _ _ c.replace-first.ensures.value
+    (c.of-len.ensures ∙ ap (λ k. get_or c.self.inside.lens k 0) (sym c.number_of-list.ensures))
+    (c.join.ensures.next ∙ ap (λ xs. set xs c.args.page c.replace-first.result) c.replace-first.ensures.cells)
+    (c.join.ensures.previous ∙ ap (λ xs. set xs c.replace-first.result c.args.page) c.set.ensures.cells)
+    (c.put.ensures ∙ ap (λ k. set c.self.inside.lens k (c.of-len.result + 1)) (sym c.number_of-list.ensures)) in
     record { lists = all.lists; list = all.list; others = all.others; kept = all.kept; steps = search rules }

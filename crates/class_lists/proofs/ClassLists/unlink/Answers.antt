@@ -1,49 +1,55 @@
 use Rattle.std.proofs.Common.{sym, subst, ◌+◌, arith, refl, ap, length, ◌∙◌, rules}
-use Rattle.class_lists.proofs.Views.{listed_within, page_within, before_inside, after_inside, some_page, shorter, unlisted_now, counted, unlinked}
+use Rattle.class_lists.proofs.Views.{list_within, listed_within, page_within, before_inside, after_inside, some_page, shorter, unlisted_now, counted, unlinked}
 use Rattle.class_lists.specs.PageLists.{PageLists, IsUnlisted}
 use Rattle.class_lists.proofs.ClassLists.unlink.Goals as goal
 
-pub index-before-requires : goal.index-before-requires
-index-before-requires c =
+pub get-before-requires : goal.get-before-requires
+get-before-requires c =
     let within = listed_within _ _ _ _ c.self.invariant _ c.self.view_is c.args.c c.args.which _ refl c.requires.class c.args.page c.requires.listed in
     omega (arith, c.self.invariant.backed)
 
-pub index-after-requires : goal.index-after-requires
-index-after-requires c =
+pub get-after-requires : goal.get-after-requires
+get-after-requires c =
     let within = listed_within _ _ _ _ c.self.invariant _ c.self.view_is c.args.c c.args.which _ refl c.requires.class c.args.page c.requires.listed in
     omega arith
 
 pub join-requires-clause-before : goal.join-requires-clause-before
 join-requires-clause-before c =
     let within = before_inside _ _ _ _ c.self.invariant _ c.self.view_is c.args.c c.args.which _ refl c.requires.class c.args.page c.requires.listed
-    c.index-before.result.now c.index-after.result.now c.index-before.ensures c.index-after.ensures in
+    c.get-before.result c.get-after.result c.get-before.ensures.value c.get-after.ensures.value in
     omega arith
 
 pub join-requires-clause-after : goal.join-requires-clause-after
 join-requires-clause-after c =
     let within = after_inside _ _ _ _ c.self.invariant _ c.self.view_is c.args.c c.args.which _ refl c.requires.class c.args.page c.requires.listed
-    c.index-before.result.now c.index-after.result.now c.index-before.ensures c.index-after.ensures in
+    c.get-before.result c.get-after.result c.get-before.ensures.value c.get-after.ensures.value in
     omega (arith, c.self.invariant.backed)
 
-pub overflow_sub-index_mut : goal.overflow_sub-index_mut
-overflow_sub-index_mut c =
+pub of-len-requires : goal.of-len-requires
+of-len-requires c = list_within _ _ _ _ c.self.invariant _ c.self.view_is c.args.c c.args.which c.requires.class
+
+pub put-requires : goal.put-requires
+put-requires c = list_within _ _ _ _ c.self.invariant _ c.self.view_is c.args.c c.args.which c.requires.class
+
+pub overflow_sub-len : goal.overflow_sub-len
+overflow_sub-len c =
     let some = some_page _ _ _ _ c.self.invariant _ c.self.view_is c.args.c c.args.which _ refl c.requires.class c.args.page c.requires.listed in
-    let len = counted _ _ _ _ c.self.invariant _ c.self.view_is c.args.c c.args.which _ c.number_of.ensures c.requires.class
-    c.index_mut.result.now c.index_mut.ensures.value in
+    let len = counted _ _ _ _ c.self.invariant _ c.self.view_is c.args.c c.args.which _ refl c.requires.class
+    c.of-len.result c.of-len.ensures in
     omega arith
 
 pub invariant_of-self : goal.invariant_of-self
 invariant_of-self c =
-    let all = unlinked _ _ _ _ c.self.invariant _ c.self.view_is c.args.c c.args.which _ c.number_of.ensures c.requires.class c.args.page c.requires.listed
-    c.index-before.result.now c.index-after.result.now c.index-before.ensures c.index-after.ensures
-    c.index_mut.result.now _ _ _ c.index_mut.ensures.value c.join.ensures.next c.join.ensures.previous refl in
+    let all = unlinked _ _ _ _ c.self.invariant _ c.self.view_is c.args.c c.args.which _ refl c.requires.class c.args.page c.requires.listed
+    c.get-before.result c.get-after.result c.get-before.ensures.value c.get-after.ensures.value
+    c.of-len.result _ _ _ c.of-len.ensures c.join.ensures.next c.join.ensures.previous c.put.ensures in
     all.sound
 
 pub returns : goal.returns
 returns c =
-    let all = unlinked _ _ _ _ c.self.invariant _ c.self.view_is c.args.c c.args.which _ c.number_of.ensures c.requires.class c.args.page c.requires.listed
-    c.index-before.result.now c.index-after.result.now c.index-before.ensures c.index-after.ensures
-    c.index_mut.result.now _ _ _ c.index_mut.ensures.value c.join.ensures.next c.join.ensures.previous refl in
+    let all = unlinked _ _ _ _ c.self.invariant _ c.self.view_is c.args.c c.args.which _ refl c.requires.class c.args.page c.requires.listed
+    c.get-before.result c.get-after.result c.get-before.ensures.value c.get-after.ensures.value
+    c.of-len.result _ _ _ c.of-len.ensures c.join.ensures.next c.join.ensures.previous c.put.ensures in
     let fewer = shorter _ _ _ _ c.self.invariant _ c.self.view_is c.args.c c.args.which _ refl c.requires.class c.args.page c.requires.listed in
     let out = unlisted_now _ _ _ _ c.self.invariant _ c.self.view_is c.args.c c.args.which _ refl c.requires.class c.args.page c.requires.listed in
     record {

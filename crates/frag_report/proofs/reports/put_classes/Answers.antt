@@ -1,4 +1,4 @@
-use Rattle.std.proofs.Common.{arith}
+use Rattle.std.proofs.Common.{◌∙◌, arith}
 use Rattle.frag_report.proofs.Classes.{class_put, class_cut}
 use Rattle.frag_report.proofs.reports.put_classes.Goals as goal
 
@@ -10,5 +10,5 @@ returns-in-Err-clause-puts g c =
 pub loop-c-preserved : goal.loop-c-preserved
 loop-c-preserved g c = record {
   put = class_put (g.H.Manager.state c.args.heap.now) c.args.lead.now c.loop-c.c _ _ _ c.loop-c.invariant.put c.in-Ok.ensures.puts;
-  grows = omega (arith, c.loop-c.invariant.grows, c.in-Ok.ensures.grows);
+  same = c.in-Ok.ensures.same ∙ c.loop-c.invariant.same;
 }

@@ -7,5 +7,5 @@ use Rattle.frag_report.proofs.reports.put_classes.Given as goal
 abbrev pub invariant-loop-c : goal.invariant-loop-c
 invariant-loop-c g l = record {
   put : g.K.Sink.written l.out ≡ appended (g.K.Sink.written l.initial.out) (led l.lead (classes_below (g.H.Manager.state l.heap) l.c));
-  grows : g.K.Sink.faults l.initial.out ≤ g.K.Sink.faults l.out;
+  same : g.K.Sink.faults l.out ≡ g.K.Sink.faults l.initial.out;
 }

@@ -1,7 +1,8 @@
 -- A page with a used slot is in the list that its slots tell.
-use Rattle.std.proofs.Common.{subst, sym}
+use Rattle.std.proofs.Common.{[], subst, sym}
+use Rattle.std.proofs.lemmas.List.{get_or_default}
 use Rattle.page_slots.specs.Tables.{IsOf, tables}
-use Rattle.page_slots.proofs.Calls.{of_class, of_lists_class, of_taken, of_listed}
+use Rattle.page_slots.proofs.Calls.{dropped_steps, of_class, of_lists_class, of_listed, of_page, of_taken, page_inside}
 use Rattle.page_slots.proofs.TablesAfterFree.{loses, loses_others}
 use Rattle.page_slots.proofs.freeing.drop_slot.Goals as goal
 
@@ -28,3 +29,10 @@ returns-clause-others c =
 pub returns-clause-kept : goal.returns-clause-kept
 returns-clause-kept c = (loses _ _ c.requires.tables c.args.c c.page_of-page.result c.slot_of-slot.result _ c.vacate.ensures.freed
     c.vacate.ensures.lists c.vacate.ensures.pool).kept
+
+pub returns-clause-steps : goal.returns-clause-steps
+returns-clause-steps c =
+    let inside = page_inside _ _ c.requires.tables _ (of_page _ _ c.requires.tables _ _ c.requires.used.of) in
+    rw (← c.page_of-page.ensures) (dropped_steps _ _ c.list_of-which.result _ _ _
+    (get_or_default c.args.maps.now c.page_of-page.result c.index-maps-page.result [] (rw c.page_of-page.ensures inside))
+    c.list_of-which.ensures.full c.list_of-which.ensures.not_full c.list_of-which.ensures.steps c.vacate.ensures.steps)

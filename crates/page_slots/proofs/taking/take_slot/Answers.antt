@@ -2,7 +2,7 @@
 use Rattle.std.proofs.Common.{inl}
 use Rattle.class_lists.specs.PageLists.{pages_in}
 use Rattle.class_lists.specs.declared.Which.TheVariants.{NotFull}
-use Rattle.page_slots.proofs.Calls.{front_none, front_there, front_inside, front_small, front_room, front_slot, took_open}
+use Rattle.page_slots.proofs.Calls.{front_none, front_there, front_inside, front_small, front_room, front_slot, took_open_steps, took_open}
 use Rattle.page_slots.proofs.TablesAfterTake.{taken_gains, taken_others}
 use Rattle.page_slots.proofs.taking.take_slot.Goals as goal
 
@@ -45,3 +45,9 @@ pub returns-in-Some-clause-kept : goal.returns-in-Some-clause-kept
 returns-in-Some-clause-kept c =
     (taken_gains _ _ c.requires.tables c.args.c c.requires.class _ _ (returns-in-Some-clause-taken c) c.leave_if_filled.ensures.kept
     c.requires.tables.pool).kept
+
+pub returns-in-Some-clause-steps : goal.returns-in-Some-clause-steps
+returns-in-Some-clause-steps c =
+    took_open_steps _ _ c.requires.tables c.args.c c.in-Some.page c.in-Some.ensures.front c.index-maps-page.result c.take_least-slot.result
+    c.take_least-slot.new.map c.take_least-slot.ensures.free c.take_least-slot.ensures.map c.args.steps.now _ _ _
+    c.in-Some.ensures.steps c.take_least-slot.ensures.steps c.leave_if_filled.ensures.steps

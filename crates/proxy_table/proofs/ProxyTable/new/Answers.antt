@@ -1,5 +1,4 @@
-use Rattle.std.proofs.Common.{◌<◌, ◌^◌, arith, ◌∙◌, ap}
-use Rattle.proxy_table.specs.Layout.{proxies_of}
+use Rattle.std.proofs.Common.{◌<◌, ◌^◌, arith}
 use Rattle.proxy_table.proofs.Stack.{stack_new}
 use Rattle.proxy_table.proofs.View.{places_below, proxies_of-vacant}
 use Rattle.proxy_table.proofs.ProxyTable.new.Goals as goal
@@ -7,10 +6,13 @@ use Rattle.proxy_table.proofs.ProxyTable.new.Goals as goal
 pub invariant_of-result : goal.invariant_of-result
 invariant_of-result c =
     let small : c.args.n < 2 ^ 32 = omega arith in
-    rw c.in-Ok.ensures (stack_new _ _ small c.in-Ok-falling.ensures)
+    rw (c.new.ensures, c.new-2.ensures, c.in-Ok.ensures) (stack_new _ _ small c.in-Ok-falling.ensures)
 
 pub returns-clause-kept : goal.returns-clause-kept
-returns-clause-kept c = places_below _
+returns-clause-kept c =
+    let small : c.args.n < 2 ^ 32 = omega arith in
+    rw (c.new.ensures, c.new-2.ensures, c.in-Ok.ensures) (places_below _ _ _ (stack_new _ _ small c.in-Ok-falling.ensures))
 
 pub returns-clause-none : goal.returns-clause-none
-returns-clause-none c = ap proxies_of c.in-Ok.ensures ∙ proxies_of-vacant c.args.n
+returns-clause-none c =
+    rw (c.new.ensures, c.new-2.ensures, c.in-Ok.ensures) (proxies_of-vacant c.args.n _ c.in-Ok-falling.ensures)

@@ -7,7 +7,7 @@ use Rattle.paged_heap.specs.declared.open_heap.OpenHeap.{OpenHeap}
 use Rattle.paged_heap.specs.Heap.{Heap, seen}
 use Rattle.paged_heap.specs.Layout.{held_in, paging_at, state_of, tables_in}
 use Rattle.paged_heap.proofs.FreeAlone.{alone}
-use Rattle.paged_heap.proofs.ByKind.{frames_stay, framed_of, in_region, laid_same}
+use Rattle.paged_heap.proofs.ByKind.{clear_most, frames_stay, framed_of, in_region, laid_same}
 use Rattle.paged_heap.proofs.LayoutFacts.{paged_kind}
 use Rattle.paged_heap.proofs.FreedObject.{asked_some, goes_freed, goes_kept, it, it_inside, it_used, live_some, moving, rest_held, taken_some}
 use Rattle.paged_heap.proofs.open_heap.OpenHeap.free_alone.Goals as goal
@@ -83,3 +83,9 @@ returns-clause-kept g c =
     (c.erase.ensures.rest) gone long (framed_of kind c.release_slot.new.self laid) c.erase.ensures.handles (ap (seen kind) c.count_out.ensures)
     c.release_slot.ensures.freed c.release_slot.ensures.tables (ap (seen kind) c.release_slot.ensures.rest) in
     record { laid = laid; kept = goes_kept k o n None no b }
+
+pub returns-clause-steps : goal.returns-clause-steps
+returns-clause-steps g c =
+    let m = clear_most g.A.Mapping.kind c.args.place c.slot_words-slot_words.result in
+    let a = c.erase.ensures.steps in let b = c.release_slot.ensures.bound in
+    record { kept = omega (arith, a.kept, b.kept); bound = omega (arith, m, a.bound, b.bound) }

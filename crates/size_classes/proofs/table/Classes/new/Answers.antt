@@ -1,4 +1,3 @@
-use Rattle.std.proofs.Common.{◌∙◌}
 use Rattle.cf_base.proofs.CallerLemmas.{are_sizes, page_size}
 use Rattle.size_classes.proofs.PowerOfTwo.{page_power}
 use Rattle.size_classes.proofs.table.Classes.new.Goals as goal
@@ -17,7 +16,7 @@ invariant_of-result c =
         are_sizes = rw c.in-Ok.ensures (are_sizes c.args.page_words c.args.layout c.requires);
         small = (page_size c.args.page_words c.requires).small;
       };
-      needs = rw c.deref.ensures.value at c.in-Ok-classes_by_need.ensures;
+      needs = rw c.new.ensures (rw c.deref.ensures.value at c.in-Ok-classes_by_need.ensures);
       power = power.power;
       short = power.short;
     }

@@ -1,21 +1,26 @@
-use Rattle.std.proofs.Common.{sym}
+use Rattle.std.proofs.Common.{sym, ◌∙◌, arith}
+use Rattle.std.proofs.lemmas.List.{get_or_read}
 use Rattle.slot_bitmap.proofs.Slots.{no_free, has_room, free_at, found_free}
 use Rattle.slot_bitmap.proofs.slot_map.SlotMap.first_free.Goals as goal
 
-pub returns-then-self-eq0-clause-found : goal.returns-then-self-eq0-clause-found
-returns-then-self-eq0-clause-found c = rw (← c.self.view_is) (sym (no_free _ _ _ _ _ c.self.invariant c.if-self-eq0.true))
+pub returns-then-summary-eq0-clause-found : goal.returns-then-summary-eq0-clause-found
+returns-then-summary-eq0-clause-found c =
+    rw (← c.self.view_is) (sym (no_free _ _ _ _ _ c.self.invariant (sym c.get-summary.ensures.value ∙ c.if-summary-eq0.true)))
 
 pub lowest_clear-requires : goal.lowest_clear-requires
-lowest_clear-requires c = has_room _ _ _ _ _ c.self.invariant _ c.lowest_set-at.ensures.within c.lowest_set-at.ensures.at
+lowest_clear-requires c =
+    let at = c.lowest_set-at.ensures in
+    let read = get_or_read c.self.inside.words _ _ (omega (arith, c.self.invariant.count, at.within)) c.get-word.ensures.value 0 in
+    rw read (has_room _ _ _ _ _ c.self.invariant _ at.within (rw c.get-summary.ensures.value at at.at))
 
 pub returns-clause-found : goal.returns-clause-found
 returns-clause-found c = rw (← c.self.view_is) (
-    let word = c.lowest_set-at.ensures in
-    let bit = c.lowest_clear.ensures in
+    let word = rw c.get-summary.ensures.value at c.lowest_set-at.ensures in
+    let read = get_or_read c.self.inside.words _ _ (omega (arith, c.self.invariant.count, word.within)) c.get-word.ensures.value 0 in
+    let bit = rw read at c.lowest_clear.ensures in
     free_at _ _ _ _ _ c.self.invariant _ _ word.within bit.within word.at word.below bit.at bit.below)
 
 pub returns-clause-free : goal.returns-clause-free
-returns-clause-free c = rw (← c.self.view_is) (
-    let word = c.lowest_set-at.ensures in
-    let bit = c.lowest_clear.ensures in
-    found_free _ _ (free_at _ _ _ _ _ c.self.invariant _ _ word.within bit.within word.at word.below bit.at bit.below))
+returns-clause-free c =
+    let is = returns-clause-found c in
+    rw (← c.self.view_is) (found_free _ _ (rw (← c.self.view_is) at is))

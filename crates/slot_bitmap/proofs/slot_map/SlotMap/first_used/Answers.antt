@@ -1,18 +1,20 @@
-use Rattle.std.proofs.Common.{sym}
+use Rattle.std.proofs.Common.{sym, ◌∙◌, arith}
+use Rattle.std.proofs.lemmas.List.{get_or_read}
 use Rattle.slot_bitmap.proofs.Slots.{no_used, used_at, found_used}
 use Rattle.slot_bitmap.proofs.slot_map.SlotMap.first_used.Goals as goal
 
-pub returns-then-self-eq0-clause-found : goal.returns-then-self-eq0-clause-found
-returns-then-self-eq0-clause-found c = rw (← c.self.view_is) (sym (no_used _ _ _ _ _ c.self.invariant c.if-self-eq0.true))
+pub returns-then-summary-eq0-clause-found : goal.returns-then-summary-eq0-clause-found
+returns-then-summary-eq0-clause-found c =
+    rw (← c.self.view_is) (sym (no_used _ _ _ _ _ c.self.invariant (sym c.get-summary.ensures.value ∙ c.if-summary-eq0.true)))
 
 pub returns-clause-found : goal.returns-clause-found
 returns-clause-found c = rw (← c.self.view_is) (
-    let word = c.lowest_set-at.ensures in
-    let bit = c.lowest_set.ensures in
+    let word = rw c.get-summary.ensures.value at c.lowest_set-at.ensures in
+    let read = get_or_read c.self.inside.words _ _ (omega (arith, c.self.invariant.count, word.within)) c.get-word.ensures.value 0 in
+    let bit = rw read at c.lowest_set.ensures in
     used_at _ _ _ _ _ c.self.invariant _ _ word.within bit.within word.at word.below bit.at bit.below)
 
 pub returns-clause-used : goal.returns-clause-used
-returns-clause-used c = rw (← c.self.view_is) (
-    let word = c.lowest_set-at.ensures in
-    let bit = c.lowest_set.ensures in
-    found_used _ _ (used_at _ _ _ _ _ c.self.invariant _ _ word.within bit.within word.at word.below bit.at bit.below))
+returns-clause-used c =
+    let is = returns-clause-found c in
+    rw (← c.self.view_is) (found_used _ _ (rw (← c.self.view_is) at is))

@@ -1,0 +1,29 @@
+//! What the table keeps.
+use super::BlockTable;
+use counted_cells::Cells;
+use std::test::Fail;
+use step_ledger::Meter;
+
+/// The entries, of the three fields of the table; the others are numbers.
+fn entries_of(table: &BlockTable) -> &Cells<u32> {
+    let BlockTable {
+        pages,
+        page_blocks,
+        frames,
+    } = table;
+    let _pages: &u32 = pages;
+    let _page_blocks: &u32 = page_blocks;
+    let frames: &Cells<u32> = frames;
+    frames
+}
+
+/// Each field of a table has a name and a written type above.
+#[test]
+fn the_table_has_these_fields_and_no_others(rt: HostRuntime) -> Result<(), Fail> {
+    let mut meter = Meter::new(&rt);
+    let table = BlockTable::new(rt.alloc(), 2, 16)?;
+    assert_eq!(rt; entries_of(&table).len(), 32);
+    assert_eq!(rt; table.block(19, meter.steps()), 19);
+    assert_eq!(rt; meter.lap(), 1);
+    Ok(())
+}

@@ -1,0 +1,62 @@
+//! How many pages each list has: plain counts, of which two for each class.
+ghost use Rattle.std.specs.Prelude.{◌≡◌, ◌+◌, ◌-◌, ◌*◌, ◌^◌, ◌<◌, IfOk, length, replicate, slice_index, slice_set};
+ghost use Rattle.class_lists.specs.PageLists.{list_number};
+
+use crate::Which;
+use std::alloc::{AllocError, Global};
+use std::marker::Model;
+
+/// The lengths of the lists, by the number of a list. They stand in one array of the full lists and one of the others.
+#[derive(Drop)]
+pub(crate) struct Counts {
+    full: Vec<u32>,
+    not_full: Vec<u32>,
+}
+
+impl Model for Counts {
+    ghost use Rattle.std.specs.Prelude.{◌≡◌, ℕ, List, length};
+    ghost use Rattle.class_lists.specs.Counts.{in_turn};
+
+    ghost Value = { List ℕ };
+
+    ghost view = { λ c. in_turn c.full.items c.not_full.items };
+
+    ghost invariant = { λ c. length c.not_full.items ≡ length c.full.items };
+}
+
+impl Counts {
+    /// No list of so many classes has a page.
+    pub(crate) fn new(alloc: Global, classes: u32) -> Result<Counts, AllocError>
+        ensures { IfOk result (λ counts. counts ≡ replicate (2 * classes) 0) }
+    {
+        Ok(Counts {
+            full: vec![in alloc; 0; classes as usize]?,
+            not_full: vec![in alloc; 0; classes as usize]?,
+        })
+    }
+
+    /// How many pages a list has.
+    pub(crate) fn of(&self, c: u32, which: Which) -> u32
+        requires { list_number c which < length self.now }
+        ensures { result ≡ slice_index self.now (list_number c which) }
+    {
+        match which {
+            Which::Full => self.full[c as usize],
+            Which::NotFull => self.not_full[c as usize],
+        }
+    }
+
+    /// Gives a list another length.
+    pub(crate) fn put(&mut self, c: u32, which: Which, len: u32)
+        requires { list_number c which < length self.old }
+        ensures { self.new ≡ slice_set self.old (list_number c which) len }
+    {
+        match which {
+            Which::Full => self.full[c as usize] = len,
+            Which::NotFull => self.not_full[c as usize] = len,
+        }
+    }
+}
+
+#[cfg(test)]
+mod tests;

@@ -1,0 +1,24 @@
+//! What the lists keep.
+use super::{ClassLists, Counts, Links, Which};
+use counted_cells::Cells;
+use std::test::Fail;
+
+/// Each field has a name and a written type here: the links stand in counted cells, and the rest is numbers.
+/// Two lists for each of two classes have nodes of their own after those of three pages.
+#[test]
+fn the_lists_keep_their_links_in_cells(rt: HostRuntime) -> Result<(), Fail> {
+    let Ok(lists) = ClassLists::new(rt.alloc(), 2, 3) else {
+        panic!(rt; "no memory");
+    };
+    let ClassLists { links, lens, pages } = &lists;
+    let lens: &Counts = lens;
+    let pages: &u32 = pages;
+    let Links { next, previous } = links;
+    let next: &Cells<u32> = next;
+    let previous: &Cells<u32> = previous;
+    assert_eq!(rt; next.len(), 7);
+    assert_eq!(rt; previous.len(), 7);
+    assert_eq!(rt; lens.of(1, Which::NotFull), 0);
+    assert_eq!(rt; *pages, 3);
+    Ok(())
+}

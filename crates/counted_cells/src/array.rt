@@ -1,0 +1,116 @@
+ghost use Rattle.std.specs.Prelude.{◌≡◌, ℕ, true, ◌+◌, ◌^◌, ◌<◌, slice_index, slice_index_or, slice_set};
+ghost use Rattle.std.specs.Int.{bit_at};
+ghost use Rattle.step_ledger.specs.Counting.{RoseBy};
+ghost use Rattle.cf_lemmas.specs.Bits.{WritesBit};
+
+use std::marker::Model;
+use step_ledger::Steps;
+
+/// So many cells in an array, as in a struct that takes no memory of its own.
+#[derive(Drop)]
+pub struct CellArray<T, const N: usize> {
+    items: [T; N],
+}
+
+impl<T, const N: usize> Model for CellArray<T, N> {
+    ghost use Rattle.std.specs.Prelude.{List};
+    ghost use Rattle.std.specs.Coded.{coded_list};
+
+    ghost Value = { List T };
+
+    ghost coded = { coded_list T.code };
+
+    ghost view = { λ c. c.items };
+}
+
+impl<T: Copy, const N: usize> CellArray<T, N> {
+    /// The cells of an array that no heap has yet.
+    pub fn new(items: [T; N]) -> CellArray<T, N>
+        ensures { result ≡ items }
+    {
+        CellArray { items }
+    }
+
+    /// Reads a cell.
+    pub fn get(&self, i: usize, steps: &mut Steps) -> T
+        requires { i < N }
+        ensures value { result ≡ slice_index_or self.now i result }
+        ensures steps { RoseBy steps.old steps.new 1 }
+    {
+        steps.tick(1); // the cell is read
+        self.items[i]
+    }
+
+    /// Writes a cell.
+    pub fn set(&mut self, i: usize, value: T, steps: &mut Steps)
+        requires { i < N }
+        ensures cells { self.new ≡ slice_set self.old i value }
+        ensures steps { RoseBy steps.old steps.new 1 }
+    {
+        steps.tick(1); // the cell is written
+        self.items[i] = value;
+    }
+
+    /// Reads and writes a cell at once.
+    pub fn replace(&mut self, i: usize, value: T, steps: &mut Steps) -> T
+        requires { i < N }
+        ensures value { result ≡ slice_index_or self.old i result }
+        ensures cells { self.new ≡ slice_set self.old i value }
+        ensures steps { RoseBy steps.old steps.new 1 }
+    {
+        steps.tick(1); // one cell, read and written at once
+        let old = self.items[i];
+        self.items[i] = value;
+        old
+    }
+}
+
+impl<const N: usize> CellArray<u64, N> {
+    /// Writes one bit of a cell, which is read and written at once. Returns the cell's word afterwards.
+    pub fn write_bit(&mut self, i: usize, bit: u32, on: bool, steps: &mut Steps) -> u64
+        requires cell { i < N }
+        requires bit { bit < 64 }
+        ensures written { WritesBit 64 (slice_index self.old i) result bit on }
+        ensures within { (n : ℕ) → bit < n → slice_index self.old i < 2 ^ n → result < 2 ^ n }
+        ensures cells { self.new ≡ slice_set self.old i result }
+        ensures steps { RoseBy steps.old steps.new 1 }
+    {
+        steps.tick(1); // one word, read and written at once
+        let word = with_bit(self.items[i], bit, on);
+        self.items[i] = word;
+        word
+    }
+
+    /// Sets the least bit of a cell that is clear; the cell is read and written at once. Returns the
+    /// place of that bit, and the cell's word afterwards.
+    pub fn set_least_clear(&mut self, i: usize, steps: &mut Steps) -> (u32, u64)
+        requires cell { i < N }
+        requires clear { slice_index self.old i + 1 < 2 ^ 64 }
+        ensures bit { result.0 < 64 }
+        ensures at { bit_at (slice_index self.old i) result.0 ≡ 0 }
+        ensures below { (k : ℕ) → k < result.0 → bit_at (slice_index self.old i) k ≡ 1 }
+        ensures written { WritesBit 64 (slice_index self.old i) result.1 result.0 true }
+        ensures within { (n : ℕ) → result.0 < n → slice_index self.old i < 2 ^ n → result.1 < 2 ^ n }
+        ensures cells { self.new ≡ slice_set self.old i result.1 }
+        ensures steps { RoseBy steps.old steps.new 1 }
+    {
+        steps.tick(1); // one word, searched and written at once
+        let bit = self.items[i].trailing_ones();
+        let word = with_bit(self.items[i], bit, true);
+        self.items[i] = word;
+        (bit, word)
+    }
+}
+
+/// The word with that bit set, or cleared where it is off.
+pub fn with_bit(word: u64, bit: u32, on: bool) -> u64
+    requires { bit < 64 }
+    ensures written { WritesBit 64 word result bit on }
+    ensures within { (n : ℕ) → bit < n → word < 2 ^ n → result < 2 ^ n }
+{
+    if on {
+        word | (1 << bit)
+    } else {
+        word & !(1 << bit)
+    }
+}

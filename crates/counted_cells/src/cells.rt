@@ -1,0 +1,109 @@
+ghost use Rattle.std.specs.Prelude.{◌≡◌, ◌+◌, ◌<◌, ◌≤◌, ◌⊎◌, length, drop, take, slice_index_or, slice_set};
+ghost use Rattle.step_ledger.specs.Counting.{RoseBy};
+ghost use Rattle.cf_lemmas.specs.Exchanges.{exchanged};
+
+use std::marker::Model;
+use step_ledger::Steps;
+
+/// A list of cells. Its length is a plain number, and costs no step.
+#[derive(Drop)]
+pub struct Cells<T> {
+    items: Vec<T>,
+}
+
+impl<T> Model for Cells<T> {
+    ghost use Rattle.std.specs.Prelude.{List};
+    ghost use Rattle.std.specs.Coded.{coded_list};
+
+    ghost Value = { List T };
+
+    ghost coded = { coded_list T.code };
+
+    ghost view = { λ c. c.items.items };
+}
+
+impl<T: Copy> Cells<T> {
+    /// The cells of a list that no heap has yet.
+    pub fn new(items: Vec<T>) -> Cells<T>
+        ensures { result ≡ items.items }
+    {
+        Cells { items }
+    }
+
+    /// How many cells there are.
+    pub fn len(&self) -> usize
+        ensures { result ≡ length self.now }
+    {
+        self.items.len()
+    }
+
+    /// Reads a cell.
+    pub fn get(&self, i: usize, steps: &mut Steps) -> T
+        requires { i < length self.now }
+        ensures value { result ≡ slice_index_or self.now i result }
+        ensures steps { RoseBy steps.old steps.new 1 }
+    {
+        steps.tick(1); // the cell is read
+        self.items[i]
+    }
+
+    /// Writes a cell.
+    pub fn set(&mut self, i: usize, value: T, steps: &mut Steps)
+        requires { i < length self.old }
+        ensures cells { self.new ≡ slice_set self.old i value }
+        ensures steps { RoseBy steps.old steps.new 1 }
+    {
+        steps.tick(1); // the cell is written
+        self.items[i] = value;
+    }
+
+    /// Reads and writes a cell at once.
+    pub fn replace(&mut self, i: usize, value: T, steps: &mut Steps) -> T
+        requires { i < length self.old }
+        ensures value { result ≡ slice_index_or self.old i result }
+        ensures cells { self.new ≡ slice_set self.old i value }
+        ensures steps { RoseBy steps.old steps.new 1 }
+    {
+        steps.tick(1); // one cell, read and written at once
+        let old = self.items[i];
+        self.items[i] = value;
+        old
+    }
+
+    /// Reads the `n` cells from `from` on.
+    pub fn run(&self, from: usize, n: usize, steps: &mut Steps) -> &[T]
+        requires { from + n ≤ length self.now }
+        ensures value { result.now ≡ take n (drop from self.now) }
+        ensures len { length result.now ≡ n }
+        ensures steps { RoseBy steps.old steps.new n }
+    {
+        steps.tick(n as u64); // n cells are read
+        &self.items[from..from + n]
+    }
+}
+
+impl Cells<u32> {
+    /// Exchanges the `n` cells from `a` on with those from `b` on, pair by pair.
+    pub fn exchange(&mut self, a: usize, b: usize, n: usize, steps: &mut Steps)
+        requires a_in_range { a + n ≤ length self.old }
+        requires b_in_range { b + n ≤ length self.old }
+        requires apart { (a + n ≤ b) ⊎ (b + n ≤ a) }
+        ensures cells { self.new ≡ exchanged self.old a b n }
+        ensures steps { RoseBy steps.old steps.new n }
+    {
+        steps.tick(n as u64); // n pairs, each exchanged at once
+        exchange_runs(&mut self.items, a, b, n);
+    }
+}
+
+/// Exchanges the `n` items from `a` on with those from `b` on.
+fn exchange_runs(items: &mut [u32], a: usize, b: usize, n: usize)
+    requires a_in_range { a + n ≤ length items.old }
+    requires b_in_range { b + n ≤ length items.old }
+    requires apart { (a + n ≤ b) ⊎ (b + n ≤ a) }
+    ensures { items.new ≡ exchanged items.old a b n }
+{
+    let (low, high) = items.split_at_mut(a.max(b));
+    let first = a.min(b);
+    low[first..first + n].swap_with_slice(&mut high[..n]);
+}

@@ -1,0 +1,70 @@
+ghost use Rattle.std.specs.Prelude.{◌≡◌, ◌<◌};
+ghost use Rattle.std.specs.Borrow.{Lends, sem, u64};
+ghost use Rattle.step_ledger.specs.Counting.{RoseBy};
+ghost use Rattle.cf_lemmas.specs.Bits.{WritesBit};
+ghost use Rattle.counted_cells.specs.contracts.word.WordCell.{the_row};
+
+use crate::array::with_bit;
+use std::marker::Model;
+use step_ledger::Steps;
+
+/// One cell: a word of 64 bits.
+#[derive(Drop)]
+pub struct WordCell {
+    word: u64,
+}
+
+impl Model for WordCell {
+    ghost use Rattle.std.specs.Prelude.{ℕ};
+
+    ghost Value = { ℕ };
+
+    ghost view = { λ c. c.word };
+}
+
+impl WordCell {
+    /// The cell of a word that no heap has yet.
+    pub fn new(word: u64) -> WordCell
+        ensures { result ≡ word }
+    {
+        WordCell { word }
+    }
+
+    /// Reads the cell.
+    pub fn get(&self, steps: &mut Steps) -> u64
+        ensures value { result ≡ self.now }
+        ensures steps { RoseBy steps.old steps.new 1 }
+    {
+        steps.tick(1); // the word is read
+        self.word
+    }
+
+    /// Writes the cell.
+    pub fn set(&mut self, word: u64, steps: &mut Steps)
+        ensures value { self.new ≡ word }
+        ensures steps { RoseBy steps.old steps.new 1 }
+    {
+        steps.tick(1); // the word is written
+        self.word = word;
+    }
+
+    /// Writes one bit of the cell, which is read and written at once.
+    pub fn write_bit(&mut self, bit: u32, on: bool, steps: &mut Steps)
+        requires { bit < 64 }
+        ensures written { WritesBit 64 self.old self.new bit on }
+        ensures steps { RoseBy steps.old steps.new 1 }
+    {
+        steps.tick(1); // the word is read and written at once
+        self.word = with_bit(self.word, bit, on);
+    }
+
+    /// Lends the cell, which is read and written at once.
+    pub fn lend(&mut self, steps: &mut Steps) -> &mut u64
+        ensures* writes_back { sem 𝓛 (Lends the_row u64 self.entry result (λ w. w)) }
+        ensures value { result.now ≡ self.old }
+        ensures steps { RoseBy steps.old steps.new 1 }
+    {
+        steps.tick(1); // the word is lent once
+        &mut self.word
+    }
+}

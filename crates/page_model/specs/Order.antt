@@ -1,0 +1,162 @@
+-- The order in which a manager gives out pages, slots and numbers, and the steps that follow it.
+use Rattle.std.specs.Prelude.{◌≡◌, ℕ, ◌+◌, ◌<◌, ◌⊎◌, ◌↔◌, List, [], ◌∷◌, Option, Some, None, length, slice_index_or, slice_set, nat_eq, not, replicate, if◌then◌else◌}
+use Rattle.std.specs.List.{Contains, IsDistinct, filter, range_with_len}
+use Rattle.std.specs.FinMap.{get, len}
+use Rattle.cf_base.specs.declared.kind.Kind.{Kind}
+use Rattle.cf_base.specs.declared.kind.Kind.TheVariants.{Moving, NonMoving, Tlsf, HalfFit}
+use Rattle.page_model.specs.Held.{Held, Placed}
+use Rattle.page_model.specs.Paging.{Paging, classes, class_for, slots_of, page_of, address_of}
+use Rattle.page_model.specs.Arrangement.{class_at, objects_on, standing_on}
+use Rattle.page_model.specs.Steps.{Leaves, Request, resized_at}
+
+-- What is given out next: the free pages, the partly full pages of each class, and the numbers that no object has. In each list the next one is the first.
+pub record Order : Type 0 where
+  pub pool : List ℕ
+  pub not_full : List (List ℕ)
+  pub spare : List ℕ
+
+-- the partly full pages of class c
+abbrev pub not_full_in : Order → ℕ → List ℕ
+not_full_in o c = slice_index_or o.not_full c []
+
+abbrev pub with_not_full : Order → ℕ → List ℕ → Order
+with_not_full o c pages = record o { not_full = slice_set o.not_full c pages }
+
+-- a page with so many objects is partly full
+abbrev pub IsPartlyFull : Paging → Held → ℕ → ℕ → Type 0
+IsPartlyFull p m c page = (0 < objects_on p m c page) × (objects_on p m c page < slots_of p c)
+
+-- The order is one of this arrangement, with numbers below a limit: it has the pages on which nothing stands, the partly full pages of each class, and the
+-- numbers that no object has, each once.
+pub record IsOrderOf (p : Paging) (m : Held) (limit : ℕ) (o : Order) : Type 0 where
+  pub pool : (page : ℕ) → Contains o.pool page ↔ ((page < p.pages) × (standing_on p m page ≡ 0))
+  pub pool_once : IsDistinct nat_eq o.pool
+  pub as_many : length o.not_full ≡ classes p
+  pub not_full : (c page : ℕ) → c < classes p → Contains (not_full_in o c) page ↔ ((page < p.pages) × IsPartlyFull p m c page)
+  pub not_full_once : (c : ℕ) → c < classes p → IsDistinct nat_eq (not_full_in o c)
+  pub spare : (h : ℕ) → Contains o.spare h → (h < limit) × (get m h ≡ None)
+  pub spare_once : IsDistinct nat_eq o.spare
+  pub spare_all : length o.spare + len m ≡ limit
+
+-- the order of an empty heap: pages and numbers from 0 on
+abbrev pub first_order : Paging → ℕ → Order
+first_order p limit = record { pool = range_with_len 0 p.pages; not_full = replicate (classes p) []; spare = range_with_len 0 limit }
+
+-- an object stands at the address
+abbrev pub IsTaken : Held → ℕ → Type 0
+IsTaken m a = (q : ℕ) × (x : Placed) × (get m q ≡ Some x) × (x.place ≡ a)
+
+-- of the slots of class c on the page this one is free, and each one below it is taken
+pub record IsLeastFree (p : Paging) (m : Held) (c page slot : ℕ) : Type 0 where
+  pub free : ¬ IsTaken m (address_of p c page slot)
+  pub least : (s : ℕ) → s < slot → IsTaken m (address_of p c page s)
+
+-- of the slots of class c on the page this one is taken, and each one below it is free
+pub record IsLeastTaken (p : Paging) (m : Held) (c page slot : ℕ) : Type 0 where
+  pub taken : IsTaken m (address_of p c page slot)
+  pub least : (s : ℕ) → s < slot → ¬ IsTaken m (address_of p c page s)
+
+-- the least free slot of the first partly full page of class c is taken; the page leaves its list if that fills it
+pub record TakesOnOpenPage (p : Paging) (m : Held) (old : Order) (c a : ℕ) (new : Order) : Type 0 where
+  pub page : ℕ
+  pub slot : ℕ
+  pub rest : List ℕ
+  pub address : a ≡ address_of p c page slot
+  pub front : not_full_in old c ≡ page ∷ rest
+  pub least : IsLeastFree p m c page slot
+  pub left : new ≡ (if nat_eq (objects_on p m c page + 1) (slots_of p c) then with_not_full old c rest else old)
+
+-- no page of class c is partly full, and slot 0 of the first free page is taken; the page is the only one of the list if that doesn't fill it
+pub record TakesOnFreePage (p : Paging) (old : Order) (c a : ℕ) (new : Order) : Type 0 where
+  pub page : ℕ
+  pub rest : List ℕ
+  pub address : a ≡ address_of p c page 0
+  pub none : not_full_in old c ≡ []
+  pub front : old.pool ≡ page ∷ rest
+  pub left : new ≡ record (if nat_eq (slots_of p c) 1 then old else with_not_full old c (page ∷ [])) { pool = rest }
+
+-- the slot of class c that is next is taken, and this is its address
+abbrev pub TakesNext : Paging → Held → Order → ℕ → ℕ → Order → Type 0
+TakesNext p m old c a new = TakesOnOpenPage p m old c a new ⊎ TakesOnFreePage p old c a new
+
+-- a malloc gives the next number and takes the next slot
+pub record MallocFollows (p : Paging) (m : Held) (asked : Request) (place : ℕ) (old new : Order) : Type 0 where
+  pub rest : List ℕ
+  pub number : old.spare ≡ asked.number ∷ rest
+  pub taken : TakesNext p m (record old { spare = rest }) (class_for p asked.length) place new
+
+-- the order after a slot of class c becomes free: its page, if that empties it, goes from its list to the front of the free pages; and if it was full, to the
+-- front of the partly full ones
+abbrev pub slot_freed : Paging → Held → Order → ℕ → ℕ → Order
+slot_freed p m o c page =
+    if nat_eq (objects_on p m c page) 1 then record (with_not_full o c (filter (λ other. not (nat_eq other page)) (not_full_in o c))) { pool = page ∷ o.pool }
+    else if nat_eq (objects_on p m c page) (slots_of p c) then with_not_full o c (page ∷ not_full_in o c)
+    else o
+
+-- y stands at the least taken slot of the first partly full page of class c
+pub record IsNextToMove (p : Paging) (m : Held) (o : Order) (c : ℕ) (y : Placed) : Type 0 where
+  pub page : ℕ
+  pub slot : ℕ
+  pub rest : List ℕ
+  pub front : not_full_in o c ≡ page ∷ rest
+  pub least : IsLeastTaken p m c page slot
+  pub address : y.place ≡ address_of p c page slot
+
+-- x goes: its slot becomes free, or another object moves there, and that one's slot becomes free
+abbrev pub SlotFollows : Paging → Held → Placed → Option ℕ → Order → Order → Type 0
+SlotFollows p m x None old new = new ≡ slot_freed p m old (class_at p x) (page_of p x.place)
+SlotFollows p m x (Some q) old new = (y : Placed) × (get m q ≡ Some y) × IsNextToMove p m old (class_at p x) y
+    × (new ≡ slot_freed p m old (class_at p x) (page_of p y.place))
+
+-- a free moves the object that is next to move, if it moves one, and the number is the next one to be given
+pub record FreeFollows (p : Paging) (m : Held) (h : ℕ) (moved : Option ℕ) (old new : Order) : Type 0 where
+  pub object : Placed
+  pub found : get m h ≡ Some object
+  pub between : Order
+  pub slot : SlotFollows p m object moved old between
+  pub number : new ≡ record between { spare = h ∷ between.spare }
+
+-- a resize to another class takes the next slot there, and then the old one becomes free; in its class it changes nothing
+pub record ResizeFollows (p : Paging) (m : Held) (asked : Request) (after : Leaves) (old new : Order) : Type 0 where
+  pub object : Placed
+  pub found : get m asked.number ≡ Some object
+  pub stays : class_for p asked.length ≡ class_at p object → new ≡ old
+  pub changes : ¬ (class_for p asked.length ≡ class_at p object) → (place : ℕ) × (between : Order)
+      × (get after.held asked.number ≡ Some (resized_at place object asked.length))
+      × TakesNext p m old (class_for p asked.length) place between
+      × SlotFollows p m object after.moved between new
+
+-- the steps of reading or writing a word: a block table is one step more
+abbrev pub word_steps : Kind → ℕ
+word_steps Moving = 1
+word_steps NonMoving = 2
+word_steps Tlsf = 1
+word_steps HalfFit = 1
+
+-- the steps of taking a slot of n on a partly full page with so many used ones: more if that fills it
+abbrev pub open_steps : ℕ → ℕ → ℕ
+open_steps used n = if nat_eq (used + 1) n then 13 else 5
+
+-- the steps of taking slot 0 of a free page
+abbrev pub new_page_steps : ℕ
+new_page_steps = 11
+
+-- the steps of freeing a slot of n on a page with so many used ones: more if that empties it, or if it was full
+abbrev pub drop_steps : ℕ → ℕ → ℕ
+drop_steps used n = if nat_eq used 1 then 10 else if nat_eq used n then 13 else 5
+
+-- the steps of finding the least used slot of a partly full page with so many used ones, and freeing it: more if that empties it
+abbrev pub fill_steps : ℕ → ℕ
+fill_steps used = if nat_eq used 1 then 12 else 7
+
+-- the steps of taking the next slot of class c
+abbrev pub steps_to_take : Paging → Held → Order → ℕ → ℕ
+steps_to_take p m o c = elim (not_full_in o c) [ [] ↦ new_page_steps | page ∷ rest ↦ open_steps (objects_on p m c page) (slots_of p c) ]
+
+-- the steps of freeing a slot of class c on the page
+abbrev pub steps_to_drop : Paging → Held → ℕ → ℕ → ℕ
+steps_to_drop p m c page = drop_steps (objects_on p m c page) (slots_of p c)
+
+-- the steps of freeing the slot of the object of class c that is next to move
+abbrev pub steps_to_fill : Paging → Held → Order → ℕ → ℕ
+steps_to_fill p m o c = elim (not_full_in o c) [ [] ↦ 0 | page ∷ rest ↦ fill_steps (objects_on p m c page) ]

@@ -1,0 +1,18 @@
+//! What a pool keeps.
+use super::PagePool;
+use counted_cells::Cells;
+use std::test::Fail;
+
+/// Each field has a name and a written type here: the pages stand in counted cells, and the rest is a number.
+#[test]
+fn a_pool_keeps_its_pages_in_cells(rt: HostRuntime) -> Result<(), Fail> {
+    let Ok(pool) = PagePool::new(rt.alloc(), 3) else {
+        panic!(rt; "no memory");
+    };
+    let PagePool { stack, first } = &pool;
+    let stack: &Cells<u32> = stack;
+    let first: &usize = first;
+    assert_eq!(rt; stack.len(), 3);
+    assert_eq!(rt; *first, 0);
+    Ok(())
+}

@@ -1,0 +1,87 @@
+//! What the heap keeps.
+use super::QuotaHeap;
+use crate::ground::Ground;
+use crate::open_tasks::OpenTasks;
+use crate::task::{CLASSES, Task};
+use cf_base::Settings;
+use class_lists::ClassLists;
+use page_pool::PagePool;
+use proxy_table::ProxyTable;
+use region::Region;
+use size_classes::Classes;
+use slot_bitmap::SlotMap;
+use std::alloc::Global;
+use std::test::Fail;
+
+/// The open heap, one of the two fields.
+fn inner_of(heap: &QuotaHeap) -> &Option<OpenTasks> {
+    let QuotaHeap { alloc, inner } = heap;
+    let _alloc: &Global = alloc;
+    let inner: &Option<OpenTasks> = inner;
+    inner
+}
+
+/// What the tasks share, and the tasks. The third field is the sum of the quotas.
+fn parts_of(open: &OpenTasks) -> (&Ground, &Vec<Task>) {
+    let OpenTasks {
+        ground,
+        tasks,
+        granted,
+    } = open;
+    let ground: &Ground = ground;
+    let tasks: &Vec<Task> = tasks;
+    let _granted: &u32 = granted;
+    (ground, tasks)
+}
+
+/// The region that the tasks share, with the tables of its pages.
+fn region_of(ground: &Ground) -> &Region {
+    let Ground {
+        settings,
+        classes,
+        region,
+        maps,
+        pool,
+    } = ground;
+    let _settings: &Settings = settings;
+    let _classes: &Classes = classes;
+    let region: &Region = region;
+    let _maps: &Vec<SlotMap> = maps;
+    let _pool: &PagePool = pool;
+    region
+}
+
+/// The live objects of each class of a task. Its other fields are two numbers and two tables. There is
+/// no list of objects.
+fn live_of(task: &Task) -> &[u32; CLASSES] {
+    let Task {
+        quota,
+        pages,
+        live,
+        lists,
+        proxies,
+    } = task;
+    let _quota: &u32 = quota;
+    let _pages: &u32 = pages;
+    let live: &[u32; CLASSES] = live;
+    let _lists: &ClassLists = lists;
+    let _proxies: &ProxyTable = proxies;
+    live
+}
+
+/// Each field of an open heap has a name and a type above. Sixteen tasks without objects share two pages
+/// of 64 words.
+#[test]
+fn the_heap_has_these_fields_and_no_others(rt: HostRuntime) -> Result<(), Fail> {
+    let mut heap = QuotaHeap::closed(rt.alloc());
+    let settings = Settings::check(2, 512, 1, 8)?;
+    heap.open_heap(&settings)?;
+    let Some(open) = inner_of(&heap) else {
+        panic!(rt; "the heap is closed");
+    };
+    let (ground, tasks) = parts_of(open);
+    assert_eq!(rt; region_of(ground).len(), 128);
+    assert_eq!(rt; tasks.len(), 16);
+    assert!(rt; tasks.iter().all(|task| *live_of(task) == [0; CLASSES]));
+    Ok(())
+}

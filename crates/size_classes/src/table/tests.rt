@@ -1,0 +1,25 @@
+//! What a table keeps.
+use super::Classes;
+use cf_base::Layout;
+use counted_cells::Cells;
+use std::test::Fail;
+
+/// Each field of a table has a name and a written type: a size for each class, a cell for each need of at
+/// most a page, and two plain numbers.
+#[test]
+fn a_table_has_these_fields_and_no_others(rt: HostRuntime) -> Result<(), Fail> {
+    let Classes {
+        sizes,
+        by_need,
+        page_words,
+        page_shift,
+    } = Classes::new(rt.alloc(), 64, Layout::Words)?;
+    let sizes: Vec<u32> = sizes;
+    let by_need: Cells<u8> = by_need;
+    let page_words: u32 = page_words;
+    let page_shift: u32 = page_shift;
+    assert_eq!(rt; sizes.len(), 20);
+    assert_eq!(rt; by_need.len(), 65);
+    assert_eq!(rt; (page_words, page_shift), (64, 6));
+    Ok(())
+}

@@ -1,0 +1,21 @@
+//! What a map keeps.
+use super::SlotMap;
+use counted_cells::{CellArray, WordCell};
+
+/// Each field of a map has a name and a written type: cells, and two plain numbers.
+#[test]
+fn a_map_has_these_fields_and_no_others(rt: HostRuntime) {
+    let SlotMap {
+        words,
+        with_free,
+        with_used,
+        slots,
+        used,
+    } = SlotMap::new(65);
+    let _words: CellArray<u64, 64> = words;
+    let _with_free: WordCell = with_free;
+    let _with_used: WordCell = with_used;
+    let slots: u32 = slots;
+    let used: u32 = used;
+    assert_eq!(rt; (slots, used), (65, 0));
+}

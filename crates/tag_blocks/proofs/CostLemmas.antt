@@ -1,0 +1,57 @@
+-- Steps one after the other, and what the calls on lists and blocks take.
+use Rattle.std.proofs.Common.{◌≡◌, ℕ, Bool, true, false, ◌+◌, ◌*◌, ◌/◌, ◌^◌, ◌<◌, ◌≤◌, ◌==◌, List, Option, Some, None, cond, arith, sym, ap, ◌∙◌, subst, inl, inr}
+use Rattle.std.proofs.lemmas.Bool.{cases_eq, cases_lt}
+use Rattle.step_ledger.specs.Counting.{RoseBy, RoseAtMost}
+use Rattle.tag_blocks.specs.Costs.{group_steps, list_steps, next_steps, previous_steps}
+use Rattle.tag_blocks.specs.Fronts.{no_block, IsFirstFrom}
+use Rattle.tag_blocks.proofs.ThreadLemmas.{chosen, other}
+
+-- the count rose twice
+pub then_by : (old mid new m n : ℕ) → RoseBy old mid m → RoseBy mid new n → RoseBy old new (m + n)
+then_by old mid new m n a b = record {
+  kept = (let x = a.kept in let y = b.kept in omega arith);
+  bound = (let x = a.bound in let y = b.bound in omega arith);
+  exact = λ fits. (let x = a.exact (omega arith) in let y = b.exact (omega arith) in omega arith);
+  capped = λ small past. elim (cases_lt (old + m) (2 ^ 64)) [
+    | inl lt ↦ (let x = a.exact lt in b.capped (omega arith) (omega arith))
+    | inr ge ↦ (
+        let x = a.capped small ge in
+        elim (cases_lt (mid + n) (2 ^ 64)) [ inl lt ↦ (let y = b.exact lt in omega arith) | inr le ↦ b.capped (omega arith) le ])
+  ];
+}
+
+-- the count didn't rise
+pub at_rest : (old : ℕ) → RoseBy old old 0
+at_rest old = record { kept = omega arith; bound = omega arith; exact = λ fits. omega arith; capped = λ small past. omega arith }
+
+pub by_same : (old new m n : ℕ) → RoseBy old new m → m ≡ n → RoseBy old new n
+by_same old new m n r e = subst (λ k. RoseBy old new k) e r
+
+pub at_most_by : (old new n m : ℕ) → RoseBy old new n → n ≤ m → RoseAtMost old new m
+at_most_by old new n m a le = record { kept = a.kept; bound = (let x = a.bound in omega arith) }
+
+-- a choice is at most what both are
+either : (t : Bool) (x y n : ℕ) → x ≤ n → y ≤ n → cond t x y ≤ n
+either true x y n p q = p
+either false x y n p q = q
+
+-- ---- lists
+
+pub here_steps : (start bit : ℕ) → bit < 16 → list_steps start (Some (16 * (start / 16) + bit)) ≡ 1
+here_steps start bit low = chosen ((16 * (start / 16) + bit) / 16) (start / 16) 1 3 (omega arith)
+
+pub rest_steps : (fronts : List ℕ) (start : ℕ) (rest : Option ℕ) → IsFirstFrom fronts (16 * (start / 16 + 1)) rest
+    → 1 + group_steps (start / 16 + 1) rest ≡ list_steps start rest
+rest_steps fronts start None all = elim (cases_eq (start / 16) 31) [
+  | inl is ↦ ap (λ n. 1 + n) (chosen (start / 16 + 1) 32 0 1 (omega arith)) ∙ sym (chosen (start / 16) 31 1 2 is)
+  | inr not ↦ ap (λ n. 1 + n) (other (start / 16 + 1) 32 0 1 (omega arith)) ∙ sym (other (start / 16) 31 1 2 not)
+]
+rest_steps fronts start (Some list) is = sym (other (list / 16) (start / 16) 1 3 (let f = is.from in omega arith))
+
+-- ---- links
+
+pub next_at_most : (previous : ℕ) → next_steps previous ≤ 3
+next_at_most previous = either (previous == no_block) 3 2 3 (omega arith) (omega arith)
+
+pub previous_at_most : (next : ℕ) → previous_steps next ≤ 2
+previous_at_most next = either (next == no_block) 0 2 2 (omega arith) (omega arith)

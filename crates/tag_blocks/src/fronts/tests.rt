@@ -1,0 +1,28 @@
+//! What the heads of the free lists keep.
+use super::Fronts;
+use counted_cells::{CellArray, Cells};
+use std::test::Fail;
+use step_ledger::Meter;
+
+/// Each field has a name and a written type here: all are counted cells. List 22 of 24 has a head, so bit 6
+/// of group 1 is set, and bit 1 of the groups.
+#[test]
+fn the_heads_and_their_bits_are_in_cells(rt: HostRuntime) -> Result<(), Fail> {
+    let mut meter = Meter::new(&rt);
+    let steps = meter.steps();
+    let Ok(fronts) = Fronts::new(rt.alloc(), 24, 22) else {
+        panic!(rt; "no memory");
+    };
+    let Fronts {
+        addresses,
+        lists,
+        groups,
+    } = &fronts;
+    let addresses: &Cells<u32> = addresses;
+    let lists: &CellArray<u64, 32> = lists;
+    let groups: &CellArray<u64, 1> = groups;
+    assert_eq!(rt; addresses.len(), 24);
+    assert_eq!(rt; lists.get(1, steps), 64);
+    assert_eq!(rt; groups.get(0, steps), 2);
+    Ok(())
+}
