@@ -15,7 +15,6 @@ use rand_core::{Rng, SeedableRng};
 use rand_xoshiro::SplitMix64;
 use script_reader::CommandRef;
 use std::alloc::Global;
-use std::rt::Runtime;
 use std::test::Fail;
 use wrong_answers::Wrong;
 
@@ -73,8 +72,8 @@ fn churn<H: Manager>(heap: &mut H, session: &mut Session, draw: &mut SplitMix64)
 }
 
 /// The image of what lives in the heap after many drawn commands, with this bound.
-fn churned_image<R: Runtime, H: Manager>(
-    rt: &R,
+fn churned_image<H: Manager>(
+    rt: &HostRuntime,
     alloc: Global,
     heap: &mut H,
     k: u32,
@@ -94,8 +93,8 @@ fn churned_image<R: Runtime, H: Manager>(
 }
 
 /// Whether the image is loaded and saved again as it is, by at most so many bytes at a time.
-fn is_saved_again<R: Runtime, H: Manager>(
-    rt: &R,
+fn is_saved_again<H: Manager>(
+    rt: &HostRuntime,
     alloc: Global,
     heap: &mut H,
     image: &[u8],

@@ -9,15 +9,13 @@ use cf_model::Manager;
 use heap_image::LoadFault;
 use moving_heap::MovingHeap;
 use std::alloc::Global;
-use std::process::Abort;
-use std::rt::Runtime;
 use std::test::Fail;
 use wrong_answers::Wrong;
 
 /// Whether what is loaded of the bytes is what the rules tell: the same image again, or `Bad` at the
 /// first field that is broken.
-fn is_loaded_as_told<R: Runtime, H: Manager>(
-    rt: &R,
+fn is_loaded_as_told<H: Manager>(
+    rt: &HostRuntime,
     alloc: Global,
     heap: &mut H,
     bytes: &[u8],
@@ -34,30 +32,32 @@ fn is_loaded_as_told<R: Runtime, H: Manager>(
     })
 }
 
-/// The image without its last bytes, for each number of bytes.
-fn cut_each<R: Runtime + Abort, H: Manager>(
-    rt: &R,
+/// The first length at which the image without its last bytes is not loaded so; none if there is none.
+fn cut_each<H: Manager>(
+    rt: &HostRuntime,
     alloc: Global,
     heap: &mut H,
     image: &[u8],
-) -> Result<(), Wrong>
+) -> Result<Option<usize>, Wrong>
     requires { (H.state heap.old).kind ≡ Moving }
     ensures { (H.state heap.new).kind ≡ Moving }
 {
     'cuts: for n in 0..image.len() {
-        let told = is_loaded_as_told(rt, alloc, heap, &image[..n])?;
-        assert!(rt; told, "the first {n} bytes of {image:?}");
+        if !is_loaded_as_told(rt, alloc, heap, &image[..n])? {
+            return Ok(Some(n));
+        }
     }
-    Ok(())
+    Ok(None)
 }
 
-/// The image with one byte changed, for each byte: to 0, to 255, and to its two neighbours.
-fn change_each<R: Runtime + Abort, H: Manager>(
-    rt: &R,
+/// The first byte, and its value, with which the image is not loaded so, of those with one byte changed: to
+/// 0, to 255, and to its two neighbours. None if there is none.
+fn change_each<H: Manager>(
+    rt: &HostRuntime,
     alloc: Global,
     heap: &mut H,
     image: &[u8],
-) -> Result<(), Wrong>
+) -> Result<Option<(usize, u8)>, Wrong>
     requires { (H.state heap.old).kind ≡ Moving }
     ensures { (H.state heap.new).kind ≡ Moving }
 {
@@ -66,11 +66,12 @@ fn change_each<R: Runtime + Abort, H: Manager>(
         'values: for value in [0, 255, byte.wrapping_sub(1), byte.wrapping_add(1)] {
             let mut changed = Vec::from_slice(alloc, image)?;
             changed[i] = value;
-            let told = is_loaded_as_told(rt, alloc, heap, &changed)?;
-            assert!(rt; told, "byte {i} of {image:?} is {value}");
+            if !is_loaded_as_told(rt, alloc, heap, &changed)? {
+                return Ok(Some((i, value)));
+            }
         }
     }
-    Ok(())
+    Ok(None)
 }
 
 #[test]
@@ -78,8 +79,8 @@ fn each_cut_and_each_changed_byte_is_loaded_as_told(rt: HostRuntime) -> Result<(
     let alloc = rt.alloc();
     let mut heap = MovingHeap::closed(alloc);
     'rows: for row in ROWS.iter() {
-        cut_each(&rt, alloc, &mut heap, row.image)?;
-        change_each(&rt, alloc, &mut heap, row.image)?;
+        assert_eq!(rt; cut_each(&rt, alloc, &mut heap, row.image)?, None);
+        assert_eq!(rt; change_each(&rt, alloc, &mut heap, row.image)?, None);
     }
     Ok(())
 }

@@ -16,7 +16,6 @@ use cf_session::Session;
 use heap_image::{LoadFault, load, save};
 use script_reader::CommandRef;
 use std::alloc::Global;
-use std::rt::Runtime;
 use step_ledger::Meter;
 use wrong_answers::Wrong;
 
@@ -61,8 +60,8 @@ pub fn give<H: Manager>(heap: &mut H, session: &mut Session, command: CommandRef
 }
 
 /// The image of what lives in the heap.
-pub fn image<R: Runtime, H: Manager>(
-    rt: &R,
+pub fn image<H: Manager>(
+    rt: &HostRuntime,
     alloc: Global,
     heap: &H,
     session: &Session,
@@ -79,8 +78,8 @@ pub fn image<R: Runtime, H: Manager>(
 
 /// Loads bytes, which come at most `most` at a time, into the heap, and returns the image of what it
 /// holds then; or why it loads nothing.
-pub fn load_and_save<R: Runtime, H: Manager>(
-    rt: &R,
+pub fn load_and_save<H: Manager>(
+    rt: &HostRuntime,
     alloc: Global,
     heap: &mut H,
     bytes: &[u8],

@@ -13,7 +13,6 @@ use cf_session::Session;
 use moving_heap::MovingHeap;
 use script_reader::CommandRef;
 use std::alloc::Global;
-use std::rt::Runtime;
 use std::test::Fail;
 use wrong_answers::Wrong;
 
@@ -96,8 +95,8 @@ fn give_all<H: Manager>(heap: &mut H, session: &mut Session, commands: &[Command
 }
 
 /// The image of what lives in the heap after the commands of a row.
-fn image_of_row<R: Runtime, H: Manager>(
-    rt: &R,
+fn image_of_row<H: Manager>(
+    rt: &HostRuntime,
     alloc: Global,
     heap: &mut H,
     row: &Row,
