@@ -1,5 +1,5 @@
 //! The run of a bench.
-ghost use Rattle.std.specs.Prelude.{◌≡◌, ◌≤◌};
+ghost use Rattle.std.specs.Prelude.{◌≡◌, ◌≤◌, ◌≢◌};
 ghost use Rattle.bench_run.specs.Bench.{EndsBench, IsAppliedTo};
 ghost use Rattle.cf_io.specs.Feeds.{Rose};
 ghost use Rattle.cf_session.specs.Apply.{run_at};
@@ -13,14 +13,13 @@ use cf_io::{NullSink, Sink};
 use cf_model::Manager;
 use cf_session::Session;
 use generator::Generator;
-use std::rt::Runtime;
 use step_ledger::Meter;
 
 /// Opens the manager as `heap 64 16384 1 4096` does, applies the first `count` commands of the seed,
 /// whose replies nobody reads, and writes the one line that tells the numbers. `OutOfMemory` comes
 /// before anything else, and `WriteFault` only where the sink failed.
-pub fn run_bench<R: Runtime, H: Manager, K: Sink>(
-    rt: &R,
+pub fn run_bench<H: Manager, K: Sink>(
+    rt: &HostRuntime,
     session: &mut Session,
     heap: &mut H,
     seed: u64,
@@ -32,6 +31,7 @@ pub fn run_bench<R: Runtime, H: Manager, K: Sink>(
         (K.written sink.old) (K.written sink.new) }
     ensures kind { (H.state heap.new).kind ≡ (H.state heap.old).kind }
     ensures grows { K.faults sink.old ≤ K.faults sink.new }
+    ensures sink_same { result ≢ Status.WriteFault → K.faults sink.new ≡ K.faults sink.old }
     ensures write_fault { result ≡ Status.WriteFault → Rose (K.faults sink.old) (K.faults sink.new) }
 {
     let settings = Settings {

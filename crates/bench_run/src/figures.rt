@@ -1,5 +1,5 @@
 //! What is told of a bench.
-ghost use Rattle.std.specs.Prelude.{◌≡◌, ◌≤◌, []};
+ghost use Rattle.std.specs.Prelude.{◌≡◌, ◌≤◌, [], ◌≢◌};
 ghost use Rattle.bench_run.specs.Bench.{IsWritten, bench_line};
 ghost use Rattle.cf_io.specs.Feeds.{Rose};
 ghost use Rattle.cf_io.specs.Texts.{led, said};
@@ -24,6 +24,7 @@ impl BenchFigures {
     pub(crate) fn put<K: Sink>(&self, sink: &mut K) -> Status
         ensures written { IsWritten result (K.written sink.old) (led [] (said (bench_line self.now))) (K.written sink.new) }
         ensures grows { K.faults sink.old ≤ K.faults sink.new }
+        ensures sink_same { result ≢ Status.WriteFault → K.faults sink.new ≡ K.faults sink.old }
         ensures write_fault { result ≡ Status.WriteFault → Rose (K.faults sink.old) (K.faults sink.new) }
     {
         let mut line = Line::new();

@@ -1,5 +1,5 @@
 //! Where bytes come from.
-ghost use Rattle.std.specs.Prelude.{◌≡◌, ◌<◌, ◌≤◌, ◌+◌, ℕ, List, Option, length, take, min, IfOk, OnErr};
+ghost use Rattle.std.specs.Prelude.{◌≡◌, ◌<◌, ◌≤◌, ◌+◌, ℕ, List, Option, length, take, min, IfOk, OnErr, OnOk};
 ghost use Rattle.cf_io.specs.Feeds.{Rose, preceded, IsSpent, last_count};
 
 use cf_base::Failed;
@@ -16,13 +16,14 @@ pub trait Source {
     ghost faults: { Self → ℕ };
 
     /// Fills the start of the buffer and returns how many bytes. For a buffer that isn't empty, 0
-    /// means the end of the input.
+    /// means the end of the input. A call that does not fail leaves the count of failures as it was.
     fn take(&mut self, buf: &mut [u8]) -> Result<usize, Failed>
         ensures grows { faults self.old ≤ faults self.new }
         ensures within { IfOk result (λ n. n ≤ length buf.new) }
         ensures piece { IfOk result (λ n. rest self.old ≡ preceded (take n buf.new) (rest self.new)) }
         ensures counted { IfOk result (λ n. given self.new ≡ min (given self.old + n) last_count) }
         ensures end { 0 < length buf.old → IfOk result (λ n. n ≡ 0 → IsSpent (rest self.old)) }
+        ensures same { OnOk result (faults self.new ≡ faults self.old) }
         ensures failed { OnErr result (Rose (faults self.old) (faults self.new)
             × (rest self.new ≡ rest self.old) × (given self.new ≡ given self.old)) };
 }

@@ -1,5 +1,5 @@
 //! Writing whole pieces.
-ghost use Rattle.std.specs.Prelude.{◌≡◌, ◌≤◌, OnErr};
+ghost use Rattle.std.specs.Prelude.{◌≡◌, ◌≤◌, OnErr, OnOk};
 ghost use Rattle.cf_io.specs.Feeds.{Rose, Puts};
 
 use crate::sink::Sink;
@@ -10,6 +10,7 @@ use cf_base::Failed;
 pub fn put_all<K: Sink>(sink: &mut K, bytes: &[u8]) -> Result<(), Failed>
     ensures grows { K.faults sink.old ≤ K.faults sink.new }
     ensures puts { Puts (K.written sink.old) bytes.now result (K.written sink.new) }
+    ensures same { OnOk result (K.faults sink.new ≡ K.faults sink.old) }
     ensures failed { OnErr result (Rose (K.faults sink.old) (K.faults sink.new)) }
 {
     let mut at = 0;

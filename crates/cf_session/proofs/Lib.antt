@@ -1,6 +1,5 @@
 pub mod Calling
 pub mod Lacking
 pub mod LookReplies
-pub mod PairDigits
 pub mod Reporting
 pub mod Spelling

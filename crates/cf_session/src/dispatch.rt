@@ -1,5 +1,5 @@
 //! One command, and its reply.
-ghost use Rattle.std.specs.Prelude.{◌≡◌, ◌^◌, ◌≤◌, OnErr, length};
+ghost use Rattle.std.specs.Prelude.{◌≡◌, ◌^◌, ◌≤◌, OnErr, length, OnOk};
 ghost use Rattle.cf_io.specs.Feeds.{Rose};
 ghost use Rattle.cf_session.specs.Apply.{Applies, moment_at};
 ghost use Rattle.cf_session.specs.Records.{run_with, session_of};
@@ -44,6 +44,7 @@ pub(crate) fn answer<H: Manager, K: Sink>(
         (record { command = owned_command c.entry; lead = lead.now })
         result (moment_at (session_of records.new) (H.state heap.new) (K.written out.new)) }
     ensures grows { K.faults out.old ≤ K.faults out.new }
+    ensures same { OnOk result (K.faults out.new ≡ K.faults out.old) }
     ensures failed { OnErr result (Rose (K.faults out.old) (K.faults out.new)) }
 {
     match c {

@@ -2,7 +2,6 @@
 #![tactic(auto)]
 
 mod changes;
-mod digits;
 mod dispatch;
 mod looks;
 mod outcome;

@@ -1,6 +1,6 @@
 //! The commands that only look: each writes its reply on the line, after the lead, or returns a short
 //! one; a read puts its reply itself.
-ghost use Rattle.std.specs.Prelude.{◌≡◌, ◌^◌, ◌<◌, ◌≤◌, ◌++◌, IsTrue, OnErr, codes, length, slice_get, take};
+ghost use Rattle.std.specs.Prelude.{◌≡◌, ◌^◌, ◌<◌, ◌≤◌, ◌++◌, IsTrue, OnErr, codes, length, slice_get, take, OnOk};
 ghost use Rattle.std.specs.FinMap as map;
 ghost use Rattle.cf_io.specs.Feeds.{Rose};
 ghost use Rattle.cf_io.specs.Lines.{line_room};
@@ -12,7 +12,6 @@ ghost use Rattle.run_model.specs.Sessions.{AreTied};
 ghost use Rattle.run_model.specs.Texts.{led, said};
 
 use crate::changes::fault_reply;
-use crate::digits::spell;
 use crate::outcome::Outcome;
 use crate::records::Records;
 use crate::short::{OneLine, Short};
@@ -45,6 +44,7 @@ pub(crate) fn read<H: Manager, K: Sink>(
     ensures told { IsTold (read_text (object_of (run_with records.now (H.state heap.now)) id) at len) lead.now
         (K.written out.old) result (K.written out.new) }
     ensures grows { K.faults out.old ≤ K.faults out.new }
+    ensures same { OnOk result (K.faults out.new ≡ K.faults out.old) }
     ensures failed { OnErr result (Rose (K.faults out.old) (K.faults out.new)) }
 {
     let Some(h) = records.ids.handle(id) else {
@@ -83,6 +83,7 @@ fn read_part<H: Manager, K: Sink>(
     ensures told { IsTold (read_text (map.get (H.state heap.now).held h.0) at (length room.old)) lead.now
         (K.written out.old) result (K.written out.new) }
     ensures grows { K.faults out.old ≤ K.faults out.new }
+    ensures same { OnOk result (K.faults out.new ≡ K.faults out.old) }
     ensures failed { OnErr result (Rose (K.faults out.old) (K.faults out.new)) }
 {
     match heap.read(h, at, room, steps) {
@@ -109,7 +110,7 @@ fn spell_bytes(room: &mut [u8], lead: &[u8], bytes: &[u8]) -> usize
     let (mark, rest) = rest.split_at_mut(1);
     mark[0] = b'=';
     let (digits, rest) = rest.split_at_mut(count);
-    spell(bytes, digits);
+    hex::encode_to_slice(bytes, digits).unwrap();
     rest[0] = b'\n';
     lead.len() + count + 2
 }

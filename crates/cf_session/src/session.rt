@@ -1,5 +1,5 @@
 //! A session over one manager.
-ghost use Rattle.std.specs.Prelude.{◌≡◌, ◌≤◌, IsTrue, OnErr, IfOk, length};
+ghost use Rattle.std.specs.Prelude.{◌≡◌, ◌≤◌, IsTrue, OnErr, IfOk, length, OnOk};
 ghost use Rattle.std.specs.FinMap as map;
 ghost use Rattle.cf_io.specs.Feeds.{Rose};
 ghost use Rattle.cf_model.specs.Rules.{KeepsRules};
@@ -19,7 +19,6 @@ use cf_model::Manager;
 use script_reader::{Command, CommandRef};
 use std::alloc::Global;
 use std::marker::Model;
-use std::rt::Runtime;
 use step_ledger::Meter;
 
 /// The most bytes that are read at once.
@@ -53,7 +52,7 @@ impl Model for Session {
 
 impl Session {
     /// A session in which no id is live. The table of all 65,536 ids is taken here.
-    pub fn start<R: Runtime>(rt: &R, alloc: Global) -> Result<Session, OutOfMemory>
+    pub fn start(rt: &HostRuntime, alloc: Global) -> Result<Session, OutOfMemory>
         ensures { IfOk result (λ s. s ≡ fresh_session) }
     {
         Ok(Session {
@@ -86,6 +85,7 @@ impl Session {
         ensures open { IsTrue (H.state heap.new).is_open }
         ensures rules { KeepsRules (H.state heap.new) }
         ensures grows { K.faults out.old ≤ K.faults out.new }
+        ensures same { OnOk result (K.faults out.new ≡ K.faults out.old) }
         ensures failed { OnErr result (Rose (K.faults out.old) (K.faults out.new)) }
     {
         self.apply_ref(heap, c.as_ref(), lead, out)
@@ -110,6 +110,7 @@ impl Session {
         ensures open { IsTrue (H.state heap.new).is_open }
         ensures rules { KeepsRules (H.state heap.new) }
         ensures grows { K.faults out.old ≤ K.faults out.new }
+        ensures same { OnOk result (K.faults out.new ≡ K.faults out.old) }
         ensures failed { OnErr result (Rose (K.faults out.old) (K.faults out.new)) }
     {
         // An open heap keeps its rules.

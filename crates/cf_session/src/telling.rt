@@ -1,5 +1,5 @@
 //! A reply of one line is put, and its outcome told.
-ghost use Rattle.std.specs.Prelude.{◌≤◌, List, ℕ, OnErr, length};
+ghost use Rattle.std.specs.Prelude.{◌≤◌, List, ℕ, OnErr, length, OnOk, ◌≡◌};
 ghost use Rattle.cf_io.specs.Feeds.{Puts, Rose};
 ghost use Rattle.cf_session.specs.OneLine.{HasRoom, IsEnded, IsTold, SaidOn, lines_at, short_text};
 ghost use Rattle.run_model.specs.Texts.{led, said};
@@ -31,6 +31,7 @@ pub(crate) fn tell<K: Sink>(
     ensures told { (text : List ℕ) → SaidOn (lines_at lead.now line.old) text reply
         → IsTold text lead.now (K.written out.old) result (K.written out.new) }
     ensures grows { K.faults out.old ≤ K.faults out.new }
+    ensures same { OnOk result (K.faults out.new ≡ K.faults out.old) }
     ensures failed { OnErr result (Rose (K.faults out.old) (K.faults out.new)) }
 {
     match reply {
@@ -49,6 +50,7 @@ pub(crate) fn tell_short<K: Sink>(
     requires { length lead.now ≤ 8 }
     ensures told { IsTold (short_text short) lead.now (K.written out.old) result (K.written out.new) }
     ensures grows { K.faults out.old ≤ K.faults out.new }
+    ensures same { OnOk result (K.faults out.new ≡ K.faults out.old) }
     ensures failed { OnErr result (Rose (K.faults out.old) (K.faults out.new)) }
 {
     ended(put_short(short, lead, line, out), short.outcome())
@@ -59,6 +61,7 @@ fn put_short<K: Sink>(short: Short, lead: &[u8], line: &mut Line, out: &mut K) -
     requires { length lead.now ≤ 8 }
     ensures puts { Puts (K.written out.old) (led lead.now (said (short_text short))) result (K.written out.new) }
     ensures grows { K.faults out.old ≤ K.faults out.new }
+    ensures same { OnOk result (K.faults out.new ≡ K.faults out.old) }
     ensures failed { OnErr result (Rose (K.faults out.old) (K.faults out.new)) }
 {
     if lead.len() > 0 {
@@ -72,6 +75,7 @@ fn put_led<K: Sink>(short: Short, lead: &[u8], line: &mut Line, out: &mut K) -> 
     requires { length lead.now ≤ 8 }
     ensures puts { Puts (K.written out.old) (led lead.now (said (short_text short))) result (K.written out.new) }
     ensures grows { K.faults out.old ≤ K.faults out.new }
+    ensures same { OnOk result (K.faults out.new ≡ K.faults out.old) }
     ensures failed { OnErr result (Rose (K.faults out.old) (K.faults out.new)) }
 {
     begin_line(line, lead);

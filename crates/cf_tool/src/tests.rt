@@ -3,9 +3,11 @@ mod faults;
 mod keeping;
 mod managers;
 mod opening;
+mod own_faults;
 mod own_heaps;
 mod padded;
 mod rows;
+mod watched;
 
 use crate::complaint;
 use cf_base::{Kind, Status};

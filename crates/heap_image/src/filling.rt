@@ -1,5 +1,5 @@
 //! Fields of an image from a source.
-ghost use Rattle.std.specs.Prelude.{◌≡◌, ◌≤◌, Err};
+ghost use Rattle.std.specs.Prelude.{◌≡◌, ◌≤◌, Err, ◌≢◌};
 ghost use Rattle.std.specs.Int.{w16, w32};
 ghost use Rattle.cf_io.specs.Feeds.{Rose};
 ghost use Rattle.heap_image.specs.Stages.{Fills, ReadsNumber};
@@ -22,6 +22,7 @@ pub(crate) enum Filled {
 pub(crate) fn fill<S: Source>(source: &mut S, buffer: &mut [u8]) -> Filled
     ensures fills { Fills (S.rest source.old) buffer.new result (S.rest source.new) }
     ensures grows { S.faults source.old ≤ S.faults source.new }
+    ensures same { result ≢ Filled.Failed → S.faults source.new ≡ S.faults source.old }
     ensures failed { result ≡ Filled.Failed → Rose (S.faults source.old) (S.faults source.new) }
 {
     let mut at = 0;
@@ -43,6 +44,7 @@ pub(crate) fn fill<S: Source>(source: &mut S, buffer: &mut [u8]) -> Filled
 pub(crate) fn read_u16<S: Source>(source: &mut S, at: u64) -> Result<u16, LoadFault>
     ensures reads { ReadsNumber w16 at (S.rest source.old) result (S.rest source.new) }
     ensures grows { S.faults source.old ≤ S.faults source.new }
+    ensures same { result ≢ Err LoadFault.Read → S.faults source.new ≡ S.faults source.old }
     ensures failed { result ≡ Err LoadFault.Read → Rose (S.faults source.old) (S.faults source.new) }
 {
     let mut bytes = [0; 2];
@@ -57,6 +59,7 @@ pub(crate) fn read_u16<S: Source>(source: &mut S, at: u64) -> Result<u16, LoadFa
 pub(crate) fn read_u32<S: Source>(source: &mut S, at: u64) -> Result<u32, LoadFault>
     ensures reads { ReadsNumber w32 at (S.rest source.old) result (S.rest source.new) }
     ensures grows { S.faults source.old ≤ S.faults source.new }
+    ensures same { result ≢ Err LoadFault.Read → S.faults source.new ≡ S.faults source.old }
     ensures failed { result ≡ Err LoadFault.Read → Rose (S.faults source.old) (S.faults source.new) }
 {
     let mut bytes = [0; 4];

@@ -1,5 +1,5 @@
 //! Loading an image into a heap.
-ghost use Rattle.std.specs.Prelude.{◌≡◌, ◌+◌, ◌<◌, ◌≤◌, ◌^◌, ℕ, List, Err};
+ghost use Rattle.std.specs.Prelude.{◌≡◌, ◌+◌, ◌<◌, ◌≤◌, ◌^◌, ℕ, List, Err, ◌≢◌};
 ghost use Rattle.std.specs.FinMap as map;
 ghost use Rattle.cf_base.specs.declared.kind.Kind.TheVariants.{Moving};
 ghost use Rattle.cf_io.specs.Feeds.{Rose};
@@ -36,6 +36,7 @@ pub fn load<S: Source, H: Manager>(
         (run_at session.new (H.state heap.new)) }
     ensures kind { (H.state heap.new).kind ≡ Moving }
     ensures grows { S.faults source.old ≤ S.faults source.new }
+    ensures same { result ≢ Err LoadFault.Read → S.faults source.new ≡ S.faults source.old }
     ensures read { result ≡ Err LoadFault.Read → Rose (S.faults source.old) (S.faults source.new) }
 {
     let settings = match read_settings(source) {
@@ -66,6 +67,7 @@ fn load_objects<S: Source, H: Manager>(
     ensures ends { EndsBy (count_decoded (H.state heap.old).profile) (H.state heap.old).profile
         (S.rest source.old) result (S.rest source.new) (run_at session.new (H.state heap.new)) }
     ensures grows { S.faults source.old ≤ S.faults source.new }
+    ensures same { result ≢ Err LoadFault.Read → S.faults source.new ≡ S.faults source.old }
     ensures failed { result ≡ Err LoadFault.Read → Rose (S.faults source.old) (S.faults source.new) }
 {
     let count = match read_u32(source, 16) {
@@ -92,6 +94,7 @@ fn load_entries<S: Source, H: Manager>(
     ensures ends { EndsBy (entries_decoded (H.state heap.old).profile count at_first) (H.state heap.old).profile
         (S.rest source.old) result (S.rest source.new) (run_at session.new (H.state heap.new)) }
     ensures grows { S.faults source.old ≤ S.faults source.new }
+    ensures same { result ≢ Err LoadFault.Read → S.faults source.new ≡ S.faults source.old }
     ensures failed { result ≡ Err LoadFault.Read → Rose (S.faults source.old) (S.faults source.new) }
 {
     let mut room = [0; CHUNK];
@@ -113,6 +116,7 @@ fn load_entries<S: Source, H: Manager>(
 fn read_end<S: Source>(source: &mut S, at: u64) -> Result<(), LoadFault>
     ensures end { EndTold at (S.rest source.old) result (S.rest source.new) }
     ensures grows { S.faults source.old ≤ S.faults source.new }
+    ensures same { result ≢ Err LoadFault.Read → S.faults source.new ≡ S.faults source.old }
     ensures failed { result ≡ Err LoadFault.Read → Rose (S.faults source.old) (S.faults source.new) }
 {
     let mut bytes = [0; 1];

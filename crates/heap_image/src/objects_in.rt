@@ -47,6 +47,7 @@ pub(crate) fn read_entry<S: Source, H: Manager>(
         (run_at session.old (H.state heap.old)) (reached_in (run_at session.old (H.state heap.old)) next at)
         (S.rest source.old) result (S.rest source.new) (run_at session.new (H.state heap.new)) }
     ensures grows { S.faults source.old ≤ S.faults source.new }
+    ensures same { result ≢ Err LoadFault.Read → S.faults source.new ≡ S.faults source.old }
     ensures failed { result ≡ Err LoadFault.Read → Rose (S.faults source.old) (S.faults source.new) }
 {
     let id = match read_u16(source, at) {
@@ -80,6 +81,7 @@ fn read_object<S: Source, H: Manager>(
         (run_at session.old (H.state heap.old)) (reached_in (run_at session.old (H.state heap.old)) next at)
         (S.rest source.old) result (S.rest source.new) (run_at session.new (H.state heap.new)) }
     ensures grows { S.faults source.old ≤ S.faults source.new }
+    ensures same { result ≢ Err LoadFault.Read → S.faults source.new ≡ S.faults source.old }
     ensures failed { result ≡ Err LoadFault.Read → Rose (S.faults source.old) (S.faults source.new) }
 {
     let n = match read_u32(source, at + 2) {
@@ -144,6 +146,7 @@ fn fill_object<S: Source, H: Manager>(
     ensures fills { FillsObject n at (run_at session.old (H.state heap.old)) id (S.rest source.old) result (S.rest source.new)
         (run_at session.new (H.state heap.new)) }
     ensures grows { S.faults source.old ≤ S.faults source.new }
+    ensures same { result ≢ Err LoadFault.Read → S.faults source.new ≡ S.faults source.old }
     ensures failed { result ≡ Err LoadFault.Read → Rose (S.faults source.old) (S.faults source.new) }
 {
     let mut done = 0;

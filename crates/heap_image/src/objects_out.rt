@@ -1,5 +1,5 @@
 //! Writing the objects that live in a heap, one after another.
-ghost use Rattle.std.specs.Prelude.{◌≡◌, ◌≤◌, ℕ, List, IsTrue, OnErr, Some, length};
+ghost use Rattle.std.specs.Prelude.{◌≡◌, ◌≤◌, ℕ, List, IsTrue, OnErr, Some, length, OnOk};
 ghost use Rattle.std.specs.FinMap as map;
 ghost use Rattle.cf_base.specs.declared.kind.Kind.TheVariants.{Moving};
 ghost use Rattle.cf_io.specs.Feeds.{Puts, Rose};
@@ -45,6 +45,7 @@ pub trait ObjectWriter {
         ensures puts { (x : Placed) → map.get (H.state heap.now).held h.0 ≡ Some x
             → Puts (K.written out.old) (text id x.bytes) result (K.written out.new) }
         ensures grows { K.faults out.old ≤ K.faults out.new }
+        ensures same { OnOk result (K.faults out.new ≡ K.faults out.old) }
         ensures failed { OnErr result (Rose (K.faults out.old) (K.faults out.new)) };
 }
 
@@ -64,6 +65,7 @@ pub fn put_objects<W: ObjectWriter, H: Manager, K: Sink>(
     ensures puts { Puts (K.written out.old) (texts_of W.text (map.entries (objects_of (run_at session.now (H.state heap.now)))))
         result (K.written out.new) }
     ensures grows { K.faults out.old ≤ K.faults out.new }
+    ensures same { OnOk result (K.faults out.new ≡ K.faults out.old) }
     ensures failed { OnErr result (Rose (K.faults out.old) (K.faults out.new)) }
 {
     // Ids have 16 bits.

@@ -1,5 +1,5 @@
 //! Writing what lives in a heap as an image.
-ghost use Rattle.std.specs.Prelude.{◌≡◌, ◌^◌, ◌<◌, ◌≤◌, ◌*◌, IsTrue, OnErr, Some, length};
+ghost use Rattle.std.specs.Prelude.{◌≡◌, ◌^◌, ◌<◌, ◌≤◌, ◌*◌, IsTrue, OnErr, Some, length, OnOk};
 ghost use Rattle.std.specs.FinMap as map;
 ghost use Rattle.cf_base.specs.declared.kind.Kind.TheVariants.{Moving};
 ghost use Rattle.cf_base.specs.Settings.{profile_of};
@@ -61,6 +61,7 @@ pub fn save<H: Manager, K: Sink>(
     requires tied { AreTied session.now (H.state heap.now) }
     ensures puts { Puts (K.written out.old) (heap_image (run_at session.now (H.state heap.now))) result (K.written out.new) }
     ensures grows { K.faults out.old ≤ K.faults out.new }
+    ensures same { OnOk result (K.faults out.new ≡ K.faults out.old) }
     ensures failed { OnErr result (Rose (K.faults out.old) (K.faults out.new)) }
 {
     // An open heap keeps its rules.
@@ -80,6 +81,7 @@ fn put_header<K: Sink>(s: &Settings, live: u32, line: &mut Line, out: &mut K) ->
     ensures puts { Puts (K.written out.old) (header_of s.now.pages (8 * s.now.page_words) s.now.proxies live)
         result (K.written out.new) }
     ensures grows { K.faults out.old ≤ K.faults out.new }
+    ensures same { OnOk result (K.faults out.new ≡ K.faults out.old) }
     ensures failed { OnErr result (Rose (K.faults out.old) (K.faults out.new)) }
 {
     line.clear();
@@ -124,6 +126,7 @@ fn put_bytes<H: Manager, K: Sink>(
     ensures puts { (x : Placed) → map.get (H.state heap.now).held h.0 ≡ Some x
         → Puts (K.written out.old) x.bytes result (K.written out.new) }
     ensures grows { K.faults out.old ≤ K.faults out.new }
+    ensures same { OnOk result (K.faults out.new ≡ K.faults out.old) }
     ensures failed { OnErr result (Rose (K.faults out.old) (K.faults out.new)) }
 {
     let mut at = 0;

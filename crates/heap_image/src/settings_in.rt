@@ -1,5 +1,5 @@
 //! The settings at the head of an image.
-ghost use Rattle.std.specs.Prelude.{◌≡◌, ◌≤◌, IsTrue, Err};
+ghost use Rattle.std.specs.Prelude.{◌≡◌, ◌≤◌, IsTrue, Err, ◌≢◌};
 ghost use Rattle.std.specs.Str.{bytes_eq};
 ghost use Rattle.cf_base.specs.Limits.{is_within};
 ghost use Rattle.cf_io.specs.Feeds.{Rose};
@@ -16,6 +16,7 @@ use cf_io::Source;
 pub(crate) fn read_settings<S: Source>(source: &mut S) -> Result<Settings, LoadFault>
     ensures settings { SettingsBy 16 decoded (S.rest source.old) result (S.rest source.new) }
     ensures grows { S.faults source.old ≤ S.faults source.new }
+    ensures same { result ≢ Err LoadFault.Read → S.faults source.new ≡ S.faults source.old }
     ensures failed { result ≡ Err LoadFault.Read → Rose (S.faults source.old) (S.faults source.new) }
 {
     let mut bytes = [0; 4];
@@ -48,6 +49,7 @@ fn are_pages(pages: u32) -> bool
 fn read_pages<S: Source>(source: &mut S) -> Result<Settings, LoadFault>
     ensures settings { SettingsBy 12 pages_decoded (S.rest source.old) result (S.rest source.new) }
     ensures grows { S.faults source.old ≤ S.faults source.new }
+    ensures same { result ≢ Err LoadFault.Read → S.faults source.new ≡ S.faults source.old }
     ensures failed { result ≡ Err LoadFault.Read → Rose (S.faults source.old) (S.faults source.new) }
 {
     let pages = match read_u32(source, 4) {
@@ -65,6 +67,7 @@ fn read_page_bytes<S: Source>(source: &mut S, pages: u32) -> Result<Settings, Lo
     requires pages { IsTrue (is_within 1 4096 pages) }
     ensures settings { SettingsBy 8 (page_bytes_decoded pages) (S.rest source.old) result (S.rest source.new) }
     ensures grows { S.faults source.old ≤ S.faults source.new }
+    ensures same { result ≢ Err LoadFault.Read → S.faults source.new ≡ S.faults source.old }
     ensures failed { result ≡ Err LoadFault.Read → Rose (S.faults source.old) (S.faults source.new) }
 {
     let page_bytes = match read_u32(source, 8) {
@@ -87,6 +90,7 @@ fn read_proxies<S: Source>(
     requires page { IsTrue (is_page_of pages page_bytes) }
     ensures settings { SettingsBy 4 (proxies_decoded pages page_bytes) (S.rest source.old) result (S.rest source.new) }
     ensures grows { S.faults source.old ≤ S.faults source.new }
+    ensures same { result ≢ Err LoadFault.Read → S.faults source.new ≡ S.faults source.old }
     ensures failed { result ≡ Err LoadFault.Read → Rose (S.faults source.old) (S.faults source.new) }
 {
     let proxies = match read_u32(source, 12) {

@@ -25,7 +25,7 @@ module _ (from to : Settled RunState) (call : Effects) where
   row_settled Done all left whole (few, none, good, w) = (few, none, good, (wrote_settled from to _ call w).0)
   row_settled BadScript all left whole (bad, w) = (bad, (wrote_settled from to _ call w).0)
   row_settled TooLong all left whole (long, good, w) = (long, good, (wrote_settled from to _ call w).0)
-  row_settled ReadFault all left whole (taken, parts, good, w) = (taken, parts, good, (wrote_settled from to _ call w).0)
+  row_settled ReadFault all left whole (taken, parts, few, good, w) = (taken, parts, few, good, (wrote_settled from to _ call w).0)
   row_settled WriteFault all left whole row = absurd (whole refl)
   row_settled OutOfMemory all left whole row = record { lacks = row.lacks; unwritten = row.unwritten }
   row_settled Words all left whole row = absurd row

@@ -1,5 +1,5 @@
 //! An image to a script.
-ghost use Rattle.std.specs.Prelude.{◌≡◌, ◌≤◌, OnErr};
+ghost use Rattle.std.specs.Prelude.{◌≡◌, ◌≤◌, OnErr, OnOk, ◌≢◌};
 ghost use Rattle.std.specs.FinMap as map;
 ghost use Rattle.cf_base.specs.declared.kind.Kind.TheVariants.{Moving};
 ghost use Rattle.cf_io.specs.Feeds.{Puts, Rose};
@@ -12,13 +12,12 @@ use cf_io::{Line, Sink, Source, push_field, put_line};
 use cf_model::Manager;
 use cf_session::Session;
 use heap_image::{LoadFault, load};
-use std::rt::Runtime;
 use step_ledger::Meter;
 
 /// Loads an image into a manager of kind Moving, and writes the script that makes what it holds. Bytes
 /// that are no image are told by the offset of the first field that breaks a rule, with `BadImage`.
-pub fn load_script<R: Runtime, H: Manager, S: Source, K: Sink>(
-    rt: &R,
+pub fn load_script<H: Manager, S: Source, K: Sink>(
+    rt: &HostRuntime,
     session: &mut Session,
     heap: &mut H,
     source: &mut S,
@@ -34,7 +33,9 @@ pub fn load_script<R: Runtime, H: Manager, S: Source, K: Sink>(
       status = result;
     }) (run_at session.new (H.state heap.new)) }
     // The causes, also where the source isn't observable.
+    ensures source_same { result ≢ Status.ReadFault → S.faults source.new ≡ S.faults source.old }
     ensures read_fault { result ≡ Status.ReadFault → Rose (S.faults source.old) (S.faults source.new) }
+    ensures sink_same { result ≢ Status.WriteFault → K.faults sink.new ≡ K.faults sink.old }
     ensures write_fault { result ≡ Status.WriteFault → Rose (K.faults sink.old) (K.faults sink.new) }
 {
     match load(source, heap, session) {
@@ -58,6 +59,7 @@ pub fn load_script<R: Runtime, H: Manager, S: Source, K: Sink>(
 fn put_bad_image<K: Sink>(at: u64, sink: &mut K) -> Result<(), Failed>
     ensures puts { Puts (K.written sink.old) (bad_image at) result (K.written sink.new) }
     ensures grows { K.faults sink.old ≤ K.faults sink.new }
+    ensures same { OnOk result (K.faults sink.new ≡ K.faults sink.old) }
     ensures failed { OnErr result (Rose (K.faults sink.old) (K.faults sink.new)) }
 {
     let mut line = Line::new();

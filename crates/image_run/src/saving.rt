@@ -1,5 +1,5 @@
 //! A script to an image.
-ghost use Rattle.std.specs.Prelude.{◌≡◌, ◌<◌, ◌+◌, ◌⊎◌, None, false};
+ghost use Rattle.std.specs.Prelude.{◌≡◌, ◌<◌, ◌+◌, ◌⊎◌, None, false, ◌≢◌};
 ghost use Rattle.cf_base.specs.declared.kind.Kind.TheVariants.{Moving};
 ghost use Rattle.cf_io.specs.Feeds.{Rose, last_count};
 ghost use Rattle.cf_session.specs.Apply.{run_at};
@@ -13,14 +13,13 @@ use cf_model::Manager;
 use cf_session::Session;
 use heap_image::save;
 use script_loop::{WithSettings, play_script};
-use std::rt::Runtime;
 use step_ledger::Meter;
 
 /// Answers a script on a manager of kind Moving that is closed, with replies that nobody reads, and
 /// writes the image of what lives at its end; nothing where it has no `heap` line. It ends by the
 /// statuses of the script, and writes nothing but at `Done`, or at `WriteFault` a prefix of the image.
-pub fn save_script<R: Runtime, H: Manager, S: Source, K: Sink>(
-    rt: &R,
+pub fn save_script<H: Manager, S: Source, K: Sink>(
+    rt: &HostRuntime,
     player: &mut WithSettings<Session>,
     heap: &mut H,
     source: &mut S,
@@ -39,7 +38,9 @@ pub fn save_script<R: Runtime, H: Manager, S: Source, K: Sink>(
     }) (run_at player.new.player (H.state heap.new)) }
     // The causes, also where the source isn't observable.
     ensures silent { result ≡ Status.OutOfMemory → K.written sink.new ≡ K.written sink.old }
+    ensures source_same { result ≢ Status.ReadFault → S.faults source.new ≡ S.faults source.old }
     ensures read_fault { result ≡ Status.ReadFault → Rose (S.faults source.old) (S.faults source.new) }
+    ensures sink_same { result ≢ Status.WriteFault → K.faults sink.new ≡ K.faults sink.old }
     ensures write_fault { result ≡ Status.WriteFault → Rose (K.faults sink.old) (K.faults sink.new) }
     ensures too_long { result ≡ Status.TooLong
         → (S.given source.old + MOST_BYTES < S.given source.new) ⊎ (S.given source.new ≡ last_count) }

@@ -1,5 +1,5 @@
 //! Writing the script that makes what lives in a heap.
-ghost use Rattle.std.specs.Prelude.{◌≡◌, ◌≤◌, IsTrue, OnErr, Some, length};
+ghost use Rattle.std.specs.Prelude.{◌≡◌, ◌≤◌, IsTrue, OnErr, Some, length, OnOk};
 ghost use Rattle.std.specs.FinMap as map;
 ghost use Rattle.cf_base.specs.declared.kind.Kind.TheVariants.{Moving};
 ghost use Rattle.cf_base.specs.Settings.{profile_of};
@@ -63,6 +63,7 @@ pub fn tell_script<H: Manager, K: Sink>(
     requires tied { AreTied session.now (H.state heap.now) }
     ensures puts { Puts (K.written out.old) (heap_script (run_at session.now (H.state heap.now))) result (K.written out.new) }
     ensures grows { K.faults out.old ≤ K.faults out.new }
+    ensures same { OnOk result (K.faults out.new ≡ K.faults out.old) }
     ensures failed { OnErr result (Rose (K.faults out.old) (K.faults out.new)) }
 {
     let mut line = Line::new();
@@ -77,6 +78,7 @@ pub fn tell_script<H: Manager, K: Sink>(
 fn put_heap<K: Sink>(s: &Settings, line: &mut Line, out: &mut K) -> Result<(), Failed>
     ensures puts { Puts (K.written out.old) (opening_line (profile_of s.now)) result (K.written out.new) }
     ensures grows { K.faults out.old ≤ K.faults out.new }
+    ensures same { OnOk result (K.faults out.new ≡ K.faults out.old) }
     ensures failed { OnErr result (Rose (K.faults out.old) (K.faults out.new)) }
 {
     line.clear();
@@ -91,6 +93,7 @@ fn put_heap<K: Sink>(s: &Settings, line: &mut Line, out: &mut K) -> Result<(), F
 fn put_malloc<K: Sink>(id: u16, n: u32, line: &mut Line, out: &mut K) -> Result<(), Failed>
     ensures puts { Puts (K.written out.old) (line_of (Malloc id n)) result (K.written out.new) }
     ensures grows { K.faults out.old ≤ K.faults out.new }
+    ensures same { OnOk result (K.faults out.new ≡ K.faults out.old) }
     ensures failed { OnErr result (Rose (K.faults out.old) (K.faults out.new)) }
 {
     line.clear();
@@ -116,6 +119,7 @@ fn put_writes<H: Manager, K: Sink>(
     ensures puts { (x : Placed) → map.get (H.state heap.now).held h.0 ≡ Some x
         → Puts (K.written out.old) (lines_of (writes_of id x.bytes)) result (K.written out.new) }
     ensures grows { K.faults out.old ≤ K.faults out.new }
+    ensures same { OnOk result (K.faults out.new ≡ K.faults out.old) }
     ensures failed { OnErr result (Rose (K.faults out.old) (K.faults out.new)) }
 {
     let mut at = 0;
@@ -147,6 +151,7 @@ fn put_write<K: Sink>(
     requires few { length bytes.now ≤ 4096 }
     ensures puts { Puts (K.written out.old) (line_of (Write id at bytes.now)) result (K.written out.new) }
     ensures grows { K.faults out.old ≤ K.faults out.new }
+    ensures same { OnOk result (K.faults out.new ≡ K.faults out.old) }
     ensures failed { OnErr result (Rose (K.faults out.old) (K.faults out.new)) }
 {
     line.clear();

@@ -1,23 +1,26 @@
--- A run over large objects goes on after each command.
-use Rattle.std.proofs.Common.{◌≡◌, ℕ, List, Some, None, replicate, sym, refl, subst}
+-- A run over large objects goes on after each command, and each command does to the ids and the objects that they name what it has to.
+use Rattle.std.proofs.Common.{◌≡◌, ◌∙◌, ℕ, List, Some, None, false, sym, ap, refl, subst, inl, inr}
 use Rattle.std.specs.Prelude.{IsTrue, Option, Result, Ok, Err, codes}
 use Rattle.std.specs.Option.{MatchOption}
-use Rattle.std.specs.FinMap.{get, insert, remove}
+use Rattle.std.specs.FinMap.{get}
 use Rattle.cf_base.specs.declared.answers.Handle.{Handle}
 use Rattle.cf_base.specs.declared.answers.Refusal.{Refusal}
+use Rattle.cf_base.specs.declared.answers.Refusal.TheVariants as refusal
 use Rattle.cf_base.specs.declared.answers.AccessFault.{AccessFault}
-use Rattle.cf_io.specs.Texts.{Reply}
+use Rattle.cf_base.specs.declared.answers.AccessFault.TheVariants as access
+use Rattle.cf_io.specs.Texts.{Reply, said}
 use Rattle.id_table.specs.Ids.{Ids}
-use Rattle.page_model.specs.Held.{Objects}
 use Rattle.script_reader.specs.declared.command.Command.{Command}
 use Rattle.script_reader.specs.declared.command.Command.TheVariants as command
-use Rattle.cf_model.specs.Steps.{Part}
+use Rattle.run_laws.specs.Told.{is_ok, read_told}
+use Rattle.run_laws.proofs.CallerLemmas.{IsSame, Named, NamedTurn, Refuses, bytes_of, still_tied, through}
+use Rattle.run_model.specs.Replies.{malloc_text, write_text}
 use Rattle.run_model.specs.Steps.{ids_given}
 use Rattle.id_table.specs.Ties.{AreTiedTo}
-use Rattle.id_table.proofs.CallerLemmas.{tied_less, tied_more, tied_same}
 use Rattle.large_objects.specs.Large.{KeepsParts, LargeState}
 use Rattle.large_objects.specs.LargeSteps.{IsLargeMalloc, IsLargeWrite}
-use Rattle.large_objects.specs.LargeRun.{FreesIdLarge, IsGoingLarge, LargeRun, LargeStep, MallocsLarge, StaysLarge, WritesIdLarge, large_run}
+use Rattle.large_objects.specs.LargeRun.{FreesIdLarge, IsGoingLarge, LargeRun, LargeStep, MallocsLarge, StaysLarge, WritesIdLarge, large_object_of}
+use Rattle.large_objects.specs.LargeRun.{large_read_text, large_run}
 
 -- an open heap whose objects the ids name goes on; the session keeps these ids
 pub going_before : (ids inside : Ids) → ids ≡ inside → (heap : LargeState) → IsTrue heap.is_open → KeepsParts heap → AreTiedTo ids heap.objects
@@ -28,72 +31,103 @@ going_before ids inside same heap opened parts tied = record {
   tied = subst (λ (i : Ids). AreTiedTo i heap.objects) same tied;
 }
 
+-- the ids and the objects of a run
+abbrev pub named : LargeRun → Named
+named s = record { ids = s.ids; objects = s.heap.objects }
+
 module _ (old new : LargeRun) (going : IsGoingLarge old) (reply : Reply) where
-  stays : (text : List ℕ) → StaysLarge old text reply new → IsGoingLarge new
-  stays text (_, same) = subst (λ (s : LargeRun). IsGoingLarge s) (sym same) going
+  same : new ≡ old → IsSame (named old) (named new)
+  same is = record { ids = ap (λ (s : LargeRun). s.ids) is; objects = ap (λ (s : LargeRun). s.heap.objects) is }
 
-  mallocs : (id bytes : ℕ) → get old.ids id ≡ None → MallocsLarge old id bytes reply new → IsGoingLarge new
-  mallocs id bytes free m = record { opened = m.kept.stays.open_now; parts = m.kept.parts; tied = by_answer m.answer m.step m.ids }
+  refuses : (text : List ℕ) → is_ok (said text) ≡ false → reply ≡ said text → IsSame (named old) (named new) → Refuses (named old) reply (named new)
+  refuses text fails is rest = record { told = ap is_ok is ∙ fails; same = rest }
+
+  unmoved : new.ids ≡ old.ids → new.heap ≡ old.heap → IsSame (named old) (named new)
+  unmoved e is = record { ids = e; objects = ap (λ (s : LargeState). s.objects) is }
+
+  malloc_turn : (id n : ℕ) (answer : Result Handle Refusal) → get old.ids id ≡ None → IsLargeMalloc old.heap n answer new.heap
+      → new.ids ≡ ids_given old.ids id answer → reply ≡ said (malloc_text answer) → NamedTurn (named old) (command.Malloc id n) reply (named new)
+  malloc_turn id n (Ok h) free g e is =
+      inl (record { handle = h.0; told = ap is_ok is; free = free; unused = g.unused; ids = e; objects = g.given })
+  malloc_turn id n (Err refusal.Size) free (cause, still) e is = inr (refuses (codes "refused size") refl is (unmoved e still))
+  malloc_turn id n (Err refusal.Proxy) free (cause, still) e is = inr (refuses (codes "refused proxy") refl is (unmoved e still))
+  malloc_turn id n (Err refusal.Space) free (cause, still) e is = inr (refuses (codes "refused space") refl is (unmoved e still))
+
+  write_turn : (id h at : ℕ) (bytes : List ℕ) (answer : Result Unit AccessFault) → get old.ids id ≡ Some h
+      → IsLargeWrite old.heap (record { number = h; from = at }) bytes answer new.heap → new.ids ≡ old.ids
+      → reply ≡ said (write_text answer) → NamedTurn (named old) (command.Write id at bytes) reply (named new)
+  write_turn id h at bytes (Ok u) live w e is =
+      inl (record { handle = h; bytes = w.object; told = ap is_ok is; live = live; found = w.found; ids = e; objects = w.left })
+  write_turn id h at bytes (Err access.Unknown) live (cause, still) e is = inr (refuses (codes "unknown") refl is (unmoved e still))
+  write_turn id h at bytes (Err access.Range) live (cause, still) e is = inr (refuses (codes "range") refl is (unmoved e still))
+
+  malloc_at : (o : Option ℕ) (id n : ℕ) → get old.ids id ≡ o → MatchOption o (MallocsLarge old id n reply new) (λ h. StaysLarge old (codes "live") reply new)
+      → NamedTurn (named old) (command.Malloc id n) reply (named new)
+  malloc_at (Some h) id n is (told, rest) = inr (refuses (codes "live") refl told (same rest))
+  malloc_at None id n is m = malloc_turn id n m.answer is m.step m.ids m.reply_is
+
+  free_at : (o : Option ℕ) (id : ℕ) → get old.ids id ≡ o → MatchOption o (StaysLarge old (codes "unknown") reply new) (λ h. FreesIdLarge old id h reply new)
+      → NamedTurn (named old) (command.Free id) reply (named new)
+  free_at None id is (told, rest) = inr (refuses (codes "unknown") refl told (same rest))
+  free_at (Some h) id is f = inl (record { handle = h; told = ap is_ok f.reply_is; live = is; ids = f.ids; objects = (f.step).left })
+
+  write_at : (o : Option ℕ) (id at : ℕ) (bytes : List ℕ) → get old.ids id ≡ o
+      → MatchOption o (StaysLarge old (codes "unknown") reply new) (λ h. WritesIdLarge old (record { number = h; from = at }) bytes reply new)
+      → NamedTurn (named old) (command.Write id at bytes) reply (named new)
+  write_at None id at bytes is (told, rest) = inr (refuses (codes "unknown") refl told (same rest))
+  write_at (Some h) id at bytes is w = write_turn id h at bytes w.answer is w.step w.ids w.reply_is
+
+  -- the bytes of an id, and what a read tells of them
+  bytes_same : (id : ℕ) → large_object_of old id ≡ bytes_of (named old) id
+  bytes_same id = go (get old.ids id)
     where
-      by_answer : (r : Result Handle Refusal) → IsLargeMalloc old.heap bytes r new.heap → new.ids ≡ ids_given old.ids id r
-          → AreTiedTo new.ids new.heap.objects
-      by_answer (Ok h) gives is = subst (λ (i : Ids). AreTiedTo i new.heap.objects) (sym is)
-          (subst (λ (o : Objects). AreTiedTo (insert old.ids id h.0) o) (sym gives.given)
-          (tied_more old.ids old.heap.objects going.tied id h.0 (replicate bytes 0) free gives.unused))
-      by_answer (Err e) (cause, same) is = subst (λ (i : Ids). AreTiedTo i new.heap.objects) (sym is)
-          (subst (λ (s : LargeState). AreTiedTo old.ids s.objects) (sym same) going.tied)
+      go : (o : Option ℕ) → elim o as (λ _. Option (List ℕ)) [ None ↦ None | Some h ↦ get old.heap.objects h ] ≡ through old.heap.objects o
+      go None = refl
+      go (Some h) = refl
 
-  frees : (id h : ℕ) → get old.ids id ≡ Some h → FreesIdLarge old id h reply new → IsGoingLarge new
-  frees id h live f = record {
-    opened = f.kept.stays.open_now;
-    parts = f.kept.parts;
-    tied = subst (λ (i : Ids). AreTiedTo i new.heap.objects) (sym f.ids)
-        (subst (λ (o : Objects). AreTiedTo (remove old.ids id) o) (sym f.step.left) (tied_less old.ids old.heap.objects going.tied id h live));
-  }
+  text_same : (o : Option (List ℕ)) (at count : ℕ) → large_read_text o at count ≡ read_told o at count
+  text_same None at count = refl
+  text_same (Some v) at count = refl
 
-  writes : (part : Part) (bytes : List ℕ) → WritesIdLarge old part bytes reply new → IsGoingLarge new
-  writes part bytes w = record { opened = w.kept.stays.open_now; parts = w.kept.parts; tied = by_answer w.answer w.step }
+  -- what a command does to the ids and the objects that they name
+  pub turn_named : (c : Command) → LargeStep old c reply new → NamedTurn (named old) c reply (named new)
+  turn_named (command.Malloc id n) step = malloc_at (get old.ids id) id n refl step
+  turn_named (command.Free id) step = free_at (get old.ids id) id refl step
+  turn_named (command.Write id at bytes) step = write_at (get old.ids id) id at bytes refl step
+  turn_named (command.Read id at count) step = (
+    step.0 ∙ ap said (text_same (large_object_of old id) at count ∙ ap (λ (o : Option (List ℕ)). read_told o at count) (bytes_same id)),
+    same step.1,
+  )
+  turn_named (command.Resize id n) step = inr (refuses (codes "none") refl step.0 (same step.1))
+  turn_named c step = same step.1
+
+  -- a command leaves the heap open, with its parts in order
+  open_still : new ≡ old → IsTrue new.heap.is_open × KeepsParts new.heap
+  open_still is = subst (λ (s : LargeRun). IsTrue s.heap.is_open × KeepsParts s.heap) (sym is) (going.opened, going.parts)
+
+  open_kept : (c : Command) → LargeStep old c reply new → IsTrue new.heap.is_open × KeepsParts new.heap
+  open_kept (command.Malloc id n) step = go (get old.ids id) step
     where
-      by_answer : (r : Result Unit AccessFault) → IsLargeWrite old.heap part bytes r new.heap → AreTiedTo new.ids new.heap.objects
-      by_answer (Ok u) step = subst (λ (i : Ids). AreTiedTo i new.heap.objects) (sym w.ids)
-          (subst (λ (o : Objects). AreTiedTo old.ids o) (sym step.left) (tied_same old.ids old.heap.objects going.tied part.number step.object _ step.found))
-      by_answer (Err e) (cause, same) = subst (λ (i : Ids). AreTiedTo i new.heap.objects) (sym w.ids)
-          (subst (λ (s : LargeState). AreTiedTo old.ids s.objects) (sym same) going.tied)
-
-  told : (text : Reply) → (reply ≡ text) × (new ≡ old) → IsGoingLarge new
-  told text (_, same) = subst (λ (s : LargeRun). IsGoingLarge s) (sym same) going
-
-  pub still_going : (c : Command) → LargeStep old c reply new → IsGoingLarge new
-  still_going (command.Malloc id bytes) step = go (get old.ids id) refl step
+      go : (o : Option ℕ) → MatchOption o (MallocsLarge old id n reply new) (λ h. StaysLarge old (codes "live") reply new)
+          → IsTrue new.heap.is_open × KeepsParts new.heap
+      go None m = (m.kept.stays.open_now, m.kept.parts)
+      go (Some h) s = open_still s.1
+  open_kept (command.Free id) step = go (get old.ids id) step
     where
-      go : (o : Option ℕ) → get old.ids id ≡ o → MatchOption o (MallocsLarge old id bytes reply new) (λ h. StaysLarge old (codes "live") reply new)
-          → IsGoingLarge new
-      go None free m = mallocs id bytes free m
-      go (Some h) live s = stays _ s
-  still_going (command.Free id) step = go (get old.ids id) refl step
-    where
-      go : (o : Option ℕ) → get old.ids id ≡ o → MatchOption o (StaysLarge old (codes "unknown") reply new) (λ h. FreesIdLarge old id h reply new)
-          → IsGoingLarge new
-      go None free s = stays _ s
-      go (Some h) live f = frees id h live f
-  still_going (command.Write id at bytes) step = go (get old.ids id) step
+      go : (o : Option ℕ) → MatchOption o (StaysLarge old (codes "unknown") reply new) (λ h. FreesIdLarge old id h reply new)
+          → IsTrue new.heap.is_open × KeepsParts new.heap
+      go None s = open_still s.1
+      go (Some h) f = (f.kept.stays.open_now, f.kept.parts)
+  open_kept (command.Write id at bytes) step = go (get old.ids id) step
     where
       go : (o : Option ℕ) → MatchOption o (StaysLarge old (codes "unknown") reply new) (λ h. WritesIdLarge old (record { number = h; from = at }) bytes reply
           new)
-          → IsGoingLarge new
-      go None s = stays _ s
-      go (Some h) w = writes _ _ w
-  still_going (command.Read id at len) step = told _ step
-  still_going (command.Place id) step = told _ step
-  still_going (command.Block id i) step = told _ step
-  still_going (command.Peek word) step = told _ step
-  still_going command.Walk step = told _ step
-  still_going command.Frag step = told _ step
-  still_going command.Steps step = told _ step
-  still_going (command.Bound slot_words k) step = told _ step
-  still_going (command.Resize id bytes) step = told _ step
-  still_going command.Slice step = told _ step
-  still_going (command.Task task) step = told _ step
-  still_going (command.Quota task pages) step = told _ step
-  still_going (command.Need task bytes count) step = told _ step
-  still_going (command.Admit task) step = told _ step
+          → IsTrue new.heap.is_open × KeepsParts new.heap
+      go None s = open_still s.1
+      go (Some h) w = (w.kept.stays.open_now, w.kept.parts)
+  open_kept c step = open_still step.1
+
+  pub still_going : (c : Command) → LargeStep old c reply new → IsGoingLarge new
+  still_going c step =
+      let kept = open_kept c step in
+      record { opened = kept.0; parts = kept.1; tied = still_tied (named old) (named new) going.tied c reply (turn_named c step) }

@@ -19,3 +19,4 @@ pub mod OwnRun
 pub mod PartsThere
 pub mod LargeThere
 pub mod Turns
+pub mod ReadBack

@@ -13,8 +13,8 @@ use Rattle.cf_model.specs.Families.{IsPaged}
 use Rattle.cf_model.specs.Rules.{AreInRange}
 use Rattle.cf_model.specs.Steps.{IsEmptyHeap}
 use Rattle.cf_lemmas.specs.Maps.{vacant}
-use Rattle.run_laws.proofs.CallerLemmas.{begins_there, items_sayable, sayable_behind}
-use Rattle.run_laws.specs.Sayable.{AreSayable, IsSayable, IsSayableItem}
+use Rattle.run_laws.proofs.CallerLemmas.{CanGoOn, begins_there}
+use Rattle.run_laws.specs.Sayable.{IsSayable}
 use Rattle.run_model.proofs.CallerLemmas.{run_joined}
 use Rattle.run_model.specs.Plays.{PlayStep}
 use Rattle.run_model.specs.Replies.{malloc_text, write_text}
@@ -148,49 +148,12 @@ begins_large kind p paged can =
 pub begins_going : (kind : Kind) (p : Profile) (s : LargeRun) → BeginsLarge kind p s → IsGoingLarge s
 begins_going kind p s b = record { opened = b.open_now; parts = b.parts; tied = none_tied s.ids s.heap.objects b.ids b.none }
 
-abbrev IsOn : Option LargeRun → Type 0
-IsOn None = ⊤
-IsOn (Some s) = IsGoingLarge s
-
-module _ (kind : Kind) (paged : IsPaged kind) where
-  step_on : (old : Option LargeRun) (item : Item) (reply : Reply) (new : Option LargeRun) → IsOn old
-      → PlayStep (BeginsAtOne kind) LargeStep old item reply new → IsOn new
-  step_on old (starts p) reply new on step = subst IsOn (sym step.2) (begins_going kind p step.0 step.1.0)
-  step_on None (asks c) reply new on step = subst IsOn (sym step.1) tt
-  step_on (Some old) (asks c) reply new on step = subst IsOn (sym step.2) (still_going old step.0 on reply c step.1)
-  step_on old (bad n) reply new on step = subst IsOn (sym step.1) on
-
-  run_on : (old : Option LargeRun) (items : List Item) (replies : List Reply) (new : Option LargeRun) → IsOn old → RunsLarge kind old items replies new
-      → IsOn new
-  run_on old [] replies new on run = subst IsOn (sym run.1) on
-  run_on old (item ∷ rest) replies new on run = run_on run.0 rest run.2 new (step_on old item run.1 run.0 on run.3) run.5
-
-  item_there : (old : Option LargeRun) (item : Item) → IsOn old → IsSayableItem item
-      → (reply : Reply) × (new : Option LargeRun) × PlayStep (BeginsAtOne kind) LargeStep old item reply new
-  item_there old (starts p) on can = (let b = begins_large kind p paged can in (said (codes "ok"), Some b.0, (b.0, (b.1, refl), refl)))
-  item_there None (asks c) on can = ([], None, (refl, refl))
-  item_there (Some old) (asks c) on can = (let t = turn_there old c on can in (t.0, Some t.1, (t.1, t.2, refl)))
-  item_there old (bad n) on can = (said (bad_line n), old, (refl, refl))
-
-  run_there : (old : Option LargeRun) (items : List Item) → IsOn old → AreSayable items
-      → (replies : List Reply) × (new : Option LargeRun) × RunsLarge kind old items replies new
-  run_there old [] on can = ([], old, (refl, refl))
-  run_there old (item ∷ rest) on can =
-      let first = item_there old item on can.0 in
-      let more = run_there first.1 rest (step_on old item first.0 first.1 on first.2) can.1 in
-      (first.0 ∷ more.0, more.1, (first.1, first.0, more.0, first.2, refl, more.2))
-
-  pub runs_there : (given : List ℕ) (ended : Bool) → (replies : List Reply) × (new : Option LargeRun) × RunsLarge kind None (items given ended) replies new
-  runs_there given ended = run_there None (items given ended) tt (items_sayable given ended)
-
-  pub runs_on : (given : List ℕ) (ended : Bool) (done after : List Item) (replies : List Reply) (mid : Option LargeRun) → items given ended ≡ done ++ after
-      → RunsLarge kind None done replies mid
-      → (more : List Reply) × (new : Option LargeRun) × RunsLarge kind None (items given ended) (replies ++ more) new
-  runs_on given ended done after replies mid parts run =
-      let can = sayable_behind done after (subst AreSayable parts (items_sayable given ended)) in
-      let rest = run_there mid after (run_on None done replies mid tt run) can in (
-        rest.0,
-        rest.1,
-        subst (λ (i : List Item). RunsLarge kind None i (replies ++ rest.0) rest.1) (sym parts)
-            (run_joined (BeginsAtOne kind) LargeStep None done after replies rest.0 mid rest.1 run rest.2),
-      )
+-- a run over large objects goes on
+pub large_goes_on : (kind : Kind) → IsPaged kind → CanGoOn (BeginsAtOne kind) LargeStep
+large_goes_on kind paged = record {
+  is_going = IsGoingLarge;
+  begins_going = λ p reply s b. begins_going kind p s b.0;
+  still_going = λ old c reply new going can step. still_going old new going reply c step;
+  begins_there = λ p can. (let b = begins_large kind p paged can in (said (codes "ok"), b.0, (b.1, refl)));
+  turn_there = turn_there;
+}

@@ -1,24 +1,27 @@
 //! Laws of large objects. The functions do nothing: what each ensures is the law.
-ghost use Rattle.std.specs.Prelude.{◌≡◌, ◌≢◌, ℕ, ◌+◌, ◌*◌, ◌<◌, ◌≤◌, ◌++◌, Bool, List, Option, None, length};
+ghost use Rattle.std.specs.Prelude.{◌≡◌, ◌≢◌, ℕ, ◌+◌, ◌*◌, ◌<◌, ◌≤◌, ◌++◌, Bool, List, [], Option, None, length};
 ghost use Rattle.std.specs.FinMap.{get};
 ghost use Rattle.cf_base.specs.declared.answers.AccessFault.{AccessFault};
 ghost use Rattle.cf_base.specs.declared.answers.Refusal.{Refusal};
 ghost use Rattle.cf_base.specs.declared.kind.Kind.{Kind};
 ghost use Rattle.cf_base.specs.Settings.{Profile};
-ghost use Rattle.cf_io.specs.Texts.{Reply};
+ghost use Rattle.cf_io.specs.Texts.{Reply, text_of};
 ghost use Rattle.cf_model.specs.Families.{IsPaged};
 ghost use Rattle.cf_model.specs.Rules.{AreInRange};
 ghost use Rattle.cf_model.specs.State.{paging_in};
 ghost use Rattle.cf_model.specs.Steps.{Part};
 ghost use Rattle.page_model.specs.Arrangement.{pages_for, used_pages};
 ghost use Rattle.run_laws.specs.Sayable.{IsSayable};
+ghost use Rattle.run_laws.specs.Told.{AreReadsOf};
+ghost use Rattle.script_loop.specs.Consequences.{IsPrefixBy};
+ghost use Rattle.script_loop.specs.ScriptOutcome.{Effects, WroteInPart, items_within};
 ghost use Rattle.script_reader.specs.Items.{Item, items};
 ghost use Rattle.script_reader.specs.declared.command.Command.{Command};
 ghost use Rattle.large_objects.specs.Large.{KeepsParts, LargeState};
 ghost use Rattle.large_objects.specs.LargeRun.{IsGoingLarge, LargeRun, LargeStep};
 ghost use Rattle.large_objects.specs.LargeSteps.{GivesLarge, IsLargeFault, IsRefusedLarge, ReadsLarge, WritesLarge, piece_in};
 ghost use Rattle.large_objects.specs.Parts.{inner_live, pieces};
-ghost use Rattle.large_objects.specs.Playing.{BeginsLarge, RunsLarge};
+ghost use Rattle.large_objects.specs.Playing.{BeginsLarge, RunsLarge, large_heap};
 
 /// A malloc that gives an object has no cause for a refusal, and there is one cause at most; so each
 /// refusal comes exactly where its arithmetic says so. A write that is done has no fault.
@@ -52,6 +55,14 @@ pub fn what_is_written_is_read()
         → (q : ℕ) → q ≢ part.number → get new.objects q ≡ get old.objects q }
 {}
 
+/// Over every list of commands each read gives the bytes last written through its id, however its
+/// object is cut into pieces. What the lines and their replies say of ids is all that it depends on:
+/// no address, no handle and no piece.
+pub fn reads_give_what_was_written()
+    ensures { (kind : Kind) (items : List Item) (replies : List Reply) (new : Option LargeRun)
+        → RunsLarge kind None items replies new → AreReadsOf None items replies }
+{}
+
 /// Over any manager with pages a run begins under any settings in their ranges; and from each state of
 /// a run that goes on every command that a script can say gets a reply, after which the run goes on.
 pub fn each_command_has_its_turn()
@@ -72,4 +83,11 @@ pub fn a_long_run_can_always_go_on()
         (mid : Option LargeRun)
         → IsPaged kind → items given ended ≡ done ++ after → RunsLarge kind None done replies mid
         → (more : List Reply) × (new : Option LargeRun) × RunsLarge kind None (items given ended) (replies ++ more) new }
+{}
+
+/// What was written before the sink failed is a prefix of what a run over the whole script prints.
+pub fn what_was_cut_is_a_prefix()
+    ensures { (from to : LargeRun) (call : Effects) (all : List ℕ) → IsPaged from.heap.inner.kind
+        → (w : WroteInPart large_heap from (items_within all) call to)
+        → IsPrefixBy large_heap from (items_within all) (text_of [] w.replies ++ w.front) }
 {}

@@ -18,7 +18,8 @@ mod spine;
 pub use heap::LargeHeap;
 pub use laws::{
     a_long_run_can_always_go_on, each_command_has_its_turn, pages_in_use_are_those_of_the_parts,
-    pieces_are_as_many_as_needed, refusals_come_exactly_by_their_causes, what_is_written_is_read,
+    pieces_are_as_many_as_needed, reads_give_what_was_written,
+    refusals_come_exactly_by_their_causes, what_is_written_is_read, what_was_cut_is_a_prefix,
 };
 pub use player::{LargePlayer, run_large};
 pub use session::LargeSession;

@@ -1,5 +1,5 @@
 //! A script on a heap of large objects.
-ghost use Rattle.std.specs.Prelude.{◌≡◌, ◌<◌, ◌+◌, ◌⊎◌, IfOk};
+ghost use Rattle.std.specs.Prelude.{◌≡◌, ◌<◌, ◌+◌, ◌⊎◌, IfOk, ◌≢◌};
 ghost use Rattle.std.specs.FinMap as map;
 ghost use Rattle.cf_base.specs.declared.kind.Kind.{Kind};
 ghost use Rattle.cf_io.specs.Feeds.{Rose, last_count};
@@ -16,7 +16,6 @@ use cf_model::Manager;
 use script_loop::{OpenFault, Player, play_script};
 use script_reader::CommandRef;
 use std::alloc::Global;
-use std::rt::Runtime;
 use step_ledger::Meter;
 
 /// A session over large objects that answers a script, with the line and the ledger that it uses.
@@ -29,7 +28,7 @@ pub struct LargePlayer {
 
 impl LargePlayer {
     /// A session in which no id is live.
-    pub fn start<R: Runtime>(rt: &R, alloc: Global) -> Result<LargePlayer, OutOfMemory>
+    pub fn start(rt: &HostRuntime, alloc: Global) -> Result<LargePlayer, OutOfMemory>
         ensures { IfOk result (λ p. p.session ≡ map.empty) }
     {
         Ok(LargePlayer {
@@ -110,7 +109,9 @@ pub fn run_large<H: Manager, S: Source, K: Sink>(
     ensures kind { heap.new.inner.kind ≡ heap.old.inner.kind }
     // The causes, also where the source isn't observable.
     ensures silent { result ≡ Status.OutOfMemory → K.written sink.new ≡ K.written sink.old }
+    ensures source_same { result ≢ Status.ReadFault → S.faults source.new ≡ S.faults source.old }
     ensures read_fault { result ≡ Status.ReadFault → Rose (S.faults source.old) (S.faults source.new) }
+    ensures sink_same { result ≢ Status.WriteFault → K.faults sink.new ≡ K.faults sink.old }
     ensures write_fault { result ≡ Status.WriteFault → Rose (K.faults sink.old) (K.faults sink.new) }
     ensures too_long { result ≡ Status.TooLong
         → (S.given source.old + MOST_BYTES < S.given source.new) ⊎ (S.given source.new ≡ last_count) }

@@ -1,5 +1,5 @@
 //! A session over a heap of large objects.
-ghost use Rattle.std.specs.Prelude.{◌≡◌, ◌<◌, ◌≤◌, [], IsTrue, IfOk, OnErr, length};
+ghost use Rattle.std.specs.Prelude.{◌≡◌, ◌<◌, ◌≤◌, [], IsTrue, IfOk, OnErr, length, OnOk};
 ghost use Rattle.std.specs.FinMap as map;
 ghost use Rattle.cf_io.specs.Feeds.{Rose};
 ghost use Rattle.cf_io.specs.Lines.{line_room};
@@ -74,6 +74,7 @@ impl LargeSession {
             (large_moment self.new heap.new (K.written out.new)) }
         ensures going { IsGoingLarge (large_run self.new heap.new) }
         ensures grows { K.faults out.old ≤ K.faults out.new }
+        ensures same { OnOk result (K.faults out.new ≡ K.faults out.old) }
         ensures failed { OnErr result (Rose (K.faults out.old) (K.faults out.new)) }
     {
         self.apply_ref(heap, c.as_ref(), line, out, meter)
@@ -95,6 +96,7 @@ impl LargeSession {
             (large_moment self.new heap.new (K.written out.new)) }
         ensures going { IsGoingLarge (large_run self.new heap.new) }
         ensures grows { K.faults out.old ≤ K.faults out.new }
+        ensures same { OnOk result (K.faults out.new ≡ K.faults out.old) }
         ensures failed { OnErr result (Rose (K.faults out.old) (K.faults out.new)) }
     {
         // An open heap keeps its inner objects in order.
@@ -119,6 +121,7 @@ fn answer<H: Manager, K: Sink>(
     ensures answers { Applies large_heap (large_moment ids.old heap.old (K.written out.old)) (owned_command c.entry) result
         (large_moment ids.new heap.new (K.written out.new)) }
     ensures grows { K.faults out.old ≤ K.faults out.new }
+    ensures same { OnOk result (K.faults out.new ≡ K.faults out.old) }
     ensures failed { OnErr result (Rose (K.faults out.old) (K.faults out.new)) }
 {
     match c {

@@ -1,5 +1,8 @@
-//! The heap as a library: a caller's code, and what the caller can promise by the contracts of `Manager` alone.
+//! The heap as a library: a caller's code, and what the caller can promise by the contracts of `Manager` alone; and a
+//! control loop on the sliced heap.
 #![tactic(auto)]
+
+mod control_loop;
 
 ghost use Rattle.std.specs.Prelude.{◌≡◌, [], ◌∷◌, IsTrue, IfErr, IfOk, IfSome, OnOk};
 ghost use Rattle.std.specs.FinMap as map;
@@ -9,13 +12,13 @@ ghost use Rattle.library_example.specs.Stored.{GivesStart, HoldsOne, begun};
 
 use cf_base::{AccessFault, Handle, Refusal, Settings};
 use cf_model::Manager;
+pub use control_loop::{Missed, next_frame};
 use moving_heap::MovingHeap;
 use std::alloc::Global;
-use std::rt::Runtime;
 use step_ledger::Meter;
 
 /// Two pages of 512 bytes, k = 1, at most eight objects, one of them made. None where out of memory.
-pub fn first_object<R: Runtime>(rt: &R, alloc: Global) -> Option<(MovingHeap, Handle)>
+pub fn first_object(rt: &HostRuntime, alloc: Global) -> Option<(MovingHeap, Handle)>
     ensures { IfSome result (λ r. HoldsOne r.0 r.1.0 (0xca ∷ 0xfe ∷ [])) }
 {
     let settings = Settings::check(2, 512, 1, 8).ok()?;

@@ -23,8 +23,8 @@ use Rattle.quota_model.specs.declared.answers.Admission.TheVariants.{Yes, No, Si
 use Rattle.quota_model.specs.declared.answers.Need.{Need}
 use Rattle.quota_model.specs.declared.answers.QuotaFault.{QuotaFault}
 use Rattle.quota_model.proofs.CallerLemmas.{enough_iff, first_quotas, first_shared, granted_quotas, none_iff}
-use Rattle.run_laws.specs.Sayable.{AreSayable, IsSayable, IsSayableItem}
-use Rattle.run_laws.proofs.CallerLemmas.{items_sayable, sayable_behind}
+use Rattle.run_laws.specs.Sayable.{IsSayable}
+use Rattle.run_laws.proofs.CallerLemmas.{CanGoOn}
 use Rattle.run_model.specs.Plays.{PlayStep}
 use Rattle.run_model.specs.Replies.{malloc_text, write_text}
 use Rattle.run_model.specs.Steps.{ids_given}
@@ -192,54 +192,12 @@ begins_there p can =
       },
     )
 
-abbrev IsOn : Option QuotaRun → Type 0
-IsOn None = ⊤
-IsOn (Some s) = IsGoingQuotas s
-
-step_on : (old : Option QuotaRun) (item : Item) (reply : Reply) (new : Option QuotaRun) → IsOn old → IsSayableItem item
-    → PlayStep BeginsAtOne QuotaStep old item reply new → IsOn new
-step_on old (starts p) reply new on can step = subst IsOn (sym step.2) (begins_going p step.0 step.1.0)
-step_on None (asks c) reply new on can step = subst IsOn (sym step.1) tt
-step_on (Some old) (asks c) reply new on can step = subst IsOn (sym step.2) (still_going old on c reply step.0 can.formed step.1)
-step_on old (bad n) reply new on can step = subst IsOn (sym step.1) on
-
-run_on : (old : Option QuotaRun) (items : List Item) (replies : List Reply) (new : Option QuotaRun) → IsOn old → AreSayable items
-    → RunsQuotas old items replies new → IsOn new
-run_on old [] replies new on can run = subst IsOn (sym run.1) on
-run_on old (item ∷ rest) replies new on can run = run_on run.0 rest run.2 new (step_on old item run.1 run.0 on can.0 run.3) can.1 run.5
-
-item_there : PageLaw → (old : Option QuotaRun) (item : Item) → IsOn old → IsSayableItem item
-    → (reply : Reply) × (new : Option QuotaRun) × PlayStep BeginsAtOne QuotaStep old item reply new
-item_there law old (starts p) on can = (let b = begins_there p can in (said (codes "ok"), Some b.0, (b.0, (b.1, refl), refl)))
-item_there law None (asks c) on can = ([], None, (refl, refl))
-item_there law (Some old) (asks c) on can = (let t = turn_there law old on c can in (t.0, Some t.1, (t.1, t.2, refl)))
-item_there law old (bad n) on can = (said (bad_line n), old, (refl, refl))
-
-run_there : PageLaw → (old : Option QuotaRun) (items : List Item) → IsOn old → AreSayable items
-    → (replies : List Reply) × (new : Option QuotaRun) × RunsQuotas old items replies new
-run_there law old [] on can = ([], old, (refl, refl))
-run_there law old (item ∷ rest) on can =
-    let first = item_there law old item on can.0 in
-    let more = run_there law first.1 rest (step_on old item first.0 first.1 on can.0 first.2) can.1 in
-    (first.0 ∷ more.0, more.1, (first.1, first.0, more.0, first.2, refl, more.2))
-
--- the items that come first can be said
-sayable_before : (done after : List Item) → AreSayable (done ++ after) → AreSayable done
-sayable_before [] after can = tt
-sayable_before (item ∷ rest) after can = (can.0, sayable_before rest after can.1)
-
-pub runs_there : PageLaw → (given : List ℕ) (ended : Bool) → (replies : List Reply) × (new : Option QuotaRun) × RunsQuotas None (items given ended) replies new
-runs_there law given ended = run_there law None (items given ended) tt (items_sayable given ended)
-
-pub runs_on : PageLaw → (given : List ℕ) (ended : Bool) (done after : List Item) (replies : List Reply) (mid : Option QuotaRun)
-    → items given ended ≡ done ++ after → RunsQuotas None done replies mid
-    → (more : List Reply) × (new : Option QuotaRun) × RunsQuotas None (items given ended) (replies ++ more) new
-runs_on law given ended done after replies mid parts run =
-    let all = subst AreSayable parts (items_sayable given ended) in
-    let can = sayable_behind done after all in
-    let rest = run_there law mid after (run_on None done replies mid tt (sayable_before done after all) run) can in (
-      rest.0,
-      rest.1,
-      subst (λ (i : List Item). RunsQuotas None i (replies ++ rest.0) rest.1) (sym parts)
-          (run_joined BeginsAtOne QuotaStep None done after replies rest.0 mid rest.1 run rest.2),
-    )
+-- a run over tasks goes on
+pub tasks_go_on : PageLaw → CanGoOn BeginsAtOne QuotaStep
+tasks_go_on law = record {
+  is_going = IsGoingQuotas;
+  begins_going = λ p reply s b. begins_going p s b.0;
+  still_going = λ old c reply new going can step. still_going old going c reply new can.formed step;
+  begins_there = λ p can. (let b = begins_there p can in (said (codes "ok"), b.0, (b.1, refl)));
+  turn_there = λ old c going can. turn_there law old going c can;
+}

@@ -1,15 +1,17 @@
 //! Laws of a session over tasks. What each function ensures is the law; it calls the laws that it follows from.
-ghost use Rattle.std.specs.Prelude.{◌≡◌, ℕ, ◌<◌, ◌∷◌, ◌++◌, Bool, List, None, Option, true};
+ghost use Rattle.std.specs.Prelude.{◌≡◌, ℕ, ◌<◌, ◌∷◌, ◌++◌, Bool, List, [], None, Option, true};
 ghost use Rattle.cf_base.specs.Settings.{Profile, at_bound_one};
-ghost use Rattle.cf_io.specs.Texts.{Reply};
+ghost use Rattle.cf_io.specs.Texts.{Reply, text_of};
 ghost use Rattle.cf_model.specs.Rules.{AreInRange};
 ghost use Rattle.quota_laws.specs.Tasks.{is_for_task, no_tasks, task_reply};
 ghost use Rattle.run_laws.specs.Sayable.{IsSayable};
+ghost use Rattle.script_loop.specs.Consequences.{IsPrefixBy};
+ghost use Rattle.script_loop.specs.ScriptOutcome.{Effects, WroteInPart, items_within};
 ghost use Rattle.script_reader.specs.Commands.{IsWellFormed};
 ghost use Rattle.script_reader.specs.Items.{Item, items};
 ghost use Rattle.script_reader.specs.declared.command.Command.{Command};
 ghost use Rattle.quota_session.specs.Alone.{AreAlikeFor, CanBeSaid, after_if, item_of, own_commands, replies_of, script_of, tasks_of};
-ghost use Rattle.quota_session.specs.Playing.{BeginsQuotas, RunsQuotas};
+ghost use Rattle.quota_session.specs.Playing.{BeginsQuotas, RunsQuotas, quota_tasks};
 ghost use Rattle.quota_session.specs.QuotaRun.{IsGoingQuotas, QuotaRun, QuotaStep};
 
 use quota_laws::{a_reply_follows_from_the_task_alone, tasks_are_isolated};
@@ -69,6 +71,15 @@ pub fn a_run_of_tasks_can_always_go_on()
         (mid : Option QuotaRun)
         → items given ended ≡ done ++ after → RunsQuotas None done replies mid
         → (more : List Reply) × (new : Option QuotaRun) × RunsQuotas None (items given ended) (replies ++ more) new }
+{
+    a_page_is_there_for_each_quota();
+}
+
+/// What was written before the sink failed is a prefix of what a run over the whole script prints.
+pub fn what_was_cut_is_a_prefix()
+    ensures { (from to : QuotaRun) (call : Effects) (all : List ℕ)
+        → (w : WroteInPart quota_tasks from (items_within all) call to)
+        → IsPrefixBy quota_tasks from (items_within all) (text_of [] w.replies ++ w.front) }
 {
     a_page_is_there_for_each_quota();
 }

@@ -1,5 +1,5 @@
 //! A script on a heap that tasks share.
-ghost use Rattle.std.specs.Prelude.{◌≡◌, ◌<◌, ◌+◌, ◌⊎◌, ⊤, IfOk, None, option_map};
+ghost use Rattle.std.specs.Prelude.{◌≡◌, ◌<◌, ◌+◌, ◌⊎◌, ⊤, IfOk, None, option_map, ◌≢◌};
 ghost use Rattle.cf_base.specs.Settings.{profile_of};
 ghost use Rattle.cf_io.specs.Feeds.{Rose, last_count};
 ghost use Rattle.script_loop.specs.ScriptOutcome.{MOST_BYTES, MeetsOutcome};
@@ -13,7 +13,6 @@ use quota_heap::QuotaHeap;
 use script_loop::{OpenFault, Player, play_script};
 use script_reader::CommandRef;
 use std::alloc::Global;
-use std::rt::Runtime;
 use step_ledger::Meter;
 
 /// A session over sixteen tasks that answers a script, with the settings of its `heap` line and the
@@ -27,7 +26,7 @@ pub struct QuotaPlayer {
 
 impl QuotaPlayer {
     /// A session that was just begun, with no settings yet. All its memory is taken here.
-    pub fn start<R: Runtime>(rt: &R, alloc: Global) -> Result<QuotaPlayer, OutOfMemory>
+    pub fn start(rt: &HostRuntime, alloc: Global) -> Result<QuotaPlayer, OutOfMemory>
         ensures session { IfOk result (λ p. p.session ≡ first_session) }
         ensures settings { IfOk result (λ p. p.settings ≡ None) }
     {
@@ -111,7 +110,9 @@ pub fn run_quotas<S: Source, K: Sink>(
     }) (quota_run (option_map profile_of player.new.settings) player.new.session heap.new) }
     // The causes, also where the source isn't observable.
     ensures silent { result ≡ Status.OutOfMemory → K.written sink.new ≡ K.written sink.old }
+    ensures source_same { result ≢ Status.ReadFault → S.faults source.new ≡ S.faults source.old }
     ensures read_fault { result ≡ Status.ReadFault → Rose (S.faults source.old) (S.faults source.new) }
+    ensures sink_same { result ≢ Status.WriteFault → K.faults sink.new ≡ K.faults sink.old }
     ensures write_fault { result ≡ Status.WriteFault → Rose (K.faults sink.old) (K.faults sink.new) }
     ensures too_long { result ≡ Status.TooLong
         → (S.given source.old + MOST_BYTES < S.given source.new) ⊎ (S.given source.new ≡ last_count) }

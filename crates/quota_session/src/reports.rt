@@ -1,5 +1,5 @@
 //! The report on the classes of a task.
-ghost use Rattle.std.specs.Prelude.{◌≡◌, ◌<◌, ◌≤◌, [], IfOk, IsTrue, OnErr};
+ghost use Rattle.std.specs.Prelude.{◌≡◌, ◌<◌, ◌≤◌, [], IfOk, IsTrue, OnErr, OnOk};
 ghost use Rattle.cf_io.specs.Feeds.{Puts, Rose};
 ghost use Rattle.cf_io.specs.Texts.{led, said};
 ghost use Rattle.page_model.specs.Arrangement.{used_pages};
@@ -32,6 +32,7 @@ pub(crate) fn walk<K: Sink>(
     requires tied { AreTiedTo ids.now (objects_by heap.now task) }
     ensures puts { Puts (K.written out.old) (led [] (task_report heap.now task)) result (K.written out.new) }
     ensures grows { K.faults out.old ≤ K.faults out.new }
+    ensures same { OnOk result (K.faults out.new ≡ K.faults out.old) }
     ensures failed { OnErr result (Rose (K.faults out.old) (K.faults out.new)) }
 {
     let quota = heap.quota(task) as u64;
@@ -55,6 +56,7 @@ fn put_classes<K: Sink>(
         (K.written out.new) }
     ensures used { IfOk result (λ used. used ≡ used_pages (task_paging heap.now.profile) (held_by heap.now task)) }
     ensures grows { K.faults out.old ≤ K.faults out.new }
+    ensures same { OnOk result (K.faults out.new ≡ K.faults out.old) }
     ensures failed { OnErr result (Rose (K.faults out.old) (K.faults out.new)) }
 {
     // An open heap has at most 67 classes.
@@ -77,6 +79,7 @@ fn put_classes<K: Sink>(
 fn put_if_live<K: Sink>(figures: &Figures, line: &mut Line, out: &mut K) -> Result<(), Failed>
     ensures puts { Puts (K.written out.old) (led [] (class_if_live figures.now)) result (K.written out.new) }
     ensures grows { K.faults out.old ≤ K.faults out.new }
+    ensures same { OnOk result (K.faults out.new ≡ K.faults out.old) }
     ensures failed { OnErr result (Rose (K.faults out.old) (K.faults out.new)) }
 {
     if figures.live == 0 {
@@ -89,6 +92,7 @@ fn put_if_live<K: Sink>(figures: &Figures, line: &mut Line, out: &mut K) -> Resu
 fn put_class<K: Sink>(figures: &Figures, line: &mut Line, out: &mut K) -> Result<(), Failed>
     ensures puts { Puts (K.written out.old) (led [] (said (class_line figures.now))) result (K.written out.new) }
     ensures grows { K.faults out.old ≤ K.faults out.new }
+    ensures same { OnOk result (K.faults out.new ≡ K.faults out.old) }
     ensures failed { OnErr result (Rose (K.faults out.old) (K.faults out.new)) }
 {
     begin_line(line, b"");
@@ -110,6 +114,7 @@ fn put_total<K: Sink>(
 ) -> Result<(), Failed>
     ensures puts { Puts (K.written out.old) (led [] (said (total_line (totals_with live used free)))) result (K.written out.new) }
     ensures grows { K.faults out.old ≤ K.faults out.new }
+    ensures same { OnOk result (K.faults out.new ≡ K.faults out.old) }
     ensures failed { OnErr result (Rose (K.faults out.old) (K.faults out.new)) }
 {
     begin_line(line, b"");

@@ -1,5 +1,5 @@
 //! A session over a heap that tasks share.
-ghost use Rattle.std.specs.Prelude.{◌≡◌, ◌<◌, ◌^◌, ◌≤◌, [], IfOk, IsTrue, OnErr, Option, Some, length};
+ghost use Rattle.std.specs.Prelude.{◌≡◌, ◌<◌, ◌^◌, ◌≤◌, [], IfOk, IsTrue, OnErr, Option, Some, length, OnOk};
 ghost use Rattle.cf_base.specs.Settings.{Profile, profile_of};
 ghost use Rattle.cf_io.specs.Feeds.{Rose};
 ghost use Rattle.cf_io.specs.Lines.{line_room};
@@ -87,6 +87,7 @@ impl QuotaSession {
             (quota_moment (Some (profile_of s.now)) self.new heap.new (K.written out.new)) }
         ensures going { IsGoingQuotas (quota_run (Some (profile_of s.now)) self.new heap.new) }
         ensures grows { K.faults out.old ≤ K.faults out.new }
+        ensures same { OnOk result (K.faults out.new ≡ K.faults out.old) }
         ensures failed { OnErr result (Rose (K.faults out.old) (K.faults out.new)) }
     {
         self.apply_ref(heap, s, c.as_ref(), out, meter)
@@ -109,6 +110,7 @@ impl QuotaSession {
             (owned_command c.entry) result (quota_moment (Some (profile_of s.now)) self.new heap.new (K.written out.new)) }
         ensures going { IsGoingQuotas (quota_run (Some (profile_of s.now)) self.new heap.new) }
         ensures grows { K.faults out.old ≤ K.faults out.new }
+        ensures same { OnOk result (K.faults out.new ≡ K.faults out.old) }
         ensures failed { OnErr result (Rose (K.faults out.old) (K.faults out.new)) }
     {
         // An open heap keeps its tasks apart.
@@ -145,6 +147,7 @@ fn answer<K: Sink>(
     ensures answers { Applies quota_tasks (quota_moment (Some (profile_of s.now)) (session_of records.old) heap.old (K.written out.old))
         (owned_command c.entry) result (quota_moment (Some (profile_of s.now)) (session_of records.new) heap.new (K.written out.new)) }
     ensures grows { K.faults out.old ≤ K.faults out.new }
+    ensures same { OnOk result (K.faults out.new ≡ K.faults out.old) }
     ensures failed { OnErr result (Rose (K.faults out.old) (K.faults out.new)) }
 {
     match c {

@@ -8,7 +8,7 @@ use Rattle.page_model.specs.Steps.{resized}
 use Rattle.page_model.proofs.CallerLemmas.{length-resized, length-written, resized_before, resized_behind, written_before, written_behind, written_inside}
 use Rattle.script_reader.specs.declared.command.Command.TheVariants.{Write, Resize}
 use Rattle.run_laws.specs.Told.{Told, changed, done_by}
-use Rattle.run_laws.proofs.ReadBack.{changed_is}
+use Rattle.run_laws.proofs.NamedTurns.{changed_is}
 
 pub write_told_of : (m : Told) (id at : ℕ) (bytes old : List ℕ) → get m id ≡ Some old → at + length bytes ≤ length old
     → (new : List ℕ) × (get (done_by (Write id at bytes) m) id ≡ Some new) × (length new ≡ length old)

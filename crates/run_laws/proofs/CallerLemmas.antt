@@ -1,6 +1,8 @@
 -- What upper crates may cite, passed on from one place. Declares nothing.
 pub use Rattle.run_laws.proofs.CommandAnswers.{begins_there, turn_there}
-pub use Rattle.run_laws.proofs.GoingOn.{sayable_behind}
+pub use Rattle.run_laws.proofs.GoingOn.{kind_goes_on}
 pub use Rattle.run_laws.proofs.Images.{is_rewritten, length-rewritten, rewritten}
 pub use Rattle.run_laws.proofs.Items.{items_sayable}
-pub use Rattle.run_laws.proofs.ReadBack.{IsTold, changed_is, reads_are_told, through, told_added, told_changed, told_gone, told_here}
+pub use Rattle.run_laws.proofs.RunsThere.{CanGoOn, IsOn, run_on, run_there, runs_on, runs_there, item_there, sayable_before, sayable_behind, step_on}
+pub use Rattle.run_laws.proofs.NamedTurns.{Adds, Changes, IsSame, Named, NamedTurn, NamesObjects, Refuses, Takes, any_reads_are_told, bytes_of, still_tied, through}
+pub use Rattle.run_laws.proofs.ReadBack.{reads_are_told}

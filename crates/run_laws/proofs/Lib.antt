@@ -7,7 +7,9 @@ pub mod BlockAnswers
 pub mod HeapAnswers
 pub mod CommandAnswers
 pub mod Items
+pub mod RunsThere
 pub mod GoingOn
+pub mod NamedTurns
 pub mod ReadBack
 pub mod Bytewise
 pub mod CallerLemmas

@@ -9,9 +9,8 @@ use Rattle.cf_model.specs.Rules.{AreInRange}
 use Rattle.cf_model.specs.State.{HeapState}
 use Rattle.script_reader.specs.Items.{Item}
 use Rattle.script_reader.specs.declared.command.Command.{Command}
-use Rattle.run_laws.proofs.CallerLemmas.{begins_there, turn_there, items_sayable, reads_are_told}
+use Rattle.run_laws.proofs.CallerLemmas.{items_sayable, kind_goes_on, reads_are_told}
 use Rattle.run_laws.specs.Sayable.{IsSayable}
-use Rattle.run_model.proofs.CallerLemmas.{begins_going, step_going, step_same}
 use Rattle.run_model.specs.Runs.{BeginsOne, Turn}
 use Rattle.run_model.specs.Sessions.{IsGoing, RunState}
 use Rattle.run_model.specs.Texts.{Reply, led, said, text_of}
@@ -53,32 +52,17 @@ prints_reads from to wanted call w = record { replies = w.replies; reads = reads
 
 -- ---- what one manager owes, and its prefix
 
-module _ (kind : Kind) where
-  abbrev OfKind : RunState → Type 0
-  OfKind s = (s.heap.kind ≡ kind) × IsGoing s
-
-  begins_on : (p : Profile) (reply : Reply) (s : RunState) → BeginsOne kind p reply s → OfKind s
-  begins_on p reply s begins = (ap (λ (h : HeapState). h.kind) begins.0.heap, begins_going kind p s begins.0)
-
-  turns_on : (old : RunState) (c : Command) (reply : Reply) (new : RunState) → OfKind old → Turn old c reply new → OfKind new
-  turns_on old c reply new on turn = ((step_same old new c reply (on.1).rules turn.step).kind ∙ on.0, step_going old new c reply on.1 turn.step)
-
-  opens_there : (p : Profile) → AreInRange p → (reply : Reply) × (s : RunState) × BeginsOne kind p reply s
-  opens_there p can = let b = begins_there kind p can in (said (codes "ok"), b.0, (b.1, refl))
-
-  turns_there : (old : RunState) (c : Command) → OfKind old → IsSayable c → (reply : Reply) × (new : RunState) × Turn old c reply new
-  turns_there old c on can = turn_there old c on.1 can
-
-  cut_whole : (old : RunState) (c : Command) (out : List ℕ) (new : RunState) → OfKind old → IsSayable c → TurnInPart old c out new
-      → (reply : Reply) × (mid : RunState) × (lost : List ℕ) × Turn old c reply mid × (led [] reply ≡ out ++ lost)
-  cut_whole old c out new on can part = (part.reply, new, part.lost, part.turn, part.cut)
+cut_whole : (kind : Kind) (old : RunState) (c : Command) (out : List ℕ) (new : RunState) → (kind_goes_on kind).is_going old → IsSayable c
+    → TurnInPart old c out new
+    → (reply : Reply) × (mid : RunState) × (lost : List ℕ) × Turn old c reply mid × (led [] reply ≡ out ++ lost)
+cut_whole kind old c out new on can part = (part.reply, new, part.lost, part.turn, part.cut)
 
 pub cut_is_prefix : (from to : RunState) (call : Effects) (all : List ℕ)
     → (w : WroteInPart one_manager from (items_within all) call to)
     → IsPrefixOfRun from.heap.kind (items_within all) (text_of [] w.replies ++ w.front)
 cut_is_prefix from to call all w =
     let kind = from.heap.kind in
-    let p = part_is_prefix one_manager from (OfKind kind) (begins_on kind) (turns_on kind) (opens_there kind) (turns_there kind) (cut_whole kind)
+    let p = part_is_prefix one_manager from (kind_goes_on kind) (cut_whole kind)
     (items_within all) w.before w.after w.item w.replies w.mid w.end w.front
     (items_sayable (take MOST_BYTES all) (nat_le (length all) MOST_BYTES)) w.parts w.run w.part in
     record { replies = p.0; end = p.1; run = p.3; missing = p.2; prefix = p.4 }

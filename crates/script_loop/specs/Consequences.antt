@@ -11,6 +11,7 @@ use Rattle.run_model.specs.Runs.{Run}
 use Rattle.run_model.specs.Sessions.{RunState}
 use Rattle.run_model.specs.Texts.{Reply, text_of}
 use Rattle.script_loop.specs.ScriptOutcome.{Effects, items_within}
+use Rattle.script_loop.specs.Semantics.{RunBy, Semantics}
 use Rattle.transcript_laws.specs.Transcripts.{ArePlaceless, StaysAtOne, transcript}
 
 -- the statuses at which every item within the limit was answered
@@ -44,3 +45,11 @@ pub record ArePlain (kind : Kind) (wanted : List Item) : Type 0 where
 abbrev pub TellsTranscript : Kind → Option (List ℕ) → Effects → Type 0
 TellsTranscript kind None call = ⊤
 TellsTranscript kind (Some all) call = ArePlain kind (items_within all) → call.after ≡ appended call.before (text_of [] (transcript kind (items_within all)))
+
+-- the text is a prefix of what some run by these rules prints over all the items
+pub record IsPrefixBy {S P : Type 0} (m : Semantics S P) (from : S) (wanted : List Item) (text : List ℕ) : Type 0 where
+  pub replies : List Reply
+  pub end : Option S
+  pub run : RunBy m from None wanted replies end
+  pub missing : List ℕ
+  pub prefix : text_of [] replies ≡ text ++ missing

@@ -71,8 +71,8 @@ abbrev pub IsRow : {S P : Type 0} → Semantics S P → Status → S → List �
 IsRow m Done from all left call to = (length all ≤ MOST_BYTES) × (left ≡ []) × (has_bad (items_within all) ≡ false) × Wrote m from (items_within all) call to
 IsRow m BadScript from all left call to = (has_bad (items_within all) ≡ true) × Wrote m from (items_within all) call to
 IsRow m TooLong from all left call to = (MOST_BYTES < length all) × (has_bad (items_within all) ≡ false) × Wrote m from (items_within all) call to
-IsRow m ReadFault from all left call to = (taken : List ℕ) × (all ≡ taken ++ left) × (has_bad (items taken false) ≡ false)
-    × Wrote m from (items taken false) call to
+IsRow m ReadFault from all left call to = (taken : List ℕ) × (all ≡ taken ++ left) × (length taken ≤ MOST_BYTES)
+    × (has_bad (items taken false) ≡ false) × Wrote m from (items taken false) call to
 IsRow m WriteFault from all left call to = WroteInPart m from (items_within all) call to
 IsRow m OutOfMemory from all left call to = Lacks m from call to
 IsRow m Words from all left call to = ⊥

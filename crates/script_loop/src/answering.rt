@@ -1,5 +1,5 @@
 //! Answering what a reader has.
-ghost use Rattle.std.specs.Prelude.{◌≡◌, ◌≤◌, ◌+◌, [], length, false, None};
+ghost use Rattle.std.specs.Prelude.{◌≡◌, ◌≤◌, ◌+◌, [], length, false, None, ◌≢◌};
 ghost use Rattle.cf_io.specs.Feeds.{Rose};
 ghost use Rattle.script_reader.specs.Reading.{MOST_FED};
 ghost use Rattle.script_loop.specs.Going.{Goes, IsWaiting, NamesBad};
@@ -26,6 +26,7 @@ pub enum Ready {
 fn name_bad<K: Sink>(number: u32, sink: &mut K) -> Ready
     ensures names { NamesBad (K.written sink.old) number result (K.written sink.new) }
     ensures grows { K.faults sink.old ≤ K.faults sink.new }
+    ensures same { result ≢ Ready.Cut → K.faults sink.new ≡ K.faults sink.old }
     ensures failed { result ≡ Ready.Cut → Rose (K.faults sink.old) (K.faults sink.new) }
 {
     let mut line = Line::new();
@@ -50,6 +51,7 @@ pub fn answer_kept<H, A: Player<H>, K: Sink>(
     ensures goes { Goes A.semantics (progress (playing reader.old (A.state player.old heap.old)) (K.written sink.old)) [] result
         (progress (playing reader.new (A.state player.new heap.new)) (K.written sink.new)) }
     ensures grows { K.faults sink.old ≤ K.faults sink.new }
+    ensures same { result ≢ Ready.Cut → K.faults sink.new ≡ K.faults sink.old }
     ensures failed { result ≡ Ready.Cut → Rose (K.faults sink.old) (K.faults sink.new) }
 {
     'replies: loop {
@@ -87,6 +89,7 @@ pub fn answer_piece<H, A: Player<H>, K: Sink>(
     ensures goes { Goes A.semantics (progress (playing reader.old (A.state player.old heap.old)) (K.written sink.old)) piece.now result
         (progress (playing reader.new (A.state player.new heap.new)) (K.written sink.new)) }
     ensures grows { K.faults sink.old ≤ K.faults sink.new }
+    ensures same { result ≢ Ready.Cut → K.faults sink.new ≡ K.faults sink.old }
     ensures failed { result ≡ Ready.Cut → Rose (K.faults sink.old) (K.faults sink.new) }
 {
     let mut at = 0;

@@ -1,5 +1,5 @@
 //! Who answers the items of a script.
-ghost use Rattle.std.specs.Prelude.{◌≡◌, ◌≤◌, Err, OnErr, OnOk};
+ghost use Rattle.std.specs.Prelude.{◌≡◌, ◌≤◌, Err, OnErr, OnOk, ◌≢◌};
 ghost use Rattle.cf_io.specs.Feeds.{Rose};
 ghost use Rattle.script_reader.specs.Commands.{IsWellFormed};
 ghost use Rattle.script_reader.specs.Owned.{owned_command};
@@ -44,6 +44,7 @@ pub trait Player<H> {
         ensures going { OnOk result (semantics.is_going (state self.new heap.new)) }
         ensures plan { semantics.plan (state self.new heap.new) ≡ semantics.plan (state self.old heap.old) }
         ensures grows { K.faults sink.old ≤ K.faults sink.new }
+        ensures same { result ≢ Err OpenFault.Failed → K.faults sink.new ≡ K.faults sink.old }
         ensures failed { result ≡ Err OpenFault.Failed → Rose (K.faults sink.old) (K.faults sink.new) };
 
     /// Answers a command. At `Failed` the command has taken effect, and a part of its reply was
@@ -61,5 +62,6 @@ pub trait Player<H> {
         ensures going { semantics.is_going (state self.new heap.new) }
         ensures plan { semantics.plan (state self.new heap.new) ≡ semantics.plan (state self.old heap.old) }
         ensures grows { K.faults sink.old ≤ K.faults sink.new }
+        ensures same { OnOk result (K.faults sink.new ≡ K.faults sink.old) }
         ensures failed { OnErr result (Rose (K.faults sink.old) (K.faults sink.new)) };
 }

@@ -11,3 +11,4 @@ pub mod StillGoing
 pub mod FirstLemmas
 pub mod Fresh
 pub mod CallerLemmas
+pub mod Prefixes

@@ -12,7 +12,6 @@ use cf_session::Session;
 use script_loop::{OpenFault, Player};
 use script_reader::CommandRef;
 use std::alloc::Global;
-use std::rt::Runtime;
 
 /// A session for each of many managers.
 #[derive(Drop)]
@@ -22,7 +21,7 @@ pub struct Sessions {
 
 impl Sessions {
     /// So many sessions, in which no id is live.
-    pub fn start<R: Runtime>(rt: &R, alloc: Global, count: usize) -> Result<Sessions, OutOfMemory>
+    pub fn start(rt: &HostRuntime, alloc: Global, count: usize) -> Result<Sessions, OutOfMemory>
         ensures { IfOk result (λ s. AreFresh count s.each.items) }
     {
         let mut each = Vec::new(alloc);

@@ -1,12 +1,13 @@
 //! Laws of many runs side by side.
-ghost use Rattle.std.specs.Prelude.{◌≡◌, ℕ, List, Option, None, Some, option_map};
+ghost use Rattle.std.specs.Prelude.{◌≡◌, ◌++◌, ℕ, List, [], Option, None, Some, option_map};
 ghost use Rattle.std.specs.List.{All};
 ghost use Rattle.cf_base.specs.declared.kind.Kind.{Kind};
 ghost use Rattle.script_reader.specs.Items.{Item};
 ghost use Rattle.run_model.specs.Sessions.{IsGoing, RunState};
-ghost use Rattle.run_model.specs.Texts.{Reply};
+ghost use Rattle.run_model.specs.Texts.{Reply, text_of};
 ghost use Rattle.run_model.specs.Plays.{PlayPart, PlayRun};
-ghost use Rattle.script_loop.specs.ScriptOutcome.{Effects, Wrote, WroteInPart};
+ghost use Rattle.script_loop.specs.Consequences.{IsPrefixBy};
+ghost use Rattle.script_loop.specs.ScriptOutcome.{Effects, Wrote, WroteInPart, items_within};
 ghost use Rattle.side_by_side.specs.Many.{EachBegins, EachInPart, EachTurn, Many, kinds_of, many_managers, runs_of};
 ghost use Rattle.side_by_side.specs.Own.{OwnRuns, OwnRunsInPart, StandEach};
 
@@ -53,4 +54,12 @@ pub fn each_manager_is_open_after_its_run()
     ensures in_part { (kinds : List Kind) (before : List Item) (item : Item) (replies : List Reply)
         (front : List ℕ) (all : List RunState)
         → OwnRunsInPart kinds before item replies front (Some all) → All IsGoing all }
+{}
+
+/// What was written before the sink failed is a prefix of what a run of all over the whole script
+/// prints.
+pub fn what_was_cut_is_a_prefix()
+    ensures { (from to : Many) (call : Effects) (all : List ℕ)
+        → (w : WroteInPart many_managers from (items_within all) call to)
+        → IsPrefixBy many_managers from (items_within all) (text_of [] w.replies ++ w.front) }
 {}

@@ -1,5 +1,5 @@
 //! Answering a command by each manager.
-ghost use Rattle.std.specs.Prelude.{◌≡◌, ◌≤◌, OnErr, length, map};
+ghost use Rattle.std.specs.Prelude.{◌≡◌, ◌≤◌, OnErr, length, map, OnOk};
 ghost use Rattle.std.specs.List.{All};
 ghost use Rattle.cf_io.specs.Feeds.{Rose};
 ghost use Rattle.cf_session.specs.Apply.{run_at};
@@ -32,6 +32,7 @@ pub fn answer_each<H: Manager, K: Sink>(
     ensures going { All IsGoing (zipped sessions.new.items (map (λ m. H.state m) managers.new.items)) }
     ensures kinds { map (λ m. (H.state m).kind) managers.new.items ≡ map (λ m. (H.state m).kind) managers.old.items }
     ensures grows { K.faults sink.old ≤ K.faults sink.new }
+    ensures same { OnOk result (K.faults sink.new ≡ K.faults sink.old) }
     ensures failed { OnErr result (Rose (K.faults sink.old) (K.faults sink.new)) }
 {
     for i in 0..managers.len() {
@@ -57,6 +58,7 @@ fn answer_one<H: Manager, K: Sink>(
     ensures going { IsGoing (run_at session.new (H.state manager.new)) }
     ensures kind { (H.state manager.new).kind ≡ (H.state manager.old).kind }
     ensures grows { K.faults sink.old ≤ K.faults sink.new }
+    ensures same { OnOk result (K.faults sink.new ≡ K.faults sink.old) }
     ensures failed { OnErr result (Rose (K.faults sink.old) (K.faults sink.new)) }
 {
     match session.apply_ref(manager, command, lead_bytes(manager.kind()), sink) {

@@ -1,29 +1,34 @@
--- A run over a sliced heap goes on after each command.
-use Rattle.std.proofs.Common.{◌≡◌, ℕ, List, Some, None, replicate, sym, ap₂, refl, subst}
-use Rattle.std.specs.Prelude.{IsTrue, Bool, Option, Result, Ok, Err, codes}
+-- A run over a sliced heap goes on after each command, and each command does to the ids and the objects that they name what it has to.
+use Rattle.std.proofs.Common.{◌≡◌, ◌∙◌, ℕ, List, Some, None, false, sym, ap, ap₂, refl, subst, inl, inr}
+use Rattle.std.specs.Prelude.{IsTrue, Bool, Option, Result, Ok, Err, codes, option_map}
 use Rattle.std.specs.Option.{MatchOption}
 use Rattle.std.specs.FinMap.{get}
 use Rattle.cf_base.specs.Settings.{Profile}
 use Rattle.cf_base.specs.declared.answers.AccessFault.{AccessFault}
+use Rattle.cf_base.specs.declared.answers.AccessFault.TheVariants as access
 use Rattle.cf_base.specs.declared.answers.Handle.{Handle}
 use Rattle.cf_base.specs.declared.kind.Layout.TheVariants.{Words}
-use Rattle.cf_io.specs.Texts.{Reply}
+use Rattle.cf_io.specs.Texts.{Reply, said}
+use Rattle.cf_lemmas.proofs.MapValues.{get-map_values}
 use Rattle.id_table.specs.Ids.{Ids}
-use Rattle.page_model.specs.Held.{Objects, objects}
+use Rattle.page_model.specs.Held.{Placed, objects}
 use Rattle.page_model.specs.Paging.{first_bounds, paging_of}
+use Rattle.run_laws.specs.Told.{is_ok, read_told}
+use Rattle.run_laws.proofs.CallerLemmas.{IsSame, Named, NamedTurn, Refuses, bytes_of, still_tied, through}
+use Rattle.run_model.specs.Replies.{read_text}
 use Rattle.script_reader.specs.declared.command.Command.{Command}
 use Rattle.script_reader.specs.declared.command.Command.TheVariants as command
 use Rattle.id_table.specs.Ties.{AreTiedTo}
-use Rattle.id_table.proofs.CallerLemmas.{tied_less, tied_more, tied_same}
 use Rattle.slice_model.specs.Runs.{Event, HappensOnMap, IsConsistent, Malloc, Free, Step, Write}
 use Rattle.slice_model.specs.State.{IsPlan, Plan}
 use Rattle.slice_model.specs.declared.answers.SliceFault.{SliceFault}
 use Rattle.slice_model.specs.declared.answers.SliceFault.TheVariants as fault
 use Rattle.slice_model.specs.declared.answers.SliceRefusal.{SliceRefusal}
+use Rattle.slice_model.specs.declared.answers.SliceRefusal.TheVariants as refusal
 use Rattle.slice_model.proofs.CallerLemmas.{call_on_map}
 use Rattle.sliced_heap.specs.Shown.{KeepsRules, SlicedState, StaysOpen, plan_in, working_in}
-use Rattle.slice_session.specs.SliceRun.{Does, IsGoingSliced, SliceRun, SliceStep, ids_with, ids_without, live_in, slice_run}
-use Rattle.slice_session.specs.SliceRun.{FreesSliced, MallocsSliced, StaysSliced, StepsSliced, WritesSliced}
+use Rattle.slice_session.specs.SliceRun.{Does, IsGoingSliced, SliceRun, SliceStep, ids_with, ids_without, live_in, slice_run, sliced_object_of}
+use Rattle.slice_session.specs.SliceRun.{FreesSliced, MallocsSliced, StaysSliced, WritesSliced, slice_free_text, slice_malloc_text, slice_write_text}
 
 -- the plan by the settings and the quantum
 abbrev plan_by : Profile → ℕ → Plan
@@ -54,86 +59,117 @@ going_before ids inside same heap opened rules tied = record {
   tied = subst (λ (i : Ids). AreTiedTo i (objects heap.held)) same tied;
 }
 
+-- the ids and the objects of a run
+abbrev pub named : SliceRun → Named
+named s = record { ids = s.ids; objects = live_in s }
+
+-- what a read tells of an object is what is told of its bytes
+text_same : (o : Option Placed) (from count : ℕ) → read_text o from count ≡ read_told (option_map (λ (x : Placed). x.bytes) o) from count
+text_same None from count = refl
+text_same (Some x) from count = refl
+
 module _ (old new : SliceRun) (going : IsGoingSliced old) (reply : Reply) where
-  stays : (text : List ℕ) → StaysSliced old text reply new → IsGoingSliced new
-  stays text (_, same) = subst (λ (s : SliceRun). IsGoingSliced s) (sym same) going
+  same : new ≡ old → IsSame (named old) (named new)
+  same is = record { ids = ap (λ (s : SliceRun). s.ids) is; objects = ap live_in is }
 
-  told : (text : Reply) → (reply ≡ text) × (new ≡ old) → IsGoingSliced new
-  told text (_, same) = subst (λ (s : SliceRun). IsGoingSliced s) (sym same) going
-
-  -- with ids that name the objects
-  goes_on : (event : Event) → Does old.heap event new.heap → AreTiedTo new.ids (live_in new) → IsGoingSliced new
-  goes_on event d tied = record {
-    opened = subst (λ (b : Bool). IsTrue b) (sym d.stays.is_open) going.opened;
-    rules = (done_on_map old.heap new.heap going.rules event d).1;
-    tied = tied;
-  }
+  refuses : (text : List ℕ) → is_ok (said text) ≡ false → reply ≡ said text → IsSame (named old) (named new) → Refuses (named old) reply (named new)
+  refuses text fails is rest = record { told = ap is_ok is ∙ fails; same = rest }
 
   on_map : (event : Event) → Does old.heap event new.heap → HappensOnMap (live_in old) event (live_in new)
   on_map event d = (done_on_map old.heap new.heap going.rules event d).0
 
-  tied_by : (ids : Ids) (o : Objects) → new.ids ≡ ids → live_in new ≡ o → AreTiedTo ids o → AreTiedTo new.ids (live_in new)
-  tied_by ids o is same tied = subst (λ (i : Ids). AreTiedTo i (live_in new)) (sym is) (subst (λ (m : Objects). AreTiedTo ids m) (sym same) tied)
+  malloc_turn : (id n : ℕ) (answer : Result Handle SliceRefusal) → get old.ids id ≡ None → HappensOnMap (live_in old) (Malloc n answer) (live_in new)
+      → new.ids ≡ ids_with old.ids id answer → reply ≡ said (slice_malloc_text answer) → NamedTurn (named old) (command.Malloc id n) reply (named new)
+  malloc_turn id n (Ok h) free (unused, on) e is =
+      inl (record { handle = h.0; told = ap is_ok is; free = free; unused = unused; ids = e; objects = on })
+  malloc_turn id n (Err refusal.Size) free on e is = inr (refuses (codes "refused size") refl is (record { ids = e; objects = on }))
+  malloc_turn id n (Err refusal.Proxy) free on e is = inr (refuses (codes "refused proxy") refl is (record { ids = e; objects = on }))
+  malloc_turn id n (Err refusal.Space) free on e is = inr (refuses (codes "refused space") refl is (record { ids = e; objects = on }))
+  malloc_turn id n (Err refusal.Busy) free on e is = inr (refuses (codes "busy") refl is (record { ids = e; objects = on }))
 
-  mallocs : (id bytes : ℕ) → get old.ids id ≡ None → MallocsSliced old id bytes reply new → IsGoingSliced new
-  mallocs id bytes free m = goes_on (Malloc bytes m.answer) m.does (by_answer m.answer (on_map (Malloc bytes m.answer) m.does) m.ids)
-    where
-      by_answer : (r : Result Handle SliceRefusal) → HappensOnMap (live_in old) (Malloc bytes r) (live_in new) → new.ids ≡ ids_with old.ids id r
-          → AreTiedTo new.ids (live_in new)
-      by_answer (Ok h) (unused, is) ids = tied_by _ _ ids is (tied_more old.ids (live_in old) going.tied id h.0 (replicate bytes 0) free unused)
-      by_answer (Err e) is ids = tied_by _ _ ids is going.tied
+  free_turn : (id h : ℕ) (answer : Option SliceFault) → get old.ids id ≡ Some h → HappensOnMap (live_in old) (Free h answer) (live_in new)
+      → new.ids ≡ ids_without old.ids id answer → reply ≡ said (slice_free_text answer) → NamedTurn (named old) (command.Free id) reply (named new)
+  free_turn id h None live (_, on) e is = inl (record { handle = h; told = ap is_ok is; live = live; ids = e; objects = on })
+  free_turn id h (Some fault.Unknown) live (_, on) e is = inr (refuses (codes "unknown") refl is (record { ids = e; objects = on }))
+  free_turn id h (Some fault.Busy) live (_, on) e is = inr (refuses (codes "busy") refl is (record { ids = e; objects = on }))
 
-  frees : (id h : ℕ) → get old.ids id ≡ Some h → FreesSliced old id h reply new → IsGoingSliced new
-  frees id h live f = goes_on (Free h f.answer) f.does (by_answer f.answer (on_map (Free h f.answer) f.does) f.ids)
-    where
-      by_answer : (r : Option SliceFault) → HappensOnMap (live_in old) (Free h r) (live_in new) → new.ids ≡ ids_without old.ids id r
-          → AreTiedTo new.ids (live_in new)
-      by_answer None (_, is) ids = tied_by _ _ ids is (tied_less old.ids (live_in old) going.tied id h live)
-      by_answer (Some fault.Unknown) (_, is) ids = tied_by _ _ ids is going.tied
-      by_answer (Some fault.Busy) (_, is) ids = tied_by _ _ ids is going.tied
+  write_turn : (id h from : ℕ) (bytes : List ℕ) (answer : Option AccessFault) → get old.ids id ≡ Some h
+      → HappensOnMap (live_in old) (Write (record { number = h; from = from }) bytes answer) (live_in new) → new.ids ≡ old.ids
+      → reply ≡ said (slice_write_text answer) → NamedTurn (named old) (command.Write id from bytes) reply (named new)
+  write_turn id h from bytes None live (v, found, fits, on) e is =
+      inl (record { handle = h; bytes = v; told = ap is_ok is; live = live; found = found; ids = e; objects = on })
+  write_turn id h from bytes (Some access.Unknown) live (_, on) e is = inr (refuses (codes "unknown") refl is (record { ids = e; objects = on }))
+  write_turn id h from bytes (Some access.Range) live (_, on) e is = inr (refuses (codes "range") refl is (record { ids = e; objects = on }))
 
-  steps : StepsSliced old reply new → IsGoingSliced new
-  steps s = goes_on Step s.does (tied_by _ _ s.ids (on_map Step s.does) going.tied)
+  malloc_at : (o : Option ℕ) (id n : ℕ) → get old.ids id ≡ o → MatchOption o (MallocsSliced old id n reply new) (λ h. StaysSliced old (codes "live") reply new)
+      → NamedTurn (named old) (command.Malloc id n) reply (named new)
+  malloc_at (Some h) id n is (told, rest) = inr (refuses (codes "live") refl told (same rest))
+  malloc_at None id n is m = malloc_turn id n m.answer is (on_map (Malloc n m.answer) m.does) m.ids m.reply_is
 
-  writes : (h from : ℕ) (bytes : List ℕ) → WritesSliced old h from bytes reply new → IsGoingSliced new
-  writes h from bytes w = goes_on (Write (record { number = h; from = from }) bytes w.answer) w.does
-      (by_answer w.answer (on_map (Write (record { number = h; from = from }) bytes w.answer) w.does))
-    where
-      by_answer : (r : Option AccessFault) → HappensOnMap (live_in old) (Write (record { number = h; from = from }) bytes r) (live_in new)
-          → AreTiedTo new.ids (live_in new)
-      by_answer None (v, found, fits, is) = tied_by _ _ w.ids is (tied_same old.ids (live_in old) going.tied h v _ found)
-      by_answer (Some e) (_, is) = tied_by _ _ w.ids is going.tied
+  free_at : (o : Option ℕ) (id : ℕ) → get old.ids id ≡ o
+      → MatchOption o (StaysSliced old (codes "unknown") reply new) (λ h. FreesSliced old id h reply new)
+      → NamedTurn (named old) (command.Free id) reply (named new)
+  free_at None id is (told, rest) = inr (refuses (codes "unknown") refl told (same rest))
+  free_at (Some h) id is f = free_turn id h f.answer is (on_map (Free h f.answer) f.does) f.ids f.reply_is
 
-  pub still_going : (c : Command) → SliceStep old c reply new → IsGoingSliced new
-  still_going (command.Malloc id bytes) step = go (get old.ids id) refl step
+  write_at : (o : Option ℕ) (id from : ℕ) (bytes : List ℕ) → get old.ids id ≡ o
+      → MatchOption o (StaysSliced old (codes "unknown") reply new) (λ h. WritesSliced old h from bytes reply new)
+      → NamedTurn (named old) (command.Write id from bytes) reply (named new)
+  write_at None id from bytes is (told, rest) = inr (refuses (codes "unknown") refl told (same rest))
+  write_at (Some h) id from bytes is w = write_turn id h from bytes w.answer is
+      (on_map (Write (record { number = h; from = from }) bytes w.answer) w.does) w.ids w.reply_is
+
+  -- the bytes of an id are those of its object
+  bytes_same : (id : ℕ) → option_map (λ (x : Placed). x.bytes) (sliced_object_of old id) ≡ bytes_of (named old) id
+  bytes_same id = go (get old.ids id)
     where
-      go : (o : Option ℕ) → get old.ids id ≡ o → MatchOption o (MallocsSliced old id bytes reply new) (λ h. StaysSliced old (codes "live") reply new)
-          → IsGoingSliced new
-      go None free m = mallocs id bytes free m
-      go (Some h) live s = stays _ s
-  still_going (command.Free id) step = go (get old.ids id) refl step
+      go : (o : Option ℕ) → option_map (λ (x : Placed). x.bytes) (elim o [ None ↦ None | Some h ↦ get old.heap.held h ]) ≡ through (live_in old) o
+      go None = refl
+      go (Some h) = sym (get-map_values (λ (x : Placed). x.bytes) old.heap.held h)
+
+  -- what a command does to the ids and the objects that they name
+  pub turn_named : (c : Command) → SliceStep old c reply new → NamedTurn (named old) c reply (named new)
+  turn_named (command.Malloc id n) step = malloc_at (get old.ids id) id n refl step
+  turn_named (command.Free id) step = free_at (get old.ids id) id refl step
+  turn_named (command.Write id from bytes) step = write_at (get old.ids id) id from bytes refl step
+  turn_named command.Slice step = record { ids = step.ids; objects = on_map Step step.does }
+  turn_named (command.Read id from count) step = (
+    step.0 ∙ ap said (text_same (sliced_object_of old id) from count ∙ ap (λ (o : Option (List ℕ)). read_told o from count) (bytes_same id)),
+    same step.1,
+  )
+  turn_named (command.Resize id n) step = inr (refuses (codes "none") refl step.0 (same step.1))
+  turn_named c step = same step.1
+
+  -- a call leaves the heap open, with its rules
+  open_after : (event : Event) → Does old.heap event new.heap → IsTrue new.heap.is_open × KeepsRules new.heap
+  open_after event d = (subst (λ (b : Bool). IsTrue b) (sym d.stays.is_open) going.opened, (done_on_map old.heap new.heap going.rules event d).1)
+
+  open_still : new ≡ old → IsTrue new.heap.is_open × KeepsRules new.heap
+  open_still is = subst (λ (s : SliceRun). IsTrue s.heap.is_open × KeepsRules s.heap) (sym is) (going.opened, going.rules)
+
+  open_kept : (c : Command) → SliceStep old c reply new → IsTrue new.heap.is_open × KeepsRules new.heap
+  open_kept (command.Malloc id n) step = go (get old.ids id) step
     where
-      go : (o : Option ℕ) → get old.ids id ≡ o → MatchOption o (StaysSliced old (codes "unknown") reply new) (λ h. FreesSliced old id h reply new)
-          → IsGoingSliced new
-      go None free s = stays _ s
-      go (Some h) live f = frees id h live f
-  still_going (command.Write id from bytes) step = go (get old.ids id) step
+      go : (o : Option ℕ) → MatchOption o (MallocsSliced old id n reply new) (λ h. StaysSliced old (codes "live") reply new)
+          → IsTrue new.heap.is_open × KeepsRules new.heap
+      go None m = open_after (Malloc n m.answer) m.does
+      go (Some h) s = open_still s.1
+  open_kept (command.Free id) step = go (get old.ids id) step
+    where
+      go : (o : Option ℕ) → MatchOption o (StaysSliced old (codes "unknown") reply new) (λ h. FreesSliced old id h reply new)
+          → IsTrue new.heap.is_open × KeepsRules new.heap
+      go None s = open_still s.1
+      go (Some h) f = open_after (Free h f.answer) f.does
+  open_kept (command.Write id from bytes) step = go (get old.ids id) step
     where
       go : (o : Option ℕ) → MatchOption o (StaysSliced old (codes "unknown") reply new) (λ h. WritesSliced old h from bytes reply new)
-          → IsGoingSliced new
-      go None s = stays _ s
-      go (Some h) w = writes h from bytes w
-  still_going command.Slice step = steps step
-  still_going (command.Read id from count) step = told _ step
-  still_going (command.Peek word) step = told _ step
-  still_going (command.Place id) step = told _ step
-  still_going (command.Block id i) step = told _ step
-  still_going command.Walk step = told _ step
-  still_going command.Frag step = told _ step
-  still_going command.Steps step = told _ step
-  still_going (command.Bound slot_words k) step = told _ step
-  still_going (command.Resize id bytes) step = told _ step
-  still_going (command.Task task) step = told _ step
-  still_going (command.Quota task pages) step = told _ step
-  still_going (command.Need task bytes count) step = told _ step
-  still_going (command.Admit task) step = told _ step
+          → IsTrue new.heap.is_open × KeepsRules new.heap
+      go None s = open_still s.1
+      go (Some h) w = open_after (Write (record { number = h; from = from }) bytes w.answer) w.does
+  open_kept command.Slice step = open_after Step step.does
+  open_kept c step = open_still step.1
+
+  pub still_going : (c : Command) → SliceStep old c reply new → IsGoingSliced new
+  still_going c step =
+      let kept = open_kept c step in
+      record { opened = kept.0; rules = kept.1; tied = still_tied (named old) (named new) going.tied c reply (turn_named c step) }

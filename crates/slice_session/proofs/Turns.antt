@@ -1,22 +1,18 @@
--- Each command of a run over a sliced heap has its turn, and a run goes on to the end of its items.
-use Rattle.std.proofs.Common.{◌≡◌, ◌++◌, ℕ, List, [], ◌∷◌, Some, None, refl, sym, subst}
-use Rattle.std.specs.Prelude.{⊤, Bool, Option, codes}
+-- Each command of a run over a sliced heap has its turn, and the run can go on.
+use Rattle.std.proofs.Common.{ℕ, List, Some, None, refl}
+use Rattle.std.specs.Prelude.{Option, codes}
 use Rattle.std.specs.Option.{MatchOption}
 use Rattle.std.specs.FinMap.{empty, get}
 use Rattle.cf_base.specs.Settings.{Profile}
 use Rattle.cf_io.specs.Texts.{Reply, said, with_number}
 use Rattle.cf_model.specs.Rules.{AreInRange}
-use Rattle.run_laws.proofs.CallerLemmas.{items_sayable, sayable_behind}
-use Rattle.run_laws.specs.Sayable.{AreSayable, IsSayable, IsSayableItem}
-use Rattle.run_model.proofs.CallerLemmas.{run_joined}
-use Rattle.run_model.specs.Plays.{PlayStep}
-use Rattle.run_model.specs.Texts.{bad_line}
-use Rattle.script_reader.specs.Items.{Item, asks, bad, items, starts}
+use Rattle.run_laws.proofs.CallerLemmas.{CanGoOn}
+use Rattle.run_laws.specs.Sayable.{IsSayable}
 use Rattle.script_reader.specs.declared.command.Command.{Command}
 use Rattle.script_reader.specs.declared.command.Command.TheVariants as command
 use Rattle.slice_model.specs.State.{left_of}
 use Rattle.sliced_heap.specs.Shown.{plan_in, working_in}
-use Rattle.slice_session.specs.Playing.{BeginsSliced, BeginsSlices, IsQuantum, RunsSliced, first_heap}
+use Rattle.slice_session.specs.Playing.{BeginsSliced, BeginsSlices, IsQuantum, first_heap}
 use Rattle.slice_session.specs.SliceRun.{FreesSliced, IsGoingSliced, MallocsSliced, SliceRun, SliceStep, StaysSliced, WritesSliced}
 use Rattle.slice_session.specs.SliceRun.{ids_with, ids_without, slice_free_text, slice_malloc_text, slice_told, slice_write_text}
 use Rattle.slice_session.proofs.CallsThere.{free_there, malloc_there, step_there, write_there}
@@ -90,51 +86,12 @@ begins_sliced law quantum p q can = (
   record { ids = refl; heap = refl; rules = first_rules law quantum p q can },
 )
 
-abbrev IsOn : Option SliceRun → Type 0
-IsOn None = ⊤
-IsOn (Some s) = IsGoingSliced s
-
-module _ (quantum : ℕ) where
-  step_on : (old : Option SliceRun) (item : Item) (reply : Reply) (new : Option SliceRun) → IsOn old
-      → PlayStep (BeginsSlices quantum) SliceStep old item reply new → IsOn new
-  step_on old (starts p) reply new on step = subst IsOn (sym step.2) (begins_going quantum p step.0 step.1.0)
-  step_on None (asks c) reply new on step = subst IsOn (sym step.1) tt
-  step_on (Some old) (asks c) reply new on step = subst IsOn (sym step.2) (still_going old step.0 on reply c step.1)
-  step_on old (bad n) reply new on step = subst IsOn (sym step.1) on
-
-  run_on : (old : Option SliceRun) (items : List Item) (replies : List Reply) (new : Option SliceRun) → IsOn old
-      → RunsSliced quantum old items replies new → IsOn new
-  run_on old [] replies new on run = subst IsOn (sym run.1) on
-  run_on old (item ∷ rest) replies new on run = run_on run.0 rest run.2 new (step_on old item run.1 run.0 on run.3) run.5
-
-  module _ (law : EmptyLaw) (q : IsQuantum quantum) where
-    item_there : (old : Option SliceRun) (item : Item) → IsOn old → IsSayableItem item
-        → (reply : Reply) × (new : Option SliceRun) × PlayStep (BeginsSlices quantum) SliceStep old item reply new
-    item_there old (starts p) on can = (let b = begins_sliced law quantum p q can in (said (codes "ok"), Some b.0, (b.0, (b.1, refl), refl)))
-    item_there None (asks c) on can = ([], None, (refl, refl))
-    item_there (Some old) (asks c) on can = (let t = turn_there old c on can in (t.0, Some t.1, (t.1, t.2, refl)))
-    item_there old (bad n) on can = (said (bad_line n), old, (refl, refl))
-
-    run_there : (old : Option SliceRun) (items : List Item) → IsOn old → AreSayable items
-        → (replies : List Reply) × (new : Option SliceRun) × RunsSliced quantum old items replies new
-    run_there old [] on can = ([], old, (refl, refl))
-    run_there old (item ∷ rest) on can =
-        let first = item_there old item on can.0 in
-        let more = run_there first.1 rest (step_on old item first.0 first.1 on first.2) can.1 in
-        (first.0 ∷ more.0, more.1, (first.1, first.0, more.0, first.2, refl, more.2))
-
-    pub runs_there : (given : List ℕ) (ended : Bool)
-        → (replies : List Reply) × (new : Option SliceRun) × RunsSliced quantum None (items given ended) replies new
-    runs_there given ended = run_there None (items given ended) tt (items_sayable given ended)
-
-    pub runs_on : (given : List ℕ) (ended : Bool) (done after : List Item) (replies : List Reply) (mid : Option SliceRun)
-        → items given ended ≡ done ++ after → RunsSliced quantum None done replies mid
-        → (more : List Reply) × (new : Option SliceRun) × RunsSliced quantum None (items given ended) (replies ++ more) new
-    runs_on given ended done after replies mid parts run =
-        let can = sayable_behind done after (subst AreSayable parts (items_sayable given ended)) in
-        let rest = run_there mid after (run_on None done replies mid tt run) can in (
-          rest.0,
-          rest.1,
-          subst (λ (i : List Item). RunsSliced quantum None i (replies ++ rest.0) rest.1) (sym parts)
-              (run_joined (BeginsSlices quantum) SliceStep None done after replies rest.0 mid rest.1 run rest.2),
-        )
+-- a sliced run goes on
+abbrev pub slices_go_on : EmptyLaw → (quantum : ℕ) → IsQuantum quantum → CanGoOn (BeginsSlices quantum) SliceStep
+slices_go_on law quantum q = record {
+  is_going = IsGoingSliced;
+  begins_going = λ p reply s b. begins_going quantum p s b.0;
+  still_going = λ old c reply new going can step. still_going old new going reply c step;
+  begins_there = λ p can. (let b = begins_sliced law quantum p q can in (said (codes "ok"), b.0, (b.1, refl)));
+  turn_there = turn_there;
+}

@@ -1,12 +1,14 @@
 //! Laws of sessions over sliced heaps. The functions do nothing: what each ensures is the law.
-ghost use Rattle.std.specs.Prelude.{◌≡◌, ◌≢◌, ℕ, ◌++◌, Bool, List, Option, Err, None, Some, codes};
+ghost use Rattle.std.specs.Prelude.{◌≡◌, ◌≢◌, ℕ, ◌++◌, Bool, List, [], Option, Err, None, Some, codes};
 ghost use Rattle.std.specs.Option.{option_map};
 ghost use Rattle.std.specs.FinMap.{get};
 ghost use Rattle.cf_base.specs.Settings.{Profile};
-ghost use Rattle.cf_io.specs.Texts.{Reply, said};
+ghost use Rattle.cf_io.specs.Texts.{Reply, said, text_of};
 ghost use Rattle.cf_model.specs.Rules.{AreInRange};
 ghost use Rattle.run_laws.specs.Sayable.{IsSayable};
 ghost use Rattle.run_laws.specs.Told.{AreReadsOf};
+ghost use Rattle.script_loop.specs.Consequences.{IsPrefixBy};
+ghost use Rattle.script_loop.specs.ScriptOutcome.{Effects, WroteInPart, items_within};
 ghost use Rattle.script_loop.specs.Semantics.{RunBy};
 ghost use Rattle.script_reader.specs.Items.{Item, items};
 ghost use Rattle.script_reader.specs.declared.command.Command.{Command};
@@ -85,3 +87,12 @@ pub fn plays_are_runs()
         → RunBy slices from None items replies new
         → RunsSliced from.quantum None items replies (option_map run_of_play new) }
 {}
+
+/// What was written before the sink failed is a prefix of what a run over the whole script prints.
+pub fn what_was_cut_is_a_prefix()
+    ensures { (from to : SlicePlay) (call : Effects) (all : List ℕ) → IsQuantum from.quantum
+        → (w : WroteInPart slices from (items_within all) call to)
+        → IsPrefixBy slices from (items_within all) (text_of [] w.replies ++ w.front) }
+{
+    an_empty_heap_is_consistent();
+}

@@ -1,5 +1,5 @@
 //! A script on a sliced heap.
-ghost use Rattle.std.specs.Prelude.{◌≡◌, ◌<◌, ◌+◌, ◌⊎◌, ℕ, IfOk};
+ghost use Rattle.std.specs.Prelude.{◌≡◌, ◌<◌, ◌+◌, ◌⊎◌, ℕ, IfOk, ◌≢◌};
 ghost use Rattle.std.specs.FinMap as map;
 ghost use Rattle.cf_io.specs.Feeds.{Rose, last_count};
 ghost use Rattle.script_loop.specs.ScriptOutcome.{MOST_BYTES, MeetsOutcome};
@@ -12,7 +12,6 @@ use script_loop::{OpenFault, Player, play_script};
 use script_reader::CommandRef;
 use sliced_heap::SlicedHeap;
 use std::alloc::Global;
-use std::rt::Runtime;
 use step_ledger::Meter;
 
 /// A session over a sliced heap that answers a script, with the words of a slice and the ledger that
@@ -27,11 +26,7 @@ pub struct SlicePlayer {
 
 impl SlicePlayer {
     /// A session in which no id is live, for a heap with slices of `quantum` words.
-    pub fn start<R: Runtime>(
-        rt: &R,
-        alloc: Global,
-        quantum: u32,
-    ) -> Result<SlicePlayer, OutOfMemory>
+    pub fn start(rt: &HostRuntime, alloc: Global, quantum: u32) -> Result<SlicePlayer, OutOfMemory>
         requires { IsQuantum quantum }
         ensures session { IfOk result (λ p. p.session ≡ map.empty) }
         ensures quantum { IfOk result (λ p. p.quantum ≡ quantum) }
@@ -105,7 +100,9 @@ pub fn run_slices<S: Source, K: Sink>(
     ensures quantum { player.new.quantum ≡ player.old.quantum }
     // The causes, also where the source isn't observable.
     ensures silent { result ≡ Status.OutOfMemory → K.written sink.new ≡ K.written sink.old }
+    ensures source_same { result ≢ Status.ReadFault → S.faults source.new ≡ S.faults source.old }
     ensures read_fault { result ≡ Status.ReadFault → Rose (S.faults source.old) (S.faults source.new) }
+    ensures sink_same { result ≢ Status.WriteFault → K.faults sink.new ≡ K.faults sink.old }
     ensures write_fault { result ≡ Status.WriteFault → Rose (K.faults sink.old) (K.faults sink.new) }
     ensures too_long { result ≡ Status.TooLong
         → (S.given source.old + MOST_BYTES < S.given source.new) ⊎ (S.given source.new ≡ last_count) }

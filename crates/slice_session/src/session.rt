@@ -1,5 +1,5 @@
 //! A session over a sliced heap.
-ghost use Rattle.std.specs.Prelude.{◌≡◌, ◌<◌, ◌≤◌, [], IsTrue, IfOk, OnErr, length};
+ghost use Rattle.std.specs.Prelude.{◌≡◌, ◌<◌, ◌≤◌, [], IsTrue, IfOk, OnErr, length, OnOk};
 ghost use Rattle.std.specs.FinMap as map;
 ghost use Rattle.cf_io.specs.Feeds.{Rose};
 ghost use Rattle.cf_io.specs.Lines.{line_room};
@@ -79,6 +79,7 @@ impl SliceSession {
         // The ledger counts from 0 in each command.
         ensures steps { meter.new ≤ most_steps heap.old.quantum c.now }
         ensures grows { K.faults out.old ≤ K.faults out.new }
+        ensures same { OnOk result (K.faults out.new ≡ K.faults out.old) }
         ensures failed { OnErr result (Rose (K.faults out.old) (K.faults out.new)) }
     {
         self.apply_ref(heap, c.as_ref(), out, meter)
@@ -100,6 +101,7 @@ impl SliceSession {
         ensures going { IsGoingSliced (slice_run self.new heap.new) }
         ensures steps { meter.new ≤ most_steps heap.old.quantum (owned_command c.entry) }
         ensures grows { K.faults out.old ≤ K.faults out.new }
+        ensures same { OnOk result (K.faults out.new ≡ K.faults out.old) }
         ensures failed { OnErr result (Rose (K.faults out.old) (K.faults out.new)) }
     {
         // An open heap keeps its rules.
@@ -134,6 +136,7 @@ fn answer<K: Sink>(
         (snapshot (slice_run ids.new heap.new) (K.written out.new)) }
     ensures steps { RoseAtMost steps.old steps.new (most_steps heap.old.quantum (owned_command c.entry)) }
     ensures grows { K.faults out.old ≤ K.faults out.new }
+    ensures same { OnOk result (K.faults out.new ≡ K.faults out.old) }
     ensures failed { OnErr result (Rose (K.faults out.old) (K.faults out.new)) }
 {
     speak(ids, heap, c, room, line, steps);

@@ -1,5 +1,5 @@
 -- A script that was played on one of the managers, or on one of its own.
-use Rattle.std.proofs.Common.{◌≡◌, ◌<◌, ◌+◌, ◌⊎◌, ◌∙◌, arith, ℕ, List, [], Option, Some, None, refl, ap, sym, subst, length, get_or, set, map, inl, inr}
+use Rattle.std.proofs.Common.{◌≡◌, ◌≢◌, ◌<◌, ◌+◌, ◌⊎◌, ◌∙◌, arith, ℕ, List, [], Option, Some, None, refl, ap, sym, subst, length, get_or, set, map, inl, inr}
 use Rattle.std.proofs.lemmas.List.{get_or-map, length-map, map-set}
 use Rattle.cf_base.specs.declared.kind.Kind.{Kind}
 use Rattle.cf_base.specs.declared.kind.Kind.TheVariants.{Moving}
@@ -36,7 +36,9 @@ or_lacks Does old BadImage new silent done = done
 -- the causes of how a script ended
 pub record HaveCauses (s : SourceState) (k : SinkState) (st : Status) (s' : SourceState) (k' : SinkState) : Type 0 where
   pub silent : st ≡ OutOfMemory → k'.written ≡ k.written
+  pub source_same : st ≢ ReadFault → s'.faults ≡ s.faults
   pub read_fault : st ≡ ReadFault → Rose s.faults s'.faults
+  pub sink_same : st ≢ WriteFault → k'.faults ≡ k.faults
   pub write_fault : st ≡ WriteFault → Rose k.faults k'.faults
   pub too_long : st ≡ TooLong → (s.given + MOST_BYTES < s'.given) ⊎ (s'.given ≡ last_count)
 
@@ -48,7 +50,9 @@ pub ends_of : (Does : Handed → Status → Handed → Type 0) (s : SourceState)
 ends_of Does s k hs st s' k' hs' causes kinds done = record {
   outcome = or_lacks Does (handed s k hs) st (handed s' k' hs') causes.silent done;
   kinds = kinds;
+  source_same = causes.source_same;
   read_fault = causes.read_fault;
+  sink_same = causes.sink_same;
   write_fault = causes.write_fault;
   too_long = causes.too_long;
 }
@@ -117,7 +121,9 @@ module _ (kind : Kind) (s s' : SourceState) (k k' : SinkState) (hs : List HeapSt
   own_beside st ends = record {
     outcome = beside st ends.outcome;
     kinds = refl;
+    source_same = ends.source_same;
     read_fault = ends.read_fault;
+    sink_same = ends.sink_same;
     write_fault = ends.write_fault;
     too_long = ends.too_long;
   }
@@ -152,7 +158,7 @@ bench_status BadImage seed count from to before after done = absurd done.written
 -- the commands of a seed were done by a manager that was made for them
 module _ (choice : Choice) (k k' : SinkState) (st : Status) (session : SessionState) (old : HeapState) (end : RunState) (fresh : session ≡ fresh_session)
     (closed : old ≡ closed_state choice.kind) (outcome : EndsBench st choice.seed choice.count (run_at session old) end k.written k'.written)
-    (fault : st ≡ WriteFault → Rose k.faults k'.faults) where
+    (firm : st ≢ WriteFault → k'.faults ≡ k.faults) (fault : st ≡ WriteFault → Rose k.faults k'.faults) where
   ended : (st ≡ Done) ⊎ ((st ≡ WriteFault) ⊎ ((st ≡ OutOfMemory) × (k'.written ≡ k.written)))
   ended = bench_status st choice.seed choice.count (run_at session old) end k.written k'.written outcome
 
@@ -173,7 +179,7 @@ module _ (choice : Choice) (k k' : SinkState) (st : Status) (session : SessionSt
 
   pub bench_done : (s : SourceState) (hs : List HeapState) → Ends (Benches choice) (handed s k hs) st (handed s k' hs)
   bench_done s hs = ends_of (Benches choice) s k hs st s k' hs
-      (record { silent = silent ended; read_fault = λ is. absurd (unread ended is); write_fault = fault; too_long = λ is. absurd (short ended is) })
+      (record { silent = silent ended; source_same = λ other. refl; read_fault = λ is. absurd (unread ended is); sink_same = firm; write_fault = fault; too_long = λ is. absurd (short ended is) })
       refl
       (record {
         end = end;
@@ -208,12 +214,15 @@ module _ (s s' : SourceState) (k k' : SinkState) (hs : List HeapState) (st : Sta
   call_as st = effects_of (handed s k hs) st (handed s' k' hs)
 
   -- an image was loaded
-  pub loaded_ends : (st ≡ ReadFault → Rose s.faults s'.faults) → (st ≡ WriteFault → Rose k.faults k'.faults) → EndsLoad (run_at session old) call end
+  pub loaded_ends : (st ≢ ReadFault → s'.faults ≡ s.faults) → (st ≡ ReadFault → Rose s.faults s'.faults)
+      → (st ≢ WriteFault → k'.faults ≡ k.faults) → (st ≡ WriteFault → Rose k.faults k'.faults) → EndsLoad (run_at session old) call end
       → Ends Loads (handed s k hs) st (handed s' k' hs)
-  loaded_ends read_fault write_fault ends = ends_of Loads s k hs st s' k' hs
+  loaded_ends source_same read_fault sink_same write_fault ends = ends_of Loads s k hs st s' k' hs
       (record {
         silent = λ is. (subst (λ (st : Status). EndsLoad (run_at session old) (call_as st) end) is ends).1;
+        source_same = source_same;
         read_fault = read_fault;
+        sink_same = sink_same;
         write_fault = write_fault;
         too_long = λ is. absurd (subst (λ (st : Status). EndsLoad (run_at session old) (call_as st) end) is ends);
       }) refl

@@ -1,5 +1,5 @@
 -- How the top call may end, by the mode that the words choose.
-use Rattle.std.specs.Prelude.{◌≡◌, ◌<◌, ◌+◌, ◌⊎◌, ⊤, ℕ, List, [], Option, Some, None, map}
+use Rattle.std.specs.Prelude.{◌≡◌, ◌≢◌, ◌<◌, ◌+◌, ◌⊎◌, ⊤, ℕ, List, [], Option, Some, None, map}
 use Rattle.std.specs.FinMap.{empty}
 use Rattle.cf_base.specs.declared.kind.Kind.{Kind}
 use Rattle.cf_base.specs.declared.status.Status.{Status}
@@ -167,7 +167,9 @@ kinds_in h = map (λ m. m.kind) h.managers
 pub record Ends (Does : Handed → Status → Handed → Type 0) (old : Handed) (status : Status) (new : Handed) : Type 0 where
   pub outcome : OrLacks Does old status new
   pub kinds : kinds_in new ≡ kinds_in old
+  pub source_same : status ≢ ReadFault → new.source.faults ≡ old.source.faults
   pub read_fault : status ≡ ReadFault → Rose old.source.faults new.source.faults
+  pub sink_same : status ≢ WriteFault → new.sink.faults ≡ old.sink.faults
   pub write_fault : status ≡ WriteFault → Rose old.sink.faults new.sink.faults
   pub too_long : status ≡ TooLong → (old.source.given + MOST_BYTES < new.source.given) ⊎ (new.source.given ≡ last_count)
 

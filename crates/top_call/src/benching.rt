@@ -12,12 +12,11 @@ use half_fit_heap::HalfFitHeap;
 use moving_heap::MovingHeap;
 use nonmoving_heap::NonMovingHeap;
 use std::alloc::Global;
-use std::rt::Runtime;
 use tlsf_heap::TlsfHeap;
 
 /// Runs the generated script that is chosen on a closed manager of the kind, which is made for it, and
 /// tells its numbers. Nothing is read, and no other manager is touched.
-pub fn bench<R: Runtime, K: Sink>(rt: &R, alloc: Global, choice: Choice, sink: &mut K) -> Status
+pub fn bench<K: Sink>(rt: &HostRuntime, alloc: Global, choice: Choice, sink: &mut K) -> Status
     ensures { (source : SourceState) (managers : List HeapState) → Ends (Benches choice)
         (handed source (sink_at (K.written sink.old) (K.faults sink.old)) managers) result
         (handed source (sink_at (K.written sink.new) (K.faults sink.new)) managers) }

@@ -4,7 +4,7 @@ use cf_base::{
     AccessFault, Figures, Freed, Handle, Kind, NotLive, OutOfMemory, Refusal, ResizeFault, Resized,
     Settings, Totals,
 };
-use cf_model::Manager;
+use cf_model::{Manager, Usage};
 use step_ledger::Steps;
 
 /// A manager of any kind, behind a box: each call is handed on to it.
@@ -86,6 +86,10 @@ impl Manager for Boxed {
 
     fn totals(&self, steps: &mut Steps) -> Totals {
         self.inner.totals(steps)
+    }
+
+    fn usage(&self, steps: &mut Steps) -> Usage {
+        self.inner.usage(steps)
     }
 
     fn cost(&self) -> u64 {

@@ -8,11 +8,10 @@ use cf_model::Manager;
 use script_loop::play_script;
 use side_by_side::Sessions;
 use std::alloc::Global;
-use std::rt::Runtime;
 
 /// Answers a script on each of the managers, in order, with a session each.
-pub fn compare<R: Runtime, H: Manager, S: Source, K: Sink>(
-    rt: &R,
+pub fn compare<H: Manager, S: Source, K: Sink>(
+    rt: &HostRuntime,
     alloc: Global,
     managers: &mut Vec<H>,
     source: &mut S,

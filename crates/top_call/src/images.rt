@@ -14,12 +14,11 @@ use image_run::{load_script, save_script};
 use moving_heap::MovingHeap;
 use script_loop::WithSettings;
 use std::alloc::Global;
-use std::rt::Runtime;
 
 /// Answers a script on a moving manager that is made for it, and writes the image of what lives at its
 /// end in place of the replies.
-pub fn save_image<R: Runtime, S: Source, K: Sink>(
-    rt: &R,
+pub fn save_image<S: Source, K: Sink>(
+    rt: &HostRuntime,
     alloc: Global,
     source: &mut S,
     sink: &mut K,
@@ -39,8 +38,8 @@ pub fn save_image<R: Runtime, S: Source, K: Sink>(
 }
 
 /// The same, on a moving manager that was never open.
-fn save_on<R: Runtime, H: Manager, S: Source, K: Sink>(
-    rt: &R,
+fn save_on<H: Manager, S: Source, K: Sink>(
+    rt: &HostRuntime,
     alloc: Global,
     heap: &mut H,
     source: &mut S,
@@ -66,8 +65,8 @@ fn save_on<R: Runtime, H: Manager, S: Source, K: Sink>(
 
 /// Loads an image into a moving manager that is made for it, and writes the script that makes what it
 /// then holds.
-pub fn load_image<R: Runtime, S: Source, K: Sink>(
-    rt: &R,
+pub fn load_image<S: Source, K: Sink>(
+    rt: &HostRuntime,
     alloc: Global,
     source: &mut S,
     sink: &mut K,
@@ -87,8 +86,8 @@ pub fn load_image<R: Runtime, S: Source, K: Sink>(
 }
 
 /// The same, on a moving manager that was never open.
-fn load_on<R: Runtime, H: Manager, S: Source, K: Sink>(
-    rt: &R,
+fn load_on<H: Manager, S: Source, K: Sink>(
+    rt: &HostRuntime,
     alloc: Global,
     heap: &mut H,
     source: &mut S,

@@ -8,11 +8,10 @@ use cf_io::{Sink, Source};
 use large_objects::{LargeHeap, LargePlayer, run_large};
 use moving_heap::MovingHeap;
 use std::alloc::Global;
-use std::rt::Runtime;
 
 /// Answers a script whose objects may be larger than a page, on a moving manager that is made for it.
-pub fn play_large<R: Runtime, S: Source, K: Sink>(
-    rt: &R,
+pub fn play_large<S: Source, K: Sink>(
+    rt: &HostRuntime,
     alloc: Global,
     source: &mut S,
     sink: &mut K,

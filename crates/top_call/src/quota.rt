@@ -8,11 +8,10 @@ use cf_io::{Sink, Source};
 use quota_heap::QuotaHeap;
 use quota_session::{QuotaPlayer, run_quotas};
 use std::alloc::Global;
-use std::rt::Runtime;
 
 /// Answers a script of tasks, each with a quota of pages, on a heap that is made for it.
-pub fn play_quotas<R: Runtime, S: Source, K: Sink>(
-    rt: &R,
+pub fn play_quotas<S: Source, K: Sink>(
+    rt: &HostRuntime,
     alloc: Global,
     source: &mut S,
     sink: &mut K,

@@ -15,13 +15,12 @@ use nonmoving_heap::NonMovingHeap;
 use script_loop::run_script;
 use side_by_side::first_of;
 use std::alloc::Global;
-use std::rt::Runtime;
 use tlsf_heap::TlsfHeap;
 
 /// Answers a script on the first manager of the kind; where there is none, on a closed one that is
 /// made for it.
-pub fn run_chosen<R: Runtime, H: Manager, S: Source, K: Sink>(
-    rt: &R,
+pub fn run_chosen<H: Manager, S: Source, K: Sink>(
+    rt: &HostRuntime,
     alloc: Global,
     kind: Kind,
     managers: &mut Vec<H>,

@@ -8,11 +8,10 @@ use cf_io::{Sink, Source};
 use slice_session::{SlicePlayer, run_slices};
 use sliced_heap::SlicedHeap;
 use std::alloc::Global;
-use std::rt::Runtime;
 
 /// Answers a script on a sliced heap that is made for it, with slices of at most `quantum` words.
-pub fn play_slices<R: Runtime, S: Source, K: Sink>(
-    rt: &R,
+pub fn play_slices<S: Source, K: Sink>(
+    rt: &HostRuntime,
     alloc: Global,
     quantum: u32,
     source: &mut S,

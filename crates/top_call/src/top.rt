@@ -1,5 +1,5 @@
 //! The top call.
-ghost use Rattle.std.specs.Prelude.{◌≡◌, ◌<◌, ◌+◌, ◌⊎◌, map, string_bytes};
+ghost use Rattle.std.specs.Prelude.{◌≡◌, ◌<◌, ◌+◌, ◌⊎◌, map, string_bytes, ◌≢◌};
 ghost use Rattle.cf_io.specs.Feeds.{Rose, last_count};
 ghost use Rattle.script_loop.specs.ScriptOutcome.{MOST_BYTES};
 ghost use Rattle.top_call.specs.TopOutcome.{EndsWell, EndsWhole, HasRightInput, TellsAsClaimed, handed, sink_at, source_at};
@@ -16,7 +16,6 @@ use cf_io::{Sink, Source};
 use cf_model::Manager;
 use command_line::{Mode, WordsFault, read_words};
 use std::alloc::Global;
-use std::rt::Runtime;
 
 /// Reads the words, of which the first is the program's name, and does what they choose.
 ///
@@ -31,8 +30,8 @@ use std::rt::Runtime;
 /// `BadScript`; where more bytes come with `TooLong`; at a fault with `ReadFault` or
 /// `WriteFault`; and out of memory with `OutOfMemory`, before any reply. It answers `Words` exactly
 /// where `clap` refuses the words for another cause than memory.
-pub fn cf_main<R: Runtime, H: Manager, S: Source, K: Sink>(
-    rt: &R,
+pub fn cf_main<H: Manager, S: Source, K: Sink>(
+    rt: &HostRuntime,
     alloc: Global,
     words: &[String],
     source: &mut S,
@@ -57,7 +56,9 @@ pub fn cf_main<R: Runtime, H: Manager, S: Source, K: Sink>(
     ensures complete { HasRightInput (map (λ word. string_bytes word) words.now) (S.rest source.old)
         → ¬ Rose (S.faults source.old) (S.faults source.new) → ¬ Rose (K.faults sink.old) (K.faults sink.new) → EndsWhole result }
     // The causes, over every source and sink.
+    ensures source_same { result ≢ Status.ReadFault → S.faults source.new ≡ S.faults source.old }
     ensures read_fault { result ≡ Status.ReadFault → Rose (S.faults source.old) (S.faults source.new) }
+    ensures sink_same { result ≢ Status.WriteFault → K.faults sink.new ≡ K.faults sink.old }
     ensures write_fault { result ≡ Status.WriteFault → Rose (K.faults sink.old) (K.faults sink.new) }
     ensures too_long { result ≡ Status.TooLong
         → (S.given source.old + MOST_BYTES < S.given source.new) ⊎ (S.given source.new ≡ last_count) }

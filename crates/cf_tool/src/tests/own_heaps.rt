@@ -5,7 +5,7 @@ use cf_base::{Kind, Status};
 use std::test::Fail;
 
 /// The words of a call, what is read, the status, and what is written.
-type Row = (
+pub type Row = (
     &'static [&'static str],
     &'static [u8],
     Status,
@@ -13,7 +13,7 @@ type Row = (
 );
 
 /// Of mode `slice`.
-const SLICES: [Row; 4] = [
+pub const SLICES: [Row; 4] = [
     // An object in motion is read in the right half, and another free has to wait; so has a malloc whose
     // only room a job holds.
     (
@@ -46,7 +46,7 @@ const SLICES: [Row; 4] = [
 ];
 
 /// Of mode `quota`.
-const QUOTAS: [Row; 3] = [
+pub const QUOTAS: [Row; 3] = [
     // A task is refused space by its own quota alone.
     (
         &["quota"],
@@ -71,7 +71,7 @@ const QUOTAS: [Row; 3] = [
 ];
 
 /// Of mode `large`.
-const LARGES: [Row; 3] = [
+pub const LARGES: [Row; 3] = [
     // Objects above one page, their ranges, and room again after a free.
     (
         &["large"],
@@ -96,7 +96,7 @@ const LARGES: [Row; 3] = [
 ];
 
 /// Of modes `save` and `load`.
-const IMAGES: [Row; 7] = [
+pub const IMAGES: [Row; 7] = [
     (
         &["save"],
         b"heap 1 512 1 4\nm 7 3\nw 7 0 616263\n",

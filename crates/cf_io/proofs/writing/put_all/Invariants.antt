@@ -5,7 +5,7 @@ use Rattle.cf_io.proofs.writing.put_all.Given as goal
 abbrev pub invariant-rest : goal.invariant-rest
 invariant-rest g l = record {
   within : l.at ≤ length l.bytes;
-  grows : g.K.Sink.faults l.initial.sink ≤ g.K.Sink.faults l.sink;
+  same : g.K.Sink.faults l.sink ≡ g.K.Sink.faults l.initial.sink;
   wrote : g.K.Sink.written l.sink ≡ appended (g.K.Sink.written l.initial.sink) (take l.at l.bytes);
 }
 

@@ -10,5 +10,5 @@ returns-clause-text c =
     let long = length_in_hex c.args.bytes.now in
     let mark = set_only c.split_at_mut-mark.result.0.now 61 (grind (arith, common_steps)) in
     let rest = set_first c.split_at_mut-digits.result.1.now 10 (grind (arith, common_steps)) in
-    let digits : c.spell.new.digits ≡ encode_lower c.args.bytes.now = c.spell.ensures in
+    let digits : c.encode_to_slice.new.output ≡ encode_lower c.args.bytes.now = rw c.unwrap.ensures at c.encode_to_slice.ensures.written in
     rw (c.copy_from_slice.ensures.after, mark, rest, digits) (spelled c.args.lead.now (encode_lower c.args.bytes.now) _ _ (sym long))

@@ -1,4 +1,4 @@
-use Rattle.std.proofs.Common.{length, ◌-◌, arith}
+use Rattle.std.proofs.Common.{◌∙◌, length, ◌-◌, arith}
 use Rattle.heap_image.proofs.FillLemmas.{filled_more, filled_within}
 use Rattle.heap_image.proofs.filling.fill.Goals as goal
 
@@ -8,5 +8,5 @@ fills-preserved g c = record {
       c.in-Ok.ensures.within;
   took = filled_more c.fills.at c.in-Ok.n (length c.fills.buffer - c.fills.at) c.fills.buffer c.take.new.buf c.fills.invariant.within c.in-Ok.ensures.within
       _ _ _ c.fills.invariant.took c.in-Ok.ensures.piece;
-  grows = omega (arith, c.fills.invariant.grows, c.in-Ok.ensures.grows);
+  same = c.in-Ok.ensures.same ∙ c.fills.invariant.same;
 }

@@ -6,7 +6,7 @@ abbrev pub invariant-fills : goal.invariant-fills
 invariant-fills g l = record {
   within : l.at ≤ length l.buffer;
   took : g.S.Source.rest l.initial.source ≡ preceded (take l.at l.buffer) (g.S.Source.rest l.source);
-  grows : g.S.Source.faults l.initial.source ≤ g.S.Source.faults l.source;
+  same : g.S.Source.faults l.source ≡ g.S.Source.faults l.initial.source;
 }
 
 abbrev pub decreases-fills : goal.decreases-fills

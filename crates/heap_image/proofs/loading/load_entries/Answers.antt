@@ -13,7 +13,7 @@ entries-init g c =
       fresh = λ id le. nothing_fresh s c.requires.none id;
       count = nothing_counts s c.requires.none;
       at = omega arith;
-      grows = omega arith;
+      same = omega arith;
     }
 
 pub returns-in-Err-clause-ends : goal.returns-in-Err-clause-ends
@@ -43,7 +43,7 @@ entries-preserved g c =
       count = entry_counts p q c.args.count c.entries.i c.entries.next c.entries.at _ _ _ old new c.in-Ok.entry c.entries-test.true inv.profile inv.passed
           c.in-Ok.ensures.entry inv.fresh inv.count;
       at = first_of (omega (arith, at), omega (arith, at, c.read_entry.type_inv), grind (arith, at), search rules);
-      grows = omega (arith, inv.grows, c.in-Ok.ensures.grows);
+      same = c.in-Ok.ensures.same (λ e. cc) ∙ inv.same;
     }
 
 pub returns-clause-ends : goal.returns-clause-ends

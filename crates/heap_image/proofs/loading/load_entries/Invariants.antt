@@ -17,5 +17,5 @@ invariant-entries g l = record {
   fresh : (id : ℕ) → l.next ≤ id → map.get (objects_of (run_at l.session (g.H.Manager.state l.heap))) id ≡ None;
   count : map.len (objects_of (run_at l.session (g.H.Manager.state l.heap))) ≡ l.i;
   at : l.at ≤ 20 + l.i * 2 ^ 33;
-  grows : g.S.Source.faults l.initial.source ≤ g.S.Source.faults l.source;
+  same : g.S.Source.faults l.source ≡ g.S.Source.faults l.initial.source;
 }

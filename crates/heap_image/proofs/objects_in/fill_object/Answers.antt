@@ -14,7 +14,7 @@ chunks-init g c = record {
   count = refl;
   took = nothing_taken _;
   leads = leads_first (run_at c.args.session.now (g.H.Manager.state c.args.heap.now)) c.args.id c.args.n c.requires.loading c.requires.made;
-  grows = omega arith;
+  same = omega arith;
 }
 
 pub free_object-requires-clause-live : goal.free_object-requires-clause-live
@@ -86,5 +86,5 @@ chunks-preserved g c =
       leads = leads_written old mid (run_at c.write_part.new.session (g.H.Manager.state c.write_part.new.heap)) c.args.id _ _ _ so_far.leads
           (c.write_part.ensures (so_far.bytes ++ replicate (c.args.n - c.chunks.done) 0) (held_in old mid c.args.id _ so_far.leads))
           (written_next so_far.bytes c.fill.new.buffer c.args.n c.chunks.done c.min-count.result so_far.count size fits);
-      grows = omega (arith, so_far.grows, c.in-Whole.ensures.grows);
+      same = c.in-Whole.ensures.same (λ e. cc) ∙ so_far.same;
     }

@@ -15,7 +15,7 @@ invariant-chunks g l = record {
   took : g.S.Source.rest l.initial.source ≡ preceded bytes (g.S.Source.rest l.source);
   leads : LeadsTo (run_at l.initial.session (g.H.Manager.state l.initial.heap)) (run_at l.session (g.H.Manager.state l.heap))
       (map.insert (objects_of (run_at l.initial.session (g.H.Manager.state l.initial.heap))) l.id (bytes ++ replicate (l.n - l.done) 0));
-  grows : g.S.Source.faults l.initial.source ≤ g.S.Source.faults l.source;
+  same : g.S.Source.faults l.source ≡ g.S.Source.faults l.initial.source;
 }
 
 abbrev pub decreases-chunks : goal.decreases-chunks

@@ -1,4 +1,4 @@
-use Rattle.std.proofs.Common.{◌≡◌, ◌-◌, arith, subst, sym}
+use Rattle.std.proofs.Common.{◌∙◌, ◌≡◌, ◌-◌, arith, subst, sym}
 use Rattle.cf_session.specs.Apply.{run_at}
 use Rattle.heap_image.proofs.ObjectsOut.{CameTo, came_first, came_last, came_on, came_past, came_short}
 use Rattle.heap_image.proofs.objects_out.put_objects.Goals as goal
@@ -9,14 +9,14 @@ put_object-requires-clause-live g c = c.requires.tied.ids.named c.ids.id c.in-So
 pub ids-init : goal.ids-init
 ids-init g c = record {
   came = came_first g.W.ObjectWriter.text (run_at c.args.session.now (g.H.Manager.state c.args.heap.now)) _ c.handle-first.ensures.within;
-  grows = omega arith;
+  same = omega arith;
 }
 
 pub ids-preserved-in_default : goal.ids-preserved-in_default
 ids-preserved-in_default g c = record {
   came = came_past g.W.ObjectWriter.text (run_at c.args.session.now (g.H.Manager.state c.args.heap.now)) _ _ c.ids.id (65535 - c.ids.id) (omega arith)
       (omega arith) c.ids.invariant.came (sym c.in_default.ensures.found);
-  grows = c.ids.invariant.grows;
+  same = c.ids.invariant.same;
 }
 
 pub returns-in-Err-clause-puts : goal.returns-in-Err-clause-puts
@@ -33,7 +33,7 @@ ids-preserved g c =
     record {
       came = came_on g.W.ObjectWriter.text (run_at c.args.session.now (g.H.Manager.state c.args.heap.now)) _ _ c.ids.id (65535 - c.ids.id) (omega arith)
           (omega arith) c.ids.invariant.came c.in-Some.h.0 named x.0 x.1 _ (c.in-Ok.ensures.puts x.0 x.1);
-      grows = omega (arith, c.ids.invariant.grows, c.in-Ok.ensures.grows);
+      same = c.in-Ok.ensures.same ∙ c.ids.invariant.same;
     }
 
 pub returns-clause-puts : goal.returns-clause-puts

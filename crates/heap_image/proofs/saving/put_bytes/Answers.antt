@@ -18,7 +18,7 @@ chunks-preserved g c = record {
       c.chunks.at c.min-count.result (c.chunks.invariant.written x some) (is ∙ ap (λ n. take n (drop c.chunks.at x.bytes))
       (length-take-le c.min-count.result c.chunks.room (omega (arith, c.min-count.ensures, c.requires.place, c.chunks.auto.room))))
       c.in-Ok-put_all.ensures.puts;
-  grows = omega (arith, c.chunks.invariant.grows, c.in-Ok-put_all.ensures.grows);
+  same = c.in-Ok-put_all.ensures.same ∙ c.chunks.invariant.same;
 }
 
 pub returns-clause-puts : goal.returns-clause-puts

@@ -9,7 +9,7 @@ invariant-chunks g l = record {
   within : l.at ≤ l.n;
   written : (x : Placed) → map.get (g.H.Manager.state l.heap).held l.h.0 ≡ Some x
       → g.K.Sink.written l.out ≡ appended (g.K.Sink.written l.initial.out) (take l.at x.bytes);
-  grows : g.K.Sink.faults l.initial.out ≤ g.K.Sink.faults l.out;
+  same : g.K.Sink.faults l.out ≡ g.K.Sink.faults l.initial.out;
 }
 
 abbrev pub decreases-chunks : goal.decreases-chunks

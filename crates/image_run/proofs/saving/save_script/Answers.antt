@@ -12,7 +12,9 @@ returns-in_default g c =
           (settled (run_at c.play_script.new.player.player (g.H.Manager.state c.play_script.new.heap)) c.play_script.new.player.settings) _ _ _ _
           c.play_script.result c.in_default.not-Done by.write_fault by.outcome refl;
       silent = λ is. refl;
+      source_same = by.source_same;
       read_fault = by.read_fault;
+      sink_same = λ other. refl;
       write_fault = λ is. absurd (never_cut c.play_script.result by.write_fault is);
       too_long = by.too_long;
     }

@@ -10,7 +10,7 @@ use Rattle.script_reader.specs.declared.command.Command.TheVariants.{Write}
 use Rattle.image_run.proofs.telling.put_writes.Goals as goal
 
 pub chunks-init : goal.chunks-init
-chunks-init g c = record { came = λ x some. writes_first c.args.id x.bytes _; grows = omega arith }
+chunks-init g c = record { came = λ x some. writes_first c.args.id x.bytes _; same = omega arith }
 
 pub returns-in-Err-put_write-clause-puts : goal.returns-in-Err-put_write-clause-puts
 returns-in-Err-put_write-clause-puts g c = λ x some.
@@ -33,7 +33,7 @@ chunks-preserved g c = record {
       ∙ whole_chunk c.min-count.result c.chunks.at x.bytes (omega (arith, c.min-count.ensures, n)) in
       writes_on c.args.id x.bytes _ _ c.chunks.at (c.chunks.invariant.came x some) (omega (arith, n, c.chunks-test.true)) _
       (c.in-Ok-put_write.ensures.puts ∙ ap (λ b. appended (g.K.Sink.written c.chunks.out) (line_of (Write c.args.id c.chunks.at b))) is);
-  grows = omega (arith, c.chunks.invariant.grows, c.in-Ok-put_write.ensures.grows);
+  same = c.in-Ok-put_write.ensures.same ∙ c.chunks.invariant.same;
 }
 
 pub returns-clause-puts : goal.returns-clause-puts

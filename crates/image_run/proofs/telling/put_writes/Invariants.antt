@@ -8,7 +8,7 @@ abbrev pub invariant-chunks : goal.invariant-chunks
 invariant-chunks g l = record {
   came : (x : Placed) → map.get (g.H.Manager.state l.heap).held l.h.0 ≡ Some x
       → WroteTo l.id x.bytes (g.K.Sink.written l.initial.out) (g.K.Sink.written l.out) l.at;
-  grows : g.K.Sink.faults l.initial.out ≤ g.K.Sink.faults l.out;
+  same : g.K.Sink.faults l.out ≡ g.K.Sink.faults l.initial.out;
 }
 
 abbrev pub decreases-chunks : goal.decreases-chunks

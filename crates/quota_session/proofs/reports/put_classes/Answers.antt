@@ -16,7 +16,7 @@ loop-c-preserved g c =
     let t = class_there c.args.heap.now c.args.task c.loop-c.c c.in-Some.figures c.in-Some.ensures in
     record {
       put = class_put c.args.heap.now c.args.task c.loop-c.c c.in-Some.figures _ _ _ t.1 c.loop-c.invariant.put c.in-Ok.ensures.puts;
-      grows = omega (arith, c.loop-c.invariant.grows, c.in-Ok.ensures.grows);
+      same = c.in-Ok.ensures.same ∙ c.loop-c.invariant.same;
       used = pages_more c.args.heap.now c.args.task c.loop-c.c c.loop-c.used c.in-Some.figures t.1 c.loop-c.invariant.used;
       within = omega (arith, t.0);
       few = search rules;

@@ -14,7 +14,7 @@ use Rattle.quota_session.proofs.reports.put_classes.Given as goal
 abbrev pub invariant-loop-c : goal.invariant-loop-c
 invariant-loop-c g l = record {
   put : g.K.Sink.written l.out ≡ appended (g.K.Sink.written l.initial.out) (led [] (class_lines l.heap l.task (classes_below l.heap l.task l.c)));
-  grows : g.K.Sink.faults l.initial.out ≤ g.K.Sink.faults l.out;
+  same : g.K.Sink.faults l.out ≡ g.K.Sink.faults l.initial.out;
   used : l.used ≡ sum_by (home_pages (task_paging l.heap.profile) (held_by l.heap l.task)) (range_with_len 0 l.c);
   within : l.c ≤ classes (task_paging l.heap.profile);
   few : l.used ≤ l.c * 2 ^ 32;

@@ -1,12 +1,10 @@
-use Rattle.script_reader.specs.Items.{items}
-use Rattle.run_laws.proofs.Items.{items_sayable}
-use Rattle.run_laws.proofs.GoingOn.{run_goes_on, run_there}
-use Rattle.std.proofs.Common.{None}
+use Rattle.run_model.specs.Runs.{BeginsOne, Turn}
+use Rattle.run_laws.proofs.GoingOn.{kind_goes_on}
+use Rattle.run_laws.proofs.RunsThere.{runs_on, runs_there}
 use Rattle.run_laws.proofs.runs.a_run_can_always_go_on.Goals as goal
 
 pub returns-clause-there : goal.returns-clause-there
-returns-clause-there c = λ kind given ended. run_there kind None (items given ended) tt (items_sayable given ended)
+returns-clause-there c = λ kind. runs_there (BeginsOne kind) Turn (kind_goes_on kind)
 
 pub returns-clause-on : goal.returns-clause-on
-returns-clause-on c = λ kind given ended done after replies mid is run. run_goes_on kind (items given ended) done after replies mid
-    (items_sayable given ended) is run
+returns-clause-on c = λ kind. runs_on (BeginsOne kind) Turn (kind_goes_on kind)

@@ -14,7 +14,7 @@ replies-init g c = record {
   same_end = refl;
   fed = refl;
   wrote = appended_none _;
-  grows = omega arith;
+  same = omega arith;
 }
 
 pub replies-preserved-in-Ok : goal.replies-preserved-in-Ok
@@ -31,7 +31,7 @@ replies-preserved-in-Ok g c =
       same_end = next.reads.same_end ∙ so_far.same_end;
       fed = next.reads.same_fed ∙ so_far.fed;
       wrote = appended_after _ _ _ _ _ so_far.wrote opened.written;
-      grows = omega arith;
+      same = c.in-Ok.ensures.same (λ e. cc) ∙ so_far.same;
     }
 
 pub returns-in-Err-Failed-clause-goes : goal.returns-in-Err-Failed-clause-goes
@@ -60,7 +60,7 @@ replies-preserved g c =
       same_end = next.reads.same_end ∙ so_far.same_end;
       fed = next.reads.same_fed ∙ so_far.fed;
       wrote = appended_after _ _ _ _ _ so_far.wrote answer.written;
-      grows = omega arith;
+      same = c.in-Ok-answer.ensures.same ∙ so_far.same;
     }
 
 pub returns-in-Err-clause-goes : goal.returns-in-Err-clause-goes

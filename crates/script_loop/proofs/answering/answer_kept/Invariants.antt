@@ -14,7 +14,7 @@ invariant-replies g l = record {
   same_end : l.reader.ended ≡ l.initial.reader.ended;
   fed : l.reader.fed ≡ l.initial.reader.fed;
   wrote : g.K.Sink.written l.sink ≡ appended (g.K.Sink.written l.initial.sink) text;
-  grows : g.K.Sink.faults l.initial.sink ≤ g.K.Sink.faults l.sink;
+  same : g.K.Sink.faults l.sink ≡ g.K.Sink.faults l.initial.sink;
 }
 
 abbrev pub decreases-replies : goal.decreases-replies

@@ -14,7 +14,7 @@ feeds-init g c = record {
   fed = omega arith;
   within = omega arith;
   wrote = appended_none _;
-  grows = omega arith;
+  same = omega arith;
 }
 
 pub feeds-preserved : goal.feeds-preserved
@@ -35,7 +35,7 @@ feeds-preserved g c =
       fed = omega (arith, kept.fed, count, long, so_far.fed);
       within = omega (arith, some, length-drop c.feeds.at c.args.piece.now);
       wrote = appended_after _ _ _ _ _ so_far.wrote kept.wrote;
-      grows = omega arith;
+      same = c.in-GoesOn.ensures.same (λ e. cc) ∙ so_far.same;
     }
 
 pub returns-in-Stopped-clause-goes : goal.returns-in-Stopped-clause-goes

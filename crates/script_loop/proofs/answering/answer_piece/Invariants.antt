@@ -15,7 +15,7 @@ invariant-feeds g l = record {
   fed : l.reader.fed ≡ l.initial.reader.fed + l.at;
   within : l.at ≤ length l.piece;
   wrote : g.K.Sink.written l.sink ≡ appended (g.K.Sink.written l.initial.sink) text;
-  grows : g.K.Sink.faults l.initial.sink ≤ g.K.Sink.faults l.sink;
+  same : g.K.Sink.faults l.sink ≡ g.K.Sink.faults l.initial.sink;
 }
 
 abbrev pub decreases-feeds : goal.decreases-feeds

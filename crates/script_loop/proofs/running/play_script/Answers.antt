@@ -30,8 +30,8 @@ pieces-init g c =
       hands = preceded_none _;
       wrote = appended_none _;
       given = inl (omega arith);
-      source_grows = omega arith;
-      sink_grows = omega arith;
+      source_same = omega arith;
+      sink_same = omega arith;
       buffer = search rules;
     }
 
@@ -55,8 +55,8 @@ pieces-preserved g c =
       hands = preceded_after _ _ _ _ _ so_far.hands took.piece;
       wrote = appended_after _ _ _ _ _ so_far.wrote went.wrote;
       given = given_taken _ _ _ c.in-Ok.n so_far.taken _ so_far.given took.counted piece;
-      source_grows = omega arith;
-      sink_grows = omega arith;
+      source_same = omega arith;
+      sink_same = c.in-GoesOn.ensures.same (λ e. cc) ∙ so_far.sink_same;
       buffer = c.take.auto.buf ∙ so_far.buffer;
     }
 
@@ -66,7 +66,7 @@ returns-in-Err-clause-outcome g c =
     let so_far = c.pieces.invariant in
     let quiet = quiet_items m so_far.answered so_far.waiting in
     told m _ _ _ _ _ so_far.taken (so_far.hands ∙ ap (preceded so_far.taken) (sym c.in-Err.ensures.failed.1)) tt (λ all left is parts.
-    (so_far.taken, parts, bads m so_far.answered (items so_far.taken false) quiet, wrote m so_far.answered (items so_far.taken false) _ quiet so_far.wrote))
+    (so_far.taken, parts, omega (arith, so_far.count), bads m so_far.answered (items so_far.taken false) quiet, wrote m so_far.answered (items so_far.taken false) _ quiet so_far.wrote))
 
 pub returns-in-Err-clause-plan : goal.returns-in-Err-clause-plan
 returns-in-Err-clause-plan g c = c.pieces.invariant.answered.plan

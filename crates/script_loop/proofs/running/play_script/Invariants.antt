@@ -20,8 +20,8 @@ invariant-pieces g l = record {
   hands : g.S.Source.rest l.initial.source ≡ preceded taken (g.S.Source.rest l.source);
   wrote : g.K.Sink.written l.sink ≡ appended (g.K.Sink.written l.initial.sink) text;
   given : HasGiven (g.S.Source.given l.initial.source) (length taken) (g.S.Source.given l.source);
-  source_grows : g.S.Source.faults l.initial.source ≤ g.S.Source.faults l.source;
-  sink_grows : g.K.Sink.faults l.initial.sink ≤ g.K.Sink.faults l.sink;
+  source_same : g.S.Source.faults l.source ≡ g.S.Source.faults l.initial.source;
+  sink_same : g.K.Sink.faults l.sink ≡ g.K.Sink.faults l.initial.sink;
   buffer : length l.buffer ≡ 4096;
 }
 

@@ -32,7 +32,7 @@ loop-i-preserved g c =
       wrote = c.in-Ok.ensures.puts ∙ ap (λ w. appended w (lead_of c.kind.result ++ codes "ok\n")) c.loop-i.invariant.wrote
           ∙ appended_then _ so_far (lead_of c.kind.result ++ codes "ok\n")
           ∙ ap (λ t. appended (g.K.Sink.written c.args.sink.now) t) (oks_more kinds c.loop-i.i c.kind.result at.0 at.1);
-      grows = omega (arith, c.loop-i.invariant.grows, c.in-Ok.ensures.grows);
+      same = c.in-Ok.ensures.same ∙ c.loop-i.invariant.same;
     }
 
 pub returns-clause-puts : goal.returns-clause-puts

@@ -8,5 +8,5 @@ abbrev pub invariant-loop-i : goal.invariant-loop-i
 invariant-loop-i g l = record {
   wrote : g.K.Sink.written l.sink ≡ appended (g.K.Sink.written l.initial.sink)
       (led [] (oks (take l.i (map (λ m. (g.H.Manager.state m).kind) l.managers.items))));
-  grows : g.K.Sink.faults l.initial.sink ≤ g.K.Sink.faults l.sink;
+  same : g.K.Sink.faults l.sink ≡ g.K.Sink.faults l.initial.sink;
 }

@@ -19,7 +19,7 @@ loop-i-init g c = record {
   going = c.requires.going;
   kinds = refl;
   wrote = appended_none _;
-  grows = omega arith;
+  same = omega arith;
 }
 
 pub answer_one-requires-clause-going : goal.answer_one-requires-clause-going
@@ -74,7 +74,7 @@ loop-i-preserved g c =
           (omega arith) c.index_mut-in-loop-i.ensures.value c.in-Ok.ensures.kind ∙ so_far.kinds;
       wrote = answer.2 ∙ ap (λ w. appended w (led [] answer.0)) so_far.wrote ∙ appended_then _ (led [] so_far.reply) (led [] answer.0)
           ∙ ap (λ t. appended (g.K.Sink.written c.args.sink.now) t) (sym (led_joined [] so_far.reply answer.0));
-      grows = omega (arith, so_far.grows, c.in-Ok.ensures.grows);
+      same = c.in-Ok.ensures.same ∙ so_far.same;
     }
 
 pub returns-clause-answers : goal.returns-clause-answers

@@ -18,5 +18,5 @@ invariant-loop-i g l = record {
   going : All IsGoing (zipped l.sessions.items (map (λ m. g.H.Manager.state m) l.managers.items));
   kinds : map (λ m. (g.H.Manager.state m).kind) l.managers.items ≡ map (λ m. (g.H.Manager.state m).kind) l.initial.managers.items;
   wrote : g.K.Sink.written l.sink ≡ appended (g.K.Sink.written l.initial.sink) (led [] reply);
-  grows : g.K.Sink.faults l.initial.sink ≤ g.K.Sink.faults l.sink;
+  same : g.K.Sink.faults l.sink ≡ g.K.Sink.faults l.initial.sink;
 }

@@ -1,8 +1,13 @@
-use Rattle.slice_session.proofs.Turns.{runs_on, runs_there}
+use Rattle.run_laws.proofs.CallerLemmas.{runs_on, runs_there}
+use Rattle.slice_session.specs.Playing.{BeginsSlices}
+use Rattle.slice_session.specs.SliceRun.{SliceStep}
+use Rattle.slice_session.proofs.Turns.{slices_go_on}
 use Rattle.slice_session.proofs.laws.a_sliced_run_can_always_go_on.Goals as goal
 
 pub returns-clause-there : goal.returns-clause-there
-returns-clause-there c = λ quantum given ended q. runs_there quantum c.an_empty_heap_is_consistent.ensures q given ended
+returns-clause-there c = λ quantum given ended q. runs_there (BeginsSlices quantum) SliceStep
+    (slices_go_on c.an_empty_heap_is_consistent.ensures quantum q) given ended
 
 pub returns-clause-on : goal.returns-clause-on
-returns-clause-on c = λ quantum given ended done after replies mid q. runs_on quantum c.an_empty_heap_is_consistent.ensures q given ended done after replies mid
+returns-clause-on c = λ quantum given ended done after replies mid q. runs_on (BeginsSlices quantum) SliceStep
+    (slices_go_on c.an_empty_heap_is_consistent.ensures quantum q) given ended done after replies mid

@@ -52,6 +52,12 @@ returns-in-Bench-clause-read_fault g c = (c.bench.ensures (source_at None 0 (g.S
 pub returns-in-Bench-clause-write_fault : goal.returns-in-Bench-clause-write_fault
 returns-in-Bench-clause-write_fault g c = (c.bench.ensures (source_at None 0 0) []).write_fault
 
+pub returns-in-Bench-clause-source_same : goal.returns-in-Bench-clause-source_same
+returns-in-Bench-clause-source_same g c = (c.bench.ensures (source_at None 0 (g.S.Source.faults c.args.source.now)) []).source_same
+
+pub returns-in-Bench-clause-sink_same : goal.returns-in-Bench-clause-sink_same
+returns-in-Bench-clause-sink_same g c = (c.bench.ensures (source_at None 0 0) []).sink_same
+
 pub returns-in-Bench-clause-too_long : goal.returns-in-Bench-clause-too_long
 returns-in-Bench-clause-too_long g c = (c.bench.ensures (source_at None (g.S.Source.given c.args.source.now) 0) []).too_long
 
@@ -71,6 +77,12 @@ returns-in-Large-clause-read_fault g c = (c.play_large.ensures []).read_fault
 
 pub returns-in-Large-clause-write_fault : goal.returns-in-Large-clause-write_fault
 returns-in-Large-clause-write_fault g c = (c.play_large.ensures []).write_fault
+
+pub returns-in-Large-clause-source_same : goal.returns-in-Large-clause-source_same
+returns-in-Large-clause-source_same g c = (c.play_large.ensures []).source_same
+
+pub returns-in-Large-clause-sink_same : goal.returns-in-Large-clause-sink_same
+returns-in-Large-clause-sink_same g c = (c.play_large.ensures []).sink_same
 
 pub returns-in-Large-clause-too_long : goal.returns-in-Large-clause-too_long
 returns-in-Large-clause-too_long g c = (c.play_large.ensures []).too_long
@@ -92,6 +104,12 @@ returns-in-Save-clause-read_fault g c = (c.save_image.ensures []).read_fault
 pub returns-in-Save-clause-write_fault : goal.returns-in-Save-clause-write_fault
 returns-in-Save-clause-write_fault g c = (c.save_image.ensures []).write_fault
 
+pub returns-in-Save-clause-source_same : goal.returns-in-Save-clause-source_same
+returns-in-Save-clause-source_same g c = (c.save_image.ensures []).source_same
+
+pub returns-in-Save-clause-sink_same : goal.returns-in-Save-clause-sink_same
+returns-in-Save-clause-sink_same g c = (c.save_image.ensures []).sink_same
+
 pub returns-in-Save-clause-too_long : goal.returns-in-Save-clause-too_long
 returns-in-Save-clause-too_long g c = (c.save_image.ensures []).too_long
 
@@ -111,6 +129,12 @@ returns-in-Load-clause-read_fault g c = (c.load_image.ensures []).read_fault
 
 pub returns-in-Load-clause-write_fault : goal.returns-in-Load-clause-write_fault
 returns-in-Load-clause-write_fault g c = (c.load_image.ensures []).write_fault
+
+pub returns-in-Load-clause-source_same : goal.returns-in-Load-clause-source_same
+returns-in-Load-clause-source_same g c = (c.load_image.ensures []).source_same
+
+pub returns-in-Load-clause-sink_same : goal.returns-in-Load-clause-sink_same
+returns-in-Load-clause-sink_same g c = (c.load_image.ensures []).sink_same
 
 pub returns-in-Load-clause-too_long : goal.returns-in-Load-clause-too_long
 returns-in-Load-clause-too_long g c = (c.load_image.ensures []).too_long
@@ -132,6 +156,12 @@ returns-in-Slice-clause-read_fault g c = (c.play_slices.ensures []).read_fault
 pub returns-in-Slice-clause-write_fault : goal.returns-in-Slice-clause-write_fault
 returns-in-Slice-clause-write_fault g c = (c.play_slices.ensures []).write_fault
 
+pub returns-in-Slice-clause-source_same : goal.returns-in-Slice-clause-source_same
+returns-in-Slice-clause-source_same g c = (c.play_slices.ensures []).source_same
+
+pub returns-in-Slice-clause-sink_same : goal.returns-in-Slice-clause-sink_same
+returns-in-Slice-clause-sink_same g c = (c.play_slices.ensures []).sink_same
+
 pub returns-in-Slice-clause-too_long : goal.returns-in-Slice-clause-too_long
 returns-in-Slice-clause-too_long g c = (c.play_slices.ensures []).too_long
 
@@ -151,6 +181,12 @@ returns-in-Quota-clause-read_fault g c = (c.play_quotas.ensures []).read_fault
 
 pub returns-in-Quota-clause-write_fault : goal.returns-in-Quota-clause-write_fault
 returns-in-Quota-clause-write_fault g c = (c.play_quotas.ensures []).write_fault
+
+pub returns-in-Quota-clause-source_same : goal.returns-in-Quota-clause-source_same
+returns-in-Quota-clause-source_same g c = (c.play_quotas.ensures []).source_same
+
+pub returns-in-Quota-clause-sink_same : goal.returns-in-Quota-clause-sink_same
+returns-in-Quota-clause-sink_same g c = (c.play_quotas.ensures []).sink_same
 
 pub returns-in-Quota-clause-too_long : goal.returns-in-Quota-clause-too_long
 returns-in-Quota-clause-too_long g c = (c.play_quotas.ensures []).too_long

@@ -6,7 +6,7 @@ use Rattle.run_model.specs.Sessions.{SessionState, fresh_session}
 use Rattle.side_by_side.proofs.each.Sessions.start.Goals as goal
 
 pub loop-i-preserved : goal.loop-i-preserved
-loop-i-preserved g c =
+loop-i-preserved c =
     let was = c.loop-i.invariant in
     let items = c.in-Ok.ensures.items in
     record {

@@ -1,0 +1,248 @@
+//! A read or a write that fails, at each call, in the modes with a heap of their own and in those of
+//! images; and each command is answered before the next chunk is taken.
+
+use super::own_heaps::{IMAGES, LARGES, QUOTAS, SLICES};
+use super::rows::{MOVE, MOVED};
+use super::watched::{Log, WatchedSink, WatchedSource};
+use super::{ROOM, closed_managers, command_line};
+use cf_base::{Kind, Status};
+use cf_io::{MemSink, MemSource};
+use std::test::Fail;
+use top_call::cf_main;
+
+/// How a mode is tried: the words, what is read, what is written when nothing fails, and whether each
+/// line of what is read is answered by one line, at once.
+type Case = (&'static [&'static str], &'static [u8], &'static [u8], bool);
+
+/// The lines of `large` but the last, whose reply has three lines.
+const LARGE: &[u8] =
+    b"heap 4 512 1 16\nm 1 1000\nm 2 505\nm 3 505\nw 1 500 0102030405060708\nr 1 500 8\nr 1 996 5\nf 1\nm 3 505\n";
+
+/// Their replies.
+const LARGE_REPLIES: &[u8] = b"ok\nok\nok\nrefused space\nok\n=0102030405060708\nrange\nok\nok\n";
+
+/// Five modes.
+fn cases() -> [Case; 5] {
+    let (slice, slice_read, _, slice_text) = SLICES[0];
+    let (quota, quota_read, _, quota_text) = QUOTAS[0];
+    let (large, _, _, _) = LARGES[0];
+    let (save, save_read, _, save_text) = IMAGES[0];
+    let (load, load_read, _, load_text) = IMAGES[3];
+    [
+        (slice, slice_read, slice_text, true),
+        (quota, quota_read, quota_text, true),
+        (large, LARGE, LARGE_REPLIES, true),
+        (save, save_read, save_text, false),
+        (load, load_read, load_text, false),
+    ]
+}
+
+/// How a call ended: its status, what was written, and whether nothing was taken or put after a fault.
+#[derive(Drop)]
+struct Ended {
+    status: Status,
+    sink: MemSink,
+    stopped: bool,
+}
+
+/// Plays a case on a source that gives 7 bytes a call and a sink that takes 5, of which one call fails.
+fn played(rt: &HostRuntime, case: &Case, take: u64, put: u64) -> Result<Ended, Fail> {
+    let alloc = rt.alloc();
+    let (words, read, _, _) = *case;
+    let (chunks, parts) = (vec![in alloc; 7; 64]?, vec![in alloc; 5; 128]?);
+    let log = Log::new();
+    let mut source = WatchedSource {
+        source: MemSource::new(read.to_vec(alloc)?, chunks, vec![in alloc; take; 1]?),
+        log: &log,
+        taken: 0,
+        replies: 0,
+    };
+    let fails = vec![in alloc; put; 1]?;
+    let mut sink = WatchedSink {
+        sink: MemSink::new(alloc, ROOM, parts, fails).map_err(|_| "room")?,
+        log: &log,
+    };
+    let mut managers = closed_managers(rt, [Kind::NonMoving].as_slice())?;
+    let line = command_line(rt, words)?;
+    let status = cf_main(
+        rt,
+        alloc,
+        line.as_slice(),
+        &mut source,
+        &mut sink,
+        &mut managers,
+    );
+    let stopped = log.ends_at_a_fault();
+    Ok(Ended {
+        status,
+        sink: sink.sink,
+        stopped,
+    })
+}
+
+/// No call of a device has this number.
+const NEVER: u64 = u64::MAX;
+
+/// The first so many lines of a text.
+fn first_lines(text: &[u8], count: usize) -> &[u8] {
+    let mut left = count;
+    for (i, byte) in text.iter().enumerate() {
+        if left == 0 {
+            return text.get(..i).unwrap_or(text);
+        }
+        if *byte == b'\n' {
+            left -= 1;
+        }
+    }
+    text
+}
+
+/// How many lines end within the first bytes.
+fn lines_within(read: &[u8], bytes: usize) -> usize {
+    read.get(..bytes)
+        .unwrap_or(read)
+        .iter()
+        .filter(|byte| **byte == b'\n')
+        .count()
+}
+
+/// What is written when this call of the source fails: the replies to the whole lines taken by then; in
+/// the modes of images nothing.
+fn written_at(case: &Case, call: u64) -> &'static [u8] {
+    let (_, read, text, by_line) = *case;
+    if by_line {
+        first_lines(text, lines_within(read, 7 * (call as usize).min(1_000)))
+    } else {
+        b""
+    }
+}
+
+/// How many calls of the source fail, in turn, until the run no longer makes that call. None where one
+/// of them leaves something else than it should.
+fn read_faults(rt: &HostRuntime, case: &Case) -> Result<Option<u64>, Fail> {
+    for call in 0..64u64 {
+        let ended = played(rt, case, call, NEVER)?;
+        if ended.status == Status::Done {
+            return Ok(Some(call));
+        }
+        if ended.status != Status::ReadFault
+            || !ended.stopped
+            || ended.sink.written() != written_at(case, call)
+        {
+            return Ok(None);
+        }
+    }
+    Ok(None)
+}
+
+/// How many calls of the sink fail, in turn, until the whole text is written. Each leaves a longer prefix.
+fn write_faults(rt: &HostRuntime, case: &Case) -> Result<Option<u64>, Fail> {
+    let (_, _, text, _) = *case;
+    let mut shorter = 0;
+    for call in 0..128u64 {
+        let ended = played(rt, case, NEVER, call)?;
+        let written = ended.sink.written();
+        if ended.status == Status::Done {
+            return Ok(if written == text { Some(call) } else { None });
+        }
+        let longer = call == 0 || written.len() > shorter;
+        if ended.status != Status::WriteFault
+            || !ended.stopped
+            || !longer
+            || !text.starts_with(written)
+        {
+            return Ok(None);
+        }
+        shorter = written.len();
+    }
+    Ok(None)
+}
+
+/// The calls of the source and of the sink that a run without a fault makes, for each case: a script of n
+/// bytes takes n / 7 calls, rounded up, and one that finds the end; a line of n bytes is put in n / 5 calls, rounded up.
+#[test]
+fn each_fault_ends_the_run_in_the_other_modes(rt: HostRuntime) -> Result<(), Fail> {
+    for case in cases() {
+        let (words, read, _, by_line) = case;
+        let takes = read_faults(&rt, &case)?;
+        let puts = write_faults(&rt, &case)?;
+        assert!(rt;
+            takes.is_some() && puts.is_some(),
+            "{words:?}: {takes:?} {puts:?}"
+        );
+        if by_line {
+            assert_eq!(rt;
+                takes,
+                Some((read.len().div_ceil(7) as u64).saturating_add(1)),
+                "{words:?}"
+            );
+        }
+    }
+    Ok(())
+}
+
+/// The lengths of the lines of a script.
+fn line_lengths(rt: &HostRuntime, script: &[u8]) -> Result<Vec<usize>, Fail> {
+    let mut lengths = Vec::new(rt.alloc());
+    let mut begin = 0;
+    for (i, byte) in script.iter().enumerate() {
+        if *byte == b'\n' {
+            lengths.push(i.saturating_add(1).saturating_sub(begin))?;
+            begin = i.saturating_add(1);
+        }
+    }
+    Ok(lengths)
+}
+
+/// Whether a script that comes line by line is answered line by line, by so many lines each, and whole.
+fn is_in_turn(
+    rt: &HostRuntime,
+    words: &[&str],
+    script: &[u8],
+    replies: u64,
+    kinds: &[Kind],
+) -> Result<bool, Fail> {
+    let alloc = rt.alloc();
+    let log = Log::new();
+    let lengths = line_lengths(rt, script)?;
+    let lines = lengths.len() as u64;
+    let mut source = WatchedSource {
+        source: MemSource::new(script.to_vec(alloc)?, lengths, Vec::new(alloc)),
+        log: &log,
+        taken: 0,
+        replies,
+    };
+    let mut sink = WatchedSink {
+        sink: MemSink::new(alloc, ROOM, Vec::new(alloc), Vec::new(alloc)).map_err(|_| "room")?,
+        log: &log,
+    };
+    let mut managers = closed_managers(rt, kinds)?;
+    let line = command_line(rt, words)?;
+    let status = cf_main(
+        rt,
+        alloc,
+        line.as_slice(),
+        &mut source,
+        &mut sink,
+        &mut managers,
+    );
+    // One call for each line, and one that finds the end.
+    Ok(status == Status::Done && log.is_in_turn() && source.taken == lines.saturating_add(1))
+}
+
+#[test]
+fn each_line_is_answered_before_the_next_is_taken(rt: HostRuntime) -> Result<(), Fail> {
+    let four = [Kind::Moving, Kind::NonMoving, Kind::Tlsf, Kind::HalfFit];
+    assert!(rt; is_in_turn(&rt, &[], MOVE, 1, four.as_slice())?);
+    assert!(rt; is_in_turn(&rt, &["compare"], MOVE, 4, four.as_slice())?);
+    for case in cases() {
+        let (words, read, _, by_line) = case;
+        if by_line {
+            assert!(rt;
+                is_in_turn(&rt, words, read, 1, [].as_slice())?,
+                "{words:?}"
+            );
+        }
+    }
+    Ok(())
+}

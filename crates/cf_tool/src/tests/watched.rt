@@ -1,0 +1,104 @@
+//! A source and a sink that share a cell: what is taken when, what is put when, and what comes after a fault.
+ghost use Rattle.std.specs.Prelude.{◌≡◌};
+
+use cf_base::Failed;
+use cf_io::{Sink, Source};
+use std::cell::Cell;
+
+/// What the source and the sink of one call have done so far.
+#[derive(Drop)]
+pub struct Log {
+    /// The line feeds that the sink took.
+    lines: Cell<u64>,
+    /// A call of the source or the sink has failed.
+    failed: Cell<bool>,
+    /// The calls of the source and the sink after the first that failed.
+    after: Cell<u64>,
+    /// A chunk was taken before the replies to all chunks before it were put.
+    early: Cell<bool>,
+}
+
+impl Log {
+    pub fn new() -> Log {
+        Log {
+            lines: Cell::new(0),
+            failed: Cell::new(false),
+            after: Cell::new(0),
+            early: Cell::new(false),
+        }
+    }
+
+    /// Whether no call came after a fault.
+    pub fn ends_at_a_fault(&self) -> bool {
+        self.after.get() == 0
+    }
+
+    /// Whether each chunk was answered before the next was taken.
+    pub fn is_in_turn(&self) -> bool {
+        !self.early.get()
+    }
+
+    fn note_call(&self) {
+        if self.failed.get() {
+            self.after.set(self.after.get().saturating_add(1));
+        }
+    }
+}
+
+/// A source that writes its calls into the log. Each of its chunks asks for `replies` lines.
+#[derive(Drop)]
+pub struct WatchedSource<'a, S> {
+    pub source: S,
+    pub log: &'a Log,
+    pub taken: u64,
+    pub replies: u64,
+}
+
+impl<'a, S: Source> Source for WatchedSource<'a, S> {
+    ghost rest = { λ w. S.rest w.source };
+
+    ghost given = { λ w. S.given w.source };
+
+    ghost faults = { λ w. S.faults w.source };
+
+    fn take(&mut self, buf: &mut [u8]) -> Result<usize, Failed> {
+        self.log.note_call();
+        if self.log.lines.get() != self.taken.saturating_mul(self.replies) {
+            self.log.early.set(true);
+        }
+        self.taken = self.taken.saturating_add(1);
+        let result = self.source.take(buf);
+        if result.is_err() {
+            self.log.failed.set(true);
+        }
+        result
+    }
+}
+
+/// A sink that writes its calls into the log.
+#[derive(Drop)]
+pub struct WatchedSink<'a, K> {
+    pub sink: K,
+    pub log: &'a Log,
+}
+
+impl<'a, K: Sink> Sink for WatchedSink<'a, K> {
+    ghost written = { λ w. K.written w.sink };
+
+    ghost faults = { λ w. K.faults w.sink };
+
+    fn put(&mut self, bytes: &[u8]) -> Result<usize, Failed> {
+        self.log.note_call();
+        let result = self.sink.put(bytes);
+        match result {
+            Ok(n) => {
+                let lines = bytes[..n].iter().filter(|byte| **byte == b'\n').count() as u64;
+                self.log
+                    .lines
+                    .set(self.log.lines.get().saturating_add(lines));
+            }
+            Err(_) => self.log.failed.set(true),
+        }
+        result
+    }
+}

@@ -1,0 +1,59 @@
+//! A control loop: each cycle replaces a frame, within a budget of steps that is known beforehand.
+ghost use Rattle.std.specs.Prelude.{◌≡◌, ◌≢◌, ◌+◌, ◌*◌, ◌≤◌, IsTrue, IfErr, IfOk, Err};
+ghost use Rattle.page_model.specs.Counts.{ceil_div};
+ghost use Rattle.slice_model.specs.declared.answers.SliceRefusal.TheVariants.{Busy};
+ghost use Rattle.sliced_heap.specs.Shown.{KeepsRules, StaysOpen};
+ghost use Rattle.step_ledger.specs.Counting.{RoseAtMost};
+ghost use Rattle.library_example.specs.Cycle.{HasFrame, IsMissed};
+ghost use Rattle.library_example.specs.declared.control_loop.Missed.TheVariants.{Malloc};
+
+use cf_base::Handle;
+use slice_model::{
+    SliceFault, SliceRefusal, a_malloc_waits_for_a_job_alone, slices_alone_end_every_job,
+};
+use sliced_heap::SlicedHeap;
+use step_ledger::Steps;
+
+/// Why a cycle has no new frame.
+#[derive(Clone, Copy, Debug, PartialEq, Eq)]
+pub enum Missed {
+    /// The last frame was not freed; nothing has changed.
+    Free(SliceFault),
+    /// The last frame was freed, and no new one was made.
+    Malloc(SliceRefusal),
+}
+
+/// One cycle: it frees the last frame, makes `slices` steps for the job that the free left, and makes
+/// the next frame, of `bytes` zeros. Every other object keeps its bytes. If `slices` is at least twice
+/// the slices of a page, no frame is missed because a job is pending.
+pub fn next_frame(
+    heap: &mut SlicedHeap,
+    last: Handle,
+    bytes: u32,
+    slices: u32,
+    steps: &mut Steps,
+) -> Result<Handle, Missed>
+    requires open { IsTrue heap.old.is_open }
+    ensures made { IfOk result (λ h. HasFrame heap.old last.0 bytes h.0 heap.new) }
+    ensures failed { IfErr result (λ cause. IsMissed heap.old last.0 bytes cause heap.new) }
+    ensures in_time { 2 * ceil_div heap.old.profile.page_words heap.old.quantum ≤ slices → result ≢ Err (Malloc Busy) }
+    ensures same { StaysOpen heap.old heap.new }
+    ensures rules { KeepsRules heap.new }
+    ensures steps { RoseAtMost steps.old steps.new ((slices + 2) * (128 + 2 * heap.old.quantum)) }
+{
+    // For their contracts: an open heap keeps its rules, enough slices end every job, and without one
+    // no malloc is refused as `Busy`.
+    let _open = heap.is_open();
+    slices_alone_end_every_job();
+    a_malloc_waits_for_a_job_alone();
+    if let Err(cause) = heap.free(last, steps) {
+        return Err(Missed::Free(cause));
+    }
+    for i in 0..slices {
+        heap.step(steps);
+    }
+    match heap.malloc(bytes, steps) {
+        Ok(frame) => Ok(frame),
+        Err(cause) => Err(Missed::Malloc(cause)),
+    }
+}
