@@ -13,18 +13,13 @@ use Rattle.cf_lemmas.proofs.Tests.{lt_yes}
 use Rattle.page_model.specs.Counts.{ceil_div}
 use Rattle.page_model.specs.Paging.{Paging, class_for, classes, slots_of}
 use Rattle.page_model.proofs.CallerLemmas.{class_fits}
-use Rattle.quota_model.specs.Admission.{CanBeAsked, Share, count_of_class, first_short, in_order, pages_of}
+use Rattle.quota_model.specs.Admission.{CanBeAsked, IsEnough, Share, count_of_class, first_short, in_order, pages_of}
 use Rattle.quota_model.specs.Refusals.{task_paging}
 use Rattle.quota_model.specs.declared.answers.Need.{Need}
-use Rattle.quota_model.proofs.CallerLemmas.{all_fail, length-in_order, none_iff, pages_of_none, some_iff}
+use Rattle.quota_model.proofs.CallerLemmas.{all_fail, enough_iff, length-in_order, none_iff, pages_few, pages_of_none, some_iff, zeros}
 use Rattle.admission.specs.Layout.{AreCounted, IsPast}
 use Rattle.admission.proofs.Classes.{tasks_paged}
 use Rattle.admission.proofs.Entries.{ceil_within, count_here, count_other, count_split, in_order_more, pages_next, take_within}
-
-zeros : (n i : ℕ) → get_or (replicate {A = ℕ} n 0) i 0 ≡ 0
-zeros zero i = refl
-zeros (suc n) zero = refl
-zeros (suc n) (suc i) = zeros n i
 
 -- nothing is counted at first
 pub counted_none : (p : Paging) (quota : ℕ) → AreCounted p quota [] (replicate 67 0) 0 0
@@ -36,16 +31,32 @@ counted_none p quota = record {
   many = length-replicate {A = ℕ} 67 0;
 }
 
--- where all entries are counted the quota is enough
-pub none_short : (t : Share) (needs : List Need) (i : ℕ) (counts : List ℕ) (pages before : ℕ) → CanBeAsked t.profile needs → i ≡ length needs
-    → AreCounted (task_paging t.profile) t.quota (in_order (take i needs)) counts pages before → None ≡ first_short t empty 0 (in_order needs)
-none_short t needs i counts pages before asked is k =
-    let whole : take i needs ≡ needs = ap (λ j. take j needs) is ∙ take-length needs in
-    let a : pages_of (task_paging t.profile) (in_order (take i needs)) ≡ pages_of (task_paging t.profile) (in_order needs) =
-    ap (λ xs. pages_of (task_paging t.profile) (in_order xs)) whole in
-    let b = k.pages_are in
-    let c = k.enough in
-    sym ((none_iff t needs asked).1 (omega arith))
+-- at the end the pages are those of all entries
+pub all_counted : (t : Share) (needs : List Need) (i : ℕ) (counts : List ℕ) (pages before : ℕ) → i ≡ length needs
+    → AreCounted (task_paging t.profile) t.quota (in_order (take i needs)) counts pages before → pages ≡ pages_of (task_paging t.profile) (in_order needs)
+all_counted t needs i counts pages before is k =
+    k.pages_are ∙ ap (λ xs. pages_of (task_paging t.profile) (in_order xs)) (ap (λ j. take j needs) is ∙ take-length needs)
+
+-- a quota of these pages or more is enough
+pub within_is_enough : (t : Share) (needs : List Need) → CanBeAsked t.profile needs → (pages : ℕ) → pages ≡ pages_of (task_paging t.profile) (in_order needs)
+    → pages ≤ t.quota → IsEnough t needs
+within_is_enough t needs asked pages is within = (enough_iff t needs asked).1 (omega arith)
+
+-- and one of fewer isn't
+pub fewer_is_short : (t : Share) (needs : List Need) → CanBeAsked t.profile needs → (pages : ℕ) → pages ≡ pages_of (task_paging t.profile) (in_order needs)
+    → t.quota < pages → ¬ IsEnough t needs
+fewer_is_short t needs asked pages is less = λ enough. (let within = (enough_iff t needs asked).0 enough in absurd (omega arith))
+
+-- requests that number no more than the quota has pages fit it, in order too
+pub never_short : (t : Share) (needs : List Need) → CanBeAsked t.profile needs → t.profile.proxies ≤ t.quota
+    → (nth : ℕ) → first_short t empty 0 (in_order needs) ≡ Some nth → ⊥
+never_short t needs asked wide nth short =
+    let few = asked.few in
+    let count = length-in_order needs in
+    let pages = pages_few (task_paging t.profile) (in_order needs) in
+    let none = (none_iff t needs asked).1 (omega arith) in
+    let e : None ≡ Some nth = sym none ∙ short in
+    cc
 
 module _ (t : Share) (is_page : IsTrue (is_page_size t.profile.page_words)) (needs : List Need) (asked : CanBeAsked t.profile needs) (i : ℕ) (d : Need)
     (lt : i < length needs) where
@@ -161,7 +172,7 @@ module _ (t : Share) (is_page : IsTrue (is_page_size t.profile.page_words)) (nee
           })
 
       pub short_here : (fit : ℕ) → IsPast t.quota (pages - ceil_div (get_or counts class 0) slots) (get_or counts class 0) (get_or needs i d).count slots fit
-          → Some (before + fit + 1) ≡ first_short t empty 0 (in_order needs)
+          → first_short t empty 0 (in_order needs) ≡ Some (before + fit + 1)
       short_here fit past =
           let fewer = past.fewer in
           let within = past.within in
@@ -176,9 +187,9 @@ module _ (t : Share) (is_page : IsTrue (is_page_size t.profile.page_words)) (nee
           let e : before + fit + 1 ≡ length (in_order (take i needs)) + (fit + 1) = omega arith in
           ap (λ x. take x (in_order needs)) e ∙ take_within needs i d lt (fit + 1) (omega arith)) in
           let split = count_split needs i d lt in
-          sym ((some_iff t needs asked (before + fit + 1)).1 (
+          (some_iff t needs asked (before + fit + 1)).1 (
             omega arith,
             omega arith,
             subst (λ ns. pages_of (task_paging t.profile) ns ≤ t.quota) (sym up_to) (omega arith),
             subst (λ ns. t.quota < pages_of (task_paging t.profile) ns) (sym up_to_more) (omega arith),
-          ))
+          )

@@ -1,12 +1,14 @@
 //! The answer to a task's needs.
-ghost use Rattle.std.specs.Prelude.{◌≡◌, ◌+◌, ◌-◌, ◌^◌, ◌≤◌, ◌<◌, IfErr, IfOk, length, nat_lt, position};
+ghost use Rattle.std.specs.Prelude.{◌≡◌, ℕ, ◌+◌, ◌-◌, ◌^◌, ◌≤◌, ◌<◌, IfErr, IfNone, IfOk, IfSome, Some, length, nat_lt, position};
 ghost use Rattle.std.specs.FinMap.{empty};
 ghost use Rattle.cf_base.specs.Classes.{need, sizes};
 ghost use Rattle.cf_base.specs.Settings.{profile_of};
 ghost use Rattle.cf_base.specs.declared.kind.Layout.TheVariants.{Words};
 ghost use Rattle.page_model.specs.Counts.{ceil_div};
 ghost use Rattle.admission.specs.Layout.{IsPast};
-ghost use Rattle.quota_model.specs.Admission.{CanBeAsked, IsAdmission, declared_in_all, first_short, in_order};
+ghost use Rattle.quota_model.specs.Admission.{CanBeAsked, IsAdmission, IsEnough, declared_in_all, first_short, in_order, pages_of};
+ghost use Rattle.quota_model.specs.Refusals.{task_paging};
+ghost use Rattle.quota_model.specs.declared.answers.Admission.TheVariants.{Yes};
 
 use crate::sizes::{CLASSES, class_at, fill_sizes, slots_at};
 use cf_base::{Settings, need_of};
@@ -30,11 +32,29 @@ pub fn admit(s: &Settings, quota: u32, needs: &[Need]) -> Admission
     if count_in_all(needs) > s.proxies as u64 {
         return Admission::Proxies;
     }
-    let mut table = [0; CLASSES];
-    let classes = fill_sizes(s.page_words, &mut table);
-    match first_refused(s, quota, &table[..classes], needs) {
-        Some(nth) => Admission::No { nth },
-        None => Admission::Yes,
+    match pages_within(s, quota, needs) {
+        Ok(_) => Admission::Yes,
+        Err(nth) => Admission::No { nth },
+    }
+}
+
+/// The least quota in pages that is enough for a task under these settings, as `admit` has it. It may
+/// be more pages than the settings have. There is none if an entry's object is larger than a page, or
+/// if the counts sum to more than the proxies.
+pub fn least_quota(s: &Settings, needs: &[Need]) -> Option<u32>
+    requires few { length needs.now ≤ 64 }
+    ensures enough { IfSome result (λ quota. IsAdmission (record { profile = profile_of s.now; quota = quota }) needs.now Yes) }
+    ensures least { IfSome result (λ quota. (less : ℕ) → less < quota
+        → ¬ IsEnough (record { profile = profile_of s.now; quota = less }) needs.now) }
+    ensures none { IfNone result (¬ CanBeAsked (profile_of s.now) needs.now) }
+{
+    if first_large(s.page_words, needs).is_some() || count_in_all(needs) > s.proxies as u64 {
+        return None;
+    }
+    match pages_within(s, u32::MAX, needs) {
+        Ok(pages) => Some(pages),
+        // Not reached, since 65,536 objects need no more pages than that.
+        Err(_) => None,
     }
 }
 
@@ -86,12 +106,26 @@ fn pages_with(quota: u64, pages: u64, had: u64, more: u64, slots: u64) -> Result
     Ok(others + pages_for(had + more, slots))
 }
 
-/// Which of the declared mallocs in order is the first that is refused for space, from 1 on.
-fn first_refused(s: &Settings, quota: u32, slot_sizes: &[u32], needs: &[Need]) -> Option<u32>
+/// The pages that the declared objects need, or which of their mallocs in order is the first that is
+/// refused for space, from 1 on.
+fn pages_within(s: &Settings, quota: u32, needs: &[Need]) -> Result<u32, u32>
+    requires asked { CanBeAsked (profile_of s.now) needs.now }
+    ensures pages { IfOk result (λ pages. pages ≡ pages_of (task_paging (profile_of s.now)) (in_order needs.now)) }
+    ensures within { IfOk result (λ pages. pages ≤ quota) }
+    ensures short { IfErr result (λ nth. first_short (record { profile = profile_of s.now; quota = quota }) empty 0 (in_order needs.now) ≡ Some nth) }
+{
+    let mut table = [0; CLASSES];
+    let classes = fill_sizes(s.page_words, &mut table);
+    count_pages(s, quota, &table[..classes], needs)
+}
+
+/// The same, with the slot sizes of a page.
+fn count_pages(s: &Settings, quota: u32, slot_sizes: &[u32], needs: &[Need]) -> Result<u32, u32>
     requires sized { slot_sizes.now ≡ sizes s.now.page_words Words }
     requires asked { CanBeAsked (profile_of s.now) needs.now }
-    ensures { result
-        ≡ first_short (record { profile = profile_of s.now; quota = quota }) empty 0 (in_order needs.now) }
+    ensures pages { IfOk result (λ pages. pages ≡ pages_of (task_paging (profile_of s.now)) (in_order needs.now)) }
+    ensures within { IfOk result (λ pages. pages ≤ quota) }
+    ensures short { IfErr result (λ nth. first_short (record { profile = profile_of s.now; quota = quota }) empty 0 (in_order needs.now) ≡ Some nth) }
 {
     let mut counts = [0u32; CLASSES];
     let mut pages = 0u64;
@@ -102,10 +136,10 @@ fn first_refused(s: &Settings, quota: u32, slot_sizes: &[u32], needs: &[Need]) -
         let had = counts[class];
         match pages_with(quota as u64, pages, had as u64, entry.count as u64, slots) {
             Ok(sum) => pages = sum,
-            Err(fit) => return Some(before + fit as u32 + 1),
+            Err(fit) => return Err(before + fit as u32 + 1),
         }
         counts[class] = had + entry.count;
         before += entry.count;
     }
-    None
+    Ok(pages as u32)
 }

@@ -5,5 +5,5 @@
 mod enough;
 mod sizes;
 
-pub use enough::admit;
+pub use enough::{admit, least_quota};
 pub use quota_model::{Admission, Need};

@@ -1,4 +1,4 @@
--- What holds of each block of a list, by a test of all of them.
+-- What a test of all blocks of a list shows of each.
 use Rattle.std.proofs.Common.{◌≡◌, ℕ, Bool, true, ◌≤◌, List, [], ◌∷◌, Some, None, arith, inl, inr}
 use Rattle.std.specs.Prelude.{◌&&◌, ◌||◌, nat_le, nat_lt, is_some}
 use Rattle.std.proofs.lemmas.Bool.{cases_eq, and_parts as both_pass}
@@ -22,11 +22,11 @@ found_passes f (x ∷ xs) a b all there = elim (cases_eq x.address a) [
 ]
 
 module _ (rule : FreeLists) (need : ℕ) where
-  -- whether a block is used, or of an earlier list than those that are searched
+  -- whether a block is used, or in a list before those that are searched
   abbrev pub is_passed : Block → Bool
   is_passed b = is_some b.owner || nat_lt (rule.bucket b.size) (rule.search need)
 
-  -- whether a block is used, or of no earlier list than this one
+  -- whether a block is used, or in this list or a later one
   abbrev pub is_no_earlier : ℕ → Block → Bool
   is_no_earlier list b = is_some b.owner || nat_le list (rule.bucket b.size)
 

@@ -50,7 +50,7 @@ module _ (s f : ℕ) (is : IsPower s f) where
   pub few_lists : (s - 2 ^ f) / 2 ^ (f - 4) < 16
   few_lists = (let e = sixteenth in let h = is.high in div_below (s - 2 ^ f) (2 ^ (f - 4)) 16 (pow_pos (f - 4)) (omega arith))
 
--- a greater size is in no earlier list
+-- a greater size is in the same list or a later one
 pub not_below : (s f t : ℕ) → IsPower s f → s ≤ t → t < 2 ^ 32 → tlsf_bucket s ≤ tlsf_bucket t
 not_below s f t is le within =
     let large = is.large in
@@ -80,7 +80,7 @@ bucket_rises s t le within = elim (cases_lt s 16) [
   | inr large ↦ not_below s (log s) t (power_of s large (omega arith)) le within
 ]
 
--- the size at which the next list begins, or a larger one, is in a later list
+-- if the size is at least that at which the next list begins, its list is a later one
 pub next_list : (s f t : ℕ) → IsPower s f → s + 2 ^ (f - 4) ≤ t → t < 2 ^ 32 → tlsf_bucket s < tlsf_bucket t
 next_list s f t is le within =
     let n = s + 2 ^ (f - 4) in

@@ -1,4 +1,4 @@
--- What upper crates may cite, passed on from one place. Declares nothing.
+-- What other crates' proofs may cite, re-exported. Declares nothing.
 pub use Rattle.block_model.proofs.BucketLaws.{half_fit_lawful, tlsf_lawful}
 pub use Rattle.block_model.proofs.Others.{fill_le, free_stays, lies, malloc_gives, malloc_stays, released_is_free}
 pub use Rattle.block_model.proofs.ReadBlocks.{blocks_read}

@@ -13,7 +13,7 @@ power_le i j le = pow-le-pow_right {n = 2} (omega arith) le
 pub power_more : (i : ℕ) → 2 ^ (i + 1) ≡ 2 * 2 ^ i
 power_more i = (let e = pow-add 2 i 1 in omega arith)
 
--- what the logarithm is, found from the top down
+-- the exponent of the greatest power of two that is at most n
 pub log_is : (top n f : ℕ) → f ≤ top → 2 ^ f ≤ n → n < 2 * 2 ^ f → log_up_to top n ≡ f
 unfolding log_up_to
 log_is zero n f le low high = omega arith
@@ -45,7 +45,7 @@ log_found (suc top) n some high = elim (cases_lt n (2 ^ suc top)) [
       rw (yes, log_up_to) (above, high, omega arith))
 ]
 
--- a greater number has no lesser logarithm
+-- a greater number has at least the same logarithm
 pub log_rises : (m n : ℕ) → 1 ≤ m → m ≤ n → n < 2 ^ 32 → log m ≤ log n
 log_rises m n some le high = elim (cases_lt (log n) (log m)) [
   | inl less ↦ (

@@ -13,7 +13,7 @@ pub fill_le : (bs : List Block) (from to : ℕ) → Fill bs from to → from ≤
 fill_le [] from to f = omega arith
 fill_le (b ∷ bs) from to f = (let r = fill_le bs (from + b.size) to f.2 in omega arith)
 
--- where the block at an address lies
+-- a block at an address is between the ends of its list
 pub record Lies (b : Block) (a from to : ℕ) : Type 0 where
   pub address : b.address ≡ a
   pub size : 2 ≤ b.size
@@ -177,7 +177,7 @@ module _ (d : Demand) (place a : ℕ) (b : Block) (h : ℕ) (away : a ≢ place)
   pub free_no_other : (bs : List Block) (from to : ℕ) → Fill bs from to → block_at (released bs place) a ≡ Some b → block_at bs a ≡ Some b
   free_no_other bs from to f there = sym (freed_other bs) ∙ merged_no_other (freed_at bs place) from to (freed_fill bs place from to f) there
 
--- a malloc leaves every other used block
+-- a malloc keeps every other used block
 pub malloc_stays : (rule : FreeLists) (words : ℕ) (old new : List Block) (d : Demand) (place : ℕ) → IsTiling words old → Carves rule old d place new
     → StaysUsed old place new
 malloc_stays rule words old new d place t step = (let e = step.carved in rw e (record {
@@ -185,7 +185,7 @@ malloc_stays rule words old new d place t step = (let e = step.carved in rw e (r
   no_other = λ a b h away used there. malloc_no_other d place a b h away used old there;
 }))
 
--- a free leaves every other used block
+-- a free keeps every other used block
 pub free_stays : (words : ℕ) (old : List Block) (place : ℕ) → IsTiling words old → StaysUsed old place (released old place)
 free_stays words old place t = record {
   kept = λ a b h away used there. free_kept (record { need = 0; owner = 0 }) place a b h away used old there;
@@ -233,7 +233,7 @@ module _ (d : Demand) (place : ℕ) where
         }))
   ]
 
--- a malloc gives the words that are needed
+-- the block of a malloc has the words that are needed, or one more
 pub malloc_gives : (rule : FreeLists) (count words : ℕ) (old new : List Block) (d : Demand) (place : ℕ) → AreLawful rule count → words ≤ 2 ^ 23 → 2 ≤ d.need
     → d.need ≤ 2 ^ 23
     → IsTiling words old → Carves rule old d place new → IsCarvedTo new place d
@@ -244,7 +244,7 @@ malloc_gives rule count words old new d place lawful small some few t step =
     let e = step.carved in
     rw e (given_block d place old step.found step.there enough)
 
--- no used block begins where one was released
+-- no used block begins at a released address
 pub released_is_free : (words : ℕ) (old : List Block) (place : ℕ) (b : Block) (h : ℕ) → IsTiling words old → block_at (released old place) place ≡ Some b
     → b.owner ≡ Some h → ⊥
 released_is_free words old place b h t there used =

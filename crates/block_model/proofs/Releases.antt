@@ -40,7 +40,7 @@ joined_merged b (c ∷ cs) m = by_cases (is_free b && is_free c) refl
     by_cases false e = rw e (e, m)
     by_cases true e = rw e (behind_free (is_free c) (starts_free cs) (and_second (is_free b) (is_free c) e) m.0, m.1)
 
--- free neighbours have become one
+-- no two neighbours are both free after merging
 pub merged_are : (blocks : List Block) → AreMerged (merged blocks)
 merged_are [] = tt
 merged_are (b ∷ bs) = joined_merged b (merged bs) (merged_are bs)

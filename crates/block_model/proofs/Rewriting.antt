@@ -1,4 +1,4 @@
--- The words of a tiling, where one block gets other contents and every other word stays.
+-- The words of a tiling after one block gets other contents and every other word stays.
 use Rattle.std.proofs.Common.{◌≡◌, ◌≢◌, ℕ, ◌+◌, ◌-◌, ◌<◌, ◌≤◌, true, false, List, [], ◌∷◌, Some, None, length, get_or, map, arith, sym, ◌∙◌, inl, inr, ap, refl}
 use Rattle.std.specs.Prelude.{◌⊎◌, ◌&&◌, cond, nat_le, nat_lt}
 use Rattle.std.specs.List.{range_with_len}
@@ -17,7 +17,7 @@ lt_yes a b e = grind (arith, nat_tests)
 lt_no : (a b : ℕ) → b ≤ a → nat_lt a b ≡ false
 lt_no a b e = grind (arith, nat_tests)
 
--- the block at an address is that block, in a longer list too
+-- the block at an address stays that block in a longer list
 pub behind : (x : Block) (xs : List Block) (from to a : ℕ) (b : Block) → Fill (x ∷ xs) from to → block_at xs a ≡ Some b → block_at (x ∷ xs) a ≡ Some b
 behind x xs from to a b f there =
     let l = lies xs (from + x.size) to a b f.2 there in
@@ -55,7 +55,7 @@ apart (z ∷ zs) from to a c b d f x y ne = elim (cases_eq z.address a) [
       ])
 ]
 
--- headers that stay are headers
+-- if the headers of all blocks stay, so do the headers of the list
 headers_stay : (old new : List ℕ) (bs : List Block) (from to before : ℕ) → Fill bs from to
     → ((a : ℕ) (b : Block) → block_at bs a ≡ Some b → get_or new a 0 ≡ get_or old a 0) → HaveHeaders old bs before → HaveHeaders new bs before
 headers_stay old new [] from to before f same heads = tt
@@ -64,7 +64,7 @@ headers_stay old new (b ∷ bs) from to before f same heads = (
   headers_stay old new bs (from + b.size) to b.size f.2 (λ a c there. same a c (behind b bs from to a c f there)) heads.1,
 )
 
--- the words, with n of them from `from` on replaced
+-- the words after n of them, from `from` on, are replaced
 abbrev pub replaced : (ℕ → ℕ) → ℕ → ℕ → List ℕ → List ℕ
 replaced f from n words = map (λ w. cond (nat_le from w && nat_lt w (from + n)) (f (w - from)) (get_or words w 0)) (range_with_len 0 (length words))
 
@@ -99,7 +99,7 @@ module _ (content now : ℕ → ℕ → ℕ) (count : ℕ) (bs : List Block) (wo
   mine : Lies b place 0 count
   mine = lies bs 0 count place b t.fill there
 
-  -- the words of another block lie outside
+  -- the words of another block stay
   outside : (a : ℕ) (c : Block) (w : ℕ) → block_at bs a ≡ Some c → a ≢ place → a ≤ w → w < a + c.size → get_or refilled w 0 ≡ get_or words w 0
   outside a c w at ne low high =
       let size = mine.size in

@@ -1,4 +1,4 @@
--- Mallocs and frees keep a tiling, and leave the other used blocks.
+-- Mallocs and frees keep a tiling and the other used blocks.
 use Rattle.std.proofs.Common.{◌≡◌, ℕ, Bool, true, false, ◌+◌, ◌≤◌, List, [], ◌∷◌, ◌++◌, Some, None, arith, ◌∙◌, inl, inr, ap, refl, subst}
 use Rattle.std.specs.Prelude.{◌&&◌, is_none}
 use Rattle.std.proofs.lemmas.Bool.{cases_lt, cases_eq}
@@ -10,7 +10,7 @@ free_is : (b : Block) → b.owner ≡ None → is_free b ≡ true
 free_is b e = ap is_none e
 
 module _ (d : Demand) (some : 2 ≤ d.need) where
-  -- the parts of a block that is split fill its words
+  -- the parts of a split block fill its words
   carved_fill : (b : Block) (bs : List Block) (from to : ℕ) → Fill (b ∷ bs) from to → Fill (carved b d ++ bs) from to
   carved_fill b bs from to (is, size, rest) = elim (cases_lt b.size (d.need + 2)) [
     | inl small ↦ rw (le_no (d.need + 2) b.size small) (is, size, rest)
@@ -24,7 +24,7 @@ module _ (d : Demand) (some : 2 ≤ d.need) where
     | inr other ↦ rw (eq_no b.address a other) (f.0, f.1, fill_carved bs a (from + b.size) to f.2)
   ]
 
--- the first part of a block that is split is used
+-- the first part of a split block is used
 carved_starts : (b : Block) (bs : List Block) (d : Demand) → starts_free (carved b d ++ bs) ≡ false
 carved_starts b bs d = elim (cases_lt b.size (d.need + 2)) [
   | inl small ↦ rw (le_no (d.need + 2) b.size small) refl

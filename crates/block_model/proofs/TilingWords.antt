@@ -65,7 +65,7 @@ module _ (content : ℕ → ℕ → ℕ) where
     headed words bs (from + b.size) to b.size f.2 (tail_read words before from to b bs f.1 r),
   )
 
-  -- what stands after the header of each block
+  -- the words after the header of each block
   inner : (words : List ℕ) (bs : List Block) (from to before : ℕ) → Fill bs from to → Reads words from (tiling_words content bs before)
       → (a : ℕ) (c : Block) → block_at bs a ≡ Some c → (i : ℕ) → 1 + i < c.size → get_or words (a + 1 + i) 0 ≡ inner_word c.owner content i
   inner words [] from to before f r a c there i lt = cc

@@ -38,7 +38,7 @@ there_first x b xs a is there = (let e : Some x ≡ Some b = rw (eq_yes x.addres
 there_after : (x b : Block) (xs : List Block) (a : ℕ) → x.address ≢ a → block_at (x ∷ xs) a ≡ Some b → block_at xs a ≡ Some b
 there_after x b xs a other there = rw (eq_no x.address a other) at there
 
--- a malloc: the words of the block that it gives
+-- a malloc adds the words of its block
 pub used_after_malloc : (bs : List Block) (place : ℕ) (d : Demand) (found : Block) → block_at bs place ≡ Some found → found.owner ≡ None
     → used_words (carved_at bs place d) ≡ used_words bs + size_at (carved_at bs place d) place
 used_after_malloc [] place d found there free = cc
@@ -103,7 +103,7 @@ merged_uses (b ∷ bs) =
     let j = joined_uses b (merged bs) in
     omega arith
 
--- a free: the words of the block that is given back
+-- a free subtracts the words of its block
 pub used_after_free : (bs : List Block) (place : ℕ) (b : Block) (h : ℕ) → block_at bs place ≡ Some b → b.owner ≡ Some h
     → used_words (released bs place) + size_at bs place ≡ used_words bs
 used_after_free bs place b h there used =
@@ -111,7 +111,7 @@ used_after_free bs place b h there used =
     let f = freed_uses bs place b h there used in
     omega arith
 
--- no more words are used than there are
+-- the words of the used blocks are at most all words
 pub used_within : (bs : List Block) (from to : ℕ) → Fill bs from to → from + used_words bs ≤ to
 used_within [] from to f = (let z = used_none in let e = f in omega arith)
 used_within (b ∷ bs) from to f =
@@ -124,6 +124,6 @@ used_within (b ∷ bs) from to f =
     at_most true n = omega arith
     at_most false n = omega arith
 
--- none of them where the region is one free block
+-- 0 if the region is one free block
 pub used_in_one_free : (n : ℕ) → used_words (record { address = 0; size = n; owner = None } ∷ []) ≡ 0
 used_in_one_free n = (let f = used_first (record { address = 0; size = n; owner = None }) [] in let z = used_none in omega arith)

@@ -10,7 +10,7 @@ log_up_to (suc top) n = if nat_le (2 ^ suc top) n then suc top else log_up_to to
 abbrev pub log : ℕ → ℕ
 log n = log_up_to 31 n
 
--- TLSF: a list for each size below 16, and 16 lists for each power of two from there on
+-- TLSF: a list for each size below 16, then 16 lists for each power of two
 unfoldable pub tlsf_bucket : ℕ → ℕ
 tlsf_bucket s = if nat_lt s 16 then s else 16 + 16 * (log s - 4) + (s - 2 ^ log s) / 2 ^ (log s - 4)
 
@@ -18,7 +18,7 @@ tlsf_bucket s = if nat_lt s 16 then s else 16 + 16 * (log s - 4) + (s - 2 ^ log 
 unfoldable pub tlsf_rounded : ℕ → ℕ
 tlsf_rounded need = if nat_lt need 16 then need else need + 2 ^ (log need - 4) - 1
 
--- the first list in which every block has the words that are needed
+-- the first list in which every block has at least `need` words
 abbrev pub tlsf_search : ℕ → ℕ
 tlsf_search need = tlsf_bucket (tlsf_rounded need)
 
@@ -26,22 +26,24 @@ tlsf_search need = tlsf_bucket (tlsf_rounded need)
 abbrev pub half_fit_bucket : ℕ → ℕ
 half_fit_bucket s = log s
 
--- the first list in which every block has the words that are needed
+-- the first list in which every block has at least `need` words
 abbrev pub half_fit_search : ℕ → ℕ
 half_fit_search need = if nat_le need 1 then 0 else log (need - 1) + 1
 
--- the bucket of each size, and the bucket from which a need is searched
+-- the bucket of each size, and the first bucket that is searched for a need
 pub record FreeLists : Type 0 where
   pub bucket : ℕ → ℕ
   pub search : ℕ → ℕ
 
+-- the free lists of TLSF
 abbrev pub tlsf : FreeLists
 tlsf = record { bucket = tlsf_bucket; search = tlsf_search }
 
+-- the free lists of Half-Fit
 abbrev pub half_fit : FreeLists
 half_fit = record { bucket = half_fit_bucket; search = half_fit_search }
 
--- For sizes and needs from 2 words to 2^23: buckets are below `count`, they rise with the size, and from the searched bucket on every block is large enough.
+-- for sizes and needs from 2 words to 2^23: buckets are below `count` and rise with the size, and from the first searched bucket on every block is large enough
 pub record AreLawful (rule : FreeLists) (count : ℕ) : Type 0 where
   pub below : (size : ℕ) → 2 ≤ size → size ≤ 2 ^ 23 → rule.bucket size < count
   pub rising : (size larger : ℕ) → 2 ≤ size → size ≤ larger → larger ≤ 2 ^ 23 → rule.bucket size ≤ rule.bucket larger

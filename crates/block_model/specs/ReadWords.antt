@@ -1,4 +1,4 @@
--- The blocks that the words of a region tell, and words that a list of blocks may have.
+-- The blocks that the words of a region determine, and words for a list of blocks.
 use Rattle.std.specs.Prelude.{◌≡◌, ℕ, zero, suc, ◌+◌, ◌-◌, ◌/◌, ◌%◌, ◌^◌, List, [], ◌∷◌, ◌++◌, Option, Some, None, if◌then◌else◌, map, nat_eq, nat_lt}
 use Rattle.std.specs.Prelude.{slice_index}
 use Rattle.std.specs.List.{range_with_len}
@@ -9,25 +9,25 @@ use Rattle.block_model.specs.Words.{block_header}
 abbrev pub HaveTags : List ℕ → List Block → Type 0
 HaveTags words blocks = (a : ℕ) (b : Block) (h : ℕ) → block_at blocks a ≡ Some b → b.owner ≡ Some h → slice_index words (a + 1) % 2 ^ 32 ≡ h
 
--- the owner that a header and the word after it tell
+-- the owner of a block, from its header and the word after it
 abbrev pub read_owner : ℕ → ℕ → Option ℕ
 read_owner header tag = if nat_eq (header / 2 ^ 31 % 2) 1 then Some (tag % 2 ^ 32) else None
 
--- the block that the words at the address tell
+-- the block at the address, from its words
 abbrev pub read_block : List ℕ → ℕ → Block
 read_block words a = record { address = a; size = slice_index words a % 2 ^ 31; owner = read_owner (slice_index words a) (slice_index words (a + 1)) }
 
--- the blocks from `a` up to `to`, each told by its words, at most so many
+-- the blocks from word `a` to word `to`, each from its words; at most `most` of them
 abbrev pub read_blocks : ℕ → List ℕ → ℕ → ℕ → List Block
 read_blocks zero words a to = []
 read_blocks (suc most) words a to = if nat_lt a to then read_block words a ∷ read_blocks most words (a + slice_index words a % 2 ^ 31) to else []
 
--- word i after the header: the contents of the owner, zeros in a free block
+-- word i after the header: the contents of the owner, or 0 in a free block
 abbrev pub inner_word : Option ℕ → (ℕ → ℕ → ℕ) → ℕ → ℕ
 inner_word None content i = 0
 inner_word (Some h) content i = content h i
 
--- words of these blocks, one after the other, the first after a block of `before` words
+-- words for these blocks, one after the other; before the first there is a block of `before` words
 abbrev pub tiling_words : (ℕ → ℕ → ℕ) → List Block → ℕ → List ℕ
 tiling_words content [] before = []
 tiling_words content (b ∷ bs) before = (block_header before b ∷ map (inner_word b.owner content) (range_with_len 0 (b.size - 1)))

@@ -1,23 +1,24 @@
--- A region cut into blocks, used and free ones, without a gap. Addresses and sizes are in words.
+-- A region divided into used and free blocks, without a gap. Addresses and sizes are in words.
 use Rattle.std.specs.Prelude.{◌≡◌, ◌≢◌, ℕ, Bool, false, ◌&&◌, ◌+◌, ◌-◌, ◌/◌, ◌≤◌, List, [], ◌∷◌, ◌++◌, Option, Some, None, if◌then◌else◌, is_none, is_some}
 use Rattle.std.specs.Prelude.{nat_eq, nat_le, max, count_by, sum_by, cond}
 use Rattle.block_model.specs.Buckets.{FreeLists}
 
--- a block: where it begins, how many words it has, and the number that owns it; none owns a free one
+-- a block: its address, its words, and the number of its owner; a free block has none
 pub record Block : Type 0 where
   pub address : ℕ
   pub size : ℕ
   pub owner : Option ℕ
 
+-- whether the block has no owner
 abbrev pub is_free : Block → Bool
 is_free b = is_none b.owner
 
--- the blocks lie one after the other from `from` to `to`, each with two words at least
+-- the blocks are contiguous from word `from` to word `to`, each with at least two words
 abbrev pub Fill : List Block → ℕ → ℕ → Type 0
 Fill [] from to = from ≡ to
 Fill (b ∷ bs) from to = (b.address ≡ from) × (2 ≤ b.size) × Fill bs (from + b.size) to
 
--- whether the first block is a free one
+-- whether the first block is free
 abbrev pub starts_free : List Block → Bool
 starts_free [] = false
 starts_free (b ∷ bs) = is_free b
@@ -27,7 +28,7 @@ abbrev pub AreMerged : List Block → Type 0
 AreMerged [] = Unit {0}
 AreMerged (b ∷ bs) = ((is_free b && starts_free bs) ≡ false) × AreMerged bs
 
--- The blocks fill a region of so many words, and no two neighbours are both free.
+-- the blocks fill a region of `words` words, and no two neighbours are both free
 pub record IsTiling (words : ℕ) (blocks : List Block) : Type 0 where
   pub fill : Fill blocks 0 words
   pub merged : AreMerged blocks
@@ -41,25 +42,25 @@ abbrev pub block_at : List Block → ℕ → Option Block
 block_at [] a = None
 block_at (b ∷ bs) a = if nat_eq b.address a then Some b else block_at bs a
 
--- a request: the words that are needed, and the number that will own them
+-- a request: the words that it needs, and the number of their owner
 pub record Demand : Type 0 where
   pub need : ℕ
   pub owner : ℕ
 
--- the words that a request for n bytes needs: two words of header, and its bytes, eight to a word
+-- the words that a request for n bytes needs: two words of header, and eight bytes to a word
 abbrev pub block_need : ℕ → ℕ
 block_need n = 2 + (n + 7) / 8
 
--- a free block from which a need can be served
+-- a free block that may serve the need
 pub record Serves (rule : FreeLists) (need : ℕ) (b : Block) : Type 0 where
   pub free : b.owner ≡ None
   pub reached : rule.search need ≤ rule.bucket b.size
 
--- no free block can serve the need
+-- no free block may serve the need
 abbrev pub LacksBlock : FreeLists → List Block → ℕ → Type 0
 LacksBlock rule blocks need = (a : ℕ) (b : Block) → block_at blocks a ≡ Some b → Serves rule need b → ⊥
 
--- The first words of a block become used, and the rest becomes a free block; where less than two words are over they stay with the first.
+-- the first words of a block become used, and the rest becomes a free block; a rest of less than two words stays with the first
 abbrev pub carved : Block → Demand → List Block
 carved b d = if nat_le (d.need + 2) b.size
     then record { address = b.address; size = d.need; owner = Some d.owner } ∷ record
@@ -71,7 +72,7 @@ abbrev pub carved_at : List Block → ℕ → Demand → List Block
 carved_at [] a d = []
 carved_at (b ∷ bs) a d = if nat_eq b.address a then carved b d ++ bs else b ∷ carved_at bs a d
 
--- A malloc: of the free blocks that serve, one of the least bucket is split.
+-- a malloc: of the free blocks that serve, one of the least bucket is split
 pub record Carves (rule : FreeLists) (old : List Block) (d : Demand) (place : ℕ) (new : List Block) : Type 0 where
   pub found : Block
   pub there : block_at old place ≡ Some found
@@ -79,7 +80,7 @@ pub record Carves (rule : FreeLists) (old : List Block) (d : Demand) (place : �
   pub least : (a : ℕ) (b : Block) → block_at old a ≡ Some b → Serves rule d.need b → rule.bucket found.size ≤ rule.bucket b.size
   pub carved : new ≡ carved_at old place d
 
--- a block before the others; where it and the first of them are free, the two are one
+-- a block before others; if it and the first of them are free, they become one
 abbrev pub joined : Block → List Block → List Block
 joined b [] = b ∷ []
 joined b (c ∷ cs) = if is_free b && is_free c then record { address = b.address; size = b.size + c.size; owner = None } ∷ cs else (b ∷ c ∷ cs)
@@ -94,7 +95,7 @@ abbrev pub freed_at : List Block → ℕ → List Block
 freed_at [] a = []
 freed_at (b ∷ bs) a = if nat_eq b.address a then record { address = b.address; size = b.size; owner = None } ∷ bs else b ∷ freed_at bs a
 
--- a free: the block at the address becomes free, and is coalesced with each free neighbour
+-- a free: the block at the address becomes free, and is coalesced with its free neighbours
 abbrev pub released : List Block → ℕ → List Block
 released blocks a = merged (freed_at blocks a)
 
@@ -102,27 +103,29 @@ released blocks a = merged (freed_at blocks a)
 unfoldable pub used_words : List Block → ℕ
 used_words blocks = sum_by (λ b. cond (is_free b) 0 b.size) blocks
 
--- how many blocks are used, and how many are free
+-- the number of used blocks
 unfoldable pub used_blocks : List Block → ℕ
 used_blocks blocks = count_by (λ b. is_some b.owner) blocks
 
+-- the number of free blocks
 unfoldable pub free_blocks : List Block → ℕ
 free_blocks blocks = count_by is_free blocks
 
--- the words of the largest free block, 0 where none is free
+-- the words of the largest free block, 0 if none is free
 abbrev pub largest_free : List Block → ℕ
 largest_free [] = 0
 largest_free (b ∷ bs) = max (cond (is_free b) b.size 0) (largest_free bs)
 
--- the words of the block at the address, 0 where none begins there
+-- the words of a block, 0 if there is none
 abbrev pub size_of : Option Block → ℕ
 size_of None = 0
 size_of (Some b) = b.size
 
+-- the words of the block at the address, 0 if none begins there
 abbrev pub size_at : List Block → ℕ → ℕ
 size_at blocks a = size_of (block_at blocks a)
 
--- the used block at the address has the words of the demand, or one more, and its owner
+-- the block at the address has the demand's owner, and its words or one more
 pub record IsCarvedTo (blocks : List Block) (place : ℕ) (d : Demand) : Type 0 where
   pub block : Block
   pub there : block_at blocks place ≡ Some block
@@ -130,7 +133,7 @@ pub record IsCarvedTo (blocks : List Block) (place : ℕ) (d : Demand) : Type 0 
   pub least : d.need ≤ block.size
   pub most : block.size ≤ d.need + 1
 
--- each used block but the one at the address is the same in both lists
+-- each used block but the one at the address is in both lists
 pub record StaysUsed (old : List Block) (place : ℕ) (new : List Block) : Type 0 where
   pub kept : (a : ℕ) (b : Block) (h : ℕ) → a ≢ place → b.owner ≡ Some h → block_at old a ≡ Some b → block_at new a ≡ Some b
   pub no_other : (a : ℕ) (b : Block) (h : ℕ) → a ≢ place → b.owner ≡ Some h → block_at new a ≡ Some b → block_at old a ≡ Some b

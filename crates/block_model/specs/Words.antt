@@ -1,26 +1,26 @@
--- The words of a region that is cut into blocks.
+-- The words of a region that is divided into blocks.
 use Rattle.std.specs.Prelude.{◌≡◌, ℕ, ◌+◌, ◌*◌, ◌^◌, ◌<◌, ◌≤◌, List, [], ◌∷◌, Some, None, cond, slice_index}
 use Rattle.block_model.specs.Tiling.{Block, is_free, block_at}
 
--- word 0 of a block: its size, a bit where it is used, and the size of the block before it
+-- word 0 of a block: its size, a bit that is set if it is used, and the size of the block before it
 abbrev pub block_header : ℕ → Block → ℕ
 block_header before b = b.size + 2 ^ 31 * cond (is_free b) 0 1 + 2 ^ 32 * before
 
--- each block has its header, the first after a block of `before` words
+-- each block has its header; before the first there is a block of `before` words
 abbrev pub HaveHeaders : List ℕ → List Block → ℕ → Type 0
 HaveHeaders words [] before = Unit {0}
 HaveHeaders words (b ∷ bs) before = (slice_index words b.address ≡ block_header before b) × HaveHeaders words bs b.size
 
--- from word 2 on, a free block is zeros; its word 1 is open
+-- from word 2 on, a free block is zeros; its word 1 may be any word
 abbrev pub AreCleared : List ℕ → List Block → Type 0
 AreCleared words blocks = (a : ℕ) (b : Block) → block_at blocks a ≡ Some b → b.owner ≡ None → (i : ℕ) → 2 ≤ i → i < b.size → slice_index words (a + i) ≡ 0
 
--- from word 1 on, a block has the contents of its owner
+-- from word 1 on, a used block has the contents of its owner
 abbrev pub HaveContents : (ℕ → ℕ → ℕ) → List ℕ → List Block → Type 0
 HaveContents content words blocks = (a : ℕ) (b : Block) (h : ℕ) → block_at blocks a ≡ Some b → b.owner ≡ Some h → (i : ℕ) → 1 + i < b.size
     → slice_index words (a + 1 + i) ≡ content h i
 
--- The words of a tiling: word 0 of each block is its header, a free one is cleared, and a used one holds what its owner has, `content h 0` and on.
+-- the words of a tiling: word 0 of each block is its header; a free block is cleared; a used block has its owner's contents, from `content h 0` on
 pub record AreTilingWords (content : ℕ → ℕ → ℕ) (blocks : List Block) (words : List ℕ) : Type 0 where
   pub headers : HaveHeaders words blocks 0
   pub cleared : AreCleared words blocks

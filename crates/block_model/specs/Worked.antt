@@ -1,4 +1,4 @@
--- Blocks of a region of 64 words, and what becomes of them, worked by hand.
+-- Blocks of a region of 64 words, after calls worked out by hand.
 use Rattle.std.specs.Prelude.{ℕ, Some, None}
 use Rattle.block_model.specs.Tiling.{Block}
 

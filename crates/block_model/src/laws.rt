@@ -1,12 +1,12 @@
-//! Laws of tilings, which show the definitions to be the right ones. The functions do nothing: what
-//! each ensures is the law.
+//! Laws of tilings, which show that the definitions mean what they should. The functions do
+//! nothing; each contract is a law.
 ghost use Rattle.std.specs.Prelude.{◌≡◌, ◌≢◌, ℕ, ◌⊎◌, ◌+◌, ◌^◌, ◌<◌, ◌≤◌, List, Some, length, slice_index};
 ghost use Rattle.block_model.specs.Buckets.{FreeLists, AreLawful, tlsf, half_fit};
 ghost use Rattle.block_model.specs.ReadWords.{HaveTags, read_blocks, tiling_words};
 ghost use Rattle.block_model.specs.Tiling.{Block, Demand, IsTiling, Carves, IsCarvedTo, LacksBlock, StaysUsed, block_at, one_free_block, released};
 ghost use Rattle.block_model.specs.Words.{AreTilingWords, HaveHeaders};
 
-/// The region that is one free block is a tiling.
+/// One free block that fills the region is a tiling.
 pub fn one_block_is_a_tiling()
     ensures { (words : ℕ) → 2 ≤ words → IsTiling words (one_free_block words) }
 {}
@@ -22,14 +22,14 @@ pub fn free_keeps_tiling()
     ensures { (words : ℕ) (old : List Block) (place : ℕ) → IsTiling words old → IsTiling words (released old place) }
 {}
 
-/// The block that a malloc gives has the words that are needed, or one more.
+/// The block of a malloc has the words that are needed, or one more.
 pub fn malloc_gives_what_is_needed()
     ensures { (rule : FreeLists) (count words : ℕ) (old new : List Block) (d : Demand) (place : ℕ)
         → AreLawful rule count → words ≤ 2 ^ 23 → 2 ≤ d.need → d.need ≤ 2 ^ 23 → IsTiling words old → Carves rule old d place new
         → IsCarvedTo new place d }
 {}
 
-/// A malloc and a free leave every other used block as it was.
+/// A malloc and a free keep every other used block.
 pub fn other_blocks_stay()
     ensures malloc { (rule : FreeLists) (words : ℕ) (old new : List Block) (d : Demand) (place : ℕ)
         → IsTiling words old → Carves rule old d place new → StaysUsed old place new }
@@ -42,25 +42,25 @@ pub fn free_lists_are_lawful()
     ensures half_fit { AreLawful half_fit 24 }
 {}
 
-/// A malloc is done where a block serves.
+/// A malloc succeeds if a block serves.
 pub fn a_malloc_is_done_or_lacks_a_block()
     ensures { (rule : FreeLists) (words : ℕ) (old : List Block) (d : Demand) → IsTiling words old
         → ((place : ℕ) × (new : List Block) × Carves rule old d place new) ⊎ LacksBlock rule old d.need }
 {}
 
-/// Each tiling has words, whatever the owners of its blocks have.
+/// Each tiling has words, whatever the contents of its blocks.
 pub fn a_tiling_has_words()
     ensures { (content : ℕ → ℕ → ℕ) (count : ℕ) (blocks : List Block) → IsTiling count blocks
         → AreTilingWords content blocks (tiling_words content blocks 0) × (length (tiling_words content blocks 0) ≡ count) }
 {}
 
-/// The words tell the blocks, with no use of word 1 of a free one.
+/// The words determine the blocks, without word 1 of the free ones.
 pub fn blocks_are_told()
     ensures { (count : ℕ) (blocks : List Block) (words : List ℕ) → count < 2 ^ 31 → IsTiling count blocks
         → HaveHeaders words blocks 0 → HaveTags words blocks → read_blocks count words 0 count ≡ blocks }
 {}
 
-/// A used block can get other contents, while every word outside it stays.
+/// A used block can get other contents while every word outside of it stays.
 pub fn a_block_gets_other_contents()
     ensures { (content now : ℕ → ℕ → ℕ) (count : ℕ) (blocks : List Block) (words : List ℕ) (place : ℕ) (b : Block) (h : ℕ)
         → IsTiling count blocks → AreTilingWords content blocks words → length words ≡ count

@@ -1,4 +1,4 @@
-//! A region cut into blocks without a gap, as TLSF (2004) and Half-Fit (1995) keep it: what it is,
+//! A region divided into blocks without a gap, as in TLSF (2004) and Half-Fit (1995): what it is,
 //! what a malloc and a free do to it, and the free lists of both.
 #![tactic(auto)]
 

@@ -1,11 +1,11 @@
-//! The free lists of TLSF (2004), with 16 of them for each power of two.
+//! The free lists of TLSF (2004), 16 for each power of two.
 ghost use Rattle.std.specs.Prelude.{◌≡◌, ◌^◌, ◌<◌, ◌≤◌};
 ghost use Rattle.block_model.specs.Buckets.{tlsf_bucket, tlsf_rounded, tlsf_search};
 
 /// The number of free lists for sizes up to `2^23` words.
 pub const COUNT: u32 = 336;
 
-/// The free list of a block of so many words.
+/// The free list of a block of `size` words.
 pub fn bucket_of(size: u32) -> u32
     requires { size ≤ 2 ^ 24 }
     ensures { result ≡ tlsf_bucket size }
@@ -17,7 +17,7 @@ pub fn bucket_of(size: u32) -> u32
     16 + 16 * (power - 4) + ((size - (1 << power)) >> (power - 4))
 }
 
-/// The first free list in which every block has the words that are needed.
+/// The first free list in which every block has at least `need` words.
 pub fn search_for(need: u32) -> u32
     requires { need ≤ 2 ^ 23 }
     ensures { result ≡ tlsf_search need }
@@ -25,7 +25,7 @@ pub fn search_for(need: u32) -> u32
     bucket_of(rounded_up(need))
 }
 
-/// The need rounded up to the least size of a list.
+/// The need, rounded up so that every block of its list is large enough.
 fn rounded_up(need: u32) -> u32
     requires { need ≤ 2 ^ 23 }
     ensures value { result ≡ tlsf_rounded need }

@@ -1,12 +1,13 @@
-//! Regions of 64 words, worked by hand: what the definitions give at each step. The functions do
-//! nothing: what each ensures is the step.
+//! Regions of 64 words, worked out by hand: the result of each step by the definitions. The
+//! functions do nothing; each contract is a step.
 ghost use Rattle.std.specs.Prelude.{◌≡◌, ◌∷◌, []};
 ghost use Rattle.block_model.specs.Buckets.{half_fit, tlsf};
 ghost use Rattle.block_model.specs.Tiling.{Carves, LacksBlock, block_need, free_blocks, largest_free, one_free_block, released, used_blocks, used_words};
 ghost use Rattle.block_model.specs.Worked.{free, used};
 
-/// 232 bytes need 31 words, and 33 are over; 248 bytes need 33, and the list of 33 isn't searched
-/// for them; 240 bytes need 32, which are served, and the word that is over stays.
+/// 232 bytes need 31 words, and 33 remain. 248 bytes need 33, but the list of a block of 33 words
+/// isn't searched for them. 240 bytes need 32; they are served, and the word that remains stays
+/// with the block.
 pub fn a_need_is_rounded_up()
     ensures needs { (block_need 232 ≡ 31) × (block_need 248 ≡ 33) × (block_need 240 ≡ 32) }
     ensures first { Carves tlsf (one_free_block 64) (record { need = 31; owner = 1 }) 0 (used 0 31 1 ∷ free 31 33 ∷ []) }
@@ -14,7 +15,8 @@ pub fn a_need_is_rounded_up()
     ensures second { Carves tlsf (used 0 31 1 ∷ free 31 33 ∷ []) (record { need = 32; owner = 2 }) 31 (used 0 31 1 ∷ used 31 33 2 ∷ []) }
 {}
 
-/// 504 bytes need 65 words, which no block has; 488 bytes need 63, and the block of 64 isn't split.
+/// 504 bytes need 65 words, more than the region has. 488 bytes need 63, and the block of 64 isn't
+/// split.
 pub fn a_remainder_of_a_word_stays()
     ensures needs { (block_need 504 ≡ 65) × (block_need 488 ≡ 63) }
     ensures refused { LacksBlock tlsf (one_free_block 64) 65 }
@@ -22,8 +24,8 @@ pub fn a_remainder_of_a_word_stays()
     ensures taken { used_words (used 0 64 1 ∷ []) ≡ 64 }
 {}
 
-/// 256 bytes need 34 words, and 30 are over with TLSF and with Half-Fit; 176 bytes need 24, which
-/// TLSF serves from them, and Half-Fit doesn't.
+/// 256 bytes need 34 words, and 30 remain with TLSF and with Half-Fit. 176 bytes need 24: TLSF
+/// serves them from the 30, Half-Fit refuses them.
 pub fn half_fit_refuses_what_tlsf_serves()
     ensures needs { (block_need 256 ≡ 34) × (block_need 176 ≡ 24) }
     ensures tlsf_first { Carves tlsf (one_free_block 64) (record { need = 34; owner = 1 }) 0 (used 0 34 1 ∷ free 34 30 ∷ []) }
@@ -32,7 +34,7 @@ pub fn half_fit_refuses_what_tlsf_serves()
     ensures half_fit_second { LacksBlock half_fit (used 0 34 1 ∷ free 34 30 ∷ []) 24 }
 {}
 
-/// A block that is freed is coalesced with each free neighbour, and a used one parts them.
+/// A freed block is coalesced with its free neighbours, and not with a used one.
 pub fn free_neighbours_are_joined()
     ensures alone { released (used 0 31 1 ∷ used 31 33 2 ∷ []) 0 ≡ free 0 31 ∷ used 31 33 2 ∷ [] }
     ensures before { released (free 0 31 ∷ used 31 33 2 ∷ []) 31 ≡ one_free_block 64 }

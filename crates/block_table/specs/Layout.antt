@@ -1,11 +1,11 @@
--- How a block table lies in memory. No public clause cites this module.
+-- How a block table is laid out in memory. No public clause cites this module.
 use Rattle.std.specs.Prelude.{ℕ, ◌^◌, ◌<◌, List, length}
 use Rattle.block_table.specs.Table.{Table, IsBlockTable}
 
 abbrev pub table_with : ℕ → ℕ → List ℕ → Table
 table_with pages page_blocks frames = record { pages = pages; page_blocks = page_blocks; frames = frames }
 
--- the entries are few enough to be numbered, and a permutation
+-- the number of entries fits 32 bits, and they are a permutation
 pub record IsValid (pages page_blocks : ℕ) (frames : List ℕ) : Type 0 where
   pub small : length frames < 2 ^ 32
   pub table : IsBlockTable (table_with pages page_blocks frames)

@@ -13,6 +13,10 @@ reader_of s = s.reader
 abbrev pub given_by : {T : Type 0} → StdSource T → ℕ
 given_by s = s.given
 
+-- how often it was asked
+abbrev pub source_calls : {T : Type 0} → StdSource T → ℕ
+source_calls s = s.calls
+
 -- how many of its calls failed
 abbrev pub source_faults : {T : Type 0} → StdSource T → ℕ
 source_faults s = s.faults

@@ -27,6 +27,6 @@ abbrev pub Puts : {T : Type 0} → Option (List ℕ) → List ℕ → Result T F
 Puts old bytes (Ok u) new = new ≡ appended old bytes
 Puts old bytes (Err e) new = (front : List ℕ) × (lost : List ℕ) × (bytes ≡ front ++ lost) × (new ≡ appended old front)
 
--- at least n more were handed out, or the count is saturated
+-- n more were handed out, or the count is saturated
 abbrev pub HasGiven : ℕ → ℕ → ℕ → Type 0
-HasGiven old n new = (old + n ≤ new) ⊎ (new ≡ last_count)
+HasGiven old n new = (new ≡ old + n) ⊎ (last_count ≤ new)

@@ -1,12 +1,13 @@
 -- What the sources in memory are, and what a call does to them.
 use Rattle.std.specs.Prelude.{ℕ, ◌≡◌, ◌%◌, EachIndex, slice_index, ◌+◌, ◌++◌, List, length, take, drop, min, if◌then◌else◌, Option, Some, None}
 use Rattle.cf_io.specs.Feeds.{last_count}
-use Rattle.cf_io.specs.Schedules.{Schedule, is_due, count_moved, gone_well, gone_wrong, planned}
+use Rattle.cf_io.specs.Schedules.{Schedule, is_due, count_moved, gone_well, gone_wrong, one_more, planned}
 
--- a source that never fails: the bytes left, and how many were given
+-- a source that never fails: the bytes left, how many were given, and how often it was asked
 pub record SureSource : Type 0 where
   pub left : List ℕ
   pub given : ℕ
+  pub calls : ℕ
 
 -- a source that fails when it is told to: the bytes left, how many were given, and what its calls do
 pub record MemSource : Type 0 where
@@ -14,21 +15,22 @@ pub record MemSource : Type 0 where
   pub given : ℕ
   pub schedule : Schedule
 
--- a source that gives its piece over and over: the piece, where it goes on, and how many bytes were given
+-- a source that gives its piece over and over: the piece, where it goes on, how many bytes were given, and how often it was asked
 pub record LoopSource : Type 0 where
   pub piece : List ℕ
   pub at : ℕ
   pub given : ℕ
+  pub calls : ℕ
 
 -- no call was made yet
 abbrev pub sure_source : List ℕ → SureSource
-sure_source bytes = record { left = bytes; given = 0 }
+sure_source bytes = record { left = bytes; given = 0; calls = 0 }
 
 abbrev pub mem_source : List ℕ → List ℕ → List ℕ → MemSource
 mem_source bytes cuts fails = record { left = bytes; given = 0; schedule = planned cuts fails }
 
 abbrev pub loop_source : List ℕ → LoopSource
-loop_source piece = record { piece = piece; at = 0; given = 0 }
+loop_source piece = record { piece = piece; at = 0; given = 0; calls = 0 }
 
 -- n more were given, as far as a counter of 64 bits goes
 abbrev pub more_given : ℕ → ℕ → ℕ
@@ -44,7 +46,7 @@ sure_count s room = min room (length s.left)
 
 -- the source after n bytes were given
 abbrev pub sure_after : SureSource → ℕ → SureSource
-sure_after s n = record { left = drop n s.left; given = more_given s.given n }
+sure_after s n = record { left = drop n s.left; given = more_given s.given n; calls = one_more s.calls }
 
 -- how many bytes the next call would give into a buffer of so many
 abbrev pub mem_count : MemSource → ℕ → ℕ
@@ -69,4 +71,4 @@ Loops piece at buf = EachIndex buf (λ k. slice_index buf k ≡ slice_index piec
 
 -- the source after n bytes were given
 abbrev pub loop_after : LoopSource → ℕ → LoopSource
-loop_after s n = record s { at = (s.at + n) % length s.piece; given = more_given s.given n }
+loop_after s n = record s { at = (s.at + n) % length s.piece; given = more_given s.given n; calls = one_more s.calls }

@@ -1,7 +1,7 @@
 //! Sources and sinks over std's readers and writers.
 ghost use Rattle.std.specs.Prelude.{◌≡◌, ◌<◌, ◌≤◌, None, length, take, IfOk, IfSome, OnOk, OnErr};
 ghost use Rattle.std.specs.Io.KnownBytes.{Appends};
-ghost use Rattle.cf_io.specs.Devices.{ReadsFrom, given_by, reader_of, source_faults};
+ghost use Rattle.cf_io.specs.Devices.{ReadsFrom, given_by, reader_of, source_calls, source_faults};
 ghost use Rattle.cf_io.specs.Devices.{WritesTo, sink_faults, writer_of};
 ghost use Rattle.cf_io.specs.Schedules.{one_more};
 ghost use Rattle.cf_io.specs.Sources.{more_given};
@@ -17,6 +17,7 @@ use std::io::{Read, Write};
 pub struct StdSource<T> {
     reader: T,
     given: u64,
+    calls: u64,
     faults: u64,
 }
 
@@ -25,11 +26,13 @@ impl<T> StdSource<T> {
     pub fn new(reader: T) -> StdSource<T>
         ensures reader { reader_of result ≡ reader }
         ensures given { given_by result ≡ 0 }
+        ensures calls { source_calls result ≡ 0 }
         ensures faults { source_faults result ≡ 0 }
     {
         StdSource {
             reader,
             given: 0,
+            calls: 0,
             faults: 0,
         }
     }
@@ -40,17 +43,21 @@ impl<T: Read> Source for StdSource<T> {
 
     ghost given = { given_by };
 
+    ghost calls = { source_calls };
+
     ghost faults = { source_faults };
 
     fn take(&mut self, buf: &mut [u8]) -> Result<usize, Failed>
         ensures bytes { ReadsFrom T.remaining self.old result self.new buf.new }
         ensures within { IfOk result (λ n. n ≤ length buf.new) }
         ensures given { IfOk result (λ n. given_by self.new ≡ more_given (given_by self.old) n) }
+        ensures once { source_calls self.new ≡ one_more (source_calls self.old) }
         ensures grows { source_faults self.old ≤ source_faults self.new }
         ensures ok { OnOk result (source_faults self.new ≡ source_faults self.old) }
         ensures err { OnErr result (source_faults self.new ≡ one_more (source_faults self.old)) }
         ensures kept { OnErr result (given_by self.new ≡ given_by self.old) }
     {
+        self.calls = self.calls.saturating_add(1);
         match self.reader.read(buf) {
             Ok(n) => {
                 self.given = self.given.saturating_add(n as u64);

@@ -1,6 +1,7 @@
 //! Where bytes come from.
 ghost use Rattle.std.specs.Prelude.{◌≡◌, ◌<◌, ◌≤◌, ◌+◌, ℕ, List, Option, length, take, min, IfOk, OnErr, OnOk};
 ghost use Rattle.cf_io.specs.Feeds.{Rose, preceded, IsSpent, last_count};
+ghost use Rattle.cf_io.specs.Schedules.{one_more};
 
 use cf_base::Failed;
 
@@ -12,12 +13,16 @@ pub trait Source {
     /// How many bytes it has handed out; this saturates at the last value of a u64.
     ghost given: { Self → ℕ };
 
+    /// How often it was asked for bytes; this saturates at the last value of a u64.
+    ghost calls: { Self → ℕ };
+
     /// How often it has failed; this never falls.
     ghost faults: { Self → ℕ };
 
     /// Fills the start of the buffer and returns how many bytes. For a buffer that isn't empty, 0
     /// means the end of the input. A call that does not fail leaves the count of failures as it was.
     fn take(&mut self, buf: &mut [u8]) -> Result<usize, Failed>
+        ensures once { calls self.new ≡ one_more (calls self.old) }
         ensures grows { faults self.old ≤ faults self.new }
         ensures within { IfOk result (λ n. n ≤ length buf.new) }
         ensures piece { IfOk result (λ n. rest self.old ≡ preceded (take n buf.new) (rest self.new)) }

@@ -16,6 +16,7 @@ pub struct SureSource {
     bytes: Vec<u8>,
     at: usize,
     given: u64,
+    calls: u64,
 }
 
 impl Model for SureSource {
@@ -24,7 +25,7 @@ impl Model for SureSource {
 
     ghost Value = { View };
 
-    ghost view = { λ s. record { left = drop s.at s.bytes.items; given = s.given } };
+    ghost view = { λ s. record { left = drop s.at s.bytes.items; given = s.given; calls = s.calls } };
 
     ghost invariant = { λ s. s.at ≤ length s.bytes.items };
 }
@@ -38,6 +39,7 @@ impl SureSource {
             bytes,
             at: 0,
             given: 0,
+            calls: 0,
         }
     }
 }
@@ -46,6 +48,8 @@ impl Source for SureSource {
     ghost rest = { λ s. Some s.left };
 
     ghost given = { λ s. s.given };
+
+    ghost calls = { λ s. s.calls };
 
     ghost faults = { λ _. 0 };
 
@@ -59,6 +63,7 @@ impl Source for SureSource {
         hand(&self.bytes[self.at..], n, buf);
         self.at += n;
         self.given = self.given.saturating_add(n as u64);
+        self.calls = self.calls.saturating_add(1);
         Ok(n)
     }
 }
@@ -106,6 +111,8 @@ impl Source for MemSource {
 
     ghost given = { λ s. s.given };
 
+    ghost calls = { λ s. s.schedule.call };
+
     ghost faults = { λ s. s.schedule.faults };
 
     fn take(&mut self, buf: &mut [u8]) -> Result<usize, Failed>
@@ -136,6 +143,7 @@ pub struct LoopSource {
     piece: Vec<u8>,
     at: usize,
     given: u64,
+    calls: u64,
 }
 
 impl Model for LoopSource {
@@ -144,7 +152,7 @@ impl Model for LoopSource {
 
     ghost Value = { View };
 
-    ghost view = { λ s. record { piece = s.piece.items; at = s.at; given = s.given } };
+    ghost view = { λ s. record { piece = s.piece.items; at = s.at; given = s.given; calls = s.calls } };
 
     ghost invariant = { λ s. s.at < length s.piece.items };
 }
@@ -159,6 +167,7 @@ impl LoopSource {
             piece,
             at: 0,
             given: 0,
+            calls: 0,
         }
     }
 }
@@ -167,6 +176,8 @@ impl Source for LoopSource {
     ghost rest = { λ _. None };
 
     ghost given = { λ s. s.given };
+
+    ghost calls = { λ s. s.calls };
 
     ghost faults = { λ _. 0 };
 
@@ -178,6 +189,7 @@ impl Source for LoopSource {
     {
         self.at = fill_over(&self.piece, self.at, buf);
         self.given = self.given.saturating_add(buf.len() as u64);
+        self.calls = self.calls.saturating_add(1);
         Ok(buf.len())
     }
 }

@@ -1,4 +1,4 @@
--- Two runs of entries that change places: where each number goes, and the entries afterwards.
+-- Two runs of entries that change places: the partner of each number, and the entries afterwards.
 use Rattle.std.proofs.Common.{◌≡◌, ℕ, true, false, ◌+◌, ◌-◌, ◌<◌, ◌≤◌, List, length, get_or, arith, sym, ◌∙◌, inl, inr, ap, refl}
 use Rattle.std.specs.Prelude.{◌⊎◌, nat_le, nat_lt}
 use Rattle.std.proofs.lemmas.List.FromFn.{length-map-range_with_len, get_or-map-range_with_len}
@@ -16,7 +16,7 @@ among_no : (a n v : ℕ) → ((v < a) ⊎ (a + n ≤ v)) → is_among a n v ≡ 
 among_no a n v (inl l) = (let x : nat_le a v ≡ false = grind (arith, nat_tests) in rw x refl)
 among_no a n v (inr h) = (let y : nat_lt v (a + n) ≡ false = grind (arith, nat_tests) in rw y (and_false (nat_le a v)))
 
--- two runs of n numbers that have none in common
+-- two runs of n numbers without a common number
 module _ (a b n : ℕ) (apart : (a + n ≤ b) ⊎ (b + n ≤ a)) where
   pub partner_first : (v : ℕ) → a ≤ v → v < a + n → partner a b n v ≡ b + (v - a)
   partner_first v l h = (let x = among_yes a n v l h in rw x refl)
@@ -30,7 +30,7 @@ module _ (a b n : ℕ) (apart : (a + n ≤ b) ⊎ (b + n ≤ a)) where
   pub partner_else : (v : ℕ) → ((v < a) ⊎ (a + n ≤ v)) → ((v < b) ⊎ (b + n ≤ v)) → partner a b n v ≡ v
   partner_else v p q = (let x = among_no a n v p in let y = among_no b n v q in rw (x, y) refl)
 
-  -- where a number stands
+  -- whether a number is in the first run, in the second, or in neither
   data Where (v : ℕ) : Type 0 where
     first : a ≤ v → v < a + n → partner a b n v ≡ b + (v - a) → Where v
     second : b ≤ v → v < b + n → partner a b n v ≡ a + (v - b) → Where v
@@ -74,7 +74,7 @@ module _ (xs : List ℕ) (a b n : ℕ) where
   unfolding exchanged
   get_or-exchanged v lt = get_or-map-range_with_len (λ v. get_or xs (partner a b n v) 0) 0 (length xs) v v 0 lt (omega arith)
 
--- the entries of two runs that changed places
+-- the entries of a list after two of its runs changed places
 module _ (xs : List ℕ) (a b n : ℕ) (apart : (a + n ≤ b) ⊎ (b + n ≤ a)) (at_a : a + n ≤ length xs) (at_b : b + n ≤ length xs) where
   pub exchanged_at_a : (k : ℕ) → k < n → get_or (exchanged xs a b n) (a + k) 0 ≡ get_or xs (b + k) 0
   exchanged_at_a k lt = get_or-exchanged xs a b n (a + k) (omega arith)
@@ -90,7 +90,7 @@ module _ (xs : List ℕ) (a b n : ℕ) (apart : (a + n ≤ b) ⊎ (b + n ≤ a))
     | inr past ↦ get_or_past (exchanged xs a b n) w 0 (let e = length-exchanged xs a b n in omega arith) ∙ sym (get_or_past xs w 0 past)
   ]
 
-  -- a list of the same length with those entries is the exchanged one
+  -- a list of the same length with these entries is the exchanged list
   pub exchanged_is : (ys : List ℕ) → length ys ≡ length xs
       → ((k : ℕ) → k < n → get_or ys (a + k) 0 ≡ get_or xs (b + k) 0)
       → ((k : ℕ) → k < n → get_or ys (b + k) 0 ≡ get_or xs (a + k) 0)

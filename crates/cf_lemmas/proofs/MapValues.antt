@@ -1,4 +1,4 @@
--- Maps with a function of each value.
+-- Maps with a function applied to each value.
 use Rattle.std.proofs.Common.{◌≡◌, ℕ, true, false, cond, List, [], ◌∷◌, Some, map, sym, ◌∙◌, subst, ap, refl, inl, inr}
 use Rattle.std.specs.Prelude.{T, ◌&&◌, option_map}
 use Rattle.std.proofs.lemmas.Bool.{cases_eq}
@@ -28,7 +28,6 @@ module _ {X Y : Type 0} (f : X → Y) where
       get-from_sorted nat_cmp _ q (subst T (sym (sorted_map (entries m))) (entries_sorted m))
       ∙ find_map q (entries m) ∙ ap (option_map f) (sym (get-entries m q))
 
--- f of each value, after an insertion
 pub map_values-insert : {X Y : Type 0} (f : X → Y) (m : FinMap nat_cmp X) (h : ℕ) (x : X) → map_values f (insert m h x) ≡ insert (map_values f m) h (f x)
 map_values-insert f m h x = equal_maps _ _ (λ q. elim (cases_eq q h) [
   | inl is ↦ rw is (get-map_values f (insert m h x) h ∙ ap (option_map f) (get_inserted m h x) ∙ sym (get_inserted (map_values f m) h (f x)))
@@ -36,7 +35,6 @@ map_values-insert f m h x = equal_maps _ _ (λ q. elim (cases_eq q h) [
       ∙ sym (get_insert_other (map_values f m) h (f x) q ne)
 ])
 
--- f of each value, after a removal
 pub map_values-remove : {X Y : Type 0} (f : X → Y) (m : FinMap nat_cmp X) (h : ℕ) → map_values f (remove m h) ≡ remove (map_values f m) h
 map_values-remove f m h = equal_maps _ _ (λ q. elim (cases_eq q h) [
   | inl is ↦ rw is (get-map_values f (remove m h) h ∙ ap (option_map f) (get_removed m h) ∙ sym (get_removed (map_values f m) h))

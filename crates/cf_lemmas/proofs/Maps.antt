@@ -1,4 +1,4 @@
--- Finite maps under numbers, by keys that are equal or not.
+-- Lookups in finite maps by number, by whether the keys are equal.
 use Rattle.std.proofs.Common.{◌≡◌, ◌≢◌, ℕ, true, false, cond, ◌+◌, ◌-◌, Some, None, sym, ◌∙◌, ap, refl, arith, inl, inr}
 use Rattle.std.specs.Option.{is_some}
 use Rattle.std.specs.Prelude.{◌⊎◌}
@@ -36,7 +36,7 @@ module _ {V : Type 0} (m : FinMap nat_cmp V) (h : ℕ) where
   pub len_gone : (w : V) → get m h ≡ Some w → len (remove m h) ≡ len m - 1
   len_gone w some = len-remove nat_cmp_total m h ∙ ap (λ o. cond (is_some o) (len m - 1) (len m)) some
 
--- maps that answer alike are equal
+-- maps with the same lookups are equal
 pub equal_maps : {V : Type 0} (m n : FinMap nat_cmp V) → ((q : ℕ) → get m q ≡ get n q) → m ≡ n
 equal_maps m n is = same_map nat_cmp_total nat_cmp-IsAntisymmetric m n is
 

@@ -22,7 +22,7 @@ module _ {X : Type 0} where
   numbered_from k (Some x ∷ xs) zero q is = (let e : q ≡ k = omega arith in rw e (get_inserted (numbered (k + 1) xs) k x))
   numbered_from k (Some x ∷ xs) (suc i) q is = get_insert_other (numbered (k + 1) xs) k x q (omega arith) ∙ numbered_from (k + 1) xs i q (omega arith)
 
-  -- what the map has at a number stands in the list
+  -- a lookup in the map is a lookup in the list
   pub get-numbered : (xs : List (Option X)) (q : ℕ) → get (numbered 0 xs) q ≡ get_or xs q None
   get-numbered xs q = numbered_from 0 xs q q (omega arith)
 
@@ -48,7 +48,7 @@ module _ {X : Type 0} where
       let e : count_by is_some (Some x ∷ xs) ≡ 1 + count_by is_some xs = sum_by-cons (λ (o : Option X). cond (is_some o) 1 0) (Some x) xs in
       omega (arith, len-numbered (k + 1) xs, len_fresh (numbered (k + 1) xs) k x (numbered_below (k + 1) xs k (omega arith)))
 
-  -- a number that is live stands in the list
+  -- the number of a live entry is below the list's length
   pub numbered_live : (xs : List (Option X)) (h : ℕ) → IsSome (get (numbered 0 xs) h) → h < length xs
   numbered_live xs h live = elim (cases_lt h (length xs)) [
     | inl lt ↦ lt

@@ -1,4 +1,4 @@
--- Lists that have each number below their length once.
+-- Lists that contain each number below their length once.
 use Rattle.std.proofs.Common.{◌≡◌, ◌≢◌, ℕ, zero, suc, ◌+◌, ◌<◌, ◌≤◌, ◌⊎◌, inl, inr, List, length, slice_index, get_or, min, max}
 use Rattle.std.proofs.Common.{arith, sym, subst, ◌∙◌, eqb, eq-eqb, false, zero-add}
 use Rattle.std.proofs.lemmas.Bool.{eqb-false, ne_eqb, cases_eq, cases_order}
@@ -29,7 +29,7 @@ test_turned x y = elim (cases_eq x y) [
 ]
 
 module _ (xs : List ℕ) (n : ℕ) (long : length xs ≡ n) (p : IsPermutation (range_with_len 0 n) xs) where
-  -- each entry is below the length
+  -- each entry is below the list's length
   pub entry_below : (v : ℕ) → v < n → slice_index xs v < n
   entry_below v lt =
       let all : (k d : ℕ) → k < length (range_with_len 0 n) → get_or (range_with_len 0 n) k d < n = λ k d l.
@@ -60,17 +60,17 @@ module _ (xs : List ℕ) (n : ℕ) (long : length xs ≡ n) (p : IsPermutation (
       let within = found.1 in
       (found.0, omega arith, sym (get_or_default_zero xs found.0 b found.1) ∙ found.2)
 
--- the numbers themselves
+-- the numbers in order are a permutation
 pub range_permuted : (n : ℕ) → IsPermutation (range_with_len 0 (length (range_with_len 0 n))) (range_with_len 0 n)
 range_permuted n = subst (λ (k : ℕ). IsPermutation (range_with_len 0 k) (range_with_len 0 n)) (sym (length-range_with_len 0 n)) (IsPermutation-refl _)
 
--- an exchange of two runs leaves the same entries in another order
+-- exchanging two runs permutes the entries
 pub exchanged_permutation : (s : List ℕ) (a b n : ℕ) → (a + n ≤ b) ⊎ (b + n ≤ a) → a + n ≤ length s → b + n ≤ length s
     → IsPermutation s (exchanged s a b n)
 exchanged_permutation s a b n apart at_a at_b =
     rw (← swapped_is s a b n apart at_a at_b) (swapped_permutation s (min a b) (max a b) n (elim apart [ inl l ↦ omega arith | inr l ↦ omega arith ]))
 
--- so each number still stands there once
+-- so a permutation of the numbers stays one
 pub exchanged_permuted : (s : List ℕ) (a b n : ℕ) → (a + n ≤ b) ⊎ (b + n ≤ a) → a + n ≤ length s → b + n ≤ length s
     → IsPermutation (range_with_len 0 (length s)) s → IsPermutation (range_with_len 0 (length (exchanged s a b n))) (exchanged s a b n)
 exchanged_permuted s a b n apart at_a at_b p =

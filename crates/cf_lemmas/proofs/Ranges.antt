@@ -1,4 +1,4 @@
--- Counts and sums over a range: where the test changes at one number, where it passes, and what a sum is at least.
+-- Counts and sums over a range: if the test changes at one number, at which numbers it passes, and lower bounds of a sum.
 use Rattle.std.proofs.Common.{◌≡◌, ◌≢◌, ℕ, zero, suc, Bool, cond, ◌+◌, ◌<◌, ◌≤◌, List, [], ◌∷◌, arith, ap, refl, inl, inr}
 use Rattle.std.specs.Prelude.{count_by, sum_by}
 use Rattle.std.specs.List.{range_with_len}
@@ -6,7 +6,7 @@ use Rattle.std.proofs.lemmas.List.FromFn.{length-range_with_len}
 use Rattle.std.proofs.lemmas.List.Sums.{count_by-le-length, sum_by-cons}
 use Rattle.std.proofs.lemmas.Bool.{cases_eq}
 
--- 1 where the test passes
+-- 1 if the test passes, else 0
 abbrev pub one : Bool → ℕ
 one b = cond b 1 0
 
@@ -40,11 +40,11 @@ module _ (f g : ℕ → Bool) where
             omega arith)
       ]
 
--- no more of n numbers pass a test than there are
+-- at most n of n numbers pass a test
 pub count_at_most : (f : ℕ → Bool) (a n : ℕ) → count_by f (range_with_len a n) ≤ n
 count_at_most f a n = rw (length-range_with_len a n) at (count_by-le-length f (range_with_len a n))
 
--- a number of the range that passes is counted
+-- if a number of the range passes, the count isn't 0
 pub some_in_range : (f : ℕ → Bool) (a n d : ℕ) → a ≤ d → d < a + n → one (f d) ≡ 1 → 0 < count_by f (range_with_len a n)
 some_in_range f a zero d low high is = absurd (omega arith)
 some_in_range f a (suc n) d low high is =

@@ -15,7 +15,7 @@ module _ {V : Type 0} where
     pub all : (h : ℕ) (v : V) → get m h ≡ Some v → (id : ℕ) × (get ids id ≡ Some h) × (get n id ≡ Some v)
     pub once : (id other h : ℕ) → get ids id ≡ Some h → get ids other ≡ Some h → other ≡ id
 
-  -- they count alike, and each sum over their values is the same
+  -- they have the same number of keys, and each sum over their values is the same
   pub record CountAlike (m n : FinMap nat_cmp V) : Type 0 where
     pub count : len n ≡ len m
     pub sums : (f : V → ℕ) → sum_by f (values n) ≡ sum_by f (values m)
@@ -32,7 +32,7 @@ module _ {V : Type 0} where
     number : (h : ℕ) × (get ids id ≡ Some h) × (get m h ≡ Some v)
     number = r.found id v (get_inserted n id v)
 
-    -- without the id and its number
+    -- what remains after removing the id and its number
     fewer : AreRenamed (remove ids id) (remove m number.0) n
     fewer = record {
       found = λ q w e. elim (cases_eq q id) [

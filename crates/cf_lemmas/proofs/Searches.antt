@@ -1,4 +1,4 @@
--- Searches below a bound, and maps that have no more keys than there are numbers.
+-- Searches below a bound, and maps whose keys are below a bound.
 use Rattle.std.proofs.Common.{◌≡◌, ◌≢◌, ℕ, zero, suc, true, false, Bool, ◌+◌, ◌<◌, ◌≤◌, Option, Some, None, arith, sym, ◌∙◌, ap, refl, inl, inr}
 use Rattle.std.specs.Prelude.{◌⊎◌, count_by}
 use Rattle.std.specs.List.{range_with_len}
@@ -10,7 +10,7 @@ use Rattle.cf_lemmas.proofs.Maps.{equal_maps, some_removed, get_removed, get_rem
 use Rattle.cf_lemmas.proofs.Ranges.{one}
 use Rattle.cf_lemmas.proofs.Sums.{put_back}
 
--- either all numbers below n are of the one sort, or one is of the other
+-- either A holds of each number below n, or B of one of them
 pub search_below : (A B : ℕ → Type 0) → ((k : ℕ) → A k ⊎ B k) → (n : ℕ) → ((k : ℕ) → k < n → A k) ⊎ ((k : ℕ) × (k < n) × B k)
 search_below A B test zero = inl (λ k lt. absurd (omega arith))
 search_below A B test (suc n) = elim (search_below A B test n) [
@@ -24,7 +24,7 @@ search_below A B test (suc n) = elim (search_below A B test n) [
   ]
 ]
 
--- where a test counts in a range, it passes somewhere
+-- if the count over a range isn't 0, the test passes at one of its numbers
 pub counted_in_range : (f : ℕ → Bool) (a n : ℕ) → 0 < count_by f (range_with_len a n) → (d : ℕ) × (a ≤ d) × (d < a + n) × (f d ≡ true)
 counted_in_range f a zero some = absurd (omega arith)
 counted_in_range f a (suc n) some = (
@@ -39,7 +39,7 @@ counted_in_range f a (suc n) some = (
     go false e rest some = (let r = rest (omega arith) in (r.0, omega (arith, r.1), omega (arith, r.2), r.3))
 
 module _ {V : Type 0} where
-  -- a key is there or not
+  -- a key is in the map or not
   pub there_or_not : (m : FinMap nat_cmp V) (h : ℕ) → ((x : V) × (get m h ≡ Some x)) ⊎ (get m h ≡ None)
   there_or_not m h = go (get m h)
     where
@@ -47,11 +47,11 @@ module _ {V : Type 0} where
       go None = inr refl
       go (Some x) = inl (x, refl)
 
-  -- one key less
+  -- removing a key lowers the count by one
   pub len_without : (m : FinMap nat_cmp V) (h : ℕ) (x : V) → get m h ≡ Some x → len m ≡ len (remove m h) + 1
   len_without m h x some = ap len (sym (put_back m h x some)) ∙ len_fresh (remove m h) h x (get_removed m h)
 
-  -- where all numbers below n are keys, there are as many keys
+  -- if every number below n is a key, there are at least n keys
   pub keys_below : (n : ℕ) (m : FinMap nat_cmp V) → ((h : ℕ) → h < n → (x : V) × (get m h ≡ Some x)) → n ≤ len m
   keys_below zero m all = omega arith
   keys_below (suc n) m all =
@@ -60,7 +60,7 @@ module _ {V : Type 0} where
       let rest = keys_below n (remove m n) (λ h lt. ((all h (omega arith)).0, get_remove_other m n h (omega arith) ∙ (all h (omega arith)).1)) in
       omega arith
 
-  -- no more keys than there are numbers below n
+  -- if every key is below n, there are at most n keys
   pub few_keys : (n : ℕ) (m : FinMap nat_cmp V) → ((h : ℕ) (x : V) → get m h ≡ Some x → h < n) → len m ≤ n
   few_keys zero m below =
       let e : m ≡ empty = equal_maps m empty (λ h. elim (there_or_not m h) [
@@ -80,7 +80,7 @@ module _ {V : Type 0} where
       lower : (h : ℕ) → h < suc n → h ≢ n → h < n
       lower h b ne = omega arith
 
-  -- a number that isn't in use
+  -- with fewer than n keys, a number below n isn't a key
   pub fresh_key : (n : ℕ) (m : FinMap nat_cmp V) → len m < n → (h : ℕ) × (h < n) × (get m h ≡ None)
   fresh_key n m few = elim (search_below (λ h. (x : V) × (get m h ≡ Some x)) (λ h. get m h ≡ None) (there_or_not m) n) [
     | inl all ↦ absurd (let l = keys_below n m all in omega arith)

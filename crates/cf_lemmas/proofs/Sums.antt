@@ -11,14 +11,14 @@ use Rattle.std.specs.FinMap.{FinMap, get, insert, remove, values, entries, entri
 use Rattle.std.specs.FinMap.Entries.{put, by_order}
 use Rattle.cf_lemmas.proofs.Maps.{get_inserted, get_insert_other, get_removed, get_remove_other, equal_maps}
 
--- to insert again what was removed
+-- removing a key and inserting it again changes nothing
 pub put_back : {V : Type 0} (m : FinMap nat_cmp V) (k : ℕ) (v : V) → get m k ≡ Some v → insert (remove m k) k v ≡ m
 put_back m k v some = equal_maps _ _ (λ q. elim (cases_eq q k) [
   | inl is ↦ rw is (get_inserted (remove m k) k v ∙ sym some)
   | inr ne ↦ get_insert_other (remove m k) k v q ne ∙ get_remove_other m k q ne
 ])
 
--- an insertion over what is there is a removal and an insertion
+-- inserting over a key equals removing it first and then inserting
 pub insert_again : {V : Type 0} (m : FinMap nat_cmp V) (k : ℕ) (v : V) → insert (remove m k) k v ≡ insert m k v
 insert_again m k v = equal_maps _ _ (λ q. elim (cases_eq q k) [
   | inl is ↦ rw is (get_inserted (remove m k) k v ∙ sym (get_inserted m k v))

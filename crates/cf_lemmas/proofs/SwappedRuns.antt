@@ -1,4 +1,4 @@
--- Two runs that changed places as pieces of the list are exchanged entry by entry.
+-- Swapping two runs as segments of a list exchanges them entry by entry.
 use Rattle.std.proofs.Common.{◌≡◌, ℕ, ◌+◌, ◌-◌, ◌<◌, ◌≤◌, ◌⊎◌, inl, inr, List, ◌++◌, length, drop, slice_index}
 use Rattle.std.proofs.Common.{min, max, arith, ap, ◌∙◌}
 use Rattle.std.proofs.lemmas.List.{length-take-le, length-drop, get_or_append_left, get_or-append_right, get_or-take, get_or-drop}
@@ -7,7 +7,7 @@ use Rattle.cf_lemmas.specs.Exchanges.{exchanged}
 use Rattle.cf_lemmas.proofs.Exchanges.{exchanged_is}
 use Rattle.cf_lemmas.proofs.Swapping.{swapped, before, first, between, second, behind, swapped_permutation}
 
--- two runs have changed places, the first of them at i
+-- the two runs have changed places; the first begins at i
 module _ (s : List ℕ) (i j n : ℕ) (low : i + n ≤ j) (within : j + n ≤ length s) where
   abbrev A : List ℕ
   A = before s i j n low
@@ -84,7 +84,7 @@ module _ (s : List ℕ) (i j n : ℕ) (low : i + n ≤ j) (within : j + n ≤ le
   swapped_long : length (swapped s i j n) ≡ length s
   swapped_long = length_permutation _ _ (swapped_permutation s i j n low)
 
--- the two runs in either order
+-- the same with the two runs in either order
 pub swapped_is : (s : List ℕ) (a b n : ℕ) → (a + n ≤ b) ⊎ (b + n ≤ a) → a + n ≤ length s → b + n ≤ length s
     → swapped s (min a b) (max a b) n ≡ exchanged s a b n
 swapped_is s a b n (inl l) at_a at_b = (

@@ -1,4 +1,4 @@
--- Tests on numbers, where they pass and where they fail.
+-- When tests on numbers pass, and when they fail.
 use Rattle.std.proofs.Common.{◌≡◌, ◌≢◌, ℕ, Bool, true, false, ◌<◌, ◌≤◌, refl}
 use Rattle.std.specs.Prelude.{◌&&◌, nat_eq, nat_le, nat_lt}
 use Rattle.std.proofs.lemmas.Bool.{eq-eqb, ne_eqb, lt-ltb, le-ltb, le-leb, lt-leb}
@@ -21,7 +21,6 @@ lt_yes a b lt = lt-ltb a b lt
 pub lt_no : (a b : ℕ) → b ≤ a → nat_lt a b ≡ false
 lt_no a b le = le-ltb a b le
 
--- the second test fails
 pub and_false : (b : Bool) → (b && false) ≡ false
 and_false true = refl
 and_false false = refl

@@ -10,15 +10,13 @@ use Rattle.cf_lemmas.proofs.MapValues.{get-map_values, map_values-insert}
 use Rattle.cf_lemmas.proofs.Sums.{sum_by-inserted}
 use Rattle.cf_lemmas.proofs.Induction.{map_induction}
 
--- the empty map has no values
 pub no_values : {V : Type 0} → values (empty {X = V} {R = nat_cmp}) ≡ []
 no_values {V} = ap (map (λ e. e.1)) (nil_from_length _ (sym (len-entries (empty {X = V} {R = nat_cmp})) ∙ len-empty nat_cmp V))
 
--- f of no values
 pub map_values-empty : {X Y : Type 0} (f : X → Y) → map_values f (empty {R = nat_cmp}) ≡ empty {R = nat_cmp}
 map_values-empty f = equal_maps _ _ (λ q. get-map_values f (empty {R = nat_cmp}) q ∙ ap (option_map f) (get-empty nat_cmp q) ∙ sym (get-empty nat_cmp q))
 
--- as many values, whatever is taken of each
+-- the number of values stays the same
 pub len-map_values : {X Y : Type 0} (f : X → Y) (m : FinMap nat_cmp X) → len (map_values f m) ≡ len m
 len-map_values {X} {Y} f = map_induction (λ m. len (map_values f m) ≡ len m)
     (ap len (map_values-empty f) ∙ len-empty nat_cmp Y ∙ sym (len-empty nat_cmp X))
@@ -29,14 +27,14 @@ len-map_values {X} {Y} f = map_induction (λ m. len (map_values f m) ≡ len m)
     let c : len (map_values f (insert m h x)) ≡ len (insert (map_values f m) h (f x)) = ap len (map_values-insert f m h x) in
     omega arith))
 
--- what is there has another key than one that comes, and stays
+-- inserting a new key leaves every other key and its value
 pub still : {V : Type 0} (m : FinMap nat_cmp V) (h : ℕ) (x : V) → get m h ≡ None → (q : ℕ) (y : V) → get m q ≡ Some y
     → (q ≢ h) × (get (insert m h x) q ≡ Some y)
 still m h x none q y p =
     let ne : q ≢ h = (λ e. (let p' : get m h ≡ Some y = rw e at p in absurd (let z : Some y ≡ None = sym p' ∙ none in cc))) in
     (ne, get_insert_other m h x q ne ∙ p)
 
--- no value above the limit: a sum is at most the limit for each
+-- if each value is at most the limit, their sum is at most the limit times the number of keys
 pub sum_at_most : {V : Type 0} (f : V → ℕ) (limit : ℕ) (m : FinMap nat_cmp V) → ((q : ℕ) (v : V) → get m q ≡ Some v → f v ≤ limit)
     → sum_by f (values m) ≤ limit * len m
 sum_at_most {V} f limit = map_induction (λ m. ((q : ℕ) (v : V) → get m q ≡ Some v → f v ≤ limit) → sum_by f (values m) ≤ limit * len m)

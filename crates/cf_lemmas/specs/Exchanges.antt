@@ -6,10 +6,10 @@ use Rattle.std.specs.List.{range_with_len}
 abbrev pub is_among : ℕ → ℕ → ℕ → Bool
 is_among a n v = nat_le a v && nat_lt v (a + n)
 
--- where v goes where the n numbers from a on change places with those from b on, pair by pair
+-- the number that v becomes if the n numbers from a on change places with those from b on, pair by pair; others stay
 abbrev pub partner : ℕ → ℕ → ℕ → ℕ → ℕ
 partner a b n v = if is_among a n v then b + (v - a) else (if is_among b n v then a + (v - b) else v)
 
--- the n entries from a on have changed places with those from b on, pair by pair
+-- the list after the n entries from a on changed places with those from b on, pair by pair
 unfoldable pub exchanged : List ℕ → ℕ → ℕ → ℕ → List ℕ
 exchanged xs a b n = map (λ v. slice_index xs (partner a b n v)) (range_with_len 0 (length xs))

@@ -3,16 +3,16 @@ use Rattle.std.specs.Prelude.{ℕ, ◌+◌, List, [], ◌∷◌, Option, Some, N
 use Rattle.std.specs.Ordering.{nat_cmp}
 use Rattle.std.specs.FinMap.{FinMap, empty, insert, from_sorted, entries}
 
--- the same keys, with f of each value
+-- the same keys, with f applied to each value
 unfoldable pub map_values : {X Y : Type 0} → (X → Y) → FinMap nat_cmp X → FinMap nat_cmp Y
 map_values f m = from_sorted (map (λ e. (e.0, f e.1)) (entries m))
 
--- the values that are there, by their numbers in the list, from k on
+-- the map of the list's values under their positions, counted from k
 abbrev pub numbered : {X : Type 0} → ℕ → List (Option X) → FinMap nat_cmp X
 numbered k [] = empty
 numbered k (None ∷ xs) = numbered (k + 1) xs
 numbered k (Some x ∷ xs) = insert (numbered (k + 1) xs) k x
 
--- n values, none of which is there
+-- n entries without a value
 abbrev pub vacant : {X : Type 0} → ℕ → List (Option X)
 vacant n = replicate n None

@@ -1,2 +1,2 @@
-//! Lemmas on finite maps by number, on sums and counts over them, and on ranges. It has no code.
+//! Lemmas on finite maps by number, on sums and counts over them, and on ranges. No code.
 #![tactic(auto)]

@@ -18,6 +18,6 @@ lawful NonMoving = (336, tlsf_lawful)
 lawful Tlsf = (336, tlsf_lawful)
 lawful HalfFit = (24, half_fit_lawful)
 
--- what fits a page needs few words of a block
+-- a request that fits a page needs at most `2^23` words of a block
 pub need_is_small : (p : Profile) (ok : AreInRange p) (n : ℕ) → need n ≤ p.page_words → block_need n ≤ 2 ^ 23
 need_is_small p ok n fits = (let most = (page_size p.page_words ok.page_size).small in omega arith)

@@ -1,4 +1,4 @@
--- The blocks of the objects that a free or a resize leaves.
+-- The blocks of the other objects after a free or a resize.
 use Rattle.std.proofs.Common.{◌≡◌, ◌≢◌, ℕ, ◌+◌, ◌*◌, ◌/◌, ◌%◌, ◌<◌, List, Some, length, get_or, arith, sym, ◌∙◌, subst, ap, refl}
 use Rattle.std.specs.Prelude.{option_map}
 use Rattle.std.proofs.lemmas.Option.{same_Some as some_equal, same_Some as placed_equal}
@@ -19,7 +19,7 @@ use Rattle.cf_model.specs.State.{HeapState, paging_in, layout_of}
 use Rattle.cf_model.specs.Rules.{KeepsRules, KeepsRulesOf}
 use Rattle.cf_model.specs.Steps.{FreesObject, ResizesObject, BlocksStay, MovesIn, frames_left, leaves_of, number_of}
 
--- what the non-moving manager keeps
+-- the rules of the non-moving manager that this file uses
 record Framed (s : HeapState) : Type 0 where
   paging : IsPaging (paging_in s)
   blocks : AreBlocks (paging_in s)
@@ -59,7 +59,7 @@ module _ (old new : HeapState) (o : Framed old) (n : Framed new) (same : paging_
       let b'' : get_or after (4 * block_of old.frames x.place i + j) 0 ≡ object_word q y.bytes (4 * i + j) = rw stay at b' in
       b'' ∙ ap (λ v. object_word q v (4 * i + j)) bytes ∙ sym a'
 
--- objects that are the same in both have the same bytes
+-- the bytes of an object in `objects`
 bytes_of : (m : Held) (q : ℕ) (x : Placed) → get m q ≡ Some x → get (objects m) q ≡ Some x.bytes
 bytes_of m q x e = get-map_values (λ (z : Placed). z.bytes) m q ∙ ap (option_map (λ (z : Placed). z.bytes)) e
 
@@ -107,7 +107,7 @@ blocks_after_resize old asked done new is before after f =
           words_stay old new o n same q x y e g bytes before after ph ph' i j lt low (stay q x y ne e g i lt);
     }
 
--- where nothing but the cost changes, no block does
+-- if only the cost changes, no block does
 pub blocks_after_refusal : (old : HeapState) (h : ℕ) (new : HeapState) → new ≡ record old { cost = new.cost } → old.kind ≡ NonMoving → KeepsRules old
     → KeepsRules new → BlocksStay old h new
 blocks_after_refusal old h new whole is before after =

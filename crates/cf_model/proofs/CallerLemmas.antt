@@ -1,4 +1,4 @@
--- What upper crates may cite, passed on from one address. Declares nothing.
+-- What other crates' proofs may cite, re-exported. Declares nothing.
 pub use Rattle.cf_model.proofs.BlockNeeds.{lawful, need_is_small}
 pub use Rattle.cf_model.proofs.Blocks.{blocks_after_free, blocks_after_refusal, blocks_after_resize}
 pub use Rattle.cf_model.proofs.EmptyHeaps.{empty_there, tiled_empty}

@@ -1,4 +1,4 @@
--- The state in which opening leaves a manager keeps the rules.
+-- The state after opening a manager keeps the rules.
 use Rattle.std.proofs.Common.{◌≡◌, ℕ, zero, suc, true, false, ◌+◌, ◌*◌, ◌/◌, ◌-◌, ◌≤◌, List, [], ◌∷◌, Option, Some, None, length, get_or, replicate, arith, sym}
 use Rattle.std.proofs.Common.{◌∙◌, inl, inr, ap, refl}
 use Rattle.std.specs.Prelude.{nat_eq}
@@ -34,7 +34,7 @@ no_objects s none = record {
   few = (let e : len s.held ≡ 0 = ap (λ m. len m) none ∙ len-empty nat_cmp Placed in omega arith);
 }
 
--- no kind with blocks has a block table
+-- the kinds with blocks have no block table
 no_table : (k : Kind) (p : Profile) → IsTiled k → opening_frames k p ≡ []
 no_table Moving p is = refl
 no_table NonMoving p is = (let e : paged ≡ tiled = is in cc)
@@ -71,7 +71,7 @@ module _ (p : Profile) (ok : AreInRange p) where
       let h : p.pages * p.page_words ≡ 4 * (p.pages * (p.page_words / 4)) = omega arith in
       omega arith
 
-  -- the table of an empty heap
+  -- the block table of an empty heap
   first_table : (k : Kind) → KeepsTable k (empty_heap k p (replicate (region_words p) 0))
   first_table Moving = refl
   first_table NonMoving = record {
@@ -99,7 +99,7 @@ module _ (p : Profile) (ok : AreInRange p) where
       let c = mul-le 1 4 p.pages p.page_words some (omega arith) in
       omega arith
 
-  -- one free block: its header, an open word, and zeros
+  -- words of one free block: its header, any word, and zeros
   module _ (words : List ℕ) (count : length words ≡ region_words p) (header : get_or words 0 0 ≡ region_words p) (zeros : (w : ℕ) → 2 ≤ w
       → get_or words w 0 ≡ 0) where
     only_block : (a : ℕ) (b : Block) → block_at (one_free_block (region_words p)) a ≡ Some b → (a ≡ 0) × (b.owner ≡ None)
@@ -156,7 +156,7 @@ module _ (p : Profile) (ok : AreInRange p) where
     | inr past ↦ (let len = length-replicate {A = ℕ} (region_words p - 1) 0 in get_or_past {X = ℕ} (replicate (region_words p - 1) 0) w 0 (omega arith))
   ]
 
-  -- a manager of each kind can be opened
+  -- for each kind there are words with which an empty heap keeps the rules
   pub empty_there : (k : Kind) → (words : List ℕ) × IsOpeningWords k p words × KeepsRules (empty_heap k p words)
   empty_there k = by_family (family_of k) refl
     where

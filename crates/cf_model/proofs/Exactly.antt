@@ -1,4 +1,4 @@
--- Each answer excludes every other one.
+-- Each result of a call excludes every other one.
 use Rattle.std.proofs.Common.{◌≡◌, ℕ, ◌+◌, ◌<◌, ◌≤◌, Some, None, length, arith, sym, ◌∙◌, subst, inl, inr, ap, refl}
 use Rattle.std.specs.Prelude.{nat_lt, ◌&&◌}
 use Rattle.std.specs.FinMap.{get}
@@ -30,7 +30,7 @@ module _ (p : Paging) (m : Held) (n a : ℕ) (free : IsFreePlace p m n a) (lacki
       (slots_of p (class_for p n))) 0 p.pages (page_of p a) (omega arith) (let h = free.slot.page in omega arith)
       (part_yes (objects_on p m (class_for p n) (page_of p a)) (slots_of p (class_for p n)) some less)
 
-  -- where an object may be placed there is room
+  -- if there is a free place, the class has a slot left
   place_is_room : ⊥
   place_is_room = elim free.choice [
     | inl (some, less) ↦ (let q = not_none some less in let full = lacking.full in omega arith)
@@ -48,13 +48,13 @@ placed_is_room k old new asked place placed lacking = by_family (family_of k) re
         let none : LacksBlock (free_lists_of k) old.tiling (block_need asked.length) = rw (is, LacksRoomIn) at lacking in
         none place carves.found carves.there carves.serves
 
--- a malloc that gives an object has no cause for a refusal
+-- a malloc that succeeds has no cause for a refusal
 pub given_is_not_refused : (old new : HeapState) (asked : Request) → GivesObject old asked new → (e : Refusal) → IsRefusedBy old asked.length e → ⊥
 given_is_not_refused old new asked given refusal.Size cause = (let fits = given.fits in omega arith)
 given_is_not_refused old new asked given refusal.Proxy cause = (let few = given.few in let all = cause.all in omega arith)
 given_is_not_refused old new asked given refusal.Space cause = placed_is_room old.kind old new asked given.place given.placed cause.lacking
 
--- a malloc has one cause of refusal at most
+-- a malloc has at most one cause for a refusal
 pub one_cause : (s : HeapState) (bytes : ℕ) (e f : Refusal) → IsRefusedBy s bytes e → IsRefusedBy s bytes f → e ≡ f
 one_cause s bytes refusal.Size refusal.Size x y = refl
 one_cause s bytes refusal.Size refusal.Proxy x y = (let fits = y.fits in absurd (omega arith))
@@ -72,7 +72,7 @@ not_none_found m h x e f = (let g : Some x ≡ None = sym e ∙ f in cc)
 same_found : (m : Held) (h : ℕ) (x y : Placed) → get m h ≡ Some x → get m h ≡ Some y → x ≡ y
 same_found m h x y e f = (let g : Some x ≡ Some y = sym e ∙ f in cc)
 
--- a part of an object has no cause for a refusal
+-- a read or write within the object has no cause for a refusal
 pub part_is_not_refused : (s : HeapState) (part : Part) (count : ℕ) (x : Placed) → get s.held part.number ≡ Some x → part.from + count ≤ length x.bytes
     → (e : AccessFault) → IsFault s part count e → ⊥
 part_is_not_refused s part count x found within access.Unknown cause = not_none_found s.held part.number x found cause
@@ -81,11 +81,11 @@ part_is_not_refused s part count x found within access.Range cause =
     let past : length x.bytes < part.from + count = subst (λ (z : Placed). length z.bytes < part.from + count) same cause.past in
     omega arith
 
--- no kind is of both families
+-- no kind has both pages and blocks
 pub both_kinds : (k : Kind) → IsPaged k → IsTiled k → ⊥
 both_kinds k p t = (let e : paged ≡ tiled = sym p ∙ t in cc)
 
--- a resize that is done has no cause for a refusal
+-- a resize that succeeds has no cause for a refusal
 pub resized_is_not_refused : (old new : HeapState) (asked : Request) (done : Resized) → ResizesObject old asked done new → (e : ResizeFault)
     → IsResizeFault old asked e → ⊥
 resized_is_not_refused old new asked done r resize.Unknown cause = not_none_found old.held asked.number r.object r.found cause

@@ -52,7 +52,7 @@ owned_malloc rule words m old new h n place t owned none step given =
       ];
     }
 
--- a free: the object and its block go
+-- a free: the object and its used block are removed
 pub owned_free : (words : ℕ) (m : Held) (old : List Block) (h : ℕ) (x : Placed) → IsTiling words old → AreOwned m old → get m h ≡ Some x
     → AreOwned (remove m h) (released old x.place)
 owned_free words m old h x t owned found =
@@ -77,7 +77,7 @@ owned_free words m old h x t owned found =
       ];
     }
 
--- other bytes, as many, in the same block
+-- other bytes of the same length in the same block
 pub owned_replaced : (m : Held) (blocks : List Block) (h : ℕ) (x y : Placed) → AreOwned m blocks → get m h ≡ Some x → y.place ≡ x.place
     → length y.bytes ≡ length x.bytes → AreOwned (insert m h y) blocks
 owned_replaced m blocks h x y owned found same long = record {

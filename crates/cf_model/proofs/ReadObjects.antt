@@ -1,4 +1,4 @@
--- The words of a heap with blocks tell its objects, and what a carve leaves of the words gives those of the objects after a malloc.
+-- The words of a heap with blocks determine its objects; and after a carve the words are those of the objects after a malloc.
 use Rattle.std.proofs.Common.{◌≡◌, ◌≢◌, ℕ, zero, suc, ◌+◌, ◌-◌, ◌*◌, ◌<◌, List, Option, Some, None, length, get_or, take, replicate, arith, sym, ◌∙◌, subst}
 use Rattle.std.proofs.Common.{inl, inr, ap, refl}
 use Rattle.std.specs.Prelude.{option_map}

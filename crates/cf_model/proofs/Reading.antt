@@ -1,4 +1,4 @@
--- What callers learn of the objects.
+-- What the contracts of `Manager` imply about the objects.
 use Rattle.std.proofs.Common.{◌≡◌, ◌≢◌, ℕ, ◌+◌, ◌≤◌, List, ◌++◌, Option, Some, None, length, take, drop, arith, sym, ◌∙◌, subst, ap, refl}
 use Rattle.std.specs.Prelude.{option_map}
 use Rattle.std.proofs.Math.Seq.{drop-append_seam, take-append_seam}
@@ -17,7 +17,7 @@ none_mapped : (o : Option Placed) → option_map (λ (z : Placed). z.bytes) o �
 none_mapped None e = refl
 none_mapped (Some x) e = cc
 
--- the bytes that were written stand there
+-- the written bytes are those of the object at their place
 part_written : (v : List ℕ) (at : ℕ) (bytes : List ℕ) → at + length bytes ≤ length v → take (length bytes) (drop at (written v at bytes)) ≡ bytes
 part_written v at bytes within =
     let rest = drop (at + length bytes) v in
@@ -30,7 +30,7 @@ part_written v at bytes within =
     length_front : (v : List ℕ) (n : ℕ) → n ≤ length v → length (take n v) ≡ n
     length_front v n le = grind (arith, common_steps)
 
--- what is written is read
+-- a read after a write returns the written bytes
 pub read_back : (old : HeapState) (part : Part) (bytes out : List ℕ) (new : HeapState) → WritesBytes old part bytes new → ReadsBytes new part (length bytes) out
     → out ≡ bytes
 read_back old part bytes out new w r =
@@ -44,7 +44,7 @@ pub others_kept : (old : HeapState) (part : Part) (bytes : List ℕ) (new : Heap
     → get new.held q ≡ get old.held q
 others_kept old part bytes new w q ne = ap (λ (s : HeapState). get s.held q) w.whole ∙ get_insert_other old.held part.number _ q ne
 
--- what is freed is gone
+-- a freed object isn't live
 pub freed_is_gone : (old : HeapState) (h : ℕ) (freed : Freed) (new : HeapState) → FreesObject old h freed new → get new.held h ≡ None
 freed_is_gone old h freed new f = none_mapped (get new.held h)
     (sym (get-map_values (λ (z : Placed). z.bytes) new.held h) ∙ ap (λ m. get m h) f.left ∙ get_removed (objects old.held) h)

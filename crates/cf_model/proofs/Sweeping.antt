@@ -11,7 +11,7 @@ module _ {X : Type 0} (R : X → X → Type 0) (xs ys : List X) (i : ℕ) (x y :
       let inside : i < length ys = omega (arith, s.count) in
       sym (read ∙ get_or_default ys i x d inside ∙ s.rest i d (omega arith))
 
-  -- the item x that was read at i becomes y
+  -- item i was x and becomes y
   pub sweep_more : R x y → Sweep R xs (set ys i y) (i + 1)
   sweep_more here = record {
     count = length-set ys i y ∙ s.count;
@@ -26,7 +26,7 @@ module _ {X : Type 0} (R : X → X → Type 0) (xs ys : List X) (i : ℕ) (x y :
     rest = λ k d h. get_or-set_other ys i k y d (omega arith) ∙ s.rest k d (omega arith);
   }
 
-  -- the loop ends there
+  -- the loop stops at item i
   pub sweep_stops : (S : X → X → Type 0) → S x y → Stops R S xs (set ys i y)
   sweep_stops S here = record {
     count = length-set ys i y ∙ s.count;
@@ -40,7 +40,7 @@ module _ {X : Type 0} (R : X → X → Type 0) (xs ys : List X) (i : ℕ) (x y :
     behind = λ k d h. get_or-set_other ys i k y d (omega arith) ∙ s.rest k d (omega arith);
   }
 
--- what holds anyway holds at an error
+-- a fact that always holds, holds at an error
 pub on_err : {T E : Type 0} (r : Result T E) (P : Type 0) → P → OnErr r P
 on_err (Ok x) P p = tt
 on_err (Err e) P p = p

@@ -8,28 +8,28 @@ use Rattle.cf_base.specs.declared.answers.ResizeFault.{ResizeFault}
 use Rattle.cf_base.specs.declared.kind.Kind.{Kind}
 use Rattle.cf_model.specs.Families.{paged, tiled, family_of}
 
--- the count of steps rose by at most n, where the kind has pages
+-- with pages the count of steps rose by at most n; with blocks it didn't fall
 abbrev pub TakesAtMost : Kind → ℕ → ℕ → ℕ → Type 0
 TakesAtMost kind old new n = elim (family_of kind) [ paged ↦ RoseAtMost old new n | tiled ↦ old ≤ new ]
 
--- a free: twice the words of the slot
+-- a free: 96 steps, plus twice the words of the slot
 abbrev pub free_bound : Result Freed NotLive → ℕ
 free_bound (Ok freed) = 96 + 2 * freed.slot_words
 free_bound (Err e) = 96
 
--- a resize: three times the words of the larger slot
+-- a resize: 160 steps, plus three times the words of the larger slot
 abbrev pub resize_bound : Result Resized ResizeFault → ℕ
 resize_bound (Ok done) = 160 + 3 * max done.old_slot_words done.slot_words
 resize_bound (Err e) = 160
 
--- how many words of an object hold one of the bytes from `from` on
+-- how many words of an object hold one of `count` bytes from byte `from` on
 abbrev pub words_touched : ℕ → ℕ → ℕ
 words_touched from count = if nat_eq count 0 then 0 else (from % 8 + count + 7) / 8
 
--- a read or a write: three times the words that it touches
+-- a read or a write: 16 steps, plus three times the words that it touches
 abbrev pub access_bound : ℕ → ℕ → ℕ
 access_bound from count = 16 + 3 * words_touched from count
 
--- with pages the cost is that of a resize too
+-- of a resize: with pages its steps are its cost; with blocks nothing is claimed
 abbrev pub TellsCost : Kind → ℕ → ℕ → ℕ → Type 0
 TellsCost kind old new cost = elim (family_of kind) [ paged ↦ new ≡ old + cost | tiled ↦ ⊤ ]

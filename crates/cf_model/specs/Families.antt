@@ -1,28 +1,30 @@
--- The two families of kinds: managers that cut their memory into pages, and those that cut it into blocks.
+-- The two families of kinds: managers that divide their memory into pages, and those that divide it into blocks.
 use Rattle.std.specs.Prelude.{◌≡◌}
 use Rattle.cf_base.specs.declared.kind.Kind.{Kind}
 use Rattle.cf_base.specs.declared.kind.Kind.TheVariants.{Moving, NonMoving, Tlsf, HalfFit}
 use Rattle.block_model.specs.Buckets.{FreeLists, half_fit, tlsf}
 
+-- kinds with pages, kinds with blocks
 pub data Family : Type 0 where
   paged : Family
   tiled : Family
 
+-- the family of each kind
 abbrev pub family_of : Kind → Family
 family_of Moving = paged
 family_of NonMoving = paged
 family_of Tlsf = tiled
 family_of HalfFit = tiled
 
--- whether the kind cuts its memory into pages
+-- the kind divides its memory into pages
 abbrev pub IsPaged : Kind → Type 0
 IsPaged kind = family_of kind ≡ paged
 
--- whether the kind cuts its memory into blocks
+-- the kind divides its memory into blocks
 abbrev pub IsTiled : Kind → Type 0
 IsTiled kind = family_of kind ≡ tiled
 
--- the free lists of a kind with blocks; a kind with pages has none, and what is said of it uses none
+-- the free lists of a kind with blocks; those of a kind with pages are never used
 abbrev pub free_lists_of : Kind → FreeLists
 free_lists_of Moving = tlsf
 free_lists_of NonMoving = tlsf

@@ -1,4 +1,4 @@
--- What holds at every state in which the calls leave an open manager.
+-- The rules that every open manager keeps.
 use Rattle.std.specs.Prelude.{◌≡◌, ℕ, IsTrue, ◌+◌, ◌*◌, ◌^◌, ◌≤◌, ◌<◌, List, [], Option, Some, None, length, slice_index}
 use Rattle.std.specs.FinMap.{get, len}
 use Rattle.cf_base.specs.Settings.{Profile}
@@ -28,47 +28,47 @@ pub record AreInRange (p : Profile) : Type 0 where
   pub few_proxies : p.proxies ≤ 65536
   pub small_region : p.pages * p.page_words ≤ 2 ^ 23
 
--- the objects have numbers that there are proxies for, and bytes
+-- each object's number is below the proxies, its items are bytes, and there are no more objects than proxies
 pub record AreObjects (s : HeapState) : Type 0 where
   pub handles : (h : ℕ) (x : Placed) → get s.held h ≡ Some x → h < s.profile.proxies
   pub bytes : (h : ℕ) (x : Placed) → get s.held h ≡ Some x → AreBytes x.bytes
   pub few : len s.held ≤ s.profile.proxies
 
--- What a manager with pages keeps. So no class has more partly full pages than its bound, and no page of a class is empty.
+-- what a manager with pages keeps; so no class has more partly full pages than its bound, and no page of a class is empty
 pub record KeepsPages (s : HeapState) : Type 0 where
-  -- the sizes of the classes rise up to a page, and each class has a bound of 1 at least
+  -- the sizes of the classes rise to the page, and each class has a bound of at least 1
   pub paging : IsPaging (paging_in s)
-  -- and of 64 at most
+  -- and of at most 64
   pub low_bounds : (c : ℕ) → slice_index s.bounds c ≤ 64
-  -- the objects lie in slots of their classes, each in one of its own, within the bounds
+  -- each object is in a slot of its class, no two in the same, within the bounds
   pub sound : IsSound (paging_in s) s.held
   -- the words are those of the objects, and zeros
   pub image : IsImage s.held s.words
-  -- and zeros fill up each slot
+  -- and zeros fill the rest of each slot
   pub slots : IsSlotImage (paging_in s) s.held s.words
   pub no_tiling : s.tiling ≡ []
 
--- without a block table
+-- there is no block table
 abbrev pub HasNoFrames : HeapState → Type 0
 HasNoFrames s = s.frames ≡ []
 
--- with a block table: it is a permutation of the blocks of four words
+-- the block table is a permutation of the blocks of four words
 pub record KeepsFrames (s : HeapState) : Type 0 where
   pub count : 4 * length s.frames ≡ region_words s.profile
   pub permuted : IsPermuted s.frames
 
--- The block of an object: as many words as are needed, or one more.
+-- the block of an object has the words that it needs, or one more
 pub record IsBlockOf (b : Block) (h : ℕ) (x : Placed) : Type 0 where
   pub owner : b.owner ≡ Some h
   pub least : block_need (length x.bytes) ≤ b.size
   pub most : b.size ≤ block_need (length x.bytes) + 1
 
--- each object has the block at its address, and each used block has its object
+-- each object owns the block at its address, and each used block has its object
 pub record AreOwned (m : Held) (blocks : List Block) : Type 0 where
   pub placed : (h : ℕ) (x : Placed) → get m h ≡ Some x → (b : Block) × (block_at blocks x.place ≡ Some b) × IsBlockOf b h x
   pub live : (a : ℕ) (b : Block) (h : ℕ) → block_at blocks a ≡ Some b → b.owner ≡ Some h → (x : Placed) × (get m h ≡ Some x) × (x.place ≡ a)
 
--- word i of what number h has: its header, its bytes, then zeros
+-- word i of the object under number h: its header, its bytes, then zeros
 abbrev pub content_word : Held → ℕ → ℕ → ℕ
 content_word m h i = content (get m h) h i
   where
@@ -76,35 +76,35 @@ content_word m h i = content (get m h) h i
     content None h i = 0
     content (Some x) h i = object_word h x.bytes i
 
--- What a manager with blocks keeps.
+-- what a manager with blocks keeps
 pub record KeepsTiling (s : HeapState) : Type 0 where
   -- the blocks fill the region, and no two neighbours are both free
   pub tiling : IsTiling (region_words s.profile) s.tiling
-  -- the used blocks are the objects'
+  -- the used blocks are those of the objects
   pub owned : AreOwned s.held s.tiling
   -- the words are those of the blocks and of the objects in them
   pub words : AreTilingWords (content_word s.held) s.tiling s.words
   pub no_frames : s.frames ≡ []
   pub no_bounds : s.bounds ≡ []
 
--- what each kind keeps of a block table: only one has such a table
+-- what each kind keeps of a block table; only the non-moving kind has one
 abbrev pub KeepsTable : Kind → HeapState → Type 0
 KeepsTable Moving s = HasNoFrames s
 KeepsTable NonMoving s = KeepsFrames s
 KeepsTable Tlsf s = HasNoFrames s
 KeepsTable HalfFit s = HasNoFrames s
 
--- what each kind keeps besides
+-- what each kind keeps of its memory
 abbrev pub KeepsRulesOf : Kind → HeapState → Type 0
 KeepsRulesOf kind s = elim (family_of kind) [ paged ↦ KeepsPages s × KeepsTable kind s | tiled ↦ KeepsTiling s ]
 
--- The rules of an open manager.
+-- the rules of an open manager
 pub record KeepsRules (s : HeapState) : Type 0 where
   -- the settings are in their ranges
   pub settings : AreInRange s.profile
-  -- the region has the words that they ask for
+  -- the region has the words that the settings ask for
   pub region : length s.words ≡ region_words s.profile
-  -- there are no more objects than proxies, and they are lists of bytes
+  -- there are at most as many objects as proxies, and they are lists of bytes
   pub numbers : AreObjects s
-  -- and what managers with pages, or with blocks, keep of their memory
+  -- what managers with pages, or with blocks, keep of their memory
   pub of_kind : KeepsRulesOf s.kind s

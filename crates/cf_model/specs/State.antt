@@ -1,4 +1,4 @@
--- All that contracts see of a manager, in one record.
+-- What contracts see of a manager, as one record.
 use Rattle.std.specs.Prelude.{ℕ, Bool, false, List, [], Option, ◌*◌, refl}
 use Rattle.std.specs.FinMap as map
 use Rattle.std.specs.Coded.{Coded, code_by, coded×, coded_ℕ, coded_list, coded_bool, coded_option}
@@ -12,23 +12,23 @@ use Rattle.page_model.specs.Held.{Held, placed_code}
 use Rattle.page_model.specs.Paging.{Paging, paging_of}
 use Rattle.block_model.specs.Tiling.{Block}
 
--- What contracts see of a manager. What doesn't apply to a kind is the empty list.
+-- what contracts see of a manager; a list that doesn't apply to its kind is empty
 pub record HeapState : Type 0 where
   pub kind : Kind
   pub is_open : Bool
   -- the settings
   pub profile : Profile
-  -- by class, how many pages may be partly full
+  -- the bound of each class: how many of its pages may be partly full
   pub bounds : List ℕ
   -- the objects by number, each with its address and its bytes
   pub held : Held
-  -- the words of the region; where blocks are mapped, the virtual words
+  -- the words of the region; with a block table, the virtual words
   pub words : List ℕ
-  -- by virtual block, its physical block
+  -- the physical block of each virtual block
   pub frames : List ℕ
   -- the blocks that tile the region
   pub tiling : List Block
-  -- the steps of the last call that changed the objects' addresses or lengths
+  -- the steps of the last malloc or free, with pages also of the last resize
   pub cost : ℕ
 
 -- the settings of a manager that was never open
@@ -39,37 +39,41 @@ no_profile = record { pages = 0; page_words = 0; k = 0; proxies = 0 }
 abbrev pub closed_state : Kind → HeapState
 closed_state kind = record { kind = kind; is_open = false; profile = no_profile; bounds = []; held = map.empty; words = []; frames = []; tiling = []; cost = 0 }
 
--- which slot sizes a kind uses
+-- the sequence of slot sizes of each kind
 abbrev pub layout_of : Kind → Layout
 layout_of Moving = Words
 layout_of NonMoving = Blocks
 layout_of Tlsf = Words
 layout_of HalfFit = Words
 
--- the pages and size classes of a manager of a kind with pages
+-- the pages and size classes of a manager with pages
 abbrev pub paging_in : HeapState → Paging
 paging_in s = paging_of s.profile (layout_of s.kind) s.bounds
 
--- the words of the region
+-- how many words the region has
 abbrev pub region_words : Profile → ℕ
 region_words p = p.pages * p.page_words
 
--- the parts of a state, as nested pairs
+-- settings are stored as nested pairs
 abbrev pub profile_code : Coded Profile
 profile_code = code_by (ℕ × (ℕ × (ℕ × ℕ))) (coded× coded_ℕ (coded× coded_ℕ (coded× coded_ℕ coded_ℕ)))
     (λ p. (p.pages, (p.page_words, (p.k, p.proxies)))) (λ q. record { pages = q.0; page_words = q.1.0; k = q.1.1.0; proxies = q.1.1.1 }) (λ _. refl)
 
+-- a block is stored as nested pairs
 abbrev pub block_code : Coded Block
 block_code = code_by (ℕ × (ℕ × Option ℕ)) (coded× coded_ℕ (coded× coded_ℕ (coded_option coded_ℕ)))
     (λ b. (b.address, (b.size, b.owner))) (λ q. record { address = q.0; size = q.1.0; owner = q.1.1 }) (λ _. refl)
 
+-- the fields of a state, as nested pairs
 abbrev pub StateParts : Type 0
 StateParts = Kind × (Bool × (Profile × (List ℕ × (Held × (List ℕ × (List ℕ × (List Block × ℕ)))))))
 
+-- nested pairs are stored as such
 abbrev pub parts_code : Coded StateParts
 parts_code = coded× kind.the_row.coded (coded× coded_bool (coded× profile_code (coded× (coded_list coded_ℕ) (coded× (map.code coded_ℕ placed_code)
     (coded× (coded_list coded_ℕ) (coded× (coded_list coded_ℕ) (coded× (coded_list block_code) coded_ℕ)))))))
 
+-- a state is stored as the nested pairs of its fields
 abbrev pub state_code : Coded HeapState
 state_code = code_by StateParts parts_code
     (λ s. (s.kind, (s.is_open, (s.profile, (s.bounds, (s.held, (s.words, (s.frames, (s.tiling, s.cost)))))))))

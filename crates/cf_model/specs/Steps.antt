@@ -1,4 +1,4 @@
--- The steps of a manager, from its state before to its state after.
+-- The steps of a manager, from the state before to the state after.
 use Rattle.std.specs.Prelude.{◌≡◌, ◌≢◌, ℕ, ◌+◌, ◌*◌, ◌/◌, ◌≤◌, ◌<◌, List, [], Option, Some, None, Result, Ok, Err, ⊤, true, false, length, take, drop}
 use Rattle.std.specs.Prelude.{replicate, slice_index, option_map}
 use Rattle.std.specs.FinMap.{get, insert, remove, len, empty}
@@ -35,14 +35,14 @@ pub record StaysOpen (old new : HeapState) : Type 0 where
   pub open_now : new.is_open ≡ true
   pub profile : new.profile ≡ old.profile
 
--- the same manager under the same settings, with the same bounds of its classes
+-- the same manager with the same settings and bounds
 pub record KeepsSettings (old new : HeapState) : Type 0 where
   pub kind : new.kind ≡ old.kind
   pub opened : new.is_open ≡ old.is_open
   pub profile : new.profile ≡ old.profile
   pub bounds : new.bounds ≡ old.bounds
 
--- nothing changes but the cost
+-- only the cost changes
 abbrev pub ChangesCost : HeapState → HeapState → Type 0
 ChangesCost old new = new ≡ record old { cost = new.cost }
 
@@ -51,26 +51,26 @@ pub record IsClosed (old new : HeapState) : Type 0 where
   pub kind : new.kind ≡ old.kind
   pub closed : new.is_open ≡ false
 
--- the bounds that the classes begin with
+-- the bounds of the classes at the start
 abbrev pub opening_bounds : Kind → Profile → List ℕ
 opening_bounds kind p = elim (family_of kind) [ paged ↦ first_bounds p (layout_of kind) | tiled ↦ [] ]
 
--- each block at its own place, where there is a block table
+-- the block table at the start, if the kind has one: each block at its own number
 abbrev pub opening_frames : Kind → Profile → List ℕ
 opening_frames Moving p = []
 opening_frames NonMoving p = first_frames (region_words p / 4)
 opening_frames Tlsf p = []
 opening_frames HalfFit p = []
 
--- one free block, where there are blocks
+-- the tiling at the start, if the kind has one: one free block
 abbrev pub opening_tiling : Kind → Profile → List Block
 opening_tiling kind p = elim (family_of kind) [ paged ↦ [] | tiled ↦ one_free_block (region_words p) ]
 
--- the words of an empty heap with pages are zeros; those of one free block are told by the rules
+-- the words of an empty heap: zeros with pages; with blocks the rules determine all but word 1
 abbrev pub IsOpeningWords : Kind → Profile → List ℕ → Type 0
 IsOpeningWords kind p words = elim (family_of kind) [ paged ↦ words ≡ replicate (region_words p) 0 | tiled ↦ ⊤ ]
 
--- an open heap without objects, under these settings
+-- an open heap without objects, with these settings
 abbrev pub empty_heap : Kind → Profile → List ℕ → HeapState
 empty_heap kind p words = record {
   kind = kind;
@@ -85,29 +85,30 @@ empty_heap kind p words = record {
   cost = 0;
 }
 
--- An open heap without objects. Each class has the bound of the settings.
+-- an open heap without objects; each class has the bound of the settings
 pub record IsEmptyHeap (kind : Kind) (s : Settings) (new : HeapState) : Type 0 where
   pub words : IsOpeningWords kind (profile_of s) new.words
   pub whole : new ≡ empty_heap kind (profile_of s) new.words
 
--- There is no room for an object of so many bytes: no page of its class is partly full and none is free, or no free block serves.
+-- no space for an object of `bytes` bytes: its class has no slot left, or no free block serves
 abbrev pub LacksRoomIn : Kind → HeapState → ℕ → Type 0
 LacksRoomIn kind s bytes = elim (family_of kind) [
   | paged ↦ LacksRoom (paging_in s) s.held (class_for (paging_in s) bytes)
   | tiled ↦ LacksBlock (free_lists_of kind) s.tiling (block_need bytes)
 ]
 
+-- the same for the kind of the heap
 abbrev pub lacks_room : HeapState → ℕ → Type 0
 lacks_room s bytes = LacksRoomIn s.kind s bytes
 
--- where an object that is asked for may be placed
+-- the requested object may be placed there: in a free slot, or in the block that is carved
 abbrev pub IsPlacedBy : Kind → HeapState → Request → ℕ → HeapState → Type 0
 IsPlacedBy kind old asked place new = elim (family_of kind) [
   | paged ↦ IsFreePlace (paging_in old) old.held asked.length place
   | tiled ↦ Carves (free_lists_of kind) old.tiling (record { need = block_need asked.length; owner = asked.number }) place new.tiling
 ]
 
--- A number that wasn't live is given to so many zeros.
+-- an object of zeros is added under a number that wasn't live
 pub record GivesObject (old : HeapState) (asked : Request) (new : HeapState) : Type 0 where
   pub fits : need asked.length ≤ old.profile.page_words
   pub few : len old.held < old.profile.proxies
@@ -117,12 +118,12 @@ pub record GivesObject (old : HeapState) (asked : Request) (new : HeapState) : T
   pub placed : IsPlacedBy old.kind old asked place new
   pub whole : new ≡ record old { held = insert old.held asked.number (zeros_at place asked.length); words = new.words; tiling = new.tiling; cost = new.cost }
 
--- all proxies are in use, and the object would fit a page
+-- the object would fit a page, but all proxies are in use
 pub record WantsProxy (s : HeapState) (bytes : ℕ) : Type 0 where
   pub fits : need bytes ≤ s.profile.page_words
   pub all : len s.held ≡ s.profile.proxies
 
--- there is no room, and neither the size nor the proxies are the cause
+-- the object would fit a page, and a proxy is free, but there is no space
 pub record WantsSpace (s : HeapState) (bytes : ℕ) : Type 0 where
   pub fits : need bytes ≤ s.profile.page_words
   pub few : len s.held < s.profile.proxies
@@ -134,16 +135,16 @@ IsRefusedBy s bytes refusal.Size = s.profile.page_words < need bytes
 IsRefusedBy s bytes refusal.Proxy = WantsProxy s bytes
 IsRefusedBy s bytes refusal.Space = WantsSpace s bytes
 
--- a malloc adds an object, or is refused and changes the cost alone
+-- a malloc adds an object, or is refused and changes only the cost
 abbrev pub IsMallocStep : HeapState → ℕ → Result Handle Refusal → HeapState → Type 0
 IsMallocStep old bytes (Ok h) new = GivesObject old (record { number = h.0; length = bytes }) new
 IsMallocStep old bytes (Err e) new = IsRefusedBy old bytes e × ChangesCost old new
 
--- the words of the slot or block of an object
+-- the words of an object's slot or block
 abbrev pub slot_in : Kind → HeapState → Placed → ℕ
 slot_in kind s x = elim (family_of kind) [ paged ↦ slot_for (paging_in s) (length x.bytes) | tiled ↦ size_at s.tiling x.place ]
 
--- which object a free of x moves: with pages one where it must, with blocks never one
+-- the object that a free of x moves: with pages one if it must, with blocks none
 abbrev pub MovesIn : Kind → HeapState → Placed → Option ℕ → Type 0
 MovesIn kind s x moved = elim (family_of kind) [ paged ↦ Moves (paging_in s) s.held x moved | tiled ↦ moved ≡ None ]
 
@@ -154,19 +155,19 @@ frames_left NonMoving s after = frames_after (paging_in s) s.held after s.frames
 frames_left Tlsf s after = s.frames
 frames_left HalfFit s after = s.frames
 
--- the blocks after the one at the address is released
+-- the tiling after the block at the address is released
 abbrev pub tiling_left : Kind → HeapState → ℕ → List Block
 tiling_left kind s place = elim (family_of kind) [ paged ↦ s.tiling | tiled ↦ released s.tiling place ]
 
--- the number of a handle, where there is one
+-- the number of a handle, if there is one
 abbrev pub number_of : Option Handle → Option ℕ
 number_of moved = option_map (λ (h : Handle). h.0) moved
 
--- what a free of the object leaves
+-- the objects after a free, and the object that moved
 abbrev pub leaves_of : HeapState → ℕ → Placed → Option ℕ → Leaves
 leaves_of old h x moved = record { held = without old.held h x.place moved; moved = moved }
 
--- Object h goes, and the one that moved, if one did, has its address. All others keep their bytes.
+-- object h is removed, and the object that moved, if one did, gets its address; all others keep their bytes
 pub record FreesObject (old : HeapState) (h : ℕ) (freed : Freed) (new : HeapState) : Type 0 where
   pub object : Placed
   pub found : get old.held h ≡ Some object
@@ -178,23 +179,23 @@ pub record FreesObject (old : HeapState) (h : ℕ) (freed : Freed) (new : HeapSt
   pub tiling : new.tiling ≡ tiling_left old.kind old object.place
   pub rest : KeepsSettings old new
 
--- a free takes an object away, or is refused and changes the cost alone
+-- a free removes an object, or is refused and changes only the cost
 abbrev pub IsFreeStep : HeapState → ℕ → Result Freed NotLive → HeapState → Type 0
 IsFreeStep old h (Ok freed) new = FreesObject old h freed new
 IsFreeStep old h (Err e) new = (get old.held h ≡ None) × ChangesCost old new
 
--- a part of an object that is read or written: its number, and the byte where it begins
+-- a part of an object to read or write: the object's number, and the first byte
 pub record Part : Type 0 where
   pub number : ℕ
   pub from : ℕ
 
--- the part of so many bytes passes the end of the object
+-- the `count` bytes of the part go beyond the end of the object
 pub record PassesEnd (s : HeapState) (part : Part) (count : ℕ) : Type 0 where
   pub object : Placed
   pub found : get s.held part.number ≡ Some object
   pub past : length object.bytes < part.from + count
 
--- the cause of each refusal of a read or a write of so many bytes
+-- the cause of each refusal of a read or a write of `count` bytes
 abbrev pub IsFault : HeapState → Part → ℕ → AccessFault → Type 0
 IsFault s part count access.Unknown = get s.held part.number ≡ None
 IsFault s part count access.Range = PassesEnd s part count
@@ -206,7 +207,7 @@ StaysOutside kind old x new = elim (family_of kind) [
   | tiled ↦ (w : ℕ) → IsOutside x.place (size_at old.tiling x.place) w → slice_index new.words w ≡ slice_index old.words w
 ]
 
--- The bytes stand in the object from `from` on, and nothing else changes.
+-- the object has these bytes from byte `from` on; nothing else changes
 pub record WritesBytes (old : HeapState) (part : Part) (bytes : List ℕ) (new : HeapState) : Type 0 where
   pub object : Placed
   pub found : get old.held part.number ≡ Some object
@@ -219,19 +220,19 @@ abbrev pub IsWriteStep : HeapState → Part → List ℕ → Result Unit AccessF
 IsWriteStep old part bytes (Ok u) new = WritesBytes old part bytes new
 IsWriteStep old part bytes (Err e) new = IsFault old part (length bytes) e × (new ≡ old)
 
--- The bytes of a part, as many as there was room for.
+-- the `count` bytes of the part
 pub record ReadsBytes (s : HeapState) (part : Part) (count : ℕ) (bytes : List ℕ) : Type 0 where
   pub object : Placed
   pub found : get s.held part.number ≡ Some object
   pub within : part.from + count ≤ length object.bytes
   pub value : bytes ≡ take count (drop part.from object.bytes)
 
--- a read gives the bytes, or is refused and leaves the room as it was
+-- a read fills the buffer with the bytes, or is refused and leaves the buffer unchanged
 abbrev pub IsReadAnswer : HeapState → Part → List ℕ → Result Unit AccessFault → List ℕ → Type 0
 IsReadAnswer s part room (Ok u) out = ReadsBytes s part (length room) out
 IsReadAnswer s part room (Err e) out = IsFault s part (length room) e × (out ≡ room)
 
--- An object has another length: its first bytes stay, and zeros are added. In another class it goes to a new address, as a malloc and a free do.
+-- the object gets another length: its first bytes stay, and added bytes are zeros; in another class it gets a new address, as by a malloc and a free
 pub record ResizesObject (old : HeapState) (asked : Request) (done : Resized) (new : HeapState) : Type 0 where
   pub pages : IsPaged old.kind
   pub fits : need asked.length ≤ old.profile.page_words
@@ -262,7 +263,7 @@ pub record PassesPage (s : HeapState) (asked : Request) : Type 0 where
   pub pages : IsPaged s.kind
   pub large : s.profile.page_words < need asked.length
 
--- the number is live, and there is no room for its object in another class
+-- the number is live, and the object's new class, another one, has no slot left
 pub record WantsSlot (s : HeapState) (asked : Request) : Type 0 where
   pub object : Placed
   pub found : get s.held asked.number ≡ Some object
@@ -278,16 +279,16 @@ IsResizeFault s asked resize.Kind = HasNoResize s asked.number
 IsResizeFault s asked resize.Size = PassesPage s asked
 IsResizeFault s asked resize.Space = WantsSlot s asked
 
--- a refused resize changes the cost alone, and with blocks nothing at all
+-- a refused resize changes only the cost, and with blocks nothing
 abbrev pub IsUnmoved : Kind → HeapState → HeapState → Type 0
 IsUnmoved kind old new = elim (family_of kind) [ paged ↦ ChangesCost old new | tiled ↦ new ≡ old ]
 
--- a resize gives an object another length, or is refused
+-- a resize changes an object's length, or is refused
 abbrev pub IsResizeStep : HeapState → Request → Result Resized ResizeFault → HeapState → Type 0
 IsResizeStep old asked (Ok done) new = ResizesObject old asked done new
 IsResizeStep old asked (Err e) new = IsResizeFault old asked e × IsUnmoved old.kind old new
 
--- Block i of each object but h is the same, and so are the physical words of its slot.
+-- the blocks of each object but h stay, and so do the physical words of its slot
 pub record BlocksStay (old : HeapState) (h : ℕ) (new : HeapState) : Type 0 where
   pub blocks : (q : ℕ) (x y : Placed) → q ≢ h → get old.held q ≡ Some x → get new.held q ≡ Some y → (i : ℕ) → i < slot_for (paging_in old) (length x.bytes) / 4
       → block_of new.frames y.place i ≡ block_of old.frames x.place i
@@ -296,7 +297,7 @@ pub record BlocksStay (old : HeapState) (h : ℕ) (new : HeapState) : Type 0 whe
       → j < 4
       → slice_index after (4 * block_of old.frames x.place i + j) ≡ slice_index before (4 * block_of old.frames x.place i + j)
 
--- what a free or a resize of h leaves of the other objects' blocks
+-- what a free or a resize of h keeps of the other objects' blocks
 abbrev pub BlocksStayIn : Kind → HeapState → ℕ → HeapState → Type 0
 BlocksStayIn Moving old h new = Unit {0}
 BlocksStayIn NonMoving old h new = BlocksStay old h new

@@ -1,5 +1,4 @@
-//! What the clauses of `Manager` say together. The functions do nothing: what each ensures is the
-//! law.
+//! What the clauses of `Manager` imply together. The functions do nothing; each contract is a law.
 ghost use Rattle.std.specs.Prelude.{◌≡◌, ◌≢◌, ℕ, ◌+◌, ◌<◌, ◌≤◌, List, None, Some, length, replicate, slice_index};
 ghost use Rattle.std.specs.FinMap.{get, insert, remove};
 ghost use Rattle.cf_base.specs.declared.answers.AccessFault.{AccessFault};
@@ -23,8 +22,9 @@ ghost use Rattle.cf_model.specs.State.{HeapState, paging_in, region_words};
 ghost use Rattle.cf_model.specs.Steps.{BlocksStay, ChangesCost, FreesObject, GivesObject, IsFault, IsOpeningWords, IsRefusedBy, IsResizeFault, Part};
 ghost use Rattle.cf_model.specs.Steps.{ReadsBytes, ResizesObject, WritesBytes, empty_heap, number_of};
 
-/// An empty heap of each kind keeps the rules. With blocks, its words are the size of the one free
-/// block, an open word, and zeros. So a manager of each kind can be opened.
+/// An empty heap of each kind keeps the rules. With blocks, its words are the header of the one
+/// free block, any word, and zeros. So each kind has words with which its empty heap keeps the
+/// rules.
 pub fn an_empty_heap_keeps_the_rules()
     ensures pages { (kind : Kind) (p : Profile) → IsPaged kind → AreInRange p
         → KeepsRules (empty_heap kind p (replicate (region_words p) 0)) }
@@ -35,7 +35,7 @@ pub fn an_empty_heap_keeps_the_rules()
         → (words : List ℕ) × IsOpeningWords kind p words × KeepsRules (empty_heap kind p words) }
 {}
 
-/// The bytes that were written are read again, and no other object changes.
+/// A read after a write returns the written bytes, and a write changes no other object.
 pub fn what_is_written_is_read()
     ensures same { (old new : HeapState) (part : Part) (bytes out : List ℕ)
         → WritesBytes old part bytes new → ReadsBytes new part (length bytes) out → out ≡ bytes }
@@ -44,14 +44,14 @@ pub fn what_is_written_is_read()
         → (q : ℕ) → q ≢ part.number → get new.held q ≡ get old.held q }
 {}
 
-/// An object that was freed isn't live.
+/// A freed object isn't live.
 pub fn what_is_freed_is_gone()
     ensures { (old new : HeapState) (h : ℕ) (freed : Freed)
         → FreesObject old h freed new → get new.held h ≡ None }
 {}
 
-/// Where blocks are mapped, a free and a resize leave each block of every other object, and its
-/// physical words: this follows from their other clauses.
+/// In the non-moving manager, a free and a resize keep each block of every other object, and its
+/// physical words. This follows from their other clauses.
 pub fn blocks_of_others_stay()
     ensures free { (old new : HeapState) (h : ℕ) (freed : Freed) → old.kind ≡ NonMoving
         → KeepsRules old → KeepsRules new → FreesObject old h freed new → BlocksStay old h new }
@@ -61,8 +61,8 @@ pub fn blocks_of_others_stay()
         → KeepsRules old → KeepsRules new → ChangesCost old new → BlocksStay old h new }
 {}
 
-/// A call that does its work has no cause for a refusal, so that each refusal comes exactly where
-/// its cause holds; and a malloc has one cause at most.
+/// A call that succeeds has no cause for a refusal, so each refusal happens if and only if its
+/// cause holds. A malloc has at most one cause.
 pub fn refusals_come_exactly_by_their_causes()
     ensures malloc { (old new : HeapState) (asked : Request) (e : Refusal)
         → GivesObject old asked new → ¬ IsRefusedBy old asked.length e }
@@ -78,8 +78,8 @@ pub fn refusals_come_exactly_by_their_causes()
         → ResizesObject old asked done new → ¬ IsResizeFault old asked e }
 {}
 
-/// With blocks, a malloc and a free keep each object in a block of its own, and each used block is
-/// an object's.
+/// With blocks, a malloc and a free keep each object in a block of its own, and each used block has
+/// an object.
 pub fn blocks_stay_owned()
     ensures malloc { (rule : FreeLists) (words : ℕ) (m : Held) (old new : List Block) (h n place : ℕ)
         → IsTiling words old → AreOwned m old → get m h ≡ None
@@ -91,8 +91,8 @@ pub fn blocks_stay_owned()
         → AreOwned (remove m h) (released old x.place) }
 {}
 
-/// With blocks, the words tell the blocks, with no use of word 1 of a free one; and the addresses of
-/// the objects and the words tell the objects.
+/// With blocks, the words determine the blocks, without word 1 of the free ones. The words and the
+/// objects' addresses determine the objects.
 pub fn the_words_tell_blocks_and_objects()
     ensures blocks { (s : HeapState) → AreInRange s.profile → AreObjects s → KeepsTiling s
         → read_blocks (region_words s.profile) s.words 0 (region_words s.profile) ≡ s.tiling }
@@ -100,9 +100,9 @@ pub fn the_words_tell_blocks_and_objects()
         → read_objects s.words (places s.held) ≡ s.held }
 {}
 
-/// After a malloc the words are those of the objects where the headers stand, free blocks are
-/// cleared, the contents of the other used blocks are as before, and the new block has its object's
-/// header in word 1 and zeros after it.
+/// After a malloc, let the headers be in place, free blocks cleared, the contents of the other used
+/// blocks unchanged, and the new block with its object's header in word 1, then zeros. Then the
+/// words are those of the objects.
 pub fn a_carve_keeps_the_words()
     ensures { (rule : FreeLists) (count : ℕ) (m : Held) (old new : List Block) (h n place : ℕ) (was now : List ℕ)
         → IsTiling count old → AreOwned m old → get m h ≡ None
@@ -117,8 +117,8 @@ pub fn a_carve_keeps_the_words()
         → AreTilingWords (content_word (insert m h (zeros_at place n))) new now }
 {}
 
-/// With pages, a malloc, a free and a resize of a manager are the steps that objects on pages make:
-/// an object is placed, is removed, and gets another length.
+/// With pages, a malloc, a free and a resize of a manager are steps of objects on pages:
+/// `PlacesObject`, `RemovesObject` and `RefitsObject`.
 pub fn calls_are_the_steps_of_pages()
     ensures malloc { (old new : HeapState) (asked : Request) → IsPaged old.kind → GivesObject old asked new
         → PlacesObject (paging_in old) old.held asked new.held }

@@ -1,5 +1,4 @@
-//! What every memory manager is: what contracts see of it, the trait `Manager`, and the opening of
-//! many managers.
+//! Memory managers: what contracts see of one, the trait `Manager`, and opening many managers.
 #![tactic(auto)]
 
 pub mod laws;

@@ -6,8 +6,8 @@ ghost use Rattle.cf_model.specs.Steps.{IsClosed};
 use crate::manager::Manager;
 use cf_base::{OutOfMemory, Settings};
 
-/// Opens each manager, in order, with these settings. At `OutOfMemory` those before one of them are
-/// open and empty, that one is closed, and those after it are as they were.
+/// Opens each manager, in order, with these settings. At `OutOfMemory` one manager is closed, those
+/// before it are open and empty, and those after it are unchanged.
 pub fn open_all<H: Manager>(managers: &mut Vec<H>, s: &Settings) -> Result<(), OutOfMemory>
     ensures ok { OnOk result (Pairwise (λ old new. Opens s.now (H.state old) (H.state new)) managers.old.items managers.new.items) }
     ensures err { OnErr result (Stops (λ old new. Opens s.now (H.state old) (H.state new))

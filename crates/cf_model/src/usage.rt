@@ -1,4 +1,4 @@
-//! What a heap uses.
+//! The bytes that a heap uses.
 
 /// The bytes that live objects asked for, those of their slots or blocks, and those that the heap
 /// holds: `asked`, `taken` and `held` of its `Totals`.

@@ -1,6 +1,9 @@
 //! The tool: reads a script from standard input and answers each command.
 #![tactic(auto)]
 
+ghost use Rattle.std.specs.Prelude.{◌≡◌, option_map};
+ghost use Rattle.cf_tool.specs.Complaints.{complaint_at};
+
 use cf_base::Status;
 use cf_io::{StdSink, StdSource};
 use half_fit_heap::HalfFitHeap;
@@ -14,7 +17,9 @@ use tlsf_heap::TlsfHeap;
 use top_call::{Boxed, cf_main};
 
 /// The line on standard error that goes with a status; none at 0.
-fn complaint(status: Status) -> Option<&'static str> {
+fn complaint(status: Status) -> Option<&'static str>
+    ensures { option_map (λ text. text.now) result ≡ complaint_at status }
+{
     match status {
         Status::Done => None,
         Status::Words => Some("cf_tool: bad words"),

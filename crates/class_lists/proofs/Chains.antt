@@ -1,4 +1,4 @@
--- One ring: what a write elsewhere, a push and an unlinking leave of it.
+-- One ring, after a write to other nodes, a push and an unlinking.
 use Rattle.std.proofs.Common.{◌≡◌, ◌≢◌, ℕ, ◌<◌, List, [], ◌∷◌, length, get_or, set, arith, refl, sym, ◌∙◌, ap, inl, inr}
 use Rattle.std.specs.Prelude.{nat_eq}
 use Rattle.std.specs.List.{Contains, IsDistinct}
@@ -9,12 +9,12 @@ use Rattle.class_lists.specs.Layout.{chain, IsLinked}
 use Rattle.class_lists.proofs.Members.{contains_nil, contains_head, contains_tail, contains_cases, distinct_head, distinct_tail, without_first, without_other}
 
 module _ (next previous : List ℕ) where
-  -- the chain by `next` is the list
+  -- the list is found by following `next`
   pub linked_chain : (start : ℕ) (xs : List ℕ) (end : ℕ) → IsLinked next previous start xs end → chain next (length xs) (get_or next start 0) ≡ xs
   linked_chain start [] end l = refl
   linked_chain start (x ∷ xs) end l = rw (l.0) (ap (λ ys. x ∷ ys) (linked_chain x xs end l.2))
 
-  -- what follows the start is the end, or stands in the list
+  -- the node after the start is the end or in the list
   pub first_in : (start : ℕ) (xs : List ℕ) (end : ℕ) → IsLinked next previous start xs end → Contains (end ∷ xs) (get_or next start 0)
   first_in start [] end l = rw (l.0) (contains_head end [])
   first_in start (x ∷ xs) end l = rw (l.0) (contains_tail x end (x ∷ xs) (contains_head x xs))
@@ -38,7 +38,7 @@ module _ (next previous : List ℕ) where
     | inr in' ↦ contains_tail _ start (x ∷ xs) (previous_in x xs end p l.2 in')
   ]
 
-  -- a write of what follows a node off the way, and of what stands before one
+  -- writes to nodes outside of the ring keep it
   pub linked_kept : (start : ℕ) (xs : List ℕ) (end q v r w : ℕ) → ¬ Contains (start ∷ xs) q → ¬ Contains (end ∷ xs) r
       → IsLinked next previous start xs end → IsLinked (set next q v) (set previous r w) start xs end
   linked_kept start [] end q v r w off back l = (
@@ -55,7 +55,7 @@ module _ (next previous : List ℕ) where
         ]) l.2,
   )
 
-  -- the node p is passed over, where it is the first on the way
+  -- unlinking node p, if it is the first of the list
   pub passed : (start p : ℕ) (xs : List ℕ) (end after : ℕ) → get_or next p 0 ≡ after → start < length next → after < length previous
       → ¬ Contains xs start → ¬ Contains xs end → IsDistinct nat_eq xs
       → IsLinked next previous start (p ∷ xs) end → IsLinked (set next start after) (set previous after start) start xs end
@@ -73,7 +73,7 @@ module _ (next previous : List ℕ) where
         linked_kept x xs end start after after start out back l.2.2,
       ))
 
-  -- the node p is passed over, wherever it stands
+  -- unlinking node p, at any position
   pub linked_after_unlink : (start p : ℕ) (xs : List ℕ) (end before after : ℕ) → get_or previous p 0 ≡ before → get_or next p 0 ≡ after → before < length next
       → after < length previous
       → ¬ Contains xs start → ¬ Contains xs end → IsDistinct nat_eq xs → Contains xs p
@@ -100,7 +100,7 @@ module _ (next previous : List ℕ) where
         ))
   ]
 
--- the node p comes first on a ring
+-- node p becomes the first of the ring
 pub linked_after_push : (next previous : List ℕ) (node p : ℕ) (xs : List ℕ) (first : ℕ) → get_or next node 0 ≡ first → node < length next → p < length next
     → p < length previous → first < length previous
     → p ≢ node → ¬ Contains xs p → ¬ Contains xs node → IsDistinct nat_eq xs

@@ -1,4 +1,4 @@
--- Which numbers stand in a list, that none stands twice, and the list without one of them.
+-- Which numbers are in a list, that none is in it twice, and the list without one number.
 use Rattle.std.proofs.Common.{◌≡◌, ◌≢◌, ℕ, zero, suc, true, false, ◌+◌, ◌<◌, ◌≤◌, List, [], ◌∷◌, length, get_or, cond, eqb, arith, refl, sym, ◌∙◌, ap, inl, inr}
 use Rattle.std.specs.Prelude.{◌⊎◌, not, nat_eq, ◌||◌}
 use Rattle.std.specs.List.{Contains, IsDistinct, AllByRecursion, list_any}
@@ -49,7 +49,7 @@ module _ (p : ℕ) where
   pub distinct_cons : (xs : List ℕ) → ¬ Contains xs p → IsDistinct nat_eq xs → IsDistinct nat_eq (p ∷ xs)
   distinct_cons xs out d = IsDistinct-cons eqb p xs (apart_from_all xs out) d
 
-  -- the list without p
+  -- filtering out p keeps the other numbers
   pub without_same : (xs : List ℕ) → without_page p (p ∷ xs) ≡ without_page p xs
   without_same xs = ap (λ b. cond (not b) (p ∷ without_page p xs) (without_page p xs)) (eq-eqb p p refl)
 
@@ -65,7 +65,7 @@ without_absent p (x ∷ xs) out =
 pub without_first : (p : ℕ) (xs : List ℕ) → ¬ Contains xs p → without_page p (p ∷ xs) ≡ xs
 without_first p xs out = without_same p xs ∙ without_absent p xs out
 
--- what stands in the list without p
+-- a number in the list without p is in the list and isn't p
 pub contains_without : (p q : ℕ) (xs : List ℕ) → Contains (without_page p xs) q → (q ≢ p) × Contains xs q
 contains_without p q [] h = absurd (contains_nil q h)
 contains_without p q (x ∷ xs) h = elim (cases_eq x p) [
@@ -79,7 +79,7 @@ contains_without p q (x ∷ xs) h = elim (cases_eq x p) [
   ]
 ]
 
--- all others still stand there
+-- the other numbers are still in the list
 pub without_contains : (p q : ℕ) (xs : List ℕ) → q ≢ p → Contains xs q → Contains (without_page p xs) q
 without_contains p q [] ne h = absurd (contains_nil q h)
 without_contains p q (x ∷ xs) ne h = elim (contains_cases q x xs h) [
@@ -118,6 +118,6 @@ contains_from_any q (x ∷ xs) is = elim (cases_eq q x) [
   | inr ne ↦ contains_tail q x xs (contains_from_any q xs (sym (ap (λ b. b || list_any (eqb q) xs) (differs q x ne)) ∙ is))
 ]
 
--- numbers below n, none of them twice, are at most n
+-- a list of different numbers below n has at most n of them
 pub length_within : (n : ℕ) (xs : List ℕ) → IsDistinct nat_eq xs → ((q : ℕ) → Contains xs q → q < n) → length xs ≤ n
 length_within n xs d below = length-le_from_distinct_below xs n d (λ q is. below q (contains_from_any q xs is))

@@ -1,4 +1,4 @@
--- Two lists of counts, seen in turn.
+-- Two lists of counts, interleaved.
 use Rattle.std.proofs.Common.{◌≡◌, ℕ, zero, suc, ◌+◌, ◌*◌, ◌<◌, List, [], ◌∷◌, length, get_or, set, drop, replicate, arith, refl, ◌∙◌, ap}
 use Rattle.class_lists.specs.declared.Which.{Which}
 use Rattle.class_lists.specs.declared.Which.TheVariants.{Full, NotFull}
@@ -47,7 +47,7 @@ pub none_in_turn : (k : ℕ) → in_turn (replicate k 0) (replicate k 0) ≡ rep
 none_in_turn zero = refl
 none_in_turn (suc k) = ap (λ xs. 0 ∷ 0 ∷ xs) (none_in_turn k) ∙ ap (λ j. replicate j 0) (let e : suc (suc (2 * k)) ≡ 2 * suc k = omega arith in e)
 
--- a list's class has a count
+-- the class of a list has a count
 pub class_inside : (f n v : List ℕ) → in_turn f n ≡ v → (c : ℕ) (w : Which) → list_number c w < length v → c < length f
 class_inside f n v e c Full lt = (let l = length-in_turn f n in let k = ap length e in omega arith)
 class_inside f n v e c NotFull lt = (let l = length-in_turn f n in let k = ap length e in omega arith)

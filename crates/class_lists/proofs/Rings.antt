@@ -1,4 +1,4 @@
--- All rings together: what a push to one and an unlinking from one leave.
+-- All rings together, after a push to one and an unlinking from one.
 use Rattle.std.proofs.Common.{◌≡◌, ◌≢◌, ℕ, zero, suc, ◌+◌, ◌-◌, ◌<◌, List, [], ◌∷◌, length, get_or, set, arith, refl, sym, ◌∙◌, ap, inl, inr}
 use Rattle.std.specs.Prelude.{nat_eq}
 use Rattle.std.specs.List.{Contains, IsDistinct}
@@ -9,7 +9,7 @@ use Rattle.class_lists.specs.Layout.{chain, chains, list_at, IsLinked, AreRings,
 use Rattle.class_lists.proofs.Members.{contains_head, contains_cases, distinct_cons, contains_without, distinct_without, length-without}
 use Rattle.class_lists.proofs.Chains.{linked_chain, linked_kept, first_in, next_in, previous_in, linked_after_push, linked_after_unlink}
 
--- one list of all is another one
+-- one of the lists is replaced
 module _ (lists : List (List ℕ)) (k : ℕ) (list : List ℕ) where
   pub list_at-set_same : k < length lists → list_at (set lists k list) k ≡ list
   list_at-set_same lt = get_or-set_same lists k list [] lt
@@ -17,7 +17,7 @@ module _ (lists : List (List ℕ)) (k : ℕ) (list : List ℕ) where
   pub list_at-set_other : (j : ℕ) → j ≢ k → list_at (set lists k list) j ≡ list_at lists j
   list_at-set_other j ne = get_or-set_other lists k j list [] ne
 
-  -- a list whose pages stand in no other takes the place of one
+  -- the new list's pages are different and in no other list
   pub disjoint_after : (pages : ℕ) → k < length lists → HoldPagesOnce pages lists
       → ((p : ℕ) → Contains list p → p < pages) → IsDistinct nat_eq list
       → ((j p : ℕ) → j ≢ k → Contains (list_at lists j) p → ¬ Contains list p) → HoldPagesOnce pages (set lists k list)
@@ -51,7 +51,7 @@ module _ (next previous lens : List ℕ) (pages : ℕ) (lists : List (List ℕ))
   own_node : (j : ℕ) → ¬ Contains (list_at lists j) (pages + k)
   own_node j h = absurd (let below : pages + k < pages = d.within j (pages + k) h in omega arith)
 
-  -- a node of one ring is on no other
+  -- a node of one ring is in no other
   off_ring : (j q : ℕ) → j ≢ k → Contains (ring k) q → ¬ Contains (ring j) q
   off_ring j q ne h g = elim (contains_cases q (pages + k) (list_at lists k) h) [
     | inl at ↦ elim (contains_cases q (pages + j) (list_at lists j) g) [
@@ -71,7 +71,7 @@ module _ (next previous lens : List ℕ) (pages : ℕ) (lists : List (List ℕ))
     | inr in' ↦ (let below : q < pages = d.within k q in' in omega arith)
   ]
 
-  -- the list's new length and ring, beside all others
+  -- the ring and length of list k change; the others stay
   linked_after : (next' previous' : List ℕ) (list : List ℕ) (len : ℕ) → len ≡ length list
       → IsLinked next' previous' (pages + k) list (pages + k)
       → ((j : ℕ) → j < length lens → j ≢ k → IsLinked next' previous' (pages + j) (list_at lists j) (pages + j))
@@ -91,7 +91,7 @@ module _ (next previous lens : List ℕ) (pages : ℕ) (lists : List (List ℕ))
       }
 
   module _ (nodes : pages + length lens ≡ length next) (backed : length previous ≡ length next) where
-    -- what follows the list's own node
+    -- the node after the list's own node
     pub first_within : get_or next (pages + k) 0 < length next
     first_within = ring_within _ nodes (first_in next previous _ _ _ (l.linked k lt))
 
@@ -147,7 +147,7 @@ module _ (next previous lens : List ℕ) (pages : ℕ) (lists : List (List ℕ))
           (distinct_without p (list_at lists k) (d.distinct k))
           (λ j q ne g in'. ne (d.once j k q g (contains_without p q (list_at lists k) in').1))
 
--- the lists by their chains
+-- all lists, read off their chains
 pub length-chains : (next : List ℕ) (node : ℕ) (lens : List ℕ) → length (chains next node lens) ≡ length lens
 length-chains next node [] = refl
 length-chains next node (len ∷ lens) = ap suc (length-chains next (node + 1) lens)

@@ -1,4 +1,4 @@
--- What the fields tell of the value, and what the calls do to it.
+-- The value that the fields represent, and what the calls do to it.
 use Rattle.std.proofs.Common.{◌≡◌, ◌≢◌, ℕ, zero, suc, ◌+◌, ◌-◌, ◌*◌, ◌/◌, ◌%◌, ◌<◌, ◌≤◌, List, [], ◌∷◌, Some, None, length, get_or, set, replicate, arith, refl}
 use Rattle.std.proofs.Common.{sym, ◌∙◌, ap, subst, inl, inr, zero-add}
 use Rattle.std.specs.Prelude.{◌^◌, slice_get}
@@ -15,14 +15,14 @@ use Rattle.class_lists.proofs.Members.{length_within}
 use Rattle.class_lists.proofs.Rings.{length-chains, chains_are, first_within, push_linked, push_disjoint, before_within, after_within, unlink_linked}
 use Rattle.class_lists.proofs.Rings.{unlink_disjoint}
 
--- the number tells the class and which list
+-- a list's number determines its class and its kind
 pub same_list : (c d : ℕ) (w u : Which) → list_number c w ≡ list_number d u → (c ≡ d) × (w ≡ u)
 same_list c d Full Full e = (omega arith, refl)
 same_list c d Full NotFull e = absurd (omega arith)
 same_list c d NotFull Full e = absurd (omega arith)
 same_list c d NotFull NotFull e = (omega arith, refl)
 
--- the numbers of the lists of c
+-- the lists of class c are in range
 pub class_below : (c : ℕ) (w : Which) (n : ℕ) → c < n / 2 → list_number c w < n
 class_below c Full n lt = omega arith
 class_below c NotFull n lt = omega arith
@@ -31,7 +31,7 @@ class_of_number : (c : ℕ) (w : Which) (n : ℕ) → 2 * (n / 2) ≡ n → list
 class_of_number c Full n e lt = omega arith
 class_of_number c NotFull n e lt = omega arith
 
--- a list of the value, and the others, after one is another
+-- the lists of a value after one of them is replaced
 module _ (v : PageLists) (c : ℕ) (w : Which) (list : List ℕ) where
   pub pages_in-with_list : list_number c w < length v.lists → pages_in (with_list v c w list) c w ≡ list
   pages_in-with_list lt = get_or-set_same v.lists (list_number c w) list [] lt
@@ -41,7 +41,7 @@ module _ (v : PageLists) (c : ℕ) (w : Which) (list : List ℕ) where
       let is = same_list d c u w e in
       elim other [ inl ne ↦ ne is.0 | inr ne ↦ ne is.1 ])
 
--- a page that leaves its list is in no other
+-- a page that leaves its list is in no list
 pub unlisted_then : (v : PageLists) (c : ℕ) (w : Which) (p : ℕ) → list_number c w < length v.lists → AreApart v → Contains (pages_in v c w) p
     → IsUnlisted (with_list v c w (without_page p (pages_in v c w))) p
 unlisted_then v c w p lt a h d u g = elim (cases_eq (list_number d u) (list_number c w)) [
@@ -60,7 +60,7 @@ module _ (next previous lens : List ℕ) (pages : ℕ) (s : IsValid next previou
   abbrev all : List (List ℕ)
   all = chains next pages lens
 
-  -- no page stands in two lists
+  -- no page is in two lists
   pub lists_apart : AreApart (lists_of next lens pages)
   lists_apart = record {
     page = λ c w p h. s.disjoint.within (list_number c w) p h;
@@ -72,7 +72,7 @@ module _ (next previous lens : List ℕ) (pages : ℕ) (s : IsValid next previou
     once = λ c d w u p h g. same_list c d w u (s.disjoint.once (list_number c w) (list_number d u) p h g);
   }
 
-  -- other arrays that are linked through the lists
+  -- new links and lengths that represent valid lists
   pub sound_after : (next' previous' lens' : List ℕ) (lists : List (List ℕ)) → length next' ≡ length next → length previous' ≡ length previous
       → length lens' ≡ length lens
       → AreRings next' previous' lens' pages lists → HoldPagesOnce pages lists → IsValid next' previous' lens' pages
@@ -89,7 +89,7 @@ module _ (next previous lens : List ℕ) (pages : ℕ) (s : IsValid next previou
         disjoint = subst (λ ls. HoldPagesOnce pages ls) e d;
       }
 
--- what a call that changes one list leaves
+-- the fields after a call that replaces one list
 pub record Changes (next previous lens : List ℕ) (pages : ℕ) (v : PageLists) (c : ℕ) (w : Which) (asked : List ℕ) : Type 0 where
   pub sound : IsValid next previous lens pages
   pub lists : lists_of next lens pages ≡ with_list v c w asked
@@ -121,7 +121,7 @@ module _ (next previous lens : List ℕ) (pages : ℕ) (s : IsValid next previou
     follower : (first : ℕ) → first ≡ get_or next (pages + k) first → first ≡ get_or next (pages + k) 0
     follower first read = get_or_read next (pages + k) first (let e = s.nodes in let f = within in omega arith) read 0
 
-    -- what follows a list's own node is its head, where it is a page
+    -- the node after a list's own node is its head, if it is a page
     pub front_some : (first : ℕ) → first ≡ get_or next (pages + k) first → first < pages → Some first ≡ slice_get (pages_in v c w) 0
     front_some first read below = rw list_k (go (list_at (chains next pages lens) k) (s.linked.linked k within))
       where
@@ -129,7 +129,7 @@ module _ (next previous lens : List ℕ) (pages : ℕ) (s : IsValid next previou
         go [] l = absurd (let e : first ≡ pages + k = follower first read ∙ l.0 in omega arith)
         go (x ∷ xs) l = ap Some (follower first read ∙ l.0)
 
-    -- and where it is the list's own node, the list is empty
+    -- and if it is no page, the list is empty
     pub front_none : (first : ℕ) → first ≡ get_or next (pages + k) first → pages ≤ first → pages_in v c w ≡ []
     front_none first read above = rw list_k (go (list_at (chains next pages lens) k) (s.disjoint.within k) (s.linked.linked k within))
       where
@@ -137,7 +137,7 @@ module _ (next previous lens : List ℕ) (pages : ℕ) (s : IsValid next previou
         go [] ranged l = refl
         go (x ∷ xs) ranged l = absurd (let e : first ≡ x = follower first read ∙ l.0 in let below : x < pages = ranged x (contains_head x xs) in omega arith)
 
-    -- what the length says
+    -- the stored length is that of the list
     pub counted : (len : ℕ) → len ≡ get_or lens k 0 → len ≡ length (pages_in v c w)
     counted len read = read ∙ s.linked.counted k within ∙ ap length (sym list_k)
 
@@ -150,7 +150,7 @@ module _ (next previous lens : List ℕ) (pages : ℕ) (s : IsValid next previou
         let f : list_number c w < length lens = list_within c w lt in
         omega arith
 
-    -- other arrays that are linked through the lists, one of which is another
+    -- new links and lengths after one list is replaced
     changed : (next' previous' lens' : List ℕ) (list list' : List ℕ) → list ≡ list' → length next' ≡ length next → length previous' ≡ length previous
         → length lens' ≡ length lens
         → AreRings next' previous' lens' pages (set (chains next pages lens) k list) → HoldPagesOnce pages (set (chains next pages lens) k list)
@@ -173,7 +173,7 @@ module _ (next previous lens : List ℕ) (pages : ℕ) (s : IsValid next previou
       below : p < pages
       below = rw pages_are at in_p
 
-      -- the number of a list is that of some class
+      -- every list belongs to some class, so the page is in no ring
       unlisted : (j : ℕ) → ¬ Contains (list_at (chains next pages lens) j) p
       unlisted j h = elim (cases_lt (j % 2) 1) [
         | inl even ↦ (let e : list_number (j / 2) Full ≡ j = omega arith in out (j / 2) Full (rw (pages_at (j / 2) Full, e) h))
@@ -255,7 +255,7 @@ no_list (suc n) (suc k) = no_list n k
 pub empty_are_empty : (classes pages : ℕ) → AreEmpty (empty_lists classes pages)
 empty_are_empty classes pages c w = no_list (2 * classes) (list_number c w)
 
--- a head stands in its list
+-- the head of a list is in it
 pub front_listed : (xs : List ℕ) (p : ℕ) → Some p ≡ slice_get xs 0 → Contains xs p
 front_listed [] p is = absurd (let f : Some p ≡ None = is in cc)
 front_listed (x ∷ xs) p is = (let e : p ≡ x = (let f : Some p ≡ Some x = is in cc) in rw e (contains_head x xs))
@@ -271,7 +271,7 @@ module _ (next previous lens : List ℕ) (classes pages nodes : ℕ) (is : pages
   as_many : (links : List ℕ) → links ≡ range_with_len 0 nodes → length links ≡ nodes
   as_many links e = ap length e ∙ length-range_with_len 0 nodes
 
-  -- each node is a ring of its own
+  -- in a new table each node is a ring by itself
   alone : (links : List ℕ) → links ≡ range_with_len 0 nodes → (node : ℕ) → node < nodes → get_or links node 0 ≡ node
   alone links e node lt = ap (λ (xs : List ℕ). get_or xs node 0) e ∙ get_or-range_with_len 0 nodes node 0 lt ∙ zero-add node
 

@@ -1,14 +1,14 @@
--- How the lists are linked: rings of nodes, each through a node of its own after those of the pages. No public clause cites this module.
+-- How the lists are linked: as rings of nodes, each through a node of its own after the nodes of the pages. No public clause cites this module.
 use Rattle.std.specs.Prelude.{◌≡◌, ℕ, zero, suc, ◌+◌, ◌*◌, ◌/◌, ◌^◌, ◌<◌, List, [], ◌∷◌, length, slice_index, slice_index_or, nat_eq}
 use Rattle.std.specs.List.{Contains, IsDistinct}
 use Rattle.class_lists.specs.PageLists.{PageLists}
 
--- so many nodes, each the next of the one before
+-- the first `count` nodes from `node` on, following `next`
 abbrev pub chain : List ℕ → ℕ → ℕ → List ℕ
 chain next zero node = []
 chain next (suc count) node = node ∷ chain next count (slice_index next node)
 
--- the lists of these lengths whose rings go through the nodes from `node` on
+-- the lists of these lengths: the ring of the first goes through node `node`, that of the second through node `node + 1`, and so on
 abbrev pub chains : List ℕ → ℕ → List ℕ → List (List ℕ)
 chains next node [] = []
 chains next node (len ∷ lens) = chain next len (slice_index next node) ∷ chains next (node + 1) lens
@@ -16,7 +16,7 @@ chains next node (len ∷ lens) = chain next len (slice_index next node) ∷ cha
 abbrev pub lists_of : List ℕ → List ℕ → ℕ → PageLists
 lists_of next lens pages = record { pages = pages; classes = length lens / 2; lists = chains next pages lens }
 
--- the way from one node through the list to the other goes by `next`, and back by `previous`
+-- from `start` the links lead through the list to `end` by `next`, and back by `previous`
 abbrev pub IsLinked : List ℕ → List ℕ → ℕ → List ℕ → ℕ → Type 0
 IsLinked next previous start [] end =
     (slice_index next start ≡ end) × (slice_index previous end ≡ start)
@@ -33,7 +33,7 @@ pub record AreRings (next previous lens : List ℕ) (pages : ℕ) (lists : List 
   pub linked : (k : ℕ) → k < length lens → IsLinked next previous (pages + k) (list_at lists k) (pages + k)
   pub counted : (k : ℕ) → k < length lens → slice_index lens k ≡ length (list_at lists k)
 
--- the lists' pages are in range, and none stands in two lists, or twice in one
+-- the lists' pages are in range, and no page is in two lists, or twice in one
 pub record HoldPagesOnce (pages : ℕ) (lists : List (List ℕ)) : Type 0 where
   pub within : (k page : ℕ) → Contains (list_at lists k) page → page < pages
   pub distinct : (k : ℕ) → IsDistinct nat_eq (list_at lists k)

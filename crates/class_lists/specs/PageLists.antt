@@ -1,17 +1,17 @@
--- What the class lists stand for: for each class a list of its full pages and one of its not-full pages.
+-- What contracts see of class lists: for each class a list of its full pages and one of its partly full pages.
 use Rattle.std.specs.Prelude.{◌≡◌, ◌≢◌, ℕ, ◌+◌, ◌*◌, ◌<◌, ◌==◌, ◌⊎◌, List, [], replicate, slice_index_or, slice_set, nat_eq, not, refl}
 use Rattle.std.specs.List.{Contains, IsDistinct, filter}
 use Rattle.std.specs.Coded.{Coded, code_by, coded×, coded_ℕ, coded_list}
 use Rattle.class_lists.specs.declared.Which.{Which}
 use Rattle.class_lists.specs.declared.Which.TheVariants.{Full, NotFull}
 
--- how many pages and classes there are, and the lists, two for each class
+-- the numbers of pages and classes, and the lists, two for each class
 pub record PageLists : Type 0 where
   pub pages : ℕ
   pub classes : ℕ
   pub lists : List (List ℕ)
 
--- where a list of a class stands among all lists
+-- the number of a class's list among all lists
 abbrev pub list_number : ℕ → Which → ℕ
 list_number c Full = 2 * c
 list_number c NotFull = 2 * c + 1
@@ -20,7 +20,7 @@ list_number c NotFull = 2 * c + 1
 abbrev pub pages_in : PageLists → ℕ → Which → List ℕ
 pages_in v c which = slice_index_or v.lists (list_number c which) []
 
--- the lists of so many classes for so many pages, with no page in them
+-- the lists of `classes` classes for `pages` pages, all empty
 abbrev pub empty_lists : ℕ → ℕ → PageLists
 empty_lists classes pages = record { pages = pages; classes = classes; lists = replicate (2 * classes) [] }
 
@@ -28,7 +28,7 @@ empty_lists classes pages = record { pages = pages; classes = classes; lists = r
 abbrev pub AreEmpty : PageLists → Type 0
 AreEmpty v = (c : ℕ) (which : Which) → pages_in v c which ≡ []
 
--- one list is another one, and all others stay
+-- one list is replaced, the others stay
 abbrev pub with_list : PageLists → ℕ → Which → List ℕ → PageLists
 with_list v c which list = record v { lists = slice_set v.lists (list_number c which) list }
 
@@ -36,16 +36,16 @@ with_list v c which list = record v { lists = slice_set v.lists (list_number c w
 abbrev pub IsUnlisted : PageLists → ℕ → Type 0
 IsUnlisted v page = (c : ℕ) (which : Which) → ¬ Contains (pages_in v c which) page
 
--- the others of a list, in order
+-- a list without one page, in order
 abbrev pub without_page : ℕ → List ℕ → List ℕ
 without_page page list = filter (λ other. not (other == page)) list
 
--- all lists but this one stay
+-- every other list stays
 abbrev pub KeepsOthers : PageLists → PageLists → ℕ → Which → Type 0
 KeepsOthers old new c which =
     (d : ℕ) (other : Which) → (d ≢ c) ⊎ (other ≢ which) → pages_in new d other ≡ pages_in old d other
 
--- the pages of the lists are in range, and no page stands in two lists, or twice in one
+-- the lists' pages are in range, and no page is in two lists, or twice in one
 pub record AreApart (v : PageLists) : Type 0 where
   pub page : (c : ℕ) (which : Which) (page : ℕ) → Contains (pages_in v c which) page → page < v.pages
   pub class : (c : ℕ) (which : Which) (page : ℕ) → Contains (pages_in v c which) page → c < v.classes
@@ -53,7 +53,7 @@ pub record AreApart (v : PageLists) : Type 0 where
   pub once : (c d : ℕ) (which other : Which) (page : ℕ) → Contains (pages_in v c which) page → Contains (pages_in v d other) page
       → (c ≡ d) × (which ≡ other)
 
--- it is stored as the tuple of its parts
+-- stored as the tuple of its fields
 abbrev pub lists_code : Coded PageLists
 lists_code =
     code_by (ℕ × (ℕ × List (List ℕ))) (coded× coded_ℕ (coded× coded_ℕ (coded_list (coded_list coded_ℕ))))

@@ -1,4 +1,4 @@
-//! How many pages each list has: plain counts, of which two for each class.
+//! The number of pages in each list, as plain counts, two for each class.
 ghost use Rattle.std.specs.Prelude.{◌≡◌, ◌+◌, ◌-◌, ◌*◌, ◌^◌, ◌<◌, IfOk, length, replicate, slice_index, slice_set};
 ghost use Rattle.class_lists.specs.PageLists.{list_number};
 
@@ -6,7 +6,8 @@ use crate::Which;
 use std::alloc::{AllocError, Global};
 use std::marker::Model;
 
-/// The lengths of the lists, by the number of a list. They stand in one array of the full lists and one of the others.
+/// The lengths of the lists, by the number of a list: one array for the lists of full pages, one
+/// for the others.
 #[derive(Drop)]
 pub(crate) struct Counts {
     full: Vec<u32>,
@@ -25,7 +26,7 @@ impl Model for Counts {
 }
 
 impl Counts {
-    /// No list of so many classes has a page.
+    /// Zeros for the lists of `classes` classes.
     pub(crate) fn new(alloc: Global, classes: u32) -> Result<Counts, AllocError>
         ensures { IfOk result (λ counts. counts ≡ replicate (2 * classes) 0) }
     {
@@ -35,7 +36,7 @@ impl Counts {
         })
     }
 
-    /// How many pages a list has.
+    /// The number of pages in a list.
     pub(crate) fn of(&self, c: u32, which: Which) -> u32
         requires { list_number c which < length self.now }
         ensures { result ≡ slice_index self.now (list_number c which) }
@@ -46,7 +47,7 @@ impl Counts {
         }
     }
 
-    /// Gives a list another length.
+    /// Changes the length of a list.
     pub(crate) fn put(&mut self, c: u32, which: Which, len: u32)
         requires { list_number c which < length self.old }
         ensures { self.new ≡ slice_set self.old (list_number c which) len }

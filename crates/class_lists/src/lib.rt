@@ -1,4 +1,5 @@
-//! The pages of each class, full and partly full, in lists that a page joins and leaves at once.
+//! The full pages and the partly full pages of each class, in linked lists. Adding a page costs
+//! four steps, and so does removing one.
 #![tactic(auto)]
 
 ghost use Rattle.std.specs.Prelude.{◌≡◌, ◌+◌, ◌*◌, ◌<◌, ◌^◌, ◌↔◌, [], ◌∷◌, IfOk, IfSome, IsNone, length, slice_get, slice_set};
@@ -15,25 +16,25 @@ use std::alloc::{AllocError, Global};
 use std::marker::Model;
 use step_ledger::Steps;
 
-/// Which pages of a class a list has.
+/// The kind of a list.
 #[derive(Clone, Copy, Debug, PartialEq, Eq)]
 pub enum Which {
-    /// Each slot is used.
+    /// Pages without a free slot.
     Full,
-    /// Some slot is used, and some is free.
+    /// Partly full pages.
     NotFull,
 }
 
-/// One list of pages for each class and `Which`. No page stands in two lists, or twice in one.
+/// One list of pages for each class and `Which`. No page is in two lists, or twice in one.
 #[derive(Drop)]
 pub struct ClassLists {
-    // Each list is a ring through a node of its own, after those of the pages.
+    // Each list is a ring through a node of its own, after the nodes of the pages.
     links: Links,
     lens: Counts,
     pages: u32,
 }
 
-/// For each node the next and the previous one on its ring.
+/// For each node the next and the previous one in its ring.
 #[derive(Drop)]
 struct Links {
     next: Cells<u32>,
@@ -55,8 +56,8 @@ impl Model for ClassLists {
 }
 
 impl ClassLists {
-    /// The lists of `classes` classes for `pages` pages, all empty. Nodes are numbered in 32 bits, and
-    /// more than these number are refused as out of memory.
+    /// The lists of `classes` classes for `pages` pages, all empty. Nodes have 32-bit numbers; if
+    /// there would be more, the call fails as out of memory.
     pub fn new(alloc: Global, classes: u32, pages: u32) -> Result<ClassLists, OutOfMemory>
         ensures lists { IfOk result (λ lists. lists ≡ empty_lists classes pages) }
         ensures empty { IfOk result AreEmpty }
@@ -74,7 +75,7 @@ impl ClassLists {
         Ok(ClassLists { links, lens, pages })
     }
 
-    /// The head of a list; none where the list is empty.
+    /// The head of a list; none if the list is empty.
     pub fn front(&self, c: u32, which: Which, steps: &mut Steps) -> Option<u32>
         requires class { c < self.now.classes }
         ensures front { result ≡ slice_get (pages_in self.now c which) 0 }
@@ -92,7 +93,7 @@ impl ClassLists {
         }
     }
 
-    /// How many pages a list has.
+    /// The number of pages in a list.
     pub fn len(&self, c: u32, which: Which) -> u32
         requires class { c < self.now.classes }
         ensures len { result ≡ length (pages_in self.now c which) }
@@ -122,7 +123,7 @@ impl ClassLists {
         self.lens.put(c, which, len + 1);
     }
 
-    /// Takes a page out of its list, wherever it stands there.
+    /// Removes a page from its list.
     pub fn unlink(&mut self, c: u32, which: Which, page: u32, steps: &mut Steps)
         requires class { c < self.old.classes }
         requires listed { Contains (pages_in self.old c which) page }
@@ -144,7 +145,7 @@ impl ClassLists {
 }
 
 impl Links {
-    /// Nodes that each are a ring of their own.
+    /// `nodes` nodes, each a ring by itself.
     fn new(alloc: Global, nodes: u32) -> Result<Links, AllocError>
         ensures next { IfOk result (λ links. links.next ≡ range_with_len 0 nodes) }
         ensures previous { IfOk result (λ links. links.previous ≡ range_with_len 0 nodes) }
@@ -155,7 +156,7 @@ impl Links {
         })
     }
 
-    /// Lets one node be followed by another.
+    /// Links `before` to `after`, in both directions.
     fn join(&mut self, before: u32, after: u32, steps: &mut Steps)
         requires before { before < length self.old.next }
         requires after { after < length self.old.previous }
@@ -168,7 +169,7 @@ impl Links {
     }
 }
 
-/// Where a list of a class stands among all lists.
+/// The number of a class's list among all lists.
 fn number_of(c: u32, which: Which) -> u32
     requires { 2 * c + 1 < 2 ^ 32 }
     ensures { result ≡ list_number c which }

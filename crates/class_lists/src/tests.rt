@@ -1,10 +1,11 @@
-//! What the lists keep.
+//! The fields of the lists.
 use super::{ClassLists, Counts, Links, Which};
 use counted_cells::Cells;
 use std::test::Fail;
 
-/// Each field has a name and a written type here: the links stand in counted cells, and the rest is numbers.
-/// Two lists for each of two classes have nodes of their own after those of three pages.
+/// Names each field with its type, so that no field is added unseen: the links are in counted
+/// cells, the other fields are numbers. The two lists of each of two classes have nodes of their
+/// own after those of three pages.
 #[test]
 fn the_lists_keep_their_links_in_cells(rt: HostRuntime) -> Result<(), Fail> {
     let Ok(lists) = ClassLists::new(rt.alloc(), 2, 3) else {

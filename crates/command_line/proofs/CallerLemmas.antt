@@ -1,2 +1,2 @@
--- What upper crates may cite, passed on from one place. Declares nothing.
+-- What other crates' proofs may cite, re-exported. Declares nothing.
 pub use Rattle.command_line.proofs.ReadAlike.{chosen_are_accepted, not_accepted, one_choice}

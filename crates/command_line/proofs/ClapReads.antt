@@ -1,4 +1,4 @@
--- What the reading of words rests on.
+-- Facts about `clap`'s matches that the reading of arguments uses.
 use Rattle.std.proofs.Common.{◌≡◌, ◌≤◌, ◌<◌, ◌^◌, ℕ, Bool, true, false, List, refl, arith, Option, Some, None, ◌≢◌, [], ◌∷◌, inl, inr}
 use Rattle.std.specs.Prelude.{Result, Ok, Err, unwrap_or}
 use Rattle.std.specs.Str.Parse.{ParsesUnsigned, digits_value, without_leading_plus}
@@ -28,13 +28,13 @@ text_number G only t None read = go (accepts false any_u64 t) refl
         absurd (only t (Err read.0) read.1 (passes.0, passes.1))
     go false e = rw e refl
 
--- a number that clap let through is read as `u64_in` says
+-- `u64_in` is the number of a text that `clap` accepted
 pub number_of_text : {E : Type 0} (G : List ℕ → Result ℕ E → Type 0) → ((u : List ℕ) (x : Result ℕ E) → G u x → ParsesUnsigned 64 10 u x)
     → (o : Option Text) (r : Option ℕ) → (o ≡ None → r ≡ None) → ((t : Text) → o ≡ Some t → ReadsOne G t r) → unwrap_or r 0 ≡ u64_in o
 number_of_text G only None r none some = rw (none refl) refl
 number_of_text G only (Some t) r none some = text_number G only t r (some t refl)
 
--- the same of a number of 32 bits that is read as `quantum_in` says
+-- the same for `quantum_in` and a number of 32 bits
 module _ {E : Type 0} (G : List ℕ → Result ℕ E → Type 0) (only : (u : List ℕ) (x : Result ℕ E) → G u x → ParsesUnsigned 32 10 u x) where
   quantum_text : (t : Text) (r : Option ℕ) → ReadsOne G t r → 1 ≤ unwrap_or r 16 → unwrap_or r 16 ≤ 16384 → unwrap_or r 16 ≡ quantum_in (Some t)
   quantum_text t (Some v) read low high =
@@ -72,7 +72,7 @@ cf_is_simple app h = rw h.app_is (simple_shape h.modes h.managers)
 pub cf_is_free : (app : _) → IsCfApp app → is_simple_and_free app ≡ true
 cf_is_free app h = rw h.app_is (free_shape h.modes h.managers)
 
--- an error other than out of memory comes only where a fault is found
+-- an error that isn't out of memory has a kind that was found
 pub another_kind_is_found : (kinds : Kinds) (e : Error) → HasKind kinds e → (kind_of e ≡ kind.OutOfMemory → ⊥) → kinds ≢ []
 another_kind_is_found [] e (inl wanting) other none = other wanting
 another_kind_is_found [] e (inr among) other none = among

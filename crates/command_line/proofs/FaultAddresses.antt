@@ -1,4 +1,4 @@
--- Where the names of an argument lie changes no fault that is found in the arguments.
+-- The addresses of an argument's names don't change the faults that are found in the arguments.
 use Rattle.std.proofs.Common.{◌≡◌, ◌∙◌, ◌&&◌, ℕ, Bool, zero, suc, not, List, [], ◌∷◌, map, length, refl, ap, ap₂, Option, Some, None, is_some}
 use Rattle.std.proofs.Common.{if◌then◌else◌}
 use Rattle.std.specs.List.{list_any}
@@ -129,7 +129,7 @@ module _ (s : Shape) where
       (not has && s.subcommand_required) (not (s.subcommand_negates_reqs && has) && x))
       (list_any-rebased (λ (a : Rule). a.required && not (is_given a.id rows)) s.rules)
 
--- what is found after the walk
+-- the faults that are found after the walk
 abbrev end_fault : Shape → Bool → Kinds → Held → Kinds
 end_fault s has below h = or_else below (or_else (settle_fault s.rules s.args_override_self h)
     (or_else (defaults_fault (settled s.rules h).rows s.rules) (check_fault s (finished s.rules h) has)))

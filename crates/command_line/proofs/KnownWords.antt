@@ -1,4 +1,4 @@
--- Arguments that are known, read by the command whose names lie at address 0.
+-- Examples of arguments, read by the command whose names are at address 0.
 use Rattle.std.proofs.Common.{◌≡◌, List, [], ◌∷◌, refl, codes}
 use Rattle.cf_base.specs.Kind.{kind_name}
 use Rattle.cf_base.specs.declared.kind.Kind.{Kind}

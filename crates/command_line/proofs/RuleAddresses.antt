@@ -1,4 +1,4 @@
--- Where the names of an argument lie changes nothing that `clap` reads of it: its rule reads as the same rule with these names at address 0.
+-- The addresses of an argument's names don't change what `clap` reads: its rule reads as the same rule with these names at address 0.
 use Rattle.std.proofs.Common.{◌≡◌, ◌∙◌, ◌||◌, Bool, List, [], ◌∷◌, map, refl, sym, ap, ap₂, Option, Some, None, if◌then◌else◌}
 use Rattle.std.specs.Borrow.{Bor}
 use Rattle.std.specs.List.{fold, list_any}

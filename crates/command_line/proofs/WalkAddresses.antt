@@ -1,4 +1,4 @@
--- Where the names of an argument lie changes nothing in the walk over the arguments.
+-- The addresses of an argument's names don't change the walk over the arguments.
 use Rattle.std.proofs.Common.{◌≡◌, ◌∙◌, ◌&&◌, ◌||◌, ℕ, Bool, zero, suc, false, not, List, [], ◌∷◌, map, length, refl, sym, ap, ap₂, Option, Some, None}
 use Rattle.std.proofs.Common.{is_some, if◌then◌else◌}
 use Rattle.std.specs.List.{fold}
@@ -15,7 +15,7 @@ use Rattle.clap.specs.Walk.{walked, walked_from, with_default, word_met}
 use Rattle.clap.proofs.WalkLemmas.{find-map}
 use Rattle.command_line.proofs.RuleAddresses.{defaults-rebased, rebased, used-rebased}
 
--- the walk where the positional holds its word
+-- the walk after the positional argument got its word
 abbrev placed : Rule → Walk → Held → Walk
 placed a w h = record {
   held = h;

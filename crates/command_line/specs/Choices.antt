@@ -1,4 +1,4 @@
--- What the arguments choose, by `clap`'s definitions of the matches.
+-- The choice that arguments make, by `clap`'s definitions of matches.
 use Rattle.std.specs.Prelude.{◌≡◌, ◌≢◌, ⊤, ℕ, List, [], Option, Some, None, Result, Ok, Err, codes, false, if◌then◌else◌}
 use Rattle.std.specs.Str.{bytes_eq}
 use Rattle.std.specs.Str.Parse.{digits_value, without_leading_plus}
@@ -14,7 +14,7 @@ use Rattle.command_line.specs.declared.choice.Mode.TheVariants.{Run, Compare, Be
 use Rattle.command_line.specs.declared.choice.WordsFault.{WordsFault}
 use Rattle.command_line.specs.declared.choice.WordsFault.TheVariants.{Refused, OutOfMemory}
 
--- the mode of a name; the command lets no other name through
+-- the mode of a name; the command accepts no other name
 abbrev pub mode_named : Option Text → Mode
 mode_named None = Run
 mode_named (Some name) = if bytes_eq name (mode_name Compare) then Compare
@@ -24,23 +24,23 @@ mode_named (Some name) = if bytes_eq name (mode_name Compare) then Compare
     else (if bytes_eq name (mode_name Load) then Load
     else (if bytes_eq name (mode_name Slice) then Slice else (if bytes_eq name (mode_name Quota) then Quota else Run))))))
 
--- the kind of a name; the command lets no other name through
+-- the kind of a name; the command accepts no other name
 abbrev pub kind_named : Option Text → Kind
 kind_named None = Moving
 kind_named (Some name) = if bytes_eq name (kind_name NonMoving) then NonMoving
     else (if bytes_eq name (kind_name Tlsf) then Tlsf else (if bytes_eq name (kind_name HalfFit) then HalfFit else Moving))
 
--- the number that a text says, as `clap` reads a u64; the command lets no other text through
+-- the number of a text, as `clap` reads a u64; the command accepts no other text
 abbrev pub u64_in : Option Text → ℕ
 u64_in None = 0
 u64_in (Some text) = if accepts false any_u64 text then digits_value 10 (without_leading_plus text) else 0
 
--- the quantum that a text says; the command lets no other text through
+-- the quantum of a text; the command accepts no other text
 abbrev pub quantum_in : Option Text → ℕ
 quantum_in None = 16
 quantum_in (Some text) = if accepts false quantum_parser text then digits_value 10 (without_leading_plus text) else 16
 
--- what the rows of the matches choose
+-- the choice that the rows of the matches make
 abbrev pub choice_of : List Row → Choice
 choice_of rows = record {
   mode = mode_named (first_of (codes "mode") rows);
@@ -50,13 +50,13 @@ choice_of rows = record {
   quantum = quantum_in (one_of (codes "quantum") rows);
 }
 
--- The command finds no fault in the arguments. Which references to its names it has doesn't matter, here and below: all such commands read alike.
+-- the command finds no fault in the arguments; here and below it may have any references to its names, since all such commands read alike
 pub record AreAccepted (words : List Text) : Type 0 where
   pub app : App
   pub is_app : IsCfApp app
   pub accepted : fault_of app words ≡ []
 
--- the command finds no fault in the arguments, and they choose this
+-- the command finds no fault in the arguments, and they make this choice
 pub record Chooses (words : List Text) (choice : Choice) : Type 0 where
   pub app : App
   pub is_app : IsCfApp app
@@ -69,12 +69,12 @@ pub record AreRefused (words : List Text) : Type 0 where
   pub is_app : IsCfApp app
   pub refused : fault_of app words ≢ []
 
--- the arguments choose this, or are refused; out of memory may always come
+-- the arguments make this choice, or are refused; `OutOfMemory` may replace either
 abbrev pub ReadsAs : List Text → Result Choice WordsFault → Type 0
 ReadsAs words (Ok choice) = Chooses words choice
 ReadsAs words (Err Refused) = AreRefused words
 ReadsAs words (Err OutOfMemory) = ⊤
 
--- this mode and this kind, with this seed, this count and this quantum
+-- the choice with this mode, kind, seed, count and quantum
 abbrev pub chosen : Mode → Kind → ℕ → ℕ → ℕ → Choice
 chosen mode kind seed count quantum = record { mode = mode; kind = kind; seed = seed; count = count; quantum = quantum }

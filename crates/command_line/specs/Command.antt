@@ -13,6 +13,7 @@ use Rattle.command_line.specs.declared.choice.Mode.TheVariants.{Run, Compare, Be
 abbrev pub NameList : Type 0
 NameList = Bor (List (Bor Text))
 
+-- the names of a list, as texts
 abbrev pub texts_of : NameList → List Text
 texts_of names = map (λ name. name.now) names.now
 
@@ -27,9 +28,11 @@ mode_name Load = codes "load"
 mode_name Slice = codes "slice"
 mode_name Quota = codes "quota"
 
+-- the names of the modes
 abbrev pub mode_names : List Text
 mode_names = map mode_name (Run ∷ Compare ∷ Bench ∷ Large ∷ Save ∷ Load ∷ Slice ∷ Quota ∷ [])
 
+-- the names of the kinds
 abbrev pub manager_names : List Text
 manager_names = kind_name Moving ∷ kind_name NonMoving ∷ kind_name Tlsf ∷ kind_name HalfFit ∷ []
 
@@ -37,10 +40,11 @@ manager_names = kind_name Moving ∷ kind_name NonMoving ∷ kind_name Tlsf ∷ 
 abbrev pub mode_rule : NameList → Rule
 mode_rule names = record (new_rule (codes "mode")) { parser = Some (Names names); defaults = mode_name Run ∷ [] }
 
--- an option of this name, with the parser of its value and its default
+-- an option with this name, this parser of its value and this default
 abbrev pub option_rule : Text → ValueParser → Text → Rule
 option_rule name parser given = record (new_rule name) { long = Some name; parser = Some parser; defaults = given ∷ [] }
 
+-- the option `--manager`
 abbrev pub manager_rule : NameList → Rule
 manager_rule names = option_rule (codes "manager") (Names names) (kind_name Moving)
 
@@ -48,10 +52,11 @@ manager_rule names = option_rule (codes "manager") (Names names) (kind_name Movi
 abbrev pub any_u64 : ValueParser
 any_u64 = Unsigned 0 18446744073709551615
 
+-- the option `--seed`
 abbrev pub seed_rule : Rule
 seed_rule = option_rule (codes "seed") any_u64 (codes "0")
 
--- a whole number up to 1,000,000
+-- the option `--count`: a whole number up to 1,000,000
 abbrev pub count_rule : Rule
 count_rule = option_rule (codes "count") (Unsigned 0 1000000) (codes "1000")
 
@@ -59,6 +64,7 @@ count_rule = option_rule (codes "count") (Unsigned 0 1000000) (codes "1000")
 abbrev pub quantum_parser : ValueParser
 quantum_parser = Unsigned 1 16384
 
+-- the option `--quantum`
 abbrev pub quantum_rule : Rule
 quantum_rule = option_rule (codes "quantum") quantum_parser (codes "16")
 
@@ -68,7 +74,7 @@ cf_app modes managers =
     with_rule (with_rule (with_rule (with_rule (with_rule (new_app (codes "cf_tool")) (mode_rule modes)) (manager_rule managers)) seed_rule) count_rule)
     quantum_rule
 
--- The command, with some references to its names: a rule holds the references themselves, and where those of a static point is known to nobody.
+-- the command, with any references to its names: a rule keeps the references themselves, and the logic doesn't know the address of a static
 pub record IsCfApp (app : App) : Type 0 where
   pub modes : NameList
   pub managers : NameList

@@ -1,29 +1,29 @@
-//! What the arguments choose.
+//! The choice that the arguments make.
 
 use cf_base::Kind;
 
-/// What the program is to do.
+/// What the program does.
 #[derive(Clone, Copy, Debug, PartialEq, Eq)]
 pub enum Mode {
-    /// Answer a script with one manager.
+    /// Runs a script on one manager.
     Run,
-    /// Answer a script with several managers, side by side.
+    /// Runs a script on several managers, side by side.
     Compare,
-    /// Answer a generated script with one manager, and count.
+    /// Runs a generated script on one manager, and counts.
     Bench,
-    /// Answer a script whose objects may be larger than a page.
+    /// Runs a script whose objects may be larger than a page.
     Large,
-    /// Answer a script, and write what lives at its end as a heap image.
+    /// Runs a script, and writes the objects that are live at its end as a heap image.
     Save,
-    /// Load a heap image, and write the script that makes what it holds.
+    /// Loads a heap image, and writes a script that makes its objects.
     Load,
-    /// Answer a script on a heap whose frees leave their work in slices.
+    /// Runs a script on a heap whose frees leave their work in slices.
     Slice,
-    /// Answer a script of tasks that share the pages of one heap, each with a quota.
+    /// Runs a script of tasks that share the pages of one heap, each with a quota.
     Quota,
 }
 
-/// What the arguments chose: the mode, the manager's kind, the seed and the number of commands of a
+/// The choice that the arguments make: mode, kind of manager, seed and number of commands of a
 /// generated script, and the most words that a slice moves or clears.
 #[derive(Clone, Copy, Debug, PartialEq, Eq)]
 pub struct Choice {

@@ -1,4 +1,4 @@
-//! The one command that reads the arguments, and its arguments.
+//! The command that reads the arguments, and the rules of its arguments.
 ghost use Rattle.std.specs.Prelude.{◌≡◌, IfOk, false};
 ghost use Rattle.clap.specs.Words.{app_of, rule_of};
 ghost use Rattle.command_line.specs.Command.{IsCfApp, count_rule, manager_rule, mode_rule, quantum_rule, seed_rule};

@@ -1,5 +1,5 @@
-//! Laws of the arguments: they are read in one way, whichever references stand for the names of the
-//! command, and arguments that are known are read so.
+//! Laws of the arguments: all commands with our names read them alike, and examples of arguments
+//! with the choices that they make.
 ghost use Rattle.std.specs.Prelude.{◌⊎◌, ◌≡◌, ◌∷◌, [], Err, List, Ok, Result, codes};
 ghost use Rattle.cf_base.specs.Kind.{kind_name};
 ghost use Rattle.cf_base.specs.declared.kind.Kind.{Kind};
@@ -13,49 +13,49 @@ ghost use Rattle.command_line.specs.declared.choice.Mode.TheVariants.{Run};
 ghost use Rattle.command_line.specs.declared.choice.WordsFault.{WordsFault};
 ghost use Rattle.command_line.specs.declared.choice.WordsFault.TheVariants.{OutOfMemory, Refused};
 
-/// All commands that carry our names find the same faults and the same matches, wherever these names
-/// lie.
+/// All commands with our names find the same faults and the same matches, at whatever addresses the
+/// names are.
 pub fn all_such_commands_read_alike()
     ensures faults { (a b : App) (words : List Text) → IsCfApp a → IsCfApp b → fault_of b words ≡ fault_of a words }
     ensures matches { (a b : App) (words : List Text) → IsCfApp a → IsCfApp b → matches_of b words ≡ matches_of a words }
 {}
 
-/// So no arguments are both refused and accepted,
+/// No arguments are both refused and accepted.
 pub fn refused_words_are_not_chosen()
     ensures accepted { (words : List Text) → AreRefused words → ¬ AreAccepted words }
     ensures chosen { (words : List Text) (choice : Choice) → AreRefused words → ¬ Chooses words choice }
 {}
 
-/// and they choose one thing at most.
+/// Arguments make at most one choice.
 pub fn words_choose_once()
     ensures { (words : List Text) (one other : Choice) → Chooses words one → Chooses words other → other ≡ one }
 {}
 
-/// Arguments that choose something are read as it, where memory is found.
+/// Reading arguments that make a choice returns this choice or `OutOfMemory`.
 pub fn known_words_are_read()
     ensures { (words : List Text) (choice : Choice) (result : Result Choice WordsFault) → Chooses words choice
         → ReadsAs words result → (result ≡ Ok choice) ⊎ (result ≡ Err OutOfMemory) }
 {}
 
-/// And arguments that are refused are read so.
+/// Reading arguments that are refused returns `Refused` or `OutOfMemory`.
 pub fn known_words_are_refused()
     ensures { (words : List Text) (result : Result Choice WordsFault) → AreRefused words
         → ReadsAs words result → (result ≡ Err Refused) ⊎ (result ≡ Err OutOfMemory) }
 {}
 
-/// The program's name alone chooses the defaults.
+/// The program's name alone makes the default choice.
 pub fn no_words_are_taken()
     ensures { (name : Text) → Chooses (name ∷ []) (chosen Run Moving 0 1000 16) }
 {}
 
-/// Arguments choose what they say, whatever the mode and the kind.
+/// For each mode and kind, these arguments make the choice that they name.
 pub fn words_choose_what_they_say()
     ensures { (name : Text) (mode : Mode) (kind : Kind) → Chooses
         (name ∷ mode_name mode ∷ codes "--manager" ∷ kind_name kind ∷ codes "--seed" ∷ codes "5" ∷ codes "--count=7" ∷ codes "--quantum=8" ∷ [])
         (chosen mode kind 5 7 8) }
 {}
 
-/// A mode or a manager by any other name is refused; these names differ in a letter or in its case.
+/// A mode or a manager with another name is refused; these names differ in a letter or in its case.
 pub fn other_names_are_refused()
     ensures mode { (name : Text) → AreRefused (name ∷ codes "Run" ∷ []) }
     ensures manager { (name : Text) → AreRefused (name ∷ codes "--manager" ∷ codes "halt" ∷ []) }
@@ -66,12 +66,12 @@ pub fn help_is_refused()
     ensures { (name : Text) (rest : List Text) → AreRefused (name ∷ codes "--help" ∷ rest) }
 {}
 
-/// So is a count past 1,000,000.
+/// A count above 1,000,000 is refused.
 pub fn a_count_too_far_is_refused()
     ensures { (name : Text) → AreRefused (name ∷ codes "--count=1000001" ∷ []) }
 {}
 
-/// And so is a quantum of no words, or of more than 16,384.
+/// A quantum of 0 words, or of more than 16,384, is refused.
 pub fn a_quantum_out_of_range_is_refused()
     ensures none { (name : Text) → AreRefused (name ∷ codes "--quantum=0" ∷ []) }
     ensures too_far { (name : Text) → AreRefused (name ∷ codes "--quantum=16385" ∷ []) }

@@ -1,4 +1,4 @@
-//! The arguments of the command line, read by `clap`: what the program is to do, as a plain value.
+//! The arguments of the command line, read by `clap`, as a plain value.
 #![tactic(auto)]
 
 mod choice;

@@ -1,4 +1,4 @@
-//! The arguments of the command line to a choice.
+//! From the arguments of the command line to a choice.
 ghost use Rattle.std.specs.Prelude.{◌≡◌, ◌≤◌, IfOk, map, option_map, string_bytes};
 ghost use Rattle.clap.specs.Words.{found_of, one_text};
 ghost use Rattle.command_line.specs.Choices.{ReadsAs, kind_named as kind_by, mode_named as mode_by};
@@ -11,7 +11,7 @@ use clap::ArgMatches;
 use clap::error::ErrorKind;
 use std::alloc::Global;
 
-/// The mode of a name; the command lets no other through.
+/// The mode of a name; the command accepts no other.
 fn mode_named(name: Option<&str>) -> Mode
     ensures { result ≡ mode_by (option_map (λ s. s.now) name.entry) }
 {
@@ -27,7 +27,7 @@ fn mode_named(name: Option<&str>) -> Mode
     }
 }
 
-/// The kind of a name; the command lets no other through.
+/// The kind of a name; the command accepts no other.
 fn kind_named(name: Option<&str>) -> Kind
     ensures { result ≡ kind_by (option_map (λ s. s.now) name.entry) }
 {
@@ -45,7 +45,7 @@ fn u64_in(matches: &ArgMatches<'_>, id: &str) -> u64
     matches.get_one::<u64>(id).unwrap_or(0)
 }
 
-/// The quantum that a text says; the command lets no other number through.
+/// The quantum of a text; the command accepts no other number.
 fn quantum_in(matches: &ArgMatches<'_>, id: &str) -> u32
     ensures value { result ≡ quantum_by (one_text (found_of matches.now) id.now) }
     ensures least { 1 ≤ result }
@@ -59,10 +59,11 @@ fn quantum_in(matches: &ArgMatches<'_>, id: &str) -> u32
     }
 }
 
-/// What the arguments of the command line choose, of which the first is the program's name. They are
-/// refused exactly where `clap` refuses them for another cause than memory. A slice has from 1 to
-/// 16,384 words.
-// a goal that no proof answers is refused at once: a search for a command would be long
+/// Reads the arguments of the command line; the first is the program's name. Returns their choice,
+/// or `Refused` if `clap` refuses them for a cause other than memory. `OutOfMemory` may replace
+/// either. A slice has 1 to 16,384 words.
+// Without this, a goal that no proof covers would start a search over the whole command, which
+// takes long.
 #[tactic(none)]
 pub fn read_words(alloc: Global, words: &[String]) -> Result<Choice, WordsFault>
     ensures reads { ReadsAs (map (λ word. string_bytes word) words.now) result }

@@ -6,7 +6,7 @@ ghost use Rattle.cf_lemmas.specs.Bits.{WritesBit};
 use std::marker::Model;
 use step_ledger::Steps;
 
-/// So many cells in an array, as in a struct that takes no memory of its own.
+/// `N` cells in an array, for structs that take no memory of their own.
 #[derive(Drop)]
 pub struct CellArray<T, const N: usize> {
     items: [T; N],
@@ -24,7 +24,7 @@ impl<T, const N: usize> Model for CellArray<T, N> {
 }
 
 impl<T: Copy, const N: usize> CellArray<T, N> {
-    /// The cells of an array that no heap has yet.
+    /// Cells with the items of an array. Costs no step: no heap has them yet.
     pub fn new(items: [T; N]) -> CellArray<T, N>
         ensures { result ≡ items }
     {
@@ -66,7 +66,7 @@ impl<T: Copy, const N: usize> CellArray<T, N> {
 }
 
 impl<const N: usize> CellArray<u64, N> {
-    /// Writes one bit of a cell, which is read and written at once. Returns the cell's word afterwards.
+    /// Writes one bit of a cell, which is read and written at once. Returns the cell's new word.
     pub fn write_bit(&mut self, i: usize, bit: u32, on: bool, steps: &mut Steps) -> u64
         requires cell { i < N }
         requires bit { bit < 64 }
@@ -81,8 +81,8 @@ impl<const N: usize> CellArray<u64, N> {
         word
     }
 
-    /// Sets the least bit of a cell that is clear; the cell is read and written at once. Returns the
-    /// place of that bit, and the cell's word afterwards.
+    /// Sets the lowest clear bit of a cell, which is read and written at once. Returns the position
+    /// of that bit, and the cell's new word.
     pub fn set_least_clear(&mut self, i: usize, steps: &mut Steps) -> (u32, u64)
         requires cell { i < N }
         requires clear { slice_index self.old i + 1 < 2 ^ 64 }
@@ -102,7 +102,7 @@ impl<const N: usize> CellArray<u64, N> {
     }
 }
 
-/// The word with that bit set, or cleared where it is off.
+/// The word with one bit set or cleared.
 pub fn with_bit(word: u64, bit: u32, on: bool) -> u64
     requires { bit < 64 }
     ensures written { WritesBit 64 word result bit on }

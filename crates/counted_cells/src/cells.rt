@@ -5,7 +5,7 @@ ghost use Rattle.cf_lemmas.specs.Exchanges.{exchanged};
 use std::marker::Model;
 use step_ledger::Steps;
 
-/// A list of cells. Its length is a plain number, and costs no step.
+/// A list of cells. Its length is a plain number; reading it costs no step.
 #[derive(Drop)]
 pub struct Cells<T> {
     items: Vec<T>,
@@ -23,14 +23,14 @@ impl<T> Model for Cells<T> {
 }
 
 impl<T: Copy> Cells<T> {
-    /// The cells of a list that no heap has yet.
+    /// Cells with the items of a list. Costs no step: no heap has them yet.
     pub fn new(items: Vec<T>) -> Cells<T>
         ensures { result ≡ items.items }
     {
         Cells { items }
     }
 
-    /// How many cells there are.
+    /// The number of cells.
     pub fn len(&self) -> usize
         ensures { result ≡ length self.now }
     {
@@ -96,7 +96,7 @@ impl Cells<u32> {
     }
 }
 
-/// Exchanges the `n` items from `a` on with those from `b` on.
+/// Exchanges the `n` items from `a` on with those from `b` on, pair by pair.
 fn exchange_runs(items: &mut [u32], a: usize, b: usize, n: usize)
     requires a_in_range { a + n ≤ length items.old }
     requires b_in_range { b + n ≤ length items.old }

@@ -1,5 +1,5 @@
-//! Cells of which every access adds its steps to the ledger: one for each cell that is read or written.
-//! A module that keeps its words in cells can't touch one without a step. Making the cells is no access.
+//! Cells that count their accesses in the ledger: each cell that is read or written costs a step. A
+//! module that keeps its words in cells can't touch one without a step. Making cells is no access.
 #![tactic(auto)]
 
 mod array;

@@ -23,7 +23,7 @@ impl Model for WordCell {
 }
 
 impl WordCell {
-    /// The cell of a word that no heap has yet.
+    /// A cell with a word. Costs no step: no heap has it yet.
     pub fn new(word: u64) -> WordCell
         ensures { result ≡ word }
     {
@@ -58,7 +58,7 @@ impl WordCell {
         self.word = with_bit(self.word, bit, on);
     }
 
-    /// Lends the cell, which is read and written at once.
+    /// Lends the cell for reading and writing at once.
     pub fn lend(&mut self, steps: &mut Steps) -> &mut u64
         ensures* writes_back { sem 𝓛 (Lends the_row u64 self.entry result (λ w. w)) }
         ensures value { result.now ≡ self.old }

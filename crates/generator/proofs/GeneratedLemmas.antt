@@ -1,4 +1,4 @@
--- Generated commands are commands that a script may have.
+-- Generated commands are well formed, and their numbers fit their types.
 use Rattle.std.proofs.Common.{◌≡◌, ◌≤◌, ◌<◌, ◌+◌, ◌/◌, ◌%◌, ◌^◌, ◌==◌, ℕ, Bool, zero, suc, true, false, List, [], ◌∷◌, length, map, refl, arith, lit≤}
 use Rattle.std.specs.Prelude.{⊤, nat_lt, slice_index, if◌then◌else◌}
 use Rattle.std.specs.Int.{w64, to_le_bytes}
@@ -31,7 +31,7 @@ are_bytes : (word : ℕ) → IsBytes (to_le_bytes w64 word)
 are_bytes word = bytes_of_low (to_le_bytes w64 word)
     (omega arith, (omega arith, (omega arith, (omega arith, (omega arith, (omega arith, (omega arith, (omega arith, tt))))))))
 
--- what is said of one command
+-- the facts about one command
 record IsPlain (c : Command) : Type 0 where
   is : IsCommand c
   plain : is_bound c ≡ false

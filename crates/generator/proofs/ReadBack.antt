@@ -45,7 +45,7 @@ bytes_back bytes are some few =
     let long = length_in_hex bytes in
     rw (within 2 8192 (length (encode_lower bytes)) (omega arith) (omega arith), decode_of-encode_lower bytes are) refl
 
--- the tokens say the command
+-- the tokens of a command are read as the command
 pub tokens_back : (c : Command) → IsCommand c → tokens_say (tokens_of c) ≡ item (asks c)
 tokens_back (Malloc id bytes) is = rw (id_back id is.typed.0, word_back bytes is.typed.1) refl
 tokens_back (Free id) is = rw (id_back id is.typed) refl
@@ -79,7 +79,7 @@ word_line word numbers is are = record {
   short = (let few = numbers_short numbers are in let e = length-append word (after_spaces (map decimal numbers)) in omega arith);
 }
 
--- the tokens are tokens, and their line isn't too long
+-- each token is valid, and their line isn't too long
 record AreShort (ts : List (List ℕ)) : Type 0 where
   tokens : AreTokens ts
   short : length (spaced ts) ≤ 8999
@@ -140,7 +140,7 @@ short_line (Admit task) is =
     let low : IsWord task = omega (arith, is.formed) in
     of_words (codes "admit") (task ∷ []) (high_by_test (codes "admit") refl) (low, tt) (omega arith) (omega arith)
 
--- what such a line says, by its tokens
+-- such a line is read by its tokens
 line_by_tokens : (ts : List (List ℕ)) → AreShort ts → line_says (spaced ts) ≡ tokens_say ts
 line_by_tokens ts are =
     let fits : is_too_long (spaced ts) ≡ false = (let s = are.short in grind (arith, nat_tests)) in
@@ -185,7 +185,7 @@ alone_back pages page_bytes k proxies c can is =
     (ap (λ l. lines l true) (sym (append-nil (line_of c))) ∙ line_back c [] true is)
     ∙ ap (λ says. starts (profile_from pages page_bytes k proxies) ∷ items_by (verdict Bounding says) 1 Bounding (items_at [] 2)) (says_back c is)
 
--- commands that no line `k` is among
+-- none of the commands is a `k`
 abbrev pub ArePlain : List Command → Type 0
 ArePlain [] = ⊤
 ArePlain (c ∷ rest) = IsCommand c × (is_bound c ≡ false) × ArePlain rest

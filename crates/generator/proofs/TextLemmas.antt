@@ -1,4 +1,4 @@
--- The texts of numbers and bytes are tokens, and short.
+-- The texts of numbers and bytes are valid tokens, and short.
 use Rattle.std.proofs.Common.{◌≡◌, ◌∙◌, ◌≤◌, ◌<◌, ◌+◌, ◌*◌, ◌^◌, ◌/◌, ◌%◌, ◌++◌, ◌&&◌, ℕ, Bool, zero, suc, true, false, List, [], ◌∷◌, length, map}
 use Rattle.std.proofs.Common.{refl, sym, ap, arith, lit<, append-nil, append_assoc, Option, Some, None}
 use Rattle.std.proofs.Common.{length-append}
@@ -48,7 +48,7 @@ hex_high (b ∷ bytes) are =
 pub hex_token : (bytes : List ℕ) → 1 ≤ length bytes → IsBytes bytes → IsToken (encode_lower bytes)
 hex_token bytes some are = token_of (encode_lower bytes) (omega (arith, length_in_hex bytes)) (hex_high bytes are)
 
--- how long a line is
+-- each number has 32 bits, which bounds the length of a line
 abbrev pub AreWords : List ℕ → Type 0
 AreWords [] = ⊤
 AreWords (n ∷ rest) = IsWord n × AreWords rest

@@ -1,16 +1,16 @@
--- The line that says a command.
+-- The line of a command.
 use Rattle.std.specs.Prelude.{◌≤◌, ℕ, ◌++◌, List, [], ◌∷◌, map, decimal, codes}
 use Rattle.hex.specs.Hex.{encode_lower}
 use Rattle.script_reader.specs.declared.command.Command.{Command}
 use Rattle.script_reader.specs.declared.command.Command.TheVariants.{Malloc, Free, Write, Read, Place, Block, Peek, Walk, Frag, Steps, Bound, Resize, Slice}
 use Rattle.script_reader.specs.declared.command.Command.TheVariants.{Task, Quota, Need, Admit}
 
--- each token after a space
+-- the tokens, each after a space
 abbrev pub after_spaces : List (List ℕ) → List ℕ
 after_spaces [] = []
 after_spaces (token ∷ rest) = (32 ∷ token) ++ after_spaces rest
 
--- the tokens with single spaces between them
+-- the tokens, separated by single spaces
 abbrev pub spaced : List (List ℕ) → List ℕ
 spaced [] = []
 spaced (token ∷ rest) = token ++ after_spaces rest

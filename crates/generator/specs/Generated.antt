@@ -9,26 +9,26 @@ use Rattle.script_reader.specs.declared.command.Command.TheVariants.{Malloc, Fre
 abbrev pub id_named : ℕ → ℕ
 id_named word = word % 4096
 
--- how many bytes a word asks for: below 16,384 for one word in eight, below 1,024 for the others
+-- how many bytes a word requests: below 16,384 for one word in eight, below 1,024 for the others
 abbrev pub bytes_asked : ℕ → ℕ
 bytes_asked word = word / 2 ^ 16 % (if word / 2 ^ 32 % 8 == 0 then 16384 else 1024)
 
--- a number below eight, by which a word chooses its command
+-- a number below eight, by which a word determines its command
 abbrev pub one_of_eight : ℕ → ℕ
 one_of_eight word = word / 2 ^ 12 % 8
 
--- the command of a word: three of eight make an object, two free one, one writes the word's own eight bytes, and two read eight bytes
+-- the command of a word: of eight, three make an object, two free one, one writes the word's own eight bytes, and two read eight bytes
 abbrev pub command_of_word : ℕ → Command
 command_of_word word =
     if nat_lt (one_of_eight word) 3 then Malloc (id_named word) (bytes_asked word)
     else (if nat_lt (one_of_eight word) 5 then Free (id_named word)
     else (if one_of_eight word == 5 then Write (id_named word) 0 (to_le_bytes w64 word) else Read (id_named word) 0 8))
 
--- the first so many words of SplitMix64 from a state on
+-- the first `count` words of SplitMix64 from a state on
 abbrev pub words_from : ℕ → ℕ → List ℕ
 words_from state zero = []
 words_from state (suc count) = (mix_u64 state).0 ∷ words_from (mix_u64 state).1 count
 
--- the first so many commands of a seed: SplitMix64 begins with the seed as its state, and each command takes one word
+-- the first `count` commands of a seed: SplitMix64 starts with the seed as its state, and each command takes one word
 abbrev pub generated : ℕ → ℕ → List Command
 generated seed count = map command_of_word (words_from seed count)

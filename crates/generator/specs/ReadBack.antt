@@ -8,14 +8,15 @@ use Rattle.script_reader.specs.declared.command.Command.TheVariants.{Malloc, Fre
 use Rattle.script_reader.specs.declared.command.Command.TheVariants.{Task, Quota, Need, Admit}
 use Rattle.generator.specs.CommandText.{line_of, spaced, word_and_numbers}
 
--- a number of 16 bits, and one of 32
+-- a number of 16 bits
 abbrev pub IsShort : ℕ → Type 0
 IsShort n = n ≤ 65535
 
+-- a number of 32 bits
 abbrev pub IsWord : ℕ → Type 0
 IsWord n = n ≤ 4294967295
 
--- the fields of the command fit their types, as those of every command of a program do
+-- the fields of the command fit their types; those of every command of a program do
 abbrev pub FitsTypes : Command → Type 0
 FitsTypes (Malloc id bytes) = IsShort id × IsWord bytes
 FitsTypes (Free id) = IsShort id
@@ -30,12 +31,12 @@ FitsTypes (Quota task pages) = IsWord pages
 FitsTypes (Need task bytes count) = IsWord bytes × IsWord count
 FitsTypes command = ⊤
 
--- the command is one that a program may hold and a script may have
+-- a command that a program may hold and a script may have
 pub record IsCommand (c : Command) : Type 0 where
   pub formed : IsWellFormed c
   pub typed : FitsTypes c
 
--- the numbers fit their types and are in range: those that a `heap` line may have
+-- the numbers of a `heap` line: they fit their types and are in range
 pub record CanOpen (pages page_bytes k proxies : ℕ) : Type 0 where
   pub typed : IsWord pages × IsWord page_bytes × IsWord k × IsWord proxies
   pub in_range : setting_fault pages page_bytes k proxies ≡ None

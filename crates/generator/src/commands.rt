@@ -11,9 +11,8 @@ use rand_xoshiro::SplitMix64;
 use script_reader::{Command, CommandRef};
 use std::marker::Model;
 
-/// Gives the commands of a seed, one after the other, without end. Each is made of one word of
-/// SplitMix64, whose state begins as the seed; so a generator stands for the seed of the commands that
-/// it has still to give.
+/// Makes the commands of a seed, one after the other, without end. Each takes one word of
+/// SplitMix64, which starts with the seed as its state. Contracts see a generator as that state.
 #[derive(Drop)]
 pub struct Generator {
     words: SplitMix64,
@@ -50,7 +49,7 @@ impl Generator {
         self.next_ref(&mut bytes).to_command()
     }
 
-    /// The next command; the bytes of a write are put into `bytes`, and borrowed from there.
+    /// The next command. The bytes of a write are stored in `bytes` and borrowed from there.
     pub fn next_ref<'a>(&mut self, bytes: &'a mut [u8; 8]) -> CommandRef<'a>
         ensures value { owned_command result ≡ command_of_word (mix_u64 self.old).0 }
         ensures rest { self.new ≡ next_state self.old }
@@ -74,7 +73,7 @@ impl Generator {
     }
 }
 
-/// How many bytes a word asks for.
+/// How many bytes a word requests.
 fn bytes_asked(word: u64) -> u32
     ensures { result ≡ bytes_asked word }
 {

@@ -1,4 +1,4 @@
-//! Laws of lines that are written: they are read back.
+//! Laws of written lines: they are read back.
 ghost use Rattle.std.specs.Prelude.{◌≡◌, ◌++◌, ◌∷◌, [], ℕ, List, Bool, true, map};
 ghost use Rattle.cf_base.specs.Settings.{profile_from};
 ghost use Rattle.generator.specs.CommandText.{line_of, spaced, tokens_of};
@@ -8,7 +8,7 @@ ghost use Rattle.script_reader.specs.Items.{asks, item, items, line_says, starts
 ghost use Rattle.script_reader.specs.Lines.{lines};
 ghost use Rattle.script_reader.specs.declared.command.Command.{Command};
 
-/// The line of a command is read back as that command, whatever comes after it.
+/// The line of a command is read back as that command, whatever follows it.
 pub fn commands_are_read_back()
     ensures line { (c : Command) (rest : List ℕ) (ended : Bool) → IsCommand c
         → lines (line_of c ++ rest) ended ≡ spaced (tokens_of c) ∷ lines rest ended }
@@ -17,7 +17,7 @@ pub fn commands_are_read_back()
         → items (heap_line pages page_bytes k proxies ++ line_of c) true ≡ starts (profile_from pages page_bytes k proxies) ∷ asks c ∷ [] }
 {}
 
-/// So a script of a `heap` line and the commands of a seed is read back as those commands.
+/// A script of a `heap` line and the commands of a seed is read back as those commands.
 pub fn generated_scripts_are_read_back()
     ensures { (pages page_bytes k proxies seed count : ℕ) → CanOpen pages page_bytes k proxies
         → items (heap_line pages page_bytes k proxies ++ lines_of (generated seed count)) true

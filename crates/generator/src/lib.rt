@@ -1,4 +1,4 @@
-//! The commands of a script that a seed generates, and the line that says a command.
+//! The commands of a script that a seed generates, and the line of a command.
 #![tactic(auto)]
 
 mod commands;

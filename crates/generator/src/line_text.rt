@@ -1,4 +1,4 @@
-//! The line that says a command.
+//! The line of a command.
 ghost use Rattle.std.specs.Prelude.{◌≡◌, ◌≤◌, ◌++◌, ◌∷◌, [], length, IsOk};
 ghost use Rattle.cf_io.specs.Lines.{Pushes};
 ghost use Rattle.generator.specs.CommandText.{line_of, spaced, tokens_of, word_and_numbers};
@@ -8,9 +8,9 @@ ghost use Rattle.script_reader.specs.Commands.{IsWellFormed};
 use cf_io::{Full, Line, push_field, push_text};
 use script_reader::Command;
 
-/// Appends the line that says the command, with its line feed: single spaces, lower case, and no
-/// leading zeros. `Full` exactly where the whole would pass 9,000 bytes, which it never does on an
-/// empty line; nothing is appended then.
+/// Appends the line of the command, with its line feed: single spaces, lower case, and no leading
+/// zeros. Returns `Full` if and only if the whole would exceed 9,000 bytes, and then appends
+/// nothing. On an empty line it never does.
 pub fn command_text(c: &Command, line: &mut Line) -> Result<(), Full>
     requires { IsWellFormed c.now }
     ensures pushes { Pushes line.old (line_of c.now) result line.new }
@@ -22,7 +22,7 @@ pub fn command_text(c: &Command, line: &mut Line) -> Result<(), Full>
     line.push(whole.bytes())
 }
 
-/// Writes the tokens of the command on an empty line.
+/// Writes the tokens of the command to an empty line.
 fn push_command(line: &mut Line, c: &Command)
     requires empty { line.old ≡ [] }
     requires formed { IsWellFormed c.now }
@@ -57,7 +57,7 @@ fn push_command(line: &mut Line, c: &Command)
     }
 }
 
-/// Writes a word and a number on an empty line.
+/// Writes a word and a number to an empty line.
 fn push_one(line: &mut Line, word: &[u8], a: u64)
     requires empty { line.old ≡ [] }
     requires word { length word.now ≤ 5 }
@@ -68,7 +68,7 @@ fn push_one(line: &mut Line, word: &[u8], a: u64)
     push_field(line, b" ", a);
 }
 
-/// Writes a word and two numbers on an empty line.
+/// Writes a word and two numbers to an empty line.
 fn push_two(line: &mut Line, word: &[u8], a: u64, b: u64)
     requires empty { line.old ≡ [] }
     requires word { length word.now ≤ 5 }
@@ -79,7 +79,7 @@ fn push_two(line: &mut Line, word: &[u8], a: u64, b: u64)
     push_field(line, b" ", b);
 }
 
-/// Writes a word and three numbers on an empty line.
+/// Writes a word and three numbers to an empty line.
 fn push_three(line: &mut Line, word: &[u8], a: u64, b: u64, c: u64)
     requires empty { line.old ≡ [] }
     requires word { length word.now ≤ 5 }

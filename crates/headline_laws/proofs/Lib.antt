@@ -1,7 +1,11 @@
-pub mod Pairing
-pub mod ReadLengths
-pub mod Bounds
-pub mod Holding
+pub mod Alike
+pub mod Shown
+pub mod Steps
 pub mod Claims
+pub mod After
+pub mod Shapes
+pub mod Parting
+pub mod Exact
+pub mod OneTranscript
 pub mod Worked
 pub mod CallerLemmas

@@ -1,46 +1,267 @@
 -- Wrong replies to small scripts, which the headline refuses.
-use Rattle.std.proofs.Common.{◌≡◌, ℕ, true, false, cond, ◌+◌, ◌/◌, ◌≤◌, List, [], ◌∷◌, ◌++◌, drop, Option, Some, None, replicate, arith, sym}
-use Rattle.std.proofs.Common.{◌∙◌, ap, refl, subst, inl, inr, lit≤}
+use Rattle.std.proofs.Common.{◌≡◌, ◌≢◌, ℕ, true, false, cond, ◌-◌, ◌/◌, ◌≤◌, ◌<◌, Err, List, [], ◌∷◌, ◌++◌, drop, get_or, map, Option, Some, None, length, replicate, arith, sym}
+use Rattle.std.proofs.Common.{◌∙◌, ap, refl, subst, lit≤, inl, inr}
 use Rattle.std.specs.Prelude.{⊤, codes}
 use Rattle.std.proofs.lemmas.Bool.{and_parts}
 use Rattle.std.specs.List.{list_all}
 use Rattle.std.specs.Fmt.{decimal, digits}
 use Rattle.std.proofs.lemmas.List.{nil_from_length}
-use Rattle.std.specs.Option.{unwrap_or}
-use Rattle.std.specs.Ordering.{nat_cmp}
+use Rattle.std.specs.Ordering.{nat_cmp, eq_by_cmp}
 use Rattle.std.specs.Cmp.{nat_cmp_total}
-use Rattle.std.specs.FinMap.{empty, entries, entries-insert, get, get-empty, insert, len, len-empty, len-entries, put}
-use Rattle.hex.specs.Hex.{decode_pairs}
+use Rattle.std.specs.FinMap.{empty, entries, entries-insert, get, get-empty, get-insert, insert, len, len-empty, len-entries, put}
+use Rattle.hex.specs.Hex.{decode_pairs, encode_with}
 use Rattle.cf_base.specs.Classes.{sizes_from}
 use Rattle.cf_base.specs.Settings.{Profile}
+use Rattle.cf_base.specs.declared.answers.Refusal.{Refusal}
+use Rattle.cf_base.specs.declared.answers.Refusal.TheVariants as refusal
+use Rattle.cf_base.specs.declared.kind.Kind.{Kind}
 use Rattle.cf_base.specs.declared.kind.Kind.TheVariants.{Moving}
 use Rattle.cf_io.specs.Numbers.{is_digit, number_in}
 use Rattle.cf_io.proofs.CallerLemmas.{number_of_decimal, spells}
-use Rattle.page_model.specs.Arrangement.{live, pages_needed_with}
-use Rattle.page_model.specs.Paging.{class_for, slot_words, slots_of}
-use Rattle.script_reader.specs.Items.{asks, items, starts}
-use Rattle.script_reader.specs.declared.command.Command.TheVariants.{Malloc, Steps, Walk}
-use Rattle.run_model.specs.Texts.{Reply, said}
-use Rattle.headline_laws.specs.Headline.{AreAllOne, AreAsClaimed, IsClassLine, IsFull, IsRefusedWhenFull, IsWalk, IsWithinSteps, MeetsHeadline, classes_told}
-use Rattle.headline_laws.specs.Headline.{steps_line}
-use Rattle.headline_laws.specs.ToldHeap.{ToldHeap, bound_told, heap_by, heap_opened, paging_told}
+use Rattle.cf_lemmas.proofs.Maps.{get_inserted, get_insert_other}
+use Rattle.page_model.specs.Arrangement.{IsSlotAt, IsSound, live, pages_needed, pages_needed_with}
+use Rattle.page_model.specs.Figures.{asked_bytes, taken_bytes}
+use Rattle.page_model.specs.Held.{Objects, Placed}
+use Rattle.page_model.specs.Counts.{ceil_div}
+use Rattle.page_model.specs.Paging.{IsPaging, Paging, class_for, slot_words, slots_of}
+use Rattle.page_model.specs.Steps.{zeros_at}
+use Rattle.cf_model.specs.Families.{paged, family_of}
+use Rattle.cf_model.specs.State.{HeapState, paging_in}
+use Rattle.script_reader.specs.Items.{Item, asks, items, starts}
+use Rattle.script_reader.specs.declared.command.Command.{Command}
+use Rattle.script_reader.specs.declared.command.Command.TheVariants.{Free, Malloc, Place, Steps, Walk}
+use Rattle.run_model.specs.Plays.{PlayRun, PlayStep}
+use Rattle.run_model.specs.Replies.{malloc_text, place_text}
+use Rattle.run_model.specs.Reports.{class_line, total_line}
+use Rattle.run_model.specs.Texts.{Reply, said, with_number}
+use Rattle.transcript_laws.specs.AtOne.{classes_in_use, figures_at_one, part_pages, totals_at_one}
+use Rattle.transcript_laws.specs.ById.{ById, begun, paging_by_id}
+use Rattle.transcript_laws.specs.Replies.{after_by_id, reply_by_id}
+use Rattle.transcript_laws.proofs.CallerLemmas.{stays_at_one}
+use Rattle.headline_laws.specs.Headline.{Answers, IsMalloc, Mallocs, MeetsHeadline, Opens, steps_line, steps_shown}
+use Rattle.headline_laws.specs.ShownHeap.{IsArranged, ShownHeap, heap_opened}
+use Rattle.headline_laws.proofs.Exact.{headline_is_transcript}
 
--- maps with no key or one
-none_there : {X : Type 0} (q : ℕ) → get (empty {X = X} {R = nat_cmp}) q ≡ None
-none_there q = get-empty nat_cmp q
+-- what finite maps answer, step by step
+module _ (m : Objects) where
+  got : (k : ℕ) (v : List ℕ) (q : ℕ) → get (insert m k v) q ≡ cond (eq_by_cmp nat_cmp q k) (Some v) (get m q)
+  got k v q = get-insert nat_cmp_total m k v q
 
-none_listed : entries (empty {X = List ℕ} {R = nat_cmp}) ≡ []
-none_listed = nil_from_length _ (sym (len-entries (empty {X = List ℕ} {R = nat_cmp})) ∙ len-empty nat_cmp (List ℕ))
+  listed : (k : ℕ) (v : List ℕ) → entries (insert m k v) ≡ put nat_cmp k v (entries m)
+  listed k v = entries-insert nat_cmp_total m k v
 
-one_listed : (k : ℕ) (v : List ℕ) → entries (insert (empty {X = List ℕ} {R = nat_cmp}) k v) ≡ put nat_cmp k v []
-one_listed k v = entries-insert nat_cmp_total empty k v ∙ ap (put nat_cmp k v) none_listed
+  counted : len m ≡ length (entries m)
+  counted = len-entries m
 
--- a text that begins with no digit
+got_none : (q : ℕ) → get (empty {X = List ℕ} {R = nat_cmp}) q ≡ None
+got_none q = get-empty nat_cmp q
+
+listed_none : entries (empty {X = List ℕ} {R = nat_cmp}) ≡ []
+listed_none = nil_from_length _ (sym (len-entries (empty {X = List ℕ} {R = nat_cmp})) ∙ len-empty nat_cmp (List ℕ))
+
+ruleset maps = (got, got_none, counted, listed, listed_none)
+
+-- two pages of 64 words
+abbrev settings : Profile
+settings = record { pages = 2; page_words = 64; k = 1; proxies = 8 }
+
+abbrev with : Objects → ById
+with o = record (begun Moving settings) { objects = o }
+
+abbrev one_object : Objects
+one_object = insert empty 1 (replicate 176 0)
+
+-- At bound 1 the transcript alone meets the headline.
+asked_malloc : items (codes "heap 2 512 1 8\nm 1 176\n") true ≡ starts settings ∷ asks (Malloc 1 176) ∷ []
+unfolding decode_pairs
+asked_malloc = refl
+
+asked_walk : items (codes "heap 2 512 1 8\nm 1 176\nwalk\n") true ≡ starts settings ∷ asks (Malloc 1 176) ∷ asks Walk ∷ []
+unfolding decode_pairs
+asked_walk = refl
+
+asked_free : items (codes "heap 2 512 1 8\nf 1\n") true ≡ starts settings ∷ asks (Free 1) ∷ []
+unfolding decode_pairs
+asked_free = refl
+
+malloc_said : reply_by_id (with empty) (Malloc 1 176) ≡ said (codes "ok")
+unfolding sizes_from class_for live pages_needed pages_needed_with asked_bytes taken_bytes digits encode_with
+malloc_said = simp maps
+
+malloc_left : after_by_id (with empty) (Malloc 1 176) ≡ with one_object
+unfolding sizes_from class_for live pages_needed pages_needed_with asked_bytes taken_bytes digits encode_with
+malloc_left = simp maps
+
+-- the report on one object
+abbrev two_pages : Paging
+two_pages = paging_by_id (with one_object)
+
+one_class : classes_in_use two_pages one_object ≡ 11 ∷ []
+unfolding sizes_from class_for live
+one_class = simp maps
+
+one_live : live two_pages one_object 11 ≡ 1
+unfolding sizes_from class_for live
+one_live = simp maps
+
+one_needed : pages_needed two_pages one_object ≡ 1
+unfolding sizes_from class_for live pages_needed
+one_needed = simp maps
+
+one_counted : len one_object ≡ 1
+one_counted = simp maps
+
+abbrev line_of : ℕ → List ℕ
+line_of n = class_line (record {
+  slot_words = slot_words two_pages 11;
+  slots = slots_of two_pages 11;
+  live = n;
+  pages = ceil_div n (slots_of two_pages 11);
+  not_full = part_pages n (slots_of two_pages 11);
+})
+
+abbrev total_of : ℕ → ℕ → List ℕ
+total_of n used = with_number (codes "total live ") n ++ (with_number (codes " pages ") used ++ with_number (codes " free ") (2 - used))
+
+line_shown : line_of 1 ≡ codes "class 23 slots 2 live 1 pages 1 notfull 1"
+unfolding digits sizes_from
+line_shown = refl
+
+total_shown : total_of 1 1 ≡ codes "total live 1 pages 1 free 1"
+unfolding digits
+total_shown = refl
+
+walk_said : reply_by_id (with one_object) Walk ≡ codes "class 23 slots 2 live 1 pages 1 notfull 1" ∷ codes "total live 1 pages 1 free 1" ∷ []
+walk_said =
+    (λ i. map (λ c. class_line (figures_at_one two_pages one_object c)) (one_class i) ++ said (total_line (totals_at_one two_pages one_object)))
+    ∙ (λ i. line_of (one_live i) ∷ total_of (one_counted i) (one_needed i) ∷ [])
+    ∙ (λ i. line_shown i ∷ total_shown i ∷ [])
+
+free_said_so : reply_by_id (with empty) (Free 1) ≡ said (codes "unknown")
+free_said_so = simp maps
+
+malloc_meets : (replies : List Reply) → MeetsHeadline Moving (items (codes "heap 2 512 1 8\nm 1 176\n") true) replies
+    → replies ≡ said (codes "ok") ∷ said (codes "ok") ∷ []
+malloc_meets replies meets =
+    let l : List Item = starts settings ∷ asks (Malloc 1 176) ∷ [] in
+    headline_is_transcript Moving l replies refl (stays_at_one Moving refl l None tt (refl, (tt, tt))) (tt, (tt, tt))
+    (subst (λ l. MeetsHeadline Moving l replies) asked_malloc meets)
+    ∙ ap (λ r. said (codes "ok") ∷ r ∷ []) malloc_said
+
+walk_meets : (replies : List Reply) → MeetsHeadline Moving (items (codes "heap 2 512 1 8\nm 1 176\nwalk\n") true) replies
+    → replies ≡ said (codes "ok") ∷ said (codes "ok") ∷ (codes "class 23 slots 2 live 1 pages 1 notfull 1" ∷ codes "total live 1 pages 1 free 1" ∷ []) ∷ []
+walk_meets replies meets =
+    let l : List Item = starts settings ∷ asks (Malloc 1 176) ∷ asks Walk ∷ [] in
+    headline_is_transcript Moving l replies refl (stays_at_one Moving refl l None tt (refl, (tt, (tt, tt)))) (tt, (tt, (tt, tt)))
+    (subst (λ l. MeetsHeadline Moving l replies) asked_walk meets)
+    ∙ (λ i. said (codes "ok") ∷ malloc_said i ∷ reply_by_id (malloc_left i) Walk ∷ [])
+    ∙ ap (λ r. said (codes "ok") ∷ said (codes "ok") ∷ r ∷ []) walk_said
+
+free_meets : (replies : List Reply) → MeetsHeadline Moving (items (codes "heap 2 512 1 8\nf 1\n") true) replies
+    → replies ≡ said (codes "ok") ∷ said (codes "unknown") ∷ []
+free_meets replies meets =
+    let l : List Item = starts settings ∷ asks (Free 1) ∷ [] in
+    headline_is_transcript Moving l replies refl (stays_at_one Moving refl l None tt (refl, (tt, tt))) (tt, (tt, tt))
+    (subst (λ l. MeetsHeadline Moving l replies) asked_free meets)
+    ∙ ap (λ r. said (codes "ok") ∷ r ∷ []) free_said_so
+
+-- the second and the third reply, and lines of a reply
+abbrev second : List Reply → Reply
+second l = get_or l 1 []
+
+abbrev third : List Reply → Reply
+third l = get_or l 2 []
+
+abbrev line_at : Reply → ℕ → List ℕ
+line_at r i = get_or r i []
+
+-- `refused space` while there is room
+pub refused_in_vain : MeetsHeadline Moving (items (codes "heap 2 512 1 8\nm 1 176\n") true) (said (codes "ok") ∷ said (codes "refused space") ∷ []) → ⊥
+refused_in_vain meets = (let e : said (codes "refused space") ≡ said (codes "ok") = ap second (malloc_meets _ meets) in cc)
+
+-- `refused size` of an object that fits
+pub refused_for_size : MeetsHeadline Moving (items (codes "heap 2 512 1 8\nm 1 176\n") true) (said (codes "ok") ∷ said (codes "refused size") ∷ []) → ⊥
+refused_for_size meets = (let e : said (codes "refused size") ≡ said (codes "ok") = ap second (malloc_meets _ meets) in cc)
+
+-- no line at all
+pub silent : MeetsHeadline Moving (items (codes "heap 2 512 1 8\nm 1 176\n") true) (said (codes "ok") ∷ [] ∷ []) → ⊥
+silent meets = (let e : ◌≡◌ {A = Reply} [] (said (codes "ok")) = ap second (malloc_meets _ meets) in cc)
+
+-- no reply
+pub no_reply : MeetsHeadline Moving (items (codes "heap 2 512 1 8\nm 1 176\n") true) (said (codes "ok") ∷ []) → ⊥
+no_reply meets = (let e : ◌≡◌ {A = ℕ} 1 2 = ap length (malloc_meets _ meets) in omega arith)
+
+-- a reply more than there are items
+pub one_over : MeetsHeadline Moving (items (codes "heap 2 512 1 8\nm 1 176\n") true)
+    (said (codes "ok") ∷ said (codes "ok") ∷ said (codes "hello") ∷ []) → ⊥
+one_over meets = (let e : ◌≡◌ {A = ℕ} 3 2 = ap length (malloc_meets _ meets) in omega arith)
+
+-- a page more than the object needs and may have
+pub page_in_excess : MeetsHeadline Moving (items (codes "heap 2 512 1 8\nm 1 176\nwalk\n") true) (said (codes "ok") ∷ said (codes "ok")
+    ∷ (codes "class 23 slots 2 live 1 pages 2 notfull 0" ∷ codes "total live 1 pages 2 free 0" ∷ []) ∷ []) → ⊥
+page_in_excess meets = (let e : ◌≡◌ {A = ℕ} 50 49 = ap (λ l. get_or (line_at (third l) 0) 30 0) (walk_meets _ meets) in omega arith)
+
+-- a total that is not the sum of the lines above it
+pub total_in_excess : MeetsHeadline Moving (items (codes "heap 2 512 1 8\nm 1 176\nwalk\n") true) (said (codes "ok") ∷ said (codes "ok")
+    ∷ (codes "class 23 slots 2 live 1 pages 1 notfull 1" ∷ codes "total live 1 pages 2 free 0" ∷ []) ∷ []) → ⊥
+total_in_excess meets = (let e : ◌≡◌ {A = ℕ} 50 49 = ap (λ l. get_or (line_at (third l) 1) 19 0) (walk_meets _ meets) in omega arith)
+
+-- a free of an id that isn't live
+pub freed_in_vain : MeetsHeadline Moving (items (codes "heap 2 512 1 8\nf 1\n") true) (said (codes "ok") ∷ said (codes "ok") ∷ []) → ⊥
+freed_in_vain meets = (let e : said (codes "ok") ≡ said (codes "unknown") = ap second (free_meets _ meets) in cc)
+
+-- What needs the steps themselves: costs and addresses.
+
+-- what a claimed run says of its first item, and that what follows is claimed too
+abbrev Rest : Kind → Option ShownHeap → List Item → List Reply → Type 0
+Rest kind t items replies = (end : Option ShownHeap) × PlayRun (Opens kind) Answers t items replies end
+
+module _ (kind : Kind) (items : List Item) (reply : Reply) (more : List Reply) where
+  first_of : (t : Option ShownHeap) (item : Item) → Rest kind t (item ∷ items) (reply ∷ more)
+      → (mid : Option ShownHeap) × PlayStep (Opens kind) Answers t item reply mid × Rest kind mid items more
+  first_of t item (end, (mid, r, rest, step, are, run)) =
+      let is : r ≡ reply = (let e : reply ∷ more ≡ r ∷ rest = are in cc) in
+      let are_rest : rest ≡ more = (let e : reply ∷ more ≡ r ∷ rest = are in cc) in
+      (mid, subst (λ r. PlayStep (Opens kind) Answers t item r mid) is step, (end, subst (λ l. PlayRun (Opens kind) Answers mid items l end) are_rest run))
+
+  after_opening : (p : Profile) → Rest kind None (starts p ∷ items) (reply ∷ more) → Rest kind (Some (heap_opened kind p)) items more
+  after_opening p run =
+      let f = first_of None (starts p) run in
+      subst (λ t. Rest kind t items more) (f.1.2 ∙ ap (λ (h : ShownHeap). Some h) f.1.1.1) f.2
+
+  after_command : (t : ShownHeap) (c : Command) → Rest kind (Some t) (asks c ∷ items) (reply ∷ more)
+      → (new : ShownHeap) × Answers t c reply new × Rest kind (Some new) items more
+  after_command t c run =
+      let f = first_of (Some t) (asks c) run in
+      (f.1.0, f.1.1, subst (λ t. Rest kind t items more) f.1.2 f.2)
+
+abbrev opened : ShownHeap
+opened = heap_opened Moving settings
+
+none_held : (q : ℕ) → get (empty {X = Placed} {R = nat_cmp}) q ≡ None
+none_held q = get-empty nat_cmp q
+
+said_once : (a b : List ℕ) → said a ≡ said b → a ≡ b
+said_once a b same = (let e : a ∷ [] ≡ b ∷ [] = same in cc)
+
+-- a malloc that gets `ok`
+refusals_differ : (e : Refusal) → said (codes "ok") ≡ said (malloc_text (Err e)) → ⊥
+refusals_differ refusal.Size same = (let e : ◌≡◌ {A = ℕ} 111 114 = ap (λ r. get_or (line_at r 0) 0 0) same in omega arith)
+refusals_differ refusal.Proxy same = (let e : ◌≡◌ {A = ℕ} 111 114 = ap (λ r. get_or (line_at r 0) 0 0) same in omega arith)
+refusals_differ refusal.Space same = (let e : ◌≡◌ {A = ℕ} 111 114 = ap (λ r. get_or (line_at r 0) 0 0) same in omega arith)
+
+given : (t new : ShownHeap) (id n : ℕ) → get t.heap.held id ≡ None → Answers t (Malloc id n) (said (codes "ok")) new → IsMalloc t id n (said (codes "ok")) new
+given t new id n none (answer, arranged) = go (subst (λ o. Mallocs o t id n (said (codes "ok")) new) none answer)
+  where
+    go : Mallocs None t id n (said (codes "ok")) new → IsMalloc t id n (said (codes "ok")) new
+    go (inl m) = m
+    go (inr r) = absurd (refusals_differ r.refusal r.reply_is)
+
+-- a text that begins with no digit, and the digits that a text begins with
 abbrev BeginsNoDigit : List ℕ → Type 0
 BeginsNoDigit [] = ⊤
 BeginsNoDigit (x ∷ rest) = is_digit x ≡ false
 
--- the digits that a text begins with
 abbrev digits_first : List ℕ → List ℕ
 digits_first [] = []
 digits_first (x ∷ rest) = cond (is_digit x) (x ∷ digits_first rest) []
@@ -63,45 +284,6 @@ shown_once n m x y small_n small_m none_x none_y same =
     let some : Some n ≡ Some m = sym of_n ∙ ap number_in texts ∙ of_m in
     cc
 
--- two pages of 64 words
-abbrev settings : Profile
-settings = record { pages = 2; page_words = 64; k = 1; proxies = 8 }
-
-abbrev opened : ToldHeap
-opened = heap_opened settings
-
--- after a malloc that was answered by `ok`
-abbrev with_one : ℕ → ToldHeap
-with_one n = heap_by Moving opened (Malloc 1 n) (said (codes "ok"))
-
-one_bound : (with_one 176).step_bound ≡ 64
-one_bound = ap (λ (o : Option (List ℕ)). elim o as (λ _. ℕ) [ None ↦ 64 | Some v ↦ 0 ]) (none_there 1)
-
--- a malloc that is refused while there is room
-needs_one : pages_needed_with (paging_told Moving opened) empty 176 ≡ 1
-unfolding sizes_from class_for live pages_needed_with
-needs_one = simp none_listed
-
-asked_malloc : items (codes "heap 2 512 1 8\nm 1 176\n") true ≡ starts settings ∷ asks (Malloc 1 176) ∷ []
-unfolding decode_pairs
-asked_malloc = refl
-
-all_one : AreAllOne Moving opened
-all_one c lt = ap (λ o. unwrap_or o 1) (none_there (slot_words (paging_told Moving opened) c))
-
-pub refused_in_vain : MeetsHeadline Moving (items (codes "heap 2 512 1 8\nm 1 176\n") true) (said (codes "ok") ∷ said (codes "refused space") ∷ []) → ⊥
-refused_in_vain meets =
-    let replies : List Reply = said (codes "ok") ∷ said (codes "refused space") ∷ [] in
-    let m : AreAsClaimed Moving None (starts settings ∷ asks (Malloc 1 176) ∷ []) replies =
-    subst (λ l. AreAsClaimed Moving None l replies) asked_malloc meets in
-    let r : IsRefusedWhenFull Moving opened None 176 (said (codes "refused space")) =
-    subst (λ o. IsRefusedWhenFull Moving opened o 176 (said (codes "refused space"))) (none_there 1) (m.1.0 refl) in
-    room ((r all_one (lit≤ tt)).0 (inr refl))
-  where
-    room : IsFull Moving opened 176 → ⊥
-    room (inl all) = (let e : len (empty {X = List ℕ} {R = nat_cmp}) ≡ 0 = len-empty nat_cmp (List ℕ) in omega arith)
-    room (inr more) = (let e = needs_one in omega arith)
-
 -- more steps than a malloc may take
 asked_steps : items (codes "heap 2 512 1 8\nm 1 176\nsteps\n") true ≡ starts settings ∷ asks (Malloc 1 176) ∷ asks Steps ∷ []
 unfolding decode_pairs
@@ -111,76 +293,97 @@ shown_steps : codes "steps last 65 bound 64 moves 0 words 0" ≡ steps_line 65 6
 unfolding digits
 shown_steps = refl
 
-said_once : (a b : List ℕ) → said a ≡ said b → a ≡ b
-said_once a b same = (let e : a ∷ [] ≡ b ∷ [] = same in cc)
-
-too_many : IsWithinSteps (with_one 176) (said (codes "steps last 65 bound 64 moves 0 words 0")) → ⊥
-too_many w =
-    let few = w.few_steps in
-    let b = one_bound in
-    let texts = sym shown_steps ∙ said_once _ _ w.shown in
-    let e : 65 ≡ w.last = shown_once 65 w.last _ _ (lit≤ tt) (omega arith) refl refl (ap (drop 11) texts) in
-    omega arith
-
 pub steps_in_excess : MeetsHeadline Moving (items (codes "heap 2 512 1 8\nm 1 176\nsteps\n") true) (said (codes "ok") ∷ said (codes "ok")
     ∷ said (codes "steps last 65 bound 64 moves 0 words 0") ∷ []) → ⊥
 steps_in_excess meets =
-    let replies : List Reply = said (codes "ok") ∷ said (codes "ok") ∷ said (codes "steps last 65 bound 64 moves 0 words 0") ∷ [] in
-    let m : AreAsClaimed Moving None (starts settings ∷ asks (Malloc 1 176) ∷ asks Steps ∷ []) replies =
-    subst (λ l. AreAsClaimed Moving None l replies) asked_steps meets in
-    too_many (m.1.1.0 refl)
-
--- a page more than the object needs and may have
-asked_walk : items (codes "heap 2 512 1 8\nm 1 176\nwalk\n") true ≡ starts settings ∷ asks (Malloc 1 176) ∷ asks Walk ∷ []
-unfolding decode_pairs
-asked_walk = refl
-
-one_class : classes_told Moving (with_one 176) ≡ 11 ∷ []
-unfolding sizes_from class_for live
-one_class = simp (one_listed 1 (replicate 176 0))
-
-one_live : live (paging_told Moving (with_one 176)) (with_one 176).bytes 11 ≡ 1
-unfolding sizes_from class_for live
-one_live = simp (one_listed 1 (replicate 176 0))
-
-slots_of_23 : (slot_words (paging_told Moving (with_one 176)) 11 ≡ 23) × (slots_of (paging_told Moving (with_one 176)) 11 ≡ 2)
-unfolding sizes_from
-slots_of_23 = (refl, refl)
-
-decimals : (decimal 23 ≡ 50 ∷ 51 ∷ []) × (decimal 2 ≡ 50 ∷ []) × (decimal 1 ≡ 49 ∷ [])
-unfolding digits
-decimals = (refl, refl, refl)
-
--- the line of a class, by the texts of its numbers
-abbrev line_by : List ℕ → List ℕ → List ℕ → List ℕ → List ℕ → List ℕ
-line_by words slots alive pages part = (codes "class " ++ words) ++ ((codes " slots " ++ slots) ++ ((codes " live " ++ alive)
-    ++ ((codes " pages " ++ pages) ++ (codes " notfull " ++ part))))
-
-two_pages : IsClassLine Moving (with_one 176) 11 (codes "class 23 slots 2 live 1 pages 2 notfull 0") → ⊥
-two_pages line =
-    let f = line.figures in
-    let words : f.slot_words ≡ 23 = line.words_are ∙ slots_of_23.0 in
-    let slots : f.slots ≡ 2 = line.slots_are ∙ slots_of_23.1 in
-    let alive : f.live ≡ 1 = line.live_are ∙ one_live in
-    let k : bound_told (with_one 176) f.slot_words ≡ 1 = ap (λ o. unwrap_or o 1) (none_there f.slot_words) in
-    let few : f.pages ≤ 1 / 2 + 1 = subst (λ m. f.pages ≤ 1 / m + 1) slots (subst (λ n. f.pages ≤ n / f.slots + 1) alive
-    (subst (λ b. f.pages ≤ f.live / f.slots + b) k line.few_pages)) in
-    let text : codes "class 23 slots 2 live 1 pages 2 notfull 0"
-    ≡ line_by (50 ∷ 51 ∷ []) (50 ∷ []) (49 ∷ []) (decimal f.pages) (decimal f.not_full) =
-    line.shown
-    ∙ (λ i. line_by (decimal (words i)) (decimal (slots i)) (decimal (alive i)) (decimal f.pages) (decimal f.not_full))
-    ∙ (λ i. line_by (decimals.0 i) (decimals.1 i) (decimals.2 i) (decimal f.pages) (decimal f.not_full)) in
-    let e : decimal 2 ++ codes " notfull 0" ≡ decimal f.pages ++ (codes " notfull " ++ decimal f.not_full) =
-    ap (λ d. d ++ codes " notfull 0") decimals.1 ∙ ap (drop 30) text in
-    let is : 2 ≡ f.pages = shown_once 2 f.pages (codes " notfull 0") (codes " notfull " ++ decimal f.not_full) (lit≤ tt) (omega arith) refl refl e in
+    let text : List ℕ = codes "steps last 65 bound 64 moves 0 words 0" in
+    let start = after_opening Moving (asks (Malloc 1 176) ∷ asks Steps ∷ []) (said (codes "ok")) (said (codes "ok") ∷ said text ∷ []) settings
+    (subst (λ l. Rest Moving None l (said (codes "ok") ∷ said (codes "ok") ∷ said text ∷ [])) asked_steps meets) in
+    let one = after_command Moving (asks Steps ∷ []) (said (codes "ok")) (said text ∷ []) opened (Malloc 1 176) start in
+    let m = given opened one.0 1 176 (none_held 1) one.1 in
+    let two = after_command Moving [] (said text) [] one.0 Steps one.2 in
+    let kind : one.0.heap.kind ≡ Moving = ap (λ (t : ShownHeap). t.heap.kind) m.heap_is in
+    let cost : one.0.heap.cost ≤ 64 = m.steps in
+    let line : text ≡ steps_line one.0.heap.cost one.0.step_bound one.0.moves one.0.moved_words =
+    said_once _ _ (two.1.0.0 ∙ ap (λ k. said (steps_shown k one.0)) kind) in
+    let e : 65 ≡ one.0.heap.cost = shown_once 65 one.0.heap.cost _ _ (lit≤ tt) (omega arith) refl refl (ap (drop 11) (sym shown_steps ∙ line)) in
     omega arith
 
-pub page_in_excess : MeetsHeadline Moving (items (codes "heap 2 512 1 8\nm 1 176\nwalk\n") true) (said (codes "ok") ∷ said (codes "ok")
-    ∷ (codes "class 23 slots 2 live 1 pages 2 notfull 0" ∷ codes "total live 1 pages 2 free 0" ∷ []) ∷ []) → ⊥
-page_in_excess meets =
-    let lines : Reply = codes "class 23 slots 2 live 1 pages 2 notfull 0" ∷ codes "total live 1 pages 2 free 0" ∷ [] in
-    let replies : List Reply = said (codes "ok") ∷ said (codes "ok") ∷ lines ∷ [] in
-    let m : AreAsClaimed Moving None (starts settings ∷ asks (Malloc 1 176) ∷ asks Walk ∷ []) replies =
-    subst (λ l. AreAsClaimed Moving None l replies) asked_walk meets in
-    let w : IsWalk Moving (with_one 176) (11 ∷ []) lines = subst (λ cs. IsWalk Moving (with_one 176) cs lines) one_class (m.1.1.0 refl) in
-    two_pages w.0
+-- one address of two objects
+two_is_not_one : ◌≢◌ {A = ℕ} 2 1
+two_is_not_one is = omega arith
+
+slot_is_small : (h : HeapState) (c a : ℕ) → h.profile ≡ settings → IsSlotAt (paging_in h) c a → a ≤ 4294967295
+slot_is_small h c a is slot = (let page : a / 64 < 2 = subst (λ (q : Profile). a / q.page_words < q.pages) is slot.page in omega arith)
+
+apart_of : (t : ShownHeap) (a b : ℕ) → IsArranged t.heap → get t.heap.held 1 ≡ Some (zeros_at a 176) → get t.heap.held 2 ≡ Some (zeros_at b 176)
+    → t.heap.kind ≡ Moving → t.heap.profile ≡ settings → decimal a ≡ decimal b → ⊥
+apart_of t a b arranged one two kind is same =
+    let paged_too : family_of t.heap.kind ≡ paged = ap family_of kind in
+    let sound : IsPaging (paging_in t.heap) × IsSound (paging_in t.heap) t.heap.held = rw (paged_too, IsArranged) at arranged in
+    let small_a = slot_is_small t.heap _ a is (sound.1.slots 1 (zeros_at a 176) one) in
+    let small_b = slot_is_small t.heap _ b is (sound.1.slots 2 (zeros_at b 176) two) in
+    let e : a ≡ b = shown_once a b [] [] small_a small_b tt tt (ap (λ l. l ++ []) same) in
+    sound.1.own_place 1 (zeros_at a 176) 2 (zeros_at b 176) one two two_is_not_one e
+
+asked_shared : items (codes "heap 2 512 1 8\nm 1 176\nm 2 176\nq 1\nq 2\n") true
+    ≡ starts settings ∷ asks (Malloc 1 176) ∷ asks (Malloc 2 176) ∷ asks (Place 1) ∷ asks (Place 2) ∷ []
+unfolding decode_pairs
+asked_shared = refl
+
+pub address_shared : MeetsHeadline Moving (items (codes "heap 2 512 1 8\nm 1 176\nm 2 176\nq 1\nq 2\n") true)
+    (said (codes "ok") ∷ said (codes "ok") ∷ said (codes "ok") ∷ said (codes "at 0") ∷ said (codes "at 0") ∷ []) → ⊥
+address_shared meets =
+    let ok : Reply = said (codes "ok") in
+    let zero_at : Reply = said (codes "at 0") in
+    let start = after_opening Moving (asks (Malloc 1 176) ∷ asks (Malloc 2 176) ∷ asks (Place 1) ∷ asks (Place 2) ∷ []) ok (ok ∷ ok ∷ zero_at ∷ zero_at ∷ []) settings
+    (subst (λ l. Rest Moving None l (ok ∷ ok ∷ ok ∷ zero_at ∷ zero_at ∷ [])) asked_shared meets) in
+    let one = after_command Moving (asks (Malloc 2 176) ∷ asks (Place 1) ∷ asks (Place 2) ∷ []) ok (ok ∷ zero_at ∷ zero_at ∷ []) opened (Malloc 1 176) start in
+    let first = given opened one.0 1 176 (none_held 1) one.1 in
+    let held : one.0.heap.held ≡ insert empty 1 (zeros_at first.place 176) = ap (λ (t : ShownHeap). t.heap.held) first.heap_is in
+    let two = after_command Moving (asks (Place 1) ∷ asks (Place 2) ∷ []) ok (zero_at ∷ zero_at ∷ []) one.0 (Malloc 2 176) one.2 in
+    let free : get one.0.heap.held 2 ≡ None = ap (λ m. get m 2) held ∙ get_insert_other empty 1 (zeros_at first.place 176) 2 two_is_not_one ∙ none_held 2 in
+    let other = given one.0 two.0 2 176 free two.1 in
+    let both : two.0.heap.held ≡ insert one.0.heap.held 2 (zeros_at other.place 176) = ap (λ (t : ShownHeap). t.heap.held) other.heap_is in
+    let at_two : get two.0.heap.held 2 ≡ Some (zeros_at other.place 176) = ap (λ m. get m 2) both ∙ get_inserted one.0.heap.held 2 (zeros_at other.place 176) in
+    let at_one : get two.0.heap.held 1 ≡ Some (zeros_at first.place 176) = ap (λ m. get m 1) both
+    ∙ get_insert_other one.0.heap.held 2 (zeros_at other.place 176) 1 (λ is. two_is_not_one (sym is)) ∙ ap (λ m. get m 1) held
+    ∙ get_inserted empty 1 (zeros_at first.place 176) in
+    let three = after_command Moving (asks (Place 2) ∷ []) zero_at (zero_at ∷ []) two.0 (Place 1) two.2 in
+    let four = after_command Moving [] zero_at [] three.0 (Place 2) three.2 in
+    let same : three.0 ≡ two.0 = three.1.0.1 in
+    let q1 : codes "at 0" ≡ with_number (codes "at ") first.place = said_once _ _ (three.1.0.0 ∙ ap (λ o. said (place_text o)) at_one) in
+    let q2 : codes "at 0" ≡ with_number (codes "at ") other.place =
+    said_once _ _ (four.1.0.0 ∙ ap (λ (t : ShownHeap). said (place_text (get t.heap.held 2))) same ∙ ap (λ o. said (place_text o)) at_two) in
+    let numbers : decimal first.place ≡ decimal other.place = ap (drop 3) (sym q1 ∙ q2) in
+    apart_of two.0 first.place other.place two.1.1 at_one at_two (ap (λ (t : ShownHeap). t.heap.kind) other.heap_is ∙ ap (λ (t : ShownHeap). t.heap.kind) first.heap_is)
+    (ap (λ (t : ShownHeap). t.heap.profile) other.heap_is ∙ ap (λ (t : ShownHeap). t.heap.profile) first.heap_is) numbers
+
+-- an object at another address, though nothing was freed or resized
+asked_twice : items (codes "heap 2 512 1 8\nm 1 176\nq 1\nm 2 176\nq 1\n") true
+    ≡ starts settings ∷ asks (Malloc 1 176) ∷ asks (Place 1) ∷ asks (Malloc 2 176) ∷ asks (Place 1) ∷ []
+unfolding decode_pairs
+asked_twice = refl
+
+pub address_changed : MeetsHeadline Moving (items (codes "heap 2 512 1 8\nm 1 176\nq 1\nm 2 176\nq 1\n") true)
+    (said (codes "ok") ∷ said (codes "ok") ∷ said (codes "at 0") ∷ said (codes "ok") ∷ said (codes "at 23") ∷ []) → ⊥
+address_changed meets =
+    let ok : Reply = said (codes "ok") in
+    let here : Reply = said (codes "at 0") in
+    let there : Reply = said (codes "at 23") in
+    let start = after_opening Moving (asks (Malloc 1 176) ∷ asks (Place 1) ∷ asks (Malloc 2 176) ∷ asks (Place 1) ∷ []) ok (ok ∷ here ∷ ok ∷ there ∷ []) settings
+    (subst (λ l. Rest Moving None l (ok ∷ ok ∷ here ∷ ok ∷ there ∷ [])) asked_twice meets) in
+    let one = after_command Moving (asks (Place 1) ∷ asks (Malloc 2 176) ∷ asks (Place 1) ∷ []) ok (here ∷ ok ∷ there ∷ []) opened (Malloc 1 176) start in
+    let first = given opened one.0 1 176 (none_held 1) one.1 in
+    let held : one.0.heap.held ≡ insert empty 1 (zeros_at first.place 176) = ap (λ (t : ShownHeap). t.heap.held) first.heap_is in
+    let two = after_command Moving (asks (Malloc 2 176) ∷ asks (Place 1) ∷ []) here (ok ∷ there ∷ []) one.0 (Place 1) one.2 in
+    let still : two.0.heap.held ≡ insert empty 1 (zeros_at first.place 176) = ap (λ (t : ShownHeap). t.heap.held) two.1.0.1 ∙ held in
+    let three = after_command Moving (asks (Place 1) ∷ []) ok (there ∷ []) two.0 (Malloc 2 176) two.2 in
+    let free : get two.0.heap.held 2 ≡ None = ap (λ m. get m 2) still ∙ get_insert_other empty 1 (zeros_at first.place 176) 2 two_is_not_one ∙ none_held 2 in
+    let other = given two.0 three.0 2 176 free three.1 in
+    let four = after_command Moving [] there [] three.0 (Place 1) three.2 in
+    let at_last : get three.0.heap.held 1 ≡ get one.0.heap.held 1 = ap (λ (t : ShownHeap). get t.heap.held 1) other.heap_is
+    ∙ get_insert_other two.0.heap.held 2 (zeros_at other.place 176) 1 (λ is. two_is_not_one (sym is))
+    ∙ ap (λ m. get m 1) (still ∙ sym held) in
+    let e : said (codes "at 0") ≡ said (codes "at 23") = two.1.0.0 ∙ sym (ap (λ o. said (place_text o)) at_last) ∙ sym four.1.0.0 in
+    absurd (let z : ◌≡◌ {A = ℕ} 48 50 = ap (λ r. get_or (line_at r 0) 3 0) e in omega arith)

@@ -1,87 +1,185 @@
 -- What is claimed of every script, by its lines and their replies alone.
-use Rattle.std.specs.Prelude.{◌≡◌, ℕ, ⊤, ◌⊎◌, ◌↔◌, ◌+◌, ◌/◌, ◌≤◌, ◌<◌, List, [], ◌∷◌, ◌++◌, Option, Some, None, codes, filter, nat_eq, not}
-use Rattle.std.specs.List.{range_with_len}
-use Rattle.std.specs.FinMap.{get, len}
+--
+-- The replies meet the headline if there is one for each item, and heaps between them, such that each reply and each heap follow from the heap before and the
+-- item. `IsAnswer` says how, command by command. All is fixed but these choices of the manager: which of the free places a malloc takes, which object moves, how
+-- many steps a call takes within its bound, and what word `p` shows.
+use Rattle.std.specs.Prelude.{◌≡◌, ◌≢◌, ℕ, ◌⊎◌, ◌+◌, ◌*◌, ◌≤◌, ◌<◌, List, ◌++◌, Option, Some, None, Err, codes, if◌then◌else◌, length, max, nat_le, nat_lt}
+use Rattle.std.specs.FinMap.{get, insert, len}
 use Rattle.cf_base.specs.Classes.{need}
-use Rattle.cf_base.specs.declared.answers.Figures.{Figures}
-use Rattle.cf_base.specs.declared.answers.Totals.{Totals}
+use Rattle.cf_base.specs.Settings.{Profile}
+use Rattle.cf_base.specs.declared.answers.Refusal.{Refusal}
+use Rattle.cf_base.specs.declared.answers.ResizeFault.{ResizeFault}
 use Rattle.cf_base.specs.declared.kind.Kind.{Kind}
-use Rattle.page_model.specs.Arrangement.{live, pages_needed_with}
-use Rattle.page_model.specs.Paging.{classes, slot_words, slots_of}
-use Rattle.cf_model.specs.Families.{IsPaged}
-use Rattle.script_reader.specs.Items.{Item, asks}
+use Rattle.page_model.specs.Arrangement.{class_at}
+use Rattle.page_model.specs.Bytes.{written}
+use Rattle.page_model.specs.Held.{Placed}
+use Rattle.page_model.specs.Image.{slot_for}
+use Rattle.page_model.specs.Paging.{class_for}
+use Rattle.page_model.specs.Steps.{IsFreePlace, Leaves, Moves, resized_at, without, zeros_at}
+use Rattle.cf_model.specs.Families.{IsPaged, paged, tiled, family_of}
+use Rattle.cf_model.specs.Answers.{bound_put}
+use Rattle.cf_model.specs.State.{paging_in, region_words}
+use Rattle.cf_model.specs.Steps.{IsPlacedBy, IsRefusedBy, IsResizeFault, IsUnmoved, MovesIn, frames_left, slot_in, tiling_left}
+use Rattle.script_reader.specs.Items.{Item}
 use Rattle.script_reader.specs.declared.command.Command.{Command}
-use Rattle.script_reader.specs.declared.command.Command.TheVariants.{Malloc, Read, Walk, Steps}
-use Rattle.run_model.specs.Bounds.{RefusesForWant}
-use Rattle.run_model.specs.Reports.{class_line, total_line}
+use Rattle.script_reader.specs.declared.command.Command.TheVariants.{Malloc, Free, Write, Read, Place, Block, Peek, Walk, Frag, Steps, Bound, Resize}
+use Rattle.run_model.specs.Plays.{PlayRun}
+use Rattle.run_model.specs.Replies.{block_text_at, malloc_text, peek_text, place_text, read_text, resize_text}
+use Rattle.run_model.specs.Reports.{frag_of, walk_of}
+use Rattle.run_model.specs.Sessions.{CostsAtMost}
+use Rattle.run_model.specs.Steps.{bound_text, class_to_bound}
 use Rattle.run_model.specs.Texts.{Reply, said, with_number}
-use Rattle.run_laws.specs.Told.{read_told}
-use Rattle.headline_laws.specs.ToldHeap.{ToldHeap, bound_told, heap_after, paging_told}
+use Rattle.headline_laws.specs.ShownHeap.{IsArranged, ShownHeap, heap_opened, with_move}
 
--- every class has the bound 1
-abbrev pub AreAllOne : Kind → ToldHeap → Type 0
-AreAllOne kind t = (c : ℕ) → c < classes (paging_told kind t) → bound_told t (slot_words (paging_told kind t) c) ≡ 1
+-- one line, and nothing changes
+abbrev pub OnlyReplies : ShownHeap → List ℕ → Reply → ShownHeap → Type 0
+OnlyReplies old text reply new = (reply ≡ said text) × (new ≡ old)
 
--- as many ids are live as there are proxies, or their objects need more pages with this one than there are, counted by arithmetic
-abbrev pub IsFull : Kind → ToldHeap → ℕ → Type 0
-IsFull kind t bytes = (len t.bytes ≡ t.profile.proxies) ⊎ (t.profile.pages < pages_needed_with (paging_told kind t) t.bytes bytes)
+-- m, `ok`: n zeros under the id. With pages they get a free slot of their class, on a partly full page if the class has one, else on a free page; with blocks
+-- a block of the least bucket that serves. `number` is the manager's own number for the object: no reply shows it.
+pub record IsMalloc (old : ShownHeap) (id n : ℕ) (reply : Reply) (new : ShownHeap) : Type 0 where
+  pub fits : need n ≤ old.heap.profile.page_words
+  pub few : len old.heap.held < old.heap.profile.proxies
+  pub place : ℕ
+  pub number : ℕ
+  pub placed : IsPlacedBy old.heap.kind old.heap (record { number = number; length = n }) place new.heap
+  pub steps : CostsAtMost old.heap.kind new.heap.cost 64
+  pub reply_is : reply ≡ said (codes "ok")
+  pub heap_is : new ≡ record old {
+    heap = record old.heap { held = insert old.heap.held id (zeros_at place n); tiling = new.heap.tiling; cost = new.heap.cost };
+    step_bound = 64;
+  }
 
--- where every bound is 1, a malloc that fits a page is refused exactly where the heap is full
-abbrev pub IsRefusedWhenFull : Kind → ToldHeap → Option (List ℕ) → ℕ → Reply → Type 0
-IsRefusedWhenFull kind t (Some v) bytes reply = ⊤
-IsRefusedWhenFull kind t None bytes reply = AreAllOne kind t → need bytes ≤ t.profile.page_words → RefusesForWant reply ↔ IsFull kind t bytes
+-- m, refused: `refused size` if the object needs more than a page, else `refused proxy` if all proxies are in use, else `refused space` if there is no room:
+-- with pages if no page of its class is partly full and none is free, with blocks if no free block serves
+pub record IsRefusedMalloc (old : ShownHeap) (n : ℕ) (reply : Reply) (new : ShownHeap) : Type 0 where
+  pub refusal : Refusal
+  pub cause : IsRefusedBy old.heap n refusal
+  pub steps : CostsAtMost old.heap.kind new.heap.cost 64
+  pub reply_is : reply ≡ said (malloc_text (Err refusal))
+  pub heap_is : new ≡ record old { heap = record old.heap { cost = new.heap.cost }; step_bound = 64 }
 
--- The line of a class shows its slots and its live objects as they are told, and pages: by the numbers shown, at most the live objects over the slots, rounded
--- down, and as many more as may be partly full.
-pub record IsClassLine (kind : Kind) (t : ToldHeap) (c : ℕ) (line : List ℕ) : Type 0 where
-  pub figures : Figures
-  pub shown : line ≡ class_line figures
-  pub words_are : figures.slot_words ≡ slot_words (paging_told kind t) c
-  pub slots_are : figures.slots ≡ slots_of (paging_told kind t) c
-  pub live_are : figures.live ≡ live (paging_told kind t) t.bytes c
-  pub few_pages : figures.pages ≤ figures.live / figures.slots + bound_told t figures.slot_words
+abbrev pub Mallocs : Option Placed → ShownHeap → ℕ → ℕ → Reply → ShownHeap → Type 0
+Mallocs (Some x) old id n reply new = OnlyReplies old (codes "live") reply new
+Mallocs None old id n reply new = IsMalloc old id n reply new ⊎ IsRefusedMalloc old n reply new
 
--- the classes of live objects, in rising order
-abbrev pub classes_told : Kind → ToldHeap → List ℕ
-classes_told kind t = filter (λ c. not (nat_eq (live (paging_told kind t) t.bytes c) 0)) (range_with_len 0 (classes (paging_told kind t)))
+-- f, of a live id: its object goes. With pages one other object of its class moves into its slot if and only if its page was full, with several slots, and
+-- its class had as many partly full pages as it may; that object comes from a partly full page. No other address changes.
+pub record IsFree (old : ShownHeap) (id : ℕ) (x : Placed) (reply : Reply) (new : ShownHeap) : Type 0 where
+  pub moved : Option ℕ
+  pub moves : MovesIn old.heap.kind old.heap x moved
+  pub steps : CostsAtMost old.heap.kind new.heap.cost (96 + 2 * slot_in old.heap.kind old.heap x)
+  pub reply_is : reply ≡ said (codes "ok")
+  pub heap_is : new ≡ with_move (record old {
+    heap = record old.heap {
+      held = without old.heap.held id x.place moved;
+      frames = frames_left old.heap.kind old.heap (record { held = without old.heap.held id x.place moved; moved = moved });
+      tiling = tiling_left old.heap.kind old.heap x.place;
+      cost = new.heap.cost;
+    };
+    step_bound = 96 + 2 * slot_in old.heap.kind old.heap x;
+  }) moved (slot_in old.heap.kind old.heap x)
 
--- a line for each of these classes, and then the line of the totals
-abbrev pub IsWalk : Kind → ToldHeap → List ℕ → Reply → Type 0
-IsWalk kind t [] reply = (totals : Totals) × (reply ≡ said (total_line totals))
-IsWalk kind t (c ∷ rest) [] = ⊥
-IsWalk kind t (c ∷ rest) (line ∷ more) = IsClassLine kind t c line × IsWalk kind t rest more
+abbrev pub Frees : Option Placed → ShownHeap → ℕ → Reply → ShownHeap → Type 0
+Frees None old id reply new = OnlyReplies old (codes "unknown") reply new
+Frees (Some x) old id reply new = IsFree old id x reply new
 
--- the line of `steps`: how many steps the last malloc, free or resize took, and its bound; how many objects moved, and the words of their slots
+-- w: the bytes are written if they lie within the object, else `range`
+abbrev pub with_object : ShownHeap → ℕ → Placed → ShownHeap
+with_object s id x = record s { heap = record s.heap { held = insert s.heap.held id x } }
+
+abbrev pub Writes : Option Placed → ShownHeap → ℕ → ℕ → List ℕ → Reply → ShownHeap → Type 0
+Writes None old id at bytes reply new = OnlyReplies old (codes "unknown") reply new
+Writes (Some x) old id at bytes reply new =
+    (reply ≡ said (if nat_le (at + length bytes) (length x.bytes) then codes "ok" else codes "range"))
+    × (new ≡ if nat_le (at + length bytes) (length x.bytes) then with_object old id (record x { bytes = written x.bytes at bytes }) else old)
+
+-- z within the class: the address stays
+pub record RefitsInPlace (old : ShownHeap) (id : ℕ) (x : Placed) (n : ℕ) (after : Leaves) : Type 0 where
+  pub same : class_for (paging_in old.heap) n ≡ class_at (paging_in old.heap) x
+  pub still : after.moved ≡ None
+  pub placed : after.held ≡ insert old.heap.held id (resized_at x.place x n)
+
+-- z to another class: the object takes a free slot as a malloc does, and leaves its old one as a free does
+pub record RefitsElsewhere (old : ShownHeap) (id : ℕ) (x : Placed) (n : ℕ) (after : Leaves) : Type 0 where
+  pub other : class_for (paging_in old.heap) n ≢ class_at (paging_in old.heap) x
+  pub place : ℕ
+  pub free : IsFreePlace (paging_in old.heap) old.heap.held n place
+  pub moves : Moves (paging_in old.heap) old.heap.held x after.moved
+  pub placed : after.held ≡ insert (without old.heap.held id x.place after.moved) id (resized_at place x n)
+
+abbrev pub resize_bound_for : ShownHeap → Placed → ℕ → ℕ
+resize_bound_for old x n = 160 + 3 * max (slot_for (paging_in old.heap) (length x.bytes)) (slot_for (paging_in old.heap) n)
+
+-- z, `ok`: the first bytes stay, and zeros are added
+pub record IsResize (old : ShownHeap) (id : ℕ) (x : Placed) (n : ℕ) (reply : Reply) (new : ShownHeap) : Type 0 where
+  pub pages : IsPaged old.heap.kind
+  pub fits : need n ≤ old.heap.profile.page_words
+  pub after : Leaves
+  pub refits : RefitsInPlace old id x n after ⊎ RefitsElsewhere old id x n after
+  pub steps : CostsAtMost old.heap.kind new.heap.cost (resize_bound_for old x n)
+  pub reply_is : reply ≡ said (codes "ok")
+  pub heap_is : new ≡ with_move (record old {
+    heap = record old.heap { held = after.held; frames = frames_left old.heap.kind old.heap after; cost = new.heap.cost };
+    step_bound = resize_bound_for old x n;
+  }) after.moved (slot_for (paging_in old.heap) (length x.bytes))
+
+-- z, refused: `none` with blocks; `refused size` if it would need more than a page, else `refused space` if its class would be another one, without room
+pub record IsRefusedResize (old : ShownHeap) (id n : ℕ) (reply : Reply) (new : ShownHeap) : Type 0 where
+  pub fault : ResizeFault
+  pub cause : IsResizeFault old.heap (record { number = id; length = n }) fault
+  pub steps : CostsAtMost old.heap.kind new.heap.cost 160
+  pub reply_is : reply ≡ said (resize_text (Err fault))
+  pub still : IsUnmoved old.heap.kind old.heap new.heap
+  pub heap_is : new ≡ record old { heap = new.heap; step_bound = 160 }
+
+abbrev pub Resizes : Option Placed → ShownHeap → ℕ → ℕ → Reply → ShownHeap → Type 0
+Resizes None old id n reply new = OnlyReplies old (codes "unknown") reply new
+Resizes (Some x) old id n reply new = IsResize old id x n reply new ⊎ IsRefusedResize old id n reply new
+
+-- k: the class with these slots gets the bound, if no object is live
+abbrev pub Bounds : ShownHeap → ℕ → ℕ → Reply → ShownHeap → Type 0
+Bounds old slot_words k reply new = (reply ≡ said (bound_text (class_to_bound old.heap slot_words)))
+    × (new ≡ record old { heap = bound_put old.heap (class_to_bound old.heap slot_words) k })
+
+-- p: a word in 16 digits
+abbrev pub Peeks : ShownHeap → ℕ → Reply → ShownHeap → Type 0
+Peeks old word reply new = (value : ℕ) × OnlyReplies old (peek_text (if nat_lt word (region_words old.heap.profile) then Some value else None)) reply new
+
+-- steps: those of the last malloc, free or resize; with pages also their bound, how many objects moved, and the words of their slots
 abbrev pub steps_line : ℕ → ℕ → ℕ → ℕ → List ℕ
 steps_line last bound moves words = with_number (codes "steps last ") last ++ (with_number (codes " bound ") bound
     ++ (with_number (codes " moves ") moves ++ with_number (codes " words ") words))
 
--- the line of `steps` shows the bound that is told, and no more steps
-pub record IsWithinSteps (t : ToldHeap) (reply : Reply) : Type 0 where
-  pub last : ℕ
-  pub moves : ℕ
-  pub words : ℕ
-  pub shown : reply ≡ said (steps_line last t.step_bound moves words)
-  pub few_steps : last ≤ t.step_bound
+abbrev pub steps_shown : Kind → ShownHeap → List ℕ
+steps_shown kind t = elim (family_of kind) [
+  | paged ↦ steps_line t.heap.cost t.step_bound t.moves t.moved_words
+  | tiled ↦ with_number (codes "steps last ") t.heap.cost
+]
 
--- What is claimed of a command and its reply: a read shows the bytes last written through its id, whatever the kind; and of a kind with pages these three.
-abbrev pub IsAsClaimed : Kind → ToldHeap → Command → Reply → Type 0
-IsAsClaimed kind t (Read id at count) reply = reply ≡ said (read_told (get t.bytes id) at count)
-IsAsClaimed kind t (Malloc id bytes) reply = IsPaged kind → IsRefusedWhenFull kind t (get t.bytes id) bytes reply
-IsAsClaimed kind t Walk reply = IsPaged kind → IsWalk kind t (classes_told kind t) reply
-IsAsClaimed kind t Steps reply = IsPaged kind → IsWithinSteps t reply
-IsAsClaimed kind t command reply = ⊤
+-- The reply to a command, and the heap after it. The last row is of the commands of other modes.
+abbrev pub IsAnswer : ShownHeap → Command → Reply → ShownHeap → Type 0
+IsAnswer old (Malloc id n) reply new = Mallocs (get old.heap.held id) old id n reply new
+IsAnswer old (Free id) reply new = Frees (get old.heap.held id) old id reply new
+IsAnswer old (Write id at bytes) reply new = Writes (get old.heap.held id) old id at bytes reply new
+IsAnswer old (Read id at count) reply new = OnlyReplies old (read_text (get old.heap.held id) at count) reply new
+IsAnswer old (Place id) reply new = OnlyReplies old (place_text (get old.heap.held id)) reply new
+IsAnswer old (Block id i) reply new = OnlyReplies old (block_text_at old.heap (get old.heap.held id) i) reply new
+IsAnswer old (Peek word) reply new = Peeks old word reply new
+IsAnswer old Walk reply new = (reply ≡ walk_of old.heap.kind old.heap) × (new ≡ old)
+IsAnswer old Frag reply new = (reply ≡ frag_of old.heap) × (new ≡ old)
+IsAnswer old Steps reply new = OnlyReplies old (steps_shown old.heap.kind old) reply new
+IsAnswer old (Bound slot_words k) reply new = Bounds old slot_words k reply new
+IsAnswer old (Resize id n) reply new = Resizes (get old.heap.held id) old id n reply new
+IsAnswer old command reply new = OnlyReplies old (codes "none") reply new
 
-abbrev pub IsItemAsClaimed : Kind → Option ToldHeap → Item → Reply → Type 0
-IsItemAsClaimed kind (Some t) (asks command) reply = IsAsClaimed kind t command reply
-IsItemAsClaimed kind t item reply = ⊤
+-- the `heap` line, and each command; every heap is arranged by the rules
+abbrev pub Opens : Kind → Profile → Reply → ShownHeap → Type 0
+Opens kind p reply new = (reply ≡ said (codes "ok")) × (new ≡ heap_opened kind p) × IsArranged new.heap
 
--- the same of every item and its reply, by what the lines before it and their replies tell
-abbrev pub AreAsClaimed : Kind → Option ToldHeap → List Item → List Reply → Type 0
-AreAsClaimed kind t [] replies = ⊤
-AreAsClaimed kind t (item ∷ rest) [] = ⊥
-AreAsClaimed kind t (item ∷ rest) (reply ∷ more) = IsItemAsClaimed kind t item reply × AreAsClaimed kind (heap_after kind t item reply) rest more
+abbrev pub Answers : ShownHeap → Command → Reply → ShownHeap → Type 0
+Answers old command reply new = IsAnswer old command reply new × IsArranged new.heap
 
--- and of all the items of a script
+-- The replies to a script are as claimed, one for each item.
 abbrev pub MeetsHeadline : Kind → List Item → List Reply → Type 0
-MeetsHeadline kind script replies = AreAsClaimed kind None script replies
+MeetsHeadline kind script replies = (end : Option ShownHeap) × PlayRun (Opens kind) Answers None script replies end

@@ -1,2 +1,2 @@
-pub mod ToldHeap
+pub mod ShownHeap
 pub mod Headline

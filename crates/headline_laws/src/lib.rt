@@ -1,37 +1,95 @@
-//! What is claimed of every script, by its lines and their replies alone: no heap, handle, address
-//! or manager is named. The public functions do nothing: each one's contract is a law of runs.
+//! What is claimed of every script, by its lines and their replies alone. The public functions do
+//! nothing: each one's contract is a law of runs.
 #![tactic(auto)]
 
-ghost use Rattle.std.specs.Prelude.{codes, List, [], ◌∷◌, None, Option, true};
+ghost use Rattle.std.specs.Prelude.{◌≡◌, codes, List, [], ◌∷◌, None, Option, Some, true};
 ghost use Rattle.cf_base.specs.declared.kind.Kind.{Kind};
 ghost use Rattle.cf_base.specs.declared.kind.Kind.TheVariants.{Moving};
+ghost use Rattle.cf_model.specs.Rules.{IsPaged};
+ghost use Rattle.cf_model.specs.State.{paging_in};
+ghost use Rattle.page_model.specs.Paging.{AreOne};
 ghost use Rattle.script_reader.specs.Items.{Item, items};
 ghost use Rattle.run_model.specs.Runs.{Run};
-ghost use Rattle.run_model.specs.Sessions.{RunState};
-ghost use Rattle.run_model.specs.Texts.{Reply, said};
+ghost use Rattle.run_model.specs.Sessions.{IsGoing, RunState};
+ghost use Rattle.run_model.specs.Texts.{Reply, said, text_of};
+ghost use Rattle.transcript_laws.specs.Histories.{AreAlike, AreFurther};
+ghost use Rattle.transcript_laws.specs.Transcripts.{ArePlaceless, StaysAtOne, transcript};
 ghost use Rattle.headline_laws.specs.Headline.{MeetsHeadline};
 
-/// The replies of every run over a script meet the headline. Of any kind, each read shows the bytes
-/// last written through its id, whatever moved. Of a kind with pages, `walk` shows each class on at
-/// most its live objects over its slots, rounded down, and as many more pages as the script lets be
-/// partly full; where that is 1 for every class, a malloc that fits a page is refused exactly where
-/// the proxies are in use or the objects told of would need more pages than there are; and `steps`
-/// shows at most the steps of the last malloc, free or resize: 64, 96 and twice the words of the
-/// freed slot, 160 and three times those of the larger one.
+/// The replies of every run over a script meet the headline: one for each item, none over, each as
+/// the heap before it and the item say. It is a heap of objects numbered by the ids of the script.
 pub fn the_headline()
     ensures { (kind : Kind) (items : List Item) (replies : List Reply) (end : Option RunState)
         → Run kind None items replies end → MeetsHeadline kind items replies }
 {}
 
-/// Wrong replies do not meet the headline. On two pages of 64 words: `refused space` while there is
-/// room, a page more than the objects need and may have, and more steps than a malloc may take.
+/// Replies that meet the headline are fixed by their text: no other replies have it and meet the
+/// headline too. So whoever sees the output sees which lines answer which command.
+pub fn the_output_tells_the_replies()
+    ensures { (kind : Kind) (items : List Item) (replies others : List Reply)
+        → MeetsHeadline kind items replies → MeetsHeadline kind items others
+        → text_of [] others ≡ text_of [] replies → others ≡ replies }
+{}
+
+/// Of a kind with pages the headline leaves one list of replies if every bound is 1 and no item asks
+/// for an address or a cost: the transcript.
+pub fn at_bound_one_the_headline_is_the_transcript()
+    ensures { (kind : Kind) (items : List Item) (replies : List Reply)
+        → IsPaged kind → StaysAtOne kind None items → ArePlaceless items
+        → MeetsHeadline kind items replies → replies ≡ transcript kind items }
+{}
+
+/// Wrong replies do not meet the headline. On two pages of 64 words, of a malloc that fits while there
+/// is room: `refused space`, `refused size`, no line, no reply, or a reply more than there are items; a
+/// page more than the object needs and may have; a total that is not the sum of the lines above it; more
+/// steps than a malloc may take; `ok` for a free of an id that isn't live; one address of two objects;
+/// and another address of an object, though nothing was freed or resized.
 pub fn wrong_replies_fall_short()
     ensures room { ¬ MeetsHeadline Moving (items (codes "heap 2 512 1 8\nm 1 176\n") true)
         (said (codes "ok") ∷ said (codes "refused space") ∷ []) }
+    ensures size { ¬ MeetsHeadline Moving (items (codes "heap 2 512 1 8\nm 1 176\n") true)
+        (said (codes "ok") ∷ said (codes "refused size") ∷ []) }
+    ensures silent { ¬ MeetsHeadline Moving (items (codes "heap 2 512 1 8\nm 1 176\n") true)
+        (said (codes "ok") ∷ [] ∷ []) }
+    ensures missing { ¬ MeetsHeadline Moving (items (codes "heap 2 512 1 8\nm 1 176\n") true)
+        (said (codes "ok") ∷ []) }
+    ensures over { ¬ MeetsHeadline Moving (items (codes "heap 2 512 1 8\nm 1 176\n") true)
+        (said (codes "ok") ∷ said (codes "ok") ∷ said (codes "hello") ∷ []) }
     ensures pages { ¬ MeetsHeadline Moving (items (codes "heap 2 512 1 8\nm 1 176\nwalk\n") true)
         (said (codes "ok") ∷ said (codes "ok") ∷ (codes "class 23 slots 2 live 1 pages 2 notfull 0"
+        ∷ codes "total live 1 pages 2 free 0" ∷ []) ∷ []) }
+    ensures total { ¬ MeetsHeadline Moving (items (codes "heap 2 512 1 8\nm 1 176\nwalk\n") true)
+        (said (codes "ok") ∷ said (codes "ok") ∷ (codes "class 23 slots 2 live 1 pages 1 notfull 1"
         ∷ codes "total live 1 pages 2 free 0" ∷ []) ∷ []) }
     ensures steps { ¬ MeetsHeadline Moving (items (codes "heap 2 512 1 8\nm 1 176\nsteps\n") true)
         (said (codes "ok") ∷ said (codes "ok")
         ∷ said (codes "steps last 65 bound 64 moves 0 words 0") ∷ []) }
+    ensures unknown { ¬ MeetsHeadline Moving (items (codes "heap 2 512 1 8\nf 1\n") true)
+        (said (codes "ok") ∷ said (codes "ok") ∷ []) }
+    ensures shared { ¬ MeetsHeadline Moving (items (codes "heap 2 512 1 8\nm 1 176\nm 2 176\nq 1\nq 2\n") true)
+        (said (codes "ok") ∷ said (codes "ok") ∷ said (codes "ok") ∷ said (codes "at 0")
+        ∷ said (codes "at 0") ∷ []) }
+    ensures moved { ¬ MeetsHeadline Moving (items (codes "heap 2 512 1 8\nm 1 176\nq 1\nm 2 176\nq 1\n") true)
+        (said (codes "ok") ∷ said (codes "ok") ∷ said (codes "at 0") ∷ said (codes "ok")
+        ∷ said (codes "at 23") ∷ []) }
+{}
+
+/// Of a kind with pages, all runs over these items have one list of replies if every bound is 1 and
+/// no item asks for an address or a cost: whichever slot, page, number or object was chosen.
+pub fn one_transcript()
+    ensures { (kind : Kind) (items : List Item) (replies : List Reply) (last : Option RunState)
+        → IsPaged kind → StaysAtOne kind None items → ArePlaceless items
+        → Run kind None items replies last → replies ≡ transcript kind items }
+{}
+
+/// If every bound is 1, after two histories that leave equal objects by id under equal settings, the
+/// same further items get the same replies.
+pub fn equal_objects_get_equal_replies()
+    ensures { (one other : RunState) (items : List Item) (replies told : List Reply)
+        (last end : Option RunState)
+        → IsGoing one → IsGoing other → IsPaged one.heap.kind → AreAlike one other
+        → AreOne (paging_in one.heap) → AreOne (paging_in other.heap) → AreFurther items
+        → Run one.heap.kind (Some one) items replies last
+        → Run one.heap.kind (Some other) items told end
+        → told ≡ replies }
 {}

@@ -17,6 +17,9 @@ pub enum Call {
     Place(Handle),
     /// A word of the region.
     Peek(u32),
+    /// A block of the object's slot.
+    Block(Handle, u32),
+    Totals,
 }
 
 /// The steps of a call on an open heap; none if the heap is closed.
@@ -48,18 +51,25 @@ pub fn steps_of<H: Manager>(heap: &mut H, call: Call, meter: &mut Meter) -> Opti
         Call::Peek(word) => {
             let _ = heap.peek(word, steps);
         }
+        Call::Block(h, i) => {
+            let _ = heap.block(h, i, steps);
+        }
+        Call::Totals => {
+            let _ = heap.totals(steps);
+        }
     }
     Some(meter.lap())
 }
 
-/// Plays the calls on two pages of 512 bytes with k = 1 and five proxies, and returns the number of the
+/// Plays the calls on that many pages of 512 bytes with k = 1 and five proxies, and returns the number of the
 /// first call that does not take the steps beside it; none if each does.
 pub fn first_with_other_steps<H: Manager>(
     heap: &mut H,
+    pages: u32,
     calls: &[(Call, u64)],
     meter: &mut Meter,
 ) -> Option<(usize, u64)> {
-    let Ok(settings) = Settings::check(2, 512, 1, 5) else {
+    let Ok(settings) = Settings::check(pages, 512, 1, 5) else {
         return Some((0, 0));
     };
     if heap.open_heap(&settings).is_err() {

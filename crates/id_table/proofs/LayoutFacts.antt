@@ -1,4 +1,4 @@
--- What the changes of the list of numbers do to the ids that it stands for.
+-- How changes to the list of numbers change the ids that it represents.
 use Rattle.std.proofs.Common.{◌≡◌, ◌∙◌, ℕ, zero, suc, ◌+◌, ◌-◌, ◌<◌, ◌≤◌, Bool, true, false, List, length, get_or, set}
 use Rattle.std.proofs.Common.{Option, Some, None, refl, ap, sym, arith, inl, inr}
 use Rattle.std.specs.Prelude.{◌↔◌, IsTrue, cond, IsSome, is_some, nat_eq, not}
@@ -30,11 +30,11 @@ none_live = record {
 some_is_some : (o : Option ℕ) (x : ℕ) → o ≡ Some x → IsSome o
 some_is_some o x is = rw is refl
 
--- as many are live where the id was not
+-- removing an id that isn't live keeps the count
 len_kept : (ids : Ids) (id : ℕ) → get ids id ≡ None → len (remove ids id) ≡ len ids
 len_kept ids id none = len-remove nat_cmp_total ids id ∙ ap (λ (o : Option ℕ). cond (is_some o) (len ids - 1) (len ids)) none
 
--- where an id is live, there is one
+-- if an id is live, the count isn't 0
 pub some_live : (ids : Ids) (id h : ℕ) → get ids id ≡ Some h → 0 < len ids
 some_live ids id h is = elim (cases_lt 0 (len ids)) [
   | inl some ↦ some
@@ -45,7 +45,7 @@ some_live ids id h is = elim (cases_lt 0 (len ids)) [
 ]
 
 module _ (numbers : List (Option ℕ)) (ids : Ids) (seen : numbered 0 numbers ≡ ids) where
-  -- the handle of an id stands in the list
+  -- the list has the handle of each id
   pub handle_at : (id : ℕ) → get ids id ≡ get_or numbers id None
   handle_at id = ap (λ (m : Ids). get m id) (sym seen) ∙ get-numbered numbers id
 
@@ -70,7 +70,7 @@ module _ (numbers : List (Option ℕ)) (live : ℕ) (valid : IsValid numbers liv
   pub few_live : live ≤ 65536
   few_live = let c = len-numbered 0 numbers in let l = count_by-le-length is_some numbers in omega (arith, valid.long, valid.counted)
 
-  -- no id is live exactly where the count is 0
+  -- no id is live if and only if the count is 0
   pub none_counted : (ids : Ids) → numbered 0 numbers ≡ ids → IsTrue (nat_eq live 0) ↔ (ids ≡ empty)
   none_counted ids seen =
       let same : live ≡ len ids = valid.counted ∙ ap len seen in (
@@ -79,7 +79,7 @@ module _ (numbers : List (Option ℕ)) (live : ℕ) (valid : IsValid numbers liv
       )
 
   module _ (id : ℕ) (lt : id < length numbers) where
-    -- the id had this number before
+    -- the list has the number that the id had before
     pub live_before : (o : Option ℕ) → o ≡ get_or numbers id None → get (numbered 0 numbers) id ≡ o
     live_before o is = get-numbered numbers id ∙ sym is
 

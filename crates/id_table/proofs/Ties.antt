@@ -1,4 +1,4 @@
--- The ids stay tied to the objects where one comes, goes or changes.
+-- Ids stay tied to the objects when one is made, freed or changed.
 use Rattle.std.proofs.Common.{◌≡◌, ℕ, Some, None, sym, ◌∙◌, ap, inl, inr}
 use Rattle.std.specs.Prelude.{Option}
 use Rattle.std.proofs.lemmas.Bool.{cases_eq}
@@ -9,7 +9,7 @@ use Rattle.cf_lemmas.proofs.Maps.{get_inserted, get_insert_other, get_remove_oth
 use Rattle.id_table.specs.Ids.{Ids}
 use Rattle.id_table.specs.Ties.{AreTiedTo}
 
--- nothing is there and not there
+-- a lookup doesn't both find a value and find none
 pub clash : {T V : Type 0} (o : Option V) (v : V) → o ≡ Some v → o ≡ None → T
 clash o v some none = absurd (let z : Some v ≡ None = sym some ∙ none in cc)
 
@@ -22,7 +22,7 @@ none_tied {V} ids live no_ids no_objects = record {
 }
 
 module _ {V : Type 0} (ids : Ids) (live : FinMap nat_cmp V) (tied : AreTiedTo ids live) where
-  -- an object comes for an id that wasn't live
+  -- an object is made for an id that wasn't live
   pub tied_more : (id h : ℕ) (v : V) → get ids id ≡ None → get live h ≡ None → AreTiedTo (insert ids id h) (insert live h v)
   tied_more id h v free unused = record {
     named = λ i q is. elim (some_inserted ids id h i q is) [
@@ -49,7 +49,7 @@ module _ {V : Type 0} (ids : Ids) (live : FinMap nat_cmp V) (tied : AreTiedTo id
     ];
   }
 
-  -- the object of an id goes
+  -- the object of an id is freed
   pub tied_less : (id h : ℕ) → get ids id ≡ Some h → AreTiedTo (remove ids id) (remove live h)
   tied_less id h is_live = record {
     named = λ i q is. (
@@ -63,7 +63,7 @@ module _ {V : Type 0} (ids : Ids) (live : FinMap nat_cmp V) (tied : AreTiedTo id
         (i.0, get_remove_other ids id i.0 (λ e. r.0 (same_Some q h (sym i.1 ∙ ap (get ids) e ∙ is_live))) ∙ i.1));
   }
 
-  -- an object changes
+  -- an object's value changes
   pub tied_same : (h : ℕ) (v w : V) → get live h ≡ Some v → AreTiedTo ids (insert live h w)
   tied_same h v w found = record {
     named = λ i q is. elim (cases_eq q h) [

@@ -1,4 +1,4 @@
--- What an id table stands for: a finite map from the ids that are live to the numbers of their handles.
+-- What contracts see of an id table: a finite map from the live ids to the numbers of their handles.
 use Rattle.std.specs.Prelude.{◌≡◌, ℕ, ◌^◌, ◌<◌, ◌≤◌, Some}
 use Rattle.std.specs.Ordering.{nat_cmp}
 use Rattle.std.specs.FinMap as map
@@ -8,10 +8,11 @@ use Rattle.std.specs.Coded.{Coded, coded_ℕ}
 abbrev pub Ids : Type 0
 Ids = map.FinMap nat_cmp ℕ
 
--- each live id has 16 bits, so there are at most 65,536
+-- each live id fits 16 bits, so there are at most 65,536
 pub record AreWithin (ids : Ids) : Type 0 where
   pub below : (id number : ℕ) → map.get ids id ≡ Some number → id < 2 ^ 16
   pub few : map.len ids ≤ 2 ^ 16
 
+-- stored as a finite map
 abbrev pub ids_code : Coded Ids
 ids_code = map.code coded_ℕ coded_ℕ

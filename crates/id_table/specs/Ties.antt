@@ -4,7 +4,7 @@ use Rattle.std.specs.Ordering.{nat_cmp}
 use Rattle.std.specs.FinMap.{FinMap, get}
 use Rattle.id_table.specs.Ids.{Ids}
 
--- the live ids name just the objects, each once
+-- each live id names an object, and each object has exactly one id
 pub record AreTiedTo {V : Type 0} (ids : Ids) (live : FinMap nat_cmp V) : Type 0 where
   pub named : (id h : ℕ) → get ids id ≡ Some h → (v : V) × (get live h ≡ Some v)
   pub once : (id other h : ℕ) → get ids id ≡ Some h → get ids other ≡ Some h → other ≡ id

@@ -1,23 +1,22 @@
-//! What a session counts.
+//! The counters of a session.
 ghost use Rattle.std.specs.Prelude.{◌≡◌};
 ghost use Rattle.id_table.specs.Counters.{no_counts, with_move};
 
 use cf_base::Handle;
 
-/// What a session keeps of the calls that it made.
+/// What a session counts over its calls.
 #[derive(Clone, Copy, Debug, PartialEq, Eq)]
 pub struct Counters {
-    /// The bound on the steps of the last call that changed the objects' addresses or lengths; 0
-    /// before one.
+    /// The step bound of the last malloc, free or resize; 0 before the first one.
     pub bound: u64,
-    /// How many objects moved, at most `2^64 - 1`.
+    /// How many objects moved. Saturates at `2^64 - 1`.
     pub moves: u64,
-    /// The words of the slots of the objects that moved, at most `2^64 - 1`.
+    /// The words of the slots of the objects that moved. Saturates at `2^64 - 1`.
     pub words: u64,
 }
 
 impl Counters {
-    /// Those of a session that was just begun.
+    /// The counters of a new session.
     pub fn new() -> Counters
         ensures { result ≡ no_counts }
     {
@@ -28,8 +27,8 @@ impl Counters {
         }
     }
 
-    /// Counts an object that moved, if one did, from a slot of `slot_words` words. Both counts stay at
-    /// `2^64 - 1`.
+    /// Counts the object that moved, if one did, from a slot of `slot_words` words. Both counts
+    /// saturate at `2^64 - 1`.
     pub fn count_move(&mut self, moved: Option<Handle>, slot_words: u32)
         ensures { self.new ≡ with_move self.old moved slot_words }
     {

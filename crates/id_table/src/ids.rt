@@ -1,4 +1,4 @@
-//! Ids to handles.
+//! From ids to handles.
 ghost use Rattle.std.specs.Prelude.{◌≡◌, ◌↔◌, IfOk, IsTrue, option_map};
 ghost use Rattle.std.specs.FinMap as map;
 ghost use Rattle.cf_base.specs.declared.answers.Handle.{Handle as AHandle};
@@ -9,11 +9,11 @@ use cf_base::{Handle, OutOfMemory};
 use std::alloc::{AllocError, Global};
 use std::marker::Model;
 
-/// How many ids there are.
+/// The number of ids.
 const IDS: usize = 65_536;
 
-/// The live ids, each with the handle of the object that it names: a finite map from the ids 0 to
-/// 65,535 to numbers of handles. Each call but `new` takes constant time.
+/// The live ids, each with the handle of its object: a finite map from the ids 0 to 65,535 to
+/// numbers of handles. Each call but `new` takes constant time.
 #[derive(Drop)]
 pub struct IdTable {
     numbers: Vec<Option<u32>>,
@@ -35,7 +35,7 @@ impl Model for IdTable {
 }
 
 impl IdTable {
-    /// A table in which no id is live. All memory is taken here.
+    /// A table without live ids. Only this call takes memory.
     pub fn new(alloc: Global) -> Result<IdTable, OutOfMemory>
         ensures { IfOk result (λ ids. ids ≡ map.empty) }
     {
@@ -60,7 +60,7 @@ impl IdTable {
         self.live == 0
     }
 
-    /// The handle of an id; none where the id isn't live.
+    /// The handle of an id; none if the id isn't live.
     pub fn handle(&self, id: u16) -> Option<Handle>
         ensures found { option_map (λ (h : AHandle). h.0) result ≡ map.get self.now id }
         ensures kept { AreWithin self.now }
@@ -71,7 +71,7 @@ impl IdTable {
         }
     }
 
-    /// Gives an id a handle, in place of the one that it had.
+    /// Binds an id to a handle, in place of the one that it had.
     pub fn bind(&mut self, id: u16, h: Handle)
         ensures { self.new ≡ map.insert self.old id h.0 }
     {
@@ -80,7 +80,7 @@ impl IdTable {
         self.numbers[id as usize] = Some(h.0);
     }
 
-    /// Takes an id's handle away, where it has one.
+    /// Removes an id's handle, if it has one.
     pub fn unbind(&mut self, id: u16)
         ensures { self.new ≡ map.remove self.old id }
     {
@@ -90,7 +90,7 @@ impl IdTable {
     }
 }
 
-/// The numbers of n ids that aren't live.
+/// n ids without a handle.
 fn vacancies(alloc: Global, n: usize) -> Result<Vec<Option<u32>>, AllocError>
     ensures { IfOk result (λ numbers. numbers.items ≡ vacant n) }
 {

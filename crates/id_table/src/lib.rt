@@ -1,4 +1,4 @@
-//! The ids of a session, and what it counts of its calls.
+//! The ids of a session, and what it counts over its calls.
 #![tactic(auto)]
 
 mod counters;

@@ -1,5 +1,5 @@
 -- What the end of a script tells, where its settings are kept.
-use Rattle.std.proofs.Common.{◌≡◌, ◌≢◌, ◌∙◌, ℕ, List, [], false, Option, Some, None, refl, ap, sym, subst, inl, inr, arith}
+use Rattle.std.proofs.Common.{◌≡◌, ◌≢◌, ◌∙◌, ◌++◌, ℕ, List, [], false, Option, Some, None, refl, ap, sym, subst, inl, inr, arith}
 use Rattle.std.specs.Prelude.{Err, option_map, if◌then◌else◌}
 use Rattle.cf_base.specs.Settings.{profile_of}
 use Rattle.cf_base.specs.declared.answers.Failed.{Failed}
@@ -10,14 +10,41 @@ use Rattle.cf_io.specs.Feeds.{Puts, Rose, appended, last_count}
 use Rattle.heap_image.specs.Heaps.{heap_image}
 use Rattle.image_run.specs.Saves.{EndsSave, saved}
 use Rattle.run_model.specs.Sessions.{IsGoing, RunState}
-use Rattle.script_loop.proofs.CallerLemmas.{appended_none, wrote_settled}
+use Rattle.script_loop.proofs.CallerLemmas.{appended_none, whole_run, wrote_settled}
 use Rattle.script_loop.specs.OneManager.{one_manager}
-use Rattle.script_loop.specs.ScriptOutcome.{Effects, HasRun, IsRow, IsRowOf, MeetsOutcome, StandsAfter}
+use Rattle.script_loop.specs.ScriptOutcome.{Effects, HasCauses, IsRow, MeetsOutcome, SinkState, SourceState, StandsAfter}
 use Rattle.script_loop.specs.WithSettings.{GoesWith, Settled, with_settings}
 
 -- a sink that nobody sees never fails
 pub never_cut : (st : Status) → (st ≡ WriteFault → Rose 0 0) → st ≡ WriteFault → ⊥
 never_cut st cause is = elim (cause is) [ inl less ↦ absurd (omega (arith, less)) | inr last ↦ (let e : 0 ≡ last_count = last in absurd cc) ]
+
+-- ---- the causes, where the script was answered to its end
+
+pub done_same : (st : Status) → st ≡ Done → {a b : ℕ} → (st ≢ ReadFault → a ≡ b) → a ≡ b
+done_same st done same = same (λ is. (let e : Done ≡ ReadFault = sym done ∙ is in absurd cc))
+
+pub whole_causes : (s : SourceState) (k : SinkState) (s' : SourceState) (k' : SinkState) → s'.faults ≡ s.faults → k'.faults ≡ k.faults
+    → HasCauses s k Done s' k'
+whole_causes s k s' k' source sink = record {
+  silent = λ is. absurd (let e : Done ≡ OutOfMemory = is in cc);
+  source_same = λ other. source;
+  read_fault = λ is. absurd (let e : Done ≡ ReadFault = is in cc);
+  sink_same = λ other. sink;
+  write_fault = λ is. absurd (let e : Done ≡ WriteFault = is in cc);
+  too_long = λ is. absurd (let e : Done ≡ TooLong = is in cc);
+}
+
+pub cut_causes : (s : SourceState) (k : SinkState) (s' : SourceState) (k' : SinkState) → s'.faults ≡ s.faults → Rose k.faults k'.faults
+    → HasCauses s k WriteFault s' k'
+cut_causes s k s' k' source sink = record {
+  silent = λ is. absurd (let e : WriteFault ≡ OutOfMemory = is in cc);
+  source_same = λ other. source;
+  read_fault = λ is. absurd (let e : WriteFault ≡ ReadFault = is in cc);
+  sink_same = λ other. absurd (other refl);
+  write_fault = λ is. sink;
+  too_long = λ is. absurd (let e : WriteFault ≡ TooLong = is in cc);
+}
 
 module _ (from to : Settled RunState) (call : Effects) where
   row_settled : (st : Status) (all left : List ℕ) → (st ≡ WriteFault → ⊥) → IsRow (with_settings one_manager) st from all left call to
@@ -31,15 +58,20 @@ module _ (from to : Settled RunState) (call : Effects) where
   row_settled Words all left whole row = absurd row
   row_settled BadImage all left whole row = absurd row
 
-  outcome_settled : (had left : Option (List ℕ)) → (call.status ≡ WriteFault → ⊥) → IsRowOf (with_settings one_manager) from had left call to
-      → IsRowOf one_manager from.state had left call to.state
-  outcome_settled (Some all) (Some left) whole met = row_settled call.status all left whole met
-  outcome_settled (Some all) None whole met = met
-  outcome_settled None left whole met = met
+  outcome_settled : (call.status ≡ WriteFault → ⊥) → MeetsOutcome (with_settings one_manager) from call to → MeetsOutcome one_manager from.state call to.state
+  outcome_settled whole met = record {
+    taken = met.taken;
+    ended = met.ended;
+    took = met.took;
+    counted = met.counted;
+    row = λ more follows. row_settled call.status (met.taken ++ more) more whole (met.row more follows);
+  }
 
   -- no `heap` line came: nothing was opened
-  pub unopened : HasRun (with_settings one_manager) from call to → to.settings ≡ None → from.state.heap.is_open ≡ false → saved to.state ≡ []
-  unopened run none closed = go run.1.end run.1.stands (wrote_settled from to run.0 call run.1).1
+  pub unopened : MeetsOutcome (with_settings one_manager) from call to → call.status ≡ Done → to.settings ≡ None → from.state.heap.is_open ≡ false → saved to.state ≡ []
+  unopened met done none closed =
+      let run = whole_run (with_settings one_manager) from to call met done in
+      go run.1.end run.1.stands (wrote_settled from to run.0 call run.1).1
     where
       go : (end : Option (Settled RunState)) → StandsAfter from end to → GoesWith end → saved to.state ≡ []
       go None stands on = ap (λ (s : Settled RunState). saved s.state) stands ∙ ap (λ b. if b then heap_image from.state else []) closed
@@ -49,9 +81,11 @@ module _ (from to : Settled RunState) (call : Effects) where
           absurd cc
 
   -- a `heap` line came: the run goes on, and the manager has its settings
-  pub opened : (settings : Settings) → HasRun (with_settings one_manager) from call to → to.settings ≡ Some settings → from.settings ≡ None
+  pub opened : (settings : Settings) → MeetsOutcome (with_settings one_manager) from call to → call.status ≡ Done → to.settings ≡ Some settings → from.settings ≡ None
       → IsGoing to.state × (to.state.heap.profile ≡ profile_of settings)
-  opened settings run some unset = go run.1.end run.1.stands (wrote_settled from to run.0 call run.1).1
+  opened settings met done some unset =
+      let run = whole_run (with_settings one_manager) from to call met done in
+      go run.1.end run.1.stands (wrote_settled from to run.0 call run.1).1
     where
       go : (end : Option (Settled RunState)) → StandsAfter from end to → GoesWith end → IsGoing to.state × (to.state.heap.profile ≡ profile_of settings)
       go None stands on =
@@ -70,17 +104,17 @@ pub saved_going : (s : RunState) → IsGoing s → saved s ≡ heap_image s
 saved_going s going = ap (λ b. if b then heap_image s else []) going.opened
 
 -- the call as it ends, and the script as it ended
-module _ (from to : Settled RunState) (had left before after : Option (List ℕ)) where
+module _ (from to : Settled RunState) (had left : Option (List ℕ)) (gave given : ℕ) (before after : Option (List ℕ)) where
   abbrev call_as : Status → Effects
-  call_as st = record { had = had; left = left; before = before; after = after; status = st }
+  call_as st = record { had = had; left = left; given_before = gave; given_after = given; before = before; after = after; status = st }
 
   abbrev script_as : Status → Effects
-  script_as st = record { had = had; left = left; before = None; after = None; status = st }
+  script_as st = record { had = had; left = left; given_before = gave; given_after = given; before = None; after = None; status = st }
 
   -- the script wasn't answered to its end
   pub ends_early : (st : Status) → st ≢ Done → (st ≡ WriteFault → Rose 0 0) → MeetsOutcome (with_settings one_manager) from (script_as st) to
       → after ≡ before → EndsSave from.state (call_as st) to.state
-  ends_early st unfinished cause met same = go st unfinished (outcome_settled from to (script_as st) had left (never_cut st cause) met) (never_cut st cause)
+  ends_early st unfinished cause met same = go st unfinished (outcome_settled from to (script_as st) (never_cut st cause) met) (never_cut st cause)
     where
       go : (st : Status) → st ≢ Done → MeetsOutcome one_manager from.state (script_as st) to.state → (st ≡ WriteFault → ⊥)
           → EndsSave from.state (call_as st) to.state
@@ -95,7 +129,7 @@ module _ (from to : Settled RunState) (had left before after : Option (List ℕ)
 
   module _ (st : Status) (done : st ≡ Done) (met : MeetsOutcome (with_settings one_manager) from (script_as st) to) where
     script : MeetsOutcome one_manager from.state (script_as Done) to.state
-    script = outcome_settled from to (script_as Done) had left (λ is. (let e : Done ≡ WriteFault = is in absurd cc))
+    script = outcome_settled from to (script_as Done) (λ is. (let e : Done ≡ WriteFault = is in absurd cc))
         (subst (λ (st : Status). MeetsOutcome (with_settings one_manager) from (script_as st) to) done met)
 
     -- it was answered to its end, and nothing was opened

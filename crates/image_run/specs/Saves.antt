@@ -19,7 +19,7 @@ script_status status = status
 
 -- the script alone, whose replies nobody sees
 abbrev pub unseen : Effects → Effects
-unseen call = record { had = call.had; left = call.left; before = None; after = None; status = script_status call.status }
+unseen call = record call { before = None; after = None; status = script_status call.status }
 
 -- just a prefix of the bytes was written
 abbrev pub WritesPrefix : Option (List ℕ) → List ℕ → Option (List ℕ) → Type 0

@@ -5,6 +5,7 @@ ghost use Rattle.cf_base.specs.declared.kind.Kind.TheVariants.{Moving};
 ghost use Rattle.cf_io.specs.Feeds.{Puts, Rose};
 ghost use Rattle.cf_session.specs.Apply.{run_at};
 ghost use Rattle.image_run.specs.Loads.{EndsLoad, bad_image};
+ghost use Rattle.script_loop.specs.ScriptOutcome.{effects, sink_at, source_at};
 
 use crate::telling::tell_script;
 use cf_base::{Failed, Status};
@@ -25,13 +26,10 @@ pub fn load_script<H: Manager, S: Source, K: Sink>(
 ) -> Status
     requires moving { (H.state heap.old).kind ≡ Moving }
     requires idle { session.old.ids ≡ map.empty }
-    ensures ends { EndsLoad (run_at session.old (H.state heap.old)) (record {
-      had = S.rest source.old;
-      left = S.rest source.new;
-      before = K.written sink.old;
-      after = K.written sink.new;
-      status = result;
-    }) (run_at session.new (H.state heap.new)) }
+    ensures ends { EndsLoad (run_at session.old (H.state heap.old)) (effects
+        (source_at (S.rest source.old) (S.given source.old) (S.faults source.old)) (sink_at (K.written sink.old) (K.faults sink.old))
+        result
+        (source_at (S.rest source.new) (S.given source.new) (S.faults source.new)) (sink_at (K.written sink.new) (K.faults sink.new))) (run_at session.new (H.state heap.new)) }
     // The causes, also where the source isn't observable.
     ensures source_same { result ≢ Status.ReadFault → S.faults source.new ≡ S.faults source.old }
     ensures read_fault { result ≡ Status.ReadFault → Rose (S.faults source.old) (S.faults source.new) }

@@ -1,11 +1,10 @@
 //! A script to an image.
-ghost use Rattle.std.specs.Prelude.{◌≡◌, ◌<◌, ◌+◌, ◌⊎◌, None, false, ◌≢◌};
+ghost use Rattle.std.specs.Prelude.{◌≡◌, None, false};
 ghost use Rattle.cf_base.specs.declared.kind.Kind.TheVariants.{Moving};
-ghost use Rattle.cf_io.specs.Feeds.{Rose, last_count};
 ghost use Rattle.cf_session.specs.Apply.{run_at};
 ghost use Rattle.image_run.specs.Saves.{EndsSave};
 ghost use Rattle.run_model.specs.Sessions.{fresh_session};
-ghost use Rattle.script_loop.specs.ScriptOutcome.{MOST_BYTES};
+ghost use Rattle.script_loop.specs.ScriptOutcome.{HasCauses, effects, sink_at, source_at};
 
 use cf_base::Status;
 use cf_io::{NullSink, Sink, Source};
@@ -29,21 +28,15 @@ pub fn save_script<H: Manager, S: Source, K: Sink>(
     requires unset { player.old.settings ≡ None }
     requires moving { (H.state heap.old).kind ≡ Moving }
     requires closed { (H.state heap.old).is_open ≡ false }
-    ensures ends { EndsSave (run_at player.old.player (H.state heap.old)) (record {
-      had = S.rest source.old;
-      left = S.rest source.new;
-      before = K.written sink.old;
-      after = K.written sink.new;
-      status = result;
-    }) (run_at player.new.player (H.state heap.new)) }
+    ensures ends { EndsSave (run_at player.old.player (H.state heap.old)) (effects
+        (source_at (S.rest source.old) (S.given source.old) (S.faults source.old)) (sink_at (K.written sink.old) (K.faults sink.old))
+        result
+        (source_at (S.rest source.new) (S.given source.new) (S.faults source.new)) (sink_at (K.written sink.new) (K.faults sink.new))) (run_at player.new.player (H.state heap.new)) }
     // The causes, also where the source isn't observable.
-    ensures silent { result ≡ Status.OutOfMemory → K.written sink.new ≡ K.written sink.old }
-    ensures source_same { result ≢ Status.ReadFault → S.faults source.new ≡ S.faults source.old }
-    ensures read_fault { result ≡ Status.ReadFault → Rose (S.faults source.old) (S.faults source.new) }
-    ensures sink_same { result ≢ Status.WriteFault → K.faults sink.new ≡ K.faults sink.old }
-    ensures write_fault { result ≡ Status.WriteFault → Rose (K.faults sink.old) (K.faults sink.new) }
-    ensures too_long { result ≡ Status.TooLong
-        → (S.given source.old + MOST_BYTES < S.given source.new) ⊎ (S.given source.new ≡ last_count) }
+    ensures causes { HasCauses
+        (source_at (S.rest source.old) (S.given source.old) (S.faults source.old)) (sink_at (K.written sink.old) (K.faults sink.old))
+        result
+        (source_at (S.rest source.new) (S.given source.new) (S.faults source.new)) (sink_at (K.written sink.new) (K.faults sink.new)) }
 {
     match play_script(player, heap, source, &mut NullSink) {
         Status::Done => {}

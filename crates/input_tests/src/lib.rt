@@ -1,5 +1,5 @@
-//! Tests of settings and tables, of bytes in and out, and of how scripts and arguments are read. They
-//! stand in a crate of their own, since a crate with tests is proved twice.
+//! Tests of settings and tables, of sources and sinks, and of how scripts and arguments are read.
+//! They have a crate of their own, since a crate that contains tests is proved twice.
 #![tactic(auto)]
 
 #[cfg(test)]

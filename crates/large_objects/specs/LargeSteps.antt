@@ -1,5 +1,5 @@
 -- The steps of a heap of large objects, from its state before to its state after.
-use Rattle.std.specs.Prelude.{◌≡◌, ℕ, ◌+◌, ◌*◌, ◌≤◌, ◌<◌, ◌⊎◌, true, List, Some, None, Result, Ok, Err, length, take, drop, replicate}
+use Rattle.std.specs.Prelude.{◌≡◌, ℕ, ◌+◌, ◌*◌, ◌≤◌, ◌<◌, ◌⊎◌, true, false, List, Some, None, Result, Ok, Err, length, take, drop, replicate}
 use Rattle.std.specs.FinMap.{get, insert, remove, empty}
 use Rattle.cf_base.specs.declared.answers.AccessFault.{AccessFault}
 use Rattle.cf_base.specs.declared.answers.AccessFault.TheVariants as access
@@ -10,7 +10,7 @@ use Rattle.cf_base.specs.declared.answers.Refusal.TheVariants as refusal
 use Rattle.cf_base.specs.declared.settings.Settings.{Settings}
 use Rattle.page_model.specs.Bytes.{written}
 use Rattle.cf_model.specs.State.{paging_in}
-use Rattle.cf_model.specs.Steps.{IsEmptyHeap, Part, StaysOpen}
+use Rattle.cf_model.specs.Steps.{IsClosed, IsEmptyHeap, Part, StaysOpen}
 use Rattle.large_objects.specs.Large.{KeepsParts, LargeState}
 use Rattle.large_objects.specs.Parts.{inner_count, inner_pages_with, parts, piece_bytes, pieces, spine_bytes}
 
@@ -23,6 +23,12 @@ pub record IsEmptyLarge (old : LargeState) (settings : Settings) (new : LargeSta
   pub open_now : new.is_open ≡ true
   pub none : new.objects ≡ empty
   pub inner : IsEmptyHeap old.inner.kind settings new.inner
+
+-- out of memory: the heap is closed and has no objects, and the inner manager is as it was, or closed
+pub record IsShutLarge (old new : LargeState) : Type 0 where
+  pub closed : new.is_open ≡ false
+  pub none : new.objects ≡ empty
+  pub inner : (new.inner ≡ old.inner) ⊎ IsClosed old.inner new.inner
 
 -- the same heap, open under the same settings
 pub record StaysOpenLarge (old new : LargeState) : Type 0 where

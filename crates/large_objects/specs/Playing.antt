@@ -1,5 +1,5 @@
 -- A session over a heap of large objects, as a player.
-use Rattle.std.specs.Prelude.{◌≡◌, true, false, List, Option, codes}
+use Rattle.std.specs.Prelude.{◌≡◌, true, List, Option, codes}
 use Rattle.std.specs.FinMap.{empty}
 use Rattle.cf_base.specs.Settings.{Profile, at_bound_one}
 use Rattle.cf_base.specs.declared.kind.Kind.{Kind}
@@ -12,6 +12,7 @@ use Rattle.script_reader.specs.Items.{Item}
 use Rattle.session_model.specs.Applying.{TurnsInPart}
 use Rattle.large_objects.specs.Large.{KeepsParts}
 use Rattle.large_objects.specs.LargeRun.{IsGoingLarge, LargeRun, LargeStep}
+use Rattle.large_objects.specs.LargeSteps.{IsShutLarge}
 
 -- a heap of large objects was opened over a manager of the kind, and a session begun
 pub record BeginsLarge (kind : Kind) (p : Profile) (new : LargeRun) : Type 0 where
@@ -35,9 +36,9 @@ pub record IsFreshLarge (s : LargeRun) : Type 0 where
   pub ids : s.ids ≡ empty
   pub pages : IsPaged s.heap.inner.kind
 
--- an allocation failed: the heap is closed, and the session is as it was
+-- an allocation failed: the heap is closed, its inner manager is as it was or closed, and the session is as it was
 pub record LacksLarge (old new : LargeRun) : Type 0 where
-  pub closed : new.heap.is_open ≡ false
+  pub heap : IsShutLarge old.heap new.heap
   pub ids : new.ids ≡ old.ids
 
 abbrev pub large_heap : Semantics LargeRun Kind

@@ -4,7 +4,7 @@ ghost use Rattle.std.specs.FinMap.{get};
 ghost use Rattle.cf_lemmas.specs.Maps.{vacant};
 ghost use Rattle.cf_model.specs.Families.{IsPaged};
 ghost use Rattle.large_objects.specs.Large.{KeepsParts};
-ghost use Rattle.large_objects.specs.LargeSteps.{FreesLarge, GivesLarge, HasRoom, IsEmptyLarge, IsLargeFault};
+ghost use Rattle.large_objects.specs.LargeSteps.{FreesLarge, GivesLarge, HasRoom, IsEmptyLarge, IsLargeFault, IsShutLarge};
 ghost use Rattle.large_objects.specs.LargeSteps.{IsLargeFree, IsLargeMalloc, IsLargeRead, IsLargeWrite, StaysKept};
 
 use crate::free::release;
@@ -77,14 +77,14 @@ impl<H: Manager> LargeHeap<H> {
     }
 
     /// Opens an empty heap with these settings, whatever stood before. All memory is taken here, for
-    /// the inner manager and a length for each proxy. At `OutOfMemory` the heap is closed, and may
-    /// be opened again.
+    /// the inner manager and a length for each proxy. At `OutOfMemory` the heap is closed, and the inner
+    /// manager is as it was or closed; the heap may be opened again.
     pub fn open_heap(&mut self, s: &Settings) -> Result<(), OutOfMemory>
         requires pages { IsPaged self.old.inner.kind }
         requires one { s.now.k ≡ 1 }
         ensures ok { OnOk result (IsEmptyLarge self.old s.now self.new) }
         ensures parts { OnOk result (KeepsParts self.new) }
-        ensures err { OnErr result (self.new.is_open ≡ false) }
+        ensures err { OnErr result (IsShutLarge self.old self.new) }
         ensures kind { self.new.inner.kind ≡ self.old.inner.kind }
     {
         self.is_open = false;

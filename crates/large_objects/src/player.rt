@@ -1,10 +1,9 @@
 //! A script on a heap of large objects.
-ghost use Rattle.std.specs.Prelude.{◌≡◌, ◌<◌, ◌+◌, ◌⊎◌, IfOk, ◌≢◌};
+ghost use Rattle.std.specs.Prelude.{◌≡◌, IfOk};
 ghost use Rattle.std.specs.FinMap as map;
 ghost use Rattle.cf_base.specs.declared.kind.Kind.{Kind};
-ghost use Rattle.cf_io.specs.Feeds.{Rose, last_count};
 ghost use Rattle.cf_model.specs.Families.{IsPaged};
-ghost use Rattle.script_loop.specs.ScriptOutcome.{MOST_BYTES, MeetsOutcome};
+ghost use Rattle.script_loop.specs.ScriptOutcome.{Plays, sink_at, source_at};
 ghost use Rattle.large_objects.specs.LargeRun.{LargeRun, large_run};
 ghost use Rattle.large_objects.specs.Playing.{large_heap};
 
@@ -99,22 +98,11 @@ pub fn run_large<H: Manager, S: Source, K: Sink>(
 ) -> Status
     requires fresh { player.old.session ≡ map.empty }
     requires pages { IsPaged heap.old.inner.kind }
-    ensures outcome { MeetsOutcome large_heap (large_run player.old.session heap.old) (record {
-      had = S.rest source.old;
-      left = S.rest source.new;
-      before = K.written sink.old;
-      after = K.written sink.new;
-      status = result;
-    }) (large_run player.new.session heap.new) }
-    ensures kind { heap.new.inner.kind ≡ heap.old.inner.kind }
-    // The causes, also where the source isn't observable.
-    ensures silent { result ≡ Status.OutOfMemory → K.written sink.new ≡ K.written sink.old }
-    ensures source_same { result ≢ Status.ReadFault → S.faults source.new ≡ S.faults source.old }
-    ensures read_fault { result ≡ Status.ReadFault → Rose (S.faults source.old) (S.faults source.new) }
-    ensures sink_same { result ≢ Status.WriteFault → K.faults sink.new ≡ K.faults sink.old }
-    ensures write_fault { result ≡ Status.WriteFault → Rose (K.faults sink.old) (K.faults sink.new) }
-    ensures too_long { result ≡ Status.TooLong
-        → (S.given source.old + MOST_BYTES < S.given source.new) ⊎ (S.given source.new ≡ last_count) }
+    ensures { Plays large_heap (large_run player.old.session heap.old)
+        (source_at (S.rest source.old) (S.given source.old) (S.faults source.old)) (sink_at (K.written sink.old) (K.faults sink.old))
+        result
+        (source_at (S.rest source.new) (S.given source.new) (S.faults source.new)) (sink_at (K.written sink.new) (K.faults sink.new))
+        (large_run player.new.session heap.new) }
 {
     play_script(player, heap, source, sink)
 }

@@ -86,7 +86,7 @@ next_slice old mid new n stays slices slice =
     (slices_more (plan_in old) n (working_in old).state (working_in mid).state (working_in new).state slices is)
 
 pub stays_on : (old mid new : SlicedState) → StaysOpen old mid → StaysOpen mid new → StaysOpen old new
-stays_on old mid new a b = record { is_open = b.is_open ∙ a.is_open; profile = b.profile ∙ a.profile; quantum = b.quantum ∙ a.quantum }
+stays_on old mid new a b = record { is_open = b.is_open ∙ a.is_open; profile = b.profile ∙ a.profile; quantum = b.quantum ∙ a.quantum; region = b.region ∙ a.region }
 
 pub one_more : (old mid new n q r : ℕ) → RoseAtMost old mid (n * q) → RoseAtMost mid new r → r ≡ q → RoseAtMost old new ((n + 1) * q)
 one_more old mid new n q r a b same =

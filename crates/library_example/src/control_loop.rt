@@ -39,7 +39,7 @@ pub fn next_frame(
     ensures in_time { 2 * ceil_div heap.old.profile.page_words heap.old.quantum ≤ slices → result ≢ Err (Malloc Busy) }
     ensures same { StaysOpen heap.old heap.new }
     ensures rules { KeepsRules heap.new }
-    ensures steps { RoseAtMost steps.old steps.new ((slices + 2) * (128 + 2 * heap.old.quantum)) }
+    ensures steps { RoseAtMost steps.old steps.new (40 + heap.old.quantum + slices * (15 + heap.old.quantum)) }
 {
     // For their contracts: an open heap keeps its rules, enough slices end every job, and without one
     // no malloc is refused as `Busy`.

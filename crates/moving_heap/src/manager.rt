@@ -1,16 +1,21 @@
 //! The heap that a caller holds: closed, or open.
-ghost use Rattle.std.specs.Prelude.{◌≡◌, ◌+◌, ◌^◌, ◌≤◌, ℕ, ◌<◌, List, IsTrue, option_copied, option_map};
+ghost use Rattle.std.specs.Prelude.{◌≡◌, ◌+◌, ◌^◌, ◌≤◌, ℕ, ◌<◌, List, IfErr, IfOk, IsTrue, Result, if◌then◌else◌, is_some, length, slice_get, option_copied, option_map};
+ghost use Rattle.std.specs.FinMap as map;
+ghost use Rattle.page_model.specs.Held.{Placed};
 ghost use Rattle.page_model.specs.Arrangement.{home_pages, not_full_pages, free_pages};
+ghost use Rattle.cf_base.specs.declared.answers.Handle.{Handle};
+ghost use Rattle.cf_base.specs.declared.answers.Refusal.{Refusal};
 ghost use Rattle.cf_base.specs.declared.kind.Kind.TheVariants.{Moving};
-ghost use Rattle.cf_model.specs.Answers.{classes_in};
-ghost use Rattle.cf_model.specs.Costs.{TakesAtMost, free_bound};
+ghost use Rattle.cf_model.specs.Answers.{block_in, classes_in, place_of, totals_in};
+ghost use Rattle.cf_model.specs.Costs.{TakesAtMost, TellsCost, access_bound, free_bound, resize_bound};
 ghost use Rattle.cf_model.specs.Rules.{KeepsRules};
-ghost use Rattle.cf_model.specs.Steps.{BlocksStayIn, IsFreeStep, IsMallocStep, StaysOpen};
-ghost use Rattle.cf_model.specs.State.{closed_state, paging_in};
-ghost use Rattle.paged_heap.specs.Costs.{free_steps, malloc_steps};
+ghost use Rattle.cf_model.specs.Steps.{BlocksStayIn, IsFreeStep, IsMallocStep, IsReadAnswer, IsRefusedBy, IsResizeStep, IsWriteStep, StaysOpen};
+ghost use Rattle.cf_model.specs.State.{HeapState, closed_state, paging_in};
+ghost use Rattle.paged_heap.specs.Costs.{access_steps, free_steps, malloc_steps, resize_steps};
 ghost use Rattle.std.specs.Borrow.{sem};
-ghost use Rattle.step_ledger.specs.Counting.{RoseAtMost};
+ghost use Rattle.step_ledger.specs.Counting.{RoseAtMost, RoseBy};
 ghost use Rattle.paged_heap.specs.Layout.{Holds, state_at};
+ghost use Rattle.paged_heap.specs.Room.{without_handle};
 ghost use Rattle.moving_heap.specs.Payload.{lent_back, payload_bound, payload_of, words_lent};
 ghost use Rattle.moving_heap.specs.HeapLoan.{LendsPayload, LendsPayloadIf};
 
@@ -114,27 +119,46 @@ impl Manager for MovingHeap {
         at: u32,
         bytes: &[u8],
         steps: &mut Steps,
-    ) -> Result<(), AccessFault> {
+    ) -> Result<(), AccessFault>
+        requires open { IsTrue self.old.is_open }
+        requires room { steps.old ≤ 2 ^ 63 }
+        ensures same { StaysOpen self.old self.new }
+        ensures step { IsWriteStep self.old (record { number = h.0; from = at }) bytes.now result self.new }
+        ensures rules { KeepsRules self.new }
+        ensures bound { TakesAtMost self.old.kind steps.old steps.new (access_bound at (length bytes.now)) }
+        ensures steps { RoseBy steps.old steps.new (access_steps Moving at (length bytes.now) result) }
+    {
         match &mut self.inner {
             Some(open) => open.write::<Direct>(h, at, bytes, steps),
             None => unreachable!(),
         }
     }
 
-    fn read(
-        &self,
-        h: Handle,
-        at: u32,
-        out: &mut [u8],
-        steps: &mut Steps,
-    ) -> Result<(), AccessFault> {
+    fn read(&self, h: Handle, at: u32, out: &mut [u8], steps: &mut Steps) -> Result<(), AccessFault>
+        requires open { IsTrue self.now.is_open }
+        requires room { steps.old ≤ 2 ^ 63 }
+        ensures answer { IsReadAnswer self.now (record { number = h.0; from = at }) out.old result out.new }
+        ensures rules { KeepsRules self.now }
+        ensures bound { TakesAtMost self.now.kind steps.old steps.new (access_bound at (length out.old)) }
+        ensures steps { RoseBy steps.old steps.new (access_steps Moving at (length out.old) result) }
+    {
         match &self.inner {
             Some(open) => open.read::<Direct>(h, at, out, steps),
             None => unreachable!(),
         }
     }
 
-    fn resize(&mut self, h: Handle, bytes: u32, steps: &mut Steps) -> Result<Resized, ResizeFault> {
+    fn resize(&mut self, h: Handle, bytes: u32, steps: &mut Steps) -> Result<Resized, ResizeFault>
+        requires open { IsTrue self.old.is_open }
+        requires room { steps.old ≤ 2 ^ 63 }
+        ensures same { StaysOpen self.old self.new }
+        ensures step { IsResizeStep self.old (record { number = h.0; length = bytes }) result self.new }
+        ensures rules { KeepsRules self.new }
+        ensures bound { TakesAtMost self.old.kind steps.old steps.new (resize_bound result) }
+        ensures told { TellsCost self.old.kind steps.old steps.new self.new.cost }
+        ensures blocks { BlocksStayIn self.old.kind self.old h.0 self.new }
+        ensures steps { RoseAtMost steps.old steps.new (resize_steps Moving bytes result) }
+    {
         match &mut self.inner {
             Some(open) => open.resize::<Direct>(h, bytes, steps),
             None => unreachable!(),
@@ -148,18 +172,34 @@ impl Manager for MovingHeap {
         }
     }
 
-    fn place(&self, h: Handle, steps: &mut Steps) -> Option<u32> {
+    fn place(&self, h: Handle, steps: &mut Steps) -> Option<u32>
+        requires { IsTrue self.now.is_open }
+        ensures value { result ≡ place_of self.now h.0 }
+        ensures rises { steps.old ≤ steps.new }
+        ensures steps { RoseBy steps.old steps.new 1 }
+    {
         self.open().place::<Direct>(h, steps)
     }
 
-    fn peek(&self, word: u32, steps: &mut Steps) -> Option<u64> {
+    fn peek(&self, word: u32, steps: &mut Steps) -> Option<u64>
+        requires { IsTrue self.now.is_open }
+        ensures value { result ≡ slice_get self.now.words word }
+        ensures rules { KeepsRules self.now }
+        ensures rises { steps.old ≤ steps.new }
+        ensures steps { RoseBy steps.old steps.new (if is_some result then 1 else 0) }
+    {
         match &self.inner {
             Some(open) => open.peek::<Direct>(word, steps),
             None => unreachable!(),
         }
     }
 
-    fn block(&self, _h: Handle, _i: u32, _steps: &mut Steps) -> Option<u32> {
+    fn block(&self, h: Handle, i: u32, steps: &mut Steps) -> Option<u32>
+        requires { IsTrue self.now.is_open }
+        ensures value { result ≡ block_in self.now.kind self.now h.0 i }
+        ensures rises { steps.old ≤ steps.new }
+        ensures steps { steps.new ≡ steps.old }
+    {
         let _open = self.open();
         None
     }
@@ -172,7 +212,12 @@ impl Manager for MovingHeap {
         self.open().figures::<Direct>(c)
     }
 
-    fn totals(&self, _steps: &mut Steps) -> Totals {
+    fn totals(&self, steps: &mut Steps) -> Totals
+        requires { IsTrue self.now.is_open }
+        ensures value { result ≡ totals_in self.now.kind self.now }
+        ensures rises { steps.old ≤ steps.new }
+        ensures steps { steps.new ≡ steps.old }
+    {
         self.open().totals::<Direct>()
     }
 
@@ -206,6 +251,33 @@ impl MovingHeap {
         ensures { result ≡ free_pages (paging_in self.now) self.now.held }
     {
         self.open().free_pages::<Direct>()
+    }
+
+    /// What a malloc of `bytes` bytes would return now: its refusal, or `Ok` if no refusal has a cause.
+    pub fn has_room(&self, bytes: u32, steps: &mut Steps) -> Result<(), Refusal>
+        requires { IsTrue self.now.is_open }
+        ensures ok { IfOk result (λ u. (e : Refusal) → ¬ IsRefusedBy self.now bytes e) }
+        ensures err { IfErr result (λ e. IsRefusedBy self.now bytes e) }
+        ensures malloc { (answer : Result Handle Refusal) (new : HeapState) → IsMallocStep self.now bytes answer new
+            → result ≡ without_handle answer }
+        ensures steps { RoseBy steps.old steps.new 1 }
+    {
+        match &self.inner {
+            Some(open) => open.has_room::<Direct>(bytes, steps),
+            None => unreachable!(),
+        }
+    }
+
+    /// The bytes of an object; none where the handle isn't live.
+    pub fn length(&self, h: Handle, steps: &mut Steps) -> Option<u32>
+        requires { IsTrue self.now.is_open }
+        ensures value { result ≡ option_map (λ (x : Placed). length x.bytes) (map.get self.now.held h.0) }
+        ensures steps { RoseBy steps.old steps.new (if is_some result then 2 else 1) }
+    {
+        match &self.inner {
+            Some(open) => open.length::<Direct>(h, steps),
+            None => unreachable!(),
+        }
     }
 
     /// The whole words of an object, eight bytes to a word, the least first, borrowed without a copy; none

@@ -9,9 +9,9 @@ ghost use Rattle.moving_heap.specs.Payload.{payload_bound, payload_of, words_len
 ghost use Rattle.moving_heap.specs.PayloadLoan.{LendsPayloadIn, LendsPayloadOf, LendsRun, words_found};
 
 use cf_base::Handle;
-use object_header::Header;
 use paged_heap::OpenHeap;
 use step_ledger::Steps;
+use word_bytes::Header;
 
 /// The whole words of an object; none where the handle isn't live.
 pub(crate) fn payload<'a>(heap: &'a OpenHeap, h: Handle, steps: &mut Steps) -> Option<&'a [u64]>

@@ -39,3 +39,9 @@ abbrev pub OthersStayInPlace : MappedState → ℕ → MappedState → Type 0
 OthersStayInPlace old h new = (q : ℕ) (x y : Placed) → q ≢ h → get old.state.held q ≡ Some x → get new.state.held q ≡ Some y → (i j : ℕ)
     → i < slot_for (paging_in old.state) (length x.bytes) / 4 → j < 4
     → slice_index new.physical (4 * block_of old.state.frames x.place i + j) ≡ slice_index old.physical (4 * block_of old.state.frames x.place i + j)
+
+-- the steps of looking a block up: the proxy; of a live number the header and the class; and the entry, if the slot has that block
+abbrev pub block_steps : Option Placed → Option ℕ → ℕ
+block_steps None block = 1
+block_steps (Some x) None = 4
+block_steps (Some x) (Some block) = 5

@@ -1,18 +1,22 @@
 //! The heap that a caller holds: closed, or open.
-ghost use Rattle.std.specs.Prelude.{◌≡◌, ◌+◌, ◌^◌, ◌<◌, ◌≤◌, [], IfOk, IsTrue};
+ghost use Rattle.std.specs.Prelude.{◌≡◌, ◌+◌, ◌^◌, ◌<◌, ◌≤◌, [], IfErr, IfOk, IsTrue, Result, if◌then◌else◌, is_some, length, slice_get, option_map};
+ghost use Rattle.std.specs.FinMap as map;
+ghost use Rattle.page_model.specs.Held.{Placed};
 ghost use Rattle.page_model.specs.Arrangement.{home_pages, not_full_pages, free_pages};
+ghost use Rattle.cf_base.specs.declared.answers.Handle.{Handle};
+ghost use Rattle.cf_base.specs.declared.answers.Refusal.{Refusal};
 ghost use Rattle.cf_base.specs.declared.kind.Kind.TheVariants.{NonMoving};
-ghost use Rattle.cf_model.specs.Answers.{classes_in};
-ghost use Rattle.cf_model.specs.Costs.{TakesAtMost, free_bound};
+ghost use Rattle.cf_model.specs.Answers.{block_in, classes_in, place_of, totals_in};
+ghost use Rattle.cf_model.specs.Costs.{TakesAtMost, TellsCost, access_bound, free_bound, resize_bound};
 ghost use Rattle.cf_model.specs.Rules.{KeepsRules};
-ghost use Rattle.paged_heap.specs.Costs.{free_steps, malloc_steps};
-ghost use Rattle.step_ledger.specs.Counting.{RoseAtMost};
-ghost use Rattle.cf_model.specs.Steps.{BlocksStayIn, IsEmptyHeap, IsFreeStep, IsMallocStep, StaysOpen};
-ghost use Rattle.cf_model.specs.State.{closed_state, paging_in};
+ghost use Rattle.paged_heap.specs.Costs.{access_steps, free_steps, malloc_steps, resize_steps};
+ghost use Rattle.step_ledger.specs.Counting.{RoseAtMost, RoseBy};
+ghost use Rattle.cf_model.specs.Steps.{BlocksStayIn, IsEmptyHeap, IsFreeStep, IsMallocStep, IsReadAnswer, IsRefusedBy, IsResizeStep, IsWriteStep, StaysOpen};
+ghost use Rattle.cf_model.specs.State.{HeapState, closed_state, paging_in};
 ghost use Rattle.page_model.specs.Frames.{block_of};
-ghost use Rattle.cf_model.specs.Answers.{block_in};
 ghost use Rattle.paged_heap.specs.Layout.{Holds, state_at};
-ghost use Rattle.nonmoving_heap.specs.MappedState.{StandsByItsTable};
+ghost use Rattle.paged_heap.specs.Room.{without_handle};
+ghost use Rattle.nonmoving_heap.specs.MappedState.{StandsByItsTable, block_steps};
 
 use block_table::BlockTable;
 use cf_base::{
@@ -116,27 +120,46 @@ impl Manager for NonMovingHeap {
         at: u32,
         bytes: &[u8],
         steps: &mut Steps,
-    ) -> Result<(), AccessFault> {
+    ) -> Result<(), AccessFault>
+        requires open { IsTrue self.old.state.is_open }
+        requires room { steps.old ≤ 2 ^ 63 }
+        ensures same { StaysOpen self.old.state self.new.state }
+        ensures step { IsWriteStep self.old.state (record { number = h.0; from = at }) bytes.now result self.new.state }
+        ensures rules { KeepsRules self.new.state }
+        ensures bound { TakesAtMost self.old.state.kind steps.old steps.new (access_bound at (length bytes.now)) }
+        ensures steps { RoseBy steps.old steps.new (access_steps NonMoving at (length bytes.now) result) }
+    {
         match &mut self.inner {
             Some(open) => open.write::<Mapped>(h, at, bytes, steps),
             None => unreachable!(),
         }
     }
 
-    fn read(
-        &self,
-        h: Handle,
-        at: u32,
-        out: &mut [u8],
-        steps: &mut Steps,
-    ) -> Result<(), AccessFault> {
+    fn read(&self, h: Handle, at: u32, out: &mut [u8], steps: &mut Steps) -> Result<(), AccessFault>
+        requires open { IsTrue self.now.state.is_open }
+        requires room { steps.old ≤ 2 ^ 63 }
+        ensures answer { IsReadAnswer self.now.state (record { number = h.0; from = at }) out.old result out.new }
+        ensures rules { KeepsRules self.now.state }
+        ensures bound { TakesAtMost self.now.state.kind steps.old steps.new (access_bound at (length out.old)) }
+        ensures steps { RoseBy steps.old steps.new (access_steps NonMoving at (length out.old) result) }
+    {
         match &self.inner {
             Some(open) => open.read::<Mapped>(h, at, out, steps),
             None => unreachable!(),
         }
     }
 
-    fn resize(&mut self, h: Handle, bytes: u32, steps: &mut Steps) -> Result<Resized, ResizeFault> {
+    fn resize(&mut self, h: Handle, bytes: u32, steps: &mut Steps) -> Result<Resized, ResizeFault>
+        requires open { IsTrue self.old.state.is_open }
+        requires room { steps.old ≤ 2 ^ 63 }
+        ensures same { StaysOpen self.old.state self.new.state }
+        ensures step { IsResizeStep self.old.state (record { number = h.0; length = bytes }) result self.new.state }
+        ensures rules { KeepsRules self.new.state }
+        ensures bound { TakesAtMost self.old.state.kind steps.old steps.new (resize_bound result) }
+        ensures told { TellsCost self.old.state.kind steps.old steps.new self.new.state.cost }
+        ensures blocks { BlocksStayIn self.old.state.kind self.old.state h.0 self.new.state }
+        ensures steps { RoseAtMost steps.old steps.new (resize_steps NonMoving bytes result) }
+    {
         match &mut self.inner {
             Some(open) => open.resize::<Mapped>(h, bytes, steps),
             None => unreachable!(),
@@ -150,18 +173,34 @@ impl Manager for NonMovingHeap {
         }
     }
 
-    fn place(&self, h: Handle, steps: &mut Steps) -> Option<u32> {
+    fn place(&self, h: Handle, steps: &mut Steps) -> Option<u32>
+        requires { IsTrue self.now.state.is_open }
+        ensures value { result ≡ place_of self.now.state h.0 }
+        ensures rises { steps.old ≤ steps.new }
+        ensures steps { RoseBy steps.old steps.new 1 }
+    {
         self.open().place::<Mapped>(h, steps)
     }
 
-    fn peek(&self, word: u32, steps: &mut Steps) -> Option<u64> {
+    fn peek(&self, word: u32, steps: &mut Steps) -> Option<u64>
+        requires { IsTrue self.now.state.is_open }
+        ensures value { result ≡ slice_get self.now.state.words word }
+        ensures rules { KeepsRules self.now.state }
+        ensures rises { steps.old ≤ steps.new }
+        ensures steps { RoseBy steps.old steps.new (if is_some result then 2 else 0) }
+    {
         match &self.inner {
             Some(open) => open.peek::<Mapped>(word, steps),
             None => unreachable!(),
         }
     }
 
-    fn block(&self, h: Handle, i: u32, steps: &mut Steps) -> Option<u32> {
+    fn block(&self, h: Handle, i: u32, steps: &mut Steps) -> Option<u32>
+        requires { IsTrue self.now.state.is_open }
+        ensures value { result ≡ block_in self.now.state.kind self.now.state h.0 i }
+        ensures rises { steps.old ≤ steps.new }
+        ensures steps { RoseBy steps.old steps.new (block_steps (map.get self.now.state.held h.0) result) }
+    {
         block_of(self.open(), h, i, steps)
     }
 
@@ -173,7 +212,12 @@ impl Manager for NonMovingHeap {
         self.open().figures::<Mapped>(c)
     }
 
-    fn totals(&self, _steps: &mut Steps) -> Totals {
+    fn totals(&self, steps: &mut Steps) -> Totals
+        requires { IsTrue self.now.state.is_open }
+        ensures value { result ≡ totals_in self.now.state.kind self.now.state }
+        ensures rises { steps.old ≤ steps.new }
+        ensures steps { steps.new ≡ steps.old }
+    {
         self.open().totals::<Mapped>()
     }
 
@@ -207,6 +251,33 @@ impl NonMovingHeap {
         ensures { result ≡ free_pages (paging_in self.now.state) self.now.state.held }
     {
         self.open().free_pages::<Mapped>()
+    }
+
+    /// What a malloc of `bytes` bytes would return now: its refusal, or `Ok` if no refusal has a cause.
+    pub fn has_room(&self, bytes: u32, steps: &mut Steps) -> Result<(), Refusal>
+        requires { IsTrue self.now.state.is_open }
+        ensures ok { IfOk result (λ u. (e : Refusal) → ¬ IsRefusedBy self.now.state bytes e) }
+        ensures err { IfErr result (λ e. IsRefusedBy self.now.state bytes e) }
+        ensures malloc { (answer : Result Handle Refusal) (new : HeapState) → IsMallocStep self.now.state bytes answer new
+            → result ≡ without_handle answer }
+        ensures steps { RoseBy steps.old steps.new 1 }
+    {
+        match &self.inner {
+            Some(open) => open.has_room::<Mapped>(bytes, steps),
+            None => unreachable!(),
+        }
+    }
+
+    /// The bytes of an object; none where the handle isn't live.
+    pub fn length(&self, h: Handle, steps: &mut Steps) -> Option<u32>
+        requires { IsTrue self.now.state.is_open }
+        ensures value { result ≡ option_map (λ (x : Placed). length x.bytes) (map.get self.now.state.held h.0) }
+        ensures steps { RoseBy steps.old steps.new (if is_some result then 3 else 1) }
+    {
+        match &self.inner {
+            Some(open) => open.length::<Mapped>(h, steps),
+            None => unreachable!(),
+        }
     }
 
     /// What every call keeps of the region: its word `4 * F(v) + j` is the virtual word `4 * v + j`, where F
@@ -248,6 +319,7 @@ fn block_of(heap: &OpenHeap, h: Handle, i: u32, steps: &mut Steps) -> Option<u32
     requires { Holds NonMoving heap.now }
     ensures value { result ≡ block_in NonMoving (state_at NonMoving heap.now) h.0 i }
     ensures rises { steps.old ≤ steps.new }
+    ensures steps { RoseBy steps.old steps.new (block_steps (map.get (state_at NonMoving heap.now).held h.0) result) }
 {
     let Some(place) = heap.proxies.lookup(h, steps) else {
         return None;

@@ -1,4 +1,4 @@
--- How the reports' sums change where an object comes or goes.
+-- How the sums of the reports change when an object is added or removed.
 use Rattle.std.proofs.Common.{◌≡◌, ℕ, ◌+◌, ◌*◌, List, Some, None, length, arith}
 use Rattle.std.specs.Prelude.{nat_eq}
 use Rattle.std.specs.FinMap.{get, insert, remove, len}
@@ -11,7 +11,7 @@ use Rattle.page_model.specs.Arrangement.{live, used_pages, free_pages, IsSound}
 use Rattle.page_model.specs.Figures.{asked_bytes, taken_bytes}
 use Rattle.page_model.proofs.Lacking.{used_le}
 
--- as many objects as are held
+-- `objects` has as many entries as the arrangement
 pub len-objects : (m : Held) → len (objects m) ≡ len m
 len-objects = len-map_values (λ (x : Placed). x.bytes)
 

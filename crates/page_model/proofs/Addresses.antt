@@ -21,7 +21,7 @@ slot_ends P size slot lt =
     omega arith
 
 module _ (p : Paging) (ok : IsPaging p) (c : ℕ) (lt : c < classes p) where
-  -- the address of a slot: its page, and its number on the page
+  -- the address of each page and slot number is that of a slot on that page
   pub address_is_slot : (page slot : ℕ) → page < p.pages → slot < slots_of p c
       → IsSlotAt p c (address_of p c page slot) × (page_of p (address_of p c page slot) ≡ page)
       × (address_of p c page slot % p.page_words / slot_words p c ≡ slot)
@@ -34,7 +34,7 @@ module _ (p : Paging) (ok : IsPaging p) (c : ℕ) (lt : c < classes p) where
       let aligned = mul-mod_left slot (slot_words p c) in
       (record { class = lt; page = rw by_page page_in; aligned = rw rest aligned; fits = rw rest ends }, by_page, rw rest number)
 
-  -- an address of a slot is that of its page and number
+  -- and the address of each slot is that of its page and its number there
   pub slot_is_address : (a : ℕ) → IsSlotAt p c a → (a ≡ address_of p c (page_of p a) (a % p.page_words / slot_words p c))
       × (a % p.page_words / slot_words p c < slots_of p c)
   slot_is_address a s =

@@ -1,4 +1,4 @@
--- What the steps do to the frames, in the terms of the steps.
+-- What each step does to the frames, stated for `RemovesObject` and `RefitsObject`.
 use Rattle.std.proofs.Common.{◌≡◌, ◌≢◌, ℕ, ◌*◌, ◌/◌, ◌<◌, List, Some, length, ◌∙◌, inl, inr, ap, refl}
 use Rattle.std.specs.FinMap.{get}
 use Rattle.cf_lemmas.proofs.Maps.{get_inserted, get_insert_other}
@@ -12,7 +12,7 @@ use Rattle.page_model.proofs.Frames.{blocks_kept, frames_permuted, frames_as_man
 use Rattle.page_model.proofs.Resizing.{change_is, sound_resize}
 use Rattle.page_model.proofs.FreeSteps.{sound_free}
 
--- a resize within the class keeps the object's own blocks too
+-- a resize within the class keeps the object's own blocks
 pub in_place_blocks : (p : Paging) (old : Held) (frames : List ℕ) (asked : Request) (after : Leaves) → ResizesInPlace p old asked after → (y z : Placed)
     → get old asked.number ≡ Some y → get after.held asked.number ≡ Some z → (i : ℕ)
     → block_of (frames_after p old after frames) z.place i ≡ block_of frames y.place i

@@ -1,4 +1,4 @@
--- What upper crates may cite: arrangements and their counts, steps on them, the words, and the blocks.
+-- What other crates' proofs may cite: arrangements and their counts, steps, words and blocks.
 pub use Rattle.page_model.proofs.Counting.{one_le, less_counts, not_less_counts_none, part_full, part_yes, some_counted, none_counted, on_yes}
 pub use Rattle.page_model.proofs.Counting.{stands_here, on_page, standing, nothing_on, not_full-same}
 pub use Rattle.page_model.proofs.Placing.{objects_on-inserted, objects_on-elsewhere, sound_placed, sound_malloc}

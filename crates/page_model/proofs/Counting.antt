@@ -1,4 +1,4 @@
--- Counts over the values of a map, and the pages that they change.
+-- Counts over the values of a map, and the counts of pages that follow from them.
 use Rattle.std.proofs.Common.{◌≡◌, ◌≢◌, ℕ, Bool, true, false, ◌+◌, ◌<◌, ◌≤◌, Some, None, arith, sym, ◌∙◌, inl, inr, ap, refl}
 use Rattle.std.specs.Prelude.{◌⊎◌, ◌&&◌, nat_lt, nat_eq, count_by}
 use Rattle.std.proofs.lemmas.Bool.{cases_eq, false≢true}
@@ -25,7 +25,7 @@ less_counts a b h = (let e : nat_lt a b ≡ true = grind (arith, nat_tests) in r
 pub not_less_counts_none : (a b : ℕ) → b ≤ a → one (nat_lt a b) ≡ 0
 not_less_counts_none a b h = (let e : nat_lt a b ≡ false = grind (arith, nat_tests) in rw e)
 
--- whether a page with n objects is neither empty nor full, of s slots
+-- whether a page of s slots with n objects is partly full
 abbrev pub part_full : ℕ → ℕ → Bool
 part_full n s = nat_lt 0 n && nat_lt n s
 
@@ -42,7 +42,7 @@ pub part_over : (n m : ℕ) → m ≤ n → one (part_full n m) ≡ 0
 part_over n m h = (let b : nat_lt n m ≡ false = grind (arith, nat_tests) in rw b (ap one (and_false (nat_lt 0 n))))
 
 module _ {V : Type 0} where
-  -- where values count, there is one that passes
+  -- if the count isn't 0, a value passes the test
   pub some_counted : (f : V → Bool) (m : FinMap nat_cmp V) → 0 < count_by f (values m) → (q : ℕ) × (y : V) × (get m q ≡ Some y) × (f y ≡ true)
   some_counted f = map_induction (λ m. 0 < count_by f (values m) → (q : ℕ) × (y : V) × (get m q ≡ Some y) × (f y ≡ true))
       (λ lt. absurd (let e : count_by f (values (empty {X = V} {R = nat_cmp})) ≡ 0 = ap (count_by f) no_values in omega arith))
@@ -55,7 +55,7 @@ module _ {V : Type 0} where
       go m h x none ih true e lt = (h, x, get_inserted m h x, e)
       go m h x none ih false e lt = (let o = ih (omega arith) in (o.0, o.1, (still m h x none o.0 o.1 o.2).1, o.3))
 
-  -- where none counts, none passes
+  -- if the count is 0, no value passes
   pub none_counted : (f : V → Bool) (m : FinMap nat_cmp V) (q : ℕ) (y : V) → get m q ≡ Some y → count_by f (values m) ≡ 0 → f y ≡ false
   none_counted f m q y p zero' = go (f y) (let e = sum_by-removed (λ y. one (f y)) m q y p in omega arith)
     where
@@ -63,12 +63,12 @@ module _ {V : Type 0} where
       go true e = absurd (omega arith)
       go false e = refl
 
-  -- what passes counts
+  -- if a value passes, the count isn't 0
   pub counted : (f : V → Bool) (m : FinMap nat_cmp V) (q : ℕ) (y : V) → get m q ≡ Some y → f y ≡ true → 0 < count_by f (values m)
   counted f m q y p e = (let s = sum_by-removed (λ y. one (f y)) m q y p in let o : one (f y) ≡ 1 = rw e in omega arith)
 
 module _ (p : Paging) where
-  -- what it is to be on a page
+  -- an object counted on a page has that page and that class
   pub on_parts : (c page : ℕ) (x : Placed) → is_on p c page x ≡ true → (page_of p x.place ≡ page) × (class_at p x ≡ c)
   on_parts c page x e = elim (cases_eq (page_of p x.place) page) [
     | inl is ↦ elim (cases_eq (class_at p x) c) [
@@ -86,7 +86,7 @@ module _ (p : Paging) where
   on_no c page x (inl ne) = (let f = eq_no (page_of p x.place) page ne in rw f)
   on_no c page x (inr ne) = (let f = eq_no (class_at p x) c ne in rw f (ap one (and_false _)))
 
-  -- an object that is found stands on its page
+  -- the page of an object has an object of its class
   pub here : (m : Held) (q : ℕ) (y : Placed) → get m q ≡ Some y → 0 < objects_on p m (class_at p y) (page_of p y.place)
   unfolding objects_on
   here m q y f = counted (is_on p (class_at p y) (page_of p y.place)) m q y f (on_yes _ _ y refl refl)
@@ -95,7 +95,7 @@ module _ (p : Paging) where
   unfolding standing_on
   stands_here m q y f = counted (λ (x : Placed). nat_eq (page_of p x.place) (page_of p y.place)) m q y f (eq_yes _ _ refl)
 
-  -- a page that holds an object of the class
+  -- a page with an object of the class
   pub on_page : (m : Held) (c page : ℕ) → 0 < objects_on p m c page
       → (q : ℕ) × (y : Placed) × (get m q ≡ Some y) × (page_of p y.place ≡ page) × (class_at p y ≡ c)
   unfolding objects_on
@@ -114,13 +114,13 @@ module _ (p : Paging) where
         ],
       ))
 
-  -- a page that holds nothing
+  -- no object is on a page whose count is 0
   pub nothing_on : (m : Held) (page : ℕ) → standing_on p m page ≡ 0 → (q : ℕ) (y : Placed) → get m q ≡ Some y → page_of p y.place ≢ page
   nothing_on m page none q y f is = (let s = stands_here m q y f in let t : standing_on p m (page_of p y.place) ≡ 0 = rw is none in omega arith)
 
--- Two arrangements whose objects of the class are the same on all pages but one.
+-- Two arrangements with the same objects of a class on every page but one.
 module _ (p : Paging) (m n : Held) (c page : ℕ) (others : (g : ℕ) → g ≢ page → objects_on p n c g ≡ objects_on p m c g) where
-  -- the partly full pages
+  -- the counts of partly full pages differ as that page does
   pub not_full-changed : page < p.pages → not_full_pages p n c + one (part_full (objects_on p m c page) (slots_of p c)) ≡ not_full_pages p m c + one
       (part_full (objects_on p n c page) (slots_of p c))
   unfolding not_full_pages
@@ -129,14 +129,14 @@ module _ (p : Paging) (m n : Held) (c page : ℕ) (others : (g : ℕ) → g ≢ 
       (omega arith)
       (λ g ne. ap (λ k. part_full k (slots_of p c)) (others g ne))
 
-  -- the pages that hold one
+  -- the counts of pages with an object differ as that page does
   pub home-changed : page < p.pages → home_pages p n c + one (nat_lt 0 (objects_on p m c page)) ≡ home_pages p m c + one (nat_lt 0 (objects_on p n c page))
   unfolding home_pages
   home-changed lt =
       count_changed (λ g. nat_lt 0 (objects_on p n c g)) (λ g. nat_lt 0 (objects_on p m c g)) 0 p.pages page (omega arith) (omega arith)
       (λ g ne. ap (nat_lt 0) (others g ne))
 
--- Two arrangements whose objects of the class are the same on all pages.
+-- Two arrangements with the same objects of a class on every page.
 module _ (p : Paging) (m n : Held) (c : ℕ) (same : (g : ℕ) → objects_on p n c g ≡ objects_on p m c g) where
   pub not_full-same : not_full_pages p n c ≡ not_full_pages p m c
   unfolding not_full_pages

@@ -1,4 +1,4 @@
--- Objects stand on enough pages.
+-- Objects are on at least as many pages as they need.
 use Rattle.std.proofs.Common.{◌≡◌, ℕ, zero, suc, ◌+◌, ◌-◌, ◌*◌, ◌/◌, ◌%◌, ◌<◌, ◌≤◌, arith}
 use Rattle.std.proofs.lemmas.Nat.{div-add-mod', le-div, mul-le}
 use Rattle.std.proofs.Math.Nat.{div-mul-le_self, div-zero}
@@ -19,7 +19,7 @@ ceil_mono a b (suc m) le =
     let low = div-mul-le_self (a + (suc m - 1)) (suc m) in
     le-div ((a + (suc m - 1)) / suc m) (b + (suc m - 1)) (suc m) pos (omega arith)
 
--- what stands on h pages needs no more
+-- n objects on h pages need at most h pages
 enough : (h n m k q : ℕ) → 0 < m → Stand h n m k q → ceil_div n m ≤ h
 enough h n m k q pos s =
     let w = s.within in

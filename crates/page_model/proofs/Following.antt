@@ -36,7 +36,7 @@ module _ (p : Paging) (m : Held) where
     ]
   ]
 
-  -- the slot that is next
+  -- the next slot, and the order after it is taken
   pub next_once : (c a b : ℕ) (old new next : Order) → TakesNext p m old c a new → TakesNext p m old c b next → (a ≡ b) × (new ≡ next)
   next_once c a b old new next (inl s) (inl t) =
       let (page, rest) = same_front (not_full_in old c) s.page t.page s.rest t.rest s.front t.front in
@@ -67,7 +67,7 @@ module _ (p : Paging) (m : Held) (sound : IsSound p m) where
   found_once : (q : ℕ) (x y : Placed) → get m q ≡ Some x → get m q ≡ Some y → x ≡ y
   found_once q x y a b = (let e : Some x ≡ Some y = sym a ∙ b in cc)
 
-  -- the object that is next to move
+  -- the object that moves next
   pub mover_once : (o : Order) (c q r : ℕ) (y z : Placed) → get m q ≡ Some y → get m r ≡ Some z → IsNextToMove p m o c y → IsNextToMove p m o c z → q ≡ r
   mover_once o c q r y z there here s t =
       let (page, rest) = same_front (not_full_in o c) s.page t.page s.rest t.rest s.front t.front in
@@ -78,7 +78,7 @@ module _ (p : Paging) (m : Held) (sound : IsSound p m) where
         | inr ne ↦ absurd (sound.own_place q y r z there here ne place)
       ]
 
-  -- the order after an object went
+  -- the order after an object is removed
   slot_once : (x : Placed) (moved other : Option ℕ) (old new next : Order) → Moves p m x moved → Moves p m x other
       → SlotFollows p m x moved old new → SlotFollows p m x other old next → (moved ≡ other) × (new ≡ next)
   slot_once x None None old new next a b s t = (refl, s ∙ sym t)

@@ -1,4 +1,4 @@
--- The blocks of the objects that stay are the same after each step, and no two objects share one.
+-- A step keeps the blocks of the objects that stay, and no two objects share a block.
 use Rattle.std.proofs.Common.{◌≡◌, ◌≢◌, ℕ, ◌+◌, ◌*◌, ◌/◌, ◌%◌, ◌<◌, ◌≤◌, List, Option, Some, None, length, get_or, arith, sym, ◌∙◌, subst, inl, inr, ap, refl}
 use Rattle.std.specs.Prelude.{◌⊎◌}
 use Rattle.std.proofs.Math.Nat.{mul-mod_left}
@@ -18,7 +18,7 @@ use Rattle.page_model.specs.Frames.{first_frames, IsPermuted, frames_after, bloc
 use Rattle.page_model.proofs.FreeSteps.{mover_is_other}
 use Rattle.page_model.proofs.SlotImages.{sound_apart, object_inside}
 
--- the frames of an empty heap
+-- the frames of an empty heap are a permutation
 pub first_permuted : (n : ℕ) → IsPermuted (first_frames n)
 first_permuted n = range_permuted n
 
@@ -35,7 +35,7 @@ multiple x s p q =
     omega arith
 
 module _ (p : Paging) (ok : IsPaging p) (b : AreBlocks p) (m : Held) (s : IsSound p m) where
-  -- a slot begins and ends with a block
+  -- a slot is a whole number of blocks
   pub place_is_block : (h : ℕ) (x : Placed) → get m h ≡ Some x → x.place % 4 ≡ 0
   place_is_block h x f =
       let slot = s.slots h x f in
@@ -48,7 +48,7 @@ module _ (p : Paging) (ok : IsPaging p) (b : AreBlocks p) (m : Held) (s : IsSoun
   size_is_blocks : (n : ℕ) → slot_for p n % 4 ≡ 0
   size_is_blocks n = b.slot (class_for p n)
 
-  -- the blocks of two objects
+  -- the blocks of two objects are disjoint
   pub blocks_apart : (h : ℕ) (x : Placed) (q : ℕ) (y : Placed) → get m h ≡ Some x → get m q ≡ Some y → q ≢ h
       → IsDisjoint (x.place / 4) (slot_for p (length x.bytes) / 4) (y.place / 4) (slot_for p (length y.bytes) / 4)
   blocks_apart h x q y e f ne = four_apart x.place (slot_for p (length x.bytes)) y.place (slot_for p (length y.bytes))
@@ -92,7 +92,7 @@ moved_kept frames a b n i apart lt inside =
     get_or-exchanged frames a b n (b + i) (omega arith) ∙ ap (λ v. get_or frames v 0)
     (partner_second a b n apart (b + i) (omega arith) (omega arith) ∙ omega arith)
 
--- A free step, or that of a resize, of object h: what is held afterwards is, but for h, what the free leaves.
+-- A free, or the part of a resize that frees object h. Apart from h, the objects afterwards are those that the free leaves.
 module _ (p : Paging) (ok : IsPaging p) (b : AreBlocks p) (m : Held) (s : IsSound p m) (h : ℕ) (x : Placed) (is-x : get m h ≡ Some x)
     (frames : List ℕ) (len : length frames ≡ p.pages * p.page_words / 4) (after : Leaves)
     (left : (r : ℕ) → r ≢ h → get after.held r ≡ get (without m h x.place after.moved) r) where
@@ -100,7 +100,7 @@ module _ (p : Paging) (ok : IsPaging p) (b : AreBlocks p) (m : Held) (s : IsSoun
     other : q ≢ h
     other = mover_is_other p ok m s h x is-x q y there must may
 
-    -- where it went
+    -- the object that moved is at the freed address
     arrived : get after.held q ≡ Some (record { place = x.place; bytes = y.bytes })
     arrived = left q other ∙ rw (moved, there) (get_inserted (remove m h) q (record { place = x.place; bytes = y.bytes }))
 
@@ -154,7 +154,7 @@ module _ (p : Paging) (ok : IsPaging p) (b : AreBlocks p) (m : Held) (s : IsSoun
     length_by_move : length (frames_after p m after frames) ≡ length frames
     length_by_move = (let f = frames_are in rw f (length-exchanged frames _ _ _))
 
-  -- each block of another object is the same afterwards
+  -- each block of another object stays
   pub blocks_kept : (moved : Option ℕ) → after.moved ≡ moved → Moves p m x moved → (r : ℕ) (z z' : Placed) → r ≢ h → get m r ≡ Some z
       → get after.held r ≡ Some z' → (i : ℕ) → i < slot_for p (length z.bytes) / 4
       → block_of (frames_after p m after frames) z'.place i ≡ block_of frames z.place i
@@ -173,7 +173,7 @@ module _ (p : Paging) (ok : IsPaging p) (b : AreBlocks p) (m : Held) (s : IsSoun
   frames_as_many None is never = rw is refl
   frames_as_many (Some q) is (must, (y, there, may)) = length_by_move q y is there must may
 
--- each word of a slot stands in its physical block
+-- each word of a slot is in the physical block of its virtual block
 pub physical_word : (p : Paging) → IsPaging p → AreBlocks p → (m : Held) → IsSound p m → (frames words physical : List ℕ)
     → length frames ≡ p.pages * p.page_words / 4
     → IsSlotImage p m words → IsPhysical frames words physical → (h : ℕ) (x : Placed) → get m h ≡ Some x → (i : ℕ) → i < slot_for p (length x.bytes)

@@ -1,4 +1,4 @@
--- A free step keeps the arrangement sound.
+-- A free keeps the arrangement sound.
 use Rattle.std.proofs.Common.{◌≡◌, ◌≢◌, ℕ, ◌<◌, Option, Some, None, arith, sym, ◌∙◌, inl, inr, ap, subst}
 use Rattle.std.proofs.lemmas.Bool.{cases_eq, cases_lt}
 use Rattle.std.specs.FinMap.{get, insert, remove}
@@ -10,7 +10,7 @@ use Rattle.page_model.specs.Steps.{Leaves, MustMove, MayFill, Moves, without, Re
 use Rattle.page_model.proofs.Freeing.{MayLeave, sound_freed, sound_exchanged}
 use Rattle.page_model.proofs.PageCounts.{within}
 
--- what is removed in either order
+-- removing q first changes nothing if q is inserted afterwards
 pub removed_twice : (m : Held) (h q : ℕ) (x : Placed) → insert (remove (remove m q) h) q x ≡ insert (remove m h) q x
 removed_twice m h q x = equal_maps _ _ (λ r. elim (cases_eq r q) [
   | inl is ↦ rw is (get_inserted _ q x ∙ sym (get_inserted _ q x))
@@ -21,7 +21,7 @@ removed_twice m h q x = equal_maps _ _ (λ r. elim (cases_eq r q) [
 ])
 
 module _ (p : Paging) (ok : IsPaging p) (m : Held) (s : IsSound p m) (h : ℕ) (x : Placed) (some : get m h ≡ Some x) where
-  -- where no move is due, the object may just go
+  -- if no move is due, the object may be removed without one
   pub may_leave : (MustMove p m x → ⊥) → MayLeave p m h x some
   unfolding MayLeave
   may_leave never =
@@ -40,7 +40,7 @@ module _ (p : Paging) (ok : IsPaging p) (m : Held) (s : IsSound p m) (h : ℕ) (
       ]
 
   module _ (q : ℕ) (y : Placed) (there : get m q ≡ Some y) (must : MustMove p m x) (may : MayFill p m x y) where
-    -- an object that moves is another one
+    -- the object that moves isn't the freed one
     pub mover_is_other : q ≢ h
     mover_is_other is =
         let e : Some y ≡ Some x = sym there ∙ ap (get m) is ∙ some in
@@ -59,11 +59,11 @@ module _ (p : Paging) (ok : IsPaging p) (m : Held) (s : IsSound p m) (h : ℕ) (
         let second = sound_exchanged p (remove m q) h x there' q y.bytes gone may.class first in
         subst (IsSound p) (removed_twice m h q (record { place = x.place; bytes = y.bytes })) second
 
-  -- what stands after a free is sound
+  -- the arrangement after a free is sound
   pub sound_without : (moved : Option ℕ) → Moves p m x moved → IsSound p (without m h x.place moved)
   sound_without None never = sound_freed p m h x some s (may_leave never)
   sound_without (Some q) (must, (y, there, may)) = rw there (sound_moved q y there must may)
 
--- a free keeps the arrangement sound
+-- the same for every step `RemovesObject`
 pub sound_free : (p : Paging) (old : Held) (h : ℕ) (after : Leaves) → IsPaging p → IsSound p old → RemovesObject p old h after → IsSound p after.held
 sound_free p old h after ok s step = (let e = step.left in rw e (sound_without p ok old s h step.freed step.found after.moved step.moves))

@@ -1,4 +1,4 @@
--- A free keeps the arrangement sound, with its move or without.
+-- A free keeps the arrangement sound, with a move or without.
 use Rattle.std.proofs.Common.{◌≡◌, ◌≢◌, ℕ, ◌+◌, ◌<◌, ◌≤◌, List, Some, None, arith, sym, ◌∙◌, inl, inr, ap, refl}
 use Rattle.std.specs.Prelude.{◌⊎◌, ◌&&◌, nat_eq}
 use Rattle.std.proofs.lemmas.Bool.{cases_eq}
@@ -13,7 +13,7 @@ use Rattle.page_model.proofs.Counting.{part_full, part_yes, part_empty, part_ove
 use Rattle.page_model.proofs.Placing.{objects_on-inserted}
 
 module _ (p : Paging) (m : Held) (h : ℕ) (x : Placed) (some : get m h ≡ Some x) where
-  -- one object less
+  -- the counts with one object less
   pub objects_on-removed : (c page : ℕ) → objects_on p (remove m h) c page + one (is_on p c page x) ≡ objects_on p m c page
   unfolding objects_on
   objects_on-removed c page = sum_by-removed (λ y. one (is_on p c page y)) m h x some
@@ -27,7 +27,7 @@ module _ (p : Paging) (m : Held) (h : ℕ) (x : Placed) (some : get m h ≡ Some
       let i = objects_on-removed c (page_of p x.place) in
       omega arith
 
-  -- what a free without a move asks: the page wasn't full, or it has one slot, or its class may have one more partly full page
+  -- when a free needs no move: the page wasn't full, or it has one slot, or its class has not reached its bound of partly full pages
   unfoldable pub MayLeave : Type 0
   MayLeave = (objects_on p m (class_at p x) (page_of p x.place) < slots_of p (class_at p x))
       ⊎ ((slots_of p (class_at p x) ≤ 1) ⊎ (not_full_pages p m (class_at p x) < bound_of p (class_at p x)))
@@ -59,7 +59,7 @@ module _ (p : Paging) (m : Held) (h : ℕ) (x : Placed) (some : get m h ≡ Some
     | inr ne ↦ (let same = not_full-same p m (remove m h) c (λ g. objects_on-away c g (inr ne)) in rw same (few c lt))
   ]
 
-  -- a free without a move
+  -- a free without a move keeps the arrangement sound
   pub sound_freed : IsSound p m → MayLeave → IsSound p (remove m h)
   sound_freed s may = record {
     slots = λ q y e. s.slots q y (some_removed m h q y e).1;
@@ -68,7 +68,7 @@ module _ (p : Paging) (m : Held) (h : ℕ) (x : Placed) (some : get m h ≡ Some
     few_not_full = few_after_free ((s.slots h x some).page) s.few_not_full may;
   }
 
-  -- another object of the class at the same address, instead of x
+  -- another object of the class takes the address of x
   module _ (q : ℕ) (bytes : List ℕ) (free : get (remove m h) q ≡ None) (class : class_at p (record { place = x.place; bytes = bytes }) ≡ class_at p x) where
     pub objects_on-exchanged : (c page : ℕ) → objects_on p (insert (remove m h) q (record { place = x.place; bytes = bytes })) c page ≡ objects_on p m c page
     objects_on-exchanged c page =

@@ -1,4 +1,4 @@
--- Where a sound arrangement has room, a malloc can follow the order, and leaves one.
+-- If a page of the class is partly full, a malloc can follow the order, and leaves an order of the new arrangement.
 use Rattle.std.proofs.Common.{◌≡◌, ◌≢◌, ℕ, zero, suc, Bool, true, false, ◌+◌, ◌<◌, ◌≤◌, List, [], ◌∷◌, Some, None, length, get_or, set, replicate, arith, refl, sym, ◌∙◌, ap, subst, inl, inr}
 use Rattle.std.specs.Prelude.{◌⊎◌, ◌↔◌, nat_eq, if◌then◌else◌}
 use Rattle.std.specs.List.{Contains, IsDistinct, AllByRecursion}
@@ -22,7 +22,7 @@ use Rattle.page_model.proofs.OpenPages.{IsVacant, open_page, taken_or_vacant, va
 use Rattle.page_model.proofs.Placing.{objects_on-elsewhere, objects_on-inserted}
 use Rattle.page_model.proofs.PageCounts.{slots_some}
 
--- lists of numbers
+-- an empty list contains nothing
 not_in_nil : (x : ℕ) → ¬ Contains [] x
 not_in_nil x h = absurd (let lt : h.0 < 0 = h.1 in omega arith)
 
@@ -54,7 +54,7 @@ none_once = tt
 one_once : (x : ℕ) → IsDistinct nat_eq (x ∷ [])
 one_once x = IsDistinct-cons nat_eq x [] tt none_once
 
--- a malloc that follows the order
+-- the results of a malloc that follows the order
 pub record Goes (p : Paging) (m : Held) (n limit : ℕ) (o : Order) (number : ℕ) : Type 0 where
   pub place : ℕ
   pub new : Order
@@ -65,7 +65,7 @@ pub record Goes (p : Paging) (m : Held) (n limit : ℕ) (o : Order) (number : �
   pub is_order : IsOrderOf p (insert m number (zeros_at place n)) limit new
 
 module _ (p : Paging) (ok : IsPaging p) (m : Held) (s : IsSound p m) where
-  -- the first slot of a page where none stands, if there is one below a bound
+  -- either the first n slots of a page are taken, or it has a least free slot below n
   first_below : (c page n : ℕ) → ((k : ℕ) → k < n → IsTaken m (address_of p c page k)) ⊎ ((k : ℕ) × (k < n) × IsLeastFree p m c page k)
   first_below c page zero = inl (λ k lt. absurd (omega arith))
   first_below c page (suc n) = elim (first_below c page n) [
@@ -110,7 +110,7 @@ module _ (p : Paging) (ok : IsPaging p) (m : Held) (s : IsSound p m) where
     class_is : (a : ℕ) → class_at p (zeros_at a n) ≡ c
     class_is a = ap (class_for p) (length-replicate {A = ℕ} n 0)
 
-    -- the numbers that are left
+    -- the remaining numbers are free
     left_numbers : (a g : ℕ) → Contains rest g → (g < limit) × (get (with_object a) g ≡ None)
     left_numbers a g there =
         let was = is.spare g (subst (λ xs. Contains xs g) (sym first) (in_tail g h rest there)) in
@@ -124,7 +124,7 @@ module _ (p : Paging) (ok : IsPaging p) (m : Held) (s : IsSound p m) where
         let more = len_fresh m h (zeros_at a n) none in
         omega arith
 
-    -- the counts of a page with one object more
+    -- the counts of each page with one object more
     stands_more : (a g : ℕ) → standing_on p (with_object a) g ≡ standing_on p m g + one (nat_eq (page_of p a) g)
     unfolding standing_on
     stands_more a g = sum_by-inserted (λ (y : Placed). one (nat_eq (page_of p y.place) g)) m h (zeros_at a n) none
@@ -139,7 +139,7 @@ module _ (p : Paging) (ok : IsPaging p) (m : Held) (s : IsSound p m) where
         let e = ap one (on_yes p c page (zeros_at a n) on (class_is a)) in
         omega arith
 
-    -- on a partly full page
+    -- the slot is on a partly full page
     module _ (page : ℕ) (pages : List ℕ) (front : not_full_in o c ≡ page ∷ pages) where
       listed : Contains (not_full_in o c) page
       listed = subst (λ xs. Contains xs page) (sym front) (at_head page pages)
@@ -178,7 +178,7 @@ module _ (p : Paging) (ok : IsPaging p) (m : Held) (s : IsSound p m) where
         choice = inl (rw on some, rw on less);
       }
 
-      -- the free pages are the same
+      -- the free pages stay
       pool_is : (g : ℕ) → Contains o.pool g ↔ ((g < p.pages) × (standing_on p (with_object at) g ≡ 0))
       pool_is g =
           let more = stands_more at g in (
@@ -190,7 +190,7 @@ module _ (p : Paging) (ok : IsPaging p) (m : Held) (s : IsSound p m) where
             λ (inside, bare). (is.pool g).1 (inside, omega arith),
           )
 
-      -- a list that has the partly full pages again
+      -- the list has exactly the partly full pages
       abbrev IsList : ℕ → List ℕ → Type 0
       IsList d xs = (g : ℕ) → Contains xs g ↔ ((g < p.pages) × IsPartlyFull p (with_object at) d g)
 

@@ -1,4 +1,4 @@
--- The image after each kind of step, in the terms of the region's calls.
+-- The image after each kind of step, stated for the region's calls.
 use Rattle.std.proofs.Common.{◌≡◌, ℕ, zero, suc, ◌+◌, ◌-◌, ◌*◌, ◌<◌, ◌≤◌, List, Some, None, length, get_or, set, replicate, take, arith, sym, ◌∙◌, subst, inl}
 use Rattle.std.proofs.Common.{inr, ap, refl}
 use Rattle.std.proofs.lemmas.List.{get_or-set_same, get_or-set_other, drop-replicate, drop_all, length-replicate}
@@ -15,17 +15,17 @@ take_zeros zero n = refl
 take_zeros (suc m) zero = refl
 take_zeros (suc m) (suc n) = omega (arith, take_zeros m n)
 
--- past its header a fresh object has zeros
+-- a new object has zeros after its header
 fresh_word : (h n i : ℕ) → object_word h (replicate n 0) (suc i) ≡ 0
 fresh_word h n i = ap (λ xs. word_of_bytes (take 8 xs)) (drop-replicate (8 * i) n 0) ∙ take_zeros 8 (n - 8 * i)
 
 module _ (extent : ℕ → ℕ) (m : Held) (words : List ℕ) (im : IsImageOver extent m words) (h : ℕ) where
-  -- words that no object has are zeros
+  -- words of no object are zeros
   pub free_words : (a n : ℕ) → ((q : ℕ) (y : Placed) → get m q ≡ Some y → IsDisjoint a n y.place (extent (length y.bytes))) → (i : ℕ) → i < n
       → get_or words (a + i) 0 ≡ 0
   free_words a n free i l = im.zeros (a + i) (λ q y p. disjoint_outside y.place (extent (length y.bytes)) a n i (turned _ _ _ _ (free q y p)) l)
 
-  -- a malloc writes the header alone
+  -- a malloc writes only the header
   pub image_malloc : (a n : ℕ) → get m h ≡ None → a < length words → 0 < extent n
       → ((q : ℕ) (y : Placed) → get m q ≡ Some y → IsDisjoint a (extent n) y.place (extent (length y.bytes)))
       → IsImageOver extent (insert m h (record { place = a; bytes = replicate n 0 })) (set words a (header_word h n))
@@ -45,7 +45,7 @@ module _ (extent : ℕ → ℕ) (m : Held) (words : List ℕ) (im : IsImageOver 
           ∙ sym (fresh_word h n i)
 
   module _ (words' : List ℕ) where
-    -- other bytes at the same address, in as many words
+    -- other bytes at the same address, in the same number of words
     pub image_written : (x : Placed) (bytes : List ℕ) → get m h ≡ Some x → IsApartFrom extent m h x → extent (length bytes) ≡ extent (length x.bytes)
         → Rewrites words words' (record { from = x.place; count = extent (length x.bytes) }) (object_word h bytes)
         → IsImageOver extent (insert m h (record { place = x.place; bytes = bytes })) words'
@@ -66,12 +66,12 @@ module _ (extent : ℕ → ℕ) (m : Held) (words : List ℕ) (im : IsImageOver 
         (λ i l _. mo.left_zeros i l)
         mo.others
 
--- past its own words an object has zeros
+-- after its own words an object has zeros
 past_object : (h : ℕ) (v : List ℕ) (i : ℕ) → need (length v) ≤ i → object_word h v i ≡ 0
 past_object h v zero l = absurd (omega arith)
 past_object h v (suc i) l = ap (λ xs. word_of_bytes (take 8 xs)) (drop_all (8 * i) v (omega arith))
 
--- the image by slots is the image by the objects' own words
+-- if each object's whole slot is right, so are its own words
 pub image_narrowed : (extent : ℕ → ℕ) (m : Held) (words : List ℕ) → ((h : ℕ) (x : Placed) → get m h ≡ Some x → need (length x.bytes) ≤ extent (length x.bytes))
     → IsImageOver extent m words → IsImageOver need m words
 image_narrowed extent m words wide im = record {
@@ -88,7 +88,7 @@ image_narrowed extent m words wide im = record {
   ];
 }
 
--- the image is one list: two lists of one length that are images are equal
+-- two images of the same objects with the same length are equal
 pub image_unique : (extent : ℕ → ℕ) (m : Held) (words words' : List ℕ) → length words ≡ length words' → IsImageOver extent m words → IsImageOver extent m words'
     → words ≡ words'
 image_unique extent m words words' len im im' = same_number_lists words words' len (λ w _. elim (cases_eq (get_or words w 0) (get_or words' w 0)) [

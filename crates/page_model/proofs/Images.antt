@@ -1,4 +1,4 @@
--- An object goes, comes, or is replaced: what becomes of the image.
+-- The image after an object is removed, added or replaced.
 use Rattle.std.proofs.Common.{◌≡◌, ℕ, ◌+◌, ◌-◌, ◌<◌, List, Some, None, length, get_or, arith, sym, ◌∙◌, subst, inl, inr}
 use Rattle.std.specs.Prelude.{◌⊎◌}
 use Rattle.std.proofs.lemmas.Bool.{cases_eq, cases_lt}
@@ -7,7 +7,7 @@ use Rattle.page_model.specs.Held.{Held, Placed}
 use Rattle.page_model.specs.Image.{object_word, IsOutside, IsOutsideOf, IsDisjoint, IsImageOver, IsApart, IsApartFrom, Rewrites, Clears}
 use Rattle.cf_lemmas.proofs.Maps.{get_inserted, get_insert_other, get_remove_other, some_removed, some_inserted}
 
--- w is one of the n words from a on, or it is outside
+-- either w is one of the n words from a on, or it is outside of them
 pub within_or : (a n w : ℕ) → ((i : ℕ) × (i < n) × (a + i ≡ w)) ⊎ IsOutside a n w
 within_or a n w = elim (cases_lt w a) [
   | inl below ↦ inr (inl below)
@@ -26,7 +26,7 @@ turned a n b m (inl x) = inr x
 turned a n b m (inr y) = inl y
 
 module _ (extent : ℕ → ℕ) (m : Held) (words words' : List ℕ) (im : IsImageOver extent m words) (h : ℕ) where
-  -- an object goes, and its words are cleared
+  -- an object is removed and its words are cleared
   pub image_removed : (x : Placed) → get m h ≡ Some x → IsApartFrom extent m h x
       → Clears words words' (record { from = x.place; count = extent (length x.bytes) }) → IsImageOver extent (remove m h) words'
   image_removed x is-x free re = record {
@@ -43,7 +43,7 @@ module _ (extent : ℕ → ℕ) (m : Held) (words words' : List ℕ) (im : IsIma
     ];
   }
 
-  -- an object comes to words that are free
+  -- an object is added, in words of no other object
   pub image_added : (x : Placed) → get m h ≡ None → IsApartFrom extent m h x
       → Rewrites words words' (record { from = x.place; count = extent (length x.bytes) }) (object_word h x.bytes) → IsImageOver extent (insert m h x) words'
   image_added x none free re = record {
@@ -83,7 +83,7 @@ module _ (extent : ℕ → ℕ) (m : Held) (words words' : List ℕ) (im : IsIma
         ];
   }
 
--- objects stay apart where one comes that is apart from them
+-- adding an object that is apart from the others keeps all apart
 pub apart_inserted : (extent : ℕ → ℕ) (m : Held) (h : ℕ) (x : Placed) → IsApart extent m → IsApartFrom extent m h x → IsApart extent (insert m h x)
 apart_inserted extent m h x ap' free = record {
   pairs = λ q y r z p p' ne. elim (some_inserted m h x q y p) [

@@ -1,4 +1,4 @@
--- When a sound arrangement lacks room for a class.
+-- When a sound arrangement has no slot left for a class.
 use Rattle.std.proofs.Common.{◌≡◌, ◌≢◌, ℕ, zero, suc, Bool, true, false, ◌+◌, ◌-◌, ◌*◌, ◌/◌, ◌%◌, ◌<◌, ◌≤◌, List, [], ◌∷◌, Some, arith, sym, ◌∙◌, inl, inr, ap}
 use Rattle.std.proofs.Common.{refl}
 use Rattle.std.specs.Prelude.{sum_by, count_by, ◌&&◌, ◌↔◌, nat_eq, nat_lt, filter, not}
@@ -19,7 +19,7 @@ use Rattle.page_model.proofs.Totals.{sum_same, sum_plus, sum_zeros, count_at}
 use Rattle.page_model.proofs.PageCounts.{slots_some, sound_stand, sound_can_hold}
 use Rattle.page_model.proofs.PageLaws.{between_multiples, most_pages_least}
 
--- the order of two sums doesn't matter
+-- two sums may change places
 swap_sums : {X Y : Type 0} (f : X → Y → ℕ) (xs : List X) (ys : List Y) → sum_by (λ x. sum_by (f x) ys) xs ≡ sum_by (λ y. sum_by (λ x. f x y) xs) ys
 swap_sums f [] ys = sym (sum_zeros (λ y. 0) ys (λ _. refl))
 swap_sums f (x ∷ xs) ys =
@@ -39,7 +39,7 @@ module _ (f g : ℕ → ℕ) where
       let rest = sum_range (a + 1) n (λ d l h. same d (omega arith) (omega arith)) in
       omega arith
 
-  -- sums that differ at one number
+  -- two sums whose terms differ at one number
   pub sum_changed : (a n c : ℕ) → a ≤ c → c < a + n → ((d : ℕ) → a ≤ d → d < a + n → d ≢ c → f d ≡ g d)
       → sum_by f (range_with_len a n) + g c ≡ sum_by g (range_with_len a n) + f c
   sum_changed a zero c low high same = absurd (omega arith)
@@ -68,7 +68,7 @@ module _ (f g : ℕ → ℕ) where
           rw e (omega arith))
       go false e rest first = rw e rest
 
--- a sum over the numbers other than c
+-- the sum over the numbers other than c
 module _ (f : ℕ → ℕ) (c : ℕ) where
   abbrev others : ℕ → ℕ → List ℕ
   others a n = filter (λ d. not (nat_eq d c)) (range_with_len a n)
@@ -136,11 +136,11 @@ module _ (f : ℕ → Bool) where
       at_most false = omega arith
 
 module _ (p : Paging) (m : Held) (s : IsSound p m) where
-  -- the pages that hold an object
+  -- the number of pages that hold an object
   abbrev pub standing_pages : ℕ
   standing_pages = count_by (λ g. nat_lt 0 (standing_on p m g)) (range_with_len 0 p.pages)
 
-  -- a page that holds an object is of one class
+  -- the objects of a page have one class
   one_home : (g : ℕ) → one (nat_lt 0 (standing_on p m g)) ≡ sum_by (λ c. one (nat_lt 0 (objects_on p m c g))) (range_with_len 0 (classes p))
   one_home g = elim (cases_lt 0 (standing_on p m g)) [
     | inl some ↦ (
@@ -183,7 +183,7 @@ module _ (p : Paging) (m : Held) (s : IsSound p m) where
   pub used_le : used_pages p m ≤ p.pages
   used_le = (let e = used_is in let l = count_le (λ g. nat_lt 0 (standing_on p m g)) 0 p.pages in omega arith)
 
-  -- every page holds an object exactly where none is free
+  -- if every page holds an object, the pages in use are all
   pub none_free : ((page : ℕ) → page < p.pages → 0 < standing_on p m page) → used_pages p m ≡ p.pages
   none_free all = used_is ∙ count_all (λ g. nat_lt 0 (standing_on p m g)) 0 p.pages (λ d _ h. less_counts 0 (standing_on p m d) (all d (omega arith)))
 
@@ -194,7 +194,7 @@ module _ (p : Paging) (m : Held) (s : IsSound p m) where
         not_less_counts_none 0 (standing_on p m page) none in omega arith)
   ]
 
-  -- a class lacks room exactly where none of its pages is partly full and no page is free
+  -- a class has no slot left if and only if none of its pages is partly full and no page is free
   pub lacks_room_is : (c : ℕ) → LacksRoom p m c ↔ ((not_full_pages p m c ≡ 0) × (free_pages p m ≡ 0))
   lacks_room_is c = (
     (λ l. (l.full, (let e = none_free l.taken in omega arith))),
@@ -202,7 +202,7 @@ module _ (p : Paging) (m : Held) (s : IsSound p m) where
   )
 
   module _ (ok : IsPaging p) where
-    -- where a class lacks room, its objects fill its pages, and those of the others stand on the rest
+    -- if class c has no slot left, its objects fill their pages, and there are at most `most_pages_besides` other pages
     pub lacking : (c : ℕ) → c < classes p → LacksRoom p m c
         → (live p (objects m) c % slots_of p c ≡ 0) × (p.pages ≤ live p (objects m) c / slots_of p c + most_pages_besides p (objects m) c)
     unfolding used_pages most_pages_besides

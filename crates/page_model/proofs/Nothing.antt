@@ -1,4 +1,4 @@
--- Nothing held is a sound arrangement, on no page, and its words are zeros.
+-- The empty arrangement is sound, uses no page, and its words are zeros.
 use Rattle.std.proofs.Common.{◌≡◌, ℕ, Some, None, length, replicate, arith, sym, ◌∙◌, inl, inr}
 use Rattle.std.specs.List.{range_with_len}
 use Rattle.std.proofs.lemmas.Bool.{cases_lt}

@@ -1,4 +1,4 @@
--- Pages that are partly full, their vacant slots, and the object on one that a free moves.
+-- Partly full pages, their free slots, and the object that a free moves from one.
 use Rattle.std.proofs.Common.{◌≡◌, ◌≢◌, ℕ, zero, suc, true, ◌+◌, ◌/◌, ◌%◌, ◌<◌, ◌≤◌, Option, Some, None, arith, sym, ◌∙◌, ap, inl, inr}
 use Rattle.std.specs.Prelude.{◌⊎◌, ◌&&◌, count_by, nat_eq, nat_lt}
 use Rattle.std.proofs.lemmas.Bool.{cases_eq, cases_lt, false≢true, and_parts as both}
@@ -16,11 +16,11 @@ use Rattle.page_model.proofs.Freeing.{objects_on-left}
 use Rattle.page_model.proofs.Addresses.{address_is_slot}
 use Rattle.cf_lemmas.proofs.Searches.{counted_in_range, search_below}
 
--- an object stands at the address
+-- an object is at the address
 abbrev pub IsTaken : Held → ℕ → Type 0
 IsTaken m a = (q : ℕ) × (y : Placed) × (get m q ≡ Some y) × (y.place ≡ a)
 
--- none stands there
+-- no object is at the address
 abbrev pub IsVacant : Held → ℕ → Type 0
 IsVacant m a = (q : ℕ) (y : Placed) → get m q ≡ Some y → y.place ≢ a
 
@@ -35,19 +35,19 @@ taken_or_vacant m a = elim (cases_eq (count_by (λ (x : Placed). nat_eq x.place 
     equal : (n k : ℕ) → nat_eq n k ≡ true → n ≡ k
     equal n k e = grind (arith, nat_tests)
 
--- a page of the class that is neither empty nor full
+-- the page is partly full, with objects of the class
 pub record IsOpen (p : Paging) (m : Held) (c page : ℕ) : Type 0 where
   pub within : page < p.pages
   pub some : 0 < objects_on p m c page
   pub less : objects_on p m c page < slots_of p c
 
--- where a page is open it counts
+-- then the class's count of partly full pages isn't 0
 pub open_counts : (p : Paging) (m : Held) (c page : ℕ) → IsOpen p m c page → 0 < not_full_pages p m c
 unfolding not_full_pages
 open_counts p m c page o = some_in_range (λ g. nat_lt 0 (objects_on p m c g) && nat_lt (objects_on p m c g) (slots_of p c)) 0 p.pages page (omega arith)
     (omega (arith, o.within)) (part_yes (objects_on p m c page) (slots_of p c) o.some o.less)
 
--- where open pages count there is one
+-- and if that count isn't 0, there is such a page
 pub open_page : (p : Paging) (m : Held) (c : ℕ) → 0 < not_full_pages p m c → (page : ℕ) × IsOpen p m c page
 unfolding not_full_pages
 open_page p m c some =
@@ -58,7 +58,7 @@ open_page p m c some =
     (at.0, record { within = omega (arith, at.2); some = grind (arith, nat_tests); less = grind (arith, nat_tests) })
 
 module _ (p : Paging) (ok : IsPaging p) (c : ℕ) (lt : c < classes p) (page : ℕ) (within : page < p.pages) where
-  -- as many slots are used as objects of the class stand on the page
+  -- if the first n slots are taken, at least n objects of the class are on the page
   used_are_few : (n : ℕ) (m : Held) → n ≤ slots_of p c → ((q : ℕ) (y : Placed) → get m q ≡ Some y → page_of p y.place ≡ page → class_at p y ≡ c)
       → ((k : ℕ) → k < n → IsTaken m (address_of p c page k)) → n ≤ objects_on p m c page
   used_are_few zero m le classed used = omega arith
@@ -89,11 +89,11 @@ module _ (p : Paging) (ok : IsPaging p) (c : ℕ) (lt : c < classes p) (page : �
           (used.0, used.1, get_remove_other m h used.0 ne ∙ used.2, used.3)
 
   module _ (m : Held) (s : IsSound p m) (some : 0 < objects_on p m c page) where
-    -- the objects of the page are of its class
+    -- every object of the page is of its class
     pub classed : (q : ℕ) (y : Placed) → get m q ≡ Some y → page_of p y.place ≡ page → class_at p y ≡ c
     classed q y there on = (let o = on_page p m c page some in s.one_class q y o.0 o.1 there o.2 (on ∙ sym o.3) ∙ o.4)
 
-    -- an open page has a vacant slot
+    -- a page with fewer objects than slots has a free slot
     pub vacant_where_less : objects_on p m c page < slots_of p c → (k : ℕ) × (k < slots_of p c) × IsVacant m (address_of p c page k)
     vacant_where_less less = elim (search_below (λ k. IsTaken m (address_of p c page k)) (λ k. IsVacant m (address_of p c page k))
         (λ k. taken_or_vacant m (address_of p c page k)) (slots_of p c)) [
@@ -101,7 +101,7 @@ module _ (p : Paging) (ok : IsPaging p) (c : ℕ) (lt : c < classes p) (page : �
           | inl all ↦ absurd (let l = used_are_few (slots_of p c) m (omega arith) classed all in omega arith)
         ]
 
--- a free moves nothing, or there is an object to move
+-- a free moves no object, or there is one that it may move
 pub some_move : (p : Paging) → IsPaging p → (m : Held) → IsSound p m → (h : ℕ) (x : Placed) → get m h ≡ Some x → (moved : Option ℕ) × Moves p m x moved
 some_move p ok m s h x there = elim (cases_eq (objects_on p m (class_at p x) (page_of p x.place)) (slots_of p (class_at p x))) [
   | inr ne ↦ (None, λ must. ne must.full)

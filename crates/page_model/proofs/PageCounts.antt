@@ -1,4 +1,4 @@
--- A sound arrangement has as many pages of a class as its objects can stand on.
+-- In a sound arrangement the number of pages of a class is one that its objects can be on.
 use Rattle.std.proofs.Common.{◌≡◌, ℕ, zero, suc, ◌+◌, ◌-◌, ◌*◌, ◌/◌, ◌%◌, ◌<◌, ◌≤◌, ◌∷◌, arith, sym, ◌∙◌, inl, inr}
 use Rattle.std.specs.Prelude.{sum_by, count_by, nat_lt}
 use Rattle.std.specs.List.{range_with_len}
@@ -16,16 +16,16 @@ use Rattle.page_model.proofs.PageLaws.{can_hold_bound}
 use Rattle.page_model.proofs.Sizes.{slot_fits}
 use Rattle.page_model.proofs.Totals.{page_within, live_by_pages, live_is}
 
--- m objects fit on a page, and on p objects stand on page p
+-- page p holds `on p` objects, and a page has m slots
 module _ (on : ℕ → ℕ) (m : ℕ) (some : 0 < m) where
-  -- pages that hold something; that hold something and aren't full
+  -- the number of pages with an object; `part` counts those of them that are not full
   abbrev pub home : ℕ → ℕ → ℕ
   home a n = count_by (λ p. nat_lt 0 (on p)) (range_with_len a n)
 
   abbrev pub part : ℕ → ℕ → ℕ
   part a n = count_by (λ p. part_full (on p) m) (range_with_len a n)
 
-  -- the objects on n pages from a on, of which f are full
+  -- of the n pages from a on f are full: the least and the greatest number of objects on them
   pub record Stands (a n f : ℕ) : Type 0 where
     pub all : home a n ≡ f + part a n
     pub least : f * m + part a n ≤ sum_by on (range_with_len a n)
@@ -63,7 +63,7 @@ stand_from home part full total live m k all least most is few =
     let e : home - part ≡ full = omega arith in
     record { few = few; within = omega arith; least = rw (e, ← is) least; most = rw (e, ← is) most }
 
--- a size that fits has a slot on a page
+-- a size of at most a page has a slot on a page
 pub some_slots : (P size : ℕ) → 0 < size → size ≤ P → 0 < P / size
 some_slots P size pos fits = elim (cases_lt 0 (P / size)) [
   | inl lt ↦ lt
@@ -86,7 +86,7 @@ module _ (p : Paging) (ok : IsPaging p) (c : ℕ) (lt : c < classes p) where
     pub within : (page : ℕ) → objects_on p m c page ≤ slots_of p c
     within page = page_within p c page m size_some s
 
-    -- the pages of the class are the partly full ones and the full ones
+    -- the pages of a class are its full ones and its partly full ones
     pub sound_stand : Stand (home_pages p m c) (live p (objects m) c) (slots_of p c) (bound_of p c) (not_full_pages p m c)
     unfolding home_pages not_full_pages
     sound_stand =
@@ -97,6 +97,6 @@ module _ (p : Paging) (ok : IsPaging p) (c : ℕ) (lt : c < classes p) where
     pub sound_can_hold : CanHold (home_pages p m c) (live p (objects m) c) (slots_of p c) (bound_of p c)
     sound_can_hold = (not_full_pages p m c, sound_stand)
 
-    -- the pages of a class are no more than those that its objects fill, and its bound
+    -- at most the pages that its objects fill, plus its bound
     pub sound_few : home_pages p m c ≤ live p (objects m) c / slots_of p c + bound_of p c
     sound_few = can_hold_bound (home_pages p m c) (live p (objects m) c) (slots_of p c) (bound_of p c) slots_some sound_can_hold

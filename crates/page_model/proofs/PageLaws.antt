@@ -25,7 +25,7 @@ between_multiples x c m pos low high =
       ]
     ]
 
--- no more pages than the full ones and k
+-- at most n / m pages, plus k
 pub can_hold_bound : (p n m k : ℕ) → 0 < m → CanHold p n m k → p ≤ n / m + k
 can_hold_bound p n m k pos (q, s) = elim (cases_lt (n / m) (p - q)) [
   | inl more ↦ absurd (
@@ -36,7 +36,7 @@ can_hold_bound p n m k pos (q, s) = elim (cases_lt (n / m) (p - q)) [
   | inr less ↦ omega (arith, s.few)
 ]
 
--- with one page partly full there is one number of pages
+-- with k = 1 there is one number of pages
 pub can_hold_one : (p n m : ℕ) → 0 < m → CanHold p n m 1 → p ≡ ceil_div n m
 can_hold_one p n m pos (zero, s) =
     let low = s.least in let high = s.most in
@@ -70,7 +70,7 @@ one_can_hold p n m pos is =
           (1, record { few = omega arith; within = some; least = omega arith; most = omega arith }))
     ]
 
--- what passes at a place of a range passes somewhere
+-- if the test passes at a number of the range, `list_any` does
 any_in : (f : ℕ → Bool) (a n q : ℕ) → a ≤ q → q < a + n → f q ≡ true → list_any f (range_with_len a n) ≡ true
 any_in f a zero q low high is = absurd (omega arith)
 any_in f a (suc n) q low high is = elim (cases_eq a q) [
@@ -82,7 +82,7 @@ any_in f a (suc n) q low high is = elim (cases_eq a q) [
     or_true true = refl
     or_true false = refl
 
--- where something passes in a range, it does so at one of its numbers
+-- and if `list_any` does, the test passes at a number of the range
 in_any : (f : ℕ → Bool) (a n : ℕ) → list_any f (range_with_len a n) ≡ true → (q : ℕ) × (a ≤ q) × (q < a + n) × (f q ≡ true)
 in_any f a zero is = absurd (false≢true is)
 in_any f a (suc n) is = go (f a) refl is (λ e. in_any f (a + 1) n e)
@@ -93,7 +93,7 @@ in_any f a (suc n) is = go (f a) refl is (λ e. in_any f (a + 1) n e)
     go true e is ih = (a, omega arith, omega arith, e)
     go false e is ih = (let o = ih is in (o.0, omega (arith, o.1), omega (arith, o.2), o.3))
 
--- the test passes exactly where so many can stand
+-- the test `can_hold` passes if and only if n objects can be on p pages
 pub tested : (p n m k : ℕ) → CanHold p n m k → can_hold p n m k ≡ true
 tested p n m k (q, s) = any_in (λ q. nat_le q p && nat_le ((p - q) * m + q) n && nat_le n ((p - q) * m + q * (m - 1))) 0 (k + 1) q (omega arith)
     (omega (arith, s.few))
@@ -127,7 +127,7 @@ greatest_least test (suc top) p le is = go (test (suc top)) refl (λ le. greates
       | inr ne ↦ omega arith
     ]))
 
--- most_pages is at least each number of pages that the objects can stand on
+-- `most_pages` is at least every number of pages that n objects can be on
 pub most_pages_least : (p n m k : ℕ) → 0 < m → CanHold p n m k → p ≤ most_pages n m k
 unfolding most_pages
 most_pages_least p n m k pos can = greatest_least (λ p. can_hold p n m k) (n / m + k) p (can_hold_bound p n m k pos can) (tested p n m k can)
@@ -143,7 +143,7 @@ greatest_passes test (suc top) p le is = go (test (suc top)) refl (λ le. greate
       | inr ne ↦ omega arith
     ]))
 
--- objects can stand on most_pages
+-- n objects can be on `most_pages` pages
 pub most_pages_reached : (n m k : ℕ) → 0 < m → 0 < k → CanHold (most_pages n m k) n m k
 unfolding most_pages
 most_pages_reached n m k pos some =

@@ -14,26 +14,26 @@ use Rattle.page_model.specs.Steps.{MustMove, MayFill, Moves, without, zeros_at}
 use Rattle.page_model.proofs.Freeing.{objects_on-removed, objects_on-exchanged}
 use Rattle.page_model.proofs.FreeSteps.{removed_twice, mover_is_other}
 
--- an insertion of what is there changes nothing
+-- inserting the value that is there changes nothing
 pub inserted_there : {V : Type 0} (m : FinMap nat_cmp V) (h : ℕ) (v : V) → get m h ≡ Some v → insert m h v ≡ m
 inserted_there m h v some = equal_maps _ _ (λ q. elim (cases_eq q h) [
   | inl is ↦ rw is (get_inserted m h v ∙ sym some)
   | inr ne ↦ get_insert_other m h v q ne
 ])
 
--- a malloc adds zeros
+-- a malloc adds an object of zeros
 pub malloc_objects : (m : Held) (h a n : ℕ) → objects (insert m h (zeros_at a n)) ≡ insert (objects m) h (replicate n 0)
 malloc_objects m h a n = map_values-insert (λ (x : Placed). x.bytes) m h (zeros_at a n)
 
 pub malloc_places : (m : Held) (h a n : ℕ) → places (insert m h (zeros_at a n)) ≡ insert (places m) h a
 malloc_places m h a n = map_values-insert (λ (x : Placed). x.place) m h (zeros_at a n)
 
--- a free that moves nothing changes no other address
+-- a free without a move removes one address
 pub still_places : (m : Held) (h a : ℕ) → places (without m h a None) ≡ remove (places m) h
 still_places m h a = map_values-remove (λ (x : Placed). x.place) m h
 
 module _ (p : Paging) (ok : IsPaging p) (m : Held) (s : IsSound p m) (h : ℕ) (x : Placed) (found : get m h ≡ Some x) where
-  -- a free takes one object's bytes away, and changes no others
+  -- a free removes one object's bytes and changes no others
   pub free_objects : (moved : Option ℕ) → Moves p m x moved → objects (without m h x.place moved) ≡ remove (objects m) h
   free_objects None never = map_values-remove (λ (x : Placed). x.bytes) m h
   free_objects (Some q) (must, (y, there, may)) =
@@ -44,12 +44,12 @@ module _ (p : Paging) (ok : IsPaging p) (m : Held) (s : IsSound p m) (h : ℕ) (
       ∙ inserted_there (remove (objects m) h) q y.bytes still)
 
   module _ (q : ℕ) (y : Placed) (there : get m q ≡ Some y) (must : MustMove p m x) (may : MayFill p m x y) where
-    -- what moves takes the freed place, and no other place changes
+    -- the object that moves gets the freed address; no other address changes
     pub moved_places : places (without m h x.place (Some q)) ≡ insert (remove (places m) h) q x.place
     moved_places = rw there (map_values-insert (λ (x : Placed). x.place) (remove m h) q _
         ∙ ap (λ o. insert o q x.place) (map_values-remove (λ (x : Placed). x.place) m h))
 
-    -- the page of the object that moves loses one
+    -- the page that the moved object left has one object less
     pub moved_counts : (c page : ℕ) → objects_on p (without m h x.place (Some q)) c page + one (is_on p c page y) ≡ objects_on p m c page
     moved_counts c page =
         let ne = mover_is_other p ok m s h x found q y there must may in
@@ -63,7 +63,7 @@ module _ (p : Paging) (ok : IsPaging p) (m : Held) (s : IsSound p m) (h : ℕ) (
         (insert (remove m h) q (record { place = x.place; bytes = y.bytes })) c page = ap (λ n. objects_on p n c page) same in
         rw there (omega arith)
 
-  -- a free that moves nothing takes one from its own page
+  -- a free without a move removes one object from its page
   pub freed_counts : (c page : ℕ) → objects_on p (without m h x.place None) c page + one (is_on p c page x) ≡ objects_on p m c page
   freed_counts c page = objects_on-removed p m h x found c page
 

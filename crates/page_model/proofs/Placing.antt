@@ -1,4 +1,4 @@
--- An object that comes to a free place keeps the arrangement sound.
+-- An object added at a free address keeps the arrangement sound.
 use Rattle.std.proofs.Common.{◌≡◌, ◌≢◌, ℕ, ◌+◌, ◌<◌, ◌≤◌, Some, None, length, replicate, arith, sym, ◌∙◌, inl, inr}
 use Rattle.std.specs.Prelude.{◌⊎◌}
 use Rattle.std.proofs.lemmas.List.{length-replicate}
@@ -14,12 +14,12 @@ use Rattle.page_model.specs.Steps.{Request, IsFreePlace, PlacesObject, zeros_at}
 use Rattle.page_model.proofs.Counting.{part_full, part_yes, one_le, on_no, on_page, nothing_on, not_full-changed, not_full-same}
 
 module _ (p : Paging) (m : Held) (h : ℕ) (x : Placed) (none : get m h ≡ None) where
-  -- one object more
+  -- the counts with one object more
   pub objects_on-inserted : (c page : ℕ) → objects_on p (insert m h x) c page ≡ objects_on p m c page + one (is_on p c page x)
   unfolding objects_on
   objects_on-inserted c page = sum_by-inserted (λ y. one (is_on p c page y)) m h x none
 
-  -- only the page of the new object, in its class, counts otherwise
+  -- only the page of the new object, in its class, has another count
   pub objects_on-elsewhere : (c page : ℕ) → ((page_of p x.place ≢ page) ⊎ (class_at p x ≢ c)) → objects_on p (insert m h x) c page ≡ objects_on p m c page
   objects_on-elsewhere c page away = (let e = on_no p c page x away in let i = objects_on-inserted c page in omega arith)
 
@@ -31,7 +31,7 @@ module _ (p : Paging) (m : Held) (h : ℕ) (x : Placed) (none : get m h ≡ None
     | inr bare ↦ absurd (nothing_on p m (page_of p x.place) bare.1 q y e is)
   ]
 
-  -- the partly full pages, after one object more
+  -- each class has at most its bound of partly full pages afterwards
   few_after : IsPaging p → IsFreePlace p m (length x.bytes) x.place → ((c : ℕ) → c < classes p → not_full_pages p m c ≤ bound_of p c)
       → (c : ℕ) → c < classes p → not_full_pages p (insert m h x) c ≤ bound_of p c
   few_after ok f few c lt = elim (cases_eq (class_at p x) c) [
@@ -49,7 +49,7 @@ module _ (p : Paging) (m : Held) (h : ℕ) (x : Placed) (none : get m h ≡ None
     | inr ne ↦ (let same = not_full-same p m (insert m h x) c (λ g. objects_on-elsewhere c g (inr ne)) in rw same (few c lt))
   ]
 
-  -- an object at a free place keeps the arrangement sound
+  -- an object added at a free address keeps the arrangement sound
   pub sound_placed : IsPaging p → IsSound p m → IsFreePlace p m (length x.bytes) x.place → IsSound p (insert m h x)
   sound_placed ok s f = record {
     slots = λ q y e. elim (some_inserted m h x q y e) [
@@ -79,7 +79,7 @@ module _ (p : Paging) (m : Held) (h : ℕ) (x : Placed) (none : get m h ≡ None
     few_not_full = few_after ok f s.few_not_full;
   }
 
--- a malloc keeps the arrangement sound
+-- the same for every step `PlacesObject`
 pub sound_malloc : (p : Paging) (old : Held) (asked : Request) (new : Held) → IsPaging p → IsSound p old → PlacesObject p old asked new → IsSound p new
 sound_malloc p old asked new ok s step =
     let len : length (replicate asked.length 0) ≡ asked.length = length-replicate {A = ℕ} asked.length 0 in

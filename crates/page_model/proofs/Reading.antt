@@ -1,4 +1,4 @@
--- The bytes that stand at an address are those of the object there.
+-- The words at an object's address determine its bytes.
 use Rattle.std.proofs.Common.{◌≡◌, ℕ, zero, suc, ◌+◌, ◌*◌, ◌/◌, ◌%◌, ◌^◌, ◌<◌, List, [], ◌∷◌, Option, Some, None, length, get_or, take, drop, arith, lit<, sym}
 use Rattle.std.proofs.Common.{◌∙◌, inl, inr, ap, refl}
 use Rattle.std.specs.Prelude.{option_map}
@@ -15,7 +15,7 @@ use Rattle.cf_lemmas.proofs.Maps.{equal_maps}
 use Rattle.cf_lemmas.proofs.MapValues.{get-map_values}
 use Rattle.page_model.specs.Bytes.{byte_of, bytes_at, held_at, AreBytes, AreStorable}
 
--- byte j of the word of some bytes
+-- byte j of the word of a list of bytes
 pub byte_of_word : (bs : List ℕ) (j : ℕ) → AreBytes bs → byte_of j (word_of_bytes bs) ≡ get_or bs j 0
 byte_of_word [] zero b = refl
 byte_of_word [] (suc j) b = byte_of_word [] j b
@@ -31,7 +31,7 @@ bytes_part m n v b i = elim (cases_lt i m) [
   | inr past ↦ rw (get_or_past (take m (drop n v)) i 0 (simp length-take (omega arith))) (lit< tt)
 ]
 
--- the bytes at an address are those of the object whose words stand there
+-- if the words at an address are those of an object, `bytes_at` is its bytes
 pub bytes_of_held : (words : List ℕ) (h a : ℕ) (v : List ℕ) → h < 2 ^ 32 → AreBytes v
     → ((i : ℕ) → i < need (length v) → get_or words (a + i) 0 ≡ object_word h v i) → bytes_at words a ≡ v
 unfolding bytes_at
@@ -51,7 +51,7 @@ bytes_of_held words h a v small bytes held =
     ∙ byte_of_word (take 8 (drop (8 * (k / 8)) v)) (k % 8) (bytes_part 8 (8 * (k / 8)) v bytes)
     ∙ get_or-take 8 (drop (8 * (k / 8)) v) (k % 8) 0 (omega arith) ∙ get_or-drop (8 * (k / 8)) v (k % 8) 0 ∙ ap (λ x. get_or v x 0) back)
 
--- what is held is determined by the words and the addresses
+-- words and addresses determine the objects
 pub held_from_image : (m : Held) (at : FinMap nat_cmp ℕ) (words : List ℕ) → IsImageOver need m words → at ≡ places m → AreStorable m → held_at words at ≡ m
 held_from_image m at words im e good = equal_maps _ _ (λ q. get-map_values (λ a. record { place = a; bytes = bytes_at words a }) at q
     ∙ ap (λ p. option_map (λ a. record { place = a; bytes = bytes_at words a }) (get p q)) e
@@ -63,7 +63,7 @@ held_from_image m at words im e good = equal_maps _ _ (λ q. get-map_values (λ 
     go q (Some x) f = (let g = good q x f in ap (λ v. Some (record { place = x.place; bytes = v }))
         (bytes_of_held words q x.place x.bytes g.0 g.1 (im.held q x f)))
 
--- bytes of words are bytes
+-- a byte of a word is below 256
 pub byte_below : (j w : ℕ) → byte_of j w < 256
 byte_below zero w = omega arith
 byte_below (suc j) w = byte_below j (w / 256)
@@ -76,7 +76,7 @@ bytes_at-AreBytes words a i = elim (cases_lt i (get_or words a 0 / 2 ^ 32)) [
   | inr past ↦ rw (get_or_past (bytes_at words a) i 0 (simp length-map-range_with_len past)) (lit< tt)
 ]
 
--- what stands at the addresses has these addresses, and bytes
+-- `held_at` keeps the addresses, and its objects have bytes
 pub places-held_at : (words : List ℕ) (at : FinMap nat_cmp ℕ) → places (held_at words at) ≡ at
 places-held_at words at = equal_maps _ _ (λ q. get-map_values (λ (x : Placed). x.place) (held_at words at) q
     ∙ ap (option_map (λ (x : Placed). x.place)) (get-map_values (λ a. record { place = a; bytes = bytes_at words a }) at q) ∙ go (get at q))

@@ -14,7 +14,7 @@ use Rattle.page_model.proofs.FreeSteps.{mover_is_other}
 use Rattle.page_model.proofs.SlotImages.{image_exchanged, sound_apart_from, slot_inside, place_apart}
 use Rattle.page_model.proofs.Writing.{written_before, written_inside, written_behind}
 
--- the words of a run put back as they were
+-- the list with the words of a run put back
 module _ (old new : List ℕ) (a n : ℕ) (inside : a + n ≤ length old) (inside' : a + n ≤ length new) where
   length-part : length (take n (drop a old)) ≡ n
   length-part = (let x = length-take n (drop a old) in let y = length-drop a old in omega arith)
@@ -35,7 +35,7 @@ module _ (old new : List ℕ) (a n : ℕ) (inside : a + n ≤ length old) (insid
   back_others w (inl l) = written_before new a (take n (drop a old)) fits_back w l
   back_others w (inr r) = (let le : a + length (take n (drop a old)) ≤ w = rw length-part r in written_behind new a (take n (drop a old)) fits_back w le)
 
--- what is rewritten first and what happens elsewhere afterwards may be taken the other way round
+-- a rewrite and a later change of other words may happen in either order
 module _ (old mid new : List ℕ) (a n : ℕ) (f : ℕ → ℕ) (re : Rewrites old mid (record { from = a; count = n }) f) (inside : a + n ≤ length old)
     (inside' : a + n ≤ length new) where
   first_last : ((i : ℕ) → i < n → get_or new (a + i) 0 ≡ get_or mid (a + i) 0)
@@ -72,7 +72,7 @@ module _ (p : Paging) (ok : IsPaging p) (m : Held) (s : IsSound p m) (old mid ne
     (h : ℕ) (x : Placed) (is-x : get m h ≡ Some x) (a : ℕ) (bytes : List ℕ) (free : IsFreePlace p m (length bytes) a)
     (spare : ℕ) (unused : get m spare ≡ None)
     (re : Rewrites old mid (record { from = a; count = slot_for p (length bytes) }) (object_word h bytes)) where
-  -- the new slot is apart from all there are
+  -- the new slot is apart from every object's slot
   apart : (q : ℕ) (y : Placed) → get m q ≡ Some y → IsDisjoint a (slot_for p (length bytes)) y.place (slot_for p (length y.bytes))
   apart q y e = place_apart p ok m s (length bytes) a free spare unused q y e
 
@@ -96,7 +96,7 @@ module _ (p : Paging) (ok : IsPaging p) (m : Held) (s : IsSound p m) (old mid ne
       (first_last old mid new a (slot_for p (length bytes)) (object_word h bytes) re within_old within_new
       (λ i lt. c.others (a + i) (disjoint_outside x.place (slot_for p (length x.bytes)) a (slot_for p (length bytes)) i (turned _ _ _ _ (apart h x is-x)) lt)))
 
-  -- another object's slot moves there
+  -- another object's slot moves to the old slot
   pub image_after_change_and_move : (q : ℕ) (y : Placed) → get m q ≡ Some y → MustMove p m x → MayFill p m x y
       → MovesWords mid new (record { from = y.place; count = slot_for p (length y.bytes) }) x.place
       → IsSlotImage p (insert (insert (remove m h) q (record { place = x.place; bytes = y.bytes })) h (record { place = a; bytes = bytes })) new

@@ -1,4 +1,4 @@
--- A resize keeps the arrangement sound, within its class and to another one.
+-- A resize keeps the arrangement sound, within the class and to another one.
 use Rattle.std.proofs.Common.{◌≡◌, ◌≢◌, ℕ, ◌-◌, List, Option, Some, None, length, take, replicate, arith, sym, ◌∙◌, inl, inr, ap, refl, subst, length-append}
 use Rattle.std.proofs.lemmas.List.{length-replicate, length-take}
 use Rattle.std.proofs.lemmas.Bool.{cases_eq}
@@ -20,7 +20,7 @@ pub length-resized : (v : List ℕ) (n : ℕ) → length (resized v n) ≡ n
 length-resized v n = length-append (take n v) (replicate (n - length v) 0)
     ∙ (let a : length (replicate (n - length v) 0) ≡ n - length v = length-replicate {A = ℕ} (n - length v) 0 in let b = length-take n v in omega arith)
 
--- the class of what a resize gives is that of its new length
+-- the class of a resized object is that of its new length
 pub class-resized : (p : Paging) (a n : ℕ) (x : Placed) → class_at p (resized_at a x n) ≡ class_for p n
 class-resized p a n x = ap (class_for p) (length-resized x.bytes n)
 
@@ -49,7 +49,7 @@ module _ (p : Paging) (ok : IsPaging p) (old : Held) (s : IsSound p old) (h n a 
   found_still : get with_both h ≡ Some x
   found_still = (still old spare new unused h x found).1
 
-  -- the class of the old object has its objects as before
+  -- the object's old class has the same objects on each page
   same_on : (g : ℕ) → objects_on p with_both (class_at p x) g ≡ objects_on p old (class_at p x) g
   same_on g = objects_on-elsewhere p old spare new unused (class_at p x) g (inr (λ e. other (sym (class-resized p a n x) ∙ e)))
 
@@ -86,7 +86,7 @@ module _ (p : Paging) (ok : IsPaging p) (old : Held) (s : IsSound p old) (h n a 
         ),
       )
 
-  -- what a move leaves of the new object, and of the number that is free
+  -- the free keeps the new object under its spare number, and leaves no object under h
   new_stays : IsFreePlace p old n a → (moved : Option ℕ) → Moves p with_both x moved
       → (get (without with_both h x.place moved) spare ≡ Some new) × (get (without with_both h x.place moved) h ≡ None)
   new_stays free None never = (get_remove_other with_both h spare spare_is_other ∙ get_inserted old spare new, get_removed with_both h)
@@ -113,7 +113,7 @@ module _ (p : Paging) (ok : IsPaging p) (old : Held) (s : IsSound p old) (h n a 
       get_remove_other (without with_both h x.place moved) spare h (λ e. spare_is_other (sym e)) ∙ stays.1 in
       sound_exchanged p (without with_both h x.place moved) spare new stays.0 h (resized x.bytes n) gone refl left
 
-  -- the spare number leaves no trace
+  -- the spare number isn't in use afterwards
   module _ (q : ℕ) where
     no_trace : (moved : Option ℕ) → Moves p old x moved → get (insert (remove (without with_both h x.place moved) spare) h new) q ≡ get
         (insert (without old h x.place moved) h new) q
@@ -141,7 +141,7 @@ module _ (p : Paging) (ok : IsPaging p) (old : Held) (s : IsSound p old) (h n a 
                   ∙ sym (get_remove_other old h q ne) ∙ sym (get_insert_other _ r _ q nr)
             ])
 
--- In the terms of a manager: the object at a free place, and what a free of its old place leaves.
+-- A resize to another class as a manager does it: the object at a free address, and the rest as a free of its old address leaves it.
 pub changes_class : (p : Paging) → IsPaging p → (old : Held) → IsSound p old → (h n a spare : ℕ) (x : Placed) (moved : Option ℕ) → get old h ≡ Some x
     → class_for p n ≢ class_at p x → get old spare ≡ None
     → IsFreePlace p old n a → Moves p old x moved
@@ -164,7 +164,7 @@ changes_class p ok old s h n a spare x moved found other unused free moves = rec
   renamed = equal_maps _ _ (λ q. sym (no_trace p ok old s h n a spare x found other unused q moved moves));
 }
 
--- and every resize to another class is of this kind
+-- every resize to another class is one of these
 pub change_is : (p : Paging) → IsPaging p → (old : Held) → IsSound p old → (asked : Request) (after : Leaves) (r : ChangesClass p old asked after)
     → Moves p old r.object after.moved × (after.held ≡ insert (without old asked.number r.object.place after.moved) asked.number
     (resized_at r.place r.object asked.length))

@@ -1,4 +1,4 @@
--- With every bound 1, room is lacking exactly where the arithmetic says so.
+-- With every bound 1, a class has no slot left if and only if the objects need more pages than there are.
 use Rattle.std.proofs.Common.{◌≡◌, ℕ, zero, suc, ◌+◌, ◌-◌, ◌*◌, ◌<◌, ◌≤◌, List, None, length, arith, sym, ap, refl, subst}
 use Rattle.std.specs.Prelude.{◌↔◌, nat_eq}
 use Rattle.std.specs.List.{range_with_len}
@@ -15,7 +15,7 @@ use Rattle.page_model.proofs.PageCounts.{slots_some, sound_stand, sound_can_hold
 use Rattle.page_model.proofs.PageLaws.{between_multiples, can_hold_one}
 use Rattle.page_model.proofs.Lacking.{sum_range, sum_changed, used_le, none_free, all_taken}
 
--- one object more takes a page more exactly where all pages are full
+-- one object more takes one page more if and only if all pages are full
 next_page : (h n m q : ℕ) → 0 < m → Stand h n m 1 q → ceil_div (n + 1) m ≡ h + (1 - q)
 next_page h n m zero pos s =
     let e : h - 0 ≡ h = omega arith in
@@ -31,7 +31,7 @@ next_page (suc h) n m (suc zero) pos s =
 next_page h n m (suc (suc q)) pos s = absurd (omega (arith, s.few))
 
 module _ (p : Paging) where
-  -- one object more counts in its class
+  -- an added object counts in its class
   live-inserted : (objs : Objects) (r : ℕ) (v : List ℕ) (c : ℕ) → get objs r ≡ None
       → live p (insert objs r v) c ≡ live p objs c + one (nat_eq (class_for p (length v)) c)
   unfolding live
@@ -51,7 +51,7 @@ module _ (p : Paging) (ok : IsPaging p) (ones : AreOne p) (m : Held) (s : IsSoun
       subst (CanHold (home_pages p m c) (live p (objects m) c) (slots_of p c)) (ones c lt) (sound_can_hold p ok c lt m s) in
       can_hold_one (home_pages p m c) (live p (objects m) c) (slots_of p c) some one_page
 
-  -- the pages in use are those that arithmetic asks for
+  -- the pages in use are exactly those that the objects need by arithmetic
   pub used_at_one : used_pages p m ≡ pages_needed p (objects m)
   unfolding used_pages pages_needed
   used_at_one = sum_range (home_pages p m) (λ c. ceil_div (live p (objects m) c) (slots_of p c)) 0 (classes p) (λ d _ h. home_at_one d (omega arith))
@@ -74,7 +74,7 @@ module _ (p : Paging) (ok : IsPaging p) (ones : AreOne p) (m : Held) (s : IsSoun
         omega arith in rw (f, z) (sym (home_at_one d (omega arith))))) in
         omega arith
 
-    -- there is no room exactly where the pages that are needed with one more object are more than there are
+    -- no slot is left if and only if the objects with the new one need more pages than there are
     pub lacks_room_at_one : LacksRoom p m (class_for p n) ↔ (p.pages < pages_needed_with p (objects m) n)
     lacks_room_at_one = (
       (λ l. (let e = needed_next in let f = l.full in let u = none_free p m s l.taken in omega arith)),

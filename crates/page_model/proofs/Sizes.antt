@@ -1,4 +1,4 @@
--- The rule of slot sizes gives sizes that rise from 4 words to the page; and the class of a request.
+-- The slot sizes of the rule rise from 4 words to the page. The class of a request.
 use Rattle.std.proofs.Common.{◌≡◌, ℕ, Bool, true, false, ◌-◌, ◌*◌, ◌/◌, ◌<◌, ◌≤◌, List, Some, None, length, get_or, arith, sym, ◌∙◌, inl, inr, refl}
 use Rattle.std.specs.Prelude.{IsTrue, nat_le, nat_lt}
 use Rattle.std.specs.List.{position_or_len}
@@ -17,7 +17,7 @@ use Rattle.cf_base.proofs.CallerLemmas.{are_sizes, page_size, size_within, whole
 use Rattle.page_model.specs.Frames.{AreBlocks}
 use Rattle.page_model.specs.Paging.{Paging, IsPaging, AreOne, classes, slot_words, slots_of, class_for, paging_of, first_bounds}
 
--- pages with any bounds from 1 on, as many as there are classes
+-- a list of bounds, one of at least 1 for each class, makes a valid paging
 pub paged : (s : Profile) (layout : Layout) (bounds : List ℕ) → IsTrue (is_page_size s.page_words) → length bounds ≡ length (sizes s.page_words layout)
     → ((c : ℕ) → c < length bounds → 1 ≤ get_or bounds c 0) → IsPaging (paging_of s layout bounds)
 paged s layout bounds h len some = record { sized = are_sizes s.page_words layout h; bounded = len; some = λ c lt. some c (rw len lt) }
@@ -28,7 +28,7 @@ first_paged s layout h k =
     paged s layout (first_bounds s layout) h len (λ c lt. (let lt' : c < length (sizes s.page_words layout) = rw len at lt in let e =
     get_or-replicate {A = ℕ} (length (sizes s.page_words layout)) c s.k 0 lt' in omega arith))
 
--- what passes is found no later
+-- the first position at which a test passes is at most any at which it passes
 found_by : (f : ℕ → Bool) (xs : List ℕ) (i : ℕ) → i < length xs → f (get_or xs i 0) ≡ true → position_or_len f xs ≤ i
 found_by f xs i lt is = elim (cases_lt i (position_or_len f xs)) [
   | inl before ↦ absurd (false≢true (sym (fails_before_first f xs i 0 before) ∙ is))
@@ -36,7 +36,7 @@ found_by f xs i lt is = elim (cases_lt i (position_or_len f xs)) [
 ]
 
 module _ (p : Paging) (ok : IsPaging p) (n : ℕ) where
-  -- a request that fits a page has a class
+  -- a request of at most a page has a class
   pub class_fits : need n ≤ p.page_words → class_for p n < classes p
   unfolding class_for
   class_fits le =
@@ -46,7 +46,7 @@ module _ (p : Paging) (ok : IsPaging p) (n : ℕ) where
       let found = found_by (λ s. nat_le (need n) s) p.sizes (length p.sizes - 1) (omega arith) pass in
       omega arith
 
-  -- an object has its class's slot, and no slot of a smaller class
+  -- the slot of an object's class holds it; no smaller class does
   pub class_holds : class_for p n < classes p → need n ≤ slot_words p (class_for p n)
   unfolding class_for
   class_holds lt = (let pass : nat_le (need n) (get_or p.sizes (position_or_len (λ s. nat_le (need n) s) p.sizes) 0) ≡ true =
@@ -69,7 +69,7 @@ module _ (p : Paging) (ok : IsPaging p) (n : ℕ) where
     | inr past ↦ (let e : nat_lt (position_or_len (λ s. nat_le (need n) s) p.sizes) (length p.sizes) ≡ false = grind (arith, nat_tests) in rw e refl)
   ]
 
--- sizes in blocks are whole blocks
+-- sizes in blocks make pages and slots of whole blocks
 pub in_blocks : (s : Profile) (bounds : List ℕ) → IsTrue (is_page_size s.page_words) → AreBlocks (paging_of s Blocks bounds)
 in_blocks s bounds h = record { page = (page_size s.page_words h).whole; slot = whole_blocks s.page_words }
 
@@ -77,11 +77,11 @@ in_blocks s bounds h = record { page = (page_size s.page_words h).whole; slot = 
 pub slot_fits : (p : Paging) → IsPaging p → (c : ℕ) → c < classes p → slot_words p c ≤ p.page_words
 slot_fits p ok c lt = size_within p.page_words p.sizes c ok.sized lt
 
--- with the bound 1 in the settings every class has it
+-- with k = 1 in the settings every class has the bound 1
 pub first_ones : (s : Profile) (layout : Layout) → s.k ≡ 1 → AreOne (paging_of s layout (first_bounds s layout))
 first_ones s layout one c lt = get_or-replicate {A = ℕ} (length (sizes s.page_words layout)) c s.k 0 lt ∙ one
 
--- no more slots on a page than blocks
+-- a page has at most a slot for every four words
 pub few_slots : (p : Paging) → IsPaging p → (c : ℕ) → c < classes p → 4 * slots_of p c ≤ p.page_words
 few_slots p ok c lt = fewer p.page_words (slot_words p c) (ok.sized.least c lt)
   where

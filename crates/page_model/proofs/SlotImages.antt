@@ -1,4 +1,4 @@
--- The image of a sound arrangement, by slots, after each step.
+-- The image of a sound arrangement, by whole slots, after each step.
 use Rattle.std.proofs.Common.{◌≡◌, ◌≢◌, ℕ, ◌+◌, ◌*◌, ◌/◌, ◌%◌, ◌<◌, ◌≤◌, List, Some, None, length, get_or, set, replicate, arith, sym, ◌∙◌, subst, inl, inr, ap}
 use Rattle.std.proofs.lemmas.List.{length-replicate}
 use Rattle.std.proofs.lemmas.Bool.{cases_eq, cases_lt, cases_order}
@@ -17,7 +17,7 @@ use Rattle.page_model.proofs.Placing.{sound_placed}
 use Rattle.page_model.proofs.FreeSteps.{mover_is_other}
 use Rattle.page_model.proofs.Sizes.{class_holds}
 
--- multiples of s that differ are at least s apart
+-- different multiples of s are at least s apart
 multiples_apart : (s x y : ℕ) → x % s ≡ 0 → y % s ≡ 0 → x < y → x + s ≤ y
 multiples_apart s x y p q lt =
     let ex : x / s * s + x % s ≡ x = div-add-mod' x s in
@@ -27,7 +27,7 @@ multiples_apart s x y p q lt =
       | inr above ↦ absurd (let m : y / s * s ≤ x / s * s = mul-le (y / s) s (x / s) s above (omega arith) in omega arith)
     ]
 
--- the same with the page first
+-- the same for addresses on different pages
 page_apart : (P a b : ℕ) → a / P < b / P → (n : ℕ) → a % P + n ≤ P → a + n ≤ b
 page_apart P a b lt n fits =
     let ea : a / P * P + a % P ≡ a = div-add-mod' a P in
@@ -35,7 +35,7 @@ page_apart P a b lt n fits =
     let m : (a / P + 1) * P ≤ b / P * P = mul-le (a / P + 1) P (b / P) P (omega arith) (omega arith) in
     omega arith
 
--- two slots of one size on one page
+-- two slots of one size on one page are disjoint
 slots_apart : (P s a b : ℕ) → a / P ≡ b / P → a % P % s ≡ 0 → b % P % s ≡ 0 → a ≢ b → IsDisjoint a s b s
 slots_apart P s a b same p q ne =
     let ea : a / P * P + a % P ≡ a = div-add-mod' a P in
@@ -57,7 +57,7 @@ slot_inside p c a s =
     let fits = s.fits in
     omega arith
 
--- the slots of a sound arrangement have no word in common
+-- no two objects of a sound arrangement share a word
 pub sound_apart : (p : Paging) (m : Held) → IsSound p m → IsApart (slot_for p) m
 sound_apart p m s = record {
   pairs = λ h x q y e f ne.
@@ -79,11 +79,11 @@ pub object_inside : (p : Paging) (m : Held) → IsSound p m → (h : ℕ) (x : P
     → x.place + slot_for p (length x.bytes) ≤ p.pages * p.page_words
 object_inside p m s h x e = slot_inside p (class_at p x) x.place (s.slots h x e)
 
--- an object stands apart from all others
+-- an object shares no word with another
 pub sound_apart_from : (p : Paging) (m : Held) → IsSound p m → (h : ℕ) (x : Placed) → get m h ≡ Some x → IsApartFrom (slot_for p) m h x
 sound_apart_from p m s h x e q y f ne = (sound_apart p m s).pairs h x q y e f ne
 
--- y goes from its address to that of x, which goes
+-- x is removed and y moves to its address
 pub image_exchanged : (extent : ℕ → ℕ) (m : Held) (words words' : List ℕ) → IsImageOver extent m words → (h q : ℕ) (x y : Placed) → get m h ≡ Some x
     → get m q ≡ Some y → q ≢ h
     → IsApartFrom extent m h x → IsApartFrom extent m q y → extent (length y.bytes) ≡ extent (length x.bytes)
@@ -115,7 +115,7 @@ image_exchanged extent m words words' im h q x y is-x is-y ne free_x free_y size
       ];
 }
 
--- a free place has no word of an object
+-- a free address shares no word with an object
 pub place_apart : (p : Paging) → IsPaging p → (m : Held) → IsSound p m → (n a : ℕ) → IsFreePlace p m n a → (h : ℕ) → get m h ≡ None
     → (q : ℕ) (y : Placed) → get m q ≡ Some y → IsDisjoint a (slot_for p n) y.place (slot_for p (length y.bytes))
 place_apart p ok m s n a f h none q y e =
@@ -127,11 +127,11 @@ place_apart p ok m s n a f h none q y e =
     rw len at d
 
 module _ (p : Paging) (ok : IsPaging p) (m : Held) (s : IsSound p m) (words : List ℕ) (im : IsSlotImage p m words) where
-  -- the words of a free place are zeros
+  -- the words of a free address are zeros
   pub place_is_zeros : (n a : ℕ) → IsFreePlace p m n a → (h : ℕ) → get m h ≡ None → (i : ℕ) → i < slot_for p n → get_or words (a + i) 0 ≡ 0
   place_is_zeros n a f h none = free_words (slot_for p) m words im h a (slot_for p n) (λ q y e. place_apart p ok m s n a f h none q y e)
 
-  -- a malloc writes the header, into zeros
+  -- a malloc writes the header into zeros
   pub image_after_malloc : (h n a : ℕ) → get m h ≡ None → length words ≡ p.pages * p.page_words → IsFreePlace p m n a
       → IsSlotImage p (insert m h (zeros_at a n)) (set words a (header_word h n))
   image_after_malloc h n a none len f =
@@ -150,14 +150,14 @@ module _ (p : Paging) (ok : IsPaging p) (m : Held) (s : IsSound p m) (words : Li
     pub image_after_free : Clears words words' (record { from = x.place; count = slot_for p (length x.bytes) }) → IsSlotImage p (remove m h) words'
     image_after_free re = image_removed (slot_for p) m words words' im h x found (sound_apart_from p m s h x found) re
 
-    -- other bytes in the slot, in the same class
+    -- other bytes in the slot, of the same class
     pub image_after_write : (bytes : List ℕ) → class_for p (length bytes) ≡ class_at p x
         → Rewrites words words' (record { from = x.place; count = slot_for p (length x.bytes) }) (object_word h bytes)
         → IsSlotImage p (insert m h (record { place = x.place; bytes = bytes })) words'
     image_after_write bytes class re = image_written (slot_for p) m words im h words' x bytes found (sound_apart_from p m s h x found)
         (ap (slot_words p) class) re
 
-    -- what is written in a part of the slot, where the rest of the object's words are what they were
+    -- a part of the slot is rewritten, and the object's words outside of it are right already
     pub image_after_part : (bytes : List ℕ) (from count : ℕ) → class_for p (length bytes) ≡ class_at p x → from + count ≤ slot_for p (length x.bytes)
         → Rewrites words words' (record { from = x.place + from; count = count }) (λ i. object_word h bytes (from + i))
         → ((i : ℕ) → i < slot_for p (length x.bytes) → IsOutside from count i → object_word h bytes i ≡ object_word h x.bytes i)
@@ -179,7 +179,7 @@ module _ (p : Paging) (ok : IsPaging p) (m : Held) (s : IsSound p m) (words : Li
         wider (inl l) = inl (omega arith)
         wider (inr r) = inr (omega arith)
 
-    -- a free that moves y moves its slot to the freed one, and leaves zeros there
+    -- a free that moves y copies its slot to the freed one and clears the old one
     pub image_after_move : (q : ℕ) (y : Placed) → get m q ≡ Some y → MustMove p m x → MayFill p m x y
         → MovesWords words words' (record { from = y.place; count = slot_for p (length y.bytes) }) x.place
         → IsSlotImage p (insert (remove m h) q (record { place = x.place; bytes = y.bytes })) words'

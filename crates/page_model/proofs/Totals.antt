@@ -1,4 +1,4 @@
--- The objects of a class are those of its pages, and a page holds no more than its slots.
+-- The objects of a class are the sum over its pages, and a page has at most as many as slots.
 use Rattle.std.proofs.Common.{◌≡◌, ◌≢◌, ℕ, Bool, true, false, ◌+◌, ◌*◌, ◌/◌, ◌%◌, ◌<◌, ◌≤◌, List, [], ◌∷◌, Some, None, length, arith, sym, ◌∙◌, inl, inr, ap}
 use Rattle.std.proofs.Common.{refl}
 use Rattle.std.specs.Prelude.{sum_by, count_by, ◌&&◌, nat_eq}
@@ -38,7 +38,7 @@ pub sum_zeros : {X : Type 0} (f : X → ℕ) (xs : List X) → ((x : X) → f x 
 sum_zeros f [] z = refl
 sum_zeros f (x ∷ xs) z = (let a = sum_by-cons f x xs in let b = z x in let c = sum_zeros f xs z in omega arith)
 
--- of the numbers below n one is a
+-- exactly one of the numbers below n is a
 pub count_at : (a n : ℕ) (c : Bool) → a < n → count_by (λ p. nat_eq a p && c) (range_with_len 0 n) ≡ one c
 count_at a n c lt =
     let f : ℕ → Bool = λ p. nat_eq a p && c in
@@ -49,7 +49,7 @@ count_at a n c lt =
     let h : one (f a) ≡ one c = (let x : nat_eq a a ≡ true = grind (arith, nat_tests) in rw x) in
     omega arith
 
--- sums over the values of a map with a function of each
+-- sums over a map with a function applied to each value
 module _ {X Y : Type 0} (g : X → Y) (f : Y → ℕ) where
   pub sum-map_values : (m : FinMap nat_cmp X) → sum_by f (values (map_values g m)) ≡ sum_by (λ x. f (g x)) (values m)
   sum-map_values = map_induction (λ m. sum_by f (values (map_values g m)) ≡ sum_by (λ x. f (g x)) (values m))
@@ -62,7 +62,7 @@ module _ {X Y : Type 0} (g : X → Y) (f : Y → ℕ) where
       ap (λ n. sum_by f (values n)) (map_values-insert g m h x) in
       omega arith))
 
--- the objects of a class, counted where they stand
+-- the objects of a class
 abbrev pub live_in : Paging → Held → ℕ → ℕ
 live_in p m c = count_by (λ (x : Placed). nat_eq (class_at p x) c) (values m)
 
@@ -78,7 +78,7 @@ module _ (p : Paging) (c : ℕ) where
   live_none : live_in p empty c ≡ 0
   live_none = ap (count_by (λ (x : Placed). nat_eq (class_at p x) c)) no_values
 
-  -- page by page
+  -- they are the sum over the pages
   pub live_by_pages : (m : Held) → ((q : ℕ) (x : Placed) → get m q ≡ Some x → page_of p x.place < p.pages)
       → sum_by (objects_on p m c) (range_with_len 0 p.pages) ≡ live_in p m c
   live_by_pages = map_induction (λ m. ((q : ℕ) (x : Placed) → get m q ≡ Some x → page_of p x.place < p.pages)
@@ -95,7 +95,7 @@ module _ (p : Paging) (c : ℕ) where
       sum_by-inserted (λ (y : Placed). one (nat_eq (class_at p y) c)) m h x none in
       omega arith)
 
-  -- the slots of the class on a page that are taken
+  -- the numbers of the taken slots of the class on a page
   record SlotsOf (m : Held) (page : ℕ) (js : List ℕ) : Type 0 where
     count : length js ≡ objects_on p m c page
     distinct : IsDistinct nat_eq js
@@ -111,7 +111,7 @@ absent j (y ∷ js) never = go (nat_eq j y) refl (λ n. absent j js n)
     go true e ih = absurd (never (rw e))
     go false e ih = (e, ih (λ p. never (rw e p)))
 
--- addresses whose page, class and slot agree are one
+-- two addresses with the same page, class and slot number are equal
 one_place : (P size a b : ℕ) → a / P ≡ b / P → a % P % size ≡ 0 → b % P % size ≡ 0 → a % P / size ≡ b % P / size → a ≡ b
 one_place P size a b page p q slot =
     let ea = div-add-mod' a P in
@@ -130,7 +130,7 @@ slot_below P size a pos p fits =
       | inr le ↦ absurd (let x : P / size * size ≤ a % P / size * size = mul-le (P / size) size (a % P / size) size le (omega arith) in omega arith)
     ]
 
--- what the addresses of a class need: slots of that size, and no address twice
+-- the objects of a class are at slots of its size, no two at one address
 record HasSlots (p : Paging) (c : ℕ) (m : Held) : Type 0 where
   aligned : (q : ℕ) (x : Placed) (page : ℕ) → get m q ≡ Some x → is_on p c page x ≡ true → x.place % p.page_words % slot_words p c ≡ 0
   fits : (q : ℕ) (x : Placed) (page : ℕ) → get m q ≡ Some x → is_on p c page x ≡ true → x.place % p.page_words + slot_words p c ≤ p.page_words
@@ -191,7 +191,7 @@ module _ (p : Paging) (c page : ℕ) where
       (λ _. ([], record { count = sym (on_none p c page); distinct = tt; taken = λ j a. absurd (false≢true a) }))
       (λ m h x none ih s. (let o = ih (had_slots m h x none s) in one_more m h x (is_on p c page x) refl none s o.0 o.1))
 
-  -- a page holds no more than its slots
+  -- a page has at most as many objects as slots
   pub page_within : (m : Held) → 0 < slot_words p c → IsSound p m → objects_on p m c page ≤ slots_of p c
   page_within m pos s =
       let has = sound_slots p m c s in

@@ -25,14 +25,14 @@ byte_of_object h v k bytes =
     byte_of_word (take 8 (drop (8 * (k / 8)) v)) (k % 8) (bytes_part 8 (8 * (k / 8)) v bytes)
     ∙ get_or-take 8 (drop (8 * (k / 8)) v) (k % 8) 0 (omega arith) ∙ get_or-drop (8 * (k / 8)) v (k % 8) 0 ∙ ap (λ x. get_or v x 0) back
 
--- a byte of an object is read from its word
+-- a byte of an object is a byte of its word
 pub byte_read : (m : Held) (words : List ℕ) → IsImage m words → (h : ℕ) (x : Placed) → get m h ≡ Some x → AreBytes x.bytes → (k : ℕ) → k < length x.bytes
     → byte_of (k % 8) (get_or words (x.place + 1 + k / 8) 0) ≡ get_or x.bytes k 0
 byte_read m words im h x e bytes k lt =
     let at : x.place + 1 + k / 8 ≡ x.place + suc (k / 8) = omega arith in
     ap (λ w. byte_of (k % 8) (get_or words w 0)) at ∙ ap (byte_of (k % 8)) (im.held h x e (suc (k / 8)) (omega arith)) ∙ byte_of_object h x.bytes k bytes
 
--- what fits n bytes
+-- whether w fits n bytes
 abbrev pub IsBelow : ℕ → ℕ → Type 0
 IsBelow zero w = w ≡ 0
 IsBelow (suc n) w = IsBelow n (w / 256)
@@ -53,7 +53,7 @@ same_by_bytes (suc n) w w' a b same =
     let high : w / 256 ≡ w' / 256 = same_by_bytes n (w / 256) (w' / 256) a b (λ j lt. same (suc j) (omega arith)) in
     omega arith
 
--- a word is its eight bytes
+-- words with the same eight bytes are equal
 pub word_by_bytes : (w w' : ℕ) → w < 2 ^ 64 → w' < 2 ^ 64 → ((j : ℕ) → j < 8 → byte_of j w ≡ byte_of j w') → w ≡ w'
 word_by_bytes w w' a b same = same_by_bytes 8 w w' (omega arith) (omega arith) same
 
@@ -68,7 +68,7 @@ object_word_small h v (suc i) a b bytes =
     small : (w : ℕ) → w / 256 / 256 / 256 / 256 / 256 / 256 / 256 / 256 ≡ 0 → w < 2 ^ 64
     small w e = omega arith
 
--- words of bytes that agree in eight bytes are the same
+-- two objects that agree in eight bytes agree in their word
 pub same_words : (h : ℕ) (u v : List ℕ) (i : ℕ) → length u ≡ length v → ((k : ℕ) → 8 * i ≤ k → k < 8 * i + 8 → get_or u k 0 ≡ get_or v k 0)
     → object_word h u (suc i) ≡ object_word h v (suc i)
 same_words h u v i len same =
@@ -87,7 +87,7 @@ module _ (v : List ℕ) (at : ℕ) (bytes : List ℕ) (fits : at + length bytes 
       let d = length-drop (at + length bytes) v in
       omega arith
 
-  -- the bytes before, those that are written, and the bytes after
+  -- before, inside and after the written bytes
   pub written_before : (k : ℕ) → k < at → get_or (written v at bytes) k 0 ≡ get_or v k 0
   written_before k lt = (let c = length-take at v in get_or_append_left (take at v) (bytes ++ drop (at + length bytes) v) 0 k (omega arith)
       ∙ get_or-take at v k 0 lt)
@@ -140,7 +140,7 @@ resized_are_bytes v n a i =
           (zeros_are_bytes (n - length v) (i - length (take n v)))
     ]
 
--- the first bytes of a resized object are those it had, and zeros follow
+-- a resized object keeps its first bytes, and the added ones are zeros
 pub resized_before : (v : List ℕ) (n k : ℕ) → k < n → k < length v → get_or (resized v n) k 0 ≡ get_or v k 0
 resized_before v n k a b = (let len = length-take n v in get_or_append_left (take n v) (replicate (n - length v) 0) 0 k (omega arith) ∙ get_or-take n v k 0 a)
 
@@ -154,14 +154,13 @@ resized_behind v n k a =
       | inr past ↦ get_or_past (resized v n) k 0 (let e = length-resized v n in omega arith)
     ]
 
--- to write no bytes changes nothing
 pub written_nothing : (v : List ℕ) (at : ℕ) → at ≤ length v → written v at [] ≡ v
 written_nothing v at le = same_number_lists (written v at []) v (length-written v at [] (omega arith)) (λ k lt. elim (cases_lt k at) [
   | inl before ↦ written_before v at [] (omega arith) k before
   | inr behind ↦ written_behind v at [] (omega arith) k (omega arith)
 ])
 
--- Other bytes are written over some of an object's: those words that hold one of them become the new object's.
+-- Some of an object's bytes are overwritten: the words that hold one of them become those of the new bytes.
 pub image_after_bytes : (p : Paging) → IsPaging p → (m : Held) → IsSound p m → (words : List ℕ) → IsSlotImage p m words → (h : ℕ) (x : Placed)
     → get m h ≡ Some x → (words' : List ℕ)
     → (at : ℕ) (bytes : List ℕ) → at + length bytes ≤ length x.bytes
@@ -179,7 +178,7 @@ image_after_bytes p ok m s words im h x e words' at bytes fits re =
     same (suc i) (inl l) = words_kept x.bytes at bytes fits h i (inl (omega arith))
     same (suc i) (inr r) = words_kept x.bytes at bytes fits h i (inr (omega arith))
 
--- what can be stored, after an object comes or goes
+-- objects stay storable when one is added or removed
 pub storable_added : (m : Held) (h : ℕ) (x : Placed) → AreStorable m → h < 2 ^ 32 → AreBytes x.bytes → AreStorable (insert m h x)
 storable_added m h x good small bytes q y e = elim (some_inserted m h x q y e) [
   | inl (is, same) ↦ (rw is small, rw (← same) bytes)
@@ -197,7 +196,7 @@ storable_without m h a (Some q) good = go (get m q) refl
     go None e = storable_taken m h good
     go (Some y) e = storable_added (remove m h) q (record { place = a; bytes = y.bytes }) (storable_taken m h good) (good q y e).0 (good q y e).1
 
--- a header tells the number and the length
+-- a header holds the object's number and length
 pub header_told : (m : Held) (words : List ℕ) (h : ℕ) (x : Placed) → IsImage m words → get m h ≡ Some x → h < 2 ^ 32
     → (get_or words x.place 0 % 2 ^ 32 ≡ h) × (get_or words x.place 0 / 2 ^ 32 ≡ length x.bytes)
 header_told m words h x im e small =

@@ -1,4 +1,4 @@
--- Which places objects may have, and the pages that they take.
+-- The addresses that objects may have, and the pages that they use.
 use Rattle.std.specs.Prelude.{◌≡◌, ◌≢◌, ℕ, Bool, ◌&&◌, ◌+◌, ◌-◌, ◌%◌, ◌≤◌, ◌<◌, Some, length, filter, not, nat_lt, nat_eq, count_by, sum_by, cond}
 use Rattle.std.specs.List.{range_with_len}
 use Rattle.std.specs.FinMap.{get, values}
@@ -14,15 +14,15 @@ class_at p x = class_for p (length x.bytes)
 unfoldable pub live : Paging → Objects → ℕ → ℕ
 live p objects c = count_by (λ v. nat_eq (class_for p (length v)) c) (values objects)
 
--- whether x is of class c and stands on the page
+-- whether x is of class c and on the page
 abbrev pub is_on : Paging → ℕ → ℕ → Placed → Bool
 is_on p c page x = nat_eq (page_of p x.place) page && nat_eq (class_at p x) c
 
--- how many objects of class c stand on the page
+-- how many objects of class c are on the page
 unfoldable pub objects_on : Paging → Held → ℕ → ℕ → ℕ
 objects_on p m c page = count_by (is_on p c page) (values m)
 
--- how many objects stand on the page, of whatever class
+-- how many objects of any class are on the page
 unfoldable pub standing_on : Paging → Held → ℕ → ℕ
 standing_on p m page = count_by (λ (x : Placed). nat_eq (page_of p x.place) page) (values m)
 
@@ -30,7 +30,7 @@ standing_on p m page = count_by (λ (x : Placed). nat_eq (page_of p x.place) pag
 unfoldable pub home_pages : Paging → Held → ℕ → ℕ
 home_pages p m c = count_by (λ page. nat_lt 0 (objects_on p m c page)) (range_with_len 0 p.pages)
 
--- how many pages hold an object of class c, and fewer than they could
+-- how many pages hold an object of class c but fewer than they have slots
 unfoldable pub not_full_pages : Paging → Held → ℕ → ℕ
 not_full_pages p m c = count_by (λ page. nat_lt 0 (objects_on p m c page) && nat_lt (objects_on p m c page) (slots_of p c)) (range_with_len 0 p.pages)
 
@@ -42,7 +42,7 @@ used_pages p m = sum_by (home_pages p m) (range_with_len 0 (classes p))
 abbrev pub free_pages : Paging → Held → ℕ
 free_pages p m = p.pages - used_pages p m
 
--- the pages that so many objects of each class need: over the slots, rounded up
+-- the pages that `count c` objects of each class c need: the count over the slots of a page, rounded up
 abbrev pub pages_for : Paging → (ℕ → ℕ) → ℕ
 pages_for p count = sum_by (λ c. ceil_div (count c) (slots_of p c)) (range_with_len 0 (classes p))
 
@@ -54,7 +54,7 @@ pages_needed p objects = pages_for p (live p objects)
 unfoldable pub pages_needed_with : Paging → Objects → ℕ → ℕ
 pages_needed_with p objects n = pages_for p (λ c. live p objects c + cond (nat_eq (class_for p n) c) 1 0)
 
--- the most pages that the objects of the classes other than c can stand on
+-- the most pages that the objects of the classes other than c can be on
 unfoldable pub most_pages_besides : Paging → Objects → ℕ → ℕ
 most_pages_besides p objects c = sum_by (λ d. most_pages (live p objects d) (slots_of p d) (bound_of p d))
     (filter (λ d. not (nat_eq d c)) (range_with_len 0 (classes p)))
@@ -66,7 +66,8 @@ pub record IsSlotAt (p : Paging) (c a : ℕ) : Type 0 where
   pub aligned : a % p.page_words % slot_words p c ≡ 0
   pub fits : a % p.page_words + slot_words p c ≤ p.page_words
 
--- Each object stands in a slot of its class, no two at one address, those of one page in one class; and no class has more partly full pages than its bound.
+-- each object is in a slot of its class, and no two are at one address; the objects of a page are of one class; no class has more partly full pages than its
+-- bound
 pub record IsSound (p : Paging) (m : Held) : Type 0 where
   pub slots : (h : ℕ) (x : Placed) → get m h ≡ Some x → IsSlotAt p (class_at p x) x.place
   pub own_place : (h : ℕ) (x : Placed) (q : ℕ) (y : Placed) → get m h ≡ Some x → get m q ≡ Some y → q ≢ h → x.place ≢ y.place
@@ -74,7 +75,7 @@ pub record IsSound (p : Paging) (m : Held) : Type 0 where
       → class_at p x ≡ class_at p y
   pub few_not_full : (c : ℕ) → c < classes p → not_full_pages p m c ≤ bound_of p c
 
--- there is no room for class c: none of its pages is partly full, and every page holds an object
+-- class c has no slot left: none of its pages is partly full, and every page holds an object
 pub record LacksRoom (p : Paging) (m : Held) (c : ℕ) : Type 0 where
   pub full : not_full_pages p m c ≡ 0
   pub taken : (page : ℕ) → page < p.pages → 0 < standing_on p m page

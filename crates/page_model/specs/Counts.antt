@@ -1,15 +1,15 @@
--- How many pages the objects of one class may stand on, by arithmetic.
+-- How many pages the objects of one class may be on, by arithmetic.
 use Rattle.std.specs.Prelude.{ℕ, zero, suc, Bool, true, false, ◌&&◌, ◌+◌, ◌-◌, ◌*◌, ◌/◌, ◌≤◌, nat_le}
 use Rattle.std.specs.List.{range_with_len, list_any}
 
--- n objects stand on p pages of m slots, q of them partly full, and no page is empty
+-- n objects are on p pages of m slots; no page is empty, and q, at most k, are partly full
 pub record Stand (p n m k q : ℕ) : Type 0 where
   pub few : q ≤ k
   pub within : q ≤ p
   pub least : (p - q) * m + q ≤ n
   pub most : n ≤ (p - q) * m + q * (m - 1)
 
--- n objects can stand on p pages of m slots, none empty and at most k not full
+-- n objects can be on p pages of m slots, none empty and at most k partly full
 abbrev pub CanHold : ℕ → ℕ → ℕ → ℕ → Type 0
 CanHold p n m k = (q : ℕ) × Stand p n m k q
 
@@ -17,15 +17,15 @@ CanHold p n m k = (q : ℕ) × Stand p n m k q
 abbrev pub can_hold : ℕ → ℕ → ℕ → ℕ → Bool
 can_hold p n m k = list_any (λ q. nat_le q p && nat_le ((p - q) * m + q) n && nat_le n ((p - q) * m + q * (m - 1))) (range_with_len 0 (k + 1))
 
--- the least number of pages of m slots on which n objects fit
+-- the least number of pages of m slots that hold n objects
 abbrev pub ceil_div : ℕ → ℕ → ℕ
 ceil_div n m = (n + (m - 1)) / m
 
--- the greatest number from p down at which the test passes, else 0
+-- the greatest number of at most p at which the test passes, else 0
 abbrev pub greatest : (ℕ → Bool) → ℕ → ℕ
 greatest test zero = 0
 greatest test (suc p) = elim (test (suc p)) [ true ↦ suc p | false ↦ greatest test p ]
 
--- the most pages of m slots on which n objects can stand, at most k of them partly full
+-- the most pages of m slots that n objects can be on, with at most k of them partly full
 unfoldable pub most_pages : ℕ → ℕ → ℕ → ℕ
 most_pages n m k = greatest (λ p. can_hold p n m k) (n / m + k)

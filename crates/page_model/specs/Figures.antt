@@ -18,7 +18,7 @@ figures_of p m c = record {
       not_full_pages p m c;
 }
 
--- the bytes that were asked for: the lengths of all objects
+-- the bytes asked for: the lengths of all objects
 unfoldable pub asked_bytes : Objects → ℕ
 asked_bytes objects = sum_by length (values objects)
 
@@ -26,7 +26,7 @@ asked_bytes objects = sum_by length (values objects)
 unfoldable pub taken_bytes : Paging → Objects → ℕ
 taken_bytes p objects = 8 * sum_by (λ v. slot_words p (class_for p (length v))) (values objects)
 
--- the figures of the whole heap; `held` are the bytes of the pages in use, `largest` the words of a page where one is free
+-- the figures of the whole heap; `held` is the bytes of the pages in use, `largest` the words of a page if one is free, else 0
 abbrev pub totals_of : Paging → Held → Totals
 totals_of p m = record {
   live = len (objects m);

@@ -1,4 +1,4 @@
--- The block permutation of the non-moving manager. A block is four words; virtual block v stands at physical block `frames[v]`.
+-- The block permutation of the non-moving manager. A block is four words; virtual block v is at physical block `frames[v]`.
 use Rattle.std.specs.Prelude.{◌≡◌, ℕ, ◌+◌, ◌*◌, ◌/◌, ◌%◌, ◌<◌, List, Option, Some, None, length, slice_index}
 use Rattle.std.specs.List.{range_with_len}
 use Rattle.std.specs.List.Sorted.{IsPermutation}
@@ -9,21 +9,21 @@ use Rattle.page_model.specs.Paging.{IsPaging, Paging, slot_words}
 use Rattle.page_model.specs.Arrangement.{IsSound, class_at}
 use Rattle.page_model.specs.Steps.{Leaves}
 
--- the numbers below n, each at its own place
+-- the numbers below n in order
 abbrev pub first_frames : ℕ → List ℕ
 first_frames n = range_with_len 0 n
 
--- a list of the numbers below its length, in some order
+-- the numbers below the list's length, in any order
 abbrev pub IsPermuted : List ℕ → Type 0
 IsPermuted frames = IsPermutation (first_frames (length frames)) frames
 
--- an object was at y and is at z: the blocks of its slot have changed places with those where it now stands
+-- an object moved from y to z: the blocks of its old slot have changed places with those of its new one
 abbrev pub frames_moved : Paging → Option Placed → Option Placed → List ℕ → List ℕ
 frames_moved p None z frames = frames
 frames_moved p (Some y) None frames = frames
 frames_moved p (Some y) (Some z) frames = exchanged frames (y.place / 4) (z.place / 4) (slot_words p (class_at p y) / 4)
 
--- the object under a number, where there is one
+-- the object under a number, if there is one
 abbrev pub found : Held → Option ℕ → Option Placed
 found m None = None
 found m (Some q) = get m q
@@ -36,7 +36,7 @@ frames_after p old after frames = frames_moved p (found old after.moved) (found 
 abbrev pub block_of : List ℕ → ℕ → ℕ → ℕ
 block_of frames a i = slice_index frames (a / 4 + i)
 
--- word 4v+j of the region stands at word j of physical block `frames[v]`
+-- word 4v+j of the region is word j of physical block `frames[v]`
 pub record IsPhysical (frames words physical : List ℕ) : Type 0 where
   pub count : length physical ≡ 4 * length frames
   pub word : (v j : ℕ) → v < length frames → j < 4 → slice_index physical (4 * slice_index frames v + j) ≡ slice_index words (4 * v + j)
@@ -46,7 +46,7 @@ pub record AreBlocks (p : Paging) : Type 0 where
   pub page : p.page_words % 4 ≡ 0
   pub slot : (c : ℕ) → slot_words p c % 4 ≡ 0
 
--- A sound arrangement in whole blocks, and as many frames as the region has blocks, each number once.
+-- a sound arrangement in whole blocks, and frames for all blocks of the region, each number once
 pub record AreFramed (p : Paging) (m : Held) (frames : List ℕ) : Type 0 where
   pub paged : IsPaging p
   pub blocks : AreBlocks p

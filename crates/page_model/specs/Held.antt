@@ -18,6 +18,7 @@ Held = FinMap nat_cmp Placed
 abbrev pub Objects : Type 0
 Objects = FinMap nat_cmp (List ℕ)
 
+-- the bytes by number
 abbrev pub objects : Held → Objects
 objects m = map_values (λ (x : Placed). x.bytes) m
 
@@ -25,6 +26,6 @@ objects m = map_values (λ (x : Placed). x.bytes) m
 abbrev pub places : Held → FinMap nat_cmp ℕ
 places m = map_values (λ (x : Placed). x.place) m
 
--- an object as a pair
+-- an object is stored as a pair
 abbrev pub placed_code : Coded Placed
 placed_code = code_by (ℕ × List ℕ) (coded× coded_ℕ (coded_list coded_ℕ)) (λ x. (x.place, x.bytes)) (λ p. record { place = p.0; bytes = p.1 }) (λ _. refl)

@@ -5,7 +5,7 @@ use Rattle.cf_base.specs.Classes.{need}
 use Rattle.page_model.specs.Held.{Held, Placed}
 use Rattle.page_model.specs.Paging.{Paging, slot_words, class_for}
 
--- bytes as a number, the least first
+-- the number that bytes represent, the least significant first
 abbrev pub word_of_bytes : List ℕ → ℕ
 word_of_bytes [] = 0
 word_of_bytes (b ∷ bs) = b + 256 * word_of_bytes bs
@@ -31,7 +31,7 @@ IsDisjoint a n b m = (a + n ≤ b) ⊎ (b + m ≤ a)
 abbrev pub slot_for : Paging → ℕ → ℕ
 slot_for p n = slot_words p (class_for p n)
 
--- w is outside the words of x, of which an object of n bytes has `extent n`
+-- w is none of the words of x, if an object of n bytes has `extent n` words
 abbrev pub IsOutsideOf : (ℕ → ℕ) → Placed → ℕ → Type 0
 IsOutsideOf extent x w = IsOutside x.place (extent (length x.bytes)) w
 
@@ -39,13 +39,13 @@ IsOutsideOf extent x w = IsOutside x.place (extent (length x.bytes)) w
 abbrev pub AreDisjoint : (ℕ → ℕ) → Placed → Placed → Type 0
 AreDisjoint extent x y = IsDisjoint x.place (extent (length x.bytes)) y.place (extent (length y.bytes))
 
--- The words of each object stand at its address, and every other word is 0. An object of n bytes has `extent n` words: at `need` its own, at `slot_for` those
--- of its slot, where zeros follow.
+-- each object's words are at its address, and every other word is 0; an object of n bytes has `extent n` words: `need n` without the rest of its slot,
+-- `slot_for n` with it
 pub record IsImageOver (extent : ℕ → ℕ) (m : Held) (words : List ℕ) : Type 0 where
   pub held : (h : ℕ) (x : Placed) → get m h ≡ Some x → (i : ℕ) → i < extent (length x.bytes) → slice_index words (x.place + i) ≡ object_word h x.bytes i
   pub zeros : (w : ℕ) → ((h : ℕ) (x : Placed) → get m h ≡ Some x → IsOutsideOf extent x w) → slice_index words w ≡ 0
 
--- the words of the region are those of the objects, and zeros
+-- the words are those of the objects, and zeros
 abbrev pub IsImage : Held → List ℕ → Type 0
 IsImage m words = IsImageOver need m words
 
@@ -61,21 +61,21 @@ pub record IsApart (extent : ℕ → ℕ) (m : Held) : Type 0 where
 abbrev pub IsApartFrom : (ℕ → ℕ) → Held → ℕ → Placed → Type 0
 IsApartFrom extent m h x = (q : ℕ) (y : Placed) → get m q ≡ Some y → q ≢ h → AreDisjoint extent x y
 
--- the words from a on
+-- `count` words from word `from` on
 pub record WordRange : Type 0 where
   pub from : ℕ
   pub count : ℕ
 
--- the words of a run become f 0, f 1 and so on, and every other word stays
+-- the words of the run become f 0, f 1 and so on; every other word stays
 pub record Rewrites (old new : List ℕ) (run : WordRange) (f : ℕ → ℕ) : Type 0 where
   pub within : (i : ℕ) → i < run.count → slice_index new (run.from + i) ≡ f i
   pub others : (w : ℕ) → IsOutside run.from run.count w → slice_index new w ≡ slice_index old w
 
--- the words of a run become zeros
+-- the words of the run become zeros
 abbrev pub Clears : List ℕ → List ℕ → WordRange → Type 0
 Clears old new run = Rewrites old new run (λ _. 0)
 
--- the words of a run go to b, where nothing stood, and leave zeros behind
+-- the words of the run move to b and leave zeros; every other word stays
 pub record MovesWords (old new : List ℕ) (run : WordRange) (b : ℕ) : Type 0 where
   pub arrived : (i : ℕ) → i < run.count → slice_index new (b + i) ≡ slice_index old (run.from + i)
   pub left_zeros : (i : ℕ) → i < run.count → slice_index new (run.from + i) ≡ 0

@@ -9,7 +9,7 @@ use Rattle.page_model.specs.Paging.{Paging, classes, class_for, slots_of, page_o
 use Rattle.page_model.specs.Arrangement.{class_at, objects_on, standing_on}
 use Rattle.page_model.specs.Steps.{Leaves, Request, resized_at}
 
--- What is given out next: the free pages, the partly full pages of each class, and the numbers that no object has. In each list the next one is the first.
+-- what is given out next: the free pages, the partly full pages of each class, and the numbers that no object has; each list begins with the next one
 pub record Order : Type 0 where
   pub pool : List ℕ
   pub not_full : List (List ℕ)
@@ -19,15 +19,16 @@ pub record Order : Type 0 where
 abbrev pub not_full_in : Order → ℕ → List ℕ
 not_full_in o c = slice_index_or o.not_full c []
 
+-- the order with this list of partly full pages for class c
 abbrev pub with_not_full : Order → ℕ → List ℕ → Order
 with_not_full o c pages = record o { not_full = slice_set o.not_full c pages }
 
--- a page with so many objects is partly full
+-- the page is partly full, with objects of class c
 abbrev pub IsPartlyFull : Paging → Held → ℕ → ℕ → Type 0
 IsPartlyFull p m c page = (0 < objects_on p m c page) × (objects_on p m c page < slots_of p c)
 
--- The order is one of this arrangement, with numbers below a limit: it has the pages on which nothing stands, the partly full pages of each class, and the
--- numbers that no object has, each once.
+-- an order of this arrangement, with numbers below a limit: it lists the pages without objects, the partly full pages of each class, and the numbers without an
+-- object, each once
 pub record IsOrderOf (p : Paging) (m : Held) (limit : ℕ) (o : Order) : Type 0 where
   pub pool : (page : ℕ) → Contains o.pool page ↔ ((page < p.pages) × (standing_on p m page ≡ 0))
   pub pool_once : IsDistinct nat_eq o.pool
@@ -38,25 +39,25 @@ pub record IsOrderOf (p : Paging) (m : Held) (limit : ℕ) (o : Order) : Type 0 
   pub spare_once : IsDistinct nat_eq o.spare
   pub spare_all : length o.spare + len m ≡ limit
 
--- the order of an empty heap: pages and numbers from 0 on
+-- the order of an empty heap: pages and numbers in rising order
 abbrev pub first_order : Paging → ℕ → Order
 first_order p limit = record { pool = range_with_len 0 p.pages; not_full = replicate (classes p) []; spare = range_with_len 0 limit }
 
--- an object stands at the address
+-- an object is at the address
 abbrev pub IsTaken : Held → ℕ → Type 0
 IsTaken m a = (q : ℕ) × (x : Placed) × (get m q ≡ Some x) × (x.place ≡ a)
 
--- of the slots of class c on the page this one is free, and each one below it is taken
+-- the slot of the page is free, and each lower slot is taken
 pub record IsLeastFree (p : Paging) (m : Held) (c page slot : ℕ) : Type 0 where
   pub free : ¬ IsTaken m (address_of p c page slot)
   pub least : (s : ℕ) → s < slot → IsTaken m (address_of p c page s)
 
--- of the slots of class c on the page this one is taken, and each one below it is free
+-- the slot of the page is taken, and each lower slot is free
 pub record IsLeastTaken (p : Paging) (m : Held) (c page slot : ℕ) : Type 0 where
   pub taken : IsTaken m (address_of p c page slot)
   pub least : (s : ℕ) → s < slot → ¬ IsTaken m (address_of p c page s)
 
--- the least free slot of the first partly full page of class c is taken; the page leaves its list if that fills it
+-- takes the least free slot of the first partly full page of class c; the page leaves its list if that fills it
 pub record TakesOnOpenPage (p : Paging) (m : Held) (old : Order) (c a : ℕ) (new : Order) : Type 0 where
   pub page : ℕ
   pub slot : ℕ
@@ -66,7 +67,7 @@ pub record TakesOnOpenPage (p : Paging) (m : Held) (old : Order) (c a : ℕ) (ne
   pub least : IsLeastFree p m c page slot
   pub left : new ≡ (if nat_eq (objects_on p m c page + 1) (slots_of p c) then with_not_full old c rest else old)
 
--- no page of class c is partly full, and slot 0 of the first free page is taken; the page is the only one of the list if that doesn't fill it
+-- no page of class c is partly full: takes slot 0 of the first free page; unless that fills the page, it becomes the only one in the class's list
 pub record TakesOnFreePage (p : Paging) (old : Order) (c a : ℕ) (new : Order) : Type 0 where
   pub page : ℕ
   pub rest : List ℕ
@@ -75,25 +76,25 @@ pub record TakesOnFreePage (p : Paging) (old : Order) (c a : ℕ) (new : Order) 
   pub front : old.pool ≡ page ∷ rest
   pub left : new ≡ record (if nat_eq (slots_of p c) 1 then old else with_not_full old c (page ∷ [])) { pool = rest }
 
--- the slot of class c that is next is taken, and this is its address
+-- takes the next slot of class c, whose address is a
 abbrev pub TakesNext : Paging → Held → Order → ℕ → ℕ → Order → Type 0
 TakesNext p m old c a new = TakesOnOpenPage p m old c a new ⊎ TakesOnFreePage p old c a new
 
--- a malloc gives the next number and takes the next slot
+-- a malloc uses the next number and takes the next slot
 pub record MallocFollows (p : Paging) (m : Held) (asked : Request) (place : ℕ) (old new : Order) : Type 0 where
   pub rest : List ℕ
   pub number : old.spare ≡ asked.number ∷ rest
   pub taken : TakesNext p m (record old { spare = rest }) (class_for p asked.length) place new
 
--- the order after a slot of class c becomes free: its page, if that empties it, goes from its list to the front of the free pages; and if it was full, to the
--- front of the partly full ones
+-- the order after a slot of class c on the page becomes free: if the page is then empty, it leaves its list and becomes the first free page; if it was full, it
+-- becomes the first partly full one
 abbrev pub slot_freed : Paging → Held → Order → ℕ → ℕ → Order
 slot_freed p m o c page =
     if nat_eq (objects_on p m c page) 1 then record (with_not_full o c (filter (λ other. not (nat_eq other page)) (not_full_in o c))) { pool = page ∷ o.pool }
     else if nat_eq (objects_on p m c page) (slots_of p c) then with_not_full o c (page ∷ not_full_in o c)
     else o
 
--- y stands at the least taken slot of the first partly full page of class c
+-- y is at the least taken slot of the first partly full page of class c
 pub record IsNextToMove (p : Paging) (m : Held) (o : Order) (c : ℕ) (y : Placed) : Type 0 where
   pub page : ℕ
   pub slot : ℕ
@@ -102,13 +103,13 @@ pub record IsNextToMove (p : Paging) (m : Held) (o : Order) (c : ℕ) (y : Place
   pub least : IsLeastTaken p m c page slot
   pub address : y.place ≡ address_of p c page slot
 
--- x goes: its slot becomes free, or another object moves there, and that one's slot becomes free
+-- x is removed: its slot becomes free, or another object moves there and that one's slot becomes free
 abbrev pub SlotFollows : Paging → Held → Placed → Option ℕ → Order → Order → Type 0
 SlotFollows p m x None old new = new ≡ slot_freed p m old (class_at p x) (page_of p x.place)
 SlotFollows p m x (Some q) old new = (y : Placed) × (get m q ≡ Some y) × IsNextToMove p m old (class_at p x) y
     × (new ≡ slot_freed p m old (class_at p x) (page_of p y.place))
 
--- a free moves the object that is next to move, if it moves one, and the number is the next one to be given
+-- a free moves the next object to move, if it moves one; the freed number is the next to be used
 pub record FreeFollows (p : Paging) (m : Held) (h : ℕ) (moved : Option ℕ) (old new : Order) : Type 0 where
   pub object : Placed
   pub found : get m h ≡ Some object
@@ -116,7 +117,7 @@ pub record FreeFollows (p : Paging) (m : Held) (h : ℕ) (moved : Option ℕ) (o
   pub slot : SlotFollows p m object moved old between
   pub number : new ≡ record between { spare = h ∷ between.spare }
 
--- a resize to another class takes the next slot there, and then the old one becomes free; in its class it changes nothing
+-- a resize to another class takes the next slot there, then frees the old one; within the class it changes nothing
 pub record ResizeFollows (p : Paging) (m : Held) (asked : Request) (after : Leaves) (old new : Order) : Type 0 where
   pub object : Placed
   pub found : get m asked.number ≡ Some object
@@ -126,14 +127,14 @@ pub record ResizeFollows (p : Paging) (m : Held) (asked : Request) (after : Leav
       × TakesNext p m old (class_for p asked.length) place between
       × SlotFollows p m object after.moved between new
 
--- the steps of reading or writing a word: a block table is one step more
+-- the steps of reading or writing a word: one more through the block table
 abbrev pub word_steps : Kind → ℕ
 word_steps Moving = 1
 word_steps NonMoving = 2
 word_steps Tlsf = 1
 word_steps HalfFit = 1
 
--- the steps of taking a slot of n on a partly full page with so many used ones: more if that fills it
+-- the steps of taking a slot on a page of n slots, `used` of them taken: more if that fills the page
 abbrev pub open_steps : ℕ → ℕ → ℕ
 open_steps used n = if nat_eq (used + 1) n then 13 else 5
 
@@ -141,11 +142,11 @@ open_steps used n = if nat_eq (used + 1) n then 13 else 5
 abbrev pub new_page_steps : ℕ
 new_page_steps = 11
 
--- the steps of freeing a slot of n on a page with so many used ones: more if that empties it, or if it was full
+-- the steps of freeing a slot on a page of n slots, `used` of them taken: more if that empties the page, or if it was full
 abbrev pub drop_steps : ℕ → ℕ → ℕ
 drop_steps used n = if nat_eq used 1 then 10 else if nat_eq used n then 13 else 5
 
--- the steps of finding the least used slot of a partly full page with so many used ones, and freeing it: more if that empties it
+-- the steps of finding the least taken slot of a partly full page with `used` taken slots, and freeing it: more if that empties the page
 abbrev pub fill_steps : ℕ → ℕ
 fill_steps used = if nat_eq used 1 then 12 else 7
 
@@ -157,6 +158,6 @@ steps_to_take p m o c = elim (not_full_in o c) [ [] ↦ new_page_steps | page �
 abbrev pub steps_to_drop : Paging → Held → ℕ → ℕ → ℕ
 steps_to_drop p m c page = drop_steps (objects_on p m c page) (slots_of p c)
 
--- the steps of freeing the slot of the object of class c that is next to move
+-- the steps of freeing the slot of the next object of class c to move
 abbrev pub steps_to_fill : Paging → Held → Order → ℕ → ℕ
 steps_to_fill p m o c = elim (not_full_in o c) [ [] ↦ 0 | page ∷ rest ↦ fill_steps (objects_on p m c page) ]

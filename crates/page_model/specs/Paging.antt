@@ -1,4 +1,4 @@
--- Pages and size classes, in numbers. A class is its index in the list of slot sizes.
+-- Pages and size classes as numbers. A class is an index into the list of slot sizes.
 use Rattle.std.specs.Prelude.{ℕ, ◌≡◌, ◌+◌, ◌*◌, ◌/◌, ◌≤◌, ◌<◌, List, length, slice_index, replicate, nat_le}
 use Rattle.std.specs.List.{position_or_len}
 use Rattle.cf_base.specs.Settings.{Profile}
@@ -6,7 +6,7 @@ use Rattle.cf_base.specs.Classes.{need, sizes, slots}
 use Rattle.cf_base.specs.Rising.{AreSizes}
 use Rattle.cf_base.specs.declared.kind.Layout.{Layout}
 
--- how many pages, the words of a page, the words of a slot by class, and by class how many pages may be partly full
+-- the number of pages, the words of a page, the words of a slot by class, and the bound of each class: how many of its pages may be partly full
 pub record Paging : Type 0 where
   pub pages : ℕ
   pub page_words : ℕ
@@ -17,7 +17,7 @@ pub record Paging : Type 0 where
 abbrev pub paging_of : Profile → Layout → List ℕ → Paging
 paging_of s layout bounds = record { pages = s.pages; page_words = s.page_words; sizes = sizes s.page_words layout; bounds = bounds }
 
--- every class has the bound of the settings
+-- every class has the bound k of the settings
 abbrev pub first_bounds : Profile → Layout → List ℕ
 first_bounds s layout = replicate (length (sizes s.page_words layout)) s.k
 
@@ -37,7 +37,7 @@ slots_of p c = slots p.page_words p.sizes c
 abbrev pub bound_of : Paging → ℕ → ℕ
 bound_of p c = slice_index p.bounds c
 
--- the class of an object of n bytes; the number of classes where none holds it
+-- the class of an object of n bytes; the number of classes if none holds it
 unfoldable pub class_for : Paging → ℕ → ℕ
 class_for p n = position_or_len (λ s. nat_le (need n) s) p.sizes
 
@@ -49,12 +49,12 @@ page_of p a = a / p.page_words
 abbrev pub address_of : Paging → ℕ → ℕ → ℕ → ℕ
 address_of p c page slot = page * p.page_words + slot * slot_words p c
 
--- the slot sizes are as they must be, and each class has a bound of at least 1
+-- the slot sizes are as `AreSizes` asks, and each class has a bound of at least 1
 pub record IsPaging (p : Paging) : Type 0 where
   pub sized : AreSizes p.page_words p.sizes
   pub bounded : length p.bounds ≡ length p.sizes
   pub some : (c : ℕ) → c < classes p → 1 ≤ bound_of p c
 
--- in each class one page at most may be partly full
+-- in each class at most one page may be partly full
 abbrev pub AreOne : Paging → Type 0
 AreOne p = (c : ℕ) → c < classes p → bound_of p c ≡ 1

@@ -5,77 +5,76 @@ use Rattle.page_model.specs.Held.{Held, Placed}
 use Rattle.page_model.specs.Paging.{Paging, slots_of, bound_of, class_for, page_of}
 use Rattle.page_model.specs.Arrangement.{class_at, objects_on, standing_on, not_full_pages, IsSlotAt}
 
--- an object that is asked for, or asked to change: its number, and its length in bytes
+-- an object that is requested or resized: its number, and its length in bytes
 pub record Request : Type 0 where
   pub number : ℕ
   pub length : ℕ
 
--- what a step leaves: the objects, and the other object that moved, if one did
+-- the result of a step: the objects, and the other object that moved, if one did
 pub record Leaves : Type 0 where
   pub held : Held
   pub moved : Option ℕ
 
--- An object of n bytes may be placed at the address: in a slot that is free, on a page of its class that is partly full, or where there is none on a page that
--- holds nothing.
+-- an object of n bytes may be placed at the address: in a free slot of a partly full page of its class, or, if there is no such page, of a page without objects
 pub record IsFreePlace (p : Paging) (m : Held) (n a : ℕ) : Type 0 where
   pub slot : IsSlotAt p (class_for p n) a
   pub unused : (q : ℕ) (y : Placed) → get m q ≡ Some y → y.place ≢ a
   pub choice : ((0 < objects_on p m (class_for p n) (page_of p a)) × (objects_on p m (class_for p n) (page_of p a) < slots_of p (class_for p n)))
       ⊎ ((not_full_pages p m (class_for p n) ≡ 0) × (standing_on p m (page_of p a) ≡ 0))
 
--- so many zeros at an address
+-- n zeros at an address
 abbrev pub zeros_at : ℕ → ℕ → Placed
 zeros_at a n = record { place = a; bytes = replicate n 0 }
 
--- a malloc: zeros come to a free place under a number that wasn't in use
+-- a malloc: an object of zeros is placed at a free address, under a number that wasn't in use
 pub record PlacesObject (p : Paging) (old : Held) (asked : Request) (new : Held) : Type 0 where
   pub place : ℕ
   pub unused : get old asked.number ≡ None
   pub free : IsFreePlace p old asked.length place
   pub placed : new ≡ insert old asked.number (zeros_at place asked.length)
 
--- A free of x moves an object: its page is full and has more than one slot, and its class has as many partly full pages as it may.
+-- a free of x must move an object: its page is full, pages of its class have several slots, and its class has reached its bound of partly full pages
 pub record MustMove (p : Paging) (m : Held) (x : Placed) : Type 0 where
   pub full : objects_on p m (class_at p x) (page_of p x.place) ≡ slots_of p (class_at p x)
   pub several : 1 < slots_of p (class_at p x)
   pub many : not_full_pages p m (class_at p x) ≡ bound_of p (class_at p x)
 
--- y is of the class of x, on a partly full page
+-- y is of the class of x, and its page isn't full
 pub record MayFill (p : Paging) (m : Held) (x y : Placed) : Type 0 where
   pub class : class_at p y ≡ class_at p x
   pub not_full : objects_on p m (class_at p x) (page_of p y.place) < slots_of p (class_at p x)
 
--- a free of x moves this object, or none
+-- a free of x moves the object q, or none
 abbrev pub Moves : Paging → Held → Placed → Option ℕ → Type 0
 Moves p m x None = ¬ MustMove p m x
 Moves p m x (Some q) = MustMove p m x × ((y : Placed) × (get m q ≡ Some y) × MayFill p m x y)
 
--- the same objects, with this one at another address
+-- object q gets the address a; the others stay
 abbrev pub moved_to : Held → ℕ → Option Placed → ℕ → Held
 moved_to m q None a = m
 moved_to m q (Some y) a = insert m q (record { place = a; bytes = y.bytes })
 
--- without object h, whose address is then that of the object that moved
+-- without object h; if an object moved, it has the address a
 abbrev pub without : Held → ℕ → ℕ → Option ℕ → Held
 without m h a None = remove m h
 without m h a (Some q) = moved_to (remove m h) q (get m q) a
 
--- a free: the object goes, and where it must be so one object of its class takes its place
+-- a free: the object is removed, and if `MustMove` holds one object of its class moves to its address
 pub record RemovesObject (p : Paging) (old : Held) (h : ℕ) (after : Leaves) : Type 0 where
   pub freed : Placed
   pub found : get old h ≡ Some freed
   pub moves : Moves p old freed after.moved
   pub left : after.held ≡ without old h freed.place after.moved
 
--- the first n bytes, filled up with zeros
+-- the first n bytes of v, then zeros up to n
 abbrev pub resized : List ℕ → ℕ → List ℕ
 resized v n = take n v ++ replicate (n - length v) 0
 
--- the object that a resize gives, at an address
+-- the resized object, at an address
 abbrev pub resized_at : ℕ → Placed → ℕ → Placed
 resized_at a x n = record { place = a; bytes = resized x.bytes n }
 
--- A resize within the class: the address stays.
+-- a resize within the class: the address stays
 pub record ResizesInPlace (p : Paging) (old : Held) (asked : Request) (after : Leaves) : Type 0 where
   pub object : Placed
   pub found : get old asked.number ≡ Some object
@@ -83,8 +82,7 @@ pub record ResizesInPlace (p : Paging) (old : Held) (asked : Request) (after : L
   pub placed : after.held ≡ insert old asked.number (resized_at object.place object asked.length)
   pub still : after.moved ≡ None
 
--- A resize to another class: a malloc under a number that isn't in use, with the old object still there, then a free of the old object, and the new one gets
--- its number.
+-- a resize to another class: a malloc under a spare number, with the old object still there, then a free of the old object; the new one gets its number
 pub record ChangesClass (p : Paging) (old : Held) (asked : Request) (after : Leaves) : Type 0 where
   pub object : Placed
   pub found : get old asked.number ≡ Some object
@@ -97,5 +95,6 @@ pub record ChangesClass (p : Paging) (old : Held) (asked : Request) (after : Lea
   pub freed : RemovesObject p (insert old spare (resized_at place object asked.length)) asked.number (record { held = left; moved = after.moved })
   pub renamed : after.held ≡ insert (remove left spare) asked.number (resized_at place object asked.length)
 
+-- a resize, within its class or to another
 abbrev pub RefitsObject : Paging → Held → Request → Leaves → Type 0
 RefitsObject p old asked after = ResizesInPlace p old asked after ⊎ ChangesClass p old asked after

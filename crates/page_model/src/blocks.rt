@@ -7,7 +7,8 @@ ghost use Rattle.page_model.specs.Image.{IsSlotImage, object_word, slot_for};
 ghost use Rattle.page_model.specs.Paging.{Paging};
 ghost use Rattle.page_model.specs.Steps.{RemovesObject, RefitsObject, Leaves, Request, ResizesInPlace};
 
-/// The frames of an empty heap, and those after each step, have every number once.
+/// The frames of an empty heap, and those after each free and each resize, contain every number
+/// once.
 pub fn frames_stay_permuted()
     ensures first { (n : ℕ) → IsPermuted (first_frames n) × (length (first_frames n) ≡ n) }
     ensures free { (p : Paging) (old : Held) (frames : List ℕ) (h : ℕ) (after : Leaves)
@@ -18,8 +19,9 @@ pub fn frames_stay_permuted()
         → AreFramed p after.held (frames_after p old after frames) }
 {}
 
-/// Each block of an object stays the same while other objects are freed or resized, also where it
-/// moves, and while it is itself resized within its class. A malloc changes no frame and no address.
+/// Each block of an object stays the same while other objects are freed or resized, even if the
+/// object moves. It also stays while the object is resized within its class. A malloc changes no
+/// frame and no address.
 pub fn blocks_of_others_stay()
     ensures free { (p : Paging) (old : Held) (frames : List ℕ) (h : ℕ) (after : Leaves)
         → AreFramed p old frames → RemovesObject p old h after
@@ -40,7 +42,7 @@ pub fn blocks_of_others_stay()
         ≡ block_of frames y.place i }
 {}
 
-/// No block is one of two live objects.
+/// No two live objects share a block.
 pub fn live_objects_share_no_block()
     ensures { (p : Paging) (m : Held) (frames : List ℕ) → AreFramed p m frames
         → (h q : ℕ) (x y : Placed) → get m h ≡ Some x → get m q ≡ Some y → q ≢ h
@@ -48,7 +50,7 @@ pub fn live_objects_share_no_block()
         → block_of frames x.place i ≢ block_of frames y.place j }
 {}
 
-/// Word i of an object's slot stands in word i modulo 4 of its block i / 4. So a step that keeps an
+/// Word i of an object's slot is word i modulo 4 of its block i / 4. So a step that keeps an
 /// object's blocks and bytes keeps its physical words.
 pub fn slots_stand_in_their_blocks()
     ensures { (p : Paging) (m : Held) (frames words physical : List ℕ) → AreFramed p m frames

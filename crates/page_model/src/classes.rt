@@ -9,8 +9,8 @@ ghost use Rattle.page_model.specs.Frames.{AreBlocks};
 ghost use Rattle.page_model.specs.Paging.{AreOne, IsPaging, Paging, address_of, class_for, classes, first_bounds, page_of, paging_of, slot_words, slots_of};
 ghost use Rattle.page_model.specs.Arrangement.{IsSlotAt};
 
-/// The slot sizes of a page rise from 4 words at least to the page, in words and in blocks, and
-/// each class has a bound: that of the settings, or another of at least 1.
+/// The slot sizes of a page, in words and in blocks, rise from at least 4 words to the page. Each
+/// class has a bound: that of the settings, or another one of at least 1.
 pub fn slot_sizes_rise()
     ensures first { (s : Profile) (layout : Layout) → IsTrue (is_page_size s.page_words) → 1 ≤ s.k
         → IsPaging (paging_of s layout (first_bounds s layout)) }
@@ -21,8 +21,8 @@ pub fn slot_sizes_rise()
         → IsPaging (paging_of s layout bounds) }
 {}
 
-/// With the bound 1 in the settings every class has it; pages of whole blocks have slots of whole
-/// blocks; and a page has at most a slot for every four words.
+/// If k is 1 in the settings, every class has the bound 1. Pages of whole blocks have slots of
+/// whole blocks. A page has at most one slot for every four words.
 pub fn slots_are_few_and_in_blocks()
     ensures ones { (s : Profile) (layout : Layout) → s.k ≡ 1
         → AreOne (paging_of s layout (first_bounds s layout)) }
@@ -47,7 +47,7 @@ pub fn a_class_holds_its_requests()
         → class_of p.sizes n ≡ None }
 {}
 
-/// The slots of a class are those of the pages, counted on each page from 0.
+/// The addresses of a class's slots are those of the slot numbers, from 0, on each page.
 pub fn slots_have_addresses()
     ensures slot { (p : Paging) (c page slot : ℕ) → IsPaging p → c < classes p
         → page < p.pages → slot < slots_of p c

@@ -1,6 +1,6 @@
-//! Arrangements of objects on pages, as Compact-fit (2008) has them: what a sound one is, what a
-//! malloc, a free and a resize do to it, and to the words and blocks of the region. The public
-//! functions do nothing: each one's contract is a law of these definitions.
+//! Arrangements of objects on pages, as in Compact-fit (2008): what a sound arrangement is, and how
+//! a malloc, a free and a resize change it, the words and the blocks. The public functions do
+//! nothing; each contract is a law of these definitions.
 #![tactic(auto)]
 
 mod blocks;

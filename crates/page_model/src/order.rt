@@ -7,9 +7,8 @@ ghost use Rattle.page_model.specs.Order.{FreeFollows, IsOrderOf, MallocFollows, 
 ghost use Rattle.page_model.specs.Paging.{IsPaging, Paging, class_for, classes};
 ghost use Rattle.page_model.specs.Steps.{IsFreePlace, Leaves, RemovesObject, Request, zeros_at};
 
-/// Two mallocs of the same length that follow the same order give the same number and the same
-/// place, and leave the same order; and two frees of the same object leave the same objects and the
-/// same order.
+/// Two mallocs of the same length that follow the same order give the same number and address, and
+/// leave the same order. Two frees of the same object leave the same objects and the same order.
 pub fn an_order_leaves_no_choice()
     ensures malloc { (p : Paging) (m : Held) (asked other : Request) (place elsewhere : ℕ) (old new next : Order)
         → MallocFollows p m asked place old new → MallocFollows p m other elsewhere old next → asked.length ≡ other.length
@@ -20,8 +19,8 @@ pub fn an_order_leaves_no_choice()
         → (after ≡ other) × (new ≡ next) }
 {}
 
-/// If the first partly full page of its class has a free slot, a malloc can follow the order, and it
-/// leaves an order of the new arrangement.
+/// If the class of a request has a partly full page, a malloc can follow the order. It leaves an
+/// order of the new arrangement.
 pub fn a_malloc_can_follow_an_order()
     ensures { (p : Paging) (m : Held) (limit n h page : ℕ) (o : Order) (rest pages : List ℕ) → IsPaging p → IsSound p m → IsOrderOf p m limit o
         → class_for p n < classes p → o.spare ≡ h ∷ rest → not_full_in o (class_for p n) ≡ page ∷ pages

@@ -1,4 +1,4 @@
-//! When a sound arrangement has no room for one more object of a class.
+//! When a sound arrangement has no slot left for one more object of a class.
 ghost use Rattle.std.specs.Prelude.{ℕ, ◌≡◌, ◌+◌, ◌/◌, ◌%◌, ◌<◌, ◌≤◌, ◌↔◌, List, None, length};
 ghost use Rattle.std.specs.FinMap.{get, insert};
 ghost use Rattle.page_model.specs.Arrangement.{IsSound, LacksRoom, free_pages, live, most_pages_besides, not_full_pages, pages_needed, pages_needed_with};
@@ -6,14 +6,14 @@ ghost use Rattle.page_model.specs.Arrangement.{used_pages};
 ghost use Rattle.page_model.specs.Held.{Held, Objects, objects};
 ghost use Rattle.page_model.specs.Paging.{AreOne, IsPaging, Paging, class_for, classes, slots_of};
 
-/// A class lacks room exactly where none of its pages is partly full, and no page is free.
+/// A class has no slot left if and only if none of its pages is partly full and no page is free.
 pub fn lack_of_room_is_no_page_left()
     ensures { (p : Paging) (m : Held) (c : ℕ) → IsSound p m
         → LacksRoom p m c ↔ ((not_full_pages p m c ≡ 0) × (free_pages p m ≡ 0)) }
 {}
 
-/// Where a class lacks room its objects fill their pages, and the objects of the other classes can
-/// stand on as many pages as are left.
+/// If a class has no slot left, its objects fill their pages. There are no more other pages than
+/// the objects of the other classes can be on.
 pub fn pages_where_room_is_lacking()
     ensures { (p : Paging) (m : Held) (c : ℕ) → IsPaging p → IsSound p m → c < classes p
         → LacksRoom p m c
@@ -21,21 +21,21 @@ pub fn pages_where_room_is_lacking()
         × (p.pages ≤ live p (objects m) c / slots_of p c + most_pages_besides p (objects m) c) }
 {}
 
-/// Whatever the bounds, the objects stand on at least the pages that they need by arithmetic.
+/// Whatever the bounds, the objects are on at least the pages that they need by arithmetic.
 pub fn objects_need_no_more_pages()
     ensures { (p : Paging) (m : Held) → IsPaging p → IsSound p m
         → pages_needed p (objects m) ≤ used_pages p m }
 {}
 
-/// Where every bound is 1, the pages in use are those that the objects need by arithmetic.
+/// If every bound is 1, the pages in use are exactly those that the objects need by arithmetic.
 pub fn pages_are_those_needed_at_bound_one()
     ensures { (p : Paging) (m : Held) → IsPaging p → AreOne p → IsSound p m
         → used_pages p m ≡ pages_needed p (objects m) }
 {}
 
-/// Where every bound is 1, there is no room for an object of n bytes exactly where the objects need
-/// more pages with it than there are. So it is for a malloc, and for a resize into another class,
-/// where the old object counts too.
+/// Let every bound be 1. No slot is left for an object if and only if the objects with it need more
+/// pages than there are. This covers a malloc, and a resize to another class, in which the old
+/// object counts too.
 pub fn lack_of_room_is_arithmetic_at_bound_one()
     ensures room { (p : Paging) (m : Held) (n : ℕ) → IsPaging p → AreOne p → IsSound p m
         → class_for p n < classes p

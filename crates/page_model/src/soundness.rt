@@ -8,15 +8,15 @@ ghost use Rattle.page_model.specs.Paging.{IsPaging, Paging, bound_of, class_for,
 ghost use Rattle.page_model.specs.Steps.{ChangesClass, IsFreePlace, RemovesObject, PlacesObject, RefitsObject, MayFill, Moves, MustMove, Leaves, Request};
 ghost use Rattle.page_model.specs.Steps.{resized_at, without, zeros_at};
 
-/// Without objects an arrangement is sound, whatever the bounds, and has no pages.
+/// The empty arrangement is sound, whatever the bounds, and uses no page.
 pub fn nothing_is_a_sound_arrangement()
     ensures sound { (p : Paging) → IsSound p empty }
     ensures pages { (p : Paging) (c : ℕ) → home_pages p empty c ≡ 0 }
     ensures not_full { (p : Paging) (c : ℕ) → not_full_pages p empty c ≡ 0 }
 {}
 
-/// The pages of a class are a number on which its objects can stand, and no page holds more than
-/// its slots.
+/// The number of pages of a class is one that its objects can be on, and no page holds more objects
+/// than it has slots.
 pub fn page_counts_of_a_sound_arrangement()
     ensures can_hold { (p : Paging) (m : Held) (c : ℕ) → IsPaging p → IsSound p m → c < classes p
         → CanHold (home_pages p m c) (live p (objects m) c) (slots_of p c) (bound_of p c) }
@@ -35,21 +35,21 @@ pub fn a_malloc_keeps_soundness()
         → PlacesObject p old asked new → IsSound p new }
 {}
 
-/// A free keeps an arrangement sound, where an object moves and where none does.
+/// A free keeps an arrangement sound, whether it moves an object or not.
 pub fn a_free_keeps_soundness()
     ensures { (p : Paging) (old : Held) (h : ℕ) (after : Leaves) → IsPaging p → IsSound p old
         → RemovesObject p old h after → IsSound p after.held }
 {}
 
-/// A resize keeps an arrangement sound, within its class and to another one.
+/// A resize keeps an arrangement sound, within the class and to another one.
 pub fn a_resize_keeps_soundness()
     ensures { (p : Paging) (old : Held) (asked : Request) (after : Leaves) → IsPaging p
         → IsSound p old
         → RefitsObject p old asked after → IsSound p after.held }
 {}
 
-/// A resize to another class is this: the object stands at a free place under its own number, and
-/// the rest is what a free of its old address leaves. `spare` is any number that isn't in use.
+/// A resize to another class has this result: the object is at a free address under its own number,
+/// and the rest is what a free of its old address leaves. `spare` is any number that isn't in use.
 pub fn a_resize_in_two_steps()
     ensures given { (p : Paging) (m : Held) (h n a spare : ℕ) (x : Placed) (moved : Option ℕ)
         → IsPaging p → IsSound p m → get m h ≡ Some x → class_for p n ≢ class_at p x
@@ -85,8 +85,8 @@ pub fn counts_after_a_malloc()
         ≡ objects_on p m c page + cond (is_on p c page x) 1 0 }
 {}
 
-/// A free takes one from the objects of its class on one page: its own, or that of the object that
-/// moved.
+/// A free takes one from the objects of its class on one page: that of the freed object, or that of
+/// the object that moved.
 pub fn counts_after_a_free()
     ensures still { (p : Paging) (m : Held) (h a c page : ℕ) (x : Placed) → get m h ≡ Some x
         → objects_on p (without m h a None) c page + cond (is_on p c page x) 1 0
@@ -98,8 +98,8 @@ pub fn counts_after_a_free()
         ≡ objects_on p m c page }
 {}
 
-/// Where the objects of a class have changed on one page alone, its pages and its pages that are
-/// partly full change as that page does.
+/// If the objects of a class changed on one page alone, its counts of pages and of partly full
+/// pages change as that page does.
 pub fn page_counts_follow_one_page()
     ensures pages { (p : Paging) (old new : Held) (c page : ℕ) → page < p.pages
         → ((g : ℕ) → g ≢ page → objects_on p new c g ≡ objects_on p old c g)

@@ -9,8 +9,8 @@ ghost use Rattle.page_model.specs.Image.{Clears, IsImage, IsSlotImage, MovesWord
 ghost use Rattle.page_model.specs.Paging.{IsPaging, Paging, class_for};
 ghost use Rattle.page_model.specs.Steps.{IsFreePlace, MayFill, MustMove, resized, without, zeros_at};
 
-/// The words of a region are determined by its objects; those of an empty one are zeros. What is
-/// said of whole slots holds of the objects' own words.
+/// The objects determine the words of a region; those of an empty region are zeros. If whole slots
+/// are right, so are the objects' own words.
 pub fn words_are_one_list()
     ensures one { (m : Held) (u v : List ℕ) → length u ≡ length v → IsImage m u → IsImage m v
         → u ≡ v }
@@ -19,7 +19,7 @@ pub fn words_are_one_list()
         → IsSlotImage p m words → IsImage m words }
 {}
 
-/// A malloc writes the header into zeros, and no other word.
+/// A malloc writes its header into zeros, and no other word.
 pub fn words_after_a_malloc()
     ensures zeros { (p : Paging) (m : Held) (words : List ℕ) (h n a : ℕ) → IsPaging p → IsSound p m
         → IsSlotImage p m words → get m h ≡ None → IsFreePlace p m n a
@@ -30,7 +30,7 @@ pub fn words_after_a_malloc()
         → IsSlotImage p (insert m h (zeros_at a n)) (slice_set words a (header_word h n)) }
 {}
 
-/// A write rewrites those words of the object that hold one of its bytes.
+/// A write changes only those words of the object that hold one of the written bytes.
 pub fn words_after_a_write()
     ensures bytes { (p : Paging) (m : Held) (old new : List ℕ) (h at : ℕ) (x : Placed)
         (bytes : List ℕ)
@@ -49,8 +49,8 @@ pub fn words_after_a_write()
         → IsSlotImage p (insert m h (record { place = x.place; bytes = bytes })) new }
 {}
 
-/// A free clears the object's slot, or moves there the slot of the object that moves, and leaves
-/// zeros where that one stood.
+/// A free clears the object's slot, or moves the slot of another object there and clears that
+/// one's.
 pub fn words_after_a_free()
     ensures still { (p : Paging) (m : Held) (old new : List ℕ) (h : ℕ) (x : Placed)
         → IsPaging p → IsSound p m → IsSlotImage p m old → get m h ≡ Some x
@@ -67,8 +67,8 @@ pub fn words_after_a_free()
         → IsSlotImage p (insert (remove m h) q (record { place = x.place; bytes = y.bytes })) new }
 {}
 
-/// A resize to another class writes the new slot, with the old one still there, and then clears the
-/// old slot or moves there the slot of the object that moves. `spare` is any number that isn't in
+/// A resize to another class writes the new slot while the old one is still there. Then it clears
+/// the old slot, or moves the slot of another object there. `spare` is any number that isn't in
 /// use.
 pub fn words_after_a_resize()
     ensures still { (p : Paging) (m : Held) (old mid new : List ℕ) (h a spare : ℕ) (x : Placed)
@@ -98,7 +98,7 @@ pub fn words_after_a_resize()
         new }
 {}
 
-/// The header of an object tells its number and its length.
+/// The header of an object holds its number and its length.
 pub fn headers_tell()
     ensures { (m : Held) (words : List ℕ) (h : ℕ) (x : Placed) → IsImage m words → get m h ≡ Some x
         → h < 2 ^ 32
@@ -106,13 +106,13 @@ pub fn headers_tell()
         ≡ length x.bytes) }
 {}
 
-/// The objects can be read back from the words and the addresses.
+/// The words and the addresses determine the objects.
 pub fn words_tell_what_is_held()
     ensures { (m : Held) (at : FinMap nat_cmp ℕ) (words : List ℕ) → IsImage m words → at ≡ places m
         → AreStorable m → held_at words at ≡ m }
 {}
 
-/// What stands at the addresses has these addresses, and the bytes that the words tell.
+/// The objects that words and addresses determine have these addresses, and bytes.
 pub fn what_stands_at_places()
     ensures places { (words : List ℕ) (at : FinMap nat_cmp ℕ) → places (held_at words at) ≡ at }
     ensures found { (words : List ℕ) (at : FinMap nat_cmp ℕ) (h : ℕ) (x : Placed)
@@ -122,7 +122,7 @@ pub fn what_stands_at_places()
         → get (held_at words at) h ≡ Some x → AreBytes x.bytes }
 {}
 
-/// Objects stay such that words can tell of them.
+/// Each step leaves objects that words can represent.
 pub fn objects_stay_storable()
     ensures comes { (m : Held) (h : ℕ) (x : Placed) → AreStorable m → h < 2 ^ 32 → AreBytes x.bytes
         → AreStorable (insert m h x) }
@@ -134,7 +134,7 @@ pub fn objects_stay_storable()
         → AreBytes v → AreBytes bytes → AreBytes (written v at bytes) }
 {}
 
-/// Byte k of an object stands in byte k modulo 8 of the word k / 8 after its header.
+/// Byte k of an object is byte k modulo 8 of the word k / 8 after its header.
 pub fn bytes_are_read_back()
     ensures { (m : Held) (words : List ℕ) (h k : ℕ) (x : Placed) → IsImage m words
         → get m h ≡ Some x
@@ -142,7 +142,7 @@ pub fn bytes_are_read_back()
         → byte_of (k % 8) (slice_index words (x.place + 1 + k / 8)) ≡ slice_index x.bytes k }
 {}
 
-/// A word of 64 bits is its eight bytes, and those of an object are such words.
+/// Words of 64 bits with the same eight bytes are equal. The words of an object fit 64 bits.
 pub fn a_word_is_its_bytes()
     ensures same { (u v : ℕ) → u < 2 ^ 64 → v < 2 ^ 64 → ((j : ℕ) → j < 8
         → byte_of j u ≡ byte_of j v) → u ≡ v }
@@ -150,7 +150,7 @@ pub fn a_word_is_its_bytes()
         → object_word h v i < 2 ^ 64 }
 {}
 
-/// What is written over a part of an object's bytes changes that part alone.
+/// Writing over a part of an object's bytes changes that part alone.
 pub fn a_part_is_written()
     ensures len { (v : List ℕ) (at : ℕ) (bytes : List ℕ) → at + length bytes ≤ length v
         → length (written v at bytes) ≡ length v }

@@ -1,4 +1,4 @@
--- Lists of free pages: what upper crates may cite.
+-- Lists of free pages: what other crates' proofs may cite.
 use Rattle.std.proofs.Common.{◌≡◌, ℕ, zero, suc, ◌+◌, ◌<◌, ◌≤◌, Bool, true, false, List, [], ◌∷◌, length, arith, refl, inl, inr, ◌⊎◌, eqb, eq-eqb, ◌||◌}
 use Rattle.std.proofs.lemmas.Bool.{eqb-true, ne_eqb}
 use Rattle.std.proofs.lemmas.Map.Steps.{length-le_from_distinct_below}
@@ -24,7 +24,7 @@ both_false false b h k = k
 abbrev pub Pooled : ℕ → List ℕ → Type 0
 Pooled n free = IsPool (record { pages = n; free = free })
 
--- the first page isn't among the rest
+-- the first page isn't among the other free pages
 pub front_gone : (n page : ℕ) (free : List ℕ) → Pooled n (page ∷ free) → is_in_pool free page ≡ false
 front_gone n page free h = h.distinct.0
 
@@ -53,15 +53,15 @@ unfolding IsDistinct
 distinct_by_test [] h = tt
 distinct_by_test (page ∷ free) h = (others_by_test page free h.0, distinct_by_test free h.1)
 
--- no more pages are free than there are
+-- at most all pages are free
 pub free_within : (n : ℕ) (free : List ℕ) → Pooled n free → length free ≤ n
 free_within n free h = length-le_from_distinct_below free n (distinct_by_test free h.distinct) h.below
 
--- while a page isn't free, fewer are free than there are
+-- if a page isn't free, fewer pages are free than there are
 pub free_room : (n page : ℕ) (free : List ℕ) → Pooled n free → page < n → is_in_pool free page ≡ false → length free < n
 free_room n page free h lt gone = let all = free_within n (page ∷ free) (pooled_front n page free h lt gone) in omega arith
 
--- the numbers from a on
+-- the numbers from a on have none below a
 range_absent : (a n page : ℕ) → page < a → is_in_pool (range_with_len a n) page ≡ false
 range_absent a zero page lt = refl
 range_absent a (suc n) page lt = both_false (eqb page a) (is_in_pool (range_with_len (a + 1) n) page) (ne_eqb page a (omega arith))

@@ -1,8 +1,8 @@
--- How a page pool lies in memory. No public clause cites this module.
+-- How a page pool is laid out in memory. No public clause cites this module.
 use Rattle.std.specs.Prelude.{ℕ, ◌^◌, ◌<◌, ◌≤◌, List, length, drop}
 use Rattle.page_pool.specs.Pool.{Pool, IsPool}
 
--- the free pages stand from index `first` on, and before it what was taken
+-- the free pages are those from index `first` on; before it are pages that were taken
 abbrev pub pool_of : List ℕ → ℕ → Pool
 pool_of stack first = record { pages = length stack; free = drop first stack }
 

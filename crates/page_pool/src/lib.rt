@@ -1,4 +1,4 @@
-//! A pool of free pages, last in, first out. Each page is taken and given for one step.
+//! A pool of free pages, last in, first out. Taking a page costs one step, returning it too.
 #![tactic(auto)]
 
 mod pool;

@@ -9,7 +9,7 @@ use std::alloc::Global;
 use std::marker::Model;
 use step_ledger::Steps;
 
-/// The free ones of so many pages. The page that was given last is taken first.
+/// The free pages of a region. The page that was returned last is taken first.
 #[derive(Drop)]
 pub struct PagePool {
     stack: Cells<u32>,
@@ -30,7 +30,7 @@ impl Model for PagePool {
 }
 
 impl PagePool {
-    /// The pages 0 to n - 1, all free, with 0 first. It alone takes memory.
+    /// The pages 0 to n - 1, all free, with 0 first. Only this call takes memory.
     pub fn new(alloc: Global, n: u32) -> Result<PagePool, OutOfMemory>
         ensures pool { IfOk result (λ p. p ≡ record { pages = n; free = range_with_len 0 n }) }
         ensures kept { IfOk result (λ p. IsPool p) }
@@ -44,7 +44,7 @@ impl PagePool {
         }
     }
 
-    /// How many pages are free.
+    /// The number of free pages.
     pub fn left(&self) -> u32
         ensures len { result ≡ length self.now.free }
         ensures kept { IsPool self.now }
@@ -52,7 +52,7 @@ impl PagePool {
         (self.stack.len() - self.first) as u32
     }
 
-    /// Takes the first page, for one step. There is none where no page is free.
+    /// Takes the first page; none if no page is free.
     pub fn take(&mut self, steps: &mut Steps) -> Option<u32>
         ensures taken { TakesFront self.old result self.new }
         ensures steps { RoseBy steps.old steps.new 1 }
@@ -67,7 +67,7 @@ impl PagePool {
         Some(page)
     }
 
-    /// Puts a page that isn't free at the head, for one step.
+    /// Returns a page that isn't free to the pool. It will be taken next.
     pub fn give(&mut self, page: u32, steps: &mut Steps)
         requires within { page < self.old.pages }
         requires taken { is_in_pool self.old.free page ≡ false }

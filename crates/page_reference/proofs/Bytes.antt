@@ -29,7 +29,7 @@ take_nil : (n : ℕ) → take {A = ℕ} n [] ≡ []
 take_nil zero = refl
 take_nil (suc n) = refl
 
--- a word of bytes is its first byte and a word of the others
+-- a word of bytes is its first byte, and the word of the others times 256
 next : (v : List ℕ) (k l n : ℕ) → l ≡ k + 1 → word_of_bytes (take (suc n) (drop k v)) ≡ get_or v k 0 + 256 * word_of_bytes (take n (drop l v))
 next v k l n is = elim (cases_lt k (length v)) [
   | inl lt ↦ (ap (λ (xs : List ℕ). word_of_bytes (take (suc n) xs)) (drop_more v k 0 lt)
@@ -56,7 +56,7 @@ eight v k =
     let h : word_of_bytes (take 1 (drop (k + 7) v)) ≡ get_or v (k + 7) 0 + 0 = next v (k + 7) (k + 8) 0 (omega arith) in
     omega arith
 
--- a word after the header
+-- a word of an object after its header
 pub word_behind : (h : ℕ) (v : List ℕ) (i : ℕ) → 0 < i → word_of_bytes (take 8 (drop (8 * (i - 1)) v)) ≡ object_word h v i
 word_behind h v zero some = absurd (omega arith)
 word_behind h v (suc i) some = ap (λ j. word_of_bytes (take 8 (drop (8 * j) v))) (omega arith)

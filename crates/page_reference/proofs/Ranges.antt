@@ -1,4 +1,4 @@
--- Sums over the numbers below a bound, one number more.
+-- Sums over the numbers below a bound, extended by one number.
 use Rattle.std.proofs.Common.{◌≡◌, ℕ, zero, suc, ◌+◌, [], ◌∷◌, Bool, arith, ap, ◌∙◌, add-one}
 use Rattle.std.specs.Prelude.{sum_by, count_by}
 use Rattle.std.specs.List.{range_with_len}
@@ -18,14 +18,14 @@ module _ (f : ℕ → ℕ) where
   pub sum_more : (n : ℕ) → sum_by f (range_with_len 0 (n + 1)) ≡ sum_by f (range_with_len 0 n) + f n
   sum_more n = rw (add-one) (more_from 0 n ∙ ap (λ k. sum_by f (range_with_len 0 n) + f k) (omega arith))
 
--- a sum so far, with the next number
+-- a sum extended by the next number
 pub sum_step : (f : ℕ → ℕ) (n i k : ℕ) → n ≡ sum_by f (range_with_len 0 i) → k ≡ f i → n + k ≡ sum_by f (range_with_len 0 (i + 1))
 sum_step f n i k so_far here = (let e = sum_more f i in omega arith)
 
--- a count so far, with the next number
+-- a count extended by the next number
 pub count_step : (f : ℕ → Bool) (n i : ℕ) (b : Bool) → n ≡ count_by f (range_with_len 0 i) → b ≡ f i → n + one b ≡ count_by f (range_with_len 0 (i + 1))
 count_step f n i b so_far here = sum_step (λ x. one (f x)) n i (one b) so_far (ap one here)
 
--- a sum that has come to its end
+-- a sum over all numbers below the end
 pub sum_done : (f : ℕ → ℕ) (n i end : ℕ) → n ≡ sum_by f (range_with_len 0 i) → i ≡ end → n ≡ sum_by f (range_with_len 0 end)
 sum_done f n i end so_far is = so_far ∙ ap (λ k. sum_by f (range_with_len 0 k)) is

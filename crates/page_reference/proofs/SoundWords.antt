@@ -1,4 +1,4 @@
--- The words of a sound arrangement: no two objects share one, and all lie in the region.
+-- The words of a sound arrangement: no two objects share one, and all are in the region.
 use Rattle.std.proofs.Common.{◌≡◌, ℕ, ◌≤◌, ◌<◌, true, Some, length, get_or, arith, inl, inr}
 use Rattle.std.specs.Prelude.{nat_le}
 use Rattle.std.specs.List.{position_or_len}
@@ -17,14 +17,14 @@ narrowed : (a n b m k l : ℕ) → k ≤ n → l ≤ m → IsDisjoint a n b m �
 narrowed a n b m k l p q (inl x) = inl (omega arith)
 narrowed a n b m k l p q (inr y) = inr (omega arith)
 
--- a class that is there has slots that are large enough
+-- the slots of an object's class are large enough for it
 slot_holds : (p : Paging) (n : ℕ) → class_for p n < classes p → need n ≤ slot_words p (class_for p n)
 unfolding class_for
 slot_holds p n lt = (let pass : nat_le (need n) (get_or p.sizes (position_or_len (λ s. nat_le (need n) s) p.sizes) 0) ≡ true =
     passes_at_first (λ s. nat_le (need n) s) p.sizes 0 lt in grind (arith, nat_tests))
 
 module _ (p : Paging) (m : Held) (s : IsSound p m) where
-  -- a slot is as large as its object needs
+  -- an object's slot is as large as the object needs
   held_fits : (h : ℕ) (x : Placed) → get m h ≡ Some x → need (length x.bytes) ≤ slot_for p (length x.bytes)
   held_fits h x e = slot_holds p (length x.bytes) (s.slots h x e).class
 

@@ -1,4 +1,4 @@
--- Changes of a table of objects, and of the map that it stands for.
+-- Changes of a table of objects, and of the map that it represents.
 use Rattle.std.proofs.Common.{◌≡◌, ℕ, ◌+◌, ◌<◌, ◌≤◌, List, [], ◌∷◌, ◌++◌, Option, Some, None, length, get_or, set, map, sym, ◌∙◌, ap, refl, inl, inr}
 use Rattle.std.specs.Prelude.{option_map}
 use Rattle.std.proofs.lemmas.List.{map-set, length-map, get_or_past, get_or-map, set-get_or}
@@ -42,17 +42,17 @@ module _ (os : List (Option Object)) where
           | inr ne ↦ sym (get_remove_other (held_of os) h q ne)
         ])
 
--- what the map has under the number of an entry
+-- the map's value under the number of an entry
 pub get_there : (os : List (Option Object)) (h : ℕ) (d e : Option Object) → h < length os → get_or os h d ≡ e → get (held_of os) h ≡ option_map placed e
 get_there os h d e lt is = get_held os h ∙ get_or-map (option_map placed) os h d None lt ∙ ap (option_map placed) is
 
--- after the table there is nothing
+-- numbers after the end of the table have no value
 pub get_past : (os : List (Option Object)) (h : ℕ) → length os ≤ h → get (held_of os) h ≡ None
 get_past os h past = (
     let past' : length (map (option_map placed) os) ≤ h = rw (length-map os (option_map placed)) past in
     get_held os h ∙ get_or_past (map (option_map placed) os) h None past')
 
--- an object of the table moves
+-- an object of the table gets another address
 pub held-moved : (os : List (Option Object)) (h a : ℕ) (d e : Option Object) → h < length os → get_or os h d ≡ e
     → held_of (set os h (option_map (at_place a) e)) ≡ moved_to (held_of os) h (get (held_of os) h) a
 held-moved os h a d None lt is =
@@ -60,6 +60,6 @@ held-moved os h a d None lt is =
     rw (get_there os h d None lt is) (ap held_of same)
 held-moved os h a d (Some o) lt is = rw (get_there os h d (Some o) lt is) (held-set os h (at_place a o) lt)
 
--- after the table nothing moves
+-- moving a number after the end of the table changes nothing
 pub held-unmoved : (os : List (Option Object)) (h a : ℕ) → length os ≤ h → held_of os ≡ moved_to (held_of os) h (get (held_of os) h) a
 held-unmoved os h a past = rw (get_past os h past) refl

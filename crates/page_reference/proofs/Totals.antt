@@ -1,4 +1,4 @@
--- Sums over a table of objects are sums over the values of the map that it stands for.
+-- Sums over a table of objects are sums over the values of the map that it represents.
 use Rattle.std.proofs.Common.{◌≡◌, ℕ, ◌+◌, List, [], ◌∷◌, Option, Some, None, length, map, arith, sym, ◌∙◌, ap}
 use Rattle.std.specs.Prelude.{option_map, sum_by}
 use Rattle.std.proofs.lemmas.List.Sums.{sum_by-cons}
@@ -20,7 +20,7 @@ use Rattle.page_reference.specs.declared.object.Amount.TheVariants.{One, OfClass
 use Rattle.page_reference.specs.Amounts.{placed, held_of, amount_of, amount_in, total_of}
 
 module _ (f : ℕ → ℕ → ℕ) where
-  -- the same for an object of a map
+  -- the amount of an object of a map
   abbrev of_placed : Placed → ℕ
   of_placed x = f x.place (length x.bytes)
 

@@ -1,4 +1,4 @@
--- The word of a region, found object by object.
+-- The word of a region, searched object by object.
 use Rattle.std.proofs.Common.{◌≡◌, ℕ, ◌+◌, ◌*◌, ◌<◌, ◌≤◌, List, [], ◌∷◌, ◌++◌, Option, Some, None, length, get_or, map, arith, sym, ◌∙◌, ap, refl, inl, inr}
 use Rattle.std.proofs.Common.{subst}
 use Rattle.std.specs.Prelude.{option_map}
@@ -23,7 +23,7 @@ not_in_two a n b m i j w (inl l) p q at here = absurd (omega arith)
 not_in_two a n b m i j w (inr r) p q at here = absurd (omega arith)
 
 module _ (m : Held) (w : ℕ) where
-  -- the word of an object, where no two share one
+  -- the word of the object that has it, if no two objects share a word
   pub word_found : (h word : ℕ) → IsApart need m → HasWord h (get m h) w word → IsWordAt m w word
   word_found h word apart has = record {
     held = λ q y p i lt at. elim (cases_eq q h) [
@@ -39,7 +39,7 @@ module _ (m : Held) (w : ℕ) where
     zero = λ out. absurd (not_both has.object.place (need (length has.object.bytes)) has.index w has.within has.at (out h has.object has.is));
   }
 
-  -- where no object has it
+  -- 0 if no object has the word
   pub word_missed : ((h : ℕ) → Misses (get m h) w) → IsWordAt m w 0
   word_missed none = record {
     held = λ q y p i lt at. absurd (not_both y.place (need (length y.bytes)) i w lt at (none q y p));
@@ -47,11 +47,11 @@ module _ (m : Held) (w : ℕ) where
   }
 
 module _ (os : List (Option Object)) where
-  -- an entry of the table is what the map has
+  -- an entry of the table is the map's value under its number
   pub entry_is : (h : ℕ) (e : Option Object) → h < length os → e ≡ get_or os h e → option_map placed e ≡ get (held_of os) h
   entry_is h e lt is = ap (option_map placed) is ∙ sym (get_held os h ∙ get_or-map (option_map placed) os h e None lt)
 
-  -- after the table there is nothing
+  -- numbers after the end of the table have no words
   pub missed_past : (h w : ℕ) → length os ≤ h → Misses (get (held_of os) h) w
   missed_past h w past x is = absurd (
       let past' : length (map (option_map placed) os) ≤ h = rw (length-map os (option_map placed)) past in
@@ -59,7 +59,7 @@ module _ (os : List (Option Object)) where
       let some : get (held_of os) h ≡ Some x = is in
       cc)
 
--- words that are right, and the next one
+-- if the words so far are right and the next one is, all are right
 pub right_push : (m : Held) (ws : List ℕ) (x : ℕ) → ((w : ℕ) → w < length ws → IsWordAt m w (get_or ws w 0)) → IsWordAt m (length ws) x
     → (w : ℕ) → w < length (ws ++ x ∷ []) → IsWordAt m w (get_or (ws ++ x ∷ []) w 0)
 right_push m ws x right here w lt = elim (cases_lt w (length ws)) [
@@ -69,7 +69,7 @@ right_push m ws x right here w lt = elim (cases_lt w (length ws)) [
       subst (IsWordAt m w) (sym (get_or_push ws x 0 w at)) (subst (λ (v : ℕ). IsWordAt m v x) at here)
 ]
 
--- words that are right one by one are the image
+-- if every word is right, the words are the image
 pub image_from : (p : Paging) (m : Held) (words : List ℕ) → length words ≡ p.pages * p.page_words
     → ((w : ℕ) → w < length words → IsWordAt m w (get_or words w 0)) → AreInside p m → IsImage m words
 image_from p m words long right inside = record {

@@ -1,4 +1,4 @@
--- What is added up over objects: numbers that depend on an object's address and length. No public clause cites this module.
+-- Sums over objects, of amounts that depend on an object's address and length. No public clause cites this module.
 use Rattle.std.specs.Prelude.{ℕ, ◌&&◌, ◌^◌, ◌<◌, List, Option, Some, None, cond, nat_eq, map, option_map, sum_by}
 use Rattle.cf_lemmas.specs.Maps.{numbered}
 use Rattle.page_model.specs.Held.{Held, Placed}
@@ -9,7 +9,7 @@ use Rattle.page_reference.specs.declared.object.Object.{Object}
 use Rattle.page_reference.specs.declared.object.Amount.{Amount}
 use Rattle.page_reference.specs.declared.object.Amount.TheVariants.{One, OfClass, OnPage, OfClassOnPage, Length, SlotWords}
 
--- an object begins with the bytes that are kept, and is zero after them
+-- an object has the bytes that are stored, then zeros up to its length
 abbrev pub placed : Object → Placed
 placed o = record { place = o.place; bytes = resized o.bytes.items o.length }
 
@@ -21,7 +21,7 @@ at_place a o = record o { place = a }
 abbrev pub held_of : List (Option Object) → Held
 held_of os = numbered 0 (map (option_map placed) os)
 
--- what is added for an object at a, of n bytes
+-- the amount of an object of n bytes at address a
 abbrev pub amount_of : Paging → Amount → ℕ → ℕ → ℕ
 amount_of p One a n = 1
 amount_of p (OfClass c) a n = cond (nat_eq (class_for p n) c) 1 0
@@ -30,7 +30,7 @@ amount_of p (OfClassOnPage c page) a n = cond (nat_eq (page_of p a) page && nat_
 amount_of p Length a n = n
 amount_of p SlotWords a n = slot_words p (class_for p n)
 
--- no amount is larger
+-- the greatest value of an amount
 abbrev pub most_of : Amount → ℕ
 most_of One = 1
 most_of (OfClass c) = 1
@@ -39,7 +39,7 @@ most_of (OfClassOnPage c page) = 1
 most_of Length = 2 ^ 32
 most_of SlotWords = 2 ^ 32
 
--- nothing is added where no object is
+-- the amount of an entry: 0 if it is empty
 abbrev pub amount_in : (ℕ → ℕ → ℕ) → Option Object → ℕ
 amount_in f None = 0
 amount_in f (Some o) = f o.place o.length
@@ -52,7 +52,7 @@ total_of f os = sum_by (amount_in f) os
 abbrev pub AreAllUsed : Paging → Held → Type 0
 AreAllUsed p m = (page : ℕ) → page < p.pages → 0 < standing_on p m page
 
--- an object is there, and a free of it moves another one
+-- there is an object, and a free of it moves another one
 abbrev pub MovesOne : Paging → Held → Option Placed → Type 0
 MovesOne p m None = ⊥
 MovesOne p m (Some x) = MustMove p m x

@@ -1,12 +1,12 @@
-//! The block table of a manager that exchanges blocks, as a plain list: entry v is the physical
-//! block of virtual block v. A block is four words.
+//! The block table of a manager that exchanges blocks, as a list: entry v is the physical block of
+//! virtual block v. A block is four words.
 ghost use Rattle.std.specs.Prelude.{◌≡◌, ◌+◌, ◌/◌, ◌^◌, ◌<◌, ◌≤◌, IfOk, length};
 ghost use Rattle.page_model.specs.Frames.{block_of as physical_block, first_frames};
 ghost use Rattle.cf_lemmas.specs.Exchanges.{exchanged, partner};
 
 use std::alloc::{AllocError, Global};
 
-/// The table of an empty heap: so many blocks, each at its own place.
+/// The table of an empty heap with `blocks` blocks, each at its own number.
 pub fn new_frames(alloc: Global, blocks: u32) -> Result<Vec<u32>, AllocError>
     ensures { IfOk result (λ v. v.items ≡ first_frames blocks) }
 {
@@ -34,7 +34,7 @@ pub fn exchange(
     Ok(all)
 }
 
-/// Where v goes where the `n` numbers from `a` on change places with those from `b` on.
+/// The number that v becomes if the `n` numbers from `a` on change places with those from `b` on.
 fn partner_of(a: u32, b: u32, n: u32, v: u32) -> u32
     requires a_fits { a + n < 2 ^ 32 }
     requires b_fits { b + n < 2 ^ 32 }

@@ -1,6 +1,6 @@
-//! A slow reference implementation of what objects on pages mean: counts, figures, the pages
-//! that are needed, and the words of the region, each by its definition. The fast managers are held
-//! against it in tests.
+//! A slow reference implementation of objects on pages: counts, figures, the pages that objects
+//! need, and the words of the region, each computed by its definition. Tests compare the managers
+//! with it.
 #![tactic(auto)]
 
 pub mod frames;

@@ -1,7 +1,7 @@
-//! An object, and what is added up over objects.
+//! An object, and the amounts that are summed over objects.
 
-/// An object of `length` bytes, which begins with `bytes` and is zero after them. Its slot begins at
-/// word `place`.
+/// An object of `length` bytes. It has the bytes of `bytes`, then zeros up to its length. Its slot
+/// begins at word `place`.
 #[derive(Drop)]
 pub struct Object {
     pub place: u32,
@@ -9,16 +9,16 @@ pub struct Object {
     pub bytes: Vec<u8>,
 }
 
-/// What is added for an object.
+/// An amount to sum over objects.
 #[derive(Clone, Copy)]
 pub enum Amount {
     /// 1.
     One,
-    /// 1 where it is of the class.
+    /// 1 if it is of the class.
     OfClass(u32),
-    /// 1 where it stands on the page.
+    /// 1 if it is on the page.
     OnPage(u32),
-    /// 1 where it is of the class and stands on the page.
+    /// 1 if it is of the class and on the page.
     OfClassOnPage(u32, u32),
     /// Its length in bytes.
     Length,

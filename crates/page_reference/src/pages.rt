@@ -9,7 +9,7 @@ use cf_base::{Layout, OutOfMemory, Settings, class_in, slot_sizes};
 use std::alloc::{AllocError, Global};
 use std::marker::Model;
 
-/// Pages, and by class the words of a slot and how many pages may be partly full.
+/// The number of pages, the words of a page, and by class the words of a slot and the bound.
 #[derive(Drop)]
 pub struct Pages {
     pages: u32,
@@ -32,7 +32,7 @@ impl Model for Pages {
 }
 
 impl Pages {
-    /// The pages of these settings, each class with their bound.
+    /// The pages of these settings; each class has their bound k.
     pub fn new(alloc: Global, s: &Settings, layout: Layout) -> Result<Pages, OutOfMemory>
         ensures { IfOk result (λ p. p ≡ paging_of (profile_of s.now) layout (first_bounds (profile_of s.now) layout)) }
     {
@@ -50,7 +50,7 @@ impl Pages {
         })
     }
 
-    /// How many pages there are.
+    /// The number of pages.
     pub fn count(&self) -> u32
         ensures value { result ≡ self.now.pages }
         ensures few { result ≤ 4096 }
@@ -66,7 +66,7 @@ impl Pages {
         self.page_words
     }
 
-    /// How many classes there are.
+    /// The number of classes.
     pub fn classes(&self) -> u32
         ensures value { result ≡ classes self.now }
         ensures few { result ≤ 67 }
@@ -74,7 +74,7 @@ impl Pages {
         self.sizes.len() as u32
     }
 
-    /// The words of a slot of a class; 0 where there is no such class.
+    /// The words of a slot of a class; 0 if there is no such class.
     pub fn slot_words(&self, c: u32) -> u32
         ensures value { result ≡ slot_words self.now c }
         ensures small { result ≤ 16384 }
@@ -97,7 +97,7 @@ impl Pages {
         self.page_words / self.sizes[c as usize]
     }
 
-    /// How many pages of a class may be partly full.
+    /// The bound of a class: how many of its pages may be partly full.
     pub fn bound(&self, c: u32) -> u32
         requires { c < classes self.now }
         ensures { result ≡ bound_of self.now c }
@@ -105,7 +105,7 @@ impl Pages {
         self.bounds[c as usize]
     }
 
-    /// The class of an object of `bytes` bytes; the number of classes where none holds it.
+    /// The class of an object of `bytes` bytes; the number of classes if none holds it.
     pub fn class_for(&self, bytes: u32) -> u32
         ensures value { result ≡ class_for self.now bytes }
         ensures within { result ≤ classes self.now }
@@ -123,7 +123,7 @@ impl Pages {
         place / self.page_words
     }
 
-    /// What is added for an object at an address, of `length` bytes.
+    /// The amount of an object of `length` bytes at an address.
     pub fn amount(&self, which: Amount, place: u32, length: u32) -> u64
         ensures value { result ≡ amount_of self.now which place length }
         ensures within { result ≤ most_of which }
@@ -153,7 +153,7 @@ impl Pages {
         sum
     }
 
-    /// What is added for an entry of a table.
+    /// The amount of an entry of a table; 0 if it is empty.
     fn amount_at(&self, which: Amount, entry: &Option<Object>) -> u64
         ensures value { result ≡ amount_in (amount_of self.now which) entry.now }
         ensures within { result ≤ most_of which }

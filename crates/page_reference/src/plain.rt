@@ -21,7 +21,7 @@ use cf_base::{Figures, Layout, OutOfMemory, Settings, Totals};
 use std::alloc::{AllocError, Global};
 use std::marker::Model;
 
-/// Pages, and objects on them under numbers. Each answer is computed afresh from the objects, by its
+/// Pages, and objects on them by number. Each result is computed from the objects, by its
 /// definition.
 #[derive(Drop)]
 pub struct Plain {
@@ -44,7 +44,7 @@ impl Model for Plain {
 }
 
 impl Plain {
-    /// The pages of these settings, each class with their bound, and nothing on them.
+    /// The pages of these settings, without objects. Each class has their bound k.
     pub fn new(alloc: Global, s: &Settings, layout: Layout) -> Result<Plain, OutOfMemory>
         ensures paging { IfOk result (λ p. p.paging ≡ paging_of (profile_of s.now) layout (first_bounds (profile_of s.now) layout)) }
         ensures held { IfOk result (λ p. p.held ≡ map.empty) }
@@ -56,8 +56,8 @@ impl Plain {
         })
     }
 
-    /// An object of `length` bytes stands at word `place` under this number. It begins with `bytes`,
-    /// as far as they go, and is zero after them.
+    /// Puts an object of `length` bytes at word `place` under this number. It has the bytes of
+    /// `bytes`, cut to its length, then zeros.
     pub fn put(
         &mut self,
         alloc: Global,
@@ -85,7 +85,7 @@ impl Plain {
         Ok(())
     }
 
-    /// The object under this number goes.
+    /// Removes the object under this number.
     pub fn remove(&mut self, number: u16)
         ensures paging { self.new.paging ≡ self.old.paging }
         ensures held { self.new.held ≡ map.remove self.old.held number }
@@ -95,7 +95,7 @@ impl Plain {
         }
     }
 
-    /// The object under this number, where there is one, stands at another address.
+    /// Changes the address of the object under this number, if there is one.
     pub fn move_to(&mut self, number: u16, place: u32)
         ensures paging { self.new.paging ≡ self.old.paging }
         ensures held { self.new.held ≡ moved_to self.old.held number (map.get self.old.held number) place }
@@ -105,7 +105,7 @@ impl Plain {
         }
     }
 
-    /// How many pages there are.
+    /// The number of pages.
     pub fn pages(&self) -> u32
         ensures value { result ≡ self.now.paging.pages }
         ensures few { result ≤ 4096 }
@@ -121,7 +121,7 @@ impl Plain {
         self.pages.page_words()
     }
 
-    /// How many classes there are.
+    /// The number of classes.
     pub fn classes(&self) -> u32
         ensures value { result ≡ classes self.now.paging }
         ensures few { result ≤ 67 }
@@ -129,7 +129,7 @@ impl Plain {
         self.pages.classes()
     }
 
-    /// The words of a slot of a class; 0 where there is no such class.
+    /// The words of a slot of a class; 0 if there is no such class.
     pub fn slot_words(&self, c: u32) -> u32
         ensures { result ≡ slot_words self.now.paging c }
     {
@@ -146,14 +146,14 @@ impl Plain {
         self.pages.slots(c)
     }
 
-    /// The class of an object of `bytes` bytes; the number of classes where none holds it.
+    /// The class of an object of `bytes` bytes; the number of classes if none holds it.
     pub fn class_for(&self, bytes: u32) -> u32
         ensures { result ≡ class_for self.now.paging bytes }
     {
         self.pages.class_for(bytes)
     }
 
-    /// How many objects there are.
+    /// The number of objects.
     pub fn count(&self) -> u32
         ensures { result ≡ map.len (objects self.now.held) }
     {
@@ -168,7 +168,7 @@ impl Plain {
         self.pages.total(Amount::OfClass(c), &self.objects) as u32
     }
 
-    /// How many objects of class c stand on the page.
+    /// How many objects of class c are on the page.
     pub fn objects_on(&self, c: u32, page: u32) -> u32
         ensures { result ≡ objects_on self.now.paging self.now.held c page }
     {
@@ -176,14 +176,14 @@ impl Plain {
             .total(Amount::OfClassOnPage(c, page), &self.objects) as u32
     }
 
-    /// How many objects stand on the page, of whatever class.
+    /// How many objects of any class are on the page.
     pub fn standing_on(&self, page: u32) -> u32
         ensures { result ≡ standing_on self.now.paging self.now.held page }
     {
         self.pages.total(Amount::OnPage(page), &self.objects) as u32
     }
 
-    /// The lengths of all objects, in bytes.
+    /// The sum of the lengths of all objects, in bytes.
     pub fn asked_bytes(&self) -> u64
         ensures { result ≡ asked_bytes (objects self.now.held) }
     {
@@ -209,7 +209,7 @@ impl Plain {
         pages
     }
 
-    /// How many pages hold an object of class c, and fewer than they could.
+    /// How many pages hold an object of class c but fewer than they have slots.
     pub fn not_full_pages(&self, c: u32) -> u32
         requires { c < classes self.now.paging }
         ensures { result ≡ not_full_pages self.now.paging self.now.held c }
@@ -241,8 +241,8 @@ impl Plain {
         self.pages().saturating_sub(self.used_pages())
     }
 
-    /// How many pages the objects need by arithmetic: in each class the objects over the slots,
-    /// rounded up.
+    /// How many pages the objects need by arithmetic: for each class, its objects over the slots of
+    /// a page, rounded up.
     pub fn pages_needed(&self) -> u32
         ensures { result ≡ pages_needed self.now.paging (objects self.now.held) }
     {
@@ -253,7 +253,7 @@ impl Plain {
         pages
     }
 
-    /// How many pages they would need with one more object of `bytes` bytes.
+    /// How many pages the objects would need with one more of `bytes` bytes.
     pub fn pages_needed_with(&self, bytes: u32) -> u32
         ensures { result ≡ pages_needed_with self.now.paging (objects self.now.held) bytes }
     {
@@ -266,8 +266,8 @@ impl Plain {
         pages
     }
 
-    /// Whether a free of the object under this number, where there is one, moves another: its page is
-    /// full and has more than one slot, and its class has as many partly full pages as it may.
+    /// Whether a free of the object under this number, if there is one, moves another: its page is
+    /// full and has several slots, and its class has reached its bound of partly full pages.
     pub fn must_move(&self, number: u16) -> bool
         ensures { IsTrue result ↔ MovesOne self.now.paging self.now.held (map.get self.now.held number) }
     {
@@ -278,7 +278,7 @@ impl Plain {
         }
     }
 
-    /// Whether a free of the object of this entry, where there is one, moves another.
+    /// The same for the object of this entry, if there is one.
     fn must_move_from(&self, entry: &Option<Object>) -> bool
         ensures { IsTrue result ↔ MovesOne self.now.paging self.now.held (option_map placed entry.now) }
     {
@@ -288,7 +288,7 @@ impl Plain {
         }
     }
 
-    /// Whether an object must take the place of this one.
+    /// Whether a free of this object moves another one.
     fn leaves_a_hole(&self, object: &Object) -> bool
         ensures { IsTrue result ↔ MustMove self.now.paging self.now.held (placed object.now) }
     {
@@ -300,7 +300,7 @@ impl Plain {
         fills_several(on_page, self.slots(class)) && self.is_at_bound(class)
     }
 
-    /// Whether class c has as many partly full pages as it may.
+    /// Whether class c has reached its bound of partly full pages.
     fn is_at_bound(&self, c: u32) -> bool
         requires { c < classes self.now.paging }
         ensures { IsTrue result ↔ (not_full_pages self.now.paging self.now.held c ≡ bound_of self.now.paging c) }
@@ -308,7 +308,7 @@ impl Plain {
         self.not_full_pages(c) == self.pages.bound(c)
     }
 
-    /// Whether there is no room for class c: none of its pages is partly full, and every page holds an
+    /// Whether class c has no slot left: none of its pages is partly full, and every page holds an
     /// object.
     pub fn lacks_room(&self, c: u32) -> bool
         requires { c < classes self.now.paging }
@@ -332,7 +332,7 @@ impl Plain {
     /// The words of the region.
     pub fn image(&self, alloc: Global) -> Result<Vec<u64>, AllocError>
         ensures len { IfOk result (λ v. length v.items ≡ self.now.paging.pages * self.now.paging.page_words) }
-        // Objects that share a word, or pass the end of the region, have no image.
+        // Objects that share a word or go beyond the end of the region have no image.
         ensures image { IfOk result (λ v. IsApart need self.now.held → AreInside self.now.paging self.now.held → IsImage self.now.held v.items) }
         ensures sound { IfOk result (λ v. IsSound self.now.paging self.now.held → IsImage self.now.held v.items) }
     {
@@ -397,7 +397,7 @@ fn reach(objects: &mut Vec<Option<Object>>, number: usize) -> Result<(), AllocEr
     Ok(())
 }
 
-/// The entry of this number becomes the given one.
+/// Replaces the entry of this number.
 fn put_entry(objects: &mut Vec<Option<Object>>, number: usize, entry: Option<Object>)
     requires { number < length objects.old.items }
     ensures { objects.new.items ≡ slice_set objects.old.items number entry }
@@ -405,7 +405,7 @@ fn put_entry(objects: &mut Vec<Option<Object>>, number: usize, entry: Option<Obj
     objects[number] = entry;
 }
 
-/// 1 where the test holds.
+/// 1 if the test passes, else 0.
 fn one(test: bool) -> u32
     ensures value { result ≡ cond test 1 0 }
     ensures few { result ≤ 1 }
@@ -413,21 +413,21 @@ fn one(test: bool) -> u32
     if test { 1 } else { 0 }
 }
 
-/// Whether so many objects are some, and fewer than the slots.
+/// Whether a page of `slots` slots with `objects` objects is partly full.
 fn is_part_full(objects: u32, slots: u32) -> bool
     ensures { result ≡ (nat_lt 0 objects && nat_lt objects slots) }
 {
     0 < objects && objects < slots
 }
 
-/// Whether so many objects fill all slots of a page, which has more than one.
+/// Whether `objects` objects fill all slots of a page that has several.
 fn fills_several(objects: u32, slots: u32) -> bool
     ensures { IsTrue result ↔ ((objects ≡ slots) × (1 < slots)) }
 {
     objects == slots && 1 < slots
 }
 
-/// How many pages of `slots` slots that many objects need: the quotient, rounded up.
+/// How many pages of `slots` slots `objects` objects need: the quotient, rounded up.
 fn pages_for(objects: u32, slots: u32) -> u32
     requires some { 1 ≤ slots }
     requires few { objects ≤ 65537 }
@@ -438,7 +438,7 @@ fn pages_for(objects: u32, slots: u32) -> u32
     (objects + (slots - 1)) / slots
 }
 
-/// The object of the entry, where there is one, stands at another address.
+/// Changes the address of the object of this entry, if there is one.
 fn move_entry(entry: &mut Option<Object>, place: u32)
     ensures { entry.new ≡ option_map (at_place place) entry.old }
 {

@@ -8,7 +8,7 @@ ghost use Rattle.page_reference.specs.Words.{HasWord, IsWordAt, Misses};
 use crate::object::Object;
 use cf_base::need_of;
 
-/// Byte i of an object; 0 past its end.
+/// Byte i of an object; 0 beyond its end.
 fn byte_at(object: &Object, i: u64) -> u8
     ensures { result ≡ slice_index (placed object.now).bytes i }
 {
@@ -19,7 +19,7 @@ fn byte_at(object: &Object, i: u64) -> u8
     }
 }
 
-/// The eight bytes of an object from byte `from` on as a word, the least first.
+/// The eight bytes of an object from byte `from` on as a word, the least significant first.
 fn eight_bytes(object: &Object, from: u64) -> u64
     requires { from ≤ 2 ^ 40 }
     ensures { result ≡ word_of_bytes (take 8 (drop from (placed object.now).bytes)) }
@@ -48,7 +48,7 @@ fn word_of_object(number: u32, object: &Object, i: u32) -> u64
     }
 }
 
-/// Word w of the region where the object of this entry has it.
+/// Word w of the region, if the object of this entry has it.
 fn word_in(number: u32, entry: &Option<Object>, w: u32) -> Option<u64>
     ensures found { IfSome result (λ word. HasWord number (option_map placed entry.now) w word) }
     ensures none { IfNone result (Misses (option_map placed entry.now) w) }
@@ -59,7 +59,7 @@ fn word_in(number: u32, entry: &Option<Object>, w: u32) -> Option<u64>
     }
 }
 
-/// Word w of the region where the object has it.
+/// Word w of the region, if the object has it.
 fn word_of(number: u32, object: &Object, w: u32) -> Option<u64>
     ensures found { IfSome result (λ word. HasWord number (Some (placed object.now)) w word) }
     ensures none { IfNone result (Misses (Some (placed object.now)) w) }
@@ -71,7 +71,7 @@ fn word_of(number: u32, object: &Object, w: u32) -> Option<u64>
     }
 }
 
-/// Word w of the region: that of the first object that has it, else 0.
+/// Word w of the region: that of the first object that has it, or 0 if none has.
 pub fn word_at(objects: &[Option<Object>], w: u32) -> u64
     requires { length objects.now ≤ 65536 }
     ensures { IsApart need (held_of objects.now) → IsWordAt (held_of objects.now) w result }

@@ -1,4 +1,4 @@
--- What a heap may cite: objects at the used slots, before and after each call.
+-- What other crates' proofs may cite: objects at the used slots, before and after each call.
 use Rattle.std.proofs.Common.{◌≡◌, ℕ, Bool, true, false, ◌<◌, ◌≤◌, List, length, Some, None, arith, refl, sym, ◌∙◌, ap, subst, inl, inr}
 use Rattle.std.specs.Prelude.{◌⊎◌, ◌↔◌, slice_get}
 use Rattle.std.specs.List.{Contains}
@@ -28,10 +28,10 @@ use Rattle.page_slots.proofs.Occupied.{free_bare, occupied_renamed, stands_at}
 use Rattle.page_slots.proofs.OccupiedAfterTake.{gained_address, gained_unused, occupied_gained}
 use Rattle.page_slots.proofs.OccupiedAfterFree.{occupied_lost}
 use Rattle.page_slots.proofs.PageNumbers.{lacks_room}
--- passed on: the order of the tables, and the slot that is next
+-- re-exported: the order of the tables, and the next slot
 pub use Rattle.page_slots.proofs.NextSlots.{drop_same, fill_same, filler_next, open_empty, order_is, steps_same, taken_next, vacated_order}
 pub use Rattle.page_slots.proofs.Calls.{rose_both}
--- passed on: the tables of a heap without objects, and the numbers of pages
+-- re-exported: the tables of a heap without objects, and the numbers of pages
 pub use Rattle.page_slots.proofs.Start.{first_occupied, first_table, first_tables, first_whole, no_pages}
 pub use Rattle.page_slots.proofs.PageNumbers.{free_pages_are, home_pages_are, not_full_pages_are, pages_are}
 
@@ -51,7 +51,7 @@ module _ {p : Paging} (ok : IsPaging p) {m : Held} {old new : Tables} (tell : Te
     on_page_of : page_of p a ≡ t.page
     on_page_of = ap (page_of p) t.address ∙ (gained_address p ok m old new tell o c t.page t.slot gains).1
 
-    -- it is a free place for each object of the class
+    -- its address is a free place for each object of the class
     pub taken_is_free : (n : ℕ) → class_for p n ≡ c → IsFreePlace p m n a
     taken_is_free n is =
         let g = gains in
@@ -72,7 +72,7 @@ module _ {p : Paging} (ok : IsPaging p) {m : Held} {old new : Tables} (tell : Te
               ]));
         }
 
-    -- so the class had room
+    -- so the class had a slot left
     pub taken_has_room : LacksRoom p m c → ⊥
     taken_has_room l = elim gains.was [
       | inl (there, _) ↦ (
@@ -86,11 +86,11 @@ module _ {p : Paging} (ok : IsPaging p) {m : Held} {old new : Tables} (tell : Te
           omega arith)
     ]
 
-    -- and an object that comes there occupies it
+    -- an object that is added at the address occupies the slot
     pub taken_occupied : (h : ℕ) (x : Placed) → get m h ≡ None → x.place ≡ a → class_at p x ≡ c → Occupies p (insert m h x) new
     taken_occupied h x none at is_c = occupied_gained p ok m old new tell o c t.page t.slot gains h x none (at ∙ t.address) is_c
 
-  -- An object went, and its slot is free now.
+  -- An object is removed, and its slot is now free.
   module _ (s : IsSound p m) (h : ℕ) {x : Placed} (some : get m h ≡ Some x) {c page slot : ℕ} (v : Vacates old c page slot new)
       (is_c : class_at p x ≡ c) (on : page_of p x.place ≡ page) (at : slot_at (class_table p) c x.place ≡ slot) where
     lost : Loses (class_table p) old new c page slot
@@ -105,12 +105,12 @@ module _ {p : Paging} (ok : IsPaging p) {m : Held} {old new : Tables} (tell : Te
     pub vacated_occupied : Occupies p (remove m h) new
     vacated_occupied = occupied_lost p ok m s old new tell o c page slot lost h x some is_c on at
 
--- what fills a slot is the object that `filler` finds
+-- the object that moves is the one that `filler` finds
 abbrev pub filler_in : {k : ClassTable} {old new : Tables} {c a : ℕ} → FillsFrom k old c a new → IsFiller k old.maps old.lists c a
 filler_in f = record { page = f.page; slot = f.slot; address = f.address; front = f.front; least = f.least; used = f.vacates.used }
 
 module _ {p : Paging} (ok : IsPaging p) {m : Held} {t : Tables} (tell : TellPart p t) (o : Occupies p m t) where
-  -- the object that fills a freed slot of class c
+  -- the object that moves into a freed slot of class c
   module _ {c a : ℕ} (f : IsFiller (class_table p) t.maps t.lists c a) where
     filler_page : Contains (pages_in t.lists c NotFull) f.page
     filler_page = front_listed (pages_in t.lists c NotFull) f.page f.front
@@ -118,11 +118,11 @@ module _ {p : Paging} (ok : IsPaging p) {m : Held} {t : Tables} (tell : TellPart
     pub filler_used : IsUsed t c f.page f.slot
     filler_used = record { of = inr filler_page; used = f.used }
 
-    -- there is one
+    -- there is such an object
     pub filler : (q : ℕ) × (y : Placed) × (get m q ≡ Some y) × (y.place ≡ a)
     filler = (let w = stands_at p ok t tell m o c f.page f.slot filler_used in (w.0, w.1, w.2, w.4 ∙ sym f.address))
 
-    -- and it alone stands there
+    -- and no other object is at its address
     module _ (s : IsSound p m) (q : ℕ) {y : Placed} (found : get m q ≡ Some y) (at : y.place ≡ a) where
       pub filler_is : (class_at p y ≡ c) × (page_of p y.place ≡ f.page) × (slot_at (class_table p) c y.place ≡ f.slot)
       filler_is =
@@ -164,7 +164,7 @@ module _ {p : Paging} (ok : IsPaging p) {m : Held} {old new : Tables} (tell : Te
   pub filled_tell : NoneElsewhere old → Tell p new
   filled_tell whole = record { part = filled_part; whole = loses_whole (class_table p) old new (class_at p x) f.page f.slot filled_lost whole }
 
-  -- x is freed, and the object that fills its slot stands there
+  -- x is freed, and the object at a moves to its address
   pub filled_occupied : IsSound p m → (q : ℕ) {y : Placed} → get m q ≡ Some y → y.place ≡ a → MustMove p m x → Occupies p (without m h x.place (Some q)) new
   filled_occupied s q {y} found at must =
       let is = filler_is ok tell o filling s q found at in
@@ -178,11 +178,11 @@ module _ {p : Paging} (ok : IsPaging p) {m : Held} {old new : Tables} (tell : Te
       subst (λ z. Occupies p (moved_to (remove m h) q z x.place) new) (sym found) once
 
 module _ {p : Paging} (ok : IsPaging p) {m : Held} {t : Tables} (tell : TellPart p t) (o : Occupies p m t) where
-  -- where no slot was taken, there is no room
+  -- if no slot was taken, the class has no slot left
   pub refused_lacks_room : NoneElsewhere t → (c : ℕ) (new : Tables) → TakesSlot (class_table p) t c None new → LacksRoom p m c
   refused_lacks_room whole c new r = lacks_room p ok m t tell o whole c r.0 r.1
 
-  -- an object that is found
+  -- an object of the arrangement
   module _ (h : ℕ) {x : Placed} (some : get m h ≡ Some x) where
     at : IsUsed t (class_at p x) (page_of p x.place) (slot_at (class_table p) (class_at p x) x.place)
     at = o.stands h x some
@@ -199,7 +199,7 @@ module _ {p : Paging} (ok : IsPaging p) {m : Held} {t : Tables} (tell : TellPart
     pub found_class : class_at p x < t.lists.classes
     found_class = tell.tables.lists.class (class_at p x) page.0 (page_of p x.place) page.1.listed
 
-    -- the test of a move is the model's
+    -- the test for a move agrees with the model's
     pub moves_is : MovesObject (slots_on t (page_of p x.place)) (length (pages_in t.lists (class_at p x) NotFull)) (bound_of p (class_at p x)) ↔ MustMove p m x
     moves_is =
         let long = page.1.slots in
@@ -211,7 +211,7 @@ module _ {p : Paging} (ok : IsPaging p) {m : Held} {t : Tables} (tell : TellPart
               record { full = omega arith; several = omega arith; many = omega arith })),
         )
 
-    -- a move finds an object that fills the slot
+    -- if an object must move, there is one that can
     pub moves_some : MustMove p m x → class_at p x < classes p → 1 ≤ length (pages_in t.lists (class_at p x) NotFull)
     moves_some must lt =
         let part = not_full_pages_are p ok m t tell o (class_at p x) in
@@ -220,7 +220,7 @@ module _ {p : Paging} (ok : IsPaging p) {m : Held} {t : Tables} (tell : TellPart
         omega arith
 
 module _ {p : Paging} {m : Held} {t : Tables} (o : Occupies p m t) (h : ℕ) {x : Placed} (some : get m h ≡ Some x) where
-  -- other bytes at the same address, in the same class
+  -- other bytes at the same address, of the same class
   pub rewritten_occupied : (bytes : List ℕ) → class_at p (record { place = x.place; bytes = bytes }) ≡ class_at p x
       → Occupies p (insert m h (record { place = x.place; bytes = bytes })) t
   rewritten_occupied bytes same =
@@ -231,7 +231,7 @@ module _ {p : Paging} {m : Held} {t : Tables} (o : Occupies p m t) (h : ℕ) {x 
   pub renumbered_occupied : (q : ℕ) → get (remove m h) q ≡ None → Occupies p (insert (remove m h) q x) t
   renumbered_occupied q none = occupied_renamed p m t o h x some q x.bytes none refl
 
--- An owner of other pages of the same pool: its tables stay its own in a call that keeps what is elsewhere.
+-- Another owner of pages of the same pool. A call that keeps the pages that are foreign to it keeps that owner's tables.
 module _ (k : ClassTable) (old new : Tables) (kept : AreTables k new) (pages : new.pool.pages ≡ old.pool.pages) (keeps : KeepsElsewhere old new)
     (others : PageLists) (of_others : AreOthers old others)
     (theirs : AreTables k (tables old.maps others old.pool)) where
@@ -241,7 +241,7 @@ module _ (k : ClassTable) (old new : Tables) (kept : AreTables k new) (pages : n
   abbrev after : Tables
   after = tables new.maps others new.pool
 
-  -- its pages are elsewhere still
+  -- its pages are still foreign to the caller
   pub others_elsewhere : AreOthers new others
   others_elsewhere c page w h = keeps.still page (of_others c page w h)
 
@@ -286,7 +286,7 @@ module _ (k : ClassTable) (old new : Tables) (kept : AreTables k new) (pages : n
   others_slots c page (inl h) = keeps.slots page (of_others c page Full h)
   others_slots c page (inr h) = keeps.slots page (of_others c page NotFull h)
 
-  -- and its objects occupy its slots
+  -- and its objects still occupy its slots
   pub others_occupied : (p : Paging) (m : Held) → Occupies p m (tables old.maps others old.pool) → Occupies p m (tables new.maps others new.pool)
   others_occupied p m o = record {
     stands = λ h x f. (let u = o.stands h x f in
@@ -295,7 +295,7 @@ module _ (k : ClassTable) (old new : Tables) (kept : AreTables k new) (pages : n
     counted = λ c page of. o.counted c page of ∙ sym (ap used_in (others_slots c page of));
   }
 
--- the pages of an owner are elsewhere for each other owner
+-- the pages of one owner are foreign to every other
 pub mine_elsewhere : (k : ClassTable) (t : Tables) → AreTables k t → (others : PageLists) → AreOthers t others → AreOthers (tables t.maps others t.pool) t.lists
 mine_elsewhere k t a others of_others c page w h = record {
   taken = (placed_in k t a c page w h).taken;

@@ -1,4 +1,4 @@
--- What the bodies of the calls need to know of the tables.
+-- What the bodies of the calls need to know about the tables.
 use Rattle.std.proofs.Common.{◌≡◌, ◌≢◌, ℕ, Bool, true, false, not, ◌+◌, ◌*◌, ◌^◌, ◌<◌, ◌≤◌, List, [], ◌∷◌, length, drop, get_or, set, replicate, Some, None, arith, inl, inr}
 use Rattle.std.proofs.Common.{refl, sym, ◌∙◌, ap, subst}
 use Rattle.std.specs.Prelude.{slice_get, if◌then◌else◌, is_some, nat_eq}
@@ -22,19 +22,19 @@ use Rattle.page_slots.specs.Taking.{FillsPage, TakesOnOpenPage, TakesOnFreePage,
 use Rattle.page_slots.proofs.Pages.{placed_in, listed_page, listed_class, of_list}
 use Rattle.page_slots.proofs.TablesAfterTake.{front_listed, pool_front}
 
--- where there is a free slot the search for one doesn't fail, nor where there is a used one
+-- the search for a free slot finds one if there is one; the same for a used slot
 pub finds_free : (xs : List Bool) → used_in xs < length xs → None ≡ position (λ used. not used) xs → ⊥
 finds_free xs some none = false≢true (ap is_some none ∙ some_free xs some)
 
 pub finds_used : (xs : List Bool) → 0 < used_in xs → None ≡ position (λ used. used) xs → ⊥
 finds_used xs some none = false≢true (ap is_some none ∙ some_used xs some)
 
--- a list and its head
+-- a list with a head is its head and the rest
 pub front_is : (xs : List ℕ) (page : ℕ) → slice_get xs 0 ≡ Some page → xs ≡ page ∷ drop 1 xs
 front_is [] page e = absurd (let lt = slice_get_within [] 0 page e in omega arith)
 front_is (x ∷ xs) page e = (let same : Some x ≡ Some page = e in let is : x ≡ page = cc in ap (λ y. y ∷ xs) is)
 
--- a list with a head isn't empty, and one without is
+-- a list without a head is empty, and one with a head isn't
 pub front_none : (xs : List ℕ) → None ≡ slice_get xs 0 → xs ≡ []
 front_none [] e = refl
 front_none (x ∷ xs) e = absurd (let none : is_some (slice_get (x ∷ xs) 0) ≡ false = ap is_some (sym e) in false≢true (sym none))
@@ -94,7 +94,7 @@ module _ (k : ClassTable) (t : Tables) (a : AreTables k t) where
       pub front_reads : (slot : ℕ) (b : Bool) → slice_get (get_or t.maps page d) slot ≡ Some b → slice_get (slots_on t page) slot ≡ Some b
       front_reads slot b is = sym (ap (λ xs. slice_get xs slot) same_map) ∙ is
 
-      -- its least free slot was taken
+      -- its least free slot is taken
       pub took_open : (slot : ℕ) (map : List Bool) (lists : PageLists) → position (λ used. not used) (get_or t.maps page d) ≡ Some slot
           → slice_get (get_or t.maps page d) slot ≡ Some false
           → map ≡ set (get_or t.maps page d) slot true → (used_in map ≡ length map → FillsPage t.lists c page lists)
@@ -128,7 +128,7 @@ module _ (k : ClassTable) (t : Tables) (a : AreTables k t) where
     pub pool_unused : (d : List Bool) → used_in (get_or t.maps page d) ≡ 0
     pool_unused d = ap used_in (get_or_default t.maps page d [] pool_inside) ∙ ((pool_front k t a page pool f).1).unused
 
-    -- its first slot was taken
+    -- its first slot is taken
     pub took_free : (c n : ℕ) (map fresh : List Bool) (lists : PageLists) → pages_in t.lists c NotFull ≡ [] → n ≡ slots_in k c
         → fresh ≡ replicate n false → map ≡ set fresh 0 true
         → (n ≡ 1 → JoinsList t.lists c Full page lists) → (n ≢ 1 → JoinsList t.lists c NotFull page lists)
@@ -155,7 +155,7 @@ module _ (k : ClassTable) (t : Tables) (a : AreTables k t) where
     pub of_taken : is_in_pool t.pool.free page ≡ false
     of_taken = (of_list k t a c page of).1.taken
 
-    -- its list is that which its slots tell
+    -- it is in the list that its slots determine
     pub of_listed : (w : Which) (d : List Bool) → (used_in (get_or t.maps page d) ≡ length (get_or t.maps page d) → w ≡ Full)
         → (used_in (get_or t.maps page d) ≢ length (get_or t.maps page d) → w ≡ NotFull)
         → Contains (pages_in t.lists c w) page
@@ -173,7 +173,7 @@ module _ (k : ClassTable) (t : Tables) (a : AreTables k t) where
             let u = ap used_in same in let l = ap length same in let s = p.slots in let f = p.fills in let few = f.1 in omega arith)) in
             subst (λ v. Contains (pages_in t.lists c v) page) (sym (not_full ne)) p.listed)
 
--- one count after the other
+-- one count after another adds the steps
 pub rose_both : (a b c m n : ℕ) → RoseBy a b m → RoseBy b c n → RoseBy a c (m + n)
 rose_both a b c m n x y = record {
   kept = (let p = x.kept in let q = y.kept in omega arith);
@@ -188,7 +188,7 @@ rose_both a b c m n x y = record {
   ];
 }
 
--- the steps on a partly full page
+-- the steps of taking a slot on a partly full page
 module _ (k : ClassTable) (t : Tables) (a : AreTables k t) (c page : ℕ) (front : Some page ≡ slice_get (pages_in t.lists c NotFull) 0) (d : List Bool) where
   filled_test : (slot : ℕ) (map : List Bool) → slice_get (get_or t.maps page d) slot ≡ Some false → map ≡ set (get_or t.maps page d) slot true
       → nat_eq (used_in map) (length map) ≡ nat_eq (used_in (slots_on t page) + 1) (slots_in k c)
@@ -212,7 +212,7 @@ module _ (k : ClassTable) (t : Tables) (a : AreTables k t) (c page : ℕ) (front
       by_test true four w = rose_both old second new 4 9 four w
       by_test false four w = rose_both old second new 4 1 four w
 
--- A slot of a page becomes free: how many are used still.
+-- A slot of a page becomes free: the number of slots that are still used.
 pub used_still : (maps : List (List Bool)) (page slot count : ℕ) (d map : List Bool) → page < length maps
     → slice_get (get_or maps page []) slot ≡ Some true → map ≡ set (get_or maps page d) slot false → count ≡ used_in map → count + 1 ≡ used_in (get_or maps page [])
 used_still maps page slot count d map inside used wrote many =
@@ -221,7 +221,7 @@ used_still maps page slot count d map inside used wrote many =
     let w : used_in map ≡ used_in (set (get_or maps page []) slot false) = ap used_in (wrote ∙ ap (λ xs. set xs slot false) same) in
     omega arith
 
--- the steps of freeing it, where it empties its page and where not
+-- the steps of freeing it, whether that empties its page or not
 module _ (maps : List (List Bool)) (page count : ℕ) (few : count + 1 ≡ used_in (get_or maps page [])) (which : Which) (a b c d : ℕ)
     (first : RoseBy a b 3) (second : RoseBy b c 1) where
   pub emptied_steps : (e : ℕ) → count ≡ 0 → RoseBy c d 4 → RoseBy d e 1 → RoseBy a e (steps_to_vacate which (used_in (get_or maps page [])))
@@ -238,7 +238,7 @@ module _ (maps : List (List Bool)) (page count : ℕ) (few : count + 1 ≡ used_
       by_list Full third = rose_both a c d 4 8 (rose_both a b c 3 1 first second) third
       by_list NotFull third = rose_both a c d 4 0 (rose_both a b c 3 1 first second) third
 
--- the same with the step that finds its list
+-- the same with the step that finds the page's list
 pub dropped_steps : (xs map : List Bool) (which : Which) (a b c : ℕ) → map ≡ xs → (used_in map ≡ length map → which ≡ Full)
     → (used_in map ≢ length map → which ≡ NotFull) → RoseBy a b 1 → RoseBy b c (steps_to_vacate which (used_in xs))
     → RoseBy a c (drop_steps (used_in xs) (length xs))

@@ -12,7 +12,7 @@ use Rattle.page_slots.proofs.Listing.{along}
 use Rattle.page_slots.proofs.Pages.{other_free}
 use Rattle.page_slots.proofs.TablesAfterTake.{free_head}
 
--- the test for a list, and what stands there
+-- the test for membership agrees with `Contains`
 pub contains_any : (q : ℕ) (xs : List ℕ) → Contains xs q → is_in_pool xs q ≡ true
 contains_any q [] h = absurd (contains_nil q h)
 contains_any q (x ∷ xs) h = elim (cases_eq q x) [
@@ -50,7 +50,7 @@ tail_free x q xs is = elim (cases_eq q x) [
   | inr ne ↦ other_free xs x q ne ∙ is
 ]
 
--- of the numbers below n, those of the list are as many as it is long
+-- the numbers below n that pass the test are counted by the length of the list
 pub count_members : (n : ℕ) (xs : List ℕ) → HasNoRepeats xs → ((q : ℕ) → is_in_pool xs q ≡ true → q < n)
     → count_by (is_in_pool xs) (range_with_len 0 n) ≡ length xs
 count_members n [] d below = sum_zeros (λ q. one (is_in_pool [] q)) (range_with_len 0 n) (λ _. refl)
@@ -62,7 +62,7 @@ count_members n (x ∷ xs) d below =
     let rest : count_by (is_in_pool xs) (range_with_len 0 n) ≡ length xs = count_members n xs d.1 (λ q is. below q (tail_free x q xs is)) in
     omega arith
 
--- where of each number one test or the other passes, all are counted
+-- if exactly one of two tests passes at each number, their counts add up to n
 pub count_both : (f g : ℕ → Bool) (a n : ℕ) → ((d : ℕ) → a ≤ d → d < a + n → one (f d) + one (g d) ≡ 1)
     → count_by f (range_with_len a n) + count_by g (range_with_len a n) ≡ n
 count_both f g a zero either = refl

@@ -1,4 +1,4 @@
--- What joins and leaves a list, seen page by page.
+-- Which pages join and leave a list, page by page.
 use Rattle.std.proofs.Common.{◌≡◌, ◌≢◌, ℕ, List, ◌∷◌, refl, sym, ◌∙◌, ap, subst, inl, inr}
 use Rattle.std.specs.Prelude.{◌⊎◌}
 use Rattle.std.specs.List.{Contains}
@@ -18,7 +18,7 @@ which_or Full NotFull = inr (λ e. cc)
 which_or NotFull Full = inr (λ e. cc)
 which_or NotFull NotFull = inl refl
 
--- a list is this one, or another
+-- either the list is this one or another one
 pub list_or : (c d : ℕ) (w v : Which) → ((d ≡ c) × (v ≡ w)) ⊎ ((d ≢ c) ⊎ (v ≢ w))
 list_or c d w v = elim (cases_eq d c) [
   | inl is ↦ elim (which_or v w) [
@@ -64,7 +64,7 @@ module _ (old : PageLists) (c : ℕ) (w : Which) (page : ℕ) (new : PageLists) 
     left : (d : ℕ) (v : Which) → d ≡ c → v ≡ w → pages_in new d v ≡ without_page page (pages_in old d v)
     left d v a b = same_list new c d w v a b ∙ l.list ∙ ap (without_page page) (sym (same_list old c d w v a b))
 
-    -- a page that left its list is in none
+    -- a page that left its list is in no list
     pub left_unlisted : AreApart old → Contains (pages_in old c w) page → IsUnlisted new page
     left_unlisted apart there d v h = elim (list_or c d w v) [
       | inl (a, b) ↦ (contains_without page page (pages_in old d v) (along page _ _ (left d v a b) h)).0 refl

@@ -1,4 +1,4 @@
--- The slot that is taken is the next one of the order that the tables have.
+-- The slot that is taken is the next one in the order of the tables.
 use Rattle.std.proofs.Common.{◌≡◌, ◌≢◌, ℕ, Bool, true, false, ◌+◌, ◌*◌, ◌<◌, ◌≤◌, List, [], ◌∷◌, length, drop, get_or, set, replicate, Option, Some, arith, refl, sym, ◌∙◌, ap, subst, inl, inr}
 use Rattle.std.specs.Prelude.{◌⊎◌, ◌↔◌, None, not, nat_eq, slice_get, if◌then◌else◌}
 use Rattle.std.specs.FinMap.{get, len}
@@ -39,21 +39,21 @@ use Rattle.page_slots.proofs.TablesAfterTake.{Gains, front_listed, taken_gains, 
 use Rattle.page_slots.proofs.OccupiedAfterTake.{gained_unused}
 
 module _ (n : ℕ) where
-  -- the list of a class
+  -- the list of one class
   pub open_at : (t : Tables) (spare : List ℕ) (c : ℕ) → c < n → not_full_in (order_of n t spare) c ≡ pages_in t.lists c NotFull
   open_at t spare c lt = get_or-map-range_with_len (λ c. pages_in t.lists c NotFull) 0 n c c [] lt (omega arith)
 
   long : (lists : PageLists) → length (open_lists n lists) ≡ n
   long lists = length-map-range_with_len (λ c. pages_in lists c NotFull) 0 n
 
-  -- all of them stay
+  -- all lists stay
   pub open_same : (old new : PageLists) → ((d : ℕ) → pages_in new d NotFull ≡ pages_in old d NotFull) → open_lists n new ≡ open_lists n old
   open_same old new same = same_lists _ _ (long new ∙ sym (long old)) (λ k d lt. (
       let l = long new in
       get_or-map-range_with_len (λ c. pages_in new c NotFull) 0 n k k d (omega arith) (omega arith) ∙ same k
       ∙ sym (get_or-map-range_with_len (λ c. pages_in old c NotFull) 0 n k k d (omega arith) (omega arith))))
 
-  -- one of them changes
+  -- one list changes
   pub open_set : (old new : PageLists) (c : ℕ) (pages : List ℕ) → c < n → pages_in new c NotFull ≡ pages
       → ((d : ℕ) → d ≢ c → pages_in new d NotFull ≡ pages_in old d NotFull) → open_lists n new ≡ set (open_lists n old) c pages
   open_set old new c pages inside here others = same_lists _ _ (long new ∙ sym (length-set (open_lists n old) c pages ∙ long old)) (λ k d lt. (
@@ -75,7 +75,7 @@ module _ {p : Paging} (ok : IsPaging p) {m : Held} {old new : Tables} (tell : Te
   after = order_of (classes p) new spare
 
   module _ {a page slot : ℕ} (address : a ≡ address_of p c page slot) where
-    -- on a partly full page
+    -- the slot is on a partly full page
     module _ (on : TakesOnOpenPage old c page slot new) (g : Gains (class_table p) old new c page slot) where
       listed : Contains (pages_in old.lists c NotFull) page
       listed = front_listed (pages_in old.lists c NotFull) page on.front
@@ -137,7 +137,7 @@ module _ {p : Paging} (ok : IsPaging p) {m : Held} {old new : Tables} (tell : Te
         left = left;
       })
 
-  -- on a page that was free
+  -- the slot is on a page that was free
   module _ {a page : ℕ} (address : a ≡ address_of p c page 0) (on : TakesOnFreePage (class_table p) old c page new) where
     left_free : after ≡ record (if nat_eq (slots_of p c) 1 then before else with_not_full before c (page ∷ [])) { pool = new.pool.free }
     left_free = elim (cases_eq (slots_of p c) 1) [
@@ -161,7 +161,7 @@ module _ {p : Paging} (ok : IsPaging p) {m : Held} {old new : Tables} (tell : Te
       left = left_free;
     })
 
-  -- whichever slot was taken
+  -- in both cases
   pub taken_next : {a : ℕ} → TakesAt (class_table p) old c a new → TakesNext p m before c a after
   taken_next t = elim t.taken [
     | inl on ↦ next_open t.address on (taken_gains (class_table p) old tell.tables c class _ new t kept.lists kept.pool)
@@ -209,7 +209,7 @@ module _ {p : Paging} (ok : IsPaging p) {m : Held} {t : Tables} (tell : Tell p t
     ],
   )
 
-  -- the order of the tables is one of the arrangement
+  -- the order of the tables is an order of the arrangement
   pub order_is : (limit : ℕ) (spare : List ℕ) → ((h : ℕ) → Contains spare h → (h < limit) × (get m h ≡ None)) → IsDistinct nat_eq spare
       → length spare + len m ≡ limit → IsOrderOf p m limit (order_of (classes p) t spare)
   order_is limit spare free once all = record {
@@ -304,7 +304,7 @@ module _ {p : Paging} (ok : IsPaging p) {m : Held} {old new : Tables} (tell : Te
         ])
   ]
 
--- The object that fills a slot is the next one to move.
+-- The object that moves into a freed slot is the next one to move.
 module _ {p : Paging} (ok : IsPaging p) {m : Held} {t : Tables} (tell : TellPart p t) (o : Occupies p m t) {c : ℕ} (class : c < classes p) (spare : List ℕ)
     {a : ℕ} (f : IsFiller (class_table p) t.maps t.lists c a) where
   filler_listed : Contains (pages_in t.lists c NotFull) f.page
@@ -362,14 +362,14 @@ module _ {p : Paging} {m : Held} {t : Tables} (tell : TellPart p t) (o : Occupie
         by_table ∙ sym by_order)
   ]
 
-  -- of freeing a slot
+  -- the same for freeing a slot
   pub drop_same : (page : ℕ) → IsOf t c page → table_drop t page ≡ order_drop p m c page
   drop_same page of =
       let counts : objects_on p m c page ≡ used_in (slots_on t page) = o.counted c page of in
       let long : length (slots_on t page) ≡ slots_of p c = (of_list (class_table p) t tell.tables c page of).1.slots in
       ap (λ n. drop_steps n (length (slots_on t page))) (sym counts) ∙ ap (drop_steps (objects_on p m c page)) long
 
-  -- and of freeing that of the object that fills
+  -- the same for freeing the slot of the object that moves
   pub fill_same : (page : ℕ) → slice_get (pages_in t.lists c NotFull) 0 ≡ Some page
       → table_fill t c ≡ order_fill p m (order_of (classes p) t spare) c
   fill_same page front =
@@ -380,7 +380,7 @@ module _ {p : Paging} {m : Held} {t : Tables} (tell : TellPart p t) (o : Occupie
       rw (order_fill, open_at (classes p) t spare c class ∙ first) refl in
       by_table ∙ ap fill_steps (sym counts) ∙ sym by_order
 
--- the lists of no pages
+-- empty lists
 pub open_empty : (n classes pages : ℕ) → open_lists n (empty_lists classes pages) ≡ replicate n []
 open_empty n classes pages = same_lists _ _ (long n (empty_lists classes pages) ∙ sym (length-replicate n [])) (λ k d lt. (
     let l = long n (empty_lists classes pages) in

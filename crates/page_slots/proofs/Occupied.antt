@@ -1,4 +1,4 @@
--- What it tells that objects occupy the used slots.
+-- What follows if objects occupy the used slots.
 use Rattle.std.proofs.Common.{◌≡◌, ℕ, true, ◌<◌, List, Some, None, arith, refl, sym, ◌∙◌, ap, subst, inl, inr}
 use Rattle.std.proofs.lemmas.Bool.{cases_eq, cases_lt}
 use Rattle.std.proofs.lemmas.Option.{slice_get_within}
@@ -18,7 +18,7 @@ pub used_along : (t : Tables) (c d g page s slot : ℕ) → c ≡ d → g ≡ pa
 used_along t c d g page s slot a b e u =
     subst (λ s. IsUsed t d page s) e (subst (λ g. IsUsed t d g s) b (subst (λ c. IsUsed t c g s) a u))
 
--- a page that is free is of no class
+-- a free page is of no class
 pub free_of_none : (t : Tables) (c page : ℕ) → IsFreePage t page → IsOf t c page → ⊥
 free_of_none t c page f (inl h) = f.unlisted c Full h
 free_of_none t c page f (inr h) = f.unlisted c NotFull h
@@ -43,7 +43,7 @@ module _ (p : Paging) (ok : IsPaging p) (t : Tables) (tell : TellPart p t) where
       address_is_slot p ok c b.0 page slot b.1 (omega arith)
 
   module _ (m : Held) (o : Occupies p m t) where
-    -- an object of a class on a page makes it one of the class
+    -- a page with an object of a class is of that class
     pub counts_of : (c page : ℕ) → 0 < objects_on p m c page → IsOf t c page
     counts_of c page some =
         let f = on_page p m c page some in
@@ -56,7 +56,7 @@ module _ (p : Paging) (ok : IsPaging p) (t : Tables) (tell : TellPart p t) where
       | inr le ↦ omega arith
     ]
 
-    -- on a free page nothing stands
+    -- no object is on a free page
     pub free_bare : (page : ℕ) → IsFreePage t page → standing_on p m page ≡ 0
     free_bare page f = elim (cases_lt 0 (standing_on p m page)) [
       | inl some ↦ absurd (
@@ -66,7 +66,7 @@ module _ (p : Paging) (ok : IsPaging p) (t : Tables) (tell : TellPart p t) where
       | inr le ↦ omega arith
     ]
 
-    -- who stands at a used slot, by page and number
+    -- the object at a used slot
     pub stands_at : (c page slot : ℕ) → IsUsed t c page slot
         → (h : ℕ) × (x : Placed) × (get m h ≡ Some x) × (class_at p x ≡ c) × (x.place ≡ address_of p c page slot) × (page_of p x.place ≡ page)
         × (slot_at (class_table p) c x.place ≡ slot)

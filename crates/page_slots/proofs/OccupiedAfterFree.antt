@@ -1,4 +1,4 @@
--- The objects after a slot became free, without the one that stood there.
+-- The objects after a slot became free, without the one that was there.
 use Rattle.std.proofs.Common.{◌≡◌, ◌≢◌, ℕ, true, false, ◌+◌, ◌<◌, length, Some, arith, refl, sym, ◌∙◌, ap, subst, inl, inr}
 use Rattle.std.specs.Prelude.{slice_get}
 use Rattle.std.proofs.lemmas.Bool.{cases_eq}
@@ -30,14 +30,14 @@ module _ (p : Paging) (ok : IsPaging p) (m : Held) (s : IsSound p m) (old new : 
   others : (i : ℕ) → i ≢ slot → slice_get (slots_on new page) i ≡ slice_get (slots_on old page) i
   others i ne = ap (λ xs. slice_get xs i) l.after ∙ set_there (slots_on old page) slot i false ne
 
-  -- the page is of no other class now
+  -- the page is now of class c at most
   now_class : (d : ℕ) → IsOf new d page → (d ≡ c) × IsOf new c page
   now_class d of = elim l.now [
     | inl there ↦ (one_class (class_table p) new l.kept d c page of there, there)
     | inr (f, _) ↦ absurd (free_of_none new d page f of)
   ]
 
-  -- what is used was used, and it isn't the slot
+  -- a slot that is used was used, and isn't the freed one
   was_used : (d k i : ℕ) → IsUsed new d k i → IsUsed old d k i
   was_used d k i u = elim (cases_eq k page) [
     | inl is ↦ (
@@ -51,7 +51,7 @@ module _ (p : Paging) (ok : IsPaging p) (m : Held) (s : IsSound p m) (old new : 
   not_freed : (i : ℕ) (d : ℕ) → IsUsed new d page i → i ≢ slot
   not_freed i d u e = not_both true refl (sym u.used ∙ ap (slice_get (slots_on new page)) e ∙ gone)
 
-  -- what was used is used, but for the slot
+  -- every other used slot stays used
   stays_used : (d k i : ℕ) → IsUsed old d k i → (k ≡ page → i ≢ slot) → IsUsed new d k i
   stays_used d k i u other = elim (cases_eq k page) [
     | inl is ↦ (
@@ -66,7 +66,7 @@ module _ (p : Paging) (ok : IsPaging p) (m : Held) (s : IsSound p m) (old new : 
     | inr ne ↦ record { of = same_of old new k d (l.others k ne) u.of; used = ap (λ xs. slice_get xs i) (l.others k ne).slots ∙ u.used }
   ]
 
-  -- no other object stands at the slot
+  -- no other object is at the slot
   apart : (q : ℕ) (y : Placed) → get m q ≡ Some y → q ≢ h → page_of p y.place ≡ page → slot_at (class_table p) (class_at p y) y.place ≢ slot
   apart q y f ne on_y at_y =
       let u = o.stands q y f in

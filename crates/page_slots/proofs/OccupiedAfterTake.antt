@@ -1,4 +1,4 @@
--- The objects after a slot was taken for one more.
+-- The objects after a slot was taken for a new one.
 use Rattle.std.proofs.Common.{◌≡◌, ◌≢◌, ℕ, true, false, ◌<◌, length, Some, None, arith, refl, sym, ◌∙◌, ap, subst, inl, inr}
 use Rattle.std.specs.Prelude.{◌⊎◌, slice_get}
 use Rattle.std.proofs.lemmas.Bool.{cases_eq}
@@ -32,7 +32,7 @@ module _ (p : Paging) (ok : IsPaging p) (m : Held) (old new : Tables) (tell : Te
   inside : slot < length g.before
   inside = slice_get_within g.before slot false g.free
 
-  -- the class of the page before, where it had one
+  -- the page's class before, if it had one, is c
   was_class : (d : ℕ) → IsOf old d page → d ≡ c
   was_class d of = elim g.was [
     | inl (there, _) ↦ one_class (class_table p) old tell.tables d c page of (inr there)
@@ -60,7 +60,7 @@ module _ (p : Paging) (ok : IsPaging p) (m : Held) (old new : Tables) (tell : Te
       ∙ ap (slot_at (class_table p) c) is ∙ a.2 in
       gained_free (class_at p y) (used_along old (class_at p y) (class_at p y) (page_of p y.place) page _ slot refl on at u)
 
-  -- what was used is used still
+  -- used slots stay used
   grows : (d h s : ℕ) → IsUsed old d h s → IsUsed new d h s
   grows d h s u = elim (cases_eq h page) [
     | inl is ↦ (
@@ -73,7 +73,7 @@ module _ (p : Paging) (ok : IsPaging p) (m : Held) (old new : Tables) (tell : Te
     | inr ne ↦ record { of = same_of old new h d (g.others h ne) u.of; used = ap (λ xs. slice_get xs s) (g.others h ne).slots ∙ u.used }
   ]
 
-  -- what is used was used, but for the slot
+  -- a slot that is used is the new one or was used
   shrinks : (d h s : ℕ) → IsUsed new d h s → ((d ≡ c) × (h ≡ page) × (s ≡ slot)) ⊎ IsUsed old d h s
   shrinks d h s u = elim (cases_eq h page) [
     | inl is ↦ (
@@ -92,7 +92,7 @@ module _ (p : Paging) (ok : IsPaging p) (m : Held) (old new : Tables) (tell : Te
     | inr ne ↦ inr (record { of = was_of old new h d (g.others h ne) u.of; used = sym (ap (λ xs. slice_get xs s) (g.others h ne).slots) ∙ u.used })
   ]
 
-  -- the objects on the page, before
+  -- the number of objects on the page before
   counted_before : objects_on p m c page ≡ used_in g.before
   counted_before = elim g.was [
     | inl (there, e) ↦ o.counted c page (inr there) ∙ sym (ap used_in e)

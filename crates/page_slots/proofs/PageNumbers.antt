@@ -39,7 +39,7 @@ module _ (p : Paging) (ok : IsPaging p) (m : Held) (t : Tables) (tell : TellPart
   unlisted c page a b (inl h) = contains_no page (pages_in t.lists c Full) a h
   unlisted c page a b (inr h) = contains_no page (pages_in t.lists c NotFull) b h
 
-  -- in class c
+  -- a page of class c
   module _ (c page : ℕ) where
     is_part : is_in_pool (pages_in t.lists c NotFull) page ≡ true → part_full (objects_on p m c page) (slots_of p c) ≡ true
     is_part e =
@@ -100,7 +100,7 @@ module _ (p : Paging) (ok : IsPaging p) (m : Held) (t : Tables) (tell : TellPart
   members : (c : ℕ) (w : Which) → count_by (is_in_pool (pages_in t.lists c w)) (range_with_len 0 p.pages) ≡ length (pages_in t.lists c w)
   members c w = count_members p.pages (pages_in t.lists c w) (no_repeats (pages_in t.lists c w) (tell.tables.lists.distinct c w)) (below c w)
 
-  -- the pages of a class that are partly full are those of its list
+  -- the partly full pages of a class are those of its list
   pub not_full_pages_are : (c : ℕ) → not_full_pages p m c ≡ length (pages_in t.lists c NotFull)
   unfolding not_full_pages
   not_full_pages_are c =
@@ -119,9 +119,9 @@ module _ (p : Paging) (ok : IsPaging p) (m : Held) (t : Tables) (tell : TellPart
       let b = members c NotFull in
       omega arith
 
-  -- Where no page is elsewhere:
+  -- If no page is foreign:
   module _ (whole : NoneElsewhere t) where
-    -- something stands on each page that isn't free
+    -- every page that isn't free has an object
     pub taken_stands : (page : ℕ) → page < p.pages → is_in_pool t.pool.free page ≡ false → 0 < standing_on p m page
     taken_stands page lt not_free =
         let (c, w, q) = taken_page (class_table p) t tell.tables whole page (let e = tell.pages in omega arith) not_free in
@@ -134,7 +134,7 @@ module _ (p : Paging) (ok : IsPaging p) (m : Held) (t : Tables) (tell : TellPart
         used_there Full n s e some = omega arith
         used_there NotFull n s f some = f.0
 
-    -- on a free page nothing stands
+    -- every page is either free or has an object
     free_or_taken : (page : ℕ) → page < p.pages → one (nat_lt 0 (standing_on p m page)) + one (is_in_pool t.pool.free page) ≡ 1
     free_or_taken page lt = by_test (is_in_pool t.pool.free page) refl
       where
@@ -156,7 +156,7 @@ module _ (p : Paging) (ok : IsPaging p) (m : Held) (t : Tables) (tell : TellPart
     pub free_pages_are : IsSound p m → free_pages p m ≡ length t.pool.free
     free_pages_are s = (let e = pages_are s in omega arith)
 
-    -- no room: no page of the class is partly full, and the pool is empty
+    -- a class without partly full pages has no slot left if the pool is empty
     pub lacks_room : (c : ℕ) → pages_in t.lists c NotFull ≡ [] → t.pool.free ≡ [] → LacksRoom p m c
     lacks_room c none empty = record {
       full = not_full_pages_are c ∙ ap length none;

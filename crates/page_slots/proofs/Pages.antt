@@ -1,4 +1,4 @@
--- What the tables say of one page, and what a change of another page leaves of it.
+-- What the tables show of one page, and that a change of another page keeps it.
 use Rattle.std.proofs.Common.{◌≡◌, ◌≢◌, ℕ, Bool, true, false, ◌<◌, ◌≤◌, List, [], ◌∷◌, length, get_or, set, arith, refl, sym, ◌∙◌, ap, subst, inl, inr, eqb}
 use Rattle.std.specs.List.{Contains}
 use Rattle.std.proofs.lemmas.Bool.{cases_eq, true≢false, ne_eqb}
@@ -12,7 +12,7 @@ use Rattle.page_pool.specs.Pool.{IsPool, is_in_pool}
 use Rattle.page_slots.specs.Tables.{Tables, AreTables, IsOf, IsPlaced, IsPageOf, IsFreePage, IsElsewhere, NoneElsewhere}
 use Rattle.page_slots.specs.Tables.{KeepsElsewhere, slots_in, slots_on, used_in}
 
--- a page is as it was
+-- the page, its lists and its slots stay
 pub record IsSame (old new : Tables) (g : ℕ) : Type 0 where
   pub free : is_in_pool new.pool.free g ≡ is_in_pool old.pool.free g
   pub comes : (d : ℕ) (v : Which) → Contains (pages_in old.lists d v) g → Contains (pages_in new.lists d v) g
@@ -36,7 +36,7 @@ was_elsewhere old new g s e = record { taken = sym s.free ∙ e.taken; unlisted 
 pub keeps_all : (t : Tables) → KeepsElsewhere t t
 keeps_all t = record { still = λ _ e. e; slots = λ _ _. refl }
 
--- where one page changed that wasn't elsewhere, those elsewhere stay
+-- if one page changes that isn't foreign, the foreign pages stay as they are
 pub keeps_elsewhere : (old new : Tables) (page : ℕ) → ¬ IsElsewhere old page → ((g : ℕ) → g ≢ page → IsSame old new g) → KeepsElsewhere old new
 keeps_elsewhere old new page there others = record {
   still = λ g e. same_elsewhere old new g (others g (other g e)) e;
@@ -46,7 +46,7 @@ keeps_elsewhere old new page there others = record {
     other : (g : ℕ) → IsElsewhere old g → g ≢ page
     other g e is = there (subst (IsElsewhere old) is e)
 
--- where nothing is elsewhere, and the one page that changed isn't, nothing is elsewhere after
+-- if no page is foreign and the changed page isn't afterwards, none is afterwards
 pub still_whole : (old new : Tables) (page : ℕ) → new.pool.pages ≡ old.pool.pages → ¬ IsElsewhere new page → ((g : ℕ) → g ≢ page → IsSame old new g)
     → NoneElsewhere old → NoneElsewhere new
 still_whole old new page pages there others whole g lt e = elim (cases_eq g page) [
@@ -54,7 +54,7 @@ still_whole old new page pages there others whole g lt e = elim (cases_eq g page
   | inr ne ↦ whole g (omega arith) (was_elsewhere old new g (others g ne) e)
 ]
 
--- a page that is free, or one of a class, isn't elsewhere
+-- a page that is free or of a class isn't foreign
 pub free_not_elsewhere : (t : Tables) (page : ℕ) → IsFreePage t page → ¬ IsElsewhere t page
 free_not_elsewhere t page f e = true≢false (sym f.free ∙ e.taken)
 
@@ -83,11 +83,11 @@ same_placed k old new g s (inr (inr (c, w, p))) =
       },
     ))
 
--- the pool without or with one page more answers alike for all others
+-- adding or removing one page of the pool doesn't matter for the others
 pub other_free : (free : List ℕ) (page g : ℕ) → g ≢ page → is_in_pool (page ∷ free) g ≡ is_in_pool free g
 other_free free page g ne = (let e : eqb g page ≡ false = ne_eqb g page ne in rw e)
 
--- a map is written
+-- one map is replaced
 module _ (old new : List (List Bool)) (page : ℕ) (map : List Bool) (e : new ≡ set old page map) where
   pub map_here : page < length old → get_or new page [] ≡ map
   map_here lt = ap (λ ms. get_or ms page []) e ∙ get_or-set_same old page map [] lt
@@ -105,7 +105,7 @@ module _ (k : ClassTable) (t : Tables) (a : AreTables k t) where
   pub listed_class : (c page : ℕ) (w : Which) → Contains (pages_in t.lists c w) page → c < length k.sizes
   listed_class c page w h = (let lt = a.lists.class c w page h in let e = a.classes in omega arith)
 
-  -- a page that is in a list is as the list says
+  -- a page in a list has the slots that the list asks for
   pub placed_in : (c page : ℕ) (w : Which) → Contains (pages_in t.lists c w) page → IsPageOf k t page c w
   placed_in c page w h = elim (a.placed page (listed_page c page w h)) [
     | inl f ↦ absurd (f.unlisted c w h)
@@ -123,7 +123,7 @@ module _ (k : ClassTable) (t : Tables) (a : AreTables k t) where
   list_of c page Full h = inl h
   list_of c page NotFull h = inr h
 
-  -- a page is of one class, or free
+  -- a page is of at most one class
   pub one_class : (c d page : ℕ) → IsOf t c page → IsOf t d page → c ≡ d
   one_class c d page x y =
       let p = of_list c page x in let q = of_list d page y in

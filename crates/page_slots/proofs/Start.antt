@@ -35,7 +35,7 @@ range_has a (suc n) q low high = elim (cases_eq q a) [
   | inr ne ↦ other_free (range_with_len (a + 1) n) a q ne ∙ range_has (a + 1) n q (omega arith) (omega arith)
 ]
 
--- the classes of a heap's pages are a table
+-- the classes of a heap's pages are a class table
 pub first_table : (page_words : ℕ) (layout : Layout) → IsTrue (is_page_size page_words) → IsClassTable page_words (sizes page_words layout)
 first_table page_words layout ok = record { are_sizes = are_sizes page_words layout ok; small = (page_size page_words ok).small }
 
@@ -62,7 +62,7 @@ module _ (classes pages : ℕ) where
   none_of maps pool c page (inl h) = none_listed c Full page h
   none_of maps pool c page (inr h) = none_listed c NotFull page h
 
-  -- the tables at the start, whatever slots the free pages had, none of them used
+  -- the tables at the start; the maps of the free pages may have any number of slots, none of them used
   pub first_tables : (k : ClassTable) (maps : List (List Bool)) → IsClassTable k.page_words k.sizes → pages * k.page_words < 2 ^ 32
       → length maps ≡ pages → ((page : ℕ) → used_in (get_or maps page []) ≡ 0) → classes ≡ length k.sizes
       → AreTables k (tables maps (empty_lists classes pages) (record { pages = pages; free = range_with_len 0 pages }))
@@ -86,7 +86,7 @@ module _ (classes pages : ℕ) where
       (record { pages = pages; free = range_with_len 0 pages }))
   first_whole maps page lt e = true≢false (sym (range_has 0 pages page (omega arith) (omega arith)) ∙ e.taken)
 
-  -- no object stands there
+  -- no objects occupy these tables
   pub first_occupied : (p : Paging) (maps : List (List Bool)) (pool : Pool) → Occupies p empty (tables maps (empty_lists classes pages) pool)
   first_occupied p maps pool = record {
     stands = λ h x e. absurd (let none : get {X = Placed} {R = nat_cmp} empty h ≡ None = get-empty nat_cmp h in let z : Some x ≡ None = sym e ∙ none in cc);

@@ -19,7 +19,7 @@ use Rattle.page_slots.proofs.Pages.{IsSame, other_free, map_here, map_there, map
 use Rattle.page_slots.proofs.Pages.{keeps_elsewhere, still_whole, tables_after}
 use Rattle.page_slots.proofs.TablesAfterTake.{free_head}
 
--- What a slot that becomes free changes: its page, on which the other slots stay; it is of the class still, or free and empty.
+-- How freeing a slot changes the tables: only its page changes, and there the other slots stay; the page remains of the class, or is free and empty.
 pub record Loses (k : ClassTable) (old new : Tables) (c page slot : ℕ) : Type 0 where
   pub others : (g : ℕ) → g ≢ page → IsSame old new g
   pub of : IsOf old c page
@@ -29,7 +29,7 @@ pub record Loses (k : ClassTable) (old new : Tables) (c page slot : ℕ) : Type 
   pub pages : new.pool.pages ≡ old.pool.pages
   pub kept : AreTables k new
 
--- the page was not with another owner, nor is it
+-- the page isn't foreign, before or after
 module _ (k : ClassTable) (old new : Tables) (c page slot : ℕ) (l : Loses k old new c page slot) where
   pub loses_others : KeepsElsewhere old new
   loses_others = keeps_elsewhere old new page (of_not_elsewhere old c page l.of) l.others
@@ -60,7 +60,7 @@ module _ (k : ClassTable) (old : Tables) (a : AreTables k old) (c page slot : �
   long : length (slots_on new page) ≡ slots_in k c
   long = ap length after ∙ length-set (slots_on old page) slot false ∙ was.slots
 
-  -- by its lists and the pool
+  -- the same, from the lists and the pool
   record Left : Type 0 where
     free : (g : ℕ) → g ≢ page → is_in_pool new.pool.free g ≡ is_in_pool old.pool.free g
     comes : (g d : ℕ) (w : Which) → g ≢ page → Contains (pages_in old.lists d w) g → Contains (pages_in new.lists d w) g

@@ -22,7 +22,7 @@ use Rattle.page_slots.proofs.Listing.{left_classes}
 use Rattle.page_slots.proofs.Pages.{IsSame, other_free, map_here, map_there, maps_long, placed_in, listed_page, list_of, free_page, some_slots}
 use Rattle.page_slots.proofs.Pages.{free_not_elsewhere, of_not_elsewhere, keeps_elsewhere, still_whole, tables_after}
 
--- the head of a list stands in it
+-- the head of a list is in it
 pub front_listed : (xs : List ℕ) (page : ℕ) → slice_get xs 0 ≡ Some page → Contains xs page
 front_listed [] page e = absurd (let lt = slice_get_within [] 0 page e in omega arith)
 front_listed (x ∷ xs) page e =
@@ -43,7 +43,8 @@ pool_front k t a page pool f =
     let inside = front_below t.pool.pages page pool.free (subst P f.0 a.pool) in
     (inside, free_page k t a page inside (ap (λ free. is_in_pool free page) f.0 ∙ free_head page pool.free))
 
--- What a slot that becomes used changes: its page, on which the other slots stay, and which was partly full, or free where the class had no such page.
+-- How taking a slot changes the tables: only its page changes, and there the other slots stay; the page was partly full, or free if the class had no partly
+-- full page.
 pub record Gains (k : ClassTable) (old new : Tables) (c page slot : ℕ) : Type 0 where
   pub others : (g : ℕ) → g ≢ page → IsSame old new g
   pub before : List Bool
@@ -58,7 +59,7 @@ pub record Gains (k : ClassTable) (old new : Tables) (c page slot : ℕ) : Type 
   pub pages : new.pool.pages ≡ old.pool.pages
   pub kept : AreTables k new
 
--- the page was not with another owner, nor is it
+-- the page isn't foreign, before or after
 module _ (k : ClassTable) (old new : Tables) (c page slot : ℕ) (g : Gains k old new c page slot) where
   pub gains_others : KeepsElsewhere old new
   gains_others = keeps_elsewhere old new page was g.others
@@ -73,7 +74,7 @@ module _ (k : ClassTable) (old new : Tables) (c page slot : ℕ) (g : Gains k ol
   gains_whole = still_whole old new page g.pages (of_not_elsewhere new c page g.of) g.others
 
 module _ (k : ClassTable) (old : Tables) (a : AreTables k old) (c page : ℕ) (new : Tables) (apart : AreApart new.lists) where
-  -- on a partly full page
+  -- the slot is on a partly full page
   module _ (slot : ℕ) (t : TakesOnOpenPage old c page slot new) where
     there : Contains (pages_in old.lists c NotFull) page
     there = front_listed (pages_in old.lists c NotFull) page t.front
@@ -96,7 +97,7 @@ module _ (k : ClassTable) (old : Tables) (a : AreTables k old) (c page : ℕ) (n
     pool_same : (g : ℕ) → is_in_pool new.pool.free g ≡ is_in_pool old.pool.free g
     pool_same g = ap (λ (p : Pool). is_in_pool p.free g) t.pool
 
-    -- by its lists, filled or not
+    -- the same, from the lists, whether the page is filled or not
     record Listed : Type 0 where
       comes : (g d : ℕ) (v : Which) → g ≢ page → Contains (pages_in old.lists d v) g → Contains (pages_in new.lists d v) g
       stays : (g d : ℕ) (v : Which) → g ≢ page → Contains (pages_in new.lists d v) g → Contains (pages_in old.lists d v) g
@@ -164,7 +165,7 @@ module _ (k : ClassTable) (old : Tables) (a : AreTables k old) (c page : ℕ) (n
         kept = tables_after k old new page a (maps_long old.maps new.maps page _ t.maps) listed.pages listed.classes (ap (λ (p : Pool). p.pages) t.pool)
             pool apart same (inr (inr (c, listed.which, listed.here)))
 
-  -- on a page of the pool
+  -- the slot is on a page of the pool
   module _ (class : c < length k.sizes) (t : TakesOnFreePage k old c page new) where
     front : old.pool.free ≡ page ∷ new.pool.free
     front = t.front.0
@@ -257,7 +258,7 @@ module _ (k : ClassTable) (old : Tables) (a : AreTables k old) (c page : ℕ) (n
         kept = tables_after k old new page a (maps_long old.maps new.maps page _ t.maps) (joined_pages _ c joined_free.which page _ joined_free.joins)
             (joined_classes _ c joined_free.which page _ joined_free.joins) t.front.1 pool apart same_free (inr (inr (c, joined_free.which, joined_free.here)))
 
--- whichever slot was taken
+-- in both cases
 module _ (k : ClassTable) (old : Tables) (a : AreTables k old) (c : ℕ) (class : c < length k.sizes) (place : ℕ) (new : Tables)
     (t : TakesAt k old c place new) (apart : AreApart new.lists) (pool : IsPool new.pool) where
   pub taken_gains : Gains k old new c t.page t.slot

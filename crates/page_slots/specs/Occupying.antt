@@ -7,21 +7,21 @@ use Rattle.page_model.specs.Paging.{Paging, page_of, address_of}
 use Rattle.page_model.specs.Arrangement.{class_at, objects_on}
 use Rattle.page_slots.specs.Tables.{Tables, AreTables, IsOf, IsUsed, NoneElsewhere, slot_at, slots_on, used_in}
 
--- the classes of a paging
+-- the class table of a paging
 abbrev pub class_table : Paging → ClassTable
 class_table p = record { page_words = p.page_words; sizes = p.sizes }
 
--- the tables are those of this paging, whose pages other owners may share
+-- the tables are for this paging; other owners may share its pages
 pub record TellPart (p : Paging) (t : Tables) : Type 0 where
   pub tables : AreTables (class_table p) t
   pub pages : t.pool.pages ≡ p.pages
 
--- the tables are those of this paging, and they tell of each page: none is elsewhere
+-- the tables are for this paging, and no page is foreign
 pub record Tell (p : Paging) (t : Tables) : Type 0 where
   pub part : TellPart p t
   pub whole : NoneElsewhere t
 
--- Each object stands at a used slot of its class, and at each used slot stands an object; so the objects of a class on a page are as many as its used slots.
+-- each object is at a used slot of its class, and each used slot has an object; so a page of a class has one object of it for each used slot
 pub record Occupies (p : Paging) (m : Held) (t : Tables) : Type 0 where
   pub stands : (h : ℕ) (x : Placed) → get m h ≡ Some x → IsUsed t (class_at p x) (page_of p x.place) (slot_at (class_table p) (class_at p x) x.place)
   pub filled : (c page slot : ℕ) → IsUsed t c page slot → (h : ℕ) × (x : Placed) × (get m h ≡ Some x) × (class_at p x ≡ c)

@@ -10,6 +10,6 @@ use Rattle.page_slots.specs.Tables.{Tables}
 abbrev pub open_lists : ℕ → PageLists → List (List ℕ)
 open_lists n lists = map (λ c. pages_in lists c NotFull) (range_with_len 0 n)
 
--- the order of tables with n classes, and with these spare numbers
+-- the order of tables with n classes and these spare numbers
 abbrev pub order_of : ℕ → Tables → List ℕ → Order
 order_of n t spare = record { pool = t.pool.free; not_full = open_lists n t.lists; spare = spare }

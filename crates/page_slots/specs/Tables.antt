@@ -15,6 +15,7 @@ pub record Tables : Type 0 where
   pub lists : PageLists
   pub pool : Pool
 
+-- the tables with these parts
 abbrev pub tables : List (List Bool) → PageLists → Pool → Tables
 tables maps lists pool = record { maps = maps; lists = lists; pool = pool }
 
@@ -22,7 +23,7 @@ tables maps lists pool = record { maps = maps; lists = lists; pool = pool }
 abbrev pub slots_on : Tables → ℕ → List Bool
 slots_on t page = slice_index_or t.maps page []
 
--- how many slots are used
+-- the number of used slots
 abbrev pub used_in : List Bool → ℕ
 used_in all = count_by (λ used. used) all
 
@@ -34,14 +35,15 @@ slots_in k c = slots k.page_words k.sizes c
 abbrev pub address_in : ClassTable → ℕ → ℕ → ℕ → ℕ
 address_in k c page slot = page * k.page_words + slot * slice_index k.sizes c
 
--- the page of an address, and the slot of class c there
+-- the page of an address
 abbrev pub page_at : ClassTable → ℕ → ℕ
 page_at k a = a / k.page_words
 
+-- the slot of class c at an address, counted on its page
 abbrev pub slot_at : ClassTable → ℕ → ℕ → ℕ
 slot_at k c a = a % k.page_words / slice_index k.sizes c
 
--- the page is one of class c
+-- the page is of class c
 abbrev pub IsOf : Tables → ℕ → ℕ → Type 0
 IsOf t c page = Contains (pages_in t.lists c Full) page ⊎ Contains (pages_in t.lists c NotFull) page
 
@@ -50,18 +52,18 @@ pub record IsUsed (t : Tables) (c page slot : ℕ) : Type 0 where
   pub of : IsOf t c page
   pub used : slice_get (slots_on t page) slot ≡ Some true
 
--- of n slots so many are used on a page of the list
+-- how many of n slots are used on a page of this list
 abbrev pub HasUsed : Which → ℕ → ℕ → Type 0
 HasUsed Full used n = used ≡ n
 HasUsed NotFull used n = (0 < used) × (used < n)
 
--- the page is free, and of no class, and no slot that it had is used
+-- the page is free and of no class, and its map has no used slot
 pub record IsFreePage (t : Tables) (page : ℕ) : Type 0 where
   pub free : is_in_pool t.pool.free page ≡ true
   pub unlisted : IsUnlisted t.lists page
   pub unused : used_in (slots_on t page) ≡ 0
 
--- the page stands in that list of class c, with its slots, and as many of them are used as the list says
+-- the page is in this list of class c, has the class's slots, and has the number of used ones that the list asks for
 pub record IsPageOf (k : ClassTable) (t : Tables) (page c : ℕ) (which : Which) : Type 0 where
   pub taken : is_in_pool t.pool.free page ≡ false
   pub listed : Contains (pages_in t.lists c which) page
@@ -69,16 +71,16 @@ pub record IsPageOf (k : ClassTable) (t : Tables) (page c : ℕ) (which : Which)
   pub some : 0 < slots_in k c
   pub fills : HasUsed which (used_in (slots_on t page)) (slots_in k c)
 
--- another owner has the page: it is neither free nor in a list
+-- the page is foreign: neither free nor in a list, because another owner has it
 pub record IsElsewhere (t : Tables) (page : ℕ) : Type 0 where
   pub taken : is_in_pool t.pool.free page ≡ false
   pub unlisted : IsUnlisted t.lists page
 
--- the page is free, or elsewhere, or one of a class
+-- the page is free, foreign, or of one class
 abbrev pub IsPlaced : ClassTable → Tables → ℕ → Type 0
 IsPlaced k t page = IsFreePage t page ⊎ (IsElsewhere t page ⊎ ((c : ℕ) × (which : Which) × IsPageOf k t page c which))
 
--- Each page has its slots and is in one place: free, or with another owner, or in one list of one class, full or neither full nor empty.
+-- each page is free, foreign, or in one list of one class; in a list it has the slots of the class, all of them used or some but not all
 pub record AreTables (k : ClassTable) (t : Tables) : Type 0 where
   pub table : IsClassTable k.page_words k.sizes
   pub small : t.pool.pages * k.page_words < 2 ^ 32
@@ -89,26 +91,26 @@ pub record AreTables (k : ClassTable) (t : Tables) : Type 0 where
   pub lists : AreApart t.lists
   pub placed : (page : ℕ) → page < t.pool.pages → IsPlaced k t page
 
--- no page is elsewhere
+-- no page is foreign
 abbrev pub NoneElsewhere : Tables → Type 0
 NoneElsewhere t = (page : ℕ) → page < t.pool.pages → ¬ IsElsewhere t page
 
--- pages that are elsewhere stay there, and their slots stay
+-- foreign pages stay foreign, and their slots stay
 pub record KeepsElsewhere (old new : Tables) : Type 0 where
   pub still : (page : ℕ) → IsElsewhere old page → IsElsewhere new page
   pub slots : (page : ℕ) → IsElsewhere old page → slots_on new page ≡ slots_on old page
 
--- lists of another owner, who shares the maps and the pool: each of its pages is elsewhere for these tables
+-- lists of another owner, who shares the maps and the pool: each of its pages is foreign for these tables
 abbrev pub AreOthers : Tables → PageLists → Type 0
 AreOthers t others = (c page : ℕ) (which : Which) → Contains (pages_in others c which) page → IsElsewhere t page
 
--- a page joins a list at its head
+-- the page becomes the head of the list
 pub record JoinsList (old : PageLists) (c : ℕ) (which : Which) (page : ℕ) (new : PageLists) : Type 0 where
   pub value : new ≡ with_list old c which (page ∷ pages_in old c which)
   pub list : pages_in new c which ≡ page ∷ pages_in old c which
   pub others : KeepsOthers old new c which
 
--- a page leaves a list
+-- the page leaves the list
 pub record LeavesList (old : PageLists) (c : ℕ) (which : Which) (page : ℕ) (new : PageLists) : Type 0 where
   pub value : new ≡ with_list old c which (without_page page (pages_in old c which))
   pub list : pages_in new c which ≡ without_page page (pages_in old c which)

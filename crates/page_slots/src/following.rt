@@ -14,7 +14,7 @@ ghost use Rattle.page_slots.specs.Taking.{TakesAt, steps_to_take};
 ghost use Rattle.class_lists.specs.declared.Which.TheVariants.{NotFull};
 ghost use Rattle.class_lists.specs.PageLists.{pages_in};
 
-/// The slot that is taken is the next one of the order that the tables have.
+/// The slot that is taken is the next one in the order of the tables.
 pub fn the_next_slot_is_taken()
     ensures { (p : Paging) (m : Held) (old new : Tables) (c a : ℕ) (spare : List ℕ)
         → IsPaging p → TellPart p old → Occupies p m old → AreTables (class_table p) new → c < classes p
@@ -22,7 +22,7 @@ pub fn the_next_slot_is_taken()
         → TakesNext p m (order_of (classes p) old spare) c a (order_of (classes p) new spare) }
 {}
 
-/// After a slot becomes free, the tables have the order that the freed slot leaves.
+/// After a slot is freed, the order of the tables is `slot_freed` of the old one.
 pub fn a_freed_slot_follows_the_order()
     ensures { (p : Paging) (m : Held) (old new : Tables) (c page slot : ℕ) (spare : List ℕ)
         → IsPaging p → TellPart p old → Occupies p m old → AreTables (class_table p) new → c < classes p
@@ -30,7 +30,7 @@ pub fn a_freed_slot_follows_the_order()
         → order_of (classes p) new spare ≡ slot_freed p m (order_of (classes p) old spare) c page }
 {}
 
-/// The object that fills a freed slot is the one that the order moves next.
+/// The object that moves into a freed slot is the next one to move in the order of the tables.
 pub fn the_filler_is_next_to_move()
     ensures { (p : Paging) (m : Held) (t : Tables) (c a : ℕ) (y : Placed) (spare : List ℕ)
         → IsPaging p → TellPart p t → Occupies p m t → c < classes p
@@ -38,7 +38,7 @@ pub fn the_filler_is_next_to_move()
         → IsNextToMove p m (order_of (classes p) t spare) c y }
 {}
 
-/// The steps of each call are those that the order and the numbers of objects on a page have.
+/// The steps of each call are those given by the order and the numbers of objects on the pages.
 pub fn steps_follow_the_order()
     ensures take { (p : Paging) (m : Held) (old new : Tables) (c a : ℕ) (spare : List ℕ)
         → TellPart p old → Occupies p m old → c < classes p → TakesAt (class_table p) old c a new
@@ -51,7 +51,7 @@ pub fn steps_follow_the_order()
         → steps_to_fill t c ≡ Order.steps_to_fill p m (order_of (classes p) t spare) c }
 {}
 
-/// The order that the tables have is one of the arrangement.
+/// The order of the tables is an order of the arrangement.
 pub fn the_order_is_of_the_arrangement()
     ensures { (p : Paging) (m : Held) (t : Tables) (limit : ℕ) (spare : List ℕ)
         → IsPaging p → Tell p t → Occupies p m t

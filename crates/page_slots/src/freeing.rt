@@ -1,4 +1,4 @@
-//! A used slot becomes free.
+//! Frees a used slot.
 ghost use Rattle.std.specs.Prelude.{◌≡◌, ◌≢◌, ℕ, ◌<◌, ◌≤◌, [], ◌↔◌, IsTrue, length, false, true, slice_get, slice_index_or};
 ghost use Rattle.std.specs.List.{Contains, position};
 ghost use Rattle.step_ledger.specs.Counting.{RoseAtMost, RoseBy};
@@ -16,8 +16,8 @@ use size_classes::Classes;
 use slot_bitmap::SlotMap;
 use step_ledger::Steps;
 
-/// Whether a free at this address moves an object: the page is full and has more than one slot, and
-/// its class has as many partly full pages as it may.
+/// Whether a free at this address moves an object: the page is full and has several slots, and its
+/// class has reached its bound of partly full pages.
 pub fn must_move(
     classes: &Classes,
     maps: &[SlotMap],
@@ -39,8 +39,8 @@ pub fn must_move(
     used == map.len() && used > 1 && lists.len(c, Which::NotFull) == bound
 }
 
-/// The used slot of class c at this address becomes free, and no object moves. A page that it leaves
-/// empty returns to the pool; one that was full becomes the first of the partly full pages.
+/// Frees the used slot of class c at this address, without a move. A page that is then empty
+/// returns to the pool. A page that was full becomes the first partly full page.
 pub fn drop_slot(
     classes: &Classes,
     maps: &mut [SlotMap],
@@ -66,8 +66,8 @@ pub fn drop_slot(
     vacate(maps, lists, pool, c, which, page, slot, steps);
 }
 
-/// Returns the address of the object that fills a freed slot of class c, the one at the least used
-/// slot of the head page of the class that is partly full. Both slots stay used.
+/// Returns the address of the object that moves into a freed slot of class c: the one at the least
+/// used slot of the first partly full page of the class. Both slots stay used.
 pub fn filler(
     classes: &Classes,
     maps: &[SlotMap],
@@ -85,8 +85,8 @@ pub fn filler(
     address_of(classes, c, page, slot)
 }
 
-/// Returns the address of the object that fills a freed slot of class c, as `filler` does. Its own
-/// slot becomes free, and the freed one stays used. A page that is left empty returns to the pool.
+/// Returns the address of the object that moves into a freed slot of class c, as `filler` does, and
+/// frees its own slot. The freed slot stays used. A page that is then empty returns to the pool.
 pub fn fill_slot(
     classes: &Classes,
     maps: &mut [SlotMap],
@@ -110,7 +110,7 @@ pub fn fill_slot(
     address_of(classes, c, page, slot)
 }
 
-/// The head page of class c that is partly full, and its least used slot.
+/// The first partly full page of class c, and its least used slot.
 fn filling_slot(maps: &[SlotMap], lists: &ClassLists, c: u32, steps: &mut Steps) -> (u32, u32)
     requires class { c < lists.now.classes }
     requires some { 1 ≤ length (pages_in lists.now c Which.NotFull) }
@@ -129,7 +129,7 @@ fn filling_slot(maps: &[SlotMap], lists: &ClassLists, c: u32, steps: &mut Steps)
     (page, slot)
 }
 
-/// The list that a page with these slots is in.
+/// The list of a page with these slots: that of the full pages if all of them are used.
 fn list_of(map: &SlotMap, steps: &mut Steps) -> Which
     ensures full { used_in map.now ≡ length map.now → result ≡ Which.Full }
     ensures not_full { used_in map.now ≢ length map.now → result ≡ Which.NotFull }
@@ -142,7 +142,7 @@ fn list_of(map: &SlotMap, steps: &mut Steps) -> Which
     }
 }
 
-/// A used slot of a page in that list of class c becomes free.
+/// Frees a used slot of a page that is in this list of class c.
 fn vacate(
     maps: &mut [SlotMap],
     lists: &mut ClassLists,
@@ -177,7 +177,7 @@ fn vacate(
     }
 }
 
-/// A page of which a slot became free goes to the partly full pages.
+/// Moves a page of the full list to the partly full pages.
 fn open_if_full(lists: &mut ClassLists, c: u32, which: Which, page: u32, steps: &mut Steps)
     requires class { c < lists.old.classes }
     requires apart { AreApart lists.old }

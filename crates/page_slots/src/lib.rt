@@ -1,6 +1,6 @@
-//! Which slots of which pages are used, in the tables that the two heaps with pages share: a map of
-//! the slots of each page, lists of the pages of each class, and a pool of free pages. The rules are
-//! those of Compact-fit (2008), for slots alone: this crate knows nothing of objects.
+//! Which slots of which pages are used, in the tables that every heap with pages uses: a map of the
+//! slots of each page, lists of the pages of each class, and a pool of free pages. The rules are
+//! those of Compact-fit (2008) for slots alone; this crate knows no objects.
 #![tactic(auto)]
 
 mod following;

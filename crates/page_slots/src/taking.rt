@@ -1,4 +1,4 @@
-//! A free slot is taken.
+//! Takes a free slot.
 ghost use Rattle.std.specs.Prelude.{◌≡◌, ◌≢◌, ◌<◌, [], if◌then◌else◌, is_some, length, nat_eq, not, false, true, slice_get, slice_set};
 ghost use Rattle.std.specs.List.{Contains, position};
 ghost use Rattle.step_ledger.specs.Counting.{RoseAtMost, RoseBy};
@@ -13,9 +13,9 @@ use size_classes::Classes;
 use slot_bitmap::SlotMap;
 use step_ledger::Steps;
 
-/// Takes a free slot of class c, and returns its address: the least free slot of the first partly full
-/// page of the class, else the first slot of the first page of the pool. There is none
-/// where the class has no partly full page and no page is free, and then nothing changes.
+/// Takes a free slot of class c and returns its address: the least free slot of the first partly
+/// full page of the class, else the first slot of the first page of the pool. Returns none if the
+/// class has no partly full page and no page is free; then nothing changes.
 pub fn take_slot(
     classes: &Classes,
     maps: &mut [SlotMap],
@@ -58,7 +58,7 @@ fn take_least(map: &mut SlotMap, steps: &mut Steps) -> u32
     slot
 }
 
-/// A page of class c with these slots goes to the full ones where it is full now.
+/// Moves a page of class c with these slots to the full pages if it is full now.
 fn leave_if_filled(map: &SlotMap, lists: &mut ClassLists, c: u32, page: u32, steps: &mut Steps)
     requires class { c < lists.old.classes }
     requires apart { AreApart lists.old }
@@ -101,7 +101,7 @@ fn take_on_free_page(
     Some(address_of(classes, c, page, 0))
 }
 
-/// A page of class c with `slots` slots, of which one is used, joins its list.
+/// Adds a page of class c with `slots` slots, one of them used, to its list.
 fn join_with_one(lists: &mut ClassLists, c: u32, page: u32, slots: u32, steps: &mut Steps)
     requires class { c < lists.old.classes }
     requires page { page < lists.old.pages }

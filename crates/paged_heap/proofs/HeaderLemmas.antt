@@ -1,21 +1,24 @@
 -- The object at a live number's address, by its header.
-use Rattle.std.proofs.Common.{◌≡◌, ℕ, ◌/◌, ◌^◌, ◌<◌, length, get_or, Some, None, Result, Ok, Err, sym, ◌∙◌, ap, subst}
+use Rattle.std.proofs.Common.{◌≡◌, ℕ, ◌/◌, ◌^◌, ◌<◌, length, get_or, Some, None, Result, Ok, Err, arith, sym, ◌∙◌, ap, subst}
 use Rattle.std.specs.FinMap.{get}
 use Rattle.cf_base.specs.Classes.{class_of}
 use Rattle.cf_base.specs.declared.answers.Freed.{Freed}
 use Rattle.cf_base.specs.declared.answers.NotLive.{NotLive}
+use Rattle.cf_model.specs.Costs.{free_bound}
 use Rattle.cf_model.specs.State.{HeapState}
 use Rattle.cf_model.specs.Steps.{IsFreeStep}
 use Rattle.page_model.specs.Bytes.{bytes_at}
 use Rattle.page_model.specs.Paging.{class_for}
-use Rattle.page_model.proofs.CallerLemmas.{class_known}
+use Rattle.page_model.specs.Arrangement.{class_at}
+use Rattle.page_model.proofs.CallerLemmas.{class_known, slot_fits}
 use Rattle.page_slots.specs.Tables.{page_at}
 use Rattle.page_slots.proofs.CallerLemmas.{found_page}
 use Rattle.paged_heap.specs.Heap.{Heap}
 use Rattle.paged_heap.specs.Layout.{IsValid, paging_at, state_of}
 use Rattle.paged_heap.specs.Free.{IsObjectAt}
-use Rattle.paged_heap.proofs.LayoutFacts.{paging_ok, sizes_are}
-use Rattle.paged_heap.proofs.CountLimits.{class_is}
+use Rattle.paged_heap.proofs.LayoutFacts.{paged_kind, paging_ok, sizes_are}
+use Rattle.paged_heap.proofs.CountLimits.{class_is, page_small}
+use Rattle.paged_heap.proofs.ByKind.{slot_in_is}
 use Rattle.paged_heap.proofs.ReadLemmas.{held}
 use Rattle.page_model.proofs.CallerLemmas.{bytes_long}
 use Rattle.paged_heap.proofs.FreedObject.{it_found, page_same}
@@ -43,9 +46,9 @@ page_there {h} k {q} o =
     subst (λ g. g < length h.maps) (page_same k o) lt
 
 -- the cost of a free
-pub free_cost : (o : Heap) (q : ℕ) (r : Result Freed NotLive) (h : Heap) (cost : ℕ) → IsFreeStep (state_of o) q r (state_of h)
+pub free_with_cost : (o : Heap) (q : ℕ) (r : Result Freed NotLive) (h : Heap) (cost : ℕ) → IsFreeStep (state_of o) q r (state_of h)
     → IsFreeStep (state_of o) q r (state_of (record h { cost = cost }))
-free_cost o q (Ok freed) h cost g = record {
+free_with_cost o q (Ok freed) h cost g = record {
   object = g.object;
   found = g.found;
   slot = g.slot;
@@ -56,4 +59,13 @@ free_cost o q (Ok freed) h cost g = record {
   tiling = g.tiling;
   rest = (let rest = g.rest in record { kind = rest.kind; opened = rest.opened; profile = rest.profile; bounds = rest.bounds });
 }
-free_cost o q (Err e) h cost (cause, same) = (cause, ap (λ (t : HeapState). record t { cost = cost }) same)
+free_with_cost o q (Err e) h cost (cause, same) = (cause, ap (λ (t : HeapState). record t { cost = cost }) same)
+
+-- a free takes few steps
+pub few_free : (h : Heap) (k : IsValid h) (q : ℕ) (r : Result Freed NotLive) (s : HeapState) → IsFreeStep (state_of h) q r s → free_bound r < 2 ^ 62
+few_free h k q (Ok freed) s g =
+    let fits = slot_fits (paging_at h) (paging_ok h k) (class_at (paging_at h) g.object) (k.sound.slots q g.object g.found).class in
+    let small = page_small h k in
+    let e = g.slot ∙ slot_in_is h.kind (paged_kind h k) (state_of h) g.object in
+    omega arith
+few_free h k q (Err e) s g = omega arith

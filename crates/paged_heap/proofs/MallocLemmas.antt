@@ -1,28 +1,68 @@
 -- The parts of a malloc, put together.
-use Rattle.std.proofs.Common.{◌≡◌, ◌≢◌, ℕ, ◌+◌, ◌*◌, ◌<◌, length, get_or, set, Some, None, Result, Ok, Err, arith, sym, ◌∙◌, ap, subst}
+use Rattle.std.proofs.Common.{◌≡◌, ◌≢◌, ℕ, ◌+◌, ◌*◌, ◌<◌, ◌≤◌, List, [], ◌∷◌, true, length, get_or, set, None, Some, Result, Ok, Err, arith, refl, sym, ◌∙◌, ap, subst, inl, inr}
+use Rattle.std.proofs.lemmas.Bool.{cases_lt}
 use Rattle.std.specs.FinMap.{get, len}
 use Rattle.cf_base.specs.Classes.{class_of}
 use Rattle.cf_base.specs.declared.answers.Handle.{Handle}
 use Rattle.cf_base.specs.declared.answers.Refusal.{Refusal}
+use Rattle.cf_base.specs.declared.answers.Refusal.TheVariants as refusal
+use Rattle.cf_lemmas.proofs.Tests.{eq_yes}
+use Rattle.class_lists.specs.PageLists.{pages_in}
+use Rattle.class_lists.specs.declared.Which.TheVariants.{NotFull}
+use Rattle.page_pool.specs.Pool.{is_in_pool}
 use Rattle.page_model.specs.Arrangement.{LacksRoom}
 use Rattle.page_model.specs.Image.{header_word}
 use Rattle.page_model.specs.Paging.{class_for}
 use Rattle.page_model.proofs.CallerLemmas.{slot_inside}
 use Rattle.proxy_table.specs.Proxies.{Proxies, AreBelowLimit, with_place}
 use Rattle.page_slots.specs.Tables.{AreTables, Tables}
-use Rattle.page_slots.specs.Taking.{TakesAt, TakesSlot}
+use Rattle.page_slots.specs.Taking.{TakesAt}
 use Rattle.page_slots.specs.Occupying.{class_table}
+use Rattle.page_slots.proofs.Occupied.{free_bare}
+use Rattle.page_slots.proofs.Pages.{free_page}
 use Rattle.page_slots.proofs.CallerLemmas.{refused_lacks_room, taken_is_free}
 use Rattle.cf_model.specs.Rules.{IsPaged}
 use Rattle.cf_model.specs.State.{HeapState}
-use Rattle.cf_model.specs.Steps.{ChangesCost, IsMallocStep, WantsProxy, WantsSpace}
+use Rattle.cf_model.specs.Steps.{ChangesCost, IsMallocStep, IsRefusedBy, WantsProxy, WantsSpace}
+use Rattle.cf_model.proofs.Exactly.{given_is_not_refused, one_cause}
 use Rattle.paged_heap.specs.Heap.{Heap}
 use Rattle.paged_heap.specs.Layout.{IsValid, held_in, paging_at, state_of, tables_in}
-use Rattle.paged_heap.proofs.ByKind.{lacks_in, placed_same}
+use Rattle.paged_heap.specs.Room.{HasSlot, without_handle}
+use Rattle.paged_heap.proofs.FigureLemmas.{not_full_is}
+use Rattle.paged_heap.proofs.ByKind.{lacks_in, lacks_of, placed_same}
 use Rattle.paged_heap.proofs.LayoutFacts.{held_len, paged_kind, paging_ok, sizes_are, table_is}
 use Rattle.paged_heap.proofs.CountLimits.{class_is}
 use Rattle.paged_heap.proofs.Preserved.{rest_from}
 use Rattle.paged_heap.proofs.MallocPreserves.{Comes}
+
+empty_of : (xs : List ℕ) → length xs ≡ 0 → xs ≡ []
+empty_of [] e = refl
+empty_of (x ∷ xs) e = absurd (omega arith)
+
+first_in : (free : List ℕ) → 1 ≤ length free → (page : ℕ) × (is_in_pool free page ≡ true)
+first_in [] l = absurd (omega arith)
+first_in (page ∷ free) l = (page, rw (eq_yes page page refl) refl)
+
+module _ (h : Heap) (k : IsValid h) (c : ℕ) where
+  -- without a partly full page of the class and a free page there is no room
+  pub lacks_slots : length (pages_in h.lists c NotFull) + length h.pool.free ≡ 0 → LacksRoom (paging_at h) (held_in h) c
+  lacks_slots none =
+      refused_lacks_room (paging_ok h k) k.tell.part k.occupied k.tell.whole c (tables_in h)
+      (empty_of (pages_in h.lists c NotFull) (omega arith), empty_of h.pool.free (omega arith), refl)
+
+  -- and with one of them there is
+  pub slot_is_room : HasSlot h.lists h.pool c → LacksRoom (paging_at h) (held_in h) c → ⊥
+  slot_is_room some l = elim (cases_lt 0 (length (pages_in h.lists c NotFull))) [
+    | inl lt ↦ (let e = not_full_is h k c in let z = l.full in absurd (omega arith))
+    | inr none ↦ (
+        let p = paging_at h in
+        let first = first_in h.pool.free (omega arith) in
+        let below = k.tell.part.tables.pool.below first.0 first.1 in
+        let free = free_page (class_table p) (tables_in h) k.tell.part.tables first.0 below first.1 in
+        let bare = free_bare p (paging_ok h k) (tables_in h) k.tell.part (held_in h) k.occupied first.0 free in
+        let stands = l.taken first.0 (let e = k.tell.part.pages in omega arith) in
+        absurd (omega arith))
+  ]
 
 module _ (h : Heap) (k : IsValid h) (bytes c : ℕ) (found : Some c ≡ class_of h.classes.sizes bytes) where
   pub wants_proxy : len h.proxies.places ≡ h.settings.proxies → WantsProxy (state_of h) bytes
@@ -31,16 +71,23 @@ module _ (h : Heap) (k : IsValid h) (bytes c : ℕ) (found : Some c ≡ class_of
   few_proxies : len h.proxies.places ≢ h.settings.proxies → len h.proxies.places < h.settings.proxies
   few_proxies ne = (let f = k.handles.few in let e = k.numbers in omega arith)
 
-  pub wants_space : (new : Tables) → len h.proxies.places ≢ h.settings.proxies → TakesSlot h.classes (tables_in h) c None new → WantsSpace (state_of h) bytes
-  wants_space new ne none =
+  pub wants_space : len h.proxies.places ≢ h.settings.proxies → length (pages_in h.lists c NotFull) + length h.pool.free ≡ 0 → WantsSpace (state_of h) bytes
+  wants_space ne none =
       let is = class_is h k bytes c found in
-      let t : TakesSlot (class_table (paging_at h)) (tables_in h) c None new = subst (λ t. TakesSlot t (tables_in h) c None new) (sym (table_is h k)) none in
       record {
         fits = is.0;
         few = (let e = held_len h k in let lt = few_proxies ne in omega arith);
         lacking = lacks_in h.kind (paged_kind h k) (state_of h) bytes
-            (subst (LacksRoom (paging_at h) (held_in h)) (sym is.1) (refused_lacks_room (paging_ok h k) k.tell.part k.occupied k.tell.whole c new t));
+            (subst (LacksRoom (paging_at h) (held_in h)) (sym is.1) (lacks_slots h k c none));
       }
+
+  -- where there is a number and a slot, a malloc has no cause for a refusal
+  pub not_refused : len h.proxies.places ≢ h.settings.proxies → HasSlot h.lists h.pool c → (e : Refusal) → IsRefusedBy (state_of h) bytes e → ⊥
+  not_refused ne some refusal.Size cause = (let is = class_is h k bytes c found in let fits = is.0 in absurd (omega arith))
+  not_refused ne some refusal.Proxy cause = ne (sym (held_len h k) ∙ cause.all)
+  not_refused ne some refusal.Space cause =
+      let is = class_is h k bytes c found in
+      slot_is_room h k c some (subst (LacksRoom (paging_at h) (held_in h)) is.1 (lacks_of h.kind (paged_kind h k) (state_of h) bytes cause.lacking))
 
   module _ (new : Tables) (a : ℕ) (t : TakesAt h.classes (tables_in h) c a new) (tables : AreTables h.classes new) where
     abbrev at_table : TakesAt (class_table (paging_at h)) (tables_in h) c a new
@@ -106,9 +153,9 @@ pub same_state : (h t : Heap) → t ≡ record h { maps = t.maps; lists = t.list
 same_state h t e = ap state_of e ∙ ap (λ x. record (state_of h) { cost = x }) (sym (ap (λ (x : Heap). x.cost) e))
 
 -- the cost of a malloc
-pub malloc_cost : (o : Heap) → IsPaged o.kind → (bytes : ℕ) (r : Result Handle Refusal) (h : Heap) (cost : ℕ)
+pub malloc_with_cost : (o : Heap) → IsPaged o.kind → (bytes : ℕ) (r : Result Handle Refusal) (h : Heap) (cost : ℕ)
     → IsMallocStep (state_of o) bytes r (state_of h) → IsMallocStep (state_of o) bytes r (state_of (record h { cost = cost }))
-malloc_cost o p bytes (Ok q) h cost g = record {
+malloc_with_cost o p bytes (Ok q) h cost g = record {
   fits = g.fits;
   few = g.few;
   in_range = g.in_range;
@@ -117,4 +164,15 @@ malloc_cost o p bytes (Ok q) h cost g = record {
   placed = placed_same o.kind p (state_of o) (record { number = q.0; length = bytes }) g.place (state_of h) (state_of (record h { cost = cost })) g.placed;
   whole = ap (λ (t : HeapState). record t { cost = cost }) g.whole;
 }
-malloc_cost o p bytes (Err e) h cost (cause, same) = (cause, ap (λ (t : HeapState). record t { cost = cost }) same)
+malloc_with_cost o p bytes (Err e) h cost (cause, same) = (cause, ap (λ (t : HeapState). record t { cost = cost }) same)
+
+-- what each malloc returns, where none is refused, and where there is a cause
+pub all_given : (s : HeapState) (bytes : ℕ) → ((e : Refusal) → IsRefusedBy s bytes e → ⊥) → (answer : Result Handle Refusal) (new : HeapState)
+    → IsMallocStep s bytes answer new → Ok tt ≡ without_handle answer
+all_given s bytes none (Ok q) new step = refl
+all_given s bytes none (Err e) new (cause, same) = absurd (none e cause)
+
+pub all_refused : (s : HeapState) (bytes : ℕ) (e : Refusal) → IsRefusedBy s bytes e → (answer : Result Handle Refusal) (new : HeapState)
+    → IsMallocStep s bytes answer new → Err e ≡ without_handle answer
+all_refused s bytes e cause (Ok q) new given = absurd (given_is_not_refused s new (record { number = q.0; length = bytes }) given e cause)
+all_refused s bytes e cause (Err f) new (other, same) = ap Err (one_cause s bytes e f cause other)

@@ -3,14 +3,13 @@ use Rattle.std.proofs.Common.{◌≡◌, ℕ, ◌+◌, ◌/◌, ◌%◌, ◌^◌
 use Rattle.std.specs.Prelude.{option_map}
 use Rattle.std.proofs.lemmas.Grind.{same_number_lists}
 use Rattle.std.proofs.lemmas.List.{get_or-take, get_or-drop, length-take, length-drop}
-use Rattle.std.proofs.lemmas.List.FromFn.{length-map-range_with_len, get_or-map-range_with_len}
 use Rattle.std.specs.FinMap.{get}
 use Rattle.cf_lemmas.proofs.MapValues.{get-map_values}
 use Rattle.page_model.specs.Held.{Placed}
 use Rattle.page_model.specs.Bytes.{byte_of, bytes_at}
 use Rattle.page_model.specs.Image.{slot_for}
 use Rattle.page_model.specs.Paging.{class_for}
-use Rattle.page_model.proofs.CallerLemmas.{bytes_long, byte_is, places-held_at, object_inside, class_holds, slot_fits}
+use Rattle.page_model.proofs.CallerLemmas.{byte_is, places-held_at, object_inside, class_holds, slot_fits}
 use Rattle.word_bytes.specs.Overwriting.{byte_from}
 use Rattle.cf_model.specs.Answers.{place_of}
 use Rattle.cf_model.specs.Steps.{PassesEnd, ReadsBytes}
@@ -61,7 +60,7 @@ module _ (h : Heap) (k : IsValid h) (q a : ℕ) (some : get h.proxies.places q �
 
 -- where a part lies, its words are in the region
 module _ (h : Heap) (k : IsValid h) (q at count a : ℕ) (l : Lies h (record { number = q; from = at }) count a) where
-  abbrev object : Placed
+  abbrev pub object : Placed
   object = record { place = a; bytes = bytes_at h.words a }
 
   pub lies_place : get h.proxies.places q ≡ Some a

@@ -18,9 +18,9 @@ use Rattle.page_model.specs.Image.{IsDisjoint, slot_for}
 use Rattle.page_model.specs.Paging.{class_for}
 use Rattle.page_model.specs.Steps.{IsFreePlace, resized_at}
 use Rattle.page_slots.specs.Tables.{AreTables, Tables}
-use Rattle.page_slots.specs.Taking.{TakesAt, TakesSlot}
+use Rattle.page_slots.specs.Taking.{TakesAt}
 use Rattle.page_slots.specs.Occupying.{class_table}
-use Rattle.page_slots.proofs.CallerLemmas.{refused_lacks_room, taken_is_free}
+use Rattle.page_slots.proofs.CallerLemmas.{taken_is_free}
 use Rattle.paged_heap.specs.Heap.{Heap}
 use Rattle.paged_heap.specs.declared.resize_class.Change.{Change}
 use Rattle.paged_heap.specs.ResizeClass.{Carries, EntersAt, FindsNoRoom, IsChange, kept_words, old_words}
@@ -40,11 +40,6 @@ none_spare h k = go (get (held_in h) h.settings.proxies) refl
     go (Some y) e = absurd (let lt = number_small h k h.settings.proxies y e in omega arith)
 
 module _ {h : Heap} (k : IsValid h) {x : Change} (is : IsChange h x) where
-  -- where no slot was taken, there is no room
-  pub lacks : (new : Tables) → TakesSlot h.classes (tables_in h) x.to None new → LacksRoom (paging_at h) (held_in h) x.to
-  lacks new none = refused_lacks_room (paging_ok h k) k.tell.part k.occupied k.tell.whole x.to new
-      (subst (λ t. TakesSlot t (tables_in h) x.to None new) (sym (table_is h k)) none)
-
   module _ {b : ℕ} {new : Tables} (t : TakesAt h.classes (tables_in h) x.to b new) (tables : AreTables h.classes new) where
     abbrev pub at_table : TakesAt (class_table (paging_at h)) (tables_in h) x.to b new
     at_table = subst (λ t. TakesAt t (tables_in h) x.to b new) (sym (table_is h k)) t

@@ -1,5 +1,15 @@
 -- The parts of a resize, put together.
-use Rattle.std.proofs.Common.{◌≡◌, ◌≢◌, ℕ, Some, None, Result, Ok, Err, ◌∙◌, ap, inl, inr}
+use Rattle.std.proofs.Common.{◌≡◌, ◌≢◌, ℕ, ◌+◌, ◌/◌, ◌<◌, ◌≤◌, length, get_or, Some, None, Result, Ok, Err, arith, sym, ◌∙◌, ap, subst, inl, inr}
+use Rattle.std.specs.Prelude.{IfErr}
+use Rattle.cf_base.specs.declared.answers.ResizeFault.TheVariants as resize
+use Rattle.cf_lemmas.proofs.Tests.{eq_no, eq_yes}
+use Rattle.page_model.specs.Held.{Placed}
+use Rattle.page_model.specs.Image.{slot_for}
+use Rattle.page_model.specs.Order.{word_steps}
+use Rattle.step_ledger.specs.Counting.{RoseAtMost, RoseBy}
+use Rattle.virtual_words.specs.Words.{IsWhole, slot_steps}
+use Rattle.paged_heap.specs.Costs.{change_steps, resize_steps, stay_steps}
+use Rattle.paged_heap.specs.ExactCosts.{tail_steps}
 use Rattle.std.proofs.lemmas.Bool.{cases_lt}
 use Rattle.std.specs.FinMap.{get}
 use Rattle.cf_base.specs.Classes.{class_of, need}
@@ -7,19 +17,25 @@ use Rattle.cf_base.specs.declared.answers.Handle.{Handle}
 use Rattle.cf_base.specs.declared.answers.Resized.{Resized}
 use Rattle.cf_base.specs.declared.answers.ResizeFault.{ResizeFault}
 use Rattle.page_model.specs.Bytes.{bytes_at}
-use Rattle.page_model.specs.Paging.{class_for}
-use Rattle.page_model.proofs.CallerLemmas.{class_fits, class_known}
+use Rattle.page_model.specs.Paging.{class_for, classes}
+use Rattle.page_model.proofs.CallerLemmas.{class_fits, class_holds, class_known}
 use Rattle.cf_model.specs.Rules.{IsPaged}
 use Rattle.cf_model.specs.State.{HeapState}
 use Rattle.cf_model.specs.Steps.{IsResizeStep, PassesPage}
 use Rattle.paged_heap.specs.Heap.{Heap}
-use Rattle.paged_heap.specs.ResizeClass.{IsChange}
+use Rattle.paged_heap.specs.declared.resize_class.Change.{Change}
+use Rattle.paged_heap.specs.ResizeClass.{IsChange, changing_steps, kept_words, old_words}
 use Rattle.paged_heap.specs.Free.{IsObjectAt}
 use Rattle.paged_heap.specs.Layout.{IsValid, paging_at, state_of}
 use Rattle.paged_heap.proofs.ByKind.{unmoved_cost}
 use Rattle.paged_heap.proofs.LayoutFacts.{paged_kind, paging_ok, sizes_are}
 use Rattle.paged_heap.proofs.CountLimits.{class_is}
+use Rattle.paged_heap.proofs.FreedObject.{it, it_found, it_slot, size_is}
 use Rattle.paged_heap.proofs.ReadLemmas.{held}
+use Rattle.paged_heap.proofs.ResizeEnter.{kept_few}
+use Rattle.paged_heap.proofs.ResizeInPlace.{holds_bytes}
+use Rattle.paged_heap.proofs.StepLemmas.{copy_few, sizes_differ, stay_most}
+use Rattle.paged_heap.proofs.WholeBlocks.{whole_size, whole_slot}
 
 -- what has no class is too long for a page
 pub passes_page : (h : Heap) (k : IsValid h) (q a n : ℕ) → get h.proxies.places q ≡ Some a → None ≡ class_of h.classes.sizes n
@@ -44,11 +60,58 @@ change_at h k q a m n c d o found other =
     let is = class_is h k n d found in
     record { object = o; fits = is.0; class = is.1; in_range = is.2; other = other }
 
+-- the steps of a resize in its slot
+pub stayed_steps : (h : Heap) (k : IsValid h) {q a size c : ℕ} (o : IsObjectAt h q a size c) (n : ℕ) (done : Resized)
+    → done.slot_words ≡ get_or h.classes.sizes c 0 → done.old_slot_words ≡ done.slot_words → (s t u v w z : ℕ) → RoseBy s t 1 → RoseBy t u 1
+    → RoseBy u v (word_steps h.kind) → RoseBy v w 1 → RoseBy w z (tail_steps h.kind a n size + word_steps h.kind)
+    → RoseAtMost s z (resize_steps h.kind n (Ok done))
+stayed_steps h k {q} {a} {size} {c} o n done slot same s t u v w z r1 r2 r3 r4 r5 =
+    let holds' : 1 + (size + 7) / 8 ≤ done.slot_words = (let l = holds_bytes k o in omega arith) in
+    let most = stay_most h.kind a n size done.slot_words (whole_slot h k q (it k o) (it_found k o)).0 holds' in
+    let k1 = r1.kept in let k2 = r2.kept in let k3 = r3.kept in let k4 = r4.kept in let k5 = r5.kept in
+    let b1 = r1.bound in let b2 = r2.bound in let b3 = r3.bound in let b4 = r4.bound in let b5 = r5.bound in
+    let all : RoseAtMost s z (stay_steps h.kind n done.slot_words) = record { kept = omega arith; bound = omega arith } in
+    rw (eq_yes _ _ (sym same)) all
+
+-- and to another class
+pub changed_steps : (h : Heap) (k : IsValid h) {x : Change} (is : IsChange h x) (r : Result Resized ResizeFault) (m : Heap)
+    → IsResizeStep (state_of h) (record { number = x.handle.0; length = x.bytes }) r (state_of m) → IfErr r (λ e. e ≡ resize.Space)
+    → (s t u v w z : ℕ) → RoseBy s t 1 → RoseBy t u 1 → RoseBy u v (word_steps h.kind) → RoseBy v w 1
+    → RoseAtMost w z (1 + changing_steps h.kind h x r)
+    → RoseAtMost s z (resize_steps h.kind x.bytes r)
+changed_steps h k {x} is (Ok done) m step cause s t u v w z r1 r2 r3 r4 r5 =
+    let p = paging_at h in
+    let same : step.object ≡ it k is.object = (let e : Some step.object ≡ Some (it k is.object) = sym step.found ∙ it_found k is.object in cc) in
+    let was : done.old_slot_words ≡ old_words h x =
+    step.old_slot ∙ ap (λ (y : Placed). slot_for p (length y.bytes)) same ∙ sym (it_slot k is.object) in
+    let to : done.slot_words ≡ get_or p.sizes x.to 0 = step.slot ∙ ap (λ d. get_or p.sizes d 0) is.class in
+    let old : old_words h x ≡ get_or p.sizes x.class 0 = size_is k is.object in
+    let differ : done.slot_words ≢ done.old_slot_words = (
+    let ne = sizes_differ p.page_words p.sizes (paging_ok h k).sized x.to x.class is.in_range is.object.in_range is.other in
+    λ e. ne (sym to ∙ e ∙ was ∙ old)) in
+    let fits : x.to < classes p = is.in_range in
+    let new_holds : 1 + (x.bytes + 7) / 8 ≤ slot_for p x.bytes = class_holds p (paging_ok h k) x.bytes (subst (λ d. d < classes p) (sym is.class) fits) in
+    let few = kept_few h k x is in
+    let slot = step.slot in
+    let whole = (whole_slot h k x.handle.0 (it k is.object) (it_found k is.object)).1 in
+    let copy = copy_few h.kind (kept_words x) done.old_slot_words done.slot_words (subst (IsWhole h.kind) (sym (it_slot k is.object) ∙ sym was) whole)
+    (subst (IsWhole h.kind) (sym step.slot) (whole_size h k x.bytes)) (omega arith) (omega arith) in
+    let same_slot : slot_steps h.kind done.old_slot_words ≡ slot_steps h.kind (old_words h x) = ap (slot_steps h.kind) was in
+    let k1 = r1.kept in let k2 = r2.kept in let k3 = r3.kept in let k4 = r4.kept in let k5 = r5.kept in
+    let b1 = r1.bound in let b2 = r2.bound in let b3 = r3.bound in let b4 = r4.bound in let b5 = r5.bound in
+    let all : RoseAtMost s z (change_steps h.kind done.old_slot_words done.slot_words) = record { kept = omega arith; bound = omega arith } in
+    rw (eq_no _ _ differ) all
+changed_steps h k {x} is (Err e) m step cause s t u v w z r1 r2 r3 r4 r5 =
+    let k1 = r1.kept in let k2 = r2.kept in let k3 = r3.kept in let k4 = r4.kept in let k5 = r5.kept in
+    let b1 = r1.bound in let b2 = r2.bound in let b3 = r3.bound in let b4 = r4.bound in let b5 = r5.bound in
+    let all : RoseAtMost s z (resize_steps h.kind x.bytes (Err resize.Space)) = record { kept = omega arith; bound = omega arith } in
+    subst (λ e. RoseAtMost s z (resize_steps h.kind x.bytes (Err e))) (sym cause) all
+
 -- the cost of a resize
-pub resize_cost : (o : Heap) → IsPaged o.kind → (q n : ℕ) (r : Result Resized ResizeFault) (h : Heap) (cost : ℕ)
+pub resize_with_cost : (o : Heap) → IsPaged o.kind → (q n : ℕ) (r : Result Resized ResizeFault) (h : Heap) (cost : ℕ)
     → IsResizeStep (state_of o) (record { number = q; length = n }) r (state_of h)
     → IsResizeStep (state_of o) (record { number = q; length = n }) r (state_of (record h { cost = cost }))
-resize_cost o p q n (Ok done) h cost g = record {
+resize_with_cost o p q n (Ok done) h cost g = record {
   pages = g.pages;
   fits = g.fits;
   object = g.object;
@@ -59,4 +122,4 @@ resize_cost o p q n (Ok done) h cost g = record {
   left = g.left;
   whole = ap (λ (t : HeapState). record t { cost = cost }) g.whole;
 }
-resize_cost o p q n (Err e) h cost (cause, same) = (cause, unmoved_cost o.kind p (state_of o) (state_of h) cost same)
+resize_with_cost o p q n (Err e) h cost (cause, same) = (cause, unmoved_cost o.kind p (state_of o) (state_of h) cost same)

@@ -34,3 +34,14 @@ pub whole_slot : (h : Heap) (k : IsValid h) (q : ℕ) (x : Placed) → get (held
     × IsWhole h.kind (slot_for (paging_at h) (length x.bytes))
 whole_slot h k q x e = whole_by h.kind (paged_kind h k) (profile_of h.settings) (take (length h.classes.sizes) h.bounds) h.settings.page_size
     (paging_ok h k) (held_in h) k.sound q x e
+
+-- a slot for so many bytes
+size_by : (kind : Kind) → IsPaged kind → (s : Profile) (bounds : List ℕ) → IsTrue (is_page_size s.page_words) → (n : ℕ)
+    → IsWhole kind (slot_for (paging_of s (layout_of kind) bounds) n)
+size_by Moving p s bounds size n = tt
+size_by NonMoving p s bounds size n = (in_blocks s bounds size).slot (class_for (paging_of s Blocks bounds) n)
+size_by Tlsf p s bounds size n = tt
+size_by HalfFit p s bounds size n = tt
+
+pub whole_size : (h : Heap) (k : IsValid h) (n : ℕ) → IsWhole h.kind (slot_for (paging_at h) n)
+whole_size h k n = size_by h.kind (paged_kind h k) (profile_of h.settings) (take (length h.classes.sizes) h.bounds) h.settings.page_size n

@@ -1,10 +1,16 @@
--- The most steps of a malloc and of a free, each reached.
-use Rattle.std.specs.Prelude.{ℕ, ◌+◌, ◌*◌, Result, Ok, Err}
+-- The most steps of each call, each reached; those of reads and writes are exact.
+use Rattle.std.specs.Prelude.{ℕ, ◌+◌, ◌-◌, ◌*◌, ◌/◌, Result, Ok, Err, if◌then◌else◌, min, nat_eq}
+use Rattle.cf_base.specs.declared.answers.AccessFault.{AccessFault}
+use Rattle.cf_base.specs.declared.answers.AccessFault.TheVariants as access
 use Rattle.cf_base.specs.declared.answers.Freed.{Freed}
 use Rattle.cf_base.specs.declared.answers.NotLive.{NotLive}
+use Rattle.cf_base.specs.declared.answers.Resized.{Resized}
+use Rattle.cf_base.specs.declared.answers.ResizeFault.{ResizeFault}
+use Rattle.cf_base.specs.declared.answers.ResizeFault.TheVariants as resize
 use Rattle.cf_base.specs.declared.kind.Kind.{Kind}
+use Rattle.cf_model.specs.Costs.{words_touched}
 use Rattle.page_model.specs.Order.{word_steps}
-use Rattle.virtual_words.specs.Words.{slot_steps}
+use Rattle.virtual_words.specs.Words.{run_steps, slot_steps}
 
 -- a malloc: 17 moving, 18 non-moving
 -- (the class, a slot that fills its page, the proxy and the header; a refused one takes fewer)
@@ -16,3 +22,33 @@ malloc_steps kind = 16 + word_steps kind
 abbrev pub free_steps : Kind → Result Freed NotLive → ℕ
 free_steps kind (Ok freed) = 18 + 2 * word_steps kind + slot_steps kind freed.slot_words
 free_steps kind (Err e) = 1
+
+-- a resize to n bytes that stays in its slot of s words: 6 moving, 9 non-moving, and the words of the slot after the one that byte n is in, with their blocks
+-- (the proxy, two classes, two headers, the word of byte n, and the words after it)
+abbrev pub stay_steps : Kind → ℕ → ℕ → ℕ
+stay_steps kind n s = 3 + 3 * word_steps kind + run_steps kind (2 + n / 8) (s - 2 - n / 8)
+
+-- a resize to another class: 34 + s + t moving, 38 + 3 (s + t) / 2 non-moving; s are the words of the old slot, and t those of the smaller one
+-- (three headers, the tables of three pages, two proxies, the words that stay, and the slot that moves or is cleared)
+abbrev pub change_steps : Kind → ℕ → ℕ → ℕ
+change_steps kind old new = 30 + 4 * word_steps kind + slot_steps kind old + slot_steps kind (min old new)
+
+-- a resize to n bytes
+abbrev pub resize_steps : Kind → ℕ → Result Resized ResizeFault → ℕ
+resize_steps kind n (Ok done) =
+    if nat_eq done.slot_words done.old_slot_words then stay_steps kind n done.slot_words else change_steps kind done.old_slot_words done.slot_words
+resize_steps kind n (Err resize.Unknown) = 1
+resize_steps kind n (Err resize.Kind) = 0
+resize_steps kind n (Err resize.Size) = 2
+resize_steps kind n (Err resize.Space) = 4 + word_steps kind
+
+-- a read or a write that is refused: the proxy, and the header of a number that is live
+abbrev pub fault_steps : Kind → AccessFault → ℕ
+fault_steps kind access.Unknown = 1
+fault_steps kind access.Range = 1 + word_steps kind
+
+-- a read or a write of so many bytes from one on: 2 + t moving, for t words; non-moving 3 + t, and one for each block
+-- (the proxy, the header, and the words that hold one of the bytes)
+abbrev pub access_steps : Kind → ℕ → ℕ → Result Unit AccessFault → ℕ
+access_steps kind from count (Ok u) = 1 + word_steps kind + run_steps kind (1 + from / 8) (words_touched from count)
+access_steps kind from count (Err e) = fault_steps kind e

@@ -2,6 +2,7 @@
 use Rattle.std.specs.Prelude.{◌≡◌, ℕ, ◌/◌, ◌<◌, Some, length, slice_index}
 use Rattle.std.specs.FinMap.{get}
 use Rattle.page_model.specs.Bytes.{bytes_at}
+use Rattle.page_model.specs.Held.{Placed}
 use Rattle.page_model.specs.Image.{MovesWords}
 use Rattle.page_model.specs.Paging.{class_for, classes}
 use Rattle.cf_lemmas.specs.Exchanges.{exchanged}
@@ -18,6 +19,10 @@ pub record IsObjectAt (h : Heap) (q place bytes c : ℕ) : Type 0 where
   pub long : length (bytes_at h.words place) ≡ bytes
   pub class : class_for (paging_at h) bytes ≡ c
   pub in_range : c < classes (paging_at h)
+
+-- what its header and its words show of the object at an address
+abbrev pub placed_at : Heap → ℕ → Placed
+placed_at h a = record { place = a; bytes = bytes_at h.words a }
 
 -- a free at the address moves an object of class c
 abbrev pub IsMoving : Heap → ℕ → ℕ → Type 0

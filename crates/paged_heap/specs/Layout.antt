@@ -10,10 +10,12 @@ use Rattle.page_model.specs.Bytes.{held_at}
 use Rattle.page_model.specs.Figures.{asked_bytes, taken_bytes}
 use Rattle.page_model.specs.Frames.{IsPermuted}
 use Rattle.page_model.specs.Image.{IsSlotImage}
+use Rattle.page_model.specs.Order.{Order}
 use Rattle.size_classes.specs.Table.{table_of}
 use Rattle.proxy_table.specs.Proxies.{AreBelowLimit}
 use Rattle.page_slots.specs.Tables.{Tables, tables}
 use Rattle.page_slots.specs.Occupying.{Occupies, Tell}
+use Rattle.page_slots.specs.Orders.{order_of}
 use Rattle.cf_model.specs.State.{HeapState, closed_state, layout_of, paging_in}
 use Rattle.virtual_words.specs.Words.{AreLaid}
 use Rattle.paged_heap.specs.declared.open_heap.OpenHeap.{OpenHeap}
@@ -26,6 +28,10 @@ held_in h = held_at h.words h.proxies.places
 -- which slots of which pages are used
 abbrev pub tables_in : Heap → Tables
 tables_in h = tables h.maps h.lists h.pool
+
+-- what is given out next: the pages and numbers of its tables
+abbrev pub order_in : Heap → Order
+order_in h = order_of (length h.classes.sizes) (tables_in h) h.proxies.free
 
 -- an open heap, as callers of a manager see it
 abbrev pub state_of : Heap → HeapState

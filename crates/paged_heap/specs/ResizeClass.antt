@@ -6,14 +6,18 @@ use Rattle.cf_base.specs.declared.answers.ResizeFault.{ResizeFault}
 use Rattle.page_model.specs.Paging.{class_for, classes}
 use Rattle.page_model.specs.Arrangement.{LacksRoom}
 use Rattle.page_model.specs.Image.{MovesWords, header_word}
+use Rattle.cf_base.specs.declared.kind.Kind.{Kind}
+use Rattle.page_model.specs.Order.{steps_to_take, word_steps}
+use Rattle.virtual_words.specs.Words.{copy_steps, slot_steps}
 use Rattle.proxy_table.specs.Proxies.{AreBelowLimit, with_place}
 use Rattle.page_slots.specs.Tables.{AreTables}
 use Rattle.page_slots.specs.Taking.{TakesAt}
+use Rattle.paged_heap.specs.ExactCosts.{carrying_cost, leaving_cost}
 use Rattle.paged_heap.specs.Heap.{Heap}
 use Rattle.paged_heap.specs.declared.resize_class.Change.{Change}
 use Rattle.paged_heap.specs.ZeroTail.{Cuts}
-use Rattle.paged_heap.specs.Free.{IsObjectAt}
-use Rattle.paged_heap.specs.Layout.{held_in, paging_at, tables_in}
+use Rattle.paged_heap.specs.Free.{IsObjectAt, placed_at}
+use Rattle.paged_heap.specs.Layout.{held_in, order_in, paging_at, state_of, tables_in}
 
 -- the object is there, and its new length is of another class
 pub record IsChange (h : Heap) (x : Change) : Type 0 where
@@ -68,7 +72,20 @@ abbrev pub Enters : Heap → Change → Option ℕ → Heap → Type 0
 Enters h x None n = FindsNoRoom h x n
 Enters h x (Some b) n = EntersAt h x b n
 
--- the steps of a change of class
+-- the most steps of a change of class
+abbrev pub changing_steps : Kind → Heap → Change → Result Resized ResizeFault → ℕ
+changing_steps kind h x (Ok done) = 27 + 3 * word_steps kind + copy_steps kind 1 (kept_words x) + slot_steps kind (old_words h x)
+changing_steps kind h x (Err e) = 0
+
+-- its exact steps: the slot that is next, and bringing the object there
+abbrev pub entering_cost : Heap → Change → ℕ
+entering_cost h x = steps_to_take (paging_at h) (held_in h) (order_in h) x.to + carrying_cost h.kind x.length x.bytes
+
+abbrev pub changing_cost : Heap → Change → Result Resized ResizeFault → ℕ
+changing_cost h x (Ok done) = entering_cost h x + leaving_cost (state_of h) (order_in h) (placed_at h x.place) done.moved
+changing_cost h x (Err e) = 0
+
+-- at most, by the larger slot
 abbrev pub changing_bound : Result Resized ResizeFault → ℕ
 changing_bound (Ok done) = 120 + 3 * max done.old_slot_words done.slot_words
 changing_bound (Err e) = 80

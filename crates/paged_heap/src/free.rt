@@ -1,28 +1,29 @@
 //! An object goes.
 ghost use Rattle.std.specs.Prelude.{◌≡◌, ◌≢◌, ◌+◌, ◌-◌, ◌*◌, ◌/◌, ◌^◌, ◌<◌, ◌≤◌, None, Some, IsSome, length, slice_index, slice_set};
 ghost use Rattle.std.specs.FinMap as map;
-ghost use Rattle.step_ledger.specs.Counting.{RoseAtMost};
+ghost use Rattle.step_ledger.specs.Counting.{RoseAtMost, RoseBy};
 ghost use Rattle.page_model.specs.Image.{Clears, IsDisjoint};
 ghost use Rattle.page_model.specs.Order.{word_steps};
 ghost use Rattle.cf_model.specs.Costs.{free_bound};
 ghost use Rattle.cf_model.specs.Steps.{FreesObject, IsFreeStep};
 ghost use Rattle.class_lists.specs.PageLists.{pages_in};
 ghost use Rattle.class_lists.specs.declared.Which.TheVariants.{NotFull};
-ghost use Rattle.page_slots.specs.Freeing.{FillsFrom, Vacates};
+ghost use Rattle.page_slots.specs.Freeing.{FillsFrom, Vacates, steps_to_drop, steps_to_fill};
 ghost use Rattle.page_slots.specs.Tables.{AreTables, IsUsed, page_at, slot_at, tables};
 ghost use Rattle.proxy_table.specs.Proxies.{AreBelowLimit, with_place, without_place};
 ghost use Rattle.virtual_words.specs.Words.{AreLaid, IsWhole, run_bound, run_steps, slot_steps};
 ghost use Rattle.paged_heap.specs.Costs.{free_steps};
-ghost use Rattle.paged_heap.specs.Free.{IsObjectAt, IsMoving, MovesSlot};
+ghost use Rattle.paged_heap.specs.ExactCosts.{free_cost, leaving_cost};
+ghost use Rattle.paged_heap.specs.Free.{IsObjectAt, IsMoving, MovesSlot, placed_at};
 ghost use Rattle.paged_heap.specs.Heap.{seen};
-ghost use Rattle.paged_heap.specs.Layout.{Holds, state_at};
+ghost use Rattle.paged_heap.specs.Layout.{Holds, order_in, state_at};
 
 use crate::open_heap::OpenHeap;
 use cf_base::{Freed, Handle, NotLive};
-use object_header::Header;
 use page_slots::{drop_slot, fill_slot, must_move};
 use step_ledger::Steps;
 use virtual_words::Mapping;
+use word_bytes::Header;
 
 impl OpenHeap {
     /// Takes an object away, and notes the cost.
@@ -34,6 +35,7 @@ impl OpenHeap {
         ensures bound { RoseAtMost steps.old steps.new (free_bound result) }
         ensures steps { RoseAtMost steps.old steps.new (free_steps A.kind result) }
         ensures told { steps.new ≡ steps.old + self.new.cost }
+        ensures cost { self.new.cost ≡ free_cost (state_at A.kind self.old) (order_in (seen A.kind self.old)) h.0 result }
     {
         let before = steps.count();
         let result = self.free_inner::<A>(h, steps);
@@ -48,6 +50,7 @@ impl OpenHeap {
         ensures kept { Holds A.kind self.new }
         ensures bound { RoseAtMost steps.old steps.new (free_bound result) }
         ensures steps { RoseAtMost steps.old steps.new (free_steps A.kind result) }
+        ensures cost { RoseBy steps.old steps.new (free_cost (state_at A.kind self.old) (order_in (seen A.kind self.old)) h.0 result) }
     {
         let Some(place) = self.proxies.lookup(h, steps) else {
             return Err(NotLive);
@@ -88,6 +91,8 @@ impl OpenHeap {
         ensures kept { Holds A.kind self.new }
         ensures bound { RoseAtMost steps.old steps.new (80 + 2 * result.slot_words) }
         ensures steps { RoseAtMost steps.old steps.new (15 + word_steps A.kind + slot_steps A.kind result.slot_words) }
+        ensures cost { RoseBy steps.old steps.new
+            (2 + leaving_cost (state_at A.kind self.old) (order_in (seen A.kind self.old)) (placed_at (seen A.kind self.old) place) result.moved) }
     {
         let slot_words = self.classes.slot_words(c);
         self.erase::<A>(h, place, slot_words, steps);
@@ -115,6 +120,8 @@ impl OpenHeap {
         ensures kept { Holds A.kind self.new }
         ensures bound { RoseAtMost steps.old steps.new (80 + 2 * result.slot_words) }
         ensures steps { RoseAtMost steps.old steps.new (15 + word_steps A.kind + slot_steps A.kind result.slot_words) }
+        ensures cost { RoseBy steps.old steps.new
+            (2 + leaving_cost (state_at A.kind self.old) (order_in (seen A.kind self.old)) (placed_at (seen A.kind self.old) place) result.moved) }
     {
         let slot_words = self.classes.slot_words(c);
         let from = self.take_filler(c, steps);
@@ -142,7 +149,7 @@ impl OpenHeap {
         ensures laid { AreLaid A.kind self.new.blocks self.new.region }
         ensures handles { AreBelowLimit self.new.proxies }
         ensures bound { RoseAtMost steps.old steps.new (2 + run_bound slot_words) }
-        ensures steps { RoseAtMost steps.old steps.new (2 + run_steps A.kind place slot_words) }
+        ensures steps { RoseBy steps.old steps.new (2 + run_steps A.kind place slot_words) }
     {
         self.proxies.release(h, steps);
         A::clear(&mut self.region, &self.blocks, place, slot_words, steps);
@@ -174,7 +181,7 @@ impl OpenHeap {
         ensures laid { AreLaid A.kind self.new.blocks self.new.region }
         ensures handles { AreBelowLimit self.new.proxies }
         ensures bound { RoseAtMost steps.old steps.new (1 + run_bound slot_words) }
-        ensures steps { RoseAtMost steps.old steps.new (1 + slot_steps A.kind slot_words) }
+        ensures steps { RoseBy steps.old steps.new (slot_steps A.kind slot_words + 1) }
     {
         A::move_slot(
             &mut self.region,
@@ -213,6 +220,8 @@ impl OpenHeap {
             (slot_at self.old.classes c place) (tables self.new.maps.items self.new.lists self.new.pool) }
         ensures tables { AreTables self.old.classes (tables self.new.maps.items self.new.lists self.new.pool) }
         ensures rest { self.new ≡ record self.old { maps = self.new.maps; lists = self.new.lists; pool = self.new.pool } }
+        ensures steps { RoseBy steps.old steps.new
+            (steps_to_drop (tables self.old.maps.items self.old.lists self.old.pool) (page_at self.old.classes place)) }
         ensures bound { RoseAtMost steps.old steps.new 13 }
     {
         drop_slot(
@@ -235,6 +244,7 @@ impl OpenHeap {
             (tables self.new.maps.items self.new.lists self.new.pool) }
         ensures tables { AreTables self.old.classes (tables self.new.maps.items self.new.lists self.new.pool) }
         ensures rest { self.new ≡ record self.old { maps = self.new.maps; lists = self.new.lists; pool = self.new.pool } }
+        ensures steps { RoseBy steps.old steps.new (steps_to_fill (tables self.old.maps.items self.old.lists self.old.pool) c) }
         ensures bound { RoseAtMost steps.old steps.new 12 }
     {
         fill_slot(

@@ -1,22 +1,25 @@
 //! An object gets another length.
-ghost use Rattle.std.specs.Prelude.{◌≡◌, ◌+◌, ◌-◌, ◌*◌, ◌/◌, ◌^◌, ◌<◌, ◌≤◌, length};
-ghost use Rattle.step_ledger.specs.Counting.{RoseAtMost};
+ghost use Rattle.std.specs.Prelude.{◌≡◌, ◌+◌, ◌-◌, ◌*◌, ◌/◌, ◌^◌, ◌<◌, ◌≤◌, length, slice_index};
+ghost use Rattle.step_ledger.specs.Counting.{RoseAtMost, RoseBy};
+ghost use Rattle.page_model.specs.Order.{word_steps};
 ghost use Rattle.page_model.specs.Paging.{class_for};
 ghost use Rattle.cf_base.specs.Classes.{need};
 ghost use Rattle.cf_model.specs.Costs.{resize_bound};
 ghost use Rattle.cf_model.specs.Steps.{IsResizeStep, ResizesObject};
 ghost use Rattle.virtual_words.specs.Words.{AreLaid, run_bound};
+ghost use Rattle.paged_heap.specs.Costs.{resize_steps};
 ghost use Rattle.paged_heap.specs.ZeroTail.{Cuts};
+ghost use Rattle.paged_heap.specs.ExactCosts.{resize_cost, tail_steps};
 ghost use Rattle.paged_heap.specs.Free.{IsObjectAt};
 ghost use Rattle.paged_heap.specs.Heap.{seen};
-ghost use Rattle.paged_heap.specs.Layout.{Holds, paging_at, state_at};
+ghost use Rattle.paged_heap.specs.Layout.{Holds, order_in, paging_at, state_at};
 
 use crate::open_heap::OpenHeap;
 use crate::resize_class::Change;
 use cf_base::{Handle, ResizeFault, Resized};
-use object_header::Header;
 use step_ledger::Steps;
 use virtual_words::Mapping;
+use word_bytes::Header;
 
 impl OpenHeap {
     /// Gives an object another length, and notes the cost.
@@ -31,7 +34,9 @@ impl OpenHeap {
         ensures step { IsResizeStep (state_at A.kind self.old) (record { number = h.0; length = bytes }) result (state_at A.kind self.new) }
         ensures kept { Holds A.kind self.new }
         ensures bound { RoseAtMost steps.old steps.new (resize_bound result) }
+        ensures steps { RoseAtMost steps.old steps.new (resize_steps A.kind bytes result) }
         ensures told { steps.new ≡ steps.old + self.new.cost }
+        ensures cost { self.new.cost ≡ resize_cost (state_at A.kind self.old) (order_in (seen A.kind self.old)) (record { number = h.0; length = bytes }) result }
     {
         let before = steps.count();
         let result = self.resize_inner::<A>(h, bytes, steps);
@@ -50,6 +55,9 @@ impl OpenHeap {
         ensures step { IsResizeStep (state_at A.kind self.old) (record { number = h.0; length = bytes }) result (state_at A.kind self.new) }
         ensures kept { Holds A.kind self.new }
         ensures bound { RoseAtMost steps.old steps.new (resize_bound result) }
+        ensures steps { RoseAtMost steps.old steps.new (resize_steps A.kind bytes result) }
+        ensures cost { RoseBy steps.old steps.new
+            (resize_cost (state_at A.kind self.old) (order_in (seen A.kind self.old)) (record { number = h.0; length = bytes }) result) }
     {
         let Some(place) = self.proxies.lookup(h, steps) else {
             return Err(ResizeFault::Unknown);
@@ -91,7 +99,10 @@ impl OpenHeap {
         requires fits { need bytes ≤ self.old.settings.page_words }
         ensures step { ResizesObject (state_at A.kind self.old) (record { number = h.0; length = bytes }) result (state_at A.kind self.new) }
         ensures kept { Holds A.kind self.new }
+        ensures slot { result.slot_words ≡ slice_index self.old.classes.sizes c }
+        ensures old_slot { result.old_slot_words ≡ result.slot_words }
         ensures bound { RoseAtMost steps.old steps.new (10 + 2 * result.slot_words) }
+        ensures steps { RoseBy steps.old steps.new (tail_steps A.kind place bytes length + word_steps A.kind) }
     {
         let slot_words = self.classes.slot_words(c);
         self.zero_tail::<A>(place, bytes, length, steps);
@@ -125,6 +136,7 @@ impl OpenHeap {
         ensures cut { keep < bytes → Cuts (seen A.kind self.old).words (seen A.kind self.new).words place keep bytes }
         ensures kept { bytes ≤ keep → self.new ≡ self.old }
         ensures bound { RoseAtMost steps.old steps.new (run_bound ((bytes + 7) / 8 - keep / 8) + 4) }
+        ensures steps { RoseBy steps.old steps.new (tail_steps A.kind place keep bytes) }
     {
         if keep < bytes {
             let first = place + 1 + keep / 8;

@@ -1,22 +1,24 @@
 //! An object gets a length of another class.
-ghost use Rattle.std.specs.Prelude.{◌≡◌, ◌+◌, ◌-◌, ◌*◌, ◌/◌, ◌^◌, ◌<◌, ◌≤◌, IsNone, IsSome, length};
+ghost use Rattle.std.specs.Prelude.{◌≡◌, ◌+◌, ◌-◌, ◌*◌, ◌/◌, ◌^◌, ◌<◌, ◌≤◌, IfErr, IsNone, IsSome, length};
 ghost use Rattle.std.specs.FinMap as map;
-ghost use Rattle.step_ledger.specs.Counting.{RoseAtMost};
+ghost use Rattle.step_ledger.specs.Counting.{RoseAtMost, RoseBy};
 ghost use Rattle.page_model.specs.Image.{Clears, IsDisjoint};
+ghost use Rattle.page_model.specs.Order.{word_steps};
 ghost use Rattle.cf_model.specs.Steps.{IsResizeStep};
 ghost use Rattle.proxy_table.specs.Proxies.{AreBelowLimit, with_place};
-ghost use Rattle.virtual_words.specs.Words.{AreInStep, AreLaid, run_bound};
-ghost use Rattle.paged_heap.specs.ResizeClass.{Carries, Enters, IsChange, changing_bound, kept_words};
+ghost use Rattle.virtual_words.specs.Words.{AreInStep, AreLaid, copy_steps, run_bound, run_steps};
+ghost use Rattle.paged_heap.specs.ResizeClass.{Carries, Enters, IsChange, changing_bound, changing_cost, changing_steps, entering_cost, kept_words};
 ghost use Rattle.paged_heap.specs.Free.{IsMoving};
 ghost use Rattle.paged_heap.specs.Heap.{seen};
 ghost use Rattle.paged_heap.specs.Layout.{Holds, state_at};
+ghost use Rattle.paged_heap.specs.ExactCosts.{tail_steps};
 
 use crate::open_heap::OpenHeap;
 use cf_base::{Handle, ResizeFault, Resized};
-use object_header::Header;
 use page_slots::must_move;
 use step_ledger::Steps;
 use virtual_words::Mapping;
+use word_bytes::Header;
 
 /// An object that is to go to another class: its slot of class `class` begins at word `place`, and it
 /// has `length` bytes. It is to have `bytes` of them, in class `to`.
@@ -50,7 +52,10 @@ impl OpenHeap {
         requires change { IsChange (seen A.kind self.old) x }
         ensures step { IsResizeStep (state_at A.kind self.old) (record { number = x.handle.0; length = x.bytes }) result (state_at A.kind self.new) }
         ensures kept { Holds A.kind self.new }
+        ensures cause { IfErr result (λ e. e ≡ ResizeFault.Space) }
         ensures bound { RoseAtMost steps.old steps.new (1 + changing_bound result) }
+        ensures steps { RoseAtMost steps.old steps.new (1 + changing_steps A.kind (seen A.kind self.old) x result) }
+        ensures cost { RoseBy steps.old steps.new (1 + changing_cost (seen A.kind self.old) x result) }
     {
         let bound = self.bounds[x.class as usize];
         if must_move(
@@ -79,7 +84,10 @@ impl OpenHeap {
         requires stays { IsMoving (seen A.kind self.old) x.place x.class → ⊥ }
         ensures step { IsResizeStep (state_at A.kind self.old) (record { number = x.handle.0; length = x.bytes }) result (state_at A.kind self.new) }
         ensures kept { Holds A.kind self.new }
+        ensures cause { IfErr result (λ e. e ≡ ResizeFault.Space) }
         ensures bound { RoseAtMost steps.old steps.new (changing_bound result) }
+        ensures steps { RoseAtMost steps.old steps.new (changing_steps A.kind (seen A.kind self.old) x result) }
+        ensures cost { RoseBy steps.old steps.new (changing_cost (seen A.kind self.old) x result) }
     {
         let old_slot_words = self.classes.slot_words(x.class);
         let slot_words = self.classes.slot_words(x.to);
@@ -106,7 +114,10 @@ impl OpenHeap {
         requires moves { IsMoving (seen A.kind self.old) x.place x.class }
         ensures step { IsResizeStep (state_at A.kind self.old) (record { number = x.handle.0; length = x.bytes }) result (state_at A.kind self.new) }
         ensures kept { Holds A.kind self.new }
+        ensures cause { IfErr result (λ e. e ≡ ResizeFault.Space) }
         ensures bound { RoseAtMost steps.old steps.new (changing_bound result) }
+        ensures steps { RoseAtMost steps.old steps.new (changing_steps A.kind (seen A.kind self.old) x result) }
+        ensures cost { RoseBy steps.old steps.new (changing_cost (seen A.kind self.old) x result) }
     {
         let old_slot_words = self.classes.slot_words(x.class);
         let slot_words = self.classes.slot_words(x.to);
@@ -129,12 +140,15 @@ impl OpenHeap {
         requires change { IsChange (seen A.kind self.old) x }
         ensures entered { Enters (seen A.kind self.old) x result (seen A.kind self.new) }
         ensures laid { AreLaid A.kind self.new.blocks self.new.region }
-        ensures refused { IsNone result → RoseAtMost steps.old steps.new 26 }
+        ensures refused { IsNone result → steps.new ≡ steps.old }
         ensures bound { RoseAtMost steps.old steps.new (40 + run_bound (kept_words x)) }
+        ensures steps { RoseAtMost steps.old steps.new (14 + 2 * word_steps A.kind + copy_steps A.kind 1 (kept_words x)) }
+        ensures cost { IsSome result → RoseBy steps.old steps.new (entering_cost (seen A.kind self.old) x) }
     {
-        let Some(to) = self.take_slot(x.to, steps) else {
+        if !self.has_slot(x.to) {
             return None;
-        };
+        }
+        let to = self.take_slot(x.to, steps);
         self.copy_to_slot::<A>(x, to, steps);
         self.count_out(x.class, x.length);
         self.count_in(x.to, x.bytes);
@@ -159,6 +173,8 @@ impl OpenHeap {
         ensures laid { AreLaid A.kind self.new.blocks self.new.region }
         ensures handles { AreBelowLimit self.new.proxies }
         ensures bound { RoseAtMost steps.old steps.new (14 + run_bound (kept_words x)) }
+        ensures steps { RoseBy steps.old steps.new
+            (copy_steps A.kind (x.place + 1) (kept_words x) + tail_steps A.kind to x.bytes (8 * kept_words x) + word_steps A.kind + 1) }
     {
         let words = x.words();
         A::move_words(
@@ -187,6 +203,7 @@ impl OpenHeap {
         ensures len { length self.new.region ≡ length self.old.region }
         ensures laid { AreLaid A.kind self.new.blocks self.new.region }
         ensures bound { RoseAtMost steps.old steps.new (run_bound slot_words) }
+        ensures steps { RoseBy steps.old steps.new (run_steps A.kind place slot_words) }
     {
         A::clear(&mut self.region, &self.blocks, place, slot_words, steps);
     }

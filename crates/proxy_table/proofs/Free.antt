@@ -18,7 +18,7 @@ at_top stack (suc left) zero d lt = ap (λ k. get_or stack k 0) (omega arith)
 at_top stack (suc left) (suc i) d lt =
     at_top stack left i d (omega arith) ∙ ap (λ k. get_or stack k 0) (let e : left - 1 - i ≡ suc left - 1 - suc i = omega arith in e)
 
--- what the free numbers are
+-- the free numbers are the first `left` of the stack, each once, and none of them is live
 pub record AreFree (places : List (Option ℕ)) (free : List ℕ) (left : ℕ) : Type 0 where
   pub long : length free ≡ left
   pub below : (number : ℕ) → Contains free number → number < length places
@@ -51,7 +51,7 @@ free_given stack (suc left) h some is =
     let top : h ≡ get_or stack left 0 = rw e at is in
     rw (e, top) refl
 
--- what is put on top is not among those below
+-- writing on top of the stack changes nothing below
 below_stay : (stack : List ℕ) (left n h : ℕ) → n ≤ left → top_down (set stack left h) n ≡ top_down stack n
 below_stay stack left zero h le = refl
 below_stay stack left (suc n) h le =
@@ -64,7 +64,7 @@ free_taken stack left h room =
     rw e (ap (λ x. x ∷ top_down (set stack left h) left) (get_or-set_same stack left h 0 room)
     ∙ ap (λ xs. h ∷ xs) (below_stay stack left left h (omega arith)))
 
--- the numbers of a stack without one of them, or without another
+-- a list of numbers that holds a number once, without it
 without_same : (h : ℕ) (xs : List ℕ) → without_number h (h ∷ xs) ≡ without_number h xs
 without_same h xs = ap (λ b. cond (not b) (h ∷ without_number h xs) (without_number h xs)) (eq-eqb h h refl)
 
@@ -88,6 +88,6 @@ falling_from n stack f (suc k) le =
     let next : n - k ≡ n - suc k + 1 = omega arith in
     ap (λ x. x ∷ top_down stack k) top ∙ ap (λ xs. (n - suc k) ∷ xs) (falling_from n stack f k (omega arith) ∙ ap (λ a. range_with_len a k) next)
 
--- all numbers, from 0 on
+-- the free numbers of a new table: all, from 0 on
 pub free_new : (n : ℕ) (stack : List ℕ) → IsFalling n stack → top_down stack n ≡ range_with_len 0 n
 free_new n stack f = falling_from n stack f n (omega arith) ∙ ap (λ a. range_with_len a n) (let e : n - n ≡ 0 = omega arith in e)

@@ -8,7 +8,7 @@ use Rattle.std.proofs.lemmas.Bool.{cases_lt, false≢true}
 use Rattle.cf_lemmas.specs.Maps.{vacant}
 use Rattle.proxy_table.specs.Layout.{IsValid, IsFalling}
 
--- 1 where a number is live
+-- 1 if a number is live
 abbrev one : Option ℕ → ℕ
 one o = cond (is_some o) 1 0
 
@@ -27,7 +27,7 @@ count_vacant : (n : ℕ) → count_by is_some (vacant {X = ℕ} n) ≡ 0
 count_vacant zero = refl
 count_vacant (suc n) = sum_by-cons one None (vacant {X = ℕ} n) ∙ (let e = count_vacant n in omega arith)
 
--- none is live, and the numbers stand in falling order
+-- a new table: no number is live, and the stack is in falling order
 pub stack_new : (n : ℕ) (numbers : List ℕ) → n < 2 ^ 32 → IsFalling n numbers → IsValid (vacant {X = ℕ} n) numbers n
 stack_new n numbers small f =
     let l : length (vacant {X = ℕ} n) ≡ n = length-replicate {A = Option ℕ} n None in
@@ -52,7 +52,7 @@ module _ (places : List (Option ℕ)) (stack : List ℕ) (left h : ℕ) (s : IsV
   pub off_stack : IsSome (get_or places h None) → (i : ℕ) → i < left → get_or stack i 0 ≢ h
   off_stack some i lt e = not_none _ some (ap (λ q. get_or places q None) (sym e) ∙ s.not_live i lt)
 
-  -- and the topmost number stands nowhere below
+  -- and the topmost number is on the stack once
   pub once_on_stack : 0 < left → h ≡ get_or stack (left - 1) 0 → (i : ℕ) → i < left - 1 → get_or stack i 0 ≢ h
   once_on_stack some is i lt e = s.distinct i (left - 1) lt (omega arith) (e ∙ is)
 
@@ -82,7 +82,7 @@ module _ (places : List (Option ℕ)) (stack : List ℕ) (left h : ℕ) (s : IsV
         distinct = λ i j l m. s.distinct i j l (omega arith);
       }
 
-  -- where a number is live, the stack has room
+  -- while a number is live, the stack has a place for it
   pub stack_room : IsSome (get_or places h None) → h < length places → left < length places
   stack_room some lt = (let c = count_set places h None lt in let o = live_is_one _ some in let is = s.counted in omega arith)
 

@@ -1,4 +1,4 @@
--- What the changes of the list of addresses do to the proxies that it stands for.
+-- How changes to the list of addresses change the proxies that it represents.
 use Rattle.std.proofs.Common.{◌≡◌, ◌≢◌, ℕ, zero, suc, ◌+◌, ◌-◌, ◌<◌, List, ◌∷◌, Option, Some, None, length, get_or, set, arith, refl, sym, ◌∙◌, ap, subst}
 use Rattle.std.specs.Prelude.{IsSome, is_some, count_by}
 use Rattle.std.proofs.lemmas.List.{length-set, length-replicate}
@@ -14,7 +14,7 @@ use Rattle.proxy_table.proofs.Free.{are_free, free_given, free_rest, free_taken,
 some_is_some : {X : Type 0} (o : Option X) (x : X) → o ≡ Some x → IsSome o
 some_is_some o x is = rw is refl
 
--- what the lists stand for is below the limit
+-- the proxies that the lists represent are below the limit
 pub places_below : (places : List (Option ℕ)) (stack : List ℕ) (left : ℕ) → IsValid places stack left → AreBelowLimit (proxies_of places stack left)
 places_below places stack left s =
     let free = are_free places stack left s in
@@ -66,7 +66,7 @@ module _ (places : List (Option ℕ)) (stack : List ℕ) (left : ℕ) (proxies :
   pub free_is : top_down stack left ≡ proxies.free
   free_is = ap (λ (p : Proxies). p.free) seen
 
-  -- the topmost free number is given out
+  -- the topmost number of the stack is the first free one
   pub seen_first : (h : ℕ) → 0 < left → h ≡ get_or stack (left - 1) 0 → proxies.free ≡ h ∷ top_down stack (left - 1)
   seen_first h some is = ap (λ (p : Proxies). p.free) (sym seen) ∙ free_given stack left h some is
 
@@ -79,7 +79,7 @@ module _ (places : List (Option ℕ)) (stack : List ℕ) (left : ℕ) (proxies :
         free = sym (free_rest stack left h some is off) i;
       }) ∙ ap (λ (p : Proxies). with_place p h a) seen
 
-  -- a number comes back on top
+  -- a released number becomes the first free one
   pub seen_released : (h : ℕ) → h < length places → left < length stack
       → proxies_of (set places h None) (set stack left h) (left + 1) ≡ without_place proxies h
   seen_released h lt room =

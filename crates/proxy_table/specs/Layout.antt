@@ -8,7 +8,7 @@ abbrev pub top_down : List ℕ → ℕ → List ℕ
 top_down stack zero = []
 top_down stack (suc left) = slice_index stack left ∷ top_down stack left
 
--- the proxies whose addresses stand in a list by number, and whose free numbers are the first `left` of a stack
+-- the proxies with this list of addresses by number, whose free numbers are the first `left` of a stack
 abbrev pub proxies_of : List (Option ℕ) → List ℕ → ℕ → Proxies
 proxies_of places stack left = record { limit = length places; places = numbered 0 places; free = top_down stack left }
 

@@ -1,34 +1,34 @@
--- What a proxy table stands for: a finite map from the numbers below a limit to addresses, and the other numbers in the order in which they are given out.
+-- What contracts see of a proxy table: a finite map from the live numbers, all below a limit, to addresses, and the free numbers in the order of their use.
 use Rattle.std.specs.Prelude.{◌≡◌, ℕ, ◌+◌, ◌<◌, ◌≤◌, List, ◌∷◌, ◌==◌, None, Some, length, not, nat_eq, refl}
 use Rattle.std.specs.List.{Contains, IsDistinct, filter, range_with_len}
 use Rattle.std.specs.Ordering.{nat_cmp}
 use Rattle.std.specs.FinMap as map
 use Rattle.std.specs.Coded.{Coded, code_by, coded×, coded_list, coded_ℕ}
 
--- how many numbers there are, the address of each that is live, and the numbers that are free, the next one first
+-- how many numbers there are, the address of each live one, and the free ones, the next first
 pub record Proxies : Type 0 where
   pub limit : ℕ
   pub places : map.FinMap nat_cmp ℕ
   pub free : List ℕ
 
--- no number is live, and they are given out from 0 on
+-- no number is live; number 0 is the next
 abbrev pub no_proxies : ℕ → Proxies
 no_proxies limit = record { limit = limit; places = map.empty; free = range_with_len 0 limit }
 
--- the others of a list of numbers, in order
+-- a list of numbers without one number, in order
 abbrev pub without_number : ℕ → List ℕ → List ℕ
 without_number number numbers = filter (λ other. not (other == number)) numbers
 
--- a number is live, and this is its address; it isn't free
+-- the number becomes live with this address, and isn't free
 abbrev pub with_place : Proxies → ℕ → ℕ → Proxies
 with_place proxies number place =
     record proxies { places = map.insert proxies.places number place; free = without_number number proxies.free }
 
--- a number is live no more, and is the first of the free ones
+-- the number is no longer live, and is the first free one
 abbrev pub without_place : Proxies → ℕ → Proxies
 without_place proxies number = record proxies { places = map.remove proxies.places number; free = number ∷ proxies.free }
 
--- each number below the limit is live or free, and no number is both, or free twice
+-- each number below the limit is either live or free, and none is free twice
 pub record AreBelowLimit (proxies : Proxies) : Type 0 where
   pub below : (number place : ℕ) → map.get proxies.places number ≡ Some place → number < proxies.limit
   pub few : map.len proxies.places ≤ proxies.limit
@@ -37,7 +37,7 @@ pub record AreBelowLimit (proxies : Proxies) : Type 0 where
   pub once : IsDistinct nat_eq proxies.free
   pub counted : length proxies.free + map.len proxies.places ≡ proxies.limit
 
--- it is stored as the tuple of its parts
+-- stored as the tuple of its fields
 abbrev pub proxies_code : Coded Proxies
 proxies_code =
     code_by (ℕ × (map.FinMap nat_cmp ℕ × List ℕ)) (coded× coded_ℕ (coded× (map.code coded_ℕ coded_ℕ) (coded_list coded_ℕ)))

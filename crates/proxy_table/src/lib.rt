@@ -1,4 +1,5 @@
-//! Numbers of objects to addresses: the one place where a move is told.
+//! From the numbers of objects to addresses. A move changes an object's address here and nowhere
+//! else.
 #![tactic(auto)]
 
 ghost use Rattle.std.specs.Prelude.{◌≡◌, ◌∷◌, ◌<◌, ◌↔◌, IfNone, IfOk, IfSome, IsNone, IsSome, None, Some, if◌then◌else◌, is_some};
@@ -14,8 +15,8 @@ use std::alloc::{AllocError, Global};
 use std::marker::Model;
 use step_ledger::Steps;
 
-/// A finite map from the numbers below a limit to addresses in words. A number is given out while
-/// it isn't live; the one that was released last comes first, and number 0 is the first of all.
+/// A finite map from numbers below a limit to addresses in words. The free number that was released
+/// last is given out first; in a new table number 0 is.
 #[derive(Drop)]
 pub struct ProxyTable {
     places: Cells<Option<u32>>,
@@ -64,7 +65,7 @@ impl ProxyTable {
         self.places.len() as u32 - self.left
     }
 
-    /// The address of a number; none where it isn't live.
+    /// The address of a number; none if it isn't live.
     pub fn lookup(&self, h: Handle, steps: &mut Steps) -> Option<u32>
         ensures found { result ≡ map.get self.now.places h.0 }
         ensures kept { AreBelowLimit self.now }
@@ -79,7 +80,7 @@ impl ProxyTable {
         }
     }
 
-    /// Gives out the first free number for the address; returns none if every number is live.
+    /// Binds the first free number to the address; none if every number is live.
     pub fn bind(&mut self, addr: u32, steps: &mut Steps) -> Option<Handle>
         ensures none { IsNone result ↔ (map.len self.old.places ≡ self.old.limit) }
         ensures fresh { IfSome result (λ h. map.get self.old.places h.0 ≡ None) }
@@ -103,7 +104,7 @@ impl ProxyTable {
         Some(Handle(number))
     }
 
-    /// Gives a live number another address.
+    /// Changes the address of a live number.
     pub fn rebind(&mut self, h: Handle, addr: u32, steps: &mut Steps)
         requires live { IsSome (map.get self.old.places h.0) }
         ensures places { self.new ≡ with_place self.old h.0 addr }
@@ -114,7 +115,7 @@ impl ProxyTable {
         self.places.set(h.0 as usize, Some(addr), steps);
     }
 
-    /// Takes a live number back, which is the next to be given out.
+    /// Releases a live number, which is the next to be given out.
     pub fn release(&mut self, h: Handle, steps: &mut Steps)
         requires live { IsSome (map.get self.old.places h.0) }
         ensures places { self.new ≡ without_place self.old h.0 }
@@ -127,7 +128,7 @@ impl ProxyTable {
     }
 }
 
-/// The addresses of n numbers that aren't live.
+/// n numbers without an address.
 fn vacancies(alloc: Global, n: u32) -> Result<Vec<Option<u32>>, AllocError>
     ensures { IfOk result (λ places. places.items ≡ vacant n) }
 {

@@ -1,10 +1,10 @@
-//! What a table keeps.
+//! The fields of a table.
 use super::ProxyTable;
 use counted_cells::Cells;
 use std::test::Fail;
 
-/// Each field has a name and a written type here: the addresses and the stack of spare numbers stand in counted
-/// cells, and the rest is a number.
+/// Names each field with its type, so that no field is added unseen: the addresses and the stack of
+/// free numbers are in counted cells, the other field is a number.
 #[test]
 fn a_table_keeps_its_numbers_in_cells(rt: HostRuntime) -> Result<(), Fail> {
     let Ok(table) = ProxyTable::new(rt.alloc(), 5) else {

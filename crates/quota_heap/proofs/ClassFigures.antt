@@ -9,9 +9,9 @@ use Rattle.page_model.specs.Figures.{figures_of}
 use Rattle.page_model.specs.Held.{Held, objects}
 use Rattle.page_model.specs.Paging.{Paging, classes, slot_words, slots_of}
 use Rattle.page_slots.proofs.CallerLemmas.{home_pages_are, not_full_pages_are}
-use Rattle.quota_heap.specs.Layout.{IsGround, IsTask, IsTaskIn, IsValid, held_of, paging_at, state_of, tables_of}
+use Rattle.quota_heap.specs.Layout.{ArePages, IsTask, IsTaskIn, IsValid, held_of, paging_at, state_of, tables_of}
 use Rattle.quota_heap.specs.State.{held_by}
-use Rattle.quota_heap.specs.declared.ground.Ground.{Ground}
+use Rattle.quota_heap.specs.declared.shared_pages.SharedPages.{SharedPages}
 use Rattle.quota_heap.specs.declared.open_tasks.OpenTasks.{OpenTasks}
 use Rattle.quota_heap.specs.declared.task.Task.{Task}
 use Rattle.quota_heap.proofs.Facts.{as_many, few_classes, paging_ok, size_is, table_is}
@@ -27,7 +27,7 @@ figures_same : (p : Paging) (m : Held) (c w s l g n : ℕ) → w ≡ slot_words 
     → n ≡ not_full_pages p m c → ◌≡◌ {A = Figures} (record { slot_words = w; slots = s; live = l; pages = g; not_full = n }) (figures_of p m c)
 figures_same p m c w s l g n ew es el eg en = rw (ew, es, el, eg, en) refl
 
-module _ (g : Ground) (k : IsGround g) (t : ℕ) (x : Task) (i : IsTask g t x) (c : ℕ) (lt : c < classes (paging_at g)) where
+module _ (g : SharedPages) (k : ArePages g) (t : ℕ) (x : Task) (i : IsTask g t x) (c : ℕ) (lt : c < classes (paging_at g)) where
   pub class_in : c < x.lists.classes
   class_in = (let e = i.tell.tables.classes in omega arith)
 
@@ -56,5 +56,5 @@ module _ (g : Ground) (k : IsGround g) (t : ℕ) (x : Task) (i : IsTask g t x) (
 
 -- the same as callers see it
 pub figures_seen : (h : OpenTasks) (k : IsValid h) (t : ℕ) (x : Task) (at : IsTaskIn h t x) (c : ℕ) (f : Figures)
-    → f ≡ figures_of (paging_at h.ground) (held_of h.ground x) c → f ≡ figures_of (paging_at h.ground) (held_by (state_of h) t) c
-figures_seen h k t x at c f e = e ∙ ap (λ m. figures_of (paging_at h.ground) m c) (sym (part_is h k t x at))
+    → f ≡ figures_of (paging_at h.shared_pages) (held_of h.shared_pages x) c → f ≡ figures_of (paging_at h.shared_pages) (held_by (state_of h) t) c
+figures_seen h k t x at c f e = e ∙ ap (λ m. figures_of (paging_at h.shared_pages) m c) (sym (part_is h k t x at))

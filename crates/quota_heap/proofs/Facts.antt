@@ -1,4 +1,4 @@
--- What is known of the ground and of one task on it.
+-- What is known of the shared pages and of one task on them.
 use Rattle.std.proofs.Common.{◌≡◌, ℕ, ◌+◌, ◌/◌, ◌<◌, ◌≤◌, length, get_or, Some, None, arith, sym, ◌∙◌, ap, subst, inl, inr}
 use Rattle.std.specs.Prelude.{nat_eq, option_map}
 use Rattle.std.proofs.lemmas.Bool.{cases_lt}
@@ -20,18 +20,18 @@ use Rattle.page_slots.specs.Occupying.{class_table}
 use Rattle.page_slots.specs.Tables.{AreTables}
 use Rattle.quota_model.proofs.CallerLemmas.{tasks_at_one, tasks_paged}
 use Rattle.size_classes.specs.Table.{ClassTable, IsClassTable}
-use Rattle.quota_heap.specs.Layout.{IsGround, IsTask, held_of, objects_of, paging_at, tables_of}
-use Rattle.quota_heap.specs.declared.ground.Ground.{Ground}
+use Rattle.quota_heap.specs.Layout.{ArePages, IsTask, held_of, objects_of, paging_at, tables_of}
+use Rattle.quota_heap.specs.declared.shared_pages.SharedPages.{SharedPages}
 use Rattle.quota_heap.specs.declared.task.Task.{Task}
 
-module _ (g : Ground) where
+module _ (g : SharedPages) where
   pub paging_ok : IsPaging (paging_at g)
   paging_ok = tasks_paged (profile_of g.settings) g.settings.page_size
 
   pub at_one : AreOne (paging_at g)
   at_one = tasks_at_one (profile_of g.settings)
 
-  module _ (k : IsGround g) where
+  module _ (k : ArePages g) where
     pub table_is : class_table (paging_at g) ≡ g.classes
     table_is = sym k.table
 
@@ -75,7 +75,7 @@ live_few p m c =
     let l = len-objects m in
     omega arith
 
-module _ (g : Ground) (k : IsGround g) (t : ℕ) (x : Task) (i : IsTask g t x) where
+module _ (g : SharedPages) (k : ArePages g) (t : ℕ) (x : Task) (i : IsTask g t x) where
   pub tables_ok : AreTables g.classes (tables_of g x)
   tables_ok = subst (λ c. AreTables c (tables_of g x)) (table_is g k) i.tell.tables
 

@@ -7,19 +7,19 @@ use Rattle.page_slots.specs.Freeing.{FillsFrom}
 use Rattle.page_slots.specs.Tables.{AreTables, Tables}
 use Rattle.quota_model.specs.Parts.{key_of}
 use Rattle.quota_heap.specs.Calls.{IsMoving, IsObjectAt}
-use Rattle.quota_heap.specs.Layout.{IsGround, IsTask, tables_of}
-use Rattle.quota_heap.specs.declared.ground.Ground.{Ground}
+use Rattle.quota_heap.specs.Layout.{ArePages, IsTask, tables_of}
+use Rattle.quota_heap.specs.declared.shared_pages.SharedPages.{SharedPages}
 use Rattle.quota_heap.specs.declared.task.Task.{Task}
 use Rattle.quota_heap.proofs.Facts.{place_known}
 use Rattle.quota_heap.proofs.FreeCalls.{filled_account, is_other, number_told, other, slots_apart, source_in}
 
 -- the number that the header at b tells, and where it stands
-pub record Told (g : Ground) (x : Task) (t q b w : ℕ) : Type 0 where
+pub record Told (g : SharedPages) (x : Task) (t q b w : ℕ) : Type 0 where
   pub above : t * 65536 ≤ w
   pub there : get x.proxies.places (w - t * 65536) ≡ Some b
   pub still : get (remove x.proxies.places q) (w - t * 65536) ≡ Some b
 
-module _ {g : Ground} (k : IsGround g) {t : ℕ} {x : Task} (i : IsTask g t x) {q a size c : ℕ} (o : IsObjectAt g x q a size c) (new : Tables)
+module _ {g : SharedPages} (k : ArePages g) {t : ℕ} {x : Task} (i : IsTask g t x) {q a size c : ℕ} (o : IsObjectAt g x q a size c) (new : Tables)
     (tables : AreTables g.classes new) (b : ℕ) (moves : IsMoving g x a c) (f : FillsFrom g.classes (tables_of g x) c b new) where
   pub filler_account : length new.pool.free ≤ x.pages + length g.pool.free
   filler_account = (let y = other k i o new tables b moves f in filled_account k i o new tables b moves f y.0 y.1 y.2 y.3)

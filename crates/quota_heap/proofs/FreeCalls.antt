@@ -22,14 +22,14 @@ use Rattle.page_slots.specs.Occupying.{Occupies, TellPart, class_table}
 use Rattle.page_slots.specs.Tables.{AreTables, Tables, page_at, slot_at}
 use Rattle.page_slots.proofs.CallerLemmas.{filled_occupied, filled_part, filler, filler_in, filler_may, vacated_occupied, vacated_part}
 use Rattle.proxy_table.specs.Proxies.{Proxies}
-use Rattle.quota_images.specs.Joined.{AreNumbers, joined, places_at}
-use Rattle.quota_images.proofs.CallerLemmas.{joined_insert, joined_remove, moved_image, numbers_set, removed_image}
+use Rattle.quota_model.specs.Joined.{AreNumbers, joined, places_at}
+use Rattle.quota_model.proofs.CallerLemmas.{joined_insert, joined_remove, moved_image, numbers_set, removed_image}
 use Rattle.quota_model.specs.Parts.{key_of, part_of}
 use Rattle.quota_model.proofs.CallerLemmas.{found_whole}
 use Rattle.quota_heap.specs.Calls.{Fills, Goes, IsMoving, IsObjectAt, IsRemoved}
-use Rattle.quota_heap.specs.Layout.{IsGround, IsTask, IsTaskIn, IsValid, held_in, held_of, paging_at, places_of, state_of, tables_of}
+use Rattle.quota_heap.specs.Layout.{ArePages, IsTask, IsTaskIn, IsValid, held_in, held_of, paging_at, places_of, state_of, tables_of}
 use Rattle.quota_heap.specs.Steps.{FreesOfTask}
-use Rattle.quota_heap.specs.declared.ground.Ground.{Ground}
+use Rattle.quota_heap.specs.declared.shared_pages.SharedPages.{SharedPages}
 use Rattle.quota_heap.specs.declared.open_tasks.OpenTasks.{OpenTasks}
 use Rattle.quota_heap.specs.declared.task.Task.{Task}
 use Rattle.quota_heap.proofs.Facts.{has_place, number_small, paging_ok, place_known, slot_there, table_is, tables_ok}
@@ -39,8 +39,8 @@ use Rattle.quota_heap.proofs.PagesAfter.{used_after}
 use Rattle.quota_heap.proofs.Preserved.{Becomes, places_are}
 use Rattle.quota_heap.proofs.Tasks.{length_map, map_set, numbers, part_is, places_here}
 
--- the slot of the object is free: what is known of the ground and the task alone
-module _ {g : Ground} (k : IsGround g) {t : ℕ} {x : Task} (i : IsTask g t x) {q a size c : ℕ} (o : IsObjectAt g x q a size c) (new : Tables)
+-- the slot of the object is free: what is known of the shared pages and the task alone
+module _ {g : SharedPages} (k : ArePages g) {t : ℕ} {x : Task} (i : IsTask g t x) {q a size c : ℕ} (o : IsObjectAt g x q a size c) (new : Tables)
     (tables : AreTables g.classes new) where
   of_table : AreTables (class_table (paging_at g)) new
   of_table = subst (λ s. AreTables s new) (sym (table_is g k)) tables
@@ -131,18 +131,18 @@ module _ {g : Ground} (k : IsGround g) {t : ℕ} {x : Task} (i : IsTask g t x) {
 -- a free that moves no other object
 module _ (h n : OpenTasks) (k : IsValid h) (t : ℕ) (x x' : Task) (at : IsTaskIn h t x) (tasks : n.tasks.items ≡ set h.tasks.items t x')
     (granted : n.granted ≡ h.granted) (q a size c : ℕ)
-    (o : IsObjectAt h.ground x q a size c) (still : IsMoving h.ground x a c → ⊥) (go : Goes h.ground x q a c n.ground x') where
-  abbrev i : IsTask h.ground t x
+    (o : IsObjectAt h.shared_pages x q a size c) (still : IsMoving h.shared_pages x a c → ⊥) (go : Goes h.shared_pages x q a c n.shared_pages x') where
+  abbrev i : IsTask h.shared_pages t x
   i = k.task t x at
 
-  stays : Moves (paging_at h.ground) (held_of h.ground x) (it k.ground i o) None
-  stays m = still (moving k.ground i o m)
+  stays : Moves (paging_at h.shared_pages) (held_of h.shared_pages x) (it k.shared_pages i o) None
+  stays m = still (moving k.shared_pages i o m)
 
   few : t < length (places_of h.tasks.items)
   few = (let e = length_map (λ (y : Task). y.proxies.places) h.tasks.items in let w = slice_get_within h.tasks.items t x at in omega arith)
 
   small : q < 65536
-  small = number_small h.ground k.ground t x i q a o.known
+  small = number_small h.shared_pages k.shared_pages t x i q a o.known
 
   becomes : Becomes h n t x x' (without (held_in h) (key_of t q) a (option_map (key_of t) None))
   unfolding removed stays
@@ -153,52 +153,52 @@ module _ (h n : OpenTasks) (k : IsValid h) (t : ℕ) (x x' : Task) (at : IsTaskI
       ∙ ap (λ m. remove m (key_of t q)) (places_are h k)
       ∙ sym (map_values-remove (λ (y : Placed). y.place) (held_in h) (key_of t q)))
       go.words_long
-      (removed_image (profile_of h.ground.settings) (held_in h) k.shared h.ground.settings.page_size h.ground.region k.image n.ground.region t q
+      (removed_image (profile_of h.shared_pages.settings) (held_in h) k.shared h.shared_pages.settings.page_size h.shared_pages.region k.image n.shared_pages.region t q
       (without (held_in h) (key_of t q) a None) (removed h n k t x x' at tasks granted q a size c o None stays)
-      (subst (λ s. Clears h.ground.region n.ground.region (record { from = a; count = s })) (it_slot k.ground i o) go.words))
-      (vacated_tells k.ground i o (tables_of n.ground x') go.rest.tables go.vacated)
-      (vacated_occupies k.ground i o (tables_of n.ground x') go.rest.tables go.vacated)
+      (subst (λ s. Clears h.shared_pages.region n.shared_pages.region (record { from = a; count = s })) (it_slot k.shared_pages i o) go.words))
+      (vacated_tells k.shared_pages i o (tables_of n.shared_pages x') go.rest.tables go.vacated)
+      (vacated_occupies k.shared_pages i o (tables_of n.shared_pages x') go.rest.tables go.vacated)
       (ap (λ (p : Proxies). p.limit) go.proxies)
-      (vacate_accounts h.ground.classes (tables_of h.ground x) (tables_ok h.ground k.ground t x i) c (tables_of n.ground x') (page_at h.ground.classes a)
-      (slot_at h.ground.classes c a) go.vacated)
+      (vacate_accounts h.shared_pages.classes (tables_of h.shared_pages x) (tables_ok h.shared_pages k.shared_pages t x i) c (tables_of n.shared_pages x') (page_at h.shared_pages.classes a)
+      (slot_at h.shared_pages.classes c a) go.vacated)
 
   pub alone_kept : IsValid n
   alone_kept = goes_kept h n k t x x' at tasks granted q a size c o None stays becomes
 
-  pub alone_freed : (freed : Freed) → freed.slot_words ≡ get_or h.ground.classes.sizes c 0 → number_of freed.moved ≡ None
+  pub alone_freed : (freed : Freed) → freed.slot_words ≡ get_or h.shared_pages.classes.sizes c 0 → number_of freed.moved ≡ None
       → FreesOfTask (state_of h) t q freed (state_of n)
   alone_freed freed words is = goes_freed h n k t x x' at tasks granted q a size c o None stays becomes freed words is
 
 -- a free that moves another object to the freed slot
 module _ (h n : OpenTasks) (k : IsValid h) (t : ℕ) (x x' : Task) (at : IsTaskIn h t x) (tasks : n.tasks.items ≡ set h.tasks.items t x')
     (granted : n.granted ≡ h.granted) (q a size c r : ℕ)
-    (o : IsObjectAt h.ground x q a size c) (moves : IsMoving h.ground x a c) (fi : Fills h.ground x q a c r n.ground x') where
-  abbrev i' : IsTask h.ground t x
+    (o : IsObjectAt h.shared_pages x q a size c) (moves : IsMoving h.shared_pages x a c) (fi : Fills h.shared_pages x q a c r n.shared_pages x') where
+  abbrev i' : IsTask h.shared_pages t x
   i' = k.task t x at
 
   abbrev new : Tables
-  new = tables_of n.ground x'
+  new = tables_of n.shared_pages x'
 
   abbrev y : Placed
-  y = record { place = fi.from; bytes = bytes_at h.ground.region fi.from }
+  y = record { place = fi.from; bytes = bytes_at h.shared_pages.region fi.from }
 
-  there : get (held_of h.ground x) r ≡ Some y
-  there = has_place h.ground k.ground t x i' r fi.from fi.there
+  there : get (held_of h.shared_pages x) r ≡ Some y
+  there = has_place h.shared_pages k.shared_pages t x i' r fi.from fi.there
 
-  mover : Moves (paging_at h.ground) (held_of h.ground x) (it k.ground i' o) (Some r)
+  mover : Moves (paging_at h.shared_pages) (held_of h.shared_pages x) (it k.shared_pages i' o) (Some r)
   mover = (
-    due k.ground i' o new fi.rest.tables fi.from moves fi.filled,
-    (y, there, may k.ground i' o new fi.rest.tables fi.from moves fi.filled r y there refl),
+    due k.shared_pages i' o new fi.rest.tables fi.from moves fi.filled,
+    (y, there, may k.shared_pages i' o new fi.rest.tables fi.from moves fi.filled r y there refl),
   )
 
   few' : t < length (places_of h.tasks.items)
   few' = (let e = length_map (λ (y : Task). y.proxies.places) h.tasks.items in let w = slice_get_within h.tasks.items t x at in omega arith)
 
   small' : q < 65536
-  small' = number_small h.ground k.ground t x i' q a o.known
+  small' = number_small h.shared_pages k.shared_pages t x i' q a o.known
 
   other_small : r < 65536
-  other_small = number_small h.ground k.ground t x i' r fi.from fi.there
+  other_small = number_small h.shared_pages k.shared_pages t x i' r fi.from fi.there
 
   part_there : get (part_of (held_in h) t) r ≡ Some y
   part_there = ap (λ m. get m r) (part_is h k t x at) ∙ there
@@ -235,30 +235,30 @@ module _ (h n : OpenTasks) (k : IsValid h) (t : ℕ) (x x' : Task) (at : IsTaskI
   becomes' = goes h n k t x x' at tasks granted q a size c o (Some r) mover fi.rest fi.live
       places_moved
       fi.words_long
-      (moved_image (profile_of h.ground.settings) (held_in h) k.shared h.ground.settings.page_size h.ground.region k.image n.ground.region t q r y
+      (moved_image (profile_of h.shared_pages.settings) (held_in h) k.shared h.shared_pages.settings.page_size h.shared_pages.region k.image n.shared_pages.region t q r y
       (without (held_in h) (key_of t q) a (Some (key_of t r))) (removed h n k t x x' at tasks granted q a size c o (Some r) mover) part_there
-      (subst (λ s. MovesWords h.ground.region n.ground.region (record { from = fi.from; count = s }) a)
-      (same_slot k.ground i' o new fi.rest.tables fi.from moves fi.filled r y there refl) fi.words))
-      (filled_tells k.ground i' o new fi.rest.tables fi.from moves fi.filled r y there refl)
-      (filled_occupies k.ground i' o new fi.rest.tables fi.from moves fi.filled r y there refl)
+      (subst (λ s. MovesWords h.shared_pages.region n.shared_pages.region (record { from = fi.from; count = s }) a)
+      (same_slot k.shared_pages i' o new fi.rest.tables fi.from moves fi.filled r y there refl) fi.words))
+      (filled_tells k.shared_pages i' o new fi.rest.tables fi.from moves fi.filled r y there refl)
+      (filled_occupies k.shared_pages i' o new fi.rest.tables fi.from moves fi.filled r y there refl)
       (ap (λ (p : Proxies). p.limit) fi.proxies)
-      (fill_accounts h.ground.classes (tables_of h.ground x) (tables_ok h.ground k.ground t x i') c new fi.from fi.filled)
+      (fill_accounts h.shared_pages.classes (tables_of h.shared_pages x) (tables_ok h.shared_pages k.shared_pages t x i') c new fi.from fi.filled)
 
   pub filled_kept : IsValid n
   filled_kept = goes_kept h n k t x x' at tasks granted q a size c o (Some r) mover becomes'
 
-  pub filled_freed : (freed : Freed) → freed.slot_words ≡ get_or h.ground.classes.sizes c 0 → number_of freed.moved ≡ Some r
+  pub filled_freed : (freed : Freed) → freed.slot_words ≡ get_or h.shared_pages.classes.sizes c 0 → number_of freed.moved ≡ Some r
       → FreesOfTask (state_of h) t q freed (state_of n)
   filled_freed freed words is = goes_freed h n k t x x' at tasks granted q a size c o (Some r) mover becomes' freed words is
 
 -- a free, by what moved
 module _ (h n : OpenTasks) (k : IsValid h) (t : ℕ) (x x' : Task) (at : IsTaskIn h t x) (tasks : n.tasks.items ≡ set h.tasks.items t x')
-    (granted : n.granted ≡ h.granted) (q a size c : ℕ) (o : IsObjectAt h.ground x q a size c) where
-  pub removed_kept : (moved : Option ℕ) → IsRemoved h.ground x q a c moved n.ground x' → IsValid n
+    (granted : n.granted ≡ h.granted) (q a size c : ℕ) (o : IsObjectAt h.shared_pages x q a size c) where
+  pub removed_kept : (moved : Option ℕ) → IsRemoved h.shared_pages x q a c moved n.shared_pages x' → IsValid n
   removed_kept None (still, go) = alone_kept h n k t x x' at tasks granted q a size c o still go
   removed_kept (Some r) (moves, fi) = filled_kept h n k t x x' at tasks granted q a size c r o moves fi
 
-  pub removed_freed : (moved : Option ℕ) → IsRemoved h.ground x q a c moved n.ground x' → (freed : Freed) → freed.slot_words ≡ get_or h.ground.classes.sizes c 0
+  pub removed_freed : (moved : Option ℕ) → IsRemoved h.shared_pages x q a c moved n.shared_pages x' → (freed : Freed) → freed.slot_words ≡ get_or h.shared_pages.classes.sizes c 0
       → number_of freed.moved ≡ moved → FreesOfTask (state_of h) t q freed (state_of n)
   removed_freed None (still, go) freed words is = alone_freed h n k t x x' at tasks granted q a size c o still go freed words is
   removed_freed (Some r) (moves, fi) freed words is = filled_freed h n k t x x' at tasks granted q a size c r o moves fi freed words is

@@ -23,16 +23,16 @@ use Rattle.page_slots.specs.Freeing.{MovesObject}
 use Rattle.page_slots.specs.Occupying.{Occupies, TellPart, class_table}
 use Rattle.page_slots.specs.Tables.{IsUsed, page_at, slot_at, slots_on}
 use Rattle.page_slots.proofs.CallerLemmas.{found_page, moves_is, moves_some}
-use Rattle.quota_images.specs.Joined.{joined}
+use Rattle.quota_model.specs.Joined.{joined}
 use Rattle.quota_model.specs.Parts.{key_of, part_of}
 use Rattle.quota_model.specs.Shared.{IsShared, RemovesForTask}
 use Rattle.quota_model.proofs.CallerLemmas.{free_quotas, free_shared, others_kept, own_freed, own_without}
 use Rattle.size_classes.specs.Table.{ClassTable}
 use Rattle.quota_heap.specs.Calls.{IsMoving, IsObjectAt, KeepsRest}
-use Rattle.quota_heap.specs.Layout.{IsGround, IsTask, IsTaskIn, IsValid, held_in, held_of, objects_of, paging_at, places_of, quotas_of, state_of, tables_of}
+use Rattle.quota_heap.specs.Layout.{ArePages, IsTask, IsTaskIn, IsValid, held_in, held_of, objects_of, paging_at, places_of, quotas_of, state_of, tables_of}
 use Rattle.quota_heap.specs.State.{QuotaState}
 use Rattle.quota_heap.specs.Steps.{FreesOfTask, with_held}
-use Rattle.quota_heap.specs.declared.ground.Ground.{Ground}
+use Rattle.quota_heap.specs.declared.shared_pages.SharedPages.{SharedPages}
 use Rattle.quota_heap.specs.declared.open_tasks.OpenTasks.{OpenTasks}
 use Rattle.quota_heap.specs.declared.task.Task.{Task}
 use Rattle.quota_heap.proofs.Facts.{as_many, at_one, bytes_held, few_classes, has_place, paging_ok, size_is, slot_there, table_is}
@@ -41,7 +41,7 @@ use Rattle.quota_heap.proofs.PagesAfter.{pages_after}
 use Rattle.quota_heap.proofs.Preserved.{Becomes, becomes_kept, becomes_state, stored}
 use Rattle.quota_heap.proofs.Tasks.{part_is}
 
-module _ {g : Ground} (k : IsGround g) {t : ℕ} {x : Task} (i : IsTask g t x) {q a size c : ℕ} (o : IsObjectAt g x q a size c) where
+module _ {g : SharedPages} (k : ArePages g) {t : ℕ} {x : Task} (i : IsTask g t x) {q a size c : ℕ} (o : IsObjectAt g x q a size c) where
   abbrev pub it : Placed
   it = record { place = a; bytes = bytes_at g.region a }
 
@@ -116,56 +116,56 @@ module _ {g : Ground} (k : IsGround g) {t : ℕ} {x : Task} (i : IsTask g t x) {
 -- what a free leaves, by the other object that moves
 module _ (h n : OpenTasks) (k : IsValid h) (t : ℕ) (x x' : Task) (at : IsTaskIn h t x) (tasks : n.tasks.items ≡ set h.tasks.items t x')
     (granted : n.granted ≡ h.granted) (q a size c : ℕ)
-    (o : IsObjectAt h.ground x q a size c) (moved : Option ℕ) (mv : Moves (paging_at h.ground) (held_of h.ground x) (it k.ground (k.task t x at) o) moved) where
-  abbrev i : IsTask h.ground t x
+    (o : IsObjectAt h.shared_pages x q a size c) (moved : Option ℕ) (mv : Moves (paging_at h.shared_pages) (held_of h.shared_pages x) (it k.shared_pages (k.task t x at) o) moved) where
+  abbrev i : IsTask h.shared_pages t x
   i = k.task t x at
 
   abbrev pub after : Held
   after = without (held_in h) (key_of t q) a (option_map (key_of t) moved)
 
-  part : part_of (held_in h) t ≡ held_of h.ground x
+  part : part_of (held_in h) t ≡ held_of h.shared_pages x
   part = part_is h k t x at
 
-  pub part_found : get (part_of (held_in h) t) q ≡ Some (it k.ground i o)
-  part_found = ap (λ m. get m q) part ∙ it_found k.ground i o
+  pub part_found : get (part_of (held_in h) t) q ≡ Some (it k.shared_pages i o)
+  part_found = ap (λ m. get m q) part ∙ it_found k.shared_pages i o
 
-  pub part_moves : Moves (paging_at h.ground) (part_of (held_in h) t) (it k.ground i o) moved
-  part_moves = subst (λ m. Moves (paging_at h.ground) m (it k.ground i o) moved) (sym part) mv
+  pub part_moves : Moves (paging_at h.shared_pages) (part_of (held_in h) t) (it k.shared_pages i o) moved
+  part_moves = subst (λ m. Moves (paging_at h.shared_pages) m (it k.shared_pages i o) moved) (sym part) mv
 
-  unfoldable pub removed : RemovesForTask (profile_of h.ground.settings) (held_in h) t q moved after
-  removed = record { freed = it k.ground i o; found = part_found; moves = part_moves; left = refl }
+  unfoldable pub removed : RemovesForTask (profile_of h.shared_pages.settings) (held_in h) t q moved after
+  removed = record { freed = it k.shared_pages i o; found = part_found; moves = part_moves; left = refl }
 
-  own_part : part_of after t ≡ without (held_of h.ground x) q a moved
-  own_part = own_without (profile_of h.ground.settings) (held_in h) t q (it k.ground i o) part_found moved part_moves
+  own_part : part_of after t ≡ without (held_of h.shared_pages x) q a moved
+  own_part = own_without (profile_of h.shared_pages.settings) (held_in h) t q (it k.shared_pages i o) part_found moved part_moves
       ∙ ap (λ m. without m q a moved) part
 
-  objects_are : objects (part_of after t) ≡ remove (objects_of h.ground x) q
-  objects_are = own_freed (profile_of h.ground.settings) (held_in h) t q moved after h.ground.settings.page_size k.shared removed
+  objects_are : objects (part_of after t) ≡ remove (objects_of h.shared_pages x) q
+  objects_are = own_freed (profile_of h.shared_pages.settings) (held_in h) t q moved after h.shared_pages.settings.page_size k.shared removed
       ∙ ap (λ m. remove (objects m) q) part
 
-  shared_after : IsShared (profile_of h.ground.settings) after
-  shared_after = free_shared (profile_of h.ground.settings) (held_in h) t q moved after h.ground.settings.page_size k.shared removed
+  shared_after : IsShared (profile_of h.shared_pages.settings) after
+  shared_after = free_shared (profile_of h.shared_pages.settings) (held_in h) t q moved after h.shared_pages.settings.page_size k.shared removed
 
-  module _ (rest : KeepsRest h.ground x n.ground x') (live_is : x'.live ≡ set x.live c (get_or x.live c 0 - 1)) where
-    counts : (d : ℕ) → d < classes (paging_at h.ground) → get_or x'.live d 0 ≡ live (paging_at h.ground) (objects (part_of after t)) d
+  module _ (rest : KeepsRest h.shared_pages x n.shared_pages x') (live_is : x'.live ≡ set x.live c (get_or x.live c 0 - 1)) where
+    counts : (d : ℕ) → d < classes (paging_at h.shared_pages) → get_or x'.live d 0 ≡ live (paging_at h.shared_pages) (objects (part_of after t)) d
     counts d l =
-        let less = live_taken (paging_at h.ground) (objects_of h.ground x) q (bytes_at h.ground.region a) d (it_bytes k.ground i o) in
+        let less = live_taken (paging_at h.shared_pages) (objects_of h.shared_pages x) q (bytes_at h.shared_pages.region a) d (it_bytes k.shared_pages i o) in
         let was = i.counted d l in
-        let all : live (paging_at h.ground) (objects (part_of after t)) d ≡ live (paging_at h.ground) (remove (objects_of h.ground x) q) d =
-        ap (λ v. live (paging_at h.ground) v d) objects_are in
+        let all : live (paging_at h.shared_pages) (objects (part_of after t)) d ≡ live (paging_at h.shared_pages) (remove (objects_of h.shared_pages x) q) d =
+        ap (λ v. live (paging_at h.shared_pages) v d) objects_are in
         let now : get_or x'.live d 0 ≡ get_or (set x.live c (get_or x.live c 0 - 1)) d 0 = ap (λ v. get_or v d 0) live_is in
-        let out = counted_out x.live c d (class_live k.ground i o) (live_some k.ground i o) in
-        let same : one (nat_eq (class_for (paging_at h.ground) (length (bytes_at h.ground.region a))) d) ≡ one (nat_eq c d) =
-        ap (λ e. one (nat_eq e d)) (it_class k.ground i o) in
+        let out = counted_out x.live c d (class_live k.shared_pages i o) (live_some k.shared_pages i o) in
+        let same : one (nat_eq (class_for (paging_at h.shared_pages) (length (bytes_at h.shared_pages.region a))) d) ≡ one (nat_eq c d) =
+        ap (λ e. one (nat_eq e d)) (it_class k.shared_pages i o) in
         omega arith
 
-    pub goes : joined (places_of (set h.tasks.items t x')) ≡ places after → length n.ground.region ≡ length h.ground.region
-        → IsSlotImage (paging_at h.ground) after n.ground.region → TellPart (paging_at h.ground) (tables_of n.ground x')
-        → Occupies (paging_at h.ground) (without (held_of h.ground x) q a moved) (tables_of n.ground x') → x'.proxies.limit ≡ x.proxies.limit
-        → Accounts (tables_of h.ground x) (tables_of n.ground x') c → Becomes h n t x x' after
+    pub goes : joined (places_of (set h.tasks.items t x')) ≡ places after → length n.shared_pages.region ≡ length h.shared_pages.region
+        → IsSlotImage (paging_at h.shared_pages) after n.shared_pages.region → TellPart (paging_at h.shared_pages) (tables_of n.shared_pages x')
+        → Occupies (paging_at h.shared_pages) (without (held_of h.shared_pages x) q a moved) (tables_of n.shared_pages x') → x'.proxies.limit ≡ x.proxies.limit
+        → Accounts (tables_of h.shared_pages x) (tables_of n.shared_pages x') c → Becomes h n t x x' after
     goes at_places long image tell occupied limit accounts =
-        let occupied' : Occupies (paging_at h.ground) (part_of after t) (tables_of n.ground x') =
-        subst (λ m. Occupies (paging_at h.ground) m (tables_of n.ground x')) (sym own_part) occupied in
+        let occupied' : Occupies (paging_at h.shared_pages) (part_of after t) (tables_of n.shared_pages x') =
+        subst (λ m. Occupies (paging_at h.shared_pages) m (tables_of n.shared_pages x')) (sym own_part) occupied in
         record {
           at = at;
           tasks = tasks;
@@ -176,15 +176,15 @@ module _ (h n : OpenTasks) (k : IsValid h) (t : ℕ) (x x' : Task) (at : IsTaskI
           long = long;
           image = image;
           shared = shared_after;
-          quotas = free_quotas (profile_of h.ground.settings) (held_in h) t q moved after h.ground.settings.page_size k.shared removed (quotas_of h.tasks.items)
+          quotas = free_quotas (profile_of h.shared_pages.settings) (held_in h) t q moved after h.shared_pages.settings.page_size k.shared removed (quotas_of h.tasks.items)
               k.quotas;
-          others = λ u ne. others_kept (profile_of h.ground.settings) (held_in h) t q moved after h.ground.settings.page_size k.shared removed u ne;
+          others = λ u ne. others_kept (profile_of h.shared_pages.settings) (held_in h) t q moved after h.shared_pages.settings.page_size k.shared removed u ne;
           tell = tell;
           occupied = occupied';
           limit = limit;
           live_long = ap length live_is ∙ length-set x.live c (get_or x.live c 0 - 1) ∙ i.live_long;
           counted = counts;
-          pages = pages_after h.ground k.ground t x i c o.in_range (part_of after t) (tables_of n.ground x') tell occupied' accounts (shared_after.sound t)
+          pages = pages_after h.shared_pages k.shared_pages t x i c o.in_range (part_of after t) (tables_of n.shared_pages x') tell occupied' accounts (shared_after.sound t)
               x'.pages rest.account;
         }
 
@@ -192,7 +192,7 @@ module _ (h n : OpenTasks) (k : IsValid h) (t : ℕ) (x x' : Task) (at : IsTaskI
     pub goes_kept : IsValid n
     goes_kept = becomes_kept h n k t x x' after b
 
-    pub goes_freed : (freed : Freed) → freed.slot_words ≡ get_or h.ground.classes.sizes c 0 → number_of freed.moved ≡ moved
+    pub goes_freed : (freed : Freed) → freed.slot_words ≡ get_or h.shared_pages.classes.sizes c 0 → number_of freed.moved ≡ moved
         → FreesOfTask (state_of h) t q freed (state_of n)
     goes_freed freed words is =
         let whole = becomes_state h n k t x x' after b in
@@ -200,11 +200,11 @@ module _ (h n : OpenTasks) (k : IsValid h) (t : ℕ) (x x' : Task) (at : IsTaskI
         let held' : after ≡ (state_of n).held = sym held in
         record {
           removed = record {
-            freed = it k.ground i o;
+            freed = it k.shared_pages i o;
             found = part_found;
-            moves = subst (Moves (paging_at h.ground) (part_of (held_in h) t) (it k.ground i o)) (sym is) part_moves;
+            moves = subst (Moves (paging_at h.shared_pages) (part_of (held_in h) t) (it k.shared_pages i o)) (sym is) part_moves;
             left = held ∙ ap (λ v. without (held_in h) (key_of t q) a (option_map (key_of t) v)) (sym is);
           };
-          slot = words ∙ it_slot k.ground i o;
-          whole = whole ∙ ap (λ m. with_held (state_of h) m n.ground.region) held';
+          slot = words ∙ it_slot k.shared_pages i o;
+          whole = whole ∙ ap (λ m. with_held (state_of h) m n.shared_pages.region) held';
         }

@@ -6,7 +6,7 @@ pub mod Tasks
 pub mod PagesAfter
 pub mod Preserved
 pub mod Refusals
-pub mod Malloc
+pub mod MallocLemmas
 pub mod FreedObject
 pub mod FreeCalls
 pub mod Parts

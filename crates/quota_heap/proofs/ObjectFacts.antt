@@ -7,12 +7,12 @@ use Rattle.page_model.specs.Paging.{class_for}
 use Rattle.page_model.proofs.CallerLemmas.{bytes_long, class_known}
 use Rattle.page_pool.proofs.CallerLemmas.{free_within}
 use Rattle.quota_heap.specs.Calls.{IsObjectAt}
-use Rattle.quota_heap.specs.Layout.{IsGround, IsTask, paging_at}
-use Rattle.quota_heap.specs.declared.ground.Ground.{Ground}
+use Rattle.quota_heap.specs.Layout.{ArePages, IsTask, paging_at}
+use Rattle.quota_heap.specs.declared.shared_pages.SharedPages.{SharedPages}
 use Rattle.quota_heap.specs.declared.task.Task.{Task}
 use Rattle.quota_heap.proofs.Facts.{class_is, class_there, paging_ok, sizes_are}
 
-module _ (g : Ground) (k : IsGround g) (t : ℕ) (x : Task) (i : IsTask g t x) where
+module _ (g : SharedPages) (k : ArePages g) (t : ℕ) (x : Task) (i : IsTask g t x) where
   pub pool_few : length g.pool.free ≤ 4096
   pool_few = (
       let w = free_within g.pool.pages g.pool.free i.tell.tables.pool in

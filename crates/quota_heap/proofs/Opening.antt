@@ -30,13 +30,13 @@ use Rattle.page_slots.specs.Occupying.{Occupies, class_table}
 use Rattle.page_slots.specs.Tables.{AreTables, tables, used_in}
 use Rattle.page_slots.proofs.CallerLemmas.{first_occupied, first_table, first_tables, no_pages}
 use Rattle.proxy_table.specs.Proxies.{AreBelowLimit, no_proxies}
-use Rattle.quota_images.specs.Joined.{AreNumbers, joined, places_at}
-use Rattle.quota_images.proofs.CallerLemmas.{get_by_key}
+use Rattle.quota_model.specs.Joined.{AreNumbers, joined, places_at}
+use Rattle.quota_model.proofs.CallerLemmas.{get_by_key}
 use Rattle.quota_model.specs.Parts.{number_of, part_of, task_of}
 use Rattle.quota_model.specs.Shared.{AreQuotas, IsShared}
-use Rattle.quota_model.proofs.CallerLemmas.{first_quotas, first_shared, no_part}
+use Rattle.quota_model.proofs.CallerLemmas.{first_quotas, first_shared, no_part, sum_zeros_list}
 use Rattle.size_classes.specs.Table.{ClassTable, table_of}
-use Rattle.quota_heap.specs.Layout.{IsFirstGround, IsGround, IsTask, IsTaskIn, IsValid, first_task, held_in, held_of, pages_of, paging_at, places_of}
+use Rattle.quota_heap.specs.Layout.{AreFirstPages, ArePages, IsTask, IsTaskIn, IsValid, first_task, held_in, held_of, pages_of, paging_at, places_of}
 use Rattle.quota_heap.specs.Layout.{quotas_of, state_of}
 use Rattle.quota_heap.specs.State.{empty_state}
 use Rattle.quota_heap.specs.declared.open_tasks.OpenTasks.{OpenTasks}
@@ -69,9 +69,6 @@ range_long : (a n : ℕ) → length (range_with_len a n) ≡ n
 range_long a zero = refl
 range_long a (suc n) = ap suc (range_long (a + 1) n)
 
-zeros_sum : (n : ℕ) → sum (replicate {A = ℕ} n 0) ≡ 0
-zeros_sum n = sum_of_zeros (λ (m : ℕ). m) n 0 refl
-
 -- no task has an address
 none_numbered : (n : ℕ) → AreNumbers (replicate n (empty {X = ℕ} {R = nat_cmp}))
 none_numbered n t h a f = absurd (
@@ -92,86 +89,73 @@ none_joined n = equal_maps _ _ (λ key. get_by_key (replicate n empty) (none_num
     none_at (suc n) zero = refl
     none_at (suc n) (suc t) = none_at n t
 
-below_none : (n : ℕ) → AreBelowLimit (no_proxies n)
-below_none n = record {
-  below = λ q a f. absurd (let none : get (empty {X = ℕ} {R = nat_cmp}) q ≡ None = get-empty nat_cmp q in let e : Some a ≡ None = sym f ∙ none in cc);
-  few = (let e = len-empty nat_cmp ℕ in omega arith);
-  free_below = λ number (k, lt, is). (
-      let l = length-range_with_len 0 n in let e = get_or-range_with_len 0 n k number (omega (arith, l, lt)) in omega (arith, e, is, l, lt));
-  not_live = λ number free. get-empty nat_cmp number;
-  once = IsDistinct-from_apart eqb (range_with_len 0 n) (λ i j d lt within. (
-      let l = length-range_with_len 0 n in
-      let ei = get_or-range_with_len 0 n i d (omega (arith, l, lt, within)) in let ej = get_or-range_with_len 0 n j d (omega (arith, l, within)) in
-      rw (ei, ej) (ne_eqb _ _ (λ same. omega (arith, same, lt)))));
-  counted = (let e = len-empty nat_cmp ℕ in let l = length-range_with_len 0 n in omega arith);
-}
-
-module _ (s : Settings) (h : OpenTasks) (f : IsFirstGround s h.ground) (n : ℕ) (many : n ≡ length h.ground.classes.sizes)
-    (tasks : h.tasks.items ≡ replicate 16 (first_task n s.pages s.proxies)) (none : h.granted ≡ 0) where
+module _ (s : Settings) (h : OpenTasks) (f : AreFirstPages s h.shared_pages) (n : ℕ) (many : n ≡ length h.shared_pages.classes.sizes)
+    (tasks : h.tasks.items ≡ replicate 16 (first_task n s.pages s.proxies)) (none : h.granted ≡ 0)
+    (handles : AreBelowLimit (no_proxies s.proxies)) where
   first : Task
   first = first_task n s.pages s.proxies
 
-  page_is : h.ground.settings.page_words ≡ s.page_words
+  page_is : h.shared_pages.settings.page_words ≡ s.page_words
   page_is = ap (λ (t : Settings). t.page_words) f.settings
 
-  pages_is : h.ground.settings.pages ≡ s.pages
+  pages_is : h.shared_pages.settings.pages ≡ s.pages
   pages_is = ap (λ (t : Settings). t.pages) f.settings
 
-  ground : IsGround h.ground
-  ground = record {
+  shared_pages : ArePages h.shared_pages
+  shared_pages = record {
     table = f.classes ∙ ap (λ (t : Settings). table_of t.page_words Words) (sym f.settings);
     words_long = ap length f.region ∙ length-replicate {A = ℕ} (s.pages * s.page_words) 0 ∙ ap (λ (t : Settings). t.pages * t.page_words) (sym f.settings);
   }
 
-  many_classes : n ≡ length (sizes h.ground.settings.page_words Words)
-  many_classes = many ∙ ap (λ (t : ClassTable). length t.sizes) ground.table
+  many_classes : n ≡ length (sizes h.shared_pages.settings.page_words Words)
+  many_classes = many ∙ ap (λ (t : ClassTable). length t.sizes) shared_pages.table
 
   first_is : (t : ℕ) (x : Task) → IsTaskIn h t x → first_task n s.pages s.proxies ≡ x
   first_is t x e = replicated 16 (first_task n s.pages s.proxies) t x (sym (ap (λ ts. slice_get ts t) tasks) ∙ e)
 
-  unused : (page : ℕ) → used_in (get_or h.ground.maps.items page []) ≡ 0
+  unused : (page : ℕ) → used_in (get_or h.shared_pages.maps.items page []) ≡ 0
   unused page = ap (λ (maps : List (List Bool)). used_in (get_or maps page [])) f.maps ∙ elim (cases_lt page s.pages) [
     | inl lt ↦ ap used_in (get_or-replicate s.pages page (replicate 1 false) [] lt)
     | inr past ↦ ap used_in (get_or_past (replicate s.pages (replicate 1 false)) page []
         (let e = length-replicate s.pages (replicate 1 false) in omega arith))
   ]
 
-  told : AreTables (class_table (paging_at h.ground)) (tables h.ground.maps.items (empty_lists n s.pages) h.ground.pool)
+  told : AreTables (class_table (paging_at h.shared_pages)) (tables h.shared_pages.maps.items (empty_lists n s.pages) h.shared_pages.pool)
   told =
       let small = s.small_region in
-      let t = first_table h.ground.settings.page_words Words h.ground.settings.page_size in
-      let long : length h.ground.maps.items ≡ s.pages = ap length f.maps ∙ length-replicate s.pages (replicate 1 false) in
+      let t = first_table h.shared_pages.settings.page_words Words h.shared_pages.settings.page_size in
+      let long : length h.shared_pages.maps.items ≡ s.pages = ap length f.maps ∙ length-replicate s.pages (replicate 1 false) in
       let p = page_is in
-      let sm : s.pages * h.ground.settings.page_words < 2 ^ 32 = subst (λ w. s.pages * w < 2 ^ 32) (sym p) (omega arith) in
-      let all = first_tables n s.pages (class_table (paging_at h.ground)) h.ground.maps.items t sm long unused many_classes in
-      subst (λ q. AreTables (class_table (paging_at h.ground)) (tables h.ground.maps.items (empty_lists n s.pages) q)) (sym f.pool) all
+      let sm : s.pages * h.shared_pages.settings.page_words < 2 ^ 32 = subst (λ w. s.pages * w < 2 ^ 32) (sym p) (omega arith) in
+      let all = first_tables n s.pages (class_table (paging_at h.shared_pages)) h.shared_pages.maps.items t sm long unused many_classes in
+      subst (λ q. AreTables (class_table (paging_at h.shared_pages)) (tables h.shared_pages.maps.items (empty_lists n s.pages) q)) (sym f.pool) all
 
-  held_none : held_of h.ground (first_task n s.pages s.proxies) ≡ empty
-  held_none = nothing_held h.ground.region
+  held_none : held_of h.shared_pages (first_task n s.pages s.proxies) ≡ empty
+  held_none = nothing_held h.shared_pages.region
 
-  first_kept : (t : ℕ) → IsTask h.ground t (first_task n s.pages s.proxies)
+  first_kept : (t : ℕ) → IsTask h.shared_pages t (first_task n s.pages s.proxies)
   first_kept t = record {
-    sound = subst (IsSound (paging_at h.ground)) (sym held_none) (sound_empty (paging_at h.ground));
+    sound = subst (IsSound (paging_at h.shared_pages)) (sym held_none) (sound_empty (paging_at h.shared_pages));
     tell = record { tables = told; pages = ap (λ (q : Pool). q.pages) f.pool ∙ sym pages_is };
-    occupied = subst (λ m. Occupies (paging_at h.ground) m (tables h.ground.maps.items (empty_lists n s.pages) h.ground.pool)) (sym held_none)
-        (first_occupied n s.pages (paging_at h.ground) h.ground.maps.items h.ground.pool);
+    occupied = subst (λ m. Occupies (paging_at h.shared_pages) m (tables h.shared_pages.maps.items (empty_lists n s.pages) h.shared_pages.pool)) (sym held_none)
+        (first_occupied n s.pages (paging_at h.shared_pages) h.shared_pages.maps.items h.shared_pages.pool);
     headed = λ q y e. absurd (
         let z : Some y ≡ None = sym e ∙ ap (λ m. get m q) held_none ∙ get-empty nat_cmp q in cc);
     numbers = sym (ap (λ (t : Settings). t.proxies) f.settings);
-    handles = below_none s.proxies;
+    handles = handles;
     live_long = length-replicate {A = ℕ} 128 0;
     counted = λ c lt. (
-        let few = (are_sizes h.ground.settings.page_words Words h.ground.settings.page_size).few in
+        let few = (are_sizes h.shared_pages.settings.page_words Words h.shared_pages.settings.page_size).few in
         let here : c < 128 = omega arith in
-        get_or-replicate {A = ℕ} 128 c 0 0 here ∙ sym (ap (λ m. live (paging_at h.ground) (objects m) c) held_none
-        ∙ ap (λ o. live (paging_at h.ground) o c) no_objects ∙ none_live (paging_at h.ground) c));
-    pages = sym (ap (λ m. pages_needed (paging_at h.ground) (objects m)) held_none
-        ∙ ap (λ m. pages_needed (paging_at h.ground) (objects m)) (sym (no_part 0)) ∙ none_needed);
+        get_or-replicate {A = ℕ} 128 c 0 0 here ∙ sym (ap (λ m. live (paging_at h.shared_pages) (objects m) c) held_none
+        ∙ ap (λ o. live (paging_at h.shared_pages) o c) no_objects ∙ none_live (paging_at h.shared_pages) c));
+    pages = sym (ap (λ m. pages_needed (paging_at h.shared_pages) (objects m)) held_none
+        ∙ ap (λ m. pages_needed (paging_at h.shared_pages) (objects m)) (sym (no_part 0)) ∙ none_needed);
   }
     where
-      none_needed : pages_needed (paging_at h.ground) (objects (part_of empty 0)) ≡ 0
+      none_needed : pages_needed (paging_at h.shared_pages) (objects (part_of empty 0)) ≡ 0
       none_needed = (
-          let le = (first_quotas (profile_of h.ground.settings)).enough 0 in
+          let le = (first_quotas (profile_of h.shared_pages.settings)).enough 0 in
           let z : get_or (replicate {A = ℕ} 16 0) 0 0 ≡ 0 = refl in
           omega arith)
 
@@ -182,26 +166,26 @@ module _ (s : Settings) (h : OpenTasks) (f : IsFirstGround s h.ground) (n : ℕ)
   quotas_none = ap quotas_of tasks ∙ map_replicate (λ (x : Task). x.quota) 16 (first_task n s.pages s.proxies)
 
   all_none : held_in h ≡ empty
-  all_none = ap (λ ps. held_at h.ground.region (joined ps)) places_none ∙ ap (held_at h.ground.region) (none_joined 16) ∙ nothing_held h.ground.region
+  all_none = ap (λ ps. held_at h.shared_pages.region (joined ps)) places_none ∙ ap (held_at h.shared_pages.region) (none_joined 16) ∙ nothing_held h.shared_pages.region
 
   pub opened_kept : IsValid h
   opened_kept = record {
-    ground = ground;
+    shared_pages = shared_pages;
     many = ap length tasks ∙ length-replicate 16 (first_task n s.pages s.proxies);
-    task = λ t x e. subst (IsTask h.ground t) (first_is t x e) (first_kept t);
+    task = λ t x e. subst (IsTask h.shared_pages t) (first_is t x e) (first_kept t);
     others = λ t u x y e g ne c page w there. absurd (
         let l : empty_lists n s.pages ≡ y.lists = ap (λ (z : Task). z.lists) (first_is u y g) in
         let at : Contains (pages_in (empty_lists n s.pages) c w) page = subst (λ ls. Contains (pages_in ls c w) page) (sym l) there in
         contains_nil page (subst (λ xs. Contains xs page) (no_pages n s.pages c w) at));
-    shared = subst (IsShared (profile_of h.ground.settings)) (sym all_none) (first_shared (profile_of h.ground.settings));
+    shared = subst (IsShared (profile_of h.shared_pages.settings)) (sym all_none) (first_shared (profile_of h.shared_pages.settings));
     image =
-        let at : IsSlotImage (paging_at h.ground) empty (replicate (s.pages * s.page_words) 0) =
-        image_empty (slot_for (paging_at h.ground)) (s.pages * s.page_words) in
-        subst (λ m. IsSlotImage (paging_at h.ground) m h.ground.region) (sym all_none)
-        (subst (λ w. IsSlotImage (paging_at h.ground) empty w) (sym f.region) at);
-    quotas = subst (λ m. AreQuotas (profile_of h.ground.settings) (quotas_of h.tasks.items) m) (sym all_none)
-        (subst (λ qs. AreQuotas (profile_of h.ground.settings) qs empty) (sym quotas_none) (first_quotas (profile_of h.ground.settings)));
-    granted = none ∙ sym (ap sum quotas_none ∙ zeros_sum 16);
+        let at : IsSlotImage (paging_at h.shared_pages) empty (replicate (s.pages * s.page_words) 0) =
+        image_empty (slot_for (paging_at h.shared_pages)) (s.pages * s.page_words) in
+        subst (λ m. IsSlotImage (paging_at h.shared_pages) m h.shared_pages.region) (sym all_none)
+        (subst (λ w. IsSlotImage (paging_at h.shared_pages) empty w) (sym f.region) at);
+    quotas = subst (λ m. AreQuotas (profile_of h.shared_pages.settings) (quotas_of h.tasks.items) m) (sym all_none)
+        (subst (λ qs. AreQuotas (profile_of h.shared_pages.settings) qs empty) (sym quotas_none) (first_quotas (profile_of h.shared_pages.settings)));
+    granted = none ∙ sym (ap sum quotas_none ∙ sum_zeros_list 16);
     accounted = (
         let a = ap pages_of tasks in
         let b = sum_of_zeros (λ (x : Task). x.pages) 16 (first_task n s.pages s.proxies) refl in

@@ -6,13 +6,13 @@ use Rattle.page_model.specs.Paging.{classes}
 use Rattle.page_model.proofs.CallerLemmas.{used_at_one}
 use Rattle.page_slots.specs.Occupying.{Occupies, TellPart}
 use Rattle.page_slots.specs.Tables.{Tables}
-use Rattle.quota_heap.specs.Layout.{IsGround, IsTask, held_of, paging_at, tables_of}
-use Rattle.quota_heap.specs.declared.ground.Ground.{Ground}
+use Rattle.quota_heap.specs.Layout.{ArePages, IsTask, held_of, paging_at, tables_of}
+use Rattle.quota_heap.specs.declared.shared_pages.SharedPages.{SharedPages}
 use Rattle.quota_heap.specs.declared.task.Task.{Task}
 use Rattle.quota_heap.proofs.Facts.{at_one, paging_ok, used_is}
 use Rattle.quota_heap.proofs.PageAccount.{Accounts, used_accounts}
 
-module _ (g : Ground) (k : IsGround g) (t : ℕ) (x : Task) (i : IsTask g t x) (c : ℕ) (lt : c < classes (paging_at g)) (m : Held) (new : Tables)
+module _ (g : SharedPages) (k : ArePages g) (t : ℕ) (x : Task) (i : IsTask g t x) (c : ℕ) (lt : c < classes (paging_at g)) (m : Held) (new : Tables)
     (tell : TellPart (paging_at g) new) (occupied : Occupies (paging_at g) m new) (a : Accounts (tables_of g x) new c) where
   -- what the pool lost the task has
   pub used_after : used_pages (paging_at g) m + length new.pool.free ≡ x.pages + length g.pool.free

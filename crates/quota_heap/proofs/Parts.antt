@@ -20,8 +20,8 @@ use Rattle.page_model.proofs.CallerLemmas.{byte_is, byte_of_object, bytes_at-Are
 use Rattle.page_model.proofs.CallerLemmas.{word_by_bytes, written_are_bytes, written_before, written_behind, written_inside, written_nothing}
 use Rattle.page_slots.specs.Occupying.{Occupies}
 use Rattle.page_slots.proofs.CallerLemmas.{rewritten_occupied}
-use Rattle.quota_images.specs.Joined.{joined}
-use Rattle.quota_images.proofs.CallerLemmas.{image_of_write, live_same, needed_same, others_rewritten, own_rewritten, rewritten_quotas, rewritten_shared}
+use Rattle.quota_model.specs.Joined.{joined}
+use Rattle.quota_model.proofs.CallerLemmas.{image_of_write, live_same, needed_same, others_rewritten, own_rewritten, rewritten_quotas, rewritten_shared}
 use Rattle.quota_model.specs.Parts.{key_of, part_of}
 use Rattle.quota_model.proofs.CallerLemmas.{found_whole}
 use Rattle.cf_model.specs.Steps.{Part}
@@ -39,31 +39,31 @@ use Rattle.quota_heap.proofs.Preserved.{Becomes, becomes_kept, becomes_state, pl
 use Rattle.quota_heap.proofs.Tasks.{part_is, task_below}
 
 module _ (h : OpenTasks) (k : IsValid h) (t : ℕ) (x : Task) (at : IsTaskIn h t x) where
-  abbrev i : IsTask h.ground t x
+  abbrev i : IsTask h.shared_pages t x
   i = k.task t x at
 
   -- the object at an address, as callers see it
-  pub object_by : (q a : ℕ) → get x.proxies.places q ≡ Some a → get (held_by (state_of h) t) q ≡ Some (record { place = a; bytes = bytes_at h.ground.region a })
-  object_by q a e = ap (λ m. get m q) (part_is h k t x at) ∙ has_place h.ground k.ground t x i q a e
+  pub object_by : (q a : ℕ) → get x.proxies.places q ≡ Some a → get (held_by (state_of h) t) q ≡ Some (record { place = a; bytes = bytes_at h.shared_pages.region a })
+  object_by q a e = ap (λ m. get m q) (part_is h k t x at) ∙ has_place h.shared_pages k.shared_pages t x i q a e
 
   pub no_object : (q : ℕ) → get x.proxies.places q ≡ None → get (held_by (state_of h) t) q ≡ None
-  no_object q e = ap (λ m. get m q) (part_is h k t x at) ∙ no_place h.ground k.ground t x i q e
+  no_object q e = ap (λ m. get m q) (part_is h k t x at) ∙ no_place h.shared_pages k.shared_pages t x i q e
 
   -- why there is no part
-  pub fault_is : (part : Part) (count : ℕ) (e : AccessFault) → IsMissing h.ground x part count e → IsFault (state_of h) t part count e
+  pub fault_is : (part : Part) (count : ℕ) (e : AccessFault) → IsMissing h.shared_pages x part count e → IsFault (state_of h) t part count e
   fault_is part count Unknown none = no_object part.number none
   fault_is part count Range p = record {
-    object = record { place = p.place; bytes = bytes_at h.ground.region p.place };
+    object = record { place = p.place; bytes = bytes_at h.shared_pages.region p.place };
     found = object_by part.number p.place p.found;
     past = p.past;
   }
 
   -- what was found of the task is so of the heap
-  pub found_in : (part : Part) (count : ℕ) (r : Result ℕ AccessFault) → IsFound h.ground x part count r → IsFoundIn h t part count r
+  pub found_in : (part : Part) (count : ℕ) (r : Result ℕ AccessFault) → IsFound h.shared_pages x part count r → IsFoundIn h t part count r
   found_in part count (Ok place) l = λ y e. (
       let z : Some x ≡ Some y = sym at ∙ e in
       let same : x ≡ y = cc in
-      subst (λ (z : Task). Lies h.ground z part count place) same l)
+      subst (λ (z : Task). Lies h.shared_pages z part count place) same l)
   found_in part count (Err e) m = fault_is part count e m
 
 pub none_to : {X A B : Type 0} (r : Option X) → (A → B) → IfNone r A → IfNone r B
@@ -75,45 +75,45 @@ some_to None f p = p
 some_to (Some x) f p = f x p
 
 -- where a part lies, its words are in the region
-module _ (h : OpenTasks) (k : IsValid h) (t : ℕ) (x : Task) (at : IsTaskIn h t x) (part : Part) (count a : ℕ) (l : Lies h.ground x part count a) where
-  abbrev task : IsTask h.ground t x
+module _ (h : OpenTasks) (k : IsValid h) (t : ℕ) (x : Task) (at : IsTaskIn h t x) (part : Part) (count a : ℕ) (l : Lies h.shared_pages x part count a) where
+  abbrev task : IsTask h.shared_pages t x
   task = k.task t x at
 
   abbrev pub from : ℕ
   from = part.from
 
-  pub words_in : 1 ≤ count → a + 1 + part.from / 8 + (part.from % 8 + count + 7) / 8 ≤ length h.ground.region
+  pub words_in : 1 ≤ count → a + 1 + part.from / 8 + (part.from % 8 + count + 7) / 8 ≤ length h.shared_pages.region
   words_in some =
-      let s = slot_there h.ground k.ground t x task part.number a l.found in
-      let o = holds h.ground k.ground t x task part.number a l.found in
+      let s = slot_there h.shared_pages k.shared_pages t x task part.number a l.found in
+      let o = holds h.shared_pages k.shared_pages t x task part.number a l.found in
       let w = l.within in
       omega arith
 
   pub place_small : 1 ≤ count → a + 1 + part.from / 8 ≤ 2 ^ 23
-  place_small some = (let w = words_in some in let long = k.ground.words_long in let small = h.ground.settings.small_region in omega arith)
+  place_small some = (let w = words_in some in let long = k.shared_pages.words_long in let small = h.shared_pages.settings.small_region in omega arith)
 
   pub count_few : count ≤ 131072
-  count_few = (let f = bytes_few h.ground k.ground t x task part.number a l.found in let w = l.within in omega arith)
+  count_few = (let f = bytes_few h.shared_pages k.shared_pages t x task part.number a l.found in let w = l.within in omega arith)
 
   -- the bytes that were read
   pub read_is : (out : List ℕ) → length out ≡ count
-      → ((j : ℕ) → j < length out → get_or out j 0 ≡ byte_from h.ground.region (a + 1 + part.from / 8) (part.from % 8 + j))
+      → ((j : ℕ) → j < length out → get_or out j 0 ≡ byte_from h.shared_pages.region (a + 1 + part.from / 8) (part.from % 8 + j))
       → ReadsOfTask (state_of h) t part count out
   read_is out long each = record {
-    object = record { place = a; bytes = bytes_at h.ground.region a };
+    object = record { place = a; bytes = bytes_at h.shared_pages.region a };
     found = object_by h k t x at part.number a l.found;
     within = l.within;
     value =
         let w = l.within in
-        let lt = length-take count (drop part.from (bytes_at h.ground.region a)) in
-        let ld = length-drop part.from (bytes_at h.ground.region a) in
-        same_number_lists out (take count (drop part.from (bytes_at h.ground.region a))) (omega arith) (λ j less.
+        let lt = length-take count (drop part.from (bytes_at h.shared_pages.region a)) in
+        let ld = length-drop part.from (bytes_at h.shared_pages.region a) in
+        same_number_lists out (take count (drop part.from (bytes_at h.shared_pages.region a))) (omega arith) (λ j less.
         let same : a + 1 + part.from / 8 + (part.from % 8 + j) / 8 ≡ a + 1 + (part.from + j) / 8 = omega arith in
         let rest : (part.from % 8 + j) % 8 ≡ (part.from + j) % 8 = omega arith in
-        each j less ∙ ap (λ d. byte_of ((part.from % 8 + j) % 8) (get_or h.ground.region d 0)) same
-        ∙ ap (λ r. byte_of r (get_or h.ground.region (a + 1 + (part.from + j) / 8) 0)) rest
-        ∙ sym (byte_is h.ground.region a (part.from + j) (omega arith)) ∙ sym (get_or-drop part.from (bytes_at h.ground.region a) j 0)
-        ∙ sym (get_or-take count (drop part.from (bytes_at h.ground.region a)) j 0 (omega arith)));
+        each j less ∙ ap (λ d. byte_of ((part.from % 8 + j) % 8) (get_or h.shared_pages.region d 0)) same
+        ∙ ap (λ r. byte_of r (get_or h.shared_pages.region (a + 1 + (part.from + j) / 8) 0)) rest
+        ∙ sym (byte_is h.shared_pages.region a (part.from + j) (omega arith)) ∙ sym (get_or-drop part.from (bytes_at h.shared_pages.region a) j 0)
+        ∙ sym (get_or-take count (drop part.from (bytes_at h.shared_pages.region a)) j 0 (omega arith)));
   }
 
   -- nothing is read
@@ -122,9 +122,9 @@ module _ (h : OpenTasks) (k : IsValid h) (t : ℕ) (x : Task) (at : IsTaskIn h t
 
 -- the bytes of a part are written
 module _ (h : OpenTasks) (k : IsValid h) (t : ℕ) (x : Task) (at : IsTaskIn h t x) (part : Part) (a : ℕ) (bytes : List ℕ)
-    (l : Lies h.ground x part (length bytes) a) (each : AreBytes bytes) (words : List ℕ)
-    (w : Overwrites h.ground.region words (record { from = a + 1 + part.from / 8; count = (part.from % 8 + length bytes + 7) / 8 }) (part.from % 8) bytes) where
-  abbrev own : IsTask h.ground t x
+    (l : Lies h.shared_pages x part (length bytes) a) (each : AreBytes bytes) (words : List ℕ)
+    (w : Overwrites h.shared_pages.region words (record { from = a + 1 + part.from / 8; count = (part.from % 8 + length bytes + 7) / 8 }) (part.from % 8) bytes) where
+  abbrev own : IsTask h.shared_pages t x
   own = k.task t x at
 
   abbrev q : ℕ
@@ -134,22 +134,22 @@ module _ (h : OpenTasks) (k : IsValid h) (t : ℕ) (x : Task) (at : IsTaskIn h t
   pos = part.from
 
   abbrev pub left : OpenTasks
-  left = record h { ground = record h.ground { region = words } }
+  left = record h { shared_pages = record h.shared_pages { region = words } }
 
   abbrev key : ℕ
   key = key_of t part.number
 
   abbrev old : List ℕ
-  old = bytes_at h.ground.region a
+  old = bytes_at h.shared_pages.region a
 
   abbrev new : List ℕ
-  new = written (bytes_at h.ground.region a) part.from bytes
+  new = written (bytes_at h.shared_pages.region a) part.from bytes
 
   abbrev it : Placed
-  it = record { place = a; bytes = bytes_at h.ground.region a }
+  it = record { place = a; bytes = bytes_at h.shared_pages.region a }
 
-  found : get (held_of h.ground x) q ≡ Some it
-  found = has_place h.ground k.ground t x own q a l.found
+  found : get (held_of h.shared_pages x) q ≡ Some it
+  found = has_place h.shared_pages k.shared_pages t x own q a l.found
 
   part_found : get (part_of (held_in h) t) q ≡ Some it
   part_found = ap (λ m. get m q) (part_is h k t x at) ∙ found
@@ -158,57 +158,57 @@ module _ (h : OpenTasks) (k : IsValid h) (t : ℕ) (x : Task) (at : IsTaskIn h t
   whole_found = found_whole (held_in h) t q it part_found
 
   are : AreBytes new
-  are = written_are_bytes old pos bytes l.within (bytes_at-AreBytes h.ground.region a) each
+  are = written_are_bytes old pos bytes l.within (bytes_at-AreBytes h.shared_pages.region a) each
 
   size : length new ≡ length old
   size = length-written old pos bytes l.within
 
   few : q < 65536
-  few = number_small h.ground k.ground t x own q a l.found
+  few = number_small h.shared_pages k.shared_pages t x own q a l.found
 
   key_few : key < 2 ^ 32
   key_few = (let f = few in let s = task_below h k t x at in omega arith)
 
   short : length old ≤ 131072
-  short = bytes_few h.ground k.ground t x own q a l.found
+  short = bytes_few h.shared_pages k.shared_pages t x own q a l.found
 
-  holds_all : 1 + (length old + 7) / 8 ≤ slot_for (paging_at h.ground) (length old)
-  holds_all = holds h.ground k.ground t x own q a l.found
+  holds_all : 1 + (length old + 7) / 8 ≤ slot_for (paging_at h.shared_pages) (length old)
+  holds_all = holds h.shared_pages k.shared_pages t x own q a l.found
 
   -- byte b of the object's words, and of the new ones
-  old_byte : (b : ℕ) → 1 + b / 8 < slot_for (paging_at h.ground) (length old) → byte_of (b % 8) (get_or h.ground.region (a + 1 + b / 8) 0) ≡ get_or old b 0
+  old_byte : (b : ℕ) → 1 + b / 8 < slot_for (paging_at h.shared_pages) (length old) → byte_of (b % 8) (get_or h.shared_pages.region (a + 1 + b / 8) 0) ≡ get_or old b 0
   old_byte b lt =
       let word = k.image.held key it whole_found (suc (b / 8)) (omega arith) in
       let place : a + 1 + b / 8 ≡ a + suc (b / 8) = omega arith in
-      ap (λ j. byte_of (b % 8) (get_or h.ground.region j 0)) place ∙ ap (byte_of (b % 8)) word
-      ∙ byte_of_object key old b (bytes_at-AreBytes h.ground.region a)
+      ap (λ j. byte_of (b % 8) (get_or h.shared_pages.region j 0)) place ∙ ap (byte_of (b % 8)) word
+      ∙ byte_of_object key old b (bytes_at-AreBytes h.shared_pages.region a)
 
   -- byte j of the words that are written is that of the new bytes
   new_byte : (j : ℕ) → j < 8 * ((pos % 8 + length bytes + 7) / 8)
-      → overwritten (λ b. byte_of (b % 8) (get_or h.ground.region (a + 1 + pos / 8 + b / 8) 0)) (pos % 8) bytes j ≡ get_or new (8 * (pos / 8) + j) 0
+      → overwritten (λ b. byte_of (b % 8) (get_or h.shared_pages.region (a + 1 + pos / 8 + b / 8) 0)) (pos % 8) bytes j ≡ get_or new (8 * (pos / 8) + j) 0
   new_byte j lt =
       let fits = l.within in
       let o = holds_all in
-      let was : byte_of (j % 8) (get_or h.ground.region (a + 1 + pos / 8 + j / 8) 0) ≡ get_or old (8 * (pos / 8) + j) 0 =
+      let was : byte_of (j % 8) (get_or h.shared_pages.region (a + 1 + pos / 8 + j / 8) 0) ≡ get_or old (8 * (pos / 8) + j) 0 =
       (let place : a + 1 + pos / 8 + j / 8 ≡ a + 1 + (8 * (pos / 8) + j) / 8 = omega arith in
       let byte : j % 8 ≡ (8 * (pos / 8) + j) % 8 = omega arith in
-      ap (λ d. byte_of (j % 8) (get_or h.ground.region d 0)) place
-      ∙ ap (λ b. byte_of b (get_or h.ground.region (a + 1 + (8 * (pos / 8) + j) / 8) 0)) byte
+      ap (λ d. byte_of (j % 8) (get_or h.shared_pages.region d 0)) place
+      ∙ ap (λ b. byte_of b (get_or h.shared_pages.region (a + 1 + (8 * (pos / 8) + j) / 8) 0)) byte
       ∙ old_byte (8 * (pos / 8) + j) (omega arith)) in
       elim (cases_lt j (pos % 8)) [
-        | inl before ↦ overwritten_before (λ b. byte_of (b % 8) (get_or h.ground.region (a + 1 + pos / 8 + b / 8) 0)) (pos % 8) bytes j before ∙ was
+        | inl before ↦ overwritten_before (λ b. byte_of (b % 8) (get_or h.shared_pages.region (a + 1 + pos / 8 + b / 8) 0)) (pos % 8) bytes j before ∙ was
             ∙ sym (written_before old pos bytes fits (8 * (pos / 8) + j) (omega arith))
         | inr later ↦ elim (cases_lt j (pos % 8 + length bytes)) [
           | inl inside ↦ (
               let e : pos + (j - pos % 8) ≡ 8 * (pos / 8) + j = omega arith in
-              overwritten_inside (λ b. byte_of (b % 8) (get_or h.ground.region (a + 1 + pos / 8 + b / 8) 0)) (pos % 8) bytes j later inside
+              overwritten_inside (λ b. byte_of (b % 8) (get_or h.shared_pages.region (a + 1 + pos / 8 + b / 8) 0)) (pos % 8) bytes j later inside
               ∙ sym (written_inside old pos bytes fits (j - pos % 8) (omega arith)) ∙ ap (λ d. get_or new d 0) e)
-          | inr behind ↦ overwritten_behind (λ b. byte_of (b % 8) (get_or h.ground.region (a + 1 + pos / 8 + b / 8) 0)) (pos % 8) bytes j behind ∙ was
+          | inr behind ↦ overwritten_behind (λ b. byte_of (b % 8) (get_or h.shared_pages.region (a + 1 + pos / 8 + b / 8) 0)) (pos % 8) bytes j behind ∙ was
               ∙ sym (written_behind old pos bytes fits (8 * (pos / 8) + j) (omega arith))
         ]
       ]
 
-  rewrites : Rewrites h.ground.region words (record { from = a + 1 + pos / 8; count = (pos % 8 + length bytes + 7) / 8 })
+  rewrites : Rewrites h.shared_pages.region words (record { from = a + 1 + pos / 8; count = (pos % 8 + length bytes + 7) / 8 })
       (λ j. object_word key new (1 + pos / 8 + j))
   rewrites = record {
     within = λ j lt.
@@ -234,21 +234,21 @@ module _ (h : OpenTasks) (k : IsValid h) (t : ℕ) (x : Task) (at : IsTaskIn h t
   }
 
   abbrev pub changed : Held
-  changed = insert (held_in h) (key_of t part.number) (record { place = a; bytes = written (bytes_at h.ground.region a) part.from bytes })
+  changed = insert (held_in h) (key_of t part.number) (record { place = a; bytes = written (bytes_at h.shared_pages.region a) part.from bytes })
 
-  image : IsSlotImage (paging_at h.ground) changed words
+  image : IsSlotImage (paging_at h.shared_pages) changed words
   image =
       let first : a + 1 + pos / 8 ≡ a + (1 + pos / 8) = omega arith in
-      image_of_write (profile_of h.ground.settings) (held_in h) k.shared h.ground.settings.page_size h.ground.region k.image t q it part_found words pos bytes
+      image_of_write (profile_of h.shared_pages.settings) (held_in h) k.shared h.shared_pages.settings.page_size h.shared_pages.region k.image t q it part_found words pos bytes
       l.within
-      (subst (λ f. Rewrites h.ground.region words (record { from = f; count = (pos % 8 + length bytes + 7) / 8 }) (λ j. object_word key new (1 + pos / 8 + j)))
+      (subst (λ f. Rewrites h.shared_pages.region words (record { from = f; count = (pos % 8 + length bytes + 7) / 8 }) (λ j. object_word key new (1 + pos / 8 + j)))
       first rewrites)
 
-  class : class_for (paging_at h.ground) (length new) ≡ class_for (paging_at h.ground) (length old)
-  class = ap (class_for (paging_at h.ground)) size
+  class : class_for (paging_at h.shared_pages) (length new) ≡ class_for (paging_at h.shared_pages) (length old)
+  class = ap (class_for (paging_at h.shared_pages)) size
 
-  own_part : part_of changed t ≡ insert (held_of h.ground x) q (record { place = a; bytes = new })
-  own_part = own_rewritten (profile_of h.ground.settings) (held_in h) t q it part_found new class
+  own_part : part_of changed t ≡ insert (held_of h.shared_pages x) q (record { place = a; bytes = new })
+  own_part = own_rewritten (profile_of h.shared_pages.settings) (held_in h) t q it part_found new class
       ∙ ap (λ m. insert m q (record { place = a; bytes = new })) (part_is h k t x at)
 
   tasks_same : h.tasks.items ≡ set h.tasks.items t x
@@ -269,7 +269,7 @@ module _ (h : OpenTasks) (k : IsValid h) (t : ℕ) (x : Task) (at : IsTaskIn h t
       settings = refl;
       classes = refl;
       quota = refl;
-      tables = tables_ok h.ground k.ground t x own;
+      tables = tables_ok h.shared_pages k.shared_pages t x own;
       elsewhere = record { still = λ page e. e; slots = λ page e. refl };
       handles = own.handles;
       account = refl;
@@ -278,17 +278,17 @@ module _ (h : OpenTasks) (k : IsValid h) (t : ℕ) (x : Task) (at : IsTaskIn h t
     storable = storable_added (held_in h) key (record { place = a; bytes = new }) (stored h k) key_few are;
     long = w.long;
     image = image;
-    shared = rewritten_shared (profile_of h.ground.settings) (held_in h) t q it part_found new class k.shared;
-    quotas = rewritten_quotas (profile_of h.ground.settings) (held_in h) t q it part_found new class (quotas_of h.tasks.items) k.quotas;
-    others = λ u ne. others_rewritten (profile_of h.ground.settings) (held_in h) t q it part_found new class u ne;
+    shared = rewritten_shared (profile_of h.shared_pages.settings) (held_in h) t q it part_found new class k.shared;
+    quotas = rewritten_quotas (profile_of h.shared_pages.settings) (held_in h) t q it part_found new class (quotas_of h.tasks.items) k.quotas;
+    others = λ u ne. others_rewritten (profile_of h.shared_pages.settings) (held_in h) t q it part_found new class u ne;
     tell = own.tell;
-    occupied = subst (λ m. Occupies (paging_at h.ground) m (tables_of h.ground x)) (sym own_part) (rewritten_occupied own.occupied q found new class);
+    occupied = subst (λ m. Occupies (paging_at h.shared_pages) m (tables_of h.shared_pages x)) (sym own_part) (rewritten_occupied own.occupied q found new class);
     limit = refl;
     live_long = own.live_long;
-    counted = λ c lt. own.counted c lt ∙ sym (live_same (profile_of h.ground.settings) (held_in h) t q it part_found new class c
-        ∙ ap (λ m. live (paging_at h.ground) (objects m) c) (part_is h k t x at));
-    pages = own.pages ∙ sym (needed_same (profile_of h.ground.settings) (held_in h) t q it part_found new class
-        ∙ ap (λ m. pages_needed (paging_at h.ground) (objects m)) (part_is h k t x at));
+    counted = λ c lt. own.counted c lt ∙ sym (live_same (profile_of h.shared_pages.settings) (held_in h) t q it part_found new class c
+        ∙ ap (λ m. live (paging_at h.shared_pages) (objects m) c) (part_is h k t x at));
+    pages = own.pages ∙ sym (needed_same (profile_of h.shared_pages.settings) (held_in h) t q it part_found new class
+        ∙ ap (λ m. pages_needed (paging_at h.shared_pages) (objects m)) (part_is h k t x at));
   }
 
   pub wrote_kept : IsValid left
@@ -304,20 +304,20 @@ module _ (h : OpenTasks) (k : IsValid h) (t : ℕ) (x : Task) (at : IsTaskIn h t
 
 -- to write no bytes changes nothing
 pub wrote_nothing : (h : OpenTasks) (k : IsValid h) (t : ℕ) (x : Task) (at : IsTaskIn h t x) (part : Part) (a : ℕ) (bytes : List ℕ) → length bytes ≡ 0
-    → Lies h.ground x part (length bytes) a → WritesForTask (state_of h) t part bytes (state_of h)
+    → Lies h.shared_pages x part (length bytes) a → WritesForTask (state_of h) t part bytes (state_of h)
 wrote_nothing h k t x at part a [] none l =
-    let it : Placed = record { place = a; bytes = bytes_at h.ground.region a } in
+    let it : Placed = record { place = a; bytes = bytes_at h.shared_pages.region a } in
     let found = object_by h k t x at part.number a l.found in
-    let whole = found_whole (held_in h) t part.number (record { place = a; bytes = bytes_at h.ground.region a }) found in
+    let whole = found_whole (held_in h) t part.number (record { place = a; bytes = bytes_at h.shared_pages.region a }) found in
     record {
-      object = record { place = a; bytes = bytes_at h.ground.region a };
+      object = record { place = a; bytes = bytes_at h.shared_pages.region a };
       found = found;
       within = l.within;
       whole =
           let fits = l.within in
-          let same = written_nothing (bytes_at h.ground.region a) part.from (omega arith) in
-          ap (λ m. with_held (state_of h) m h.ground.region)
+          let same = written_nothing (bytes_at h.shared_pages.region a) part.from (omega arith) in
+          ap (λ m. with_held (state_of h) m h.shared_pages.region)
           (sym (ap (λ v. insert (held_in h) (key_of t part.number) (record { place = a; bytes = v })) same
-          ∙ inserted_there (held_in h) (key_of t part.number) (record { place = a; bytes = bytes_at h.ground.region a }) whole));
+          ∙ inserted_there (held_in h) (key_of t part.number) (record { place = a; bytes = bytes_at h.shared_pages.region a }) whole));
     }
 wrote_nothing h k t x at part a (y ∷ ys) none l = absurd (omega arith)

@@ -1,4 +1,4 @@
--- An open heap of which one task, and the ground with it, changed keeps what it keeps.
+-- An open heap of which one task, and the shared pages with it, changed keeps what it keeps.
 use Rattle.std.proofs.Common.{◌≡◌, ◌≢◌, ℕ, ◌+◌, ◌<◌, length, get_or, set, Some, arith, sym, ◌∙◌, ap, subst, inl, inr}
 use Rattle.std.specs.Prelude.{slice_get, sum}
 use Rattle.std.proofs.lemmas.Bool.{cases_eq}
@@ -15,8 +15,8 @@ use Rattle.page_model.proofs.CallerLemmas.{class_holds, held_at_bytes, held_from
 use Rattle.page_slots.specs.Occupying.{Occupies, TellPart}
 use Rattle.page_slots.specs.Tables.{AreOthers, AreTables}
 use Rattle.page_slots.proofs.CallerLemmas.{mine_elsewhere, others_elsewhere, others_occupied, others_tables}
-use Rattle.quota_images.specs.Joined.{AreNumbers, joined}
-use Rattle.quota_images.proofs.CallerLemmas.{own_image, numbers_set, part_joined}
+use Rattle.quota_model.specs.Joined.{AreNumbers, joined}
+use Rattle.quota_model.proofs.CallerLemmas.{own_image, numbers_set, part_joined}
 use Rattle.quota_model.specs.Parts.{key_of, part_of}
 use Rattle.quota_model.specs.Shared.{AreQuotas, IsShared}
 use Rattle.quota_model.proofs.CallerLemmas.{found_whole}
@@ -34,32 +34,32 @@ pub record Becomes (h n : OpenTasks) (t : ℕ) (x x' : Task) (m : Held) : Type 0
   pub at : IsTaskIn h t x
   pub tasks : n.tasks.items ≡ set h.tasks.items t x'
   pub granted : n.granted ≡ h.granted
-  pub rest : KeepsRest h.ground x n.ground x'
+  pub rest : KeepsRest h.shared_pages x n.shared_pages x'
   pub places : joined (places_of (set h.tasks.items t x')) ≡ places m
   pub storable : AreStorable m
-  pub long : length n.ground.region ≡ length h.ground.region
-  pub image : IsSlotImage (paging_at h.ground) m n.ground.region
-  pub shared : IsShared (profile_of h.ground.settings) m
-  pub quotas : AreQuotas (profile_of h.ground.settings) (quotas_of h.tasks.items) m
+  pub long : length n.shared_pages.region ≡ length h.shared_pages.region
+  pub image : IsSlotImage (paging_at h.shared_pages) m n.shared_pages.region
+  pub shared : IsShared (profile_of h.shared_pages.settings) m
+  pub quotas : AreQuotas (profile_of h.shared_pages.settings) (quotas_of h.tasks.items) m
   pub others : (u : ℕ) → u ≢ t → part_of m u ≡ part_of (held_in h) u
-  pub tell : TellPart (paging_at h.ground) (tables_of n.ground x')
-  pub occupied : Occupies (paging_at h.ground) (part_of m t) (tables_of n.ground x')
+  pub tell : TellPart (paging_at h.shared_pages) (tables_of n.shared_pages x')
+  pub occupied : Occupies (paging_at h.shared_pages) (part_of m t) (tables_of n.shared_pages x')
   pub limit : x'.proxies.limit ≡ x.proxies.limit
   pub live_long : length x'.live ≡ 128
-  pub counted : (c : ℕ) → c < classes (paging_at h.ground) → get_or x'.live c 0 ≡ live (paging_at h.ground) (objects (part_of m t)) c
-  pub pages : x'.pages ≡ pages_needed (paging_at h.ground) (objects (part_of m t))
+  pub counted : (c : ℕ) → c < classes (paging_at h.shared_pages) → get_or x'.live c 0 ≡ live (paging_at h.shared_pages) (objects (part_of m t)) c
+  pub pages : x'.pages ≡ pages_needed (paging_at h.shared_pages) (objects (part_of m t))
 
 -- n, with what no call changes as it is in h
 abbrev pub with_rest : OpenTasks → OpenTasks → OpenTasks
-with_rest h n = record n { ground = record n.ground { settings = h.ground.settings; classes = h.ground.classes } }
+with_rest h n = record n { shared_pages = record n.shared_pages { settings = h.shared_pages.settings; classes = h.shared_pages.classes } }
 
 module _ (h n : OpenTasks) (k : IsValid h) (t : ℕ) (x x' : Task) (m : Held) (b : Becomes h n t x x' m) where
   abbrev w : OpenTasks
   w = with_rest h n
 
   same : n ≡ w
-  same = ap (λ s. record n { ground = record n.ground { settings = s } }) b.rest.settings
-      ∙ ap (λ c. record n { ground = record n.ground { settings = h.ground.settings; classes = c } }) b.rest.classes
+  same = ap (λ s. record n { shared_pages = record n.shared_pages { settings = s } }) b.rest.settings
+      ∙ ap (λ c. record n { shared_pages = record n.shared_pages { settings = h.shared_pages.settings; classes = c } }) b.rest.classes
 
   lt : t < length h.tasks.items
   lt = slice_get_within h.tasks.items t x b.at
@@ -75,105 +75,105 @@ module _ (h n : OpenTasks) (k : IsValid h) (t : ℕ) (x x' : Task) (m : Held) (b
   other_in u y ne e = sym (set_there h.tasks.items t u x' ne) ∙ sym (ap (λ ts. slice_get ts u) b.tasks) ∙ e
 
   held_is : held_in w ≡ m
-  held_is = held_from_image m (joined (places_of n.tasks.items)) n.ground.region
-      (own_image (profile_of h.ground.settings) m b.shared h.ground.settings.page_size n.ground.region b.image)
+  held_is = held_from_image m (joined (places_of n.tasks.items)) n.shared_pages.region
+      (own_image (profile_of h.shared_pages.settings) m b.shared h.shared_pages.settings.page_size n.shared_pages.region b.image)
       (ap (λ ts. joined (places_of ts)) b.tasks ∙ b.places) b.storable
 
   new_numbers : AreNumbers (places_of n.tasks.items)
   new_numbers = subst (λ ts. AreNumbers (places_of ts)) (sym b.tasks) (subst AreNumbers (sym (map_set (λ (y : Task). y.proxies.places) h.tasks.items t x'))
       (numbers_set (places_of h.tasks.items) (numbers h k) t (let e = long_places in let l = lt in omega arith) x'.proxies.places
       (λ q a f. (
-      let low = b.rest.handles.below q a f in let e = b.limit in let i = (k.task t x b.at).numbers in let few = h.ground.settings.few_proxies in
+      let low = b.rest.handles.below q a f in let e = b.limit in let i = (k.task t x b.at).numbers in let few = h.shared_pages.settings.few_proxies in
       omega arith))))
     where
       long_places : length (places_of h.tasks.items) ≡ length h.tasks.items
       long_places = length_map (λ (y : Task). y.proxies.places) h.tasks.items
 
   -- each task's objects are its part
-  part_here : (u : ℕ) (y : Task) → IsTaskIn w u y → held_of w.ground y ≡ part_of m u
+  part_here : (u : ℕ) (y : Task) → IsTaskIn w u y → held_of w.shared_pages y ≡ part_of m u
   part_here u y e = sym (
-      part_joined n.ground.region (places_of n.tasks.items) new_numbers u
-      ∙ ap (held_at n.ground.region) (mapped_here (λ (z : Task). z.proxies.places) n.tasks.items u y
+      part_joined n.shared_pages.region (places_of n.tasks.items) new_numbers u
+      ∙ ap (held_at n.shared_pages.region) (mapped_here (λ (z : Task). z.proxies.places) n.tasks.items u y
       empty e)) ∙ ap (λ a. part_of a u) held_is
 
-  sound : (u : ℕ) (y : Task) → IsTaskIn w u y → IsSound (paging_at h.ground) (held_of w.ground y)
-  sound u y e = subst (IsSound (paging_at h.ground)) (sym (part_here u y e)) (b.shared.sound u)
+  sound : (u : ℕ) (y : Task) → IsTaskIn w u y → IsSound (paging_at h.shared_pages) (held_of w.shared_pages y)
+  sound u y e = subst (IsSound (paging_at h.shared_pages)) (sym (part_here u y e)) (b.shared.sound u)
 
-  headed : (u : ℕ) (y : Task) → IsTaskIn w u y → (q : ℕ) (z : Placed) → get (held_of w.ground y) q ≡ Some z
-      → get_or n.ground.region z.place 0 ≡ header_word (key_of u q) (length z.bytes)
+  headed : (u : ℕ) (y : Task) → IsTaskIn w u y → (q : ℕ) (z : Placed) → get (held_of w.shared_pages y) q ≡ Some z
+      → get_or n.shared_pages.region z.place 0 ≡ header_word (key_of u q) (length z.bytes)
   headed u y e q z f =
       let there : get (part_of m u) q ≡ Some z = sym (ap (λ a. get a q) (part_here u y e)) ∙ f in
-      let some = class_holds (paging_at h.ground) (paging_ok h.ground) (length z.bytes) ((b.shared.sound u).slots q z there).class in
+      let some = class_holds (paging_at h.shared_pages) (paging_ok h.shared_pages) (length z.bytes) ((b.shared.sound u).slots q z there).class in
       let at0 : z.place + 0 ≡ z.place = omega arith in
-      sym (ap (λ i. get_or n.ground.region i 0) at0) ∙ b.image.held (key_of u q) z (found_whole m u q z there) 0 (omega arith)
+      sym (ap (λ i. get_or n.shared_pages.region i 0) at0) ∙ b.image.held (key_of u q) z (found_whole m u q z there) 0 (omega arith)
 
   -- the changed task
-  own_task : IsTask w.ground t x'
+  own_task : IsTask w.shared_pages t x'
   own_task =
       let e = part_here t x' own_in in record {
         sound = sound t x' own_in;
         tell = b.tell;
-        occupied = subst (λ a. Occupies (paging_at h.ground) a (tables_of n.ground x')) (sym e) b.occupied;
+        occupied = subst (λ a. Occupies (paging_at h.shared_pages) a (tables_of n.shared_pages x')) (sym e) b.occupied;
         headed = headed t x' own_in;
         numbers = b.limit ∙ (k.task t x b.at).numbers;
         handles = b.rest.handles;
         live_long = b.live_long;
-        counted = λ c l. b.counted c l ∙ ap (λ a. live (paging_at h.ground) (objects a) c) (sym e);
-        pages = b.pages ∙ ap (λ a. pages_needed (paging_at h.ground) (objects a)) (sym e);
+        counted = λ c l. b.counted c l ∙ ap (λ a. live (paging_at h.shared_pages) (objects a) c) (sym e);
+        pages = b.pages ∙ ap (λ a. pages_needed (paging_at h.shared_pages) (objects a)) (sym e);
       }
 
   -- the tables of the changed task, in the terms of the classes
-  new_tables : AreTables h.ground.classes (tables_of n.ground x')
+  new_tables : AreTables h.shared_pages.classes (tables_of n.shared_pages x')
   new_tables = b.rest.tables
 
-  pages_same : n.ground.pool.pages ≡ h.ground.pool.pages
+  pages_same : n.shared_pages.pool.pages ≡ h.shared_pages.pool.pages
   pages_same = b.tell.pages ∙ sym (k.task t x b.at).tell.pages
 
-  abbrev old_tables_of : (u : ℕ) (y : Task) → IsTaskIn h u y → AreTables h.ground.classes (tables_of h.ground y)
-  old_tables_of u y e = subst (λ c. AreTables c (tables_of h.ground y)) (table_is h.ground k.ground) (k.task u y e).tell.tables
+  abbrev old_tables_of : (u : ℕ) (y : Task) → IsTaskIn h u y → AreTables h.shared_pages.classes (tables_of h.shared_pages y)
+  old_tables_of u y e = subst (λ c. AreTables c (tables_of h.shared_pages y)) (table_is h.shared_pages k.shared_pages) (k.task u y e).tell.tables
 
-  other_tables : (u : ℕ) (y : Task) → u ≢ t → IsTaskIn h u y → AreTables h.ground.classes (tables_of n.ground y)
-  other_tables u y ne e = others_tables h.ground.classes (tables_of h.ground x) (tables_of n.ground x') new_tables pages_same b.rest.elsewhere y.lists
+  other_tables : (u : ℕ) (y : Task) → u ≢ t → IsTaskIn h u y → AreTables h.shared_pages.classes (tables_of n.shared_pages y)
+  other_tables u y ne e = others_tables h.shared_pages.classes (tables_of h.shared_pages x) (tables_of n.shared_pages x') new_tables pages_same b.rest.elsewhere y.lists
       (k.others t u x y b.at e ne) (old_tables_of u y e)
 
   -- another task
-  other_task : (u : ℕ) (y : Task) → u ≢ t → IsTaskIn w u y → IsTask w.ground u y
+  other_task : (u : ℕ) (y : Task) → u ≢ t → IsTaskIn w u y → IsTask w.shared_pages u y
   other_task u y ne e =
       let f = other_in u y ne e in
       let was = k.task u y f in
-      let eq : held_of w.ground y ≡ held_of h.ground y = part_here u y e ∙ b.others u ne ∙ part_is h k u y f in record {
+      let eq : held_of w.shared_pages y ≡ held_of h.shared_pages y = part_here u y e ∙ b.others u ne ∙ part_is h k u y f in record {
         sound = sound u y e;
         tell = record {
-          tables = subst (λ c. AreTables c (tables_of n.ground y)) (sym (table_is h.ground k.ground)) (other_tables u y ne f);
+          tables = subst (λ c. AreTables c (tables_of n.shared_pages y)) (sym (table_is h.shared_pages k.shared_pages)) (other_tables u y ne f);
           pages = pages_same ∙ was.tell.pages;
         };
-        occupied = subst (λ a. Occupies (paging_at h.ground) a (tables_of n.ground y)) (sym eq)
-            (others_occupied h.ground.classes (tables_of h.ground x) (tables_of n.ground x') new_tables pages_same b.rest.elsewhere y.lists
-            (k.others t u x y b.at f ne) (old_tables_of u y f) (paging_at h.ground) (held_of h.ground y) was.occupied);
+        occupied = subst (λ a. Occupies (paging_at h.shared_pages) a (tables_of n.shared_pages y)) (sym eq)
+            (others_occupied h.shared_pages.classes (tables_of h.shared_pages x) (tables_of n.shared_pages x') new_tables pages_same b.rest.elsewhere y.lists
+            (k.others t u x y b.at f ne) (old_tables_of u y f) (paging_at h.shared_pages) (held_of h.shared_pages y) was.occupied);
         headed = headed u y e;
         numbers = was.numbers;
         handles = was.handles;
         live_long = was.live_long;
-        counted = λ c l. was.counted c l ∙ ap (λ a. live (paging_at h.ground) (objects a) c) (sym eq);
-        pages = was.pages ∙ ap (λ a. pages_needed (paging_at h.ground) (objects a)) (sym eq);
+        counted = λ c l. was.counted c l ∙ ap (λ a. live (paging_at h.shared_pages) (objects a) c) (sym eq);
+        pages = was.pages ∙ ap (λ a. pages_needed (paging_at h.shared_pages) (objects a)) (sym eq);
       }
 
   -- no page is in the hands of two tasks
-  from_own : (u : ℕ) (y : Task) → u ≢ t → IsTaskIn h u y → AreOthers (tables_of n.ground x') y.lists
-  from_own u y ne e = others_elsewhere h.ground.classes (tables_of h.ground x) (tables_of n.ground x') new_tables pages_same b.rest.elsewhere y.lists
+  from_own : (u : ℕ) (y : Task) → u ≢ t → IsTaskIn h u y → AreOthers (tables_of n.shared_pages x') y.lists
+  from_own u y ne e = others_elsewhere h.shared_pages.classes (tables_of h.shared_pages x) (tables_of n.shared_pages x') new_tables pages_same b.rest.elsewhere y.lists
       (k.others t u x y b.at e ne) (old_tables_of u y e)
 
-  apart : (u v : ℕ) (y z : Task) → IsTaskIn w u y → IsTaskIn w v z → v ≢ u → AreOthers (tables_of n.ground y) z.lists
+  apart : (u v : ℕ) (y z : Task) → IsTaskIn w u y → IsTaskIn w v z → v ≢ u → AreOthers (tables_of n.shared_pages y) z.lists
   apart u v y z e f ne = elim (cases_eq u t) [
     | inl is ↦ (
         let other : v ≢ t = λ a. ne (a ∙ sym is) in
         let y_is : x' ≡ y = own_is y (subst (λ i. IsTaskIn w i y) is e) in
-        subst (λ (s : Task). AreOthers (tables_of n.ground s) z.lists) y_is (from_own v z other (other_in v z other f)))
+        subst (λ (s : Task). AreOthers (tables_of n.shared_pages s) z.lists) y_is (from_own v z other (other_in v z other f)))
     | inr u_ne ↦ elim (cases_eq v t) [
       | inl is ↦ (
           let z_is : x' ≡ z = own_is z (subst (λ i. IsTaskIn w i z) is f) in
-          subst (λ (s : Task). AreOthers (tables_of n.ground y) s.lists) z_is
-          (mine_elsewhere h.ground.classes (tables_of n.ground x') new_tables y.lists (from_own u y u_ne (other_in u y u_ne e))))
+          subst (λ (s : Task). AreOthers (tables_of n.shared_pages y) s.lists) z_is
+          (mine_elsewhere h.shared_pages.classes (tables_of n.shared_pages x') new_tables y.lists (from_own u y u_ne (other_in u y u_ne e))))
       | inr v_ne ↦ λ c page which there. record {
         taken = (from_own v z v_ne (other_in v z v_ne f) c page which there).taken;
         unlisted = (k.others u v y z (other_in u y u_ne e) (other_in v z v_ne f) ne c page which there).unlisted;
@@ -186,19 +186,19 @@ module _ (h n : OpenTasks) (k : IsValid h) (t : ℕ) (x x' : Task) (m : Held) (b
 
   rest_kept : IsValid w
   rest_kept = record {
-    ground = record { table = k.ground.table; words_long = b.long ∙ k.ground.words_long };
+    shared_pages = record { table = k.shared_pages.table; words_long = b.long ∙ k.shared_pages.words_long };
     many = ap length b.tasks ∙ length-set h.tasks.items t x' ∙ k.many;
     task = λ u y e. elim (cases_eq u t) [
       | inl is ↦ (
           let y_is : x' ≡ y = own_is y (subst (λ i. IsTaskIn w i y) is e) in
-          subst (λ i. IsTask w.ground i y) (sym is) (subst (IsTask w.ground t) y_is own_task))
+          subst (λ i. IsTask w.shared_pages i y) (sym is) (subst (IsTask w.shared_pages t) y_is own_task))
       | inr ne ↦ other_task u y ne e
     ];
     others = apart;
-    shared = subst (IsShared (profile_of h.ground.settings)) (sym held_is) b.shared;
-    image = subst (λ a. IsSlotImage (paging_at h.ground) a n.ground.region) (sym held_is) b.image;
-    quotas = subst (λ a. AreQuotas (profile_of h.ground.settings) (quotas_of n.tasks.items) a) (sym held_is)
-        (subst (λ qs. AreQuotas (profile_of h.ground.settings) qs m) (sym quotas_same) b.quotas);
+    shared = subst (IsShared (profile_of h.shared_pages.settings)) (sym held_is) b.shared;
+    image = subst (λ a. IsSlotImage (paging_at h.shared_pages) a n.shared_pages.region) (sym held_is) b.image;
+    quotas = subst (λ a. AreQuotas (profile_of h.shared_pages.settings) (quotas_of n.tasks.items) a) (sym held_is)
+        (subst (λ qs. AreQuotas (profile_of h.shared_pages.settings) qs m) (sym quotas_same) b.quotas);
     granted = b.granted ∙ k.granted ∙ ap sum (sym quotas_same);
     accounted = (
         let s = sum_set (λ (y : Task). y.pages) h.tasks.items t x x' b.at in
@@ -211,17 +211,17 @@ module _ (h n : OpenTasks) (k : IsValid h) (t : ℕ) (x x' : Task) (m : Held) (b
   pub becomes_kept : IsValid n
   becomes_kept = subst IsValid (sym same) rest_kept
 
-  pub becomes_state : state_of n ≡ with_held (state_of h) m n.ground.region
+  pub becomes_state : state_of n ≡ with_held (state_of h) m n.shared_pages.region
   becomes_state = ap state_of same
-      ∙ ap (λ qs. record (state_of h) { quotas = qs; held = held_in w; words = n.ground.region }) quotas_same
-      ∙ ap (λ a. record (state_of h) { held = a; words = n.ground.region }) held_is
+      ∙ ap (λ qs. record (state_of h) { quotas = qs; held = held_in w; words = n.shared_pages.region }) quotas_same
+      ∙ ap (λ a. record (state_of h) { held = a; words = n.shared_pages.region }) held_is
 
 module _ (h : OpenTasks) (k : IsValid h) where
   pub places_are : joined (places_of h.tasks.items) ≡ places (held_in h)
-  places_are = sym (places-held_at h.ground.region (joined (places_of h.tasks.items)))
+  places_are = sym (places-held_at h.shared_pages.region (joined (places_of h.tasks.items)))
 
   pub stored : AreStorable (held_in h)
   stored key x e = (
-    (let s = k.shared.tasks key x e in let few = h.ground.settings.few_proxies in let n = k.shared.numbers key x e in omega arith),
-    held_at_bytes h.ground.region (joined (places_of h.tasks.items)) key x e,
+    (let s = k.shared.tasks key x e in let few = h.shared_pages.settings.few_proxies in let n = k.shared.numbers key x e in omega arith),
+    held_at_bytes h.shared_pages.region (joined (places_of h.tasks.items)) key x e,
   )

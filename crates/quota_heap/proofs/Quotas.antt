@@ -10,7 +10,7 @@ use Rattle.cf_base.specs.Settings.{profile_of}
 use Rattle.cf_lemmas.proofs.Tests.{lt_no, lt_yes}
 use Rattle.page_model.specs.Arrangement.{pages_needed}
 use Rattle.page_model.specs.Bytes.{held_at}
-use Rattle.quota_images.specs.Joined.{joined}
+use Rattle.quota_model.specs.Joined.{joined}
 use Rattle.quota_model.specs.Refusals.{quota_refusal}
 use Rattle.quota_model.specs.Shared.{AreQuotas, IsShared}
 use Rattle.quota_model.specs.declared.answers.QuotaFault.{QuotaFault}
@@ -50,7 +50,7 @@ picks_neither a b ea eb = rw (ea, eb) refl
 
 module _ (h : OpenTasks) (k : IsValid h) (t : ℕ) (sixteen : t < 16) (n : ℕ) where
   abbrev pub fault : Option QuotaFault
-  fault = quota_refusal (profile_of h.ground.settings) (quotas_of h.tasks.items) t n (objects_by (state_of h) t)
+  fault = quota_refusal (profile_of h.shared_pages.settings) (quotas_of h.tasks.items) t n (objects_by (state_of h) t)
 
   -- what the quotas would sum to
   pub sum_is : sum (set (quotas_of h.tasks.items) t n) + quota_of (state_of h) t ≡ h.granted + n
@@ -66,33 +66,30 @@ module _ (h : OpenTasks) (k : IsValid h) (t : ℕ) (sixteen : t < 16) (n : ℕ) 
       let g = k.granted in
       omega arith)
 
-  pub sum_refused : h.ground.settings.pages + quota_of (state_of h) t < h.granted + n → fault ≡ Some Sum
-  sum_refused more = picks_sum _ _ (lt_yes h.ground.settings.pages (sum (set (quotas_of h.tasks.items) t n)) (let s = sum_is in omega arith))
+  pub sum_refused : h.shared_pages.settings.pages + quota_of (state_of h) t < h.granted + n → fault ≡ Some Sum
+  sum_refused more = picks_sum _ _ (lt_yes h.shared_pages.settings.pages (sum (set (quotas_of h.tasks.items) t n)) (let s = sum_is in omega arith))
 
-  module _ (x : Task) (at : IsTaskIn h t x) (fits : h.granted + n ≤ h.ground.settings.pages + quota_of (state_of h) t) where
-    needed : pages_needed (paging_at h.ground) (objects_by (state_of h) t) ≡ x.pages
-    needed = ap (pages_needed (paging_at h.ground)) (objects_same h k t x at) ∙ sym (k.task t x at).pages
+  module _ (fits : h.granted + n ≤ h.shared_pages.settings.pages + quota_of (state_of h) t) where
+    no_sum : nat_lt h.shared_pages.settings.pages (sum (set (quotas_of h.tasks.items) t n)) ≡ false
+    no_sum = lt_no h.shared_pages.settings.pages (sum (set (quotas_of h.tasks.items) t n)) (let s = sum_is in omega arith)
 
-    no_sum : nat_lt h.ground.settings.pages (sum (set (quotas_of h.tasks.items) t n)) ≡ false
-    no_sum = lt_no h.ground.settings.pages (sum (set (quotas_of h.tasks.items) t n)) (let s = sum_is in omega arith)
+    pub used_refused : n < pages_needed (paging_at h.shared_pages) (objects_by (state_of h) t) → fault ≡ Some Used
+    used_refused less = picks_used _ _ no_sum (lt_yes n (pages_needed (paging_at h.shared_pages) (objects_by (state_of h) t)) less)
 
-    pub used_refused : n < x.pages → fault ≡ Some Used
-    used_refused less = picks_used _ _ no_sum (lt_yes n (pages_needed (paging_at h.ground) (objects_by (state_of h) t)) (let e = needed in omega arith))
-
-    pub quota_granted : x.pages ≤ n → fault ≡ None
-    quota_granted le = picks_neither _ _ no_sum (lt_no n (pages_needed (paging_at h.ground) (objects_by (state_of h) t)) (let e = needed in omega arith))
+    pub quota_granted : pages_needed (paging_at h.shared_pages) (objects_by (state_of h) t) ≤ n → fault ≡ None
+    quota_granted le = picks_neither _ _ no_sum (lt_no n (pages_needed (paging_at h.shared_pages) (objects_by (state_of h) t)) le)
 
   -- the quota of one task is another, and nothing else
-  module _ (x : Task) (at : IsTaskIn h t x) (fits : fault ≡ None) (new : OpenTasks) (ground : new.ground ≡ h.ground)
+  module _ (x : Task) (at : IsTaskIn h t x) (fits : fault ≡ None) (new : OpenTasks) (shared_pages : new.shared_pages ≡ h.shared_pages)
       (tasks : new.tasks.items ≡ set h.tasks.items t (record x { quota = n })) (sums : new.granted + quota_of (state_of h) t ≡ h.granted + n) where
     abbrev x' : Task
     x' = record x { quota = n }
 
     abbrev left : OpenTasks
-    left = record new { ground = h.ground }
+    left = record new { shared_pages = h.shared_pages }
 
     same : new ≡ left
-    same = ap (λ g. record new { ground = g }) ground
+    same = ap (λ g. record new { shared_pages = g }) shared_pages
 
     lt : t < length h.tasks.items
     lt = slice_get_within h.tasks.items t x at
@@ -112,17 +109,17 @@ module _ (h : OpenTasks) (k : IsValid h) (t : ℕ) (sixteen : t < 16) (n : ℕ) 
     places_same = ap places_of tasks ∙ map_set_same (λ (y : Task). y.proxies.places) h.tasks.items t x x' at refl
 
     held_same : held_in left ≡ held_in h
-    held_same = ap (λ ps. held_at h.ground.region (joined ps)) places_same
+    held_same = ap (λ ps. held_at h.shared_pages.region (joined ps)) places_same
 
     quotas_are : quotas_of new.tasks.items ≡ set (quotas_of h.tasks.items) t n
     quotas_are = ap quotas_of tasks ∙ map_set (λ (y : Task). y.quota) h.tasks.items t x'
 
-    task_kept : (u : ℕ) (y : Task) → IsTaskIn left u y → IsTask h.ground u y
+    task_kept : (u : ℕ) (y : Task) → IsTaskIn left u y → IsTask h.shared_pages u y
     task_kept u y e =
         let w = was u y e in
         let z : Task = w.0 in
         let i = k.task u w.0 w.1 in
-        subst (IsTask h.ground u) (sym w.2) (record {
+        subst (IsTask h.shared_pages u) (sym w.2) (record {
           sound = i.sound;
           tell = i.tell;
           occupied = i.occupied;
@@ -136,7 +133,7 @@ module _ (h : OpenTasks) (k : IsValid h) (t : ℕ) (sixteen : t < 16) (n : ℕ) 
 
     left_kept : IsValid left
     left_kept = record {
-      ground = k.ground;
+      shared_pages = k.shared_pages;
       many = ap length tasks ∙ length-set h.tasks.items t x' ∙ k.many;
       task = task_kept;
       others = λ u v y z e f ne. (
@@ -145,13 +142,13 @@ module _ (h : OpenTasks) (k : IsValid h) (t : ℕ) (sixteen : t < 16) (n : ℕ) 
           let o = k.others u v a.0 b.0 a.1 b.1 ne in
           let ly : (a.0).lists ≡ y.lists = sym (ap (λ (s : Task). s.lists) a.2) in
           let lz : (b.0).lists ≡ z.lists = sym (ap (λ (s : Task). s.lists) b.2) in
-          subst (λ ls. AreOthers (tables h.ground.maps.items ls h.ground.pool) z.lists) ly
-          (subst (λ ls. AreOthers (tables h.ground.maps.items (a.0).lists h.ground.pool) ls) lz o));
-      shared = subst (IsShared (profile_of h.ground.settings)) (sym held_same) k.shared;
-      image = subst (λ m. IsSlotImage (paging_at h.ground) m h.ground.region) (sym held_same) k.image;
-      quotas = subst (AreQuotas (profile_of h.ground.settings) (quotas_of new.tasks.items)) (sym held_same)
-          (subst (λ qs. AreQuotas (profile_of h.ground.settings) qs (held_in h)) (sym quotas_are)
-          (granted_quotas (profile_of h.ground.settings) (quotas_of h.tasks.items) (held_in h) t n sixteen k.quotas fits));
+          subst (λ ls. AreOthers (tables h.shared_pages.maps.items ls h.shared_pages.pool) z.lists) ly
+          (subst (λ ls. AreOthers (tables h.shared_pages.maps.items (a.0).lists h.shared_pages.pool) ls) lz o));
+      shared = subst (IsShared (profile_of h.shared_pages.settings)) (sym held_same) k.shared;
+      image = subst (λ m. IsSlotImage (paging_at h.shared_pages) m h.shared_pages.region) (sym held_same) k.image;
+      quotas = subst (AreQuotas (profile_of h.shared_pages.settings) (quotas_of new.tasks.items)) (sym held_same)
+          (subst (λ qs. AreQuotas (profile_of h.shared_pages.settings) qs (held_in h)) (sym quotas_are)
+          (granted_quotas (profile_of h.shared_pages.settings) (quotas_of h.tasks.items) (held_in h) t n sixteen k.quotas fits));
       granted = (let e = ap sum quotas_are in let s = sum_is in omega arith);
       accounted = (
           let s = sum_set (λ (y : Task). y.pages) h.tasks.items t x x' at in

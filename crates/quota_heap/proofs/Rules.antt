@@ -1,24 +1,33 @@
 -- What callers know of an open heap.
-use Rattle.std.proofs.Common.{◌≡◌, Option, Some, None, refl}
+use Rattle.std.proofs.Common.{◌≡◌, ℕ, Option, Some, None, refl}
 use Rattle.std.specs.Prelude.{is_some, true}
 use Rattle.std.proofs.lemmas.Bool.{false≢true}
 use Rattle.cf_base.specs.Settings.{profile_of}
-use Rattle.quota_images.proofs.CallerLemmas.{own_image}
+use Rattle.page_model.specs.Arrangement.{pages_needed, used_pages}
+use Rattle.page_model.proofs.CallerLemmas.{used_at_one}
+use Rattle.quota_model.proofs.CallerLemmas.{own_image}
+use Rattle.quota_model.specs.Refusals.{task_paging}
+use Rattle.quota_model.proofs.CallerLemmas.{tasks_at_one, tasks_paged}
 use Rattle.quota_heap.specs.Layout.{IsValid, IsValidIn, held_in, state_in, state_of}
-use Rattle.quota_heap.specs.State.{KeepsTasks}
+use Rattle.quota_heap.specs.State.{KeepsTasks, QuotaState, held_by, objects_by}
 use Rattle.quota_heap.specs.declared.open_tasks.OpenTasks.{OpenTasks}
 
 pub rules : (h : OpenTasks) → IsValid h → KeepsTasks (state_of h)
 rules h k = record {
   opened = refl;
-  page_size = h.ground.settings.page_size;
-  few_proxies = h.ground.settings.few_proxies;
+  page_size = h.shared_pages.settings.page_size;
+  few_proxies = h.shared_pages.settings.few_proxies;
   shared = k.shared;
   quotas = k.quotas;
-  region = k.ground.words_long;
-  image = own_image (profile_of h.ground.settings) (held_in h) k.shared h.ground.settings.page_size h.ground.region k.image;
+  region = k.shared_pages.words_long;
+  image = own_image (profile_of h.shared_pages.settings) (held_in h) k.shared h.shared_pages.settings.page_size h.shared_pages.region k.image;
   slots = k.image;
 }
+
+-- the pages that a task uses are those that its objects need
+pub pages_used : (s : QuotaState) → KeepsTasks s → (task : ℕ)
+    → used_pages (task_paging s.profile) (held_by s task) ≡ pages_needed (task_paging s.profile) (objects_by s task)
+pages_used s k task = used_at_one (task_paging s.profile) (tasks_paged s.profile k.page_size) (tasks_at_one s.profile) (held_by s task) (k.shared.sound task)
 
 -- the same of a heap that may be closed
 pub open_rules : (o : Option OpenTasks) → IsValidIn o → is_some o ≡ true → KeepsTasks (state_in o)

@@ -6,8 +6,8 @@ use Rattle.std.proofs.lemmas.Option.{slice_get-get_or, slice_get_cases, slice_ge
 use Rattle.std.specs.Ordering.{nat_cmp}
 use Rattle.std.specs.FinMap.{empty, get, get-empty}
 use Rattle.page_model.specs.Bytes.{held_at}
-use Rattle.quota_images.specs.Joined.{AreNumbers, places_at}
-use Rattle.quota_images.proofs.CallerLemmas.{part_joined}
+use Rattle.quota_model.specs.Joined.{AreNumbers, places_at}
+use Rattle.quota_model.proofs.CallerLemmas.{part_joined}
 use Rattle.quota_model.specs.Parts.{part_of}
 use Rattle.quota_heap.specs.Layout.{IsTaskIn, IsValid, held_in, held_of, places_of, quotas_of}
 use Rattle.quota_heap.specs.declared.open_tasks.OpenTasks.{OpenTasks}
@@ -65,11 +65,11 @@ module _ (h : OpenTasks) (k : IsValid h) where
       by None e = absurd (
           let m : places_at (places_of h.tasks.items) t ≡ empty = mapped_past (λ (y : Task). y.proxies.places) h.tasks.items t empty e in
           let z : Some a ≡ None = sym f ∙ ap (λ m. get m q) m ∙ get-empty nat_cmp q in cc)
-      by (Some x) e = number_small h.ground k.ground t x (k.task t x e) q a (sym (ap (λ m. get m q) (places_here t x e)) ∙ f)
+      by (Some x) e = number_small h.shared_pages k.shared_pages t x (k.task t x e) q a (sym (ap (λ m. get m q) (places_here t x e)) ∙ f)
 
   -- a task's part of all objects is its own
-  pub part_is : (t : ℕ) (x : Task) → IsTaskIn h t x → part_of (held_in h) t ≡ held_of h.ground x
-  part_is t x at = part_joined h.ground.region (places_of h.tasks.items) numbers t ∙ ap (held_at h.ground.region) (places_here t x at)
+  pub part_is : (t : ℕ) (x : Task) → IsTaskIn h t x → part_of (held_in h) t ≡ held_of h.shared_pages x
+  part_is t x at = part_joined h.shared_pages.region (places_of h.tasks.items) numbers t ∙ ap (held_at h.shared_pages.region) (places_here t x at)
 
   pub task_below : (t : ℕ) (x : Task) → IsTaskIn h t x → t < 16
   task_below t x at = (let lt = slice_get_within h.tasks.items t x at in let e = k.many in omega arith)
@@ -99,6 +99,6 @@ module _ (h : OpenTasks) (k : IsValid h) where
   pub pages_few : (t : ℕ) (x : Task) → IsTaskIn h t x → x.pages ≤ 4096
   pages_few t x at =
       let a = k.accounted in
-      let few = h.ground.settings.few_pages in
+      let few = h.shared_pages.settings.few_pages in
       let l = sum_has (λ (y : Task). y.pages) h.tasks.items t x at in
       omega arith

@@ -1,4 +1,4 @@
--- What a call of a task does to the ground that tasks share, and to the task. No public clause cites this module.
+-- What a call of a task does to the pages that tasks share, and to the task. No public clause cites this module.
 use Rattle.std.specs.Prelude.{◌≡◌, ℕ, ◌+◌, ◌-◌, ◌<◌, ◌≤◌, Option, Some, None, Result, Ok, Err, length, slice_get, slice_index, slice_set}
 use Rattle.std.specs.FinMap.{get}
 use Rattle.class_lists.specs.PageLists.{pages_in}
@@ -16,12 +16,12 @@ use Rattle.proxy_table.specs.Proxies.{AreBelowLimit, with_place, without_place}
 use Rattle.quota_model.specs.Parts.{key_of}
 use Rattle.quota_heap.specs.Layout.{paging_at, state_of, tables_of}
 use Rattle.quota_heap.specs.Steps.{IsFault}
-use Rattle.quota_heap.specs.declared.ground.Ground.{Ground}
+use Rattle.quota_heap.specs.declared.shared_pages.SharedPages.{SharedPages}
 use Rattle.quota_heap.specs.declared.open_tasks.OpenTasks.{OpenTasks}
 use Rattle.quota_heap.specs.declared.task.Task.{Task}
 
 -- what no call of a task changes
-pub record KeepsRest (g : Ground) (x : Task) (g' : Ground) (x' : Task) : Type 0 where
+pub record KeepsRest (g : SharedPages) (x : Task) (g' : SharedPages) (x' : Task) : Type 0 where
   pub settings : g'.settings ≡ g.settings
   pub classes : g'.classes ≡ g.classes
   pub quota : x'.quota ≡ x.quota
@@ -31,7 +31,7 @@ pub record KeepsRest (g : Ground) (x : Task) (g' : Ground) (x' : Task) : Type 0 
   pub account : x'.pages + length g'.pool.free ≡ x.pages + length g.pool.free
 
 -- an object of so many bytes has come to a free slot of class c, under number q
-pub record Comes (g : Ground) (x : Task) (t c bytes q : ℕ) (g' : Ground) (x' : Task) : Type 0 where
+pub record Comes (g : SharedPages) (x : Task) (t c bytes q : ℕ) (g' : SharedPages) (x' : Task) : Type 0 where
   pub rest : KeepsRest g x g' x'
   pub place : ℕ
   pub taken : TakesAt g.classes (tables_of g x) c place (tables_of g' x')
@@ -42,18 +42,18 @@ pub record Comes (g : Ground) (x : Task) (t c bytes q : ℕ) (g' : Ground) (x' :
   pub live : x'.live ≡ slice_set x.live c (slice_index x.live c + 1)
 
 -- object q of the task stands at the address, and has so many bytes, in class c
-pub record IsObjectAt (g : Ground) (x : Task) (q place bytes c : ℕ) : Type 0 where
+pub record IsObjectAt (g : SharedPages) (x : Task) (q place bytes c : ℕ) : Type 0 where
   pub known : get x.proxies.places q ≡ Some place
   pub long : length (bytes_at g.region place) ≡ bytes
   pub class : class_for (paging_at g) bytes ≡ c
   pub in_range : c < classes (paging_at g)
 
 -- a free at the address moves an object of class c
-abbrev pub IsMoving : Ground → Task → ℕ → ℕ → Type 0
+abbrev pub IsMoving : SharedPages → Task → ℕ → ℕ → Type 0
 IsMoving g x place c = MovesObject (slots_on (tables_of g x) (page_at g.classes place)) (length (pages_in x.lists c NotFull)) 1
 
 -- the object of number q, which stood at the address, has gone, and its slot of class c is free
-pub record Goes (g : Ground) (x : Task) (q place c : ℕ) (g' : Ground) (x' : Task) : Type 0 where
+pub record Goes (g : SharedPages) (x : Task) (q place c : ℕ) (g' : SharedPages) (x' : Task) : Type 0 where
   pub rest : KeepsRest g x g' x'
   pub vacated : Vacates (tables_of g x) c (page_at g.classes place) (slot_at g.classes c place) (tables_of g' x')
   pub proxies : x'.proxies ≡ without_place x.proxies q
@@ -62,7 +62,7 @@ pub record Goes (g : Ground) (x : Task) (q place c : ℕ) (g' : Ground) (x' : Ta
   pub live : x'.live ≡ slice_set x.live c (slice_index x.live c - 1)
 
 -- the object of number q has gone, and that of number r, which stood at `from`, fills its slot at the address; its own slot is free
-pub record Fills (g : Ground) (x : Task) (q place c r : ℕ) (g' : Ground) (x' : Task) : Type 0 where
+pub record Fills (g : SharedPages) (x : Task) (q place c r : ℕ) (g' : SharedPages) (x' : Task) : Type 0 where
   pub rest : KeepsRest g x g' x'
   pub from : ℕ
   pub filled : FillsFrom g.classes (tables_of g x) c from (tables_of g' x')
@@ -73,32 +73,32 @@ pub record Fills (g : Ground) (x : Task) (q place c r : ℕ) (g' : Ground) (x' :
   pub live : x'.live ≡ slice_set x.live c (slice_index x.live c - 1)
 
 -- the object stands at the address, and has so many bytes from the part's first on
-pub record Lies (g : Ground) (x : Task) (part : Part) (count place : ℕ) : Type 0 where
+pub record Lies (g : SharedPages) (x : Task) (part : Part) (count place : ℕ) : Type 0 where
   pub found : get x.proxies.places part.number ≡ Some place
   pub within : part.from + count ≤ length (bytes_at g.region place)
 
 -- the part passes the end of the object at its address
-pub record Passes (g : Ground) (x : Task) (part : Part) (count : ℕ) : Type 0 where
+pub record Passes (g : SharedPages) (x : Task) (part : Part) (count : ℕ) : Type 0 where
   pub place : ℕ
   pub found : get x.proxies.places part.number ≡ Some place
   pub past : length (bytes_at g.region place) < part.from + count
 
 -- why a part has no address
-abbrev pub IsMissing : Ground → Task → Part → ℕ → AccessFault → Type 0
+abbrev pub IsMissing : SharedPages → Task → Part → ℕ → AccessFault → Type 0
 IsMissing g x part count Unknown = get x.proxies.places part.number ≡ None
 IsMissing g x part count Range = Passes g x part count
 
 -- the address of a part, or why there is none
-abbrev pub IsFound : Ground → Task → Part → ℕ → Result ℕ AccessFault → Type 0
+abbrev pub IsFound : SharedPages → Task → Part → ℕ → Result ℕ AccessFault → Type 0
 IsFound g x part count (Ok place) = Lies g x part count place
 IsFound g x part count (Err e) = IsMissing g x part count e
 
 -- the object has gone; where its slot had to be filled another one has moved there, and else none
-abbrev pub IsRemoved : Ground → Task → ℕ → ℕ → ℕ → Option ℕ → Ground → Task → Type 0
+abbrev pub IsRemoved : SharedPages → Task → ℕ → ℕ → ℕ → Option ℕ → SharedPages → Task → Type 0
 IsRemoved g x q place c None g' x' = (IsMoving g x place c → ⊥) × Goes g x q place c g' x'
 IsRemoved g x q place c (Some r) g' x' = IsMoving g x place c × Fills g x q place c r g' x'
 
 -- the address of a part of an object of task t of a heap, or why there is none
 abbrev pub IsFoundIn : OpenTasks → ℕ → Part → ℕ → Result ℕ AccessFault → Type 0
-IsFoundIn h t part count (Ok place) = (x : Task) → slice_get h.tasks.items t ≡ Some x → Lies h.ground x part count place
+IsFoundIn h t part count (Ok place) = (x : Task) → slice_get h.tasks.items t ≡ Some x → Lies h.shared_pages x part count place
 IsFoundIn h t part count (Err e) = IsFault (state_of h) t part count e

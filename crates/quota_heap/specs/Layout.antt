@@ -15,38 +15,38 @@ use Rattle.page_model.specs.Paging.{Paging, classes}
 use Rattle.page_slots.specs.Occupying.{Occupies, TellPart}
 use Rattle.page_slots.specs.Tables.{AreOthers, Tables, tables}
 use Rattle.proxy_table.specs.Proxies.{AreBelowLimit, no_proxies}
-use Rattle.quota_images.specs.Joined.{joined}
+use Rattle.quota_model.specs.Joined.{joined}
 use Rattle.quota_model.specs.Parts.{key_of}
 use Rattle.quota_model.specs.Refusals.{task_paging}
 use Rattle.quota_model.specs.Shared.{AreQuotas, IsShared}
 use Rattle.size_classes.specs.Table.{table_of}
 use Rattle.quota_heap.specs.State.{QuotaState, closed_state}
-use Rattle.quota_heap.specs.declared.ground.Ground.{Ground}
+use Rattle.quota_heap.specs.declared.shared_pages.SharedPages.{SharedPages}
 use Rattle.quota_heap.specs.declared.open_tasks.OpenTasks.{OpenTasks}
 use Rattle.quota_heap.specs.declared.task.Task.{Task}
 
 -- the pages and classes of the tasks
-abbrev pub paging_at : Ground → Paging
+abbrev pub paging_at : SharedPages → Paging
 paging_at g = task_paging (profile_of g.settings)
 
 -- which slots of a task's pages are used
-abbrev pub tables_of : Ground → Task → Tables
+abbrev pub tables_of : SharedPages → Task → Tables
 tables_of g x = tables g.maps.items x.lists g.pool
 
 -- a task's objects, by the words at their addresses
-abbrev pub held_of : Ground → Task → Held
+abbrev pub held_of : SharedPages → Task → Held
 held_of g x = held_at g.region x.proxies.places
 
-abbrev pub objects_of : Ground → Task → Objects
+abbrev pub objects_of : SharedPages → Task → Objects
 objects_of g x = objects (held_of g x)
 
 -- the classes are those of the pages, and the words are as many as these have
-pub record IsGround (g : Ground) : Type 0 where
+pub record ArePages (g : SharedPages) : Type 0 where
   pub table : g.classes ≡ table_of g.settings.page_words Words
   pub words_long : length g.region ≡ g.settings.pages * g.settings.page_words
 
 -- What holds of task t: its objects are a sound arrangement, which its tables tell; each has its header; and its numbers and counts are theirs.
-pub record IsTask (g : Ground) (t : ℕ) (x : Task) : Type 0 where
+pub record IsTask (g : SharedPages) (t : ℕ) (x : Task) : Type 0 where
   pub sound : IsSound (paging_at g) (held_of g x)
   pub tell : TellPart (paging_at g) (tables_of g x)
   pub occupied : Occupies (paging_at g) (held_of g x) (tables_of g x)
@@ -74,30 +74,30 @@ pages_of tasks = sum_by (λ (x : Task). x.pages) tasks
 
 -- the objects of all tasks, under their keys
 abbrev pub held_in : OpenTasks → Held
-held_in h = held_at h.ground.region (joined (places_of h.tasks.items))
+held_in h = held_at h.shared_pages.region (joined (places_of h.tasks.items))
 
 -- an open heap as callers see it
 abbrev pub state_of : OpenTasks → QuotaState
 state_of h = record {
   is_open = true;
-  profile = profile_of h.ground.settings;
+  profile = profile_of h.shared_pages.settings;
   quotas = quotas_of h.tasks.items;
   held = held_in h;
-  words = h.ground.region;
+  words = h.shared_pages.region;
 }
 
 -- What an open heap of sixteen tasks keeps: each task as above, no page in the hands of two, all together the arrangement and the words of one heap, and no
 -- page lost: those that are free and those that tasks use are all.
 pub record IsValid (h : OpenTasks) : Type 0 where
-  pub ground : IsGround h.ground
+  pub shared_pages : ArePages h.shared_pages
   pub many : length h.tasks.items ≡ 16
-  pub task : (t : ℕ) (x : Task) → IsTaskIn h t x → IsTask h.ground t x
-  pub others : (t u : ℕ) (x y : Task) → IsTaskIn h t x → IsTaskIn h u y → u ≢ t → AreOthers (tables_of h.ground x) y.lists
-  pub shared : IsShared (profile_of h.ground.settings) (held_in h)
-  pub image : IsSlotImage (paging_at h.ground) (held_in h) h.ground.region
-  pub quotas : AreQuotas (profile_of h.ground.settings) (quotas_of h.tasks.items) (held_in h)
+  pub task : (t : ℕ) (x : Task) → IsTaskIn h t x → IsTask h.shared_pages t x
+  pub others : (t u : ℕ) (x y : Task) → IsTaskIn h t x → IsTaskIn h u y → u ≢ t → AreOthers (tables_of h.shared_pages x) y.lists
+  pub shared : IsShared (profile_of h.shared_pages.settings) (held_in h)
+  pub image : IsSlotImage (paging_at h.shared_pages) (held_in h) h.shared_pages.region
+  pub quotas : AreQuotas (profile_of h.shared_pages.settings) (quotas_of h.tasks.items) (held_in h)
   pub granted : h.granted ≡ sum (quotas_of h.tasks.items)
-  pub accounted : length h.ground.pool.free + pages_of h.tasks.items ≡ h.ground.settings.pages
+  pub accounted : length h.shared_pages.pool.free + pages_of h.tasks.items ≡ h.shared_pages.settings.pages
 
 -- a heap that may be closed
 abbrev pub state_in : Option OpenTasks → QuotaState
@@ -109,8 +109,8 @@ abbrev pub IsValidIn : Option OpenTasks → Type 0
 IsValidIn None = Unit {0}
 IsValidIn (Some h) = IsValid h
 
--- a ground on which all pages are free and all words are 0
-pub record IsFirstGround (s : Settings) (g : Ground) : Type 0 where
+-- all pages are free and all words are 0
+pub record AreFirstPages (s : Settings) (g : SharedPages) : Type 0 where
   pub settings : g.settings ≡ s
   pub classes : g.classes ≡ table_of s.page_words Words
   pub region : g.region ≡ replicate (s.pages * s.page_words) 0

@@ -1,4 +1,5 @@
 pub mod State
+pub mod Costs
 pub mod Steps
 pub mod Layout
 pub mod Calls

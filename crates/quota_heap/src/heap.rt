@@ -1,9 +1,12 @@
 //! The heap that a caller holds: closed, or open.
-ghost use Rattle.std.specs.Prelude.{◌≡◌, ◌^◌, ◌<◌, ◌≤◌, IsTrue, IfErr, IfOk, false, length, slice_get};
+ghost use Rattle.std.specs.Prelude.{◌≡◌, ◌+◌, ◌^◌, ◌<◌, ◌≤◌, IsTrue, IfErr, IfOk, false, length, slice_get, sum};
 ghost use Rattle.step_ledger.specs.Counting.{RoseAtMost};
 ghost use Rattle.cf_base.specs.Settings.{profile_of};
 ghost use Rattle.cf_model.specs.Costs.{access_bound, free_bound};
-ghost use Rattle.quota_heap.specs.State.{KeepsTasks, closed_state, empty_state, quota_of};
+ghost use Rattle.page_model.specs.Arrangement.{pages_needed, used_pages};
+ghost use Rattle.quota_model.specs.Refusals.{task_paging};
+ghost use Rattle.quota_heap.specs.Costs.{access_steps, free_steps, malloc_steps, peek_steps};
+ghost use Rattle.quota_heap.specs.State.{KeepsTasks, closed_state, empty_state, held_by, objects_by, quota_of};
 ghost use Rattle.quota_heap.specs.Steps.{IsFreeStep, IsMallocStep, IsQuotaStep, IsReadAnswer, IsWriteStep, figures_by};
 
 use crate::open_tasks::OpenTasks;
@@ -75,6 +78,31 @@ impl QuotaHeap {
         }
     }
 
+    /// The pages that hold objects of a task, which are no more than its quota.
+    pub fn pages(&self, task: u32) -> u32
+        requires opened { IsTrue self.now.is_open }
+        requires sixteen { task < 16 }
+        ensures used { result ≡ used_pages (task_paging self.now.profile) (held_by self.now task) }
+        ensures needed { result ≡ pages_needed (task_paging self.now.profile) (objects_by self.now task) }
+        ensures within { result ≤ quota_of self.now task }
+    {
+        match &self.inner {
+            Some(open) => open.pages(task),
+            None => unreachable!(),
+        }
+    }
+
+    /// The pages of the region that are in no task's quota.
+    pub fn unassigned(&self) -> u32
+        requires opened { IsTrue self.now.is_open }
+        ensures { result + sum self.now.quotas ≡ self.now.profile.pages }
+    {
+        match &self.inner {
+            Some(open) => open.unassigned(),
+            None => unreachable!(),
+        }
+    }
+
     /// Makes `pages` pages the quota of a task: `Sum` where the quotas would add up to more pages
     /// than there are, else `Used` where the task uses more.
     pub fn set_quota(&mut self, task: u32, pages: u32) -> Result<(), QuotaFault>
@@ -99,6 +127,7 @@ impl QuotaHeap {
         ensures step { IsMallocStep self.old task bytes result self.new }
         ensures kept { KeepsTasks self.new }
         ensures bound { RoseAtMost steps.old steps.new 64 }
+        ensures steps { RoseAtMost steps.old steps.new (malloc_steps result) }
     {
         match &mut self.inner {
             Some(open) => open.malloc(task, bytes, steps),
@@ -114,6 +143,7 @@ impl QuotaHeap {
         ensures step { IsFreeStep self.old task h.0 result self.new }
         ensures kept { KeepsTasks self.new }
         ensures bound { RoseAtMost steps.old steps.new (free_bound result) }
+        ensures steps { RoseAtMost steps.old steps.new (free_steps result) }
     {
         match &mut self.inner {
             Some(open) => open.free(task, h, steps),
@@ -137,6 +167,7 @@ impl QuotaHeap {
         ensures step { IsWriteStep self.old task (record { number = h.0; from = at }) bytes.now result self.new }
         ensures kept { KeepsTasks self.new }
         ensures bound { RoseAtMost steps.old steps.new (access_bound at (length bytes.now)) }
+        ensures steps { RoseAtMost steps.old steps.new (access_steps result at (length bytes.now)) }
     {
         match &mut self.inner {
             Some(open) => open.write(task, h, at, bytes, steps),
@@ -159,6 +190,7 @@ impl QuotaHeap {
         requires room { steps.old ≤ 2 ^ 63 }
         ensures answer { IsReadAnswer self.now task (record { number = h.0; from = at }) out.old result out.new }
         ensures bound { RoseAtMost steps.old steps.new (access_bound at (length out.old)) }
+        ensures steps { RoseAtMost steps.old steps.new (access_steps result at (length out.old)) }
     {
         match &self.inner {
             Some(open) => open.read(task, h, at, out, steps),
@@ -184,6 +216,7 @@ impl QuotaHeap {
         requires room { steps.old ≤ 2 ^ 63 }
         ensures value { result ≡ slice_get self.now.words word }
         ensures rises { RoseAtMost steps.old steps.new 1 }
+        ensures steps { RoseAtMost steps.old steps.new (peek_steps result) }
     {
         match &self.inner {
             Some(open) => open.peek(word, steps),

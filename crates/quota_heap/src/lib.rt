@@ -3,11 +3,11 @@
 //! no page has objects of two.
 #![tactic(auto)]
 
-mod freeing;
-mod giving;
-mod ground;
+mod free;
 mod heap;
+mod malloc;
 mod open_tasks;
+mod shared_pages;
 mod task;
 
 pub use cf_base::{AccessFault, Figures, Freed, Handle, NotLive, OutOfMemory, Refusal, Settings};

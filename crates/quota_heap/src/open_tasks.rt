@@ -1,20 +1,22 @@
 //! An open heap of sixteen tasks.
-ghost use Rattle.std.specs.Prelude.{◌≡◌, ℕ, ◌+◌, ◌<◌, ◌≤◌, None, Some, IfNone, IfOk, IfSome, length, slice_get, slice_set};
+ghost use Rattle.std.specs.Prelude.{◌≡◌, ℕ, ◌+◌, ◌<◌, ◌≤◌, None, Some, IfErr, IfNone, IfOk, IfSome, length, slice_get, slice_set, sum};
 ghost use Rattle.std.specs.FinMap.{get};
 ghost use Rattle.step_ledger.specs.Counting.{RoseAtMost};
 ghost use Rattle.cf_base.specs.Classes.{need};
 ghost use Rattle.cf_base.specs.Settings.{profile_of};
 ghost use Rattle.cf_model.specs.Costs.{access_bound, free_bound};
+ghost use Rattle.page_model.specs.Arrangement.{pages_needed};
 ghost use Rattle.page_model.specs.Figures.{figures_of};
 ghost use Rattle.page_model.specs.Paging.{class_for, classes};
 ghost use Rattle.quota_model.specs.Refusals.{malloc_refusal, quota_refusal};
 ghost use Rattle.quota_heap.specs.Calls.{IsFoundIn, IsObjectAt};
+ghost use Rattle.quota_heap.specs.Costs.{access_steps, fault_steps, free_steps, malloc_steps, peek_steps};
 ghost use Rattle.quota_heap.specs.Layout.{IsValid, paging_at, state_of};
 ghost use Rattle.quota_heap.specs.declared.task.Task.{Task};
 ghost use Rattle.quota_heap.specs.State.{empty_state, held_by, objects_by, quota_of};
 ghost use Rattle.quota_heap.specs.Steps.{IsFreeStep, IsMallocStep, IsQuotaStep, IsReadAnswer, IsWriteStep, figures_by};
 
-use crate::ground::{Found, Ground};
+use crate::shared_pages::{Found, SharedPages};
 use crate::task::{Task, first_tasks};
 use cf_base::{AccessFault, Figures, Freed, Handle, NotLive, OutOfMemory, Refusal, Settings};
 use class_lists::Which;
@@ -26,7 +28,7 @@ use word_bytes::{read_run, words_with, write_run};
 /// The tasks, what they share, and the pages of all quotas.
 #[derive(Drop)]
 pub(crate) struct OpenTasks {
-    pub(crate) ground: Ground,
+    pub(crate) shared_pages: SharedPages,
     pub(crate) tasks: Vec<Task>,
     pub(crate) granted: u32,
 }
@@ -37,10 +39,10 @@ impl OpenTasks {
         ensures kept { IfOk result IsValid }
         ensures empty { IfOk result (λ h. state_of h ≡ empty_state (profile_of s.now)) }
     {
-        let ground = Ground::new(alloc, s)?;
-        let tasks = first_tasks(alloc, ground.classes.len(), s.pages, s.proxies)?;
+        let shared_pages = SharedPages::new(alloc, s)?;
+        let tasks = first_tasks(alloc, shared_pages.classes.len(), s.pages, s.proxies)?;
         Ok(OpenTasks {
-            ground,
+            shared_pages,
             tasks,
             granted: 0,
         })
@@ -64,7 +66,7 @@ impl OpenTasks {
         ensures kept { IsValid self.new }
     {
         let besides = self.granted - self.quota(t);
-        if u64::from(besides) + u64::from(pages) > u64::from(self.ground.settings.pages) {
+        if u64::from(besides) + u64::from(pages) > u64::from(self.shared_pages.settings.pages) {
             return Err(QuotaFault::Sum);
         }
         if self.pages(t) > pages {
@@ -75,20 +77,28 @@ impl OpenTasks {
     }
 
     /// The pages that a task uses.
-    fn pages(&self, t: u32) -> u32
+    pub(crate) fn pages(&self, t: u32) -> u32
         requires kept { IsValid self.now }
         requires sixteen { t < 16 }
-        ensures { (x : Task) → slice_get self.now.tasks.items t ≡ Some x → result ≡ x.pages }
+        ensures { result ≡ pages_needed (paging_at self.now.shared_pages) (objects_by (state_of self.now) t) }
     {
         let task = &self.tasks[t as usize];
         task.pages
+    }
+
+    /// The pages of no quota.
+    pub(crate) fn unassigned(&self) -> u32
+        requires kept { IsValid self.now }
+        ensures { result + sum (state_of self.now).quotas ≡ self.now.shared_pages.settings.pages }
+    {
+        self.shared_pages.settings.pages - self.granted
     }
 
     /// The quota of a task becomes this one, with which all quotas sum to `granted`.
     fn grant(&mut self, t: u32, pages: u32, granted: u32)
         requires kept { IsValid self.old }
         requires sixteen { t < 16 }
-        requires fits { quota_refusal (profile_of self.old.ground.settings) (state_of self.old).quotas t pages (objects_by (state_of self.old) t) ≡ None }
+        requires fits { quota_refusal (profile_of self.old.shared_pages.settings) (state_of self.old).quotas t pages (objects_by (state_of self.old) t) ≡ None }
         requires sums { granted + quota_of (state_of self.old) t ≡ self.old.granted + pages }
         ensures state { state_of self.new ≡ record (state_of self.old) { quotas = slice_set (state_of self.old).quotas t pages } }
         ensures kept { IsValid self.new }
@@ -110,27 +120,28 @@ impl OpenTasks {
         ensures step { IsMallocStep (state_of self.old) t bytes result (state_of self.new) }
         ensures kept { IsValid self.new }
         ensures bound { RoseAtMost steps.old steps.new 64 }
+        ensures steps { RoseAtMost steps.old steps.new (malloc_steps result) }
     {
-        let Some(c) = self.ground.classes.class_of(bytes, steps) else {
+        let Some(c) = self.shared_pages.classes.class_of(bytes, steps) else {
             return Err(Refusal::Size);
         };
         if let Some(refusal) = self.refusal(t, c) {
             return Err(refusal);
         }
         let task = &mut self.tasks[t as usize];
-        Ok(self.ground.give(task, t, c, bytes, steps))
+        Ok(self.shared_pages.malloc_inner(task, t, c, bytes, steps))
     }
 
     /// Why a task gets no object of class c, if it gets none.
     fn refusal(&self, t: u32, c: u32) -> Option<Refusal>
         requires kept { IsValid self.now }
         requires sixteen { t < 16 }
-        requires class { c < classes (paging_at self.now.ground) }
-        ensures { (bytes : ℕ) → need bytes ≤ self.now.ground.settings.page_words → class_for (paging_at self.now.ground) bytes ≡ c
-            → result ≡ malloc_refusal (profile_of self.now.ground.settings) (quota_of (state_of self.now) t) (objects_by (state_of self.now) t) bytes }
+        requires class { c < classes (paging_at self.now.shared_pages) }
+        ensures { (bytes : ℕ) → need bytes ≤ self.now.shared_pages.settings.page_words → class_for (paging_at self.now.shared_pages) bytes ≡ c
+            → result ≡ malloc_refusal (profile_of self.now.shared_pages.settings) (quota_of (state_of self.now) t) (objects_by (state_of self.now) t) bytes }
     {
         let task = &self.tasks[t as usize];
-        if task.proxies.live() == self.ground.settings.proxies {
+        if task.proxies.live() == self.shared_pages.settings.proxies {
             return Some(Refusal::Proxy);
         }
         if task.lists.len(c, Which::NotFull) == 0 && task.pages >= task.quota {
@@ -146,12 +157,13 @@ impl OpenTasks {
         ensures step { IsFreeStep (state_of self.old) t h.0 result (state_of self.new) }
         ensures kept { IsValid self.new }
         ensures bound { RoseAtMost steps.old steps.new (free_bound result) }
+        ensures steps { RoseAtMost steps.old steps.new (free_steps result) }
     {
         let Some(x) = self.object(t, h, steps) else {
             return Err(NotLive);
         };
         let owner = &mut self.tasks[t as usize];
-        Ok(self.ground.take_away(owner, t, h, x, steps))
+        Ok(self.shared_pages.free_inner(owner, t, h, x, steps))
     }
 
     /// The object of a task under this number; none where it isn't live.
@@ -160,11 +172,12 @@ impl OpenTasks {
         requires sixteen { t < 16 }
         ensures none { IfNone result (get (held_by (state_of self.now) t) h.0 ≡ None) }
         ensures found { IfSome result (λ f. (x : Task) → slice_get self.now.tasks.items t ≡ Some x
-            → IsObjectAt self.now.ground x h.0 f.place f.length f.class) }
-        ensures bound { RoseAtMost steps.old steps.new 10 }
+            → IsObjectAt self.now.shared_pages x h.0 f.place f.length f.class) }
+        ensures bound { RoseAtMost steps.old steps.new 3 }
+        ensures missing { IfNone result (RoseAtMost steps.old steps.new 1) }
     {
         let task = &self.tasks[t as usize];
-        self.ground.object(task, h, steps)
+        self.shared_pages.object(task, h, steps)
     }
 
     /// The address of an object of a task, of which `count` bytes from `at` on are asked for.
@@ -179,10 +192,11 @@ impl OpenTasks {
         requires kept { IsValid self.now }
         requires sixteen { t < 16 }
         ensures found { IsFoundIn self.now t (record { number = h.0; from = at }) count result }
-        ensures bound { RoseAtMost steps.old steps.new 3 }
+        ensures bound { RoseAtMost steps.old steps.new 2 }
+        ensures refused { IfErr result (λ e. RoseAtMost steps.old steps.new (fault_steps e)) }
     {
         let task = &self.tasks[t as usize];
-        self.ground.find(task, h, at, count, steps)
+        self.shared_pages.find(task, h, at, count, steps)
     }
 
     /// Writes bytes into an object of a task from byte `at` on.
@@ -199,6 +213,7 @@ impl OpenTasks {
         ensures step { IsWriteStep (state_of self.old) t (record { number = h.0; from = at }) bytes.now result (state_of self.new) }
         ensures kept { IsValid self.new }
         ensures bound { RoseAtMost steps.old steps.new (access_bound at (length bytes.now)) }
+        ensures steps { RoseAtMost steps.old steps.new (access_steps result at (length bytes.now)) }
     {
         let len = bytes.len();
         let place = self.find(t, h, at, len, steps)?;
@@ -208,7 +223,7 @@ impl OpenTasks {
         let first = place + 1 + at / 8;
         let from = (at % 8) as usize;
         let n = words_with(from, len);
-        write_run(&mut self.ground.region, first, n, from, bytes, steps);
+        write_run(&mut self.shared_pages.region, first, n, from, bytes, steps);
         Ok(())
     }
 
@@ -225,6 +240,7 @@ impl OpenTasks {
         requires sixteen { t < 16 }
         ensures answer { IsReadAnswer (state_of self.now) t (record { number = h.0; from = at }) out.old result out.new }
         ensures bound { RoseAtMost steps.old steps.new (access_bound at (length out.old)) }
+        ensures steps { RoseAtMost steps.old steps.new (access_steps result at (length out.old)) }
     {
         let len = out.len();
         let place = self.find(t, h, at, len, steps)?;
@@ -234,7 +250,7 @@ impl OpenTasks {
         let first = place + 1 + at / 8;
         let from = (at % 8) as usize;
         let n = words_with(from, len);
-        read_run(&self.ground.region, first, n, from, out, steps);
+        read_run(&self.shared_pages.region, first, n, from, out, steps);
         Ok(())
     }
 
@@ -244,7 +260,7 @@ impl OpenTasks {
         requires sixteen { t < 16 }
         ensures { result ≡ figures_by (state_of self.now) t c }
     {
-        if c < self.ground.classes.len() {
+        if c < self.shared_pages.classes.len() {
             Some(self.figures_of(t, c))
         } else {
             None
@@ -255,14 +271,14 @@ impl OpenTasks {
     fn figures_of(&self, t: u32, c: u32) -> Figures
         requires kept { IsValid self.now }
         requires sixteen { t < 16 }
-        requires class { c < classes (paging_at self.now.ground) }
-        ensures { result ≡ figures_of (paging_at self.now.ground) (held_by (state_of self.now) t) c }
+        requires class { c < classes (paging_at self.now.shared_pages) }
+        ensures { result ≡ figures_of (paging_at self.now.shared_pages) (held_by (state_of self.now) t) c }
     {
         let task = &self.tasks[t as usize];
         let not_full = task.lists.len(c, Which::NotFull);
         Figures {
-            slot_words: self.ground.classes.slot_words(c),
-            slots: self.ground.classes.slots(c),
+            slot_words: self.shared_pages.classes.slot_words(c),
+            slots: self.shared_pages.classes.slots(c),
             live: task.live[c as usize],
             pages: task.lists.len(c, Which::Full) + not_full,
             not_full,
@@ -271,11 +287,12 @@ impl OpenTasks {
 
     /// A word of the region; none past its end.
     pub(crate) fn peek(&self, word: u32, steps: &mut Steps) -> Option<u64>
-        ensures value { result ≡ slice_get self.now.ground.region word }
+        ensures value { result ≡ slice_get self.now.shared_pages.region word }
         ensures bound { RoseAtMost steps.old steps.new 1 }
+        ensures steps { RoseAtMost steps.old steps.new (peek_steps result) }
     {
-        if word < self.ground.region.len() {
-            Some(self.ground.region.read(word, steps))
+        if word < self.shared_pages.region.len() {
+            Some(self.shared_pages.region.read(word, steps))
         } else {
             None
         }

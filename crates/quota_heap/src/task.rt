@@ -1,5 +1,6 @@
 //! What a task has of its own.
 ghost use Rattle.std.specs.Prelude.{◌≡◌, IfOk, replicate};
+ghost use Rattle.proxy_table.specs.Proxies.{AreBelowLimit, no_proxies};
 ghost use Rattle.quota_heap.specs.Layout.{first_task};
 
 use cf_base::OutOfMemory;
@@ -32,7 +33,8 @@ impl Task {
         pages: u32,
         proxies: u32,
     ) -> Result<Task, OutOfMemory>
-        ensures { IfOk result (λ x. x ≡ first_task classes pages proxies) }
+        ensures first { IfOk result (λ x. x ≡ first_task classes pages proxies) }
+        ensures handles { IfOk result (λ x. AreBelowLimit x.proxies) }
     {
         let lists = ClassLists::new(alloc, classes, pages)?;
         let proxies = ProxyTable::new(alloc, proxies)?;
@@ -53,7 +55,8 @@ pub(crate) fn first_tasks(
     pages: u32,
     proxies: u32,
 ) -> Result<Vec<Task>, OutOfMemory>
-    ensures { IfOk result (λ tasks. tasks.items ≡ replicate 16 (first_task classes pages proxies)) }
+    ensures first { IfOk result (λ tasks. tasks.items ≡ replicate 16 (first_task classes pages proxies)) }
+    ensures handles { IfOk result (λ tasks. AreBelowLimit (no_proxies proxies)) }
 {
     let Ok(mut tasks) = Vec::with_capacity(alloc, TASKS as usize) else {
         return Err(OutOfMemory);

@@ -2,12 +2,13 @@
 use Rattle.std.proofs.Common.{◌≡◌, ◌≢◌, ℕ, zero, suc, Bool, true, false, cond, ◌<◌, ◌≤◌, List, [], ◌∷◌, Option, Some, None, length, get_or, replicate, set}
 use Rattle.std.proofs.Common.{arith, ap, sym, ◌∙◌, refl, inl, inr, subst}
 use Rattle.std.specs.Prelude.{◌&&◌, nat_eq, nat_lt, sum}
-use Rattle.std.proofs.lemmas.Bool.{cases_eq, cases_lt}
+use Rattle.std.proofs.lemmas.Bool.{and_parts, cases_eq, cases_lt}
 use Rattle.std.proofs.lemmas.List.{get_or-set_same, get_or-set_other, length-set, length-replicate}
 use Rattle.std.proofs.lemmas.List.Sums.{sum_by-cons}
 use Rattle.cf_base.specs.Settings.{Profile}
 use Rattle.cf_lemmas.proofs.Tests.{eq_yes, eq_no, lt_no, lt_yes}
 use Rattle.page_model.specs.Arrangement.{pages_needed}
+use Rattle.quota_model.proofs.CallerLemmas.{zeros}
 use Rattle.quota_model.specs.Refusals.{task_paging}
 use Rattle.quota_model.specs.declared.answers.QuotaFault.{QuotaFault}
 use Rattle.quota_model.specs.declared.answers.QuotaFault.TheVariants.{Sum, Used}
@@ -191,17 +192,13 @@ module _ (task : ℕ) (lt : task < 16) where
       go false is out kept = out (left_set all own u pages (set_refusal all u pages) is o)
       go true is out kept = kept (kept_set is)
         where
-          first_yes : (a b : Bool) → (a && b) ≡ true → (a ≡ true) × (b ≡ true)
-          first_yes true b e = (refl, e)
-          first_yes false b e = absurd (let e' : false ≡ true = e in cc)
-
           kept_set : (nat_eq u task && is_accepted (set_refusal all u pages)) ≡ true
               → IsOwn task (after_item all (sets u pages)) (after_item own (sets u pages))
           kept_set is = elim (cases_eq u task) [
-            | inr ne ↦ absurd (let e : true ≡ false = sym (first_yes (nat_eq u task) _ is).0 ∙ eq_no u task ne in cc)
+            | inr ne ↦ absurd (let e : true ≡ false = sym (and_parts (nat_eq u task) _ is).0 ∙ eq_no u task ne in cc)
             | inl same ↦ (
                 let accepted : is_accepted (set_refusal all task pages) ≡ true =
-                subst (λ v. is_accepted (set_refusal all v pages) ≡ true) same (first_yes (nat_eq u task) _ is).1 in
+                subst (λ v. is_accepted (set_refusal all v pages) ≡ true) same (and_parts (nat_eq u task) _ is).1 in
                 let a : set_refusal all task pages ≡ None = accepted_is (set_refusal all task pages) accepted in
                 let b : set_refusal own task pages ≡ None = accepted_own all own pages o accepted in
                 let done : IsOwn task (record all { quotas = quotas_after (set_refusal all task pages) all.quotas task pages })
@@ -228,8 +225,3 @@ module _ (task : ℕ) (lt : task < 16) where
     many = length-replicate {A = ℕ} 16 0;
     as_many = length-replicate {A = ℕ} 16 0;
   })
-    where
-      zeros : (n i : ℕ) → get_or (replicate {A = ℕ} n 0) i 0 ≡ 0
-      zeros zero i = refl
-      zeros (suc n) zero = refl
-      zeros (suc n) (suc i) = zeros n i

@@ -1,3 +1,4 @@
 pub mod Alone
 pub mod Isolated
 pub mod OwnHeap
+pub mod CallerLemmas

@@ -1,19 +1,25 @@
 -- The pages that counts need by arithmetic grow with the counts.
-use Rattle.std.proofs.Common.{◌≡◌, ℕ, zero, suc, Bool, cond, ◌+◌, ◌-◌, ◌<◌, ◌≤◌, List, [], ◌∷◌, ◌++◌, arith, ap}
-use Rattle.std.specs.Prelude.{count_by, nat_eq}
+use Rattle.std.proofs.Common.{◌≡◌, ◌≢◌, ℕ, zero, suc, Bool, cond, ◌+◌, ◌-◌, ◌<◌, ◌≤◌, List, [], ◌∷◌, ◌++◌, length, arith, ap, refl, inl, inr}
+use Rattle.std.specs.Prelude.{count_by, nat_eq, sum_by}
 use Rattle.std.specs.List.{range_with_len}
 use Rattle.std.proofs.lemmas.List.Sums.{sum_by-cons, sum_by-append}
-use Rattle.std.proofs.Math.Nat.{div-zero, div-eq_of_lt}
-use Rattle.cf_lemmas.proofs.Ranges.{sum_grows}
+use Rattle.std.proofs.lemmas.Bool.{cases_eq}
+use Rattle.std.proofs.Math.Nat.{div-zero, div-eq_of_lt, div-lt_iff_lt-mul}
+use Rattle.cf_lemmas.proofs.Ranges.{one, sum_grows}
+use Rattle.cf_lemmas.proofs.Tests.{eq_no, eq_yes}
 use Rattle.page_model.specs.Arrangement.{pages_for}
 use Rattle.page_model.specs.Counts.{ceil_div}
 use Rattle.page_model.specs.Paging.{Paging, class_for, classes, slots_of}
-use Rattle.page_model.proofs.CallerLemmas.{ceil_mono, sum_same, sum_zeros}
+use Rattle.page_model.proofs.CallerLemmas.{ceil_mono, sum_plus, sum_same, sum_zeros}
 use Rattle.quota_model.specs.Admission.{count_of_class, pages_of}
 
 ceil_nothing : (m : ℕ) → ceil_div 0 m ≡ 0
 ceil_nothing zero = div-zero (0 + (0 - 1))
 ceil_nothing (suc m) = (let lt : 0 + (suc m - 1) < suc m = omega arith in div-eq_of_lt lt)
+
+ceil_few : (n m : ℕ) → ceil_div n m ≤ n
+ceil_few n zero = (let none = div-zero (n + (0 - 1)) in omega arith)
+ceil_few n (suc m) = (let lt : ceil_div n (suc m) < n + 1 = (div-lt_iff_lt-mul {k = suc m} {x = n + (suc m - 1)} {y = n + 1} (omega arith)).1 (omega arith) in omega arith)
 
 pub pages_grow : (p : Paging) (f g : ℕ → ℕ) → ((c : ℕ) → f c ≤ g c) → pages_for p f ≤ pages_for p g
 pages_grow p f g le = sum_grows (λ c. ceil_div (f c) (slots_of p c)) (λ c. ceil_div (g c) (slots_of p c)) (range_with_len 0 (classes p))
@@ -38,3 +44,47 @@ module _ {X : Type 0} (f : X → Bool) where
 pub pages_of_more : (p : Paging) (ns more : List ℕ) → pages_of p ns ≤ pages_of p (ns ++ more)
 pages_of_more p ns more = pages_grow p (count_of_class p ns) (count_of_class p (ns ++ more))
     (λ c. (let e = count-append (λ n. nat_eq (class_for p n) c) ns more in omega arith))
+
+-- a number is one of a range once at most
+missed : (x a n : ℕ) → x < a → count_by (λ c. nat_eq x c) (range_with_len a n) ≡ 0
+missed x a zero lt = refl
+missed x a (suc n) lt =
+    let here = count-cons (λ c. nat_eq x c) a (range_with_len (a + 1) n) in
+    let ne : x ≢ a = omega arith in
+    let no' : one (nat_eq x a) ≡ 0 = ap one (eq_no x a ne) in
+    let rest = missed x (a + 1) n (omega arith) in
+    omega arith
+
+once : (x a n : ℕ) → count_by (λ c. nat_eq x c) (range_with_len a n) ≤ 1
+once x a zero = omega arith
+once x a (suc n) =
+    let here = count-cons (λ c. nat_eq x c) a (range_with_len (a + 1) n) in
+    elim (cases_eq x a) [
+      | inl is ↦ (
+          let yes : one (nat_eq x a) ≡ 1 = ap one (eq_yes x a is) in
+          let rest = missed x (a + 1) n (omega arith) in
+          omega arith)
+      | inr ne ↦ (
+          let no' : one (nat_eq x a) ≡ 0 = ap one (eq_no x a ne) in
+          let rest = once x (a + 1) n in
+          omega arith)
+    ]
+
+-- the counts of all classes sum to no more than the mallocs
+counts_few : (p : Paging) (n : ℕ) (ns : List ℕ) → sum_by (count_of_class p ns) (range_with_len 0 n) ≤ length ns
+counts_few p n [] = (let none = sum_zeros (count_of_class p []) (range_with_len 0 n) (λ c. refl) in omega arith)
+counts_few p n (m ∷ ms) =
+    let split = sum_same (count_of_class p (m ∷ ms)) (λ c. cond (nat_eq (class_for p m) c) 1 0 + count_of_class p ms c) (range_with_len 0 n)
+    (λ c. count-cons (λ k. nat_eq (class_for p k) c) m ms) in
+    let plus = sum_plus (λ c. cond (nat_eq (class_for p m) c) 1 0) (count_of_class p ms) (range_with_len 0 n) in
+    let first = once (class_for p m) 0 n in
+    let rest = counts_few p n ms in
+    omega arith
+
+-- mallocs need at most a page each
+pub pages_few : (p : Paging) (ns : List ℕ) → pages_of p ns ≤ length ns
+pages_few p ns =
+    let each = sum_grows (λ c. ceil_div (count_of_class p ns c) (slots_of p c)) (count_of_class p ns) (range_with_len 0 (classes p))
+    (λ c. ceil_few (count_of_class p ns c) (slots_of p c)) in
+    let all = counts_few p (classes p) ns in
+    omega arith

@@ -4,9 +4,13 @@ pub mod Declared
 pub mod Enough
 pub mod InOrder
 pub mod AdmissionLaws
-pub mod CallerLemmas
 pub mod TaskParts
 pub mod SharedPages
 pub mod SharedMalloc
 pub mod SharedFree
 pub mod QuotasFit
+pub mod JoinedPlaces
+pub mod WholeSound
+pub mod Written
+pub mod TaskImages
+pub mod CallerLemmas

@@ -34,12 +34,12 @@ needed_none p =
     pages_same p (live p (objects empty)) (λ c. 0) (λ c. ap (λ o. live p o c) (map_values-empty (λ (x : Placed). x.bytes))
     ∙ ap (count_by (λ v. nat_eq (class_for p (length v)) c)) no_values) ∙ pages_of_none p
 
-zeros : (n i : ℕ) → get_or (replicate {A = ℕ} n 0) i 0 ≡ 0
+pub zeros : (n i : ℕ) → get_or (replicate {A = ℕ} n 0) i 0 ≡ 0
 zeros zero i = refl
 zeros (suc n) zero = refl
 zeros (suc n) (suc i) = zeros n i
 
-sum_zeros_list : (n : ℕ) → sum (replicate {A = ℕ} n 0) ≡ 0
+pub sum_zeros_list : (n : ℕ) → sum (replicate {A = ℕ} n 0) ≡ 0
 sum_zeros_list zero = refl
 sum_zeros_list (suc n) = (let a = sum_by-cons (λ (k : ℕ). k) 0 (replicate {A = ℕ} n 0) in let rest = sum_zeros_list n in omega arith)
 

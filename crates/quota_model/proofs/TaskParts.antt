@@ -10,10 +10,10 @@ use Rattle.cf_lemmas.proofs.Tests.{eq_yes, eq_no}
 use Rattle.page_model.specs.Held.{Held, Placed}
 use Rattle.quota_model.specs.Parts.{key_of, number_of, part_of, task_of}
 
-tied_yes : (a b : ℕ) → a ≡ b → eq_by_cmp nat_cmp a b ≡ true
+pub tied_yes : (a b : ℕ) → a ≡ b → eq_by_cmp nat_cmp a b ≡ true
 tied_yes a b is = unsigned_tied a b ∙ eq_yes a b is
 
-tied_no : (a b : ℕ) → a ≢ b → eq_by_cmp nat_cmp a b ≡ false
+pub tied_no : (a b : ℕ) → a ≢ b → eq_by_cmp nat_cmp a b ≡ false
 tied_no a b ne = unsigned_tied a b ∙ eq_no a b ne
 
 abbrev of_task : ℕ → List (ℕ × Placed) → List (ℕ × Placed)

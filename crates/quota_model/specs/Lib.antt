@@ -2,3 +2,4 @@ pub mod Refusals
 pub mod Admission
 pub mod Parts
 pub mod Shared
+pub mod Joined

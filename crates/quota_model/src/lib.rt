@@ -1,10 +1,12 @@
 //! Tasks that share the pages of one region, each with a quota of its own: why a call is refused,
-//! which answer a task gets before it runs, and what stays of an arrangement of all tasks. The
-//! public functions do nothing: each one's contract is a law of these definitions.
+//! which answer a task gets before it runs, what stays of an arrangement of all tasks, and the words
+//! of their region after a call. The public functions do nothing: each one's contract is a law of
+//! these definitions.
 #![tactic(auto)]
 
 mod admitting;
 mod answers;
+mod images;
 mod sharing;
 
 pub use admitting::{
@@ -12,6 +14,10 @@ pub use admitting::{
     there_is_one_admission,
 };
 pub use answers::{Admission, Need, QuotaFault};
+pub use images::{
+    a_write_keeps_tasks_apart, addresses_stand_by_their_keys, words_after_a_free_of_a_task,
+    words_after_a_malloc_of_a_task, words_after_a_write_of_a_task, words_are_those_of_the_objects,
+};
 pub use sharing::{
     a_free_keeps_tasks_apart, a_malloc_keeps_tasks_apart, a_page_is_there_for_each_quota,
     a_task_has_its_part, quotas_fit,

@@ -30,11 +30,6 @@ refusal_alike s quota bytes m n a = λ i. cond (nat_lt s.page_words (need bytes)
     (cond (nat_eq (a.count i) s.proxies) (Some refusal.Proxy)
     (cond (nat_lt quota (needed_with_alike (task_paging s) m n a bytes i)) (Some refusal.Space) None))
 
--- the heap that a task has for itself has the pages of its quota, and refuses by the same arithmetic
-pub fault_is : (s : Tasks) (task bytes : ℕ) → malloc_fault (own_heap s task) bytes ≡ malloc_refusal s.profile (slice_index s.quotas task) (s.objects task) bytes
-unfolding pages_needed_with live class_for
-fault_is s task bytes = refl
-
 own_needed : (s : Tasks) (task : ℕ) (o : Objects) → pages_needed (paging_by_id (own_heap s task)) o ≡ pages_needed (task_paging s.profile) o
 unfolding pages_needed live class_for
 own_needed s task o = refl

@@ -33,7 +33,7 @@ use Rattle.page_model.proofs.CallerLemmas.{some_move, sum_plus, used_at_one}
 use Rattle.page_model.proofs.CallerLemmas.{vacant_where_less}
 use Rattle.quota_heap.specs.State.{KeepsTasks, QuotaState, held_by, objects_by, quota_of}
 use Rattle.quota_heap.specs.Steps.{FreesOfTask, IsMallocStep, IsWriteStep, with_held}
-use Rattle.quota_images.proofs.CallerLemmas.{image_of_malloc, image_of_write, moved_image, own_image, removed_image, rewritten_quotas, rewritten_shared}
+use Rattle.quota_model.proofs.CallerLemmas.{image_of_malloc, image_of_write, moved_image, own_image, removed_image, rewritten_quotas, rewritten_shared}
 use Rattle.quota_model.specs.Parts.{key_of, part_of, task_of}
 use Rattle.quota_model.specs.Refusals.{malloc_refusal, task_paging}
 use Rattle.quota_model.specs.Shared.{AreQuotas, IsShared, PlacesForTask, RemovesForTask}

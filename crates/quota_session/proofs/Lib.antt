@@ -1,10 +1,11 @@
 pub mod TaskKept
-pub mod Going
+pub mod RunInvariant
 pub mod Opened
-pub mod Telling
+pub mod ReplyLemmas
 pub mod ClassLines
 pub mod AtOne
 pub mod OwnTask
 pub mod ScriptTold
+pub mod TaskReads
 pub mod CallsThere
 pub mod Turns

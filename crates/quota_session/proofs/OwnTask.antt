@@ -18,6 +18,7 @@ use Rattle.quota_heap.specs.State.{KeepsTasks, held_by, objects_by, quota_of}
 use Rattle.quota_heap.specs.Steps.{IsMallocStep, IsWriteStep}
 use Rattle.quota_laws.specs.Tasks.{Tasks, own_heap, task_leaves, task_reply}
 use Rattle.quota_model.specs.Refusals.{malloc_refusal}
+use Rattle.quota_laws.proofs.CallerLemmas.{same_refusal}
 use Rattle.run_model.specs.Replies.{malloc_text, read_text, write_text}
 use Rattle.run_model.specs.Steps.{ids_given}
 use Rattle.script_reader.specs.declared.command.Command.{Command}
@@ -30,10 +31,10 @@ use Rattle.transcript_laws.specs.Replies.{free_said, malloc_fault, malloc_leaves
 use Rattle.transcript_laws.specs.Replies.{write_leaves, write_said}
 use Rattle.transcript_laws.proofs.CallerLemmas.{by_id_changed, by_id_counts, by_id_given, by_id_gone, gone_by_id, live_by_id}
 use Rattle.quota_session.specs.TaskRun.{FreesIdOfTask, MallocsForTask, StaysTask, TaskRun, TaskStep, WritesIdOfTask, task_object}
-use Rattle.quota_session.proofs.AtOne.{fault_is, refusal_alike, walk_is}
+use Rattle.quota_session.proofs.AtOne.{refusal_alike, walk_is}
 use Rattle.quota_session.proofs.TaskKept.{bytes_by, freed_objects, given_objects, given_unused, written_found, written_objects}
 
-remove_none : (o : Objects) (id : ℕ) → get o id ≡ None → remove o id ≡ o
+pub remove_none : (o : Objects) (id : ℕ) → get o id ≡ None → remove o id ≡ o
 remove_none o id none = equal_maps _ _ (λ q. elim (cases_eq q id) [
   | inl is ↦ rw is (get_removed o id ∙ sym none)
   | inr ne ↦ get_remove_other o id q ne
@@ -85,7 +86,7 @@ module _ (old new : TaskRun) (rules : KeepsTasks old.heap) (tied : AreTiedTo old
   stays c same r l = record { reply_is = r; left = ap (λ (s : TaskRun). objects_by_id s.ids (objects_by s.heap old.task)) same ∙ sym own ∙ l }
 
   fault : (n : ℕ) → malloc_fault h n ≡ malloc_refusal old.heap.profile (quota_of old.heap old.task) m n
-  fault n = fault_is t old.task n ∙ refusal_alike old.heap.profile (quota_of old.heap old.task) n m (all old.task) counts
+  fault n = same_refusal t old.task n ∙ refusal_alike old.heap.profile (quota_of old.heap old.task) n m (all old.task) counts
 
   mallocs : (id n : ℕ) → get old.ids id ≡ None → MallocsForTask old id n reply new → IsTold (command.Malloc id n)
   mallocs id n free s = by_answer s.answer s.step s.ids s.reply_is

@@ -31,7 +31,7 @@ use Rattle.quota_session.specs.Playing.{BeginsQuotas, RunsQuotas}
 use Rattle.quota_session.specs.QuotaRun.{IsGoingQuotas, QuotaRun, QuotaStep, SetsQuota, StepsPresent, TaskSession, ids_of, present_run}
 use Rattle.quota_session.specs.QuotaRun.{quota_fault, with_ids}
 use Rattle.quota_session.specs.TaskRun.{TaskRun, task_run}
-use Rattle.quota_session.proofs.Going.{ids_here, ids_there, present_kept, still_going}
+use Rattle.quota_session.proofs.RunInvariant.{ids_here, ids_there, present_kept, still_going}
 use Rattle.quota_session.proofs.Opened.{all_same, begins_going}
 use Rattle.quota_session.proofs.OwnTask.{IsTold, told}
 
@@ -228,7 +228,7 @@ module _ (task : ℕ) where
 nothing_by_id : (m : Objects) → objects_by_id empty m ≡ empty
 nothing_by_id m = equal_maps _ _ (λ q. gone_by_id empty m q (get-empty nat_cmp q) ∙ sym (get-empty nat_cmp q))
 
-begun_is : (p : Profile) (s : QuotaRun) → BeginsQuotas p s → tasks_of s ≡ no_tasks (at_bound_one p)
+pub begun_is : (p : Profile) (s : QuotaRun) → BeginsQuotas p s → tasks_of s ≡ no_tasks (at_bound_one p)
 begun_is p s b =
     (λ i. tasks_of (record s { session = b.session i; heap = b.heap i }))
     ∙ (λ i. record (no_tasks (at_bound_one p)) {

@@ -17,7 +17,7 @@ use Rattle.page_model.specs.Paging.{class_for}
 use Rattle.page_model.proofs.CallerLemmas.{length-written}
 use Rattle.quota_heap.specs.State.{KeepsTasks, QuotaState, held_by, objects_by}
 use Rattle.quota_heap.specs.Steps.{FreesOfTask, GivesTask, IsMallocStep, IsWriteStep, WritesForTask}
-use Rattle.quota_images.proofs.CallerLemmas.{objects_rewritten, others_rewritten}
+use Rattle.quota_model.proofs.CallerLemmas.{objects_rewritten, others_rewritten}
 use Rattle.quota_model.specs.Refusals.{task_paging}
 use Rattle.quota_model.proofs.CallerLemmas.{others_kept, others_stay, own_freed, own_objects}
 use Rattle.run_model.specs.Steps.{ids_given}

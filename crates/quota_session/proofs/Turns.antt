@@ -40,7 +40,7 @@ use Rattle.quota_session.specs.QuotaRun.{present_run, quota_fault}
 use Rattle.quota_session.specs.QuotaRun.{with_ids, with_need, with_present}
 use Rattle.quota_session.specs.TaskRun.{FreesIdOfTask, MallocsForTask, StaysTask, TaskRun, TaskStep, WritesIdOfTask, task_run, task_told}
 use Rattle.quota_session.proofs.CallsThere.{PageLaw, free_there, malloc_there, write_there}
-use Rattle.quota_session.proofs.Going.{still_going}
+use Rattle.quota_session.proofs.RunInvariant.{still_going}
 use Rattle.quota_session.proofs.Opened.{begins_going}
 use Rattle.quota_session.proofs.TaskKept.{bytes_by}
 

@@ -2,4 +2,6 @@ pub mod TaskRun
 pub mod QuotaRun
 pub mod Playing
 pub mod Alone
+pub mod Told
+pub mod Costs
 pub mod Layout

@@ -1,12 +1,14 @@
 //! The commands of one task on its objects: each returns the text of its reply, or writes it on the
 //! line.
 ghost use Rattle.std.specs.Prelude.{◌≡◌, ◌+◌, ◌^◌, ◌<◌, ◌≤◌, [], IsTrue, Err, length};
+ghost use Rattle.step_ledger.specs.Counting.{RoseAtMost};
 ghost use Rattle.cf_io.specs.Lines.{line_room};
 ghost use Rattle.cf_io.specs.Texts.{said};
 ghost use Rattle.quota_heap.specs.State.{objects_by};
 ghost use Rattle.run_model.specs.Replies.{malloc_text, read_text, write_text};
 ghost use Rattle.script_reader.specs.declared.command.Command.TheVariants.{Malloc, Free, Write};
 ghost use Rattle.id_table.specs.Ties.{AreTiedTo};
+ghost use Rattle.quota_session.specs.Costs.{id_access_steps, id_malloc_steps, object_free_steps};
 ghost use Rattle.quota_session.specs.TaskRun.{TaskStep, task_object, task_run};
 
 use cf_base::{AccessFault, Refusal};
@@ -28,6 +30,7 @@ pub(crate) fn malloc(
     requires sixteen { task < 16 }
     requires room { steps.old ≤ 2 ^ 63 }
     ensures step { TaskStep (task_run task ids.old heap.old) (Malloc id bytes) (said result.now) (task_run task ids.new heap.new) }
+    ensures steps { RoseAtMost steps.old steps.new (id_malloc_steps ids.old id) }
     ensures short { length result.now ≤ 20 }
 {
     if ids.handle(id).is_some() {
@@ -67,6 +70,7 @@ pub(crate) fn free(
     requires tied { AreTiedTo ids.old (objects_by heap.old task) }
     requires room { steps.old ≤ 2 ^ 63 }
     ensures step { TaskStep (task_run task ids.old heap.old) (Free id) (said result.now) (task_run task ids.new heap.new) }
+    ensures steps { RoseAtMost steps.old steps.new (object_free_steps heap.old (task_object (task_run task ids.old heap.old) id)) }
     ensures short { length result.now ≤ 20 }
 {
     let Some(h) = ids.handle(id) else {
@@ -93,6 +97,7 @@ pub(crate) fn write(
     requires sixteen { task < 16 }
     requires room { steps.old ≤ 2 ^ 63 }
     ensures step { TaskStep (task_run task ids.now heap.old) (Write id at bytes.now) (said result.now) (task_run task ids.now heap.new) }
+    ensures steps { RoseAtMost steps.old steps.new (id_access_steps ids.now id at (length bytes.now)) }
     ensures short { length result.now ≤ 20 }
 {
     let Some(h) = ids.handle(id) else {
@@ -133,6 +138,7 @@ pub(crate) fn read(
     requires empty { line.old ≡ [] }
     ensures text { line.new ≡ read_text (task_object (task_run task ids.now heap.now) id) at (length room.old) }
     ensures room { length line.new < line_room }
+    ensures steps { RoseAtMost steps.old steps.new (id_access_steps ids.now id at (length room.old)) }
 {
     let Some(h) = ids.handle(id) else {
         return push_text(line, b"unknown");

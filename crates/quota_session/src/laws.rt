@@ -4,7 +4,7 @@ ghost use Rattle.cf_base.specs.Settings.{Profile, at_bound_one};
 ghost use Rattle.cf_io.specs.Texts.{Reply, text_of};
 ghost use Rattle.cf_model.specs.Rules.{AreInRange};
 ghost use Rattle.quota_laws.specs.Tasks.{is_for_task, no_tasks, task_reply};
-ghost use Rattle.run_laws.specs.Sayable.{IsSayable};
+ghost use Rattle.run_laws.specs.Sayable.{AreSayable, IsSayable};
 ghost use Rattle.script_loop.specs.Consequences.{IsPrefixBy};
 ghost use Rattle.script_loop.specs.ScriptOutcome.{Effects, WroteInPart, items_within};
 ghost use Rattle.script_reader.specs.Commands.{IsWellFormed};
@@ -13,6 +13,7 @@ ghost use Rattle.script_reader.specs.declared.command.Command.{Command};
 ghost use Rattle.quota_session.specs.Alone.{AreAlikeFor, CanBeSaid, after_if, item_of, own_commands, replies_of, script_of, tasks_of};
 ghost use Rattle.quota_session.specs.Playing.{BeginsQuotas, RunsQuotas, quota_tasks};
 ghost use Rattle.quota_session.specs.QuotaRun.{IsGoingQuotas, QuotaRun, QuotaStep};
+ghost use Rattle.quota_session.specs.Told.{AreReadsOfTasks};
 
 use quota_laws::{a_reply_follows_from_the_task_alone, tasks_are_isolated};
 use quota_model::a_page_is_there_for_each_quota;
@@ -34,6 +35,18 @@ pub fn a_task_is_answered_from_its_own()
         → told ≡ reply }
 {
     a_reply_follows_from_the_task_alone();
+}
+
+/// In every script each read gives the bytes last written through its id by the task that reads. The
+/// lines and their replies alone decide it: `t` says which task is present, and each task has ids of
+/// its own.
+pub fn reads_give_what_was_written()
+    ensures run { (items : List Item) (replies : List Reply) (new : Option QuotaRun)
+        → AreSayable items → RunsQuotas None items replies new → AreReadsOfTasks None items replies }
+    ensures script { (given : List ℕ) (ended : Bool) (replies : List Reply) (new : Option QuotaRun)
+        → RunsQuotas None (items given ended) replies new → AreReadsOfTasks None (items given ended) replies }
+{
+    a_task_is_answered_from_its_own();
 }
 
 /// Isolation: leave out of a script all calls and quotas of tasks other than one, and every quota

@@ -1,8 +1,7 @@
 //! A script on a heap that tasks share.
-ghost use Rattle.std.specs.Prelude.{◌≡◌, ◌<◌, ◌+◌, ◌⊎◌, ⊤, IfOk, None, option_map, ◌≢◌};
+ghost use Rattle.std.specs.Prelude.{◌≡◌, ⊤, IfOk, None, option_map};
 ghost use Rattle.cf_base.specs.Settings.{profile_of};
-ghost use Rattle.cf_io.specs.Feeds.{Rose, last_count};
-ghost use Rattle.script_loop.specs.ScriptOutcome.{MOST_BYTES, MeetsOutcome};
+ghost use Rattle.script_loop.specs.ScriptOutcome.{Plays, sink_at, source_at};
 ghost use Rattle.quota_session.specs.Playing.{quota_tasks};
 ghost use Rattle.quota_session.specs.QuotaRun.{QuotaRun, first_session, quota_run};
 
@@ -101,21 +100,11 @@ pub fn run_quotas<S: Source, K: Sink>(
     sink: &mut K,
 ) -> Status
     requires { player.old.session ≡ first_session }
-    ensures outcome { MeetsOutcome quota_tasks (quota_run (option_map profile_of player.old.settings) player.old.session heap.old) (record {
-      had = S.rest source.old;
-      left = S.rest source.new;
-      before = K.written sink.old;
-      after = K.written sink.new;
-      status = result;
-    }) (quota_run (option_map profile_of player.new.settings) player.new.session heap.new) }
-    // The causes, also where the source isn't observable.
-    ensures silent { result ≡ Status.OutOfMemory → K.written sink.new ≡ K.written sink.old }
-    ensures source_same { result ≢ Status.ReadFault → S.faults source.new ≡ S.faults source.old }
-    ensures read_fault { result ≡ Status.ReadFault → Rose (S.faults source.old) (S.faults source.new) }
-    ensures sink_same { result ≢ Status.WriteFault → K.faults sink.new ≡ K.faults sink.old }
-    ensures write_fault { result ≡ Status.WriteFault → Rose (K.faults sink.old) (K.faults sink.new) }
-    ensures too_long { result ≡ Status.TooLong
-        → (S.given source.old + MOST_BYTES < S.given source.new) ⊎ (S.given source.new ≡ last_count) }
+    ensures { Plays quota_tasks (quota_run (option_map profile_of player.old.settings) player.old.session heap.old)
+        (source_at (S.rest source.old) (S.given source.old) (S.faults source.old)) (sink_at (K.written sink.old) (K.faults sink.old))
+        result
+        (source_at (S.rest source.new) (S.given source.new) (S.faults source.new)) (sink_at (K.written sink.new) (K.faults sink.new))
+        (quota_run (option_map profile_of player.new.settings) player.new.session heap.new) }
 {
     play_script(player, heap, source, sink)
 }

@@ -1,5 +1,6 @@
 //! A session over a heap that tasks share.
 ghost use Rattle.std.specs.Prelude.{◌≡◌, ◌<◌, ◌^◌, ◌≤◌, [], IfOk, IsTrue, OnErr, Option, Some, length, OnOk};
+ghost use Rattle.step_ledger.specs.Counting.{RoseAtMost};
 ghost use Rattle.cf_base.specs.Settings.{Profile, profile_of};
 ghost use Rattle.cf_io.specs.Feeds.{Rose};
 ghost use Rattle.cf_io.specs.Lines.{line_room};
@@ -9,9 +10,10 @@ ghost use Rattle.script_reader.specs.Commands.{IsWellFormed};
 ghost use Rattle.script_reader.specs.Owned.{owned_command};
 ghost use Rattle.session_model.specs.Applying.{Applies, Speaks};
 ghost use Rattle.id_table.specs.Ties.{AreTiedTo};
+ghost use Rattle.quota_session.specs.Costs.{most_steps, task_steps};
 ghost use Rattle.quota_session.specs.Layout.{IsOfTask, IsOneLine, session_of};
 ghost use Rattle.quota_session.specs.Playing.{quota_tasks};
-ghost use Rattle.quota_session.specs.QuotaRun.{AreTasksTied, HasSixteen, IsGoingQuotas, QuotaStep, StepsPresent, first_session, quota_moment, quota_run};
+ghost use Rattle.quota_session.specs.QuotaRun.{AreTasksTied, HasSixteen, IsGoingQuotas, QuotaStep, StepsPresent, first_session, present_run, quota_moment, quota_run};
 ghost use Rattle.quota_session.specs.TaskRun.{TaskStep, task_run};
 
 use crate::changes::{free, malloc, read, write};
@@ -86,6 +88,8 @@ impl QuotaSession {
         ensures answers { Applies quota_tasks (quota_moment (Some (profile_of s.now)) self.old heap.old (K.written out.old)) c.now result
             (quota_moment (Some (profile_of s.now)) self.new heap.new (K.written out.new)) }
         ensures going { IsGoingQuotas (quota_run (Some (profile_of s.now)) self.new heap.new) }
+        // The ledger counts from 0 in each command.
+        ensures steps { meter.new ≤ most_steps (quota_run (Some (profile_of s.now)) self.old heap.old) c.now }
         ensures grows { K.faults out.old ≤ K.faults out.new }
         ensures same { OnOk result (K.faults out.new ≡ K.faults out.old) }
         ensures failed { OnErr result (Rose (K.faults out.old) (K.faults out.new)) }
@@ -109,13 +113,41 @@ impl QuotaSession {
         ensures answers { Applies quota_tasks (quota_moment (Some (profile_of s.now)) self.old heap.old (K.written out.old))
             (owned_command c.entry) result (quota_moment (Some (profile_of s.now)) self.new heap.new (K.written out.new)) }
         ensures going { IsGoingQuotas (quota_run (Some (profile_of s.now)) self.new heap.new) }
+        ensures steps { meter.new ≤ most_steps (quota_run (Some (profile_of s.now)) self.old heap.old) (owned_command c.entry) }
+        ensures grows { K.faults out.old ≤ K.faults out.new }
+        ensures same { OnOk result (K.faults out.new ≡ K.faults out.old) }
+        ensures failed { OnErr result (Rose (K.faults out.old) (K.faults out.new)) }
+    {
+        meter.lap();
+        self.answer_ref(heap, s, c, out, meter.steps())
+    }
+
+    /// The same on a ledger that is not lapped: no call lowers it, so the bound is that of the command
+    /// itself.
+    pub fn answer_ref<K: Sink>(
+        &mut self,
+        heap: &mut QuotaHeap,
+        s: &Settings,
+        c: CommandRef,
+        out: &mut K,
+        steps: &mut Steps,
+    ) -> Result<Outcome, Failed>
+        requires opened { IsTrue heap.old.is_open }
+        requires settings { heap.old.profile ≡ profile_of s.now }
+        requires tied { AreTasksTied self.old heap.old }
+        requires formed { IsWellFormed (owned_command c) }
+        requires count { steps.old ≤ 2 ^ 63 }
+        ensures answers { Applies quota_tasks (quota_moment (Some (profile_of s.now)) self.old heap.old (K.written out.old))
+            (owned_command c.entry) result (quota_moment (Some (profile_of s.now)) self.new heap.new (K.written out.new)) }
+        ensures going { IsGoingQuotas (quota_run (Some (profile_of s.now)) self.new heap.new) }
+        ensures steps { RoseAtMost steps.old steps.new
+            (most_steps (quota_run (Some (profile_of s.now)) self.old heap.old) (owned_command c.entry)) }
         ensures grows { K.faults out.old ≤ K.faults out.new }
         ensures same { OnOk result (K.faults out.new ≡ K.faults out.old) }
         ensures failed { OnErr result (Rose (K.faults out.old) (K.faults out.new)) }
     {
         // An open heap keeps its tasks apart.
         let _open = heap.is_open();
-        meter.lap();
         answer(
             &mut self.records,
             heap,
@@ -124,7 +156,7 @@ impl QuotaSession {
             &mut self.room,
             &mut self.line,
             out,
-            meter.steps(),
+            steps,
         )
     }
 }
@@ -146,6 +178,8 @@ fn answer<K: Sink>(
     requires count { steps.old ≤ 2 ^ 63 }
     ensures answers { Applies quota_tasks (quota_moment (Some (profile_of s.now)) (session_of records.old) heap.old (K.written out.old))
         (owned_command c.entry) result (quota_moment (Some (profile_of s.now)) (session_of records.new) heap.new (K.written out.new)) }
+    ensures steps { RoseAtMost steps.old steps.new
+        (most_steps (quota_run (Some (profile_of s.now)) (session_of records.old) heap.old) (owned_command c.entry)) }
     ensures grows { K.faults out.old ≤ K.faults out.new }
     ensures same { OnOk result (K.faults out.new ≡ K.faults out.old) }
     ensures failed { OnErr result (Rose (K.faults out.old) (K.faults out.new)) }
@@ -179,8 +213,10 @@ fn speak(
     requires one { IsOneLine (owned_command c) }
     requires place { length room.old ≡ 4096 }
     requires count { steps.old ≤ 2 ^ 63 }
-    ensures { Speaks QuotaStep (quota_run (Some (profile_of s.now)) (session_of records.old) heap.old) (owned_command c.entry)
+    ensures speaks { Speaks QuotaStep (quota_run (Some (profile_of s.now)) (session_of records.old) heap.old) (owned_command c.entry)
         (quota_run (Some (profile_of s.now)) (session_of records.new) heap.new) line.new }
+    ensures steps { RoseAtMost steps.old steps.new
+        (most_steps (quota_run (Some (profile_of s.now)) (session_of records.old) heap.old) (owned_command c.entry)) }
 {
     line.clear();
     match c {
@@ -221,6 +257,7 @@ fn speak_present(
     ensures step { (settings : Option Profile) → StepsPresent (quota_run settings (session_of records.old) heap.old)
         (owned_command c.entry) (said line.new) (quota_run settings (session_of records.new) heap.new) }
     ensures room { length line.new < line_room }
+    ensures steps { RoseAtMost steps.old steps.new (task_steps (present_run (session_of records.old) heap.old) (owned_command c.entry)) }
 {
     let task = records.present;
     let ids = &mut records.ids[task as usize];
@@ -245,7 +282,8 @@ fn speak_task(
     requires place { length room.old ≡ 4096 }
     requires count { steps.old ≤ 2 ^ 63 }
     requires empty { line.old ≡ [] }
-    ensures { Speaks TaskStep (task_run task ids.old heap.old) (owned_command c.entry) (task_run task ids.new heap.new) line.new }
+    ensures speaks { Speaks TaskStep (task_run task ids.old heap.old) (owned_command c.entry) (task_run task ids.new heap.new) line.new }
+    ensures steps { RoseAtMost steps.old steps.new (task_steps (task_run task ids.old heap.old) (owned_command c.entry)) }
 {
     match c {
         CommandRef::Malloc { id, bytes } => {

@@ -1,4 +1,4 @@
--- Blocks of four words that are cleared or moved one by one.
+-- Clearing or moving blocks of four words, one by one.
 use Rattle.std.proofs.Common.{◌≡◌, ◌≢◌, ℕ, ◌+◌, ◌*◌, ◌/◌, ◌<◌, ◌≤◌, ◌⊎◌, inl, inr, List, length, slice_index, arith, ap, ◌∙◌}
 use Rattle.std.proofs.lemmas.Bool.{cases_eq, cases_lt}
 use Rattle.region.specs.Words.{AreDistinct, AreOther, ClearsBlocks, MovesBlocks, cleared, moved}
@@ -74,7 +74,7 @@ module _ (u v sources targets : List ℕ) (n m : ℕ) (less : n < m) (source : 4
   block_of : (x j : ℕ) → j < 4 → (4 * x + j) / 4 ≡ x
   block_of x j lt = omega arith
 
-  -- a block that is neither is as before
+  -- a block that is neither source nor target stays
   kept : (x j : ℕ) → j < 4 → x ≢ src → x ≢ dst → slice_index w (4 * x + j) ≡ slice_index v (4 * x + j)
   kept x j lt no_a no_b = (let e = block_of x j lt in stays (4 * x + j) (λ f. no_a (omega arith)) (λ f. no_b (omega arith)))
 

@@ -1,4 +1,4 @@
--- A block is taken apart into its words and the right to give it back, and put together.
+-- Splitting a block into its words and the right to free it, and joining them again.
 use Rattle.std.proofs.Common.{◌≡◌, ℕ, ◌+◌, ◌^◌, ◌<◌, List, [], ◌∷◌, ◌++◌, length, refl, sym, ap, ◌∙◌, w64}
 use seplogic.Ra.Ura.{Ura}
 use base.Fraction.{full_share}
@@ -33,7 +33,7 @@ abbrev Owns : Ptr → ℕ → List ℕ → List Val → Fml
 Owns p n xs vs = fsep (Fields.own_val (p, (n, tt)) vs) (block_owns p n xs)
 
 module _ {M : Type 1} {𝓤 : Ura M} {𝓛 : Logic 𝓤} {K : Type 0} {Γ : List (Item 𝓤)} {G : Goal 𝓤 𝓛.H} where
-  -- words in a row, as an array and as cells
+  -- consecutive words, from an array to cells
   pub row_out : K → (n : ℕ) (xs : List ℕ) (b o : ℕ) → (length xs ≡ n → Seq K 𝓛 (‵ (cells (mem u64) xs b o) ∷ Γ) G)
       → Seq K 𝓛 (‵ (words_at (block_ptr b o) n xs) ∷ Γ) G
   row_out t n xs b o k =
@@ -46,7 +46,7 @@ module _ {M : Type 1} {𝓤 : Ura M} {𝓛 : Logic 𝓤} {K : Type 0} {Γ : List
       use1 𝓛 (‵ (words_at (block_ptr b o) n xs)) (Array-whole 𝓛 u64 full_share n xs b o) $ s)
 
 module _ {M : Type 1} {𝓤 : Ura M} {𝓛 : Logic 𝓤} {K : Type 0} {Γ : List (Item 𝓤)} {G : Goal 𝓤 𝓛.H} where
-  -- [the words; the right to give them back]
+  -- [the words; the right to free them]
   pub block_had : K → (d : C.the_row.Denot) (vs : List Val)
       → ((b o : ℕ) → d.at ≡ block_ptr b o → vs ≡ block_val b o d.len ∷ [] → d.len < 2 ^ 64
       → Seq K 𝓛 (‵ (words_at (block_ptr b o) d.len d.items) ∷ ‵ (may_free (block_ptr b o) d.len) ∷ Γ) G)
@@ -58,7 +58,7 @@ module _ {M : Type 1} {𝓤 : Ura M} {𝓛 : Logic 𝓤} {K : Type 0} {Γ : List
       k b o e (all ∙ (λ i. vstruct (of_list (e₀ i ++ (e₁ i ++ []))) ∷ [])
       ∙ ap (λ (p : Ptr). vstruct (vcons (ptr_val p) (vcons (vint w64 d.len) vnil)) ∷ []) e) fn))))))
 
-  -- at any block d that has these fields
+  -- the same for any block d with these fields
   pub block_made : K → (d : C.the_row.Denot) (b o n : ℕ) (xs : List ℕ) → d.at ≡ block_ptr b o → d.len ≡ n → d.items ≡ xs → n < 2 ^ 64
       → Step K 𝓛 (‵ (C.the_row.own_val d (block_val b o n ∷ [])) ∷ Γ) G (‵ (words_at (block_ptr b o) n xs) ∷ ‵ (may_free (block_ptr b o) n) ∷ Γ) G
   block_made t d b o n xs e₀ e₁ e₂ fn = step (λ s.
@@ -70,7 +70,7 @@ module _ {M : Type 1} {𝓤 : Ura M} {𝓛 : Logic 𝓤} {K : Type 0} {Γ : List
       rewrite t 0 (λ (m : ℕ). ‵ (Owns d.at m xs (block_val b o n ∷ []))) (sym e₁) refl $
       rewrite t 0 (λ (l : List ℕ). ‵ (Owns d.at d.len l (block_val b o n ∷ []))) (sym e₂) refl $ s)
 
--- words that are let go leave room, and none are at no place
+-- words that are released leave uninitialized memory; no words need no memory
 module _ {M : Type 1} {𝓤 : Ura M} (𝓛 : Logic 𝓤) where
   open 𝓛 use {H}
 

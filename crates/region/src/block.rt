@@ -6,8 +6,8 @@ ghost use Rattle.region.specs.Layout.{block_owns, room_of_words, words_at};
 use std::alloc::{Allocator, Global};
 use std::marker::Model;
 
-/// One block of memory, for `len` words of 8 bytes. It doesn't hold its allocator, so its owner calls
-/// `free`: a block that is let go without it is never given back.
+/// One block of memory for `len` words of 8 bytes. It doesn't hold its allocator, so its owner must
+/// call `free`: dropping a block leaks its memory.
 pub(crate) struct Block {
     at: *mut u64,
     len: usize,
@@ -25,7 +25,7 @@ impl Model for Block {
 impl Block {
     ghost use Rattle.region.specs.BlockLoan.{LendsAll, LendsPartOf};
 
-    /// A block of `len` words, all zero; none where the allocation fails.
+    /// A block of `len` words, all zero; none if the allocation fails.
     pub(crate) fn new(alloc: &Global, len: usize) -> Option<Block>
         requires { len < 2 ^ 32 }
         ensures { IfSome result (λ b. b.items ≡ replicate len 0) }
@@ -40,7 +40,7 @@ impl Block {
         }
     }
 
-    /// Gives the memory back.
+    /// Returns the memory to the allocator.
     pub(crate) fn free(self, alloc: &Global) {
         let Block { at, len } = self;
         unsafe { alloc.deallocate(at as *mut u8, len * 8, 8) }
@@ -54,7 +54,7 @@ impl Block {
         unsafe { std::slice::from_raw_parts(self.at, self.len) }
     }
 
-    /// The words, to be written.
+    /// The words, for writing.
     pub(crate) fn words_mut(&mut self) -> &mut [u64]
         ensures* writes_back { sem 𝓛 (LendsAll self.entry result) }
         ensures value { result.now ≡ self.old.items }
@@ -62,7 +62,7 @@ impl Block {
         unsafe { std::slice::from_raw_parts_mut(self.at, self.len) }
     }
 
-    /// The `n` words from `i` on, to be written.
+    /// The `n` words from `i` on, for writing.
     pub(crate) fn run_mut(&mut self, i: usize, n: usize) -> &mut [u64]
         requires within { i + n ≤ length self.old.items }
         ensures* writes_back { sem 𝓛 (LendsPartOf self.entry i n result) }
@@ -72,7 +72,7 @@ impl Block {
     }
 }
 
-// The allocator has no call for memory that is zero. The compiler makes one `memset` of this loop, which
+// The allocator has no call for zeroed memory. The compiler makes one `memset` of this loop. It
 // touches every page of the block, so that no later call meets a page fault.
 unsafe fn zero(at: *mut u64, len: usize)
     requires small { len < 2 ^ 32 }

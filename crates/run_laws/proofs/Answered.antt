@@ -1,4 +1,4 @@
--- What it is for a call of a heap to have an answer, and a state after it that keeps the rules.
+-- For every call of a heap there are a result and a state after it that keeps the rules: what that means.
 use Rattle.std.proofs.Common.{◌≡◌, ℕ, ◌<◌, ◌≤◌, List, Option, Some, None, Result, arith, sym, ◌∙◌, refl}
 use Rattle.std.proofs.Common.{subst, inl, inr}
 use Rattle.std.specs.Prelude.{option_map}
@@ -22,7 +22,7 @@ use Rattle.run_model.specs.Sessions.{CostsAtMost}
 use Rattle.run_model.proofs.CallerLemmas.{bytes_held}
 use Rattle.cf_lemmas.proofs.Searches.{len_without}
 
--- bytes under numbers below n, no more than n of them
+-- at most n objects, with numbers below n
 pub record AreFew (n : ℕ) (o : Objects) : Type 0 where
   pub handles : (h : ℕ) (v : List ℕ) → get o h ≡ Some v → h < n
   pub bytes : (h : ℕ) (v : List ℕ) → get o h ≡ Some v → AreBytes v
@@ -71,7 +71,7 @@ module _ (n : ℕ) (o : Objects) (few : AreFew n o) (h : ℕ) where
     few = (let less = len_without o h u some in let l = few.few in omega arith);
   }
 
--- every call has an answer, and a state after it that keeps the rules
+-- each call has a result, and a state after it that keeps the rules
 module _ (old : HeapState) where
   pub record HasMalloc (n : ℕ) : Type 0 where
     pub answer : Result Handle Refusal

@@ -1,4 +1,4 @@
--- Every call of a heap with blocks has an answer, and a state after it that keeps the rules.
+-- Every call of a heap with blocks has a result, and a state after it that keeps the rules.
 use Rattle.std.proofs.Common.{◌≡◌, ◌≢◌, ℕ, ◌+◌, ◌<◌, ◌≤◌, List, Some, None, Ok, Err, length, replicate, arith, sym, ◌∙◌, ap}
 use Rattle.std.proofs.Common.{refl, subst, inl, inr}
 use Rattle.std.proofs.lemmas.Bool.{cases_eq, cases_lt}
@@ -41,11 +41,11 @@ module _ (old : HeapState) (rules : KeepsRules old) (with_blocks : IsTiled old.k
   few_old : AreFew old.profile.proxies (objects old.held)
   few_old = few_in old rules.numbers
 
-  -- no cost is bounded
+  -- with blocks no cost is bounded
   cost_any : (cost bound : ℕ) → CostsAtMost old.kind cost bound
   cost_any cost bound = rw (with_blocks, CostsAtMost) tt
 
-  -- the rules, with other objects in other blocks
+  -- the rules hold for other objects in other blocks
   rules_with : (m : Held) (blocks : List Block) (words : List ℕ) (cost : ℕ) → IsTiling (region_words old.profile) blocks → AreOwned m blocks
       → AreTilingWords (content_word m) blocks words
       → length words ≡ region_words old.profile → AreFew old.profile.proxies (objects m)
@@ -58,7 +58,7 @@ module _ (old : HeapState) (rules : KeepsRules old) (with_blocks : IsTiled old.k
         (record { tiling = tiles; owned = owned; words = are; no_frames = tiling.no_frames; no_bounds = tiling.no_bounds });
   }
 
-  -- the words of other objects in other blocks
+  -- words for other objects in other blocks
   record Becomes (m : Held) (blocks : List Block) : Type 0 where
     words : List ℕ
     kept : KeepsRules (record old { held = m; words = words; tiling = blocks; cost = 0 })
@@ -73,7 +73,7 @@ module _ (old : HeapState) (rules : KeepsRules old) (with_blocks : IsTiled old.k
             rules_with m blocks (tiling_words (content_word m) blocks 0) 0 tiles owned are.0 are.1 few;
       }
 
-  -- nothing changes but the cost
+  -- only the cost changes
   rules_still : KeepsRules (record old { cost = 0 })
   rules_still = rules_with old.held old.tiling old.words 0 tiling.tiling tiling.owned tiling.words rules.region few_old
 
@@ -103,7 +103,7 @@ module _ (old : HeapState) (rules : KeepsRules old) (with_blocks : IsTiled old.k
         cost = cost_any 0;
       }
 
-  -- every malloc is answered
+  -- every malloc has a result
   pub malloc_done : (n : ℕ) → HasMalloc old n
   malloc_done n = elim (cases_lt old.profile.page_words (need n)) [
     | inl large ↦ record { answer = Err refusal.Size; heap = record old { cost = 0 }; step = (large, refl); kept = rules_still; cost = cost_any 0 }
@@ -141,7 +141,7 @@ module _ (old : HeapState) (rules : KeepsRules old) (with_blocks : IsTiled old.k
       by_kind Tlsf is = refl
       by_kind HalfFit is = refl
 
-  -- every free of a live object is done
+  -- every free of a live object succeeds
   pub free_done : (h : ℕ) (x : Placed) → get old.held h ≡ Some x → HasFree old h
   free_done h x there =
       let left : Held = remove old.held h in
@@ -168,7 +168,7 @@ module _ (old : HeapState) (rules : KeepsRules old) (with_blocks : IsTiled old.k
         cost = cost_any 0;
       }
 
-  -- every write into a live object is answered
+  -- every write into a live object has a result
   pub write_done : (part : Part) (bytes : List ℕ) (x : Placed) → AreBytes bytes → get old.held part.number ≡ Some x → HasWrite old part bytes
   write_done part bytes x are there = elim (cases_lt (length x.bytes) (part.from + length bytes)) [
     | inl past ↦ record { answer = Err access.Range; heap = old; step = (record { object = x; found = there; past = past }, refl); kept = rules }

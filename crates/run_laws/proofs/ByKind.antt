@@ -14,14 +14,14 @@ use Rattle.cf_model.specs.Steps.{frames_left, number_of}
 pub table_kept : (k : Kind) (s : HeapState) → IsPaged k → KeepsRulesOf k s → KeepsTable k s
 table_kept k s is rules = (let kept : KeepsPages s × KeepsTable k s = rw (is, KeepsRulesOf) at rules in kept.1)
 
--- states with one table
+-- states with the same table
 pub table_moved : (k : Kind) (a b : HeapState) → b.profile ≡ a.profile → b.frames ≡ a.frames → KeepsTable k a → KeepsTable k b
 table_moved Moving a b p f kept = f ∙ kept
 table_moved NonMoving a b p f kept = record { count = rw (p, f) kept.count; permuted = rw f kept.permuted }
 table_moved Tlsf a b p f kept = f ∙ kept
 table_moved HalfFit a b p f kept = f ∙ kept
 
--- the block table after a step that exchanges blocks as a permutation does
+-- the block table after a step, if exchanging blocks permutes it
 pub table_stepped : (k : Kind) (s : HeapState) (after : Leaves) → s.kind ≡ k → IsPaged k → KeepsRules s → KeepsTable k s
     → (AreBlocks (paging_in s) → length s.frames ≡ (paging_in s).pages * (paging_in s).page_words / 4 → IsPermuted s.frames
     → IsPermuted (frames_after (paging_in s) s.held after s.frames) × (length (frames_after (paging_in s) s.held after s.frames) ≡ length s.frames))

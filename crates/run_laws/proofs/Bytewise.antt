@@ -1,4 +1,4 @@
--- What the lines tell of an id's bytes, byte by byte.
+-- The bytes of an id that follow from the lines and their replies, byte by byte.
 use Rattle.std.proofs.Common.{◌≡◌, ◌≢◌, ℕ, ◌+◌, ◌<◌, ◌≤◌, List, Option, Some, None, length, get_or, ◌∙◌, ap, refl, inl, inr}
 use Rattle.std.specs.FinMap.{get, insert}
 use Rattle.cf_lemmas.proofs.Maps.{get_inserted, get_insert_other}
@@ -36,7 +36,7 @@ resize_told_of m id n old there = (
   resized_behind old n,
 )
 
--- another id's bytes stay
+-- the bytes of another id stay
 pub changed_other : (m : Told) (id other : ℕ) (f : List ℕ → List ℕ) → other ≢ id → get (changed m id f) other ≡ get m other
 changed_other m id other f ne = go (get m id)
   where

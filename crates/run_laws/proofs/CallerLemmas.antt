@@ -1,4 +1,4 @@
--- What upper crates may cite, passed on from one place. Declares nothing.
+-- What other crates' proofs may cite, re-exported. Declares nothing.
 pub use Rattle.run_laws.proofs.CommandAnswers.{begins_there, turn_there}
 pub use Rattle.run_laws.proofs.GoingOn.{kind_goes_on}
 pub use Rattle.run_laws.proofs.Images.{is_rewritten, length-rewritten, rewritten}

@@ -1,4 +1,4 @@
--- Every command is answered.
+-- Every command gets a reply.
 use Rattle.std.proofs.Common.{◌≡◌, ℕ, ◌+◌, ◌*◌, List, Option, Some, None, refl}
 use Rattle.std.specs.Prelude.{codes}
 use Rattle.std.specs.FinMap.{get, remove}
@@ -92,13 +92,13 @@ module _ (old : RunState) (going : IsGoing old) where
   }
   step_there c can = record { reply = told old c; new = old; done = (refl, refl) }
 
--- every command that can be said is answered
+-- every well-formed command gets a reply
 pub turn_there : (old : RunState) (c : Command) → IsGoing old → IsSayable c → (reply : Reply) × (new : RunState) × Turn old c reply new
 turn_there old c going can =
     let s = step_there old going c can in
     (s.reply, s.new, record { step = s.done; bounds = step_meets_bounds old s.new c s.reply going s.done })
 
--- a run begins under any settings in their ranges
+-- a run begins with any settings in range
 pub begins_there : (kind : Kind) (p : Profile) → AreInRange p → (s : RunState) × Begins kind p s
 begins_there kind p ok =
     let first = empty_there p ok kind in

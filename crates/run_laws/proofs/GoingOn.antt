@@ -1,4 +1,4 @@
--- A run goes on to the end of its items.
+-- A run stays in progress to the end of its items.
 use Rattle.std.proofs.Common.{◌≡◌, ℕ, append_assoc, List, [], ◌∷◌, ◌++◌, Option, Some, None, sym, ◌∙◌, ap, refl, subst}
 use Rattle.std.specs.Prelude.{codes}
 use Rattle.cf_base.specs.declared.kind.Kind.{Kind}
@@ -13,7 +13,7 @@ use Rattle.run_laws.specs.Sayable.{AreSayable, IsUnderWay}
 use Rattle.run_laws.proofs.CommandAnswers.{begins_there, turn_there}
 use Rattle.run_laws.proofs.RunsThere.{CanGoOn, run_goes_on}
 
--- an item leaves a run that goes on
+-- after an item a run is still in progress
 pub item_keeps : (kind : Kind) (old : Option RunState) (item : Item) (reply : Reply) (new : Option RunState) → IsUnderWay kind old
     → ItemStep kind old item reply new → IsUnderWay kind new
 item_keeps kind old (starts p) reply new on step = subst (IsUnderWay kind) (sym step.2)
@@ -23,13 +23,13 @@ item_keeps kind (Some old) (asks c) reply new on step = subst (IsUnderWay kind) 
     ((step_same old step.0 c reply (on.1).rules (step.1).step).kind ∙ on.0, step_going old step.0 c reply on.1 (step.1).step)
 item_keeps kind old (bad n) reply new on step = subst (IsUnderWay kind) (sym step.1) on
 
--- and so do items
+-- and after a list of items too
 pub run_keeps : (kind : Kind) (old : Option RunState) (items : List Item) (replies : List Reply) (new : Option RunState) → IsUnderWay kind old
     → Run kind old items replies new → IsUnderWay kind new
 run_keeps kind old [] replies new on run = subst (IsUnderWay kind) (sym run.1) on
 run_keeps kind old (item ∷ rest) replies new on run = run_keeps kind run.0 rest run.2 new (item_keeps kind old item run.1 run.0 on run.3) run.5
 
--- a run of this kind begins, and each of its commands has its turn
+-- a run of this kind begins, and each command has a step
 pub kind_goes_on : (kind : Kind) → CanGoOn (BeginsOne kind) Turn
 kind_goes_on kind = record {
   is_going = λ s. (s.heap.kind ≡ kind) × IsGoing s;
@@ -42,7 +42,7 @@ kind_goes_on kind = record {
   turn_there = λ old c on can. turn_there old c on.1 can;
 }
 
--- a prefix of the text of a prefix is a prefix of the text of all
+-- what was written of a prefix of the items is a prefix of the text of all
 pub front_written : (kind : Kind) (items done after : List Item) (replies : List Reply) (mid : Option RunState) (lead written lost : List ℕ) → AreSayable items
     → items ≡ done ++ after → Run kind None done replies mid
     → text_of lead replies ≡ written ++ lost → (all : List Reply) × (end : Option RunState) × (rest : List ℕ) × Run kind None items all end

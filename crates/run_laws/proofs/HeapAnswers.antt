@@ -1,4 +1,4 @@
--- Every call of a heap of any kind has an answer, and a state after it that keeps the rules.
+-- Every call of a heap of any kind has a result, and a state after it that keeps the rules.
 use Rattle.std.proofs.Common.{◌≡◌, ℕ, ◌≤◌, List, Some, refl}
 use Rattle.std.specs.FinMap.{get}
 use Rattle.page_model.specs.Bytes.{AreBytes}
@@ -15,7 +15,7 @@ use Rattle.run_laws.proofs.Answered.{HasFree, HasMalloc, HasResize, HasWrite}
 use Rattle.run_laws.proofs.BlockAnswers as blocks
 use Rattle.run_laws.proofs.PageAnswers as pages
 
--- what the calls of a heap have
+-- a heap for which each call has a result
 pub record HasAnswers (s : HeapState) : Type 0 where
   pub malloc : (n : ℕ) → HasMalloc s n
   pub free : (h : ℕ) (x : Placed) → get s.held h ≡ Some x → HasFree s h

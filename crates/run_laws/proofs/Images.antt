@@ -1,4 +1,4 @@
--- A sound arrangement has its words.
+-- There are words for every sound arrangement.
 use Rattle.std.proofs.Common.{◌≡◌, ℕ, Bool, true, false, cond, ◌+◌, ◌-◌, ◌*◌, ◌<◌, ◌≤◌, List, Some, length, get_or, map, replicate, arith, sym, ◌∙◌, refl, inl}
 use Rattle.std.proofs.Common.{inr}
 use Rattle.std.specs.Prelude.{◌&&◌, nat_le, nat_lt}
@@ -30,7 +30,7 @@ is_in_no : (a n w : ℕ) → IsOutside a n w → is_in a n w ≡ false
 is_in_no a n w (inl l) = (let x : nat_le a w ≡ false = grind (arith, nat_tests) in rw x refl)
 is_in_no a n w (inr r) = (let y : nat_lt w (a + n) ≡ false = grind (arith, nat_tests) in rw y (and_false (nat_le a w)))
 
--- the words with those of a run replaced
+-- the words after those of a run are replaced
 module _ (words : List ℕ) (a n : ℕ) (f : ℕ → ℕ) where
   unfoldable pub word_at : ℕ → ℕ
   word_at w = cond (is_in a n w) (f (w - a)) (get_or words w 0)
@@ -54,13 +54,13 @@ module _ (words : List ℕ) (a n : ℕ) (f : ℕ → ℕ) where
     ];
   }
 
--- the words of the objects in a region of n words
+-- words for these objects in a region of n words
 record HasImage (extent : ℕ → ℕ) (m : Held) (n : ℕ) : Type 0 where
   words : List ℕ
   count : length words ≡ n
   image : IsImageOver extent m words
 
--- objects that share no word and are in the region have their words there
+-- objects that share no word and are in the region have words there
 image_there : (extent : ℕ → ℕ) (n : ℕ) (m : Held) → IsApart extent m → ((h : ℕ) (x : Placed) → get m h ≡ Some x → x.place + extent (length x.bytes) ≤ n)
     → HasImage extent m n
 image_there extent n = map_induction (λ m. IsApart extent m → ((h : ℕ) (x : Placed) → get m h ≡ Some x → x.place + extent (length x.bytes) ≤ n)
@@ -80,7 +80,7 @@ image_there extent n = map_induction (λ m. IsApart extent m → ((h : ℕ) (x :
           (is_rewritten old.words x.place (extent (length x.bytes)) f fits);
     }))
 
--- a sound arrangement has its words
+-- a sound arrangement has words
 pub sound_image : (p : Paging) (m : Held) → IsSound p m → (words : List ℕ) × (length words ≡ p.pages * p.page_words) × IsSlotImage p m words
 sound_image p m s =
     let i = image_there (slot_for p) (p.pages * p.page_words) m (sound_apart p m s) (object_inside p m s) in

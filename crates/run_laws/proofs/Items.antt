@@ -1,4 +1,4 @@
--- What the items of a script can say.
+-- The items that a script can contain.
 use Rattle.std.proofs.Common.{◌≡◌, ℕ, Bool, true, false, cond, ◌+◌, ◌*◌, ◌/◌, ◌%◌, ◌≤◌, List, [], ◌∷◌, Option, Some, None, Result, Ok, Err, length, arith, sym}
 use Rattle.std.proofs.Common.{ap, refl, subst}
 use Rattle.std.specs.Prelude.{⊤, ◌==◌, codes, nat_le, option_map}
@@ -31,7 +31,7 @@ use Rattle.script_reader.specs.declared.stage.Stage.{Stage}
 use Rattle.script_reader.specs.declared.stage.Stage.TheVariants.{Opening}
 use Rattle.run_laws.specs.Sayable.{AreSayable, HasBytes, IsSayable, IsSayableItem}
 
--- what is there, if something is, is of the sort
+-- the value of the option, if there is one, satisfies P
 record OfSort {A : Type 0} (P : A → Type 0) (o : Option A) : Type 0 where
   each : (x : A) → o ≡ Some x → P x
 
@@ -45,12 +45,12 @@ module _ {A : Type 0} (P : A → Type 0) where
       same : (y : A) → Some x ≡ Some y → x ≡ y
       same y e = cc
 
-  -- one of two
+  -- one of two options
   either : (b : Bool) (x y : Option A) → OfSort P x → OfSort P y → OfSort P (cond b x y)
   either true x y first second = first
   either false x y first second = second
 
-  -- a value that passes a test
+  -- a value, if it passes a test
   tested : (b : Bool) (x : A) → (b ≡ true → P x) → OfSort P (cond b (Some x) None)
   tested true x is = sort_some x (is refl)
   tested false x is = sort_none
@@ -64,7 +64,7 @@ module _ {A B : Type 0} (P : A → Type 0) (Q : B → Type 0) where
   bound f None is all = sort_none Q
   bound f (Some x) is all = all x (is.each x refl)
 
--- where nothing is asked of the first value
+-- any first value will do
 module _ {A B : Type 0} (Q : B → Type 0) where
   mapped_any : (f : A → B) (o : Option A) → ((x : A) → Q (f x)) → OfSort Q (option_map f o)
   mapped_any f None all = sort_none Q
@@ -184,7 +184,7 @@ can_admit args = mapped (IsFrom 0 15) IsSayable (λ task. Admit task) (one_task 
 can_alone : (c : Command) (args : List (List ℕ)) → IsSayable c → Can (alone_in c args)
 can_alone c args is = either IsSayable (none_of args) (Some c) None (sort_some IsSayable c is) (sort_none IsSayable)
 
--- the command of a test that passes, or another one
+-- one of two commands, by a test
 if_test : (b : Bool) (x y : Option Command) → Can x → Can y → Can (cond b x y)
 if_test = either IsSayable
 
@@ -216,7 +216,7 @@ can_command [] args = can_word [] args
 can_command (letter ∷ []) args = can_letter letter args
 can_command (a ∷ b ∷ rest) args = can_word (a ∷ b ∷ rest) args
 
--- settings without a fault are in their ranges
+-- settings without a fault are in range
 module _ (pages page_bytes k proxies : ℕ) where
   no_fault : setting_fault pages page_bytes k proxies ≡ None → AreInRange (profile_from pages page_bytes k proxies)
   no_fault none = at_pages (is_within 1 4096 pages) refl none
@@ -282,7 +282,7 @@ can_open : (args : List (List ℕ)) → OfSort AreInRange (settings_in args)
 can_open args = bound_any AreInRange _ (four_of args) (λ p. bound_any AreInRange _ (number_in p.0) (λ pages. bound_any AreInRange _ (number_in p.1)
     (λ page_bytes. bound_any AreInRange _ (number_in p.2) (λ k. bound_any AreInRange _ (number_in p.3) (λ proxies. in_range pages page_bytes k proxies)))))
 
--- lines
+-- the result of reading a line
 abbrev CanSay : Saying → Type 0
 CanSay (item i) = IsSayableItem i
 CanSay saying = ⊤
@@ -307,7 +307,7 @@ can_tokens (word ∷ args) = says (is_comment word) nothing (item_or_wrong (item
 can_line : (line : List ℕ) → CanSay (line_says line)
 can_line line = says (is_too_long line) wrong (tokens_say (tokens (without_return line))) tt (can_tokens (tokens (without_return line)))
 
--- items
+-- an item and those after it
 can_follow : (stage : Stage) (saying : Saying) (n : ℕ) (after : Stage → List Item) → CanSay saying → ((next : Stage) → AreSayable (after next))
     → AreSayable (items_by (verdict stage saying) n stage after)
 can_follow stage nothing n after can rest = rest stage
@@ -322,6 +322,6 @@ lines_sayable : (all : List (List ℕ)) (n : ℕ) (stage : Stage) → AreSayable
 lines_sayable [] n stage = tt
 lines_sayable (line ∷ rest) n stage = can_follow stage (line_says line) n (items_at rest (n + 1)) (can_line line) (λ next. lines_sayable rest (n + 1) next)
 
--- the items of a script can be said
+-- every item of a script is valid
 pub items_sayable : (g : List ℕ) (ended : Bool) → AreSayable (items g ended)
 items_sayable g ended = lines_sayable (lines g ended) 0 Opening

@@ -1,5 +1,5 @@
--- What each command does to the ids of a run and the objects that they name, and that reads then give the bytes that the lines and their replies tell of:
--- by any rules, whatever the heap.
+-- What each command does to the ids of a run and to their objects, for any rules and any heap; and that reads then print the bytes that follow from the lines
+-- and their replies.
 use Rattle.std.proofs.Common.{◌≡◌, ◌⊎◌, ℕ, Bool, true, false, cond, List, [], ◌∷◌, Option, Some, None, replicate, sym, ◌∙◌, ap, refl, subst, inl, inr}
 use Rattle.std.proofs.lemmas.Bool.{cases_eq}
 use Rattle.std.specs.Ordering.{nat_cmp}
@@ -19,17 +19,17 @@ use Rattle.script_reader.specs.Items.{Item, asks, bad, starts}
 use Rattle.script_reader.specs.declared.command.Command.{Command}
 use Rattle.script_reader.specs.declared.command.Command.TheVariants.{Malloc, Free, Write, Read, Resize}
 
--- the bytes under the number that an id names
+-- the bytes of an id's number, if it has one
 abbrev pub through : Objects → Option ℕ → Option (List ℕ)
 through o None = None
 through o (Some h) = get o h
 
--- each id has the bytes that are told of it
+-- each id has the bytes that follow from the lines
 abbrev pub IsTold : Ids → Objects → Told → Type 0
 IsTold ids o m = (q : ℕ) → get m q ≡ through o (get ids q)
 
 module _ (ids : Ids) (o : Objects) (m : Told) (names : AreTiedTo ids o) (told : IsTold ids o m) (id h : ℕ) where
-  -- what is named otherwise stays
+  -- a number other than h keeps its bytes
   through_other : (v : List ℕ) (r : Option ℕ) → (r ≡ Some h → ⊥) → through (insert o h v) r ≡ through o r
   through_other v None other = refl
   through_other v (Some q) other = get_insert_other o h v q (λ is. other (ap (λ k. Some k) is))
@@ -59,14 +59,14 @@ module _ (ids : Ids) (o : Objects) (m : Told) (names : AreTiedTo ids o) (told : 
         still None other = refl
         still (Some k) other = get_remove_other o h k (λ is. other (ap (λ j. Some j) is))
 
-    -- the bytes that are told of the id
+    -- the bytes of the id that follow from the lines
     pub told_here : (v : List ℕ) → get o h ≡ Some v → get m id ≡ Some v
     told_here v there = told id ∙ ap (through o) some ∙ there
 
 pub changed_is : (m : Told) (id : ℕ) (f : List ℕ → List ℕ) (v : List ℕ) → get m id ≡ Some v → changed m id f ≡ insert m id (f v)
 changed_is m id f v here = ap (λ (o : Option (List ℕ)). elim o as (λ _. Told) [ None ↦ m | Some u ↦ insert m id (f u) ]) here
 
--- the live ids with the handles that they name, and the objects by handle
+-- the live ids with their handles, and the objects by handle
 pub record Named : Type 0 where
   pub ids : Ids
   pub objects : Objects
@@ -80,7 +80,7 @@ pub record IsSame (old new : Named) : Type 0 where
   pub ids : new.ids ≡ old.ids
   pub objects : new.objects ≡ old.objects
 
--- the reply isn't `ok`, and nothing has changed
+-- the reply isn't `ok`, and nothing changed
 pub record Refuses (old : Named) (reply : Reply) (new : Named) : Type 0 where
   pub told : is_ok reply ≡ false
   pub same : IsSame old new
@@ -94,7 +94,7 @@ pub record Adds (old : Named) (id n : ℕ) (reply : Reply) (new : Named) : Type 
   pub ids : new.ids ≡ insert old.ids id handle
   pub objects : new.objects ≡ insert old.objects handle (replicate n 0)
 
--- the id goes, and its object
+-- the id and its object are removed
 pub record Takes (old : Named) (id : ℕ) (reply : Reply) (new : Named) : Type 0 where
   pub handle : ℕ
   pub told : is_ok reply ≡ true
@@ -102,7 +102,7 @@ pub record Takes (old : Named) (id : ℕ) (reply : Reply) (new : Named) : Type 0
   pub ids : new.ids ≡ remove old.ids id
   pub objects : new.objects ≡ remove old.objects handle
 
--- the bytes of the id's object change, by f
+-- f changes the bytes of the id's object
 pub record Changes (old : Named) (id : ℕ) (f : List ℕ → List ℕ) (reply : Reply) (new : Named) : Type 0 where
   pub handle : ℕ
   pub bytes : List ℕ
@@ -112,7 +112,7 @@ pub record Changes (old : Named) (id : ℕ) (f : List ℕ → List ℕ) (reply :
   pub ids : new.ids ≡ old.ids
   pub objects : new.objects ≡ insert old.objects handle (f bytes)
 
--- One command: what it does to the ids and the objects that they name, and what a read tells of them.
+-- One command: what it does to the ids and to their objects, and the reply to a read.
 abbrev pub NamedTurn : Named → Command → Reply → Named → Type 0
 NamedTurn old (Malloc id n) reply new = Adds old id n reply new ⊎ Refuses old reply new
 NamedTurn old (Free id) reply new = Takes old id reply new ⊎ Refuses old reply new
@@ -144,13 +144,13 @@ module _ (old new : Named) (tied : AreTiedTo old.ids old.objects) where
   still_tied (Read id at count) reply turn = same_tied turn.1
   still_tied c reply turn = same_tied turn
 
--- ---- what is told after a reply
+-- ---- the bytes after a reply
 
 abbrev pub next : Command → Told → Reply → Told
 next c m reply = cond (is_ok reply) (done_by c m) m
 
 module _ (old new : Named) (m : Told) (tied : AreTiedTo old.ids old.objects) (told : IsTold old.ids old.objects m) where
-  -- of equal ids and objects
+  -- the same for equal ids and objects
   told_with : (ids : Ids) (o : Objects) (after : Told) → new.ids ≡ ids → new.objects ≡ o → IsTold ids o after → IsTold new.ids new.objects after
   told_with ids o after e f is = subst (λ i. IsTold i new.objects after) (sym e) (subst (λ b. IsTold ids b after) (sym f) is)
 
@@ -160,12 +160,12 @@ module _ (old new : Named) (m : Told) (tied : AreTiedTo old.ids old.objects) (to
   refused : (c : Command) (reply : Reply) → Refuses old reply new → IsTold new.ids new.objects (next c m reply)
   refused c reply r = let fails = r.told in rw fails (told_with _ _ m (r.same).ids (r.same).objects told)
 
-  -- a command that leaves all bytes
+  -- a command that changes no bytes
   kept_told : (b : Bool) → IsSame old new → IsTold new.ids new.objects (cond b m m)
   kept_told true s = told_with _ _ m s.ids s.objects told
   kept_told false s = told_with _ _ m s.ids s.objects told
 
-  -- an id's bytes change
+  -- the bytes of one id change
   changed_told : (id : ℕ) (f : List ℕ → List ℕ) (reply : Reply) → Changes old id f reply new → IsTold new.ids new.objects (changed m id f)
   changed_told id f reply c =
       let here = told_here old.ids old.objects m tied told id c.handle c.live c.bytes c.found in
@@ -191,7 +191,7 @@ module _ (old new : Named) (m : Told) (tied : AreTiedTo old.ids old.objects) (to
   turn_reads (Read id at count) reply turn = turn.0 ∙ ap (λ (o : Option (List ℕ)). said (read_told o at count)) (sym (told id))
   turn_reads c reply turn = tt
 
--- The rules of a run name objects: it begins with no id, its ids are those of its objects, and each command does to them what it has to.
+-- The rules of a run, seen as ids and objects: a run begins without ids, its ids are those of its objects, and each command changes them as it should.
 pub record NamesObjects {S : Type 0} (begins : Profile → Reply → S → Type 0) (turns : S → Command → Reply → S → Type 0) : Type 1 where
   pub is_going : S → Type 0
   pub named : S → Named
@@ -210,7 +210,7 @@ no_bad None reply n = tt
 no_bad (Some m) reply n = tt
 
 module _ {S : Type 0} (begins : Profile → Reply → S → Type 0) (turns : S → Command → Reply → S → Type 0) (rules : NamesObjects begins turns) where
-  -- a run and what is told of it
+  -- a run, and the bytes that follow from its lines
   abbrev AreTogether : Option S → Option Told → Type 0
   AreTogether None None = Unit {0}
   AreTogether None (Some m) = ⊥
@@ -247,7 +247,7 @@ module _ {S : Type 0} (begins : Profile → Reply → S → Type 0) (turns : S �
       let e = run.4 in
       rw e (one.1, run_reads run.0 (told_after t item run.1) rest run.2 new one.0 run.5)
 
-  -- over a run, reads give the bytes that the lines and their replies tell of
+  -- over a run, reads print the bytes that follow from the lines and their replies
   pub any_reads_are_told : (items : List Item) (replies : List Reply) (new : Option S) → PlayRun begins turns None items replies new
       → AreReadsOf None items replies
   any_reads_are_told items replies new run = run_reads None None items replies new tt run

@@ -1,4 +1,4 @@
--- Every call of a heap with pages has an answer, and a state after it that keeps the rules.
+-- Every call of a heap with pages has a result, and a state after it that keeps the rules.
 use Rattle.std.proofs.Common.{◌≡◌, ◌≢◌, ℕ, ◌+◌, ◌<◌, ◌≤◌, List, Option, Some, None, Ok, Err, length, get_or, set, replicate, arith, sym, ◌∙◌, ap, refl}
 use Rattle.std.proofs.Common.{subst, inl, inr}
 use Rattle.std.specs.Prelude.{◌⊎◌}
@@ -38,7 +38,7 @@ use Rattle.run_laws.proofs.Answered.{AreFew, HasFree, HasMalloc, HasResize, HasW
 use Rattle.run_laws.proofs.ByKind.{handle_of, number_of_handle, table_kept, table_moved, table_stepped}
 use Rattle.run_laws.proofs.Room.{room_or_not}
 
--- a map without keys is the empty one
+-- a map of length 0 has no keys
 no_keys : (m : Held) → len m ≡ 0 → (h : ℕ) (x : Placed) → get m h ≡ Some x → ⊥
 no_keys m none h x there = (let l = len_without m h x there in omega arith)
 
@@ -61,11 +61,11 @@ module _ (old : HeapState) (rules : KeepsRules old) (paged : IsPaged old.kind) w
   table_old : KeepsTable old.kind old
   table_old = table_kept old.kind old paged rules.of_kind
 
-  -- what costs nothing is within every bound
+  -- a cost of 0 is within every bound
   cost_none : (bound : ℕ) → CostsAtMost old.kind 0 bound
   cost_none bound = costs_nothing old.kind 0 bound refl
 
-  -- the rules, with other objects in other words
+  -- the rules hold for other objects in other words
   rules_with : (m : Held) (words frames : List ℕ) (cost : ℕ) → IsSound p m → length words ≡ region_words old.profile → IsSlotImage p m words
       → AreFew old.profile.proxies (objects m) → KeepsTable old.kind (record old { frames = frames })
       → KeepsRules (record old { held = m; words = words; frames = frames; cost = cost })
@@ -86,7 +86,7 @@ module _ (old : HeapState) (rules : KeepsRules old) (paged : IsPaged old.kind) w
     );
   }
 
-  -- the words of other objects
+  -- words for other objects
   record Becomes (m : Held) (frames : List ℕ) (cost : ℕ) : Type 0 where
     words : List ℕ
     kept : KeepsRules (record old { held = m; words = words; frames = frames; cost = cost })
@@ -97,7 +97,7 @@ module _ (old : HeapState) (rules : KeepsRules old) (paged : IsPaged old.kind) w
       let image = sound_image p m sound in
       record { words = image.0; kept = rules_with m image.0 frames cost sound image.1 image.2 few kept }
 
-  -- nothing changes but the cost
+  -- only the cost changes
   rules_still : KeepsRules (record old { cost = 0 })
   rules_still = rules_with old.held old.words old.frames 0 pages.sound rules.region pages.slots few_old table_old
 
@@ -130,7 +130,7 @@ module _ (old : HeapState) (rules : KeepsRules old) (paged : IsPaged old.kind) w
         cost = cost_none;
       }
 
-  -- every malloc is answered
+  -- every malloc has a result
   pub malloc_done : (n : ℕ) → HasMalloc old n
   malloc_done n = elim (cases_lt old.profile.page_words (need n)) [
     | inl large ↦ record { answer = Err refusal.Size; heap = record old { cost = 0 }; step = (large, refl); kept = rules_still; cost = cost_none }
@@ -186,13 +186,13 @@ module _ (old : HeapState) (rules : KeepsRules old) (paged : IsPaged old.kind) w
         cost = cost_none;
       }
 
-  -- every free of a live object is done
+  -- every free of a live object succeeds
   pub free_done : (h : ℕ) (x : Placed) → get old.held h ≡ Some x → HasFree old h
   free_done h x there =
       let move = some_move p pages.paging old.held pages.sound h x there in
       free_with h x there (handle_of move.0) (subst (Moves p old.held x) (sym (number_of_handle move.0)) move.1)
 
-  -- other bytes of the same number in the object's slot
+  -- other bytes of the same length in the object's slot
   sound_written : (h : ℕ) (x : Placed) (v : List ℕ) → get old.held h ≡ Some x → length v ≡ length x.bytes
       → IsSound p (insert old.held h (record x { bytes = v }))
   sound_written h x v there same = subst (IsSound p) (insert_again old.held h (record x { bytes = v }))
@@ -202,7 +202,7 @@ module _ (old : HeapState) (rules : KeepsRules old) (paged : IsPaged old.kind) w
   few_replaced h x y there bytes = subst (AreFew old.profile.proxies) (sym (map_values-insert (λ (z : Placed). z.bytes) old.held h y))
       (few_changed old.profile.proxies (objects old.held) few_old h x.bytes y.bytes (bytes_held old.held h x there) bytes)
 
-  -- every write into a live object is answered
+  -- every write into a live object has a result
   pub write_done : (part : Part) (bytes : List ℕ) (x : Placed) → AreBytes bytes → get old.held part.number ≡ Some x → HasWrite old part bytes
   write_done part bytes x are there = elim (cases_lt (length x.bytes) (part.from + length bytes)) [
     | inl past ↦ record { answer = Err access.Range; heap = old; step = (record { object = x; found = there; past = past }, refl); kept = rules }
@@ -265,7 +265,7 @@ module _ (old : HeapState) (rules : KeepsRules old) (paged : IsPaged old.kind) w
       ∙ ap (λ o. insert o asked.number y.bytes) (free_objects p pages.paging old.held pages.sound asked.number x there (number_of moved) moves)
       ∙ insert_again (objects old.held) asked.number y.bytes)
 
-  -- every resize of a live object is answered
+  -- every resize of a live object has a result
   pub resize_done : (asked : Request) (x : Placed) → get old.held asked.number ≡ Some x → HasResize old asked
   resize_done asked x there = elim (cases_lt old.profile.page_words (need asked.length)) [
     | inl large ↦ record {
@@ -294,7 +294,7 @@ module _ (old : HeapState) (rules : KeepsRules old) (paged : IsPaged old.kind) w
     ]
   ]
 
-  -- one bound of a class, where nothing is held
+  -- one class gets a bound while no object is live
   module _ (none : len old.held ≡ 0) (c k : ℕ) (some : 1 ≤ k) (low : k ≤ 64) where
     abbrev next : HeapState
     next = record old { bounds = set old.bounds c k }

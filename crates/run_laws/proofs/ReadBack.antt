@@ -1,4 +1,4 @@
--- Over a run on one manager, reads give the bytes that the lines before them and their replies tell of.
+-- Over a run on one manager, reads print the bytes that follow from the lines before them and their replies.
 use Rattle.std.proofs.Common.{◌≡◌, ◌⊎◌, ℕ, false, true, List, Option, Some, None, Result, Ok, Err, sym, ◌∙◌, ap, refl, subst, inl, inr}
 use Rattle.std.specs.Prelude.{codes, option_map}
 use Rattle.std.specs.FinMap.{get}
@@ -159,7 +159,7 @@ module _ (old new : RunState) where
   )
   turn_named c reply step = same step.1
 
--- a run on one manager names objects
+-- the rules of a run on one manager, seen as ids and objects
 pub kind_names : (kind : Kind) → NamesObjects (BeginsOne kind) Turn
 kind_names kind = record {
   is_going = IsGoing;
@@ -171,7 +171,7 @@ kind_names kind = record {
   turns_named = λ old c reply new going turn. turn_named old new c reply turn.step;
 }
 
--- over a run, reads give the bytes that the lines and their replies tell of
+-- over a run, reads print the bytes that follow from the lines and their replies
 pub reads_are_told : (kind : Kind) (items : List Item) (replies : List Reply) (new : Option RunState) → Run kind None items replies new
     → AreReadsOf None items replies
 reads_are_told kind = any_reads_are_told (BeginsOne kind) Turn (kind_names kind)

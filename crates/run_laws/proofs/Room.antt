@@ -1,4 +1,4 @@
--- Where a sound arrangement has room there is a free place.
+-- If a class of a sound arrangement has a slot left, there is a free place.
 use Rattle.std.proofs.Common.{◌≡◌, ℕ, ◌<◌, arith, ◌∙◌, ap, inl, inr}
 use Rattle.std.specs.Prelude.{◌⊎◌}
 use Rattle.std.proofs.lemmas.Bool.{cases_eq, cases_lt}
@@ -9,7 +9,7 @@ use Rattle.page_model.specs.Steps.{IsFreePlace}
 use Rattle.page_model.proofs.CallerLemmas.{IsOpen, address_is_slot, nothing_on, open_page, slots_some, vacant_where_less}
 use Rattle.cf_lemmas.proofs.Searches.{search_below}
 
--- a page holds something or nothing
+-- a page has objects or none
 bare_or_not : (p : Paging) (m : Held) (page : ℕ) → (0 < standing_on p m page) ⊎ (standing_on p m page ≡ 0)
 bare_or_not p m page = elim (cases_lt 0 (standing_on p m page)) [
   | inl some ↦ inl some
@@ -27,7 +27,7 @@ module _ (p : Paging) (ok : IsPaging p) (m : Held) (s : IsSound p m) where
       let less = opened.less in
       (address_of p (class_for p n) page free.0, record { slot = at.0; unused = free.2; choice = inl (rw on some, rw on less) })
 
-  -- on a page that holds nothing
+  -- on a page without objects
   place_alone : (n : ℕ) → class_for p n < classes p → not_full_pages p m (class_for p n) ≡ 0 → (page : ℕ) → page < p.pages → standing_on p m page ≡ 0
       → (a : ℕ) × IsFreePlace p m n a
   place_alone n lt none page within bare =
@@ -41,7 +41,7 @@ module _ (p : Paging) (ok : IsPaging p) (m : Held) (s : IsSound p m) where
         },
       )
 
-  -- room is lacking, or there is a free place
+  -- the class has no slot left, or there is a free place
   pub room_or_not : (n : ℕ) → class_for p n < classes p → LacksRoom p m (class_for p n) ⊎ ((a : ℕ) × IsFreePlace p m n a)
   room_or_not n lt = elim (cases_eq (not_full_pages p m (class_for p n)) 0) [
     | inr ne ↦ inr (let at = open_page p m (class_for p n) (omega arith) in place_beside n lt at.0 at.1)

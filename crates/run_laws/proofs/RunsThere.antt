@@ -1,4 +1,4 @@
--- There is a run over the items of any script, by any rules by which runs begin and each command has its turn.
+-- There is a run over the items of any script, for any rules by which runs begin and each command has a step.
 use Rattle.std.proofs.Common.{◌≡◌, ◌++◌, ℕ, List, [], ◌∷◌, Option, Some, None, refl, sym, subst}
 use Rattle.std.specs.Prelude.{⊤, Bool}
 use Rattle.cf_base.specs.Settings.{Profile}
@@ -11,7 +11,7 @@ use Rattle.run_model.specs.Texts.{Reply, bad_line, said}
 use Rattle.script_reader.specs.Items.{Item, asks, bad, items, starts}
 use Rattle.script_reader.specs.declared.command.Command.{Command}
 
--- The rules of a run let it go on: it begins under any settings in their ranges, each command that can be said has its turn, and the run is going then.
+-- A run can always go on: it begins with any settings in range, each valid command has a step, and the run is in progress afterwards.
 pub record CanGoOn {S : Type 0} (begins : Profile → Reply → S → Type 0) (turns : S → Command → Reply → S → Type 0) : Type 1 where
   pub is_going : S → Type 0
   pub begins_going : (p : Profile) (reply : Reply) (s : S) → begins p reply s → is_going s
@@ -19,7 +19,7 @@ pub record CanGoOn {S : Type 0} (begins : Profile → Reply → S → Type 0) (t
   pub begins_there : (p : Profile) → AreInRange p → (reply : Reply) × (s : S) × begins p reply s
   pub turn_there : (old : S) (c : Command) → is_going old → IsSayable c → (reply : Reply) × (new : S) × turns old c reply new
 
--- the items that come first, and those that come after, can be said
+-- the first items of a list of valid ones are valid
 pub sayable_before : (done after : List Item) → AreSayable (done ++ after) → AreSayable done
 sayable_before [] after can = tt
 sayable_before (item ∷ rest) after can = (can.0, sayable_before rest after can.1)
@@ -60,7 +60,7 @@ module _ {S : Type 0} (begins : Profile → Reply → S → Type 0) (turns : S �
       let more = run_there first.1 rest (step_on old item first.0 first.1 on can.0 first.2) can.1 in
       (first.0 ∷ more.0, more.1, (first.1, first.0, more.0, first.2, refl, more.2))
 
-  -- a run over a prefix of items that can be said goes on over all of them
+  -- a run over a prefix of valid items can be continued over all of them
   pub run_goes_on : (all done after : List Item) (replies : List Reply) (mid : Option S) → AreSayable all → all ≡ done ++ after
       → PlayRun begins turns None done replies mid
       → (more : List Reply) × (new : Option S) × PlayRun begins turns None all (replies ++ more) new
@@ -73,11 +73,11 @@ module _ {S : Type 0} (begins : Profile → Reply → S → Type 0) (turns : S �
             (run_joined begins turns None done after replies rest.0 mid rest.1 run rest.2),
       )
 
-  -- over the items of any bytes
+  -- the same for the items of any bytes
   pub runs_there : (given : List ℕ) (ended : Bool) → (replies : List Reply) × (new : Option S) × PlayRun begins turns None (items given ended) replies new
   runs_there given ended = run_there None (items given ended) tt (items_sayable given ended)
 
-  -- and each run over a prefix of them goes on to the end
+  -- and each run over a prefix of them can be continued to the end
   pub runs_on : (given : List ℕ) (ended : Bool) (done after : List Item) (replies : List Reply) (mid : Option S) → items given ended ≡ done ++ after
       → PlayRun begins turns None done replies mid
       → (more : List Reply) × (new : Option S) × PlayRun begins turns None (items given ended) (replies ++ more) new

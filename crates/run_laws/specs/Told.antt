@@ -1,4 +1,4 @@
--- What the lines of a script and their replies tell of the bytes of each id, with no word of handles.
+-- The bytes of each id, computed from the lines of a script and their replies alone.
 use Rattle.std.specs.Prelude.{◌≡◌, ℕ, ⊤, Bool, false, ◌+◌, List, [], ◌∷◌, ◌++◌, Option, Some, None, codes, drop, if◌then◌else◌, length, nat_le, replicate, take}
 use Rattle.std.specs.FinMap.{FinMap, empty, get, insert, remove}
 use Rattle.std.specs.Ordering.{nat_cmp}
@@ -20,11 +20,11 @@ abbrev pub is_ok : Reply → Bool
 is_ok [] = false
 is_ok (text ∷ rest) = bytes_eq text (codes "ok")
 
--- f of the id's bytes, where it has some
+-- f applied to the id's bytes, if it has any
 abbrev pub changed : Told → ℕ → (List ℕ → List ℕ) → Told
 changed m id f = elim (get m id) [ None ↦ m | Some v ↦ insert m id (f v) ]
 
--- what a command that was answered by `ok` does: a malloc gives zeros, a write replaces bytes, a resize cuts them or adds zeros
+-- the effect of a command with the reply `ok`: a malloc makes zeros, a write replaces bytes, a resize cuts them or adds zeros
 abbrev pub done_by : Command → Told → Told
 done_by (Malloc id bytes) m = insert m id (replicate bytes 0)
 done_by (Free id) m = remove m id
@@ -44,12 +44,12 @@ abbrev pub read_told : Option (List ℕ) → ℕ → ℕ → List ℕ
 read_told None at count = codes "unknown"
 read_told (Some v) at count = if nat_le (at + count) (length v) then codes "=" ++ encode_lower (take count (drop at v)) else codes "range"
 
--- the item is a read, and its reply gives the id's bytes; or it is no read
+-- if the item is a read, its reply has the id's bytes
 abbrev pub IsReadOf : Option Told → Item → Reply → Type 0
 IsReadOf (Some m) (asks (Read id at count)) reply = reply ≡ said (read_told (get m id) at count)
 IsReadOf told item reply = ⊤
 
--- every read is answered by the bytes that the lines before it and their replies tell of
+-- the reply to every read has the bytes that follow from the lines before it and their replies
 abbrev pub AreReadsOf : Option Told → List Item → List Reply → Type 0
 AreReadsOf told [] replies = ⊤
 AreReadsOf told (item ∷ rest) [] = ⊥

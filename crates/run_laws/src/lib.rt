@@ -1,6 +1,6 @@
-//! Laws of runs over scripts: a run can always go on to the end of its script, and reads give what
-//! was written. The public functions do nothing: each one's contract is a law of the definitions
-//! of runs.
+//! Laws of runs over scripts: every run can be continued to the end of its script, and reads print
+//! what was written. The public functions do nothing; each contract is a law of the definitions of
+//! runs.
 #![tactic(auto)]
 
 mod reads;

@@ -1,4 +1,4 @@
-//! What reads give.
+//! What reads print.
 ghost use Rattle.std.specs.Prelude.{ℕ, ◌≡◌, ◌≢◌, ◌+◌, ◌<◌, ◌≤◌, List, Option, Some, None, length, replicate, slice_index};
 ghost use Rattle.std.specs.FinMap.{get};
 ghost use Rattle.page_model.specs.Image.{IsOutside};
@@ -10,17 +10,17 @@ ghost use Rattle.run_model.specs.Sessions.{RunState};
 ghost use Rattle.run_model.specs.Texts.{Reply};
 ghost use Rattle.run_laws.specs.Told.{AreReadsOf, Told, done_by};
 
-/// Over a run of any kind, each read of an id gives the bytes last written through it, and zeros
-/// where nothing was written since its malloc or since a resize added the byte. What was written is
-/// told by the lines before the read and their replies, whatever was moved or freed between.
+/// Over a run of any kind, each read of an id prints the bytes last written through it. A byte that
+/// was not written since the malloc or the resize that added it is 0. What was written follows from
+/// the lines before the read and their replies, whatever was moved or freed in between.
 pub fn reads_give_what_was_written()
     ensures { (kind : Kind) (items : List Item) (replies : List Reply) (new : Option RunState)
         → Run kind None items replies new → AreReadsOf None items replies }
 {}
 
-/// What the lines tell of an id, byte by byte: after a malloc all its bytes are 0, after a free it
-/// has none, a write changes those that it names, a resize cuts bytes or adds zeros; and the bytes
-/// of every other id stay.
+/// The effect of each command on the bytes of an id. After a malloc all are 0; after a free there
+/// are none. A write changes those in its range; a resize cuts bytes or adds zeros. The bytes of
+/// every other id stay.
 pub fn bytes_are_told_one_by_one()
     ensures malloc { (m : Told) (id n : ℕ) → get (done_by (Malloc id n) m) id ≡ Some (replicate n 0) }
     ensures free { (m : Told) (id : ℕ) → get (done_by (Free id) m) id ≡ None }

@@ -1,4 +1,4 @@
-//! Runs go on.
+//! Runs can be continued.
 ghost use Rattle.std.specs.Prelude.{ℕ, ◌≡◌, Bool, List, ◌++◌, Option, None};
 ghost use Rattle.cf_base.specs.Settings.{Profile};
 ghost use Rattle.cf_base.specs.declared.kind.Kind.{Kind};
@@ -10,8 +10,8 @@ ghost use Rattle.run_model.specs.Sessions.{IsGoing, RunState};
 ghost use Rattle.run_model.specs.Texts.{Reply, text_of};
 ghost use Rattle.run_laws.specs.Sayable.{AreSayable, IsSayable, IsUnderWay};
 
-/// A run begins under any settings in their ranges, and from each state of a run that
-/// goes on every command that a script can say gets a reply, within the bounds.
+/// A run begins with any settings in range. In each state of a run in progress every valid command
+/// gets a reply, within the bounds.
 pub fn a_command_is_always_answered()
     ensures begins { (kind : Kind) (p : Profile) → AreInRange p
         → (new : RunState) × Begins kind p new }
@@ -19,20 +19,19 @@ pub fn a_command_is_always_answered()
         → IsSayable command → (reply : Reply) × (new : RunState) × Turn old command reply new }
 {}
 
-/// Whatever bytes are given, their items have settings in their ranges, numbers in range, and
-/// payloads of bytes.
+/// The items of any bytes have settings in range, numbers in range, and payloads of bytes.
 pub fn items_can_be_said()
     ensures { (given : List ℕ) (ended : Bool) → AreSayable (items given ended) }
 {}
 
-/// A run keeps its kind, and goes on after each item, whatever the kind.
+/// A run keeps its kind and stays in progress after each item.
 pub fn a_run_stays_under_way()
     ensures { (kind : Kind) (old : Option RunState) (done : List Item) (replies : List Reply)
         (new : Option RunState)
         → IsUnderWay kind old → Run kind old done replies new → IsUnderWay kind new }
 {}
 
-/// One run after the other is a run over both.
+/// Two consecutive runs are one run over all their items.
 pub fn runs_are_joined()
     ensures { (kind : Kind) (old mid new : Option RunState) (done after : List Item)
         (replies more : List Reply)
@@ -40,8 +39,8 @@ pub fn runs_are_joined()
         → Run kind old (done ++ after) (replies ++ more) new }
 {}
 
-/// There is a run over the items of any bytes, and each run over a prefix of them can go
-/// on to the end.
+/// There is a run over the items of any bytes, and each run over a prefix of them can be continued
+/// to the end.
 pub fn a_run_can_always_go_on()
     ensures there { (kind : Kind) (given : List ℕ) (ended : Bool)
         → (replies : List Reply) × (new : Option RunState)
@@ -53,8 +52,8 @@ pub fn a_run_can_always_go_on()
         × Run kind None (items given ended) (replies ++ more) new }
 {}
 
-/// A prefix of the text of a run over a prefix of a script's items is a prefix of the text
-/// of a run over all of them, wherever the text was cut.
+/// A prefix of the text of a run over a prefix of a script's items is a prefix of the text of a run
+/// over all items.
 pub fn what_was_written_is_a_front()
     ensures joined { (lead : List ℕ) (replies more : List Reply)
         → text_of lead (replies ++ more) ≡ text_of lead replies ++ text_of lead more }

@@ -1,4 +1,4 @@
--- Every step of a run that goes on meets the bound on pages, and refuses mallocs as the arithmetic says.
+-- Every step of a run in progress meets the bound on pages, and refuses mallocs as `RefusesByNeed` asks.
 use Rattle.std.proofs.Common.{◌≡◌, ℕ, ◌<◌, ◌≤◌, Option, Some, None, Result, Ok, Err, arith, sym, ◌∙◌, subst, inl, inr, refl}
 use Rattle.std.specs.Prelude.{◌↔◌, codes}
 use Rattle.std.specs.FinMap.{get}
@@ -32,7 +32,7 @@ use Rattle.run_model.proofs.Going.{step_rules, step_same}
 pub pages_kept : (k : Kind) (s : HeapState) → IsPaged k → KeepsRulesOf k s → KeepsPages s
 pages_kept k s is rules = (let kept : KeepsPages s × KeepsTable k s = rw (is, KeepsRulesOf) at rules in kept.0)
 
--- a heap with pages that keeps its rules has few pages
+-- a heap with pages that keeps its rules has at most the pages of the bound
 pub few_pages : (s : HeapState) → IsPaged s.kind → KeepsRules s → HasFewPages s
 few_pages s paged rules = (let k = pages_kept s.kind s paged rules.of_kind in λ c lt. sound_few (paging_in s) k.paging c lt s.held k.sound)
 
@@ -43,20 +43,20 @@ unfolding not_full_pages
 not_full_here p m c page lt some less = some_counted (λ g. part_full (objects_on p m c g) (slots_of p c)) 0 p.pages page (omega arith) (omega arith)
     (part_yes _ _ some less)
 
--- where there is a free place there is room
+-- if there is a free place, the class has a slot left
 pub place_is_room : (p : Paging) (m : Held) (n a : ℕ) → IsFreePlace p m n a → LacksRoom p m (class_for p n) → ⊥
 place_is_room p m n a free lacks = elim free.choice [
   | inl there ↦ (let some = not_full_here p m (class_for p n) (page_of p a) free.slot.page there.0 there.1 in let none = lacks.full in absurd (omega arith))
   | inr bare ↦ (let some = lacks.taken (page_of p a) free.slot.page in let none = bare.1 in absurd (omega arith))
 ]
 
--- a heap with pages, of a kind that is known, and a malloc of so many bytes that fit a page, where every bound is 1
+-- a heap with pages and every bound 1, and a malloc of `bytes` bytes that fit a page
 module _ (k : Kind) (paged : IsPaged k) (s : HeapState) (rules : KeepsRules s) (is : s.kind ≡ k) (bytes : ℕ) (ones : AreOne (paging_in s))
     (fits : need bytes ≤ s.profile.page_words) where
   pages : KeepsPages s
   pages = pages_kept s.kind s (subst IsPaged (sym is) paged) rules.of_kind
 
-  -- room is lacking exactly as arithmetic says
+  -- no slot is left if and only if the objects with the new one need more pages than there are
   by_need : LacksRoom (paging_in s) s.held (class_for (paging_in s) bytes) ↔ (s.profile.pages < pages_needed_with (paging_in s) (objects s.held) bytes)
   by_need = lacks_room_at_one (paging_in s) pages.paging ones s.held pages.sound bytes (class_fits (paging_in s) pages.paging bytes fits)
 
@@ -93,7 +93,7 @@ refuses_at k (Some h) old asked reply new paged rules is step = tt
 refuses_at k None old asked reply new paged rules is step = λ ones fits. refused_exactly k paged old.heap rules is asked.length ones fits step.answer new.heap
     reply step.step step.reply_is
 
--- a malloc is refused by need, where every bound is 1
+-- if every bound is 1, a malloc is refused if and only if `IsWanting` holds
 pub step_refuses : (old new : RunState) (c : Command) (reply : Reply) → IsPaged old.heap.kind → KeepsRules old.heap → Step old c reply new → Refuses old c reply
 step_refuses old new (Malloc id bytes) reply paged rules step =
     refuses_at old.heap.kind (get old.session.ids id) old (record { number = id; length = bytes }) reply new paged rules refl step
@@ -107,7 +107,7 @@ meets k old new c reply few refuses = by_family (family_of k) refl
     by_family family.paged is = rw (is, MeetsBounds) (few is, refuses is)
     by_family family.tiled is = rw (is, MeetsBounds) tt
 
--- every step of a run that goes on meets the bounds
+-- every step of a run in progress meets the bounds
 pub step_meets_bounds : (old new : RunState) (c : Command) (reply : Reply) → IsGoing old → Step old c reply new → MeetsBounds old.heap.kind old c reply new
 step_meets_bounds old new c reply going step = meets old.heap.kind old new c reply
     (λ paged. few_pages new.heap (subst IsPaged (sym (step_same old new c reply going.rules step).kind) paged) (step_rules old new c reply going.rules step))

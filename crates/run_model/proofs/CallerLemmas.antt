@@ -1,4 +1,4 @@
--- What upper crates may cite, passed on from one address. Declares nothing.
+-- What other crates' proofs may cite, re-exported. Declares nothing.
 pub use Rattle.run_model.proofs.Bounded.{pages_kept, step_meets_bounds}
 pub use Rattle.run_model.proofs.Going.{begins_going, costs_nothing, step_going, step_same}
 pub use Rattle.run_model.proofs.Tied.{bytes_held, bytes_missing, counted_ids, names_of_objects, resized_ids, unmoved_changes_cost}

@@ -1,4 +1,4 @@
--- A run goes on: after its opening, and after every step.
+-- A run is in progress after its start and after every step.
 use Rattle.std.proofs.Common.{◌≡◌, ℕ, List, Option, Some, None, Result, Ok, Err, sym, ◌∙◌, ap, subst, refl, arith}
 use Rattle.std.specs.FinMap.{get}
 use Rattle.cf_base.specs.Settings.{Profile}
@@ -24,13 +24,13 @@ use Rattle.run_model.proofs.NamedIds.{FreesAt, MallocsAt, ResizesAt, WritesAt}
 use Rattle.run_model.specs.Texts.{Reply}
 use Rattle.run_model.proofs.Tied.{step_tied, unmoved_changes_cost}
 
--- the kind, the settings, and that it is open
+-- the kind, the settings and whether the manager is open stay
 pub record IsSame (old new : HeapState) : Type 0 where
   pub kind : new.kind ≡ old.kind
   pub opened : new.is_open ≡ old.is_open
   pub profile : new.profile ≡ old.profile
 
--- what is the same but for other parts
+-- the same for a state that equals another
 same_as : (old new next : HeapState) → new ≡ next → IsSame old next → IsSame old new
 same_as old new next e s = subst (IsSame old) (sym e) s
 
@@ -98,7 +98,7 @@ module _ (old new : RunState) (rules : KeepsRules old.heap) where
   kept (Bound slot_words k) reply step = record { same = bound_same old.heap new.heap (class_to_bound old.heap slot_words) k step.heap; rules = step.rules }
   kept _ reply step = still step.1
 
--- a step leaves the kind, the settings, and the manager open
+-- a step keeps the kind, the settings and whether the manager is open
 pub step_same : (old new : RunState) (c : Command) (reply : Reply) → KeepsRules old.heap → Step old c reply new → IsSame old.heap new.heap
 step_same old new c reply rules step = (kept old new rules c reply step).same
 
@@ -106,7 +106,7 @@ step_same old new c reply rules step = (kept old new rules c reply step).same
 pub step_rules : (old new : RunState) (c : Command) (reply : Reply) → KeepsRules old.heap → Step old c reply new → KeepsRules new.heap
 step_rules old new c reply rules step = (kept old new rules c reply step).rules
 
--- a run that goes on does so after each step
+-- each step of a run in progress leaves it in progress
 pub step_going : (old new : RunState) (c : Command) (reply : Reply) → IsGoing old → Step old c reply new → IsGoing new
 step_going old new c reply going step = record {
   opened = (step_same old new c reply going.rules step).opened ∙ going.opened;
@@ -114,7 +114,7 @@ step_going old new c reply going step = record {
   tied = step_tied old new c reply going.tied step;
 }
 
--- a call that cost nothing is within every bound
+-- a call without cost is within every bound
 pub costs_nothing : (k : Kind) (cost bound : ℕ) → cost ≡ 0 → CostsAtMost k cost bound
 costs_nothing k cost bound none = by_family (family_of k) refl
   where
@@ -122,7 +122,7 @@ costs_nothing k cost bound none = by_family (family_of k) refl
     by_family paged is = rw (is, CostsAtMost) (omega arith)
     by_family tiled is = rw (is, CostsAtMost) tt
 
--- a run goes on when it has begun
+-- a run is in progress when it begins
 pub begins_going : (kind : Kind) (p : Profile) (s : RunState) → Begins kind p s → IsGoing s
 begins_going kind p s begins = record {
   opened = ap (λ (h : HeapState). h.is_open) begins.heap;

@@ -1,4 +1,4 @@
--- What a command does, by what its id names: none, or a handle.
+-- The step of a command, by whether its id has a handle.
 use Rattle.std.specs.Prelude.{ℕ, List, Option, codes}
 use Rattle.std.specs.Option.{MatchOption}
 use Rattle.page_model.specs.Steps.{Request}

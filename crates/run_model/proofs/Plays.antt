@@ -1,4 +1,4 @@
--- Runs that follow one another, by any rules.
+-- Consecutive runs, for any rules.
 use Rattle.std.proofs.Common.{◌≡◌, ◌++◌, ◌∙◌, ℕ, List, [], ◌∷◌, Option, Some, None, refl, sym, ap, subst, append_assoc}
 use Rattle.std.specs.Prelude.{option_map}
 use Rattle.cf_base.specs.Settings.{Profile}
@@ -7,7 +7,7 @@ use Rattle.script_reader.specs.declared.command.Command.{Command}
 use Rattle.run_model.specs.Plays.{PlayPart, PlayRun, PlayStep}
 use Rattle.run_model.specs.Texts.{Reply, led, text_of}
 
--- one run after the other
+-- two consecutive runs are one run over all their items
 pub run_joined : {S : Type 0} (begins : Profile → Reply → S → Type 0) (turns : S → Command → Reply → S → Type 0) (old : Option S) (done after : List Item)
     (replies more : List Reply) (mid end : Option S)
     → PlayRun begins turns old done replies mid → PlayRun begins turns mid after more end → PlayRun begins turns old (done ++ after) (replies ++ more) end
@@ -23,19 +23,19 @@ pub one_run : {S : Type 0} (begins : Profile → Reply → S → Type 0) (turns 
     → PlayStep begins turns old item reply new → PlayRun begins turns old (item ∷ []) (reply ∷ []) new
 one_run begins turns old new item reply step = (new, reply, [], step, refl, (refl, refl))
 
--- the lines of two replies
+-- the lines of two consecutive replies
 pub led_joined : (lead : List ℕ) (reply more : Reply) → led lead (reply ++ more) ≡ led lead reply ++ led lead more
 led_joined lead [] more = refl
 led_joined lead (text ∷ rest) more = ap (λ l. (lead ++ (text ++ 10 ∷ [])) ++ l) (led_joined lead rest more)
     ∙ sym (append_assoc (lead ++ (text ++ 10 ∷ [])) (led lead rest) (led lead more))
 
--- the text of replies, one after the other
+-- the text of consecutive replies
 pub text_joined : (lead : List ℕ) (replies more : List Reply) → text_of lead (replies ++ more) ≡ text_of lead replies ++ text_of lead more
 text_joined lead [] more = refl
 text_joined lead (reply ∷ rest) more = ap (λ t. led lead reply ++ t) (text_joined lead rest more)
     ∙ sym (append_assoc (led lead reply) (text_of lead rest) (text_of lead more))
 
--- a run, by what is seen of its states
+-- a run stays a run if f maps each of its states
 module _ {S T : Type 0} (f : S → T) (begins : Profile → Reply → T → Type 0) (turns : T → Command → Reply → T → Type 0)
     (in_part : T → Command → List ℕ → T → Type 0) where
   step_seen : (old : Option S) (item : Item) (reply : Reply) (new : Option S)

@@ -1,4 +1,4 @@
--- The ids stay consistent with the handles through every step.
+-- The ids stay consistent with the handles in every step.
 use Rattle.std.proofs.Common.{◌≡◌, ℕ, List, Option, Some, None, Result, Ok, Err, sym, ◌∙◌, ap, subst, refl}
 use Rattle.std.specs.Prelude.{option_map}
 use Rattle.std.specs.FinMap.{get, insert, remove}
@@ -24,19 +24,19 @@ use Rattle.run_model.specs.Steps.{Frees, Mallocs, Resizes, Step, class_to_bound,
 use Rattle.run_model.proofs.NamedIds.{FreesAt, MallocsAt, ResizesAt, WritesAt}
 use Rattle.run_model.specs.Texts.{Reply}
 
--- an option that is mapped to a value has one
+-- if a mapped option has a value, so has the option
 mapped : {X Y : Type 0} (f : X → Y) (o : Option X) (y : Y) → option_map f o ≡ Some y → (x : X) × (o ≡ Some x)
 mapped f None y is = absurd (let e : None ≡ Some y = is in cc)
 mapped f (Some x) y is = (x, refl)
 
--- the bytes of an object that is held, and of one that is not
+-- the bytes of an object
 pub bytes_held : (m : Held) (h : ℕ) (x : Placed) → get m h ≡ Some x → get (objects m) h ≡ Some x.bytes
 bytes_held m h x there = get-map_values (λ (y : Placed). y.bytes) m h ∙ ap (option_map (λ (y : Placed). y.bytes)) there
 
 pub bytes_missing : (m : Held) (h : ℕ) → get m h ≡ None → get (objects m) h ≡ None
 bytes_missing m h none = get-map_values (λ (y : Placed). y.bytes) m h ∙ ap (option_map (λ (y : Placed). y.bytes)) none
 
--- the same of the objects without their addresses
+-- the ids are tied to the objects without their addresses too
 module _ (ids : Ids) (m : Held) where
   pub names_of_objects : AreTiedTo ids m → AreTiedTo ids (objects m)
   names_of_objects names = record {
@@ -55,7 +55,7 @@ module _ (ids : Ids) (m : Held) where
     all = λ q x is. names.all q x.bytes (bytes_held m q x is);
   }
 
--- a session whose counters alone differ
+-- a session whose counters changed keeps its ids
 pub counted_ids : {T : Type 0} (s : SessionState) (o : Option T) (n : ℕ) → (counted s o n).ids ≡ s.ids
 counted_ids s None n = refl
 counted_ids s (Some h) n = refl
@@ -72,7 +72,7 @@ resized_bound : (s : SessionState) (answer : Result Resized ResizeFault) → (se
 resized_bound s (Ok done) = counted_bound s done.moved done.old_slot_words
 resized_bound s (Err e) = refl
 
--- a refused resize changes the cost at most
+-- a refused resize changes at most the cost
 pub unmoved_changes_cost : (k : Kind) (old new : HeapState) → IsUnmoved k old new → ChangesCost old new
 unmoved_changes_cost k old new is = by_family (family_of k) refl
   where
@@ -80,7 +80,7 @@ unmoved_changes_cost k old new is = by_family (family_of k) refl
     by_family paged e = rw (e, IsUnmoved) at is
     by_family tiled e = (let same : new ≡ old = rw (e, IsUnmoved) at is in rw same refl)
 
--- a refused resize leaves the objects
+-- a refused resize keeps the objects
 pub unmoved_held : (k : Kind) (old new : HeapState) → IsUnmoved k old new → new.held ≡ old.held
 unmoved_held k old new is = ap (λ (s : HeapState). s.held) (unmoved_changes_cost k old new is)
 
@@ -88,7 +88,7 @@ module _ (old new : RunState) (tied : AreTied old.session old.heap) where
   abbrev names : AreTiedTo old.session.ids old.heap.held
   names = tied.ids
 
-  -- session and heap are consistent, from the names and the cost, at equal parts
+  -- session and heap are consistent, by their parts
   tied_with : (session : SessionState) (ids : Ids) (m : Held) (bound : ℕ) → new.session ≡ session → session.ids ≡ ids → session.bound ≡ bound
       → new.heap.held ≡ m → AreTiedTo ids m → CostsAtMost new.heap.kind new.heap.cost bound → AreTied new.session new.heap
   tied_with session ids m bound e i b f names cost =
@@ -168,6 +168,6 @@ module _ (old new : RunState) (tied : AreTied old.session old.heap) where
   tied_after (Bound slot_words k) reply step = bound_tied (class_to_bound old.heap slot_words) k step.session step.heap
   tied_after _ reply step = still step.1
 
--- the live ids name just the live handles after a step too
+-- after each step the live ids name exactly the live handles
 pub step_tied : (old new : RunState) (c : Command) (reply : Reply) → AreTied old.session old.heap → Step old c reply new → AreTied new.session new.heap
 step_tied old new c reply tied step = tied_after old new tied c reply step

@@ -1,4 +1,4 @@
--- One command answered to a sink.
+-- One command, with its reply written to a sink.
 use Rattle.std.specs.Prelude.{◌≡◌, ℕ, List, ◌++◌, Option}
 use Rattle.cf_io.specs.Feeds.{appended}
 use Rattle.script_reader.specs.declared.command.Command.{Command}
@@ -6,12 +6,12 @@ use Rattle.run_model.specs.Runs.{Turn}
 use Rattle.run_model.specs.Sessions.{RunState}
 use Rattle.run_model.specs.Texts.{Reply, led}
 
--- a command, and what leads each line of its reply
+-- a command, and the text before each line of its reply
 pub record Asked : Type 0 where
   pub command : Command
   pub lead : List ℕ
 
--- a run at one moment, and the bytes written by then, where the sink is observable
+-- a run at one moment, and the bytes written so far, if the sink is observable
 pub record Moment : Type 0 where
   pub run : RunState
   pub written : Option (List ℕ)

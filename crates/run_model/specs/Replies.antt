@@ -23,7 +23,7 @@ use Rattle.run_model.specs.Reports.{frag_of, walk_of}
 use Rattle.run_model.specs.Sessions.{RunState, SessionState}
 use Rattle.run_model.specs.Texts.{Reply, said, with_number}
 
--- the object that an id names, where it is live
+-- the object of an id, if the id is live
 abbrev pub object_of : RunState → ℕ → Option Placed
 object_of s id = elim (get s.session.ids id) [ None ↦ None | Some h ↦ get s.heap.held h ]
 
@@ -53,23 +53,24 @@ abbrev pub read_text : Option Placed → ℕ → ℕ → List ℕ
 read_text None at count = codes "unknown"
 read_text (Some x) at count = if nat_le (at + count) (length x.bytes) then codes "=" ++ encode_lower (take count (drop at x.bytes)) else codes "range"
 
--- q: the first word of the object's slot or block
+-- q: the address of the object
 abbrev pub place_text : Option Placed → List ℕ
 place_text None = codes "unknown"
 place_text (Some x) = with_number (codes "at ") x.place
 
--- a physical block, where the object has such a block
+-- a physical block, if the object has it
 abbrev pub frame_text : Option ℕ → List ℕ
 frame_text None = codes "range"
 frame_text (Some frame) = with_number (codes "block ") frame
 
--- b, on a live object: only one kind has a block table
+-- b, for a live object: only the non-moving kind has a block table
 abbrev pub block_text : Kind → HeapState → Placed → ℕ → List ℕ
 block_text Moving s x i = codes "none"
 block_text NonMoving s x i = frame_text (block_of_object s (Some x) i)
 block_text Tlsf s x i = codes "none"
 block_text HalfFit s x i = codes "none"
 
+-- b, for an object or none
 abbrev pub block_text_at : HeapState → Option Placed → ℕ → List ℕ
 block_text_at s None i = codes "unknown"
 block_text_at s (Some x) i = block_text s.kind s x i
@@ -79,7 +80,7 @@ abbrev pub peek_text : Option ℕ → List ℕ
 peek_text None = codes "range"
 peek_text (Some word) = word_text word
 
--- steps: the cost of the last call; with pages also its bound, and how many objects moved, with the words of their slots
+-- steps: the cost of the last call; with pages also its step bound, how many objects moved, and the words of their slots
 abbrev pub steps_text : Kind → SessionState → ℕ → List ℕ
 steps_text kind s cost = elim (family_of kind) [
   | paged ↦ with_number (codes "steps last ") cost ++ (with_number (codes " bound ") s.bound
@@ -87,8 +88,8 @@ steps_text kind s cost = elim (family_of kind) [
   | tiled ↦ with_number (codes "steps last ") cost
 ]
 
--- The reply of a command that changes nothing; `none` to the words of the modes that do more. The last row is of commands that have a step of their own:
--- no run asks for a reply to them here.
+-- the reply of a command that changes nothing; `none` for the words of modes that do more; commands with a step of their own get their replies there, and the
+-- last row isn't used for them
 abbrev pub told : RunState → Command → Reply
 told s (Read id at count) = said (read_text (object_of s id) at count)
 told s (Place id) = said (place_text (object_of s id))

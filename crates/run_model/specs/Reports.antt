@@ -12,7 +12,7 @@ use Rattle.cf_model.specs.Families.{paged, tiled, family_of}
 use Rattle.cf_model.specs.State.{HeapState, paging_in}
 use Rattle.run_model.specs.Texts.{Reply, said, with_number}
 
--- the line of a class: the words of a slot, the slots of a page, the live objects, the pages, and those that are partly full
+-- the line of a class: the words of a slot, the slots of a page, the live objects, the pages, and the partly full ones
 abbrev pub class_line : Figures → List ℕ
 class_line f =
     with_number (codes "class ") f.slot_words ++ (with_number (codes " slots ") f.slots ++ (with_number (codes " live ") f.live
@@ -26,11 +26,11 @@ live_classes s = filter (λ c. not (nat_eq (live (paging_in s) (objects s.held) 
 abbrev pub total_line : Totals → List ℕ
 total_line t = with_number (codes "total live ") t.live ++ (with_number (codes " pages ") t.used ++ with_number (codes " free ") t.free)
 
--- the line with blocks: those in use, those that are free, and the words of the largest free one
+-- the line with blocks: the used ones, the free ones, and the words of the largest free one
 abbrev pub blocks_line : Totals → List ℕ
 blocks_line t = with_number (codes "blocks used ") t.used ++ (with_number (codes " free ") t.free ++ with_number (codes " largest ") t.largest)
 
--- a line for each class with live objects, and then the last line
+-- a line for each class with live objects, then the last line
 abbrev pub pages_report : HeapState → Reply
 pages_report s = map (λ c. class_line (figures_of (paging_in s) s.held c)) (live_classes s) ++ said (total_line (totals_in s.kind s))
 
@@ -38,9 +38,10 @@ pages_report s = map (λ c. class_line (figures_of (paging_in s) s.held c)) (liv
 abbrev pub walk_of : Kind → HeapState → Reply
 walk_of kind s = elim (family_of kind) [ paged ↦ pages_report s | tiled ↦ said (blocks_line (totals_in s.kind s)) ]
 
--- the report on the bytes asked for, taken by slots or blocks, and held in pages or in the region
+-- the line on the bytes asked for, taken by slots or blocks, and held in pages or in the region
 abbrev pub frag_line : Totals → List ℕ
 frag_line t = with_number (codes "frag asked ") t.asked ++ (with_number (codes " taken ") t.taken ++ with_number (codes " held ") t.held)
 
+-- the report on these bytes
 abbrev pub frag_of : HeapState → Reply
 frag_of s = said (frag_line (totals_in s.kind s))

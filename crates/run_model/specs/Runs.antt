@@ -12,28 +12,27 @@ use Rattle.run_model.specs.Sessions.{RunState, fresh_session}
 use Rattle.run_model.specs.Steps.{Step}
 use Rattle.run_model.specs.Texts.{Reply, said}
 
--- a manager of the kind was opened with these settings, and a session begun
+-- a manager of the kind is open and empty with these settings, and its session is new
 pub record Begins (kind : Kind) (p : Profile) (new : RunState) : Type 0 where
   pub session : new.session ≡ fresh_session
   pub words : IsOpeningWords kind p new.heap.words
   pub heap : new.heap ≡ empty_heap kind p new.heap.words
   pub rules : KeepsRules new.heap
 
--- a command is answered: its step, which keeps the bounds
+-- a command is answered: its step, which meets the bounds
 pub record Turn (old : RunState) (command : Command) (reply : Reply) (new : RunState) : Type 0 where
   pub step : Step old command reply new
   pub bounds : MeetsBounds old.heap.kind old command reply new
 
--- a manager of the kind was opened with these settings, a session begun, and `ok` is the reply
+-- the run begins, and the reply is `ok`
 abbrev pub BeginsOne : Kind → Profile → Reply → RunState → Type 0
 BeginsOne kind p reply new = Begins kind p new × (reply ≡ said (codes "ok"))
 
--- One item: its reply, and the state after it.
--- A `heap` line begins a run whatever came before it; but no script has a second one, so that it is met without a state alone.
--- Before the `heap` line there is no state, and no script has a command there.
+-- one item: its reply, and the state after it; a `heap` line begins a new run, and a command before it does nothing; no script has a second `heap` line, or a
+-- command before the first
 abbrev pub ItemStep : Kind → Option RunState → Item → Reply → Option RunState → Type 0
 ItemStep kind = PlayStep (BeginsOne kind) Turn
 
--- The items may get these replies, one each, and lead to the new state.
+-- the items may get these replies, one each, and lead to the new state
 abbrev pub Run : Kind → Option RunState → List Item → List Reply → Option RunState → Type 0
 Run kind = PlayRun (BeginsOne kind) Turn

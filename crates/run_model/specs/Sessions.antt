@@ -1,4 +1,4 @@
--- What a session keeps beside its manager.
+-- What a session keeps besides its manager.
 use Rattle.std.specs.Prelude.{ℕ, ◌+◌, ◌≤◌, ⊤, Option, Some, None, min, refl, IsTrue}
 use Rattle.std.specs.FinMap as map
 use Rattle.std.specs.Coded.{Coded, code_by, coded×, coded_ℕ}
@@ -10,27 +10,27 @@ use Rattle.cf_model.specs.Families.{paged, tiled, family_of}
 use Rattle.cf_model.specs.Rules.{KeepsRules}
 use Rattle.cf_model.specs.State.{HeapState}
 
--- The live ids; the bound on the steps of the last call that changed the objects' addresses or lengths, 0 before one; how many objects moved, and the words of
--- their slots.
+-- the live ids; the step bound of the last malloc, free or resize, 0 before the first one; how many objects moved, and the words of their slots
 pub record SessionState : Type 0 where
   pub ids : Ids
   pub bound : ℕ
   pub moves : ℕ
   pub words : ℕ
 
--- a session that was just begun
+-- a new session
 abbrev pub fresh_session : SessionState
 fresh_session = record { ids = map.empty; bound = 0; moves = 0; words = 0 }
 
+-- a session is stored as nested pairs
 abbrev pub session_code : Coded SessionState
 session_code = code_by (Ids × (ℕ × (ℕ × ℕ))) (coded× (map.code coded_ℕ coded_ℕ) (coded× coded_ℕ (coded× coded_ℕ coded_ℕ)))
     (λ s. (s.ids, (s.bound, (s.moves, s.words)))) (λ q. record { ids = q.0; bound = q.1.0; moves = q.1.1.0; words = q.1.1.1 }) (λ _. refl)
 
--- n more, as far as a counter of 64 bits goes
+-- n more, saturating at 64 bits
 abbrev pub more_by : ℕ → ℕ → ℕ
 more_by count n = min (count + n) last_count
 
--- an object moved, if one did, from a slot of so many words
+-- one object moved, if one did, from a slot of `slot_words` words
 abbrev pub counted : {T : Type 0} → SessionState → Option T → ℕ → SessionState
 counted s None slot_words = s
 counted s (Some h) slot_words = record s { moves = more_by s.moves 1; words = more_by s.words slot_words }
@@ -40,16 +40,16 @@ pub record RunState : Type 0 where
   pub session : SessionState
   pub heap : HeapState
 
--- with pages, a call costs at most so many steps
+-- with pages, a call costs at most n steps
 abbrev pub CostsAtMost : Kind → ℕ → ℕ → Type 0
 CostsAtMost kind cost n = elim (family_of kind) [ paged ↦ cost ≤ n | tiled ↦ ⊤ ]
 
--- The live ids name just the live handles, each once; and with pages the last cost is within its bound.
+-- each live id names one live handle and each handle has one id; with pages the last cost is within its bound
 pub record AreTied (session : SessionState) (heap : HeapState) : Type 0 where
   pub ids : AreTiedTo session.ids heap.held
   pub cost : CostsAtMost heap.kind heap.cost session.bound
 
--- the run goes on: its manager is open and keeps its rules, and its session is consistent with it
+-- the run is in progress: its manager is open and keeps its rules, and its session is consistent with it
 pub record IsGoing (s : RunState) : Type 0 where
   pub opened : IsTrue s.heap.is_open
   pub rules : KeepsRules s.heap

@@ -1,4 +1,4 @@
--- What one command does.
+-- The steps of a run, one for each command.
 use Rattle.std.specs.Prelude.{◌≡◌, ℕ, ◌+◌, ◌*◌, List, Option, Some, None, Result, Ok, Err, codes, if◌then◌else◌, nat_eq}
 use Rattle.std.specs.Option.{MatchOption}
 use Rattle.std.specs.FinMap.{get, insert, len, remove}
@@ -29,7 +29,7 @@ abbrev pub ids_given : Ids → ℕ → Result Handle Refusal → Ids
 ids_given ids id (Ok h) = insert ids id h.0
 ids_given ids id (Err e) = ids
 
--- A malloc for an id that isn't live. The step leaves the words open: by the rules they are those of the objects.
+-- a malloc for an id that isn't live; the step doesn't name the words that change, since the rules determine them
 pub record Mallocs (old : RunState) (asked : Request) (reply : Reply) (new : RunState) : Type 0 where
   pub answer : Result Handle Refusal
   pub step : IsMallocStep old.heap asked.length answer new.heap
@@ -38,7 +38,7 @@ pub record Mallocs (old : RunState) (asked : Request) (reply : Reply) (new : Run
   pub session : new.session ≡ record old.session { ids = ids_given old.session.ids asked.number answer; bound = 64 }
   pub reply_is : reply ≡ said (malloc_text answer)
 
--- an id, and the number of the handle that it names
+-- an id, and the number of its handle
 pub record Named : Type 0 where
   pub id : ℕ
   pub number : ℕ
@@ -61,7 +61,7 @@ pub record Writes (old : RunState) (part : Part) (bytes : List ℕ) (reply : Rep
   pub session : new.session ≡ old.session
   pub reply_is : reply ≡ said (write_text answer)
 
--- the session after a resize: an object that takes the old slot has moved
+-- the session after a resize: the object that moved into the old slot counts
 abbrev pub session_resized : SessionState → Result Resized ResizeFault → SessionState
 session_resized s (Ok done) = counted s done.moved done.old_slot_words
 session_resized s (Err e) = s
@@ -75,22 +75,23 @@ pub record Resizes (old : RunState) (asked : Request) (reply : Reply) (new : Run
   pub session : new.session ≡ session_resized (record old.session { bound = resize_bound answer }) answer
   pub reply_is : reply ≡ said (resize_text answer)
 
--- the class that gets a bound of its own: none where no class has such slots; nor where an object is live, of which no script tells
+-- the class that gets a new bound; none if no class has such slots, or if an object is live, which no script allows
 abbrev pub class_to_bound : HeapState → ℕ → Option ℕ
 class_to_bound s slot_words = if nat_eq (len s.held) 0 then class_with s.kind s slot_words else None
 
+-- k: whether a class got the bound
 abbrev pub bound_text : Option ℕ → List ℕ
 bound_text None = codes "none"
 bound_text (Some c) = codes "ok"
 
--- a class gets a bound
+-- a class gets a new bound
 pub record Bounds (old : RunState) (slot_words k : ℕ) (reply : Reply) (new : RunState) : Type 0 where
   pub heap : new.heap ≡ bound_put old.heap (class_to_bound old.heap slot_words) k
   pub rules : KeepsRules new.heap
   pub session : new.session ≡ old.session
   pub reply_is : reply ≡ said (bound_text (class_to_bound old.heap slot_words))
 
--- One command: its reply, and the state after it.
+-- one command: its reply, and the state after it
 abbrev pub Step : RunState → Command → Reply → RunState → Type 0
 Step old (Malloc id bytes) reply new =
     MatchOption (get old.session.ids id) (Mallocs old (record { number = id; length = bytes }) reply new) (λ h. Stays old (codes "live") reply new)

@@ -1,3 +1,3 @@
-//! What a run over the items of a script is: the replies, the reports, the state of a session, and
-//! the steps. It has no code.
+//! Runs over the items of a script: the replies, the reports, the state of a session, and the
+//! steps. No code.
 #![tactic(auto)]

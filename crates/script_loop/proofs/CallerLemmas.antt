@@ -1,4 +1,5 @@
 -- What upper crates may cite, passed on from one place. Declares nothing.
-pub use Rattle.script_loop.proofs.Consequences.{transcript_told, wrote_all}
+pub use Rattle.script_loop.proofs.Consequences.{transcript_told, wrote_all, wrote_by}
 pub use Rattle.script_loop.proofs.Feeding.{appended_none}
 pub use Rattle.script_loop.proofs.Settling.{wrote_settled}
+pub use Rattle.script_loop.proofs.Rows.{observed_row, some_row, whole_run}

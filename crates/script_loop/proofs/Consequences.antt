@@ -1,51 +1,46 @@
 -- What follows from the outcome of a script on one manager.
 use Rattle.std.proofs.Common.{◌≡◌, ◌≤◌, ◌<◌, ◌++◌, ◌∙◌, Bool, ℕ, List, [], Option, Some, None, true, false, refl, sym, ap, subst, length, arith}
-use Rattle.cf_base.specs.Settings.{Profile}
 use Rattle.cf_base.specs.declared.kind.Kind.{Kind}
 use Rattle.cf_base.specs.declared.status.Status.{Status}
 use Rattle.cf_base.specs.declared.status.Status.TheVariants.{Done, Words, BadScript, ReadFault, WriteFault, OutOfMemory, TooLong, BadImage}
 use Rattle.cf_io.specs.Feeds.{appended}
-use Rattle.cf_model.specs.Rules.{AreInRange}
-use Rattle.cf_model.specs.State.{HeapState}
 use Rattle.script_reader.specs.Items.{Item}
 use Rattle.script_reader.specs.declared.command.Command.{Command}
 use Rattle.run_laws.proofs.CallerLemmas.{items_sayable, kind_goes_on, reads_are_told}
 use Rattle.run_laws.specs.Sayable.{IsSayable}
-use Rattle.run_model.specs.Runs.{BeginsOne, Turn}
-use Rattle.run_model.specs.Sessions.{IsGoing, RunState}
-use Rattle.run_model.specs.Texts.{Reply, led, said, text_of}
-use Rattle.std.specs.Prelude.{codes, nat_le, take}
+use Rattle.run_model.specs.Runs.{Turn}
+use Rattle.run_model.specs.Sessions.{RunState}
+use Rattle.run_model.specs.Texts.{Reply, led, text_of}
+use Rattle.std.specs.Prelude.{nat_le, take}
 use Rattle.script_loop.proofs.Prefix.{part_is_prefix}
 use Rattle.script_loop.specs.Consequences.{AnswersAll, ArePlain, IsPrefixOfRun, PrintsReads, TellsTranscript}
 use Rattle.script_loop.specs.OneManager.{TurnInPart, one_manager}
-use Rattle.script_loop.specs.ScriptOutcome.{Effects, IsRow, IsRowOf, MOST_BYTES, MeetsOutcome, Wrote, WroteInPart, has_bad, items_within}
-use Rattle.transcript_laws.proofs.CallerLemmas.{run_tells}
+use Rattle.script_loop.specs.Semantics.{Semantics}
+use Rattle.script_loop.specs.ScriptOutcome.{Effects, IsRow, MOST_BYTES, MeetsOutcome, Wrote, WroteInPart, has_bad, items_within}
+use Rattle.script_loop.proofs.Rows.{observed_row}
+use Rattle.headline_laws.proofs.CallerLemmas.{one_told}
 use Rattle.transcript_laws.specs.Transcripts.{transcript}
 
 -- where all was answered, a run over all the items led to the end
-row_wrote : (from to : RunState) (all left : List ℕ) (call : Effects) (st : Status) → IsRow one_manager st from all left call to → AnswersAll st
-    → Wrote one_manager from (items_within all) call to
-row_wrote from to all left call Done row is = row.3
-row_wrote from to all left call BadScript row is = row.1
-row_wrote from to all left call TooLong row is = row.2
-row_wrote from to all left call Words row is = absurd is
-row_wrote from to all left call ReadFault row is = absurd is
-row_wrote from to all left call WriteFault row is = absurd is
-row_wrote from to all left call OutOfMemory row is = absurd is
-row_wrote from to all left call BadImage row is = absurd is
+module _ {S P : Type 0} (m : Semantics S P) (from to : S) where
+  row_wrote : (all left : List ℕ) (call : Effects) (st : Status) → IsRow m st from all left call to → AnswersAll st
+      → Wrote m from (items_within all) call to
+  row_wrote all left call Done row is = row.3
+  row_wrote all left call BadScript row is = row.1
+  row_wrote all left call TooLong row is = row.2
+  row_wrote all left call Words row is = absurd is
+  row_wrote all left call ReadFault row is = absurd is
+  row_wrote all left call WriteFault row is = absurd is
+  row_wrote all left call OutOfMemory row is = absurd is
+  row_wrote all left call BadImage row is = absurd is
 
-outcome_wrote : (from to : RunState) (call : Effects) (had left : Option (List ℕ)) (all : List ℕ) → had ≡ Some all → IsRowOf one_manager from had left call to
-    → AnswersAll call.status
-    → Wrote one_manager from (items_within all) call to
-outcome_wrote from to call None left all told met is = absurd (let e : None ≡ Some all = told in cc)
-outcome_wrote from to call (Some other) None all told met is = absurd met
-outcome_wrote from to call (Some other) (Some left) all told met is =
-    let same : other ≡ all = cc in
-    subst (λ (l : List ℕ). Wrote one_manager from (items_within l) call to) same (row_wrote from to other left call call.status met is)
+  pub wrote_by : (call : Effects) (all : List ℕ) → call.had ≡ Some all → MeetsOutcome m from call to → AnswersAll call.status
+      → Wrote m from (items_within all) call to
+  wrote_by call all told met is = let row = observed_row m from to call all told met in row_wrote all row.0 call call.status row.1 is
 
 pub wrote_all : (from to : RunState) (call : Effects) (all : List ℕ) → call.had ≡ Some all → MeetsOutcome one_manager from call to → AnswersAll call.status
     → Wrote one_manager from (items_within all) call to
-wrote_all from to call all told met is = outcome_wrote from to call call.had call.left all told met is
+wrote_all from to call all told met is = wrote_by one_manager from to call all told met is
 
 pub prints_reads : (from to : RunState) (wanted : List Item) (call : Effects) → Wrote one_manager from wanted call to → PrintsReads wanted call
 prints_reads from to wanted call w = record { replies = w.replies; reads = reads_are_told from.heap.kind wanted w.replies w.end w.run; written = w.written }
@@ -73,7 +68,7 @@ pub tells : (from to : RunState) (wanted : List Item) (call : Effects) → Wrote
     → call.after ≡ appended call.before (text_of [] (transcript from.heap.kind wanted))
 tells from to wanted call w plain =
     w.written ∙ ap (λ (r : List Reply). appended call.before (text_of [] r))
-    (run_tells from.heap.kind plain.paged wanted None w.end w.replies tt plain.ones plain.placeless w.run)
+    (one_told from.heap.kind wanted w.replies w.end plain.paged plain.ones plain.placeless w.run)
 
 tells_of : (from to : RunState) (call : Effects) (had : Option (List ℕ)) → had ≡ call.had → MeetsOutcome one_manager from call to → AnswersAll call.status
     → TellsTranscript from.heap.kind had call
@@ -104,13 +99,9 @@ row_says from to all left call WriteFault row is = absurd is
 row_says from to all left call OutOfMemory row is = absurd is
 row_says from to all left call BadImage row is = absurd is
 
-says_of : (from to : RunState) (call : Effects) (had left : Option (List ℕ)) (all : List ℕ) → had ≡ Some all → IsRowOf one_manager from had left call to
+says_of : (from to : RunState) (call : Effects) (all : List ℕ) → call.had ≡ Some all → MeetsOutcome one_manager from call to
     → AnswersAll call.status → BytesSay call.status all
-says_of from to call None left all told met is = absurd (let e : None ≡ Some all = told in cc)
-says_of from to call (Some other) None all told met is = absurd met
-says_of from to call (Some other) (Some left) all told met is =
-    let same : other ≡ all = cc in
-    subst (BytesSay call.status) same (row_says from to other left call call.status met is)
+says_of from to call all told met is = let row = observed_row one_manager from to call all told met in row_says from to all row.0 call call.status row.1 is
 
 both_ways : (b : Bool) → b ≡ true → b ≡ false → ⊥
 both_ways b t f = absurd (let e : true ≡ false = sym t ∙ f in cc)
@@ -150,7 +141,7 @@ pub same_status : (from other to there : RunState) (one two : Effects) (all : Li
     → MeetsOutcome one_manager from one to
     → MeetsOutcome one_manager other two there → AnswersAll one.status → AnswersAll two.status → two.status ≡ one.status
 same_status from other to there one two all told told2 met met2 is is2 =
-    one_status one.status two.status all (says_of from to one one.had one.left all told met is) (says_of other there two two.had two.left all told2 met2 is2)
+    one_status one.status two.status all (says_of from to one all told met is) (says_of other there two all told2 met2 is2)
 
 pub same_output : (from other to there : RunState) (one two : Effects) (all : List ℕ) → one.had ≡ Some all → two.had ≡ Some all
     → MeetsOutcome one_manager from one to

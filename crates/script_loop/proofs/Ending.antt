@@ -1,11 +1,11 @@
 -- How the parts of a call make its outcome.
 use Rattle.std.proofs.Common.{◌≡◌, ◌≤◌, ◌<◌, ◌+◌, ◌-◌, ◌++◌, ◌∙◌, Bool, true, false, List, [], ◌∷◌, ℕ, Option, Some, None, refl, ap, ap₂, sym, subst, length}
-use Rattle.std.proofs.Common.{take, drop, append_assoc, append-nil, length-append, length-drop, take-append-drop, arith}
+use Rattle.std.proofs.Common.{take, append_assoc, append-nil, length-append, arith}
 use Rattle.std.proofs.Math.Seq.{take-append-add}
 use Rattle.std.proofs.lemmas.Bool.{le-leb}
-use Rattle.std.proofs.lemmas.List.{take_all, take_at, take-take, length-take-le}
+use Rattle.std.proofs.lemmas.List.{take_all, take_at}
 use Rattle.std.specs.Prelude.{nat_le}
-use Rattle.cf_io.specs.Feeds.{appended, preceded}
+use Rattle.cf_io.specs.Feeds.{appended}
 use Rattle.script_reader.specs.Items.{Item, items}
 use Rattle.script_reader.specs.Reading.{Reading, fresh, items_left}
 use Rattle.script_reader.proofs.CallerLemmas.{finished_left}
@@ -14,7 +14,7 @@ use Rattle.run_model.specs.Plays.{PlayPart, PlayRun}
 use Rattle.run_model.specs.Texts.{text_of}
 use Rattle.script_loop.specs.Going.{Answered, CutOff, IsWaiting, WasWanting}
 use Rattle.script_loop.specs.Progress.{Playing, progress, run_of}
-use Rattle.script_loop.specs.ScriptOutcome.{Effects, IsEnding, IsRow, IsRowOf, Lacks, MOST_BYTES, Wrote, WroteInPart, has_bad, items_within}
+use Rattle.script_loop.specs.ScriptOutcome.{Effects, Lacks, MOST_BYTES, Wrote, WroteInPart, has_bad, items_within}
 use Rattle.script_loop.specs.Semantics.{RunBy, Semantics}
 use Rattle.script_loop.proofs.Feeding.{appended_none}
 use Rattle.script_loop.proofs.Going.{bad_then, nothing_left}
@@ -46,24 +46,6 @@ too_many m n h = grind arith
 -- up to the limit
 pub longer : (all t more : List ℕ) → all ≡ t ++ more → length t ≡ MOST_BYTES → 0 < length more → MOST_BYTES < length all
 longer all t more parts full some = rw (parts, length-append) (omega arith)
-
--- ---- the chunk that a call handed out, of which a prefix was read
-
-pub split_at : (all taken buf left : List ℕ) (k n : ℕ) → k ≤ n → all ≡ (taken ++ take n buf) ++ left
-    → all ≡ (taken ++ take k buf) ++ (drop k (take n buf) ++ left)
-split_at all taken buf left k n below parts =
-    let piece : take k buf ++ drop k (take n buf) ≡ take n buf =
-    ap (λ (l : List ℕ). l ++ drop k (take n buf)) (sym (take-take k n buf below)) ∙ take-append-drop k (take n buf) in
-    parts ∙ ap (λ (l : List ℕ). (taken ++ l) ++ left) (sym piece)
-    ∙ ap (λ (l : List ℕ). l ++ left) (sym (append_assoc taken (take k buf) (drop k (take n buf))))
-    ∙ append_assoc (taken ++ take k buf) (drop k (take n buf)) left
-
-pub length_read : (taken buf : List ℕ) (k : ℕ) → k ≤ length buf → length (taken ++ take k buf) ≡ length taken + k
-length_read taken buf k fits = length-append taken (take k buf) ∙ ap (λ n. length taken + n) (length-take-le k buf fits)
-
-pub unread_left : (buf left : List ℕ) (k n : ℕ) → k < n → n ≤ length buf → 0 < length (drop k (take n buf) ++ left)
-unread_left buf left k n below fits =
-    rw (length-append, length-drop, length-take-le n buf fits) (omega arith)
 
 module _ {S P : Type 0} (m : Semantics S P) where
   -- ---- runs over the items so far
@@ -229,11 +211,3 @@ module _ {S P : Type 0} (m : Semantics S P) where
     lacks = subst (λ (z : S). m.lacks z new.state) (a.untouched went.stage).1 went.lacks;
     unwritten = silent_at_end a went put;
   }
-
-  -- ---- where the source is observable
-
-  pub told : (from : S) (had left : Option (List ℕ)) (call : Effects) (to : S) (t : List ℕ) → had ≡ preceded t left → IsEnding call.status
-      → ((all rest : List ℕ) → left ≡ Some rest → all ≡ t ++ rest → IsRow m call.status from all rest call to) → IsRowOf m from had left call to
-  told from None left call to t hands ends holds = ends
-  told from (Some all) (Some rest) call to t hands ends holds = holds all rest refl cc
-  told from (Some all) None call to t hands ends holds = absurd (cc)

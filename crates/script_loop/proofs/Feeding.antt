@@ -1,9 +1,10 @@
 -- Pieces that are put or taken one after the other.
-use Rattle.std.proofs.Common.{◌≡◌, ◌++◌, ◌∙◌, List, ℕ, Option, None, Some, refl, ap, sym, ◌+◌, append_assoc, append-nil, take, min, arith, length}
-use Rattle.std.proofs.Common.{length-append}
+use Rattle.std.proofs.Common.{◌≡◌, ◌++◌, ◌∙◌, List, ℕ, Option, None, Some, true, refl, ap, sym, ◌+◌, append_assoc, append-nil, take, min, arith, inl, inr}
+use Rattle.std.proofs.lemmas.Bool.{cases_lt}
 use Rattle.std.specs.Prelude.{[]}
 use Rattle.cf_io.proofs.CallerLemmas.{appended_then}
 use Rattle.cf_io.specs.Feeds.{HasGiven, IsSpent, appended, last_count, preceded}
+use Rattle.script_loop.specs.ScriptOutcome.{MayFollow}
 
 preceded_then : (a b : List ℕ) (r : Option (List ℕ)) → preceded a (preceded b r) ≡ preceded (a ++ b) r
 preceded_then a b None = refl
@@ -16,12 +17,21 @@ pub appended_none : (w : Option (List ℕ)) → w ≡ appended w []
 appended_none None = refl
 appended_none (Some w) = ap Some (sym (append-nil w))
 
-given_more : (g0 g1 g2 a n b : ℕ) → HasGiven g0 a g1 → g2 ≡ min (g1 + n) last_count → b ≡ a + n → HasGiven g0 b g2
-given_more g0 g1 g2 a n b so_far next sum = grind arith
+pub given_min : (g0 g2 n : ℕ) → g2 ≡ min (g0 + n) last_count → HasGiven g0 n g2
+given_min g0 g2 n is = elim (cases_lt (g0 + n) last_count) [
+  | inl less ↦ inl (omega (arith, is, less))
+  | inr more ↦ inr (omega (arith, is, more))
+]
 
--- n more bytes, a prefix of what a call handed out
-pub given_taken : (g0 g1 g2 n : ℕ) (t p : List ℕ) → HasGiven g0 (length t) g1 → g2 ≡ min (g1 + n) last_count → length p ≡ n → HasGiven g0 (length (t ++ p)) g2
-given_taken g0 g1 g2 n t p so_far next long = given_more g0 g1 g2 (length t) n _ so_far next (length-append t p ∙ ap (λ m. length t + m) long)
+-- n more bytes were handed out, where there were some, or none
+pub given_more : (g0 g1 g2 a n b : ℕ) → HasGiven g0 a g1 → g2 ≡ min (g1 + n) last_count → b ≡ a + n → HasGiven g0 b g2
+given_more g0 g1 g2 a n b (inl just) next sum = given_min g0 g2 b (let e : g1 + n ≡ g0 + b = omega (arith, just, sum) in next ∙ ap (λ k. min k last_count) e)
+given_more g0 g1 g2 a n b (inr last) next sum = inr (omega (arith, last, next))
+
+pub given_none : (g0 g1 g2 a : ℕ) → HasGiven g0 a g1 → HasGiven g1 0 g2 → HasGiven g0 a g2
+given_none g0 g1 g2 a (inl just) (inl same) = inl (omega (arith, just, same))
+given_none g0 g1 g2 a (inr last) (inl same) = inr (omega (arith, last, same))
+given_none g0 g1 g2 a so_far (inr last) = inr last
 
 pub preceded_after : (x y z : Option (List ℕ)) (a b : List ℕ) → x ≡ preceded a y → y ≡ preceded b z → x ≡ preceded (a ++ b) z
 preceded_after x y z a b first next = first ∙ ap (preceded a) next ∙ preceded_then a b z
@@ -33,6 +43,7 @@ preceded_none (Some r) = refl
 pub nothing_taken : (x y : Option (List ℕ)) (bytes : List ℕ) (n : ℕ) → n ≡ 0 → x ≡ preceded (take n bytes) y → x ≡ y
 nothing_taken x y bytes n none e = e ∙ ap (λ k. preceded (take k bytes) y) none ∙ sym (preceded_none y)
 
-pub spent_left : (rest : Option (List ℕ)) (left : List ℕ) → IsSpent rest → rest ≡ Some left → left ≡ []
-spent_left None left spent is = absurd (cc)
-spent_left (Some x) left spent is = let same : x ≡ left = cc in sym same ∙ spent
+-- nothing comes after the end
+pub nothing_follows : (rest : Option (List ℕ)) (more : List ℕ) → IsSpent rest → MayFollow rest true more → more ≡ []
+nothing_follows None more spent follows = follows
+nothing_follows (Some left) more spent follows = follows ∙ spent

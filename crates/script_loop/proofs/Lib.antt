@@ -7,3 +7,5 @@ pub mod OneManager
 pub mod Prefix
 pub mod Settling
 pub mod CallerLemmas
+pub mod Turning
+pub mod Rows

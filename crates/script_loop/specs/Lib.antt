@@ -5,3 +5,4 @@ pub mod WithSettings
 pub mod Consequences
 pub mod Progress
 pub mod Going
+pub mod Turns

@@ -1,4 +1,4 @@
--- A script that is being played. No public clause cites this module.
+-- A script that is being played.
 use Rattle.std.specs.Prelude.{ℕ, List, Option, Some, None}
 use Rattle.script_reader.specs.Reading.{Reading}
 use Rattle.script_reader.specs.declared.stage.Stage.{Stage}

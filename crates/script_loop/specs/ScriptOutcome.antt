@@ -1,9 +1,9 @@
 -- How the answering of a whole script may end.
-use Rattle.std.specs.Prelude.{◌≡◌, ◌<◌, ◌≤◌, ◌++◌, ⊤, ℕ, Bool, true, false, List, [], ◌∷◌, length, take, nat_le, Option, Some, None}
+use Rattle.std.specs.Prelude.{◌≡◌, ◌≢◌, ◌<◌, ◌≤◌, ◌+◌, ◌⊎◌, ◌++◌, ⊤, ℕ, Bool, true, false, List, [], ◌∷◌, length, take, nat_le, Option, Some, None}
 use Rattle.std.specs.List.{list_any}
 use Rattle.cf_base.specs.declared.status.Status.{Status}
 use Rattle.cf_base.specs.declared.status.Status.TheVariants.{Done, Words, BadScript, ReadFault, WriteFault, OutOfMemory, TooLong, BadImage}
-use Rattle.cf_io.specs.Feeds.{appended}
+use Rattle.cf_io.specs.Feeds.{HasGiven, Rose, appended, last_count, preceded}
 use Rattle.script_reader.specs.Items.{Item, asks, bad, items, starts}
 use Rattle.run_model.specs.Texts.{Reply, text_of}
 use Rattle.script_loop.specs.Semantics.{PartBy, RunBy, Semantics}
@@ -25,13 +25,45 @@ has_bad = list_any is_bad
 abbrev pub items_within : List ℕ → List Item
 items_within all = items (take MOST_BYTES all) (nat_le (length all) MOST_BYTES)
 
--- what a source had and has, what a sink held and holds, where they are observable, and how the call ended
+-- what a source shows: the bytes that it has left, where it is observable, how many it gave, and how often it failed
+pub record SourceState : Type 0 where
+  pub rest : Option (List ℕ)
+  pub given : ℕ
+  pub faults : ℕ
+
+abbrev pub source_at : Option (List ℕ) → ℕ → ℕ → SourceState
+source_at rest given faults = record { rest = rest; given = given; faults = faults }
+
+-- what a sink shows: the bytes written, where it is observable, and how often it failed
+pub record SinkState : Type 0 where
+  pub written : Option (List ℕ)
+  pub faults : ℕ
+
+abbrev pub sink_at : Option (List ℕ) → ℕ → SinkState
+sink_at written faults = record { written = written; faults = faults }
+
+-- what a source had and has left, and what a sink held and holds, where they are observable; how many bytes the source had given and has given; and how the
+-- call ended
 pub record Effects : Type 0 where
   pub had : Option (List ℕ)
   pub left : Option (List ℕ)
+  pub given_before : ℕ
+  pub given_after : ℕ
   pub before : Option (List ℕ)
   pub after : Option (List ℕ)
   pub status : Status
+
+-- the effects of a call, by its source and its sink before and after it
+abbrev pub effects : SourceState → SinkState → Status → SourceState → SinkState → Effects
+effects source sink status source' sink' = record {
+  had = source.rest;
+  left = source'.rest;
+  given_before = source.given;
+  given_after = source'.given;
+  before = sink.written;
+  after = sink'.written;
+  status = status;
+}
 
 -- a state is where the run led; untouched where no run began
 abbrev pub StandsAfter : {S : Type 0} → S → Option S → S → Type 0
@@ -78,24 +110,35 @@ IsRow m OutOfMemory from all left call to = Lacks m from call to
 IsRow m Words from all left call to = ⊥
 IsRow m BadImage from all left call to = ⊥
 
--- how a script may end
-abbrev pub IsEnding : Status → Type 0
-IsEnding Words = ⊥
-IsEnding BadImage = ⊥
-IsEnding status = ⊤
+-- the bytes that may come next: those that are left, where they are observable; none where the source has ended
+abbrev pub MayFollow : Option (List ℕ) → Bool → List ℕ → Type 0
+MayFollow (Some left) ended more = more ≡ left
+MayFollow None true more = more ≡ []
+MayFollow None false more = ⊤
 
--- by whether the source tells its bytes
-abbrev pub IsRowOf : {S P : Type 0} → Semantics S P → S → Option (List ℕ) → Option (List ℕ) → Effects → S → Type 0
-IsRowOf m from (Some all) (Some left) call to = IsRow m call.status from all left call to
-IsRowOf m from (Some all) None call to = ⊥
-IsRowOf m from None left call to = IsEnding call.status
+-- Over every source: these bytes were taken, as many as the source gave, and whatever bytes may come next, the row of the status holds over all of them.
+pub record MeetsOutcome {S P : Type 0} (m : Semantics S P) (from : S) (call : Effects) (to : S) : Type 0 where
+  pub taken : List ℕ
+  pub ended : Bool
+  pub took : call.had ≡ preceded taken call.left
+  pub counted : HasGiven call.given_before (length taken) call.given_after
+  pub row : (more : List ℕ) → MayFollow call.left ended more → IsRow m call.status from (taken ++ more) more call to
 
-abbrev pub MeetsOutcome : {S P : Type 0} → Semantics S P → S → Effects → S → Type 0
-MeetsOutcome m from call to = IsRowOf m from call.had call.left call to
+-- The causes of how a script ended, over every source and sink.
+pub record HasCauses (source : SourceState) (sink : SinkState) (status : Status) (source' : SourceState) (sink' : SinkState) : Type 0 where
+  pub silent : status ≡ OutOfMemory → sink'.written ≡ sink.written
+  pub source_same : status ≢ ReadFault → source'.faults ≡ source.faults
+  pub read_fault : status ≡ ReadFault → Rose source.faults source'.faults
+  pub sink_same : status ≢ WriteFault → sink'.faults ≡ sink.faults
+  pub write_fault : status ≡ WriteFault → Rose sink.faults sink'.faults
+  pub too_long : status ≡ TooLong → (source.given + MOST_BYTES < source'.given) ⊎ (source'.given ≡ last_count)
 
--- over every source: a run over some items led here, and its replies were written
-abbrev pub HasRun : {S P : Type 0} → Semantics S P → S → Effects → S → Type 0
-HasRun m from call to = (wanted : List Item) × Wrote m from wanted call to
+-- A script was played from a state to another: how it ended, for which causes, and what no item changes.
+pub record Plays {S P : Type 0} (m : Semantics S P) (from : S) (source : SourceState) (sink : SinkState) (status : Status) (source' : SourceState)
+    (sink' : SinkState) (to : S) : Type 0 where
+  pub outcome : MeetsOutcome m from (effects source sink status source' sink') to
+  pub plan : m.plan to ≡ m.plan from
+  pub causes : HasCauses source sink status source' sink'
 
 -- the source is observable, its bytes are within the limit and have no bad line
 abbrev pub IsClean : Option (List ℕ) → Type 0

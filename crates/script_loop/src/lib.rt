@@ -14,5 +14,5 @@ pub use laws::{
 };
 pub use one_manager::run_script;
 pub use player::{OpenFault, Player};
-pub use running::{LIMIT, play_script};
+pub use running::{LIMIT, Script, TurnEnd, play_script};
 pub use with_settings::WithSettings;

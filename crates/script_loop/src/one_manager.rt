@@ -1,11 +1,10 @@
 //! A script on one manager.
-ghost use Rattle.std.specs.Prelude.{◌≡◌, ◌<◌, ◌+◌, ◌⊎◌, ◌≢◌};
+ghost use Rattle.std.specs.Prelude.{◌≡◌};
 ghost use Rattle.cf_base.specs.declared.kind.Kind.{Kind};
-ghost use Rattle.cf_io.specs.Feeds.{Rose, last_count};
 ghost use Rattle.cf_session.specs.Apply.{run_at};
 ghost use Rattle.run_model.specs.Sessions.{RunState, fresh_session};
 ghost use Rattle.script_loop.specs.OneManager.{one_manager};
-ghost use Rattle.script_loop.specs.ScriptOutcome.{MOST_BYTES, MeetsOutcome};
+ghost use Rattle.script_loop.specs.ScriptOutcome.{Plays, sink_at, source_at};
 
 use crate::player::{OpenFault, Player};
 use crate::running::play_script;
@@ -64,22 +63,11 @@ pub fn run_script<H: Manager, S: Source, K: Sink>(
     sink: &mut K,
 ) -> Status
     requires { session.old ≡ fresh_session }
-    ensures outcome { MeetsOutcome one_manager (run_at session.old (H.state heap.old)) (record {
-      had = S.rest source.old;
-      left = S.rest source.new;
-      before = K.written sink.old;
-      after = K.written sink.new;
-      status = result;
-    }) (run_at session.new (H.state heap.new)) }
-    ensures kind { (H.state heap.new).kind ≡ (H.state heap.old).kind }
-    // The causes, also where the source isn't observable.
-    ensures silent { result ≡ Status.OutOfMemory → K.written sink.new ≡ K.written sink.old }
-    ensures source_same { result ≢ Status.ReadFault → S.faults source.new ≡ S.faults source.old }
-    ensures read_fault { result ≡ Status.ReadFault → Rose (S.faults source.old) (S.faults source.new) }
-    ensures sink_same { result ≢ Status.WriteFault → K.faults sink.new ≡ K.faults sink.old }
-    ensures write_fault { result ≡ Status.WriteFault → Rose (K.faults sink.old) (K.faults sink.new) }
-    ensures too_long { result ≡ Status.TooLong
-        → (S.given source.old + MOST_BYTES < S.given source.new) ⊎ (S.given source.new ≡ last_count) }
+    ensures { Plays one_manager (run_at session.old (H.state heap.old))
+        (source_at (S.rest source.old) (S.given source.old) (S.faults source.old)) (sink_at (K.written sink.old) (K.faults sink.old))
+        result
+        (source_at (S.rest source.new) (S.given source.new) (S.faults source.new)) (sink_at (K.written sink.new) (K.faults sink.new))
+        (run_at session.new (H.state heap.new)) }
 {
     play_script(session, heap, source, sink)
 }

@@ -1,7 +1,10 @@
 //! The loop over the chunks of a script.
-ghost use Rattle.std.specs.Prelude.{◌≡◌, ◌<◌, ◌+◌, ◌⊎◌, ◌≢◌};
-ghost use Rattle.cf_io.specs.Feeds.{Rose, last_count};
-ghost use Rattle.script_loop.specs.ScriptOutcome.{HasRun, MOST_BYTES, MeetsOutcome};
+ghost use Rattle.std.specs.Prelude.{◌≡◌, ◌≤◌, ◌+◌, ◌≢◌};
+ghost use Rattle.cf_io.specs.Feeds.{Rose};
+ghost use Rattle.cf_io.specs.Schedules.{one_more};
+ghost use Rattle.script_reader.specs.Reading.{fresh};
+ghost use Rattle.script_loop.specs.ScriptOutcome.{MOST_BYTES, Plays, sink_at, source_at};
+ghost use Rattle.script_loop.specs.Turns.{AwaitsChunk, TakesTurn, between, left_in, reading_in};
 
 use crate::answering::{Ready, answer_kept, answer_piece};
 use crate::player::Player;
@@ -11,6 +14,92 @@ use script_reader::{Reader, Room};
 
 /// The most bytes of a script that are answered.
 pub const LIMIT: usize = 268_435_455;
+
+/// The most bytes of a chunk.
+const CHUNK: usize = 4_096;
+
+/// How a turn of the loop ends.
+#[derive(Clone, Copy, Debug, PartialEq, Eq)]
+pub enum TurnEnd {
+    /// A chunk came, and all that it completes was answered.
+    Answered,
+    /// The source has ended.
+    Ended,
+    /// The script ends by this status.
+    Stopped(Status),
+}
+
+/// A script between two chunks: its reader, the payload of a write, and how many more bytes are answered.
+#[derive(Drop)]
+pub struct Script {
+    reader: Reader,
+    payload: Room,
+    left: usize,
+}
+
+impl Script {
+    /// A script of which nothing was taken.
+    pub fn new() -> Script
+        ensures reading { reading_in result ≡ fresh }
+        ensures left { left_in result ≡ MOST_BYTES }
+    {
+        Script {
+            reader: Reader::new(),
+            payload: Room::new(),
+            left: LIMIT,
+        }
+    }
+
+    /// One turn of the loop: takes one chunk, and answers each command whose line is whole by then. It ends
+    /// the script at a bad line, at a fault of the source or the sink, where an allocation fails at the `heap`
+    /// line, and past the limit.
+    pub fn turn<H, A: Player<H>, S: Source, K: Sink>(
+        &mut self,
+        player: &mut A,
+        heap: &mut H,
+        source: &mut S,
+        sink: &mut K,
+    ) -> TurnEnd
+        requires { AwaitsChunk A.semantics (between self.old (A.state player.old heap.old) (K.written sink.old) (S.rest source.old) (S.given source.old)) }
+        ensures once { S.calls source.new ≡ one_more (S.calls source.old) }
+        ensures few { S.given source.new ≤ S.given source.old + 4096 }
+        ensures turn { TakesTurn A.semantics
+            (between self.old (A.state player.old heap.old) (K.written sink.old) (S.rest source.old) (S.given source.old)) result
+            (between self.new (A.state player.new heap.new) (K.written sink.new) (S.rest source.new) (S.given source.new)) }
+        ensures source_same { result ≢ TurnEnd.Stopped Status.ReadFault → S.faults source.new ≡ S.faults source.old }
+        ensures read_fault { result ≡ TurnEnd.Stopped Status.ReadFault → Rose (S.faults source.old) (S.faults source.new) }
+        ensures sink_same { result ≢ TurnEnd.Stopped Status.WriteFault → K.faults sink.new ≡ K.faults sink.old }
+        ensures write_fault { result ≡ TurnEnd.Stopped Status.WriteFault → Rose (K.faults sink.old) (K.faults sink.new) }
+    {
+        let mut buffer = [0; CHUNK];
+        let n = match source.take(&mut buffer) {
+            Ok(n) => n,
+            Err(_) => return TurnEnd::Stopped(Status::ReadFault),
+        };
+        if n == 0 {
+            return TurnEnd::Ended;
+        }
+        let within = n.min(self.left);
+        match answer_piece(
+            &mut self.reader,
+            player,
+            heap,
+            sink,
+            &mut self.payload,
+            &buffer[..within],
+        ) {
+            Ready::GoesOn => {}
+            Ready::Stopped => return TurnEnd::Stopped(Status::BadScript),
+            Ready::Cut => return TurnEnd::Stopped(Status::WriteFault),
+            Ready::Wanting => return TurnEnd::Stopped(Status::OutOfMemory),
+        }
+        if n > self.left {
+            return TurnEnd::Stopped(Status::TooLong);
+        }
+        self.left -= n;
+        TurnEnd::Answered
+    }
+}
 
 /// Lets the player answer each line of a script before it takes the next chunk of it. It stops at a
 /// bad line, at a fault of the source or the sink, where an allocation fails at the `heap` line, and
@@ -22,63 +111,22 @@ pub fn play_script<H, A: Player<H>, S: Source, K: Sink>(
     sink: &mut K,
 ) -> Status
     requires { A.semantics.is_fresh (A.state player.old heap.old) }
-    ensures outcome { MeetsOutcome A.semantics (A.state player.old heap.old) (record {
-      had = S.rest source.old;
-      left = S.rest source.new;
-      before = K.written sink.old;
-      after = K.written sink.new;
-      status = result;
-    }) (A.state player.new heap.new) }
-    ensures plan { A.semantics.plan (A.state player.new heap.new) ≡ A.semantics.plan (A.state player.old heap.old) }
-    // Where the script was answered to its end, and the causes, also where the source isn't observable.
-    ensures run { result ≡ Status.Done → HasRun A.semantics (A.state player.old heap.old) (record {
-      had = S.rest source.old;
-      left = S.rest source.new;
-      before = K.written sink.old;
-      after = K.written sink.new;
-      status = result;
-    }) (A.state player.new heap.new) }
-    ensures silent { result ≡ Status.OutOfMemory → K.written sink.new ≡ K.written sink.old }
-    ensures source_same { result ≢ Status.ReadFault → S.faults source.new ≡ S.faults source.old }
-    ensures read_fault { result ≡ Status.ReadFault → Rose (S.faults source.old) (S.faults source.new) }
-    ensures sink_same { result ≢ Status.WriteFault → K.faults sink.new ≡ K.faults sink.old }
-    ensures write_fault { result ≡ Status.WriteFault → Rose (K.faults sink.old) (K.faults sink.new) }
-    ensures too_long { result ≡ Status.TooLong
-        → (S.given source.old + MOST_BYTES < S.given source.new) ⊎ (S.given source.new ≡ last_count) }
+    ensures { Plays A.semantics (A.state player.old heap.old)
+        (source_at (S.rest source.old) (S.given source.old) (S.faults source.old)) (sink_at (K.written sink.old) (K.faults sink.old))
+        result
+        (source_at (S.rest source.new) (S.given source.new) (S.faults source.new)) (sink_at (K.written sink.new) (K.faults sink.new))
+        (A.state player.new heap.new) }
 {
-    let mut reader = Reader::new();
-    let mut written = Room::new();
-    let mut buffer = [0; 4096];
-    let mut room = LIMIT;
-    'pieces: loop {
-        let n = match source.take(&mut buffer) {
-            Ok(n) => n,
-            Err(_) => return Status::ReadFault,
-        };
-        if n == 0 {
-            break;
+    let mut script = Script::new();
+    'turns: loop {
+        match script.turn(player, heap, source, sink) {
+            TurnEnd::Answered => {}
+            TurnEnd::Ended => break,
+            TurnEnd::Stopped(status) => return status,
         }
-        let within = n.min(room);
-        match answer_piece(
-            &mut reader,
-            player,
-            heap,
-            sink,
-            &mut written,
-            &buffer[..within],
-        ) {
-            Ready::GoesOn => {}
-            Ready::Stopped => return Status::BadScript,
-            Ready::Cut => return Status::WriteFault,
-            Ready::Wanting => return Status::OutOfMemory,
-        }
-        if n > room {
-            return Status::TooLong;
-        }
-        room -= n;
     }
-    reader.finish();
-    match answer_kept(&mut reader, player, heap, sink, &mut written) {
+    script.reader.finish();
+    match answer_kept(&mut script.reader, player, heap, sink, &mut script.payload) {
         Ready::GoesOn => Status::Done,
         Ready::Stopped => Status::BadScript,
         Ready::Cut => Status::WriteFault,

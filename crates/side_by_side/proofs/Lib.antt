@@ -12,3 +12,4 @@ pub mod FirstLemmas
 pub mod Fresh
 pub mod CallerLemmas
 pub mod Prefixes
+pub mod Headlines

@@ -7,6 +7,7 @@ use Rattle.cf_base.specs.declared.kind.Kind.{Kind}
 use Rattle.cf_model.specs.State.{HeapState}
 use Rattle.run_model.specs.Runs.{Run}
 use Rattle.run_model.specs.Sessions.{RunState}
+use Rattle.headline_laws.specs.Headline.{MeetsHeadline}
 use Rattle.side_by_side.specs.Many.{named}
 
 -- what is printed of an item by no manager: a bad line is named
@@ -45,7 +46,13 @@ OwnRuns [] items replies end = (replies ≡ map alone items) × IsOfNone end
 OwnRuns (kind ∷ kinds) items replies end = (owns : List Reply) × (others : List Reply) × (own : Option RunState) × (rest : Option (List RunState))
     × Run kind None items owns own × OwnRuns kinds items others rest × (replies ≡ beside kind items owns others) × AreTogether own rest end
 
--- The same over the items before a command, of whose reply `front` was written: the managers up to the one whose reply was cut are at the end of their runs
+-- The replies are woven of replies by kind, each of which meets the headline.
+abbrev pub MeetHeadlines : List Kind → List Item → List Reply → Type 0
+MeetHeadlines [] items replies = replies ≡ map alone items
+MeetHeadlines (kind ∷ kinds) items replies = (owns : List Reply) × (others : List Reply)
+    × MeetsHeadline kind items owns × MeetHeadlines kinds items others × (replies ≡ beside kind items owns others)
+
+-- Own runs over the items before a command, of whose reply `front` was written: the managers up to the one whose reply was cut are at the end of their runs
 -- over the items with the command, those after it over the items before.
 abbrev pub OwnRunsUpTo : List Kind → List Item → Command → List Reply → List ℕ → List RunState → Type 0
 OwnRunsUpTo [] before c replies front news = ⊥

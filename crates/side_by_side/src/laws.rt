@@ -9,7 +9,7 @@ ghost use Rattle.run_model.specs.Plays.{PlayPart, PlayRun};
 ghost use Rattle.script_loop.specs.Consequences.{IsPrefixBy};
 ghost use Rattle.script_loop.specs.ScriptOutcome.{Effects, Wrote, WroteInPart, items_within};
 ghost use Rattle.side_by_side.specs.Many.{EachBegins, EachInPart, EachTurn, Many, kinds_of, many_managers, runs_of};
-ghost use Rattle.side_by_side.specs.Own.{OwnRuns, OwnRunsInPart, StandEach};
+ghost use Rattle.side_by_side.specs.Own.{MeetHeadlines, OwnRuns, OwnRunsInPart, StandEach};
 
 /// What many managers answer side by side is woven of a run of each manager's own over the same
 /// items.
@@ -17,6 +17,12 @@ pub fn each_has_its_own_run()
     ensures { (kinds : List Kind) (items : List Item) (replies : List Reply) (end : Option (List RunState))
         → PlayRun (EachBegins kinds) EachTurn None items replies end
         → OwnRuns kinds items replies end }
+{}
+
+/// The replies of each manager's own run meet the headline of its kind.
+pub fn each_meets_the_headline()
+    ensures { (kinds : List Kind) (items : List Item) (replies : List Reply) (end : Option (List RunState))
+        → OwnRuns kinds items replies end → MeetHeadlines kinds items replies }
 {}
 
 /// Where an item's reply was cut, the managers up to the one whose reply it was stand after the item,

@@ -11,5 +11,5 @@ pub use each::Sessions;
 pub use first::first_of;
 pub use laws::{
     a_cut_stops_between_two_managers, each_has_its_own_run, each_manager_is_open_after_its_run,
-    outcomes_are_of_each, what_was_cut_is_a_prefix,
+    each_meets_the_headline, outcomes_are_of_each, what_was_cut_is_a_prefix,
 };

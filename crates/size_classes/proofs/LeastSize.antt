@@ -1,4 +1,4 @@
--- What a need finds among rising sizes.
+-- The least size that holds a need, among rising sizes.
 use Rattle.std.proofs.Common.{◌≡◌, ℕ, ◌+◌, ◌-◌, ◌<◌, ◌≤◌, inl, inr, List, [], ◌∷◌, length, get_or, Some, None, arith, refl, sym, ◌∙◌, ap}
 use Rattle.std.specs.Prelude.{◌++◌, nat_le}
 use Rattle.std.specs.List.{position}
@@ -9,13 +9,13 @@ use Rattle.cf_base.specs.Rising.{AreSizes}
 use Rattle.cf_base.proofs.CallerLemmas.{size_within}
 use Rattle.cf_lemmas.proofs.Positions.{position_is, position_none}
 
--- the first size that is large enough, where all before it are too small
+-- the first size that is large enough, if all sizes before it are too small
 pub least_size : (sizes : List ℕ) (n c : ℕ) → c < length sizes → ((k : ℕ) → k < c → get_or sizes k 0 < n) → n ≤ get_or sizes c 0
     → Some c ≡ position (λ s. nat_le n s) sizes
 least_size sizes n c short below large =
     sym (position_is (λ s. nat_le n s) sizes c 0 short (λ k h. lt-leb n (get_or sizes k 0) (below k h)) (le-leb n (get_or sizes c 0) large))
 
--- where a size is one too small, the next one is large enough
+-- size c is the first that is at least n
 pub record IsLeast (sizes : List ℕ) (n c : ℕ) : Type 0 where
   pub inside : c < length sizes
   pub below : (k : ℕ) → k < c → get_or sizes k 0 < n
@@ -39,7 +39,7 @@ next_size page_words sizes n c are within inside below near small =
       large = (let rise = are.rising c (c + 1) (omega arith) more in omega arith);
     }
 
--- one more need is told
+-- one more need gets its class
 pub told_more : (sizes by_need : List ℕ) (n c : ℕ) → length by_need ≡ n → ((k : ℕ) → k < n → Some (get_or by_need k 0) ≡ position (λ s. nat_le k s) sizes)
     → IsLeast sizes n c → (k : ℕ) → k < n + 1 → Some (get_or (by_need ++ c ∷ []) k 0) ≡ position (λ s. nat_le k s) sizes
 told_more sizes by_need n c long told least k lt = elim (cases_lt k n) [

@@ -1,4 +1,4 @@
--- What a table of size classes stands for.
+-- What contracts see of a table of size classes.
 use Rattle.std.specs.Prelude.{ℕ, ◌≤◌, List}
 use Rattle.cf_base.specs.Classes.{sizes}
 use Rattle.cf_base.specs.Rising.{AreSizes}
@@ -9,7 +9,7 @@ pub record ClassTable : Type 0 where
   pub page_words : ℕ
   pub sizes : List ℕ
 
--- the table of pages with so many words, by one of the two sequences
+-- the table of pages with `page_words` words, by one of the two sequences
 abbrev pub table_of : ℕ → Layout → ClassTable
 table_of page_words layout = record { page_words = page_words; sizes = sizes page_words layout }
 

@@ -1,11 +1,11 @@
-//! The class of each need, counted out once.
+//! The class of each need, computed once.
 ghost use Rattle.std.specs.Prelude.{IfOk};
 ghost use Rattle.size_classes.specs.Table.{IsClassTable};
 ghost use Rattle.size_classes.specs.Layout.{TellsClasses};
 
 use std::alloc::{AllocError, Global};
 
-/// For each need of at most a page the place of the least of these sizes that is at least as large.
+/// For each need of at most a page, the position of the least of these sizes that holds it.
 pub(crate) fn classes_by_need(
     alloc: Global,
     sizes: &[u32],

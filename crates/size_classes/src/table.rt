@@ -12,15 +12,15 @@ use std::alloc::Global;
 use std::marker::Model;
 use step_ledger::Steps;
 
-/// The size classes of pages with so many words: the words of a slot of each class, in rising order,
-/// by the rule of Compact-fit (2008).
+/// The size classes of pages: the words of a slot of each class, in rising order, by the rule of
+/// Compact-fit (2008).
 #[derive(Drop)]
 pub struct Classes {
     sizes: Vec<u32>,
-    // For each need of at most a page its class.
+    // The class of each need of at most a page.
     by_need: Cells<u8>,
     page_words: u32,
-    // A page has two to this power of words.
+    // A page has `2^page_shift` words.
     page_shift: u32,
 }
 
@@ -36,7 +36,8 @@ impl Model for Classes {
 }
 
 impl Classes {
-    /// The classes of pages with `page_words` words, by one of the two sequences. It alone takes memory.
+    /// The classes of pages with `page_words` words, by one of the two sequences. Only this call
+    /// takes memory.
     pub fn new(alloc: Global, page_words: u32, layout: Layout) -> Result<Classes, OutOfMemory>
         requires { IsTrue (is_page_size page_words) }
         ensures { IfOk result (λ t. t ≡ table_of page_words layout) }
@@ -96,14 +97,14 @@ impl Classes {
         address >> self.page_shift
     }
 
-    /// How many words an address is into its page.
+    /// The words between the start of its page and an address.
     pub fn offset_of(&self, address: u32) -> u32
         ensures { result ≡ address % self.now.page_words }
     {
         address & (self.page_words - 1)
     }
 
-    /// The least class that holds an object of `bytes` bytes; none where it needs more than a page.
+    /// The least class that holds an object of `bytes` bytes; none if it needs more than a page.
     pub fn class_of(&self, bytes: u32, steps: &mut Steps) -> Option<u32>
         ensures found { result ≡ class_of self.now.sizes bytes }
         ensures none { IsNone result ↔ (self.now.page_words < need bytes) }
@@ -111,7 +112,7 @@ impl Classes {
         ensures steps { RoseBy steps.old steps.new 1 }
     {
         let words = need_of(bytes);
-        // A need of more than a page reads the entry of the page.
+        // A need of more than a page reads the entry of the page, so that it costs the same step.
         let class = self.by_need.get(words.min(self.page_words) as usize, steps);
         if words > self.page_words {
             return None;

@@ -13,13 +13,13 @@ use Rattle.page_model.specs.Held.{Held, Placed}
 use Rattle.page_model.specs.Paging.{page_of, slot_words, slots_of}
 use Rattle.page_model.proofs.CallerLemmas.{objects_on-elsewhere, objects_on-left}
 use Rattle.slice_model.specs.State.{Plan, IsPlan, JobSlot, Job, Sliced, IsKept, advanced, job_slot, Idle, Clear, Move}
-use Rattle.slice_model.specs.Steps.{AreSlices, Chains, Ends, GoesOn, IsDone, IsOver, IsSlice, SliceOf, done_after, fresh_slot}
+use Rattle.slice_model.specs.Steps.{AreSlices, Carries, Ends, GoesOn, IsBeside, IsDone, IsOver, IsSlice, SliceOf, done_after, fresh_slot}
 use Rattle.slice_model.specs.Runs.{Event, Happens, Runs, Turn, Working, is_step, steps_in, Malloc, Free, Step, Write, Read}
 use Rattle.slice_model.proofs.Occupied.{job_class, no_stand_in}
 use Rattle.slice_model.proofs.Keeping.{kept_slice, two_is_last}
 
 -- so many slices of a quantum do n words: one fewer do not
-ceil_bounds : (n q : ℕ) → 0 < n → 1 ≤ q → (k : ℕ) × (ceil_div n q ≡ suc k) × (k * q < n) × (n ≤ k * q + q)
+pub ceil_bounds : (n q : ℕ) → 0 < n → 1 ≤ q → (k : ℕ) × (ceil_div n q ≡ suc k) × (k * q < n) × (n ≤ k * q + q)
 ceil_bounds n q some one = go (ceil_div n q) refl
   where
     go : (c : ℕ) → ceil_div n q ≡ c → (k : ℕ) × (c ≡ suc k) × (k * q < n) × (n ≤ k * q + q)
@@ -45,7 +45,7 @@ advanced_not Idle k e = refl
 advanced_not (Clear g) k e = (let f : k ≡ g = (let e' : Some g ≡ Some k = e in cc) in rw f refl)
 advanced_not (Move h g) k e = (let f : k ≡ g = (let e' : Some g ≡ Some k = e in cc) in rw f refl)
 
-slot_advanced : (j : Job) (k : JobSlot) (d : ℕ) → job_slot j ≡ Some k → job_slot (advanced j d) ≡ Some (record k { done = d })
+pub slot_advanced : (j : Job) (k : JobSlot) (d : ℕ) → job_slot j ≡ Some k → job_slot (advanced j d) ≡ Some (record k { done = d })
 slot_advanced Idle k d e = absurd (let e' : None ≡ Some k = e in cc)
 slot_advanced (Clear g) k d e = (let f : g ≡ k = (let e' : Some g ≡ Some k = e in cc) in ap (λ (z : JobSlot). Some (record z { done = d })) f)
 slot_advanced (Move q g) k d e = (let f : g ≡ k = (let e' : Some g ≡ Some k = e in cc) in ap (λ (z : JobSlot). Some (record z { done = d })) f)
@@ -138,37 +138,36 @@ module _ (plan : Plan) where
 
   -- after a job that another one followed the class has no second partly full page
   module _ (ok : IsPlan plan) where
-    followed_once : (m : Held) (k : JobSlot) (new : Sliced) → Chains plan.paging m k new → IsKept plan new → not_full_pages plan.paging new.held k.class ≢ 2
-    followed_once m k new c kept two =
-        let q : ℕ = c.object in
-        let y : Placed = c.carries.object in
-        let w = c.carries.whole in
-        let found : Some c.beside.object ≡ Some c.carries.object = sym c.beside.found ∙ c.carries.found in
-        let same : c.beside.object ≡ c.carries.object = cc in
-        let class : class_at plan.paging c.carries.object ≡ k.class = rw same at c.beside.class in
-        let apart : page_of plan.paging c.carries.object.place ≢ page_of plan.paging k.address = rw same at c.beside.page in
-        let less : objects_on plan.paging m k.class (page_of plan.paging c.carries.object.place) < slots_of plan.paging k.class =
-        rw same at c.beside.not_full in
-        let z : Placed = record { place = k.address; bytes = c.carries.object.bytes } in
-        let away : objects_on plan.paging (insert (remove m c.object) c.object (record { place = k.address; bytes = c.carries.object.bytes })) k.class
-        (page_of plan.paging c.carries.object.place) ≡ objects_on plan.paging (remove m c.object) k.class (page_of plan.paging c.carries.object.place) =
-        objects_on-elsewhere plan.paging (remove m c.object) c.object (record { place = k.address; bytes = c.carries.object.bytes })
-        (get_removed m c.object) k.class
-        (page_of plan.paging c.carries.object.place) (inl (λ e. apart (sym e))) in
-        let left = objects_on-left plan.paging m c.object c.carries.object c.carries.found k.class class in
-        let again = insert_again m c.object (record { place = k.address; bytes = c.carries.object.bytes }) in
-        let away' : objects_on plan.paging (insert m c.object (record { place = k.address; bytes = c.carries.object.bytes })) k.class
-        (page_of plan.paging c.carries.object.place) ≡ objects_on plan.paging (remove m c.object) k.class (page_of plan.paging c.carries.object.place) =
+    pub followed_once : (m : Held) (a e q : ℕ) (new : Sliced) → IsBeside plan.paging m a e q → Carries m q a e new → IsKept plan new
+        → not_full_pages plan.paging new.held e ≢ 2
+    followed_once m a e q new beside carries kept two =
+        let y : Placed = carries.object in
+        let w = carries.whole in
+        let found : Some beside.object ≡ Some carries.object = sym beside.found ∙ carries.found in
+        let same : beside.object ≡ carries.object = cc in
+        let class : class_at plan.paging carries.object ≡ e = rw same at beside.class in
+        let apart : page_of plan.paging carries.object.place ≢ page_of plan.paging a = rw same at beside.page in
+        let less : objects_on plan.paging m e (page_of plan.paging carries.object.place) < slots_of plan.paging e = rw same at beside.not_full in
+        let z : Placed = record { place = a; bytes = carries.object.bytes } in
+        let away : objects_on plan.paging (insert (remove m q) q (record { place = a; bytes = carries.object.bytes })) e
+        (page_of plan.paging carries.object.place) ≡ objects_on plan.paging (remove m q) e (page_of plan.paging carries.object.place) =
+        objects_on-elsewhere plan.paging (remove m q) q (record { place = a; bytes = carries.object.bytes })
+        (get_removed m q) e
+        (page_of plan.paging carries.object.place) (inl (λ e. apart (sym e))) in
+        let left = objects_on-left plan.paging m q carries.object carries.found e class in
+        let again = insert_again m q (record { place = a; bytes = carries.object.bytes }) in
+        let away' : objects_on plan.paging (insert m q (record { place = a; bytes = carries.object.bytes })) e
+        (page_of plan.paging carries.object.place) ≡ objects_on plan.paging (remove m q) e (page_of plan.paging carries.object.place) =
         rw again at away in
         let kept' : IsKept plan (record {
-          held = insert m c.object (record { place = k.address; bytes = c.carries.object.bytes });
-          job = Move c.object (fresh_slot c.carries.object.place k.class);
+          held = insert m q (record { place = a; bytes = carries.object.bytes });
+          job = Move q (fresh_slot carries.object.place e);
         }) = subst (IsKept plan) w kept in
-        let two' : not_full_pages plan.paging (insert m c.object (record { place = k.address; bytes = c.carries.object.bytes })) k.class ≡ 2 =
-        sym (ap (λ (s : Sliced). not_full_pages plan.paging s.held k.class) w) ∙ two in
-        let l = two_is_last plan ok (insert m c.object (record { place = k.address; bytes = c.carries.object.bytes }))
-        (fresh_slot c.carries.object.place k.class)
-        (no_stand_in plan (insert m c.object (record { place = k.address; bytes = c.carries.object.bytes })) kept'.numbers) kept'.job.0.class kept'.sound
+        let two' : not_full_pages plan.paging (insert m q (record { place = a; bytes = carries.object.bytes })) e ≡ 2 =
+        sym (ap (λ (s : Sliced). not_full_pages plan.paging s.held e) w) ∙ two in
+        let l = two_is_last plan ok (insert m q (record { place = a; bytes = carries.object.bytes }))
+        (fresh_slot carries.object.place e)
+        (no_stand_in plan (insert m q (record { place = a; bytes = carries.object.bytes })) kept'.numbers) kept'.job.0.class kept'.sound
         two' in
         let filled = l.filled in
         omega arith
@@ -194,7 +193,7 @@ module _ (plan : Plan) where
             → new.job ≡ Idle
         then mid (inl (_, whole)) kept' rest = slices_idle (ceil_div (slot_words plan.paging k.class) plan.quantum) mid new (rw whole refl) rest
         then mid (inr c) kept' rest =
-            let once = followed_once old.held k mid c kept' in
+            let once = followed_once old.held k.address k.class c.object mid c.beside c.carries kept' in
             let g : JobSlot = fresh_slot c.carries.object.place k.class in
             let e' : job_slot mid.job ≡ Some (fresh_slot c.carries.object.place k.class) = ap (λ (s : Sliced). job_slot s.job) c.carries.whole in
             let under = job_class plan.paging old.held old.job kept.job k e in

@@ -3,11 +3,14 @@ pub mod Occupied
 pub mod Keeping
 pub mod Beside
 pub mod RoomBeside
+pub mod SparePage
+pub mod Waiting
 pub mod Standing
 pub mod SliceWords
 pub mod CallWords
 pub mod ImageBeside
 pub mod JobSlices
 pub mod OneMap
+pub mod PendingTime
 pub mod Answering
 pub mod CallerLemmas

@@ -1,14 +1,14 @@
 -- Where the words of objects stand beside a job, and that no two stand at one address.
-use Rattle.std.proofs.Common.{◌≡◌, ◌≢◌, ℕ, ◌+◌, ◌<◌, ◌≤◌, Option, Some, length, arith, sym, ◌∙◌, ap, refl, subst, inl, inr}
+use Rattle.std.proofs.Common.{◌≡◌, ◌≢◌, ℕ, ◌+◌, ◌*◌, ◌<◌, ◌≤◌, Option, Some, length, arith, sym, ◌∙◌, ap, refl, subst, inl, inr}
 use Rattle.std.specs.Prelude.{◌⊎◌, nat_eq}
 use Rattle.std.proofs.lemmas.Bool.{cases_eq, cases_lt}
 use Rattle.std.specs.FinMap.{get}
 use Rattle.cf_lemmas.proofs.Tests.{eq_yes, eq_no, le_yes, le_no, and_false}
-use Rattle.page_model.specs.Arrangement.{class_at}
+use Rattle.page_model.specs.Arrangement.{IsSlotAt, class_at}
 use Rattle.page_model.specs.Held.{Held, Placed}
 use Rattle.page_model.specs.Image.{IsDisjoint, IsOutside, slot_for}
 use Rattle.page_model.specs.Paging.{Paging, slot_words}
-use Rattle.page_model.proofs.CallerLemmas.{sound_apart_from}
+use Rattle.page_model.proofs.CallerLemmas.{slot_inside, sound_apart_from}
 use Rattle.slice_model.specs.State.{Plan, IsPlan, JobSlot, Job, Sliced, IsKept, job_slot, occupied, stand_in, Idle, Clear, Move}
 use Rattle.slice_model.specs.Words.{word_at}
 use Rattle.slice_model.proofs.Occupied.{beside, no_stand_in, slot_class, slot_there}
@@ -132,3 +132,25 @@ not_outside p m j class h x there i lt w out beyond same = elim (where_word j h 
     outside_not : (a n w i : ℕ) → IsOutside a n w → i < n → a + i ≢ w
     outside_not a n w i (inl l) lt e = omega arith
     outside_not a n w i (inr r) lt e = omega arith
+
+module _ (plan : Plan) (ok : IsPlan plan) (m : Held) (j : Job) (kept : IsKept plan (record { held = m; job = j })) where
+  abbrev p : Paging
+  p = plan.paging
+
+  abbrev s : Sliced
+  s = record { held = m; job = j }
+
+  -- an object's slot is one of its class, within the region
+  pub object_slot : (h : ℕ) (x : Placed) → get m h ≡ Some x → IsSlotAt plan.paging (class_at plan.paging x) x.place
+  object_slot h x there = kept.sound.slots h x (beside plan ok s kept h x there)
+
+  pub object_within : (h : ℕ) (x : Placed) → get m h ≡ Some x → x.place + slot_for plan.paging (length x.bytes) ≤ plan.paging.pages * plan.paging.page_words
+  object_within h x there = slot_inside p (class_at p x) x.place (object_slot h x there)
+
+  -- so is the job's
+  pub job_at : (k : JobSlot) → job_slot j ≡ Some k → IsSlotAt plan.paging k.class k.address
+  job_at k e = subst (λ c. IsSlotAt p c k.address) (slot_class plan ok s kept k e)
+      (kept.sound.slots plan.proxies (stand_in p k) (slot_there plan ok s kept k e))
+
+  pub job_within : (k : JobSlot) → job_slot j ≡ Some k → k.address + slot_words plan.paging k.class ≤ plan.paging.pages * plan.paging.page_words
+  job_within k e = slot_inside p k.class k.address (job_at k e)

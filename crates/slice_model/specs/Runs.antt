@@ -1,12 +1,12 @@
 -- Runs over the calls of several tasks, on a sliced heap with its words, and on one map of objects.
 use Rattle.std.specs.Prelude.{◌≡◌, ℕ, ◌+◌, ◌-◌, ◌/◌, ◌%◌, ◌<◌, ◌≤◌, List, [], ◌∷◌, Option, Some, None, Result}
-use Rattle.std.specs.Prelude.{Ok, Err, length, slice_index, take, drop, replicate, min}
+use Rattle.std.specs.Prelude.{Ok, Err, if◌then◌else◌, length, nat_eq, slice_index, take, drop, replicate, min}
 use Rattle.std.specs.FinMap.{get, insert, remove}
 use Rattle.cf_base.specs.declared.answers.AccessFault.{AccessFault}
 use Rattle.cf_base.specs.declared.answers.AccessFault.TheVariants as access
 use Rattle.cf_base.specs.declared.answers.Handle.{Handle}
 use Rattle.page_model.specs.Held.{Placed, Objects, objects}
-use Rattle.page_model.specs.Paging.{slot_words}
+use Rattle.page_model.specs.Paging.{class_for, slot_words}
 use Rattle.page_model.specs.Image.{Rewrites, header_word}
 use Rattle.page_model.specs.Bytes.{AreBytes, written}
 use Rattle.page_model.specs.Steps.{Request}
@@ -113,6 +113,32 @@ is_step (Read part count answer) = 0
 abbrev pub steps_in : List Turn → ℕ
 steps_in [] = 0
 steps_in (turn ∷ rest) = is_step turn.event + steps_in rest
+
+-- how many calls of a run are frees that are done
+abbrev pub is_done_free : Event → ℕ
+is_done_free (Malloc bytes answer) = 0
+is_done_free (Free h None) = 1
+is_done_free (Free h (Some e)) = 0
+is_done_free Step = 0
+is_done_free (Write part bytes answer) = 0
+is_done_free (Read part count answer) = 0
+
+abbrev pub frees_in : List Turn → ℕ
+frees_in [] = 0
+frees_in (turn ∷ rest) = is_done_free turn.event + frees_in rest
+
+-- how many are mallocs of class c that are done
+abbrev pub is_malloc_of : Plan → ℕ → Event → ℕ
+is_malloc_of plan c (Malloc bytes (Ok h)) = if nat_eq (class_for plan.paging bytes) c then 1 else 0
+is_malloc_of plan c (Malloc bytes (Err e)) = 0
+is_malloc_of plan c (Free h answer) = 0
+is_malloc_of plan c Step = 0
+is_malloc_of plan c (Write part bytes answer) = 0
+is_malloc_of plan c (Read part count answer) = 0
+
+abbrev pub mallocs_in : Plan → ℕ → List Turn → ℕ
+mallocs_in plan c [] = 0
+mallocs_in plan c (turn ∷ rest) = is_malloc_of plan c turn.event + mallocs_in plan c rest
 
 -- the object is live, and stays
 abbrev pub IsLive : Objects → ℕ → Type 0

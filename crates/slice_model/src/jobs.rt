@@ -1,10 +1,13 @@
 //! How many slices a job takes.
-ghost use Rattle.std.specs.Prelude.{ℕ, ◌≡◌, ◌+◌, ◌-◌, ◌*◌, ◌<◌, List, Some};
+ghost use Rattle.std.specs.Prelude.{ℕ, ◌≡◌, ◌+◌, ◌-◌, ◌*◌, ◌<◌, ◌≤◌, List, None, Some};
+ghost use Rattle.std.specs.FinMap.{get};
+ghost use Rattle.page_model.specs.Arrangement.{class_at};
 ghost use Rattle.page_model.specs.Counts.{ceil_div};
+ghost use Rattle.page_model.specs.Held.{Placed};
 ghost use Rattle.page_model.specs.Paging.{slot_words};
-ghost use Rattle.slice_model.specs.Runs.{Happens, Runs, Step, Turn, Working, steps_in};
+ghost use Rattle.slice_model.specs.Runs.{Free, Happens, IsConsistent, Runs, Step, Turn, Working, frees_in, mallocs_in, steps_in};
 ghost use Rattle.slice_model.specs.State.{Idle, IsKept, IsPlan, JobSlot, Plan, Sliced, advanced, job_slot};
-ghost use Rattle.slice_model.specs.Steps.{AreSlices, IsOver};
+ghost use Rattle.slice_model.specs.Steps.{AreSlices, GivesObject, IsOver, WantsSlot};
 
 /// Each slice does a quantum of the job, and whatever else is called between leaves the job as it is.
 pub fn a_job_advances_by_its_slices()
@@ -28,4 +31,22 @@ pub fn slices_alone_end_every_job()
     ensures { (plan : Plan) (old new : Sliced) (k : JobSlot) → IsPlan plan → IsKept plan old → job_slot old.job ≡ Some k
         → AreSlices plan (ceil_div (slot_words plan.paging k.class - k.done) plan.quantum + ceil_div (slot_words plan.paging k.class) plan.quantum) old new
         → new.job ≡ Idle }
+{}
+
+/// After a free that is done, and before another one is, no job is pending any more after as many
+/// slices as the free's slot takes, the free's own among them, and as many again for each malloc of
+/// the class that is done between.
+pub fn each_malloc_between_prolongs_a_job_once()
+    ensures { (plan : Plan) (old freed new : Working) (h : ℕ) (x : Placed) (turns : List Turn) → IsPlan plan → IsConsistent plan old
+        → get old.state.held h ≡ Some x → Happens plan old (Free h None) freed → Runs plan freed turns new → frees_in turns ≡ 0
+        → (1 + mallocs_in plan (class_at plan.paging x) turns) * ceil_div (slot_words plan.paging (class_at plan.paging x)) plan.quantum ≤ 1 + steps_in turns
+        → new.state.job ≡ Idle }
+{}
+
+/// Where nothing else is called between, a malloc that had to wait is done after the slices of both.
+pub fn a_waiting_malloc_is_done_after_the_slices()
+    ensures { (plan : Plan) (old new : Sliced) (bytes : ℕ) (k : JobSlot) → IsPlan plan → IsKept plan old
+        → WantsSlot plan old bytes → job_slot old.job ≡ Some k
+        → AreSlices plan (ceil_div (slot_words plan.paging k.class - k.done) plan.quantum + ceil_div (slot_words plan.paging k.class) plan.quantum) old new
+        → (h : ℕ) × (after : Sliced) × GivesObject plan new (record { number = h; length = bytes }) after }
 {}

@@ -1,12 +1,12 @@
 //! When a malloc and a free are refused beside a pending job.
-ghost use Rattle.std.specs.Prelude.{ℕ, ◌≡◌, ◌≢◌, ◌≤◌, ◌⊎◌, Option, Some};
+ghost use Rattle.std.specs.Prelude.{ℕ, ◌≡◌, ◌≢◌, ◌<◌, ◌≤◌, ◌⊎◌, ◌↔◌, Option, Some};
 ghost use Rattle.std.specs.FinMap.{get};
 ghost use Rattle.cf_base.specs.Classes.{need};
 ghost use Rattle.page_model.specs.Arrangement.{pages_needed_with};
 ghost use Rattle.page_model.specs.Held.{objects};
 ghost use Rattle.page_model.specs.Paging.{class_for};
 ghost use Rattle.page_model.specs.Steps.{Request};
-ghost use Rattle.slice_model.specs.State.{Idle, IsFreePage, IsKept, IsPlaceFor, IsPlan, IsUsable, Plan, Sliced};
+ghost use Rattle.slice_model.specs.State.{Idle, IsFreePage, IsKept, IsPlaceFor, IsPlan, IsUsable, NoPlace, Plan, Sliced, occupied};
 ghost use Rattle.slice_model.specs.Steps.{GivesObject, IsFaultOf, IsRefusedBy, IsSlice, RemovesObject, WantsSlot};
 ghost use Rattle.slice_model.specs.declared.answers.SliceFault.{SliceFault};
 ghost use Rattle.slice_model.specs.declared.answers.SliceRefusal.{SliceRefusal};
@@ -26,6 +26,19 @@ pub fn a_place_is_within_the_sum()
     ensures page { (plan : Plan) (s : Sliced) (bytes page : ℕ) → IsPlan plan → IsKept plan s → need bytes ≤ plan.paging.page_words
         → IsFreePage plan.paging s page
         → pages_needed_with plan.paging (objects s.held) bytes ≤ plan.paging.pages }
+{}
+
+/// There is no place exactly where the pages are too few with the job's slot as one more object.
+pub fn a_malloc_waits_exactly_by_arithmetic()
+    ensures { (plan : Plan) (s : Sliced) (bytes : ℕ) → IsPlan plan → IsKept plan s → need bytes ≤ plan.paging.page_words
+        → NoPlace plan.paging s (class_for plan.paging bytes)
+        ↔ (plan.paging.pages < pages_needed_with plan.paging (objects (occupied plan s)) bytes) }
+{}
+
+/// Where a page more than are needed is there, no malloc has to wait.
+pub fn a_spare_page_never_waits()
+    ensures { (plan : Plan) (s : Sliced) (bytes : ℕ) → IsPlan plan → IsKept plan s
+        → pages_needed_with plan.paging (objects s.held) bytes < plan.paging.pages → ¬ WantsSlot plan s bytes }
 {}
 
 /// Each malloc is done, or refused by just one cause.

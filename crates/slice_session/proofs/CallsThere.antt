@@ -1,5 +1,5 @@
 -- Each call of a sliced heap has an answer, and a state after it.
-use Rattle.std.proofs.Common.{ℕ, ◌+◌, List, Some, None, length, ◌∙◌, ap, refl, subst, inl, inr}
+use Rattle.std.proofs.Common.{◌≡◌, ℕ, ◌+◌, List, Some, None, length, arith, ◌∙◌, ap, refl, subst, inl, inr}
 use Rattle.std.specs.Prelude.{Option, Result, Ok, Err, option_map}
 use Rattle.std.proofs.lemmas.Bool.{cases_lt}
 use Rattle.std.specs.FinMap.{insert}
@@ -11,6 +11,8 @@ use Rattle.cf_lemmas.proofs.Searches.{there_or_not}
 use Rattle.page_model.specs.Bytes.{AreBytes, written}
 use Rattle.page_model.specs.Held.{Placed}
 use Rattle.page_model.specs.Image.{header_word}
+use Rattle.page_model.specs.Paging.{class_for}
+use Rattle.page_model.proofs.CallerLemmas.{slot_inside}
 use Rattle.slice_model.specs.Runs.{Event, Happens, Malloc, Free, Step, Write}
 use Rattle.slice_model.specs.State.{Idle, IsKept, Plan, Sliced}
 use Rattle.slice_model.specs.declared.answers.SliceFault.{SliceFault}
@@ -35,19 +37,22 @@ module _ (s : SlicedState) (rules : KeepsRules s) where
   kept = rules.consistent.kept
 
   stands : (event : Event) → Happens (plan_in s) (working_in s) event (working_in s) → Does s event s
-  stands event happens = record { happens = happens; stays = record { is_open = refl; profile = refl; quantum = refl } }
+  stands event happens = record { happens = happens; stays = record { is_open = refl; profile = refl; quantum = refl; region = refl } }
 
   does : (event : Event) (w : Sliced) (words : List ℕ) → Happens (plan_in s) (working_in s) event (record { state = w; words = words })
-      → Does s event (working_with s w words)
-  does event w words happens = record { happens = happens; stays = record { is_open = refl; profile = refl; quantum = refl } }
+      → length words ≡ length s.words → Does s event (working_with s w words)
+  does event w words happens long = record { happens = happens; stays = record { is_open = refl; profile = refl; quantum = refl; region = long } }
 
   pub malloc_there : (n : ℕ) → (answer : Result Handle SliceRefusal) × (new : SlicedState) × Does s (Malloc n answer) new
   malloc_there n = elim (answered plan rules.plan state kept n) [
     | inl (e, cause) ↦ (Err e, s, stands (Malloc n (Err e)) (cause, refl))
     | inr (h, new, gives) ↦ (
-        let w = rewrites_there s.words (record { from = gives.place; count = 1 }) (λ _. header_word h n) in
+        let slot = slot_inside plan.paging (class_for plan.paging n) gives.place gives.free.slot in
+        let least = rules.plan.paging.sized.least (class_for plan.paging n) gives.free.slot.class in
+        let long = rules.region in
+        let w = rewrites_there s.words (record { from = gives.place; count = 1 }) (λ _. header_word h n) (omega arith) in
         let handle : Handle = record { 0 = h } in
-        (Ok handle, working_with s new w.0, does (Malloc n (Ok handle)) new w.0 (record { gives = gives; words = w.1 })))
+        (Ok handle, working_with s new w.0, does (Malloc n (Ok handle)) new w.0 (record { gives = gives; words = w.1 }) w.2))
   ]
 
   pub free_there : (h : ℕ) → (answer : Option SliceFault) × (new : SlicedState) × Does s (Free h answer) new
@@ -57,15 +62,15 @@ module _ (s : SlicedState) (rules : KeepsRules s) where
         let idle : IsKept plan (record { held = s.held; job = Idle }) =
         subst (λ j. IsKept (plan_in s) (record { held = s.held; job = j })) removes.idle kept in
         let begun = kept_begun plan rules.plan s.held idle h removes.freed removes.found removes.moved removes.moves removes.begun removes.begins in
-        let w = does_there plan rules.plan removes.begun.held removes.begun.job begun s.words in
-        (None, working_with s new w.0, does (Free h None) new w.0 (record { removes = removes; words = w.1 })))
+        let w = does_there plan rules.plan s.words rules.region removes.begun.held removes.begun.job begun in
+        (None, working_with s new w.0, does (Free h None) new w.0 (record { removes = removes; words = w.1 }) w.2))
   ]
 
   pub step_there : (new : SlicedState) × Does s Step new
   step_there =
       let slice = slice_there plan rules.plan state kept in
-      let w = does_there plan rules.plan s.held s.job kept s.words in
-      (working_with s slice.0 w.0, does Step slice.0 w.0 (record { slice = slice.1; words = w.1 }))
+      let w = does_there plan rules.plan s.words rules.region s.held s.job kept in
+      (working_with s slice.0 w.0, does Step slice.0 w.0 (record { slice = slice.1; words = w.1 }) w.2)
 
   pub write_there : (h from : ℕ) (bytes : List ℕ) → AreBytes bytes
       → (answer : Option AccessFault) × (new : SlicedState) × Does s (Write (record { number = h; from = from }) bytes answer) new
@@ -84,7 +89,7 @@ module _ (s : SlicedState) (rules : KeepsRules s) where
       )
       | inr within ↦ (
           let v = written x.bytes from bytes in
-          let w = written_there plan rules.plan state kept h x found from (length bytes) within s.words v in
+          let w = written_there plan rules.plan s.held s.job kept h x found from (length bytes) within s.words v rules.region in
           let new : Sliced = record { held = insert s.held h (record { place = x.place; bytes = v }); job = s.job } in (
             None,
             working_with s new w.0,
@@ -95,7 +100,7 @@ module _ (s : SlicedState) (rules : KeepsRules s) where
               are_bytes = are;
               state = refl;
               words = w.1;
-            }),
+            }) w.2,
           ))
     ]
   ]

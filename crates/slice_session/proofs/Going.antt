@@ -1,5 +1,5 @@
 -- A run over a sliced heap goes on after each command, and each command does to the ids and the objects that they name what it has to.
-use Rattle.std.proofs.Common.{◌≡◌, ◌∙◌, ℕ, List, Some, None, false, sym, ap, ap₂, refl, subst, inl, inr}
+use Rattle.std.proofs.Common.{◌≡◌, ◌∙◌, ◌*◌, ℕ, List, Some, None, false, sym, ap, ap₂, refl, subst, inl, inr}
 use Rattle.std.specs.Prelude.{IsTrue, Bool, Option, Result, Ok, Err, codes, option_map}
 use Rattle.std.specs.Option.{MatchOption}
 use Rattle.std.specs.FinMap.{get}
@@ -34,6 +34,10 @@ use Rattle.slice_session.specs.SliceRun.{FreesSliced, MallocsSliced, StaysSliced
 abbrev plan_by : Profile → ℕ → Plan
 plan_by p n = record { paging = paging_of p Words (first_bounds p Words); proxies = p.proxies; quantum = n }
 
+-- how many words the region of these settings has
+abbrev region_of : Profile → ℕ
+region_of p = p.pages * p.page_words
+
 pub plan_stays : (old new : SlicedState) → StaysOpen old new → plan_in new ≡ plan_in old
 plan_stays old new stays = ap₂ plan_by stays.profile stays.quantum
 
@@ -47,6 +51,7 @@ done_on_map old new rules event d =
       record {
         plan = subst IsPlan (sym same) rules.plan;
         consistent = subst (λ (p : Plan). IsConsistent p (working_in new)) (sym same) one.1;
+        region = d.stays.region ∙ rules.region ∙ ap region_of (sym d.stays.profile);
       },
     )
 

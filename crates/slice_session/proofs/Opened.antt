@@ -1,6 +1,7 @@
 -- A run over a sliced heap begins.
 use Rattle.std.proofs.Common.{◌≡◌, ℕ, ◌*◌, replicate, arith, sym, ◌∙◌, ap, refl, subst}
 use Rattle.std.specs.Prelude.{IsTrue}
+use Rattle.std.proofs.lemmas.List.{length-replicate}
 use Rattle.std.specs.FinMap.{empty}
 use Rattle.cf_base.specs.Settings.{Profile, profile_of}
 use Rattle.cf_base.specs.declared.settings.Settings.{Settings}
@@ -46,4 +47,5 @@ first_rules law quantum p q can = record {
     quantum = q.least;
   };
   consistent = law (plan_in (first_heap quantum p)) (p.pages * p.page_words);
+  region = length-replicate {A = ℕ} (p.pages * p.page_words) 0;
 }

@@ -1,5 +1,5 @@
 -- A session over a sliced heap, as a player.
-use Rattle.std.specs.Prelude.{◌≡◌, ◌≤◌, ◌*◌, ℕ, true, false, List, Option, codes, replicate}
+use Rattle.std.specs.Prelude.{◌≡◌, ◌≤◌, ◌*◌, ℕ, true, List, Option, codes, replicate}
 use Rattle.std.specs.FinMap.{empty}
 use Rattle.cf_base.specs.Settings.{Profile}
 use Rattle.cf_io.specs.Texts.{Reply, said}
@@ -9,7 +9,7 @@ use Rattle.script_loop.specs.Semantics.{Semantics}
 use Rattle.script_reader.specs.Items.{Item}
 use Rattle.session_model.specs.Applying.{TurnsInPart}
 use Rattle.slice_model.specs.State.{Idle}
-use Rattle.sliced_heap.specs.Shown.{KeepsRules, SlicedState}
+use Rattle.sliced_heap.specs.Shown.{KeepsRules, SlicedState, closed_state}
 use Rattle.slice_session.specs.SliceRun.{IsGoingSliced, SliceRun, SliceStep, slice_run}
 
 -- an open heap without objects and without a job, with the settings of a `heap` line at the bound 1, whatever it says
@@ -39,7 +39,7 @@ RunsSliced quantum = PlayRun (BeginsSlices quantum) SliceStep
 
 -- an allocation failed: the heap is closed, and the session is as it was
 pub record LacksSliced (old new : SliceRun) : Type 0 where
-  pub closed : new.heap.is_open ≡ false
+  pub closed : new.heap ≡ closed_state
   pub ids : new.ids ≡ old.ids
 
 -- A session over a sliced heap. The plan is the words of a slice.

@@ -1,12 +1,12 @@
 -- A session over a sliced heap, and what each command does there.
-use Rattle.std.specs.Prelude.{◌≡◌, ℕ, ◌+◌, ◌*◌, IsTrue, List, Option, Some, None, Result, Ok, Err, codes, length, slice_get}
+use Rattle.std.specs.Prelude.{◌≡◌, ℕ, ◌+◌, IsTrue, List, Option, Some, None, Result, Ok, Err, codes, length, slice_get}
 use Rattle.std.specs.Option.{MatchOption}
 use Rattle.std.specs.FinMap.{get, insert, remove}
 use Rattle.cf_base.specs.declared.answers.AccessFault.{AccessFault}
 use Rattle.cf_base.specs.declared.answers.Handle.{Handle}
 use Rattle.cf_base.specs.declared.answers.Refusal.TheVariants as told
 use Rattle.cf_io.specs.Texts.{Reply, said, with_number}
-use Rattle.cf_model.specs.Costs.{access_bound}
+use Rattle.cf_model.specs.Costs.{words_touched}
 use Rattle.id_table.specs.Ids.{Ids}
 use Rattle.page_model.specs.Held.{Objects, Placed, objects}
 use Rattle.run_model.specs.Replies.{malloc_text, peek_text, read_text, write_text}
@@ -123,12 +123,12 @@ SliceStep old (command.Write id from bytes) reply new =
     MatchOption (get old.ids id) (StaysSliced old (codes "unknown") reply new) (λ h. WritesSliced old h from bytes reply new)
 SliceStep old other reply new = (reply ≡ slice_told old other) × (new ≡ old)
 
--- The most steps of a command. A malloc, a free and a slice take no more than 128 and twice the words of a slice.
+-- The most steps of a command, with slices of so many words: those of the heap's call.
 abbrev pub most_steps : ℕ → Command → ℕ
-most_steps quantum (command.Malloc id bytes) = 128 + 2 * quantum
-most_steps quantum (command.Free id) = 128 + 2 * quantum
-most_steps quantum command.Slice = 128 + 2 * quantum
-most_steps quantum (command.Write id from bytes) = access_bound from (length bytes)
-most_steps quantum (command.Read id from count) = access_bound from count
+most_steps quantum (command.Malloc id bytes) = 17
+most_steps quantum (command.Free id) = 23 + quantum
+most_steps quantum command.Slice = 15 + quantum
+most_steps quantum (command.Write id from bytes) = 2 + words_touched from (length bytes)
+most_steps quantum (command.Read id from count) = 2 + words_touched from count
 most_steps quantum (command.Peek word) = 1
 most_steps quantum other = 0

@@ -1,8 +1,8 @@
 //! The commands of a session over a sliced heap: each writes the text of its reply on the line.
-ghost use Rattle.std.specs.Prelude.{◌≡◌, ◌+◌, ◌*◌, ◌<◌, ◌≤◌, [], IsTrue, Err, Some, length, slice_get};
+ghost use Rattle.std.specs.Prelude.{◌≡◌, ◌+◌, ◌<◌, ◌≤◌, [], IsTrue, Err, Some, length, slice_get};
 ghost use Rattle.cf_io.specs.Lines.{line_room};
 ghost use Rattle.cf_io.specs.Texts.{said};
-ghost use Rattle.cf_model.specs.Costs.{access_bound};
+ghost use Rattle.cf_model.specs.Costs.{words_touched};
 ghost use Rattle.run_model.specs.Replies.{peek_text, read_text};
 ghost use Rattle.script_reader.specs.declared.command.Command.TheVariants.{Malloc, Free, Slice, Write};
 ghost use Rattle.session_model.specs.Applying.{Speaks};
@@ -28,7 +28,7 @@ pub(crate) fn malloc(
     requires { IsTrue heap.old.is_open }
     ensures step { SliceStep (slice_run ids.old heap.old) (Malloc id bytes) (said result.now) (slice_run ids.new heap.new) }
     ensures short { length result.now ≤ 20 }
-    ensures bound { RoseAtMost steps.old steps.new (128 + 2 * heap.old.quantum) }
+    ensures bound { RoseAtMost steps.old steps.new 17 }
 {
     if ids.handle(id).is_some() {
         return b"live";
@@ -65,7 +65,7 @@ pub(crate) fn free(
     requires { IsTrue heap.old.is_open }
     ensures step { SliceStep (slice_run ids.old heap.old) (Free id) (said result.now) (slice_run ids.new heap.new) }
     ensures short { length result.now ≤ 20 }
-    ensures bound { RoseAtMost steps.old steps.new (128 + 2 * heap.old.quantum) }
+    ensures bound { RoseAtMost steps.old steps.new (23 + heap.old.quantum) }
 {
     let Some(h) = ids.handle(id) else {
         return b"unknown";
@@ -102,7 +102,7 @@ pub(crate) fn write(
     requires { IsTrue heap.old.is_open }
     ensures step { SliceStep (slice_run ids.now heap.old) (Write id at bytes.now) (said result.now) (slice_run ids.now heap.new) }
     ensures short { length result.now ≤ 20 }
-    ensures bound { RoseAtMost steps.old steps.new (access_bound at (length bytes.now)) }
+    ensures bound { RoseAtMost steps.old steps.new (2 + words_touched at (length bytes.now)) }
 {
     let Some(h) = ids.handle(id) else {
         return b"unknown";
@@ -140,7 +140,7 @@ pub(crate) fn read(
     requires empty { line.old ≡ [] }
     ensures text { line.new ≡ read_text (sliced_object_of (slice_run ids.now heap.now) id) at (length room.old) }
     ensures room { length line.new < line_room }
-    ensures bound { RoseAtMost steps.old steps.new (access_bound at (length room.old)) }
+    ensures bound { RoseAtMost steps.old steps.new (2 + words_touched at (length room.old)) }
 {
     let Some(h) = ids.handle(id) else {
         return push_text(line, b"unknown");
@@ -159,7 +159,7 @@ pub(crate) fn step(ids: &IdTable, heap: &mut SlicedHeap, line: &mut Line, steps:
     requires open { IsTrue heap.old.is_open }
     requires empty { line.old ≡ [] }
     ensures speaks { Speaks SliceStep (slice_run ids.now heap.old) Slice (slice_run ids.now heap.new) line.new }
-    ensures bound { RoseAtMost steps.old steps.new (128 + 2 * heap.old.quantum) }
+    ensures bound { RoseAtMost steps.old steps.new (15 + heap.old.quantum) }
 {
     heap.step(steps);
     push_field(line, b"left ", heap.left() as u64);

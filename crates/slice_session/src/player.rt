@@ -1,8 +1,7 @@
 //! A script on a sliced heap.
-ghost use Rattle.std.specs.Prelude.{◌≡◌, ◌<◌, ◌+◌, ◌⊎◌, ℕ, IfOk, ◌≢◌};
+ghost use Rattle.std.specs.Prelude.{◌≡◌, ℕ, IfOk};
 ghost use Rattle.std.specs.FinMap as map;
-ghost use Rattle.cf_io.specs.Feeds.{Rose, last_count};
-ghost use Rattle.script_loop.specs.ScriptOutcome.{MOST_BYTES, MeetsOutcome};
+ghost use Rattle.script_loop.specs.ScriptOutcome.{Plays, sink_at, source_at};
 ghost use Rattle.slice_session.specs.Playing.{IsQuantum, SlicePlay, slice_play, slices};
 
 use crate::session::SliceSession;
@@ -90,22 +89,11 @@ pub fn run_slices<S: Source, K: Sink>(
 ) -> Status
     requires fresh { player.old.session ≡ map.empty }
     requires quantum { IsQuantum player.old.quantum }
-    ensures outcome { MeetsOutcome slices (slice_play player.old.session player.old.quantum heap.old) (record {
-      had = S.rest source.old;
-      left = S.rest source.new;
-      before = K.written sink.old;
-      after = K.written sink.new;
-      status = result;
-    }) (slice_play player.new.session player.new.quantum heap.new) }
-    ensures quantum { player.new.quantum ≡ player.old.quantum }
-    // The causes, also where the source isn't observable.
-    ensures silent { result ≡ Status.OutOfMemory → K.written sink.new ≡ K.written sink.old }
-    ensures source_same { result ≢ Status.ReadFault → S.faults source.new ≡ S.faults source.old }
-    ensures read_fault { result ≡ Status.ReadFault → Rose (S.faults source.old) (S.faults source.new) }
-    ensures sink_same { result ≢ Status.WriteFault → K.faults sink.new ≡ K.faults sink.old }
-    ensures write_fault { result ≡ Status.WriteFault → Rose (K.faults sink.old) (K.faults sink.new) }
-    ensures too_long { result ≡ Status.TooLong
-        → (S.given source.old + MOST_BYTES < S.given source.new) ⊎ (S.given source.new ≡ last_count) }
+    ensures { Plays slices (slice_play player.old.session player.old.quantum heap.old)
+        (source_at (S.rest source.old) (S.given source.old) (S.faults source.old)) (sink_at (K.written sink.old) (K.faults sink.old))
+        result
+        (source_at (S.rest source.new) (S.given source.new) (S.faults source.new)) (sink_at (K.written sink.new) (K.faults sink.new))
+        (slice_play player.new.session player.new.quantum heap.new) }
 {
     play_script(player, heap, source, sink)
 }

@@ -104,9 +104,32 @@ impl SliceSession {
         ensures same { OnOk result (K.faults out.new ≡ K.faults out.old) }
         ensures failed { OnErr result (Rose (K.faults out.old) (K.faults out.new)) }
     {
-        // An open heap keeps its rules.
-        let _open = heap.is_open();
         meter.lap();
+        self.answer_ref(heap, c, out, meter.steps())
+    }
+
+    /// The same on the ledger that is handed in, which no call lowers: the command takes at most so
+    /// many steps.
+    pub fn answer_ref<K: Sink>(
+        &mut self,
+        heap: &mut SlicedHeap,
+        c: CommandRef,
+        out: &mut K,
+        steps: &mut Steps,
+    ) -> Result<Outcome, Failed>
+        requires open { IsTrue heap.old.is_open }
+        requires tied { AreTiedTo self.old (objects heap.old.held) }
+        requires formed { IsWellFormed (owned_command c) }
+        ensures answers { Applies sliced (snapshot (slice_run self.old heap.old) (K.written out.old)) (owned_command c.entry) result
+            (snapshot (slice_run self.new heap.new) (K.written out.new)) }
+        ensures going { IsGoingSliced (slice_run self.new heap.new) }
+        ensures steps { RoseAtMost steps.old steps.new (most_steps heap.old.quantum (owned_command c.entry)) }
+        ensures grows { K.faults out.old ≤ K.faults out.new }
+        ensures same { OnOk result (K.faults out.new ≡ K.faults out.old) }
+        ensures failed { OnErr result (Rose (K.faults out.old) (K.faults out.new)) }
+    {
+        // For its contract: an open heap keeps its rules.
+        let _open = heap.is_open();
         answer(
             &mut self.ids,
             heap,
@@ -114,7 +137,7 @@ impl SliceSession {
             &mut self.room,
             &mut self.line,
             out,
-            meter.steps(),
+            steps,
         )
     }
 }

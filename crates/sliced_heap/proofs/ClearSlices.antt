@@ -10,10 +10,11 @@ use Rattle.size_classes.specs.Table.{ClassTable}
 use Rattle.slice_model.specs.declared.job_slot.JobSlot.{JobSlot}
 use Rattle.slice_model.specs.State.{IsKept, Clear, Move}
 use Rattle.slice_model.specs.Words.{DoesWords, HasWords}
+use Rattle.slice_model.proofs.CallerLemmas.{job_within, object_within}
 use Rattle.sliced_heap.specs.Heap.{Heap}
 use Rattle.sliced_heap.specs.Layout.{IsValid, paging_at, plan_of, state_of}
 use Rattle.sliced_heap.proofs.Facts.{place_known, plan_ok}
-use Rattle.sliced_heap.proofs.HeldIs.{AreEnded, carried_all, cleared_all, job_within, object_within, parts_apart}
+use Rattle.sliced_heap.proofs.HeldIs.{AreEnded, carried_all, cleared_all, parts_apart}
 
 module _ (h : Heap) (k : IsValid h) (g : JobSlot) where
   sizes_are : get_or h.classes.sizes g.class 0 ≡ slot_words (paging_at h) g.class

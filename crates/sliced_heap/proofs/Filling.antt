@@ -12,25 +12,26 @@ use Rattle.page_model.specs.Bytes.{AreBytes}
 use Rattle.page_model.specs.Held.{Held, Placed, objects}
 use Rattle.page_model.specs.Paging.{bound_of, classes, page_of, slot_words, slots_of}
 use Rattle.page_model.specs.Steps.{MustMove}
-use Rattle.page_slots.specs.Freeing.{IsFiller, MovesObject}
+use Rattle.page_slots.specs.Freeing.{IsFiller, MovesObject, steps_to_drop}
 use Rattle.page_slots.specs.Occupying.{Occupies, Tell, class_table}
-use Rattle.page_slots.specs.Tables.{page_at, slot_at, slots_on}
-use Rattle.page_slots.proofs.CallerLemmas.{filler, filler_is, filler_not_full, found_class, found_page, moves_is, moves_some}
+use Rattle.page_slots.specs.Tables.{IsOf, page_at, slot_at, slots_on}
+use Rattle.page_slots.proofs.CallerLemmas.{drop_same, filler, filler_is, filler_not_full, found_class, found_page, moves_is, moves_some}
 use Rattle.proxy_table.specs.Proxies.{AreBelowLimit, with_place}
 use Rattle.size_classes.specs.Table.{ClassTable}
 use Rattle.slice_model.specs.declared.job_slot.JobSlot.{JobSlot}
-use Rattle.slice_model.specs.State.{Plan, IsPlan, Sliced, IsKept, occupied, stand_in, Clear, Move}
+use Rattle.slice_model.specs.State.{Plan, IsPlan, Sliced, IsKept, job_slot, occupied, stand_in, Clear, Move}
 use Rattle.slice_model.specs.Steps.{IsBeside, IsSlice, done_after, fresh_slot}
 use Rattle.slice_model.specs.Words.{HasWords, word_at}
 use Rattle.slice_model.proofs.CallerLemmas.{changed_places, kept_slice, must_is_two, no_stand_in, objects_sliced, on_more}
 use Rattle.slice_model.proofs.CallerLemmas.{other_than, some_beside, stand_in_class, words_to_carry}
 use Rattle.sliced_heap.specs.Heap.{Heap}
 use Rattle.sliced_heap.specs.Layout.{IsValid, paging_at, plan_of, state_of, tables_in}
-use Rattle.sliced_heap.specs.Steps.{IsFilled}
+use Rattle.sliced_heap.specs.Steps.{IsFilled, IsPartlyFull}
 use Rattle.sliced_heap.proofs.Facts.{held_bytes, ones, paging_ok, place_known, places_are, plan_ok, table_is}
 use Rattle.sliced_heap.proofs.Headers.{head_number, holds, inside}
 use Rattle.sliced_heap.proofs.Places.{changed_occupied}
 use Rattle.sliced_heap.proofs.Preserved.{Becomes, becomes_plan, becomes_state, becomes_valid}
+use Rattle.sliced_heap.proofs.StepCounts.{drop_partly}
 
 -- A job ends where all of its words but one are done: that tells what every state keeps where its slot gets an object.
 module _ (plan : Plan) (ok : IsPlan plan) (m : Held) (k : JobSlot) (kept : IsKept plan (record { held = m; job = Clear k })) where
@@ -173,6 +174,17 @@ module _ (h : Heap) (k : IsValid h) (g : JobSlot) (at : h.job ≡ Clear g) where
             ap (λ (z : Placed). page_of (paging_at h) z.place) (sym same) ∙ ap (λ (z : JobSlot). page_of (paging_at h) z.address) (sym i)))
       ]
 
+      -- its page isn't full
+      pub page_partly : steps_to_drop (tables_in h) (page_at h.classes a) ≤ 10
+      page_partly =
+          let u = (occupied_clear.stands q y found.2).of in
+          let of : IsOf (tables_in h) g.class (page_of (paging_at h) y.place) = rw is.0 at u in
+          let steps = drop_same k.tell.part occupied_clear class_in [] (page_of (paging_at h) y.place) of in
+          let few = drop_partly (objects_on (paging_at h) all g.class (page_of (paging_at h) y.place)) (slots_of (paging_at h) g.class) less in
+          let at_place : page_at h.classes a ≡ page_of (paging_at h) y.place =
+          ap (λ (t : ClassTable). a / t.page_words) k.table ∙ ap (page_of (paging_at h)) (sym found.3) in
+          rw at_place (omega arith)
+
       -- its header is in the region, and has its number, which is live
       pub from_within : a < length h.words
       from_within = (let i = inside h k q y y_there in let o = holds h k q y y_there in let e : y.place ≡ a = found.3 in omega arith)
@@ -271,3 +283,11 @@ module _ (h : Heap) (k : IsValid h) (g : JobSlot) (at : h.job ≡ Clear g) where
           plan = becomes_plan h n k s becomes;
           quantum = ap (λ (z : Heap). z.quantum) rest;
         }
+
+        pub carried_partly : (f : JobSlot) → job_slot n.job ≡ Some f → IsPartlyFull n f
+        carried_partly f slot =
+            let e : Some (fresh_slot a g.class) ≡ Some f = sym (ap (λ (z : Heap). job_slot z.job) whole) ∙ slot in
+            let is : fresh_slot a g.class ≡ f = cc in
+            let there : steps_to_drop (tables_in n) (page_at n.classes a) ≤ 10 =
+            subst (λ (z : Heap). steps_to_drop (tables_in z) (page_at z.classes a) ≤ 10) (sym whole) page_partly in
+            subst (λ (z : JobSlot). IsPartlyFull n z) is there

@@ -10,10 +10,10 @@ use Rattle.page_model.specs.Paging.{class_for, classes}
 use Rattle.page_model.proofs.CallerLemmas.{class_fits, class_holds, class_known, class_none, slot_fits}
 use Rattle.size_classes.specs.Table.{ClassTable}
 use Rattle.slice_model.specs.Words.{word_at}
+use Rattle.slice_model.proofs.CallerLemmas.{object_slot, object_within}
 use Rattle.sliced_heap.specs.Heap.{Heap}
 use Rattle.sliced_heap.specs.Layout.{IsValid, paging_at, plan_of, state_of}
 use Rattle.sliced_heap.proofs.Facts.{paging_ok, plan_ok}
-use Rattle.sliced_heap.proofs.HeldIs.{object_slot, object_within}
 
 module _ (h : Heap) (k : IsValid h) (q : ℕ) (x : Placed) (there : get (state_of h).held q ≡ Some x) where
   pub number_low : q < 2 ^ 32

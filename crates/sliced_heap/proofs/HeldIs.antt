@@ -5,42 +5,20 @@ use Rattle.std.specs.Ordering.{nat_cmp}
 use Rattle.std.specs.FinMap.{FinMap, get}
 use Rattle.cf_lemmas.proofs.Maps.{equal_maps}
 use Rattle.cf_lemmas.proofs.MapValues.{get-map_values}
-use Rattle.page_model.specs.Arrangement.{class_at, IsSlotAt}
+use Rattle.page_model.specs.Arrangement.{class_at}
 use Rattle.page_model.specs.Bytes.{AreStorable, bytes_at, held_at}
 use Rattle.page_model.specs.Held.{Held, Placed, places}
 use Rattle.page_model.specs.Image.{Clears, IsDisjoint, MovesWords, slot_for}
 use Rattle.page_model.specs.Paging.{Paging, slot_words}
-use Rattle.page_model.proofs.CallerLemmas.{bytes_of_held, class_holds, slot_inside}
+use Rattle.page_model.proofs.CallerLemmas.{bytes_of_held, class_holds}
 use Rattle.region.specs.Words.{cleared, moved}
 use Rattle.slice_model.specs.declared.job_slot.JobSlot.{JobSlot}
-use Rattle.slice_model.specs.State.{Plan, IsPlan, Job, Sliced, IsKept, job_slot, stand_in, Idle, Clear, Move}
+use Rattle.slice_model.specs.State.{Plan, IsPlan, Job, IsKept, Idle, Clear, Move}
 use Rattle.slice_model.specs.Words.{HasWords}
-use Rattle.slice_model.proofs.CallerLemmas.{beside, kept_apart, slot_class, slot_there, words_ended}
+use Rattle.slice_model.proofs.CallerLemmas.{job_within, kept_apart, object_slot, object_within, words_ended}
 use Rattle.slice_model.proofs.CallerLemmas as model
 use Rattle.slice_words.proofs.CallerLemmas.{cleared_clears, moved_moves, part_apart}
 use Rattle.sliced_heap.specs.Layout.{carried_to, completed}
-
-module _ (plan : Plan) (ok : IsPlan plan) (m : Held) (j : Job) (kept : IsKept plan (record { held = m; job = j })) where
-  abbrev p : Paging
-  p = plan.paging
-
-  abbrev s : Sliced
-  s = record { held = m; job = j }
-
-  -- an object's slot is one of its class, within the region
-  pub object_slot : (h : ℕ) (x : Placed) → get m h ≡ Some x → IsSlotAt plan.paging (class_at plan.paging x) x.place
-  object_slot h x there = kept.sound.slots h x (beside plan ok s kept h x there)
-
-  pub object_within : (h : ℕ) (x : Placed) → get m h ≡ Some x → x.place + slot_for plan.paging (length x.bytes) ≤ plan.paging.pages * plan.paging.page_words
-  object_within h x there = slot_inside p (class_at p x) x.place (object_slot h x there)
-
-  -- so is the job's
-  pub job_at : (k : JobSlot) → job_slot j ≡ Some k → IsSlotAt plan.paging k.class k.address
-  job_at k e = subst (λ c. IsSlotAt p c k.address) (slot_class plan ok s kept k e)
-      (kept.sound.slots plan.proxies (stand_in p k) (slot_there plan ok s kept k e))
-
-  pub job_within : (k : JobSlot) → job_slot j ≡ Some k → k.address + slot_words plan.paging k.class ≤ plan.paging.pages * plan.paging.page_words
-  job_within k e = slot_inside p k.class k.address (job_at k e)
 
 -- the address of an object among the addresses
 pub place_there : (m : Held) (at : FinMap nat_cmp ℕ) → at ≡ places m → (q : ℕ) (x : Placed) → get m q ≡ Some x → get at q ≡ Some x.place

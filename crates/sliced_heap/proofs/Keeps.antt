@@ -23,6 +23,7 @@ pub keeps : (h : OpenHeap) → IsValid (seen h) → KeepsRules (shown (Some h))
 keeps h k = record {
   plan = plan_ok (seen h) k;
   consistent = record { kept = k.kept; words = k.words; bytes = all_bytes (state_of (seen h)).held (held_bytes (seen h) k) };
+  region = k.words_long;
 }
 
 -- the same in the terms of the value

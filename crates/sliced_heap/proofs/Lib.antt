@@ -1,6 +1,7 @@
 pub mod Counts
 pub mod Facts
 pub mod HeldIs
+pub mod StepCounts
 pub mod Preserved
 pub mod Headers
 pub mod Places

@@ -20,7 +20,7 @@ use Rattle.slice_model.specs.declared.job_slot.JobSlot.{JobSlot}
 use Rattle.slice_model.specs.State.{Job, Sliced, job_slot, occupied, Idle, Clear, Move}
 use Rattle.slice_model.specs.Runs.{IsOutOfReach, Reads, Writes}
 use Rattle.slice_model.specs.Words.{RewritesObject}
-use Rattle.slice_model.proofs.CallerLemmas.{beside, bytes_there, inserted_beside, kept_apart, kept_write, mover_class, own_words_at, words_written}
+use Rattle.slice_model.proofs.CallerLemmas.{beside, bytes_there, inserted_beside, job_within, kept_apart, kept_write, mover_class, own_words_at, words_written}
 use Rattle.slice_words.specs.Halves.{AreApart, byte_in, halves_of, place_of_word}
 use Rattle.slice_words.specs.Writes.{WritesBytes}
 use Rattle.slice_words.specs.declared.halves.Halves.{Halves}
@@ -31,7 +31,7 @@ use Rattle.sliced_heap.specs.Access.{Lies}
 use Rattle.sliced_heap.proofs.Facts.{has_place, held_bytes, no_place, plan_ok, places_are}
 use Rattle.sliced_heap.proofs.Headers.{bytes_few, head_length, holds, inside, number_low}
 use Rattle.sliced_heap.proofs.Counts.{live_rewritten, needed_same}
-use Rattle.sliced_heap.proofs.HeldIs.{job_within, place_there}
+use Rattle.sliced_heap.proofs.HeldIs.{place_there}
 use Rattle.sliced_heap.proofs.Preserved.{Becomes, becomes_plan, becomes_state, becomes_valid}
 
 -- the halves of an object, one of which may be in the job's slot

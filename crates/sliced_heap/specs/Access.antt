@@ -2,6 +2,7 @@
 use Rattle.std.specs.Prelude.{◌≡◌, ℕ, ◌+◌, ◌≤◌, List, length, Option, Some, None, Result, Ok, Err}
 use Rattle.std.specs.FinMap.{get}
 use Rattle.cf_base.specs.declared.answers.AccessFault.{AccessFault}
+use Rattle.cf_base.specs.declared.answers.AccessFault.TheVariants as access
 use Rattle.page_model.specs.Held.{Placed, objects}
 use Rattle.slice_model.specs.Runs.{Part, IsOutOfReach}
 use Rattle.slice_words.specs.Halves.{halves_of}
@@ -30,3 +31,9 @@ pub record Lies (h : Heap) (part : Part) (count : ℕ) (s : Halves) : Type 0 whe
 abbrev pub IsFound : Heap → Part → ℕ → Result Halves AccessFault → Type 0
 IsFound h part count (Ok s) = Lies h part count s
 IsFound h part count (Err e) = IsOutOfReach (objects (state_of h).held) part count e
+
+-- the steps of the look for it: the proxy, and where the object is live its header
+abbrev pub find_steps : Result Halves AccessFault → ℕ
+find_steps (Ok s) = 2
+find_steps (Err access.Unknown) = 1
+find_steps (Err access.Range) = 2

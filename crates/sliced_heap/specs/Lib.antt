@@ -1,4 +1,5 @@
 pub mod Shown
+pub mod Costs
 pub mod Heap
 pub mod Layout
 pub mod Steps

@@ -1,5 +1,5 @@
 -- What contracts see of a sliced heap, in one record.
-use Rattle.std.specs.Prelude.{◌≡◌, ℕ, ◌*◌, Bool, true, false, List, [], Option, Some, None, refl, replicate}
+use Rattle.std.specs.Prelude.{◌≡◌, ℕ, ◌*◌, Bool, true, false, List, [], Option, Some, None, length, refl, replicate}
 use Rattle.std.specs.FinMap as map
 use Rattle.std.specs.Coded.{Coded, code_by, coded×, coded_ℕ, coded_list, coded_bool, coded_option}
 use Rattle.cf_base.specs.Settings.{Profile}
@@ -52,12 +52,14 @@ opened_state s quantum = record {
 pub record KeepsRules (s : SlicedState) : Type 0 where
   pub plan : IsPlan (plan_in s)
   pub consistent : IsConsistent (plan_in s) (working_in s)
+  pub region : length s.words ≡ s.profile.pages * s.profile.page_words
 
 -- the heap stays open, with its pages and its quantum
 pub record StaysOpen (old new : SlicedState) : Type 0 where
   pub is_open : new.is_open ≡ old.is_open
   pub profile : new.profile ≡ old.profile
   pub quantum : new.quantum ≡ old.quantum
+  pub region : length new.words ≡ length old.words
 
 -- a heap that may be closed
 abbrev pub shown : Option OpenHeap → SlicedState

@@ -1,17 +1,20 @@
 -- The parts of a free and of a slice. No public clause cites this module but `fault_in`.
-use Rattle.std.specs.Prelude.{◌≡◌, ℕ, ◌%◌, ◌^◌, Bool, true, false, Option, Some, None, Result, Ok, Err, slice_index}
+use Rattle.std.specs.Prelude.{◌≡◌, ℕ, ◌+◌, ◌-◌, ◌%◌, ◌^◌, ◌≤◌, Bool, true, false, Option, Some, None, Result, Ok, Err, slice_index}
 use Rattle.std.specs.FinMap.{get, remove}
 use Rattle.page_model.specs.Arrangement.{class_at}
 use Rattle.page_model.specs.Held.{Placed}
+use Rattle.page_model.specs.Paging.{slot_words}
 use Rattle.page_model.specs.Steps.{MustMove}
-use Rattle.page_slots.specs.Freeing.{IsFiller}
+use Rattle.page_slots.specs.Freeing.{IsFiller, steps_to_drop}
+use Rattle.page_slots.specs.Tables.{page_at}
 use Rattle.proxy_table.specs.Proxies.{AreBelowLimit, with_place}
 use Rattle.slice_model.specs.declared.job_slot.JobSlot.{JobSlot}
-use Rattle.slice_model.specs.State.{occupied, stand_in, Clear, Move}
+use Rattle.slice_model.specs.State.{Job, occupied, stand_in, Idle, Clear, Move}
 use Rattle.slice_model.specs.Steps.{Carries, IsBeside, fresh_slot}
 use Rattle.slice_model.specs.declared.answers.SliceFault.{SliceFault}
 use Rattle.sliced_heap.specs.Heap.{Heap}
-use Rattle.sliced_heap.specs.Layout.{paging_at, plan_of, state_of}
+use Rattle.sliced_heap.specs.Layout.{paging_at, plan_of, state_of, tables_in}
+use Rattle.sliced_heap.specs.Costs.{words_steps}
 
 -- why a free was refused, if it was
 abbrev pub fault_in : {T : Type 0} → Result T SliceFault → Option SliceFault
@@ -57,3 +60,20 @@ pub record StartsCarry (old : Heap) (k : JobSlot) (new : Heap) : Type 0 where
     proxies = with_place old.proxies (slice_index old.words from % 2 ^ 32) k.address;
     job = Move (slice_index old.words from % 2 ^ 32) (fresh_slot from k.class);
   }
+
+-- the page of the slot isn't full
+abbrev pub IsPartlyFull : Heap → JobSlot → Type 0
+IsPartlyFull h k = steps_to_drop (tables_in h) (page_at h.classes k.address) ≤ 10
+
+-- the steps of the end of a job of this slot: another page is asked for, and the slot becomes free
+abbrev pub end_most : Heap → JobSlot → ℕ
+end_most h k = 1 + steps_to_drop (tables_in h) (page_at h.classes k.address)
+
+-- the steps of a slice of each job
+abbrev pub part_most : Heap → JobSlot → ℕ
+part_most h k = words_steps h.quantum (slot_words (paging_at h) k.class - k.done) (end_most h k)
+
+abbrev pub job_most : Heap → Job → ℕ
+job_most h Idle = 0
+job_most h (Clear k) = part_most h k
+job_most h (Move q k) = 1 + part_most h k

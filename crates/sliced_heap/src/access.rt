@@ -1,24 +1,24 @@
 //! Reading and writing what stands in an open heap, an object in motion included.
-ghost use Rattle.std.specs.Prelude.{◌≡◌, ◌+◌, ◌≤◌, length, slice_get, IsErr};
-ghost use Rattle.step_ledger.specs.Counting.{RoseAtMost};
-ghost use Rattle.cf_model.specs.Costs.{access_bound};
+ghost use Rattle.std.specs.Prelude.{◌≡◌, ◌+◌, ◌≤◌, if◌then◌else◌, is_some, length, slice_get, IsErr};
+ghost use Rattle.step_ledger.specs.Counting.{RoseAtMost, RoseBy};
 ghost use Rattle.slice_model.specs.Runs.{Happens, Read, Write};
 ghost use Rattle.slice_words.specs.Halves.{halves_of};
-ghost use Rattle.sliced_heap.specs.Access.{IsFound, access_fault, bytes_or_fault};
+ghost use Rattle.sliced_heap.specs.Access.{IsFound, access_fault, bytes_or_fault, find_steps};
+ghost use Rattle.sliced_heap.specs.Costs.{access_steps};
 ghost use Rattle.sliced_heap.specs.Heap.{job_of, seen};
 ghost use Rattle.sliced_heap.specs.Layout.{IsValid, plan_of, working_of};
 
 use crate::open_heap::{OpenHeap, Pending};
 use cf_base::{AccessFault, Handle};
-use object_header::Header;
 use slice_words::{Halves, read_halves, read_word, write_halves};
 use step_ledger::Steps;
+use word_bytes::Header;
 
 impl OpenHeap {
     /// A word of the region; none past its end.
     pub fn peek(&self, word: u32, steps: &mut Steps) -> Option<u64>
         ensures value { result ≡ slice_get self.now.region word }
-        ensures bound { RoseAtMost steps.old steps.new 1 }
+        ensures steps { RoseBy steps.old steps.new (if is_some result then 1 else 0) }
     {
         if word < self.region.len() {
             Some(self.region.read(word, steps))
@@ -39,7 +39,7 @@ impl OpenHeap {
         ensures step { Happens (plan_of (seen self.now)) (working_of (seen self.now)) (Read (record { number = h.0; from = at }) (length out.old)
             (bytes_or_fault result out.new)) (working_of (seen self.now)) }
         ensures refused { IsErr result → out.new ≡ out.old }
-        ensures bound { RoseAtMost steps.old steps.new (access_bound at (length out.old)) }
+        ensures steps { RoseAtMost steps.old steps.new (access_steps result at (length out.old)) }
     {
         let len = out.len();
         let halves = self.find(h, at, len, steps)?;
@@ -60,7 +60,7 @@ impl OpenHeap {
             (access_fault result)) (working_of (seen self.new)) }
         ensures kept { IsValid (seen self.new) }
         ensures plan { plan_of (seen self.new) ≡ plan_of (seen self.old) }
-        ensures bound { RoseAtMost steps.old steps.new (access_bound at (length bytes.now)) }
+        ensures steps { RoseAtMost steps.old steps.new (access_steps result at (length bytes.now)) }
     {
         let len = bytes.len();
         let halves = self.find(h, at, len, steps)?;
@@ -78,7 +78,7 @@ impl OpenHeap {
     ) -> Result<Halves, AccessFault>
         requires { IsValid (seen self.now) }
         ensures found { IsFound (seen self.now) (record { number = h.0; from = at }) count result }
-        ensures bound { RoseAtMost steps.old steps.new 2 }
+        ensures steps { RoseBy steps.old steps.new (find_steps result) }
     {
         let Some(place) = self.proxies.lookup(h, steps) else {
             return Err(AccessFault::Unknown);

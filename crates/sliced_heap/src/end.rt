@@ -1,13 +1,14 @@
 //! A job ends.
 ghost use Rattle.std.specs.Prelude.{◌≡◌, ℕ, ◌+◌, ◌<◌, ◌≤◌, slice_index};
-ghost use Rattle.step_ledger.specs.Counting.{RoseAtMost};
+ghost use Rattle.step_ledger.specs.Counting.{RoseAtMost, RoseBy};
 ghost use Rattle.page_model.specs.Paging.{slot_words};
-ghost use Rattle.page_slots.specs.Freeing.{Vacates};
+ghost use Rattle.page_slots.specs.Freeing.{Vacates, steps_to_drop};
 ghost use Rattle.page_slots.specs.Tables.{AreTables, IsUsed, page_at, slot_at, tables};
 ghost use Rattle.slice_model.specs.State.{Clear};
 ghost use Rattle.slice_model.specs.Steps.{Ends};
 ghost use Rattle.sliced_heap.specs.Heap.{job_of, seen};
 ghost use Rattle.sliced_heap.specs.Layout.{IsValid, paging_at, plan_of, state_of};
+ghost use Rattle.sliced_heap.specs.Steps.{end_most};
 
 use crate::open_heap::{OpenHeap, Pending};
 use page_slots::drop_slot;
@@ -26,7 +27,7 @@ impl OpenHeap {
         ensures kept { IsValid (seen self.new) }
         ensures words { self.new.region ≡ self.old.region }
         ensures plan { plan_of (seen self.new) ≡ plan_of (seen self.old) }
-        ensures bound { RoseAtMost steps.old steps.new 30 }
+        ensures steps { RoseAtMost steps.old steps.new (end_most (seen self.old) k) }
     {
         if self.fill(k, steps) {
             return;
@@ -43,7 +44,8 @@ impl OpenHeap {
             (slot_at self.old.classes c place) (tables self.new.maps.items self.new.lists self.new.pool) }
         ensures tables { AreTables self.old.classes (tables self.new.maps.items self.new.lists self.new.pool) }
         ensures rest { self.new ≡ record self.old { maps = self.new.maps; lists = self.new.lists; pool = self.new.pool } }
-        ensures bound { RoseAtMost steps.old steps.new 18 }
+        ensures steps { RoseBy steps.old steps.new (steps_to_drop (tables self.old.maps.items self.old.lists self.old.pool)
+            (page_at self.old.classes place)) }
     {
         drop_slot(
             &self.classes,

@@ -1,23 +1,24 @@
 //! A slot that is vacant is filled where it must be.
-ghost use Rattle.std.specs.Prelude.{◌≡◌, ℕ, ◌+◌, ◌%◌, ◌^◌, ◌<◌, ◌≤◌, IsSome, length, slice_index};
+ghost use Rattle.std.specs.Prelude.{◌≡◌, ℕ, ◌+◌, ◌%◌, ◌^◌, ◌<◌, ◌≤◌, IsSome, IsTrue, Some, if◌then◌else◌, length, slice_index};
 ghost use Rattle.std.specs.FinMap as map;
-ghost use Rattle.step_ledger.specs.Counting.{RoseAtMost};
+ghost use Rattle.step_ledger.specs.Counting.{RoseBy};
 ghost use Rattle.class_lists.specs.PageLists.{pages_in};
 ghost use Rattle.class_lists.specs.declared.Which.TheVariants.{NotFull};
 ghost use Rattle.page_pool.specs.Pool.{Pool};
 ghost use Rattle.page_slots.specs.Freeing.{IsFiller};
 ghost use Rattle.page_slots.specs.Tables.{AreTables, tables};
 ghost use Rattle.proxy_table.specs.Proxies.{AreBelowLimit};
-ghost use Rattle.slice_model.specs.State.{Clear};
+ghost use Rattle.slice_model.specs.declared.job_slot.JobSlot.{JobSlot};
+ghost use Rattle.slice_model.specs.State.{Clear, job_slot};
 ghost use Rattle.sliced_heap.specs.Heap.{job_of, seen};
 ghost use Rattle.sliced_heap.specs.Layout.{IsValid};
-ghost use Rattle.sliced_heap.specs.Steps.{Fills, StartsCarry};
+ghost use Rattle.sliced_heap.specs.Steps.{Fills, IsPartlyFull, StartsCarry};
 
 use crate::open_heap::{OpenHeap, Pending};
-use object_header::Header;
 use page_slots::{filler, must_move};
 use slice_model::JobSlot;
 use step_ledger::Steps;
+use word_bytes::Header;
 
 impl OpenHeap {
     /// Where the slot that is to be cleared fills the only page of its class but one that is partly
@@ -29,7 +30,8 @@ impl OpenHeap {
         requires fresh { k.done ≡ 0 }
         ensures filled { Fills (seen self.old) k result (seen self.new) }
         ensures kept { IsValid (seen self.new) }
-        ensures bound { RoseAtMost steps.old steps.new 12 }
+        ensures partly { IsTrue result → (g : JobSlot) → job_slot (job_of self.new.job) ≡ Some g → IsPartlyFull (seen self.new) g }
+        ensures steps { RoseBy steps.old steps.new (if result then 6 else 1) }
     {
         if must_move(
             &self.classes,
@@ -55,7 +57,7 @@ impl OpenHeap {
         requires live { (a : ℕ) → IsFiller self.old.classes self.old.maps.items self.old.lists k.class a
             → IsSome (map.get self.old.proxies.places (slice_index self.old.region a % 2 ^ 32)) }
         ensures begun { StartsCarry (seen self.old) k (seen self.new) }
-        ensures bound { RoseAtMost steps.old steps.new 11 }
+        ensures steps { RoseBy steps.old steps.new 5 }
     {
         let from = filler(&self.classes, &self.maps, &self.lists, k.class, steps);
         let other = Header::unpack(self.region.read(from, steps)).handle;

@@ -2,18 +2,19 @@
 ghost use Rattle.std.specs.Prelude.{◌≡◌, ◌+◌, ◌*◌, ◌-◌, ◌<◌, ◌≤◌, Some, length, slice_index, slice_set};
 ghost use Rattle.std.specs.FinMap as map;
 ghost use Rattle.cf_base.specs.Classes.{slots};
-ghost use Rattle.step_ledger.specs.Counting.{RoseAtMost};
+ghost use Rattle.step_ledger.specs.Counting.{RoseAtMost, RoseBy};
 ghost use Rattle.slice_model.specs.Runs.{Frees, Free, Happens};
 ghost use Rattle.slice_model.specs.State.{Idle};
+ghost use Rattle.sliced_heap.specs.Costs.{free_steps, words_of, words_steps};
 ghost use Rattle.sliced_heap.specs.Heap.{job_of, seen};
-ghost use Rattle.sliced_heap.specs.Layout.{IsValid, opens, plan_of, working_of};
+ghost use Rattle.sliced_heap.specs.Layout.{IsValid, opens, plan_of, state_of, working_of};
 ghost use Rattle.sliced_heap.specs.Steps.{Forgets, fault_in};
 
 use crate::open_heap::{OpenHeap, Pending};
 use cf_base::Handle;
-use object_header::Header;
 use slice_model::{JobSlot, SliceFault};
 use step_ledger::Steps;
+use word_bytes::Header;
 
 impl OpenHeap {
     /// Takes an object away, and does the first slice of the job that it leaves.
@@ -22,7 +23,7 @@ impl OpenHeap {
         ensures step { Happens (plan_of (seen self.old)) (working_of (seen self.old)) (Free h.0 (fault_in result)) (working_of (seen self.new)) }
         ensures kept { IsValid (seen self.new) }
         ensures plan { plan_of (seen self.new) ≡ plan_of (seen self.old) }
-        ensures bound { RoseAtMost steps.old steps.new (64 + self.old.quantum) }
+        ensures steps { RoseAtMost steps.old steps.new (free_steps (plan_of (seen self.old)) (state_of (seen self.old)) h.0 (fault_in result)) }
     {
         let Some(place) = self.proxies.lookup(h, steps) else {
             return Err(SliceFault::Unknown);
@@ -43,7 +44,7 @@ impl OpenHeap {
         ensures step { Frees (plan_of (seen self.old)) (working_of (seen self.old)) h.0 (working_of (seen self.new)) }
         ensures kept { IsValid (seen self.new) }
         ensures plan { plan_of (seen self.new) ≡ plan_of (seen self.old) }
-        ensures bound { RoseAtMost steps.old steps.new (60 + self.old.quantum) }
+        ensures steps { RoseAtMost steps.old steps.new (11 + words_steps self.old.quantum (words_of (plan_of (seen self.old)) (state_of (seen self.old)) h.0) 11) }
     {
         let k = self.forget(h, place, steps);
         let _filled = self.fill(k, steps);
@@ -57,7 +58,7 @@ impl OpenHeap {
         requires known { map.get self.old.proxies.places h.0 ≡ Some place }
         ensures gone { Forgets (seen self.old) h.0 result (seen self.new) }
         ensures kept { IsValid (seen self.new) }
-        ensures bound { RoseAtMost steps.old steps.new 11 }
+        ensures steps { RoseBy steps.old steps.new 4 }
     {
         let length = Header::unpack(self.region.read(place, steps)).length;
         let Some(c) = self.classes.class_of(length, steps) else {

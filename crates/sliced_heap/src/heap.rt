@@ -1,10 +1,11 @@
 //! The heap that a caller holds: closed, or open.
-ghost use Rattle.std.specs.Prelude.{◌≡◌, ◌+◌, ◌*◌, ◌≤◌, false, length, slice_get, IsErr, IsTrue, OnErr, OnOk};
-ghost use Rattle.cf_model.specs.Costs.{access_bound};
+ghost use Rattle.std.specs.Prelude.{◌≡◌, ◌+◌, ◌*◌, ◌≤◌, if◌then◌else◌, is_some, length, slice_get, IsErr, IsTrue, OnErr, OnOk};
+ghost use Rattle.cf_model.specs.Costs.{words_touched};
 ghost use Rattle.slice_model.specs.Runs.{Happens, Free, Malloc, Read, Step, Write};
 ghost use Rattle.slice_model.specs.State.{left_of};
-ghost use Rattle.step_ledger.specs.Counting.{RoseAtMost};
+ghost use Rattle.step_ledger.specs.Counting.{RoseAtMost, RoseBy};
 ghost use Rattle.sliced_heap.specs.Access.{access_fault, bytes_or_fault};
+ghost use Rattle.sliced_heap.specs.Costs.{access_steps, free_steps, malloc_steps, slice_steps};
 ghost use Rattle.sliced_heap.specs.Shown.{KeepsRules, StaysOpen, closed_state, opened_state, plan_in, working_in};
 ghost use Rattle.sliced_heap.specs.Steps.{fault_in};
 
@@ -62,7 +63,7 @@ impl SlicedHeap {
         requires most { quantum ≤ 16384 }
         ensures ok { OnOk result (self.new ≡ opened_state s.now quantum) }
         ensures rules { OnOk result (KeepsRules self.new) }
-        ensures err { OnErr result (self.new.is_open ≡ false) }
+        ensures err { OnErr result (self.new ≡ closed_state) }
     {
         self.inner = None;
         self.inner = Some(OpenHeap::new(self.alloc, s, quantum)?);
@@ -78,7 +79,8 @@ impl SlicedHeap {
         ensures step { Happens (plan_in self.old) (working_in self.old) (Malloc bytes result) (working_in self.new) }
         ensures same { StaysOpen self.old self.new }
         ensures rules { KeepsRules self.new }
-        ensures bound { RoseAtMost steps.old steps.new (128 + 2 * self.old.quantum) }
+        ensures steps { RoseAtMost steps.old steps.new (malloc_steps result) }
+        ensures bound { RoseAtMost steps.old steps.new 17 }
     {
         match &mut self.inner {
             Some(open) => open.malloc(bytes, steps),
@@ -94,7 +96,8 @@ impl SlicedHeap {
         ensures step { Happens (plan_in self.old) (working_in self.old) (Free h.0 (fault_in result)) (working_in self.new) }
         ensures same { StaysOpen self.old self.new }
         ensures rules { KeepsRules self.new }
-        ensures bound { RoseAtMost steps.old steps.new (128 + 2 * self.old.quantum) }
+        ensures steps { RoseAtMost steps.old steps.new (free_steps (plan_in self.old) (working_in self.old).state h.0 (fault_in result)) }
+        ensures bound { RoseAtMost steps.old steps.new (23 + self.old.quantum) }
     {
         match &mut self.inner {
             Some(open) => open.free(h, steps),
@@ -108,7 +111,8 @@ impl SlicedHeap {
         ensures step { Happens (plan_in self.old) (working_in self.old) Step (working_in self.new) }
         ensures same { StaysOpen self.old self.new }
         ensures rules { KeepsRules self.new }
-        ensures bound { RoseAtMost steps.old steps.new (128 + 2 * self.old.quantum) }
+        ensures steps { RoseAtMost steps.old steps.new (slice_steps (plan_in self.old) (working_in self.old).state) }
+        ensures bound { RoseAtMost steps.old steps.new (15 + self.old.quantum) }
     {
         match &mut self.inner {
             Some(open) => open.step(steps),
@@ -140,7 +144,8 @@ impl SlicedHeap {
         ensures step { Happens (plan_in self.now) (working_in self.now) (Read (record { number = h.0; from = at }) (length out.old)
             (bytes_or_fault result out.new)) (working_in self.now) }
         ensures refused { IsErr result → out.new ≡ out.old }
-        ensures bound { RoseAtMost steps.old steps.new (access_bound at (length out.old)) }
+        ensures steps { RoseAtMost steps.old steps.new (access_steps result at (length out.old)) }
+        ensures bound { RoseAtMost steps.old steps.new (2 + words_touched at (length out.old)) }
     {
         match &self.inner {
             Some(open) => open.read(h, at, out, steps),
@@ -162,7 +167,8 @@ impl SlicedHeap {
             (access_fault result)) (working_in self.new) }
         ensures same { StaysOpen self.old self.new }
         ensures rules { KeepsRules self.new }
-        ensures bound { RoseAtMost steps.old steps.new (access_bound at (length bytes.now)) }
+        ensures steps { RoseAtMost steps.old steps.new (access_steps result at (length bytes.now)) }
+        ensures bound { RoseAtMost steps.old steps.new (2 + words_touched at (length bytes.now)) }
     {
         match &mut self.inner {
             Some(open) => open.write(h, at, bytes, steps),
@@ -174,6 +180,7 @@ impl SlicedHeap {
     pub fn peek(&self, word: u32, steps: &mut Steps) -> Option<u64>
         requires open { IsTrue self.now.is_open }
         ensures value { result ≡ slice_get self.now.words word }
+        ensures steps { RoseBy steps.old steps.new (if is_some result then 1 else 0) }
         ensures bound { RoseAtMost steps.old steps.new 1 }
     {
         match &self.inner {

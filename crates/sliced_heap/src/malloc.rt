@@ -2,21 +2,22 @@
 ghost use Rattle.std.specs.Prelude.{◌≡◌, ◌≢◌, ◌+◌, ◌<◌, ◌≤◌, ◌↔◌, IsTrue, None, length, slice_index, slice_set};
 ghost use Rattle.std.specs.FinMap as map;
 ghost use Rattle.cf_base.specs.Classes.{slots};
-ghost use Rattle.step_ledger.specs.Counting.{RoseAtMost};
+ghost use Rattle.step_ledger.specs.Counting.{RoseAtMost, RoseBy};
 ghost use Rattle.page_model.specs.Image.{header_word};
 ghost use Rattle.page_slots.specs.Tables.{AreTables, tables};
-ghost use Rattle.page_slots.specs.Taking.{TakesSlot};
+ghost use Rattle.page_slots.specs.Taking.{TakesSlot, steps_to_take};
 ghost use Rattle.proxy_table.specs.Proxies.{AreBelowLimit, with_place};
 ghost use Rattle.slice_model.specs.Runs.{Happens, Malloc};
+ghost use Rattle.sliced_heap.specs.Costs.{malloc_steps};
 ghost use Rattle.sliced_heap.specs.Heap.{seen};
 ghost use Rattle.sliced_heap.specs.Layout.{IsValid, opens, plan_of, working_of};
 
 use crate::open_heap::OpenHeap;
 use cf_base::Handle;
-use object_header::Header;
 use page_slots::take_slot;
 use slice_model::SliceRefusal;
 use step_ledger::Steps;
+use word_bytes::Header;
 
 impl OpenHeap {
     /// Adds an object of `bytes` bytes, all zero.
@@ -25,7 +26,7 @@ impl OpenHeap {
         ensures step { Happens (plan_of (seen self.old)) (working_of (seen self.old)) (Malloc bytes result) (working_of (seen self.new)) }
         ensures kept { IsValid (seen self.new) }
         ensures plan { plan_of (seen self.new) ≡ plan_of (seen self.old) }
-        ensures bound { RoseAtMost steps.old steps.new 64 }
+        ensures steps { RoseAtMost steps.old steps.new (malloc_steps result) }
     {
         let Some(c) = self.classes.class_of(bytes, steps) else {
             return Err(SliceRefusal::Size);
@@ -77,7 +78,8 @@ impl OpenHeap {
             (tables self.new.maps.items self.new.lists self.new.pool) }
         ensures tables { AreTables self.old.classes (tables self.new.maps.items self.new.lists self.new.pool) }
         ensures rest { self.new ≡ record self.old { maps = self.new.maps; lists = self.new.lists; pool = self.new.pool } }
-        ensures bound { RoseAtMost steps.old steps.new 26 }
+        ensures steps { RoseBy steps.old steps.new (steps_to_take self.old.classes (tables self.old.maps.items self.old.lists self.old.pool) c) }
+        ensures bound { RoseAtMost steps.old steps.new 13 }
     {
         take_slot(
             &self.classes,
@@ -100,7 +102,7 @@ impl OpenHeap {
           region = slice_set self.old.region place (header_word result.0 bytes);
         } }
         ensures handles { AreBelowLimit self.new.proxies }
-        ensures bound { RoseAtMost steps.old steps.new 3 }
+        ensures steps { RoseBy steps.old steps.new 3 }
     {
         let Some(handle) = self.proxies.bind(place, steps) else {
             unreachable!();

@@ -3,8 +3,10 @@ ghost use Rattle.std.specs.Prelude.{◌≡◌, ◌+◌, ◌-◌, ◌<◌, ◌≤
 ghost use Rattle.step_ledger.specs.Counting.{RoseAtMost};
 ghost use Rattle.slice_model.specs.Runs.{Happens, Slices, Step};
 ghost use Rattle.slice_model.specs.State.{Clear, Move, left_of};
+ghost use Rattle.sliced_heap.specs.Costs.{slice_steps};
 ghost use Rattle.sliced_heap.specs.Heap.{job_of, seen};
 ghost use Rattle.sliced_heap.specs.Layout.{IsValid, plan_of, state_of, working_of};
+ghost use Rattle.sliced_heap.specs.Steps.{job_most, part_most};
 
 use crate::open_heap::{OpenHeap, Pending};
 use cf_base::Handle;
@@ -19,7 +21,7 @@ impl OpenHeap {
         ensures step { Happens (plan_of (seen self.old)) (working_of (seen self.old)) Step (working_of (seen self.new)) }
         ensures kept { IsValid (seen self.new) }
         ensures plan { plan_of (seen self.new) ≡ plan_of (seen self.old) }
-        ensures bound { RoseAtMost steps.old steps.new (32 + self.old.quantum) }
+        ensures steps { RoseAtMost steps.old steps.new (slice_steps (plan_of (seen self.old)) (state_of (seen self.old))) }
     {
         self.slice(steps);
     }
@@ -42,7 +44,7 @@ impl OpenHeap {
         ensures step { Slices (plan_of (seen self.old)) (working_of (seen self.old)) (working_of (seen self.new)) }
         ensures kept { IsValid (seen self.new) }
         ensures plan { plan_of (seen self.new) ≡ plan_of (seen self.old) }
-        ensures bound { RoseAtMost steps.old steps.new (32 + self.old.quantum) }
+        ensures steps { RoseAtMost steps.old steps.new (job_most (seen self.old) (job_of self.old.job)) }
     {
         match self.job {
             Pending::Idle => {}
@@ -67,7 +69,7 @@ impl OpenHeap {
         ensures step { Slices (plan_of (seen self.old)) (working_of (seen self.old)) (working_of (seen self.new)) }
         ensures kept { IsValid (seen self.new) }
         ensures plan { plan_of (seen self.new) ≡ plan_of (seen self.old) }
-        ensures bound { RoseAtMost steps.old steps.new (30 + self.old.quantum) }
+        ensures steps { RoseAtMost steps.old steps.new (part_most (seen self.old) k) }
     {
         let n = self.words_of(k);
         clear_next(&mut self.region, k, n, steps);
@@ -88,7 +90,7 @@ impl OpenHeap {
         ensures step { Slices (plan_of (seen self.old)) (working_of (seen self.old)) (working_of (seen self.new)) }
         ensures kept { IsValid (seen self.new) }
         ensures plan { plan_of (seen self.new) ≡ plan_of (seen self.old) }
-        ensures bound { RoseAtMost steps.old steps.new (32 + self.old.quantum) }
+        ensures steps { RoseAtMost steps.old steps.new (1 + part_most (seen self.old) k) }
     {
         let Some(to) = self.proxies.lookup(h, steps) else {
             unreachable!();

@@ -1,3 +1,4 @@
 mod churn;
+mod costs;
 mod rows;
 mod slow;

@@ -1,4 +1,4 @@
--- How many slots of a list are used, for the layers above.
+-- How many slots of a list are used, for the proofs of other crates.
 use Rattle.std.proofs.Common.{◌≡◌, ℕ, zero, suc, ◌+◌, ◌<◌, Bool, true, false, cond, not, List, [], ◌∷◌, length, set, replicate, Some, None, arith, zero-add}
 use Rattle.std.proofs.Common.{refl, ◌∙◌}
 use Rattle.std.specs.Prelude.{slice_get, IsSome, nat_lt}
@@ -7,7 +7,7 @@ use Rattle.std.proofs.lemmas.Bool.{cond-true, lt-ltb}
 use Rattle.std.proofs.lemmas.List.Sums.{sum_by-cons, sum_by-set}
 use Rattle.std.proofs.lemmas.Option.{slice_get_within, get_or_from_slice_get}
 
--- the used slots of a list
+-- the number of used slots
 abbrev pub used_in : List Bool → ℕ
 used_in xs = count_by (λ u. u) xs
 
@@ -30,7 +30,7 @@ count-set xs i h = omega (arith, counted_set xs i false true h)
 pub count-unset : (xs : List Bool) (i : ℕ) → slice_get xs i ≡ Some true → used_in (set xs i false) + 1 ≡ used_in xs
 count-unset xs i h = omega (arith, counted_set xs i true false h)
 
--- where not all slots are used there is a free one, and where some are there is a used one
+-- if not all slots are used there is a free one, and if some are there is a used one
 first_within : (xs : List Bool) (p : Bool → Bool) → position_or_len p xs < length xs → IsSome (position p xs)
 first_within xs p lt = rw (cond-true (nat_lt (position_or_len p xs) (length xs)) (Some (position_or_len p xs)) None (lt-ltb _ _ lt)) refl
 

@@ -1,4 +1,4 @@
--- Slots in words of 64 bits: what a write of one bit changes, and what the summaries say.
+-- Slots in words of 64 bits: what writing one bit changes, and what the summaries show.
 use Rattle.std.proofs.Common.{◌≡◌, ◌≢◌, ℕ, ◌+◌, ◌-◌, ◌*◌, ◌/◌, ◌%◌, ◌^◌, ◌<◌, ◌≤◌, ◌==◌, Bool, true, false, cond, not, List, length, get_or, set, replicate}
 use Rattle.std.proofs.Common.{Some, None, arith, refl, ap, sym, ◌∙◌, inl, inr, w64}
 use Rattle.std.specs.Prelude.{slice_get}
@@ -19,7 +19,7 @@ use Rattle.slot_bitmap.proofs.CallerLemmas.{counted_set, count-replicate}
 use Rattle.cf_lemmas.specs.Bits.{WritesBit}
 use Rattle.slot_bitmap.specs.Layout.{bits_in, is_used, slots_told, has_free, has_used, IsValid}
 
--- what the place of the first one tells
+-- the first free slot is free
 pub found_free : (xs : List Bool) (i : ℕ) → Some i ≡ position (λ u. not u) xs → slice_get xs i ≡ Some false
 found_free xs i e =
     let h = position-Some (λ u. not u) xs i true (sym e) in
@@ -40,7 +40,7 @@ slot-at : (words : List ℕ) (n i : ℕ) (d : Bool) → i < n → get_or (slots_
 unfolding slots_told
 slot-at words n i d lt = get_or-map-range_with_len (is_used words) 0 n i i d lt (omega arith)
 
--- what a slot that is asked for tells
+-- a slot that the list has is one of the n
 pub slot_within : (words : List ℕ) (n i : ℕ) (b : Bool) → slice_get (slots_told words n) i ≡ Some b → i < n
 slot_within words n i b h = omega (arith, slice_get_within (slots_told words n) i b h, length-slots_of words n)
 
@@ -66,7 +66,7 @@ slots_of-cleared n = same_lists _ _ (length-slots_of cleared n ∙ sym (length-r
     let lt : k < n = omega (arith, length-slots_of cleared n) in
     slot-at cleared n k d lt ∙ used_from_bit cleared k false (rw (cleared-at (k / 64), bit_at-zero) refl) ∙ sym (get_or-replicate n k false d lt))
 
--- a summary with a bit for each word that has a slot
+-- a summary that has a bit for each word with slots
 each_word : (n full j : ℕ) → n ≤ 4096 → full + 1 ≡ 2 ^ div_ceil n 64 → bit_at full j ≡ cond (not (1 == 2 ^ bits_in n j)) 1 0
 each_word n full j few is =
     let e : full ≡ 2 ^ div_ceil n 64 - 1 = omega arith in
@@ -90,7 +90,7 @@ tidy_new n full few is = record {
   counted = rw (slots_of-cleared n) (sym (count-replicate n));
 }
 
--- where no slot is used, no word has a bit
+-- if no slot is used, no word has a bit set
 module _ (words : List ℕ) (f u n c : ℕ) (count : length words ≡ 64) (tidy : IsValid words f u n c) (none : count_by (λ u. u) (slots_told words n) ≡ 0) where
   word_clear : (j : ℕ) → j < 64 → get_or words j 0 ≡ 0
   word_clear j short = elim (cases_eq (get_or words j 0) 0) [
@@ -143,7 +143,7 @@ counted_within words n = omega (arith, count_by-le-length (λ u. u) (slots_told 
 pub counted_some : (words : List ℕ) (n i : ℕ) → slice_get (slots_told words n) i ≡ Some true → 1 ≤ count_by (λ u. u) (slots_told words n)
 counted_some words n i h = omega (arith, counted_set (slots_told words n) i true false h)
 
--- a summary is written at j, where the words are
+-- bit j of a summary is written and agrees with word j; the others stay
 summary_kept : (j s s' : ℕ) (on : Bool) (old new : ℕ → Bool) → WritesBit 64 s s' j on → on ≡ new j → ((k : ℕ) → k ≢ j → new k ≡ old k)
     → ((k : ℕ) → k < 64 → bit_at s k ≡ cond (old k) 1 0) → (k : ℕ) → k < 64 → bit_at s' k ≡ cond (new k) 1 0
 summary_kept j s s' on old new wrote here there was k lt = elim (cases_eq k j) [
@@ -209,7 +209,7 @@ module _ (words : List ℕ) (n i w f f' u u' c : ℕ) (count : length words ≡ 
       tidy_written words n i w true false f f' u u' c (c - 1) true _ count tidy was wrote (below true was)
       wrote_f (bit_makes_free w _ (i % 64) (place true was).1 wrote.at) wrote_u refl (omega (arith, tidy.counted, counted_some words n i was))
 
--- the bit b of the word j is written
+-- bit b of word j is set, and its summaries follow
 pub tidy_take : (words : List ℕ) (n j b w f f' u u' c full : ℕ) → IsValid words f u n c → j < 64 → b < 64
     → ((m : ℕ) → b < m → get_or words j 0 < 2 ^ m → w < 2 ^ m)
     → slice_get (slots_told words n) (64 * j + b) ≡ Some false → WritesBit 64 (get_or words j 0) w b true → full + 1 ≡ 2 ^ bits_in n j
@@ -238,7 +238,7 @@ on_is : (s a b : ℕ) → s ≡ cond (not (a == b)) 1 0 → s ≡ 1 → a ≢ b
 on_is s a b h one e = let zero : s ≡ 0 = rw (eq-eqb a b e) at h in absurd (omega arith)
 
 module _ (words : List ℕ) (f u n c : ℕ) (tidy : IsValid words f u n c) where
-  -- a word whose summary says so has no used slot, or no free one
+  -- if a word's summary bit is clear, the word has no used slot, or no free one
   none_used : (k : ℕ) → k < n → bit_at u (k / 64) ≡ 0 → bit_at (get_or words (k / 64) 0) (k % 64) ≡ 0
   none_used k lt off =
       let few : n ≤ 4096 = tidy.few in
@@ -267,7 +267,7 @@ module _ (words : List ℕ) (f u n c : ℕ) (tidy : IsValid words f u n c) where
       let ne = on_is _ (get_or words j 0 + 1) (2 ^ bits_in n j) (tidy.some_free j short) on in
       omega (arith, tidy.clean j short, pow_mono {i = bits_in n j} {j = 64} (omega arith), ne)
 
-  -- the word that the summary names, and the bit in it
+  -- the word that a summary names, and the bit within it
   module _ (j b : ℕ) (short : j < 64) (low : b < 64) where
     pub used_at : bit_at u j ≡ 1 → ((k : ℕ) → k < j → bit_at u k ≡ 0) → bit_at (get_or words j 0) b ≡ 1 → ((k : ℕ) → k < b → bit_at (get_or words j 0) k ≡ 0)
         → Some (64 * j + b) ≡ position (λ u. u) (slots_told words n)

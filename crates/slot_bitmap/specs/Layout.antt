@@ -11,18 +11,19 @@ is_used words i = bit_at (slice_index words (i / 64)) (i % 64) == 1
 unfoldable pub slots_told : List ℕ → ℕ → List Bool
 slots_told words n = map (is_used words) (range_with_len 0 n)
 
--- how many of n slots word j has
+-- how many of n slots are in word j
 abbrev pub bits_in : ℕ → ℕ → ℕ
 bits_in n j = min (n - 64 * j) 64
 
--- whether word j, of n slots in all, has a free slot, and whether it has a used one
+-- whether word j, of n slots in all, has a free slot
 abbrev pub has_free : List ℕ → ℕ → ℕ → Bool
 has_free words n j = not (slice_index words j + 1 == 2 ^ bits_in n j)
 
+-- whether word j has a used slot
 abbrev pub has_used : List ℕ → ℕ → Bool
 has_used words j = not (slice_index words j == 0)
 
--- There are 64 words, no bit past the n slots is set, the summaries say which words have a free slot and which a used one, and the count is right
+-- there are 64 words, and no bit is set beyond the n slots; the summaries show which words have a free slot and which a used one; the count is right
 pub record IsValid (words : List ℕ) (with_free with_used n used : ℕ) : Type 0 where
   pub count : length words ≡ 64
   pub few : n ≤ 4096

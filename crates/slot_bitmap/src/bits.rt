@@ -2,7 +2,7 @@
 ghost use Rattle.std.specs.Prelude.{◌≡◌, ◌≢◌, ℕ, ◌+◌, ◌^◌, ◌<◌, ◌≤◌, cond};
 ghost use Rattle.std.specs.Int.{bit_at};
 
-/// Whether that bit is set.
+/// Whether bit `bit` is set.
 pub(crate) fn has_bit(word: u64, bit: u32) -> bool
     requires { bit < 64 }
     ensures { bit_at word bit ≡ cond result 1 0 }
@@ -10,7 +10,7 @@ pub(crate) fn has_bit(word: u64, bit: u32) -> bool
     (word >> bit) & 1 == 1
 }
 
-/// The place of the lowest bit that is set.
+/// The position of the lowest set bit.
 pub(crate) fn lowest_set(word: u64) -> u32
     requires { word ≢ 0 }
     ensures within { result < 64 }
@@ -20,7 +20,7 @@ pub(crate) fn lowest_set(word: u64) -> u32
     word.trailing_zeros()
 }
 
-/// The place of the lowest bit that is clear.
+/// The position of the lowest clear bit.
 pub(crate) fn lowest_clear(word: u64) -> u32
     requires { word + 1 < 2 ^ 64 }
     ensures within { result < 64 }
@@ -30,7 +30,7 @@ pub(crate) fn lowest_clear(word: u64) -> u32
     word.trailing_ones()
 }
 
-/// The word whose lowest so many bits are set.
+/// The word with its lowest `count` bits set.
 pub(crate) fn ones(count: u32) -> u64
     requires some { 1 ≤ count }
     requires few { count ≤ 64 }

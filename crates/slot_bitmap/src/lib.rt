@@ -1,5 +1,5 @@
-//! Which slots of a page are used, in two levels of words, so that the first free slot and the
-//! first used one are found by one look at each level.
+//! Which slots of a page are used, in two levels of words. Finding the first free slot or the first
+//! used one reads at most one word of each level.
 #![tactic(auto)]
 
 mod bits;

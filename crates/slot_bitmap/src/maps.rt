@@ -1,12 +1,12 @@
-//! A map for each page of a heap that has no objects.
+//! A map for each page of a heap without objects.
 ghost use Rattle.std.specs.Prelude.{◌≡◌, false, replicate, IfOk};
 
 use crate::SlotMap;
 use cf_base::OutOfMemory;
 use std::alloc::{AllocError, Global};
 
-/// So many maps of one free slot each, as a page has that no class uses yet. All their memory is
-/// taken here.
+/// One map for each page, with one free slot each, as a page has that no class uses yet. Only this
+/// call takes memory.
 pub fn free_maps(alloc: Global, pages: u32) -> Result<Vec<SlotMap>, OutOfMemory>
     ensures { IfOk result (λ maps. maps.items ≡ replicate pages (replicate 1 false)) }
 {

@@ -10,8 +10,8 @@ use step_ledger::Steps;
 
 /// Which slots of a page are used: a list of truth values, true for used.
 ///
-/// It has a bit for each slot in words of 64 bits, and two summary words that say which words have a
-/// free slot and which have a used one. It takes no memory beside its own 536 bytes.
+/// A bit for each slot in words of 64 bits, and two summary words: which words have a free slot,
+/// and which have a used one. It takes no memory besides its own 536 bytes.
 #[derive(Drop)]
 pub struct SlotMap {
     words: CellArray<u64, 64>,
@@ -34,7 +34,7 @@ impl Model for SlotMap {
 
 #[tactic(auto, using(crate::proofs::Slots::slot_rules))]
 impl SlotMap {
-    /// So many slots, all free.
+    /// A map of `slots` slots, all free.
     pub fn new(slots: u32) -> SlotMap
         requires some { 1 ≤ slots }
         requires few { slots ≤ 4096 }
@@ -49,7 +49,7 @@ impl SlotMap {
         }
     }
 
-    /// Makes it a map of so many slots, all free. None of those that it had may be used.
+    /// Makes it a map of `slots` slots, all free. None of its old slots may be used.
     pub fn renew(&mut self, slots: u32, steps: &mut Steps)
         requires some { 1 ≤ slots }
         requires few { slots ≤ 4096 }
@@ -87,7 +87,7 @@ impl SlotMap {
         bits::has_bit(self.words.get((i / 64) as usize, steps), i % 64)
     }
 
-    /// The least free slot; none where all are used.
+    /// The least free slot; none if all are used.
     pub fn first_free(&self, steps: &mut Steps) -> Option<u32>
         ensures found { result ≡ position (λ used. not used) self.now }
         ensures free { IfSome result (λ i. slice_get self.now i ≡ Some false) }
@@ -102,7 +102,7 @@ impl SlotMap {
         Some(64 * at + bits::lowest_clear(word))
     }
 
-    /// The least used slot; none where all are free.
+    /// The least used slot; none if all are free.
     pub fn first_used(&self, steps: &mut Steps) -> Option<u32>
         ensures found { result ≡ position (λ used. used) self.now }
         ensures used { IfSome result (λ i. slice_get self.now i ≡ Some true) }
@@ -117,7 +117,7 @@ impl SlotMap {
         Some(64 * at + bits::lowest_set(word))
     }
 
-    /// A free slot becomes used.
+    /// Marks a free slot as used.
     pub fn set(&mut self, i: u32, steps: &mut Steps)
         requires { slice_get self.old i ≡ Some false }
         ensures value { self.new ≡ slice_set self.old i true }
@@ -132,8 +132,8 @@ impl SlotMap {
         self.used += 1;
     }
 
-    /// The least free slot becomes used; none where all are used. The summary of the free slots, a
-    /// word and the summary of the used ones are each touched once.
+    /// Marks the least free slot as used; none if all are used. The summary of the free slots, one
+    /// word and the summary of the used slots are touched once each.
     pub fn take_first(&mut self, steps: &mut Steps) -> Option<u32>
         ensures found { result ≡ position (λ used. not used) self.old }
         ensures free { IfSome result (λ i. slice_get self.old i ≡ Some false) }
@@ -154,7 +154,7 @@ impl SlotMap {
         Some(64 * at + bit)
     }
 
-    /// A used slot becomes free.
+    /// Marks a used slot as free.
     pub fn unset(&mut self, i: u32, steps: &mut Steps)
         requires { slice_get self.old i ≡ Some true }
         ensures value { self.new ≡ slice_set self.old i false }

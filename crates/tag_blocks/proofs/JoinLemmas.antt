@@ -330,6 +330,10 @@ module _ (rule : FreeLists) (count : ℕ) (p : Fields) (v : Tagged) (kept : IsVa
     pub join_kept : IsValid rule count parts'
     join_kept = kept_now rule count parts' _ _ (as_many ∙ kept.as_many) after
 
+    pub join_others : (w : ℕ) → w < front → get_or made w 0 ≡ get_or left w 0
+    join_others w low =
+        same_out rule p kept.lists x.before x.behind front first second h.next_free now left fronts u long header refl refl is_before' blank w (inl low)
+
     pub join_turns : Turns v x (seen made) front (pair_hand x (first + second))
     join_turns = record {
       hand = record {

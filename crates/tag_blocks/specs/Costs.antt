@@ -1,8 +1,11 @@
 -- How many steps the calls on blocks take, by what they find.
-use Rattle.std.specs.Prelude.{ℕ, ◌+◌, ◌/◌, ◌%◌, ◌^◌, ◌==◌, List, Option, Some, None, if◌then◌else◌, nat_le, nat_lt}
+use Rattle.std.specs.Prelude.{ℕ, ◌+◌, ◌-◌, ◌/◌, ◌%◌, ◌^◌, ◌==◌, ◌&&◌, List, [], ◌∷◌, Option, Some, None, cond, if◌then◌else◌, nat_eq, nat_le, nat_lt, count_by}
+use Rattle.std.specs.Prelude.{length, slice_index}
 use Rattle.block_model.specs.Buckets.{FreeLists}
-use Rattle.block_model.specs.Tiling.{Block, size_at}
+use Rattle.block_model.specs.Tiling.{Block, is_free, block_at, size_at}
+use Rattle.tag_blocks.specs.Blocks.{Tagged}
 use Rattle.tag_blocks.specs.Fronts.{no_block}
+use Rattle.tag_blocks.specs.Links.{link_word}
 
 -- The first list with a block, of the groups of 16 lists from this group on: the bits of all groups are read, and those of the group that is found.
 abbrev pub group_steps : ℕ → Option ℕ → ℕ
@@ -38,3 +41,86 @@ unlink_steps link = 1 + next_steps (link / 2 ^ 32) + previous_steps (link % 2 ^ 
 -- A block is the head of a list whose head was `next`: the head is read, the link of the block and that of `next` are written, and then the head.
 abbrev pub push_steps : ℕ → ℕ
 push_steps next = 5 + previous_steps next
+
+-- how many free blocks a list has
+unfoldable pub list_length : FreeLists → List Block → ℕ → ℕ
+list_length rule blocks list = count_by (λ b. is_free b && nat_eq (rule.bucket b.size) list) blocks
+
+-- A free block is the head of a list of `many` blocks now: as for `push_steps`, the link of another block is written, if the list has one.
+abbrev pub pushed_steps : ℕ → ℕ
+pushed_steps many = if many == 1 then 5 else 7
+
+-- A free block with this link becomes used: its header is read and written, it leaves its list, and its tag is written.
+abbrev pub claim_steps : ℕ → ℕ
+claim_steps link = 3 + unlink_steps link
+
+-- A used block that ends at `end`, in a region of `words` words, is cut: its header is written, as half a word, that of the rest, and that of the block behind
+-- it, if there is one; the rest joins a list, which has `many` blocks then.
+abbrev pub cut_steps : ℕ → ℕ → ℕ → ℕ
+cut_steps end words many = 3 + before_steps end words + pushed_steps many
+
+-- A free block becomes used, and is cut if two words or more are left; `new` are the blocks afterwards.
+abbrev pub carve_at_steps : FreeLists → Tagged → ℕ → ℕ → List Block → ℕ
+carve_at_steps rule old need at new = claim_steps (slice_index old.words (at + 1)) + (if nat_le (need + 2) (size_at old.blocks at)
+    then cut_steps (at + size_at old.blocks at) (length old.words) (list_length rule new (rule.bucket (size_at old.blocks at - need)))
+    else 0)
+
+-- A free block is found, and carved.
+abbrev pub carve_steps : FreeLists → ℕ → Tagged → ℕ → Option ℕ → List Block → ℕ
+carve_steps rule count old need None new = find_steps rule count old.blocks need None
+carve_steps rule count old need (Some at) new = find_steps rule count old.blocks need (Some at) + carve_at_steps rule old need at new
+
+-- the words of the free block that begins at the address, 0 if there is none
+abbrev pub free_size : Option Block → ℕ
+free_size None = 0
+free_size (Some b) = cond (is_free b) b.size 0
+
+abbrev pub free_from : List Block → ℕ → ℕ
+free_from blocks a = free_size (block_at blocks a)
+
+-- the words of the free block that ends at the address, 0 if there is none
+abbrev pub free_up_to : List Block → ℕ → ℕ
+free_up_to [] a = 0
+free_up_to (b ∷ bs) a = if nat_eq (b.address + b.size) a then cond (is_free b) b.size 0 else free_up_to bs a
+
+-- Two neighbours become one block that ends at `end`: the header of the first is read and written, the free one, which has this link, leaves its list, three
+-- words are cleared, and the header behind them is written, if there is one.
+abbrev pub join_steps : ℕ → ℕ → ℕ → ℕ
+join_steps link end words = 5 + unlink_steps link + before_steps end words
+
+-- The header of the block behind one that ends at `end` is read, if there is one; if it is free, of `more` words, the two become one.
+abbrev pub next_merge_steps : ℕ → ℕ → ℕ → ℕ → ℕ
+next_merge_steps link end more words = (if end == words then 0 else 1) + (if more == 0 then 0 else join_steps link (end + more) words)
+
+-- The header of a block at `at` is read, and that of the block before it, if there is one; if that one is free, of `less` words, the two become one, which
+-- ends at `end`.
+abbrev pub previous_merge_steps : ℕ → ℕ → ℕ → ℕ → ℕ → ℕ
+previous_merge_steps link at less end words = (if at == 0 then 1 else 2) + (if less == 0 then 0 else join_steps link end words)
+
+-- What the link of the block at `a` becomes where a block with the link `gone` leaves the list: what followed that block follows `a`, if `a` was before it;
+-- what was before that block is before `a`, if `a` followed it.
+abbrev pub led_link : ℕ → ℕ → ℕ → ℕ
+led_link a link gone = if a == gone / 2 ^ 32 then link_word (gone % 2 ^ 32) (link / 2 ^ 32) else link
+
+abbrev pub left_link : ℕ → ℕ → ℕ → ℕ
+left_link a link gone = if a == gone % 2 ^ 32 then link_word (led_link a link gone % 2 ^ 32) (gone / 2 ^ 32) else led_link a link gone
+
+-- the same, if such a block, of `more` words, leaves it
+abbrev pub link_then : ℕ → ℕ → ℕ → ℕ → ℕ
+link_then more a link gone = if more == 0 then link else left_link a link gone
+
+-- A used block of `size` words is cleared, and becomes one with a free block of `more` words behind it and one of `less` before it. Then its header is
+-- written, as half a word, and it joins a list, which has `many` blocks then.
+abbrev pub release_by : List ℕ → ℕ → ℕ → ℕ → ℕ → ℕ → ℕ
+release_by words at size more less many =
+    size + next_merge_steps (slice_index words (at + size + 1)) (at + size) more (length words)
+    + previous_merge_steps (link_then more (at - less) (slice_index words (at - less + 1)) (slice_index words (at + size + 1))) at less (at + (size + more)) (length words)
+    + (2 + pushed_steps many)
+
+abbrev pub release_sized : FreeLists → List ℕ → ℕ → ℕ → ℕ → ℕ → List Block → ℕ
+release_sized rule words at size more less new = release_by words at size more less (list_length rule new (rule.bucket (less + (size + more))))
+
+-- A release, where `new` are the blocks afterwards.
+abbrev pub release_steps : FreeLists → Tagged → ℕ → List Block → ℕ
+release_steps rule old at new =
+    release_sized rule old.words at (size_at old.blocks at) (free_from old.blocks (at + size_at old.blocks at)) (free_up_to old.blocks at) new

@@ -6,6 +6,8 @@ use Rattle.std.specs.Prelude.{option_map}
 use Rattle.cf_lemmas.proofs.Maps.{get_inserted, get_insert_other, some_inserted}
 use Rattle.cf_lemmas.proofs.MapValues.{get-map_values}
 use Rattle.cf_base.specs.Classes.{need}
+use Rattle.cf_base.specs.declared.answers.Refusal.{Refusal}
+use Rattle.cf_base.specs.declared.answers.Refusal.TheVariants as refusal
 use Rattle.cf_base.specs.declared.kind.Kind.{Kind}
 use Rattle.page_model.specs.Held.{Held, Placed, objects}
 use Rattle.page_model.specs.Bytes.{AreBytes}
@@ -22,9 +24,10 @@ use Rattle.tag_blocks.specs.Blocks.{Tagged, AreTags, CarvesAt, demand, owner_of}
 use Rattle.tag_blocks.proofs.CallerLemmas.{carve_words}
 use Rattle.cf_model.specs.Families.{IsTiled, free_lists_of}
 use Rattle.cf_model.specs.Rules.{KeepsRules, content_word}
-use Rattle.cf_model.specs.Steps.{GivesObject, IsPlacedBy, LacksRoomIn, WantsProxy, WantsSpace}
+use Rattle.cf_model.specs.Steps.{GivesObject, IsPlacedBy, IsRefusedBy, LacksRoomIn, WantsProxy, WantsSpace}
 use Rattle.cf_model.proofs.CallerLemmas.{fresh_word, owned_malloc}
 use Rattle.tag_heap.specs.Heap.{Heap, IsValid, held_in, state_of}
+use Rattle.tag_heap.specs.Room.{HasRoom}
 use Rattle.tag_heap.proofs.ByKind.{of_tiled}
 use Rattle.tag_heap.proofs.Preserved.{Becomes, are_bytes, becomes_rules, becomes_state, becomes_valid, held_many, no_place, places_are}
 
@@ -167,3 +170,15 @@ module _ (k : Kind) (is : IsTiled k) (h : Heap) (v : IsValid h) (n : ℕ) (fits 
         (subst (λ r. LacksBlock r h.tagged.blocks (block_need n)) lists
         (subst (LacksBlock rule h.tagged.blocks) (let e : needed + 1 ≡ block_need n = omega arith in e) lacking));
   }
+
+-- where there is room, no cause of a refusal is met
+pub has_no_cause : (k : Kind) → IsTiled k → (h : Heap) (rule : FreeLists) → rule ≡ free_lists_of k → (n a : ℕ) → HasRoom rule h n a → IsValid h
+    → (e : Refusal) → ¬ IsRefusedBy (state_of k h) n e
+has_no_cause k is h rule lists n a r v refusal.Size cause = (let f = r.fits in absurd (omega arith))
+has_no_cause k is h rule lists n a r v refusal.Proxy cause = r.few (sym (held_many h v) ∙ cause.all ∙ sym v.numbers)
+has_no_cause k is h rule lists n a r v refusal.Space cause =
+    let lacking : LacksBlock (free_lists_of k) h.tagged.blocks (block_need n) =
+    of_tiled (λ j. LacksRoomIn j (state_of k h) n → LacksBlock (free_lists_of j) h.tagged.blocks (block_need n)) (λ x. x) (λ x. x) k is cause.lacking in
+    let e : block_need n ≡ need n + 1 = omega arith in
+    subst (LacksBlock rule h.tagged.blocks) e (subst (λ r. LacksBlock r h.tagged.blocks (block_need n)) (sym lists) lacking)
+    a (record { address = a; size = r.found.size; owner = None }) r.found.there (record { free = refl; reached = r.found.reached })

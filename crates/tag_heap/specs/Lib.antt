@@ -1,3 +1,4 @@
 pub mod Heap
+pub mod Room
 pub mod Access
 pub mod Costs

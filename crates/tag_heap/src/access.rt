@@ -5,14 +5,15 @@ ghost use Rattle.cf_model.specs.Answers.{place_of};
 ghost use Rattle.cf_model.specs.Rules.{KeepsRules};
 ghost use Rattle.cf_model.specs.Steps.{IsReadAnswer, IsResizeFault, IsWriteStep, StaysOpen};
 ghost use Rattle.tag_heap.specs.Access.{IsFound};
-ghost use Rattle.tag_heap.specs.Costs.{access_steps, found_steps};
+ghost use Rattle.tag_heap.specs.Costs.{access_steps, found_steps, length_steps};
 ghost use Rattle.tag_heap.specs.Heap.{state_of};
+ghost use Rattle.tag_heap.specs.Room.{length_of};
 
 use crate::open_heap::OpenHeap;
 use crate::yardstick::Yardstick;
 use cf_base::{AccessFault, Handle, ResizeFault};
-use object_header::Header;
 use step_ledger::Steps;
+use word_bytes::Header;
 
 impl<B: Yardstick> OpenHeap<B> {
     /// The first word of the object's block; none where the handle isn't live.
@@ -85,6 +86,17 @@ impl<B: Yardstick> OpenHeap<B> {
             return Err(AccessFault::Range);
         }
         Ok(place)
+    }
+
+    /// How many bytes the object has; none if the handle isn't live.
+    pub(crate) fn length(&self, h: Handle, steps: &mut Steps) -> Option<u32>
+        ensures value { result ≡ length_of (state_of B.kind self.now) h.0 }
+        ensures steps { RoseBy steps.old steps.new (length_steps result) }
+    {
+        match self.proxies.lookup(h, steps) {
+            Some(place) => Some(Header::unpack(self.blocks.tag_of(place, steps)).length),
+            None => None,
+        }
     }
 
     /// Why the object gets no other length.

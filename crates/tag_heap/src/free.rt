@@ -1,16 +1,16 @@
 //! An object goes.
 ghost use Rattle.std.specs.Prelude.{◌≡◌, ◌+◌, ◌^◌, ◌≤◌};
-ghost use Rattle.step_ledger.specs.Counting.{RoseAtMost};
+ghost use Rattle.step_ledger.specs.Counting.{RoseAtMost, RoseBy};
 ghost use Rattle.cf_model.specs.Rules.{KeepsRules};
 ghost use Rattle.cf_model.specs.Steps.{IsFreeStep, StaysOpen};
-ghost use Rattle.tag_heap.specs.Costs.{free_steps};
+ghost use Rattle.tag_heap.specs.Costs.{free_cost, free_steps};
 ghost use Rattle.tag_heap.specs.Heap.{state_of};
 
 use crate::open_heap::OpenHeap;
 use crate::yardstick::Yardstick;
 use cf_base::{Freed, Handle, NotLive};
-use object_header::Header;
 use step_ledger::Steps;
+use word_bytes::Header;
 
 impl<B: Yardstick> OpenHeap<B> {
     /// Takes an object away, and notes the cost.
@@ -20,6 +20,7 @@ impl<B: Yardstick> OpenHeap<B> {
         ensures step { IsFreeStep (state_of B.kind self.old) h.0 result (state_of B.kind self.new) }
         ensures rules { KeepsRules (state_of B.kind self.new) }
         ensures rises { steps.old ≤ steps.new }
+        ensures exact { RoseBy steps.old steps.new (free_cost B.rule (state_of B.kind self.old) h.0 result (state_of B.kind self.new)) }
         ensures bound { RoseAtMost steps.old steps.new (free_steps result) }
         ensures told { steps.new ≡ steps.old + self.new.cost }
     {
@@ -35,6 +36,7 @@ impl<B: Yardstick> OpenHeap<B> {
         ensures step { IsFreeStep (state_of B.kind self.old) h.0 result (state_of B.kind self.new) }
         ensures rules { KeepsRules (state_of B.kind self.new) }
         ensures rises { steps.old ≤ steps.new }
+        ensures exact { RoseBy steps.old steps.new (free_cost B.rule (state_of B.kind self.old) h.0 result (state_of B.kind self.new)) }
         ensures bound { RoseAtMost steps.old steps.new (free_steps result) }
     {
         let Some(place) = self.proxies.lookup(h, steps) else {

@@ -1,16 +1,17 @@
 //! An object comes.
 ghost use Rattle.std.specs.Prelude.{◌≡◌, ◌+◌, ◌^◌, ◌≤◌};
-ghost use Rattle.step_ledger.specs.Counting.{RoseAtMost};
+ghost use Rattle.step_ledger.specs.Counting.{RoseAtMost, RoseBy};
 ghost use Rattle.cf_model.specs.Rules.{KeepsRules};
 ghost use Rattle.cf_model.specs.Steps.{IsMallocStep, StaysOpen};
-ghost use Rattle.tag_heap.specs.Costs.{malloc_steps};
+ghost use Rattle.tag_heap.specs.Costs.{malloc_cost, malloc_steps, room_steps, search_steps};
 ghost use Rattle.tag_heap.specs.Heap.{state_of};
+ghost use Rattle.tag_heap.specs.Room.{IsRoom, IsRoomAnswer, done_by};
 
 use crate::open_heap::OpenHeap;
 use crate::yardstick::Yardstick;
 use cf_base::{Handle, Refusal, need_of};
-use object_header::Header;
 use step_ledger::Steps;
+use word_bytes::Header;
 
 impl<B: Yardstick> OpenHeap<B> {
     /// Adds an object of `bytes` bytes, all zero, and notes the cost.
@@ -20,6 +21,7 @@ impl<B: Yardstick> OpenHeap<B> {
         ensures step { IsMallocStep (state_of B.kind self.old) bytes result (state_of B.kind self.new) }
         ensures rules { KeepsRules (state_of B.kind self.new) }
         ensures rises { steps.old ≤ steps.new }
+        ensures exact { RoseBy steps.old steps.new (malloc_cost B.rule B.COUNT (state_of B.kind self.old) bytes result (state_of B.kind self.new)) }
         ensures bound { RoseAtMost steps.old steps.new (malloc_steps result) }
         ensures told { steps.new ≡ steps.old + self.new.cost }
     {
@@ -29,35 +31,48 @@ impl<B: Yardstick> OpenHeap<B> {
         result
     }
 
-    /// Adds an object of `bytes` bytes, all zero. The block is found before the object has a number, and
-    /// carved after, since its tag has the number.
+    /// Adds an object of `bytes` bytes, all zero. Its block is carved once it has a number, which the
+    /// block's tag holds.
     fn malloc_inner(&mut self, bytes: u32, steps: &mut Steps) -> Result<Handle, Refusal>
         ensures same { StaysOpen (state_of B.kind self.old) (state_of B.kind self.new) }
         ensures step { IsMallocStep (state_of B.kind self.old) bytes result (state_of B.kind self.new) }
         ensures rules { KeepsRules (state_of B.kind self.new) }
         ensures rises { steps.old ≤ steps.new }
+        ensures exact { RoseBy steps.old steps.new (malloc_cost B.rule B.COUNT (state_of B.kind self.old) bytes result (state_of B.kind self.new)) }
         ensures bound { RoseAtMost steps.old steps.new (malloc_steps result) }
     {
-        let need = need_of(bytes);
-        if self.settings.page_words < need {
-            return Err(Refusal::Size);
-        }
-        let words = need + 1;
-        let Some(place) = self.blocks.find(words, steps) else {
-            if self.proxies.live() == self.settings.proxies {
-                return Err(Refusal::Proxy);
-            }
-            return Err(Refusal::Space);
-        };
+        let place = self.room(bytes, steps)?;
         let Some(handle) = self.proxies.bind(place, steps) else {
-            return Err(Refusal::Proxy);
+            unreachable!();
         };
         let tag = Header {
             handle,
             length: bytes,
         };
+        let words = need_of(bytes) + 1;
         self.used_words += self.blocks.carve_at(place, words, tag.pack(), steps);
         self.asked += u64::from(bytes);
         Ok(handle)
+    }
+
+    /// The free block that a malloc of `bytes` bytes would take, or why it would be refused.
+    pub(crate) fn room(&self, bytes: u32, steps: &mut Steps) -> Result<u32, Refusal>
+        ensures room { IsRoom B.rule B.kind self.now bytes result }
+        ensures answer { IsRoomAnswer (state_of B.kind self.now) bytes (done_by result) }
+        ensures rules { KeepsRules (state_of B.kind self.now) }
+        ensures steps { RoseBy steps.old steps.new (search_steps B.rule B.COUNT self.now.tagged.blocks bytes result) }
+        ensures bound { RoseAtMost steps.old steps.new (room_steps (done_by result)) }
+    {
+        let need = need_of(bytes);
+        if self.settings.page_words < need {
+            return Err(Refusal::Size);
+        }
+        if self.proxies.live() == self.settings.proxies {
+            return Err(Refusal::Proxy);
+        }
+        match self.blocks.find(need + 1, steps) {
+            Some(place) => Ok(place),
+            None => Err(Refusal::Space),
+        }
     }
 }

@@ -6,8 +6,9 @@ ghost use Rattle.cf_model.specs.Costs.{TakesAtMost, TellsCost, access_bound, fre
 ghost use Rattle.cf_model.specs.Rules.{KeepsRules};
 ghost use Rattle.cf_model.specs.State.{closed_state};
 ghost use Rattle.cf_model.specs.Steps.{BlocksStayIn, IsFreeStep, IsMallocStep, IsReadAnswer, IsResizeStep, IsWriteStep, StaysOpen};
-ghost use Rattle.tag_heap.specs.Costs.{access_steps, free_steps, malloc_steps};
+ghost use Rattle.tag_heap.specs.Costs.{access_steps, free_cost, free_steps, length_steps, malloc_cost, malloc_steps, room_steps};
 ghost use Rattle.tag_heap.specs.Heap.{state_of};
+ghost use Rattle.tag_heap.specs.Room.{IsRoomAnswer, length_of};
 
 use crate::open_heap::OpenHeap;
 use crate::yardstick::Yardstick;
@@ -49,6 +50,25 @@ impl<B: Yardstick> TagHeap<B> {
         TagHeap { alloc, inner: None }
     }
 
+    /// Whether a malloc of `bytes` bytes would be served now: `Ok`, or the refusal that it would return.
+    pub fn has_room(&self, bytes: u32, steps: &mut Steps) -> Result<(), Refusal>
+        requires open { IsTrue self.now.is_open }
+        ensures answer { IsRoomAnswer self.now bytes result }
+        ensures steps { RoseAtMost steps.old steps.new (room_steps result) }
+    {
+        self.open().room(bytes, steps)?;
+        Ok(())
+    }
+
+    /// How many bytes the object has; none if the handle isn't live.
+    pub fn length(&self, h: Handle, steps: &mut Steps) -> Option<u32>
+        requires open { IsTrue self.now.is_open }
+        ensures value { result ≡ length_of self.now h.0 }
+        ensures steps { RoseBy steps.old steps.new (length_steps result) }
+    {
+        self.open().length(h, steps)
+    }
+
     /// What is open.
     fn open(&self) -> &OpenHeap<B>
         requires { IsTrue self.now.is_open }
@@ -88,6 +108,7 @@ impl<B: Yardstick> Manager for TagHeap<B> {
         ensures bound { TakesAtMost self.old.kind steps.old steps.new 64 }
         ensures told { steps.new ≡ steps.old + self.new.cost }
         ensures steps { RoseAtMost steps.old steps.new (malloc_steps result) }
+        ensures exact { RoseBy steps.old steps.new (malloc_cost B.rule B.COUNT self.old bytes result self.new) }
     {
         match &mut self.inner {
             Some(open) => open.malloc(bytes, steps),
@@ -105,6 +126,7 @@ impl<B: Yardstick> Manager for TagHeap<B> {
         ensures told { steps.new ≡ steps.old + self.new.cost }
         ensures blocks { BlocksStayIn self.old.kind self.old h.0 self.new }
         ensures steps { RoseAtMost steps.old steps.new (free_steps result) }
+        ensures exact { RoseBy steps.old steps.new (free_cost B.rule self.old h.0 result self.new) }
     {
         match &mut self.inner {
             Some(open) => open.free(h, steps),

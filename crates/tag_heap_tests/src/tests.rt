@@ -1,12 +1,13 @@
 //! Long runs of drawn calls on both managers of blocks, against plain lists of blocks.
 mod costs;
-mod half_fit;
 mod tlsf;
 
+use cf_base::{Handle, Settings};
 use cf_model::Manager;
 use half_fit_heap::HalfFitHeap;
 use std::test::Fail;
 use step_ledger::Meter;
+use tag_heap::{TagHeap, Yardstick};
 use tag_heap_driver::{BlockRun, half_fit_sizes, tlsf_sizes};
 use tlsf_heap::TlsfHeap;
 
@@ -38,5 +39,62 @@ fn half_fit_agrees_with_plain_blocks(rt: HostRuntime) -> Result<(), Fail> {
         half_fit_sizes(rt.alloc())?,
     )?;
     assert_eq!(rt; largest, 1024);
+    Ok(())
+}
+
+/// The lengths that are asked for, one after the other, on one page of 64 words with two proxies: above
+/// the page; a block of 61 words, which leaves one of 3; no block of 15; that of 3; and no proxy.
+const ASKED: [u32; 5] = [505, 472, 100, 0, 0];
+
+/// The steps of each look for room, which answers as the malloc after it does. None if one doesn't.
+fn room_steps<B: Yardstick>(heap: &mut TagHeap<B>, meter: &mut Meter) -> Option<[u64; 5]> {
+    let settings = Settings::check(1, 512, 1, 2).ok()?;
+    heap.open_heap(&settings).ok()?;
+    let mut steps = [0; 5];
+    for i in 0..5 {
+        meter.lap();
+        if !heap.is_open() {
+            return None;
+        }
+        let room = heap.has_room(ASKED[i], meter.steps());
+        steps[i] = meter.lap();
+        if !heap.is_open() {
+            return None;
+        }
+        let given = heap.malloc(ASKED[i], meter.steps());
+        if room.err() != given.err() {
+            return None;
+        }
+    }
+    Some(steps)
+}
+
+/// The lengths of the objects 0, 1 and 2, and the steps of the three looks.
+fn lengths<B: Yardstick>(heap: &TagHeap<B>, meter: &mut Meter) -> Option<([Option<u32>; 3], u64)> {
+    if !heap.is_open() {
+        return None;
+    }
+    meter.lap();
+    let first = heap.length(Handle(0), meter.steps());
+    let second = heap.length(Handle(1), meter.steps());
+    let third = heap.length(Handle(2), meter.steps());
+    Some(([first, second, third], meter.lap()))
+}
+
+#[test]
+fn there_is_room_for_what_is_served(rt: HostRuntime) -> Result<(), Fail> {
+    let mut meter = Meter::new(&rt);
+    let mut tlsf = TlsfHeap::closed(rt.alloc());
+    assert_eq!(rt; room_steps(&mut tlsf, &mut meter), Some([0, 4, 2, 2, 0]));
+    assert_eq!(rt;
+        lengths(&tlsf, &mut meter),
+        Some(([Some(472), Some(0), None], 5))
+    );
+    let mut half = HalfFitHeap::closed(rt.alloc());
+    assert_eq!(rt; room_steps(&mut half, &mut meter), Some([0, 2, 2, 2, 0]));
+    assert_eq!(rt;
+        lengths(&half, &mut meter),
+        Some(([Some(472), Some(0), None], 5))
+    );
     Ok(())
 }

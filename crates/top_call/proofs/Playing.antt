@@ -12,14 +12,14 @@ use Rattle.run_model.specs.Sessions.{RunState, SessionState, fresh_session}
 use Rattle.script_loop.specs.OneManager.{one_manager}
 use Rattle.image_run.specs.Loads.{EndsLoad}
 use Rattle.image_run.specs.Saves.{EndsSave}
-use Rattle.script_loop.specs.ScriptOutcome.{Effects, MOST_BYTES, MeetsOutcome}
+use Rattle.script_loop.specs.ScriptOutcome.{Effects, HasCauses, MeetsOutcome, SinkState, SourceState}
 use Rattle.script_loop.specs.Semantics.{Semantics}
 use Rattle.side_by_side.proofs.CallerLemmas.{begun_many, chosen_first, chosen_kinds, chosen_none, first_within, with_first, with_none}
 use Rattle.side_by_side.specs.First.{chosen_of, first_of_kind, with_chosen}
 use Rattle.side_by_side.specs.Many.{AreFresh, Many, kinds_of, many_at, many_managers}
 use Rattle.bench_run.specs.Bench.{EndsBench}
 use Rattle.command_line.specs.declared.choice.Choice.{Choice}
-use Rattle.top_call.specs.TopOutcome.{Benches, Compares, Ends, Handed, Loads, OrLacks, PlaysOwn, Runs, Saves, SinkState, SourceState, effects_of, handed}
+use Rattle.top_call.specs.TopOutcome.{Benches, Compares, Ends, Handed, Loads, OrLacks, PlaysOwn, Runs, Saves, effects_of, handed}
 
 -- what a mode asks was done, and nothing was written where memory was wanting
 or_lacks : (Does : Handed → Status → Handed → Type 0) (old : Handed) (st : Status) (new : Handed)
@@ -33,19 +33,10 @@ or_lacks Does old WriteFault new silent done = done
 or_lacks Does old TooLong new silent done = done
 or_lacks Does old BadImage new silent done = done
 
--- the causes of how a script ended
-pub record HaveCauses (s : SourceState) (k : SinkState) (st : Status) (s' : SourceState) (k' : SinkState) : Type 0 where
-  pub silent : st ≡ OutOfMemory → k'.written ≡ k.written
-  pub source_same : st ≢ ReadFault → s'.faults ≡ s.faults
-  pub read_fault : st ≡ ReadFault → Rose s.faults s'.faults
-  pub sink_same : st ≢ WriteFault → k'.faults ≡ k.faults
-  pub write_fault : st ≡ WriteFault → Rose k.faults k'.faults
-  pub too_long : st ≡ TooLong → (s.given + MOST_BYTES < s'.given) ⊎ (s'.given ≡ last_count)
-
 -- what a mode asks was done, for these causes
 pub ends_of : (Does : Handed → Status → Handed → Type 0) (s : SourceState) (k : SinkState) (hs : List HeapState) (st : Status) (s' : SourceState)
     (k' : SinkState) (hs' : List HeapState)
-    → HaveCauses s k st s' k' → map (λ (h : HeapState). h.kind) hs' ≡ map (λ h. h.kind) hs → Does (handed s k hs) st (handed s' k' hs')
+    → HasCauses s k st s' k' → map (λ (h : HeapState). h.kind) hs' ≡ map (λ h. h.kind) hs → Does (handed s k hs) st (handed s' k' hs')
     → Ends Does (handed s k hs) st (handed s' k' hs')
 ends_of Does s k hs st s' k' hs' causes kinds done = record {
   outcome = or_lacks Does (handed s k hs) st (handed s' k' hs') causes.silent done;
@@ -57,7 +48,7 @@ ends_of Does s k hs st s' k' hs' causes kinds done = record {
   too_long = causes.too_long;
 }
 
-module _ (kind : Kind) (s s' : SourceState) (k k' : SinkState) (st : Status) (causes : HaveCauses s k st s' k') (session : SessionState) (end : RunState)
+module _ (kind : Kind) (s s' : SourceState) (k k' : SinkState) (st : Status) (causes : HasCauses s k st s' k') (session : SessionState) (end : RunState)
     (fresh : session ≡ fresh_session) where
   -- a script was played on one that was made for it
   pub own_ends : (old : HeapState) → old ≡ closed_state kind
@@ -129,7 +120,7 @@ module _ (kind : Kind) (s s' : SourceState) (k k' : SinkState) (hs : List HeapSt
   }
 
 -- a script was played on each of many
-pub each_ends : (s s' : SourceState) (k k' : SinkState) (st : Status) (causes : HaveCauses s k st s' k') → {X : Type 0} (f : X → HeapState)
+pub each_ends : (s s' : SourceState) (k k' : SinkState) (st : Status) (causes : HasCauses s k st s' k') → {X : Type 0} (f : X → HeapState)
     (ss : List SessionState) (ms : List X) → AreFresh (length ms) ss → (ss' : List SessionState) (ms' : List X)
     → kinds_of (many_at ss' (map f ms')) ≡ kinds_of (many_at ss (map f ms))
     → MeetsOutcome many_managers (many_at ss (map f ms)) (effects_of (handed s k (map f ms)) st (handed s' k' (map f ms'))) (many_at ss' (map f ms'))
@@ -191,7 +182,7 @@ module _ (choice : Choice) (k k' : SinkState) (st : Status) (session : SessionSt
 
 -- a script was played on a heap that was made for it
 pub made_ends : {S P : Type 0} (m : Semantics S P) (IsMade : S → Type 0) (s s' : SourceState) (k k' : SinkState) (hs : List HeapState) (st : Status)
-    → HaveCauses s k st s' k' → (begin end : S) → IsMade begin → MeetsOutcome m begin (effects_of (handed s k hs) st (handed s' k' hs)) end
+    → HasCauses s k st s' k' → (begin end : S) → IsMade begin → MeetsOutcome m begin (effects_of (handed s k hs) st (handed s' k' hs)) end
     → Ends (PlaysOwn m IsMade) (handed s k hs) st (handed s' k' hs)
 made_ends m IsMade s s' k k' hs st causes begin end made met = ends_of (PlaysOwn m IsMade) s k hs st s' k' hs causes refl
     (record { begin = begin; made = made; end = end; outcome = met; untouched = refl })
@@ -206,7 +197,7 @@ module _ (s s' : SourceState) (k k' : SinkState) (hs : List HeapState) (st : Sta
   call = effects_of (handed s k hs) st (handed s' k' hs)
 
   -- a script was saved
-  pub saved_ends : HaveCauses s k st s' k' → EndsSave (run_at session old) call end → Ends Saves (handed s k hs) st (handed s' k' hs)
+  pub saved_ends : HasCauses s k st s' k' → EndsSave (run_at session old) call end → Ends Saves (handed s k hs) st (handed s' k' hs)
   saved_ends causes ends = ends_of Saves s k hs st s' k' hs causes refl
       (record { end = end; outcome = subst (λ (from : RunState). EndsSave from call end) begun ends; untouched = refl })
 

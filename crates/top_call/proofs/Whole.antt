@@ -15,30 +15,32 @@ use Rattle.command_line.proofs.CallerLemmas.{one_choice}
 use Rattle.command_line.specs.Choices.{Chooses}
 use Rattle.command_line.specs.declared.choice.Choice.{Choice}
 use Rattle.command_line.specs.declared.choice.Mode.{Mode}
-use Rattle.command_line.specs.declared.choice.Mode.TheVariants.{Run}
-use Rattle.script_reader.specs.Items.{items}
+use Rattle.command_line.specs.declared.choice.Mode.TheVariants.{Compare, Run}
+use Rattle.script_reader.specs.Items.{Item, items}
 use Rattle.run_model.specs.Sessions.{RunState, fresh_session}
+use Rattle.run_model.specs.Texts.{Reply}
 use Rattle.headline_laws.proofs.CallerLemmas.{headline_met}
-use Rattle.script_loop.proofs.CallerLemmas.{transcript_told, wrote_all}
+use Rattle.headline_laws.specs.Headline.{MeetsHeadline}
+use Rattle.script_loop.proofs.CallerLemmas.{observed_row, some_row, wrote_by}
 use Rattle.script_loop.specs.Consequences.{AnswersAll}
 use Rattle.script_loop.specs.OneManager.{one_manager}
-use Rattle.script_loop.specs.ScriptOutcome.{Effects, IsClean, IsEnding, IsRow, IsRowOf, MOST_BYTES, MeetsOutcome, has_bad, items_within}
+use Rattle.script_loop.specs.ScriptOutcome.{Effects, IsClean, IsRow, MOST_BYTES, MeetsOutcome, Wrote, has_bad, items_within}
 use Rattle.script_loop.specs.Semantics.{Semantics}
 use Rattle.heap_image.specs.Decoded.{Decoded}
 use Rattle.heap_image.specs.Load.{LoadsBroken}
 use Rattle.image_run.specs.Saves.{unseen}
-use Rattle.side_by_side.proofs.CallerLemmas.{chosen_kind}
+use Rattle.side_by_side.proofs.CallerLemmas.{chosen_kind, headlines_met, own_of}
 use Rattle.side_by_side.specs.First.{chosen_of}
 use Rattle.side_by_side.specs.Many.{Many, fresh_many, many_managers}
+use Rattle.side_by_side.specs.Own.{MeetHeadlines}
 use Rattle.top_call.specs.TopOutcome.{Benches, Compares, DoesChosen, Ends, EndsWell, EndsWhole, Handed, HasRightInput, HoldsImage, InMode, IsRightInput, Loads}
-use Rattle.top_call.specs.TopOutcome.{OrLacks, PlaysOwn, Runs, Saves, TellsChosen, TellsHeadline, TellsInMode, effects_of}
+use Rattle.top_call.specs.TopOutcome.{OrLacks, PlaysOwn, Runs, Saves, TellsAs, TellsChosen, TellsInMode, effects_of, kinds_in}
 
 -- no script ends by `Words`
-never_words : {S P : Type 0} (m : Semantics S P) (from to : S) (had left : Option (List ℕ)) (call : Effects) → call.status ≡ Words
-    → IsRowOf m from had left call to → ⊥
-never_words m from to (Some all) (Some left) call is met = subst (λ (st : Status). IsRow m st from all left call to) is met
-never_words m from to (Some all) None call is met = met
-never_words m from to None left call is met = subst IsEnding is met
+never_words : {S P : Type 0} (m : Semantics S P) (from to : S) (call : Effects) → call.status ≡ Words → MeetsOutcome m from call to → ⊥
+never_words m from to call is met =
+    let row = some_row m from to call met in
+    subst (λ (st : Status). IsRow m st from row.0 row.1 call to) is row.2
 
 -- A mode was chosen.
 module _ (words : List Text) (choice : Choice) (mode : Mode) (chosen : Chooses words choice) (is : choice.mode ≡ mode) where
@@ -62,8 +64,12 @@ module _ (words : List Text) (choice : Choice) (mode : Mode) (chosen : Chooses w
       go BadImage done = done_so old BadImage new done
 
   -- and what it claims of its output holds
-  pub mode_tells : (call : Effects) → TellsInMode mode choice.kind call → TellsChosen words call
-  mode_tells call tells = record { choice = choice; chosen = chosen; tells = subst (λ (m : Mode). TellsInMode m choice.kind call) (sym is) tells }
+  pub mode_tells : (kinds : List Kind) (call : Effects) → TellsInMode mode choice.kind kinds call → TellsChosen words kinds call
+  mode_tells kinds call tells = record {
+    choice = choice;
+    chosen = chosen;
+    tells = subst (λ (m : Mode). TellsInMode m choice.kind kinds call) (sym is) tells;
+  }
 
 within_all : (all : List ℕ) → length all ≤ MOST_BYTES → items_within all ≡ items all true
 within_all all fits = ap (λ (l : List ℕ). items l (nat_le (length all) MOST_BYTES)) (take_all MOST_BYTES all fits)
@@ -83,13 +89,16 @@ row_whole m from to all left call TooLong a b d e row read wrote clean sure firm
 row_whole m from to all left call ReadFault a b d e row read wrote clean sure firm = absurd (sure (read refl))
 row_whole m from to all left call WriteFault a b d e row read wrote clean sure firm = absurd (firm (wrote refl))
 
-pub met_whole : {S P : Type 0} (m : Semantics S P) (from to : S) (had left : Option (List ℕ)) (call : Effects) (a b d e : ℕ)
-    → IsRowOf m from had left call to → (call.status ≡ ReadFault → Rose a b) → (call.status ≡ WriteFault → Rose d e)
-    → IsClean had → ¬ Rose a b → ¬ Rose d e → EndsWhole call.status
-met_whole m from to None left call a b d e met read wrote clean sure firm = absurd clean
-met_whole m from to (Some all) None call a b d e met read wrote clean sure firm = absurd met
-met_whole m from to (Some all) (Some left) call a b d e met read wrote clean sure firm =
-    row_whole m from to all left call call.status a b d e met read wrote clean sure firm
+pub met_whole : {S P : Type 0} (m : Semantics S P) (from to : S) (call : Effects) (a b d e : ℕ)
+    → MeetsOutcome m from call to → (call.status ≡ ReadFault → Rose a b) → (call.status ≡ WriteFault → Rose d e)
+    → IsClean call.had → ¬ Rose a b → ¬ Rose d e → EndsWhole call.status
+met_whole m from to call a b d e met read wrote clean sure firm = go call.had refl clean
+  where
+    go : (had : Option (List ℕ)) → had ≡ call.had → IsClean had → EndsWhole call.status
+    go None is clean = absurd clean
+    go (Some all) is clean =
+        let row = observed_row m from to call all (sym is) met in
+        row_whole m from to all row.0 call call.status a b d e row.1 read wrote clean sure firm
 
 -- A mode that plays a script.
 module _ {S P : Type 0} (m : Semantics S P) (Does : Handed → Status → Handed → Type 0)
@@ -97,7 +106,7 @@ module _ {S P : Type 0} (m : Semantics S P) (Does : Handed → Status → Handed
   pub script_never_words : (old new : Handed) → Does old Words new → ⊥
   script_never_words old new done =
       let outcome = met old Words new done in
-      never_words m outcome.0.0 outcome.0.1 old.source.rest new.source.rest (effects_of old Words new) refl outcome.1
+      never_words m outcome.0.0 outcome.0.1 (effects_of old Words new) refl outcome.1
 
   pub script_whole : (old : Handed) (st : Status) (new : Handed) → Ends Does old st new → IsClean old.source.rest
       → ¬ Rose old.source.faults new.source.faults → ¬ Rose old.sink.faults new.sink.faults → EndsWhole st
@@ -107,7 +116,7 @@ module _ {S P : Type 0} (m : Semantics S P) (Does : Handed → Status → Handed
           → (st ≡ WriteFault → Rose old.sink.faults new.sink.faults) → EndsWhole st
       row st done read wrote =
           let outcome = met old st new done in
-          met_whole m outcome.0.0 outcome.0.1 old.source.rest new.source.rest (effects_of old st new) _ _ _ _ outcome.1 read wrote clean sure firm
+          met_whole m outcome.0.0 outcome.0.1 (effects_of old st new) _ _ _ _ outcome.1 read wrote clean sure firm
 
       go : (st : Status) → OrLacks Does old st new → (st ≡ ReadFault → Rose old.source.faults new.source.faults)
           → (st ≡ WriteFault → Rose old.sink.faults new.sink.faults) → EndsWhole st
@@ -119,6 +128,15 @@ module _ {S P : Type 0} (m : Semantics S P) (Does : Handed → Status → Handed
       go WriteFault done read wrote = row WriteFault done read wrote
       go TooLong done read wrote = row TooLong done read wrote
       go BadImage done read wrote = row BadImage done read wrote
+
+-- What was written of all the items is as claimed.
+claim_of : {S P : Type 0} (m : Semantics S P) (from to : S) (Claim : List Item → List Reply → Type 0)
+    → ((wanted : List Item) (call : Effects) (w : Wrote m from wanted call to) → Claim wanted w.replies)
+    → (call : Effects) (had : Option (List ℕ)) → had ≡ call.had → MeetsOutcome m from call to → AnswersAll call.status → TellsAs Claim had call
+claim_of m from to Claim claims call None told met is = tt
+claim_of m from to Claim claims call (Some all) told met is =
+    let w = wrote_by m from to call all (sym told) met is in
+    record { replies = w.replies; printed = w.written; claimed = claims (items_within all) call w }
 
 -- Mode `run`.
 module _ (kind : Kind) where
@@ -133,22 +151,14 @@ module _ (kind : Kind) where
       → ¬ Rose old.source.faults new.source.faults → ¬ Rose old.sink.faults new.sink.faults → EndsWhole st
   run_whole = script_whole one_manager (Runs kind) run_met
 
-  headline_of : (from to : RunState) (call : Effects) (had : Option (List ℕ)) → had ≡ call.had → MeetsOutcome one_manager from call to
-      → AnswersAll call.status → TellsHeadline from.heap.kind had call
-  headline_of from to call None told met is = tt
-  headline_of from to call (Some all) told met is =
-      let w = wrote_all from to call all (sym told) met is in
-      record { replies = w.replies; printed = w.written; headline = headline_met from.heap.kind (items_within all) w.replies w.end w.run }
-
-  told : (old : Handed) (st : Status) (new : Handed) → Runs kind old st new → AnswersAll st → TellsInMode Run kind (effects_of old st new)
+  told : (old : Handed) (st : Status) (new : Handed) → Runs kind old st new → AnswersAll st → TellsInMode Run kind (kinds_in old) (effects_of old st new)
   told old st new done is =
-      let from = run_at fresh_session (chosen_of kind old.managers) in
-      let call = effects_of old st new in
-      subst (λ (k : Kind). TellsInMode Run k call) (chosen_kind kind old.managers)
-      (headline_of from done.end call call.had refl done.outcome is, transcript_told from done.end call done.outcome is)
+      subst (λ (k : Kind). TellsInMode Run k (kinds_in old) (effects_of old st new)) (chosen_kind kind old.managers)
+      (claim_of one_manager (run_at fresh_session (chosen_of kind old.managers)) done.end (MeetsHeadline (chosen_of kind old.managers).kind)
+      (λ wanted call w. headline_met (chosen_of kind old.managers).kind wanted w.replies w.end w.run) (effects_of old st new) old.source.rest refl done.outcome is)
 
   pub run_told : (old : Handed) (st : Status) (new : Handed) → OrLacks (Runs kind) old st new → AnswersAll st
-      → TellsInMode Run kind (effects_of old st new)
+      → TellsInMode Run kind (kinds_in old) (effects_of old st new)
   run_told old Done new done is = told old Done new done is
   run_told old BadScript new done is = told old BadScript new done is
   run_told old TooLong new done is = told old TooLong new done is
@@ -169,6 +179,23 @@ compare_never_words = script_never_words many_managers Compares compare_met
 pub compare_whole : (old : Handed) (st : Status) (new : Handed) → Ends Compares old st new → IsClean old.source.rest
     → ¬ Rose old.source.faults new.source.faults → ¬ Rose old.sink.faults new.sink.faults → EndsWhole st
 compare_whole = script_whole many_managers Compares compare_met
+
+both_told : (kind : Kind) (old : Handed) (st : Status) (new : Handed) → Compares old st new → AnswersAll st
+    → TellsInMode Compare kind (kinds_in old) (effects_of old st new)
+both_told kind old st new done is = claim_of many_managers (fresh_many old.managers) done.end (MeetHeadlines (kinds_in old))
+    (λ wanted call w. headlines_met (kinds_in old) wanted w.replies _ (own_of (fresh_many old.managers) done.end wanted call w))
+    (effects_of old st new) old.source.rest refl done.outcome is
+
+pub compare_told : (kind : Kind) (old : Handed) (st : Status) (new : Handed) → OrLacks Compares old st new → AnswersAll st
+    → TellsInMode Compare kind (kinds_in old) (effects_of old st new)
+compare_told kind old Done new done is = both_told kind old Done new done is
+compare_told kind old BadScript new done is = both_told kind old BadScript new done is
+compare_told kind old TooLong new done is = both_told kind old TooLong new done is
+compare_told kind old Words new done is = absurd is
+compare_told kind old ReadFault new done is = absurd is
+compare_told kind old WriteFault new done is = absurd is
+compare_told kind old OutOfMemory new done is = absurd is
+compare_told kind old BadImage new done is = absurd is
 
 -- Mode `bench`.
 module _ (choice : Choice) where
@@ -200,7 +227,7 @@ module _ {S P : Type 0} (m : Semantics S P) (IsMade : S → Type 0) where
 -- Mode `save`.
 pub save_never_words : (old new : Handed) → Saves old Words new → ⊥
 save_never_words old new done =
-    never_words one_manager (run_at fresh_session (closed_state Moving)) done.end old.source.rest new.source.rest (unseen (effects_of old Words new)) refl
+    never_words one_manager (run_at fresh_session (closed_state Moving)) done.end (unseen (effects_of old Words new)) refl
     done.outcome.script
 
 pub save_whole : (old : Handed) (st : Status) (new : Handed) → Ends Saves old st new → IsClean old.source.rest
@@ -214,11 +241,11 @@ save_whole old st new ends clean sure firm = go st ends.outcome ends.read_fault 
     go WriteFault done read wrote = absurd (firm (wrote refl))
     go ReadFault done read wrote = absurd (sure (read refl))
     go Words done read wrote = absurd (save_never_words old new done)
-    go BadScript done read wrote = met_whole one_manager (run_at fresh_session (closed_state Moving)) done.end old.source.rest new.source.rest
+    go BadScript done read wrote = met_whole one_manager (run_at fresh_session (closed_state Moving)) done.end
         (unseen (effects_of old BadScript new)) _ _ _ _ done.outcome.script read wrote clean sure firm
-    go TooLong done read wrote = met_whole one_manager (run_at fresh_session (closed_state Moving)) done.end old.source.rest new.source.rest
+    go TooLong done read wrote = met_whole one_manager (run_at fresh_session (closed_state Moving)) done.end
         (unseen (effects_of old TooLong new)) _ _ _ _ done.outcome.script read wrote clean sure firm
-    go BadImage done read wrote = met_whole one_manager (run_at fresh_session (closed_state Moving)) done.end old.source.rest new.source.rest
+    go BadImage done read wrote = met_whole one_manager (run_at fresh_session (closed_state Moving)) done.end
         (unseen (effects_of old BadImage new)) _ _ _ _ done.outcome.script read wrote clean sure firm
 
 -- Mode `load`.

@@ -18,9 +18,9 @@ use Rattle.script_reader.specs.Items.{Item}
 use Rattle.run_model.specs.Sessions.{RunState, fresh_session}
 use Rattle.run_model.specs.Texts.{Reply, text_of}
 use Rattle.headline_laws.specs.Headline.{MeetsHeadline}
-use Rattle.script_loop.specs.Consequences.{AnswersAll, TellsTranscript}
+use Rattle.script_loop.specs.Consequences.{AnswersAll}
 use Rattle.script_loop.specs.OneManager.{one_manager}
-use Rattle.script_loop.specs.ScriptOutcome.{Effects, IsClean, MOST_BYTES, MeetsOutcome, items_within}
+use Rattle.script_loop.specs.ScriptOutcome.{Effects, IsClean, MOST_BYTES, MeetsOutcome, SinkState, SourceState, effects, items_within}
 use Rattle.script_loop.specs.Semantics.{Semantics}
 use Rattle.heap_image.specs.Decoded.{IsImage}
 use Rattle.image_run.specs.Loads.{EndsLoad}
@@ -32,25 +32,9 @@ use Rattle.quota_session.specs.Playing.{quota_tasks}
 use Rattle.quota_session.specs.QuotaRun.{QuotaRun, first_session, quota_run}
 use Rattle.side_by_side.specs.First.{chosen_of, with_chosen}
 use Rattle.side_by_side.specs.Many.{Many, fresh_many, many_managers}
+use Rattle.side_by_side.specs.Own.{MeetHeadlines}
 use Rattle.slice_session.specs.Playing.{SlicePlay, slice_play, slices}
 use Rattle.sliced_heap.specs.Shown as sliced_state
-
--- what a source tells: the bytes that it has left, where it is observable, how many it gave, and how often it failed
-pub record SourceState : Type 0 where
-  pub rest : Option (List ℕ)
-  pub given : ℕ
-  pub faults : ℕ
-
-abbrev pub source_at : Option (List ℕ) → ℕ → ℕ → SourceState
-source_at rest given faults = record { rest = rest; given = given; faults = faults }
-
--- what a sink tells: the bytes written, where it is observable, and how often it failed
-pub record SinkState : Type 0 where
-  pub written : Option (List ℕ)
-  pub faults : ℕ
-
-abbrev pub sink_at : Option (List ℕ) → ℕ → SinkState
-sink_at written faults = record { written = written; faults = faults }
 
 -- what a call is handed: a source, a sink, and managers
 pub record Handed : Type 0 where
@@ -63,8 +47,7 @@ handed source sink managers = record { source = source; sink = sink; managers = 
 
 -- the bytes that were taken and written meanwhile
 abbrev pub effects_of : Handed → Status → Handed → Effects
-effects_of old status new =
-    record { had = old.source.rest; left = new.source.rest; before = old.sink.written; after = new.sink.written; status = status }
+effects_of old status new = effects old.source old.sink status new.source new.sink
 
 -- Mode `run`: the first manager of the kind answers the script, in a session of its own, and stands where its run led it; no other one is touched. Where none
 -- is of the kind, one that was never open is made for it.
@@ -173,31 +156,32 @@ pub record Ends (Does : Handed → Status → Handed → Type 0) (old : Handed) 
   pub write_fault : status ≡ WriteFault → Rose old.sink.faults new.sink.faults
   pub too_long : status ≡ TooLong → (old.source.given + MOST_BYTES < new.source.given) ⊎ (new.source.given ≡ last_count)
 
--- replies to all the items of a script were printed, and they meet the headline
-pub record PrintsHeadline (kind : Kind) (wanted : List Item) (call : Effects) : Type 0 where
+-- replies to all the items of a script were printed, and they are as claimed
+pub record PrintsAs (Claim : List Item → List Reply → Type 0) (wanted : List Item) (call : Effects) : Type 0 where
   pub replies : List Reply
   pub printed : call.after ≡ appended call.before (text_of [] replies)
-  pub headline : MeetsHeadline kind wanted replies
+  pub claimed : Claim wanted replies
 
--- what is printed of the bytes that a source had meets the headline, where the source is observable
-abbrev pub TellsHeadline : Kind → Option (List ℕ) → Effects → Type 0
-TellsHeadline kind None call = ⊤
-TellsHeadline kind (Some all) call = PrintsHeadline kind (items_within all) call
+-- if the source is observable, what is printed of the bytes that it had is as claimed
+abbrev pub TellsAs : (List Item → List Reply → Type 0) → Option (List ℕ) → Effects → Type 0
+TellsAs Claim None call = ⊤
+TellsAs Claim (Some all) call = PrintsAs Claim (items_within all) call
 
--- by the mode: what is printed meets the headline, and over plain items it is their transcript
-abbrev pub TellsInMode : Mode → Kind → Effects → Type 0
-TellsInMode Run kind call = TellsHeadline kind call.had call × TellsTranscript kind call.had call
-TellsInMode mode kind call = ⊤
+-- by the mode: the replies meet the headline; side by side they are woven of each manager's own, which meet it
+abbrev pub TellsInMode : Mode → Kind → List Kind → Effects → Type 0
+TellsInMode Run kind kinds call = TellsAs (MeetsHeadline kind) call.had call
+TellsInMode Compare kind kinds call = TellsAs (MeetHeadlines kinds) call.had call
+TellsInMode mode kind kinds call = ⊤
 
--- the same, of what the words choose
-pub record TellsChosen (words : List Text) (call : Effects) : Type 0 where
+-- the same, of what the words choose and the kinds of the managers handed in
+pub record TellsChosen (words : List Text) (kinds : List Kind) (call : Effects) : Type 0 where
   pub choice : Choice
   pub chosen : Chooses words choice
-  pub tells : TellsInMode choice.mode choice.kind call
+  pub tells : TellsInMode choice.mode choice.kind kinds call
 
--- where every item within the limit was answered, the output meets the headline, and over plain items it is their transcript, however the source was cut
+-- where every item within the limit was answered, the output is as claimed, however the source was cut
 abbrev pub TellsAsClaimed : List Text → Handed → Status → Handed → Type 0
-TellsAsClaimed words old status new = AnswersAll status → TellsChosen words (effects_of old status new)
+TellsAsClaimed words old status new = AnswersAll status → TellsChosen words (kinds_in old) (effects_of old status new)
 
 -- the source is observable, and its bytes are an image
 abbrev pub HoldsImage : Option (List ℕ) → Type 0

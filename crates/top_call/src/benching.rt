@@ -1,7 +1,8 @@
 //! Mode `bench`.
 ghost use Rattle.std.specs.Prelude.{List};
 ghost use Rattle.cf_model.specs.State.{HeapState};
-ghost use Rattle.top_call.specs.TopOutcome.{Benches, Ends, SourceState, handed, sink_at};
+ghost use Rattle.script_loop.specs.ScriptOutcome.{SourceState, sink_at};
+ghost use Rattle.top_call.specs.TopOutcome.{Benches, Ends, handed};
 
 use bench_run::run_bench;
 use cf_base::{Kind, Status};

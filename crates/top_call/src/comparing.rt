@@ -1,6 +1,7 @@
 //! Mode `compare`.
 ghost use Rattle.std.specs.Prelude.{map};
-ghost use Rattle.top_call.specs.TopOutcome.{Compares, Ends, handed, sink_at, source_at};
+ghost use Rattle.script_loop.specs.ScriptOutcome.{sink_at, source_at};
+ghost use Rattle.top_call.specs.TopOutcome.{Compares, Ends, handed};
 
 use cf_base::Status;
 use cf_io::{Sink, Source};

@@ -3,7 +3,8 @@
 ghost use Rattle.std.specs.Prelude.{◌≡◌, List};
 ghost use Rattle.cf_base.specs.declared.kind.Kind.TheVariants.{Moving};
 ghost use Rattle.cf_model.specs.State.{HeapState, closed_state};
-ghost use Rattle.top_call.specs.TopOutcome.{Ends, Loads, Saves, handed, sink_at, source_at};
+ghost use Rattle.script_loop.specs.ScriptOutcome.{sink_at, source_at};
+ghost use Rattle.top_call.specs.TopOutcome.{Ends, Loads, Saves, handed};
 
 use crate::boxed::Boxed;
 use cf_base::Status;

@@ -1,7 +1,8 @@
 //! Mode `quota`.
 ghost use Rattle.std.specs.Prelude.{List};
 ghost use Rattle.cf_model.specs.State.{HeapState};
-ghost use Rattle.top_call.specs.TopOutcome.{Ends, PlaysQuotas, handed, sink_at, source_at};
+ghost use Rattle.script_loop.specs.ScriptOutcome.{sink_at, source_at};
+ghost use Rattle.top_call.specs.TopOutcome.{Ends, PlaysQuotas, handed};
 
 use cf_base::Status;
 use cf_io::{Sink, Source};

@@ -2,7 +2,8 @@
 ghost use Rattle.std.specs.Prelude.{◌≡◌, [], map};
 ghost use Rattle.cf_model.specs.State.{closed_state};
 ghost use Rattle.run_model.specs.Sessions.{fresh_session};
-ghost use Rattle.top_call.specs.TopOutcome.{Ends, Runs, handed, sink_at, source_at};
+ghost use Rattle.script_loop.specs.ScriptOutcome.{sink_at, source_at};
+ghost use Rattle.top_call.specs.TopOutcome.{Ends, Runs, handed};
 
 use crate::boxed::Boxed;
 use cf_base::{Kind, Status};

@@ -1,8 +1,8 @@
 //! The top call.
 ghost use Rattle.std.specs.Prelude.{◌≡◌, ◌<◌, ◌+◌, ◌⊎◌, map, string_bytes, ◌≢◌};
 ghost use Rattle.cf_io.specs.Feeds.{Rose, last_count};
-ghost use Rattle.script_loop.specs.ScriptOutcome.{MOST_BYTES};
-ghost use Rattle.top_call.specs.TopOutcome.{EndsWell, EndsWhole, HasRightInput, TellsAsClaimed, handed, sink_at, source_at};
+ghost use Rattle.script_loop.specs.ScriptOutcome.{MOST_BYTES, sink_at, source_at};
+ghost use Rattle.top_call.specs.TopOutcome.{EndsWell, EndsWhole, HasRightInput, TellsAsClaimed, handed};
 
 use crate::benching::bench;
 use crate::comparing::compare;

@@ -1,9 +1,5 @@
 pub mod ByIds
 pub mod PagesAtOne
-pub mod Faults
-pub mod Reports
-pub mod Following
-pub mod Telling
-pub mod Further
+pub mod BoundsAtOne
 pub mod Worked
 pub mod CallerLemmas

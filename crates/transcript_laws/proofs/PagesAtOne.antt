@@ -1,6 +1,6 @@
 -- The figures where every bound is 1.
-use Rattle.std.proofs.Common.{◌≡◌, ℕ, zero, suc, ◌+◌, ◌-◌, ◌*◌, ◌%◌, ◌<◌, ◌≤◌, length, arith, sym, ◌∙◌, ap, subst, cond}
-use Rattle.std.specs.Prelude.{nat_eq}
+use Rattle.std.proofs.Common.{◌≡◌, ℕ, zero, suc, ◌+◌, ◌-◌, ◌*◌, ◌%◌, ◌<◌, ◌≤◌, Bool, true, false, ◌∷◌, length, map, arith, sym, ◌∙◌, ap, refl, subst, cond}
+use Rattle.std.specs.Prelude.{filter, nat_eq}
 use Rattle.std.specs.List.{range_with_len}
 use Rattle.std.proofs.lemmas.Nat.{mod-mul-add}
 use Rattle.std.proofs.Math.Nat.{mul-mod_left}
@@ -101,3 +101,18 @@ module _ (p : Paging) (m n : Objects) (a : CountAlike m n) where
     free = p.pages - needed_alike i;
     largest = cond (nat_eq (p.pages - needed_alike i) 0) 0 p.page_words;
   }
+
+-- what is said of the numbers of a range that pass a test, where both functions and both tests agree
+module _ {X : Type 0} (f g : ℕ → X) (t u : ℕ → Bool) where
+  pub said_alike : (a n : ℕ) → ((d : ℕ) → d < a + n → f d ≡ g d) → ((d : ℕ) → t d ≡ u d)
+      → map f (filter t (range_with_len a n)) ≡ map g (filter u (range_with_len a n))
+  said_alike a zero same test = refl
+  said_alike a (suc n) same test = go (t a) (u a) (test a) (said_alike (a + 1) n (λ d lt. same d (omega arith)) test)
+    where
+      go : (x y : Bool) → x ≡ y → map f (filter t (range_with_len (a + 1) n)) ≡ map g (filter u (range_with_len (a + 1) n))
+          → map f (cond x (a ∷ filter t (range_with_len (a + 1) n)) (filter t (range_with_len (a + 1) n))) ≡ map g
+          (cond y (a ∷ filter u (range_with_len (a + 1) n)) (filter u (range_with_len (a + 1) n)))
+      go true true e rest = λ i. same a (omega arith) i ∷ rest i
+      go true false e rest = absurd (let z : true ≡ false = e in cc)
+      go false true e rest = absurd (let z : false ≡ true = e in cc)
+      go false false e rest = rest

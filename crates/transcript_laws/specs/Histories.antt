@@ -3,21 +3,16 @@ use Rattle.std.specs.Prelude.{◌≡◌, ⊤, ℕ, List, [], ◌∷◌, Option, 
 use Rattle.std.specs.Option.{unwrap_or}
 use Rattle.std.specs.FinMap.{get}
 use Rattle.cf_lemmas.specs.Maps.{map_values}
-use Rattle.page_model.specs.Held.{Objects, Placed, objects}
+use Rattle.page_model.specs.Held.{Objects, Placed}
 use Rattle.script_reader.specs.Items.{Item, asks, starts}
 use Rattle.script_reader.specs.declared.command.Command.TheVariants.{Bound}
 use Rattle.run_model.specs.Replies.{object_of}
 use Rattle.run_model.specs.Sessions.{Ids, RunState}
-use Rattle.transcript_laws.specs.ById.{ById}
 use Rattle.transcript_laws.specs.Transcripts.{IsPlaceless}
 
 -- under each id the bytes that stand under its number
 abbrev pub objects_by_id : Ids → Objects → Objects
 objects_by_id ids m = map_values (λ h. unwrap_or (get m h) []) ids
-
--- a run at one moment, without addresses and numbers
-abbrev pub by_id : RunState → ById
-by_id s = record { kind = s.heap.kind; profile = s.heap.profile; bounds = s.heap.bounds; objects = objects_by_id s.session.ids (objects s.heap.held) }
 
 -- the bytes of the object that an id names, where it is live
 abbrev pub bytes_of : RunState → ℕ → Option (List ℕ)

@@ -1,4 +1,4 @@
--- Whole blocks that are cleared or moved, as their virtual words see it.
+-- Clearing and moving whole blocks, as changes of virtual words.
 use Rattle.std.proofs.Common.{◌≡◌, ◌≢◌, ℕ, ◌+◌, ◌*◌, ◌/◌, ◌%◌, ◌<◌, ◌≤◌, inl, inr, List, length, get_or, take, drop, arith, sym, ◌∙◌, ap}
 use Rattle.std.proofs.lemmas.Bool.{cases_lt}
 use Rattle.std.proofs.lemmas.List.{get_or-take, get_or-drop}
@@ -26,7 +26,7 @@ module _ (t : Table) (h : IsBlockTable t) (v n : ℕ) (fits : v + n ≤ length t
       let a = entry_at k lt in let b = entry_at l lt' in
       frames_differ t h (v + k) (v + l) (omega arith) (omega arith) (λ f. ne (omega arith)) (omega arith)
 
-  -- the place of one of their words
+  -- the place of a word of these blocks
   pub word_place : (i : ℕ) → i < 4 * n → stand t.frames (4 * v + i) ≡ 4 * get_or part (i / 4) 0 + i % 4
   word_place i lt =
       let e = entry_at (i / 4) (omega arith) in

@@ -1,4 +1,4 @@
--- Bytes that are written over others, cell by cell.
+-- Overwriting bytes, word by word.
 use Rattle.std.proofs.Common.{◌≡◌, ℕ, zero, suc, ◌+◌, ◌-◌, ◌/◌, ◌%◌, ◌<◌, ◌≤◌, true, false, List, [], ◌∷◌, length, get_or, set, take, drop, arith, lit<, ◌^◌, sym, ◌∙◌}
 use Rattle.std.proofs.Common.{inl, inr, ap, refl}
 use Rattle.std.specs.Prelude.{◌⊎◌, nat_le, nat_lt}
@@ -27,7 +27,7 @@ module _ (f : ℕ → ℕ) (at : ℕ) (part : List ℕ) (k : ℕ) where
       let b : nat_lt k (at + length part) ≡ false = grind (arith, nat_tests) in
       rw (a, b) refl
 
--- what the first `done` bytes do, and those after them
+-- the first `done` bytes are written, then the n after them
 module _ (f : ℕ → ℕ) (at done n : ℕ) (bytes : List ℕ) (fits : done + n ≤ length bytes) (k : ℕ) where
   len_done : length (take done bytes) ≡ done
   len_done = (let l = length-take done bytes in omega arith)
@@ -35,13 +35,13 @@ module _ (f : ℕ → ℕ) (at done n : ℕ) (bytes : List ℕ) (fits : done + n
   len_more : length (take (done + n) bytes) ≡ done + n
   len_more = (let l = length-take (done + n) bytes in omega arith)
 
-  -- the next n bytes
+  -- a byte within the next n bytes
   pub next_inside : at + done ≤ k → k < at + done + n → overwritten f at (take (done + n) bytes) k ≡ get_or bytes (k - at) 0
   next_inside low high =
       let l = len_more in
       overwritten_inside f at (take (done + n) bytes) k (omega arith) (omega arith) ∙ get_or-take (done + n) bytes (k - at) 0 (omega arith)
 
-  -- all others
+  -- a byte outside of them
   pub next_outside : (k < at + done) ⊎ (at + done + n ≤ k) → overwritten f at (take (done + n) bytes) k ≡ overwritten f at (take done bytes) k
   next_outside out = (let l = len_more in let d = len_done in elim (cases_lt k at) [
     | inl before ↦ overwritten_before f at (take (done + n) bytes) k before ∙ sym (overwritten_before f at (take done bytes) k before)
@@ -52,7 +52,7 @@ module _ (f : ℕ → ℕ) (at done n : ℕ) (bytes : List ℕ) (fits : done + n
     ]
   ])
 
--- one cell is patched
+-- one word is patched
 pub cell_written : (old words : List ℕ) (at done n word : ℕ) (bytes : List ℕ) → done + n ≤ length bytes → (at + done) % 8 + n ≤ 8
     → (at + done) / 8 < length words
     → ((k : ℕ) → byte_in words k ≡ overwritten (byte_in old) at (take done bytes) k)
@@ -96,7 +96,7 @@ none_overwritten f at bytes k = elim (cases_lt k at) [
   | inr from ↦ overwritten_behind f at (take 0 bytes) k (let e = length-take 0 bytes in omega arith)
 ]
 
--- the same, where the cell, the byte in it and the part are given
+-- the same with the word, the byte in it and the part given by equations
 pub cell_put : (old words : List ℕ) (at done n more cell from word : ℕ) (part bytes : List ℕ) → more ≡ done + n → cell ≡ (at + done) / 8
     → from ≡ (at + done) % 8 → part ≡ take n (drop done bytes) → more ≤ length bytes → from + n ≤ 8 → cell < length words
     → ((k : ℕ) → byte_in words k ≡ overwritten (byte_in old) at (take done bytes) k)
@@ -106,7 +106,7 @@ cell_put old words at done n more cell from word part bytes is_more is_cell is_f
     rw (is_more, is_cell) (cell_written old words at done n word bytes (omega arith) (omega arith) (omega arith) so_far
     (λ j l. rw (is_cell, is_from, is_part) at (patch j l)) k)
 
--- the bytes of a word, as std has them
+-- byte j of a word, as the standard library defines it
 pub cell_byte : (w j : ℕ) → j < 8 → get_or (to_le_bytes w64 w) j 0 ≡ byte_of j w
 cell_byte w zero lt = refl
 cell_byte w (suc zero) lt = omega arith
@@ -118,7 +118,7 @@ cell_byte w (suc (suc (suc (suc (suc (suc zero)))))) lt = omega arith
 cell_byte w (suc (suc (suc (suc (suc (suc (suc zero))))))) lt = omega arith
 cell_byte w (suc (suc (suc (suc (suc (suc (suc (suc j)))))))) lt = absurd (omega arith)
 
--- a word whose bytes were written over
+-- a word after some of its bytes are overwritten
 pub word_patched : (word from result : ℕ) (cell part : List ℕ) → word < 2 ^ 64 → from + length part ≤ 8 → AreBytes part
     → cell ≡ written (to_le_bytes w64 word) from part → result ≡ from_le_bytes w64 cell
     → (j : ℕ) → j < 8 → byte_of j result ≡ overwritten (λ k. byte_of k word) from part j
@@ -171,7 +171,7 @@ word_from part result bytes gives j lt =
     ] in
     sym (cell_byte result j lt) ∙ ap (λ xs. get_or xs j 0) (le_bytes_8 (cell_of part) result refl good gives) ∙ cell_same part j lt
 
--- it is written over all bytes of another one
+-- eight bytes overwrite all bytes of a word
 pub all_overwritten : (f : ℕ → ℕ) (word : ℕ) (part : List ℕ) → length part ≡ 8 → ((j : ℕ) → j < 8 → byte_of j word ≡ get_or part j 0)
     → (j : ℕ) → j < 8 → byte_of j word ≡ overwritten f 0 part j
 all_overwritten f word part long each j lt =

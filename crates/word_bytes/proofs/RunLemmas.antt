@@ -1,4 +1,4 @@
--- Bytes of a run of words, and what a borrow of them leaves.
+-- The bytes of a run of words, and what a borrow of them leaves.
 use Rattle.std.proofs.Common.{◌≡◌, ℕ, zero, suc, ◌+◌, ◌-◌, ◌*◌, ◌/◌, ◌%◌, ◌^◌, ◌<◌, ◌≤◌, List, length, get_or, set, take, drop, arith}
 use Rattle.std.proofs.Common.{◌∙◌, ap, inl, inr, sym}
 use Rattle.std.specs.Prelude.{◌&&◌, nat_le, nat_lt, if◌then◌else◌}
@@ -11,7 +11,7 @@ use Rattle.word_bytes.specs.Cells.{byte_in, overwritten}
 use Rattle.word_bytes.specs.Overwriting.{Overwrites, byte_from}
 use Rattle.word_bytes.proofs.Overwriting.{overwritten_before, overwritten_behind, overwritten_inside}
 
--- the low bytes of a number are those of its word
+-- reduction to 64 bits keeps the low eight bytes
 byte_mod : (j w : ℕ) → j < 8 → byte_of j (w % 2 ^ 64) ≡ byte_of j w
 byte_mod zero w lt = omega arith
 byte_mod (suc zero) w lt = omega arith
@@ -23,7 +23,7 @@ byte_mod (suc (suc (suc (suc (suc (suc zero)))))) w lt = omega arith
 byte_mod (suc (suc (suc (suc (suc (suc (suc zero))))))) w lt = omega arith
 byte_mod (suc (suc (suc (suc (suc (suc (suc (suc j)))))))) w lt = absurd (omega arith)
 
--- byte k of words that are borrowed
+-- byte k of borrowed words
 pub lent_byte : (words : List ℕ) (first n k : ℕ) → k < 8 * n → byte_in (take n (drop first words)) k ≡ byte_from words first k
 lent_byte words first n k lt = ap (byte_of (k % 8)) (get_or-take n (drop first words) (k / 8) 0 (omega arith) ∙ get_or-drop first words (k / 8) 0)
 
@@ -34,11 +34,11 @@ byte_shift words first d k le =
     let rest : (k - 8 * d) % 8 ≡ k % 8 = omega arith in
     ap (λ (i : ℕ). byte_of ((k - 8 * d) % 8) (get_or words i 0)) cell ∙ ap (λ (i : ℕ). byte_of i (get_or words (first + k / 8) 0)) rest
 
--- with a byte that is the same where nothing is written
+-- the overwritten byte is the same if the byte below is
 pub overwritten_same : (f g : ℕ → ℕ) (at : ℕ) (part : List ℕ) (k : ℕ) → f k ≡ g k → overwritten f at part k ≡ overwritten g at part k
 overwritten_same f g at part k e = ap (λ (z : ℕ). if nat_le at k && nat_lt k (at + length part) then get_or part (k - at) 0 else z) e
 
--- bytes of the first word alone are written
+-- only bytes of the first word are written
 pub first_overwritten : (words : List ℕ) (at word : ℕ) (bytes : List ℕ) → 0 < length words → at + length bytes ≤ 8
     → ((j : ℕ) → j < 8 → byte_of j word ≡ overwritten (λ i. byte_of i (get_or words 0 0)) at bytes j)
     → (k : ℕ) → byte_in (set words 0 word) k ≡ overwritten (byte_in words) at bytes k
@@ -52,7 +52,7 @@ first_overwritten words at word bytes some fits patch k = elim (cases_eq (k / 8)
   | inr ne ↦ ap (byte_of (k % 8)) (get_or-set_other words 0 (k / 8) word 0 ne) ∙ sym (overwritten_behind (byte_in words) at bytes k (omega arith))
 ]
 
--- what a borrow leaves where bytes were written
+-- what a borrow leaves if bytes were written through it
 pub loan_overwrites : (old ws : List ℕ) (first n from : ℕ) (bytes : List ℕ) → first + n ≤ length old → length ws ≡ n
     → ((j : ℕ) → byte_in ws j ≡ overwritten (byte_in (take n (drop first old))) from bytes j)
     → Overwrites old (with_words old first n ws) (record { from = first; count = n }) from bytes
@@ -66,7 +66,7 @@ loan_overwrites old ws first n from bytes inside long each = record {
       ∙ overwritten_same (byte_in (take n (drop first old))) (byte_from old first) from bytes j (lent_byte old first n j lt);
 }
 
--- the same bytes, counted from a later one
+-- the same bytes, counted from a later byte
 pub overwritten_shift : (f g : ℕ → ℕ) (d at : ℕ) (part : List ℕ) (k : ℕ) → d ≤ k → g (k - d) ≡ f k
     → overwritten g at part (k - d) ≡ overwritten f (d + at) part k
 overwritten_shift f g d at part k le same = elim (cases_lt (k - d) at) [
@@ -80,7 +80,7 @@ overwritten_shift f g d at part k le same = elim (cases_lt (k - d) at) [
   ]
 ]
 
--- the same in a longer run, whose other words stay
+-- the same within a longer run; its other words stay
 pub overwrites_wider : (old new : List ℕ) (first d n m at : ℕ) (bytes : List ℕ) → d + n ≤ m → at + length bytes ≤ 8 * n
     → ((i : ℕ) → i < m → get_or old (first + i) 0 < 2 ^ 64)
     → Overwrites old new (record { from = first + d; count = n }) at bytes → Overwrites old new (record { from = first; count = m }) (8 * d + at) bytes

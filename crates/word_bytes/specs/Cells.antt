@@ -1,4 +1,4 @@
--- The bytes of words, eight to a word, the least first.
+-- The bytes of words, eight to a word, the least significant first.
 use Rattle.std.specs.Prelude.{ℕ, ◌+◌, ◌-◌, ◌/◌, ◌%◌, ◌&&◌, List, length, slice_index, nat_le, nat_lt, if◌then◌else◌}
 use Rattle.page_model.specs.Bytes.{byte_of}
 
@@ -6,6 +6,6 @@ use Rattle.page_model.specs.Bytes.{byte_of}
 abbrev pub byte_in : List ℕ → ℕ → ℕ
 byte_in words k = byte_of (k % 8) (slice_index words (k / 8))
 
--- byte k of what f gives, with `part` over it from `at` on
+-- byte k after `part` overwrites the bytes of f from `at` on
 abbrev pub overwritten : (ℕ → ℕ) → ℕ → List ℕ → ℕ → ℕ
 overwritten f at part k = if nat_le at k && nat_lt k (at + length part) then slice_index part (k - at) else f k

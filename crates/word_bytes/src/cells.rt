@@ -1,17 +1,17 @@
-//! Bytes of words.
+//! Reading and writing the bytes of words.
 ghost use Rattle.std.specs.Prelude.{◌≡◌, ℕ, ◌+◌, ◌*◌, ◌<◌, ◌≤◌, length, slice_index};
 ghost use Rattle.page_model.specs.Bytes.{byte_of, written};
 ghost use Rattle.word_bytes.specs.Cells.{byte_in, overwritten};
 
-/// The bytes of a word.
+/// The bytes in a word.
 const CELL: usize = 8;
 
-/// Writes `part` over the bytes of a cell from byte `from` on.
+/// Overwrites the bytes of a cell from byte `from` on.
 fn overwrite(cell: &mut [u8], from: usize, part: &[u8])
     requires { from + length part.now ≤ length cell.old }
     ensures { cell.new ≡ written cell.old from part.now }
 {
-    // A copy whose length is known is one store.
+    // A copy of a constant length compiles to one store.
     if part.len() == CELL {
         cell[from..from + CELL].copy_from_slice(part);
     } else {
@@ -19,7 +19,7 @@ fn overwrite(cell: &mut [u8], from: usize, part: &[u8])
     }
 }
 
-/// The word with `part` over its bytes from byte `from` on.
+/// The word with `part` over its bytes, from byte `from` on.
 pub(crate) fn patched(word: u64, from: usize, part: &[u8]) -> u64
     requires { from + length part.now ≤ 8 }
     ensures { (j : ℕ) → j < 8 → byte_of j result ≡ overwritten (λ k. byte_of k word) from part.now j }
@@ -29,18 +29,18 @@ pub(crate) fn patched(word: u64, from: usize, part: &[u8]) -> u64
     u64::from_le_bytes(cell)
 }
 
-/// The word of eight bytes.
+/// The word that eight bytes make.
 fn word_of(part: &[u8]) -> u64
     requires { length part.now ≡ 8 }
     ensures { (j : ℕ) → j < 8 → byte_of j result ≡ slice_index part.now j }
 {
-    // Eight bytes that stand together are one load.
+    // Written out, eight bytes compile to one load.
     u64::from_le_bytes([
         part[0], part[1], part[2], part[3], part[4], part[5], part[6], part[7],
     ])
 }
 
-/// Copies the bytes of a word from byte `from` on.
+/// Copies the bytes of a word, from byte `from` on.
 pub(crate) fn copy_cell(word: u64, from: usize, out: &mut [u8])
     requires { from + length out.old ≤ 8 }
     ensures { (j : ℕ) → j < length out.new → slice_index out.new j ≡ byte_of (from + j) word }
@@ -54,7 +54,7 @@ pub(crate) fn copy_cell(word: u64, from: usize, out: &mut [u8])
     }
 }
 
-/// Copies the bytes from byte `at` of the words on.
+/// Copies the bytes of the words, from byte `at` on.
 pub fn read_bytes(words: &[u64], at: usize, out: &mut [u8])
     requires { at + length out.old ≤ 8 * length words.now }
     ensures { (k : ℕ) → k < length out.new → slice_index out.new k ≡ byte_in words.now (at + k) }
@@ -73,7 +73,7 @@ pub fn read_bytes(words: &[u64], at: usize, out: &mut [u8])
     }
 }
 
-/// Writes the bytes over those from byte `at` of the words on.
+/// Overwrites the bytes of the words, from byte `at` on.
 pub fn write_bytes(words: &mut [u64], at: usize, bytes: &[u8])
     requires { at + length bytes.now ≤ 8 * length words.old }
     ensures { (k : ℕ) → byte_in words.new k ≡ overwritten (byte_in words.old) at bytes.now k }

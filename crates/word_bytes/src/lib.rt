@@ -1,9 +1,11 @@
-//! Bytes in words: reading and writing any bytes of a slice of words, or of a run of words of a
-//! region, eight to a word, the least first.
+//! Bytes in words, eight to a word, the least significant first: reading and writing the bytes of a
+//! slice of words, or of a run of words of a region.
 #![tactic(auto)]
 
 mod cells;
+mod header;
 mod runs;
 
 pub use cells::{read_bytes, write_bytes};
+pub use header::Header;
 pub use runs::{read_run, read_word, words_with, write_run, write_word};

@@ -7,7 +7,7 @@ use crate::cells::{copy_cell, patched, read_bytes, write_bytes};
 use region::Region;
 use step_ledger::Steps;
 
-/// How many words hold one of `count` bytes from byte `at` of the first one on.
+/// The number of words that hold `count` bytes, from byte `at` of the first word on.
 pub fn words_with(at: usize, count: usize) -> u32
     requires { words_with at count < 4294967296 }
     ensures { result ≡ words_with at count }
@@ -15,8 +15,8 @@ pub fn words_with(at: usize, count: usize) -> u32
     (at + count).div_ceil(8) as u32
 }
 
-/// Copies the bytes from byte `at` of the `n` words from `first` on, which are borrowed as one slice,
-/// for a step each.
+/// Copies bytes of the `n` words from `first` on, starting at their byte `at`. The words are
+/// borrowed as one slice. Costs n steps.
 pub fn read_run(region: &Region, first: u32, n: u32, at: usize, out: &mut [u8], steps: &mut Steps)
     requires within { first + n ≤ length region.now }
     requires fits { at + length out.old ≤ 8 * n }
@@ -27,8 +27,8 @@ pub fn read_run(region: &Region, first: u32, n: u32, at: usize, out: &mut [u8], 
     read_bytes(words, at, out);
 }
 
-/// Writes the bytes over those from byte `at` of the `n` words from `first` on, which are borrowed as
-/// one slice, for a step each.
+/// Overwrites bytes of the `n` words from `first` on, starting at their byte `at`. The words are
+/// borrowed as one slice. Costs n steps.
 pub fn write_run(
     region: &mut Region,
     first: u32,
@@ -47,7 +47,7 @@ pub fn write_run(
     write_bytes(words, at, bytes);
 }
 
-/// Copies bytes of the word at `i` from its byte `at` on, for one step.
+/// Copies bytes of word `i`, from its byte `at` on. Costs one step.
 pub fn read_word(region: &Region, i: u32, at: usize, out: &mut [u8], steps: &mut Steps)
     requires within { i < length region.now }
     requires fits { at + length out.old ≤ 8 }
@@ -57,7 +57,7 @@ pub fn read_word(region: &Region, i: u32, at: usize, out: &mut [u8], steps: &mut
     copy_cell(region.read(i, steps), at, out);
 }
 
-/// Writes the bytes over those of the word at `i` from its byte `at` on, for one step.
+/// Overwrites bytes of word `i`, from its byte `at` on. Costs one step.
 pub fn write_word(region: &mut Region, i: u32, at: usize, bytes: &[u8], steps: &mut Steps)
     requires within { i < length region.old }
     requires fits { at + length bytes.now ≤ 8 }

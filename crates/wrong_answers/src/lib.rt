@@ -1,4 +1,4 @@
-//! What a manager answered in place of what a test wanted.
+//! The ways in which a manager's results differ from those that a test wants.
 #![tactic(auto)]
 
 ghost use Rattle.std.specs.Prelude.{◌≡◌, IfErr, IsTrue, OnErr, OnOk, false};
@@ -9,14 +9,14 @@ use cf_base::{
 };
 use std::alloc::{AllocError, AllocFailed};
 
-/// What a call returned in place of what was wanted, or why it wasn't made.
+/// The result that a call returned instead of the wanted one, or why there was no call.
 #[derive(Debug, Drop)]
 pub enum Wrong {
     /// A line isn't a call, or has a number out of range.
     Line,
     /// The settings are out of range.
     Settings(SettingFault),
-    /// There is no class to be given its bound.
+    /// No class has slots of this size to get its bound.
     Bound,
     Memory,
     /// The heap is closed.
@@ -31,9 +31,9 @@ pub enum Wrong {
     Word(u32, Option<u64>),
     Class(Option<Figures>),
     Whole(Totals),
-    /// So few objects moved, or so many where none could.
+    /// The number of objects that moved: fewer than wanted, or some although none may.
     Moves(u32),
-    /// This isn't as in what the manager is held against.
+    /// This part differs from the reference.
     Differs(&'static str),
 }
 
@@ -61,7 +61,7 @@ impl From<SettingFault> for Wrong {
     }
 }
 
-/// The failure, unless it holds.
+/// Fails with `wrong` unless `holds`.
 pub fn hold(holds: bool, wrong: Wrong) -> Result<(), Wrong>
     ensures held { OnOk result (IsTrue holds) }
     ensures failed { OnErr result (holds ≡ false) }

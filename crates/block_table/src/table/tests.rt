@@ -1,10 +1,10 @@
-//! What the table keeps.
+//! The fields of the table.
 use super::BlockTable;
 use counted_cells::Cells;
 use std::test::Fail;
 use step_ledger::Meter;
 
-/// The entries, of the three fields of the table; the others are numbers.
+/// The entries. The pattern names all three fields; the other two are numbers.
 fn entries_of(table: &BlockTable) -> &Cells<u32> {
     let BlockTable {
         pages,
@@ -17,7 +17,7 @@ fn entries_of(table: &BlockTable) -> &Cells<u32> {
     frames
 }
 
-/// Each field of a table has a name and a written type above.
+/// The entries are in counted cells; the function above names every field with its type.
 #[test]
 fn the_table_has_these_fields_and_no_others(rt: HostRuntime) -> Result<(), Fail> {
     let mut meter = Meter::new(&rt);

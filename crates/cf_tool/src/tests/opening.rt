@@ -6,6 +6,8 @@ use cf_model::Manager;
 use half_fit_heap::HalfFitHeap;
 use moving_heap::MovingHeap;
 use nonmoving_heap::NonMovingHeap;
+use quota_heap::QuotaHeap;
+use sliced_heap::SlicedHeap;
 use std::test::Fail;
 use step_ledger::Meter;
 use tlsf_heap::TlsfHeap;
@@ -53,5 +55,18 @@ fn a_heap_opens_again_where_an_allocation_failed(rt: HostRuntime) -> Result<(), 
     assert!(rt; opens_in_two(&rt, &mut NonMovingHeap::closed(alloc), &settings, 504));
     assert!(rt; opens_in_two(&rt, &mut TlsfHeap::closed(alloc), &settings, 496));
     assert!(rt; opens_in_two(&rt, &mut HalfFitHeap::closed(alloc), &settings, 496));
+    Ok(())
+}
+
+/// Closed heaps of every kind take no memory: `checks/refused-memory` would refuse their first allocation.
+#[test]
+fn closed_heaps_take_no_memory(rt: HostRuntime) -> Result<(), Fail> {
+    let alloc = rt.alloc();
+    assert!(rt; !MovingHeap::closed(alloc).is_open());
+    assert!(rt; !NonMovingHeap::closed(alloc).is_open());
+    assert!(rt; !TlsfHeap::closed(alloc).is_open());
+    assert!(rt; !HalfFitHeap::closed(alloc).is_open());
+    assert!(rt; !SlicedHeap::closed(alloc).is_open());
+    assert!(rt; !QuotaHeap::closed(alloc).is_open());
     Ok(())
 }

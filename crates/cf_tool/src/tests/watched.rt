@@ -59,6 +59,8 @@ impl<'a, S: Source> Source for WatchedSource<'a, S> {
 
     ghost given = { λ w. S.given w.source };
 
+    ghost calls = { λ w. S.calls w.source };
+
     ghost faults = { λ w. S.faults w.source };
 
     fn take(&mut self, buf: &mut [u8]) -> Result<usize, Failed> {

@@ -1,9 +1,10 @@
-//! What the counts keep.
+//! The fields of the counts.
 use super::Counts;
 use crate::Which;
 use std::test::Fail;
 
-/// Each field has a name and a written type here: one count for each class in each of two arrays.
+/// Names each field with its type, so that no field is added unseen: one count for each class in
+/// each of two arrays.
 #[test]
 fn the_counts_are_two_arrays(rt: HostRuntime) -> Result<(), Fail> {
     let mut counts = Counts::new(rt.alloc(), 3)?;

@@ -1,11 +1,35 @@
-use Rattle.headline_laws.proofs.Worked.{page_in_excess, refused_in_vain, steps_in_excess}
+use Rattle.headline_laws.proofs.Worked.{address_changed, address_shared, freed_in_vain, no_reply, one_over, page_in_excess, refused_for_size, refused_in_vain, silent, steps_in_excess, total_in_excess}
 use Rattle.headline_laws.proofs.wrong_replies_fall_short.Goals as goal
 
 pub returns-clause-room : goal.returns-clause-room
 returns-clause-room c = refused_in_vain
 
+pub returns-clause-size : goal.returns-clause-size
+returns-clause-size c = refused_for_size
+
+pub returns-clause-silent : goal.returns-clause-silent
+returns-clause-silent c = silent
+
+pub returns-clause-missing : goal.returns-clause-missing
+returns-clause-missing c = no_reply
+
+pub returns-clause-over : goal.returns-clause-over
+returns-clause-over c = one_over
+
 pub returns-clause-pages : goal.returns-clause-pages
 returns-clause-pages c = page_in_excess
 
+pub returns-clause-total : goal.returns-clause-total
+returns-clause-total c = total_in_excess
+
 pub returns-clause-steps : goal.returns-clause-steps
 returns-clause-steps c = steps_in_excess
+
+pub returns-clause-unknown : goal.returns-clause-unknown
+returns-clause-unknown c = freed_in_vain
+
+pub returns-clause-shared : goal.returns-clause-shared
+returns-clause-shared c = address_shared
+
+pub returns-clause-moved : goal.returns-clause-moved
+returns-clause-moved c = address_changed

@@ -38,6 +38,7 @@ fn byte_at(at: u64) -> u8 {
 #[derive(Drop)]
 struct Stream {
     at: u64,
+    calls: u64,
 }
 
 impl Source for Stream {
@@ -45,12 +46,15 @@ impl Source for Stream {
 
     ghost given = { λ s. s.at };
 
+    ghost calls = { λ s. s.calls };
+
     ghost faults = { λ _. 0 };
 
     fn take(&mut self, buf: &mut [u8]) -> Result<usize, Failed> {
         let n = buf.len().min(TOTAL.saturating_sub(self.at) as usize);
         put_image(&mut buf[..n], self.at);
         self.at = self.at.saturating_add(n as u64);
+        self.calls = self.calls.saturating_add(1);
         Ok(n)
     }
 }
@@ -94,7 +98,7 @@ fn the_largest_image_passes_in_a_stream(rt: HostRuntime) -> Result<(), Fail> {
     let alloc = rt.alloc();
     let mut heap = MovingHeap::closed(alloc);
     let mut session = Session::start(&rt, alloc)?;
-    let mut stream = Stream { at: 0 };
+    let mut stream = Stream { at: 0, calls: 0 };
     let Ok(settings) = load(&mut stream, &mut heap, &mut session) else {
         panic!(rt; "an image isn't loaded");
     };

@@ -1,4 +1,4 @@
-//! Arguments that are taken, with what they choose, and arguments that are refused.
+//! Arguments that are accepted, with their choices, and arguments that are refused.
 use cf_base::Kind;
 use command_line::{Choice, Mode, WordsFault, read_words};
 use std::alloc::{AllocError, Global};

@@ -1,4 +1,5 @@
-//! Sources and sinks, what fails in them and what is cut, the buffer of a line, and numbers in text.
+//! Sources and sinks with their failures and short writes, the buffer of a line, and numbers as
+//! text.
 use cf_base::Failed;
 use cf_io::{
     Full, Line, LoopSource, MemSink, MemSource, NullSink, Sink, Source, StdSink, StdSource,
@@ -9,7 +10,7 @@ use std::io::{Read, Write};
 use std::process::Abort;
 use std::test::Fail;
 
-/// Takes into buffers of these lengths, and compares each answer and what the buffer holds then.
+/// Reads into buffers of these lengths, and compares each result and the buffer's content.
 fn gives<S: Source + Drop>(
     rt: &impl Abort,
     mut source: S,
@@ -22,7 +23,7 @@ fn gives<S: Source + Drop>(
     }
 }
 
-/// Puts these pieces, and compares each answer.
+/// Writes these bytes, and compares each result.
 fn takes<K: Sink>(rt: &impl Abort, sink: &mut K, wanted: &[(&[u8], Result<usize, Failed>)]) {
     for (piece, answer) in wanted {
         assert_eq!(rt; sink.put(piece), *answer);
@@ -107,7 +108,8 @@ fn a_sink_fails_and_is_cut_as_told(rt: HostRuntime) -> Result<(), Fail> {
     Ok(())
 }
 
-/// Gives or takes `len` bytes at each call, and fails at none; a flush fails where it is told to.
+/// Reads or writes at most `moves` bytes in each call; without a number each call fails. A flush
+/// fails unless `flushes` is set.
 #[derive(Drop)]
 struct Pipe {
     moves: Option<usize>,

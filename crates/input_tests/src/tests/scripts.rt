@@ -1,11 +1,11 @@
-//! Scripts and their items, in every cut, payloads, and a command that borrows its bytes.
+//! Scripts and their items under every chunking, payloads, and a command that borrows its bytes.
 ghost use Rattle.std.specs.Prelude.{◌≡◌, ◌<◌, false};
 
 use script_reader::{Command, CommandRef, Next, NextRef, Payload, Reader, Room};
 use std::alloc::{AllocError, Global};
 use std::test::Fail;
 
-/// Scripts, and their items with `;` after each.
+/// Scripts, and their items, each followed by `;`.
 static SCRIPTS: [(&str, &str); 60] = [
     ("", "end;"),
     (
@@ -183,7 +183,7 @@ fn shown_command(alloc: Global, command: &Command) -> Result<String, AllocError>
     }
 }
 
-/// Asks the reader until it has no command, and tells whether a line was bad.
+/// Takes all commands from the reader, and returns whether a line was bad.
 fn drain(alloc: Global, reader: &mut Reader, text: &mut String) -> Result<bool, AllocError>
     ensures { reader.new.ended ≡ reader.old.ended }
 {
@@ -199,7 +199,7 @@ fn drain(alloc: Global, reader: &mut Reader, text: &mut String) -> Result<bool, 
     Ok(false)
 }
 
-/// What a reader returns for the script in chunks of this size.
+/// The items that a reader returns for the script in chunks of `size` bytes.
 fn read(alloc: Global, script: &[u8], size: usize) -> Result<String, AllocError>
     requires { 0 < size }
 {

@@ -1,6 +1,7 @@
-//! The steps of single calls, each worked out by hand; the longest malloc and free are among them.
+//! The steps of single calls, each worked out by hand; the longest of each kind are among them.
 
-use cf_base::Handle;
+use cf_base::{Handle, Refusal, Settings};
+use cf_model::Manager;
 use heap_driver::{Call, first_with_other_steps};
 use nonmoving_heap::NonMovingHeap;
 use std::test::Fail;
@@ -18,7 +19,7 @@ use step_ledger::Meter;
 /// counts (1), and unlinks and links the page (8), or unlinks it and gives it back (5). With a move it
 /// finds the filler (3), frees its slot (3), counts (1), unlinks the page and gives it back (5), reads
 /// its header (2), moves the slot (36) and sets its proxy (1).
-const CALLS: [(Call, u64); 15] = [
+const CALLS: [(Call, u64); 22] = [
     (Call::Malloc(176), 16),
     (Call::Malloc(176), 18),
     (Call::Malloc(176), 16),
@@ -31,6 +32,15 @@ const CALLS: [(Call, u64); 15] = [
     (Call::Read(Handle(0)), 6),
     (Call::Place(Handle(0)), 1),
     (Call::Peek(0), 2),
+    (Call::Peek(128), 0),
+    // No object.
+    (Call::Read(Handle(4)), 1),
+    (Call::Write(Handle(4)), 1),
+    // The proxy, the header, the class, and the entry.
+    (Call::Block(Handle(0), 5), 5),
+    (Call::Block(Handle(0), 6), 4),
+    (Call::Block(Handle(4), 0), 1),
+    (Call::Totals, 0),
     // A full page becomes partly full.
     (Call::Free(Handle(0)), 50),
     // An object moves, and its page is given back: the longest free.
@@ -41,10 +51,69 @@ const CALLS: [(Call, u64); 15] = [
     (Call::Free(Handle(3)), 47),
 ];
 
+/// On three pages of slots of 24 words, two to a page, and slots of 20, three to a page. A resize reads the
+/// proxy (1), the class of the new length (1), the header (2) and its class (1). In its slot it cuts a
+/// word (2), clears those after it, of one block (4), and writes the header (2). To another class it
+/// counts the page (1), takes a slot that fills its page (13), moves the words that stay, of five blocks
+/// (29), and cuts the last (2), writes the header (2) and the proxy (1); then an object moves, as in a
+/// free, and its page is given back (51).
+const RESIZES: [(Call, u64); 15] = [
+    (Call::Malloc(184), 16),
+    (Call::Malloc(184), 18),
+    (Call::Malloc(184), 16),
+    (Call::Malloc(152), 16),
+    (Call::Malloc(5), 1),
+    (Call::Malloc(152), 10),
+    // The longest that stays in its slot, and back.
+    (Call::Resize(Handle(0), 153), 13),
+    (Call::Resize(Handle(0), 184), 7),
+    // Refused as unknown, for size, and for space.
+    (Call::Resize(Handle(5), 8), 1),
+    (Call::Resize(Handle(0), 505), 2),
+    (Call::Resize(Handle(0), 8), 6),
+    // The longest.
+    (Call::Resize(Handle(0), 151), 104),
+    // On a page that is free now; past the end of the object.
+    (Call::Resize(Handle(0), 5), 63),
+    (Call::Read(Handle(0)), 3),
+    (Call::Write(Handle(0)), 3),
+];
+
 #[test]
 fn each_call_takes_its_steps(rt: HostRuntime) -> Result<(), Fail> {
     let mut heap = NonMovingHeap::closed(rt.alloc());
-    let other = first_with_other_steps(&mut heap, CALLS.as_slice(), &mut Meter::new(&rt));
+    let other = first_with_other_steps(&mut heap, 2, CALLS.as_slice(), &mut Meter::new(&rt));
     assert_eq!(rt; other, None);
+    Ok(())
+}
+
+#[test]
+fn each_resize_takes_its_steps(rt: HostRuntime) -> Result<(), Fail> {
+    let mut heap = NonMovingHeap::closed(rt.alloc());
+    let other = first_with_other_steps(&mut heap, 3, RESIZES.as_slice(), &mut Meter::new(&rt));
+    assert_eq!(rt; other, None);
+    Ok(())
+}
+
+/// One page and two proxies: a step for each question, two mallocs, and the look for a length.
+#[test]
+fn has_room_says_what_a_malloc_returns(rt: HostRuntime) -> Result<(), Fail> {
+    let mut heap = NonMovingHeap::closed(rt.alloc());
+    let settings = Settings::check(1, 512, 1, 2).map_err(|_| "settings")?;
+    heap.open_heap(&settings)?;
+    let mut meter = Meter::new(&rt);
+    let steps = meter.steps();
+    assert_eq!(rt; heap.has_room(176, steps), Ok(()));
+    let Ok(first) = heap.malloc(176, steps) else {
+        return Err("the first object".into());
+    };
+    assert_eq!(rt; heap.length(first, steps), Some(176));
+    assert_eq!(rt; heap.has_room(8, steps), Err(Refusal::Space));
+    let Ok(_second) = heap.malloc(176, steps) else {
+        return Err("the second object".into());
+    };
+    assert_eq!(rt; heap.has_room(176, steps), Err(Refusal::Proxy));
+    assert_eq!(rt; heap.has_room(505, steps), Err(Refusal::Size));
+    assert_eq!(rt; meter.lap(), 41);
     Ok(())
 }

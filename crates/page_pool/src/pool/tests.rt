@@ -1,9 +1,10 @@
-//! What a pool keeps.
+//! The fields of a pool.
 use super::PagePool;
 use counted_cells::Cells;
 use std::test::Fail;
 
-/// Each field has a name and a written type here: the pages stand in counted cells, and the rest is a number.
+/// Names each field with its type, so that no field is added unseen: the pages are in counted
+/// cells, the other field is a number.
 #[test]
 fn a_pool_keeps_its_pages_in_cells(rt: HostRuntime) -> Result<(), Fail> {
     let Ok(pool) = PagePool::new(rt.alloc(), 3) else {

@@ -1,4 +1,4 @@
-//! What is admitted, by hand, and against all short lists of calls.
+//! Admissions worked out by hand, and compared with all short lists of calls.
 use admission::{Admission, Need, admit};
 use cf_base::Settings;
 use std::test::Fail;
@@ -49,12 +49,13 @@ fn each_answer_comes_by_its_cause(rt: HostRuntime) -> Result<(), Fail> {
     Ok(())
 }
 
-// Objects of 8, 176 and 504 bytes, of which 16, 2 and 1 stand on a page of 64 words.
+// The pages that objects of 8, 176 and 504 bytes need: 16, 2 and 1 of them fit a page of 64 words.
 fn pages_of(live: &[u32; 3]) -> u64 {
     live[0].div_ceil(16) as u64 + live[1].div_ceil(2) as u64 + live[2] as u64
 }
 
-// Whether a list of at most `calls` calls within what is declared has a malloc refused for space.
+// Whether some list of at most `calls` calls within the declared needs has a malloc refused for
+// space.
 fn runs_short(quota: u64, declared: &[u32; 3], live: &[u32; 3], calls: u32) -> bool {
     if calls == 0 {
         return false;

@@ -1,4 +1,4 @@
-//! Arrangements worked out by hand, and what the reference implementation makes of them.
+//! Arrangements worked out by hand, and the reference implementation's results for them.
 use cf_base::{Figures, Layout, Settings, Totals};
 use page_reference::Plain;
 use page_reference::frames::{block_of, exchange, new_frames};
@@ -6,7 +6,7 @@ use std::alloc::{AllocError, Global};
 use std::process::Abort;
 use std::test::Fail;
 
-/// What is computed of objects on pages.
+/// The numbers of an arrangement.
 #[derive(Clone, Copy)]
 struct Numbers {
     /// A length, and the figures of its class: slot words, slots, live, pages, not full.
@@ -16,16 +16,16 @@ struct Numbers {
     totals: [u32; 4],
     /// Asked, taken, held.
     in_bytes: [u64; 3],
-    /// The pages that are needed, and with one more object of that length.
+    /// The pages that the objects need, and with one more object of that length.
     needed: [u32; 2],
-    /// Whether there is no room for that length.
+    /// Whether no slot is left for that length.
     lacks: bool,
 }
 
 /// The number, the address and the length of an object.
 type Entry = (u16, u32, u32);
 
-/// How many pages of 64 words, the objects on them, and their numbers.
+/// The number of pages of 64 words, the objects on them, and their numbers.
 type Case = (u32, &'static [Entry], Numbers);
 
 /// Arrangements in slots of words.
@@ -68,7 +68,7 @@ static CASES: [Case; 14] = [
             lacks: true,
         },
     ),
-    // two pages that are half full: no room for a page, and room for half of one
+    // two half-full pages: no space for a whole page, but for half of one
     (
         2,
         &[(1, 23, 176), (3, 87, 176)],
@@ -93,7 +93,7 @@ static CASES: [Case; 14] = [
             lacks: false,
         },
     ),
-    // three pages, before and after the object at 87 fills the hole at 128
+    // three pages, before and after the object at 87 moves to the freed slot at 128
     (
         3,
         &[(1, 23, 176), (3, 87, 176), (4, 128, 176), (5, 151, 176)],
@@ -131,7 +131,7 @@ static CASES: [Case; 14] = [
             lacks: false,
         },
     ),
-    // the same objects, which got there with no move
+    // the same objects at the addresses where they were made
     (
         2,
         &[(0, 0, 176), (1, 23, 176)],
@@ -144,8 +144,8 @@ static CASES: [Case; 14] = [
             lacks: false,
         },
     ),
-    // an object before, while and after it is resized into a class of one slot to a page: it stands
-    // in both slots at once, and then the object at 64 fills the hole at 0
+    // an object before, during and after a resize into a class of one slot to a page: in between it
+    // is in both slots, and afterwards the object at 64 moves to the freed slot at 0
     (
         3,
         &[(0, 0, 176), (1, 23, 176), (2, 64, 176)],
@@ -195,7 +195,7 @@ static CASES: [Case; 14] = [
             lacks: true,
         },
     ),
-    // nothing at all
+    // no objects
     (
         2,
         &[],
@@ -240,10 +240,10 @@ static BLOCK_CASES: [Case; 2] = [
     ),
 ];
 
-/// How many pages, the bound of not-full pages, the objects, the one that is freed, and whether
-/// another must move.
+/// The number of pages, the bound k, the objects, the number that is freed, and whether another
+/// object must move.
 static FREES: [(u32, u32, &[Entry], u16, bool); 13] = [
-    // the first free of a class has no page to fill from, and the second one has
+    // the first free of a class finds no partly full page to move an object from; the second does
     (
         2,
         1,
@@ -253,11 +253,11 @@ static FREES: [(u32, u32, &[Entry], u16, bool); 13] = [
     ),
     (2, 1, &[(1, 23, 176), (2, 64, 176), (3, 87, 176)], 2, true),
     (2, 1, &[(0, 0, 176), (2, 64, 176), (3, 87, 176)], 3, true),
-    // the page of the freed object isn't full, or none has this number
+    // the page of the freed object isn't full, or no object has this number
     (2, 1, &[(1, 23, 176), (2, 64, 176), (3, 87, 176)], 1, false),
     (2, 1, &[(1, 23, 176), (2, 64, 176), (3, 87, 176)], 0, false),
     (2, 1, &[(1, 23, 176), (2, 64, 176), (3, 87, 176)], 7, false),
-    // with a bound of 2 the third one has
+    // with a bound of 2 only the third free moves an object
     (2, 2, &[(1, 23, 176), (2, 64, 176), (3, 87, 176)], 2, false),
     (
         3,
@@ -279,7 +279,7 @@ static FREES: [(u32, u32, &[Entry], u16, bool); 13] = [
         4,
         true,
     ),
-    // a resize into another class, while the object stands in both slots
+    // a resize into another class, while the object is in both slots
     (
         3,
         1,
@@ -287,14 +287,14 @@ static FREES: [(u32, u32, &[Entry], u16, bool); 13] = [
         0,
         true,
     ),
-    // the not-full page is one of another class
+    // the partly full page is of another class
     (3, 1, &[(0, 0, 176), (1, 23, 176), (2, 64, 24)], 0, false),
     // one slot to a page, and an object larger than a page
     (2, 1, &[(0, 0, 504), (1, 64, 504)], 0, false),
     (2, 1, &[(0, 0, 505)], 0, false),
 ];
 
-/// Pages of 64 words with this bound, and the objects on them.
+/// Pages of 64 words with this bound k, and the objects on them.
 fn laid(
     rt: &impl Abort,
     alloc: Global,
@@ -326,7 +326,7 @@ fn has_figures(plain: &Plain, class: u32, want: [u32; 5]) -> bool {
     class < plain.classes() && plain.figures(class) == want
 }
 
-/// Whether the figures of the whole are these.
+/// Whether the figures of the whole heap are these.
 fn has_totals(plain: &Plain, want: &Numbers) -> bool {
     let [live, used, free, largest] = want.totals;
     let [asked, taken, held] = want.in_bytes;
@@ -342,7 +342,7 @@ fn has_totals(plain: &Plain, want: &Numbers) -> bool {
     plain.totals() == want
 }
 
-/// Whether this is computed of the objects.
+/// Whether the arrangement has these numbers.
 fn has_numbers(plain: &Plain, want: &Numbers) -> bool {
     let class = plain.class_for(want.bytes);
     has_figures(plain, class, want.figures)
@@ -353,7 +353,7 @@ fn has_numbers(plain: &Plain, want: &Numbers) -> bool {
         && plain.lacks_room(class) == want.lacks
 }
 
-/// The first of the cases that has other numbers.
+/// The first case with other numbers.
 fn first_wrong(
     rt: &impl Abort,
     alloc: Global,
@@ -417,7 +417,7 @@ fn an_object_that_moves_leaves_its_page(rt: HostRuntime) -> Result<(), Fail> {
     Ok(())
 }
 
-/// Whether the region has so many words, and these among them.
+/// Whether the region has `count` words, with these among them.
 fn has_words(
     alloc: Global,
     plain: &Plain,
@@ -485,7 +485,7 @@ fn a_resized_object_keeps_its_first_bytes(rt: HostRuntime) -> Result<(), Fail> {
     Ok(())
 }
 
-/// Whether block i of an object at this address is the wanted one, for each.
+/// Whether each of these blocks of an object at this address is the wanted one.
 fn has_blocks(frames: &[u32], place: u32, wants: &[(u32, u32)]) -> bool {
     for (i, want) in wants {
         if !has_block(frames, place, *i, *want) {
@@ -495,18 +495,18 @@ fn has_blocks(frames: &[u32], place: u32, wants: &[(u32, u32)]) -> bool {
     true
 }
 
-/// Whether block i is.
+/// Whether block i is the wanted one.
 fn has_block(frames: &[u32], place: u32, i: u32, want: u32) -> bool {
     (place / 4) as usize + (i as usize) < frames.len() && block_of(frames, place, i) == want
 }
 
-/// The six blocks of an object, from this one on.
+/// The six blocks of an object, starting with this one.
 fn six_from(first: u32) -> [(u32, u32); 6] {
     [0, 1, 2, 3, 4, 5].map(|i| (i, first.wrapping_add(i)))
 }
 
-// Two pages of 16 blocks: the object at word 24 has blocks 6 to 11, and fills the hole at word 64. The free
-// page has the other blocks of both.
+// Two pages of 16 blocks: the object at word 24 has blocks 6 to 11, and moves to the freed slot at
+// word 64. The free page has the other blocks of both.
 #[test]
 fn an_object_that_moves_keeps_its_blocks(rt: HostRuntime) -> Result<(), Fail> {
     let alloc = rt.alloc();

@@ -1,4 +1,4 @@
-//! The free lists of sizes and needs, of both managers of blocks.
+//! The free lists of sizes and needs, for both kinds with blocks.
 use block_model::{half_fit, tlsf};
 use std::test::Fail;
 

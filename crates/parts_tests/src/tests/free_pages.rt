@@ -1,4 +1,4 @@
-//! Pages taken and given.
+//! Pages taken and returned.
 use page_pool::PagePool;
 use std::test::Fail;
 use step_ledger::Meter;

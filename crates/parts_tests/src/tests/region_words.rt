@@ -1,9 +1,9 @@
-//! Words moved, lent, cleared and written by halves, with what each costs.
+//! Words that are moved, lent, cleared and written by halves, and the steps of each call.
 use region::Region;
 use std::test::Fail;
 use step_ledger::Meter;
 
-// Of 8 words, 7 and 9 at 1 and 2 are moved to 5. A borrow of both writes 4 over the first.
+// Of 8 words, 7 and 9 at 1 and 2 move to 5. A borrow of both writes 4 over the first.
 #[test]
 fn words_are_moved_lent_and_cleared(rt: HostRuntime) -> Result<(), Fail> {
     let mut meter = Meter::new(&rt);

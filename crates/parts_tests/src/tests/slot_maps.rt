@@ -1,4 +1,4 @@
-//! Slots taken and given back, of pages of 1 to 4,096.
+//! Slots taken and freed, on pages of 1 to 4,096 slots.
 use slot_bitmap::SlotMap;
 use step_ledger::Meter;
 

@@ -3,7 +3,7 @@ use block_table::BlockTable;
 use std::test::Fail;
 use step_ledger::Meter;
 
-// Two pages of 16 blocks, of which 6 to 11 change places with 16 to 21.
+// Two pages of 16 blocks; blocks 6 to 11 change places with 16 to 21.
 #[test]
 fn runs_of_entries_change_places(rt: HostRuntime) -> Result<(), Fail> {
     let mut meter = Meter::new(&rt);
@@ -28,7 +28,7 @@ fn runs_of_entries_change_places(rt: HostRuntime) -> Result<(), Fail> {
     assert_eq!(rt; table.block(19, meter.steps()), 9);
     assert_eq!(rt; table.block(16, meter.steps()), 6);
     assert_eq!(rt; meter.lap(), 1 + 6 + 7 + 2);
-    // The entries of blocks 6 to 17 are lent for a step each.
+    // Lending the entries of blocks 6 to 17 costs a step each.
     let run = table.run(6, 12, meter.steps());
     assert_eq!(rt; meter.lap(), 12);
     assert_eq!(rt; run.len(), 12);

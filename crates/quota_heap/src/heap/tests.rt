@@ -1,7 +1,7 @@
 //! What the heap keeps.
 use super::QuotaHeap;
-use crate::ground::Ground;
 use crate::open_tasks::OpenTasks;
+use crate::shared_pages::SharedPages;
 use crate::task::{CLASSES, Task};
 use cf_base::Settings;
 use class_lists::ClassLists;
@@ -22,27 +22,27 @@ fn inner_of(heap: &QuotaHeap) -> &Option<OpenTasks> {
 }
 
 /// What the tasks share, and the tasks. The third field is the sum of the quotas.
-fn parts_of(open: &OpenTasks) -> (&Ground, &Vec<Task>) {
+fn parts_of(open: &OpenTasks) -> (&SharedPages, &Vec<Task>) {
     let OpenTasks {
-        ground,
+        shared_pages,
         tasks,
         granted,
     } = open;
-    let ground: &Ground = ground;
+    let shared_pages: &SharedPages = shared_pages;
     let tasks: &Vec<Task> = tasks;
     let _granted: &u32 = granted;
-    (ground, tasks)
+    (shared_pages, tasks)
 }
 
 /// The region that the tasks share, with the tables of its pages.
-fn region_of(ground: &Ground) -> &Region {
-    let Ground {
+fn region_of(shared_pages: &SharedPages) -> &Region {
+    let SharedPages {
         settings,
         classes,
         region,
         maps,
         pool,
-    } = ground;
+    } = shared_pages;
     let _settings: &Settings = settings;
     let _classes: &Classes = classes;
     let region: &Region = region;
@@ -79,8 +79,8 @@ fn the_heap_has_these_fields_and_no_others(rt: HostRuntime) -> Result<(), Fail> 
     let Some(open) = inner_of(&heap) else {
         panic!(rt; "the heap is closed");
     };
-    let (ground, tasks) = parts_of(open);
-    assert_eq!(rt; region_of(ground).len(), 128);
+    let (shared_pages, tasks) = parts_of(open);
+    assert_eq!(rt; region_of(shared_pages).len(), 128);
     assert_eq!(rt; tasks.len(), 16);
     assert!(rt; tasks.iter().all(|task| *live_of(task) == [0; CLASSES]));
     Ok(())

@@ -5,7 +5,8 @@ use quota_heap::{Handle, NotLive, QuotaFault, QuotaHeap, Refusal};
 use step_ledger::{Meter, Steps};
 
 /// A call of a task; an object is named by the number that it got. A write is of the first byte, and so
-/// is a read, with what it is to be.
+/// is a read, with what it is to be; a fill writes as many ones from the first byte on. A peek names a
+/// word of the region.
 #[derive(Clone, Copy)]
 pub enum Call {
     Quota(u32),
@@ -13,6 +14,8 @@ pub enum Call {
     Free(u32),
     Write(u32, u8),
     Read(u32, u8),
+    Fill(u32, usize),
+    Peek(u32),
 }
 
 /// What a heap answers to a call of a task.
@@ -31,6 +34,8 @@ pub fn answer(heap: &mut QuotaHeap, meter: &mut Meter, task: u32, call: Call) ->
         Call::Free(number) => free(heap, task, Handle(number), steps),
         Call::Write(number, byte) => write(heap, task, Handle(number), byte, steps),
         Call::Read(number, byte) => read(heap, task, Handle(number), byte, steps),
+        Call::Fill(number, count) => fill(heap, task, Handle(number), count, steps),
+        Call::Peek(word) => peek(heap, word, steps),
     }
 }
 
@@ -97,5 +102,32 @@ fn read(heap: &QuotaHeap, task: u32, h: Handle, byte: u8, steps: &mut Steps) -> 
         "as written"
     } else {
         "otherwise"
+    }
+}
+
+fn fill(heap: &mut QuotaHeap, task: u32, h: Handle, count: usize, steps: &mut Steps) -> &'static str
+    requires opened { IsTrue heap.old.is_open }
+    requires sixteen { task < 16 }
+    requires room { steps.old ≤ 2 ^ 63 }
+    ensures { IsTrue heap.new.is_open }
+{
+    let ones = [1; 512];
+    if heap
+        .write(task, h, 0, &ones[..count.min(512)], steps)
+        .is_ok()
+    {
+        "ok"
+    } else {
+        "refused"
+    }
+}
+
+fn peek(heap: &QuotaHeap, word: u32, steps: &mut Steps) -> &'static str
+    requires opened { IsTrue heap.now.is_open }
+    requires room { steps.old ≤ 2 ^ 63 }
+{
+    match heap.peek(word, steps) {
+        Some(_) => "a word",
+        None => "no word",
     }
 }

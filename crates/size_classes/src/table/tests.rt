@@ -1,11 +1,11 @@
-//! What a table keeps.
+//! The fields of a table.
 use super::Classes;
 use cf_base::Layout;
 use counted_cells::Cells;
 use std::test::Fail;
 
-/// Each field of a table has a name and a written type: a size for each class, a cell for each need of at
-/// most a page, and two plain numbers.
+/// Names each field with its type, so that no field is added unseen: a size for each class, a cell
+/// for each need of at most a page, and two plain numbers.
 #[test]
 fn a_table_has_these_fields_and_no_others(rt: HostRuntime) -> Result<(), Fail> {
     let Classes {

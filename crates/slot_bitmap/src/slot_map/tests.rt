@@ -1,8 +1,8 @@
-//! What a map keeps.
+//! The fields of a map.
 use super::SlotMap;
 use counted_cells::{CellArray, WordCell};
 
-/// Each field of a map has a name and a written type: cells, and two plain numbers.
+/// Names each field with its type, so that no field is added unseen: cells, and two plain numbers.
 #[test]
 fn a_map_has_these_fields_and_no_others(rt: HostRuntime) {
     let SlotMap {

@@ -71,8 +71,7 @@ static HALF_FIT_MALLOC: [Row; 1] = [Row {
     steps: 27,
 }];
 
-/// Mallocs that are refused: for size, for proxies after a block of another group is found, and for
-/// space. A free of 20 words between two free blocks of 4 words, which are the first two of the three in
+/// Mallocs that are refused: for size and for proxies, which look at no list, and for space. A free of 20 words between two free blocks of 4 words, which are the first two of the three in
 /// their list, where the list of the 28 words that all become has a block. Reads and writes of three
 /// words, of none, and of none in the middle of a word; past the end; and of no object. The largest of
 /// one free block, and of three in one list.
@@ -85,7 +84,7 @@ static BOTH: [Row; 22] = [
     Row {
         settings: [16, 131_072, 1],
         script: &[Call::Malloc(0), Call::Malloc(0)],
-        steps: 5,
+        steps: 0,
     },
     Row {
         settings: [1, 512, 16],

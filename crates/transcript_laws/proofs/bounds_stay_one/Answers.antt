@@ -1,5 +1,5 @@
 use Rattle.std.specs.Prelude.{None}
-use Rattle.transcript_laws.proofs.Further.{stays_at_one}
+use Rattle.transcript_laws.proofs.BoundsAtOne.{stays_at_one}
 use Rattle.transcript_laws.proofs.bounds_stay_one.Goals as goal
 
 pub returns : goal.returns

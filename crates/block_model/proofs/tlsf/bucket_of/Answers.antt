@@ -6,7 +6,7 @@ use Rattle.block_model.proofs.tlsf.bucket_of.Goals as goal
 pub returns-then-size-lt16 : goal.returns-then-size-lt16
 returns-then-size-lt16 c = sym (small_bucket c.args.size c.if-size-lt16.true)
 
--- a size from 16 on has a power of 4 at least
+-- a size of at least 16 has a logarithm of at least 4
 pub overflow_sub-result : goal.overflow_sub-result
 overflow_sub-result c = four c.args.size c.ilog2-power.result (record { large = omega arith; low = omega arith; high = omega arith; top = omega arith })
 

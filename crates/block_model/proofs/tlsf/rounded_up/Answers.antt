@@ -14,7 +14,7 @@ returns-clause-value c =
     let is : IsPower c.args.need c.ilog2.result = record { large = omega arith; low = omega arith; high = omega arith; top = omega arith } in
     rw (one_shl (c.ilog2.result - 4) 32 (omega arith)) (sym (large_rounded c.args.need c.ilog2.result is))
 
--- what is added is at most a sixteenth of the need
+-- rounding up adds at most a sixteenth of the need
 pub returns-clause-within : goal.returns-clause-within
 returns-clause-within c =
     let is : IsPower c.args.need c.ilog2.result = record { large = omega arith; low = omega arith; high = omega arith; top = omega arith } in

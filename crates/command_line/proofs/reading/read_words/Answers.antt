@@ -28,7 +28,7 @@ returns-in-Ok-try_get_matches_from c =
       most = c.quantum_in.ensures.most;
     }
 
--- an error other than out of memory is among those that `clap` finds
+-- an error that isn't out of memory is one of those that `clap` finds
 pub returns : goal.returns
 returns c =
     let app = app_of c.in-Ok.command in

@@ -1,4 +1,4 @@
--- The two parts are joined again with their runs exchanged.
+-- The two parts are joined again after their runs were exchanged.
 use Rattle.std.proofs.Common.{◌+◌, ◌-◌, ◌≤◌, ◌∙◌, min, max, arith, inl, inr}
 use Rattle.cf_lemmas.proofs.Swapping.{parted}
 use Rattle.cf_lemmas.proofs.SwappedRuns.{swapped_is}

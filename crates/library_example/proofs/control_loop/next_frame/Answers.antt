@@ -1,4 +1,4 @@
-use Rattle.std.proofs.Common.{◌≡◌, ◌*◌, ◌+◌, ◌∙◌, arith, ap}
+use Rattle.std.proofs.Common.{◌≡◌, ◌+◌, ◌∙◌, arith, ap}
 use Rattle.slice_model.specs.declared.answers.SliceRefusal.TheVariants.{Busy}
 use Rattle.library_example.proofs.Cycles.{has_frame, has_none, next_slice, not_busy, one_more, stays_on}
 use Rattle.library_example.proofs.control_loop.next_frame.Goals as goal
@@ -10,8 +10,8 @@ loop-i-preserved c =
       slices = next_slice c.free.new.self c.loop-i.heap c.step.new.self c.loop-i.i now.same now.slices c.step.ensures.step.slice;
       same = stays_on c.free.new.self c.loop-i.heap c.step.new.self now.same c.step.ensures.same;
       rules = c.step.ensures.rules;
-      cost = one_more c.free.new.steps c.loop-i.steps c.step.new.steps c.loop-i.i (128 + 2 * c.free.new.self.quantum) _ now.cost c.step.ensures.bound
-          (ap (λ q. 128 + 2 * q) now.same.quantum);
+      cost = one_more c.free.new.steps c.loop-i.steps c.step.new.steps c.loop-i.i (15 + c.free.new.self.quantum) _ now.cost c.step.ensures.bound
+          (ap (λ q. 15 + q) now.same.quantum);
     }
 
 pub returns-in-Ok-clause-made : goal.returns-in-Ok-clause-made

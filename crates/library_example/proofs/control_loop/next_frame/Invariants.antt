@@ -9,5 +9,5 @@ invariant-loop-i l = record {
   slices : AreSlices (plan_in l.initial.heap) l.i (working_in l.initial.heap).state (working_in l.heap).state;
   same : StaysOpen l.initial.heap l.heap;
   rules : KeepsRules l.heap;
-  cost : RoseAtMost l.initial.steps l.steps (l.i * (128 + 2 * l.initial.heap.quantum));
+  cost : RoseAtMost l.initial.steps l.steps (l.i * (15 + l.initial.heap.quantum));
 }

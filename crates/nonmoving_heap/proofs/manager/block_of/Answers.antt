@@ -1,10 +1,11 @@
 use Rattle.std.proofs.Common.{◌+◌, ◌/◌, get_or, arith, sym, ◌∙◌, ap}
 use Rattle.cf_base.specs.declared.kind.Kind.TheVariants.{NonMoving}
 use Rattle.virtual_words.specs.Words.{frames_in}
+use Rattle.page_slots.proofs.CallerLemmas.{rose_both}
 use Rattle.paged_heap.specs.Heap.{seen}
 use Rattle.paged_heap.specs.Layout.{state_at}
 use Rattle.paged_heap.proofs.CallerLemmas.{has_class, in_region, it, it_found, it_slot, no_place, object_at, place_in}
-use Rattle.nonmoving_heap.proofs.Blocks.{block_given, block_past, block_there, none_live}
+use Rattle.nonmoving_heap.proofs.Blocks.{block_given, block_past, block_there, none_live, steps_gone, steps_given, steps_past}
 use Rattle.nonmoving_heap.proofs.manager.block_of.Goals as goal
 
 pub returns-in_default-clause-value : goal.returns-in_default-clause-value
@@ -50,3 +51,25 @@ returns-else-i-slot_words-clause-value c =
     let slot = it_slot k o in
     let w = c.slot_words.ensures.value in let le = c.if-i-slot_words.false in
     block_past (state_at NonMoving c.args.heap.now) c.args.h.0 c.args.i (it k o) (it_found k o) (omega arith)
+
+pub returns-in_default-clause-steps : goal.returns-in_default-clause-steps
+returns-in_default-clause-steps c =
+    steps_gone (state_at NonMoving c.args.heap.now) c.args.h.0 _ _
+    (no_place (seen NonMoving c.args.heap.now) c.requires.kept c.args.h.0 (sym c.in_default.ensures.found)) c.in_default.ensures.steps
+
+pub returns-in-Some-blocks-clause-steps : goal.returns-in-Some-blocks-clause-steps
+returns-in-Some-blocks-clause-steps c =
+    let h = seen NonMoving c.args.heap.now in let k = c.requires.kept in
+    let o = object_at h k c.args.h.0 c.in-Some.place (sym c.in-Some.ensures.found) c.length_at-length.result c.length_at-length.ensures.value
+    c.in-Some-class_of.c c.in-Some-class_of.ensures.found in
+    steps_given (state_at NonMoving c.args.heap.now) c.args.h.0 _ _ (it k o) (it_found k o) c.block.result
+    (rose_both _ _ _ _ _ (rose_both _ _ _ _ _ (rose_both _ _ _ _ _ c.in-Some.ensures.steps c.length_at-length.ensures.steps)
+    c.in-Some-class_of.ensures.steps) c.block.ensures.steps)
+
+pub returns-else-i-slot_words-clause-steps : goal.returns-else-i-slot_words-clause-steps
+returns-else-i-slot_words-clause-steps c =
+    let h = seen NonMoving c.args.heap.now in let k = c.requires.kept in
+    let o = object_at h k c.args.h.0 c.in-Some.place (sym c.in-Some.ensures.found) c.length_at-length.result c.length_at-length.ensures.value
+    c.in-Some-class_of.c c.in-Some-class_of.ensures.found in
+    steps_past (state_at NonMoving c.args.heap.now) c.args.h.0 _ _ (it k o) (it_found k o)
+    (rose_both _ _ _ _ _ (rose_both _ _ _ _ _ c.in-Some.ensures.steps c.length_at-length.ensures.steps) c.in-Some-class_of.ensures.steps)

@@ -1,4 +1,4 @@
--- Each entry is that of its partner.
+-- Each entry is the old entry of its partner.
 use Rattle.std.proofs.Common.{arith, rules, slice_index, ap, length}
 use Rattle.std.proofs.lemmas.List.FromFn.{map-range_with_len_more, length-map-range_with_len}
 use Rattle.cf_lemmas.specs.Exchanges.{exchanged, partner}

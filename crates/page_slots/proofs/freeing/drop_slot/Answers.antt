@@ -1,4 +1,4 @@
--- A page with a used slot is in the list that its slots tell.
+-- A page with a used slot is in the list that its slots determine.
 use Rattle.std.proofs.Common.{[], subst, sym}
 use Rattle.std.proofs.lemmas.List.{get_or_default}
 use Rattle.page_slots.specs.Tables.{IsOf, tables}

@@ -1,4 +1,4 @@
--- A page that is full no more left its list, and is in none.
+-- A full page left its list before it joins the other, so it is in none.
 use Rattle.std.proofs.Common.{◌<◌, arith, subst}
 use Rattle.std.specs.List.{Contains}
 use Rattle.class_lists.specs.declared.Which.TheVariants.{Full}

@@ -3,7 +3,7 @@ use Rattle.std.specs.Prelude.{codes}
 use Rattle.hex.specs.Hex.{encode_lower}
 use Rattle.cf_io.proofs.CallerLemmas.{length_in_hex, pushed}
 use Rattle.quota_session.specs.TaskRun.{task_run}
-use Rattle.quota_session.proofs.Telling.{read_fault, read_said, read_unknown}
+use Rattle.quota_session.proofs.ReplyLemmas.{read_fault, read_said, read_unknown}
 use Rattle.quota_session.proofs.changes.read.Goals as goal
 
 pub returns-in_default-clause-text : goal.returns-in_default-clause-text

@@ -2,7 +2,7 @@ use Rattle.std.proofs.Common.{◌∙◌, ap}
 use Rattle.run_model.specs.Reports.{total_line}
 use Rattle.quota_session.specs.Layout.{totals_with}
 use Rattle.quota_session.proofs.ClassLines.{report_cut, report_put}
-use Rattle.quota_session.proofs.Telling.{as_many, totals_are}
+use Rattle.quota_session.proofs.ReplyLemmas.{as_many, totals_are}
 use Rattle.quota_session.proofs.reports.walk.Goals as goal
 
 pub returns-in-Ok-clause-puts : goal.returns-in-Ok-clause-puts

@@ -6,7 +6,7 @@ use Rattle.session_model.proofs.CallerLemmas.{told_line}
 use Rattle.quota_session.specs.Layout.{session_of}
 use Rattle.quota_session.specs.Playing.{quota_tasks}
 use Rattle.quota_session.specs.QuotaRun.{quota_run}
-use Rattle.quota_session.proofs.Telling.{in_part, told_walk}
+use Rattle.quota_session.proofs.ReplyLemmas.{in_part, told_walk}
 use Rattle.quota_session.proofs.session.answer.Goals as goal
 
 pub returns-in_default-clause-answers : goal.returns-in_default-clause-answers
@@ -14,7 +14,7 @@ returns-in_default-clause-answers g c = told_line quota_tasks in_part
     (quota_run (Some (profile_of c.args.s.now)) (session_of c.args.records.now) c.args.heap.now)
     (quota_run (Some (profile_of c.args.s.now)) (session_of c.speak.new.records) c.speak.new.heap)
     (owned_command c.args.c)
-    c.speak.new.line _ _ c.put_line.result c.outcome_of_text-outcome.result c.ended-in_default.result c.speak.ensures
+    c.speak.new.line _ _ c.put_line.result c.outcome_of_text-outcome.result c.ended-in_default.result c.speak.ensures.speaks
     (c.outcome_of_text-outcome.ensures ∙ ap outcome_in c.bytes.ensures.value) c.put_line.ensures.puts c.ended-in_default.ensures
 
 pub returns-in-Walk-clause-answers : goal.returns-in-Walk-clause-answers

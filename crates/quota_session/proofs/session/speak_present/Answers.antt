@@ -4,7 +4,7 @@ use Rattle.std.proofs.lemmas.List.{get_or_read}
 use Rattle.cf_io.specs.Texts.{said}
 use Rattle.script_reader.specs.Owned.{owned_command}
 use Rattle.quota_session.specs.Layout.{session_of}
-use Rattle.quota_session.proofs.Telling.{present_step}
+use Rattle.quota_session.proofs.ReplyLemmas.{present_step}
 use Rattle.quota_session.proofs.session.speak_present.Goals as goal
 
 pub returns-clause-step : goal.returns-clause-step
@@ -13,4 +13,4 @@ returns-clause-step c =
     let x = c.index_mut-ids.result.now in
     let here = get_or_read r.ids.items r.present x (omega (arith, c.requires.sixteen.ids, c.requires.sixteen.present)) c.index_mut-ids.ensures.value empty in
     present_step (session_of r) c.args.heap.now c.speak_task.new.heap x c.speak_task.new.ids (owned_command c.args.c) (said c.speak_task.new.line) here
-    c.speak_task.ensures.turn
+    c.speak_task.ensures.speaks.turn

@@ -38,7 +38,7 @@ use Rattle.region.proofs.block.zero.Statement.{statement}
 use Rattle.region.proofs.block.zero.Code as code
 use Rattle.region.proofs.LayoutFacts.{row_in}
 
--- one zero more
+-- the words that are zero so far
 abbrev zeros : ℕ → List ℕ
 zeros i = replicate i 0
 
@@ -50,7 +50,7 @@ module _ {M : Type 1} {𝓤 : Ura M} (𝓛 : Logic 𝓤) (𝓣 : Tables 𝓤 �
     (exits : ent 𝓤 (sem 𝓛 (words_at (block_ptr b o) n (zeros n))) (Post vunit)) (l : ℕ → ℕ) where
   open 𝓛 use {H}
 
-  -- the place of the next word, and the word in it
+  -- the memory of the next word is split off
   took : (i : ℕ) → i < n → ent 𝓤 (H.room (ty_array (ty_int w64) (n - i)) b (i * 8 + o))
       (sep 𝓤 (H.room (ty_int w64) b (i * 8 + o)) (H.room (ty_array (ty_int w64) (n - suc i)) b (suc i * 8 + o)))
   took i lt =
@@ -75,7 +75,7 @@ module _ {M : Type 1} {𝓤 : Ura M} (𝓛 : Logic 𝓤) (𝓣 : Tables 𝓤 �
   abbrev En : Env 𝓤 H
   En = env (code.function).locals l
 
-  -- how many are zero
+  -- the number of words that are zero
   abbrev Zeroed : Type 0
   Zeroed = (i : ℕ) × (i ≤ n)
 
@@ -101,7 +101,7 @@ module _ {M : Type 1} {𝓤 : Ura M} (𝓛 : Logic 𝓤) (𝓣 : Tables 𝓤 �
       sets ! (bin ! (get ! refl) (lit ! tt) (record { fits = offset })) refl (tt, record { fits = offset }) $
       sets ! (bin ! (get ! refl) (get ! refl) tt) refl (tt, tt) $
       move ! (1 ∷ []) $ use1 𝓛 (‵ (froom (ty_int w64) b (i * 8 + o)) ⊛ ‵ (froom (ty_array (ty_int w64) (n - suc i)) b (suc i * 8 + o))) (took i lt) $ split ! $
-      -- [the next place; those after it; the zeros; the locals]
+      -- [the memory of the next word; that of the words after it; the zeros; the locals]
       assigns ! (of_opd ! (lit ! tt)) (through ! refl (stop !)) (init ! 0 refl (tt, record { fits = lit< tt })) $
       sets_last ! (bin ! (get ! refl) (lit ! tt) (record { fits = more })) refl (tt, record { fits = more }) $
       move ! (2 ∷ 0 ∷ []) $ use2 𝓛 (‵ (cells (mem u64) (zeros (suc i)) b o)) (grown i) $

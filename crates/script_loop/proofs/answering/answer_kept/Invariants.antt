@@ -1,4 +1,4 @@
-use Rattle.std.proofs.Common.{◌≡◌, ◌≤◌, List, ℕ, [], false, length, None}
+use Rattle.std.proofs.Common.{◌≡◌, List, ℕ, [], false, length, None}
 use Rattle.cf_io.specs.Feeds.{appended}
 use Rattle.script_loop.specs.Going.{Answered}
 use Rattle.script_loop.specs.Progress.{IsReady, playing}

@@ -3,7 +3,7 @@ use Rattle.size_classes.proofs.LeastSize.{IsLeast, next_size, told_more}
 use Rattle.size_classes.proofs.needs.classes_by_need.Goals as goal
 use Rattle.size_classes.proofs.needs.classes_by_need.Goals.{then-sizes-class, else-sizes-class}
 
--- the class of this need: the one of the last, or the next
+-- the class of this need is that of the last one or the next class
 pub needs-preserved : goal.needs-preserved
 needs-preserved c =
     let was = c.needs.invariant in

@@ -3,7 +3,7 @@ use Rattle.std.specs.Prelude.{nat_le}
 use Rattle.std.specs.List.{position}
 use Rattle.size_classes.proofs.needs.classes_by_need.Given as goal
 
--- the classes of the needs so far, and the one of the last: no size before it is large enough, and the next need is one more at most
+-- every need below this one has its class; no size before `class` holds this need, and the need is at most one more than the size of `class`
 abbrev pub invariant-needs : goal.invariant-needs
 invariant-needs l = record {
   within : l.need ≤ l.page_words + 1;

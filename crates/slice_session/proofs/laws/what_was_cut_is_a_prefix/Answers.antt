@@ -1,6 +1,3 @@
-use Rattle.std.proofs.Common.{refl}
-use Rattle.std.specs.Prelude.{codes}
-use Rattle.cf_io.specs.Texts.{said}
 use Rattle.script_loop.proofs.Prefix.{cut_is_prefix_by}
 use Rattle.slice_session.specs.Playing.{slices}
 use Rattle.slice_session.proofs.Turns.{slices_go_on}

@@ -16,6 +16,6 @@ returns g c =
     let many : c.len.result ≡ length c.args.managers.now.items = omega arith in
     let started = subst (λ n. AreFresh n c.in-Ok.sessions.each.items) many c.in-Ok.ensures in
     each_ends _ _ _ _ c.play_script.result
-    (record { silent = by.silent; source_same = by.source_same; read_fault = by.read_fault; sink_same = by.sink_same; write_fault = by.write_fault; too_long = by.too_long })
+    by.causes
     (λ m. g.H.Manager.state m) c.in-Ok.sessions.each.items c.args.managers.now.items started
     c.play_script.new.player.each.items c.play_script.new.heap.items by.plan by.outcome

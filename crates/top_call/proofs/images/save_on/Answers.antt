@@ -15,4 +15,4 @@ returns g c = λ managers.
     let by = c.save_script.ensures in
     saved_ends _ _ _ _ managers c.save_script.result c.in-Ok.session (g.H.Manager.state c.args.heap.now)
     (run_at c.save_script.new.player.player (g.H.Manager.state c.save_script.new.heap)) c.in-Ok.ensures c.requires
-    (record { silent = by.silent; source_same = by.source_same; read_fault = by.read_fault; sink_same = by.sink_same; write_fault = by.write_fault; too_long = by.too_long }) by.ends
+    by.causes by.ends

@@ -12,7 +12,7 @@ returns g c = λ managers.
     let by = c.run_large.ensures in
     let inner = c.new-heap.ensures.inner ∙ c.closed.ensures in
     made_ends large_heap IsMadeLarge _ _ _ _ managers c.run_large.result
-    (record { silent = by.silent; source_same = by.source_same; read_fault = by.read_fault; sink_same = by.sink_same; write_fault = by.write_fault; too_long = by.too_long })
+    by.causes
     (large_run c.in-Ok.player.session c.new-heap.result) (large_run c.run_large.new.player.session c.run_large.new.heap)
     (record {
       fresh = record { ids = c.in-Ok.ensures; pages = subst (λ (s : HeapState). IsPaged s.kind) (sym inner) refl };

@@ -11,7 +11,7 @@ pub returns : goal.returns
 returns g c = λ managers.
     let by = c.run_quotas.ensures in
     made_ends quota_tasks IsMadeForTasks _ _ _ _ managers c.run_quotas.result
-    (record { silent = by.silent; source_same = by.source_same; read_fault = by.read_fault; sink_same = by.sink_same; write_fault = by.write_fault; too_long = by.too_long })
+    by.causes
     (quota_run (option_map profile_of c.in-Ok.player.settings) c.in-Ok.player.session c.closed-heap.result)
     (quota_run (option_map profile_of c.run_quotas.new.player.settings) c.run_quotas.new.player.session c.run_quotas.new.heap)
     (rw (c.in-Ok.ensures.session, c.in-Ok.ensures.settings, c.closed-heap.ensures) refl) by.outcome

@@ -9,9 +9,9 @@ returns-in-Some g c =
     let f = λ (m : g.row.H.Denot). g.H.Manager.state m in
     let by = c.run_script.ensures in
     first_ends c.args.kind _ _ _ _ c.run_script.result
-    (record { silent = by.silent; source_same = by.source_same; read_fault = by.read_fault; sink_same = by.sink_same; write_fault = by.write_fault; too_long = by.too_long })
+    by.causes
     c.in-Ok.session (run_at c.run_script.new.session (f c.run_script.new.heap)) c.in-Ok.ensures f c.args.managers.now.items c.in-Some.i
-    c.index_mut.result.now c.run_script.new.heap (sym c.in-Some.ensures) c.index_mut.ensures.value refl by.kind by.outcome
+    c.index_mut.result.now c.run_script.new.heap (sym c.in-Some.ensures) c.index_mut.ensures.value refl by.plan by.outcome
 
 -- none is of the kind: one answers that is made for it
 pub returns : goal.returns

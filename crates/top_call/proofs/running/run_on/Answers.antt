@@ -7,6 +7,6 @@ pub returns : goal.returns
 returns g c =
     let by = c.run_script.ensures in
     own_ends c.args.kind _ _ _ _ c.run_script.result
-    (record { silent = by.silent; source_same = by.source_same; read_fault = by.read_fault; sink_same = by.sink_same; write_fault = by.write_fault; too_long = by.too_long })
+    by.causes
     c.args.session.now (run_at c.run_script.new.session (g.H.Manager.state c.run_script.new.heap)) c.requires.fresh (g.H.Manager.state c.args.heap.now)
     c.requires.closed by.outcome

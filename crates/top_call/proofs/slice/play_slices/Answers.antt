@@ -11,7 +11,7 @@ pub returns : goal.returns
 returns g c = λ managers.
     let by = c.run_slices.ensures in
     made_ends slices (IsMadeSliced c.args.quantum) _ _ _ _ managers c.run_slices.result
-    (record { silent = by.silent; source_same = by.source_same; read_fault = by.read_fault; sink_same = by.sink_same; write_fault = by.write_fault; too_long = by.too_long })
+    by.causes
     (slice_play c.in-Ok.player.session c.in-Ok.player.quantum c.closed-heap.result)
     (slice_play c.run_slices.new.player.session c.run_slices.new.player.quantum c.run_slices.new.heap)
     (rw (c.in-Ok.ensures.session, c.in-Ok.ensures.quantum, c.closed-heap.ensures) refl) by.outcome

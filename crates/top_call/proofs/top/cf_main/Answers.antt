@@ -4,8 +4,9 @@ use Rattle.command_line.specs.declared.choice.Mode.TheVariants.{Run, Compare, Be
 use Rattle.large_objects.specs.Playing.{large_heap}
 use Rattle.quota_session.specs.Playing.{quota_tasks}
 use Rattle.slice_session.specs.Playing.{slices}
-use Rattle.top_call.specs.TopOutcome.{IsMadeForTasks, IsMadeLarge, IsMadeSliced, source_at}
-use Rattle.top_call.proofs.Whole.{bench_never_words, bench_whole, compare_never_words, compare_whole, load_never_words, load_whole, mode_ends, mode_tells}
+use Rattle.script_loop.specs.ScriptOutcome.{source_at}
+use Rattle.top_call.specs.TopOutcome.{IsMadeForTasks, IsMadeLarge, IsMadeSliced}
+use Rattle.top_call.proofs.Whole.{bench_never_words, bench_whole, compare_never_words, compare_told, compare_whole, load_never_words, load_whole, mode_ends, mode_tells}
 use Rattle.top_call.proofs.Whole.{own_never_words, own_whole, right_input, run_never_words, run_told, run_whole, save_never_words, save_whole}
 use Rattle.top_call.proofs.top.cf_main.Goals as goal
 
@@ -18,7 +19,7 @@ returns-in-Run-clause-outcome g c = mode_ends _ c.in-Ok.choice Run c.in-Ok.ensur
     (run_never_words c.in-Ok.choice.kind) _ c.run_chosen.result _ c.run_chosen.ensures
 
 pub returns-in-Run-clause-claimed : goal.returns-in-Run-clause-claimed
-returns-in-Run-clause-claimed g c = λ is. mode_tells _ c.in-Ok.choice Run c.in-Ok.ensures.reads c.in-Run.is _
+returns-in-Run-clause-claimed g c = λ is. mode_tells _ c.in-Ok.choice Run c.in-Ok.ensures.reads c.in-Run.is _ _
     (run_told c.in-Ok.choice.kind _ c.run_chosen.result _ c.run_chosen.ensures.outcome is)
 
 pub returns-in-Run-clause-complete : goal.returns-in-Run-clause-complete
@@ -30,7 +31,8 @@ returns-in-Compare-clause-outcome g c = mode_ends _ c.in-Ok.choice Compare c.in-
     compare_never_words _ c.compare.result _ c.compare.ensures
 
 pub returns-in-Compare-clause-claimed : goal.returns-in-Compare-clause-claimed
-returns-in-Compare-clause-claimed g c = λ is. mode_tells _ c.in-Ok.choice Compare c.in-Ok.ensures.reads c.in-Compare.is _ tt
+returns-in-Compare-clause-claimed g c = λ is. mode_tells _ c.in-Ok.choice Compare c.in-Ok.ensures.reads c.in-Compare.is _ _
+    (compare_told c.in-Ok.choice.kind _ c.compare.result _ c.compare.ensures.outcome is)
 
 pub returns-in-Compare-clause-complete : goal.returns-in-Compare-clause-complete
 returns-in-Compare-clause-complete g c = λ have. compare_whole _ c.compare.result _ c.compare.ensures
@@ -41,7 +43,7 @@ returns-in-Bench-clause-outcome g c = mode_ends _ c.in-Ok.choice Bench c.in-Ok.e
     (bench_never_words c.in-Ok.choice) _ c.bench.result _ (c.bench.ensures _ _)
 
 pub returns-in-Bench-clause-claimed : goal.returns-in-Bench-clause-claimed
-returns-in-Bench-clause-claimed g c = λ is. mode_tells _ c.in-Ok.choice Bench c.in-Ok.ensures.reads c.in-Bench.is _ tt
+returns-in-Bench-clause-claimed g c = λ is. mode_tells _ c.in-Ok.choice Bench c.in-Ok.ensures.reads c.in-Bench.is _ _ tt
 
 pub returns-in-Bench-clause-complete : goal.returns-in-Bench-clause-complete
 returns-in-Bench-clause-complete g c = λ have sure firm. bench_whole c.in-Ok.choice _ c.bench.result _ (c.bench.ensures (source_at None 0 0) []) firm
@@ -66,7 +68,7 @@ returns-in-Large-clause-outcome g c = mode_ends _ c.in-Ok.choice Large c.in-Ok.e
     (own_never_words large_heap IsMadeLarge) _ c.play_large.result _ (c.play_large.ensures _)
 
 pub returns-in-Large-clause-claimed : goal.returns-in-Large-clause-claimed
-returns-in-Large-clause-claimed g c = λ is. mode_tells _ c.in-Ok.choice Large c.in-Ok.ensures.reads c.in-Large.is _ tt
+returns-in-Large-clause-claimed g c = λ is. mode_tells _ c.in-Ok.choice Large c.in-Ok.ensures.reads c.in-Large.is _ _ tt
 
 pub returns-in-Large-clause-complete : goal.returns-in-Large-clause-complete
 returns-in-Large-clause-complete g c = λ have. own_whole large_heap IsMadeLarge _ c.play_large.result _ (c.play_large.ensures [])
@@ -92,7 +94,7 @@ returns-in-Save-clause-outcome g c = mode_ends _ c.in-Ok.choice Save c.in-Ok.ens
     save_never_words _ c.save_image.result _ (c.save_image.ensures _)
 
 pub returns-in-Save-clause-claimed : goal.returns-in-Save-clause-claimed
-returns-in-Save-clause-claimed g c = λ is. mode_tells _ c.in-Ok.choice Save c.in-Ok.ensures.reads c.in-Save.is _ tt
+returns-in-Save-clause-claimed g c = λ is. mode_tells _ c.in-Ok.choice Save c.in-Ok.ensures.reads c.in-Save.is _ _ tt
 
 pub returns-in-Save-clause-complete : goal.returns-in-Save-clause-complete
 returns-in-Save-clause-complete g c = λ have. save_whole _ c.save_image.result _ (c.save_image.ensures [])
@@ -118,7 +120,7 @@ returns-in-Load-clause-outcome g c = mode_ends _ c.in-Ok.choice Load c.in-Ok.ens
     load_never_words _ c.load_image.result _ (c.load_image.ensures _)
 
 pub returns-in-Load-clause-claimed : goal.returns-in-Load-clause-claimed
-returns-in-Load-clause-claimed g c = λ is. mode_tells _ c.in-Ok.choice Load c.in-Ok.ensures.reads c.in-Load.is _ tt
+returns-in-Load-clause-claimed g c = λ is. mode_tells _ c.in-Ok.choice Load c.in-Ok.ensures.reads c.in-Load.is _ _ tt
 
 pub returns-in-Load-clause-complete : goal.returns-in-Load-clause-complete
 returns-in-Load-clause-complete g c = λ have. load_whole _ c.load_image.result _ (c.load_image.ensures [])
@@ -144,7 +146,7 @@ returns-in-Slice-clause-outcome g c = mode_ends _ c.in-Ok.choice Slice c.in-Ok.e
     (own_never_words slices (IsMadeSliced c.in-Ok.choice.quantum)) _ c.play_slices.result _ (c.play_slices.ensures _)
 
 pub returns-in-Slice-clause-claimed : goal.returns-in-Slice-clause-claimed
-returns-in-Slice-clause-claimed g c = λ is. mode_tells _ c.in-Ok.choice Slice c.in-Ok.ensures.reads c.in-Slice.is _ tt
+returns-in-Slice-clause-claimed g c = λ is. mode_tells _ c.in-Ok.choice Slice c.in-Ok.ensures.reads c.in-Slice.is _ _ tt
 
 pub returns-in-Slice-clause-complete : goal.returns-in-Slice-clause-complete
 returns-in-Slice-clause-complete g c = λ have. own_whole slices (IsMadeSliced c.in-Ok.choice.quantum) _ c.play_slices.result _ (c.play_slices.ensures [])
@@ -170,7 +172,7 @@ returns-in-Quota-clause-outcome g c = mode_ends _ c.in-Ok.choice Quota c.in-Ok.e
     (own_never_words quota_tasks IsMadeForTasks) _ c.play_quotas.result _ (c.play_quotas.ensures _)
 
 pub returns-in-Quota-clause-claimed : goal.returns-in-Quota-clause-claimed
-returns-in-Quota-clause-claimed g c = λ is. mode_tells _ c.in-Ok.choice Quota c.in-Ok.ensures.reads c.in-Quota.is _ tt
+returns-in-Quota-clause-claimed g c = λ is. mode_tells _ c.in-Ok.choice Quota c.in-Ok.ensures.reads c.in-Quota.is _ _ tt
 
 pub returns-in-Quota-clause-complete : goal.returns-in-Quota-clause-complete
 returns-in-Quota-clause-complete g c = λ have. own_whole quota_tasks IsMadeForTasks _ c.play_quotas.result _ (c.play_quotas.ensures [])

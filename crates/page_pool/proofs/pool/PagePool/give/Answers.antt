@@ -1,4 +1,4 @@
--- A page that isn't free has room on the stack.
+-- While a page isn't free, the stack has a place for it.
 use Rattle.page_pool.proofs.Stack.{laid_given}
 use Rattle.page_pool.proofs.pool.PagePool.give.Goals as goal
 

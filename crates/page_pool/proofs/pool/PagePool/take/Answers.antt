@@ -1,4 +1,4 @@
--- The rest of a pool is a pool.
+-- Removing the first page leaves a pool.
 use Rattle.std.proofs.Common.{arith}
 use Rattle.page_pool.proofs.Stack.{laid_taken}
 use Rattle.page_pool.proofs.pool.PagePool.take.Goals as goal

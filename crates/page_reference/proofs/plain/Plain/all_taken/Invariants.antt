@@ -2,6 +2,6 @@ use Rattle.std.proofs.Common.{◌<◌, ℕ}
 use Rattle.page_model.specs.Arrangement.{standing_on}
 use Rattle.page_reference.proofs.plain.Plain.all_taken.Given as goal
 
--- the pages so far hold an object
+-- each page so far holds an object
 abbrev pub invariant-loop-page : goal.invariant-loop-page
 invariant-loop-page l = (page : ℕ) → page < l.page → 0 < standing_on l.self.paging l.self.held page

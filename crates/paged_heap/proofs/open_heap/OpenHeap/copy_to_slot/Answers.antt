@@ -1,10 +1,14 @@
 -- The kept words are moved and cut, and the header comes before them.
 use Rattle.std.proofs.Common.{◌+◌, ◌-◌, ◌*◌, ◌/◌, ◌<◌, ◌≤◌, set, arith, sym, ◌∙◌, ap, subst}
+use Rattle.step_ledger.specs.Counting.{RoseBy}
+use Rattle.page_model.specs.Order.{word_steps}
+use Rattle.page_slots.proofs.CallerLemmas.{rose_both}
 use Rattle.page_model.specs.Image.{MovesWords}
-use Rattle.virtual_words.specs.Words.{words_of}
+use Rattle.virtual_words.specs.Words.{copy_steps, words_of}
 use Rattle.virtual_words.proofs.CallerLemmas.{laid_long}
 use Rattle.paged_heap.specs.declared.open_heap.OpenHeap.{OpenHeap}
 use Rattle.paged_heap.specs.ZeroTail.{Cuts}
+use Rattle.paged_heap.specs.ExactCosts.{tail_steps}
 use Rattle.paged_heap.specs.Heap.{seen}
 use Rattle.paged_heap.proofs.open_heap.OpenHeap.copy_to_slot.Goals as goal
 
@@ -33,3 +37,10 @@ returns-clause-bound g c =
     let few : (8 * c.words-words.result + 7) / 8 - c.args.x.bytes / 8 ≤ 1 = omega arith in
     let ak = a.kept in let ab = a.bound in let bk = b.kept in let bb = b.bound in let dk = d.kept in let db = d.bound in let ek = e.kept in let eb = e.bound in
     record { kept = omega arith; bound = omega arith }
+
+pub returns-clause-steps : goal.returns-clause-steps
+returns-clause-steps g c =
+    let kind = g.A.Mapping.kind in let x = c.args.x in
+    subst (λ n. RoseBy c.args.steps.now c.rebind.new.steps (copy_steps kind (x.place + 1) n + tail_steps kind c.args.to x.bytes (8 * n) + word_steps kind + 1)) c.words-words.ensures
+    (rose_both _ _ _ _ _ (rose_both _ _ _ _ _ (rose_both _ _ _ _ _ c.move_words.ensures.steps c.zero_tail.ensures.steps) c.write.ensures.steps)
+    c.rebind.ensures.steps)

@@ -4,6 +4,7 @@ use Rattle.paged_heap.proofs.Preserved.{no_place}
 use Rattle.paged_heap.proofs.ByKind.{in_region}
 use Rattle.paged_heap.proofs.ReadLemmas.{lies, passes, place_in}
 use Rattle.page_model.proofs.CallerLemmas.{bytes_long}
+use Rattle.page_slots.proofs.CallerLemmas.{rose_both}
 use Rattle.paged_heap.proofs.open_heap.OpenHeap.find.Goals as goal
 use Rattle.paged_heap.proofs.open_heap.OpenHeap.find.Goals.{then-length-count-via-then-length-count}
 use Rattle.paged_heap.proofs.open_heap.OpenHeap.find.Goals.{then-length-count-via-else-length-count+then-length-count-2}
@@ -35,3 +36,9 @@ returns-clause-found g c =
     let e = c.length_at-length.ensures.value in
     let a = c.if-length-count.false in let b = c.if-length-count-2.false in
     lies h c.requires.kept c.args.h.0 c.in-Some.place (sym c.in-Some.ensures.found) c.args.at c.args.count (omega arith)
+
+pub returns-then-length-count-clause-steps : goal.returns-then-length-count-clause-steps
+returns-then-length-count-clause-steps g c = rose_both _ _ _ _ _ c.in-Some.ensures.steps c.length_at-length.ensures.steps
+
+pub returns-clause-steps : goal.returns-clause-steps
+returns-clause-steps g c = rose_both _ _ _ _ _ c.in-Some.ensures.steps c.length_at-length.ensures.steps

@@ -1,11 +1,13 @@
+use Rattle.std.proofs.Common.{arith}
 use Rattle.paged_heap.specs.Heap.{seen}
 use Rattle.paged_heap.proofs.Preserved.{cost_kept}
-use Rattle.paged_heap.proofs.HeaderLemmas.{free_cost}
+use Rattle.paged_heap.proofs.HeaderLemmas.{few_free, free_with_cost}
+use Rattle.paged_heap.proofs.StepLemmas.{rose_is}
 use Rattle.paged_heap.proofs.open_heap.OpenHeap.free.Goals as goal
 
 pub returns-clause-step : goal.returns-clause-step
 returns-clause-step g c =
-    free_cost (seen g.A.Mapping.kind c.args.self.now) c.args.h.0 _ (seen g.A.Mapping.kind c.free_inner-result.new.self) _ c.free_inner-result.ensures.step
+    free_with_cost (seen g.A.Mapping.kind c.args.self.now) c.args.h.0 _ (seen g.A.Mapping.kind c.free_inner-result.new.self) _ c.free_inner-result.ensures.step
 
 pub returns-clause-kept : goal.returns-clause-kept
 returns-clause-kept g c =
@@ -13,3 +15,9 @@ returns-clause-kept g c =
       laid = c.free_inner-result.ensures.kept.laid;
       kept = cost_kept (seen g.A.Mapping.kind c.free_inner-result.new.self) _ c.free_inner-result.ensures.kept.kept;
     }
+
+pub returns-clause-cost : goal.returns-clause-cost
+returns-clause-cost g c =
+    let is = rose_is _ _ _ _ c.requires.room (few_free (seen g.A.Mapping.kind c.args.self.now) c.requires.kept.kept c.args.h.0 _ _ c.free_inner-result.ensures.step) c.free_inner-result.ensures.cost c.free_inner-result.ensures.bound in
+    let a = c.count-before.ensures in let b = c.count.ensures in
+    omega arith

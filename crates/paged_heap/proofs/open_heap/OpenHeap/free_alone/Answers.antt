@@ -2,10 +2,12 @@
 use Rattle.std.proofs.Common.{get_or, None, arith, refl, sym, ap, subst, ◌∙◌}
 use Rattle.page_model.specs.Image.{Clears}
 use Rattle.page_model.specs.Steps.{MustMove}
+use Rattle.page_slots.specs.Freeing.{steps_to_drop}
 use Rattle.page_slots.specs.Tables.{IsUsed, page_at, slot_at}
 use Rattle.paged_heap.specs.declared.open_heap.OpenHeap.{OpenHeap}
 use Rattle.paged_heap.specs.Heap.{Heap, seen}
 use Rattle.paged_heap.specs.Layout.{held_in, paging_at, state_of, tables_in}
+use Rattle.paged_heap.proofs.CostLemmas.{alone_sum}
 use Rattle.paged_heap.proofs.FreeAlone.{alone}
 use Rattle.paged_heap.proofs.ByKind.{clear_most, frames_stay, framed_of, in_region, laid_same}
 use Rattle.paged_heap.proofs.LayoutFacts.{paged_kind}
@@ -89,3 +91,11 @@ returns-clause-steps g c =
     let m = clear_most g.A.Mapping.kind c.args.place c.slot_words-slot_words.result in
     let a = c.erase.ensures.steps in let b = c.release_slot.ensures.bound in
     record { kept = omega (arith, a.kept, b.kept); bound = omega (arith, m, a.bound, b.bound) }
+
+pub returns-clause-cost : goal.returns-clause-cost
+returns-clause-cost g c =
+    let kind = g.A.Mapping.kind in
+    alone_sum c.requires.kept.kept c.requires.object c.slot_words-slot_words.result c.slot_words-slot_words.ensures.value _ _ _ _
+    (ap (λ (x : OpenHeap). steps_to_drop (tables_in (seen kind x)) (page_at x.classes c.args.place)) c.count_out.ensures
+    ∙ ap (λ (x : Heap). steps_to_drop (tables_in x) (page_at x.classes c.args.place)) c.erase.ensures.rest)
+    c.erase.ensures.steps c.release_slot.ensures.steps

@@ -3,6 +3,7 @@ use Rattle.std.proofs.Common.{length, get_or, Some, arith, refl, ◌∙◌, ap}
 use Rattle.paged_heap.specs.declared.open_heap.OpenHeap.{OpenHeap}
 use Rattle.paged_heap.specs.Heap.{seen}
 use Rattle.paged_heap.proofs.ByKind.{framed_of, in_region, laid_same}
+use Rattle.paged_heap.proofs.CostLemmas.{filled_sum}
 use Rattle.paged_heap.proofs.FreedObject.{asked_some, goes_freed, goes_kept, live_some, taken_some}
 use Rattle.paged_heap.proofs.FreeAndFill.{apart_there, fills_of, frames_are, leaves_of, live_there, moved_is, mover, place_in, r, refilled, source_there}
 use Rattle.paged_heap.proofs.FreeAndFill.{target_there, whole_is, whole_source, whole_target, whole_there}
@@ -146,3 +147,8 @@ returns-clause-kept g c =
       laid = c.move_to.ensures.laid;
       kept = goes_kept fills.valid fills.object (seen g.A.Mapping.kind c.move_to.new.self) (Some (r fills)) (mover fills) now;
     }
+
+pub returns-clause-cost : goal.returns-clause-cost
+returns-clause-cost g c =
+    filled_sum c.requires.kept.kept c.requires.object c.slot_words-slot_words.result c.slot_words-slot_words.ensures.value c.unpack.result.handle _ _
+    c.take_filler-from.ensures.filled _ _ _ _ _ c.take_filler-from.ensures.steps c.read.ensures.steps c.release.ensures.steps c.move_to.ensures.steps

@@ -4,6 +4,7 @@ use Rattle.paged_heap.specs.Heap.{seen}
 use Rattle.paged_heap.proofs.Preserved.{no_place}
 use Rattle.paged_heap.proofs.ByKind.{in_region}
 use Rattle.paged_heap.proofs.ReadLemmas.{place_in}
+use Rattle.paged_heap.proofs.CostLemmas.{free_sum}
 use Rattle.paged_heap.proofs.HeaderLemmas.{has_class, object_at, page_there}
 use Rattle.paged_heap.proofs.open_heap.OpenHeap.free_inner.Goals as goal
 
@@ -37,3 +38,19 @@ pub free_alone-requires-clause-object : goal.free_alone-requires-clause-object
 free_alone-requires-clause-object g c =
     object_at (seen g.A.Mapping.kind c.args.self.now) c.requires.kept c.args.h.0 c.in-Some.place (sym c.in-Some.ensures.found) c.length_at-length.result
     c.length_at-length.ensures.value c.in-Some-class_of.c c.in-Some-class_of.ensures.found
+
+pub returns-then-must_move-clause-cost : goal.returns-then-must_move-clause-cost
+returns-then-must_move-clause-cost g c =
+    let h = seen g.A.Mapping.kind c.args.self.now in let k = c.requires.kept in
+    let o = object_at h k c.args.h.0 c.in-Some.place (sym c.in-Some.ensures.found) c.length_at-length.result c.length_at-length.ensures.value
+    c.in-Some-class_of.c c.in-Some-class_of.ensures.found in
+    free_sum k o c.free_and_fill.result _ _ _ _ _ _ c.in-Some.ensures.steps c.length_at-length.ensures.steps c.in-Some-class_of.ensures.steps c.must_move.ensures.steps
+    c.free_and_fill.ensures.cost
+
+pub returns-else-must_move-clause-cost : goal.returns-else-must_move-clause-cost
+returns-else-must_move-clause-cost g c =
+    let h = seen g.A.Mapping.kind c.args.self.now in let k = c.requires.kept in
+    let o = object_at h k c.args.h.0 c.in-Some.place (sym c.in-Some.ensures.found) c.length_at-length.result c.length_at-length.ensures.value
+    c.in-Some-class_of.c c.in-Some-class_of.ensures.found in
+    free_sum k o c.free_alone.result _ _ _ _ _ _ c.in-Some.ensures.steps c.length_at-length.ensures.steps c.in-Some-class_of.ensures.steps c.must_move.ensures.steps
+    c.free_alone.ensures.cost

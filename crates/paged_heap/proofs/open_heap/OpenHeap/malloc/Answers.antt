@@ -1,12 +1,14 @@
+use Rattle.std.proofs.Common.{arith}
 use Rattle.paged_heap.specs.Heap.{seen}
 use Rattle.paged_heap.proofs.Preserved.{cost_kept}
 use Rattle.paged_heap.proofs.LayoutFacts.{paged_kind}
-use Rattle.paged_heap.proofs.MallocLemmas.{malloc_cost}
+use Rattle.paged_heap.proofs.MallocLemmas.{malloc_with_cost}
+use Rattle.paged_heap.proofs.StepLemmas.{rose_is}
 use Rattle.paged_heap.proofs.open_heap.OpenHeap.malloc.Goals as goal
 
 pub returns-clause-step : goal.returns-clause-step
 returns-clause-step g c =
-    malloc_cost (seen g.A.Mapping.kind c.args.self.now) (paged_kind (seen g.A.Mapping.kind c.args.self.now) c.requires.kept.kept) c.args.bytes _
+    malloc_with_cost (seen g.A.Mapping.kind c.args.self.now) (paged_kind (seen g.A.Mapping.kind c.args.self.now) c.requires.kept.kept) c.args.bytes _
     (seen g.A.Mapping.kind c.malloc_inner-result.new.self) _ c.malloc_inner-result.ensures.step
 
 pub returns-clause-kept : goal.returns-clause-kept
@@ -15,3 +17,9 @@ returns-clause-kept g c =
       laid = c.malloc_inner-result.ensures.kept.laid;
       kept = cost_kept (seen g.A.Mapping.kind c.malloc_inner-result.new.self) _ c.malloc_inner-result.ensures.kept.kept;
     }
+
+pub returns-clause-cost : goal.returns-clause-cost
+returns-clause-cost g c =
+    let is = rose_is _ _ _ 18 c.requires.room (omega arith) c.malloc_inner-result.ensures.cost c.malloc_inner-result.ensures.bound in
+    let a = c.count-before.ensures in let b = c.count.ensures in
+    omega arith

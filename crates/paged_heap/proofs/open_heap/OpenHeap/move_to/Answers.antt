@@ -1,5 +1,6 @@
 -- The words are as many as before, since the region is.
 use Rattle.std.proofs.Common.{sym, ◌∙◌}
+use Rattle.page_slots.proofs.CallerLemmas.{rose_both}
 use Rattle.virtual_words.proofs.CallerLemmas.{laid_long}
 use Rattle.paged_heap.proofs.open_heap.OpenHeap.move_to.Goals as goal
 
@@ -10,3 +11,6 @@ returns-clause-moves g c = record {
   words = c.move_slot.ensures.words;
   frames = c.move_slot.ensures.frames;
 }
+
+pub returns-clause-steps : goal.returns-clause-steps
+returns-clause-steps g c = rose_both _ _ _ _ _ c.move_slot.ensures.steps c.rebind.ensures.steps

@@ -1,7 +1,11 @@
-use Rattle.std.proofs.Common.{length, arith}
+use Rattle.std.proofs.Common.{length, arith, subst}
+use Rattle.step_ledger.specs.Counting.{RoseBy}
+use Rattle.page_slots.proofs.CallerLemmas.{rose_both}
 use Rattle.paged_heap.specs.Heap.{seen}
 use Rattle.paged_heap.proofs.ByKind.{in_region}
-use Rattle.paged_heap.proofs.ReadLemmas.{place_small, read_is, words_in}
+use Rattle.paged_heap.proofs.ReadLemmas.{object, place_small, read_is, words_in}
+use Rattle.paged_heap.proofs.StepLemmas.{empty_steps, touched_steps}
+use Rattle.paged_heap.proofs.WholeBlocks.{whole_slot}
 use Rattle.paged_heap.proofs.open_heap.OpenHeap.read.Goals as goal
 
 pub overflow_add-first-2 : goal.overflow_add-first-2
@@ -26,3 +30,15 @@ returns-clause-answer g c =
     read_is (seen g.A.Mapping.kind c.args.self.now) c.requires.kept c.args.h.0 c.args.at (length c.args.out.now) c.in_ok-place.place
     c.in_ok-place.ensures.found c.read_bytes.new.out
     c.read_bytes.auto.out c.read_bytes.ensures.bytes
+
+pub returns-then-len-eq0-clause-steps : goal.returns-then-len-eq0-clause-steps
+returns-then-len-eq0-clause-steps g c =
+    subst (RoseBy _ _) (empty_steps g.A.Mapping.kind c.args.at (length c.args.out.now) c.if-len-eq0.true) c.in_ok-place.ensures.steps
+
+pub returns-clause-steps : goal.returns-clause-steps
+returns-clause-steps g c =
+    let kind = g.A.Mapping.kind in let h = seen kind c.args.self.now in
+    let whole = (whole_slot h c.requires.kept c.args.h.0 (object h c.requires.kept c.args.h.0 c.args.at _ c.in_ok-place.place c.in_ok-place.ensures.found)
+    c.in_ok-place.ensures.found.found).0 in
+    subst (RoseBy _ _) (touched_steps kind c.in_ok-place.place c.args.at (length c.args.out.now) whole c.if-len-eq0.false)
+    (rose_both _ _ _ _ _ c.in_ok-place.ensures.steps c.read_bytes.ensures.steps)

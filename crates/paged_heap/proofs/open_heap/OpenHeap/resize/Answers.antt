@@ -1,12 +1,15 @@
+use Rattle.std.proofs.Common.{arith}
 use Rattle.paged_heap.specs.Heap.{seen}
 use Rattle.paged_heap.proofs.Preserved.{cost_kept}
 use Rattle.paged_heap.proofs.LayoutFacts.{paged_kind}
-use Rattle.paged_heap.proofs.ResizeLemmas.{resize_cost}
+use Rattle.paged_heap.proofs.ResizeCosts.{few_resize}
+use Rattle.paged_heap.proofs.StepLemmas.{rose_is}
+use Rattle.paged_heap.proofs.ResizeLemmas.{resize_with_cost}
 use Rattle.paged_heap.proofs.open_heap.OpenHeap.resize.Goals as goal
 
 pub returns-clause-step : goal.returns-clause-step
 returns-clause-step g c =
-    resize_cost (seen g.A.Mapping.kind c.args.self.now) (paged_kind (seen g.A.Mapping.kind c.args.self.now) c.requires.kept.kept) c.args.h.0
+    resize_with_cost (seen g.A.Mapping.kind c.args.self.now) (paged_kind (seen g.A.Mapping.kind c.args.self.now) c.requires.kept.kept) c.args.h.0
     c.args.bytes _ (seen g.A.Mapping.kind c.resize_inner-result.new.self) _ c.resize_inner-result.ensures.step
 
 pub returns-clause-kept : goal.returns-clause-kept
@@ -15,3 +18,11 @@ returns-clause-kept g c =
       laid = c.resize_inner-result.ensures.kept.laid;
       kept = cost_kept (seen g.A.Mapping.kind c.resize_inner-result.new.self) _ c.resize_inner-result.ensures.kept.kept;
     }
+
+pub returns-clause-cost : goal.returns-clause-cost
+returns-clause-cost g c =
+    let is = rose_is _ _ _ _ c.requires.room
+    (few_resize (seen g.A.Mapping.kind c.args.self.now) c.requires.kept.kept c.args.h.0 c.args.bytes _ _ c.resize_inner-result.ensures.step)
+    c.resize_inner-result.ensures.cost c.resize_inner-result.ensures.bound in
+    let a = c.count-before.ensures in let b = c.count.ensures in
+    omega arith

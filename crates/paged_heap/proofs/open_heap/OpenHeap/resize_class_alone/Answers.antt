@@ -1,13 +1,17 @@
 -- The object enters its new class, and its old slot is freed.
-use Rattle.std.proofs.Common.{None, arith, refl, sym, ◌∙◌, ap, subst}
+use Rattle.std.proofs.Common.{◌≡◌, None, arith, refl, sym, ◌∙◌, ap, subst}
 use Rattle.page_model.specs.Image.{Clears}
+use Rattle.page_slots.specs.Freeing.{steps_to_drop}
 use Rattle.page_slots.specs.Tables.{AreTables, IsUsed, page_at, slot_at}
 use Rattle.paged_heap.specs.declared.open_heap.OpenHeap.{OpenHeap}
+use Rattle.virtual_words.specs.Words.{slot_steps}
+use Rattle.paged_heap.specs.ResizeClass.{old_words}
 use Rattle.paged_heap.specs.Heap.{Heap, seen}
 use Rattle.paged_heap.specs.Layout.{IsValid, tables_in}
-use Rattle.paged_heap.proofs.ByKind.{framed_of, in_region, laid_same}
+use Rattle.paged_heap.proofs.ByKind.{clear_most, framed_of, in_region, laid_same}
 use Rattle.paged_heap.proofs.ResizeClass.{change_kept, change_resized, entered_long, old_used}
 use Rattle.paged_heap.proofs.ResizeClassAlone.{changed_alone, frames_are, keeps, never}
+use Rattle.paged_heap.proofs.ResizeCosts.{left_alone}
 use Rattle.paged_heap.proofs.ResizeEnter.{kept_few, refused, unchanged}
 use Rattle.paged_heap.proofs.FreedObject.{it_inside}
 use Rattle.paged_heap.proofs.open_heap.OpenHeap.resize_class_alone.Goals as goal
@@ -94,3 +98,19 @@ returns-clause-bound g c =
     let a = c.enter_class.ensures.bound in let b = c.wipe.ensures.bound in let d = c.release_slot.ensures.bound in
     let ak = a.kept in let ab = a.bound in let bk = b.kept in let bb = b.bound in let dk = d.kept in let db = d.bound in
     record { kept = omega arith; bound = omega arith }
+
+pub returns-clause-steps : goal.returns-clause-steps
+returns-clause-steps g c =
+    let kind = g.A.Mapping.kind in let w = c.slot_words-old_slot_words.ensures.value in
+    let most = clear_most kind c.args.x.place c.slot_words-old_slot_words.result in
+    let same : slot_steps kind c.slot_words-old_slot_words.result ≡ slot_steps kind (old_words (seen kind c.args.self.now) c.args.x) = ap (slot_steps kind) w in
+    let a = c.enter_class.ensures.steps in let b = c.wipe.ensures.steps in let d = c.release_slot.ensures.bound in
+    let ak = a.kept in let ab = a.bound in let bk = b.kept in let bb = b.bound in let dk = d.kept in let db = d.bound in
+    record { kept = omega arith; bound = omega arith }
+
+pub returns-clause-cost : goal.returns-clause-cost
+returns-clause-cost g c =
+    let kind = g.A.Mapping.kind in
+    left_alone c.requires.kept.kept c.requires.change c.in-Some.ensures.entered c.slot_words-old_slot_words.result c.slot_words-old_slot_words.ensures.value
+    _ _ _ _ _ (ap (λ (o : Heap). steps_to_drop (tables_in o) (page_at o.classes c.args.x.place)) c.wipe.ensures.rest)
+    (c.in-Some.ensures.cost refl) c.wipe.ensures.steps c.release_slot.ensures.steps

@@ -1,8 +1,9 @@
 -- The object enters its new class, and another one comes to its old slot.
-use Rattle.std.proofs.Common.{◌%◌, ◌^◌, ◌+◌, ◌≤◌, length, Some, arith, refl, sym, ◌∙◌, ap, subst}
+use Rattle.std.proofs.Common.{◌≡◌, ◌+◌, ◌≤◌, length, Some, arith, refl, sym, ap, subst}
 use Rattle.std.specs.Prelude.{◌⊎◌}
 use Rattle.page_slots.specs.Tables.{AreTables}
-use Rattle.virtual_words.specs.Words.{IsWhole}
+use Rattle.virtual_words.specs.Words.{IsWhole, slot_steps}
+use Rattle.paged_heap.specs.ResizeClass.{old_words}
 use Rattle.paged_heap.specs.declared.open_heap.OpenHeap.{OpenHeap}
 use Rattle.paged_heap.specs.Heap.{seen}
 use Rattle.paged_heap.specs.Layout.{IsValid, tables_in}
@@ -10,6 +11,7 @@ use Rattle.paged_heap.proofs.ByKind.{framed_of, in_region, laid_same}
 use Rattle.paged_heap.proofs.ResizeClass.{change_kept, change_resized}
 use Rattle.paged_heap.proofs.ResizeClassFilled.{changed_filled, frames_are, keeps, lands_of, live_there, mover, place_in, r, refills_of, slots_apart}
 use Rattle.paged_heap.proofs.ResizeClassFilled.{some_fills, source_in, target_in, told_by, whole_source, whole_target, whole_words}
+use Rattle.paged_heap.proofs.ResizeCosts.{left_filled}
 use Rattle.paged_heap.proofs.ResizeEnter.{kept_few, refused, unchanged}
 use Rattle.paged_heap.proofs.open_heap.OpenHeap.resize_class_and_fill.Goals as goal
 
@@ -168,3 +170,17 @@ returns-clause-bound g c =
     let a = c.enter_class.ensures.bound in let b = c.take_filler-from.ensures.bound in let d = c.read.ensures.bound in let e = c.move_to.ensures.bound in
     let ak = a.kept in let ab = a.bound in let bk = b.kept in let bb = b.bound in let dk = d.kept in let db = d.bound in let ek = e.kept in let eb = e.bound in
     record { kept = omega arith; bound = omega arith }
+
+pub returns-clause-steps : goal.returns-clause-steps
+returns-clause-steps g c =
+    let kind = g.A.Mapping.kind in let w = c.slot_words-old_slot_words.ensures.value in
+    let same : slot_steps kind c.slot_words-old_slot_words.result ≡ slot_steps kind (old_words (seen kind c.args.self.now) c.args.x) = ap (slot_steps kind) w in
+    let a = c.enter_class.ensures.steps in let b = c.take_filler-from.ensures.bound in let d = c.read.ensures.steps in let e = c.move_to.ensures.steps in
+    let ak = a.kept in let ab = a.bound in let bk = b.kept in let bb = b.bound in let dk = d.kept in let db = d.bound in let ek = e.kept in let eb = e.bound in
+    record { kept = omega arith; bound = omega arith }
+
+pub returns-clause-cost : goal.returns-clause-cost
+returns-clause-cost g c =
+    left_filled c.requires.kept.kept c.requires.change c.in-Some.ensures.entered c.slot_words-old_slot_words.result c.slot_words-old_slot_words.ensures.value
+    c.unpack.result.handle _ _ c.take_filler-from.ensures.filled _ _ _ _ _
+    (c.in-Some.ensures.cost refl) c.take_filler-from.ensures.steps c.read.ensures.steps c.move_to.ensures.steps

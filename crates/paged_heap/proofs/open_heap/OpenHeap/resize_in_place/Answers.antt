@@ -1,6 +1,7 @@
 -- The bytes are cut, and the header tells the new length.
 use Rattle.std.proofs.Common.{◌≡◌, ◌+◌, ◌-◌, ◌≤◌, set, arith, refl, ◌∙◌, ap}
 use Rattle.page_model.specs.Image.{header_word}
+use Rattle.page_slots.proofs.CallerLemmas.{rose_both}
 use Rattle.virtual_words.specs.Words.{words_of}
 use Rattle.paged_heap.specs.Heap.{Heap, seen}
 use Rattle.paged_heap.proofs.ByKind.{in_region}
@@ -90,3 +91,6 @@ returns-clause-bound g c =
     let r = holds_bytes k c.requires.object in let e = c.slot_words-slot_words.ensures.value in
     let ak = a.kept in let ab = a.bound in let bk = b.kept in let bb = b.bound in
     record { kept = omega arith; bound = omega arith }
+
+pub returns-clause-steps : goal.returns-clause-steps
+returns-clause-steps g c = rose_both _ _ _ _ _ c.zero_tail.ensures.steps c.write.ensures.steps

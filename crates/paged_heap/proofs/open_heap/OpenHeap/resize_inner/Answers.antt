@@ -6,7 +6,9 @@ use Rattle.paged_heap.proofs.Preserved.{no_place}
 use Rattle.paged_heap.proofs.ByKind.{in_region, unmoved}
 use Rattle.paged_heap.proofs.LayoutFacts.{paged_kind}
 use Rattle.paged_heap.proofs.HeaderLemmas.{has_class, object_at}
-use Rattle.paged_heap.proofs.ResizeLemmas.{change_at, passes_page}
+use Rattle.page_slots.proofs.CallerLemmas.{rose_both}
+use Rattle.paged_heap.proofs.ResizeCosts.{change_sum, stay_sum}
+use Rattle.paged_heap.proofs.ResizeLemmas.{change_at, changed_steps, passes_page, stayed_steps}
 use Rattle.paged_heap.proofs.CountLimits.{class_is}
 use Rattle.paged_heap.proofs.ReadLemmas.{place_in}
 use Rattle.paged_heap.proofs.open_heap.OpenHeap.resize_inner.Goals as goal
@@ -54,3 +56,45 @@ resize_to_class-requires-clause-change g c =
     change_at h k c.args.h c.in-Some.place c.length_at-length.result c.args.bytes c.in-Some-class_of-2.class c.in-Some-class_of.to
     (object_at h k c.args.h.0 c.in-Some.place (sym c.in-Some.ensures.found) c.length_at-length.result c.length_at-length.ensures.value
     c.in-Some-class_of-2.class c.in-Some-class_of-2.ensures.found) c.in-Some-class_of.ensures.found c.if-to-class.false
+
+pub returns-then-to-class-clause-steps : goal.returns-then-to-class-clause-steps
+returns-then-to-class-clause-steps g c =
+    let kind = g.A.Mapping.kind in let h = seen kind c.args.self.now in let k = c.requires.kept in
+    let o = object_at h k c.args.h.0 c.in-Some.place (sym c.in-Some.ensures.found) c.length_at-length.result c.length_at-length.ensures.value
+    c.in-Some-class_of-2.class c.in-Some-class_of-2.ensures.found in
+    stayed_steps h k o c.args.bytes c.resize_in_place.result c.resize_in_place.ensures.slot c.resize_in_place.ensures.old_slot _ _ _ _ _ _
+    c.in-Some.ensures.steps c.in-Some-class_of.ensures.steps c.length_at-length.ensures.steps c.in-Some-class_of-2.ensures.steps
+    c.resize_in_place.ensures.steps
+
+pub returns-clause-steps : goal.returns-clause-steps
+returns-clause-steps g c =
+    let kind = g.A.Mapping.kind in let h = seen kind c.args.self.now in let k = c.requires.kept in
+    let is = change_at h k c.args.h c.in-Some.place c.length_at-length.result c.args.bytes c.in-Some-class_of-2.class c.in-Some-class_of.to
+    (object_at h k c.args.h.0 c.in-Some.place (sym c.in-Some.ensures.found) c.length_at-length.result c.length_at-length.ensures.value
+    c.in-Some-class_of-2.class c.in-Some-class_of-2.ensures.found) c.in-Some-class_of.ensures.found c.if-to-class.false in
+    changed_steps h k is c.resize_to_class.result (seen kind c.resize_to_class.new.self) c.resize_to_class.ensures.step c.resize_to_class.ensures.cause _ _ _ _ _ _
+    c.in-Some.ensures.steps c.in-Some-class_of.ensures.steps c.length_at-length.ensures.steps c.in-Some-class_of-2.ensures.steps
+    c.resize_to_class.ensures.steps
+
+pub returns-in_default-class_of-clause-cost : goal.returns-in_default-class_of-clause-cost
+returns-in_default-class_of-clause-cost g c = rose_both _ _ _ _ _ c.in-Some.ensures.steps c.in_default-class_of.ensures.steps
+
+pub returns-then-to-class-clause-cost : goal.returns-then-to-class-clause-cost
+returns-then-to-class-clause-cost g c =
+    let kind = g.A.Mapping.kind in let h = seen kind c.args.self.now in let k = c.requires.kept in
+    let o = object_at h k c.args.h.0 c.in-Some.place (sym c.in-Some.ensures.found) c.length_at-length.result c.length_at-length.ensures.value
+    c.in-Some-class_of-2.class c.in-Some-class_of-2.ensures.found in
+    stay_sum h k o c.args.bytes ((class_is h k c.args.bytes c.in-Some-class_of.to c.in-Some-class_of.ensures.found).1 ∙ c.if-to-class.true)
+    c.resize_in_place.result _ _ _ _ _ _
+    c.in-Some.ensures.steps c.in-Some-class_of.ensures.steps c.length_at-length.ensures.steps c.in-Some-class_of-2.ensures.steps
+    c.resize_in_place.ensures.steps
+
+pub returns-clause-cost : goal.returns-clause-cost
+returns-clause-cost g c =
+    let kind = g.A.Mapping.kind in let h = seen kind c.args.self.now in let k = c.requires.kept in
+    let is = change_at h k c.args.h c.in-Some.place c.length_at-length.result c.args.bytes c.in-Some-class_of-2.class c.in-Some-class_of.to
+    (object_at h k c.args.h.0 c.in-Some.place (sym c.in-Some.ensures.found) c.length_at-length.result c.length_at-length.ensures.value
+    c.in-Some-class_of-2.class c.in-Some-class_of-2.ensures.found) c.in-Some-class_of.ensures.found c.if-to-class.false in
+    change_sum k is c.resize_to_class.result c.resize_to_class.ensures.cause _ _ _ _ _ _
+    c.in-Some.ensures.steps c.in-Some-class_of.ensures.steps c.length_at-length.ensures.steps c.in-Some-class_of-2.ensures.steps
+    c.resize_to_class.ensures.cost

@@ -1,8 +1,12 @@
-use Rattle.std.proofs.Common.{arith, refl}
+use Rattle.std.proofs.Common.{length, arith, refl, subst}
+use Rattle.step_ledger.specs.Counting.{RoseBy}
+use Rattle.page_slots.proofs.CallerLemmas.{rose_both}
 use Rattle.virtual_words.specs.Words.{words_of}
 use Rattle.paged_heap.specs.Heap.{Heap, seen}
 use Rattle.paged_heap.proofs.ByKind.{in_region}
-use Rattle.paged_heap.proofs.ReadLemmas.{place_small, words_in}
+use Rattle.paged_heap.proofs.ReadLemmas.{object, place_small, words_in}
+use Rattle.paged_heap.proofs.StepLemmas.{empty_steps, touched_steps}
+use Rattle.paged_heap.proofs.WholeBlocks.{whole_slot}
 use Rattle.paged_heap.proofs.WriteLemmas.{wrote, wrote_kept, wrote_nothing}
 use Rattle.paged_heap.proofs.open_heap.OpenHeap.write.Goals as goal
 
@@ -44,3 +48,15 @@ returns-clause-kept g c =
       kept = wrote_kept h n c.requires.kept c.args.h.0 c.args.at c.in_ok-place.place c.args.bytes.now c.in_ok-place.ensures.found
           (λ i. (let f = c.type_inv.bytes i in omega arith)) refl c.write_bytes.ensures.words;
     }
+
+pub returns-then-len-eq0-clause-steps : goal.returns-then-len-eq0-clause-steps
+returns-then-len-eq0-clause-steps g c =
+    subst (RoseBy _ _) (empty_steps g.A.Mapping.kind c.args.at (length c.args.bytes.now) c.if-len-eq0.true) c.in_ok-place.ensures.steps
+
+pub returns-clause-steps : goal.returns-clause-steps
+returns-clause-steps g c =
+    let kind = g.A.Mapping.kind in let h = seen kind c.args.self.now in
+    let whole = (whole_slot h c.requires.kept c.args.h.0 (object h c.requires.kept c.args.h.0 c.args.at _ c.in_ok-place.place c.in_ok-place.ensures.found)
+    c.in_ok-place.ensures.found.found).0 in
+    subst (RoseBy _ _) (touched_steps kind c.in_ok-place.place c.args.at (length c.args.bytes.now) whole c.if-len-eq0.false)
+    (rose_both _ _ _ _ _ c.in_ok-place.ensures.steps c.write_bytes.ensures.steps)

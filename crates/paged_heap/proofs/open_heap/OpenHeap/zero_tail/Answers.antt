@@ -5,6 +5,7 @@ use Rattle.word_bytes.specs.Overwriting.{Overwrites}
 use Rattle.virtual_words.specs.Words.{words_of}
 use Rattle.virtual_words.proofs.CallerLemmas.{laid_long}
 use Rattle.paged_heap.proofs.ResizeInPlace.{cut_is, zero_part}
+use Rattle.paged_heap.proofs.StepLemmas.{tail_rose, tail_still}
 use Rattle.paged_heap.proofs.open_heap.OpenHeap.zero_tail.Goals as goal
 
 pub returns-then-keep-bytes-clause-cut : goal.returns-then-keep-bytes-clause-cut
@@ -23,3 +24,12 @@ returns-then-keep-bytes-clause-cut g c = λ less. (
     let clear = subst (λ n. Clears mid new (record { from = c.args.place + 1 + c.args.keep / 8 + 1; count = n - c.args.keep / 8 - 1 })) e
     c.clear.ensures.words in
     cut_is old mid new c.args.place c.args.keep c.args.bytes less (let i = c.requires.within in omega arith) w long clear)
+
+pub returns-then-keep-bytes-clause-steps : goal.returns-then-keep-bytes-clause-steps
+returns-then-keep-bytes-clause-steps g c =
+    let e = c.div_ceil.ensures in
+    tail_rose g.A.Mapping.kind c.args.place c.args.keep c.args.bytes c.if-keep-bytes.true _ _ _ _ _ _ _ (zero_part (c.args.keep % 8) (omega arith))
+    (omega arith) (omega arith) c.write_bytes.ensures.steps c.clear.ensures.steps
+
+pub returns-else-keep-bytes-clause-steps : goal.returns-else-keep-bytes-clause-steps
+returns-else-keep-bytes-clause-steps g c = tail_still g.A.Mapping.kind c.args.place c.args.keep c.args.bytes c.if-keep-bytes.false _

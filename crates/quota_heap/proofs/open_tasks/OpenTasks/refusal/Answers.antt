@@ -15,7 +15,7 @@ pub len-requires : goal.len-requires
 len-requires c =
     let h = c.args.self.now in let k = c.requires.kept in let x = c.index-task.result.now in
     let at = task_there h k c.args.t c.requires.sixteen x c.index-task.ensures in
-    record { class = class_in h.ground k.ground c.args.t x (k.task c.args.t x at) c.args.c c.requires.class }
+    record { class = class_in h.shared_pages k.shared_pages c.args.t x (k.task c.args.t x at) c.args.c c.requires.class }
 
 pub returns-then-task : goal.returns-then-task
 returns-then-task c = λ bytes fits class. (

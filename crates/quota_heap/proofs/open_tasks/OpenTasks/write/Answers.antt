@@ -51,7 +51,7 @@ pub returns-clause-step : goal.returns-clause-step
 returns-clause-step c =
     let h = c.args.self.now in let k = c.requires.kept in
     let w = a_task h k c.args.t c.requires.sixteen in
-    let o = subst (λ n. Overwrites h.ground.region c.write_run.new.region (record { from = c.in_ok-place.place + 1 + c.args.at / 8; count = n })
+    let o = subst (λ n. Overwrites h.shared_pages.region c.write_run.new.region (record { from = c.in_ok-place.place + 1 + c.args.at / 8; count = n })
     (c.args.at % 8) c.args.bytes.now) c.words_with-n.ensures c.write_run.ensures.words in
     wrote h k c.args.t w.0 w.1 (record { number = c.args.h.0; from = c.args.at }) c.in_ok-place.place c.args.bytes.now (c.in_ok-place.ensures.found w.0 w.1)
     (λ i. (let f = c.type_inv.bytes i in omega arith)) c.write_run.new.region o
@@ -60,7 +60,7 @@ pub returns-clause-kept : goal.returns-clause-kept
 returns-clause-kept c =
     let h = c.args.self.now in let k = c.requires.kept in
     let w = a_task h k c.args.t c.requires.sixteen in
-    let o = subst (λ n. Overwrites h.ground.region c.write_run.new.region (record { from = c.in_ok-place.place + 1 + c.args.at / 8; count = n })
+    let o = subst (λ n. Overwrites h.shared_pages.region c.write_run.new.region (record { from = c.in_ok-place.place + 1 + c.args.at / 8; count = n })
     (c.args.at % 8) c.args.bytes.now) c.words_with-n.ensures c.write_run.ensures.words in
     wrote_kept h k c.args.t w.0 w.1 (record { number = c.args.h.0; from = c.args.at })
     c.in_ok-place.place c.args.bytes.now (c.in_ok-place.ensures.found w.0 w.1)

@@ -1,4 +1,4 @@
--- A `&` to a block is made where one to its words is. It lends the words, and not the right to give the memory back.
+-- A `&` to a block corresponds to a `&` to its words. It lends the words, but not the right to free the memory.
 use base.Fraction.{full_share}
 use mir.Syntax.{w64}
 use denote.Array.{Array, Array-row_laws}

@@ -1,4 +1,4 @@
--- `free` gives the allocator the memory, and the right that came with it.
+-- `free` returns to the allocator the memory and the right that came with it.
 use Rattle.std.proofs.Common.{ℕ, ◌*◌, ◌^◌, ◌<◌, List, [], ◌∷◌, ◌++◌, length, refl, sym, subst, ap, arith, lit<, w64, T}
 use Rattle.std.proofs.raw_atomic.Walks.{proved_at, leaves}
 use base.Fml.{ftrue, froom, flft}
@@ -50,7 +50,7 @@ free_spec 𝓤 𝓛 𝓜 𝓡 wired =
     let κ = y.0.0.0 in let q = y.0.1.0 in let h = y.0.3.0 in let heap = y.0.3.1.0 in let vss = y.0.4 in let n = h.len in
     qed 𝓛 (((‵ (flft κ q) ⊛ ‵ ftrue) ⊛ ‵ (owns (types_at f.signature.params y.0.0) y.0.3 vss)) ∷ ‵ ftrue ∷ []) ∵ split ! $ move ! (1 ∷ []) $ fsplit ! $
     block_had ! h vss.0 (λ b o at is fn.
-    -- [the words; the right to give them back; the allocator; the token; nothing]
+    -- [the words; the right to free them; the allocator; the token; nothing]
     let small : n * 8 < 2 ^ 64 = let s = h.small in omega arith in
     let args : List Val = block_val b o n ∷ vptr heap.ref_ptr.0 heap.ref_ptr.1 ∷ [] in
     regoal ! (λ (us : List Val). prop (WpFn 𝓤 𝓛.H C Λ code.function us Post)) (λ i. is i ++ (are.1.0.0 i ++ [])) refl $
@@ -65,7 +65,7 @@ free_spec 𝓤 𝓛 𝓜 𝓡 wired =
     row_out ! n h.items b o (λ long. use1 𝓛 (‵ (froom (ty_array (ty_int w64) (length h.items)) b o)) (cells_room 𝓛 h.items b o) $
     rewrite ! 0 (λ (m : ℕ). ‵ (froom (ty_array (ty_int w64) m) b o)) long refl $ fjoin ! $
     use0 𝓛 (raw (fact 𝓤 (HasLayout (array_of u64 n) (n * 8) 8))) (fact_i 𝓤 _ (emp 𝓤) (capped_is (n * 8) small, refl)) $ join ! $
-    -- what it is called with
+    -- the arguments of the call
     move ! (1 ∷ []) $ fsplit ! $ rewrite ! 0 (λ (us : List Val). ‵ ((ShrRef (named 0) κ Heap).own_val heap us)) are.1.0.0 refl $
     move ! (1 ∷ []) $ flt_i ! 8 (2 ^ 64) (lit< tt) $ feq_i ! (List Val) (vint w64 8 ∷ []) (vint w64 8 ∷ []) refl $ fjoin ! $ fjoin ! $
     flt_i ! (n * 8) (2 ^ 64) small $ feq_i ! (List Val) (vint w64 (n * 8) ∷ []) (vint w64 (n * 8) ∷ []) refl $ fjoin ! $ fjoin ! $

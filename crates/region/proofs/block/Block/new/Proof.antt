@@ -70,7 +70,7 @@ new_spec 𝓤 𝓛 𝓜 𝓡 wired =
     let En = env code.Mir.locals l in
     let Then : Ends 𝓤 𝓛.H = any_q (after_seq 𝓤 𝓛.H (Wp 𝓤 𝓛.H C Λ En code.Mir.t-4 (at_return 𝓤 𝓛.H En Post)) (at_return 𝓤 𝓛.H En Post)) in
     sets ! (bin ! (get ! refl) (lit ! tt) (record { fits = bytes })) refl (tt, record { fits = bytes }) $
-    -- what the allocator is called with
+    -- the arguments of the allocator's call
     nothing ! $ flt_i ! 8 (2 ^ 64) (lit< tt) $ feq_i ! (List Val) (vint w64 8 ∷ []) (vint w64 8 ∷ []) refl $ fjoin ! $ fjoin ! $
     flt_i ! (n * 8) (2 ^ 64) bytes $ feq_i ! (List Val) (vint w64 (n * 8) ∷ []) (vint w64 (n * 8) ∷ []) refl $ fjoin ! $ fjoin ! $ move ! (1 ∷ 0 ∷ []) $
     fjoin ! $
@@ -86,13 +86,13 @@ new_spec 𝓤 𝓛 𝓜 𝓡 wired =
     await ! tt $ pick ! (λ r. split ! $ split ! $ move ! (2 ∷ []) $ pick ! (λ ws. split ! $ drop ! $ move ! (2 ∷ 0 ∷ []) $
     by_result ! (ghosts.dealloc_token heap.now) τ v r
     (λ b o e.
-    -- [the room; the right to give it back; the token; the locals]
+    -- [the uninitialized memory; the right to free it; the token; the locals]
     lands_as ! e refl (Answer-typed true b o) $
     first ! $ switches_on ! (get_tag ! (vrt ! refl (fld ! refl (stop !))) (whole !)) $ exec ! C Λ En (arm_body 0 (head code.Mir.t-3)) Then $
     sets ! (of_opd ! (get_in ! (vrt ! refl (fld ! refl (stop !))) (in_variant ! 0 0 refl refl (whole !)))) refl (tt, tt) $
     sets ! (of_opd ! (get ! refl)) refl (tt, tt) $
     first ! $ blocks ! $
-    -- zeros are written into it
+    -- `zero` fills it
     let Z = triple_of 𝓛 zeroing.signature (zeroing.spec 𝓛 𝓜.mem 𝓡.returns) in
     let zs : List ℕ = replicate n 0 in
     let x : Z.Ghost = ((tt, tt, tt, (block_ptr b o, (n, tt)), (vptr b o ∷ [], (vint w64 n ∷ [], tt))), tt) in
@@ -113,7 +113,7 @@ new_spec 𝓤 𝓛 𝓜 𝓡 wired =
     exec ! C Λ En code.Mir.t-4 (at_ret En Post) $
     sets ! (of_opd ! (get ! refl)) refl (tt, (record { fits = lit< tt }, ((tt, (record { fits = fl }, tt)), tt))) $
     returns ! (look_at ! 0 refl) $ free_all ! refl $
-    -- [the words; the right to give them back; the token]
+    -- [the words; the right to free them; the token]
     let made : R.Denot = record { at = block_ptr b o; len = n; items = zs; counted = sym (length-replicate n 0); small = small } in
     let w : Val = block_val b o n in
     block_made ! made b o n zs refl refl refl fl $

@@ -1,4 +1,4 @@
--- `run_mut` lends a run of the words, and the block ends with what is left in their place.
+-- `run_mut` lends a run of the words; the words that the borrow leaves replace it in the block.
 use Rattle.std.proofs.Common.{◌≡◌, ℕ, ◌+◌, ◌*◌, ◌^◌, ◌<◌, ◌≤◌, List, [], ◌∷◌, ◌++◌, length, take, drop, get_or, refl, sym, ap, ◌∙◌, arith, w64, MutBor}
 use Rattle.std.proofs.raw_atomic.Walks.{proved, leaves}
 use base.Fraction.{full_share}
@@ -44,7 +44,7 @@ use Rattle.region.proofs.CallerLemmas.{length-with_words}
 use Rattle.region.proofs.Lists.{as_many, cut_run, fit-words, length-part}
 use Rattle.region.proofs.LayoutFacts.{block_val, block_had, block_made, row_out, row_in}
 
--- the words before the run and after it, and how a block ends
+-- the words before and after the run, and the block at the end
 module _ (h : R.Denot) (i n : ℕ) where
   abbrev front : List ℕ
   front = take i h.items
@@ -65,7 +65,7 @@ module _ (h : R.Denot) (i n : ℕ) (within : i + n ≤ length h.items) where
   run_long : length (run h i n) ≡ n
   run_long = length-part h.items i n within
 
-  -- so many words of 64 bits are what the block has in place of the run
+  -- n words of 64 bits replace the run as they are
   items_are : (ws : List ℕ) → length ws ≡ n → ((j d : ℕ) → j < length ws → get_or ws j d < 2 ^ 64) → (ended h i n ws).items ≡ front h i n ++ (ws ++ rear h i n)
   items_are ws e all =
       as_many h.len h.items (with_words h.items i n ws) h.counted (length-with_words h.items i n within ws ∙ sym h.counted)
@@ -75,11 +75,11 @@ module _ (h : R.Denot) (i n : ℕ) (within : i + n ≤ length h.items) where
   room_of = (let e = run_long in let c = h.counted in let s = h.small in (omega arith, omega arith))
 
   module _ (b o rb ro : ℕ) where
-    -- where the run begins
+    -- the address of the run
     abbrev at_run : ℕ
     at_run = i * 8 + o
 
-    -- what stays of the block beside the run
+    -- the rest of the block while the run is borrowed
     abbrev Rest : Fml
     Rest =
         fsep (cells (mem u64) (front h i n) b o)
@@ -90,7 +90,7 @@ module _ (h : R.Denot) (i n : ℕ) (within : i + n ≤ length h.items) where
       start_is : at o 8 (length (front h i n)) ≡ at_run
       start_is = ap (at o 8) front_long ∙ at_mul o 8 i
 
-      -- the run is taken out
+      -- the run is split off
       cut : ent 𝓤 (sem 𝓛 (cells (mem u64) h.items b o))
           (sep 𝓤 (sem 𝓛 (cells (mem u64) (run h i n) b at_run))
           (sep 𝓤 (sem 𝓛 (cells (mem u64) (front h i n) b o)) (sem 𝓛 (cells (mem u64) (rear h i n) b (at at_run 8 n)))))
@@ -103,7 +103,7 @@ module _ (h : R.Denot) (i n : ℕ) (within : i + n ≤ length h.items) where
           (cut_app 𝓛 (mem u64) (run h i n) (rear h i n) b at_run) $ split ! $
           rewrite ! 1 (λ (k : ℕ). ‵ (cells (mem u64) (rear h i n) b (at at_run 8 k))) run_long refl $ keep ! (0 ∷ 2 ∷ 1 ∷ []) $ done !
 
-      -- whatever is left of as many words, the block is put together
+      -- any words of the same length can be joined with the rest to a block
       back : h.at ≡ block_ptr b o → h.len < 2 ^ 64 → (ws : List ℕ) → length ws ≡ length (run h i n)
           → ent 𝓤 (sep 𝓤 (sem 𝓛 (cells (mem u64) ws b at_run)) (sem 𝓛 Rest)) (sem 𝓛 ((mem R).own_at (ended h i n ws) rb ro))
       unfolding part_of
@@ -147,7 +147,7 @@ run_mut_spec 𝓤 𝓛 𝓜 𝓡 wired =
     let En = env code.Mir.locals l in
     fsplit3 ! $ move ! (1 ∷ 2 ∷ 3 ∷ []) $ opens ! tt R rb ro (λ vs. move ! (1 ∷ []) $ block_had ! h vs (λ b o at_b is fn.
     rewrite ! 2 (λ (ws : List Val). ‵ (cell_at full_share R.mir ws rb ro)) is refl $
-    -- [the words; the right to give them back; the block; the open borrow, in three entries]
+    -- [the words; the right to free them; the block; the open borrow, in three entries]
     let offset : i * 8 < 2 ^ 64 = let e = h.counted in let s = h.small in omega arith in
     first ! $ blocks ! $
     sets ! (of_opd ! (load ! (through ! refl (fld ! refl (stop !))) (look_in ! 2 (sub ! 0 refl (whole !))))) refl (tt, tt) $
@@ -159,7 +159,7 @@ run_mut_spec 𝓤 𝓛 𝓜 𝓡 wired =
     row_out ! h.len h.items b o (λ _.
     use1 𝓛 (‵ (cells (mem u64) (run h i n) b (i * 8 + o)) ⊛ ‵ (cells (mem u64) (front h i n) b o) ⊛
     ‵ (cells (mem u64) (rear h i n) b (at (i * 8 + o) 8 n))) (cut h i n within b o rb ro 𝓛) $ split3 ! $
-    -- [the run; the words before it; the words after it; the right to give them back; the block; the open borrow, in three entries]
+    -- [the run; the words before it; the words after it; the right to free them; the block; the open borrow, in three entries]
     move ! (3 ∷ 4 ∷ []) $ fjoin ! $ move ! (3 ∷ 0 ∷ []) $ fjoin ! $ move ! (2 ∷ 0 ∷ []) $ fjoin ! $ move ! (2 ∷ 3 ∷ 4 ∷ 1 ∷ 0 ∷ []) $ group ! 5 $
     let room = room_of h i n within in let mend = back h i n within b o rb ro 𝓛 at_b fn in let rest = sem 𝓛 (Rest h i n within b o rb ro) in
     use1 𝓛 (later (some (λ (δ : GName). raw (Elements 𝓛 R u64 (ended h i n) (named 0) κ q rb ro b (i * 8 + o) γ (run h i n) room rest mend δ))))

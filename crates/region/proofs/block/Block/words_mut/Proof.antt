@@ -1,4 +1,4 @@
--- `words_mut` lends the words, and the block ends with what is left behind them.
+-- `words_mut` lends the words; the words that the borrow leaves become the block's.
 use Rattle.std.proofs.Common.{◌≡◌, ℕ, ◌^◌, ◌<◌, List, [], ◌∷◌, length, refl, sym, ◌∙◌, arith, MutBor}
 use Rattle.std.proofs.raw_atomic.Walks.{proved, leaves}
 use base.Fraction.{full_share}
@@ -37,14 +37,14 @@ use Rattle.region.proofs.block.Block.words_mut.Code as code
 use Rattle.region.proofs.Lists.{as_many}
 use Rattle.region.proofs.LayoutFacts.{block_val, block_had, block_made, row_out, row_in}
 
--- what stays of the block beside its words
+-- the rest of the block while its words are borrowed
 abbrev Rest : R.Denot → ℕ → ℕ → ℕ → ℕ → Fml
 Rest h b o rb ro = fsep (may_free (block_ptr b o) h.len) (cell_at full_share R.mir (block_val b o h.len ∷ []) rb ro)
 
 room_of : (h : R.Denot) → Room u64 (length h.items)
 room_of h = (let e = h.counted in let s = h.small in (omega arith, omega arith))
 
--- whatever is left of as many words, the block is put together
+-- any words of the same length can be joined with the rest to a block
 back : {M : Type 1} {𝓤 : Ura M} (𝓛 : Logic 𝓤) (h : R.Denot) (b o rb ro : ℕ) → h.at ≡ block_ptr b o → h.len < 2 ^ 64
     → (ws : List ℕ) → length ws ≡ length h.items → ent 𝓤 (sep 𝓤 (sem 𝓛 (cells (mem u64) ws b o)) (sem 𝓛 (Rest h b o rb ro)))
     (sem 𝓛 ((mem R).own_at (with_items h ws) rb ro))
@@ -72,7 +72,7 @@ words_mut_spec 𝓤 𝓛 𝓜 𝓡 wired =
     let En = env code.Mir.locals l in
     fsplit3 ! $ move ! (1 ∷ 2 ∷ 3 ∷ []) $ opens ! tt R rb ro (λ vs. move ! (1 ∷ []) $ block_had ! h vs (λ b o at is fn.
     rewrite ! 2 (λ (ws : List Val). ‵ (cell_at full_share R.mir ws rb ro)) is refl $
-    -- [the words; the right to give them back; the block; the open borrow, in three entries]
+    -- [the words; the right to free them; the block; the open borrow, in three entries]
     first ! $ blocks ! $
     sets ! (of_opd ! (load ! (through ! refl (fld ! refl (stop !))) (look_in ! 2 (sub ! 0 refl (whole !))))) refl (tt, tt) $
     sets ! (of_opd ! (load ! (through ! refl (fld ! refl (stop !))) (look_in ! 2 (sub ! 1 refl (whole !))))) refl (tt, record { fits = fn }) $

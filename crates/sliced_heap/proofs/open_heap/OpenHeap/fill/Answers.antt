@@ -9,7 +9,7 @@ use Rattle.page_slots.specs.Tables.{page_at}
 use Rattle.slice_model.specs.State.{stand_in}
 use Rattle.sliced_heap.specs.Heap.{seen}
 use Rattle.sliced_heap.specs.Layout.{paging_at}
-use Rattle.sliced_heap.proofs.Filling.{all_are, carried_valid, from_within, is_filled, must_is, number_live, page_within}
+use Rattle.sliced_heap.proofs.Filling.{all_are, carried_partly, carried_valid, from_within, is_filled, must_is, number_live, page_within}
 use Rattle.sliced_heap.proofs.open_heap.OpenHeap.fill.Goals as goal
 
 pub must_move-requires-clause-page : goal.must_move-requires-clause-page
@@ -63,3 +63,13 @@ returns-clause-filled c =
           false≢true (sym c.if-must_move.false ∙ t);
       same = refl;
     }
+
+pub returns-then-must_move-clause-partly : goal.returns-then-must_move-clause-partly
+returns-then-must_move-clause-partly c = λ _ f slot.
+    (let h = seen c.args.self.now in
+    let t = c.must_move.ensures.value.0 c.if-must_move.true in
+    let t' : MovesObject (slice_index_or h.maps (page_at h.classes c.args.k.address) []) (length (pages_in h.lists c.args.k.class NotFull)) 1 =
+    rw c.deref.ensures.value at t in
+    let b = c.carry_to.ensures.begun in
+    carried_partly h c.requires.kept c.args.k c.requires.job ((must_is h c.requires.kept c.args.k c.requires.job).0 t') b.from b.filler c.requires.fresh
+    (seen c.carry_to.new.self) b.handles b.whole f slot)

@@ -1,5 +1,7 @@
-use Rattle.std.proofs.Common.{arith}
-use Rattle.tag_blocks.proofs.JoinLemmas.{join_sizes, join_many, join_listed, join_some, join_kept, join_turns}
+use Rattle.std.proofs.Common.{◌≡◌, ◌+◌, length, arith, ap, ◌∙◌}
+use Rattle.tag_blocks.specs.Costs.{before_steps}
+use Rattle.tag_blocks.proofs.CostLemmas.{by_same, then_by}
+use Rattle.tag_blocks.proofs.JoinLemmas.{join_sizes, join_many, join_listed, join_some, join_kept, join_others, join_turns}
 use Rattle.tag_blocks.proofs.blocks.TagBlocks.join.Goals as goal
 
 pub unlink-requires-clause-linked : goal.unlink-requires-clause-linked
@@ -75,3 +77,26 @@ overflow_add-front-3 g c =
     let s = join_sizes _ _ _ _ c.self.invariant c.self.view_is c.args.front c.args.first c.args.second c.args.taken c.args.many
     c.requires.pair.0 c.requires.pair.1 in
     let l = s.2 in let m = s.3 in omega arith
+
+pub returns-clause-left : goal.returns-clause-left
+returns-clause-left g c a low =
+    let s = join_sizes _ _ _ _ c.self.invariant c.self.view_is c.args.front c.args.first c.args.second c.args.taken c.args.many
+    c.requires.pair.0 c.requires.pair.1 in
+    let l = s.2 in let m = s.3 in
+    rw (← c.self.view_is, c.set_before.ensures.words, c.write-2.ensures.words, c.write.ensures.words, c.clear.ensures.words) (
+    join_others _ _ _ _ c.self.invariant c.self.view_is c.args.front c.args.first c.args.second c.args.taken c.args.many c.requires.pair.0 c.requires.pair.1
+    _ _ _ _ c.unlink.ensures.fronts c.unlink.ensures.words c.read-header.ensures.before c.bucket-list.ensures c.unlink.ensures.unlinked (a + 1) low
+    ∙ c.unlink.ensures.left a (λ e. absurd (omega arith)))
+
+pub returns-clause-len : goal.returns-clause-len
+returns-clause-len g c = rw (← c.self.view_is) (
+    c.set_before.ensures.len ∙ c.write-2.ensures.len ∙ c.write.ensures.len ∙ c.clear.ensures.len ∙ c.unlink.ensures.words)
+
+pub returns-clause-steps : goal.returns-clause-steps
+returns-clause-steps g c =
+    let end = c.args.front + (c.args.first + c.args.second) in
+    let next : before_steps end (length c.write-2.new.region) ≡ before_steps end (length c.self.inside.region) =
+    ap (before_steps end) (c.write-2.ensures.len ∙ c.write.ensures.len ∙ c.clear.ensures.len ∙ c.unlink.ensures.words) in
+    rw (← c.self.view_is) (by_same _ _ _ _ (then_by _ _ _ _ _ c.read-header.ensures.steps (then_by _ _ _ _ _ c.unlink.ensures.steps
+    (then_by _ _ _ _ _ c.clear.ensures.steps (then_by _ _ _ _ _ c.write.ensures.steps (then_by _ _ _ _ _ c.write-2.ensures.steps
+    c.set_before.ensures.steps))))) (omega (arith, next)))

@@ -1,6 +1,8 @@
-use Rattle.std.proofs.Common.{◌/◌, ◌^◌, refl, sym, ◌∙◌, ap, subst}
+use Rattle.std.proofs.Common.{◌/◌, ◌^◌, arith, refl, sym, ◌∙◌, ap, subst}
+use Rattle.tag_blocks.proofs.CostLemmas.{by_same, then_by}
 use Rattle.proxy_table.specs.Proxies.{AreBelowLimit}
 use Rattle.tag_heap.proofs.Preserved.{no_place, rules, used_at}
+use Rattle.tag_heap.proofs.ReadLemmas.{place_told}
 use Rattle.tag_heap.proofs.FreeLemmas.{asked_enough, freed_rules, freed_valid, frees, used_enough}
 use Rattle.tag_heap.proofs.open_heap.OpenHeap.free_inner.Goals as goal
 
@@ -53,3 +55,9 @@ returns-clause-rules g c = rw c.release.ensures.places (freed_rules _ c.self.inv
     c.size_of-slot_words.result c.from.result c.size_of-slot_words.ensures.value
     (c.from.ensures ∙ c.unpack-length.ensures.length ∙ ap (λ w. w / 2 ^ 32) c.tag_of.ensures.value)
     g.B.Yardstick.kind g.met.B.Yardstick.tiled)
+
+pub returns-clause-exact : goal.returns-clause-exact
+returns-clause-exact g c =
+    let there = sym (place_told c.self.inside.blocks.words c.self.inside.proxies.places c.args.h.0) ∙ sym c.in-Some.ensures.found in
+    rw (← c.self.view_is, there) (by_same _ _ _ _ (then_by _ _ _ _ _ c.in-Some.ensures.steps (then_by _ _ _ _ _ c.size_of-slot_words.ensures.steps
+    (then_by _ _ _ _ _ c.tag_of.ensures.steps (then_by _ _ _ _ _ c.release.ensures.steps c.release-2.ensures.steps)))) (omega arith))

@@ -1,0 +1,37 @@
+-- The heap that a script and its replies show.
+use Rattle.std.specs.Prelude.{ℕ, [], Option, Some, None}
+use Rattle.cf_base.specs.Settings.{Profile}
+use Rattle.cf_base.specs.declared.kind.Kind.{Kind}
+use Rattle.page_model.specs.Arrangement.{IsSound}
+use Rattle.page_model.specs.Paging.{IsPaging}
+use Rattle.block_model.specs.Tiling.{IsTiling}
+use Rattle.cf_model.specs.Families.{paged, tiled, family_of}
+use Rattle.cf_model.specs.State.{HeapState, paging_in, region_words}
+use Rattle.cf_model.specs.Steps.{empty_heap}
+use Rattle.run_model.specs.Sessions.{more_by}
+
+-- The state of a manager whose objects are numbered by the ids of the script: the settings, the bound of each class, and by id the address and the bytes of each
+-- object; with blocks the blocks of the region, with a block table that table, and the steps of the last malloc, free or resize. The words of the region stay
+-- the empty list: nothing is claimed of them. Beside it: the bound on those steps, 0 before the first call; how many objects moved; the words of their slots.
+pub record ShownHeap : Type 0 where
+  pub heap : HeapState
+  pub step_bound : ℕ
+  pub moves : ℕ
+  pub moved_words : ℕ
+
+-- after the `heap` line
+abbrev pub heap_opened : Kind → Profile → ShownHeap
+heap_opened kind p = record { heap = empty_heap kind p []; step_bound = 0; moves = 0; moved_words = 0 }
+
+-- one more object moved, if one did, from a slot of n words
+abbrev pub with_move : ShownHeap → Option ℕ → ℕ → ShownHeap
+with_move s None n = s
+with_move s (Some id) n = record s { moves = more_by s.moves 1; moved_words = more_by s.moved_words n }
+
+-- With pages each object has a slot of its class to itself, a page holds objects of one class, and no class has more partly full pages than its bound. Blocks
+-- fill the region, and no two neighbours are both free.
+abbrev pub IsArranged : HeapState → Type 0
+IsArranged h = elim (family_of h.kind) [
+  | paged ↦ IsPaging (paging_in h) × IsSound (paging_in h) h.held
+  | tiled ↦ IsTiling (region_words h.profile) h.tiling
+]

@@ -1,0 +1,61 @@
+-- What taking a slot of one class leaves of another.
+use Rattle.std.proofs.Common.{◌≡◌, ◌≢◌, ℕ, ◌<◌, List, [], ◌∷◌, length, refl, sym, ◌∙◌, ap, subst, inl, inr}
+use Rattle.std.specs.List.{Contains}
+use Rattle.std.proofs.lemmas.Bool.{cases_eq}
+use Rattle.class_lists.specs.PageLists.{PageLists, pages_in}
+use Rattle.class_lists.specs.declared.Which.{Which}
+use Rattle.class_lists.specs.declared.Which.TheVariants.{NotFull}
+use Rattle.class_lists.proofs.CallerLemmas.{contains_head}
+use Rattle.page_model.specs.Order.{drop_steps, fill_steps}
+use Rattle.size_classes.specs.Table.{ClassTable}
+use Rattle.page_slots.specs.Freeing.{steps_to_drop, steps_to_fill}
+use Rattle.page_slots.specs.Tables.{AreTables, IsOf, Tables, slots_in, slots_on, used_in}
+use Rattle.page_slots.specs.Taking.{TakesAt}
+use Rattle.page_slots.proofs.Occupied.{free_of_none}
+use Rattle.page_slots.proofs.Pages.{one_class}
+use Rattle.page_slots.proofs.TablesAfterTake.{Gains, taken_gains}
+
+module _ (k : ClassTable) (old new : Tables) (a : AreTables k old) (kept : AreTables k new) (c place : ℕ) (class : c < length k.sizes)
+    (t : TakesAt k old c place new) (d : ℕ) (ne : d ≢ c) where
+  gains : Gains k old new c t.page t.slot
+  gains = taken_gains k old a c class place new t kept.lists kept.pool
+
+  other : (page : ℕ) → IsOf old d page → page ≢ t.page
+  other page of e =
+      let there : IsOf old d t.page = subst (IsOf old d) e of in
+      elim gains.was [
+        | inl (listed, _) ↦ ne (one_class k old a d c t.page there (inr listed))
+        | inr (free, _, _) ↦ free_of_none old d t.page free there
+      ]
+
+  -- its pages have their slots
+  pub slots_keep : (page : ℕ) → IsOf old d page → slots_on new page ≡ slots_on old page
+  slots_keep page of = (gains.others page (other page of)).slots
+
+  -- and its lists their pages
+  pub lists_keep : (which : Which) → pages_in new.lists d which ≡ pages_in old.lists d which
+  lists_keep which = elim t.taken [
+    | inl on ↦ elim (cases_eq (used_in (slots_on new t.page)) (length (slots_on new t.page))) [
+      | inl is ↦ (let f = on.filled is in f.joins.others d which (inl ne) ∙ f.leaves.others d which (inl ne))
+      | inr still ↦ ap (λ (l : PageLists). pages_in l d which) (on.not_filled still)
+    ]
+    | inr (_, on) ↦ elim (cases_eq (slots_in k c) 1) [
+      | inl is ↦ (let f = on.filled is in f.others d which (inl ne))
+      | inr several ↦ (let f = on.not_filled several in f.others d which (inl ne))
+    ]
+  ]
+
+  -- so the steps of freeing one of its slots are the same
+  pub drop_keeps : (page : ℕ) → IsOf old d page → steps_to_drop new page ≡ steps_to_drop old page
+  drop_keeps page of = ap (λ slots. drop_steps (used_in slots) (length slots)) (slots_keep page of)
+
+  pub fill_keeps : steps_to_fill new d ≡ steps_to_fill old d
+  fill_keeps = go (pages_in old.lists d NotFull) refl
+    where
+      go : (pages : List ℕ) → pages_in old.lists d NotFull ≡ pages → steps_to_fill new d ≡ steps_to_fill old d
+      go [] e = rw (steps_to_fill, lists_keep NotFull ∙ e, e) refl
+      go (page ∷ rest) e =
+          let there : Contains (pages_in old.lists d NotFull) page = subst (λ (xs : List ℕ). Contains xs page) (sym e) (contains_head page rest) in
+          let was : steps_to_fill old d ≡ fill_steps (used_in (slots_on old page)) = rw (steps_to_fill, e) refl in
+          let now : steps_to_fill new d ≡ fill_steps (used_in (slots_on new page)) = rw (steps_to_fill, lists_keep NotFull ∙ e) refl in
+          now ∙ ap (λ slots. fill_steps (used_in slots)) (slots_keep page (inr there)) ∙ sym was

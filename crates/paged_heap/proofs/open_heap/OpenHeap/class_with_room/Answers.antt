@@ -1,0 +1,25 @@
+-- The refusals in their order.
+use Rattle.std.proofs.Common.{arith, sym, ◌∙◌}
+use Rattle.paged_heap.specs.Heap.{seen}
+use Rattle.paged_heap.proofs.CountLimits.{class_is}
+use Rattle.paged_heap.proofs.LayoutFacts.{as_many, tables_ok}
+use Rattle.paged_heap.proofs.MallocLemmas.{wants_proxy, wants_space}
+use Rattle.paged_heap.proofs.open_heap.OpenHeap.class_with_room.Goals as goal
+
+pub has_slot-requires : goal.has_slot-requires
+has_slot-requires g c =
+    let h = seen g.A.Mapping.kind c.args.self.now in
+    let is = class_is h c.requires.kept c.args.bytes c.in-Some.c c.in-Some.ensures.found in let lt = is.2 in
+    let many = as_many h c.requires.kept in
+    let all = (tables_ok h c.requires.kept).classes in
+    omega arith
+
+pub returns-then-live-self-clause-cause : goal.returns-then-live-self-clause-cause
+returns-then-live-self-clause-cause g c =
+    wants_proxy (seen g.A.Mapping.kind c.args.self.now) c.requires.kept c.args.bytes c.in-Some.c c.in-Some.ensures.found
+    (sym c.live.ensures.count ∙ c.if-live-self.true)
+
+pub returns-else-has_slot-clause-cause : goal.returns-else-has_slot-clause-cause
+returns-else-has_slot-clause-cause g c =
+    wants_space (seen g.A.Mapping.kind c.args.self.now) c.requires.kept c.args.bytes c.in-Some.c c.in-Some.ensures.found
+    (λ e. c.if-live-self.false (c.live.ensures.count ∙ e)) (c.has_slot.ensures.none c.if-has_slot.false)

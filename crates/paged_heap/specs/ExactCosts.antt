@@ -1,0 +1,60 @@
+-- The exact steps of a call: a function of the state before, of the order in which slots are given out, and of the answer.
+use Rattle.std.specs.Prelude.{ℕ, ◌+◌, ◌-◌, ◌*◌, ◌/◌, Option, None, Some, Result, Ok, Err, if◌then◌else◌, length, min, nat_eq, nat_lt}
+use Rattle.std.specs.FinMap.{get}
+use Rattle.cf_base.specs.declared.answers.Freed.{Freed}
+use Rattle.cf_base.specs.declared.answers.Handle.{Handle}
+use Rattle.cf_base.specs.declared.answers.NotLive.{NotLive}
+use Rattle.cf_base.specs.declared.answers.Refusal.{Refusal}
+use Rattle.cf_base.specs.declared.answers.Resized.{Resized}
+use Rattle.cf_base.specs.declared.answers.ResizeFault.{ResizeFault}
+use Rattle.cf_base.specs.declared.answers.ResizeFault.TheVariants as resize
+use Rattle.cf_base.specs.declared.kind.Kind.{Kind}
+use Rattle.cf_model.specs.State.{HeapState, paging_in}
+use Rattle.page_model.specs.Arrangement.{class_at}
+use Rattle.page_model.specs.Held.{Placed}
+use Rattle.page_model.specs.Image.{slot_for}
+use Rattle.page_model.specs.Order.{Order, steps_to_drop, steps_to_fill, steps_to_take, word_steps}
+use Rattle.page_model.specs.Paging.{class_for, page_of}
+use Rattle.page_model.specs.Steps.{Request}
+use Rattle.virtual_words.specs.Words.{copy_steps, run_steps, slot_steps, wipe_steps}
+
+-- a malloc: the class, the slot that is next, the proxy and the header; refused, the class
+abbrev pub malloc_cost : HeapState → Order → ℕ → Result Handle Refusal → ℕ
+malloc_cost s o bytes (Ok h) = 3 + word_steps s.kind + steps_to_take (paging_in s) s.held o (class_for (paging_in s) bytes)
+malloc_cost s o bytes (Err e) = 1
+
+-- leaving the slot of x: it is cleared and becomes free, or another object moves there, and its slot becomes free
+abbrev pub leaving_cost : HeapState → Order → Placed → Option Handle → ℕ
+leaving_cost s o x None =
+    wipe_steps s.kind (slot_for (paging_in s) (length x.bytes)) + steps_to_drop (paging_in s) s.held (class_at (paging_in s) x) (page_of (paging_in s) x.place)
+leaving_cost s o x (Some y) =
+    1 + word_steps s.kind + slot_steps s.kind (slot_for (paging_in s) (length x.bytes)) + steps_to_fill (paging_in s) s.held o (class_at (paging_in s) x)
+
+-- a free: the proxy, the header, the class and the page's count, the number that is given back, and the slot; refused, the look for the proxy
+abbrev pub free_cost : HeapState → Order → ℕ → Result Freed NotLive → ℕ
+free_cost s o h (Ok freed) = elim (get s.held h) [ None ↦ 0 | Some x ↦ 5 + word_steps s.kind + leaving_cost s o x freed.moved ]
+free_cost s o h (Err e) = 1
+
+-- cutting m bytes at word a to n: the word where they end now, and the cleared ones after it
+abbrev pub tail_steps : Kind → ℕ → ℕ → ℕ → ℕ
+tail_steps kind a n m = if nat_lt n m then word_steps kind + run_steps kind (a + 2 + n / 8) ((m + 7) / 8 - n / 8 - 1) else 0
+
+-- bringing an object of m bytes to another slot, with n bytes: the words that stay, which are cut, the header and the proxy
+abbrev pub carrying_cost : Kind → ℕ → ℕ → ℕ
+carrying_cost kind m n = copy_steps kind 1 ((min m n + 7) / 8) + tail_steps kind 0 n (8 * ((min m n + 7) / 8)) + word_steps kind + 1
+
+-- x gets n bytes: the proxy, two classes and the header; in its class the words that are cut, and the header; to another one the count of the page, the slot
+-- that is next, to which it is brought, and the slot that it leaves
+abbrev pub resized_cost : HeapState → Order → ℕ → Placed → Option Handle → ℕ
+resized_cost s o n x moved =
+    if nat_eq (class_for (paging_in s) n) (class_at (paging_in s) x) then 3 + 2 * word_steps s.kind + tail_steps s.kind 0 n (length x.bytes)
+    else 4 + word_steps s.kind + steps_to_take (paging_in s) s.held o (class_for (paging_in s) n) + carrying_cost s.kind (length x.bytes) n
+    + leaving_cost s o x moved
+
+-- a resize
+abbrev pub resize_cost : HeapState → Order → Request → Result Resized ResizeFault → ℕ
+resize_cost s o asked (Ok done) = elim (get s.held asked.number) [ None ↦ 0 | Some x ↦ resized_cost s o asked.length x done.moved ]
+resize_cost s o asked (Err resize.Unknown) = 1
+resize_cost s o asked (Err resize.Kind) = 0
+resize_cost s o asked (Err resize.Size) = 2
+resize_cost s o asked (Err resize.Space) = 4 + word_steps s.kind

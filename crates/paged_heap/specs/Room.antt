@@ -1,0 +1,16 @@
+-- Slots that a malloc may take, and what it returns.
+use Rattle.std.specs.Prelude.{ℕ, ◌+◌, ◌≤◌, Result, Ok, Err, length}
+use Rattle.cf_base.specs.declared.answers.Handle.{Handle}
+use Rattle.cf_base.specs.declared.answers.Refusal.{Refusal}
+use Rattle.class_lists.specs.PageLists.{PageLists, pages_in}
+use Rattle.class_lists.specs.declared.Which.TheVariants.{NotFull}
+use Rattle.page_pool.specs.Pool.{Pool}
+
+-- class c has a free slot, on a partly full page or on a free one
+abbrev pub HasSlot : PageLists → Pool → ℕ → Type 0
+HasSlot lists pool c = 1 ≤ length (pages_in lists c NotFull) + length pool.free
+
+-- what a malloc returns, without the handle
+abbrev pub without_handle : Result Handle Refusal → Result Unit Refusal
+without_handle (Ok h) = Ok tt
+without_handle (Err e) = Err e

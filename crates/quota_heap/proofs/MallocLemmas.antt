@@ -1,0 +1,255 @@
+-- An object comes to a task.
+use Rattle.std.proofs.Common.{◌≡◌, ◌≢◌, ℕ, ◌+◌, ◌<◌, ◌≤◌, List, length, get_or, set, replicate, Some, None, arith, refl, sym, ◌∙◌, ap, subst, inl, inr}
+use Rattle.std.specs.Prelude.{nat_eq}
+use Rattle.std.proofs.lemmas.Bool.{cases_eq}
+use Rattle.std.proofs.lemmas.List.{length-replicate, length-set}
+use Rattle.std.specs.FinMap.{get, insert}
+use Rattle.cf_base.specs.Settings.{profile_of}
+use Rattle.cf_lemmas.proofs.Ranges.{one}
+use Rattle.class_lists.specs.declared.Which.{Which}
+use Rattle.class_lists.specs.declared.Which.TheVariants.{Full, NotFull}
+use Rattle.class_lists.specs.PageLists.{pages_in}
+use Rattle.std.specs.List.{Contains}
+use Rattle.page_model.specs.Arrangement.{class_at, live}
+use Rattle.page_model.specs.Held.{Held, Placed, objects}
+use Rattle.page_model.specs.Image.{IsSlotImage, header_word}
+use Rattle.page_model.specs.Paging.{class_for, classes, page_of}
+use Rattle.page_model.specs.Steps.{IsFreePlace, Request, zeros_at}
+use Rattle.page_model.proofs.CallerLemmas.{live_added, malloc_objects, malloc_places, storable_added, zeros_are_bytes}
+use Rattle.page_slots.specs.Occupying.{Occupies, TellPart, class_table}
+use Rattle.page_slots.specs.Tables.{AreTables, IsElsewhere, IsOf, Tables}
+use Rattle.page_slots.specs.Taking.{TakesAt}
+use Rattle.page_slots.proofs.CallerLemmas.{taken_is_free, taken_occupied, taken_part}
+use Rattle.proxy_table.specs.Proxies.{Proxies}
+use Rattle.quota_model.specs.Joined.{joined}
+use Rattle.quota_model.proofs.CallerLemmas.{image_of_malloc, joined_insert}
+use Rattle.quota_model.specs.Parts.{key_of, number_of, part_of, task_of}
+use Rattle.quota_model.specs.Shared.{PlacesForTask}
+use Rattle.quota_model.proofs.CallerLemmas.{found_part, others_stay, part_inserted, quotas_stay, stays_shared}
+use Rattle.quota_heap.specs.Calls.{Comes}
+use Rattle.quota_heap.specs.Layout.{ArePages, IsTask, IsTaskIn, IsValid, held_in, held_of, objects_of, paging_at, places_of, quotas_of, state_of, tables_of}
+use Rattle.quota_heap.specs.Steps.{GivesTask}
+use Rattle.quota_heap.specs.declared.shared_pages.SharedPages.{SharedPages}
+use Rattle.quota_heap.specs.declared.open_tasks.OpenTasks.{OpenTasks}
+use Rattle.quota_heap.specs.declared.task.Task.{Task}
+use Rattle.quota_heap.proofs.Facts.{few_classes, no_bytes, no_place, paging_ok, table_is}
+use Rattle.quota_heap.proofs.PageAccount.{take_accounts}
+use Rattle.quota_heap.proofs.PagesAfter.{pages_after, used_after}
+use Rattle.quota_heap.proofs.Preserved.{Becomes, becomes_kept, becomes_state, places_are, stored}
+use Rattle.quota_heap.proofs.Refusals.{reason}
+use Rattle.quota_heap.proofs.Tasks.{length_map, map_set, numbers, part_is, places_here, task_below}
+use Rattle.std.proofs.lemmas.Option.{slice_get_within}
+use Rattle.cf_lemmas.proofs.Tallies.{counted_in}
+use Rattle.cf_lemmas.proofs.Tests.{eq_no, eq_yes}
+use Rattle.std.proofs.lemmas.List.{get_or-set_other, get_or-set_same}
+use Rattle.page_model.proofs.CallerLemmas.{slot_inside}
+use Rattle.quota_heap.proofs.Facts.{tables_ok}
+use Rattle.cf_lemmas.proofs.Maps.{get_inserted}
+use Rattle.std.specs.Prelude.{Option, slice_get}
+use Rattle.std.proofs.lemmas.Option.{slice_get-get_or}
+use Rattle.quota_model.specs.Shared.{IsShared}
+use Rattle.quota_heap.specs.State.{QuotaState}
+use Rattle.quota_heap.specs.Steps.{with_held}
+
+-- A slot of class c of the task is taken: what is known of the shared pages and the task alone.
+module _ (g : SharedPages) (k : ArePages g) (t : ℕ) (x : Task) (i : IsTask g t x) (c : ℕ) (lt : c < classes (paging_at g)) (a : ℕ) (new : Tables)
+    (taken : TakesAt g.classes (tables_of g x) c a new) (tables : AreTables g.classes new) where
+  abbrev at_table : TakesAt (class_table (paging_at g)) (tables_of g x) c a new
+  at_table = subst (λ s. TakesAt s (tables_of g x) c a new) (sym (table_is g k)) taken
+
+  abbrev of_table : AreTables (class_table (paging_at g)) new
+  of_table = subst (λ s. AreTables s new) (sym (table_is g k)) tables
+
+  pub taken_free : (n : ℕ) → class_for (paging_at g) n ≡ c → IsFreePlace (paging_at g) (held_of g x) n a
+  taken_free n class = taken_is_free (paging_ok g) i.tell i.occupied of_table lt at_table n class
+
+  pub taken_tells : TellPart (paging_at g) new
+  taken_tells = taken_part (paging_ok g) i.tell i.occupied of_table lt at_table
+
+  pub taken_occupies : (q : ℕ) (y : Placed) → get (held_of g x) q ≡ None → y.place ≡ a → class_at (paging_at g) y ≡ c
+      → Occupies (paging_at g) (insert (held_of g x) q y) new
+  taken_occupies q y none at class = taken_occupied (paging_ok g) i.tell i.occupied of_table lt at_table q y none at class
+
+  class_of_zeros : (n : ℕ) → class_for (paging_at g) n ≡ c → class_at (paging_at g) (zeros_at a n) ≡ c
+  class_of_zeros n class = ap (class_for (paging_at g)) (length-replicate {A = ℕ} n 0) ∙ class
+
+  -- the address is in the region
+  pub taken_inside : (n : ℕ) → class_for (paging_at g) n ≡ c → a < length g.region
+  taken_inside n class =
+      let free = taken_free n class in
+      let inside = slot_inside (paging_at g) (class_for (paging_at g) n) a free.slot in
+      let least = (paging_ok g).sized.least (class_for (paging_at g) n) free.slot.class in
+      let long = k.words_long in
+      omega arith
+
+  -- the pool has given no more than the task got
+  pub taken_account : (q n : ℕ) → get x.proxies.places q ≡ None → class_for (paging_at g) n ≡ c → length new.pool.free ≤ x.pages + length g.pool.free
+  taken_account q n unused class =
+      let e = used_after g k t x i c lt (insert (held_of g x) q (zeros_at a n)) new taken_tells
+      (taken_occupies q (zeros_at a n) (no_place g k t x i q unused) refl (class_of_zeros n class))
+      (take_accounts g.classes (tables_of g x) (tables_ok g k t x i) c new a taken) in
+      omega arith
+
+module _ (h n : OpenTasks) (k : IsValid h) (t : ℕ) (x x' : Task) (at : IsTaskIn h t x) (tasks : n.tasks.items ≡ set h.tasks.items t x')
+    (granted : n.granted ≡ h.granted) (c bytes q : ℕ)
+    (class : class_for (paging_at h.shared_pages) bytes ≡ c) (lt : c < classes (paging_at h.shared_pages)) (co : Comes h.shared_pages x t c bytes q n.shared_pages x')
+    (none : None ≡ reason h k t x at bytes) where
+  abbrev i : IsTask h.shared_pages t x
+  i = k.task t x at
+
+  abbrev asked : Request
+  asked = record { number = q; length = bytes }
+
+  abbrev fresh : Placed
+  fresh = zeros_at co.place bytes
+
+  abbrev pub after : Held
+  after = insert (held_in h) (key_of t q) (zeros_at co.place bytes)
+
+  few : h.shared_pages.settings.proxies ≤ 65536
+  few = h.shared_pages.settings.few_proxies
+
+  below : q < h.shared_pages.settings.proxies
+  below = (let b = co.below in let e = i.numbers in omega arith)
+
+  small : q < 65536
+  small = (let b = below in let f = few in omega arith)
+
+  unused : get (held_of h.shared_pages x) q ≡ None
+  unused = no_place h.shared_pages k.shared_pages t x i q co.unused
+
+  size : length (replicate {A = ℕ} bytes 0) ≡ bytes
+  size = length-replicate {A = ℕ} bytes 0
+
+  class_zeros : class_at (paging_at h.shared_pages) (zeros_at co.place bytes) ≡ c
+  class_zeros = ap (class_for (paging_at h.shared_pages)) size ∙ class
+
+  occupied_own : Occupies (paging_at h.shared_pages) (insert (held_of h.shared_pages x) q (zeros_at co.place bytes)) (tables_of n.shared_pages x')
+  occupied_own = taken_occupies h.shared_pages k.shared_pages t x i c lt co.place (tables_of n.shared_pages x') co.taken co.rest.tables q (zeros_at co.place bytes) unused refl
+      class_zeros
+
+  -- the new object's page is listed by the task
+  listed : IsOf (tables_of n.shared_pages x') c (page_of (paging_at h.shared_pages) co.place)
+  listed = subst (λ d. IsOf (tables_of n.shared_pages x') d (page_of (paging_at h.shared_pages) co.place)) class_zeros
+      (occupied_own.stands q (zeros_at co.place bytes) (get_inserted (held_of h.shared_pages x) q (zeros_at co.place bytes))).of
+
+  not_elsewhere : IsElsewhere (tables_of h.shared_pages x) (page_of (paging_at h.shared_pages) co.place) → ⊥
+  not_elsewhere e =
+      let now = co.rest.elsewhere.still (page_of (paging_at h.shared_pages) co.place) e in
+      elim listed [ inl f ↦ now.unlisted c Full f | inr f ↦ now.unlisted c NotFull f ]
+
+  -- so only the task has objects there
+  own_page : (key : ℕ) (y : Placed) → get (held_in h) key ≡ Some y → page_of (paging_at h.shared_pages) y.place ≡ page_of (paging_at h.shared_pages) co.place
+      → task_of key ≡ t
+  own_page key y found page = elim (cases_eq (task_of key) t) [
+    | inl is ↦ is
+    | inr ne ↦ absurd (by (slice_get h.tasks.items (task_of key)) refl ne)
+  ]
+    where
+      by : (o : Option Task) → slice_get h.tasks.items (task_of key) ≡ o → task_of key ≢ t → ⊥
+      by None e ne = absurd (
+          let lt16 = k.shared.tasks key y found in
+          let many = k.many in
+          let some = slice_get-get_or h.tasks.items (task_of key) x (omega arith) in
+          let z : None ≡ Some (get_or h.tasks.items (task_of key) x) = sym e ∙ some in cc)
+      by (Some z) e ne =
+          let there : get (held_of h.shared_pages z) (number_of key) ≡ Some y =
+          sym (ap (λ m. get m (number_of key)) (part_is h k (task_of key) z e)) ∙ found_part (held_in h) key y found in
+          let of = ((k.task (task_of key) z e).occupied.stands (number_of key) y there).of in
+          let away = λ (d : ℕ) (w : Which) (l : Contains (pages_in z.lists d w) (page_of (paging_at h.shared_pages) y.place)).
+          k.others t (task_of key) x z at e ne d (page_of (paging_at h.shared_pages) y.place) w l in
+          elim of [
+            | inl l ↦ not_elsewhere (subst (IsElsewhere (tables_of h.shared_pages x)) page (away (class_at (paging_at h.shared_pages) y) Full l))
+            | inr l ↦ not_elsewhere (subst (IsElsewhere (tables_of h.shared_pages x)) page (away (class_at (paging_at h.shared_pages) y) NotFull l))
+          ]
+
+  part : part_of (held_in h) t ≡ held_of h.shared_pages x
+  part = part_is h k t x at
+
+  pub placed : PlacesForTask (profile_of h.shared_pages.settings) (held_in h) t (record { number = q; length = bytes }) after
+  placed = record {
+    place = co.place;
+    in_range = below;
+    unused = ap (λ m. get m q) part ∙ unused;
+    free = subst (λ m. IsFreePlace (paging_at h.shared_pages) m bytes co.place) (sym part)
+        (taken_free h.shared_pages k.shared_pages t x i c lt co.place (tables_of n.shared_pages x') co.taken co.rest.tables bytes class);
+    own = own_page;
+    placed = refl;
+  }
+
+  sixteen : t < 16
+  sixteen = task_below h k t x at
+
+  own_part : part_of after t ≡ insert (held_of h.shared_pages x) q (zeros_at co.place bytes)
+  own_part = part_inserted (held_in h) t q small (zeros_at co.place bytes) ∙ ap (λ m. insert m q (zeros_at co.place bytes)) part
+
+  objects_are : objects (part_of after t) ≡ insert (objects_of h.shared_pages x) q (replicate bytes 0)
+  objects_are = ap objects own_part ∙ malloc_objects (held_of h.shared_pages x) q co.place bytes
+
+  counts : (d : ℕ) → d < classes (paging_at h.shared_pages) → get_or x'.live d 0 ≡ live (paging_at h.shared_pages) (objects (part_of after t)) d
+  counts d l =
+      let add = live_added (paging_at h.shared_pages) (objects_of h.shared_pages x) q (replicate bytes 0) d (no_bytes (held_of h.shared_pages x) q unused) in
+      let was = i.counted d l in
+      let all : live (paging_at h.shared_pages) (objects (part_of after t)) d ≡ live (paging_at h.shared_pages) (insert (objects_of h.shared_pages x) q (replicate bytes 0)) d =
+      ap (λ o. live (paging_at h.shared_pages) o d) objects_are in
+      let now : get_or x'.live d 0 ≡ get_or (set x.live c (get_or x.live c 0 + 1)) d 0 = ap (λ v. get_or v d 0) co.live in
+      let inside : c < length x.live = (let f = few_classes h.shared_pages k.shared_pages t x i in let long = i.live_long in omega arith) in
+      let more = counted_in x.live c d inside in
+      let same : one (nat_eq (class_for (paging_at h.shared_pages) (length (replicate {A = ℕ} bytes 0))) d) ≡ one (nat_eq c d) =
+      ap (λ e. one (nat_eq e d)) class_zeros in
+      omega arith
+
+  shared_after : IsShared (profile_of h.shared_pages.settings) after
+  shared_after = stays_shared (profile_of h.shared_pages.settings) (held_in h) t asked after few placed h.shared_pages.settings.page_size sixteen k.shared
+
+  becomes : Becomes h n t x x' after
+  unfolding placed
+  becomes = record {
+    at = at;
+    tasks = tasks;
+    granted = granted;
+    rest = co.rest;
+    places =
+        let l : t < length (places_of h.tasks.items) = (
+        let e = length_map (λ (y : Task). y.proxies.places) h.tasks.items in let w = slice_get_within h.tasks.items t x at in omega arith) in
+        ap joined (map_set (λ (y : Task). y.proxies.places) h.tasks.items t x'
+        ∙ ap (λ p. set (places_of h.tasks.items) t p) (ap (λ (p : Proxies). p.places) co.proxies
+        ∙ ap (λ m. insert m q co.place) (sym (places_here h k t x at))))
+        ∙ joined_insert (places_of h.tasks.items) (numbers h k) t l q small co.place
+        ∙ ap (λ m. insert m (key_of t q) co.place) (places_are h k)
+        ∙ sym (malloc_places (held_in h) (key_of t q) co.place bytes);
+    storable = storable_added (held_in h) (key_of t q) (zeros_at co.place bytes) (stored h k) (let s = small in let l = sixteen in omega arith)
+        (zeros_are_bytes bytes);
+    long = ap length co.words ∙ length-set h.shared_pages.region co.place (header_word (key_of t q) bytes);
+    image = subst (λ w. IsSlotImage (paging_at h.shared_pages) after w) (sym co.words)
+        (image_of_malloc (profile_of h.shared_pages.settings) (held_in h) k.shared h.shared_pages.settings.page_size h.shared_pages.region k.image t asked after few
+        sixteen placed
+        k.shared_pages.words_long);
+    shared = shared_after;
+    quotas = quotas_stay (profile_of h.shared_pages.settings) (held_in h) t asked after few placed (quotas_of h.tasks.items) k.quotas (sym none);
+    others = λ u ne. others_stay (profile_of h.shared_pages.settings) (held_in h) t asked after few placed u ne;
+    tell = taken_tells h.shared_pages k.shared_pages t x i c lt co.place (tables_of n.shared_pages x') co.taken co.rest.tables;
+    occupied = subst (λ m. Occupies (paging_at h.shared_pages) m (tables_of n.shared_pages x')) (sym own_part) occupied_own;
+    limit = ap (λ (p : Proxies). p.limit) co.proxies;
+    live_long = ap length co.live ∙ length-set x.live c (get_or x.live c 0 + 1) ∙ i.live_long;
+    counted = counts;
+    pages = pages_after h.shared_pages k.shared_pages t x i c lt (part_of after t) (tables_of n.shared_pages x')
+        (taken_tells h.shared_pages k.shared_pages t x i c lt co.place (tables_of n.shared_pages x') co.taken co.rest.tables)
+        (subst (λ m. Occupies (paging_at h.shared_pages) m (tables_of n.shared_pages x')) (sym own_part) occupied_own)
+        (take_accounts h.shared_pages.classes (tables_of h.shared_pages x) (tables_ok h.shared_pages k.shared_pages t x i) c (tables_of n.shared_pages x')
+        co.place co.taken)
+        (shared_after.sound t) x'.pages co.rest.account;
+  }
+
+  pub comes_kept : IsValid n
+  comes_kept = becomes_kept h n k t x x' after becomes
+
+  pub comes_given : GivesTask (state_of h) t (record { number = q; length = bytes }) (state_of n)
+  comes_given =
+      let whole = becomes_state h n k t x x' after becomes in
+      let held : (state_of n).held ≡ after = ap (λ (s : QuotaState). s.held) whole in
+      record {
+        granted = sym none;
+        placed = subst (PlacesForTask (profile_of h.shared_pages.settings) (held_in h) t (record { number = q; length = bytes })) (sym held) placed;
+        whole = whole ∙ ap (λ m. with_held (state_of h) m n.shared_pages.region) (sym held);
+      }

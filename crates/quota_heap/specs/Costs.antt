@@ -1,0 +1,45 @@
+-- The most steps of each call on a heap that tasks share, each reached.
+use Rattle.std.specs.Prelude.{ℕ, ◌+◌, Option, Some, None, Result, Ok, Err}
+use Rattle.cf_base.specs.declared.answers.AccessFault.{AccessFault}
+use Rattle.cf_base.specs.declared.answers.AccessFault.TheVariants.{Unknown, Range}
+use Rattle.cf_base.specs.declared.answers.Freed.{Freed}
+use Rattle.cf_base.specs.declared.answers.Handle.{Handle}
+use Rattle.cf_base.specs.declared.answers.NotLive.{NotLive}
+use Rattle.cf_base.specs.declared.answers.Refusal.{Refusal}
+use Rattle.cf_model.specs.Costs.{words_touched}
+
+-- a malloc that fills its page: the class (1), the slot and its page's lists (13), the proxy (2) and the header (1)
+abbrev pub most_of_malloc : ℕ
+most_of_malloc = 17
+
+-- a free that moves an object and empties its page: two headers (2), the class (1), the tables of two pages (13), two proxies (4), and the slot's words
+abbrev pub most_of_free : ℕ → ℕ
+most_of_free slot_words = 20 + slot_words
+
+-- a read or a write: the proxy (1), the header (1), and each word that holds one of the bytes
+abbrev pub most_of_access : ℕ → ℕ → ℕ
+most_of_access from count = 2 + words_touched from count
+
+-- a refused malloc reads the class alone
+abbrev pub malloc_steps : Result Handle Refusal → ℕ
+malloc_steps (Ok h) = most_of_malloc
+malloc_steps (Err e) = 1
+
+-- a refused free reads the proxy alone
+abbrev pub free_steps : Result Freed NotLive → ℕ
+free_steps (Ok freed) = most_of_free freed.slot_words
+free_steps (Err e) = 1
+
+-- a refused read or write reads the proxy, and the header where there is an object
+abbrev pub fault_steps : AccessFault → ℕ
+fault_steps Unknown = 1
+fault_steps Range = 2
+
+abbrev pub access_steps : Result Unit AccessFault → ℕ → ℕ → ℕ
+access_steps (Ok done) from count = most_of_access from count
+access_steps (Err e) from count = fault_steps e
+
+-- a look at a word, where there is one
+abbrev pub peek_steps : Option ℕ → ℕ
+peek_steps None = 0
+peek_steps (Some word) = 1

@@ -1,0 +1,62 @@
+//! An object comes.
+ghost use Rattle.std.specs.Prelude.{◌≡◌, ◌≢◌, ◌+◌, ◌<◌, ◌≤◌, [], length};
+ghost use Rattle.std.specs.FinMap.{get, len};
+ghost use Rattle.step_ledger.specs.Counting.{RoseAtMost};
+ghost use Rattle.class_lists.specs.PageLists.{pages_in};
+ghost use Rattle.class_lists.specs.declared.Which.TheVariants.{NotFull};
+ghost use Rattle.page_model.specs.Paging.{class_for, classes};
+ghost use Rattle.quota_heap.specs.Calls.{Comes};
+ghost use Rattle.quota_heap.specs.Layout.{ArePages, IsTask, paging_at};
+
+use crate::shared_pages::SharedPages;
+use crate::task::Task;
+use cf_base::Handle;
+use page_slots::take_slot;
+use step_ledger::Steps;
+use word_bytes::Header;
+
+impl SharedPages {
+    /// Gives task t an object of `bytes` zeros in class c: there is a slot for it and a number.
+    pub(crate) fn malloc_inner(
+        &mut self,
+        task: &mut Task,
+        t: u32,
+        c: u32,
+        bytes: u32,
+        steps: &mut Steps,
+    ) -> Handle
+        requires shared_pages { ArePages self.old }
+        requires kept { IsTask self.old t task.old }
+        requires sixteen { t < 16 }
+        requires class { class_for (paging_at self.old) bytes ≡ c }
+        requires in_range { c < classes (paging_at self.old) }
+        requires some { len task.old.proxies.places ≢ task.old.proxies.limit }
+        requires room { pages_in task.old.lists c NotFull ≡ [] → self.old.pool.free ≡ [] → ⊥ }
+        requires few { task.old.pages ≤ 4096 }
+        ensures comes { Comes self.old task.old t c bytes result.0 self.new task.new }
+        ensures bound { RoseAtMost steps.old steps.new 16 }
+    {
+        let left = self.pool.left();
+        let Some(place) = take_slot(
+            &self.classes,
+            &mut self.maps,
+            &mut task.lists,
+            &mut self.pool,
+            c,
+            steps,
+        ) else {
+            unreachable!();
+        };
+        task.pages = task.pages + left - self.pool.left();
+        let Some(number) = task.proxies.bind(place, steps) else {
+            unreachable!();
+        };
+        let header = Header {
+            handle: Handle(t * 65536 + number.0),
+            length: bytes,
+        };
+        self.region.write(place, header.pack(), steps);
+        task.live[c as usize] += 1;
+        number
+    }
+}

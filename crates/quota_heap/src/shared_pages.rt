@@ -1,0 +1,126 @@
+//! What the tasks share.
+ghost use Rattle.std.specs.Prelude.{◌≡◌, ℕ, ◌*◌, ◌+◌, ◌<◌, ◌≤◌, false, length, replicate, slice_get, slice_index, None, IfErr, IfNone, IfOk, IfSome};
+ghost use Rattle.std.specs.List.{range_with_len};
+ghost use Rattle.std.specs.FinMap.{get};
+ghost use Rattle.step_ledger.specs.Counting.{RoseAtMost};
+ghost use Rattle.page_model.specs.Image.{Clears, IsDisjoint, MovesWords};
+ghost use Rattle.quota_heap.specs.Calls.{IsFound, IsObjectAt};
+ghost use Rattle.quota_heap.specs.Costs.{fault_steps};
+ghost use Rattle.quota_heap.specs.Layout.{AreFirstPages, ArePages, IsTask};
+
+use crate::task::Task;
+use cf_base::{AccessFault, Handle, Layout, OutOfMemory, Settings};
+use page_pool::PagePool;
+use region::Region;
+use size_classes::Classes;
+use slot_bitmap::{SlotMap, free_maps};
+use std::alloc::Global;
+use step_ledger::Steps;
+use word_bytes::Header;
+
+/// The region of all tasks, the bitmap of each of its pages, and the pages that no task uses.
+#[derive(Drop)]
+pub(crate) struct SharedPages {
+    pub(crate) settings: Settings,
+    pub(crate) classes: Classes,
+    pub(crate) region: Region,
+    pub(crate) maps: Vec<SlotMap>,
+    pub(crate) pool: PagePool,
+}
+
+/// An object of a task: the first word of its slot, its bytes, and its class.
+#[derive(Clone, Copy)]
+pub(crate) struct Found {
+    pub(crate) place: u32,
+    pub(crate) length: u32,
+    pub(crate) class: u32,
+}
+
+impl SharedPages {
+    /// Pages that are all free. It alone takes memory.
+    pub(crate) fn new(alloc: Global, s: &Settings) -> Result<SharedPages, OutOfMemory>
+        ensures { IfOk result (λ g. AreFirstPages s.now g) }
+    {
+        let classes = Classes::new(alloc, s.page_words, Layout::Words)?;
+        let region = Region::new(alloc, s.pages * s.page_words)?;
+        let maps = free_maps(alloc, s.pages)?;
+        let pool = PagePool::new(alloc, s.pages)?;
+        Ok(SharedPages {
+            settings: *s,
+            classes,
+            region,
+            maps,
+            pool,
+        })
+    }
+
+    /// The object of a task under this number; none where it isn't live.
+    pub(crate) fn object(&self, task: &Task, h: Handle, steps: &mut Steps) -> Option<Found>
+        requires shared_pages { ArePages self.now }
+        requires kept { (t : ℕ) × IsTask self.now t task.now }
+        ensures none { IfNone result (get task.now.proxies.places h.0 ≡ None) }
+        ensures found { IfSome result (λ f. IsObjectAt self.now task.now h.0 f.place f.length f.class) }
+        ensures bound { RoseAtMost steps.old steps.new 3 }
+        ensures missing { IfNone result (RoseAtMost steps.old steps.new 1) }
+    {
+        let Some(place) = task.proxies.lookup(h, steps) else {
+            return None;
+        };
+        let length = Header::unpack(self.region.read(place, steps)).length;
+        let Some(class) = self.classes.class_of(length, steps) else {
+            unreachable!();
+        };
+        Some(Found {
+            place,
+            length,
+            class,
+        })
+    }
+
+    /// The address of an object of a task, of which `count` bytes from `at` on are asked for.
+    pub(crate) fn find(
+        &self,
+        task: &Task,
+        h: Handle,
+        at: u32,
+        count: usize,
+        steps: &mut Steps,
+    ) -> Result<u32, AccessFault>
+        requires shared_pages { ArePages self.now }
+        requires kept { (t : ℕ) × IsTask self.now t task.now }
+        ensures found { IsFound self.now task.now (record { number = h.0; from = at }) count result }
+        ensures bound { RoseAtMost steps.old steps.new 2 }
+        ensures refused { IfErr result (λ e. RoseAtMost steps.old steps.new (fault_steps e)) }
+    {
+        let Some(place) = task.proxies.lookup(h, steps) else {
+            return Err(AccessFault::Unknown);
+        };
+        let length = Header::unpack(self.region.read(place, steps)).length as usize;
+        if length < count || length - count < at as usize {
+            return Err(AccessFault::Range);
+        }
+        Ok(place)
+    }
+}
+
+/// The words of a slot become zeros.
+pub(crate) fn wipe(region: &mut Region, place: u32, slot_words: u32, steps: &mut Steps)
+    requires within { place + slot_words ≤ length region.old }
+    ensures words { Clears region.old region.new (record { from = place; count = slot_words }) }
+    ensures len { length region.new ≡ length region.old }
+    ensures bound { RoseAtMost steps.old steps.new slot_words }
+{
+    region.clear(place, slot_words, steps);
+}
+
+/// The words of a slot go to another one, and leave zeros.
+pub(crate) fn shift(region: &mut Region, from: u32, to: u32, slot_words: u32, steps: &mut Steps)
+    requires source { from + slot_words ≤ length region.old }
+    requires target { to + slot_words ≤ length region.old }
+    requires apart { IsDisjoint from slot_words to slot_words }
+    ensures words { MovesWords region.old region.new (record { from = from; count = slot_words }) to }
+    ensures len { length region.new ≡ length region.old }
+    ensures bound { RoseAtMost steps.old steps.new slot_words }
+{
+    region.move_words(from, to, slot_words, steps);
+}

@@ -1,0 +1,101 @@
+//! The words of a region that tasks share, after a call of one of them.
+ghost use Rattle.std.specs.Prelude.{ℕ, ◌≡◌, ◌≢◌, ◌+◌, ◌*◌, ◌/◌, ◌%◌, ◌<◌, ◌≤◌, IsTrue, List, None, Option, Some, length, option_map, slice_set};
+ghost use Rattle.std.specs.Ordering.{nat_cmp};
+ghost use Rattle.std.specs.FinMap.{FinMap, get, insert};
+ghost use Rattle.cf_base.specs.Limits.{is_page_size};
+ghost use Rattle.cf_base.specs.Settings.{Profile};
+ghost use Rattle.page_model.specs.Arrangement.{class_at};
+ghost use Rattle.page_model.specs.Bytes.{held_at, written};
+ghost use Rattle.page_model.specs.Held.{Held, Placed};
+ghost use Rattle.page_model.specs.Image.{Clears, IsImage, IsSlotImage, MovesWords, Rewrites, header_word, object_word, slot_for};
+ghost use Rattle.page_model.specs.Paging.{class_for};
+ghost use Rattle.page_model.specs.Steps.{Request};
+ghost use Rattle.quota_model.specs.Joined.{AreNumbers, joined, places_at};
+ghost use Rattle.quota_model.specs.Parts.{key_of, part_of};
+ghost use Rattle.quota_model.specs.Refusals.{task_paging};
+ghost use Rattle.quota_model.specs.Shared.{AreQuotas, IsShared, PlacesForTask, RemovesForTask};
+
+/// Under the key of an object stands its address, and a task's part of what stands at all addresses
+/// is what stands at its own.
+pub fn addresses_stand_by_their_keys()
+    ensures found { (all : List (FinMap nat_cmp ℕ)) (task h : ℕ) → AreNumbers all → h < 65536
+        → get (joined all) (key_of task h) ≡ get (places_at all task) h }
+    ensures part { (all : List (FinMap nat_cmp ℕ)) (task : ℕ) (words : List ℕ) → AreNumbers all
+        → part_of (held_at words (joined all)) task ≡ held_at words (places_at all task) }
+{}
+
+/// What is said of whole slots holds of the objects' own words.
+pub fn words_are_those_of_the_objects()
+    ensures { (s : Profile) (m : Held) (words : List ℕ) → IsTrue (is_page_size s.page_words)
+        → IsShared s m → IsSlotImage (task_paging s) m words → IsImage m words }
+{}
+
+/// A malloc of a task writes the header, with the task in it, into zeros, and no other word.
+pub fn words_after_a_malloc_of_a_task()
+    ensures { (s : Profile) (old : Held) (words : List ℕ) (task : ℕ) (asked : Request) (new : Held)
+        (step : PlacesForTask s old task asked new)
+        → IsTrue (is_page_size s.page_words) → s.proxies ≤ 65536 → task < 16
+        → IsShared s old → IsSlotImage (task_paging s) old words
+        → length words ≡ s.pages * s.page_words
+        → IsSlotImage (task_paging s) new
+        (slice_set words step.place (header_word (key_of task asked.number) asked.length)) }
+{}
+
+/// A free of a task clears the object's slot, or moves there the slot of the object that moves, and
+/// leaves zeros where that one stood.
+pub fn words_after_a_free_of_a_task()
+    ensures still { (s : Profile) (old : Held) (words left : List ℕ) (task h : ℕ) (new : Held)
+        (step : RemovesForTask s old task h None new)
+        → IsTrue (is_page_size s.page_words)
+        → IsShared s old → IsSlotImage (task_paging s) old words
+        → Clears words left (record {
+          from = step.freed.place;
+          count = slot_for (task_paging s) (length step.freed.bytes);
+        })
+        → IsSlotImage (task_paging s) new left }
+    ensures moved { (s : Profile) (old : Held) (words left : List ℕ) (task h q : ℕ) (y : Placed)
+        (new : Held) (step : RemovesForTask s old task h (Some q) new)
+        → IsTrue (is_page_size s.page_words)
+        → IsShared s old → IsSlotImage (task_paging s) old words
+        → get (part_of old task) q ≡ Some y
+        → MovesWords words left (record {
+          from = y.place;
+          count = slot_for (task_paging s) (length y.bytes);
+        }) step.freed.place
+        → IsSlotImage (task_paging s) new left }
+{}
+
+/// A write of a task rewrites those words of the object that hold one of its bytes.
+pub fn words_after_a_write_of_a_task()
+    ensures { (s : Profile) (old : Held) (words left : List ℕ) (task h at : ℕ) (x : Placed)
+        (bytes : List ℕ)
+        → IsTrue (is_page_size s.page_words)
+        → IsShared s old → IsSlotImage (task_paging s) old words
+        → get (part_of old task) h ≡ Some x → at + length bytes ≤ length x.bytes
+        → Rewrites words left
+        (record { from = x.place + (1 + at / 8); count = (at % 8 + length bytes + 7) / 8 })
+        (λ i. object_word (key_of task h) (written x.bytes at bytes) (1 + at / 8 + i))
+        → IsSlotImage (task_paging s) (insert old (key_of task h)
+        (record { place = x.place; bytes = written x.bytes at bytes })) left }
+{}
+
+/// Other bytes in an object of a task, of the same class, leave all tasks apart and within their
+/// quotas, and change no object of another task.
+pub fn a_write_keeps_tasks_apart()
+    ensures shared { (s : Profile) (old : Held) (task h : ℕ) (x : Placed) (bytes : List ℕ)
+        → IsShared s old → get (part_of old task) h ≡ Some x
+        → class_for (task_paging s) (length bytes) ≡ class_at (task_paging s) x
+        → IsShared s (insert old (key_of task h) (record { place = x.place; bytes = bytes })) }
+    ensures quotas { (s : Profile) (quotas : List ℕ) (old : Held) (task h : ℕ) (x : Placed)
+        (bytes : List ℕ)
+        → AreQuotas s quotas old → get (part_of old task) h ≡ Some x
+        → class_for (task_paging s) (length bytes) ≡ class_at (task_paging s) x
+        → AreQuotas s quotas (insert old (key_of task h)
+        (record { place = x.place; bytes = bytes })) }
+    ensures others { (s : Profile) (old : Held) (task h : ℕ) (x : Placed) (bytes : List ℕ)
+        (other : ℕ)
+        → get (part_of old task) h ≡ Some x
+        → class_for (task_paging s) (length bytes) ≡ class_at (task_paging s) x → other ≢ task
+        → part_of (insert old (key_of task h) (record { place = x.place; bytes = bytes })) other
+        ≡ part_of old other }
+{}

@@ -1,0 +1,44 @@
+-- The row of an outcome, over the bytes of an observable source, and over any source.
+use Rattle.std.proofs.Common.{◌≡◌, ◌++◌, ◌∙◌, Bool, true, false, ℕ, List, [], Option, Some, None, refl, ap, sym, subst}
+use Rattle.cf_base.specs.declared.status.Status.{Status}
+use Rattle.cf_base.specs.declared.status.Status.TheVariants.{Done}
+use Rattle.cf_io.specs.Feeds.{preceded}
+use Rattle.script_reader.specs.Items.{Item}
+use Rattle.script_loop.specs.ScriptOutcome.{Effects, IsRow, MayFollow, MeetsOutcome, Wrote, items_within}
+use Rattle.script_loop.specs.Semantics.{Semantics}
+
+nothing_may_follow : (ended : Bool) → MayFollow None ended []
+nothing_may_follow true = refl
+nothing_may_follow false = tt
+
+module _ {S P : Type 0} (m : Semantics S P) (from to : S) (call : Effects) where
+  -- over the bytes that the source had
+  pub observed_row : (all : List ℕ) → call.had ≡ Some all → MeetsOutcome m from call to → (left : List ℕ) × IsRow m call.status from all left call to
+  observed_row all told met = go call.left refl
+    where
+      go : (left : Option (List ℕ)) → left ≡ call.left → (rest : List ℕ) × IsRow m call.status from all rest call to
+      go None is =
+          let e : Some all ≡ None = sym told ∙ met.took ∙ ap (preceded met.taken) (sym is) in
+          absurd cc
+      go (Some left) is =
+          let e : Some all ≡ Some (met.taken ++ left) = sym told ∙ met.took ∙ ap (preceded met.taken) (sym is) in
+          let same : met.taken ++ left ≡ all = cc in (
+            left,
+            subst (λ (l : List ℕ). IsRow m call.status from l left call to) same
+                (met.row left (subst (λ (o : Option (List ℕ)). MayFollow o met.ended left) is refl)),
+          )
+
+  -- over the bytes that were taken, and some that may come next
+  pub some_row : MeetsOutcome m from call to → (all : List ℕ) × (left : List ℕ) × IsRow m call.status from all left call to
+  some_row met = go call.left refl
+    where
+      go : (left : Option (List ℕ)) → left ≡ call.left → (all : List ℕ) × (left : List ℕ) × IsRow m call.status from all left call to
+      go None is = (met.taken ++ [], [], met.row [] (subst (λ (o : Option (List ℕ)). MayFollow o met.ended []) is (nothing_may_follow met.ended)))
+      go (Some left) is = (met.taken ++ left, left, met.row left (subst (λ (o : Option (List ℕ)). MayFollow o met.ended left) is refl))
+
+  -- a script that was answered to its end: a run over its items led here
+  pub whole_run : MeetsOutcome m from call to → call.status ≡ Done → (wanted : List Item) × Wrote m from wanted call to
+  whole_run met done =
+      let row = some_row met in
+      let whole = subst (λ (st : Status). IsRow m st from row.0 row.1 call to) done row.2 in
+      (items_within row.0, whole.3)

@@ -1,0 +1,72 @@
+use Rattle.std.proofs.Common.{◌≡◌, ◌<◌, ◌+◌, ap, arith, inl, min, refl, sym}
+use Rattle.cf_io.specs.Feeds.{last_count}
+use Rattle.std.proofs.Common.{◌∙◌}
+use Rattle.std.proofs.lemmas.List.{length-take-le}
+use Rattle.script_loop.proofs.Feeding.{given_min, nothing_taken}
+use Rattle.script_loop.proofs.Turning.{chunk_of, some_past, whole_chunk}
+use Rattle.script_loop.proofs.running.Script.turn.Goals as goal
+
+pub returns-in-Err-clause-turn : goal.returns-in-Err-clause-turn
+returns-in-Err-clause-turn g c = record {
+  progress = refl;
+  rest = c.in-Err.ensures.failed.1;
+  counted = inl (omega (arith, c.in-Err.ensures.failed.2));
+  left = refl;
+}
+
+pub returns-then-n-eq0-clause-turn : goal.returns-then-n-eq0-clause-turn
+returns-then-n-eq0-clause-turn g c =
+    let took = c.in-Ok.ensures in (
+      record {
+        progress = refl;
+        rest = sym (nothing_taken _ _ c.take.new.buf c.in-Ok.n c.if-n-eq0.true took.piece);
+        counted = given_min _ _ 0 (took.counted ∙ ap (λ n. min (g.S.Source.given c.args.source.now + n) last_count) c.if-n-eq0.true);
+        left = refl;
+      },
+      took.end (omega arith) c.if-n-eq0.true,
+    )
+
+pub returns-in-Stopped-clause-turn : goal.returns-in-Stopped-clause-turn
+returns-in-Stopped-clause-turn g c =
+    let took = c.in-Ok.ensures in (
+      chunk_of _ _ c.take.new.buf c.min-within.result c.in-Ok.n (omega (arith, c.min-within.ensures)) (omega (arith, c.min-within.ensures)) took.within took.piece took.counted,
+      c.in-Stopped.ensures.goes,
+    )
+
+pub returns-in-Cut-clause-turn : goal.returns-in-Cut-clause-turn
+returns-in-Cut-clause-turn g c =
+    let took = c.in-Ok.ensures in (
+      chunk_of _ _ c.take.new.buf c.min-within.result c.in-Ok.n (omega (arith, c.min-within.ensures)) (omega (arith, c.min-within.ensures)) took.within took.piece took.counted,
+      c.in-Cut.ensures.goes,
+    )
+
+pub returns-in-Wanting-clause-turn : goal.returns-in-Wanting-clause-turn
+returns-in-Wanting-clause-turn g c =
+    let took = c.in-Ok.ensures in (
+      chunk_of _ _ c.take.new.buf c.min-within.result c.in-Ok.n (omega (arith, c.min-within.ensures)) (omega (arith, c.min-within.ensures)) took.within took.piece took.counted,
+      c.in-Wanting.ensures.goes,
+    )
+
+pub returns-then-n-self-clause-turn : goal.returns-then-n-self-clause-turn
+returns-then-n-self-clause-turn g c =
+    let took = c.in-Ok.ensures in
+    let below : c.min-within.result < c.in-Ok.n = omega (arith, c.min-within.ensures) in
+    record {
+      chunk = chunk_of _ _ c.take.new.buf c.min-within.result c.in-Ok.n (omega (arith, below)) (omega (arith, c.min-within.ensures)) took.within took.piece took.counted;
+      some = some_past c.take.new.buf c.min-within.result c.in-Ok.n below took.within;
+      full = length-take-le c.min-within.result c.take.new.buf (omega (arith, below, took.within)) ∙ (omega (arith, c.min-within.ensures, below));
+      went = c.in-GoesOn.ensures.goes;
+    }
+
+pub returns-clause-turn : goal.returns-clause-turn
+returns-clause-turn g c =
+    let took = c.in-Ok.ensures in
+    let whole : c.min-within.result ≡ c.in-Ok.n = omega (arith, c.min-within.ensures) in
+    let long = length-take-le c.in-Ok.n c.take.new.buf took.within in
+    record {
+      chunk = whole_chunk _ _ c.take.new.buf c.in-Ok.n (omega arith) took.within took.piece took.counted;
+      whole = refl;
+      some = omega (arith, long);
+      left = omega (arith, long);
+      went = rw whole at c.in-GoesOn.ensures.goes;
+    }

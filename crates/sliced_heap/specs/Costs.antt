@@ -1,0 +1,49 @@
+-- The most steps of each call, each reached.
+use Rattle.std.specs.Prelude.{ℕ, ◌+◌, ◌-◌, Option, Some, None, Result, Ok, Err, nat_le, if◌then◌else◌}
+use Rattle.std.specs.FinMap.{get}
+use Rattle.cf_base.specs.declared.answers.AccessFault.{AccessFault}
+use Rattle.cf_base.specs.declared.answers.AccessFault.TheVariants as access
+use Rattle.cf_base.specs.declared.answers.Handle.{Handle}
+use Rattle.cf_model.specs.Costs.{words_touched}
+use Rattle.page_model.specs.Arrangement.{class_at}
+use Rattle.page_model.specs.Paging.{slot_words}
+use Rattle.slice_model.specs.State.{Job, Plan, Sliced, Idle, Clear, Move}
+use Rattle.slice_model.specs.declared.answers.SliceFault.{SliceFault}
+use Rattle.slice_model.specs.declared.answers.SliceRefusal.{SliceRefusal}
+use Rattle.slice_model.specs.declared.answers.SliceRefusal.TheVariants as refusal
+
+-- a malloc: the class, a slot that fills its page, the proxy and the header; refused, the class, and as busy the look for a slot
+abbrev pub malloc_steps : Result Handle SliceRefusal → ℕ
+malloc_steps (Ok h) = 17
+malloc_steps (Err refusal.Size) = 1
+malloc_steps (Err refusal.Proxy) = 1
+malloc_steps (Err refusal.Space) = 1
+malloc_steps (Err refusal.Busy) = 3
+
+-- the words that a slice of q does where n are left, and `last` more where it does them all
+abbrev pub words_steps : ℕ → ℕ → ℕ → ℕ
+words_steps q n last = if nat_le n q then n + last else q
+
+-- a slice: the words, and after the last ones the tables of the slot's page; where an object is carried its address too
+abbrev pub job_steps : Plan → Job → ℕ
+job_steps plan Idle = 0
+job_steps plan (Clear k) = words_steps plan.quantum (slot_words plan.paging k.class - k.done) 14
+job_steps plan (Move h k) = 1 + words_steps plan.quantum (slot_words plan.paging k.class - k.done) 14
+
+abbrev pub slice_steps : Plan → Sliced → ℕ
+slice_steps plan s = job_steps plan s.job
+
+-- the words of the slot of object h
+abbrev pub words_of : Plan → Sliced → ℕ → ℕ
+words_of plan s h = elim (get s.held h) [ None ↦ 0 | Some x ↦ slot_words plan.paging (class_at plan.paging x) ]
+
+-- a free: the proxy, the headers and the tables of two objects, and the first slice; refused, the look for the proxy
+abbrev pub free_steps : Plan → Sliced → ℕ → Option SliceFault → ℕ
+free_steps plan s h None = 12 + words_steps plan.quantum (words_of plan s h) 11
+free_steps plan s h (Some e) = 1
+
+-- a read or a write: the proxy, the header, and the words that hold one of the bytes
+abbrev pub access_steps : {T : Type 0} → Result T AccessFault → ℕ → ℕ → ℕ
+access_steps (Ok u) from count = 2 + words_touched from count
+access_steps (Err access.Unknown) from count = 1
+access_steps (Err access.Range) from count = 2

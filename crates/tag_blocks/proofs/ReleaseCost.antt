@@ -1,0 +1,162 @@
+-- What the stages of a release take together.
+use Rattle.std.proofs.Common.{◌≡◌, ◌≢◌, ℕ, Bool, true, false, ◌+◌, ◌-◌, ◌<◌, ◌≤◌, ◌==◌, List, [], ◌∷◌, ◌++◌, Option, Some, None, length, cond, get_or}
+use Rattle.std.proofs.Common.{arith, refl, sym, ap, ◌∙◌, inl, inr, subst}
+use Rattle.std.specs.Prelude.{◌⊎◌}
+use Rattle.std.proofs.lemmas.Bool.{cases_eq}
+use Rattle.block_model.specs.Buckets.{FreeLists}
+use Rattle.block_model.specs.Tiling.{Block, is_free, Fill, block_at, size_at, size_of}
+use Rattle.block_model.proofs.CallerLemmas.{fill_le}
+use Rattle.cf_lemmas.proofs.Tests.{eq_yes, eq_no}
+use Rattle.tag_blocks.specs.Blocks.{Tagged, AreTags, IsUsedAt}
+use Rattle.tag_blocks.specs.Costs.{free_size, free_from, free_up_to, join_steps, link_then, list_length, next_merge_steps, previous_merge_steps, pushed_steps, release_sized}
+use Rattle.tag_blocks.specs.Costs.{release_steps}
+use Rattle.tag_blocks.specs.Stages.{free_front, free_back}
+use Rattle.tag_blocks.proofs.FillLemmas.{lies_in, in_second, block_is, block_found}
+use Rattle.tag_blocks.proofs.ListsAfterChange.{FillsAt, fills_at}
+use Rattle.tag_blocks.proofs.ReleaseLemmas.{parts}
+use Rattle.tag_blocks.proofs.ThreadLemmas.{chosen}
+
+-- ---- the free neighbours, by the blocks
+
+-- no block begins where the region ends
+none_at_end : (bs : List Block) (n : ℕ) (o : Option Block) → Fill bs 0 n → block_at bs n ≡ o → free_size o ≡ 0
+none_at_end bs n None f is = refl
+none_at_end bs n (Some b) f is = absurd (
+    let i = block_is bs n b is in let l = lies_in bs 0 n b f i.1 in let high = l.high in let two = l.size in let at = i.0 in omega arith)
+
+pub next_free : (pre post : List Block) (b : Block) (mid n : ℕ) → Fill (pre ++ (b ∷ post)) 0 n → Fill post mid n
+    → free_from (pre ++ (b ∷ post)) mid ≡ free_front post
+next_free pre [] b mid n f g =
+    ap (free_from (pre ++ (b ∷ []))) g ∙ none_at_end (pre ++ (b ∷ [])) n (block_at (pre ++ (b ∷ [])) n) f refl
+next_free pre (c ∷ cs) b mid n f g =
+    ap (free_from (pre ++ (b ∷ c ∷ cs))) (sym g.0)
+    ∙ ap free_size (block_found (pre ++ (b ∷ c ∷ cs)) 0 n c f (in_second c pre (b ∷ c ∷ cs) (inr (inl refl))))
+
+-- no block behind the address ends at it
+none_behind : (bs : List Block) (from to a : ℕ) → Fill bs from to → a ≤ from → free_up_to bs a ≡ 0
+none_behind [] from to a f le = refl
+none_behind (b ∷ bs) from to a f le =
+    let at = f.0 in let two = f.1 in
+    rw (eq_no (b.address + b.size) a (λ e. absurd (omega arith))) (none_behind bs (from + b.size) to a f.2 (omega arith))
+
+pub previous_free : (pre post : List Block) (from at n : ℕ) → Fill pre from at → Fill post at n → free_up_to (pre ++ post) at ≡ free_back pre
+previous_free [] post from at n f g = none_behind post at n at g (omega arith)
+previous_free (b ∷ []) post from at n f g =
+    rw (eq_yes (b.address + b.size) at (let a = f.0 in let e = f.2 in omega arith)) refl
+previous_free (b ∷ c ∷ cs) post from at n f g =
+    let a = f.0 in let two = f.2.1 in let le = fill_le cs (from + b.size + c.size) at f.2.2 in
+    rw (eq_no (b.address + b.size) at (λ e. absurd (omega arith))) (previous_free (c ∷ cs) post (from + b.size) at n f.2 g)
+
+-- a free block before has two words at least
+pub back_two : (pre : List Block) (from at : ℕ) → Fill pre from at → free_back pre ≢ 0 → (2 ≤ free_back pre) × (free_back pre ≤ at)
+back_two [] from at f some = absurd (some refl)
+back_two (b ∷ []) from at f some = by_cases (is_free b) refl
+  where
+    by_cases : (t : Bool) → is_free b ≡ t → (2 ≤ cond (is_free b) b.size 0) × (cond (is_free b) b.size 0 ≤ at)
+    by_cases true e = rw e (let two = f.1 in let end = f.2 in (two, omega arith))
+    by_cases false e = absurd (some (ap (λ t. cond t b.size 0) e))
+back_two (b ∷ c ∷ cs) from at f some = back_two (c ∷ cs) (from + b.size) at f.2 some
+
+-- ---- the call
+
+module _ (rule : FreeLists) (v : Tagged) (tags : AreTags v) (at : ℕ) (u : IsUsedAt v.blocks at) where
+  abbrev size : ℕ
+  size = u.block.size
+
+  abbrev more : ℕ
+  more = free_front (parts v at u).behind
+
+  abbrev less : ℕ
+  less = free_back (parts v at u).before
+
+  at_is : u.block.address ≡ at
+  at_is = (block_is v.blocks at u.block u.there).0
+
+  filled : Fill ((parts v at u).before ++ (u.block ∷ (parts v at u).behind)) 0 (length v.words)
+  filled = subst (λ bs. Fill bs 0 (length v.words)) (parts v at u).whole tags.tiling.fill
+
+  both : FillsAt (parts v at u).before (parts v at u).behind u.block (length v.words)
+  both = fills_at (parts v at u).before (parts v at u).behind u.block (length v.words) filled
+
+  before_fills : Fill (parts v at u).before 0 at
+  before_fills = subst (Fill (parts v at u).before 0) at_is both.before
+
+  behind_fills : Fill (parts v at u).behind (at + size) (length v.words)
+  behind_fills = subst (λ a. Fill (parts v at u).behind (a + size) (length v.words)) at_is both.behind
+
+  size_is : size_at v.blocks at ≡ size
+  size_is = ap size_of u.there
+
+  more_is : free_from v.blocks (at + size) ≡ more
+  more_is = ap (λ bs. free_from bs (at + size)) (parts v at u).whole
+      ∙ next_free (parts v at u).before (parts v at u).behind u.block (at + size) (length v.words) filled behind_fills
+
+  less_is : free_up_to v.blocks at ≡ less
+  less_is = ap (λ bs. free_up_to bs at) (parts v at u).whole
+      ∙ previous_free (parts v at u).before (u.block ∷ (parts v at u).behind) 0 at (length v.words) before_fills (at_is, both.size, behind_fills)
+
+  by_parts : (new : List Block) → release_sized rule v.words at size more less new ≡ release_steps rule v at new
+  by_parts new = sym (
+      ap (λ s. release_sized rule v.words at s (free_from v.blocks (at + s)) (free_up_to v.blocks at) new) size_is
+      ∙ ap (λ m. release_sized rule v.words at size m (free_up_to v.blocks at) new) more_is
+      ∙ ap (λ l. release_sized rule v.words at size more l new) less_is)
+
+  module _ (one two : List ℕ) (first second third : ℕ) (is_first : first ≡ size) (is_second : second ≡ size + more) (is_third : third ≡ less + (size + more))
+      (others : (w : ℕ) → (w < at) ⊎ (at + first ≤ w) → get_or one w 0 ≡ get_or v.words w 0) (len_one : length one ≡ length v.words)
+      (len_two : length two ≡ length one)
+      (left : (a : ℕ) → a + 1 < at → get_or two (a + 1) 0 ≡ link_then more a (get_or one (a + 1) 0) (get_or one (at + first + 1) 0)) where
+    gone : get_or one (at + first + 1) 0 ≡ get_or v.words (at + size + 1) 0
+    gone = others (at + first + 1) (inr (omega arith)) ∙ ap (λ s. get_or v.words (at + s + 1) 0) is_first
+
+    next_part : next_merge_steps (get_or one (at + first + 1) 0) (at + first) more (length one)
+        ≡ next_merge_steps (get_or v.words (at + size + 1) 0) (at + size) more (length v.words)
+    next_part =
+        ap (λ q. next_merge_steps q (at + first) more (length one)) gone
+        ∙ ap (λ s. next_merge_steps (get_or v.words (at + size + 1) 0) (at + s) more (length one)) is_first
+        ∙ ap (λ n. next_merge_steps (get_or v.words (at + size + 1) 0) (at + size) more n) len_one
+
+    abbrev link : ℕ
+    link = link_then more (at - less) (get_or v.words (at - less + 1) 0) (get_or v.words (at + size + 1) 0)
+
+    link_is : less ≢ 0 → get_or two (at - less + 1) 0 ≡ link
+    link_is some =
+        let b = back_two (parts v at u).before 0 at before_fills some in let low = b.0 in let high = b.1 in
+        left (at - less) (omega arith)
+        ∙ ap (λ q. link_then more (at - less) q (get_or one (at + first + 1) 0)) (others (at - less + 1) (inl (omega arith)))
+        ∙ ap (link_then more (at - less) (get_or v.words (at - less + 1) 0)) gone
+
+    end_is : at + second ≡ at + (size + more)
+    end_is = ap (λ s. at + s) is_second
+
+    previous_part : previous_merge_steps (get_or two (at - less + 1) 0) at less (at + second) (length two)
+        ≡ previous_merge_steps link at less (at + (size + more)) (length v.words)
+    previous_part = elim (cases_eq less 0) [
+      | inl none ↦ ap (λ n. cond (at == 0) 1 2 + n) (
+          chosen less 0 0 (join_steps (get_or two (at - less + 1) 0) (at + second) (length two)) none
+          ∙ sym (chosen less 0 0 (join_steps link (at + (size + more)) (length v.words)) none))
+      | inr some ↦ (
+          ap (λ q. previous_merge_steps q at less (at + second) (length two)) (link_is some)
+          ∙ ap (λ e. previous_merge_steps link at less e (length two)) end_is
+          ∙ ap (λ n. previous_merge_steps link at less (at + (size + more)) n) (len_two ∙ len_one))
+    ]
+
+    pub release_cost : (new : List Block)
+        → first + (next_merge_steps (get_or one (at + first + 1) 0) (at + first) more (length one)
+        + (previous_merge_steps (get_or two (at - less + 1) 0) at less (at + second) (length two)
+        + (2 + pushed_steps (list_length rule new (rule.bucket third))))) ≡ release_steps rule v at new
+    release_cost new =
+        ap (λ s. s + (next_merge_steps (get_or one (at + first + 1) 0) (at + first) more (length one)
+        + (previous_merge_steps (get_or two (at - less + 1) 0) at less (at + second) (length two)
+        + (2 + pushed_steps (list_length rule new (rule.bucket third)))))) is_first
+        ∙ ap (λ n. size + (n + (previous_merge_steps (get_or two (at - less + 1) 0) at less (at + second) (length two)
+        + (2 + pushed_steps (list_length rule new (rule.bucket third)))))) next_part
+        ∙ ap (λ n. size + (next_merge_steps (get_or v.words (at + size + 1) 0) (at + size) more (length v.words)
+        + (n + (2 + pushed_steps (list_length rule new (rule.bucket third)))))) previous_part
+        ∙ ap (λ s. size + (next_merge_steps (get_or v.words (at + size + 1) 0) (at + size) more (length v.words)
+        + (previous_merge_steps link at less (at + (size + more)) (length v.words) + (2 + pushed_steps (list_length rule new (rule.bucket s)))))) is_third
+        ∙ regrouped size (next_merge_steps (get_or v.words (at + size + 1) 0) (at + size) more (length v.words))
+        (previous_merge_steps link at less (at + (size + more)) (length v.words)) (2 + pushed_steps (list_length rule new (rule.bucket (less + (size + more)))))
+        ∙ by_parts new
+      where
+        regrouped : (a b c d : ℕ) → a + (b + (c + d)) ≡ a + b + c + d
+        regrouped a b c d = omega arith

@@ -1,8 +1,0 @@
-use Rattle.tag_blocks.proofs.MarkLemmas.{put_marked}
-use Rattle.tag_blocks.proofs.fronts.Fronts.set.Goals as goal
-
-pub invariant_of-self : goal.invariant_of-self
-invariant_of-self c =
-    let within = rw (← c.self.view_is) at c.requires in
-    rw (c.set.ensures.cells, c.write_bit-lists.ensures.cells, c.write_bit.ensures.cells) (put_marked _ _ _ c.self.invariant c.args.list c.args.front _ _ within
-    c.write_bit-lists.ensures.written c.write_bit-lists.ensures.within c.write_bit.ensures.written c.write_bit.ensures.within)

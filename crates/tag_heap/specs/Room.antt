@@ -1,0 +1,37 @@
+-- What a malloc would be answered now, and how long an object is.
+use Rattle.std.specs.Prelude.{◌≢◌, ℕ, ◌+◌, ◌≤◌, length, Option, Result, Ok, Err, option_map}
+use Rattle.std.specs.FinMap.{get, len}
+use Rattle.cf_base.specs.Classes.{need}
+use Rattle.cf_base.specs.declared.answers.Refusal.{Refusal}
+use Rattle.cf_base.specs.declared.kind.Kind.{Kind}
+use Rattle.page_model.specs.Held.{Placed}
+use Rattle.block_model.specs.Buckets.{FreeLists}
+use Rattle.tag_blocks.specs.Blocks.{Finds}
+use Rattle.cf_model.specs.State.{HeapState}
+use Rattle.cf_model.specs.Steps.{IsRefusedBy}
+use Rattle.tag_heap.specs.Heap.{Heap, state_of}
+
+-- a malloc of so many bytes has no cause to be refused, or this one
+abbrev pub IsRoomAnswer : HeapState → ℕ → Result Unit Refusal → Type 0
+IsRoomAnswer s bytes (Ok done) = (e : Refusal) → ¬ IsRefusedBy s bytes e
+IsRoomAnswer s bytes (Err e) = IsRefusedBy s bytes e
+
+-- a result without its value
+abbrev pub done_by : Result ℕ Refusal → Result Unit Refusal
+done_by (Ok place) = Ok tt
+done_by (Err e) = Err e
+
+-- the bytes of an object, if it is live
+abbrev pub length_of : HeapState → ℕ → Option ℕ
+length_of s h = option_map (λ (x : Placed). length x.bytes) (get s.held h)
+
+-- the object fits a page, a proxy is free, and this is the block that a malloc takes
+pub record HasRoom (rule : FreeLists) (h : Heap) (bytes place : ℕ) : Type 0 where
+  pub fits : need bytes ≤ h.settings.page_words
+  pub few : len h.proxies.places ≢ h.proxies.limit
+  pub found : Finds rule h.tagged.blocks (need bytes + 1) place
+
+-- such a block, or the cause of a refusal
+abbrev pub IsRoom : FreeLists → Kind → Heap → ℕ → Result ℕ Refusal → Type 0
+IsRoom rule kind h bytes (Ok place) = HasRoom rule h bytes place
+IsRoom rule kind h bytes (Err e) = IsRefusedBy (state_of kind h) bytes e
