@@ -1,0 +1,130 @@
+--  Norphuen for Ada: the calls of include/norphuen.h, whose comments hold here too. Link one of the libraries, and define
+--  the three allocator functions that the header describes.
+
+with Interfaces; use Interfaces;
+with Interfaces.C; use Interfaces.C;
+with System;
+
+package Norphuen is
+
+   --  A heap, open or not. Its parts are the library's own. A limited record is never copied.
+   type Heap is limited record
+      At_Address : System.Address := System.Null_Address;
+      Is_Open    : Unsigned_8     := 0;
+   end record
+   with Convention => C;
+
+   subtype Code is Integer_32;
+
+   Ok         : constant Code := 0;
+   Size       : constant Code := 1;
+   Proxy      : constant Code := 2;
+   Space      : constant Code := 3;
+   Unknown    : constant Code := 4;
+   Bad_Range  : constant Code := 5;
+   Kind       : constant Code := 6;
+   Closed     : constant Code := 7;
+   Is_Open    : constant Code := 8;
+   Memory     : constant Code := 10;
+   Pages      : constant Code := 11;
+   Page_Bytes : constant Code := 12;
+   Bound      : constant Code := 13;
+   Proxies    : constant Code := 14;
+   Region     : constant Code := 15;
+
+   None : constant Unsigned_32 := Unsigned_32'Last;
+
+   type Freed is record
+      Slot_Words : Unsigned_32 := 0;
+      Moved      : Unsigned_32 := None;
+   end record
+   with Convention => C;
+
+   type Resized is record
+      Old_Slot_Words : Unsigned_32 := 0;
+      Slot_Words     : Unsigned_32 := 0;
+      Moved          : Unsigned_32 := None;
+   end record
+   with Convention => C;
+
+   type Class is record
+      Slot_Words : Unsigned_32 := 0;
+      Slots      : Unsigned_32 := 0;
+      Live       : Unsigned_32 := 0;
+      Pages      : Unsigned_32 := 0;
+      Not_Full   : Unsigned_32 := 0;
+   end record
+   with Convention => C;
+
+   type Heap_Totals is record
+      Asked   : Unsigned_64 := 0;
+      Taken   : Unsigned_64 := 0;
+      Held    : Unsigned_64 := 0;
+      Live    : Unsigned_32 := 0;
+      Used    : Unsigned_32 := 0;
+      Free    : Unsigned_32 := 0;
+      Largest : Unsigned_32 := 0;
+   end record
+   with Convention => C;
+
+   type Bytes is array (size_t range <>) of aliased Unsigned_8
+   with Convention => C;
+
+   function Nph_Open
+     (H : in out Heap; Pages, Page_Bytes, K, Proxies : Unsigned_32)
+      return Code
+   with Import, Convention => C, External_Name => "nph_open";
+
+   procedure Nph_Close (H : in out Heap)
+   with Import, Convention => C, External_Name => "nph_close";
+
+   function Nph_Malloc
+     (H : in out Heap; Bytes : Unsigned_32; Handle : in out Unsigned_32)
+      return Code
+   with Import, Convention => C, External_Name => "nph_malloc";
+
+   function Nph_Free
+     (H : in out Heap; Handle : Unsigned_32; Result : in out Freed)
+      return Code
+   with Import, Convention => C, External_Name => "nph_free";
+
+   function Nph_Resize
+     (H      : in out Heap; Handle : Unsigned_32; Bytes : Unsigned_32;
+      Result : in out Resized)
+      return Code
+   with Import, Convention => C, External_Name => "nph_resize";
+
+   function Nph_Write
+     (H     : in out Heap; Handle : Unsigned_32; At_Byte : Unsigned_32;
+      Data  : Bytes; Count : size_t)
+      return Code
+   with Import, Convention => C, External_Name => "nph_write";
+
+   function Nph_Read
+     (H     : in out Heap; Handle : Unsigned_32; At_Byte : Unsigned_32;
+      Data  : in out Bytes; Count : size_t)
+      return Code
+   with Import, Convention => C, External_Name => "nph_read";
+
+   function Nph_Length
+     (H : in out Heap; Handle : Unsigned_32; Length : in out Unsigned_32)
+      return Code
+   with Import, Convention => C, External_Name => "nph_length";
+
+   function Nph_Has_Room (H : in out Heap; Bytes : Unsigned_32) return Code
+   with Import, Convention => C, External_Name => "nph_has_room";
+
+   function Nph_Figures
+     (H : in out Heap; Size_Class : Unsigned_32; Result : in out Class)
+      return Code
+   with Import, Convention => C, External_Name => "nph_figures";
+
+   function Nph_Totals
+     (H : in out Heap; Result : in out Heap_Totals) return Code
+   with Import, Convention => C, External_Name => "nph_totals";
+
+   function Nph_Last_Steps
+     (H : in out Heap; Steps : in out Unsigned_64) return Code
+   with Import, Convention => C, External_Name => "nph_last_steps";
+
+end Norphuen;

@@ -1,0 +1,166 @@
+//! Norphuen for Rust: a safe wrapper over the C library. Include it as a module; it needs `core` alone. Link one of the
+//! libraries, and define the three allocator functions that `include/norphuen.h` describes.
+//!
+//! A `Heap` closes itself when it is dropped. It is neither `Send` nor `Sync`: a heap stays in the thread that opened it.
+
+/// The number of an object. It stays the same wherever the object moves.
+#[derive(Clone, Copy, Debug, PartialEq, Eq)]
+pub struct Handle(pub u32);
+
+/// What a call returns other than success; the header explains each.
+#[derive(Clone, Copy, Debug, PartialEq, Eq)]
+#[rustfmt::skip]
+pub enum Error { Size, Proxy, Space, Unknown, Range, Kind, Closed, Open, Memory, Pages, PageBytes, Bound, Proxies, Region }
+
+#[repr(C)]
+#[derive(Clone, Copy, Debug, Default, PartialEq, Eq)]
+#[rustfmt::skip]
+struct RawFreed { slot_words: u32, moved: u32 }
+
+#[repr(C)]
+#[derive(Clone, Copy, Debug, Default, PartialEq, Eq)]
+#[rustfmt::skip]
+struct RawResized { old_slot_words: u32, slot_words: u32, moved: u32 }
+
+/// A free: the words of the freed slot or block, and the object that moved to its address.
+#[derive(Clone, Copy, Debug, PartialEq, Eq)]
+#[rustfmt::skip]
+pub struct Freed { pub slot_words: u32, pub moved: Option<Handle> }
+
+/// A resize: the words of the slot before and after, and the other object that moved to the old address.
+#[derive(Clone, Copy, Debug, PartialEq, Eq)]
+#[rustfmt::skip]
+pub struct Resized { pub old_slot_words: u32, pub slot_words: u32, pub moved: Option<Handle> }
+
+/// A size class.
+#[repr(C)]
+#[derive(Clone, Copy, Debug, Default, PartialEq, Eq)]
+#[rustfmt::skip]
+pub struct Class { pub slot_words: u32, pub slots: u32, pub live: u32, pub pages: u32, pub not_full: u32 }
+
+/// The whole heap.
+#[repr(C)]
+#[derive(Clone, Copy, Debug, Default, PartialEq, Eq)]
+#[rustfmt::skip]
+pub struct HeapTotals { pub asked: u64, pub taken: u64, pub held: u64, pub live: u32, pub used: u32, pub free: u32, pub largest: u32 }
+
+/// An open heap.
+#[repr(C)]
+pub struct Heap {
+    at: *mut u8,
+    is_open: bool,
+}
+
+#[rustfmt::skip]
+unsafe extern "C" {
+    fn nph_open(heap: *mut Heap, pages: u32, page_bytes: u32, k: u32, proxies: u32) -> i32;
+    fn nph_close(heap: *mut Heap);
+    fn nph_malloc(heap: *mut Heap, bytes: u32, handle: *mut u32) -> i32;
+    fn nph_free(heap: *mut Heap, handle: u32, freed: *mut RawFreed) -> i32;
+    fn nph_resize(heap: *mut Heap, handle: u32, bytes: u32, resized: *mut RawResized) -> i32;
+    fn nph_write(heap: *mut Heap, handle: u32, at: u32, bytes: *const u8, count: usize) -> i32;
+    fn nph_read(heap: *mut Heap, handle: u32, at: u32, bytes: *mut u8, count: usize) -> i32;
+    fn nph_length(heap: *mut Heap, handle: u32, bytes: *mut u32) -> i32;
+    fn nph_has_room(heap: *mut Heap, bytes: u32) -> i32;
+    fn nph_figures(heap: *mut Heap, size_class: u32, figures: *mut Class) -> i32;
+    fn nph_totals(heap: *mut Heap, totals: *mut HeapTotals) -> i32;
+    fn nph_last_steps(heap: *mut Heap, steps: *mut u64) -> i32;
+}
+
+fn result_of<T>(code: i32, value: T) -> Result<T, Error> {
+    use Error::*;
+    Err(match code {
+        0 => return Ok(value),
+        1 => Size,
+        2 => Proxy,
+        3 => Space,
+        4 => Unknown,
+        5 => Range,
+        6 => Kind,
+        7 => Closed,
+        8 => Open,
+        10 => Memory,
+        11 => Pages,
+        12 => PageBytes,
+        13 => Bound,
+        14 => Proxies,
+        _ => Region,
+    })
+}
+
+fn handle_of(number: u32) -> Option<Handle> {
+    (number != u32::MAX).then_some(Handle(number))
+}
+
+// Each call gets a heap that is open, references that do not overlap, and slices with their lengths.
+impl Heap {
+    pub fn open(pages: u32, page_bytes: u32, k: u32, proxies: u32) -> Result<Heap, Error> {
+        let mut heap = Heap { at: core::ptr::null_mut(), is_open: false };
+        let code = unsafe { nph_open(&mut heap, pages, page_bytes, k, proxies) };
+        result_of(code, heap)
+    }
+
+    pub fn malloc(&mut self, bytes: u32) -> Result<Handle, Error> {
+        let mut handle = 0;
+        let code = unsafe { nph_malloc(self, bytes, &mut handle) };
+        result_of(code, Handle(handle))
+    }
+
+    pub fn free(&mut self, object: Handle) -> Result<Freed, Error> {
+        let mut raw = RawFreed::default();
+        let code = unsafe { nph_free(self, object.0, &mut raw) };
+        result_of(code, Freed { slot_words: raw.slot_words, moved: handle_of(raw.moved) })
+    }
+
+    pub fn resize(&mut self, object: Handle, bytes: u32) -> Result<Resized, Error> {
+        let mut raw = RawResized::default();
+        let code = unsafe { nph_resize(self, object.0, bytes, &mut raw) };
+        let RawResized { old_slot_words, slot_words, moved } = raw;
+        result_of(code, Resized { old_slot_words, slot_words, moved: handle_of(moved) })
+    }
+
+    pub fn write(&mut self, object: Handle, at: u32, bytes: &[u8]) -> Result<(), Error> {
+        result_of(unsafe { nph_write(self, object.0, at, bytes.as_ptr(), bytes.len()) }, ())
+    }
+
+    pub fn read(&mut self, object: Handle, at: u32, bytes: &mut [u8]) -> Result<(), Error> {
+        result_of(unsafe { nph_read(self, object.0, at, bytes.as_mut_ptr(), bytes.len()) }, ())
+    }
+
+    pub fn length(&mut self, object: Handle) -> Result<u32, Error> {
+        let mut bytes = 0;
+        let code = unsafe { nph_length(self, object.0, &mut bytes) };
+        result_of(code, bytes)
+    }
+
+    /// Whether `malloc` would succeed now, else its error.
+    pub fn has_room(&mut self, bytes: u32) -> Result<(), Error> {
+        result_of(unsafe { nph_has_room(self, bytes) }, ())
+    }
+
+    /// The figures of a size class, numbered from 0.
+    pub fn figures(&mut self, size_class: u32) -> Option<Class> {
+        let mut figures = Class::default();
+        let code = unsafe { nph_figures(self, size_class, &mut figures) };
+        result_of(code, figures).ok()
+    }
+
+    pub fn totals(&mut self) -> HeapTotals {
+        let mut totals = HeapTotals::default();
+        unsafe { nph_totals(self, &mut totals) };
+        totals
+    }
+
+    /// The steps of the last call.
+    pub fn last_steps(&mut self) -> u64 {
+        let mut steps = 0;
+        unsafe { nph_last_steps(self, &mut steps) };
+        steps
+    }
+}
+
+impl Drop for Heap {
+    fn drop(&mut self) {
+        unsafe { nph_close(self) }
+    }
+}

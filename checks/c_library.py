@@ -1,0 +1,176 @@
+#!/usr/bin/env python3
+"""Makes, from the exports in Rattle, C code that compiles only if include/norphuen.h agrees; compares the names in the
+bindings. checks/c_library compiles it.
+
+  checks/c_library.py header CRATE   the C code, for one static library
+  checks/c_library.py names CRATE    the names of its exports, one a line
+  checks/c_library.py bindings CRATE compares bindings/norphuen.rs and bindings/norphuen.ads
+"""
+import re, sys
+from pathlib import Path
+
+HEADER, HELD = Path('include/norphuen.h'), Path('crates/held_heap/src')
+NUMBERS = {'u8': 'uint8_t', 'u32': 'uint32_t', 'u64': 'uint64_t', 'i32': 'int32_t', 'usize': 'size_t', 'bool': 'bool', '': 'void'}
+RUST = {'NphHeap': 'Heap', 'NphFreed': 'RawFreed', 'NphResized': 'RawResized', 'NphClass': 'Class', 'NphHeapTotals': 'HeapTotals'}
+ADA = {'u8': 'Unsigned_8', 'u32': 'Unsigned_32', 'u64': 'Unsigned_64', 'bool': 'Unsigned_8',
+       'NphHeap': 'Heap', 'NphFreed': 'Freed', 'NphResized': 'Resized', 'NphClass': 'Class', 'NphHeapTotals': 'Heap_Totals'}
+
+
+def fail(text):
+    sys.exit('checks/c_library: ' + text)
+
+
+def snake(name):
+    return re.sub(r'(?<!^)([A-Z])', r'_\1', name).lower()
+
+
+def c_type(rust):
+    """The C type of a number or of a struct of the header."""
+    return NUMBERS.get(rust) or snake(rust)
+
+
+def exports(crate):
+    """Each export: its name, its parameters as (name, reference, type), its result."""
+    text = Path('crates', crate, 'src/lib.rt').read_text()
+    found = []
+    for marked, name, inside, result in re.findall(
+            r'(#\[unsafe\(no_mangle\)\]\s*)?pub extern "C" fn (\w+)\(([^)]*)\)(?: -> (\w+))?', text):
+        if not marked:
+            fail(f'{crate}: {name} is not exported under its name')
+        parameters = []
+        for part in filter(None, (part.strip() for part in inside.split(','))):
+            match = re.fullmatch(r'(\w+): (&mut |&)?(\[\w+\]|\w+)', part) or fail(f'{crate}: cannot read the parameter {part} of {name}')
+            if match[3] != 'Memory':
+                parameters.append(match.groups())
+        found.append((name, parameters, result))
+    if text.count('#[unsafe(no_mangle)]') != len(found) or not found:
+        fail(f'{crate}: cannot read its exports')
+    return found
+
+
+def c_parameters(parameters):
+    for _, reference, rust in parameters:
+        const = 'const ' if reference == '&' else ''
+        if rust.startswith('['):
+            yield f'{const}{c_type(rust[1:-1])} *'
+            yield 'size_t'
+        else:
+            yield f'{const}{c_type(rust)} *' if reference else c_type(rust)
+
+
+def structs():
+    """Each #[repr(C)] struct: its fields in their order; a ghost field is none."""
+    found = {}
+    for file in sorted(HELD.glob('*.rt')):
+        for name, inside in re.findall(r'#\[repr\(C\)\]\n(?:#\[[^\n]*\]\n)*pub struct (\w+) \{\n(.*?)\n\}', file.read_text(), re.S):
+            fields = re.findall(r'^ +(?:pub(?:\(crate\))? )?(\w+): ([^,{]+),$', inside, re.M)
+            lines = [line for line in inside.split('\n') if line.strip() and 'ghost ' not in line and '//' not in line]
+            if len(fields) != len(lines):
+                fail(f'{file}: cannot read the struct {name}')
+            if found.setdefault(name, fields) != fields:
+                fail(f'{file}: another struct {name}')
+    return found
+
+
+def twin_field(name, rust):
+    return f'    void *{name};' if rust.startswith('*mut ') else f'    {"struct twin_" + rust if rust[0].isupper() else c_type(rust)} {name};'
+
+
+def header(crate):
+    """Twins of the structs and static assertions on each of them, each prototype and each code."""
+    text, all_structs = HEADER.read_text(), structs()
+    print('#include "norphuen.h"\n#include <stdbool.h>\n#define SAME(test, text) _Static_assert(test, text)')
+    exported = exports(crate)
+    named = {rust for _, parameters, _ in exported for _, _, rust in parameters if rust[0] == 'N'}
+    order = ['Sealed', 'Place'] + sorted(named)
+    for name in order:
+        print(f'struct twin_{name} {{\n' + '\n'.join(twin_field(*field) for field in all_structs.get(name) or fail(f'no struct {name}')) + '\n};')
+    for name in sorted(named):
+        c, fields = snake(name), all_structs[name]
+        match = re.search(rf'typedef struct {c} \{{\n(.*?)\n\}} {c};', text, re.S) or fail(f'the header has no {c}')
+        written = re.findall(r'(\w+);', match[1])
+        inner = ['at' if rust == 'Place' else field for field, rust in fields]
+        if written != inner:
+            fail(f'{c} has the fields {written}, and {name} {inner}')
+        print(f'SAME(sizeof({c}) == sizeof(struct twin_{name}) && _Alignof({c}) == _Alignof(struct twin_{name}), "size of {c}");')
+        for field, (twin, rust) in zip(inner, fields):
+            print(f'SAME(offsetof({c}, {field}) == offsetof(struct twin_{name}, {twin}), "offset of {field} in {c}");')
+            kind = 'void *' if rust == 'Place' else c_type(rust)
+            print(f'SAME(_Generic((({c} *)0)->{field}, {kind}: 1, default: 0), "type of {field} in {c}");')
+    for name, parameters, result in exported:
+        kind = f'{c_type(result)} (*)({", ".join(c_parameters(parameters))})'
+        print(f'SAME(_Generic(&{name}, {kind}: 1, default: 0), "prototype of {name}");')
+    declared = set(re.findall(r'^\w[\w ]*\b(nph_\w+)\(', text, re.M))
+    if declared != {name for name, _, _ in exported}:
+        fail(f'the header declares {sorted(declared)}, {crate} exports {sorted(name for name, _, _ in exported)}')
+    codes = {('NPH_OK' if name == 'DONE' else 'NPH_' + name): value
+             for name, value in re.findall(r'pub const (\w+): i32 = (\d+);', (HELD / 'codes.rt').read_text())}
+    for name, value in codes.items():
+        print(f'SAME({name} == {value}, "{name}");')
+    written = set(re.findall(r'^    (NPH_\w+) = ', text, re.M))
+    if written != set(codes):
+        fail(f'the header has the codes {sorted(written)}, held_heap {sorted(codes)}')
+    none = re.search(r'pub const NONE: u32 = (\w+);', (HELD / 'codes.rt').read_text())[1].replace('_', '')
+    print(f'SAME(NPH_NONE == {none}u, "NPH_NONE");')
+    print('nph_block (*const takes)(size_t, size_t) = rattle_alloc;')
+
+
+def bindings(crate):
+    """The prototypes of the Rust binding, the profiles of the Ada binding, and the fields and codes of both."""
+    rust_text, ada_text = Path('bindings/norphuen.rs').read_text(), Path('bindings/norphuen.ads').read_text()
+    rust_names = re.findall(r'fn (nph_\w+)\(', rust_text.split('unsafe extern "C" {')[1].split('\n}')[0])
+    ada_names = re.findall(r'External_Name => "(\w+)"', ada_text)
+    names = [name for name, _, _ in exports(crate)]
+    for where, found in (('rs', rust_names), ('ads', ada_names)):
+        if sorted(found) != sorted(names):
+            fail(f'bindings/norphuen.{where} declares {sorted(found)}, {crate} exports {sorted(names)}')
+    ada_flat = ' '.join(ada_text.split())
+    for name, parameters, result in exports(crate):
+        kinds = []
+        for _, reference, rust in parameters:
+            pointer = {'&mut ': '*mut ', '&': '*const ', None: ''}[reference or None]
+            kinds.append(pointer + (RUST.get(rust) or rust.strip('[]')))
+            kinds += ['usize'] if rust[0] == '[' else []
+        inside = re.search(rf'fn {name}\((.*?)\)(?: -> (\w+))?;', rust_text)
+        if [part.split(': ')[1] for part in inside[1].split(', ')] != kinds or (inside[2] or '') != result:
+            fail(f'bindings/norphuen.rs: {name}({inside[1]}) is not the export, which takes {kinds}')
+        wanted = []
+        for _, reference, rust in parameters:
+            mode = 'in out ' if reference == '&mut ' else ''
+            wanted.append(mode + ('Bytes' if rust[0] == '[' else ADA[rust]))
+            wanted += ['size_t'] if rust[0] == '[' else []
+        profile = re.search(r'(?:function|procedure) \w+ \(([^()]*)\)(?: return (\w+))? with Import, Convention => C, External_Name => "' + name + '"', ada_flat)
+        given = []
+        for part in (profile or fail(f'bindings/norphuen.ads: cannot read {name}'))[1].split(';'):
+            left, kind = part.split(':')
+            given += [kind.strip()] * len(left.split(','))
+        if given != wanted or (profile[2] or '') != ('Code' if result else ''):
+            fail(f'bindings/norphuen.ads: {name} takes {given}, the export {wanted}')
+    all_structs = structs()
+    for name, rust_name in RUST.items():
+        fields = [('at' if kind == 'Place' else field, kind) for field, kind in all_structs[name]]
+        inside = re.search(rf'#\[repr\(C\)\]\n(?:#\[[^\n]*\]\n)*(?:pub )?struct {rust_name} \{{(.*?)\}}', rust_text, re.S) or fail(f'bindings/norphuen.rs: no {rust_name}')
+        given = re.findall(r'(\w+): ([^,}]+?)\s*(?:,|$)', inside[1].strip())
+        if given != [(field, '*mut u8' if kind == 'Place' else kind) for field, kind in fields]:
+            fail(f'bindings/norphuen.rs: {rust_name} has {given}, {name} has {fields}')
+        inside = re.search(rf'type {ADA[name]} is (?:limited )?record (.*?) end record with Convention => C;', ada_flat) or fail(f'bindings/norphuen.ads: no {ADA[name]}')
+        given = re.findall(r'(\w+) : (\S+) :=', inside[1])
+        wanted = [('At_Address' if field == 'at' else field.title(), 'System.Address' if kind == 'Place' else ADA[kind]) for field, kind in fields]
+        if given != wanted:
+            fail(f'bindings/norphuen.ads: {ADA[name]} has {given}, {name} has {wanted}')
+    codes = re.findall(r'pub const (\w+): i32 = (\d+);', (HELD / 'codes.rt').read_text())
+    given = dict(re.findall(r'(\w+) +: constant Code := (\d+);', ada_text))
+    ada_code = {'DONE': 'Ok', 'RANGE': 'Bad_Range', 'OPEN': 'Is_Open'}
+    if given != {ada_code.get(name, name.title()): value for name, value in codes}:
+        fail('bindings/norphuen.ads: the codes differ')
+    given = dict((name, value) for value, name in re.findall(r'(\d+) => (\w+),', rust_text.split('fn result_of')[1].split('\n}')[0]))
+    wanted = {name.title().replace('_', ''): value for name, value in codes if name not in ('DONE', 'REGION')}
+    if given != wanted or 'pub enum Error { ' + ', '.join([*sorted(wanted, key=lambda name: int(wanted[name])), 'Region']) + ' }' not in rust_text:
+        fail('bindings/norphuen.rs: the codes differ')
+
+
+mode, crate = sys.argv[1:]
+if mode == 'names':
+    print('\n'.join(sorted(name for name, _, _ in exports(crate))))
+else:
+    {'header': header, 'bindings': bindings}[mode](crate)

@@ -1,0 +1,70 @@
+//! The commands of a generated script on a manager alone: no session, and no reply.
+ghost use Rattle.std.specs.Prelude.{IsTrue};
+
+use crate::script::Table;
+use cf_model::Manager;
+use generator::Generator;
+use script_reader::CommandRef;
+use step_ledger::Meter;
+
+/// The handle of no object.
+const NONE: u32 = 4_294_967_295;
+
+/// One command, and whether it was served.
+fn call<H: Manager>(heap: &mut H, c: CommandRef, table: &mut Table, meter: &mut Meter) -> bool
+    requires { IsTrue (H.state heap.old).is_open }
+    ensures { IsTrue (H.state heap.new).is_open }
+{
+    meter.lap();
+    let steps = meter.steps();
+    match c {
+        CommandRef::Malloc { id, bytes } => {
+            let id = u32::from(id);
+            if table.handle(id).0 != NONE {
+                return false;
+            }
+            match heap.malloc(bytes, steps) {
+                Ok(h) => {
+                    table.name(id, h);
+                    true
+                }
+                Err(_) => false,
+            }
+        }
+        CommandRef::Free { id } => {
+            let h = table.handle(u32::from(id));
+            table.name(u32::from(id), cf_base::Handle(NONE));
+            h.0 != NONE && heap.free(h, steps).is_ok()
+        }
+        CommandRef::Write { id, at, bytes } => {
+            let h = table.handle(u32::from(id));
+            h.0 != NONE && heap.write(h, at, bytes, steps).is_ok()
+        }
+        CommandRef::Read { id, at, len: _ } => {
+            let h = table.handle(u32::from(id));
+            let mut out = [0; 8];
+            h.0 != NONE && heap.read(h, at, &mut out, steps).is_ok()
+        }
+        _ => false,
+    }
+}
+
+/// The first `count` commands of seed 1, and whether one was served.
+#[inline(never)]
+pub(crate) fn calls<H: Manager>(
+    heap: &mut H,
+    count: u32,
+    table: &mut Table,
+    meter: &mut Meter,
+) -> bool
+    requires { IsTrue (H.state heap.old).is_open }
+{
+    let mut generator = Generator::new(1);
+    let mut bytes = [0; 8];
+    let mut served = false;
+    for i in 0..count {
+        let command = generator.next_ref(&mut bytes);
+        served = call(heap, command, table, meter) || served;
+    }
+    served
+}

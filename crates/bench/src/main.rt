@@ -1,0 +1,133 @@
+//! Calls on heaps alone; docs/SPEED.md has the commands that count their instructions. Standard input
+//! is a script. Each line has 24 bytes: a letter, and three numbers of 5, 7 and 7 digits, with a space
+//! before each. Each call is made by a function of its own, which is not inlined.
+//!
+//! The first line opens a heap: its pages, the bytes of a page, and how many pages of a class may be
+//! partly full (for `s` the words of a slice).
+//!
+//! - `c`, `n`, `t`, `h`: the moving, the non-moving, the TLSF and the Half-Fit manager.
+//! - `l`: long objects over the moving manager.
+//! - `s`: the sliced heap.
+//!
+//! The other lines are calls, on the object of an id.
+//!
+//! - `m ID BYTES`, `f ID`, `z ID BYTES`: makes, frees, resizes an object.
+//! - `w ID AT BYTES`, `r ID AT BYTES`: writes, reads BYTES bytes, 1,000,000 at most.
+//! - `g 0 COUNT`: COUNT commands of seed 1.
+//! - `s`, `d 0 COUNT`: one step of the sliced heap; COUNT drawn mallocs, frees and steps on it.
+#![tactic(auto)]
+
+mod generated;
+mod long;
+mod manager;
+mod script;
+mod sliced;
+
+use cf_base::Settings;
+use cf_io::{Sink, Source, StdSink, StdSource};
+use cf_model::Manager;
+use half_fit_heap::HalfFitHeap;
+use moving_heap::MovingHeap;
+use nonmoving_heap::NonMovingHeap;
+use script::{Line, Table};
+use std::process::ExitCode;
+use step_ledger::Meter;
+use tlsf_heap::TlsfHeap;
+
+/// All bytes of standard input; none if it fails, or out of memory.
+fn all_input(rt: &HostRuntime) -> Option<Vec<u8>> {
+    let mut source = StdSource::new(rt.stdin());
+    let mut text = Vec::new(rt.alloc());
+    let mut chunk = [0; 4_096];
+    for _turn in 0..u64::MAX {
+        let n = source.take(&mut chunk).ok()?;
+        if n == 0 {
+            return Some(text);
+        }
+        text.extend_from_slice(&chunk[..n]).ok()?;
+    }
+    None
+}
+
+/// Opens a manager, and makes the calls; how many were served.
+fn on_manager<H: Manager>(
+    mut heap: H,
+    settings: &Settings,
+    calls: &[u8],
+    table: &mut Table,
+    meter: &mut Meter,
+) -> Option<u64> {
+    heap.open_heap(settings).ok()?;
+    let mut served = 0u64;
+    for text in calls.chunks(script::LINE) {
+        let line = Line::read(text)?;
+        if manager::apply(&mut heap, line, table, meter) {
+            served = served.saturating_add(1);
+        }
+    }
+    Some(served)
+}
+
+/// The calls of a script; how many were served. None for a bad script, or out of memory.
+fn on_heap(rt: &HostRuntime, text: &[u8]) -> Option<u64> {
+    let first = Line::read(text.get(..script::LINE)?)?;
+    let calls = text.get(script::LINE..)?;
+    let alloc = rt.alloc();
+    let mut table = Table::new(alloc)?;
+    let mut meter = Meter::new(rt);
+    if first.op == b's' {
+        return sliced::run(alloc, first, calls, &mut table, &mut meter);
+    }
+    let settings = Settings::check(first.id, first.first, first.second, 65_536).ok()?;
+    match first.op {
+        b'c' => on_manager(
+            MovingHeap::closed(alloc),
+            &settings,
+            calls,
+            &mut table,
+            &mut meter,
+        ),
+        b'n' => on_manager(
+            NonMovingHeap::closed(alloc),
+            &settings,
+            calls,
+            &mut table,
+            &mut meter,
+        ),
+        b't' => on_manager(
+            TlsfHeap::closed(alloc),
+            &settings,
+            calls,
+            &mut table,
+            &mut meter,
+        ),
+        b'h' => on_manager(
+            HalfFitHeap::closed(alloc),
+            &settings,
+            calls,
+            &mut table,
+            &mut meter,
+        ),
+        b'l' => long::run(alloc, &settings, calls, &mut table, &mut meter),
+        _ => None,
+    }
+}
+
+fn main(rt: HostRuntime) -> ExitCode {
+    let served = match all_input(&rt) {
+        Some(text) => on_heap(&rt, text.as_slice()),
+        None => None,
+    };
+    match served {
+        Some(count) => {
+            let mut sink = StdSink::new(rt.stdout());
+            let mut reply = cf_io::Line::new();
+            cf_io::push_field(&mut reply, b"served ", count);
+            match cf_io::put_line(&mut reply, &mut sink) {
+                Ok(()) => ExitCode::from(0),
+                Err(_) => ExitCode::from(5),
+            }
+        }
+        None => ExitCode::from(3),
+    }
+}

@@ -1,0 +1,73 @@
+//! The lines of a script, and what its calls share.
+use cf_base::Handle;
+use cf_io::number_of;
+use std::alloc::Global;
+
+/// The bytes of a line.
+pub(crate) const LINE: usize = 24;
+
+/// How many ids there are, and the handle of no object.
+const IDS: usize = 65_536;
+
+const NONE: u32 = 4_294_967_295;
+
+/// The most bytes of a read or a write.
+const MOST: usize = 1_000_000;
+
+/// A line: a letter and three numbers.
+#[derive(Clone, Copy)]
+pub(crate) struct Line {
+    pub(crate) op: u8,
+    pub(crate) id: u32,
+    pub(crate) first: u32,
+    pub(crate) second: u32,
+}
+
+impl Line {
+    /// The line that a text says; none for any other text.
+    pub(crate) fn read(text: &[u8]) -> Option<Line> {
+        Some(Line {
+            op: *text.first()?,
+            id: number_of(text.get(2..7)?)?,
+            first: number_of(text.get(8..15)?)?,
+            second: number_of(text.get(16..23)?)?,
+        })
+    }
+}
+
+/// The handle of each id, and the bytes that are written, or read into.
+#[derive(Drop)]
+pub(crate) struct Table {
+    handles: Vec<u32>,
+    bytes: Vec<u8>,
+}
+
+impl Table {
+    /// No id has an object; none if out of memory.
+    pub(crate) fn new(alloc: Global) -> Option<Table> {
+        let handles = Vec::from_elem(alloc, NONE, IDS).ok()?;
+        let bytes = Vec::from_elem(alloc, 7, MOST).ok()?;
+        Some(Table { handles, bytes })
+    }
+
+    /// The handle of an id.
+    pub(crate) fn handle(&self, id: u32) -> Handle {
+        match self.handles.get(id as usize) {
+            Some(number) => Handle(*number),
+            None => Handle(NONE),
+        }
+    }
+
+    /// Lets an id name an object.
+    pub(crate) fn name(&mut self, id: u32, h: Handle) {
+        if let Some(number) = self.handles.get_mut(id as usize) {
+            *number = h.0;
+        }
+    }
+
+    /// So many bytes, and no more than there are.
+    pub(crate) fn bytes(&mut self, count: u32) -> &mut [u8] {
+        let most = self.bytes.len().min(count as usize);
+        &mut self.bytes[..most]
+    }
+}

@@ -1,0 +1,122 @@
+//! Calls on the sliced heap.
+ghost use Rattle.std.specs.Prelude.{IsTrue};
+
+use crate::script::{LINE, Line, Table};
+use cf_base::{Handle, Settings};
+use rand_core::{Rng, SeedableRng};
+use rand_xoshiro::SplitMix64;
+use sliced_heap::SlicedHeap;
+use std::alloc::Global;
+use step_ledger::Meter;
+
+/// How many objects drawn calls may make, and the handle of no object.
+const ENTRIES: u32 = 256;
+
+const NONE: u32 = 4_294_967_295;
+
+/// A length: most objects are small, some take a large part of a page.
+fn length_of(word: u64) -> u32 {
+    let size = ((word >> 8) % 65_536) as u32;
+    match word % 8 {
+        0 => 2 * size,
+        1 => size,
+        2 | 3 => size % 4_096,
+        _ => size % 256,
+    }
+}
+
+/// A malloc.
+#[inline(never)]
+fn sliced_malloc(heap: &mut SlicedHeap, bytes: u32, meter: &mut Meter) -> Option<Handle>
+    requires { IsTrue heap.old.is_open }
+{
+    meter.lap();
+    heap.malloc(bytes, meter.steps()).ok()
+}
+
+/// A free.
+#[inline(never)]
+fn sliced_free(heap: &mut SlicedHeap, h: Handle, meter: &mut Meter) -> bool
+    requires { IsTrue heap.old.is_open }
+{
+    meter.lap();
+    heap.free(h, meter.steps()).is_ok()
+}
+
+/// A step.
+#[inline(never)]
+fn sliced_step(heap: &mut SlicedHeap, meter: &mut Meter)
+    requires { IsTrue heap.old.is_open }
+{
+    meter.lap();
+    heap.step(meter.steps());
+}
+
+/// A drawn call: one of three is a step; else a malloc if the entry has no object, and else its free.
+fn drawn(heap: &mut SlicedHeap, word: u64, table: &mut Table, meter: &mut Meter) {
+    if !heap.is_open() {
+        return;
+    }
+    let entry = (word >> 32) as u32 % ENTRIES;
+    let h = table.handle(entry);
+    if (word >> 40) % 3 == 0 {
+        sliced_step(heap, meter);
+    } else if h.0 == NONE {
+        if let Some(made) = sliced_malloc(heap, length_of(word), meter) {
+            table.name(entry, made);
+        }
+    } else if sliced_free(heap, h, meter) {
+        table.name(entry, Handle(NONE));
+    }
+}
+
+/// The call of a line, and whether it was served.
+fn apply(heap: &mut SlicedHeap, line: Line, table: &mut Table, meter: &mut Meter) -> bool {
+    if !heap.is_open() {
+        return false;
+    }
+    match line.op {
+        b'm' => match sliced_malloc(heap, line.first, meter) {
+            Some(made) => {
+                table.name(line.id, made);
+                true
+            }
+            None => false,
+        },
+        b'f' => sliced_free(heap, table.handle(line.id), meter),
+        b's' => {
+            sliced_step(heap, meter);
+            true
+        }
+        b'd' => {
+            let mut draw = SplitMix64::seed_from_u64(1);
+            'draws: for _i in 0..line.first {
+                drawn(heap, draw.next_u64(), table, meter);
+            }
+            true
+        }
+        _ => false,
+    }
+}
+
+/// Opens the heap, and makes the calls; how many were served. None for a bad script, or out of memory.
+pub(crate) fn run(
+    alloc: Global,
+    first: Line,
+    calls: &[u8],
+    table: &mut Table,
+    meter: &mut Meter,
+) -> Option<u64> {
+    let settings = Settings::check(first.id, first.first, 1, 256).ok()?;
+    let mut heap = SlicedHeap::closed(alloc);
+    heap.open_heap(&settings, first.second.clamp(1, 16_384))
+        .ok()?;
+    let mut served = 0u64;
+    for text in calls.chunks(LINE) {
+        let line = Line::read(text)?;
+        if apply(&mut heap, line, table, meter) {
+            served = served.saturating_add(1);
+        }
+    }
+    Some(served)
+}

@@ -1,0 +1,4 @@
+pub mod Parts
+pub mod MovingPlaces
+pub mod NonMovingPlaces
+pub mod Rooms

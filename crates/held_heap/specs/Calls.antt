@@ -1,0 +1,149 @@
+-- What a call on an open heap tells its caller, by its code and by the numbers that it writes, and what that says of the heap.
+use Rattle.std.specs.Prelude.{◌≡◌, ℕ, ℤ, pos, List, Option, Some, None, Result, Ok, Err}
+use Rattle.cf_base.specs.Settings.{Profile}
+use Rattle.cf_base.specs.declared.answers.Handle.{Handle}
+use Rattle.cf_base.specs.declared.answers.Freed.{Freed}
+use Rattle.cf_base.specs.declared.answers.NotLive.{NotLive}
+use Rattle.cf_base.specs.declared.answers.Refusal.{Refusal}
+use Rattle.cf_base.specs.declared.answers.AccessFault.{AccessFault}
+use Rattle.cf_base.specs.declared.answers.Resized.{Resized}
+use Rattle.cf_base.specs.declared.answers.ResizeFault.{ResizeFault}
+use Rattle.cf_base.specs.declared.answers.Figures.{Figures}
+use Rattle.cf_base.specs.declared.answers.Totals.{Totals}
+use Rattle.cf_base.specs.declared.kind.Kind.{Kind}
+use Rattle.cf_model.specs.Answers.{figures_in, totals_in}
+use Rattle.cf_model.specs.Rules.{KeepsRules}
+use Rattle.cf_model.specs.State.{HeapState}
+use Rattle.cf_model.specs.Steps.{IsOpeningWords, empty_heap}
+use Rattle.held_heap.specs.Bounds.{Bounds, IsFree, IsMalloc, IsRead, IsResize, IsRoomFor, IsWrite, length_in}
+use Rattle.held_heap.specs.Codes.{access_code, free_code, malloc_code, moved_number, resize_code}
+use Rattle.held_heap.specs.HeldState.{HeldState}
+use Rattle.held_heap.specs.declared.answers.NphClass.{NphClass}
+use Rattle.held_heap.specs.declared.answers.NphFreed.{NphFreed}
+use Rattle.held_heap.specs.declared.answers.NphResized.{NphResized}
+use Rattle.held_heap.specs.declared.answers.NphHeapTotals.{NphHeapTotals}
+
+-- an open heap without objects, under these settings, and a ledger at 0
+pub record IsFreshHeap (kind : Kind) (p : Profile) (new : HeldState) : Type 0 where
+  pub words : IsOpeningWords kind p new.heap.words
+  pub whole : new.heap ≡ empty_heap kind p new.heap.words
+  pub rules : KeepsRules new.heap
+  pub steps : new.steps ≡ 0
+
+-- the number that the caller has after a malloc: the handle, or what it was
+abbrev pub malloc_number : ℕ → Result Handle Refusal → ℕ
+malloc_number before (Ok h) = h.0
+malloc_number before (Err e) = before
+
+-- A malloc of these bytes. The ledger has its steps.
+pub record IsMallocCall (most : Bounds) (old : HeldState) (bytes before : ℕ) (code : ℤ) (after : ℕ) (new : HeldState) : Type 0 where
+  pub answer : Result Handle Refusal
+  pub by_code : code ≡ malloc_code answer
+  pub by_number : after ≡ malloc_number before answer
+  pub call : IsMalloc most old.heap bytes answer new.heap 0 new.steps
+
+-- what the caller has after a free
+abbrev pub freed_shown : NphFreed → Result Freed NotLive → NphFreed
+freed_shown before (Ok f) = record { slot_words = f.slot_words; moved = moved_number f.moved }
+freed_shown before (Err e) = before
+
+-- a free of this number
+pub record IsFreeCall (most : Bounds) (old : HeldState) (number : ℕ) (before : NphFreed) (code : ℤ) (after : NphFreed) (new : HeldState) : Type 0 where
+  pub answer : Result Freed NotLive
+  pub by_code : code ≡ free_code answer
+  pub by_freed : after ≡ freed_shown before answer
+  pub call : IsFree most old.heap number answer new.heap 0 new.steps
+
+-- what the caller has after a resize
+abbrev pub resized_shown : NphResized → Result Resized ResizeFault → NphResized
+resized_shown before (Ok done) = record { old_slot_words = done.old_slot_words; slot_words = done.slot_words; moved = moved_number done.moved }
+resized_shown before (Err e) = before
+
+-- a resize of this number to these bytes
+pub record IsResizeCall (most : Bounds) (old : HeldState) (number bytes : ℕ) (before : NphResized) (code : ℤ) (after : NphResized) (new : HeldState) : Type 0 where
+  pub answer : Result Resized ResizeFault
+  pub by_code : code ≡ resize_code answer
+  pub by_resized : after ≡ resized_shown before answer
+  pub call : IsResize most old.heap (record { number = number; length = bytes }) answer new.heap 0 new.steps
+
+-- a write of these bytes
+pub record IsWriteCall (most : Bounds) (old : HeldState) (number from : ℕ) (bytes : List ℕ) (code : ℤ) (new : HeldState) : Type 0 where
+  pub answer : Result (Unit {0}) AccessFault
+  pub by_code : code ≡ access_code answer
+  pub call : IsWrite most old.heap (record { number = number; from = from }) bytes answer new.heap 0 new.steps
+
+-- a read into the caller's bytes; the heap stays
+pub record IsReadCall (most : Bounds) (old : HeldState) (number from : ℕ) (before : List ℕ) (code : ℤ) (after : List ℕ) (new : HeldState) : Type 0 where
+  pub answer : Result (Unit {0}) AccessFault
+  pub by_code : code ≡ access_code answer
+  pub call : IsRead most old.heap (record { number = number; from = from }) before answer after 0 new.steps
+  pub kept : new.heap ≡ old.heap
+
+-- the code of a look at what may not be there
+abbrev pub found_code : Option ℕ → ℤ
+found_code (Some n) = pos 0
+found_code None = pos 4
+
+-- the number that is there; else what the caller had
+abbrev pub found_number : Option ℕ → ℕ → ℕ
+found_number (Some n) before = n
+found_number None before = before
+
+-- a look at the length of this object; the heap stays
+pub record IsLengthCall (old : HeldState) (number before : ℕ) (code : ℤ) (after : ℕ) (new : HeldState) : Type 0 where
+  pub by_code : code ≡ found_code (length_in old.heap number)
+  pub by_length : after ≡ found_number (length_in old.heap number) before
+  pub kept : new.heap ≡ old.heap
+
+-- the code of a look for room
+abbrev pub room_code : Result (Unit {0}) Refusal → ℤ
+room_code (Ok u) = pos 0
+room_code (Err e) = malloc_code (Err e)
+
+-- a look at the room for an object of these bytes; the heap stays
+pub record IsRoomCall (old : HeldState) (bytes : ℕ) (code : ℤ) (new : HeldState) : Type 0 where
+  pub answer : Result (Unit {0}) Refusal
+  pub by_code : code ≡ room_code answer
+  pub room : IsRoomFor old.heap bytes answer
+  pub kept : new.heap ≡ old.heap
+
+-- the code of the figures of a class
+abbrev pub figures_code : HeapState → ℕ → ℤ
+figures_code s class = code (figures_in s class)
+  where
+    code : Option Figures → ℤ
+    code (Some f) = pos 0
+    code None = pos 4
+
+-- the figures of a class; without such a class what the caller had
+abbrev pub figures_shown : HeapState → ℕ → NphClass → NphClass
+figures_shown s class before = shown (figures_in s class)
+  where
+    shown : Option Figures → NphClass
+    shown (Some f) = record { slot_words = f.slot_words; slots = f.slots; live = f.live; pages = f.pages; not_full = f.not_full }
+    shown None = before
+
+-- the figures of the whole heap
+abbrev pub totals_shown : HeapState → NphHeapTotals
+totals_shown s = shown (totals_in s.kind s)
+  where
+    shown : Totals → NphHeapTotals
+    shown t = record { asked = t.asked; taken = t.taken; held = t.held; live = t.live; used = t.used; free = t.free; largest = t.largest }
+
+-- a look at the figures of a class, which changes nothing
+pub record IsFiguresCall (old : HeldState) (class : ℕ) (before : NphClass) (code : ℤ) (after : NphClass) (new : HeldState) : Type 0 where
+  pub by_code : code ≡ figures_code old.heap class
+  pub by_figures : after ≡ figures_shown old.heap class before
+  pub kept : new ≡ old
+
+-- a look at the figures of the whole heap; the heap stays
+pub record IsTotalsCall (old : HeldState) (code : ℤ) (after : NphHeapTotals) (new : HeldState) : Type 0 where
+  pub by_code : code ≡ pos 0
+  pub by_totals : after ≡ totals_shown old.heap
+  pub kept : new.heap ≡ old.heap
+
+-- a look at the steps of the last call, which changes nothing
+pub record IsStepsCall (old : HeldState) (code : ℤ) (after : ℕ) (new : HeldState) : Type 0 where
+  pub by_code : code ≡ pos 0
+  pub by_steps : after ≡ old.steps
+  pub kept : new ≡ old

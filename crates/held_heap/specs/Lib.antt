@@ -1,0 +1,11 @@
+pub mod Bounds
+pub mod ManagerBounds
+pub mod Codes
+pub mod HeldState
+pub mod Calls
+pub mod Handles
+pub mod Place
+pub mod Moving
+pub mod MovingHandle
+pub mod NonMoving
+pub mod NonMovingHandle

@@ -1,0 +1,9 @@
+-- An open heap of the non-moving manager, as a place owns it.
+use denote.RattleType.{RattleType}
+use Rattle.nonmoving_heap.specs.contracts.manager.NonMovingHeap.{the_row}
+use Rattle.nonmoving_heap.specs.contracts.manager.NonMovingHeapManager.TheImpl.{ghosts}
+use Rattle.held_heap.specs.contracts.held.Held as held
+use Rattle.held_heap.specs.contracts.offered.NonMovingHeapOffered.TheImpl as offered
+
+abbrev pub open_heap : RattleType
+open_heap = held.the_row the_row offered.ghosts ghosts

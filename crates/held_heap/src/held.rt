@@ -1,0 +1,194 @@
+//! An open heap with its ledger.
+ghost use Rattle.std.specs.Prelude.{◌≡◌, IfSome};
+ghost use Rattle.cf_base.specs.Settings.{profile_of};
+
+use crate::answers::{NphClass, NphFreed, NphHeapTotals, NphResized};
+use crate::codes::{DONE, UNKNOWN, number_of, of_access, of_refusal, of_resize};
+use crate::offered::Offered;
+use cf_base::{Handle, Settings};
+use std::alloc::Global;
+use std::marker::Model;
+use std::rt::Memory;
+use step_ledger::Meter;
+
+/// An open heap, and the ledger of its last call.
+#[derive(Drop)]
+pub struct Held<H: Offered> {
+    heap: H,
+    meter: Meter,
+}
+
+impl<H: Offered> Model for Held<H> {
+    ghost use Rattle.held_heap.specs.Bounds.{IsOpenOf};
+    ghost use Rattle.held_heap.specs.HeldState.{HeldState, held_code};
+
+    ghost Value = { HeldState };
+
+    ghost coded = { held_code };
+
+    ghost view = { λ h. record { heap = H.state h.heap; steps = h.meter } };
+
+    ghost invariant = { λ h. IsOpenOf H.of_kind (H.state h.heap) };
+}
+
+impl<H: Offered> Held<H> {
+    ghost use Rattle.held_heap.specs.Calls.{IsFreeCall, IsFreshHeap, IsLengthCall, IsMallocCall, IsReadCall, IsResizeCall, IsRoomCall, IsWriteCall, figures_code, figures_shown, totals_shown};
+
+    /// A heap without objects, in memory of its own; none if out of memory.
+    pub fn open(memory: Memory, s: &Settings) -> Option<Box<Held<H>>>
+        ensures { IfSome result (λ b. IsFreshHeap H.of_kind (profile_of s.now) b.value) }
+    {
+        let alloc = Global::new(memory);
+        let mut heap = H::new_closed(alloc);
+        heap.open_heap(s).ok()?;
+        let held = Held {
+            heap,
+            meter: Meter::for_library(memory),
+        };
+        Box::new(alloc, held).ok()
+    }
+
+    pub fn malloc(&mut self, bytes: u32, handle: &mut u32) -> i32
+        ensures { IsMallocCall H.most self.old bytes handle.old result handle.new self.new }
+    {
+        self.meter.lap();
+        match self.heap.malloc_within(bytes, self.meter.steps()) {
+            Ok(h) => {
+                *handle = h.0;
+                DONE
+            }
+            Err(cause) => of_refusal(cause),
+        }
+    }
+
+    pub fn free(&mut self, handle: u32, freed: &mut NphFreed) -> i32
+        ensures { IsFreeCall H.most self.old handle freed.old result freed.new self.new }
+    {
+        self.meter.lap();
+        match self.heap.free_within(Handle(handle), self.meter.steps()) {
+            Ok(done) => {
+                *freed = NphFreed {
+                    slot_words: done.slot_words,
+                    moved: number_of(done.moved),
+                };
+                DONE
+            }
+            Err(_) => UNKNOWN,
+        }
+    }
+
+    pub fn resize(&mut self, handle: u32, bytes: u32, resized: &mut NphResized) -> i32
+        ensures { IsResizeCall H.most self.old handle bytes resized.old result resized.new self.new }
+    {
+        self.meter.lap();
+        match self
+            .heap
+            .resize_within(Handle(handle), bytes, self.meter.steps())
+        {
+            Ok(done) => {
+                *resized = NphResized {
+                    old_slot_words: done.old_slot_words,
+                    slot_words: done.slot_words,
+                    moved: number_of(done.moved),
+                };
+                DONE
+            }
+            Err(cause) => of_resize(cause),
+        }
+    }
+
+    pub fn write(&mut self, handle: u32, at: u32, bytes: &[u8]) -> i32
+        ensures { IsWriteCall H.most self.old handle at bytes.now result self.new }
+    {
+        self.meter.lap();
+        match self
+            .heap
+            .write_within(Handle(handle), at, bytes, self.meter.steps())
+        {
+            Ok(()) => DONE,
+            Err(cause) => of_access(cause),
+        }
+    }
+
+    pub fn read(&mut self, handle: u32, at: u32, out: &mut [u8]) -> i32
+        ensures { IsReadCall H.most self.old handle at out.old result out.new self.new }
+    {
+        self.meter.lap();
+        match self
+            .heap
+            .read_within(Handle(handle), at, out, self.meter.steps())
+        {
+            Ok(()) => DONE,
+            Err(cause) => of_access(cause),
+        }
+    }
+
+    /// The bytes of an object.
+    pub fn length(&mut self, handle: u32, bytes: &mut u32) -> i32
+        ensures { IsLengthCall self.old handle bytes.old result bytes.new self.new }
+    {
+        self.meter.lap();
+        match self.heap.length_of(Handle(handle), self.meter.steps()) {
+            Some(n) => {
+                *bytes = n;
+                DONE
+            }
+            None => UNKNOWN,
+        }
+    }
+
+    /// Whether a malloc of `bytes` bytes would be served now, else why not.
+    pub fn has_room(&mut self, bytes: u32) -> i32
+        ensures { IsRoomCall self.old bytes result self.new }
+    {
+        self.meter.lap();
+        match self.heap.room_for(bytes, self.meter.steps()) {
+            Ok(()) => DONE,
+            Err(cause) => of_refusal(cause),
+        }
+    }
+
+    pub fn figures(&self, class: u32, figures: &mut NphClass) -> i32
+        ensures code { result ≡ figures_code self.now.heap class }
+        ensures shown { figures.new ≡ figures_shown self.now.heap class figures.old }
+    {
+        match self.heap.figures(class) {
+            Some(f) => {
+                *figures = NphClass {
+                    slot_words: f.slot_words,
+                    slots: f.slots,
+                    live: f.live,
+                    pages: f.pages,
+                    not_full: f.not_full,
+                };
+                DONE
+            }
+            None => UNKNOWN,
+        }
+    }
+
+    pub fn totals(&mut self, totals: &mut NphHeapTotals)
+        ensures shown { totals.new ≡ totals_shown self.old.heap }
+        ensures kept { self.new.heap ≡ self.old.heap }
+    {
+        self.meter.lap();
+        let all = self.heap.totals(self.meter.steps());
+        *totals = NphHeapTotals {
+            asked: all.asked,
+            taken: all.taken,
+            held: all.held,
+            live: all.live,
+            used: all.used,
+            free: all.free,
+            largest: all.largest,
+        };
+    }
+
+    /// The steps of the last call.
+    pub fn last_steps(&mut self) -> u64
+        ensures count { result ≡ self.old.steps }
+        ensures kept { self.new ≡ self.old }
+    {
+        self.meter.steps().count()
+    }
+}

@@ -1,0 +1,33 @@
+//! A box taken apart into its address and its allocator, and put together again.
+ghost use Rattle.std.specs.Prelude.{◌≡◌};
+ghost use Rattle.std_alloc.specs.Box.Ownership.{box_owns};
+
+use std::alloc::Allocator;
+use std::marker::Model;
+
+/// A value in a block of its own, which the allocator may free.
+pub(crate) struct Unboxed<T, A: Allocator> {
+    pub(crate) alloc: A,
+    pub(crate) at: *mut T,
+    pub(crate) ghost value: { T },
+}
+
+impl<T, A: Allocator> Model for Unboxed<T, A> {
+    ghost also_owns = { λ u. box_owns (A.dealloc_token u.alloc) T.row u.at u.value };
+}
+
+impl<T: Drop, A: Allocator> Unboxed<T, A> {
+    pub(crate) fn new(value: Box<T, A>) -> Unboxed<T, A>
+        ensures { result.value ≡ value.value }
+    {
+        let (at, alloc) = Box::into_raw_with_allocator(value);
+        Unboxed { alloc, at }
+    }
+
+    pub(crate) fn boxed(self) -> Box<T, A>
+        ensures { result.value ≡ self.value }
+    {
+        let Unboxed { alloc, at } = self;
+        unsafe { Box::from_raw(alloc, at) }
+    }
+}

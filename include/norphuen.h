@@ -1,0 +1,152 @@
+/* Norphuen: a verified memory manager for real-time programs. It is no drop-in malloc: objects are reached by handles.
+ *
+ * A heap has one region. nph_open takes all memory, so that later calls take none. Each call on an open heap takes a
+ * bounded number of steps; nph_last_steps returns the steps of the last one. Link one of two libraries:
+ *
+ *   libnorphuen.a            Compact-fit, moving: a free may move one object, whose handle stays the same
+ *   libnorphuen_nonmoving.a  Compact-fit, non-moving: a free may exchange entries of a block table
+ *
+ * The program defines the three functions rattle_alloc, rattle_realloc and rattle_dealloc, by which the library takes
+ * and returns memory: examples/c/malloc.c does so over malloc, examples/c/arena.c over a static array.
+ *
+ * A caller has these duties, which the library cannot test:
+ *
+ *   - A heap begins as NPH_HEAP. Only these calls change it, and only one copy of it is used.
+ *   - Other pointers are not null and point to what their types say. No two pointers of a call overlap.
+ *   - A buffer has `count` bytes. With a count of 0 its pointer is not null either.
+ *   - One call at a time runs on a heap, in the thread that opened it.
+ *
+ * The library tests all else: every number may be passed as a setting, handle, length, offset or class, and every call
+ * may be made on a heap that is not open. docs/C.md says what is proved.
+ */
+#ifndef NORPHUEN_H
+#define NORPHUEN_H
+
+#include <stdbool.h>
+#include <stddef.h>
+#include <stdint.h>
+
+#ifdef __cplusplus
+extern "C" {
+#endif
+
+/* A heap, open or not. Its fields are the library's own. */
+typedef struct nph_heap {
+    void *at;
+    bool is_open;
+} nph_heap;
+
+#define NPH_HEAP { NULL, false }
+
+/* What a call returns. A call that does not return NPH_OK writes nothing through its pointers. */
+enum {
+    NPH_OK = 0,
+    NPH_SIZE = 1,    /* the object with its header needs more words than a page has */
+    NPH_PROXY = 2,   /* every proxy is in use */
+    NPH_SPACE = 3,   /* no free slot of the class and no free page */
+    NPH_UNKNOWN = 4, /* the handle is not live; there is no such class */
+    NPH_RANGE = 5,   /* the range passes the end of the object */
+    NPH_KIND = 6,    /* nph_resize: this manager does not resize (of these two, both do) */
+    NPH_CLOSED = 7,  /* the heap is not open */
+    NPH_OPEN = 8,    /* nph_open: the heap is open already */
+    NPH_MEMORY = 10, /* nph_open: out of memory; the heap is not open */
+    NPH_PAGES = 11,      /* nph_open: pages are 1 to 4096 */
+    NPH_PAGE_BYTES = 12, /* nph_open: a page has 512, 1024, and so on by powers of two to 131072 bytes */
+    NPH_BOUND = 13,      /* nph_open: k is 1 to 64 */
+    NPH_PROXIES = 14,    /* nph_open: proxies are 1 to 65536 */
+    NPH_REGION = 15      /* nph_open: pages * page_bytes is at most 67108864 */
+};
+
+/* No handle. */
+#define NPH_NONE UINT32_MAX
+
+/* A free: the words of the freed slot, and the object that moved to its address, or NPH_NONE. */
+typedef struct nph_freed {
+    uint32_t slot_words;
+    uint32_t moved;
+} nph_freed;
+
+/* A resize: the words of the slot before and after, and the other object that moved to the old address, or NPH_NONE. */
+typedef struct nph_resized {
+    uint32_t old_slot_words;
+    uint32_t slot_words;
+    uint32_t moved;
+} nph_resized;
+
+/* A size class: the words of a slot, slots of a page, live objects, pages, and partly full pages. */
+typedef struct nph_class {
+    uint32_t slot_words;
+    uint32_t slots;
+    uint32_t live;
+    uint32_t pages;
+    uint32_t not_full;
+} nph_class;
+
+/* The whole heap. Bytes: that live objects asked for, of their slots, and that the heap holds. Then the live
+ * objects, the pages in use, those free, and the words of the largest free one. */
+typedef struct nph_heap_totals {
+    uint64_t asked;
+    uint64_t taken;
+    uint64_t held;
+    uint32_t live;
+    uint32_t used;
+    uint32_t free;
+    uint32_t largest;
+} nph_heap_totals;
+
+/* Opens an empty heap of `pages` pages of `page_bytes` bytes. At most `proxies` objects are live at a time, and each
+ * size class has at most `k` partly full pages. */
+int32_t nph_open(nph_heap *heap, uint32_t pages, uint32_t page_bytes, uint32_t k, uint32_t proxies);
+
+/* Returns the memory. The heap is not open afterwards, and may be opened again. May be called twice. */
+void nph_close(nph_heap *heap);
+
+/* Adds an object of `bytes` bytes, all zero, and writes its handle. */
+int32_t nph_malloc(nph_heap *heap, uint32_t bytes, uint32_t *handle);
+
+/* Removes an object. */
+int32_t nph_free(nph_heap *heap, uint32_t handle, nph_freed *freed);
+
+/* Gives an object another length: its first bytes stay, and zeros are added. */
+int32_t nph_resize(nph_heap *heap, uint32_t handle, uint32_t bytes, nph_resized *resized);
+
+/* Writes `count` bytes into an object, from byte `at` on. */
+int32_t nph_write(nph_heap *heap, uint32_t handle, uint32_t at, const uint8_t *bytes, size_t count);
+
+/* Reads `count` bytes of an object, from byte `at` on. */
+int32_t nph_read(nph_heap *heap, uint32_t handle, uint32_t at, uint8_t *bytes, size_t count);
+
+/* Writes the length of an object in bytes. */
+int32_t nph_length(nph_heap *heap, uint32_t handle, uint32_t *bytes);
+
+/* Whether nph_malloc of `bytes` bytes would return NPH_OK now, else what it would return. Changes no object. */
+int32_t nph_has_room(nph_heap *heap, uint32_t bytes);
+
+/* Writes the figures of a size class; the classes are numbered from 0. */
+int32_t nph_figures(nph_heap *heap, uint32_t size_class, nph_class *figures);
+
+/* Writes the figures of the whole heap. */
+int32_t nph_totals(nph_heap *heap, nph_heap_totals *totals);
+
+/* Writes the steps of the last call on the heap. */
+int32_t nph_last_steps(nph_heap *heap, uint64_t *steps);
+
+/* A block of memory. If out of memory, `ok` is false and `at` is any address but null. */
+typedef struct nph_block {
+    bool ok;
+    void *at;
+} nph_block;
+
+/* The program defines these three. A block is aligned to `align`, a power of two up to 16, and no two overlap. */
+nph_block rattle_alloc(size_t bytes, size_t align);
+
+/* Gives a block another length. Its first `kept` bytes stay. It may move; if out of memory it stays as it is. */
+nph_block rattle_realloc(void *at, size_t kept, size_t bytes, size_t align);
+
+void rattle_dealloc(void *at);
+
+#ifdef __cplusplus
+}
+#endif
+
+#endif
