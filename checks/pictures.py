@@ -402,7 +402,7 @@ def run_tool(program, words, script):
 
 
 def doc_cases(program):
-    """Each picture of docs/ is what the recipe of docs/TOOLS.md makes."""
+    """Each picture of docs/ is what the recipe of tools/README.md makes."""
     def same(name, *words):
         with open(f"docs/{name}.svg", encoding="ascii") as file:
             kept = file.read()
