@@ -24,7 +24,7 @@ pub(crate) struct Line {
 }
 
 impl Line {
-    /// The line that a text says; none for any other text.
+    /// Reads a line; none if the text is not one.
     pub(crate) fn read(text: &[u8]) -> Option<Line> {
         Some(Line {
             op: *text.first()?,
@@ -65,7 +65,7 @@ impl Table {
         }
     }
 
-    /// So many bytes, and no more than there are.
+    /// The first `count` bytes, or all if there are fewer.
     pub(crate) fn bytes(&mut self, count: u32) -> &mut [u8] {
         let most = self.bytes.len().min(count as usize);
         &mut self.bytes[..most]

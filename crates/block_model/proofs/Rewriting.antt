@@ -1,21 +1,15 @@
 -- The words of a tiling after one block gets other contents and every other word stays.
-use Rattle.std.proofs.Common.{◌≡◌, ◌≢◌, ℕ, ◌+◌, ◌-◌, ◌<◌, ◌≤◌, true, false, List, [], ◌∷◌, Some, None, length, get_or, map, arith, sym, ◌∙◌, inl, inr, ap, refl}
+use Rattle.std.proofs.Common.{◌≡◌, ◌≢◌, ℕ, ◌+◌, ◌-◌, ◌<◌, ◌≤◌, List, [], ◌∷◌, Some, None, length, get_or, map, arith, sym, ◌∙◌, inl, inr, ap, refl}
 use Rattle.std.specs.Prelude.{◌⊎◌, ◌&&◌, cond, nat_le, nat_lt}
 use Rattle.std.specs.List.{range_with_len}
 use Rattle.std.proofs.lemmas.Bool.{cases_eq, cases_lt}
-use Rattle.std.proofs.lemmas.Bool.Decides.{nat_tests}
+use Rattle.std.proofs.lemmas.Option.{same_Some as same_block, same_Some as same_number}
 use Rattle.std.proofs.lemmas.List.FromFn.{length-map-range_with_len, get_or-map-range_with_len}
 use Rattle.std.proofs.lemmas.List.{get_or_past}
 use Rattle.block_model.specs.Tiling.{Block, Fill, IsTiling, block_at}
 use Rattle.block_model.specs.Words.{AreTilingWords, HaveHeaders}
 use Rattle.block_model.proofs.Others.{Lies, lies}
-use Rattle.cf_lemmas.proofs.Tests.{eq_yes, eq_no, le_yes, le_no}
-
-lt_yes : (a b : ℕ) → a < b → nat_lt a b ≡ true
-lt_yes a b e = grind (arith, nat_tests)
-
-lt_no : (a b : ℕ) → b ≤ a → nat_lt a b ≡ false
-lt_no a b e = grind (arith, nat_tests)
+use Rattle.cf_lemmas.proofs.Tests.{eq_yes, eq_no, le_yes, le_no, lt_yes, lt_no}
 
 -- the block at an address stays that block in a longer list
 pub behind : (x : Block) (xs : List Block) (from to a : ℕ) (b : Block) → Fill (x ∷ xs) from to → block_at xs a ≡ Some b → block_at (x ∷ xs) a ≡ Some b
@@ -139,9 +133,3 @@ module _ (content now : ℕ → ℕ → ℕ) (count : ℕ) (bs : List Block) (wo
       | inr ne ↦ outside a c (a + 1 + i) at ne (omega arith) (omega arith) ∙ are.contents a c q at by i lt ∙ sym (others a c q ne at by i)
     ];
   }
-    where
-      same_block : (x y : Block) → Some x ≡ Some y → x ≡ y
-      same_block x y e = cc
-
-      same_number : (x y : ℕ) → Some x ≡ Some y → x ≡ y
-      same_number x y e = cc

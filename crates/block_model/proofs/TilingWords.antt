@@ -2,15 +2,13 @@
 use Rattle.std.proofs.Common.{◌≡◌, ℕ, suc, ◌+◌, ◌-◌, ◌<◌, ◌≤◌, List, [], ◌∷◌, ◌++◌, Some, length, get_or, map, arith, sym, ◌∙◌, subst, inl, inr, ap, refl}
 use Rattle.std.specs.List.{range_with_len}
 use Rattle.std.proofs.lemmas.Bool.{cases_eq}
+use Rattle.std.proofs.lemmas.Option.{same_Some as some_block}
 use Rattle.std.proofs.lemmas.List.{get_or_append_left, get_or-append-add, length-append}
 use Rattle.std.proofs.lemmas.List.FromFn.{length-map-range_with_len, get_or-map-range_with_len}
 use Rattle.block_model.specs.Tiling.{Block, Fill, IsTiling, block_at}
 use Rattle.block_model.specs.Words.{AreTilingWords, HaveHeaders, block_header}
 use Rattle.block_model.specs.ReadWords.{inner_word, tiling_words}
 use Rattle.cf_lemmas.proofs.Tests.{eq_yes, eq_no}
-
-some_block : (x y : Block) → Some x ≡ Some y → x ≡ y
-some_block x y e = cc
 
 module _ (content : ℕ → ℕ → ℕ) where
   abbrev own : ℕ → Block → List ℕ

@@ -1,20 +1,18 @@
 -- The blocks of the other objects after a free or a resize.
 use Rattle.std.proofs.Common.{◌≡◌, ◌≢◌, ℕ, ◌+◌, ◌*◌, ◌/◌, ◌%◌, ◌<◌, List, Some, length, get_or, arith, sym, ◌∙◌, subst, ap, refl}
-use Rattle.std.specs.Prelude.{option_map}
 use Rattle.std.proofs.lemmas.Option.{same_Some as some_equal, same_Some as placed_equal}
 use Rattle.std.specs.FinMap.{get}
 use Rattle.cf_lemmas.proofs.Maps.{get_insert_other, get_remove_other}
-use Rattle.cf_lemmas.proofs.MapValues.{get-map_values}
 use Rattle.cf_base.specs.declared.answers.Freed.{Freed}
 use Rattle.cf_base.specs.declared.answers.Resized.{Resized}
 use Rattle.cf_base.specs.declared.kind.Kind.TheVariants.{NonMoving}
-use Rattle.page_model.specs.Held.{Held, Placed, objects}
+use Rattle.page_model.specs.Held.{Placed, objects}
 use Rattle.page_model.specs.Paging.{IsPaging, paging_of}
 use Rattle.page_model.specs.Arrangement.{IsSound}
 use Rattle.page_model.specs.Frames.{AreBlocks, IsPhysical, block_of, frames_after}
 use Rattle.page_model.specs.Image.{IsSlotImage, object_word, slot_for}
 use Rattle.page_model.specs.Steps.{Request, Leaves, Moves, RemovesObject as IsFreedBy}
-use Rattle.page_model.proofs.CallerLemmas.{free_blocks, resize_blocks, physical_word, in_blocks}
+use Rattle.page_model.proofs.CallerLemmas.{bytes_held, free_blocks, resize_blocks, physical_word, in_blocks}
 use Rattle.cf_model.specs.State.{HeapState, paging_in, layout_of}
 use Rattle.cf_model.specs.Rules.{KeepsRules, KeepsRulesOf}
 use Rattle.cf_model.specs.Steps.{FreesObject, ResizesObject, BlocksStay, MovesIn, frames_left, leaves_of, number_of}
@@ -59,10 +57,6 @@ module _ (old new : HeapState) (o : Framed old) (n : Framed new) (same : paging_
       let b'' : get_or after (4 * block_of old.frames x.place i + j) 0 ≡ object_word q y.bytes (4 * i + j) = rw stay at b' in
       b'' ∙ ap (λ v. object_word q v (4 * i + j)) bytes ∙ sym a'
 
--- the bytes of an object in `objects`
-bytes_of : (m : Held) (q : ℕ) (x : Placed) → get m q ≡ Some x → get (objects m) q ≡ Some x.bytes
-bytes_of m q x e = get-map_values (λ (z : Placed). z.bytes) m q ∙ ap (option_map (λ (z : Placed). z.bytes)) e
-
 pub blocks_after_free : (old : HeapState) (h : ℕ) (freed : Freed) (new : HeapState) → old.kind ≡ NonMoving → KeepsRules old → KeepsRules new
     → FreesObject old h freed new → BlocksStay old h new
 blocks_after_free old h freed new is before after f =
@@ -82,8 +76,8 @@ blocks_after_free old h freed new is before after f =
     record {
       blocks = stay;
       words = λ before after ph ph' q x y ne e g i j lt low.
-          let bytes = some_equal y.bytes x.bytes (sym (bytes_of new.held q y g) ∙ ap (λ m. get m q) f.left ∙ get_remove_other (objects old.held) h q ne
-          ∙ bytes_of old.held q x e) in
+          let bytes = some_equal y.bytes x.bytes (sym (bytes_held new.held q y g) ∙ ap (λ m. get m q) f.left ∙ get_remove_other (objects old.held) h q ne
+          ∙ bytes_held old.held q x e) in
           words_stay old new o n same q x y e g bytes before after ph ph' i j lt low (stay q x y ne e g i lt);
     }
 
@@ -102,8 +96,8 @@ blocks_after_resize old asked done new is before after f =
     record {
       blocks = stay;
       words = λ before after ph ph' q x y ne e g i j lt low.
-          let bytes = some_equal y.bytes x.bytes (sym (bytes_of new.held q y g) ∙ ap (λ m. get m q) f.left
-          ∙ get_insert_other (objects old.held) asked.number _ q ne ∙ bytes_of old.held q x e) in
+          let bytes = some_equal y.bytes x.bytes (sym (bytes_held new.held q y g) ∙ ap (λ m. get m q) f.left
+          ∙ get_insert_other (objects old.held) asked.number _ q ne ∙ bytes_held old.held q x e) in
           words_stay old new o n same q x y e g bytes before after ph ph' i j lt low (stay q x y ne e g i lt);
     }
 

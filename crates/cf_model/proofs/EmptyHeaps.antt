@@ -24,7 +24,7 @@ use Rattle.cf_model.specs.Families.{Family, paged, tiled, family_of}
 use Rattle.cf_model.specs.Rules.{AreInRange, AreObjects, IsPaged, IsTiled, KeepsPages, KeepsRules, KeepsTable, KeepsTiling}
 use Rattle.cf_model.specs.Steps.{IsOpeningWords, empty_heap, opening_bounds, opening_frames, opening_tiling}
 
-no_object : (h : ℕ) (x : Placed) → get (empty {X = Placed} {R = nat_cmp}) h ≡ Some x → ⊥
+pub no_object : (h : ℕ) (x : Placed) → get (empty {X = Placed} {R = nat_cmp}) h ≡ Some x → ⊥
 no_object h x e = (let g : Some x ≡ None = sym e ∙ get-empty nat_cmp h in cc)
 
 no_objects : (s : HeapState) → s.held ≡ empty → AreObjects s

@@ -12,7 +12,8 @@ use Rattle.block_model.specs.Tiling.{Block, Carves, IsTiling, IsCarvedTo, block_
 use Rattle.block_model.proofs.CallerLemmas.{free_stays, malloc_stays, released_is_free}
 use Rattle.cf_model.specs.Rules.{AreOwned, IsBlockOf}
 
-no_one : {A : Type 0} (o : Option A) (x : A) → o ≡ None → o ≡ Some x → ⊥
+-- no value is none and some
+pub no_one : {A : Type 0} (o : Option A) (x : A) → o ≡ None → o ≡ Some x → ⊥
 no_one o x e f = (let g : None ≡ Some x = sym e ∙ f in cc)
 
 -- a malloc: the new object owns the block that was carved

@@ -1,15 +1,17 @@
 -- The words of a heap with blocks determine its objects; and after a carve the words are those of the objects after a malloc.
-use Rattle.std.proofs.Common.{◌≡◌, ◌≢◌, ℕ, zero, suc, ◌+◌, ◌-◌, ◌*◌, ◌<◌, List, Option, Some, None, length, get_or, take, replicate, arith, sym, ◌∙◌, subst}
+use Rattle.std.proofs.Common.{◌≡◌, ◌≢◌, ℕ, zero, suc, ◌+◌, ◌<◌, List, Option, Some, None, length, get_or, replicate, arith, sym, ◌∙◌, subst}
 use Rattle.std.proofs.Common.{inl, inr, ap, refl}
 use Rattle.std.specs.Prelude.{option_map}
 use Rattle.std.proofs.lemmas.Bool.{cases_eq}
-use Rattle.std.proofs.lemmas.List.{drop-replicate, length-replicate}
+use Rattle.std.proofs.lemmas.List.{length-replicate}
 use Rattle.std.specs.FinMap.{get, insert}
+use Rattle.std.proofs.lemmas.Option.{same_Some as some_block, same_Some as some_number}
 use Rattle.cf_lemmas.proofs.Maps.{equal_maps, get_inserted, get_insert_other}
 use Rattle.cf_lemmas.proofs.MapValues.{get-map_values}
+pub use Rattle.page_model.proofs.CallerLemmas.{fresh_word}
 use Rattle.page_model.specs.Held.{Held, Placed, places}
 use Rattle.page_model.specs.Bytes.{bytes_at}
-use Rattle.page_model.specs.Image.{object_word, word_of_bytes, header_word}
+use Rattle.page_model.specs.Image.{object_word, header_word}
 use Rattle.page_model.specs.Steps.{zeros_at}
 use Rattle.page_model.proofs.CallerLemmas.{bytes_of_held}
 use Rattle.block_model.specs.Buckets.{FreeLists}
@@ -19,6 +21,7 @@ use Rattle.block_model.specs.Words.{AreTilingWords, AreCleared, HaveHeaders}
 use Rattle.block_model.proofs.CallerLemmas.{lies, malloc_stays, blocks_read}
 use Rattle.cf_model.specs.State.{HeapState, region_words}
 use Rattle.cf_model.specs.ReadObjects.{read_objects}
+use Rattle.cf_model.proofs.Owning.{no_one}
 use Rattle.cf_model.specs.Rules.{AreInRange, AreObjects, AreOwned, KeepsTiling, content_word}
 
 -- word 1 of each used block is the header of its object
@@ -60,26 +63,8 @@ objects_told s range objects k = equal_maps _ _
         let word = k.words.contents x.place b q own.1 own.2.owner i (omega arith) in
         rw f at word))
 
-take_zeros : (m n : ℕ) → word_of_bytes (take m (replicate n 0)) ≡ 0
-take_zeros zero n = refl
-take_zeros (suc m) zero = refl
-take_zeros (suc m) (suc n) = rw (take_zeros m n) refl
-
--- words after the header of an object of zeros
-pub fresh_word : (h n i : ℕ) → object_word h (replicate n 0) (suc i) ≡ 0
-fresh_word h n i = ap (λ xs. word_of_bytes (take 8 xs)) (drop-replicate (8 * i) n 0) ∙ take_zeros 8 (n - 8 * i)
-
 same_content : (m : Held) (h q i : ℕ) (x : Placed) → q ≢ h → content_word (insert m h x) q i ≡ content_word m q i
 same_content m h q i x ne = rw (get_insert_other m h x q ne) refl
-
-no_one : {A : Type 0} (o : Option A) (x : A) → o ≡ None → o ≡ Some x → ⊥
-no_one o x e f = (let g : None ≡ Some x = sym e ∙ f in cc)
-
-some_number : (x y : ℕ) → Some x ≡ Some y → x ≡ y
-some_number x y e = cc
-
-some_block : (x y : Block) → Some x ≡ Some y → x ≡ y
-some_block x y e = cc
 
 pub carve_words : (rule : FreeLists) (count : ℕ) (m : Held) (old new : List Block) (h n place : ℕ) (was now : List ℕ)
     → IsTiling count old → AreOwned m old → get m h ≡ None

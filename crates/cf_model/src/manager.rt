@@ -166,19 +166,14 @@ pub trait Manager: Drop {
         ensures value { result ≡ totals_in (state self.now).kind (state self.now) }
         ensures rises { steps.old ≤ steps.new };
 
-    /// What the heap uses: three of its figures. Takes constant time: with pages `totals` does too,
-    /// and a manager with blocks has its own body.
+    /// What the heap uses: three of its figures. Each heap here keeps these counts, so its own body
+    /// takes no step.
     fn usage(&self, steps: &mut Steps) -> Usage
         requires { IsTrue (state self.now).is_open }
         ensures value { result ≡ usage_in (state self.now).kind (state self.now) }
         ensures rises { steps.old ≤ steps.new }
     {
-        let totals = self.totals(steps);
-        Usage {
-            asked: totals.asked,
-            taken: totals.taken,
-            held: totals.held,
-        }
+        Usage::of(&self.totals(steps))
     }
 
     /// The steps that the last malloc or free since the opening added to its ledger, refused or

@@ -3,7 +3,7 @@ use Rattle.std.proofs.Common.{◌≡◌, ℕ, Bool, true, false, ◌+◌, ◌*�
 use Rattle.std.proofs.lemmas.Bool.{cases_eq, cases_lt}
 use Rattle.step_ledger.specs.Counting.{RoseBy, RoseAtMost}
 use Rattle.tag_blocks.specs.Costs.{group_steps, list_steps, next_steps, previous_steps}
-use Rattle.tag_blocks.specs.Fronts.{no_block, IsFirstFrom}
+use Rattle.tag_blocks.specs.ListHeads.{no_block, IsFirstFrom}
 use Rattle.tag_blocks.proofs.ThreadLemmas.{chosen, other}
 
 -- the count rose twice
@@ -40,13 +40,13 @@ either false x y n p q = q
 pub here_steps : (start bit : ℕ) → bit < 16 → list_steps start (Some (16 * (start / 16) + bit)) ≡ 1
 here_steps start bit low = chosen ((16 * (start / 16) + bit) / 16) (start / 16) 1 3 (omega arith)
 
-pub rest_steps : (fronts : List ℕ) (start : ℕ) (rest : Option ℕ) → IsFirstFrom fronts (16 * (start / 16 + 1)) rest
+pub rest_steps : (heads : List ℕ) (start : ℕ) (rest : Option ℕ) → IsFirstFrom heads (16 * (start / 16 + 1)) rest
     → 1 + group_steps (start / 16 + 1) rest ≡ list_steps start rest
-rest_steps fronts start None all = elim (cases_eq (start / 16) 31) [
+rest_steps heads start None all = elim (cases_eq (start / 16) 31) [
   | inl is ↦ ap (λ n. 1 + n) (chosen (start / 16 + 1) 32 0 1 (omega arith)) ∙ sym (chosen (start / 16) 31 1 2 is)
   | inr not ↦ ap (λ n. 1 + n) (other (start / 16 + 1) 32 0 1 (omega arith)) ∙ sym (other (start / 16) 31 1 2 not)
 ]
-rest_steps fronts start (Some list) is = sym (other (list / 16) (start / 16) 1 3 (let f = is.from in omega arith))
+rest_steps heads start (Some list) is = sym (other (list / 16) (start / 16) 1 3 (let f = is.from in omega arith))
 
 -- ---- links
 

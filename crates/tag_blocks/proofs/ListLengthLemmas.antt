@@ -8,10 +8,10 @@ use Rattle.cf_lemmas.proofs.Tests.{eq_yes, eq_no}
 use Rattle.block_model.specs.Buckets.{FreeLists}
 use Rattle.block_model.specs.Tiling.{Block, is_free}
 use Rattle.tag_blocks.specs.Costs.{list_length, push_steps, pushed_steps}
-use Rattle.tag_blocks.specs.Fronts.{no_block, front_of}
+use Rattle.tag_blocks.specs.ListHeads.{no_block, head_of}
 use Rattle.tag_blocks.specs.Layout.{Fields, IsBlock, free_block, used_block, IsValidWith}
 use Rattle.tag_blocks.proofs.FillLemmas.{block_found}
-use Rattle.tag_blocks.proofs.FindLemmas.{front_free, front_some}
+use Rattle.tag_blocks.proofs.FindLemmas.{head_free, head_some}
 use Rattle.tag_blocks.proofs.NeighbourLemmas.{free_owner}
 use Rattle.tag_blocks.proofs.ThreadLemmas.{chosen, other}
 
@@ -76,18 +76,18 @@ module _ (rule : FreeLists) (list : ℕ) where
 
 -- a block that joins a list takes the steps of a push on its head
 module _ (rule : FreeLists) (p : Fields) (bs : List Block) (lists : ℕ → List ℕ) (k : IsValidWith rule p bs lists) (list : ℕ)
-    (within : list < length p.fronts) where
-  pub head_steps : push_steps (get_or p.fronts list 0) ≡ pushed_steps (list_length rule bs list + 1)
+    (within : list < length p.heads) where
+  pub head_steps : push_steps (get_or p.heads list 0) ≡ pushed_steps (list_length rule bs list + 1)
   head_steps =
-      let e : get_or p.fronts list 0 ≡ front_of p.fronts list = get_or_default p.fronts list 0 no_block within in
-      elim (cases_eq (get_or p.fronts list 0) no_block) [
+      let e : get_or p.heads list 0 ≡ head_of p.heads list = get_or_default p.heads list 0 no_block within in
+      elim (cases_eq (get_or p.heads list 0) no_block) [
         | inl none ↦ (
             let z : list_length rule bs list ≡ 0 = none_listed rule list bs (λ b i free is.
-            front_some rule p bs lists k b.address b (block_found bs 0 (length p.words) b k.fill i) (free_owner b free)
-            (ap (front_of p.fronts) is ∙ sym e ∙ none)) in
-            ap (λ n. 5 + n) (chosen (get_or p.fronts list 0) no_block 0 2 none) ∙ sym (chosen (list_length rule bs list + 1) 1 5 7 (omega arith)))
+            head_some rule p bs lists k b.address b (block_found bs 0 (length p.words) b k.fill i) (free_owner b free)
+            (ap (head_of p.heads) is ∙ sym e ∙ none)) in
+            ap (λ n. 5 + n) (chosen (get_or p.heads list 0) no_block 0 2 none) ∙ sym (chosen (list_length rule bs list + 1) 1 5 7 (omega arith)))
         | inr some ↦ (
-            let f = front_free rule p bs lists k list (get_or p.fronts list 0) within (λ z. some (e ∙ z)) refl in
-            let one : 1 ≤ list_length rule bs list = some_listed rule list bs (free_block (get_or p.fronts list 0) f.0) f.1 refl f.2 in
-            ap (λ n. 5 + n) (other (get_or p.fronts list 0) no_block 0 2 some) ∙ sym (other (list_length rule bs list + 1) 1 5 7 (omega arith)))
+            let f = head_free rule p bs lists k list (get_or p.heads list 0) within (λ z. some (e ∙ z)) refl in
+            let one : 1 ≤ list_length rule bs list = some_listed rule list bs (free_block (get_or p.heads list 0) f.0) f.1 refl f.2 in
+            ap (λ n. 5 + n) (other (get_or p.heads list 0) no_block 0 2 some) ∙ sym (other (list_length rule bs list + 1) 1 5 7 (omega arith)))
       ]

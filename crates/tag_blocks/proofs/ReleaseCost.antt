@@ -10,7 +10,7 @@ use Rattle.cf_lemmas.proofs.Tests.{eq_yes, eq_no}
 use Rattle.tag_blocks.specs.Blocks.{Tagged, AreTags, IsUsedAt}
 use Rattle.tag_blocks.specs.Costs.{free_size, free_from, free_up_to, join_steps, link_then, list_length, next_merge_steps, previous_merge_steps, pushed_steps, release_sized}
 use Rattle.tag_blocks.specs.Costs.{release_steps}
-use Rattle.tag_blocks.specs.Stages.{free_front, free_back}
+use Rattle.tag_blocks.specs.Stages.{free_first, free_last}
 use Rattle.tag_blocks.proofs.FillLemmas.{lies_in, in_second, block_is, block_found}
 use Rattle.tag_blocks.proofs.ListsAfterChange.{FillsAt, fills_at}
 use Rattle.tag_blocks.proofs.ReleaseLemmas.{parts}
@@ -25,7 +25,7 @@ none_at_end bs n (Some b) f is = absurd (
     let i = block_is bs n b is in let l = lies_in bs 0 n b f i.1 in let high = l.high in let two = l.size in let at = i.0 in omega arith)
 
 pub next_free : (pre post : List Block) (b : Block) (mid n : ℕ) → Fill (pre ++ (b ∷ post)) 0 n → Fill post mid n
-    → free_from (pre ++ (b ∷ post)) mid ≡ free_front post
+    → free_from (pre ++ (b ∷ post)) mid ≡ free_first post
 next_free pre [] b mid n f g =
     ap (free_from (pre ++ (b ∷ []))) g ∙ none_at_end (pre ++ (b ∷ [])) n (block_at (pre ++ (b ∷ [])) n) f refl
 next_free pre (c ∷ cs) b mid n f g =
@@ -39,7 +39,7 @@ none_behind (b ∷ bs) from to a f le =
     let at = f.0 in let two = f.1 in
     rw (eq_no (b.address + b.size) a (λ e. absurd (omega arith))) (none_behind bs (from + b.size) to a f.2 (omega arith))
 
-pub previous_free : (pre post : List Block) (from at n : ℕ) → Fill pre from at → Fill post at n → free_up_to (pre ++ post) at ≡ free_back pre
+pub previous_free : (pre post : List Block) (from at n : ℕ) → Fill pre from at → Fill post at n → free_up_to (pre ++ post) at ≡ free_last pre
 previous_free [] post from at n f g = none_behind post at n at g (omega arith)
 previous_free (b ∷ []) post from at n f g =
     rw (eq_yes (b.address + b.size) at (let a = f.0 in let e = f.2 in omega arith)) refl
@@ -48,7 +48,7 @@ previous_free (b ∷ c ∷ cs) post from at n f g =
     rw (eq_no (b.address + b.size) at (λ e. absurd (omega arith))) (previous_free (c ∷ cs) post (from + b.size) at n f.2 g)
 
 -- a free block before has two words at least
-pub back_two : (pre : List Block) (from at : ℕ) → Fill pre from at → free_back pre ≢ 0 → (2 ≤ free_back pre) × (free_back pre ≤ at)
+pub back_two : (pre : List Block) (from at : ℕ) → Fill pre from at → free_last pre ≢ 0 → (2 ≤ free_last pre) × (free_last pre ≤ at)
 back_two [] from at f some = absurd (some refl)
 back_two (b ∷ []) from at f some = by_cases (is_free b) refl
   where
@@ -64,10 +64,10 @@ module _ (rule : FreeLists) (v : Tagged) (tags : AreTags v) (at : ℕ) (u : IsUs
   size = u.block.size
 
   abbrev more : ℕ
-  more = free_front (parts v at u).behind
+  more = free_first (parts v at u).behind
 
   abbrev less : ℕ
-  less = free_back (parts v at u).before
+  less = free_last (parts v at u).before
 
   at_is : u.block.address ≡ at
   at_is = (block_is v.blocks at u.block u.there).0
@@ -131,7 +131,7 @@ module _ (rule : FreeLists) (v : Tagged) (tags : AreTags v) (at : ℕ) (u : IsUs
     previous_part : previous_merge_steps (get_or two (at - less + 1) 0) at less (at + second) (length two)
         ≡ previous_merge_steps link at less (at + (size + more)) (length v.words)
     previous_part = elim (cases_eq less 0) [
-      | inl none ↦ ap (λ n. cond (at == 0) 1 2 + n) (
+      | inl none ↦ ap (λ n. cond (at == 0) 0 1 + n) (
           chosen less 0 0 (join_steps (get_or two (at - less + 1) 0) (at + second) (length two)) none
           ∙ sym (chosen less 0 0 (join_steps link (at + (size + more)) (length v.words)) none))
       | inr some ↦ (

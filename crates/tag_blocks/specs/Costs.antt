@@ -4,7 +4,7 @@ use Rattle.std.specs.Prelude.{length, slice_index}
 use Rattle.block_model.specs.Buckets.{FreeLists}
 use Rattle.block_model.specs.Tiling.{Block, is_free, block_at, size_at}
 use Rattle.tag_blocks.specs.Blocks.{Tagged}
-use Rattle.tag_blocks.specs.Fronts.{no_block}
+use Rattle.tag_blocks.specs.ListHeads.{no_block}
 use Rattle.tag_blocks.specs.Links.{link_word}
 
 -- The first list with a block, of the groups of 16 lists from this group on: the bits of all groups are read, and those of the group that is found.
@@ -54,10 +54,10 @@ pushed_steps many = if many == 1 then 5 else 7
 abbrev pub claim_steps : ℕ → ℕ
 claim_steps link = 3 + unlink_steps link
 
--- A used block that ends at `end`, in a region of `words` words, is cut: its header is written, as half a word, that of the rest, and that of the block behind
--- it, if there is one; the rest joins a list, which has `many` blocks then.
+-- The rest of a block that ends at `end`, in a region of `words` words, becomes a free block: its header is written, and so is the size before it in the header
+-- behind, if one begins there; it joins a list, which has `many` blocks then.
 abbrev pub cut_steps : ℕ → ℕ → ℕ → ℕ
-cut_steps end words many = 3 + before_steps end words + pushed_steps many
+cut_steps end words many = 1 + before_steps end words + pushed_steps many
 
 -- A free block becomes used, and is cut if two words or more are left; `new` are the blocks afterwards.
 abbrev pub carve_at_steps : FreeLists → Tagged → ℕ → ℕ → List Block → ℕ
@@ -92,10 +92,9 @@ join_steps link end words = 5 + unlink_steps link + before_steps end words
 abbrev pub next_merge_steps : ℕ → ℕ → ℕ → ℕ → ℕ
 next_merge_steps link end more words = (if end == words then 0 else 1) + (if more == 0 then 0 else join_steps link (end + more) words)
 
--- The header of a block at `at` is read, and that of the block before it, if there is one; if that one is free, of `less` words, the two become one, which
--- ends at `end`.
+-- The header of the block before the one at `at` is read, if there is one; if it is free, of `less` words, the two become one, which ends at `end`.
 abbrev pub previous_merge_steps : ℕ → ℕ → ℕ → ℕ → ℕ → ℕ
-previous_merge_steps link at less end words = (if at == 0 then 1 else 2) + (if less == 0 then 0 else join_steps link end words)
+previous_merge_steps link at less end words = (if at == 0 then 0 else 1) + (if less == 0 then 0 else join_steps link end words)
 
 -- What the link of the block at `a` becomes where a block with the link `gone` leaves the list: what followed that block follows `a`, if `a` was before it;
 -- what was before that block is before `a`, if `a` followed it.

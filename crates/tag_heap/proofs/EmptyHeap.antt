@@ -1,9 +1,8 @@
 -- The heap that has no objects yet.
-use Rattle.std.proofs.Common.{◌≡◌, ℕ, ◌+◌, ◌*◌, ◌≤◌, List, Some, None, length, get_or, arith, refl, sym, ◌∙◌, ap, subst, inl, inr}
+use Rattle.std.proofs.Common.{◌≡◌, ℕ, ◌+◌, ◌*◌, ◌≤◌, List, None, length, get_or, arith, refl, sym, ◌∙◌, ap, subst, inl, inr}
 use Rattle.std.proofs.lemmas.Bool.{cases_lt}
 use Rattle.std.proofs.lemmas.List.{get_or_past}
-use Rattle.std.specs.Ordering.{nat_cmp}
-use Rattle.std.specs.FinMap.{empty, get, get-empty}
+use Rattle.std.specs.FinMap.{empty}
 use Rattle.cf_lemmas.proofs.Values.{map_values-empty, no_values}
 use Rattle.cf_base.specs.Settings.{profile_of}
 use Rattle.cf_base.specs.declared.kind.Kind.{Kind}
@@ -18,7 +17,7 @@ use Rattle.tag_blocks.specs.Blocks.{Tagged, AreTags}
 use Rattle.cf_model.specs.Families.{IsTiled}
 use Rattle.cf_model.specs.Rules.{KeepsRules, KeepsTiling}
 use Rattle.cf_model.specs.Steps.{IsEmptyHeap, IsOpeningWords, empty_heap}
-use Rattle.cf_model.proofs.CallerLemmas.{tiled_empty}
+use Rattle.cf_model.proofs.CallerLemmas.{no_object, tiled_empty}
 use Rattle.tag_heap.specs.Heap.{Heap, IsValid, state_of}
 use Rattle.tag_heap.proofs.ByKind.{of_tiled}
 use Rattle.tag_heap.proofs.Preserved.{Becomes, becomes_rules, becomes_valid, held_is, in_range}
@@ -26,9 +25,6 @@ use Rattle.tag_heap.proofs.Preserved.{Becomes, becomes_rules, becomes_valid, hel
 nothing_asked : asked_bytes (objects empty) ≡ 0
 unfolding asked_bytes
 nothing_asked = rw (map_values-empty {Y = List ℕ} (λ (x : Placed). x.bytes), no_values {V = List ℕ}) refl
-
-no_object : (q : ℕ) (x : Placed) → get (empty {X = Placed} {R = nat_cmp}) q ≡ Some x → ⊥
-no_object q x e = (let g : Some x ≡ None = sym e ∙ get-empty nat_cmp q in cc)
 
 -- one free block, and no proxy in use
 module _ (s : Settings) (t : Tagged) (p : Proxies) (blocks : t.blocks ≡ one_free_block (s.pages * s.page_words))

@@ -1,5 +1,5 @@
 -- An object comes, in a block that was carved for it.
-use Rattle.std.proofs.Common.{◌≡◌, ◌≢◌, ℕ, zero, suc, ◌+◌, ◌^◌, ◌<◌, ◌≤◌, Option, Some, None, length, replicate, arith, refl, sym, ◌∙◌, ap, subst, inl, inr}
+use Rattle.std.proofs.Common.{◌≡◌, ◌≢◌, ℕ, zero, suc, ◌+◌, ◌^◌, ◌<◌, ◌≤◌, Some, None, length, replicate, arith, refl, sym, ◌∙◌, ap, subst, inl, inr}
 use Rattle.std.proofs.lemmas.List.{length-replicate}
 use Rattle.std.specs.FinMap.{get, insert, len}
 use Rattle.std.specs.Prelude.{option_map}
@@ -25,14 +25,11 @@ use Rattle.tag_blocks.proofs.CallerLemmas.{carve_words}
 use Rattle.cf_model.specs.Families.{IsTiled, free_lists_of}
 use Rattle.cf_model.specs.Rules.{KeepsRules, content_word}
 use Rattle.cf_model.specs.Steps.{GivesObject, IsPlacedBy, IsRefusedBy, LacksRoomIn, WantsProxy, WantsSpace}
-use Rattle.cf_model.proofs.CallerLemmas.{fresh_word, owned_malloc}
+use Rattle.cf_model.proofs.CallerLemmas.{fresh_word, no_one, owned_malloc}
 use Rattle.tag_heap.specs.Heap.{Heap, IsValid, held_in, state_of}
 use Rattle.tag_heap.specs.Room.{HasRoom}
 use Rattle.tag_heap.proofs.ByKind.{of_tiled}
 use Rattle.tag_heap.proofs.Preserved.{Becomes, are_bytes, becomes_rules, becomes_state, becomes_valid, held_many, no_place, places_are}
-
-no_one : {A : Type 0} (o : Option A) (x : A) → o ≡ None → o ≡ Some x → ⊥
-no_one o x e f = (let g : None ≡ Some x = sym e ∙ f in cc)
 
 -- the demand of an object's bytes under its header
 pub asked_for : (q n : ℕ) → q < 2 ^ 32 → demand (need n + 1) (header_word q n) ≡ record { need = block_need n; owner = q }

@@ -41,12 +41,12 @@ length_steps (Some bytes) = 2
 
 -- a malloc, at most
 abbrev pub malloc_steps : Result Handle Refusal → ℕ
-malloc_steps (Ok handle) = 27
+malloc_steps (Ok handle) = 25
 malloc_steps (Err e) = refused_steps e
 
 -- a free, at most: its block is cleared
 abbrev pub free_steps : Result Freed NotLive → ℕ
-free_steps (Ok freed) = 43 + freed.slot_words
+free_steps (Ok freed) = 41 + freed.slot_words
 free_steps (Err e) = 1
 
 -- a read or a write that is refused
@@ -78,7 +78,7 @@ abbrev pub malloc_cost : FreeLists → ℕ → HeapState → ℕ → Result Hand
 malloc_cost rule count old bytes (Ok handle) new = carve_steps rule count (blocks_in old) (need bytes + 1) (place_of new handle.0) new.tiling + 2
 malloc_cost rule count old bytes (Err e) new = search_steps rule count old.tiling bytes (Err e)
 
--- A free, exactly: the proxy, the header and the tag are read, the proxy is released, and so is the block.
+-- A free, exactly: the proxy and the tag are read, the proxy is released, and so is the block.
 abbrev pub free_cost : FreeLists → HeapState → ℕ → Result Freed NotLive → HeapState → ℕ
-free_cost rule old handle (Ok freed) new = release_steps rule (blocks_in old) (address_of (place_of old handle)) new.tiling + 5
+free_cost rule old handle (Ok freed) new = release_steps rule (blocks_in old) (address_of (place_of old handle)) new.tiling + 4
 free_cost rule old handle (Err e) new = 1

@@ -1,4 +1,4 @@
--- What contracts see of an open heap of blocks, and what it keeps.
+-- What contracts see of an open heap of blocks, and its invariant.
 use Rattle.std.specs.Prelude.{◌≡◌, ℕ, ◌*◌, List, [], true, Option, Some, None, length, refl}
 use Rattle.std.specs.Coded.{Coded, code_by, coded×, coded_ℕ, coded_list}
 use Rattle.cf_base.specs.contracts.Settings as settings
@@ -43,8 +43,8 @@ state_of kind h = record {
   cost = h.cost;
 }
 
--- What an open heap keeps: its blocks tile its words, and the used ones are the objects'; each holds what its object has; each number is one of the proxies';
--- and the counts are those of the objects and of the blocks.
+-- The invariant: the blocks tile the words, and the used ones are the objects'; each holds what its object has; each number is one of the proxies'; and the
+-- counts are those of the objects and of the blocks.
 pub record IsValid (h : Heap) : Type 0 where
   pub tags : AreTags h.tagged
   pub words_long : length h.tagged.words ≡ h.settings.pages * h.settings.page_words
@@ -60,7 +60,7 @@ abbrev pub state_in : Kind → Option Heap → HeapState
 state_in kind None = closed_state kind
 state_in kind (Some h) = state_of kind h
 
--- what it keeps where it is open
+-- its invariant if it is open
 abbrev pub IsKeptIn : Kind → Option Heap → Type 0
 IsKeptIn kind None = Unit {0}
 IsKeptIn kind (Some h) = KeepsRules (state_of kind h)

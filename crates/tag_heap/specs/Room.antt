@@ -1,4 +1,4 @@
--- What a malloc would be answered now, and how long an object is.
+-- What a malloc would return now, and how long an object is.
 use Rattle.std.specs.Prelude.{◌≢◌, ℕ, ◌+◌, ◌≤◌, length, Option, Result, Ok, Err, option_map}
 use Rattle.std.specs.FinMap.{get, len}
 use Rattle.cf_base.specs.Classes.{need}
@@ -11,7 +11,7 @@ use Rattle.cf_model.specs.State.{HeapState}
 use Rattle.cf_model.specs.Steps.{IsRefusedBy}
 use Rattle.tag_heap.specs.Heap.{Heap, state_of}
 
--- a malloc of so many bytes has no cause to be refused, or this one
+-- a malloc of `bytes` bytes has no cause to be refused, or this one
 abbrev pub IsRoomAnswer : HeapState → ℕ → Result Unit Refusal → Type 0
 IsRoomAnswer s bytes (Ok done) = (e : Refusal) → ¬ IsRefusedBy s bytes e
 IsRoomAnswer s bytes (Err e) = IsRefusedBy s bytes e

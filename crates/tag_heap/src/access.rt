@@ -1,4 +1,4 @@
-//! Reading and writing what stands in an open heap.
+//! Reads and writes of an open heap.
 ghost use Rattle.std.specs.Prelude.{◌≡◌, ℕ, if◌then◌else◌, is_some, length, slice_get};
 ghost use Rattle.step_ledger.specs.Counting.{RoseBy};
 ghost use Rattle.cf_model.specs.Answers.{place_of};
@@ -16,7 +16,7 @@ use step_ledger::Steps;
 use word_bytes::Header;
 
 impl<B: Yardstick> OpenHeap<B> {
-    /// The first word of the object's block; none where the handle isn't live.
+    /// The first word of the object's block; none if the handle isn't live.
     pub(crate) fn place(&self, h: Handle, steps: &mut Steps) -> Option<u32>
         ensures value { result ≡ place_of (state_of B.kind self.now) h.0 }
         ensures steps { RoseBy steps.old steps.new 1 }
@@ -37,7 +37,7 @@ impl<B: Yardstick> OpenHeap<B> {
         }
     }
 
-    /// Reads the bytes of an object from byte `at` on, as many as `out` holds.
+    /// Fills `out` with the bytes of an object, from byte `at` on.
     pub(crate) fn read(
         &self,
         h: Handle,
@@ -73,7 +73,7 @@ impl<B: Yardstick> OpenHeap<B> {
         Ok(())
     }
 
-    /// The address of the object, of which `count` bytes from `at` on are asked for.
+    /// The address of the object, if it has `count` bytes from byte `at` on.
     fn find(&self, h: Handle, at: u32, count: usize, steps: &mut Steps) -> Result<u32, AccessFault>
         ensures found { IsFound B.kind self.now (record { number = h.0; from = at }) count result }
         ensures steps { RoseBy steps.old steps.new (found_steps result) }
@@ -99,7 +99,7 @@ impl<B: Yardstick> OpenHeap<B> {
         }
     }
 
-    /// Why the object gets no other length.
+    /// Why a resize of the object is refused: with blocks, always.
     pub(crate) fn resize_fault(&self, h: Handle, steps: &mut Steps) -> ResizeFault
         ensures step { (bytes : ℕ) → IsResizeFault (state_of B.kind self.now) (record { number = h.0; length = bytes }) result }
         ensures rules { KeepsRules (state_of B.kind self.now) }

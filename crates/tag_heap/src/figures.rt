@@ -1,4 +1,4 @@
-//! What an open heap tells of itself in numbers.
+//! The figures of an open heap.
 ghost use Rattle.std.specs.Prelude.{◌≡◌, ◌+◌, ◌*◌};
 ghost use Rattle.step_ledger.specs.Counting.{RoseAtMost};
 ghost use Rattle.cf_model.specs.Answers.{block_totals, usage_of};
@@ -11,7 +11,7 @@ use cf_model::Usage;
 use step_ledger::Steps;
 
 impl<B: Yardstick> OpenHeap<B> {
-    /// The figures of the whole heap. The largest free block is looked for along the last free list.
+    /// The figures of the whole heap. The last free list is searched for the largest free block.
     pub(crate) fn totals(&self, steps: &mut Steps) -> Totals
         ensures value { result ≡ block_totals (state_of B.kind self.now) }
         ensures bound { RoseAtMost steps.old steps.new (3 + 2 * result.free) }

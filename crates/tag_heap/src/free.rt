@@ -1,4 +1,4 @@
-//! An object goes.
+//! Frees.
 ghost use Rattle.std.specs.Prelude.{◌≡◌, ◌+◌, ◌^◌, ◌≤◌};
 ghost use Rattle.step_ledger.specs.Counting.{RoseAtMost, RoseBy};
 ghost use Rattle.cf_model.specs.Rules.{KeepsRules};
@@ -13,7 +13,7 @@ use step_ledger::Steps;
 use word_bytes::Header;
 
 impl<B: Yardstick> OpenHeap<B> {
-    /// Takes an object away, and notes the cost.
+    /// Removes an object, and keeps the cost.
     pub(crate) fn free(&mut self, h: Handle, steps: &mut Steps) -> Result<Freed, NotLive>
         requires { steps.old ≤ 2 ^ 63 }
         ensures same { StaysOpen (state_of B.kind self.old) (state_of B.kind self.new) }
@@ -30,7 +30,7 @@ impl<B: Yardstick> OpenHeap<B> {
         result
     }
 
-    /// Takes an object away.
+    /// Removes an object.
     fn free_inner(&mut self, h: Handle, steps: &mut Steps) -> Result<Freed, NotLive>
         ensures same { StaysOpen (state_of B.kind self.old) (state_of B.kind self.new) }
         ensures step { IsFreeStep (state_of B.kind self.old) h.0 result (state_of B.kind self.new) }
@@ -42,10 +42,9 @@ impl<B: Yardstick> OpenHeap<B> {
         let Some(place) = self.proxies.lookup(h, steps) else {
             return Err(NotLive);
         };
-        let slot_words = self.blocks.size_of(place, steps);
         let length = Header::unpack(self.blocks.tag_of(place, steps)).length;
         self.proxies.release(h, steps);
-        self.blocks.release(place, steps);
+        let slot_words = self.blocks.release(place, steps);
         self.used_words -= slot_words;
         self.asked -= u64::from(length);
         Ok(Freed {

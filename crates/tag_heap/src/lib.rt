@@ -1,5 +1,5 @@
-//! The body of the two managers with blocks: each object stands in a block of its own, with boundary
-//! tags, and the free lists are those of TLSF (2004) or of Half-Fit (1995), as a `Yardstick` says.
+//! The body of the two managers with blocks: each object has a block of its own, with boundary tags. A
+//! `Yardstick` chooses the free lists of TLSF (2004) or those of Half-Fit (1995).
 #![tactic(auto)]
 
 mod access;

@@ -1,4 +1,4 @@
-//! An object comes.
+//! Mallocs.
 ghost use Rattle.std.specs.Prelude.{◌≡◌, ◌+◌, ◌^◌, ◌≤◌};
 ghost use Rattle.step_ledger.specs.Counting.{RoseAtMost, RoseBy};
 ghost use Rattle.cf_model.specs.Rules.{KeepsRules};
@@ -14,7 +14,7 @@ use step_ledger::Steps;
 use word_bytes::Header;
 
 impl<B: Yardstick> OpenHeap<B> {
-    /// Adds an object of `bytes` bytes, all zero, and notes the cost.
+    /// Adds an object of `bytes` bytes, all zero, and keeps the cost.
     pub(crate) fn malloc(&mut self, bytes: u32, steps: &mut Steps) -> Result<Handle, Refusal>
         requires { steps.old ≤ 2 ^ 63 }
         ensures same { StaysOpen (state_of B.kind self.old) (state_of B.kind self.new) }

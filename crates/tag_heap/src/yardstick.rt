@@ -11,7 +11,7 @@ pub trait Yardstick: Buckets + Drop {
     /// The kind.
     ghost kind: { Kind };
 
-    /// The kind, for callers.
+    /// The same kind, as a value.
     fn kind() -> Kind
         ensures { result ≡ kind };
 

@@ -1,4 +1,4 @@
-//! The free lists of each kind, told by the least size of each. A list holds the sizes from its least
+//! The free lists of each kind, as the least size of each. A list holds the sizes from its least
 //! one up to that of the next list.
 ghost use Rattle.std.specs.Prelude.{◌≡◌, IfOk, length};
 
@@ -42,7 +42,7 @@ pub(crate) fn list_of(sizes: &[u32], size: u32) -> usize {
     found
 }
 
-/// The first list whose blocks all have the words that are needed; past the last one where none has.
+/// The first list whose blocks all have the words that are needed; past the last one if there is none.
 pub(crate) fn first_for(sizes: &[u32], need: u32) -> usize {
     for list in 0..sizes.len() {
         if need <= sizes[list] {

@@ -5,7 +5,7 @@ use crate::free_lists::{first_for, list_of};
 use std::alloc::Global;
 use wrong_answers::Wrong;
 
-/// What stands for no block in the links of a free list.
+/// The address of no block, in the links of a free list.
 const NONE: u64 = 0xffff_ffff;
 
 /// A block of words; none owns a free one.
@@ -47,7 +47,7 @@ impl PlainBlocks {
         Ok(plain)
     }
 
-    /// The words of the block with this address; 0 where none begins there.
+    /// The words of the block with this address; 0 if none begins there.
     pub fn size_at(&self, address: u32) -> u32 {
         match self.blocks.iter().find(|b| b.address == address) {
             Some(block) => block.size,
@@ -63,7 +63,7 @@ impl PlainBlocks {
     }
 
     /// The first words of a free block become the owner's: the block that came last into the first list
-    /// that has one, of those where each block has enough. Where two words or more are over, they
+    /// that has one, of those where each block has enough. If two words or more are left, they
     /// become a free block. Returns its address.
     pub fn carve(&mut self, need: u32, owner: u32) -> Result<Option<u32>, Wrong> {
         for list in first_for(self.sizes.as_slice(), need)..self.lists.len() {
@@ -142,7 +142,7 @@ impl PlainBlocks {
         link_half(next) | link_half(previous) << 32
     }
 
-    /// Where the block with this address stands among the blocks.
+    /// The index of the block with this address.
     fn index_of(&self, address: u32) -> Option<usize> {
         self.blocks.iter().position(|b| b.address == address)
     }
@@ -196,7 +196,7 @@ impl PlainBlocks {
         self.list(rest)
     }
 
-    /// The block takes in the one after it, where that one is free.
+    /// Coalesces the block with the one behind it, if that one is free.
     fn take_in_next(&mut self, at: usize) {
         let after = at.saturating_add(1);
         if !self.is_free(after) {

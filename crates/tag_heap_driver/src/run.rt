@@ -12,7 +12,7 @@ use std::alloc::Global;
 use step_ledger::Meter;
 use wrong_answers::{Wrong, hold};
 
-/// A live object: where its block begins, and its bytes.
+/// A live object: the address of its block, and its bytes.
 #[derive(Drop)]
 struct Object {
     place: u32,
@@ -65,7 +65,7 @@ impl<H: Manager> BlockRun<H> {
         })
     }
 
-    /// So many drawn calls, and then all is compared. In turn the heap fills and drains.
+    /// Makes `calls` drawn calls, and then compares everything. In turn the heap fills and drains.
     pub fn play(&mut self, alloc: Global, calls: u32) -> Result<(), Wrong> {
         self.drains = !self.drains;
         for _i in 0..calls {
@@ -87,7 +87,7 @@ impl<H: Manager> BlockRun<H> {
         Ok(self.totals()?.largest)
     }
 
-    /// A malloc, whose answer is that of the plain list.
+    /// A malloc, which returns what the plain list predicts.
     pub fn malloc(&mut self, alloc: Global, bytes: u32) -> Result<Result<Handle, Refusal>, Wrong>
         ensures step { IfOk result (λ given. IsMallocStep (H.state self.old.heap) bytes given (H.state self.new.heap)) }
     {
@@ -113,7 +113,7 @@ impl<H: Manager> BlockRun<H> {
         Ok(given)
     }
 
-    /// A free, whose answer is that of the plain list.
+    /// A free, which returns what the plain list predicts.
     pub fn free(&mut self, handle: Handle) -> Result<(), Wrong> {
         if !self.heap.is_open() {
             return Err(Wrong::Closed);
@@ -226,7 +226,7 @@ impl<H: Manager> BlockRun<H> {
         }
     }
 
-    /// Why so many bytes are refused.
+    /// Why a malloc of `bytes` bytes is refused.
     fn refusal(&self, bytes: u32) -> Option<Refusal> {
         if self.page_words < bytes.div_ceil(8).saturating_add(1) {
             Some(Refusal::Size)
@@ -244,7 +244,7 @@ impl<H: Manager> BlockRun<H> {
         matches!(self.objects.get(handle.0 as usize), Some(Some(_)))
     }
 
-    /// The object goes, where it is live, and what was known of it is returned.
+    /// Removes an object, if it is live, and returns what was known of it.
     fn take(&mut self, handle: Handle) -> Option<Object> {
         match self.objects.get_mut(handle.0 as usize) {
             Some(entry) => entry.take(),
@@ -325,7 +325,7 @@ impl<H: Manager> BlockRun<H> {
         }
     }
 
-    /// A word of a block, which stands after one of `before` words.
+    /// A word of a block behind one of `before` words.
     fn word_of(&self, block: Block, before: u32, word: u32) -> u64 {
         let header = u64::from(block.size) | u64::from(before) << 32;
         let Some(owner) = block.owner else {
@@ -370,7 +370,7 @@ impl<H: Manager> BlockRun<H> {
     }
 }
 
-/// The words of a block for so many bytes: two, and one for each eight of them.
+/// The words of a block for `bytes` bytes: two, and one for each eight of them.
 fn block_need(bytes: u32) -> u32 {
     bytes.div_ceil(8).saturating_add(2)
 }

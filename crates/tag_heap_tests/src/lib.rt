@@ -1,4 +1,4 @@
-//! Tests of the managers with blocks. They stand in a crate of their own, since a crate with tests is
+//! Tests of the managers with blocks. They are a crate of their own, because a crate with tests is
 //! proved twice.
 #![tactic(auto)]
 

@@ -1,4 +1,5 @@
 //! Long runs of drawn calls on both managers of blocks, against plain lists of blocks.
+mod coalesced;
 mod costs;
 mod tlsf;
 
@@ -46,7 +47,7 @@ fn half_fit_agrees_with_plain_blocks(rt: HostRuntime) -> Result<(), Fail> {
 /// the page; a block of 61 words, which leaves one of 3; no block of 15; that of 3; and no proxy.
 const ASKED: [u32; 5] = [505, 472, 100, 0, 0];
 
-/// The steps of each look for room, which answers as the malloc after it does. None if one doesn't.
+/// The steps of each look for room, which returns what the malloc after it does. None if one doesn't.
 fn room_steps<B: Yardstick>(heap: &mut TagHeap<B>, meter: &mut Meter) -> Option<[u64; 5]> {
     let settings = Settings::check(1, 512, 1, 2).ok()?;
     heap.open_heap(&settings).ok()?;

@@ -12,52 +12,49 @@ returns-in_default-clause-step g c = rw (← c.self.view_is) (no_place _ c.self.
 pub returns-in_default-clause-rules : goal.returns-in_default-clause-rules
 returns-in_default-clause-rules g c = rw (← c.self.view_is) (rules _ c.self.invariant g.B.Yardstick.kind g.met.B.Yardstick.tiled)
 
-pub size_of-slot_words-requires : goal.size_of-slot_words-requires
-size_of-slot_words-requires g c = record { used = used_at _ c.self.invariant c.args.h.0 c.in-Some.place (sym c.in-Some.ensures.found) }
-
 pub tag_of-requires : goal.tag_of-requires
 tag_of-requires g c = record { used = used_at _ c.self.invariant c.args.h.0 c.in-Some.place (sym c.in-Some.ensures.found) }
 
-pub release-requires-2 : goal.release-requires-2
-release-requires-2 g c = record { used = used_at _ c.self.invariant c.args.h.0 c.in-Some.place (sym c.in-Some.ensures.found) }
+pub release-slot_words-requires : goal.release-slot_words-requires
+release-slot_words-requires g c = record { used = used_at _ c.self.invariant c.args.h.0 c.in-Some.place (sym c.in-Some.ensures.found) }
 
 pub overflow_sub-self : goal.overflow_sub-self
-overflow_sub-self g c = used_enough _ c.self.invariant c.args.h.0 c.in-Some.place (sym c.in-Some.ensures.found) _ c.release-2.ensures.released
-    c.release-2.ensures.len c.release-2.ensures.kept (subst AreBelowLimit c.release.ensures.places c.release.ensures.kept)
-    c.size_of-slot_words.result _ c.size_of-slot_words.ensures.value
+overflow_sub-self g c = used_enough _ c.self.invariant c.args.h.0 c.in-Some.place (sym c.in-Some.ensures.found) _ c.release-slot_words.ensures.released
+    c.release-slot_words.ensures.len c.release-slot_words.ensures.kept (subst AreBelowLimit c.release.ensures.places c.release.ensures.kept)
+    c.release-slot_words.result _ c.release-slot_words.ensures.size
     (c.unpack-length.ensures.length ∙ ap (λ w. w / 2 ^ 32) c.tag_of.ensures.value)
 
 pub overflow_sub-self-2 : goal.overflow_sub-self-2
-overflow_sub-self-2 g c = asked_enough _ c.self.invariant c.args.h.0 c.in-Some.place (sym c.in-Some.ensures.found) _ c.release-2.ensures.released
-    c.release-2.ensures.len c.release-2.ensures.kept (subst AreBelowLimit c.release.ensures.places c.release.ensures.kept)
-    c.size_of-slot_words.result c.from.result c.size_of-slot_words.ensures.value
+overflow_sub-self-2 g c = asked_enough _ c.self.invariant c.args.h.0 c.in-Some.place (sym c.in-Some.ensures.found) _ c.release-slot_words.ensures.released
+    c.release-slot_words.ensures.len c.release-slot_words.ensures.kept (subst AreBelowLimit c.release.ensures.places c.release.ensures.kept)
+    c.release-slot_words.result c.from.result c.release-slot_words.ensures.size
     (c.from.ensures ∙ c.unpack-length.ensures.length ∙ ap (λ w. w / 2 ^ 32) c.tag_of.ensures.value)
 
 pub invariant_of-self : goal.invariant_of-self
 invariant_of-self g c = rw c.release.ensures.places (freed_valid _ c.self.invariant c.args.h.0 c.in-Some.place
-    (sym c.in-Some.ensures.found) _ c.release-2.ensures.released
-    c.release-2.ensures.len c.release-2.ensures.kept (subst AreBelowLimit c.release.ensures.places c.release.ensures.kept)
-    c.size_of-slot_words.result c.from.result c.size_of-slot_words.ensures.value
+    (sym c.in-Some.ensures.found) _ c.release-slot_words.ensures.released
+    c.release-slot_words.ensures.len c.release-slot_words.ensures.kept (subst AreBelowLimit c.release.ensures.places c.release.ensures.kept)
+    c.release-slot_words.result c.from.result c.release-slot_words.ensures.size
     (c.from.ensures ∙ c.unpack-length.ensures.length ∙ ap (λ w. w / 2 ^ 32) c.tag_of.ensures.value))
 
 pub returns-clause-step : goal.returns-clause-step
 returns-clause-step g c = rw (← c.self.view_is, c.release.ensures.places) (frees _ c.self.invariant c.args.h.0 c.in-Some.place
-    (sym c.in-Some.ensures.found) _ c.release-2.ensures.released
-    c.release-2.ensures.len c.release-2.ensures.kept (subst AreBelowLimit c.release.ensures.places c.release.ensures.kept)
-    c.size_of-slot_words.result c.from.result c.size_of-slot_words.ensures.value
+    (sym c.in-Some.ensures.found) _ c.release-slot_words.ensures.released
+    c.release-slot_words.ensures.len c.release-slot_words.ensures.kept (subst AreBelowLimit c.release.ensures.places c.release.ensures.kept)
+    c.release-slot_words.result c.from.result c.release-slot_words.ensures.size
     (c.from.ensures ∙ c.unpack-length.ensures.length ∙ ap (λ w. w / 2 ^ 32) c.tag_of.ensures.value)
     g.B.Yardstick.kind g.met.B.Yardstick.tiled)
 
 pub returns-clause-rules : goal.returns-clause-rules
 returns-clause-rules g c = rw c.release.ensures.places (freed_rules _ c.self.invariant c.args.h.0 c.in-Some.place
-    (sym c.in-Some.ensures.found) _ c.release-2.ensures.released
-    c.release-2.ensures.len c.release-2.ensures.kept (subst AreBelowLimit c.release.ensures.places c.release.ensures.kept)
-    c.size_of-slot_words.result c.from.result c.size_of-slot_words.ensures.value
+    (sym c.in-Some.ensures.found) _ c.release-slot_words.ensures.released
+    c.release-slot_words.ensures.len c.release-slot_words.ensures.kept (subst AreBelowLimit c.release.ensures.places c.release.ensures.kept)
+    c.release-slot_words.result c.from.result c.release-slot_words.ensures.size
     (c.from.ensures ∙ c.unpack-length.ensures.length ∙ ap (λ w. w / 2 ^ 32) c.tag_of.ensures.value)
     g.B.Yardstick.kind g.met.B.Yardstick.tiled)
 
 pub returns-clause-exact : goal.returns-clause-exact
 returns-clause-exact g c =
     let there = sym (place_told c.self.inside.blocks.words c.self.inside.proxies.places c.args.h.0) ∙ sym c.in-Some.ensures.found in
-    rw (← c.self.view_is, there) (by_same _ _ _ _ (then_by _ _ _ _ _ c.in-Some.ensures.steps (then_by _ _ _ _ _ c.size_of-slot_words.ensures.steps
-    (then_by _ _ _ _ _ c.tag_of.ensures.steps (then_by _ _ _ _ _ c.release.ensures.steps c.release-2.ensures.steps)))) (omega arith))
+    rw (← c.self.view_is, there) (by_same _ _ _ _ (then_by _ _ _ _ _ c.in-Some.ensures.steps (then_by _ _ _ _ _ c.tag_of.ensures.steps
+    (then_by _ _ _ _ _ c.release.ensures.steps c.release-slot_words.ensures.steps))) (omega arith))

@@ -1,6 +1,6 @@
-use Rattle.tag_blocks.specs.Fronts.{no_block}
+use Rattle.tag_blocks.specs.ListHeads.{no_block}
 use Rattle.tag_blocks.proofs.MarkLemmas.{put_marked}
-use Rattle.tag_blocks.proofs.fronts.Fronts.clear.Goals as goal
+use Rattle.tag_blocks.proofs.list_heads.ListHeads.clear.Goals as goal
 
 pub invariant_of-self : goal.invariant_of-self
 invariant_of-self c =

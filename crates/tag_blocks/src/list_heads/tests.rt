@@ -1,5 +1,5 @@
 //! What the heads of the free lists keep.
-use super::Fronts;
+use super::ListHeads;
 use counted_cells::{CellArray, Cells};
 use std::test::Fail;
 use step_ledger::Meter;
@@ -10,14 +10,14 @@ use step_ledger::Meter;
 fn the_heads_and_their_bits_are_in_cells(rt: HostRuntime) -> Result<(), Fail> {
     let mut meter = Meter::new(&rt);
     let steps = meter.steps();
-    let Ok(fronts) = Fronts::new(rt.alloc(), 24, 22) else {
+    let Ok(heads) = ListHeads::new(rt.alloc(), 24, 22) else {
         panic!(rt; "no memory");
     };
-    let Fronts {
+    let ListHeads {
         addresses,
         lists,
         groups,
-    } = &fronts;
+    } = &heads;
     let addresses: &Cells<u32> = addresses;
     let lists: &CellArray<u64, 32> = lists;
     let groups: &CellArray<u64, 1> = groups;

@@ -1,0 +1,48 @@
+-- The heads of the free lists, and how two levels of bitmaps mark those that have one. No public clause cites this module.
+use Rattle.std.specs.Prelude.{◌≡◌, ◌≢◌, ℕ, ◌+◌, ◌-◌, ◌*◌, ◌^◌, ◌<◌, ◌≤◌, ◌==◌, not, List, length, Option, Some, None, cond, slice_index, slice_index_or}
+use Rattle.std.specs.Int.{bit_at}
+
+-- the address of no block
+abbrev pub no_block : ℕ
+no_block = 2 ^ 32 - 1
+
+-- the head of a list, if it is a list
+abbrev pub head_of : List ℕ → ℕ → ℕ
+head_of heads list = slice_index_or heads list no_block
+
+-- Bit k of word j of the lists is set if list 16 j + k has a head, and bit j of the groups if a list of word j has one.
+pub record AreMarked (heads lists : List ℕ) (groups : ℕ) : Type 0 where
+  pub few : length heads ≤ 512
+  pub small : (j : ℕ) → slice_index lists j < 2 ^ 16
+  pub narrow : groups < 2 ^ 32
+  pub list : (j k : ℕ) → j < 32 → k < 16 → bit_at (slice_index lists j) k ≡ cond (not (head_of heads (16 * j + k) == no_block)) 1 0
+  pub group : (j : ℕ) → j < 32 → bit_at groups j ≡ cond (not (slice_index lists j == 0)) 1 0
+
+-- the words of bits are in cells: one for each group of lists, and one for the groups
+pub record AreMarkedCells (heads lists groups : List ℕ) : Type 0 where
+  pub marked : AreMarked heads lists (slice_index groups 0)
+  pub lists_long : length lists ≡ 32
+  pub groups_long : length groups ≡ 1
+
+-- a list with a head, and no list between the start and it has one
+pub record IsFirst (heads : List ℕ) (start list : ℕ) : Type 0 where
+  pub within : list < length heads
+  pub from : start ≤ list
+  pub some : head_of heads list ≢ no_block
+  pub before : (k : ℕ) → start ≤ k → k < list → head_of heads k ≡ no_block
+
+-- the first list with a head from the start on, if any
+abbrev pub IsFirstFrom : List ℕ → ℕ → Option ℕ → Type 0
+IsFirstFrom heads start (Some list) = IsFirst heads start list
+IsFirstFrom heads start None = (k : ℕ) → start ≤ k → head_of heads k ≡ no_block
+
+-- a list with a head, and no list after it has one
+pub record IsLastAt (heads : List ℕ) (list : ℕ) : Type 0 where
+  pub within : list < length heads
+  pub some : head_of heads list ≢ no_block
+  pub behind : (k : ℕ) → list < k → head_of heads k ≡ no_block
+
+-- the last list with a head, if any
+abbrev pub IsLast : List ℕ → Option ℕ → Type 0
+IsLast heads (Some list) = IsLastAt heads list
+IsLast heads None = (k : ℕ) → head_of heads k ≡ no_block
