@@ -116,9 +116,13 @@ impl ClassLists {
         let pages = self.pages;
         let list = number_of(c, which);
         let node = pages + list;
-        let first = self.links.next.replace(node as usize, page, steps);
-        self.links.previous.set(page as usize, node, steps);
-        self.links.join(page, first, steps);
+        let first = self
+            .links
+            .next
+            .pass(node as usize, page, page as usize, steps);
+        self.links
+            .previous
+            .set_both(page as usize, node, first as usize, page, steps);
         let len = self.lens.of(c, which);
         self.lens.put(c, which, len + 1);
     }
@@ -137,8 +141,8 @@ impl ClassLists {
         ensures steps { RoseBy steps.old steps.new 4 }
     {
         let before = self.links.previous.get(page as usize, steps);
-        let after = self.links.next.get(page as usize, steps);
-        self.links.join(before, after, steps);
+        let after = self.links.next.copy(page as usize, before as usize, steps);
+        self.links.previous.set(after as usize, before, steps);
         let len = self.lens.of(c, which);
         self.lens.put(c, which, len - 1);
     }
@@ -154,18 +158,6 @@ impl Links {
             next: Cells::new(numbers_below(alloc, nodes)?),
             previous: Cells::new(numbers_below(alloc, nodes)?),
         })
-    }
-
-    /// Links `before` to `after`, in both directions.
-    fn join(&mut self, before: u32, after: u32, steps: &mut Steps)
-        requires before { before < length self.old.next }
-        requires after { after < length self.old.previous }
-        ensures next { self.new.next ≡ slice_set self.old.next before after }
-        ensures previous { self.new.previous ≡ slice_set self.old.previous after before }
-        ensures steps { RoseBy steps.old steps.new 2 }
-    {
-        self.next.set(before as usize, after, steps);
-        self.previous.set(after as usize, before, steps);
     }
 }
 

@@ -50,19 +50,6 @@ impl<T: Copy, const N: usize> CellArray<T, N> {
         steps.tick(1); // the cell is written
         self.items[i] = value;
     }
-
-    /// Reads and writes a cell at once.
-    pub fn replace(&mut self, i: usize, value: T, steps: &mut Steps) -> T
-        requires { i < N }
-        ensures value { result ≡ slice_index_or self.old i result }
-        ensures cells { self.new ≡ slice_set self.old i value }
-        ensures steps { RoseBy steps.old steps.new 1 }
-    {
-        steps.tick(1); // one cell, read and written at once
-        let old = self.items[i];
-        self.items[i] = value;
-        old
-    }
 }
 
 impl<const N: usize> CellArray<u64, N> {

@@ -57,17 +57,47 @@ impl<T: Copy> Cells<T> {
         self.items[i] = value;
     }
 
-    /// Reads and writes a cell at once.
-    pub fn replace(&mut self, i: usize, value: T, steps: &mut Steps) -> T
-        requires { i < length self.old }
-        ensures value { result ≡ slice_index_or self.old i result }
-        ensures cells { self.new ≡ slice_set self.old i value }
-        ensures steps { RoseBy steps.old steps.new 1 }
+    /// Copies a cell to another one. Returns its value.
+    pub fn copy(&mut self, from: usize, to: usize, steps: &mut Steps) -> T
+        requires from { from < length self.old }
+        requires to { to < length self.old }
+        ensures value { result ≡ slice_index_or self.old from result }
+        ensures cells { self.new ≡ slice_set self.old to result }
+        ensures steps { RoseBy steps.old steps.new 2 }
     {
-        steps.tick(1); // one cell, read and written at once
-        let old = self.items[i];
-        self.items[i] = value;
+        steps.tick(2); // one cell is read, and one written
+        let value = self.items[from];
+        self.items[to] = value;
+        value
+    }
+
+    /// Writes a cell, and its old value to another one. Returns that value.
+    pub fn pass(&mut self, from: usize, value: T, to: usize, steps: &mut Steps) -> T
+        requires from { from < length self.old }
+        requires to { to < length self.old }
+        ensures value { result ≡ slice_index_or self.old from result }
+        ensures cells { self.new ≡ slice_set (slice_set self.old from value) to result }
+        ensures steps { RoseBy steps.old steps.new 2 }
+    {
+        steps.tick(2); // one cell is read and written at once, and one written
+        let items = self.items.as_mut_slice();
+        let old = items[from];
+        items[from] = value;
+        items[to] = old;
         old
+    }
+
+    /// Writes two cells.
+    pub fn set_both(&mut self, i: usize, first: T, j: usize, second: T, steps: &mut Steps)
+        requires i_in_range { i < length self.old }
+        requires j_in_range { j < length self.old }
+        ensures cells { self.new ≡ slice_set (slice_set self.old i first) j second }
+        ensures steps { RoseBy steps.old steps.new 2 }
+    {
+        steps.tick(2); // two cells are written
+        let items = self.items.as_mut_slice();
+        items[i] = first;
+        items[j] = second;
     }
 
     /// Reads the `n` cells from `from` on.

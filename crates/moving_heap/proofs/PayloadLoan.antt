@@ -41,7 +41,7 @@ module _ (ws : List ℕ) where
     | inr past ↦ rw (get_or_past (bytes_of_words ws) i 0 (simp length-bytes_of_words past)) (lit< tt)
   ]
 
--- so many words of 64 bits are so many words of 64 bits
+-- a list of n words of 64 bits is an array of n words of 64 bits
 fit_again : (n : ℕ) (ws : List ℕ) → fit n (fit n ws) ≡ fit n ws
 fit_again n ws = fit-words n (fit n ws) (length-fit n ws) (λ i d lt. rw (get_or_default (fit n ws) i d 0 lt) (fit_below n ws i))
 
@@ -122,7 +122,7 @@ module _ (h : OpenHeap) (k : IsValid (seen Moving h)) (q a : ℕ) (some : get h.
   payload_state : state_at Moving (with_payload_at h a ws) ≡ lent_back (state_at Moving h) q ws
   payload_state = ap (state_at Moving) (sym (left_is many refl)) ∙ left_state
 
--- the same where there may be no such object
+-- the same if there may be no such object
 of_kept : (h : OpenHeap) → IsValid (seen Moving h) → (q : ℕ) (p : Option ℕ) → get h.proxies.places q ≡ p → (ws : List ℕ)
     → IsValid (seen Moving (with_payload_of h p ws))
 of_kept h k q None e ws = k

@@ -59,11 +59,11 @@ module _ (h : OpenHeap) (k : IsValid (seen Moving h)) (q a : ℕ) (some : get h.
   pub some_lent : payload_of (state_at Moving h) q ≡ Some (whole_words bytes)
   some_lent = ap (option_map (λ (x : Placed). whole_words x.bytes)) (has_place (seen Moving h) k q a some)
 
-  -- so many words from the address on, where their number is read from the header
+  -- the words from the address on, their number read from the header
   pub lent_is : (n : ℕ) → n ≡ length bytes / 8 → (ws : List ℕ) → ws ≡ take n (drop (a + 1) h.region) → Some ws ≡ payload_of (state_at Moving h) q
   lent_is n is ws e = ap Some (e ∙ ap (λ m. take m (drop (a + 1) h.region)) is ∙ words_are) ∙ sym some_lent
 
--- what is found of a number, where there may be no object
+-- what is found of a number, if there may be no object
 lent_found : (h : OpenHeap) → IsValid (seen Moving h) → (q : ℕ) (p : Option ℕ) → get h.proxies.places q ≡ p → (ws : List ℕ)
     → ws ≡ take (words_found h p).2 (drop (words_found h p).1 h.region)
     → words_lent (words_found h p).0 ws ≡ payload_of (state_at Moving h) q

@@ -15,7 +15,7 @@ with_run h i n ws = record h { region = with_words h.region i n ws }
 abbrev pub with_payload_at : OpenHeap → ℕ → List ℕ → OpenHeap
 with_payload_at h place ws = with_run h (place + 1) (slice_index h.region place / 2 ^ 32 / 8) ws
 
--- the same where there may be no address
+-- the same if there may be no address
 abbrev pub with_payload_of : OpenHeap → Option ℕ → List ℕ → OpenHeap
 with_payload_of h None ws = h
 with_payload_of h (Some place) ws = with_payload_at h place ws
@@ -25,7 +25,7 @@ abbrev pub with_payload_in : Option OpenHeap → ℕ → List ℕ → Option Ope
 with_payload_in None q ws = None
 with_payload_in (Some h) q ws = Some (with_payload_of h (get h.proxies.places q) ws)
 
--- whether there is an object at an address, where its whole words begin, and how many there are
+-- whether there is an object at an address, and the start and number of its whole words
 abbrev pub words_found : OpenHeap → Option ℕ → Bool × ℕ × ℕ
 words_found h None = (false, 0, 0)
 words_found h (Some place) = (true, place + 1, slice_index h.region place / 2 ^ 32 / 8)

@@ -6,7 +6,7 @@ ghost use Rattle.page_model.specs.Arrangement.{home_pages, not_full_pages, free_
 ghost use Rattle.cf_base.specs.declared.answers.Handle.{Handle};
 ghost use Rattle.cf_base.specs.declared.answers.Refusal.{Refusal};
 ghost use Rattle.cf_base.specs.declared.kind.Kind.TheVariants.{Moving};
-ghost use Rattle.cf_model.specs.Answers.{block_in, classes_in, place_of, totals_in};
+ghost use Rattle.cf_model.specs.Answers.{block_in, classes_in, place_of, totals_in, usage_in};
 ghost use Rattle.cf_model.specs.Costs.{TakesAtMost, TellsCost, access_bound, free_bound, resize_bound};
 ghost use Rattle.cf_model.specs.Rules.{KeepsRules};
 ghost use Rattle.cf_model.specs.Steps.{BlocksStayIn, IsFreeStep, IsMallocStep, IsReadAnswer, IsRefusedBy, IsResizeStep, IsWriteStep, StaysOpen};
@@ -24,7 +24,7 @@ use cf_base::{
     AccessFault, Figures, Freed, Handle, Kind, Layout, NotLive, OutOfMemory, Refusal, ResizeFault,
     Resized, Settings, Totals,
 };
-use cf_model::Manager;
+use cf_model::{Manager, Usage};
 use paged_heap::OpenHeap;
 use std::alloc::Global;
 use std::marker::Model;
@@ -221,6 +221,15 @@ impl Manager for MovingHeap {
         self.open().totals::<Direct>()
     }
 
+    fn usage(&self, steps: &mut Steps) -> Usage
+        requires { IsTrue self.now.is_open }
+        ensures value { result ≡ usage_in self.now.kind self.now }
+        ensures rises { steps.old ≤ steps.new }
+        ensures steps { steps.new ≡ steps.old }
+    {
+        Usage::of(&self.open().totals::<Direct>())
+    }
+
     fn cost(&self) -> u64 {
         self.open().cost
     }
@@ -268,7 +277,7 @@ impl MovingHeap {
         }
     }
 
-    /// The bytes of an object; none where the handle isn't live.
+    /// The number of bytes of an object; none if the handle is not live.
     pub fn length(&self, h: Handle, steps: &mut Steps) -> Option<u32>
         requires { IsTrue self.now.is_open }
         ensures value { result ≡ option_map (λ (x : Placed). length x.bytes) (map.get self.now.held h.0) }
@@ -280,9 +289,9 @@ impl MovingHeap {
         }
     }
 
-    /// The whole words of an object, eight bytes to a word, the least first, borrowed without a copy; none
-    /// where the handle isn't live. Bytes after the last whole word are reached by `read`. At most a step
-    /// for each word, and two.
+    /// Lends the whole words of an object without a copy, eight bytes to a word, the least significant
+    /// first; none if the handle is not live. `read` reaches the bytes after the last whole word. At most
+    /// a step for each word, and two.
     pub fn payload(&self, h: Handle, steps: &mut Steps) -> Option<&[u64]>
         requires { IsTrue self.now.is_open }
         ensures value { option_copied result ≡ payload_of self.now h.0 }
@@ -291,8 +300,8 @@ impl MovingHeap {
         payload(self.open(), h, steps)
     }
 
-    /// The whole words of an object, as `payload` has them, to be written; none where the handle isn't
-    /// live. What is left there are the object's bytes afterwards, and all else stays.
+    /// Lends the words that `payload` lends, for writing; none if the handle is not live. Afterwards the
+    /// object has the bytes that were written there, and all else stays.
     pub fn payload_mut(&mut self, h: Handle, steps: &mut Steps) -> Option<&mut [u64]>
         requires { IsTrue self.old.is_open }
         ensures* writes_back { sem 𝓛 (LendsPayloadIf self.entry h.0 result) }
@@ -304,8 +313,8 @@ impl MovingHeap {
         if lent.0 { Some(lent.1) } else { None }
     }
 
-    /// The same words, and whether the handle is live; no words where it isn't. A caller that is to prove
-    /// what the heap is after the borrow calls this one: the checker doesn't follow words inside an `Option`.
+    /// The same words, and whether the handle is live; no words if it is not. A caller that proves what
+    /// the heap is after the borrow calls this one: the checker does not follow words inside an `Option`.
     pub fn lend(&mut self, h: Handle, steps: &mut Steps) -> (bool, &mut [u64])
         requires { IsTrue self.old.is_open }
         ensures* writes_back { sem 𝓛 (LendsPayload self.entry h.0 result.1) }
@@ -316,7 +325,7 @@ impl MovingHeap {
         words_in(&mut self.inner, h, steps)
     }
 
-    /// What is open.
+    /// The open heap.
     fn open(&self) -> &OpenHeap
         requires { IsTrue self.now.is_open }
         ensures kept { Holds Moving result.now }

@@ -13,7 +13,7 @@ use paged_heap::OpenHeap;
 use step_ledger::Steps;
 use word_bytes::Header;
 
-/// The whole words of an object; none where the handle isn't live.
+/// The whole words of an object; none if the handle is not live.
 pub(crate) fn payload<'a>(heap: &'a OpenHeap, h: Handle, steps: &mut Steps) -> Option<&'a [u64]>
     requires kept { Holds Moving heap.now }
     ensures value { option_copied result ≡ payload_of (state_at Moving heap.now) h.0 }
@@ -26,7 +26,7 @@ pub(crate) fn payload<'a>(heap: &'a OpenHeap, h: Handle, steps: &mut Steps) -> O
     Some(heap.region.payload(place + 1, count, steps))
 }
 
-/// The whole words of an object, to be written, and whether the handle is live; no words where it isn't.
+/// The whole words of an object, for writing, and whether the handle is live; no words if it is not.
 fn payload_mut<'a>(heap: &'a mut OpenHeap, h: Handle, steps: &mut Steps) -> (bool, &'a mut [u64])
     requires kept { Holds Moving heap.old }
     ensures* writes_back { sem 𝓛 (LendsPayloadOf heap.entry h.0 result.1) }
@@ -37,7 +37,7 @@ fn payload_mut<'a>(heap: &'a mut OpenHeap, h: Handle, steps: &mut Steps) -> (boo
     (live, run_of(heap, first, count, steps))
 }
 
-/// Whether the handle is live, where the whole words of its object begin, and how many there are.
+/// Whether the handle is live, and the start and number of the whole words of its object.
 fn find_words(heap: &OpenHeap, h: Handle, steps: &mut Steps) -> (bool, u32, u32)
     requires kept { Holds Moving heap.now }
     ensures found { result ≡ words_found heap.now (map.get heap.now.proxies.places h.0) }
@@ -53,7 +53,7 @@ fn find_words(heap: &OpenHeap, h: Handle, steps: &mut Steps) -> (bool, u32, u32)
     }
 }
 
-/// A run of words of the region, to be written.
+/// A run of words of the region, for writing.
 fn run_of<'a>(heap: &'a mut OpenHeap, first: u32, count: u32, steps: &mut Steps) -> &'a mut [u64]
     requires within { first + count ≤ length heap.old.region }
     ensures* writes_back { sem 𝓛 (LendsRun heap.entry first count result) }
@@ -64,7 +64,7 @@ fn run_of<'a>(heap: &'a mut OpenHeap, first: u32, count: u32, steps: &mut Steps)
     heap.region.payload_mut(first, count, steps)
 }
 
-/// The whole words of an object of an open heap, to be written, and whether the handle is live.
+/// The whole words of an object of an open heap, for writing, and whether the handle is live.
 pub(crate) fn words_in<'a>(
     inner: &'a mut Option<OpenHeap>,
     h: Handle,

@@ -1,4 +1,4 @@
--- What contracts see of the non-moving manager: what they see of every manager, and the words of its region in the order in which they stand there.
+-- What contracts see of the non-moving manager: what they see of every manager, and the physical words of its region.
 use Rattle.std.specs.Prelude.{◌≡◌, ◌≢◌, ℕ, ◌+◌, ◌*◌, ◌/◌, ◌<◌, List, [], Option, Some, None, length, slice_index, refl}
 use Rattle.std.specs.Coded.{Coded, code_by, coded×, coded_ℕ, coded_list}
 use Rattle.std.specs.FinMap.{get}
@@ -30,7 +30,7 @@ region_in (Some h) = h.region
 abbrev pub mapped_in : Option OpenHeap → MappedState
 mapped_in o = record { state = state_in NonMoving o; physical = region_in o }
 
--- the region has at word `4 * F(v) + j` the virtual word `4 * v + j`, where F is the block table
+-- word `4 * F(v) + j` of the region is the virtual word `4 * v + j`, where F is the block table
 abbrev pub StandsByItsTable : MappedState → Type 0
 StandsByItsTable s = IsPhysical s.state.frames s.state.words s.physical
 

@@ -6,7 +6,7 @@ ghost use Rattle.page_model.specs.Arrangement.{home_pages, not_full_pages, free_
 ghost use Rattle.cf_base.specs.declared.answers.Handle.{Handle};
 ghost use Rattle.cf_base.specs.declared.answers.Refusal.{Refusal};
 ghost use Rattle.cf_base.specs.declared.kind.Kind.TheVariants.{NonMoving};
-ghost use Rattle.cf_model.specs.Answers.{block_in, classes_in, place_of, totals_in};
+ghost use Rattle.cf_model.specs.Answers.{block_in, classes_in, place_of, totals_in, usage_in};
 ghost use Rattle.cf_model.specs.Costs.{TakesAtMost, TellsCost, access_bound, free_bound, resize_bound};
 ghost use Rattle.cf_model.specs.Rules.{KeepsRules};
 ghost use Rattle.paged_heap.specs.Costs.{access_steps, free_steps, malloc_steps, resize_steps};
@@ -16,22 +16,22 @@ ghost use Rattle.cf_model.specs.State.{HeapState, closed_state, paging_in};
 ghost use Rattle.page_model.specs.Frames.{block_of};
 ghost use Rattle.paged_heap.specs.Layout.{Holds, state_at};
 ghost use Rattle.paged_heap.specs.Room.{without_handle};
-ghost use Rattle.nonmoving_heap.specs.MappedState.{StandsByItsTable, block_steps};
+ghost use Rattle.nonmoving_heap.specs.MappedState.{OthersStayInPlace, StandsByItsTable, block_steps};
 
 use block_table::BlockTable;
 use cf_base::{
     AccessFault, Figures, Freed, Handle, Kind, Layout, NotLive, OutOfMemory, Refusal, ResizeFault,
     Resized, Settings, Totals,
 };
-use cf_model::Manager;
+use cf_model::{Manager, Usage};
 use paged_heap::OpenHeap;
 use std::alloc::Global;
 use std::marker::Model;
 use step_ledger::Steps;
 use virtual_words::Mapped;
 
-/// The non-moving manager. Contracts see what they see of every manager, and beside it the words of
-/// the region as they stand there.
+/// The non-moving manager. Contracts see what they see of every manager, and the physical words of the
+/// region.
 #[derive(Drop)]
 pub struct NonMovingHeap {
     alloc: Global,
@@ -106,6 +106,7 @@ impl Manager for NonMovingHeap {
         ensures bound { TakesAtMost self.old.state.kind steps.old steps.new (free_bound result) }
         ensures told { steps.new ≡ steps.old + self.new.state.cost }
         ensures blocks { BlocksStayIn self.old.state.kind self.old.state h.0 self.new.state }
+        ensures others { OthersStayInPlace self.old h.0 self.new }
         ensures steps { RoseAtMost steps.old steps.new (free_steps NonMoving result) }
     {
         match &mut self.inner {
@@ -158,6 +159,7 @@ impl Manager for NonMovingHeap {
         ensures bound { TakesAtMost self.old.state.kind steps.old steps.new (resize_bound result) }
         ensures told { TellsCost self.old.state.kind steps.old steps.new self.new.state.cost }
         ensures blocks { BlocksStayIn self.old.state.kind self.old.state h.0 self.new.state }
+        ensures others { OthersStayInPlace self.old h.0 self.new }
         ensures steps { RoseAtMost steps.old steps.new (resize_steps NonMoving bytes result) }
     {
         match &mut self.inner {
@@ -221,6 +223,15 @@ impl Manager for NonMovingHeap {
         self.open().totals::<Mapped>()
     }
 
+    fn usage(&self, steps: &mut Steps) -> Usage
+        requires { IsTrue self.now.state.is_open }
+        ensures value { result ≡ usage_in self.now.state.kind self.now.state }
+        ensures rises { steps.old ≤ steps.new }
+        ensures steps { steps.new ≡ steps.old }
+    {
+        Usage::of(&self.open().totals::<Mapped>())
+    }
+
     fn cost(&self) -> u64 {
         self.open().cost
     }
@@ -268,7 +279,7 @@ impl NonMovingHeap {
         }
     }
 
-    /// The bytes of an object; none where the handle isn't live.
+    /// The number of bytes of an object; none if the handle is not live.
     pub fn length(&self, h: Handle, steps: &mut Steps) -> Option<u32>
         requires { IsTrue self.now.state.is_open }
         ensures value { result ≡ option_map (λ (x : Placed). length x.bytes) (map.get self.now.state.held h.0) }
@@ -280,8 +291,8 @@ impl NonMovingHeap {
         }
     }
 
-    /// What every call keeps of the region: its word `4 * F(v) + j` is the virtual word `4 * v + j`, where F
-    /// is the block table. The call does nothing.
+    /// What every call keeps: word `4 * F(v) + j` of the region is the virtual word `4 * v + j`, where F is
+    /// the block table. The call does nothing.
     pub fn physical_words_are_mapped(&self)
         requires { IsTrue self.now.state.is_open }
         ensures kind { self.now.state.kind ≡ NonMoving }
@@ -290,7 +301,7 @@ impl NonMovingHeap {
         let _open = self.open();
     }
 
-    /// What is open.
+    /// The open heap.
     fn open(&self) -> &OpenHeap
         requires { IsTrue self.now.state.is_open }
         ensures kept { Holds NonMoving result.now }
@@ -313,8 +324,8 @@ fn empty_heap(alloc: Global, s: &Settings) -> Result<OpenHeap, OutOfMemory>
     OpenHeap::new::<Mapped>(alloc, s, Layout::Blocks, Some(blocks))
 }
 
-/// The physical block of block i of the object's slot; none where the handle isn't live, or the slot
-/// has no block i.
+/// The physical block of block i of the object's slot; none if the handle is not live, or the slot has
+/// no block i.
 fn block_of(heap: &OpenHeap, h: Handle, i: u32, steps: &mut Steps) -> Option<u32>
     requires { Holds NonMoving heap.now }
     ensures value { result ≡ block_in NonMoving (state_at NonMoving heap.now) h.0 i }

@@ -2,11 +2,13 @@
 use Rattle.std.proofs.Common.{◌≡◌, ℕ, zero, suc, ◌+◌, ◌-◌, ◌*◌, ◌/◌, ◌%◌, ◌<◌, ◌≤◌, arith}
 use Rattle.std.proofs.lemmas.Nat.{div-add-mod', le-div, mul-le}
 use Rattle.std.proofs.Math.Nat.{div-mul-le_self, div-zero}
-use Rattle.cf_lemmas.proofs.Ranges.{sum_le}
+use Rattle.cf_lemmas.proofs.Ranges.{sum_grows, sum_le}
 use Rattle.page_model.specs.Held.{Held, objects}
 use Rattle.page_model.specs.Paging.{Paging, IsPaging, classes, slots_of}
 use Rattle.page_model.specs.Counts.{Stand, ceil_div}
-use Rattle.page_model.specs.Arrangement.{live, home_pages, used_pages, pages_needed, IsSound}
+use Rattle.page_model.specs.Arrangement.{live, home_pages, used_pages, pages_for, pages_needed, IsSound}
+use Rattle.std.specs.List.{range_with_len}
+use Rattle.page_model.proofs.Totals.{sum_same}
 use Rattle.page_model.proofs.PageCounts.{slots_some, sound_stand}
 use Rattle.std.proofs.lemmas.Bool.{cases_lt}
 use Rattle.std.proofs.Common.{inl, inr, ap}
@@ -18,6 +20,14 @@ ceil_mono a b (suc m) le =
     let pos : 0 < suc m = omega arith in
     let low = div-mul-le_self (a + (suc m - 1)) (suc m) in
     le-div ((a + (suc m - 1)) / suc m) (b + (suc m - 1)) (suc m) pos (omega arith)
+
+pub pages_grow : (p : Paging) (f g : ℕ → ℕ) → ((c : ℕ) → f c ≤ g c) → pages_for p f ≤ pages_for p g
+pages_grow p f g le = sum_grows (λ c. ceil_div (f c) (slots_of p c)) (λ c. ceil_div (g c) (slots_of p c)) (range_with_len 0 (classes p))
+    (λ c. ceil_mono (f c) (g c) (slots_of p c) (le c))
+
+pub pages_same : (p : Paging) (f g : ℕ → ℕ) → ((c : ℕ) → f c ≡ g c) → pages_for p f ≡ pages_for p g
+pages_same p f g same = sum_same (λ c. ceil_div (f c) (slots_of p c)) (λ c. ceil_div (g c) (slots_of p c)) (range_with_len 0 (classes p))
+    (λ c. ap (λ n. ceil_div n (slots_of p c)) (same c))
 
 -- n objects on h pages need at most h pages
 enough : (h n m k q : ℕ) → 0 < m → Stand h n m k q → ceil_div n m ≤ h

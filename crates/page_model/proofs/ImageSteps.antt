@@ -16,7 +16,7 @@ take_zeros (suc m) zero = refl
 take_zeros (suc m) (suc n) = omega (arith, take_zeros m n)
 
 -- a new object has zeros after its header
-fresh_word : (h n i : ℕ) → object_word h (replicate n 0) (suc i) ≡ 0
+pub fresh_word : (h n i : ℕ) → object_word h (replicate n 0) (suc i) ≡ 0
 fresh_word h n i = ap (λ xs. word_of_bytes (take 8 xs)) (drop-replicate (8 * i) n 0) ∙ take_zeros 8 (n - 8 * i)
 
 module _ (extent : ℕ → ℕ) (m : Held) (words : List ℕ) (im : IsImageOver extent m words) (h : ℕ) where

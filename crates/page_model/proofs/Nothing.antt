@@ -1,13 +1,17 @@
 -- The empty arrangement is sound, uses no page, and its words are zeros.
-use Rattle.std.proofs.Common.{◌≡◌, ℕ, Some, None, length, replicate, arith, sym, ◌∙◌, inl, inr}
+use Rattle.std.proofs.Common.{◌≡◌, ℕ, ◌*◌, List, Some, None, length, replicate, arith, sym, ◌∙◌, ap, inl, inr}
+use Rattle.std.specs.Prelude.{sum_by}
 use Rattle.std.specs.List.{range_with_len}
 use Rattle.std.proofs.lemmas.Bool.{cases_lt}
 use Rattle.std.proofs.lemmas.List.{get_or-replicate, get_or_past, length-replicate}
 use Rattle.std.specs.Ordering.{nat_cmp}
 use Rattle.std.specs.FinMap.{get, empty, get-empty}
-use Rattle.page_model.specs.Held.{Placed}
-use Rattle.page_model.specs.Paging.{Paging, classes, slots_of}
-use Rattle.page_model.specs.Arrangement.{objects_on, home_pages, not_full_pages, used_pages, IsSound}
+use Rattle.cf_lemmas.proofs.Values.{no_values, map_values-empty}
+use Rattle.page_model.specs.Held.{Placed, objects}
+use Rattle.page_model.specs.Bytes.{bytes_at, held_at}
+use Rattle.page_model.specs.Figures.{asked_bytes, taken_bytes}
+use Rattle.page_model.specs.Paging.{Paging, class_for, classes, slot_words, slots_of}
+use Rattle.page_model.specs.Arrangement.{objects_on, home_pages, live, not_full_pages, used_pages, IsSound}
 use Rattle.page_model.specs.Image.{IsImageOver}
 use Rattle.page_model.proofs.Counting.{part_empty, not_less_counts_none}
 use Rattle.page_model.proofs.Totals.{sum_zeros, on_none}
@@ -43,3 +47,23 @@ image_empty extent n = record {
     | inr past ↦ (let len : length (replicate {A = ℕ} n 0) ≡ n = length-replicate {A = ℕ} n 0 in get_or_past {X = ℕ} (replicate n 0) w 0 (omega arith))
   ];
 }
+
+-- no address holds an object
+pub nothing_held : (words : List ℕ) → held_at words empty ≡ empty
+nothing_held words = map_values-empty (λ a. record { place = a; bytes = bytes_at words a })
+
+pub no_objects : objects empty ≡ empty
+no_objects = map_values-empty (λ (x : Placed). x.bytes)
+
+-- the counts of no objects
+pub none_live : (p : Paging) (c : ℕ) → live p empty c ≡ 0
+unfolding live
+none_live p c = ap (sum_by _) no_values
+
+pub none_asked : asked_bytes empty ≡ 0
+unfolding asked_bytes
+none_asked = ap (sum_by length) no_values
+
+pub none_taken : (p : Paging) → taken_bytes p empty ≡ 0
+unfolding taken_bytes
+none_taken p = ap (λ vs. 8 * sum_by (λ v. slot_words p (class_for p (length v))) vs) no_values

@@ -1,5 +1,5 @@
 -- What the steps do to the bytes alone, to the addresses alone, and to the objects on each page.
-use Rattle.std.proofs.Common.{◌≡◌, ◌≢◌, ℕ, ◌+◌, List, Option, Some, None, length, replicate, arith, sym, ◌∙◌, inl, inr, ap}
+use Rattle.std.proofs.Common.{◌≡◌, ◌≢◌, ℕ, ◌+◌, List, Option, Some, None, length, replicate, arith, sym, ◌∙◌, inl, inr, ap, refl}
 use Rattle.std.specs.Prelude.{option_map}
 use Rattle.std.proofs.lemmas.Bool.{cases_eq}
 use Rattle.std.specs.Ordering.{nat_cmp}
@@ -21,6 +21,20 @@ inserted_there m h v some = equal_maps _ _ (λ q. elim (cases_eq q h) [
   | inr ne ↦ get_insert_other m h v q ne
 ])
 
+-- the bytes of an object, by its handle
+pub bytes_held : (m : Held) (h : ℕ) (x : Placed) → get m h ≡ Some x → get (objects m) h ≡ Some x.bytes
+bytes_held m h x there = get-map_values (λ (y : Placed). y.bytes) m h ∙ ap (option_map (λ (y : Placed). y.bytes)) there
+
+pub bytes_missing : (m : Held) (h : ℕ) → get m h ≡ None → get (objects m) h ≡ None
+bytes_missing m h none = get-map_values (λ (y : Placed). y.bytes) m h ∙ ap (option_map (λ (y : Placed). y.bytes)) none
+
+pub held_of_bytes : (m : Held) (h : ℕ) (v : List ℕ) → get (objects m) h ≡ Some v → (x : Placed) × (get m h ≡ Some x) × (x.bytes ≡ v)
+held_of_bytes m h v there = go (get m h) refl (sym (get-map_values (λ (y : Placed). y.bytes) m h) ∙ there)
+  where
+    go : (o : Option Placed) → get m h ≡ o → option_map (λ (y : Placed). y.bytes) o ≡ Some v → (x : Placed) × (get m h ≡ Some x) × (x.bytes ≡ v)
+    go None is e = absurd (let z : ◌≡◌ {A = Option (List ℕ)} None (Some v) = e in cc)
+    go (Some x) is e = (x, is, (let z : Some x.bytes ≡ Some v = e in cc))
+
 -- a malloc adds an object of zeros
 pub malloc_objects : (m : Held) (h a n : ℕ) → objects (insert m h (zeros_at a n)) ≡ insert (objects m) h (replicate n 0)
 malloc_objects m h a n = map_values-insert (λ (x : Placed). x.bytes) m h (zeros_at a n)
@@ -38,8 +52,7 @@ module _ (p : Paging) (ok : IsPaging p) (m : Held) (s : IsSound p m) (h : ℕ) (
   free_objects None never = map_values-remove (λ (x : Placed). x.bytes) m h
   free_objects (Some q) (must, (y, there, may)) =
       let ne = mover_is_other p ok m s h x found q y there must may in
-      let still : get (remove (objects m) h) q ≡ Some y.bytes = get_remove_other (objects m) h q ne ∙ get-map_values (λ (x : Placed). x.bytes) m q
-      ∙ ap (option_map (λ (x : Placed). x.bytes)) there in
+      let still : get (remove (objects m) h) q ≡ Some y.bytes = get_remove_other (objects m) h q ne ∙ bytes_held m q y there in
       rw there (map_values-insert (λ (x : Placed). x.bytes) (remove m h) q _ ∙ ap (λ o. insert o q y.bytes) (map_values-remove (λ (x : Placed). x.bytes) m h)
       ∙ inserted_there (remove (objects m) h) q y.bytes still)
 

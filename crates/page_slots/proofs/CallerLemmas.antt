@@ -18,8 +18,8 @@ use Rattle.page_model.specs.Steps.{IsFreePlace, MayFill, MustMove, moved_to, wit
 use Rattle.page_model.proofs.CallerLemmas.{mover_is_other, removed_twice}
 use Rattle.page_slots.specs.Tables.{Tables, AreOthers, AreTables, IsOf, IsPageOf, IsPlaced, IsUsed, NoneElsewhere}
 use Rattle.page_slots.specs.Tables.{KeepsElsewhere, slot_at, slots_on, tables, used_in}
-use Rattle.page_slots.specs.Taking.{TakesAt, TakesSlot}
-use Rattle.page_slots.specs.Freeing.{FillsFrom, IsFiller, MovesObject, Vacates}
+use Rattle.page_slots.specs.Take.{TakesAt, TakesSlot}
+use Rattle.page_slots.specs.Release.{FillsFrom, IsFiller, MovesObject, Vacates}
 use Rattle.page_slots.specs.Occupying.{Occupies, Tell, TellPart, class_table}
 use Rattle.page_slots.proofs.Pages.{free_page, listed_page, of_list, placed_in}
 use Rattle.page_slots.proofs.TablesAfterTake.{Gains, front_listed, gains_whole, taken_gains}
@@ -30,7 +30,6 @@ use Rattle.page_slots.proofs.OccupiedAfterFree.{occupied_lost}
 use Rattle.page_slots.proofs.PageNumbers.{lacks_room}
 -- re-exported: the order of the tables, and the next slot
 pub use Rattle.page_slots.proofs.NextSlots.{drop_same, fill_same, filler_next, open_empty, order_is, steps_same, taken_next, vacated_order}
-pub use Rattle.page_slots.proofs.Calls.{rose_both}
 -- re-exported: the tables of a heap without objects, and the numbers of pages
 pub use Rattle.page_slots.proofs.Start.{first_occupied, first_table, first_tables, first_whole, no_pages}
 pub use Rattle.page_slots.proofs.PageNumbers.{free_pages_are, home_pages_are, not_full_pages_are, pages_are}

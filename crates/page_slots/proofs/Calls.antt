@@ -10,6 +10,7 @@ use Rattle.std.proofs.lemmas.Option.{slice_get_within}
 use Rattle.cf_lemmas.proofs.Tests.{eq_no, eq_yes}
 use Rattle.slot_bitmap.proofs.CallerLemmas.{count-set, count-unset, some_free, some_used}
 use Rattle.step_ledger.specs.Counting.{RoseBy}
+use Rattle.step_ledger.proofs.CallerLemmas.{rose_both}
 use Rattle.size_classes.specs.Table.{ClassTable}
 use Rattle.class_lists.specs.declared.Which.{Which}
 use Rattle.class_lists.specs.declared.Which.TheVariants.{Full, NotFull}
@@ -17,8 +18,8 @@ use Rattle.class_lists.specs.PageLists.{PageLists, IsUnlisted, pages_in}
 use Rattle.page_pool.specs.Pool.{Pool, TakesFront, is_in_pool}
 use Rattle.page_slots.specs.Tables.{Tables, AreTables, IsOf, IsPageOf, JoinsList, slots_in, slots_on, tables, used_in}
 use Rattle.page_model.specs.Order.{drop_steps}
-use Rattle.page_slots.specs.Freeing.{HasUsedSlot, steps_to_vacate}
-use Rattle.page_slots.specs.Taking.{FillsPage, TakesOnOpenPage, TakesOnFreePage, steps_to_take}
+use Rattle.page_slots.specs.Release.{HasUsedSlot, steps_to_vacate}
+use Rattle.page_slots.specs.Take.{FillsPage, TakesOnOpenPage, TakesOnFreePage, steps_to_take}
 use Rattle.page_slots.proofs.Pages.{placed_in, listed_page, listed_class, of_list}
 use Rattle.page_slots.proofs.TablesAfterTake.{front_listed, pool_front}
 
@@ -172,21 +173,6 @@ module _ (k : ClassTable) (t : Tables) (a : AreTables k t) where
             let ne : used_in (get_or t.maps page d) ≢ length (get_or t.maps page d) = (λ e. (
             let u = ap used_in same in let l = ap length same in let s = p.slots in let f = p.fills in let few = f.1 in omega arith)) in
             subst (λ v. Contains (pages_in t.lists c v) page) (sym (not_full ne)) p.listed)
-
--- one count after another adds the steps
-pub rose_both : (a b c m n : ℕ) → RoseBy a b m → RoseBy b c n → RoseBy a c (m + n)
-rose_both a b c m n x y = record {
-  kept = (let p = x.kept in let q = y.kept in omega arith);
-  bound = (let p = x.bound in let q = y.bound in omega arith);
-  exact = λ small. (let p = x.exact (omega arith) in let q = y.exact (omega arith) in omega arith);
-  capped = λ fits past. elim (cases_lt (a + m) (2 ^ 64)) [
-    | inl lt ↦ (let p = x.exact lt in y.capped (omega arith) (omega arith))
-    | inr ge ↦ (let p = x.capped fits ge in let q = y.kept in let r = y.bound in elim (cases_lt 0 n) [
-      | inl some ↦ y.capped (omega arith) (omega arith)
-      | inr none ↦ omega arith
-    ])
-  ];
-}
 
 -- the steps of taking a slot on a partly full page
 module _ (k : ClassTable) (t : Tables) (a : AreTables k t) (c page : ℕ) (front : Some page ≡ slice_get (pages_in t.lists c NotFull) 0) (d : List Bool) where

@@ -24,8 +24,8 @@ use Rattle.page_model.specs.Order.{Order, IsLeastFree, IsNextToMove, IsOrderOf, 
 use Rattle.page_model.specs.Order.{drop_steps, fill_steps, steps_to_drop as order_drop, steps_to_fill as order_fill}
 use Rattle.page_model.specs.Order.{TakesOnFreePage as ModelTakesOnFreePage, TakesOnOpenPage as ModelTakesOnOpenPage}
 use Rattle.page_slots.specs.Tables.{Tables, AreTables, IsOf, IsPageOf, IsUsed, LeavesList, slot_at, slots_in, slots_on, used_in}
-use Rattle.page_slots.specs.Freeing.{IsFiller, Vacates, steps_to_drop as table_drop, steps_to_fill as table_fill}
-use Rattle.page_slots.specs.Taking.{TakesAt, TakesOnFreePage, TakesOnOpenPage, steps_to_take as table_steps}
+use Rattle.page_slots.specs.Release.{IsFiller, Vacates, steps_to_drop as table_drop, steps_to_fill as table_fill}
+use Rattle.page_slots.specs.Take.{TakesAt, TakesOnFreePage, TakesOnOpenPage, steps_to_take as table_steps}
 use Rattle.page_slots.specs.Occupying.{Occupies, Tell, TellPart, class_table}
 use Rattle.page_slots.specs.Orders.{open_lists, order_of}
 use Rattle.page_slots.proofs.Pages.{free_page, list_of, listed_page, of_list, one_class, placed_in}

@@ -12,7 +12,7 @@ use Rattle.class_lists.specs.PageLists.{PageLists, AreApart, pages_in}
 use Rattle.page_pool.specs.Pool.{Pool, IsPool, is_in_pool}
 use Rattle.page_slots.specs.Tables.{Tables, AreTables, IsOf, IsPlaced, IsPageOf, IsFreePage, IsElsewhere, NoneElsewhere}
 use Rattle.page_slots.specs.Tables.{KeepsElsewhere, slots_in, slots_on, used_in}
-use Rattle.page_slots.specs.Freeing.{Vacates}
+use Rattle.page_slots.specs.Release.{Vacates}
 use Rattle.page_slots.proofs.Listing.{along, joined_here, joined_comes, joined_stays, joined_pages, joined_classes, left_comes, left_stays, left_pages}
 use Rattle.page_slots.proofs.Listing.{left_classes, left_unlisted}
 use Rattle.page_slots.proofs.Pages.{IsSame, other_free, map_here, map_there, maps_long, placed_in, listed_page, list_of, free_not_elsewhere, of_not_elsewhere}

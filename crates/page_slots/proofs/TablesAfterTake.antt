@@ -16,7 +16,7 @@ use Rattle.page_pool.specs.Pool.{Pool, IsPool, TakesFront, is_in_pool}
 use Rattle.page_pool.proofs.CallerLemmas.{front_gone, front_below}
 use Rattle.page_slots.specs.Tables.{Tables, AreTables, IsOf, IsPageOf, IsFreePage, IsElsewhere, JoinsList, NoneElsewhere}
 use Rattle.page_slots.specs.Tables.{KeepsElsewhere, slots_in, slots_on, used_in}
-use Rattle.page_slots.specs.Taking.{FillsPage, TakesAt, TakesOnOpenPage, TakesOnFreePage}
+use Rattle.page_slots.specs.Take.{FillsPage, TakesAt, TakesOnOpenPage, TakesOnFreePage}
 use Rattle.page_slots.proofs.Listing.{along, joined_here, joined_comes, joined_stays, joined_pages, joined_classes, left_comes, left_stays, left_pages}
 use Rattle.page_slots.proofs.Listing.{left_classes}
 use Rattle.page_slots.proofs.Pages.{IsSame, other_free, map_here, map_there, maps_long, placed_in, listed_page, list_of, free_page, some_slots}

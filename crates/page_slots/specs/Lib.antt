@@ -1,5 +1,5 @@
 pub mod Tables
-pub mod Taking
-pub mod Freeing
+pub mod Take
+pub mod Release
 pub mod Occupying
 pub mod Orders

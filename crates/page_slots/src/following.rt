@@ -8,9 +8,9 @@ ghost use Rattle.page_model.specs.Order.{IsNextToMove, IsOrderOf, TakesNext, slo
 ghost use Rattle.page_model.specs.Paging.{IsPaging, Paging, classes};
 ghost use Rattle.page_slots.specs.Occupying.{Occupies, Tell, TellPart, class_table};
 ghost use Rattle.page_slots.specs.Orders.{order_of};
-ghost use Rattle.page_slots.specs.Freeing.{IsFiller, Vacates, steps_to_drop, steps_to_fill};
+ghost use Rattle.page_slots.specs.Release.{IsFiller, Vacates, steps_to_drop, steps_to_fill};
 ghost use Rattle.page_slots.specs.Tables.{AreTables, IsOf, Tables};
-ghost use Rattle.page_slots.specs.Taking.{TakesAt, steps_to_take};
+ghost use Rattle.page_slots.specs.Take.{TakesAt, steps_to_take};
 ghost use Rattle.class_lists.specs.declared.Which.TheVariants.{NotFull};
 ghost use Rattle.class_lists.specs.PageLists.{pages_in};
 

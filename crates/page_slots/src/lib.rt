@@ -4,13 +4,13 @@
 #![tactic(auto)]
 
 mod following;
-mod freeing;
 mod place;
-mod taking;
+mod release;
+mod take;
 
 pub use following::{
     a_freed_slot_follows_the_order, steps_follow_the_order, the_filler_is_next_to_move,
     the_next_slot_is_taken, the_order_is_of_the_arrangement,
 };
-pub use freeing::{drop_slot, fill_slot, filler, must_move};
-pub use taking::take_slot;
+pub use release::{drop_slot, fill_slot, filler, must_move};
+pub use take::take_slot;

@@ -1,4 +1,4 @@
--- Another bound for a class, where no object is live.
+-- Another bound for a class, while no object is live.
 use Rattle.std.proofs.Common.{◌≡◌, ◌≢◌, ℕ, ◌<◌, ◌≤◌, length, set, get_or, Some, None, arith, refl, sym, ◌∙◌, ap, subst, inl, inr}
 use Rattle.std.specs.Prelude.{◌⊎◌, nat_eq, position}
 use Rattle.std.proofs.lemmas.Bool.{cases_eq}
@@ -9,7 +9,7 @@ use Rattle.std.specs.FinMap.{get, empty, get-empty}
 use Rattle.page_model.specs.Held.{Placed}
 use Rattle.page_model.specs.Arrangement.{IsSound, live, objects_on}
 use Rattle.page_model.specs.Figures.{taken_bytes}
-use Rattle.page_model.proofs.CallerLemmas.{on_none, sound_empty}
+use Rattle.page_model.proofs.CallerLemmas.{on_none, sound_empty, none_live, none_taken}
 use Rattle.cf_lemmas.proofs.Positions.{position_is, position_none}
 use Rattle.cf_lemmas.proofs.Tests.{eq_no, eq_yes}
 use Rattle.cf_model.specs.Answers.{bound_put}
@@ -17,7 +17,7 @@ use Rattle.paged_heap.specs.Heap.{Heap}
 use Rattle.paged_heap.specs.Layout.{IsValid, held_in, paging_at, state_of}
 use Rattle.paged_heap.proofs.ByKind.{framed_kept}
 use Rattle.paged_heap.proofs.LayoutFacts.{as_many, few_classes, sizes_are}
-use Rattle.paged_heap.proofs.EmptyHeap.{no_objects_in, none_live, none_taken}
+use Rattle.paged_heap.proofs.EmptyHeap.{no_objects_in}
 
 abbrev pub rebound : Heap → ℕ → ℕ → Heap
 rebound h c b = record h { bounds = set h.bounds c b }
@@ -70,7 +70,7 @@ module _ (h : Heap) (k : IsValid h) (none : held_in h ≡ empty) (c b : ℕ) (lt
   pub rebound_state : state_of (rebound h c b) ≡ bound_put (state_of h) (Some c) b
   rebound_state = ap (λ bs. record (state_of h) { bounds = bs }) (take-set-lt (length h.classes.sizes) h.bounds c b lt)
 
--- the class whose slots have so many words is the first of that size
+-- the class with slots of this many words is the first of that size
 module _ (h : Heap) (k : IsValid h) (words : ℕ) where
   pub class_found : (c : ℕ) → c < length h.classes.sizes → ((j : ℕ) → j < c → get_or h.classes.sizes j 0 ≢ words) → get_or h.classes.sizes c 0 ≡ words
       → Some c ≡ position (λ w. nat_eq w words) (paging_at h).sizes

@@ -1,4 +1,4 @@
--- What a manager may cite: what an open heap's invariant tells, passed on from one address. Declares nothing.
+-- What a manager may cite: what follows from an open heap's invariant. Declares nothing.
 pub use Rattle.paged_heap.proofs.LayoutFacts.{rules, rules_in, rules_of}
 pub use Rattle.paged_heap.proofs.ByKind.{in_region}
 pub use Rattle.paged_heap.proofs.Preserved.{has_place, no_place}

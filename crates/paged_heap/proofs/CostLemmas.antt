@@ -12,12 +12,13 @@ use Rattle.page_model.specs.Image.{slot_for}
 use Rattle.page_model.specs.Order as Order
 use Rattle.page_model.specs.Order.{word_steps}
 use Rattle.page_model.specs.Paging.{class_for, classes, page_of}
-use Rattle.page_slots.specs.Freeing.{FillsFrom, steps_to_drop, steps_to_fill}
+use Rattle.page_slots.specs.Release.{FillsFrom, steps_to_drop, steps_to_fill}
 use Rattle.page_slots.specs.Occupying.{class_table}
 use Rattle.page_slots.specs.Orders.{order_of}
 use Rattle.page_slots.specs.Tables.{Tables, page_at}
-use Rattle.page_slots.specs.Taking.{TakesAt, steps_to_take}
-use Rattle.page_slots.proofs.CallerLemmas.{drop_same, fill_same, rose_both, steps_same}
+use Rattle.page_slots.specs.Take.{TakesAt, steps_to_take}
+use Rattle.step_ledger.proofs.CallerLemmas.{rose_both, rose_by}
+use Rattle.page_slots.proofs.CallerLemmas.{drop_same, fill_same, steps_same}
 use Rattle.step_ledger.specs.Counting.{RoseBy}
 use Rattle.virtual_words.specs.Words.{run_steps, slot_steps, wipe_steps}
 use Rattle.virtual_words.proofs.CallerLemmas.{whole_run}
@@ -28,7 +29,6 @@ use Rattle.paged_heap.specs.Layout.{IsValid, held_in, order_in, paging_at, state
 use Rattle.paged_heap.proofs.CountLimits.{class_is}
 use Rattle.paged_heap.proofs.FreedObject.{it, it_class, it_found, it_slot, it_used, page_same}
 use Rattle.paged_heap.proofs.LayoutFacts.{as_many, table_is}
-use Rattle.paged_heap.proofs.StepLemmas.{rose_as}
 use Rattle.paged_heap.proofs.WholeBlocks.{whole_slot}
 
 module _ (h : Heap) (k : IsValid h) where
@@ -48,7 +48,7 @@ module _ (h : Heap) (k : IsValid h) where
       let is = class_is h k bytes c found in
       let same : steps_to_take h.classes (tables_in h) c ≡ Order.steps_to_take (paging_at h) (held_in h) (order_in h) (class_for (paging_at h) bytes) =
       takes_by c a new is.2 taken ∙ ap (Order.steps_to_take (paging_at h) (held_in h) (order_in h)) (sym is.1) in
-      rose_as s v _ _ (omega arith) (rose_both s u v _ _ (rose_both s t u _ _ x y) z)
+      rose_by s v _ _ (omega arith) (rose_both s u v _ _ (rose_both s t u _ _ x y) z)
 
 module _ {h : Heap} (k : IsValid h) {q a size c : ℕ} (o : IsObjectAt h q a size c) where
   -- the slot that becomes free
@@ -71,7 +71,7 @@ module _ {h : Heap} (k : IsValid h) {q a size c : ℕ} (o : IsObjectAt h q a siz
       let wiped : run_steps h.kind a words ≡ wipe_steps h.kind (slot_for (paging_at h) (length (it k o).bytes)) =
       ap (run_steps h.kind a) (is ∙ it_slot k o) ∙ whole_run h.kind a (slot_for (paging_at h) (length (it k o).bytes)) w.0 w.1 in
       let e = drops_by in
-      rose_as s u _ _ (omega arith) (rose_both s t u _ _ x y)
+      rose_by s u _ _ (omega arith) (rose_both s t u _ _ x y)
 
   pub filled_sum : (words : ℕ) → words ≡ get_or h.classes.sizes c 0 → (y : Handle) (b : ℕ) (new : Tables) → FillsFrom h.classes (tables_in h) c b new
       → (s t u v w : ℕ) → RoseBy s t (steps_to_fill (tables_in h) c) → RoseBy t u (word_steps h.kind) → RoseBy u v 2
@@ -79,7 +79,7 @@ module _ {h : Heap} (k : IsValid h) {q a size c : ℕ} (o : IsObjectAt h q a siz
   filled_sum words is y b new f s t u v w r1 r2 r3 r4 =
       let moved : slot_steps h.kind words ≡ slot_steps h.kind (slot_for (paging_at h) (length (it k o).bytes)) = ap (slot_steps h.kind) (is ∙ it_slot k o) in
       let e = fills_by f.page f.front in
-      rose_as s w _ _ (omega arith) (rose_both s v w _ _ (rose_both s u v _ _ (rose_both s t u _ _ r1 r2) r3) r4)
+      rose_by s w _ _ (omega arith) (rose_both s v w _ _ (rose_both s u v _ _ (rose_both s t u _ _ r1 r2) r3) r4)
 
   -- a free
   pub free_sum : (freed : Freed) (s t u v w z : ℕ) → RoseBy s t 1 → RoseBy t u (word_steps h.kind) → RoseBy u v 1 → RoseBy v w 1
@@ -87,4 +87,4 @@ module _ {h : Heap} (k : IsValid h) {q a size c : ℕ} (o : IsObjectAt h q a siz
   free_sum freed s t u v w z r1 r2 r3 r4 r5 =
       let is : free_cost (state_of h) (order_in h) q (Ok freed) ≡ 5 + word_steps h.kind + leaving_cost (state_of h) (order_in h) (it k o) freed.moved =
       ap (λ (m : Option Placed). elim m [ None ↦ 0 | Some x ↦ 5 + word_steps h.kind + leaving_cost (state_of h) (order_in h) x freed.moved ]) (it_found k o) in
-      rose_as s z _ _ (omega arith) (rose_both s w z _ _ (rose_both s v w _ _ (rose_both s u v _ _ (rose_both s t u _ _ r1 r2) r3) r4) r5)
+      rose_by s z _ _ (omega arith) (rose_both s w z _ _ (rose_both s v w _ _ (rose_both s u v _ _ (rose_both s t u _ _ r1 r2) r3) r4) r5)

@@ -14,7 +14,7 @@ use Rattle.page_model.specs.Arrangement.{IsSound, live}
 use Rattle.page_model.specs.Image.{IsSlotImage, slot_for}
 use Rattle.page_model.specs.Figures.{asked_bytes, taken_bytes}
 use Rattle.cf_lemmas.proofs.Values.{no_values, map_values-empty}
-use Rattle.page_model.proofs.CallerLemmas.{sound_empty, image_empty}
+use Rattle.page_model.proofs.CallerLemmas.{sound_empty, image_empty, no_objects, none_asked, none_live, none_taken, nothing_held}
 use Rattle.size_classes.specs.Table.{ClassTable, IsClassTable, table_of}
 use Rattle.class_lists.specs.PageLists.{empty_lists}
 use Rattle.page_pool.specs.Pool.{Pool}
@@ -29,25 +29,6 @@ use Rattle.cf_model.specs.Rules.{IsPaged}
 use Rattle.paged_heap.specs.Heap.{Heap}
 use Rattle.paged_heap.proofs.ByKind.{opening_bounds_are, opening_tiling_is, opening_words, paged_of}
 use Rattle.paged_heap.specs.Layout.{IsFramed, IsValid, held_in, paging_at, state_of, tables_in}
-
-pub nothing_held : (words : List ℕ) → held_at words empty ≡ empty
-nothing_held words = map_values-empty (λ a. record { place = a; bytes = bytes_at words a })
-
-pub no_objects : objects empty ≡ empty
-no_objects = map_values-empty (λ (x : Placed). x.bytes)
-
--- the counts of no objects
-pub none_live : (p : Paging) (c : ℕ) → live p empty c ≡ 0
-unfolding live
-none_live p c = ap (sum_by _) no_values
-
-pub none_asked : asked_bytes empty ≡ 0
-unfolding asked_bytes
-none_asked = ap (sum_by length) no_values
-
-pub none_taken : (p : Paging) → taken_bytes p empty ≡ 0
-unfolding taken_bytes
-none_taken p = ap (λ vs. 8 * sum_by (λ v. slot_words p (class_for p (length v))) vs) no_values
 
 -- what an opened heap is made of
 pub record IsFirst (h : Heap) : Type 0 where

@@ -6,7 +6,7 @@ use Rattle.page_model.specs.Image.{Clears, slot_for}
 use Rattle.page_model.proofs.CallerLemmas.{still_places, image_after_free}
 use Rattle.size_classes.specs.Table.{ClassTable}
 use Rattle.proxy_table.specs.Proxies.{Proxies, AreBelowLimit, without_place}
-use Rattle.page_slots.specs.Freeing.{Vacates}
+use Rattle.page_slots.specs.Release.{Vacates}
 use Rattle.page_slots.specs.Tables.{AreTables, page_at, slot_at}
 use Rattle.page_slots.specs.Occupying.{class_table}
 use Rattle.page_slots.proofs.CallerLemmas.{vacated_occupied, vacated_tell}

@@ -12,7 +12,7 @@ use Rattle.page_model.specs.Steps.{MayFill, MustMove, Moves, moved_to}
 use Rattle.page_model.proofs.CallerLemmas.{mover_is_other, moved_places, image_after_move, object_inside, own_words, sound_apart_from, header_told}
 use Rattle.proxy_table.specs.Proxies.{AreBelowLimit, Proxies, with_place, without_place}
 use Rattle.cf_model.specs.Steps.{frames_left}
-use Rattle.page_slots.specs.Freeing.{FillsFrom}
+use Rattle.page_slots.specs.Release.{FillsFrom}
 use Rattle.page_slots.specs.Tables.{AreTables, Tables}
 use Rattle.page_slots.specs.Occupying.{Occupies, Tell, class_table}
 use Rattle.page_slots.proofs.CallerLemmas.{filled_occupied, filled_tell, filler, filler_in, filler_may}
@@ -26,7 +26,7 @@ use Rattle.paged_heap.proofs.LayoutFacts.{number_small, paging_ok, place_known, 
 use Rattle.paged_heap.proofs.Preserved.{Becomes, places_are, rest_from}
 use Rattle.paged_heap.proofs.FreedObject.{goes, it, it_class, it_found, it_inside, it_slot, must, rest_held}
 
--- An object goes, and another one is found that moves to its slot: its own slot, at b, is free in the new tables.
+-- A free that moves another object to the freed slot: its own slot, at b, is free in the new tables.
 pub record Fills (h : Heap) (q a size c b : ℕ) (new : Tables) : Type 0 where
   pub valid : IsValid h
   pub object : IsObjectAt h q a size c
@@ -107,7 +107,7 @@ module _ {h : Heap} {q a size c b : ℕ} {new : Tables} (f : Fills h q a size c 
       let e = same_slot in let f = it_slot k o in let p = at in
       elim d [ inl l ↦ inl (omega arith) | inr l ↦ inr (omega arith) ]
 
-  -- its header tells its number
+  -- its header holds its number
   pub number_told : get_or h.words b 0 % 2 ^ 32 ≡ r
   number_told =
       let small = number_small h k r y there in
@@ -115,7 +115,7 @@ module _ {h : Heap} {q a size c b : ℕ} {new : Tables} (f : Fills h q a size c 
       let t = header_told (held_in h) h.words r y (own_words (paging_at h) (paging_ok h k) (held_in h) k.sound h.words k.image) there (omega arith) in
       ap (λ i. get_or h.words i 0 % 2 ^ 32) (sym at) ∙ t.0
 
-  -- it is still live where the freed one isn't
+  -- it is still live after the free
   pub live_still : get (remove h.proxies.places q) r ≡ Some y.place
   live_still = get_remove_other h.proxies.places q r is_other ∙ place_known h k r y there
 
@@ -185,7 +185,7 @@ module _ {h : Heap} {q a size c b : ℕ} {new : Tables} (f : Fills h q a size c 
         ∙ ap (λ p. exchanged h.frames (p / 4) (a / 4) (slot_for (paging_at h) (length y.bytes) / 4)) (sym at)
         ∙ sym (frames_change h.kind h k.framed (rest_held k o n (Some r) mover) r y (record { place = a; bytes = y.bytes }) there e)
 
-  -- The slot was found, the number given back and the object counted no more; w are the slot's words and i is the other's number.
+  -- The slot was found, the number released and the object taken out of the counts; w are the slot's words and i is the other's number.
   pub record Leaves (t g : Heap) (w i : ℕ) : Type 0 where
     pub size_w : w ≡ words
     pub is : i ≡ r
@@ -198,7 +198,7 @@ module _ {h : Heap} {q a size c b : ℕ} {new : Tables} (f : Fills h q a size c 
       taken = released.taken - 8 * get_or released.classes.sizes c 0;
     }
 
-  -- it is so where the number is read from the header
+  -- the same with the number read from the header
   pub leaves_of : {t g : Heap} {w i word : ℕ} {proxies : Proxies} → t ≡ record h { maps = t.maps; lists = t.lists; pool = t.pool }
       → word ≡ get_or t.words b 0 → i ≡ word % 2 ^ 32
       → w ≡ words → proxies ≡ without_place t.proxies q

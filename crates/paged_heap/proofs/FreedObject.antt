@@ -1,4 +1,4 @@
--- An object goes: what is known of it, and what a free leaves.
+-- A freed object, and what a free leaves.
 use Rattle.std.proofs.Common.{◌≡◌, ℕ, ◌+◌, ◌-◌, ◌*◌, ◌<◌, ◌≤◌, length, get_or, set, Option, Some, arith, sym, ◌∙◌, ap, subst}
 use Rattle.std.specs.Prelude.{nat_eq}
 use Rattle.std.proofs.lemmas.List.{length-set}
@@ -12,13 +12,13 @@ use Rattle.page_model.specs.Arrangement.{class_at, live}
 use Rattle.page_model.specs.Image.{IsSlotImage, slot_for}
 use Rattle.page_model.specs.Figures.{asked_bytes, taken_bytes}
 use Rattle.page_model.specs.Steps.{Moves, MustMove, without}
-use Rattle.page_model.proofs.CallerLemmas.{live_taken, asked_taken, taken_taken, sound_without, free_objects, storable_without}
+use Rattle.page_model.proofs.CallerLemmas.{live_taken, asked_taken, taken_taken, sound_without, free_objects, storable_without, bytes_held}
 use Rattle.cf_lemmas.proofs.Tests.{eq_yes}
 use Rattle.size_classes.specs.Table.{ClassTable}
 use Rattle.class_lists.specs.PageLists.{pages_in}
 use Rattle.class_lists.specs.declared.Which.TheVariants.{NotFull}
 use Rattle.proxy_table.specs.Proxies.{AreBelowLimit}
-use Rattle.page_slots.specs.Freeing.{MovesObject}
+use Rattle.page_slots.specs.Release.{MovesObject}
 use Rattle.page_slots.specs.Tables.{IsUsed, page_at, slot_at, slots_on}
 use Rattle.page_slots.specs.Occupying.{Occupies, Tell, class_table}
 use Rattle.page_slots.proofs.CallerLemmas.{moves_is, moves_some}
@@ -30,7 +30,7 @@ use Rattle.paged_heap.specs.Free.{IsMoving, IsObjectAt}
 use Rattle.cf_lemmas.proofs.Tallies.{counted_out}
 use Rattle.paged_heap.proofs.ByKind.{moves_in, slot_in_is, tiling_stays}
 use Rattle.paged_heap.proofs.LayoutFacts.{as_many, bound_is, few_classes, paged_kind, paging_ok, sizes_are, table_is}
-use Rattle.paged_heap.proofs.Preserved.{Becomes, becomes_kept, becomes_state, bytes_held, has_place, held_is, stored, with_parts}
+use Rattle.paged_heap.proofs.Preserved.{Becomes, becomes_kept, becomes_state, has_place, held_is, stored, with_parts}
 use Rattle.paged_heap.proofs.ReadLemmas.{slot_there}
 
 module _ {h : Heap} (k : IsValid h) {q a size c : ℕ} (o : IsObjectAt h q a size c) where

@@ -1,4 +1,4 @@
--- What an open heap's invariant tells: its paging, its tables, and the rules that it keeps.
+-- What follows from an open heap's invariant: its paging, its tables, and the rules.
 use Rattle.std.proofs.Common.{◌≡◌, ℕ, ◌<◌, ◌≤◌, length, take, get_or, Option, Some, None, arith, refl, sym, ◌∙◌, ap, subst, inl, inr}
 use Rattle.std.specs.Prelude.{IsTrue, is_some}
 use Rattle.std.proofs.lemmas.Bool.{cases_lt, false≢true}

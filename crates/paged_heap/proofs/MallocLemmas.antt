@@ -16,7 +16,7 @@ use Rattle.page_model.specs.Paging.{class_for}
 use Rattle.page_model.proofs.CallerLemmas.{slot_inside}
 use Rattle.proxy_table.specs.Proxies.{Proxies, AreBelowLimit, with_place}
 use Rattle.page_slots.specs.Tables.{AreTables, Tables}
-use Rattle.page_slots.specs.Taking.{TakesAt}
+use Rattle.page_slots.specs.Take.{TakesAt}
 use Rattle.page_slots.specs.Occupying.{class_table}
 use Rattle.page_slots.proofs.Occupied.{free_bare}
 use Rattle.page_slots.proofs.Pages.{free_page}
@@ -81,7 +81,7 @@ module _ (h : Heap) (k : IsValid h) (bytes c : ℕ) (found : Some c ≡ class_of
             (subst (LacksRoom (paging_at h) (held_in h)) (sym is.1) (lacks_slots h k c none));
       }
 
-  -- where there is a number and a slot, a malloc has no cause for a refusal
+  -- if a number and a slot are free, a malloc has no cause for a refusal
   pub not_refused : len h.proxies.places ≢ h.settings.proxies → HasSlot h.lists h.pool c → (e : Refusal) → IsRefusedBy (state_of h) bytes e → ⊥
   not_refused ne some refusal.Size cause = (let is = class_is h k bytes c found in let fits = is.0 in absurd (omega arith))
   not_refused ne some refusal.Proxy cause = ne (sym (held_len h k) ∙ cause.all)
@@ -148,7 +148,7 @@ module _ (h : Heap) (k : IsValid h) (bytes c : ℕ) (found : Some c ≡ class_of
           → b ≡ record h { maps = t.maps; lists = t.lists; pool = t.pool; proxies = with_place t.proxies q a; words = set t.words a (header_word q bytes) }
       eb' t b q a eb et = eb ∙ ap (λ (x : Heap). record x { proxies = with_place t.proxies q a; words = set t.words a (header_word q bytes) }) et
 
--- where only tables that are the same were looked at, the state is the same but for the cost
+-- if only equal tables were read, the state is the same but for the cost
 pub same_state : (h t : Heap) → t ≡ record h { maps = t.maps; lists = t.lists; pool = t.pool } → ChangesCost (state_of h) (state_of t)
 same_state h t e = ap state_of e ∙ ap (λ x. record (state_of h) { cost = x }) (sym (ap (λ (x : Heap). x.cost) e))
 
@@ -166,7 +166,7 @@ malloc_with_cost o p bytes (Ok q) h cost g = record {
 }
 malloc_with_cost o p bytes (Err e) h cost (cause, same) = (cause, ap (λ (t : HeapState). record t { cost = cost }) same)
 
--- what each malloc returns, where none is refused, and where there is a cause
+-- what each malloc returns if nothing refuses it, and if there is a cause
 pub all_given : (s : HeapState) (bytes : ℕ) → ((e : Refusal) → IsRefusedBy s bytes e → ⊥) → (answer : Result Handle Refusal) (new : HeapState)
     → IsMallocStep s bytes answer new → Ok tt ≡ without_handle answer
 all_given s bytes none (Ok q) new step = refl

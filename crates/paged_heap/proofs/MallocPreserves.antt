@@ -1,4 +1,4 @@
--- An object comes to a free slot: a malloc.
+-- A malloc: a new object in a free slot.
 use Rattle.std.proofs.Common.{◌≡◌, ℕ, ◌+◌, ◌*◌, ◌^◌, ◌<◌, ◌≤◌, length, get_or, set, replicate, None, arith, refl, sym, ◌∙◌, ap, subst}
 use Rattle.std.specs.Prelude.{nat_eq, option_map}
 use Rattle.std.proofs.lemmas.List.{length-set, length-replicate}
@@ -16,7 +16,7 @@ use Rattle.page_model.proofs.CallerLemmas.{live_added, asked_added, taken_added,
 use Rattle.page_model.proofs.CallerLemmas.{storable_added, zeros_are_bytes}
 use Rattle.proxy_table.specs.Proxies.{Proxies, AreBelowLimit, with_place}
 use Rattle.page_slots.specs.Tables.{AreTables}
-use Rattle.page_slots.specs.Taking.{TakesAt}
+use Rattle.page_slots.specs.Take.{TakesAt}
 use Rattle.page_slots.specs.Occupying.{class_table}
 use Rattle.page_slots.proofs.CallerLemmas.{taken_is_free, taken_occupied, taken_tell}
 use Rattle.cf_model.specs.Steps.{GivesObject}
@@ -27,7 +27,7 @@ use Rattle.paged_heap.proofs.ByKind.{framed_kept, placed_in}
 use Rattle.paged_heap.proofs.LayoutFacts.{few_classes, held_len, paged_kind, paging_ok}
 use Rattle.paged_heap.proofs.Preserved.{Becomes, becomes_kept, becomes_state, no_place, places_are, stored, with_parts}
 
--- in n an object of so many bytes has come to the free slot of class c at the address a, under number q
+-- n has a new object of this many bytes in the free slot of class c at the address a, under number q
 pub record Comes (h n : Heap) (c a bytes q : ℕ) : Type 0 where
   pub rest : n ≡ with_parts h n
   pub fits : need bytes ≤ h.settings.page_words

@@ -18,10 +18,6 @@ use Rattle.paged_heap.specs.Heap.{Heap}
 use Rattle.paged_heap.specs.Layout.{IsFramed, IsValid, held_in, paging_at, state_of, tables_in}
 use Rattle.paged_heap.proofs.LayoutFacts.{number_small, paging_ok}
 
--- an object's bytes are among the objects
-pub bytes_held : (m : Held) (q : ℕ) (x : Placed) → get m q ≡ Some x → get (objects m) q ≡ Some x.bytes
-bytes_held m q x some = get-map_values (λ (y : Placed). y.bytes) m q ∙ ap (option_map (λ (y : Placed). y.bytes)) some
-
 -- h, with all of n that the calls change
 abbrev pub with_parts : Heap → Heap → Heap
 with_parts h n = record h {
@@ -119,7 +115,7 @@ module _ (h : Heap) (k : IsValid h) where
   pub places_are : h.proxies.places ≡ places (held_in h)
   places_are = sym (places-held_at h.words h.proxies.places)
 
-  -- what has no address isn't held
+  -- a number without an address is not held
   pub no_place : (q : ℕ) → get h.proxies.places q ≡ None → get (held_in h) q ≡ None
   no_place q e = get-map_values (λ a. record { place = a; bytes = bytes_at h.words a }) h.proxies.places q
       ∙ ap (option_map (λ a. record { place = a; bytes = bytes_at h.words a })) e
@@ -129,7 +125,7 @@ module _ (h : Heap) (k : IsValid h) where
   has_place q a e = get-map_values (λ a. record { place = a; bytes = bytes_at h.words a }) h.proxies.places q
       ∙ ap (option_map (λ a. record { place = a; bytes = bytes_at h.words a })) e
 
--- n is h in what no call changes, where these are the same
+-- n has the parts of h that no call changes
 pub rest_from : (h n : Heap) → n.kind ≡ h.kind → n.settings ≡ h.settings → n.classes ≡ h.classes → n.bounds ≡ h.bounds → n ≡ with_parts h n
 rest_from h n k s c b =
     ap (λ x. record n { kind = x }) k

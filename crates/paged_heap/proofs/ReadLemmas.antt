@@ -1,4 +1,4 @@
--- What stands at an address, and the parts of objects that are read.
+-- The object at an address, and the parts of objects that are read.
 use Rattle.std.proofs.Common.{◌≡◌, ℕ, ◌+◌, ◌/◌, ◌%◌, ◌^◌, ◌<◌, ◌≤◌, List, length, get_or, take, drop, Some, arith, sym, ◌∙◌, ap}
 use Rattle.std.specs.Prelude.{option_map}
 use Rattle.std.proofs.lemmas.Grind.{same_number_lists}
@@ -58,7 +58,7 @@ module _ (h : Heap) (k : IsValid h) (q a : ℕ) (some : get h.proxies.places q �
   pub lies : (at count : ℕ) → at + count ≤ length bytes → Lies h (record { number = q; from = at }) count a
   lies at count fits = record { found = held; within = fits }
 
--- where a part lies, its words are in the region
+-- the words of a part are in the region
 module _ (h : Heap) (k : IsValid h) (q at count a : ℕ) (l : Lies h (record { number = q; from = at }) count a) where
   abbrev pub object : Placed
   object = record { place = a; bytes = bytes_at h.words a }

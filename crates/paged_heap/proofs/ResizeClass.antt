@@ -1,4 +1,4 @@
--- An object with its new length in another class: what is known of the heap where its old slot isn't free yet, and of the one that a change leaves.
+-- An object with its new length in another class: the heap before its old slot is free, and the heap after the resize.
 use Rattle.std.proofs.Common.{◌≡◌, ◌≢◌, ℕ, ◌+◌, ◌-◌, ◌<◌, ◌≤◌, List, length, get_or, set, Option, Some, None, arith, refl, sym, ◌∙◌, ap, subst, inr}
 use Rattle.std.specs.Prelude.{nat_eq}
 use Rattle.std.proofs.lemmas.List.{get_or-set_other, length-set}
@@ -50,7 +50,7 @@ module _ {h : Heap} (k : IsValid h) {x : Change} (is : IsChange h x) {b : ℕ} {
   pub place_free : IsFreePlace (paging_at h) (held_in h) x.bytes b
   place_free = is_free k is en.taken en.tables
 
-  -- the object as it is to be
+  -- the object after the resize
   abbrev pub new : Placed
   new = resized_at b object x.bytes
 
@@ -60,7 +60,7 @@ module _ {h : Heap} (k : IsValid h) {x : Change} (is : IsChange h x) {b : ℕ} {
   pub new_free : IsFreePlace (paging_at h) (held_in h) (length new.bytes) b
   new_free = subst (λ m. IsFreePlace (paging_at h) (held_in h) m b) (sym (length-resized object.bytes x.bytes)) place_free
 
-  -- both stand, the new one under a number that no object has
+  -- both are held, the new one under a number that no object has
   abbrev pub spare : ℕ
   spare = h.settings.proxies
 

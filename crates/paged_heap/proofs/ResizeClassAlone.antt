@@ -10,7 +10,7 @@ use Rattle.page_model.specs.Steps.{MustMove}
 use Rattle.page_model.proofs.CallerLemmas.{still_places, image_after_change}
 use Rattle.proxy_table.specs.Proxies.{AreBelowLimit, Proxies}
 use Rattle.size_classes.specs.Table.{ClassTable}
-use Rattle.page_slots.specs.Freeing.{Vacates}
+use Rattle.page_slots.specs.Release.{Vacates}
 use Rattle.page_slots.specs.Tables.{AreTables, page_at, slot_at}
 use Rattle.page_slots.specs.Occupying.{Occupies, class_table}
 use Rattle.page_slots.proofs.CallerLemmas.{renumbered_occupied, vacated_occupied, vacated_tell}

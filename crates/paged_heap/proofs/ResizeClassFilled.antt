@@ -18,7 +18,7 @@ use Rattle.cf_lemmas.specs.Exchanges.{exchanged}
 use Rattle.cf_model.specs.Steps.{frames_left}
 use Rattle.virtual_words.specs.Words.{IsWhole}
 use Rattle.proxy_table.specs.Proxies.{AreBelowLimit, Proxies, with_place}
-use Rattle.page_slots.specs.Freeing.{FillsFrom}
+use Rattle.page_slots.specs.Release.{FillsFrom}
 use Rattle.page_slots.specs.Tables.{AreTables, Tables}
 use Rattle.page_slots.specs.Occupying.{Occupies, Tell, class_table}
 use Rattle.page_slots.proofs.CallerLemmas.{filled_occupied, filled_tell, filler, filler_in, filler_may, moves_some, renumbered_occupied}
@@ -39,7 +39,7 @@ use Rattle.paged_heap.proofs.ResizeClass.{Keeps, after, after_is, both, both_occ
 use Rattle.paged_heap.proofs.ResizeClass.{middle, moves_before, must_still, new, new_free, object, place_free, rewritten, spare, spare_is_other, then_moved}
 use Rattle.paged_heap.proofs.ResizeClass.{unused}
 
--- two addresses may be given in either order
+-- two addresses, in either order
 pub placed_in_turn : (m : FinMap nat_cmp ℕ) (q r a b : ℕ) → r ≢ q → insert (insert m q b) r a ≡ insert (insert (remove m q) r a) q b
 placed_in_turn m q r a b ne = equal_maps _ _ (λ t. elim (cases_eq t q) [
   | inl is ↦ rw is (get_insert_other (insert m q b) r a q (λ e. ne (sym e)) ∙ get_inserted m q b ∙ sym (get_inserted (insert (remove m q) r a) q b))
@@ -121,7 +121,7 @@ module _ {h : Heap} {x : Change} {b : ℕ} {n : Heap} {f : ℕ} {t : Tables} (fs
   pub mover : Moves (paging_at h) (both k is en) (object k is en) (Some r)
   mover = (due, (y, there, may))
 
-  -- it stood before
+  -- it was live before
   before : Moves (paging_at h) (held_in h) (object k is en) (Some r)
   before = moves_before k is en (Some r) mover
 
@@ -192,7 +192,7 @@ module _ {h : Heap} {x : Change} {b : ℕ} {n : Heap} {f : ℕ} {t : Tables} (fs
       let least = (paging_ok h k).sized.least (class_at (paging_at h) (object k is en)) (k.sound.slots x.handle.0 (object k is en) (found k is en)).class in
       omega arith)
 
-  -- its header tells its number
+  -- its header holds its number
   pub number_told : get_or n.words f 0 % 2 ^ 32 ≡ r
   number_told =
       let small = number_small h k r stood stood_there in

@@ -152,7 +152,7 @@ module _ {h : Heap} (k : IsValid h) {x : Change} (is : IsChange h x) {b : ℕ} (
         omega arith,
       )
 
-  -- a kept word where none is cut
+  -- a kept word, if none is cut
   whole_word : 8 * w ≤ x.bytes → (i : ℕ) → i < w → IsWord i
   whole_word le i lt =
       let e : get_or cut (b + suc i) 0 ≡ get_or mv (b + suc i) 0 = ap (λ ws. get_or ws (b + suc i) 0) (ca.as_long le) in (
@@ -160,7 +160,7 @@ module _ {h : Heap} (k : IsValid h) {x : Change} (is : IsChange h x) {b : ℕ} (
         (let f = kept_small i lt in omega arith),
       )
 
-  -- a kept word where the last one is cut
+  -- a kept word, if the last one is cut
   cut_word : x.bytes < 8 * w → (i : ℕ) → i < w → IsWord i
   cut_word short i lt =
       let c = ca.shorter short in

@@ -18,10 +18,10 @@ use Rattle.page_model.specs.Order as Order
 use Rattle.page_model.specs.Order.{word_steps}
 use Rattle.page_model.specs.Paging.{class_for}
 use Rattle.page_model.proofs.CallerLemmas.{class_fits, slot_fits}
-use Rattle.page_slots.specs.Freeing.{FillsFrom, steps_to_drop, steps_to_fill}
+use Rattle.page_slots.specs.Release.{FillsFrom, steps_to_drop, steps_to_fill}
 use Rattle.page_slots.specs.Tables.{IsOf, Tables, page_at}
-use Rattle.page_slots.specs.Taking.{TakesAt, steps_to_take}
-use Rattle.page_slots.proofs.CallerLemmas.{rose_both}
+use Rattle.page_slots.specs.Take.{TakesAt, steps_to_take}
+use Rattle.step_ledger.proofs.CallerLemmas.{rose_both, rose_by}
 use Rattle.step_ledger.specs.Counting.{RoseBy}
 use Rattle.virtual_words.specs.Words.{IsWhole, copy_steps, run_steps, slot_steps, wipe_steps}
 use Rattle.virtual_words.proofs.CallerLemmas.{whole_run}
@@ -35,7 +35,7 @@ use Rattle.paged_heap.proofs.CostLemmas.{drops_by, fills_by, takes_by}
 use Rattle.paged_heap.proofs.CountLimits.{page_small}
 use Rattle.paged_heap.proofs.FreedObject.{it, it_class, it_found, it_slot, it_used}
 use Rattle.paged_heap.proofs.LayoutFacts.{as_many, paging_ok, tables_ok}
-use Rattle.paged_heap.proofs.StepLemmas.{copy_along, rose_as, tail_along}
+use Rattle.paged_heap.proofs.StepLemmas.{copy_along, tail_along}
 use Rattle.paged_heap.proofs.TakeKeeps.{drop_keeps, fill_keeps, lists_keep}
 use Rattle.paged_heap.proofs.WholeBlocks.{whole_slot}
 
@@ -49,7 +49,7 @@ module _ {h : Heap} (k : IsValid h) {x : Change} (is : IsChange h x) where
       let take = takes_by h k x.to b new is.in_range taken in
       let along = copy_along h.kind x.place 1 (x.place + 1) (kept_words x) (whole_slot h k x.handle.0 (it k is.object) (it_found k is.object)).0 (omega arith) in
       let tail = tail_along h.kind b x.bytes (8 * kept_words x) whole in
-      rose_as s u _ _ (omega arith) (rose_both s t u _ _ r1 r2)
+      rose_by s u _ _ (omega arith) (rose_both s t u _ _ r1 r2)
 
   in_to : x.to < length h.classes.sizes
   in_to = (let lt = is.in_range in let e = as_many h k in omega arith)
@@ -74,7 +74,7 @@ module _ {h : Heap} (k : IsValid h) {x : Change} (is : IsChange h x) where
         ap (λ t. steps_to_drop (tables_in n) (page_at t x.place)) en.classes in
         let keeps = drop_keeps h.classes (tables_in h) (tables_in n) (tables_ok h k) en.tables x.to b in_to en.taken x.class differ (page_at h.classes x.place) used_of in
         let e = drops_by k is.object in
-        rose_as s v _ _ (omega arith) (rose_both s u v _ _ (rose_both s t u _ _ r1 r2) r3)
+        rose_by s v _ _ (omega arith) (rose_both s u v _ _ (rose_both s t u _ _ r1 r2) r3)
 
     -- or another object moves there
     pub left_filled : (words : ℕ) → words ≡ old_words h x → (y : Handle) (a : ℕ) (new : Tables) → FillsFrom n.classes (tables_in n) x.class a new
@@ -87,7 +87,7 @@ module _ {h : Heap} (k : IsValid h) {x : Change} (is : IsChange h x) where
         let front : slice_get (pages_in h.lists x.class NotFull) 0 ≡ Some f.page = ap (λ (pages : List ℕ). slice_get pages 0) (sym list) ∙ f.front in
         let keeps = fill_keeps h.classes (tables_in h) (tables_in n) (tables_ok h k) en.tables x.to b in_to en.taken x.class differ in
         let e = fills_by k is.object f.page front in
-        rose_as s w _ _ (omega arith) (rose_both s v w _ _ (rose_both s u v _ _ (rose_both s t u _ _ r1 r2) r3) r4)
+        rose_by s w _ _ (omega arith) (rose_both s v w _ _ (rose_both s u v _ _ (rose_both s t u _ _ r1 r2) r3) r4)
 
   -- a resize to another class
   pub change_sum : (r : Result Resized ResizeFault) → IfErr r (λ e. e ≡ resize.Space) → (s t u v w z : ℕ) → RoseBy s t 1 → RoseBy t u 1
@@ -108,10 +108,10 @@ module _ {h : Heap} (k : IsValid h) {x : Change} (is : IsChange h x) where
       + leaving_cost (state_of h) (order_in h) o done.moved) other in
       let to = ap (Order.steps_to_take p (held_in h) (order_in h)) is.class in
       let long = ap (λ m. carrying_cost h.kind m x.bytes) is.object.long in
-      rose_as s z _ _ (omega arith) (rose_both s w z _ _ (rose_both s v w _ _ (rose_both s u v _ _ (rose_both s t u _ _ r1 r2) r3) r4) r5)
+      rose_by s z _ _ (omega arith) (rose_both s w z _ _ (rose_both s v w _ _ (rose_both s u v _ _ (rose_both s t u _ _ r1 r2) r3) r4) r5)
   change_sum (Err e) cause s t u v w z r1 r2 r3 r4 r5 =
       subst (λ f. RoseBy s z (resize_cost (state_of h) (order_in h) (record { number = x.handle.0; length = x.bytes }) (Err f))) (sym cause)
-      (rose_as s z _ _ (omega arith) (rose_both s w z _ _ (rose_both s v w _ _ (rose_both s u v _ _ (rose_both s t u _ _ r1 r2) r3) r4) r5))
+      (rose_by s z _ _ (omega arith) (rose_both s w z _ _ (rose_both s v w _ _ (rose_both s u v _ _ (rose_both s t u _ _ r1 r2) r3) r4) r5))
 
 -- a resize in its slot
 pub stay_sum : (h : Heap) (k : IsValid h) {q a size c : ℕ} (o : IsObjectAt h q a size c) (n : ℕ) → class_for (paging_at h) n ≡ c → (done : Resized)
@@ -129,7 +129,7 @@ stay_sum h k {q} {a} {size} {c} o n same done s t u v w z r1 r2 r3 r4 r5 =
     + leaving_cost (state_of h) (order_in h) y done.moved) one in
     let along = tail_along h.kind a n size (whole_slot h k q y (it_found k o)).0 in
     let long = ap (tail_steps h.kind 0 n) o.long in
-    rose_as s z _ _ (omega arith) (rose_both s w z _ _ (rose_both s v w _ _ (rose_both s u v _ _ (rose_both s t u _ _ r1 r2) r3) r4) r5)
+    rose_by s z _ _ (omega arith) (rose_both s w z _ _ (rose_both s v w _ _ (rose_both s u v _ _ (rose_both s t u _ _ r1 r2) r3) r4) r5)
 
 -- a resize takes few steps
 pub few_resize : (h : Heap) (k : IsValid h) (q n : ℕ) (r : Result Resized ResizeFault) (s : HeapState)

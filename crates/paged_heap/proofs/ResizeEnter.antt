@@ -18,7 +18,7 @@ use Rattle.page_model.specs.Image.{IsDisjoint, slot_for}
 use Rattle.page_model.specs.Paging.{class_for}
 use Rattle.page_model.specs.Steps.{IsFreePlace, resized_at}
 use Rattle.page_slots.specs.Tables.{AreTables, Tables}
-use Rattle.page_slots.specs.Taking.{TakesAt}
+use Rattle.page_slots.specs.Take.{TakesAt}
 use Rattle.page_slots.specs.Occupying.{class_table}
 use Rattle.page_slots.proofs.CallerLemmas.{taken_is_free}
 use Rattle.paged_heap.specs.Heap.{Heap}
@@ -77,7 +77,7 @@ module _ {h : Heap} (k : IsValid h) {x : Change} (is : IsChange h x) where
     pub apart_there : IsDisjoint x.place (old_words h x) b (1 + (x.bytes + 7) / 8)
     apart_there = (let r = new_holds in elim slots_apart [ inl l ↦ inr (omega arith) | inr l ↦ inl (omega arith) ])
 
--- where no slot was taken, nothing has changed
+-- if no slot was taken, nothing has changed
 module _ (h : Heap) (k : IsValid h) (x : Change) (is : IsChange h x) (n : Heap) (none : FindsNoRoom h x n) where
   pub refused : IsResizeStep (state_of h) (record { number = x.handle.0; length = x.bytes }) (Err resize.Space) (state_of n)
   refused = (
@@ -134,7 +134,7 @@ entered h x is b t c o n taken tables et ec carries handles eo en =
       all_taken = ap (λ (z : Heap). z.taken) to_n;
     }
 
--- where no slot was taken, the heap is as it was
+-- if no slot was taken, the heap is as it was
 pub unchanged : (h : Heap) (x : Change) (n : Heap) → FindsNoRoom h x n → n ≡ h
 unchanged h x n none = none.rest ∙ ap (λ (t : Tables). record h { maps = t.maps; lists = t.lists; pool = t.pool }) none.tables
 

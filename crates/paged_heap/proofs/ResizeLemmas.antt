@@ -53,7 +53,7 @@ passes_page h k q a n some none = record {
   ];
 }
 
--- a change of class, where the new length has one
+-- a change of class, if the new length has one
 pub change_at : (h : Heap) (k : IsValid h) (q : Handle) (a m n c d : ℕ) → IsObjectAt h q.0 a m c → Some d ≡ class_of h.classes.sizes n → d ≢ c
     → IsChange h (record { handle = q; place = a; length = m; class = c; bytes = n; to = d })
 change_at h k q a m n c d o found other =

@@ -8,7 +8,7 @@ use Rattle.cf_base.specs.declared.kind.Kind.TheVariants.{Moving, NonMoving, Tlsf
 use Rattle.cf_lemmas.proofs.Tests.{eq_no, lt_no, lt_yes}
 use Rattle.cf_model.specs.Costs.{words_touched}
 use Rattle.page_model.specs.Order.{word_steps}
-use Rattle.page_slots.proofs.CallerLemmas.{rose_both}
+use Rattle.step_ledger.proofs.CallerLemmas.{rose_both}
 use Rattle.step_ledger.specs.Counting.{RoseAtMost, RoseBy}
 use Rattle.virtual_words.proofs.Paying.{rose_none}
 use Rattle.virtual_words.specs.Words.{IsWhole, copy_steps, run_steps, slot_steps}
@@ -132,6 +132,3 @@ rose_is old new n most small few by at = elim (cases_lt (old + n) (2 ^ 64)) [
   | inl fits ↦ by.exact fits
   | inr past ↦ absurd (let e = by.capped (omega arith) past in let l = at.bound in omega arith)
 ]
-
-pub rose_as : (old new m n : ℕ) → m ≡ n → RoseBy old new m → RoseBy old new n
-rose_as old new m n is rose = subst (RoseBy old new) is rose

@@ -8,9 +8,9 @@ use Rattle.class_lists.specs.declared.Which.TheVariants.{NotFull}
 use Rattle.class_lists.proofs.CallerLemmas.{contains_head}
 use Rattle.page_model.specs.Order.{drop_steps, fill_steps}
 use Rattle.size_classes.specs.Table.{ClassTable}
-use Rattle.page_slots.specs.Freeing.{steps_to_drop, steps_to_fill}
+use Rattle.page_slots.specs.Release.{steps_to_drop, steps_to_fill}
 use Rattle.page_slots.specs.Tables.{AreTables, IsOf, Tables, slots_in, slots_on, used_in}
-use Rattle.page_slots.specs.Taking.{TakesAt}
+use Rattle.page_slots.specs.Take.{TakesAt}
 use Rattle.page_slots.proofs.Occupied.{free_of_none}
 use Rattle.page_slots.proofs.Pages.{one_class}
 use Rattle.page_slots.proofs.TablesAfterTake.{Gains, taken_gains}

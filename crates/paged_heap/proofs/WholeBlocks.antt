@@ -1,4 +1,4 @@
--- Slots begin and end with a block, where there are blocks.
+-- If there are blocks, each slot begins and ends with one.
 use Rattle.std.proofs.Common.{◌≡◌, ℕ, List, length, Some}
 use Rattle.std.specs.Prelude.{IsTrue, take}
 use Rattle.std.specs.FinMap.{get}
@@ -35,7 +35,7 @@ pub whole_slot : (h : Heap) (k : IsValid h) (q : ℕ) (x : Placed) → get (held
 whole_slot h k q x e = whole_by h.kind (paged_kind h k) (profile_of h.settings) (take (length h.classes.sizes) h.bounds) h.settings.page_size
     (paging_ok h k) (held_in h) k.sound q x e
 
--- a slot for so many bytes
+-- a slot for this many bytes
 size_by : (kind : Kind) → IsPaged kind → (s : Profile) (bounds : List ℕ) → IsTrue (is_page_size s.page_words) → (n : ℕ)
     → IsWhole kind (slot_for (paging_of s (layout_of kind) bounds) n)
 size_by Moving p s bounds size n = tt

@@ -13,7 +13,7 @@ use Rattle.page_model.specs.Paging.{Paging, class_for, slot_words}
 use Rattle.page_model.specs.Arrangement.{IsSound, live}
 use Rattle.page_model.specs.Figures.{asked_bytes, taken_bytes}
 use Rattle.page_model.specs.Image.{IsSlotImage, Rewrites, object_word, slot_for}
-use Rattle.page_model.proofs.CallerLemmas.{asked_added, asked_taken, live_added, live_taken, taken_added, taken_taken, sound_exchanged, inserted_there}
+use Rattle.page_model.proofs.CallerLemmas.{asked_added, asked_taken, live_added, live_taken, taken_added, taken_taken, sound_exchanged, inserted_there, bytes_held}
 use Rattle.page_model.proofs.CallerLemmas.{bytes_at-AreBytes}
 use Rattle.page_model.proofs.CallerLemmas.{byte_of_object, image_after_bytes, length-written, object_word_small, storable_added, word_by_bytes}
 use Rattle.page_model.proofs.CallerLemmas.{written_are_bytes}
@@ -30,7 +30,7 @@ use Rattle.paged_heap.specs.Access.{Lies}
 use Rattle.word_bytes.specs.Overwriting.{Overwrites}
 use Rattle.paged_heap.proofs.ByKind.{framed_kept, outside_in}
 use Rattle.paged_heap.proofs.LayoutFacts.{paged_kind, paging_ok}
-use Rattle.paged_heap.proofs.Preserved.{bytes_held, Becomes, becomes_kept, becomes_state, places_are, rest_from, stored}
+use Rattle.paged_heap.proofs.Preserved.{Becomes, becomes_kept, becomes_state, places_are, rest_from, stored}
 use Rattle.paged_heap.proofs.ReadLemmas.{bytes_few, holds, lies_place}
 
 -- one object's bytes instead of others
@@ -56,7 +56,7 @@ module _ (p : Paging) (o : Objects) (q : ℕ) (v u : List ℕ) (some : get o q �
       let e : taken_bytes p (insert (remove o q) q u) ≡ taken_bytes p (insert o q u) = ap (taken_bytes p) (insert_again o q u) in
       omega arith
 
--- An object has other bytes of the same class, at the same address: all but the image, which is to be shown, and the counts.
+-- An object has other bytes of the same class, at the same address: the invariant, but for the image and the counts.
 module _ (h n : Heap) (k : IsValid h) (q a : ℕ) (some : get (held_in h) q ≡ Some (record { place = a; bytes = bytes_at h.words a })) (u : List ℕ)
     (class : class_for (paging_at h) (length u) ≡ class_for (paging_at h) (length (bytes_at h.words a))) (are : AreBytes u)
     (rest : n ≡ record h { words = n.words; asked = n.asked }) (long : length n.words ≡ length h.words)

@@ -18,7 +18,7 @@ abbrev pub malloc_steps : Kind → ℕ
 malloc_steps kind = 16 + word_steps kind
 
 -- a free: 20 + s moving, 22 + s + s / 2 non-moving
--- (two headers, the tables of two pages, two proxies, and the s words of the slot that moves or is cleared; refused, the look for the proxy)
+-- (two headers, the tables of two pages, two proxies, and the s words of the slot that moves or is cleared; refused, the proxy)
 abbrev pub free_steps : Kind → Result Freed NotLive → ℕ
 free_steps kind (Ok freed) = 18 + 2 * word_steps kind + slot_steps kind freed.slot_words
 free_steps kind (Err e) = 1
@@ -47,7 +47,7 @@ abbrev pub fault_steps : Kind → AccessFault → ℕ
 fault_steps kind access.Unknown = 1
 fault_steps kind access.Range = 1 + word_steps kind
 
--- a read or a write of so many bytes from one on: 2 + t moving, for t words; non-moving 3 + t, and one for each block
+-- a read or write of `count` bytes from byte `from` on: 2 + t moving, for t words; non-moving 3 + t, and one for each block
 -- (the proxy, the header, and the words that hold one of the bytes)
 abbrev pub access_steps : Kind → ℕ → ℕ → Result Unit AccessFault → ℕ
 access_steps kind from count (Ok u) = 1 + word_steps kind + run_steps kind (1 + from / 8) (words_touched from count)

@@ -1,4 +1,4 @@
--- The exact steps of a call: a function of the state before, of the order in which slots are given out, and of the answer.
+-- The exact steps of a call: a function of the state before, the order of the tables and the result.
 use Rattle.std.specs.Prelude.{ℕ, ◌+◌, ◌-◌, ◌*◌, ◌/◌, Option, None, Some, Result, Ok, Err, if◌then◌else◌, length, min, nat_eq, nat_lt}
 use Rattle.std.specs.FinMap.{get}
 use Rattle.cf_base.specs.declared.answers.Freed.{Freed}
@@ -30,7 +30,7 @@ leaving_cost s o x None =
 leaving_cost s o x (Some y) =
     1 + word_steps s.kind + slot_steps s.kind (slot_for (paging_in s) (length x.bytes)) + steps_to_fill (paging_in s) s.held o (class_at (paging_in s) x)
 
--- a free: the proxy, the header, the class and the page's count, the number that is given back, and the slot; refused, the look for the proxy
+-- a free: the proxy, the header, the class and the page's count, the number that is released, and the slot; refused, the proxy
 abbrev pub free_cost : HeapState → Order → ℕ → Result Freed NotLive → ℕ
 free_cost s o h (Ok freed) = elim (get s.held h) [ None ↦ 0 | Some x ↦ 5 + word_steps s.kind + leaving_cost s o x freed.moved ]
 free_cost s o h (Err e) = 1
@@ -39,12 +39,12 @@ free_cost s o h (Err e) = 1
 abbrev pub tail_steps : Kind → ℕ → ℕ → ℕ → ℕ
 tail_steps kind a n m = if nat_lt n m then word_steps kind + run_steps kind (a + 2 + n / 8) ((m + 7) / 8 - n / 8 - 1) else 0
 
--- bringing an object of m bytes to another slot, with n bytes: the words that stay, which are cut, the header and the proxy
+-- copying an object of m bytes to another slot, with n bytes: the words that it keeps, which are cut, the header and the proxy
 abbrev pub carrying_cost : Kind → ℕ → ℕ → ℕ
 carrying_cost kind m n = copy_steps kind 1 ((min m n + 7) / 8) + tail_steps kind 0 n (8 * ((min m n + 7) / 8)) + word_steps kind + 1
 
--- x gets n bytes: the proxy, two classes and the header; in its class the words that are cut, and the header; to another one the count of the page, the slot
--- that is next, to which it is brought, and the slot that it leaves
+-- resizing x to n bytes: the proxy, two classes and the header; within its class the words that are cut, and the header; to another class the count of the
+-- page, the slot that is next, the copy to it, and the slot that x leaves
 abbrev pub resized_cost : HeapState → Order → ℕ → Placed → Option Handle → ℕ
 resized_cost s o n x moved =
     if nat_eq (class_for (paging_in s) n) (class_at (paging_in s) x) then 3 + 2 * word_steps s.kind + tail_steps s.kind 0 n (length x.bytes)

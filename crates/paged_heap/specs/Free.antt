@@ -1,4 +1,4 @@
--- An object that is to go. No public clause cites this module.
+-- An object that is freed. No public clause cites this module.
 use Rattle.std.specs.Prelude.{◌≡◌, ℕ, ◌/◌, ◌<◌, Some, length, slice_index}
 use Rattle.std.specs.FinMap.{get}
 use Rattle.page_model.specs.Bytes.{bytes_at}
@@ -8,12 +8,12 @@ use Rattle.page_model.specs.Paging.{class_for, classes}
 use Rattle.cf_lemmas.specs.Exchanges.{exchanged}
 use Rattle.class_lists.specs.PageLists.{pages_in}
 use Rattle.class_lists.specs.declared.Which.TheVariants.{NotFull}
-use Rattle.page_slots.specs.Freeing.{MovesObject}
+use Rattle.page_slots.specs.Release.{MovesObject}
 use Rattle.page_slots.specs.Tables.{page_at, slots_on}
 use Rattle.paged_heap.specs.Heap.{Heap}
 use Rattle.paged_heap.specs.Layout.{paging_at, tables_in}
 
--- the object of number q stands at the address, and has so many bytes, in class c
+-- the object of number q is at this address and has this many bytes, in class c
 pub record IsObjectAt (h : Heap) (q place bytes c : ℕ) : Type 0 where
   pub known : get h.proxies.places q ≡ Some place
   pub long : length (bytes_at h.words place) ≡ bytes
@@ -28,7 +28,7 @@ placed_at h a = record { place = a; bytes = bytes_at h.words a }
 abbrev pub IsMoving : Heap → ℕ → ℕ → Type 0
 IsMoving h place c = MovesObject (slots_on (tables_in h) (page_at h.classes place)) (length (pages_in h.lists c NotFull)) (slice_index h.bounds c)
 
--- the slot of n words at b goes to a: its words are there, or its blocks have changed places with those at a
+-- the slot of n words at b moves to a: its words are there, or its blocks are exchanged with those at a
 pub record MovesSlot (old new : Heap) (b a n : ℕ) : Type 0 where
   pub long : length new.words ≡ length old.words
   pub words : MovesWords old.words new.words (record { from = b; count = n }) a

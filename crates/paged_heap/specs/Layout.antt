@@ -29,7 +29,7 @@ held_in h = held_at h.words h.proxies.places
 abbrev pub tables_in : Heap → Tables
 tables_in h = tables h.maps h.lists h.pool
 
--- what is given out next: the pages and numbers of its tables
+-- the order of its tables: the pages and numbers that come next
 abbrev pub order_in : Heap → Order
 order_in h = order_of (length h.classes.sizes) (tables_in h) h.proxies.free
 
@@ -56,15 +56,15 @@ pub record AreMapped (h : Heap) : Type 0 where
   pub count : 4 * length h.frames ≡ length h.words
   pub permuted : IsPermuted h.frames
 
--- there is a table of blocks exactly where words aren't moved
+-- a heap has a table of blocks exactly if it does not move words
 abbrev pub IsFramed : Kind → Heap → Type 0
 IsFramed Moving h = h.frames ≡ []
 IsFramed NonMoving h = AreMapped h
 IsFramed Tlsf h = ⊥
 IsFramed HalfFit h = ⊥
 
--- What an open heap keeps: its classes are those of its pages; the words are the image of the objects, whose arrangement is sound; the tables tell
--- which slots they occupy; each number is one of the proxies'; each class has a bound from 1 to 64; and the counts are those of the objects.
+-- The invariant of an open heap: its classes are those of its pages; the words are the image of the objects, whose arrangement is sound; the tables
+-- hold the slots that they occupy; each number is below the proxies' limit; each class has a bound from 1 to 64; the counts are those of the objects.
 pub record IsValid (h : Heap) : Type 0 where
   pub framed : IsFramed h.kind h
   pub table : h.classes ≡ table_of h.settings.page_words (layout_of h.kind)
@@ -83,7 +83,7 @@ pub record IsValid (h : Heap) : Type 0 where
   pub asked_all : h.asked ≡ asked_bytes (objects (held_in h))
   pub taken_all : h.taken ≡ taken_bytes (paging_at h) (objects (held_in h))
 
--- the same of a heap in memory, whose words stand in its region as this kind has them
+-- the same of a heap in memory, whose region holds the words as this kind lays them
 pub record Holds (kind : Kind) (h : OpenHeap) : Type 0 where
   pub laid : AreLaid kind h.blocks h.region
   pub kept : IsValid (seen kind h)
@@ -97,7 +97,7 @@ abbrev pub state_in : Kind → Option OpenHeap → HeapState
 state_in kind None = closed_state kind
 state_in kind (Some h) = state_at kind h
 
--- what it keeps where it is open
+-- the invariant of a heap that may be closed
 abbrev pub IsValidIn : Kind → Option OpenHeap → Type 0
 IsValidIn kind None = Unit {0}
 IsValidIn kind (Some h) = Holds kind h

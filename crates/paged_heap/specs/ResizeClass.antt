@@ -1,4 +1,4 @@
--- An object that gets a length of another class. No public clause cites this module.
+-- A resize to another class. No public clause cites this module.
 use Rattle.std.specs.Prelude.{◌≡◌, ◌≢◌, ℕ, ◌+◌, ◌-◌, ◌*◌, ◌/◌, ◌≤◌, ◌<◌, min, max, length, List, Option, Some, None, Result, Ok, Err, slice_index, slice_set}
 use Rattle.cf_base.specs.Classes.{need}
 use Rattle.cf_base.specs.declared.answers.Resized.{Resized}
@@ -11,7 +11,7 @@ use Rattle.page_model.specs.Order.{steps_to_take, word_steps}
 use Rattle.virtual_words.specs.Words.{copy_steps, slot_steps}
 use Rattle.proxy_table.specs.Proxies.{AreBelowLimit, with_place}
 use Rattle.page_slots.specs.Tables.{AreTables}
-use Rattle.page_slots.specs.Taking.{TakesAt}
+use Rattle.page_slots.specs.Take.{TakesAt}
 use Rattle.paged_heap.specs.ExactCosts.{carrying_cost, leaving_cost}
 use Rattle.paged_heap.specs.Heap.{Heap}
 use Rattle.paged_heap.specs.declared.resize_class.Change.{Change}
@@ -19,7 +19,7 @@ use Rattle.paged_heap.specs.ZeroTail.{Cuts}
 use Rattle.paged_heap.specs.Free.{IsObjectAt, placed_at}
 use Rattle.paged_heap.specs.Layout.{held_in, order_in, paging_at, state_of, tables_in}
 
--- the object is there, and its new length is of another class
+-- the object is live, and its new length is of another class
 pub record IsChange (h : Heap) (x : Change) : Type 0 where
   pub object : IsObjectAt h x.handle.0 x.place x.length x.class
   pub fits : need x.bytes ≤ h.settings.page_words
@@ -35,7 +35,7 @@ old_words h x = slice_index h.classes.sizes x.class
 abbrev pub kept_words : Change → ℕ
 kept_words x = (min x.length x.bytes + 7) / 8
 
--- The kept words go to the slot at b, those of them that are beyond the new length are cut, and the header comes before them.
+-- The kept words are copied to the slot at b and cut at the new length, and the header is before them.
 pub record Carries (old new : List ℕ) (x : Change) (b : ℕ) : Type 0 where
   pub moved : List ℕ
   pub moves : MovesWords old moved (record { from = x.place + 1; count = kept_words x }) (b + 1)
@@ -45,7 +45,7 @@ pub record Carries (old new : List ℕ) (x : Change) (b : ℕ) : Type 0 where
   pub as_long : 8 * kept_words x ≤ x.bytes → cut ≡ moved
   pub whole : new ≡ slice_set cut b (header_word x.handle.0 x.bytes)
 
--- the object stands at b, in a slot of its new class, and its old slot isn't free yet
+-- the object is at b, in a slot of its new class, and its old slot is not free yet
 pub record EntersAt (h : Heap) (x : Change) (b : ℕ) (n : Heap) : Type 0 where
   pub settings : n.settings ≡ h.settings
   pub classes : n.classes ≡ h.classes
@@ -61,13 +61,13 @@ pub record EntersAt (h : Heap) (x : Change) (b : ℕ) (n : Heap) : Type 0 where
   pub asked : n.asked ≡ h.asked - x.length + x.bytes
   pub all_taken : n.taken ≡ h.taken - 8 * old_words h x + 8 * slice_index h.classes.sizes x.to
 
--- there is no room for the object in its new class, and nothing has changed
+-- no slot of its new class is free, and nothing has changed
 pub record FindsNoRoom (h : Heap) (x : Change) (n : Heap) : Type 0 where
   pub lacking : LacksRoom (paging_at h) (held_in h) x.to
   pub tables : tables_in n ≡ tables_in h
   pub rest : n ≡ record h { maps = n.maps; lists = n.lists; pool = n.pool }
 
--- the object enters its new class, or there is no room for it
+-- the object enters its new class, or no slot is free
 abbrev pub Enters : Heap → Change → Option ℕ → Heap → Type 0
 Enters h x None n = FindsNoRoom h x n
 Enters h x (Some b) n = EntersAt h x b n
@@ -77,7 +77,7 @@ abbrev pub changing_steps : Kind → Heap → Change → Result Resized ResizeFa
 changing_steps kind h x (Ok done) = 27 + 3 * word_steps kind + copy_steps kind 1 (kept_words x) + slot_steps kind (old_words h x)
 changing_steps kind h x (Err e) = 0
 
--- its exact steps: the slot that is next, and bringing the object there
+-- its exact steps: the slot that is next, and copying the object there
 abbrev pub entering_cost : Heap → Change → ℕ
 entering_cost h x = steps_to_take (paging_at h) (held_in h) (order_in h) x.to + carrying_cost h.kind x.length x.bytes
 

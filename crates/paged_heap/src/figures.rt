@@ -1,4 +1,4 @@
-//! What an open heap tells of itself in numbers.
+//! The figures of an open heap.
 ghost use Rattle.std.specs.Prelude.{◌≡◌, ◌*◌, ◌<◌, ◌≤◌, if◌then◌else◌, nat_eq, nat_lt, Some, None};
 ghost use Rattle.page_model.specs.Arrangement.{home_pages, not_full_pages, free_pages};
 ghost use Rattle.page_model.specs.Figures.{figures_of, totals_of};
@@ -48,7 +48,7 @@ impl OpenHeap {
         self.pool.left()
     }
 
-    /// The figures of class c; none where there is no such class.
+    /// The figures of class c; none if there is no such class.
     pub fn figures<A: Mapping>(&self, c: u32) -> Option<Figures>
         requires { Holds A.kind self.now }
         ensures { result ≡ if nat_lt c (classes (paging_at (seen A.kind self.now)))
@@ -61,7 +61,7 @@ impl OpenHeap {
         }
     }
 
-    /// The figures of a class that there is.
+    /// The figures of class c.
     fn figures_of<A: Mapping>(&self, c: u32) -> Figures
         requires kept { Holds A.kind self.now }
         requires class { c < classes (paging_at (seen A.kind self.now)) }
@@ -103,7 +103,7 @@ impl OpenHeap {
         8 * u64::from(self.settings.page_words) * u64::from(pages)
     }
 
-    /// The words of a page, where so many are free; 0 where none is.
+    /// The words of a page if `free` pages are free; 0 if none is.
     fn largest(&self, free: u32) -> u32
         ensures { result ≡ if nat_eq free 0 then 0 else self.now.settings.page_words }
     {

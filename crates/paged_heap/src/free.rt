@@ -1,4 +1,4 @@
-//! An object goes.
+//! Frees an object.
 ghost use Rattle.std.specs.Prelude.{◌≡◌, ◌≢◌, ◌+◌, ◌-◌, ◌*◌, ◌/◌, ◌^◌, ◌<◌, ◌≤◌, None, Some, IsSome, length, slice_index, slice_set};
 ghost use Rattle.std.specs.FinMap as map;
 ghost use Rattle.step_ledger.specs.Counting.{RoseAtMost, RoseBy};
@@ -8,7 +8,7 @@ ghost use Rattle.cf_model.specs.Costs.{free_bound};
 ghost use Rattle.cf_model.specs.Steps.{FreesObject, IsFreeStep};
 ghost use Rattle.class_lists.specs.PageLists.{pages_in};
 ghost use Rattle.class_lists.specs.declared.Which.TheVariants.{NotFull};
-ghost use Rattle.page_slots.specs.Freeing.{FillsFrom, Vacates, steps_to_drop, steps_to_fill};
+ghost use Rattle.page_slots.specs.Release.{FillsFrom, Vacates, steps_to_drop, steps_to_fill};
 ghost use Rattle.page_slots.specs.Tables.{AreTables, IsUsed, page_at, slot_at, tables};
 ghost use Rattle.proxy_table.specs.Proxies.{AreBelowLimit, with_place, without_place};
 ghost use Rattle.virtual_words.specs.Words.{AreLaid, IsWhole, run_bound, run_steps, slot_steps};
@@ -26,7 +26,7 @@ use virtual_words::Mapping;
 use word_bytes::Header;
 
 impl OpenHeap {
-    /// Takes an object away, and notes the cost.
+    /// Frees an object, and notes the cost.
     pub fn free<A: Mapping>(&mut self, h: Handle, steps: &mut Steps) -> Result<Freed, NotLive>
         requires kept { Holds A.kind self.old }
         requires room { steps.old ≤ 2 ^ 63 }
@@ -43,7 +43,7 @@ impl OpenHeap {
         result
     }
 
-    /// Takes an object away.
+    /// Frees an object.
     fn free_inner<A: Mapping>(&mut self, h: Handle, steps: &mut Steps) -> Result<Freed, NotLive>
         requires { Holds A.kind self.old }
         ensures step { IsFreeStep (state_at A.kind self.old) h.0 result (state_at A.kind self.new) }
@@ -75,7 +75,7 @@ impl OpenHeap {
         }
     }
 
-    /// Takes an object away, and moves no other.
+    /// Frees an object, and moves no other.
     fn free_alone<A: Mapping>(
         &mut self,
         h: Handle,
@@ -104,7 +104,7 @@ impl OpenHeap {
         }
     }
 
-    /// Takes an object away, and moves another one to its slot.
+    /// Frees an object, and moves another one to its slot.
     fn free_and_fill<A: Mapping>(
         &mut self,
         h: Handle,
@@ -135,7 +135,7 @@ impl OpenHeap {
         }
     }
 
-    /// The number of the object at an address is given back, and the words of its slot are cleared.
+    /// Releases the number of the object at an address, and clears the words of its slot.
     fn erase<A: Mapping>(&mut self, h: Handle, place: u32, slot_words: u32, steps: &mut Steps)
         requires laid { AreLaid A.kind self.old.blocks self.old.region }
         requires live { IsSome (map.get self.old.proxies.places h.0) }
@@ -155,7 +155,7 @@ impl OpenHeap {
         A::clear(&mut self.region, &self.blocks, place, slot_words, steps);
     }
 
-    /// The object in a slot of `slot_words` words moves to another slot.
+    /// Moves the object in a slot of `slot_words` words to another slot.
     pub(crate) fn move_to<A: Mapping>(
         &mut self,
         h: Handle,
@@ -194,7 +194,7 @@ impl OpenHeap {
         self.proxies.rebind(h, to, steps);
     }
 
-    /// Counts an object of `bytes` bytes in class c no more.
+    /// Takes an object of `bytes` bytes out of the counts of class c.
     pub(crate) fn count_out(&mut self, c: u32, bytes: u32)
         requires class { c < length self.old.classes.sizes }
         requires listed { c < length self.old.live }
@@ -212,7 +212,7 @@ impl OpenHeap {
         self.taken -= 8 * u64::from(self.classes.slot_words(c));
     }
 
-    /// The used slot of class c at an address becomes free.
+    /// Frees the used slot of class c at an address.
     pub(crate) fn release_slot(&mut self, c: u32, place: u32, steps: &mut Steps)
         requires tables { AreTables self.old.classes (tables self.old.maps.items self.old.lists self.old.pool) }
         requires used { IsUsed (tables self.old.maps.items self.old.lists self.old.pool) c (page_at self.old.classes place) (slot_at self.old.classes c place) }
@@ -235,7 +235,7 @@ impl OpenHeap {
         );
     }
 
-    /// The address of the object of class c that fills a freed slot; its own slot becomes free.
+    /// Returns the address of the object of class c that fills a freed slot, and frees its own slot.
     pub(crate) fn take_filler(&mut self, c: u32, steps: &mut Steps) -> u32
         requires tables { AreTables self.old.classes (tables self.old.maps.items self.old.lists self.old.pool) }
         requires class { c < length self.old.classes.sizes }

@@ -1,4 +1,4 @@
-//! An object comes.
+//! Makes an object.
 ghost use Rattle.std.specs.Prelude.{◌≡◌, ◌≢◌, ◌+◌, ◌*◌, ◌^◌, ◌<◌, ◌≤◌, IfErr, IfOk, IsFalse, IsTrue, None, Result, Some, length, slice_index, slice_set};
 ghost use Rattle.std.specs.FinMap as map;
 ghost use Rattle.step_ledger.specs.Counting.{RoseAtMost, RoseBy};
@@ -11,7 +11,7 @@ ghost use Rattle.page_model.specs.Order.{word_steps};
 ghost use Rattle.cf_model.specs.State.{HeapState};
 ghost use Rattle.cf_model.specs.Steps.{IsMallocStep, IsRefusedBy};
 ghost use Rattle.page_slots.specs.Tables.{AreTables, tables};
-ghost use Rattle.page_slots.specs.Taking.{TakesAt, steps_to_take};
+ghost use Rattle.page_slots.specs.Take.{TakesAt, steps_to_take};
 ghost use Rattle.proxy_table.specs.Proxies.{AreBelowLimit, with_place};
 ghost use Rattle.virtual_words.specs.Words.{AreLaid};
 ghost use Rattle.paged_heap.specs.Costs.{malloc_steps};
@@ -100,7 +100,7 @@ impl OpenHeap {
         }
     }
 
-    /// Whether class c has a free slot, on a partly full page or on a free one: two counts show it.
+    /// Whether class c has a free slot, on a partly full page or on a free one, by two counts.
     pub(crate) fn has_slot(&self, c: u32) -> bool
         requires { c < self.now.lists.classes }
         ensures some { IsTrue result → HasSlot self.now.lists self.now.pool c }
@@ -110,6 +110,7 @@ impl OpenHeap {
     }
 
     /// Takes a free slot of class c.
+    #[inline(always)]
     pub(crate) fn take_slot(&mut self, c: u32, steps: &mut Steps) -> u32
         requires tables { AreTables self.old.classes (tables self.old.maps.items self.old.lists self.old.pool) }
         requires class { c < length self.old.classes.sizes }
@@ -136,7 +137,7 @@ impl OpenHeap {
         }
     }
 
-    /// Gives an object of so many zeros at an address its number and its header.
+    /// Gives an object of `bytes` zeros at an address its number and its header.
     fn bind<A: Mapping>(&mut self, place: u32, bytes: u32, steps: &mut Steps) -> Handle
         requires laid { AreLaid A.kind self.old.blocks self.old.region }
         requires some { map.len self.old.proxies.places ≢ self.old.proxies.limit }

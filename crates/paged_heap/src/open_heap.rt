@@ -24,9 +24,9 @@ use virtual_words::Mapping;
 /// No heap has more size classes.
 pub const CLASSES: usize = 128;
 
-/// An open heap. By class it has the bound of the partly full pages, and how many objects are
-/// live; `asked` and `taken` are the bytes of all objects and of their slots. There is a table of
-/// blocks where words aren't moved.
+/// An open heap. By class it has the bound of the partly full pages, and the number of live objects;
+/// `asked` and `taken` are the bytes of all objects and of their slots. Only a heap that does not
+/// move words has a table of blocks.
 #[derive(Drop)]
 pub struct OpenHeap {
     pub settings: Settings,

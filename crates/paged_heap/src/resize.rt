@@ -44,7 +44,7 @@ impl OpenHeap {
         result
     }
 
-    /// Gives an object another length, in its slot where the class is the same.
+    /// Resizes an object, in its slot if the class stays the same.
     fn resize_inner<A: Mapping>(
         &mut self,
         h: Handle,
@@ -83,7 +83,7 @@ impl OpenHeap {
         self.resize_to_class::<A>(change, steps)
     }
 
-    /// Gives an object of class c another length of that class: it stays in its slot.
+    /// Resizes an object of class c within that class: it stays in its slot.
     pub(crate) fn resize_in_place<A: Mapping>(
         &mut self,
         h: Handle,
@@ -119,7 +119,7 @@ impl OpenHeap {
         }
     }
 
-    /// Of `bytes` bytes after a header those from `keep` on become zeros.
+    /// Clears the bytes from `keep` on, of the `bytes` bytes after a header.
     pub(crate) fn zero_tail<A: Mapping>(
         &mut self,
         place: u32,

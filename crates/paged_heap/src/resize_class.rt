@@ -1,4 +1,4 @@
-//! An object gets a length of another class.
+//! Resizes an object to another class.
 ghost use Rattle.std.specs.Prelude.{◌≡◌, ◌+◌, ◌-◌, ◌*◌, ◌/◌, ◌^◌, ◌<◌, ◌≤◌, IfErr, IsNone, IsSome, length};
 ghost use Rattle.std.specs.FinMap as map;
 ghost use Rattle.step_ledger.specs.Counting.{RoseAtMost, RoseBy};
@@ -20,8 +20,8 @@ use step_ledger::Steps;
 use virtual_words::Mapping;
 use word_bytes::Header;
 
-/// An object that is to go to another class: its slot of class `class` begins at word `place`, and it
-/// has `length` bytes. It is to have `bytes` of them, in class `to`.
+/// A resize to another class: the object's slot of class `class` begins at word `place`, and it has
+/// `length` bytes; its new length is `bytes`, of class `to`.
 #[derive(Clone, Copy)]
 pub(crate) struct Change {
     pub(crate) handle: Handle,
@@ -33,7 +33,7 @@ pub(crate) struct Change {
 }
 
 impl Change {
-    /// The words of the bytes that both lengths have.
+    /// The words of the bytes that the resize keeps.
     fn words(self) -> u32
         ensures { result ≡ kept_words self }
     {
@@ -42,7 +42,7 @@ impl Change {
 }
 
 impl OpenHeap {
-    /// Gives an object a length of another class: it takes a slot there, and its old slot is freed.
+    /// Resizes an object to another class: it takes a slot there, and its old slot is freed.
     pub(crate) fn resize_to_class<A: Mapping>(
         &mut self,
         x: Change,
@@ -134,7 +134,7 @@ impl OpenHeap {
         })
     }
 
-    /// Takes a slot of the new class for the object and brings it there. None where there is no room.
+    /// Takes a slot of the new class and copies the object there. None if no slot is free.
     fn enter_class<A: Mapping>(&mut self, x: Change, steps: &mut Steps) -> Option<u32>
         requires kept { Holds A.kind self.old }
         requires change { IsChange (seen A.kind self.old) x }
@@ -155,8 +155,8 @@ impl OpenHeap {
         Some(to)
     }
 
-    /// Brings an object with its new length to another slot, whose words are zeros. Its old slot is to
-    /// be cleared, or filled.
+    /// Copies an object with its new length to another slot, whose words are zeros. The caller clears
+    /// or fills its old slot.
     fn copy_to_slot<A: Mapping>(&mut self, x: Change, to: u32, steps: &mut Steps)
         requires laid { AreLaid A.kind self.old.blocks self.old.region }
         requires live { IsSome (map.get self.old.proxies.places x.handle.0) }
@@ -194,7 +194,7 @@ impl OpenHeap {
         self.proxies.rebind(x.handle, to, steps);
     }
 
-    /// The words of a slot become zeros.
+    /// Clears the words of a slot.
     fn wipe<A: Mapping>(&mut self, place: u32, slot_words: u32, steps: &mut Steps)
         requires laid { AreLaid A.kind self.old.blocks self.old.region }
         requires within { place + slot_words ≤ length self.old.region }

@@ -55,6 +55,7 @@ pub(crate) fn copy_cell(word: u64, from: usize, out: &mut [u8])
 }
 
 /// Copies the bytes of the words, from byte `at` on.
+#[inline(always)]
 pub fn read_bytes(words: &[u64], at: usize, out: &mut [u8])
     requires { at + length out.old ≤ 8 * length words.now }
     ensures { (k : ℕ) → k < length out.new → slice_index out.new k ≡ byte_in words.now (at + k) }
@@ -74,6 +75,7 @@ pub fn read_bytes(words: &[u64], at: usize, out: &mut [u8])
 }
 
 /// Overwrites the bytes of the words, from byte `at` on.
+#[inline(always)]
 pub fn write_bytes(words: &mut [u64], at: usize, bytes: &[u8])
     requires { at + length bytes.now ≤ 8 * length words.old }
     ensures { (k : ℕ) → byte_in words.new k ≡ overwritten (byte_in words.old) at bytes.now k }

@@ -8,4 +8,6 @@ mod runs;
 
 pub use cells::{read_bytes, write_bytes};
 pub use header::Header;
-pub use runs::{read_run, read_word, words_with, write_run, write_word};
+pub use runs::{
+    read_in_block, read_run, read_word, words_with, write_in_block, write_run, write_word,
+};

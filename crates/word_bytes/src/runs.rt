@@ -47,6 +47,51 @@ pub fn write_run(
     write_bytes(words, at, bytes);
 }
 
+/// Does what `read_run` does. For all bytes of four words, constants compile to eight moves.
+pub fn read_in_block(
+    region: &Region,
+    first: u32,
+    n: u32,
+    at: usize,
+    out: &mut [u8],
+    steps: &mut Steps,
+)
+    requires within { first + n ≤ length region.now }
+    requires fits { at + length out.old ≤ 8 * n }
+    ensures bytes { (j : ℕ) → j < length out.new → slice_index out.new j ≡ byte_from region.now first (at + j) }
+    ensures steps { RoseBy steps.old steps.new n }
+{
+    if n == 4 && out.len() == 32 {
+        let words = region.payload(first, n, steps);
+        read_bytes(words, 0, out);
+    } else {
+        read_run(region, first, n, at, out, steps);
+    }
+}
+
+/// Does what `write_run` does, as `read_in_block` reads.
+pub fn write_in_block(
+    region: &mut Region,
+    first: u32,
+    n: u32,
+    at: usize,
+    bytes: &[u8],
+    steps: &mut Steps,
+)
+    requires within { first + n ≤ length region.old }
+    requires fits { at + length bytes.now ≤ 8 * n }
+    ensures words { Overwrites region.old region.new (record { from = first; count = n }) at bytes.now }
+    ensures len { length region.new ≡ length region.old }
+    ensures steps { RoseBy steps.old steps.new n }
+{
+    if n == 4 && bytes.len() == 32 {
+        let words = region.payload_mut(first, n, steps);
+        write_bytes(words, 0, bytes);
+    } else {
+        write_run(region, first, n, at, bytes, steps);
+    }
+}
+
 /// Copies bytes of word `i`, from its byte `at` on. Costs one step.
 pub fn read_word(region: &Region, i: u32, at: usize, out: &mut [u8], steps: &mut Steps)
     requires within { i < length region.now }

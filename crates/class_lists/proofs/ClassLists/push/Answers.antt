@@ -1,13 +1,12 @@
-use Rattle.std.proofs.Common.{◌+◌, length, get_or, arith, sym, ◌∙◌, ap, rules}
-use Rattle.std.proofs.Math.ListN.{set, length-set}
+use Rattle.std.proofs.Common.{◌+◌, get_or, arith, sym, ◌∙◌, ap, rules}
+use Rattle.std.proofs.Math.ListN.{set}
 use Rattle.class_lists.proofs.Views.{list_within, follower_within, room_for_one, counted, pushed}
 use Rattle.class_lists.proofs.ClassLists.push.Goals as goal
 
-pub join-requires-clause-after : goal.join-requires-clause-after
-join-requires-clause-after c =
+pub set_both-requires-clause-j_in_range : goal.set_both-requires-clause-j_in_range
+set_both-requires-clause-j_in_range c =
     let within = follower_within _ _ _ _ c.self.invariant _ c.self.view_is c.args.c c.args.which _ c.number_of-list.ensures c.requires.class
-    c.replace-first.result c.replace-first.ensures.value in
-    let long = ap length c.set.ensures.cells ∙ length-set c.self.inside.links.previous c.args.page _ in
+    c.pass-first.result c.pass-first.ensures.value in
     omega (arith, c.self.invariant.backed)
 
 pub of-len-requires : goal.of-len-requires
@@ -27,19 +26,17 @@ overflow_add-len c =
 pub invariant_of-self : goal.invariant_of-self
 invariant_of-self c =
     let all = pushed _ _ _ _ c.self.invariant _ c.self.view_is c.args.c c.args.which _ c.number_of-list.ensures c.requires.class
-    c.args.page c.requires.page c.requires.unlisted c.replace-first.result c.of-len.result _ _ _ c.replace-first.ensures.value
+    c.args.page c.requires.page c.requires.unlisted c.pass-first.result c.of-len.result _ _ _ c.pass-first.ensures.value
     (c.of-len.ensures ∙ ap (λ k. get_or c.self.inside.lens k 0) (sym c.number_of-list.ensures))
-    (c.join.ensures.next ∙ ap (λ xs. set xs c.args.page c.replace-first.result) c.replace-first.ensures.cells)
-    (c.join.ensures.previous ∙ ap (λ xs. set xs c.replace-first.result c.args.page) c.set.ensures.cells)
+    c.pass-first.ensures.cells c.set_both.ensures.cells
     (c.put.ensures ∙ ap (λ k. set c.self.inside.lens k (c.of-len.result + 1)) (sym c.number_of-list.ensures)) in
     all.sound
 
 pub returns : goal.returns
 returns c =
     let all = pushed _ _ _ _ c.self.invariant _ c.self.view_is c.args.c c.args.which _ c.number_of-list.ensures c.requires.class
-    c.args.page c.requires.page c.requires.unlisted c.replace-first.result c.of-len.result _ _ _ c.replace-first.ensures.value
+    c.args.page c.requires.page c.requires.unlisted c.pass-first.result c.of-len.result _ _ _ c.pass-first.ensures.value
     (c.of-len.ensures ∙ ap (λ k. get_or c.self.inside.lens k 0) (sym c.number_of-list.ensures))
-    (c.join.ensures.next ∙ ap (λ xs. set xs c.args.page c.replace-first.result) c.replace-first.ensures.cells)
-    (c.join.ensures.previous ∙ ap (λ xs. set xs c.replace-first.result c.args.page) c.set.ensures.cells)
+    c.pass-first.ensures.cells c.set_both.ensures.cells
     (c.put.ensures ∙ ap (λ k. set c.self.inside.lens k (c.of-len.result + 1)) (sym c.number_of-list.ensures)) in
     record { lists = all.lists; list = all.list; others = all.others; kept = all.kept; steps = search rules }

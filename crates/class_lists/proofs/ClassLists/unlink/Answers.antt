@@ -1,4 +1,5 @@
-use Rattle.std.proofs.Common.{sym, subst, ◌+◌, arith, refl, ap, length, ◌∙◌, rules}
+use Rattle.std.proofs.Common.{sym, subst, ◌+◌, arith, refl, ap, length, get_or, ◌∙◌, rules}
+use Rattle.std.proofs.lemmas.List.{get_or_default}
 use Rattle.class_lists.proofs.Views.{list_within, listed_within, page_within, before_inside, after_inside, some_page, shorter, unlisted_now, counted, unlinked}
 use Rattle.class_lists.specs.PageLists.{PageLists, IsUnlisted}
 use Rattle.class_lists.proofs.ClassLists.unlink.Goals as goal
@@ -8,21 +9,22 @@ get-before-requires c =
     let within = listed_within _ _ _ _ c.self.invariant _ c.self.view_is c.args.c c.args.which _ refl c.requires.class c.args.page c.requires.listed in
     omega (arith, c.self.invariant.backed)
 
-pub get-after-requires : goal.get-after-requires
-get-after-requires c =
+pub copy-after-requires-clause-from : goal.copy-after-requires-clause-from
+copy-after-requires-clause-from c =
     let within = listed_within _ _ _ _ c.self.invariant _ c.self.view_is c.args.c c.args.which _ refl c.requires.class c.args.page c.requires.listed in
     omega arith
 
-pub join-requires-clause-before : goal.join-requires-clause-before
-join-requires-clause-before c =
-    let within = before_inside _ _ _ _ c.self.invariant _ c.self.view_is c.args.c c.args.which _ refl c.requires.class c.args.page c.requires.listed
-    c.get-before.result c.get-after.result c.get-before.ensures.value c.get-after.ensures.value in
-    omega arith
+pub copy-after-requires-clause-to : goal.copy-after-requires-clause-to
+copy-after-requires-clause-to c =
+    let inside = listed_within _ _ _ _ c.self.invariant _ c.self.view_is c.args.c c.args.which _ refl c.requires.class c.args.page c.requires.listed in
+    before_inside _ _ _ _ c.self.invariant _ c.self.view_is c.args.c c.args.which _ refl c.requires.class c.args.page c.requires.listed
+    c.get-before.result (get_or c.self.inside.links.next c.args.page 0) c.get-before.ensures.value
+    (get_or_default c.self.inside.links.next c.args.page 0 (get_or c.self.inside.links.next c.args.page 0) inside)
 
-pub join-requires-clause-after : goal.join-requires-clause-after
-join-requires-clause-after c =
+pub set-requires : goal.set-requires
+set-requires c =
     let within = after_inside _ _ _ _ c.self.invariant _ c.self.view_is c.args.c c.args.which _ refl c.requires.class c.args.page c.requires.listed
-    c.get-before.result c.get-after.result c.get-before.ensures.value c.get-after.ensures.value in
+    c.get-before.result c.copy-after.result c.get-before.ensures.value c.copy-after.ensures.value in
     omega (arith, c.self.invariant.backed)
 
 pub of-len-requires : goal.of-len-requires
@@ -41,15 +43,15 @@ overflow_sub-len c =
 pub invariant_of-self : goal.invariant_of-self
 invariant_of-self c =
     let all = unlinked _ _ _ _ c.self.invariant _ c.self.view_is c.args.c c.args.which _ refl c.requires.class c.args.page c.requires.listed
-    c.get-before.result c.get-after.result c.get-before.ensures.value c.get-after.ensures.value
-    c.of-len.result _ _ _ c.of-len.ensures c.join.ensures.next c.join.ensures.previous c.put.ensures in
+    c.get-before.result c.copy-after.result c.get-before.ensures.value c.copy-after.ensures.value
+    c.of-len.result _ _ _ c.of-len.ensures c.copy-after.ensures.cells c.set.ensures.cells c.put.ensures in
     all.sound
 
 pub returns : goal.returns
 returns c =
     let all = unlinked _ _ _ _ c.self.invariant _ c.self.view_is c.args.c c.args.which _ refl c.requires.class c.args.page c.requires.listed
-    c.get-before.result c.get-after.result c.get-before.ensures.value c.get-after.ensures.value
-    c.of-len.result _ _ _ c.of-len.ensures c.join.ensures.next c.join.ensures.previous c.put.ensures in
+    c.get-before.result c.copy-after.result c.get-before.ensures.value c.copy-after.ensures.value
+    c.of-len.result _ _ _ c.of-len.ensures c.copy-after.ensures.cells c.set.ensures.cells c.put.ensures in
     let fewer = shorter _ _ _ _ c.self.invariant _ c.self.view_is c.args.c c.args.which _ refl c.requires.class c.args.page c.requires.listed in
     let out = unlisted_now _ _ _ _ c.self.invariant _ c.self.view_is c.args.c c.args.which _ refl c.requires.class c.args.page c.requires.listed in
     record {

@@ -1,7 +1,7 @@
 use Rattle.std.proofs.Common.{◌+◌, ◌/◌, get_or, arith, sym, ◌∙◌, ap}
 use Rattle.cf_base.specs.declared.kind.Kind.TheVariants.{NonMoving}
 use Rattle.virtual_words.specs.Words.{frames_in}
-use Rattle.page_slots.proofs.CallerLemmas.{rose_both}
+use Rattle.step_ledger.proofs.CallerLemmas.{rose_both}
 use Rattle.paged_heap.specs.Heap.{seen}
 use Rattle.paged_heap.specs.Layout.{state_at}
 use Rattle.paged_heap.proofs.CallerLemmas.{has_class, in_region, it, it_found, it_slot, no_place, object_at, place_in}

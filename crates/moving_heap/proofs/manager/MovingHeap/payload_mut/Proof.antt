@@ -1,4 +1,4 @@
--- `payload_mut` hands on the words that `lend` lends, or gives them up where the handle isn't live.
+-- `payload_mut` passes on the words that `lend` lends, or ends the loan if the handle is not live.
 use Rattle.std.proofs.Common.{◌≡◌, ℕ, Bool, true, List, [], ◌∷◌, ◌++◌, length, Some, None, refl, sym, ap, ◌∙◌, lit<, MutBor}
 use Rattle.std.proofs.raw_atomic.Walks.{proved, leaves}
 use mir.Syntax.{named}
@@ -114,7 +114,7 @@ payload_mut_spec 𝓤 𝓛 𝓜 𝓡 wired =
     sets_last ! (agg ! (and_then ! (lit ! tt) (no_more !))) refl (tt, (record { fits = lit< tt }, tt)) $
     exec ! 𝓣.C 𝓣.Λ En code.Mir.t-6 (at_ret _ (W.post y)) $
     sets ! (of_opd ! (get ! refl)) refl (tt, (record { fits = lit< tt }, tt)) $
-    -- no words are given up
+    -- a loan of no words ends
     let none : None ≡ words = ap (λ (b : Bool). words_lent b r.1.now) (sym (T_false r.0 off)) ∙ value in
     let same : lent_back s h.0 r.1.now ≡ s = nothing_lent s h.0 r.1.now (sym none) in
     move ! (2 ∷ 1 ∷ []) $ use2 𝓛 (later (given (sv ∷ [] ≡ mut_slice_vals r.1) (‵ (fres γ (R.coded.code (lent_back s h.0 r.1.now))))))

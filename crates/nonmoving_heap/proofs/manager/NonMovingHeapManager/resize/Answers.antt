@@ -1,12 +1,12 @@
-use Rattle.std.proofs.Common.{refl, sym, ap, subst, ◌∙◌}
+use Rattle.std.proofs.Common.{Some, refl, sym, ap, subst, ◌∙◌}
 use Rattle.cf_base.specs.declared.kind.Kind.TheVariants.{NonMoving}
 use Rattle.cf_model.specs.State.{HeapState}
 use Rattle.cf_model.specs.Steps.{BlocksStayIn}
 use Rattle.paged_heap.specs.Heap.{seen}
 use Rattle.paged_heap.specs.Layout.{Holds, IsValidIn, state_at, state_in}
 use Rattle.paged_heap.proofs.CallerLemmas.{rules}
-use Rattle.nonmoving_heap.specs.MappedState.{MappedState}
-use Rattle.nonmoving_heap.proofs.Blocks.{after_resize}
+use Rattle.nonmoving_heap.specs.MappedState.{MappedState, OthersStayInPlace, mapped_in}
+use Rattle.nonmoving_heap.proofs.Blocks.{after_resize, others_in_place}
 use Rattle.nonmoving_heap.proofs.manager.NonMovingHeapManager.resize.Goals as goal
 
 pub returns-clause-rules : goal.returns-clause-rules
@@ -19,3 +19,12 @@ returns-clause-blocks c =
     (ap (state_in NonMoving) (sym c.in-Some.is) ∙ ap (λ (v : MappedState). v.state) c.self.view_is)
     (after_resize (state_at NonMoving c.in-Some.open) (record { number = c.args.h.0; length = c.args.bytes }) _ (state_at NonMoving c.resize.new.self)
     refl (rules (seen NonMoving c.in-Some.open) was.kept) (rules (seen NonMoving c.resize.new.self) c.resize.ensures.kept.kept) c.resize.ensures.step)
+
+pub returns-clause-others : goal.returns-clause-others
+returns-clause-others c =
+    let was : Holds NonMoving c.in-Some.open = subst (IsValidIn NonMoving) c.in-Some.is c.self.invariant in
+    let is = c.resize.ensures.kept in
+    subst (λ (v : MappedState). OthersStayInPlace v c.args.h.0 (mapped_in (Some c.resize.new.self))) (ap mapped_in (sym c.in-Some.is) ∙ c.self.view_is)
+    (others_in_place c.in-Some.open c.resize.new.self c.args.h.0 was is
+    (after_resize (state_at NonMoving c.in-Some.open) (record { number = c.args.h.0; length = c.args.bytes }) _ (state_at NonMoving c.resize.new.self) refl
+    (rules (seen NonMoving c.in-Some.open) was.kept) (rules (seen NonMoving c.resize.new.self) is.kept) c.resize.ensures.step))

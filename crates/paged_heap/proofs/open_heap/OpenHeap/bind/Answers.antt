@@ -1,4 +1,4 @@
-use Rattle.page_slots.proofs.CallerLemmas.{rose_both}
+use Rattle.step_ledger.proofs.CallerLemmas.{rose_both}
 use Rattle.paged_heap.proofs.open_heap.OpenHeap.bind.Goals as goal
 
 pub returns-clause-steps : goal.returns-clause-steps

@@ -1,8 +1,8 @@
--- The kept words are moved and cut, and the header comes before them.
+-- The kept words are moved and cut, and the header is written before them.
 use Rattle.std.proofs.Common.{◌+◌, ◌-◌, ◌*◌, ◌/◌, ◌<◌, ◌≤◌, set, arith, sym, ◌∙◌, ap, subst}
 use Rattle.step_ledger.specs.Counting.{RoseBy}
 use Rattle.page_model.specs.Order.{word_steps}
-use Rattle.page_slots.proofs.CallerLemmas.{rose_both}
+use Rattle.step_ledger.proofs.CallerLemmas.{rose_both}
 use Rattle.page_model.specs.Image.{MovesWords}
 use Rattle.virtual_words.specs.Words.{copy_steps, words_of}
 use Rattle.virtual_words.proofs.CallerLemmas.{laid_long}

@@ -1,4 +1,4 @@
--- A slot is taken, and the object comes there.
+-- A slot is taken, and the object is copied there.
 use Rattle.std.proofs.Common.{◌-◌, ◌+◌, length, get_or, arith, refl, ap}
 use Rattle.std.proofs.lemmas.List.{get_or-set_other}
 use Rattle.paged_heap.specs.declared.open_heap.OpenHeap.{OpenHeap}

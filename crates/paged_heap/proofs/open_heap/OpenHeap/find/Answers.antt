@@ -4,7 +4,7 @@ use Rattle.paged_heap.proofs.Preserved.{no_place}
 use Rattle.paged_heap.proofs.ByKind.{in_region}
 use Rattle.paged_heap.proofs.ReadLemmas.{lies, passes, place_in}
 use Rattle.page_model.proofs.CallerLemmas.{bytes_long}
-use Rattle.page_slots.proofs.CallerLemmas.{rose_both}
+use Rattle.step_ledger.proofs.CallerLemmas.{rose_both}
 use Rattle.paged_heap.proofs.open_heap.OpenHeap.find.Goals as goal
 use Rattle.paged_heap.proofs.open_heap.OpenHeap.find.Goals.{then-length-count-via-then-length-count}
 use Rattle.paged_heap.proofs.open_heap.OpenHeap.find.Goals.{then-length-count-via-else-length-count+then-length-count-2}

@@ -1,8 +1,8 @@
--- The slot is cleared, the number given back, and the slot freed.
+-- The slot is cleared, the number released, and the slot freed.
 use Rattle.std.proofs.Common.{get_or, None, arith, refl, sym, ap, subst, ◌∙◌}
 use Rattle.page_model.specs.Image.{Clears}
 use Rattle.page_model.specs.Steps.{MustMove}
-use Rattle.page_slots.specs.Freeing.{steps_to_drop}
+use Rattle.page_slots.specs.Release.{steps_to_drop}
 use Rattle.page_slots.specs.Tables.{IsUsed, page_at, slot_at}
 use Rattle.paged_heap.specs.declared.open_heap.OpenHeap.{OpenHeap}
 use Rattle.paged_heap.specs.Heap.{Heap, seen}

@@ -1,4 +1,4 @@
--- What the header tells is the object's length.
+-- The header holds the object's length.
 use Rattle.std.proofs.Common.{refl, sym, arith}
 use Rattle.paged_heap.specs.Heap.{seen}
 use Rattle.paged_heap.proofs.Preserved.{no_place}

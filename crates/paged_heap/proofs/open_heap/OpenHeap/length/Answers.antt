@@ -2,7 +2,7 @@ use Rattle.std.proofs.Common.{length, Some, arith, sym, ◌∙◌, ap}
 use Rattle.std.specs.Prelude.{option_map}
 use Rattle.page_model.specs.Held.{Placed}
 use Rattle.page_model.proofs.CallerLemmas.{bytes_long}
-use Rattle.page_slots.proofs.CallerLemmas.{rose_both}
+use Rattle.step_ledger.proofs.CallerLemmas.{rose_both}
 use Rattle.paged_heap.specs.Heap.{seen}
 use Rattle.paged_heap.proofs.ByKind.{in_region}
 use Rattle.paged_heap.proofs.Preserved.{no_place}

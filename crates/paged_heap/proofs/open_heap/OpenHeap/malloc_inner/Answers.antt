@@ -1,4 +1,4 @@
--- The class, the proxy and the slot are found; the object comes.
+-- The class, the proxy and the slot are found; then the object is made.
 use Rattle.std.proofs.Common.{length, get_or, arith, ap}
 use Rattle.paged_heap.specs.declared.open_heap.OpenHeap.{OpenHeap}
 use Rattle.paged_heap.specs.Heap.{Heap, seen}

@@ -1,6 +1,6 @@
 -- The words are as many as before, since the region is.
 use Rattle.std.proofs.Common.{sym, ◌∙◌}
-use Rattle.page_slots.proofs.CallerLemmas.{rose_both}
+use Rattle.step_ledger.proofs.CallerLemmas.{rose_both}
 use Rattle.virtual_words.proofs.CallerLemmas.{laid_long}
 use Rattle.paged_heap.proofs.open_heap.OpenHeap.move_to.Goals as goal
 

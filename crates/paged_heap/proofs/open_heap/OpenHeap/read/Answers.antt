@@ -1,6 +1,6 @@
 use Rattle.std.proofs.Common.{length, arith, subst}
 use Rattle.step_ledger.specs.Counting.{RoseBy}
-use Rattle.page_slots.proofs.CallerLemmas.{rose_both}
+use Rattle.step_ledger.proofs.CallerLemmas.{rose_both}
 use Rattle.paged_heap.specs.Heap.{seen}
 use Rattle.paged_heap.proofs.ByKind.{in_region}
 use Rattle.paged_heap.proofs.ReadLemmas.{object, place_small, read_is, words_in}

@@ -1,7 +1,7 @@
 -- The object enters its new class, and its old slot is freed.
 use Rattle.std.proofs.Common.{◌≡◌, None, arith, refl, sym, ◌∙◌, ap, subst}
 use Rattle.page_model.specs.Image.{Clears}
-use Rattle.page_slots.specs.Freeing.{steps_to_drop}
+use Rattle.page_slots.specs.Release.{steps_to_drop}
 use Rattle.page_slots.specs.Tables.{AreTables, IsUsed, page_at, slot_at}
 use Rattle.paged_heap.specs.declared.open_heap.OpenHeap.{OpenHeap}
 use Rattle.virtual_words.specs.Words.{slot_steps}

@@ -1,4 +1,4 @@
--- The object enters its new class, and another one comes to its old slot.
+-- The object enters its new class, and another one moves to its old slot.
 use Rattle.std.proofs.Common.{◌≡◌, ◌+◌, ◌≤◌, length, Some, arith, refl, sym, ap, subst}
 use Rattle.std.specs.Prelude.{◌⊎◌}
 use Rattle.page_slots.specs.Tables.{AreTables}

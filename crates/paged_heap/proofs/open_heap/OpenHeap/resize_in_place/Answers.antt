@@ -1,7 +1,7 @@
--- The bytes are cut, and the header tells the new length.
+-- The bytes are cut, and the header holds the new length.
 use Rattle.std.proofs.Common.{◌≡◌, ◌+◌, ◌-◌, ◌≤◌, set, arith, refl, ◌∙◌, ap}
 use Rattle.page_model.specs.Image.{header_word}
-use Rattle.page_slots.proofs.CallerLemmas.{rose_both}
+use Rattle.step_ledger.proofs.CallerLemmas.{rose_both}
 use Rattle.virtual_words.specs.Words.{words_of}
 use Rattle.paged_heap.specs.Heap.{Heap, seen}
 use Rattle.paged_heap.proofs.ByKind.{in_region}

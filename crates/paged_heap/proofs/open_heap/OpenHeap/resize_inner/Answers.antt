@@ -1,4 +1,4 @@
--- The refusals come before any change.
+-- Each refusal is before any change.
 use Rattle.std.proofs.Common.{arith, refl, sym, ◌∙◌}
 use Rattle.paged_heap.specs.Heap.{seen}
 use Rattle.paged_heap.specs.Layout.{state_of}
@@ -6,7 +6,7 @@ use Rattle.paged_heap.proofs.Preserved.{no_place}
 use Rattle.paged_heap.proofs.ByKind.{in_region, unmoved}
 use Rattle.paged_heap.proofs.LayoutFacts.{paged_kind}
 use Rattle.paged_heap.proofs.HeaderLemmas.{has_class, object_at}
-use Rattle.page_slots.proofs.CallerLemmas.{rose_both}
+use Rattle.step_ledger.proofs.CallerLemmas.{rose_both}
 use Rattle.paged_heap.proofs.ResizeCosts.{change_sum, stay_sum}
 use Rattle.paged_heap.proofs.ResizeLemmas.{change_at, changed_steps, passes_page, stayed_steps}
 use Rattle.paged_heap.proofs.CountLimits.{class_is}

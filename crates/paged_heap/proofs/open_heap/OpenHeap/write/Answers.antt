@@ -1,6 +1,6 @@
 use Rattle.std.proofs.Common.{length, arith, refl, subst}
 use Rattle.step_ledger.specs.Counting.{RoseBy}
-use Rattle.page_slots.proofs.CallerLemmas.{rose_both}
+use Rattle.step_ledger.proofs.CallerLemmas.{rose_both}
 use Rattle.virtual_words.specs.Words.{words_of}
 use Rattle.paged_heap.specs.Heap.{Heap, seen}
 use Rattle.paged_heap.proofs.ByKind.{in_region}

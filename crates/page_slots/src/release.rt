@@ -7,7 +7,7 @@ ghost use Rattle.class_lists.specs.declared.Which.TheVariants.{Full, NotFull};
 ghost use Rattle.page_pool.specs.Pool.{IsPool, Pool, is_in_pool};
 ghost use Rattle.size_classes.specs.Table.{IsClassTable};
 ghost use Rattle.page_slots.specs.Tables.{AreTables, IsUsed, KeepsElsewhere, page_at, slot_at, tables, used_in};
-ghost use Rattle.page_slots.specs.Freeing.{FillsFrom, HasUsedSlot, IsFiller, MovesObject, OpensPage, Vacates, steps_to_drop, steps_to_fill, steps_to_vacate};
+ghost use Rattle.page_slots.specs.Release.{FillsFrom, HasUsedSlot, IsFiller, MovesObject, OpensPage, Vacates, steps_to_drop, steps_to_fill, steps_to_vacate};
 
 use crate::place::{address_of, slot_of};
 use class_lists::{ClassLists, Which};

@@ -3,7 +3,7 @@ use Rattle.std.proofs.Common.{refl, inr, ◌∙◌, ap}
 use Rattle.std.specs.Prelude.{slice_get}
 use Rattle.page_slots.proofs.Calls.{pool_inside, pool_small, pool_listable, pool_unlisted, pool_unused, took_free}
 use Rattle.page_slots.proofs.TablesAfterTake.{first_of, taken_gains, taken_others}
-use Rattle.page_slots.proofs.taking.take_on_free_page.Goals as goal
+use Rattle.page_slots.proofs.take.take_on_free_page.Goals as goal
 
 pub bounds-maps-page : goal.bounds-maps-page
 bounds-maps-page c = pool_inside _ _ c.requires.tables _ _ c.in_ok-page.ensures.taken

@@ -1,7 +1,7 @@
 -- The first partly full page has a used slot.
 use Rattle.std.proofs.Common.{sym}
 use Rattle.page_slots.proofs.Calls.{front_slot, front_small, front_used_slot}
-use Rattle.page_slots.proofs.freeing.filler.Goals as goal
+use Rattle.page_slots.proofs.release.filler.Goals as goal
 
 pub filling_slot-page-requires-clause-used : goal.filling_slot-page-requires-clause-used
 filling_slot-page-requires-clause-used c = λ page front. front_used_slot _ _ c.requires.tables.1 c.args.c page front

@@ -4,7 +4,7 @@ use Rattle.std.proofs.lemmas.List.{get_or_default}
 use Rattle.page_slots.specs.Tables.{IsOf, tables}
 use Rattle.page_slots.proofs.Calls.{dropped_steps, of_class, of_lists_class, of_listed, of_page, of_taken, page_inside}
 use Rattle.page_slots.proofs.TablesAfterFree.{loses, loses_others}
-use Rattle.page_slots.proofs.freeing.drop_slot.Goals as goal
+use Rattle.page_slots.proofs.release.drop_slot.Goals as goal
 
 pub slot_of-slot-requires : goal.slot_of-slot-requires
 slot_of-slot-requires c = of_class _ _ c.requires.tables _ _ c.requires.used.of

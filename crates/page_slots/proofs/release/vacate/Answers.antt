@@ -2,7 +2,7 @@
 use Rattle.std.proofs.Common.{◌≡◌, ◌+◌, [], get_or}
 use Rattle.page_slots.specs.Tables.{used_in}
 use Rattle.page_slots.proofs.Calls.{emptied_steps, kept_steps, used_still}
-use Rattle.page_slots.proofs.freeing.vacate.Goals as goal
+use Rattle.page_slots.proofs.release.vacate.Goals as goal
 
 pub returns-then-count-eq0-clause-steps : goal.returns-then-count-eq0-clause-steps
 returns-then-count-eq0-clause-steps c =

@@ -4,7 +4,7 @@ use Rattle.std.specs.List.{Contains}
 use Rattle.class_lists.specs.declared.Which.TheVariants.{Full}
 use Rattle.class_lists.specs.PageLists.{pages_in}
 use Rattle.page_slots.proofs.Listing.{left_unlisted, left_pages}
-use Rattle.page_slots.proofs.freeing.open_if_full.Goals as goal
+use Rattle.page_slots.proofs.release.open_if_full.Goals as goal
 
 pub push-requires-clause-page : goal.push-requires-clause-page
 push-requires-clause-page c =

@@ -3,7 +3,7 @@ use Rattle.std.proofs.Common.{[], ◌<◌, ap, arith, ◌∙◌}
 use Rattle.std.proofs.lemmas.List.{get_or_default}
 use Rattle.page_slots.specs.Tables.{used_in}
 use Rattle.page_slots.proofs.Calls.{finds_used}
-use Rattle.page_slots.proofs.freeing.filling_slot.Goals as goal
+use Rattle.page_slots.proofs.release.filling_slot.Goals as goal
 
 pub bounds-maps-page : goal.bounds-maps-page
 bounds-maps-page c = (c.requires.used c.in-Some.page c.in-Some.ensures.front).within

@@ -4,7 +4,7 @@ ghost use Rattle.std.specs.List.{Contains, position};
 ghost use Rattle.step_ledger.specs.Counting.{RoseAtMost, RoseBy};
 ghost use Rattle.class_lists.specs.PageLists.{AreApart, IsUnlisted, pages_in};
 ghost use Rattle.page_slots.specs.Tables.{AreTables, JoinsList, KeepsElsewhere, tables, used_in};
-ghost use Rattle.page_slots.specs.Taking.{FillsPage, TakesSlot, steps_to_take};
+ghost use Rattle.page_slots.specs.Take.{FillsPage, TakesSlot, steps_to_take};
 
 use crate::place::address_of;
 use class_lists::{ClassLists, Which};
@@ -16,6 +16,7 @@ use step_ledger::Steps;
 /// Takes a free slot of class c and returns its address: the least free slot of the first partly
 /// full page of the class, else the first slot of the first page of the pool. Returns none if the
 /// class has no partly full page and no page is free; then nothing changes.
+#[inline(always)]
 pub fn take_slot(
     classes: &Classes,
     maps: &mut [SlotMap],
@@ -45,6 +46,7 @@ pub fn take_slot(
 }
 
 /// Takes the least free slot of a page.
+#[inline(always)]
 fn take_least(map: &mut SlotMap, steps: &mut Steps) -> u32
     requires { used_in map.old < length map.old }
     ensures least { position (λ used. not used) map.old ≡ Some result }
@@ -59,6 +61,7 @@ fn take_least(map: &mut SlotMap, steps: &mut Steps) -> u32
 }
 
 /// Moves a page of class c with these slots to the full pages if it is full now.
+#[inline(always)]
 fn leave_if_filled(map: &SlotMap, lists: &mut ClassLists, c: u32, page: u32, steps: &mut Steps)
     requires class { c < lists.old.classes }
     requires apart { AreApart lists.old }
@@ -75,6 +78,7 @@ fn leave_if_filled(map: &SlotMap, lists: &mut ClassLists, c: u32, page: u32, ste
 }
 
 /// Takes the first slot of the first page of the pool, which becomes a page of class c.
+#[inline(always)]
 fn take_on_free_page(
     classes: &Classes,
     maps: &mut [SlotMap],
@@ -102,6 +106,7 @@ fn take_on_free_page(
 }
 
 /// Adds a page of class c with `slots` slots, one of them used, to its list.
+#[inline(always)]
 fn join_with_one(lists: &mut ClassLists, c: u32, page: u32, slots: u32, steps: &mut Steps)
     requires class { c < lists.old.classes }
     requires page { page < lists.old.pages }

@@ -4,7 +4,7 @@ use Rattle.class_lists.specs.PageLists.{pages_in}
 use Rattle.class_lists.specs.declared.Which.TheVariants.{NotFull}
 use Rattle.page_slots.proofs.Calls.{front_none, front_there, front_inside, front_small, front_room, front_slot, took_open_steps, took_open}
 use Rattle.page_slots.proofs.TablesAfterTake.{taken_gains, taken_others}
-use Rattle.page_slots.proofs.taking.take_slot.Goals as goal
+use Rattle.page_slots.proofs.take.take_slot.Goals as goal
 
 pub bounds-maps-page : goal.bounds-maps-page
 bounds-maps-page c = front_inside _ _ c.requires.tables c.args.c c.in-Some.page c.in-Some.ensures.front

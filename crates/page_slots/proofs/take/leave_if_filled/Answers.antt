@@ -2,7 +2,7 @@
 use Rattle.std.proofs.Common.{◌<◌, arith}
 use Rattle.class_lists.specs.declared.Which.TheVariants.{NotFull}
 use Rattle.page_slots.proofs.Listing.{left_unlisted, left_pages}
-use Rattle.page_slots.proofs.taking.leave_if_filled.Goals as goal
+use Rattle.page_slots.proofs.take.leave_if_filled.Goals as goal
 
 pub push-requires-clause-page : goal.push-requires-clause-page
 push-requires-clause-page c =

@@ -2,7 +2,7 @@
 use Rattle.std.proofs.Common.{sym}
 use Rattle.page_slots.proofs.Calls.{front_slot, front_small, front_taken, front_used_slot}
 use Rattle.page_slots.proofs.TablesAfterFree.{loses, loses_others}
-use Rattle.page_slots.proofs.freeing.fill_slot.Goals as goal
+use Rattle.page_slots.proofs.release.fill_slot.Goals as goal
 
 pub filling_slot-page-requires-clause-used : goal.filling_slot-page-requires-clause-used
 filling_slot-page-requires-clause-used c = λ page front. front_used_slot _ _ c.requires.tables c.args.c page front
