@@ -1,4 +1,4 @@
--- A heap without objects stays one where its classes get bounds.
+-- A heap without objects stays one when its classes get bounds.
 use Rattle.std.specs.Prelude.{ℕ, Option, Some, None}
 use Rattle.cf_model.specs.Answers.{bound_put}
 use Rattle.cf_model.specs.State.{HeapState}

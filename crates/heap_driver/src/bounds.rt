@@ -31,8 +31,8 @@ fn set_bounds<H: Manager>(heap: &mut H, bounds: &[(u32, u32)]) -> Result<(), Wro
     Ok(())
 }
 
-/// Gives a class of an empty heap its bound; false where there is no such class.
-pub(crate) fn set_bound<H: Manager>(heap: &mut H, slot_words: u32, k: u32) -> Result<bool, Wrong>
+/// Sets the bound of a class of an empty heap; false if there is no such class.
+fn set_bound<H: Manager>(heap: &mut H, slot_words: u32, k: u32) -> Result<bool, Wrong>
     requires { IsOpenedEmpty (H.state heap.old) }
     ensures { IsOpenedEmpty (H.state heap.new) }
 {

@@ -54,7 +54,7 @@ impl<H: Manager> RandomRun<H> {
         Ok(())
     }
 
-    /// Compares the figures of the heap. Where every bound is 1 the used pages are those of the arithmetic.
+    /// Compares the figures of the heap. If every bound is 1 the used pages are those of the arithmetic.
     fn compare_totals(&mut self) -> Result<(), Wrong>
         ensures same { OnOk result (totals_in (H.state self.new.heap).kind (H.state self.new.heap)
             ≡ totals_of self.new.reference.paging self.new.reference.held) }
@@ -101,7 +101,7 @@ impl<H: Manager> RandomRun<H> {
         self.compare_block(handle, blocks, None)
     }
 
-    /// The physical block of block i of an object at an address; none where words are moved.
+    /// The physical block of block i of an object at an address; none if words are moved.
     fn block_at(&self, place: u32, i: u32) -> Option<u32> {
         if (place / 4) as usize + (i as usize) < self.frames.len() {
             Some(block_of(&self.frames, place, i))

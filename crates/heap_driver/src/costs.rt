@@ -7,7 +7,7 @@ use step_ledger::Meter;
 /// A call of a manager.
 #[derive(Clone, Copy, Debug)]
 pub enum Call {
-    /// An object of so many bytes.
+    /// An object of this length in bytes.
     Malloc(u32),
     Free(Handle),
     Resize(Handle, u32),

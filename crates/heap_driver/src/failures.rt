@@ -1,19 +1,11 @@
-//! Rows and runs that came out otherwise.
+//! Runs that differ from the reference.
 use crate::random_run::Bounds;
 use wrong_answers::Wrong;
 
-/// A run that came out otherwise: the bounds, how many calls were made, and what was wrong.
+/// A run that differs: the bounds, the number of calls before it differed, and the difference.
 #[derive(Debug, Drop)]
 pub struct RunFailure {
     pub bounds: Bounds,
     pub call: u32,
     pub wrong: Wrong,
-}
-
-/// A row that came out otherwise: what it shows, the line, and what its call returned.
-#[derive(Debug, Drop)]
-pub struct RowFailure {
-    pub row: &'static str,
-    pub line: &'static str,
-    pub reply: Result<String, Wrong>,
 }

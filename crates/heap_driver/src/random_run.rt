@@ -25,7 +25,7 @@ pub const PROXIES: u32 = 48;
 /// No object is longer.
 const MOST: usize = 504;
 
-/// So many times in a run all is compared, each time after so many calls.
+/// How often a run compares everything, each time after `BETWEEN` calls.
 const COMPARISONS: u32 = 30;
 
 const BETWEEN: u32 = 50;
@@ -58,7 +58,7 @@ pub struct RandomRun<H: Manager> {
     pub(crate) meter: Meter,
     layout: Layout,
     objects: Vec<Option<Live>>,
-    /// By virtual block, its physical block; none where objects' words are moved.
+    /// By virtual block, its physical block; none if objects' words are moved.
     pub(crate) frames: Vec<u32>,
     /// By class, how many pages may be partly full.
     pub(crate) bounds: Vec<u32>,
@@ -92,7 +92,7 @@ impl<H: Manager> RandomRun<H> {
     }
 
     /// Long runs, one after another: every class has a bound of 1, of 2, one of its own, and of 64.
-    /// Objects move, but where the bound is 64: there are fewer pages.
+    /// Objects move, unless the bound is 64: there are fewer pages.
     pub fn play(&mut self, alloc: Global) -> Result<(), RunFailure> {
         for bounds in [
             Bounds::Each(1),
@@ -225,7 +225,7 @@ impl<H: Manager> RandomRun<H> {
         }
     }
 
-    /// A number that has no object gets one with these bytes, which stands where the heap says.
+    /// A number that has no object gets one with these bytes, at the address that the heap returns.
     fn put(
         &mut self,
         alloc: Global,
@@ -249,7 +249,7 @@ impl<H: Manager> RandomRun<H> {
         )
     }
 
-    /// This is known of a number of which nothing was.
+    /// Records this of a number that had no object.
     fn note(&mut self, number: u16, live: Live) -> Result<(), Wrong> {
         match self.objects.get_mut(usize::from(number)) {
             Some(entry) if entry.is_none() => {
@@ -260,7 +260,7 @@ impl<H: Manager> RandomRun<H> {
         }
     }
 
-    /// The object of this number goes, where there is one, and what was known of it is returned.
+    /// Removes the object of this number, if there is one, and returns what was known of it.
     fn take(&mut self, handle: Handle) -> Option<Live> {
         if let Ok(number) = number_of(handle) {
             self.reference.remove(number);
@@ -292,7 +292,7 @@ impl<H: Manager> RandomRun<H> {
         }
     }
 
-    /// An object of so many bytes at an address was freed.
+    /// An object of this length at an address was freed.
     fn freed(
         &mut self,
         alloc: Global,
@@ -372,7 +372,7 @@ impl<H: Manager> RandomRun<H> {
         }
     }
 
-    /// An object was given this length: where it stood, and what it had.
+    /// An object got this length: its old address, and its old bytes.
     fn resized(
         &mut self,
         alloc: Global,
@@ -477,7 +477,7 @@ impl<H: Manager> RandomRun<H> {
         }
     }
 
-    /// Each of these calls the heap, where it is open.
+    /// Each of these calls the heap, if it is open.
     fn heap_malloc(&mut self, length: u32) -> Option<Result<Handle, Refusal>> {
         if !self.heap.is_open() {
             return None;
@@ -551,7 +551,7 @@ fn cut(bytes: &[u8; MOST], length: u32) -> [u8; MOST] {
     kept
 }
 
-/// The bytes stand from byte `at` on, as far as there is room.
+/// Puts the bytes from byte `at` on, as far as they fit.
 fn overwrite(object: &mut [u8; MOST], at: usize, bytes: &[u8]) {
     let mut i = at;
     for byte in bytes {

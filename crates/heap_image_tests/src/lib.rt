@@ -1,4 +1,4 @@
-//! Tests of heap images. They stand in a crate of their own, since a crate with tests is proved twice.
+//! Tests of heap images. They have a crate of their own, since a crate with tests is proved twice.
 #![tactic(auto)]
 
 #[cfg(test)]

@@ -1,4 +1,4 @@
-//! Tests of the moving manager. They stand in a crate of their own, since a crate with tests is
+//! Tests of the moving manager. They have a crate of their own, since a crate with tests is
 //! proved twice.
 #![tactic(auto)]
 

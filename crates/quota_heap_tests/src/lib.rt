@@ -1,4 +1,4 @@
-//! Tests of the heap of tasks. They stand in a crate of their own, since a crate with tests is proved
+//! Tests of the heap of tasks. They have a crate of their own, since a crate with tests is proved
 //! twice.
 #![tactic(auto)]
 

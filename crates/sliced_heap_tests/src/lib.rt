@@ -1,4 +1,4 @@
-//! Tests of the sliced heap. They stand in a crate of their own, since a crate with tests is proved
+//! Tests of the sliced heap. They have a crate of their own, since a crate with tests is proved
 //! twice.
 #![tactic(auto)]
 

@@ -92,7 +92,7 @@ fn churned_image<H: Manager>(
     image(rt, alloc, heap, &session, &settings)
 }
 
-/// Whether the image is loaded and saved again as it is, by at most so many bytes at a time.
+/// Whether the image is loaded and saved again unchanged, at most `most` bytes at a time.
 fn is_saved_again<H: Manager>(
     rt: &HostRuntime,
     alloc: Global,

@@ -12,7 +12,7 @@ use std::alloc::Global;
 use std::test::Fail;
 use wrong_answers::Wrong;
 
-/// Whether what is loaded of the bytes is what the rules tell: the same image again, or `Bad` at the
+/// Whether what is loaded of the bytes is what the rules require: the same image again, or `Bad` at the
 /// first field that is broken.
 fn is_loaded_as_told<H: Manager>(
     rt: &HostRuntime,

@@ -76,7 +76,7 @@ pub fn image<H: Manager>(
     }
 }
 
-/// Loads bytes, which come at most `most` at a time, into the heap, and returns the image of what it
+/// Loads bytes, at most `most` at a time, into the heap, and returns the image of what it
 /// holds then; or why it loads nothing.
 pub fn load_and_save<H: Manager>(
     rt: &HostRuntime,

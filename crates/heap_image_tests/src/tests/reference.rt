@@ -1,4 +1,4 @@
-//! Which bytes are an image: a plain program, slow, by the rules in the order in which they are told.
+//! Which bytes are an image: a plain program, slow, with the rules in their order.
 
 use std::alloc::{AllocError, Global};
 
@@ -16,7 +16,7 @@ struct Header {
 }
 
 /// The offset of the first field that breaks a rule or is cut by the end, or else of the first byte
-/// past the image; none where the bytes are an image.
+/// past the image; none if the bytes are an image.
 pub fn broken_at(alloc: Global, bytes: &[u8]) -> Result<Option<usize>, AllocError> {
     match read_header(bytes) {
         Ok(header) => read_entries(alloc, bytes, header),
@@ -81,7 +81,7 @@ fn read_entries(alloc: Global, bytes: &[u8], header: Header) -> Result<Option<us
     Ok(if at < bytes.len() { Some(at) } else { None })
 }
 
-/// The number of `width` bytes at this offset, the least byte first; none where it is cut.
+/// The number of `width` bytes at this offset, the least byte first; none if it is cut.
 fn number(bytes: &[u8], at: usize, width: usize) -> Option<u32> {
     let field = bytes.get(at..at.checked_add(width)?)?;
     let mut number = 0_u32;
@@ -91,12 +91,12 @@ fn number(bytes: &[u8], at: usize, width: usize) -> Option<u32> {
     Some(number)
 }
 
-/// The words of an object of so many bytes: a header, and eight bytes to a word.
+/// The words of an object of this length: a header, and eight bytes to a word.
 fn words(length: u32) -> u32 {
     length / 8 + if length % 8 == 0 { 1 } else { 2 }
 }
 
-/// The pages for objects of these lengths where each class but its last page is full. The slots have
+/// The pages for objects of these lengths if each class is full but for its last page. The slots have
 /// 4 words, then each time nine eighths of that, rounded up, and a page at last.
 fn pages_needed(lengths: &[u32], page_words: u32) -> u32 {
     let mut pages = 0_u32;

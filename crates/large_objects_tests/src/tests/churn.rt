@@ -19,12 +19,12 @@ const PIECE: u32 = 504;
 
 const PROXIES: u32 = 64;
 
-/// So many times all is compared, each time after so many calls.
+/// How often a run compares everything, each time after `BETWEEN` calls.
 const COMPARISONS: u32 = 40;
 
 const BETWEEN: u32 = 50;
 
-/// So many times at least a malloc is refused for each cause, and a free of a piece.
+/// How often at least a malloc is refused for each cause, and a free of a piece.
 const LEAST: u32 = 10;
 
 /// The heap and the map, the calls that are drawn, and what was refused.
@@ -106,7 +106,7 @@ impl<H: Manager> Churn<H> {
     }
 }
 
-/// Long runs of drawn calls. Each cause of a refusal comes, and so does a free of a piece.
+/// Long runs of drawn calls. Each cause of a refusal occurs, and so does a free of a piece.
 fn play<H: Manager>(alloc: Global, inner: H, meter: Meter, layout: Layout) -> Result<(), Wrong>
     requires { IsPaged (H.state inner).kind }
 {

@@ -79,7 +79,7 @@ impl<H: Manager> Compared<H> {
         parts_of(self.alloc, self.shape.piece, bytes)
     }
 
-    /// Why an object of so many bytes is refused, where it is.
+    /// Why an object of this length is refused, if it is.
     fn refusal(&self, bytes: u32) -> Result<Option<Refusal>, Wrong> {
         let parts = self.parts(bytes)?;
         if let Some(spine) = parts.last() {
@@ -122,7 +122,7 @@ impl<H: Manager> Compared<H> {
         }
     }
 
-    /// The length of an object; none where the handle isn't that of one.
+    /// The length of an object; none if the handle isn't that of one.
     pub fn length(&self, h: Handle) -> Option<usize> {
         match self.objects.get(h.0 as usize) {
             Some(Some(bytes)) => Some(bytes.len()),
@@ -155,7 +155,7 @@ impl<H: Manager> Compared<H> {
         Ok(inner.place(h, self.driver.meter.steps()).is_some())
     }
 
-    /// What a read or a write of so many bytes from byte `at` on returns.
+    /// What a read or a write of this part returns.
     fn access(&self, h: Handle, at: u32, count: usize) -> Result<(), AccessFault> {
         let Some(length) = self.length(h) else {
             return Err(AccessFault::Unknown);
@@ -214,14 +214,14 @@ impl<H: Manager> Compared<H> {
     }
 }
 
-/// The bytes stand in the object from byte `at` on, where they are within it.
+/// Writes the bytes into the object from byte `at` on, if they are within it.
 fn overwrite(object: &mut [u8], at: usize, bytes: &[u8]) {
     if at <= object.len() && bytes.len() <= object.len() - at {
         object[at..at + bytes.len()].copy_from_slice(bytes);
     }
 }
 
-/// The bytes of the object from byte `at` on, where there are as many as the room has.
+/// Fills `out` with the bytes of the object from byte `at` on, if they are within it.
 fn copy_part(object: &[u8], at: usize, room: &mut [u8]) {
     if at <= object.len() && room.len() <= object.len() - at {
         room.copy_from_slice(&object[at..at + room.len()]);

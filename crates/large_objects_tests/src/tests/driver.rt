@@ -1,4 +1,4 @@
-//! The calls of a heap of large objects, each made only where it is open.
+//! The calls of a heap of large objects, each made only if it is open.
 ghost use Rattle.cf_model.specs.Families.{IsPaged};
 
 use cf_base::{AccessFault, Handle, NotLive, Refusal, Settings};
@@ -94,7 +94,7 @@ impl<H: Manager> Driver<H> {
         Ok(self.heap.read(h, at, out, &mut self.meter))
     }
 
-    /// A read that isn't refused, and gives these bytes.
+    /// A read that isn't refused, and returns these bytes.
     pub fn gives(&mut self, h: Handle, at: u32, out: &mut [u8], want: &[u8]) -> Result<(), Wrong> {
         out.fill(0xee);
         let done = self.read(h, at, out)?;

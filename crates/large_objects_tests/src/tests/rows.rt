@@ -17,10 +17,10 @@ static EIGHT: [u8; 8] = [1, 2, 3, 4, 5, 6, 7, 8];
 /// No object has this number.
 const NOBODY: Handle = Handle(4_294_967_295);
 
-/// A call, and what it returns. Objects go by ids from 0 to 2.
+/// A call, and what it returns. Objects have ids from 0 to 2.
 #[derive(Clone, Copy)]
 enum Call {
-    /// A malloc of so many bytes under an id ..
+    /// A malloc of this length under an id ..
     Malloc(usize, u32),
     /// .. and one that is refused.
     Refused(u32, Refusal),
@@ -125,7 +125,7 @@ static ROWS: [Row; 9] = [
             Call::Refused(4_294_443_025, Refusal::Size),
         ],
     },
-    // Where proxies and pages lack, the proxies are told.
+    // If both proxies and pages are too few, the proxies are the cause.
     Row {
         settings: [8, 131_072, 32_766],
         calls: &[
@@ -227,7 +227,7 @@ fn handle(handles: &[Handle; 3], id: usize) -> Handle {
     }
 }
 
-/// Compares the figures of the class with slots of so many words.
+/// Compares the figures of the class with slots of this size.
 fn compare_class<H: Manager>(
     driver: &Driver<H>,
     slot_words: u32,

@@ -1,21 +1,12 @@
-//! Rows of calls, and long runs of drawn calls.
+//! Long runs of drawn calls.
 use cf_base::Layout;
 use cf_model::Manager;
-use heap_driver::{Driver, RandomRun};
+use heap_driver::RandomRun;
 use moving_heap::MovingHeap;
 use std::test::Fail;
 use step_ledger::Meter;
 
-#[test]
-fn calls_return_what_was_worked_out_by_hand(rt: HostRuntime) -> Result<(), Fail> {
-    let alloc = rt.alloc();
-    let heap = MovingHeap::closed(alloc);
-    let mut driver = Driver::new(alloc, heap, Layout::Words, Meter::new(&rt));
-    driver.play(alloc)?;
-    Ok(())
-}
-
-/// The pages that are free, or counted in a class whose figures tell as many.
+/// The pages that are free, or counted in a class that shows the same number in its figures.
 fn pages_told(heap: &MovingHeap) -> Option<u32> {
     if !heap.is_open() {
         return None;
@@ -27,7 +18,7 @@ fn pages_told(heap: &MovingHeap) -> Option<u32> {
     Some(pages)
 }
 
-/// The pages of class c, where its figures tell as many, and as many that are partly full.
+/// The pages of class c, if its figures show that number, and that of the partly full ones.
 fn class_pages(heap: &MovingHeap, c: u32) -> Option<u32> {
     if !heap.is_open() || c >= heap.classes() {
         return None;

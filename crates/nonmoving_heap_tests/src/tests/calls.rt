@@ -1,19 +1,10 @@
-//! Rows of calls, and long runs of drawn calls.
+//! Long runs of drawn calls.
 use cf_base::Layout;
 use cf_model::Manager;
-use heap_driver::{Driver, RandomRun};
+use heap_driver::RandomRun;
 use nonmoving_heap::NonMovingHeap;
 use std::test::Fail;
 use step_ledger::Meter;
-
-#[test]
-fn calls_return_what_was_worked_out_by_hand(rt: HostRuntime) -> Result<(), Fail> {
-    let alloc = rt.alloc();
-    let heap = NonMovingHeap::closed(alloc);
-    let mut driver = Driver::new(alloc, heap, Layout::Blocks, Meter::new(&rt));
-    driver.play(alloc)?;
-    Ok(())
-}
 
 /// After them each of the 16 pages is free, or counted in its class.
 #[test]

@@ -1,4 +1,4 @@
-//! Calls of a task on the heap of tasks, each answered in a word.
+//! Calls of a task on the heap of tasks, each with its result in a word.
 ghost use Rattle.std.specs.Prelude.{◌<◌, ◌≤◌, ◌^◌, IsTrue};
 
 use quota_heap::{Handle, NotLive, QuotaFault, QuotaHeap, Refusal};
@@ -18,7 +18,7 @@ pub enum Call {
     Peek(u32),
 }
 
-/// What a heap answers to a call of a task.
+/// What a heap returns to a call of a task.
 pub fn answer(heap: &mut QuotaHeap, meter: &mut Meter, task: u32, call: Call) -> &'static str
     requires opened { IsTrue heap.old.is_open }
     ensures { IsTrue heap.new.is_open }

@@ -1,4 +1,4 @@
-//! Two tasks under every order of their calls: each is answered as if it were alone.
+//! Two tasks under every order of their calls: each gets the results that it would get alone.
 ghost use Rattle.std.specs.Prelude.{IsTrue, OnOk};
 
 use super::calls::{Call, answer};
@@ -45,7 +45,7 @@ fn open(heap: &mut QuotaHeap, meter: &mut Meter, settings: &Settings) -> Result<
     Ok(())
 }
 
-/// Whether call `at` of a task is answered as it is to be; there is one.
+/// Whether call `at` of a task, if there is one, returns what it must.
 fn agrees(heap: &mut QuotaHeap, meter: &mut Meter, task: usize, at: usize) -> bool
     requires { IsTrue heap.old.is_open }
     ensures { IsTrue heap.new.is_open }
@@ -57,7 +57,7 @@ fn agrees(heap: &mut QuotaHeap, meter: &mut Meter, task: usize, at: usize) -> bo
     answer(heap, meter, task as u32, call) == want
 }
 
-/// Whether a task alone is answered so.
+/// Whether a task alone gets these results.
 fn alone(heap: &mut QuotaHeap, meter: &mut Meter, task: usize) -> bool
     requires { IsTrue heap.old.is_open }
     ensures { IsTrue heap.new.is_open }

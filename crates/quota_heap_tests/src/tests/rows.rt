@@ -5,7 +5,7 @@ use std::test::Fail;
 use step_ledger::Meter;
 
 // Three pages of 512 bytes. Task 0 frees one of its two, and task 1 may not take it: its quota is one
-// page. What task 0 gives back of its quota task 1 gets.
+// page. Task 1 gets what task 0 returns of its quota.
 #[test]
 fn a_page_that_is_freed_stays_in_the_quota(rt: HostRuntime) -> Result<(), Fail> {
     let Ok(s) = Settings::check(3, 512, 1, 8) else {

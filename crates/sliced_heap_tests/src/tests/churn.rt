@@ -72,7 +72,7 @@ impl Churn {
         })
     }
 
-    /// The whole run: the number of the first call that is answered otherwise.
+    /// The whole run: the number of the first call whose result differs.
     fn play(&mut self) -> Option<u32> {
         for i in 0..CALLS {
             if !self.call() || (i % BETWEEN == 0 && !self.has_words()) {
@@ -147,7 +147,7 @@ impl Churn {
         }
     }
 
-    /// A new object of so many zeros is placed where one may be: there its header stands.
+    /// Places a new object of zeros at the heap's address, if one may be there: its header is there.
     fn placed(&mut self, task: u32, number: u32, length: u32) -> bool {
         let words = slot_words(length);
         let header = u64::from(number) | (u64::from(length) << 32);
@@ -219,7 +219,7 @@ impl Churn {
         self.heap_left() == Some(self.slow.left())
     }
 
-    /// The length of an object; 0 where there is none.
+    /// The length of an object; 0 if there is none.
     fn length_of(&self, number: u32) -> u32
         ensures { result ≤ 2040 }
     {
@@ -229,7 +229,7 @@ impl Churn {
         }
     }
 
-    /// Whether the object is live and has so many bytes from byte `at` on.
+    /// Whether the object is live and this part lies within it.
     fn fits(&self, number: u32, at: u32, count: usize) -> bool {
         match self.slow.object(number) {
             Some(object) => count.saturating_add(at as usize) <= object.length as usize,
@@ -300,7 +300,7 @@ impl Churn {
         self.heap_word(PAGES * PAGE_WORDS).is_none()
     }
 
-    /// Each of these calls the heap, where it is open.
+    /// Each of these calls the heap, if it is open.
     fn heap_malloc(&mut self, length: u32) -> Option<Result<Handle, SliceRefusal>> {
         if !self.heap.is_open() {
             return None;

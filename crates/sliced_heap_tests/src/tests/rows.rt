@@ -40,7 +40,7 @@ fn returns(heap: &mut SlicedHeap, call: Call, steps: &mut Steps) -> bool
     }
 }
 
-/// Plays the calls on a heap of so many pages of 512 bytes, with 8 proxies.
+/// Plays the calls on a heap with this number of pages of 512 bytes, and 8 proxies.
 fn play(
     rt: &impl Abort,
     mut heap: SlicedHeap,

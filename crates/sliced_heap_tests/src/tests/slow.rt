@@ -20,7 +20,7 @@ const SIZES: u32 = 40;
 /// No object is longer.
 pub const MOST: usize = 2040;
 
-/// An object: whose it is, where its slot begins, the words of the slot, and its bytes.
+/// An object: its owner, the first word of its slot, the words of the slot, and its bytes.
 #[derive(Clone, Copy)]
 pub struct Object {
     pub task: u32,
@@ -57,12 +57,12 @@ pub struct Slow {
     job: Option<Job>,
 }
 
-/// The size of slots after one of so many words: nine eighths of it, rounded up, and at last the page.
+/// The slot size after this one: nine eighths of it, rounded up, and at last the page.
 fn next_size(words: u32) -> u32 {
     words.saturating_mul(9).div_ceil(8).min(PAGE_WORDS)
 }
 
-/// The words of the least slot that holds an object of so many bytes with its header.
+/// The words of the least slot that holds an object of this length with its header.
 pub fn slot_words(bytes: u32) -> u32 {
     let words = 1 + bytes.div_ceil(8);
     let mut size = LEAST;
@@ -74,12 +74,12 @@ pub fn slot_words(bytes: u32) -> u32 {
     size
 }
 
-/// How many slots of so many words a page has.
+/// How many slots of this size a page has.
 pub fn slots(words: u32) -> u32 {
     PAGE_WORDS.checked_div(words).unwrap_or(0)
 }
 
-/// Where slot i of so many words of the page begins.
+/// The first word of slot i of this size of the page.
 pub fn slot_at(words: u32, page: u32, i: u32) -> u32 {
     page.wrapping_mul(PAGE_WORDS)
         .wrapping_add(i.wrapping_mul(words))
@@ -115,7 +115,7 @@ impl Slow {
         Ok(Slow { objects, job: None })
     }
 
-    /// The object of this number, where there is one.
+    /// The object of this number, if there is one.
     pub fn object(&self, number: u32) -> Option<&Object> {
         match self.objects.get(number as usize) {
             Some(Some(object)) => Some(object),
@@ -123,7 +123,7 @@ impl Slow {
         }
     }
 
-    /// The job's slot is of so many words, and on this page.
+    /// Whether the job's slot has this size, and is on this page.
     fn holds(&self, words: u32, page: u32) -> bool {
         match self.job {
             Some(job) => job.words == words && page_of(job.place) == page,
@@ -142,7 +142,7 @@ impl Slow {
         count
     }
 
-    /// How many objects have slots of so many words.
+    /// How many objects have slots of this size.
     fn live(&self, words: u32) -> u32 {
         let mut count = 0u32;
         for entry in self.objects.iter() {
@@ -155,7 +155,7 @@ impl Slow {
         count
     }
 
-    /// How many of them stand on the page.
+    /// How many of them are on the page.
     fn on_page(&self, words: u32, page: u32) -> u32 {
         let mut count = 0u32;
         for entry in self.objects.iter() {
@@ -168,7 +168,7 @@ impl Slow {
         count
     }
 
-    /// Whether the page holds an object of so many words to a slot, and not as many as it could.
+    /// Whether the page holds an object with a slot of this size, and has a free slot.
     fn is_part_full(&self, words: u32, page: u32) -> bool {
         let count = self.on_page(words, page);
         0 < count && count < slots(words)
@@ -195,7 +195,7 @@ impl Slow {
         pages
     }
 
-    /// How many pages the objects need with one more that has a slot of so many words: for each size
+    /// How many pages the objects need with one more that has a slot of this size: for each size
     /// the objects over the slots, rounded up.
     fn needed_with(&self, words: u32) -> u32 {
         let mut pages = 0u32;
@@ -212,7 +212,7 @@ impl Slow {
         pages
     }
 
-    /// Whether an object stands at the address, or a job's slot does.
+    /// Whether an object or a job's slot has this address.
     fn is_taken(&self, place: u32) -> bool {
         for entry in self.objects.iter() {
             if let Some(object) = entry {
@@ -227,7 +227,7 @@ impl Slow {
         }
     }
 
-    /// Whether the slot of so many words at the address is usable: it is neither taken nor a job's, and
+    /// Whether the slot of this size at the address is usable: it is neither taken nor a job's, and
     /// its page holds an object of this size, or the job's slot.
     fn is_usable(&self, words: u32, place: u32) -> bool {
         let page = page_of(place);
@@ -279,7 +279,7 @@ impl Slow {
         false
     }
 
-    /// Whether an object may be placed in the slot at the address: a usable one, or where there is none
+    /// Whether an object may be placed in the slot at the address: a usable one, or if there is none
     /// one of a free page.
     pub fn is_place(&self, words: u32, place: u32, usable: bool) -> bool {
         if usable {
@@ -289,7 +289,7 @@ impl Slow {
         }
     }
 
-    /// Why an object of so many bytes is refused.
+    /// Why an object of this length is refused.
     pub fn refusal(&self, bytes: u32) -> Option<SliceRefusal> {
         let words = slot_words(bytes);
         if bytes as usize > MOST {
@@ -305,7 +305,7 @@ impl Slow {
         }
     }
 
-    /// A number that has no object gets this one; false where it has one.
+    /// Puts this object under a number; false if the number has one.
     pub fn put(&mut self, number: u32, object: Object) -> bool {
         match self.objects.get_mut(number as usize) {
             Some(entry) if entry.is_none() => {
@@ -327,7 +327,7 @@ impl Slow {
         }
     }
 
-    /// The object of this number goes, and leaves a job. An object is to be carried to its slot where
+    /// Removes the object of this number, which leaves a job. An object is to be carried to its slot if
     /// its page was full of several, and another page of the size is partly full.
     pub fn remove(&mut self, number: u32) {
         let Some(object) = self.object(number) else {
@@ -364,8 +364,8 @@ impl Slow {
         }
     }
 
-    /// The object of this number is to be carried to the job's slot, from that where it stands; false
-    /// where it may not be.
+    /// Whether the object of this number may be carried from its slot to the job's slot; if so, it is
+    /// to be.
     pub fn carry(&mut self, number: u32) -> bool {
         let (Some(job), Some(object)) = (self.job, self.object(number)) else {
             return false;
@@ -399,7 +399,7 @@ impl Slow {
         }
     }
 
-    /// A slice of so many words. Where it is the last of the job, and two pages of the size are partly
+    /// A slice of `quantum` words. If it is the last of the job, and two pages of the size are partly
     /// full, an object is to be carried to the slot next.
     pub fn advance(&mut self, quantum: u32) {
         let Some(job) = self.job else {
@@ -413,7 +413,7 @@ impl Slow {
         };
     }
 
-    /// The job that follows one, where one does.
+    /// The job that follows one, if one does.
     fn job_after(&self, job: Job) -> Option<Job> {
         match self.part_full_beside(job.words, job.place) {
             Some(page) if self.part_full(job.words) == 2 => Some(Job {
@@ -446,7 +446,7 @@ impl Slow {
         }
     }
 
-    /// Word w of the region; none where the job leaves it open.
+    /// Word w of the region; none if the job leaves it open.
     pub fn word(&self, w: u32) -> Option<u64> {
         for number in 0..PROXIES {
             if let Some(object) = self.object(number) {
@@ -463,7 +463,7 @@ impl Slow {
         }
     }
 
-    /// Word i of an object at its address; none where it is yet to be carried there.
+    /// Word i of an object at its address; none if it is yet to be carried there.
     fn word_at(&self, number: u32, object: &Object, i: u32) -> Option<u64> {
         match self.job {
             Some(job) if job.work == Work::Carries(number) && job.done <= i => None,
@@ -471,7 +471,7 @@ impl Slow {
         }
     }
 
-    /// Word i of the job's slot: zero where it is done.
+    /// Word i of the job's slot: zero if it is done.
     fn word_left(&self, job: Job, i: u32) -> Option<u64> {
         if i < job.done {
             return Some(0);
