@@ -8,7 +8,7 @@ use Rattle.run_model.specs.Sessions.{RunState}
 use Rattle.run_model.specs.Steps.{Step}
 use Rattle.run_model.specs.Texts.{said}
 
--- each of them is told as lacking
+-- the reply to each of them is `none`
 pub lacking : (run : RunState) (c : CommandRef)
     → ((id bytes : ℕ) → c ≡ borrowed.Malloc id bytes → ⊥) → ((id : ℕ) → c ≡ borrowed.Free id → ⊥)
     → ((id at : ℕ) (bytes : Bor (List ℕ)) → c ≡ borrowed.Write id at bytes → ⊥) → ((id at len : ℕ) → c ≡ borrowed.Read id at len → ⊥)

@@ -1,3 +1,4 @@
+pub mod CallerLemmas
 pub mod Calling
 pub mod Lacking
 pub mod LookReplies

@@ -1,6 +1,6 @@
 -- What a command that only looks writes on the line.
-use Rattle.std.proofs.Common.{◌≡◌, ◌∙◌, ◌<◌, ◌/◌, ◌%◌, ◌^◌, ◌++◌, ℕ, List, ◌∷◌, Option, Some, None, Err, option_map}
-use Rattle.std.proofs.Common.{length, nat_eq, false, refl, sym, ap, arith, lit<}
+use Rattle.std.proofs.Common.{◌≡◌, ◌∙◌, ◌+◌, ◌<◌, ◌≤◌, ◌/◌, ◌%◌, ◌^◌, ◌++◌, ℕ, List, ◌∷◌, Option, Some, None, Err, option_map}
+use Rattle.std.proofs.Common.{length, take, drop, nat_eq, false, refl, sym, ap, arith, lit<}
 use Rattle.std.specs.Prelude.{codes, slice_index}
 use Rattle.std.specs.Int.{byte_at, bytes_high_first}
 use Rattle.std.proofs.Math.Nat.{mod-lt}
@@ -31,16 +31,24 @@ pub written : (lead begun line text : List ℕ) (outcome : Outcome) → begun �
     → SaidOn (lines_at lead line) text (reply.Written outcome)
 written lead begun line text outcome begins is short tells = (is ∙ ap (λ (l : List ℕ). l ++ text) begins, short, tells)
 
--- the bytes that were read are told as good
+-- the text for a part that the object has, and for one that passes its end
+pub read_within : (x : Placed) (from count : ℕ) → from + count ≤ length x.bytes
+    → read_text (Some x) from count ≡ codes "=" ++ encode_lower (take count (drop from x.bytes))
+read_within x from count le = rw (le-leb _ _ le) refl
+
+pub read_past : (x : Placed) (from count : ℕ) → length x.bytes < from + count → read_text (Some x) from count ≡ codes "range"
+read_past x from count lt = rw (le_no _ _ lt) refl
+
+-- the reply to a read that is done
 pub read_said : (s : HeapState) (part : Part) (count : ℕ) (bytes : List ℕ) → ReadsBytes s part count bytes
     → read_text (get s.held part.number) part.from count ≡ codes "=" ++ encode_lower bytes
-read_said s part count bytes r = rw (r.found, le-leb _ _ r.within) (ap (λ (b : List ℕ). codes "=" ++ encode_lower b) (sym r.value))
+read_said s part count bytes r = rw r.found (read_within r.object part.from count r.within ∙ ap (λ (b : List ℕ). codes "=" ++ encode_lower b) (sym r.value))
 
--- and a refused read as its cause
+-- and to a refused read
 pub fault_said : (s : HeapState) (part : Part) (count : ℕ) (fault : AccessFault) → IsFault s part count fault
     → write_text (Err fault) ≡ read_text (get s.held part.number) part.from count
 fault_said s part count access.Unknown none = rw none refl
-fault_said s part count access.Range past = rw (past.found, le_no _ _ past.past) refl
+fault_said s part count access.Range past = rw past.found (sym (read_past past.object part.from count past.past))
 
 pub place_said : (o : Option Placed) (word : ℕ) → Some word ≡ option_map (λ (x : Placed). x.place) o → with_number (codes "at ") word ≡ place_text o
 place_said None word is = absurd cc

@@ -1,4 +1,4 @@
--- What was done and told, put together.
+-- What a command did and what was written of its reply, together.
 use Rattle.std.proofs.Common.{◌≡◌, ◌∙◌, ℕ, ◌++◌, List, [], ◌∷◌, Option, Some, None, Result, Ok, Err, length, map, refl, ap}
 use Rattle.std.proofs.Common.{ap₂, sym, subst, append_assoc}
 use Rattle.std.specs.Prelude.{IsTrue, codes}
@@ -30,7 +30,9 @@ use Rattle.run_model.specs.Texts.{Reply, led, said}
 use Rattle.run_model.proofs.CallerLemmas.{step_meets_bounds, step_going}
 use Rattle.cf_session.proofs.LookReplies.{fault_said, read_said}
 use Rattle.cf_session.specs.Apply.{Applies, outcome_in, outcome_of, run_at}
-use Rattle.cf_session.specs.OneLine.{HasRoom, IsEnded, IsTold, SaidOn, lines_at, short_text}
+use Rattle.cf_session.specs.Apply.{IsEnded}
+use Rattle.cf_session.specs.OneLine.{HasRoom, IsTold, SaidOn, lines_at}
+use Rattle.cf_session.specs.Short.{short_text}
 use Rattle.cf_session.specs.declared.short.OneLine.{OneLine}
 use Rattle.cf_session.specs.declared.short.OneLine.TheVariants as reply
 use Rattle.cf_session.specs.declared.outcome.Outcome.{Outcome}
@@ -47,7 +49,7 @@ Told = Option (List ℕ)
 abbrev at : RunState → Told → Moment
 at run written = record { run = run; written = written }
 
--- the reply of a step was put, and its outcome told
+-- the reply of a step was put, with its outcome
 module _ (old new : RunState) (c : Command) (lead : List ℕ) (reply : Reply) (w y : Told) (going : IsGoing old) (step : Step old c reply new) where
   pub applied : (outcome : Outcome) → outcome ≡ outcome_of reply → y ≡ appended w (led lead reply)
       → Applies (at old w) (record { command = c; lead = lead }) (Ok outcome) (at new y)
@@ -59,17 +61,17 @@ module _ (old new : RunState) (c : Command) (lead : List ℕ) (reply : Reply) (w
       record { reply = reply; front = front; lost = lost; turn = turn old new c reply going step; cut = parts; written = put }
 
 -- a report's outcome is neither good nor a refusal
-pages_other : (f : ℕ → Figures) (t : Totals) (cs : List ℕ) → Other ≡ outcome_of (map (λ c. class_line (f c)) cs ++ said (total_line t))
+pub pages_other : (f : ℕ → Figures) (t : Totals) (cs : List ℕ) → Other ≡ outcome_of (map (λ c. class_line (f c)) cs ++ said (total_line t))
 pages_other f t [] = refl
 pages_other f t (c ∷ cs) = refl
 
-walk_other : (k : Kind) (s : HeapState) → Other ≡ outcome_of (walk_of k s)
+pub walk_other : (k : Kind) (s : HeapState) → Other ≡ outcome_of (walk_of k s)
 walk_other Moving s = pages_other (λ c. figures_of (paging_in s) s.held c) (totals_in s.kind s) (live_classes s)
 walk_other NonMoving s = pages_other (λ c. figures_of (paging_in s) s.held c) (totals_in s.kind s) (live_classes s)
 walk_other Tlsf s = refl
 walk_other HalfFit s = refl
 
-frag_other : (s : HeapState) → Other ≡ outcome_of (frag_of s)
+pub frag_other : (s : HeapState) → Other ≡ outcome_of (frag_of s)
 frag_other s = refl
 
 pub reported : (old new : RunState) (c : Command) (lead : List ℕ) (reply : Reply) (w y : Told) (r : Result Unit Failed) (outcome : Outcome)
@@ -99,19 +101,19 @@ reported_frag old lead w y c r answer is going put told =
     let P : Command → Type 0 = λ k. Applies (at old w) (record { command = k; lead = lead }) answer (at old y) in
     subst P (sym is) (reported old old Frag lead (frag_of old.heap) w y r Other answer going (refl, refl) (frag_other old.heap) put told)
 
--- a text that was told after a step
+-- a text that was put after a step
 pub told_step : (old new : RunState) (asked c : Command) (lead text : List ℕ) (w y : Told) (answer : Result Outcome Failed) → asked ≡ c → IsGoing old
     → Step old c (said text) new → IsTold text lead w answer y → Applies (at old w) (record { command = asked; lead = lead }) answer (at new y)
 told_step old new asked c lead text w y answer is going step told =
     subst (λ (k : Command). Applies (at old w) (record { command = k; lead = lead }) answer (at new y)) (sym is)
     (reported old new c lead (said text) w y told.written (outcome_in text) answer going step refl told.puts told.ended)
 
--- a reply that stands on the line has room for its end
+-- a reply on the line has room for the line feed
 pub has_room : (lead line text : List ℕ) (o : OneLine) → SaidOn (lines_at lead line) text o → HasRoom line o
 has_room lead line text (reply.Short short) on = tt
 has_room lead line text (reply.Written outcome) on = on.1
 
--- a short reply that was told
+-- a short reply that was put
 pub told_short : (lead line text : List ℕ) (w y : Told) (o : OneLine) (short : Short) (answer : Result Outcome Failed) → o ≡ reply.Short short
     → SaidOn (lines_at lead line) text o → IsTold (short_text short) lead w answer y → IsTold text lead w answer y
 told_short lead line text w y o short answer is on told =
@@ -138,7 +140,7 @@ told_bytes s part count bytes lead seen w y r answer reads spelled put told =
     subst (λ (t : List ℕ). IsTold t lead w answer y) (sym (read_said s part count bytes reads))
     (record { written = r; puts = subst (λ (l : List ℕ). Puts w l r y) spelled put; ended = told })
 
--- what was told of an object is told of its id
+-- a reply for an object is one for its id
 pub told_named : (session : SessionState) (heap : HeapState) (id h from count len : ℕ) (lead : List ℕ) (w y : Told) (answer : Result Outcome Failed)
     → Some h ≡ get session.ids id → IsTold (read_text (get heap.held h) from count) lead w answer y → count ≡ len
     → IsTold (read_text (object_of (run_at session heap) id) from len) lead w answer y
@@ -147,21 +149,21 @@ told_named session heap id h from count len lead w y answer named put same =
     subst (λ (n : ℕ). IsTold (read_text (get heap.held h) from n) lead w answer y) same put in
     subst (λ (o : Option ℕ). IsTold (read_text (elim o [ None ↦ None | Some q ↦ get heap.held q ]) from len) lead w answer y) named there
 
--- a read that was refused, as its cause tells
+-- a refused read, by its cause
 pub told_fault : (s : HeapState) (part : Part) (count : ℕ) (fault : AccessFault) (short : Short) (lead : List ℕ) (w y : Told)
     (answer : Result Outcome Failed) → IsFault s part count fault → short_text short ≡ write_text (Err fault) → IsTold (short_text short) lead w answer y
     → IsTold (read_text (get s.held part.number) part.from count) lead w answer y
 told_fault s part count fault short lead w y answer cause is told =
     subst (λ (t : List ℕ). IsTold t lead w answer y) (is ∙ fault_said s part count fault cause) told
 
--- the line of a short reply, where nothing leads it
+-- the line of a short reply without a lead
 pub put_bare : (w y : Told) (lead text seen : List ℕ) (r : Result Unit Failed) → length lead ≡ 0 → seen ≡ text ++ 10 ∷ [] → Puts w seen r y
     → Puts w (led lead (said text)) r y
 put_bare w y lead text seen r none is put =
     puts_line w y lead text text r (ap (λ (l : List ℕ). l ++ text) (sym (nil_from_length lead none)))
     (subst (λ (s : List ℕ). Puts w s r y) is put)
 
--- and where it stands after its lead
+-- and of one after its lead
 pub put_after : (w y : Told) (lead text seen before line : List ℕ) (r : Result Unit Failed) → before ≡ lead → line ≡ before ++ seen → seen ≡ text ++ 10 ∷ []
     → Puts w line r y → Puts w (led lead (said text)) r y
 put_after w y lead text seen before line r begun pushed is put =
@@ -174,7 +176,7 @@ pub applied_going : (old new : RunState) (c : Command) (lead : List ℕ) (w y : 
 applied_going old new c lead w y (Ok outcome) going a = step_going old new c a.0.reply going a.0.turn.step
 applied_going old new c lead w y (Err e) going a = step_going old new c a.reply going a.turn.step
 
--- a run goes on where its session is consistent with a heap that is open and keeps its rules
+-- a session that is consistent with an open heap that keeps its rules is in a run that goes on
 pub going_before : (inside session : SessionState) (heap : HeapState) → IsTrue heap.is_open → KeepsRules heap → inside ≡ session
     → AreTied session heap → IsGoing (run_at inside heap)
 going_before inside session heap opened rules same tied =

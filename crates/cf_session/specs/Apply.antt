@@ -18,17 +18,22 @@ run_at session heap = record { session = session; heap = heap }
 abbrev pub moment_at : SessionState → HeapState → Option (List ℕ) → Moment
 moment_at session heap written = record { run = run_at session heap; written = written }
 
--- good where the line is `ok` or begins with `=`, refused where it begins with `refused`
+-- Good if the line is `ok` or begins with `=`, Refused if it begins with `refused`, else Other
 abbrev pub outcome_in : List ℕ → Outcome
 outcome_in text = if bytes_eq text (codes "ok") || starts_with nat_eq text (codes "=") then Good
     else (if starts_with nat_eq text (codes "refused") then Refused else Other)
 
--- by the first line of the reply
+-- the outcome by the first line of a reply
 abbrev pub outcome_of : Reply → Outcome
 outcome_of [] = Other
 outcome_of (text ∷ rest) = outcome_in text
 
--- The command took effect, and its reply was written: the whole of it, and the outcome is its; or a prefix of it.
+-- The command took effect, and its reply was written: all of it, with its outcome; or a prefix of it.
 abbrev pub Applies : Moment → Asked → Result Outcome Failed → Moment → Type 0
 Applies old asked (Ok outcome) new = (a : IsAnswered old asked new) × (outcome ≡ outcome_of a.reply)
 Applies old asked (Err failed) new = IsCutShort old asked new
+
+-- the reply was written, and this is the outcome; or the sink failed
+abbrev pub IsEnded : {T : Type 0} → Result T Failed → Outcome → Result Outcome Failed → Type 0
+IsEnded (Ok u) outcome answer = answer ≡ Ok outcome
+IsEnded (Err failed) outcome answer = answer ≡ Err failed

@@ -1,4 +1,5 @@
 pub mod Apply
+pub mod Short
 pub mod OneLine
 pub mod Records
 pub use Rattle.run_model.specs.Replies

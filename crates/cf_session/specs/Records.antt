@@ -1,4 +1,4 @@
--- The session that the records stand for. No public clause cites this module.
+-- The session of the records. No public clause cites this module.
 use Rattle.cf_model.specs.State.{HeapState}
 use Rattle.run_model.specs.Sessions.{RunState, SessionState}
 use Rattle.cf_session.specs.Apply.{run_at}
@@ -7,6 +7,6 @@ use Rattle.cf_session.specs.declared.records.Records.{Records}
 abbrev pub session_of : Records → SessionState
 session_of r = record { ids = r.ids; bound = r.counters.bound; moves = r.counters.moves; words = r.counters.words }
 
--- the run of a session that keeps these records, and of its manager
+-- the run of a session with these records, and of its manager
 abbrev pub run_with : Records → HeapState → RunState
 run_with records heap = run_at (session_of records) heap

@@ -1,16 +1,16 @@
-//! The commands that change objects: each does its call, and returns its reply.
+//! The commands that change objects: each calls the heap and returns its reply.
 ghost use Rattle.std.specs.Prelude.{◌≡◌, ◌^◌, ◌≤◌, IsTrue, Err};
-ghost use Rattle.cf_session.specs.OneLine.{short_text};
 ghost use Rattle.cf_session.specs.Records.{run_with, session_of};
+ghost use Rattle.cf_session.specs.Short.{short_text};
 ghost use Rattle.script_reader.specs.declared.command.Command.TheVariants.{Malloc, Free, Write, Resize, Bound};
-ghost use Rattle.run_model.specs.Replies.{malloc_text, resize_text, write_text};
+ghost use Rattle.run_model.specs.Replies.{resize_text};
 ghost use Rattle.run_model.specs.Sessions.{AreTied, IsGoing};
 ghost use Rattle.run_model.specs.Steps.{Step};
 ghost use Rattle.run_model.specs.Texts.{said};
 
 use crate::records::Records;
-use crate::short::Short;
-use cf_base::{AccessFault, Refusal, ResizeFault};
+use crate::short::{Short, fault_reply, refusal_reply};
+use cf_base::ResizeFault;
 use cf_model::Manager;
 use step_ledger::Steps;
 
@@ -37,17 +37,6 @@ pub(crate) fn malloc<H: Manager>(
             Short::Done
         }
         Err(refusal) => refusal_reply(refusal),
-    }
-}
-
-/// How a malloc's refusal is told.
-fn refusal_reply(refusal: Refusal) -> Short
-    ensures { short_text result ≡ malloc_text (Err refusal) }
-{
-    match refusal {
-        Refusal::Size => Short::RefusedSize,
-        Refusal::Proxy => Short::RefusedProxy,
-        Refusal::Space => Short::RefusedSpace,
     }
 }
 
@@ -99,17 +88,7 @@ pub(crate) fn write<H: Manager>(
     }
 }
 
-/// How the refusal of a read or a write is told.
-pub(crate) fn fault_reply(fault: AccessFault) -> Short
-    ensures { short_text result ≡ write_text (Err fault) }
-{
-    match fault {
-        AccessFault::Unknown => Short::Unknown,
-        AccessFault::Range => Short::Range,
-    }
-}
-
-/// `z`: gives the object of a live id another length.
+/// `z`: changes the length of a live id's object.
 pub(crate) fn resize<H: Manager>(
     records: &mut Records,
     heap: &mut H,
@@ -138,7 +117,7 @@ pub(crate) fn resize<H: Manager>(
     }
 }
 
-/// How a resize's refusal is told.
+/// The reply to a resize that the heap refused.
 fn resize_fault_reply(fault: ResizeFault) -> Short
     ensures { short_text result ≡ resize_text (Err fault) }
 {
@@ -150,7 +129,7 @@ fn resize_fault_reply(fault: ResizeFault) -> Short
     }
 }
 
-/// `k`: gives a class a bound of its own, while no id is live.
+/// `k`: sets the bound of one class, while no id is live.
 pub(crate) fn set_bound<H: Manager>(
     records: &Records,
     heap: &mut H,

@@ -11,8 +11,8 @@ use crate::changes::{free, malloc, resize, set_bound, write};
 use crate::looks::{block, peek, place, read, tell_steps};
 use crate::outcome::Outcome;
 use crate::records::Records;
+use crate::reply::{ended, tell, tell_short};
 use crate::short::Short;
-use crate::telling::{ended, tell, tell_short};
 use cf_base::Failed;
 use cf_io::{Line, Sink};
 use cf_model::Manager;
@@ -20,9 +20,9 @@ use frag_report::{frag_line, walk_lines};
 use script_reader::CommandRef;
 use step_ledger::Steps;
 
-/// Does the command, and writes its reply: each line after the lead, and put in one chunk. What an `r`
-/// reads goes through `room`, and is told in `text`.
-// One match, so that a caller that knows the command has the one branch inlined.
+/// Does the command and writes its reply, each line after the lead, in one chunk. `r` reads bytes into
+/// `room` and writes their digits into `text`.
+// One match, so that the compiler inlines the one branch for a caller that knows the command.
 pub(crate) fn answer<H: Manager, K: Sink>(
     records: &mut Records,
     heap: &mut H,

@@ -6,9 +6,11 @@ mod dispatch;
 mod looks;
 mod outcome;
 mod records;
+mod reply;
 mod session;
 mod short;
-mod telling;
 
 pub use outcome::Outcome;
+pub use reply::ended;
 pub use session::Session;
+pub use short::{Short, fault_reply, push_bytes, push_short, refusal_reply};

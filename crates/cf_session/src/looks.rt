@@ -1,5 +1,5 @@
-//! The commands that only look: each writes its reply on the line, after the lead, or returns a short
-//! one; a read puts its reply itself.
+//! The commands that only read: each writes its reply on the line after the lead, or returns a short
+//! reply. `r` puts its reply itself.
 ghost use Rattle.std.specs.Prelude.{◌≡◌, ◌^◌, ◌<◌, ◌≤◌, ◌++◌, IsTrue, OnErr, codes, length, slice_get, take, OnOk};
 ghost use Rattle.std.specs.FinMap as map;
 ghost use Rattle.cf_io.specs.Feeds.{Rose};
@@ -11,17 +11,16 @@ ghost use Rattle.run_model.specs.Replies.{block_text_at, object_of, peek_text, p
 ghost use Rattle.run_model.specs.Sessions.{AreTied};
 ghost use Rattle.run_model.specs.Texts.{led, said};
 
-use crate::changes::fault_reply;
 use crate::outcome::Outcome;
 use crate::records::Records;
-use crate::short::{OneLine, Short};
-use crate::telling::{ended, tell_short};
+use crate::reply::{ended, tell_short};
+use crate::short::{OneLine, Short, fault_reply};
 use cf_base::{Failed, Handle, Kind};
 use cf_io::{Line, Sink, begin_line, push_field, put_all};
 use cf_model::Manager;
 use step_ledger::Steps;
 
-/// `r`: tells the bytes of a live id's object from `at` on, in hexadecimal.
+/// `r`: puts the bytes of a live id's object from `at` on, in hexadecimal.
 pub(crate) fn read<H: Manager, K: Sink>(
     records: &Records,
     heap: &H,
@@ -63,7 +62,7 @@ pub(crate) fn read<H: Manager, K: Sink>(
     )
 }
 
-/// Tells the bytes of an object from `at` on, as many as there is room for.
+/// Puts the bytes of an object from `at` on, until `room` is full.
 fn read_part<H: Manager, K: Sink>(
     heap: &H,
     h: Handle,
@@ -95,8 +94,8 @@ fn read_part<H: Manager, K: Sink>(
     }
 }
 
-/// Writes the lead, `=`, the bytes in hexadecimal and a line feed at the start of the room, and returns
-/// how long they are.
+/// Writes the lead, `=`, the bytes in hexadecimal and a line feed at the start of `room`, and returns
+/// their length.
 fn spell_bytes(room: &mut [u8], lead: &[u8], bytes: &[u8]) -> usize
     requires room { length room.old ≡ 8202 }
     requires few { length bytes.now ≤ 4096 }
@@ -115,7 +114,7 @@ fn spell_bytes(room: &mut [u8], lead: &[u8], bytes: &[u8]) -> usize
     lead.len() + count + 2
 }
 
-/// `q`: the first word of a live id's slot or block.
+/// `q`: writes the first word of a live id's slot or block.
 pub(crate) fn place<H: Manager>(
     records: &Records,
     heap: &H,
@@ -142,7 +141,7 @@ pub(crate) fn place<H: Manager>(
     }
 }
 
-/// `b`: the physical block of block i of a live id's object.
+/// `b`: writes the physical block of block i of a live id's object.
 pub(crate) fn block<H: Manager>(
     records: &Records,
     heap: &H,
@@ -174,7 +173,7 @@ pub(crate) fn block<H: Manager>(
     }
 }
 
-/// `p`: a word of the region.
+/// `p`: writes a word of the region.
 pub(crate) fn peek<H: Manager>(
     heap: &H,
     word: u32,
@@ -196,7 +195,7 @@ pub(crate) fn peek<H: Manager>(
     }
 }
 
-/// `steps`: the cost of the last call; with pages also its bound, and what moved.
+/// `steps`: writes the cost of the last call; with pages also its bound, and what moved.
 pub(crate) fn tell_steps<H: Manager>(
     records: &Records,
     heap: &H,
@@ -213,7 +212,7 @@ pub(crate) fn tell_steps<H: Manager>(
     OneLine::Written(Outcome::Other)
 }
 
-/// Appends what `steps` tells.
+/// Appends the reply to `steps`.
 fn push_steps<H: Manager>(records: &Records, heap: &H, line: &mut Line)
     requires open { IsTrue (H.state heap.now).is_open }
     requires begun { length line.old ≤ 8 }

@@ -1,5 +1,5 @@
 //! How a command ended.
-/// How a command ended, as the first bytes of its reply tell.
+/// How a command ended, by the first bytes of its reply.
 #[derive(Clone, Copy, Debug, PartialEq, Eq)]
 pub enum Outcome {
     /// The reply is `ok`, or begins with `=`.

@@ -1,4 +1,4 @@
-//! What a session keeps of its run.
+//! The records of a session.
 ghost use Rattle.std.specs.Prelude.{◌≡◌, IfOk};
 ghost use Rattle.cf_session.specs.Records.{session_of};
 ghost use Rattle.run_model.specs.Sessions.{fresh_session};
@@ -7,7 +7,7 @@ use cf_base::OutOfMemory;
 use id_table::{Counters, IdTable};
 use std::alloc::Global;
 
-/// The handles of the live ids, and what is counted of the calls.
+/// The handles of the live ids, and the counters of the calls.
 #[derive(Drop)]
 pub(crate) struct Records {
     pub(crate) ids: IdTable,
@@ -15,7 +15,7 @@ pub(crate) struct Records {
 }
 
 impl Records {
-    /// No id is live. The table of all ids is taken here.
+    /// Records in which no id is live. Allocates the table of all ids.
     pub(crate) fn new(alloc: Global) -> Result<Records, OutOfMemory>
         ensures { IfOk result (λ r. session_of r ≡ fresh_session) }
     {

@@ -21,21 +21,21 @@ use std::alloc::Global;
 use std::marker::Model;
 use step_ledger::Meter;
 
-/// The most bytes that are read at once.
+/// The most bytes of one read.
 const MOST: usize = 4_096;
 
-/// The most bytes that tell what was read: a lead, `=`, two digits for each byte, and a line feed.
+/// The most bytes of the reply to a read: a lead, `=`, two digits for each byte, and a line feed.
 const MOST_TEXT: usize = 8_202;
 
-/// The ids of one manager's objects, and what is told of its calls.
+/// The ids of one manager's objects, and the counters of its calls.
 #[derive(Drop)]
 pub struct Session {
     meter: Meter,
     records: Records,
     line: Line,
-    /// Room for the bytes that are read.
+    /// The buffer of a read.
     room: [u8; MOST],
-    /// Room for what tells them.
+    /// The buffer of its reply.
     text: [u8; MOST_TEXT],
 }
 
@@ -51,7 +51,7 @@ impl Model for Session {
 }
 
 impl Session {
-    /// A session in which no id is live. The table of all 65,536 ids is taken here.
+    /// A session in which no id is live. Allocates the table of all 65,536 ids.
     pub fn start(rt: &HostRuntime, alloc: Global) -> Result<Session, OutOfMemory>
         ensures { IfOk result (λ s. s ≡ fresh_session) }
     {
@@ -64,9 +64,9 @@ impl Session {
         })
     }
 
-    /// Does the command on the heap, and writes its reply: each line after the lead, in one call.
-    /// `Failed` only where the sink failed; the command has taken effect then, and a prefix of its
-    /// reply was written.
+    /// Does the command on the heap and writes its reply, each line after the lead, in one call. If the
+    /// sink fails, the result is `Failed`: the command has taken effect, and a prefix of its reply was
+    /// written.
     pub fn apply<H: Manager, K: Sink>(
         &mut self,
         heap: &mut H,
@@ -91,7 +91,7 @@ impl Session {
         self.apply_ref(heap, c.as_ref(), lead, out)
     }
 
-    /// The same for a command whose bytes are borrowed.
+    /// `apply` for a command with borrowed bytes.
     pub fn apply_ref<H: Manager, K: Sink>(
         &mut self,
         heap: &mut H,
@@ -113,7 +113,7 @@ impl Session {
         ensures same { OnOk result (K.faults out.new ≡ K.faults out.old) }
         ensures failed { OnErr result (Rose (K.faults out.old) (K.faults out.new)) }
     {
-        // An open heap keeps its rules.
+        // For its contract: an open heap keeps its rules.
         let _open = heap.is_open();
         self.meter.lap();
         answer(
@@ -129,7 +129,7 @@ impl Session {
         )
     }
 
-    /// How many objects changed their address since the start; at most `2^64 - 1`.
+    /// The number of objects that changed their address since the start; at most `2^64 - 1`.
     pub fn moves(&self) -> u64
         ensures { result ≡ self.now.moves }
     {
@@ -143,7 +143,7 @@ impl Session {
         self.records.counters.words
     }
 
-    /// The handle of an id; none where the id isn't live.
+    /// The handle of an id; none if the id isn't live.
     pub fn handle(&self, id: u16) -> Option<Handle>
         ensures found { number_of result ≡ map.get self.now.ids id }
         ensures within { AreWithin self.now.ids }

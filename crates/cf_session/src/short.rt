@@ -1,28 +1,37 @@
 //! Replies of one line.
-ghost use Rattle.std.specs.Prelude.{◌≡◌, ◌≤◌, ◌++◌, ◌∷◌, [], length};
+ghost use Rattle.std.specs.Prelude.{◌≡◌, ◌<◌, ◌≤◌, ◌++◌, ◌∷◌, [], Err, codes, length};
+ghost use Rattle.cf_io.specs.Lines.{line_room};
 ghost use Rattle.cf_session.specs.Apply.{outcome_in};
-ghost use Rattle.cf_session.specs.OneLine.{short_text};
+ghost use Rattle.cf_session.specs.Short.{short_text};
+ghost use Rattle.hex.specs.Hex.{encode_lower};
+ghost use Rattle.run_model.specs.Replies.{malloc_text, write_text};
 
 use crate::outcome::Outcome;
+use cf_base::{AccessFault, Refusal};
+use cf_io::{Line, push_text};
 
-/// A reply of one line: a short text, or what was written on the line, with its outcome.
+/// A reply of one line: a short text, or the text on the line with its outcome.
 #[derive(Clone, Copy)]
 pub(crate) enum OneLine {
     Short(Short),
     Written(Outcome),
 }
 
-/// A reply that is one short text, which no number follows.
+/// A reply that is one fixed text, in a session of any kind.
 #[derive(Clone, Copy)]
-pub(crate) enum Short {
+pub enum Short {
     Done,
     Live,
     Unknown,
     Range,
     Lacking,
+    Busy,
+    Full,
     RefusedSize,
     RefusedProxy,
     RefusedSpace,
+    RefusedSum,
+    RefusedUsed,
 }
 
 impl Short {
@@ -37,20 +46,80 @@ impl Short {
             Short::Unknown => b"unknown\n",
             Short::Range => b"range\n",
             Short::Lacking => b"none\n",
+            Short::Busy => b"busy\n",
+            Short::Full => b"full\n",
             Short::RefusedSize => b"refused size\n",
             Short::RefusedProxy => b"refused proxy\n",
             Short::RefusedSpace => b"refused space\n",
+            Short::RefusedSum => b"refused sum\n",
+            Short::RefusedUsed => b"refused used\n",
         }
     }
 
-    /// The outcome that the text tells.
+    /// The outcome by the first bytes of the text.
     pub(crate) fn outcome(self) -> Outcome
         ensures { result ≡ outcome_in (short_text self) }
     {
         match self {
             Short::Done => Outcome::Good,
-            Short::Live | Short::Unknown | Short::Range | Short::Lacking => Outcome::Other,
-            Short::RefusedSize | Short::RefusedProxy | Short::RefusedSpace => Outcome::Refused,
+            Short::Live
+            | Short::Unknown
+            | Short::Range
+            | Short::Lacking
+            | Short::Busy
+            | Short::Full => Outcome::Other,
+            Short::RefusedSize
+            | Short::RefusedProxy
+            | Short::RefusedSpace
+            | Short::RefusedSum
+            | Short::RefusedUsed => Outcome::Refused,
         }
     }
+}
+
+/// The reply to a malloc that a heap refused.
+pub fn refusal_reply(refusal: Refusal) -> Short
+    ensures { short_text result ≡ malloc_text (Err refusal) }
+{
+    match refusal {
+        Refusal::Size => Short::RefusedSize,
+        Refusal::Proxy => Short::RefusedProxy,
+        Refusal::Space => Short::RefusedSpace,
+    }
+}
+
+/// The reply to a read or a write that a heap refused.
+pub fn fault_reply(fault: AccessFault) -> Short
+    ensures { short_text result ≡ write_text (Err fault) }
+{
+    match fault {
+        AccessFault::Unknown => Short::Unknown,
+        AccessFault::Range => Short::Range,
+    }
+}
+
+/// Writes a short reply on an empty line, without a line feed, and returns its outcome.
+pub fn push_short(line: &mut Line, short: Short) -> Outcome
+    requires { line.old ≡ [] }
+    ensures text { line.new ≡ short_text short }
+    ensures room { length line.new < line_room }
+    ensures outcome { result ≡ outcome_in line.new }
+{
+    let text = short.text_line();
+    push_text(line, &text[..text.len() - 1]);
+    short.outcome()
+}
+
+/// Writes the reply to a read on an empty line, `=` and the bytes in hexadecimal without a line feed,
+/// and returns its outcome.
+pub fn push_bytes(line: &mut Line, bytes: &[u8]) -> Outcome
+    requires empty { line.old ≡ [] }
+    requires few { length bytes.now ≤ 4096 }
+    ensures text { line.new ≡ codes "=" ++ encode_lower bytes.now }
+    ensures room { length line.new < line_room }
+    ensures outcome { result ≡ outcome_in line.new }
+{
+    push_text(line, b"=");
+    line.push_hex(bytes).unwrap();
+    Outcome::Good
 }

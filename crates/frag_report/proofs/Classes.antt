@@ -1,24 +1,26 @@
 -- The lines of the classes, one class more.
-use Rattle.std.proofs.Common.{◌≡◌, ◌∙◌, ℕ, zero, suc, ◌+◌, ◌-◌, ◌<◌, ◌++◌, List, [], ◌∷◌, Option, ap, sym, subst, arith}
+use Rattle.std.proofs.Common.{◌≡◌, ◌∙◌, ℕ, zero, suc, ◌+◌, ◌-◌, ◌<◌, ◌++◌, List, [], ◌∷◌, Bool, true, false, cond, Option, refl, ap, sym, subst, arith}
+use Rattle.std.proofs.Common.{◌≤◌, Some, None, inl, inr, nat_lt}
+use Rattle.std.proofs.lemmas.Bool.{cases_lt}
 use Rattle.std.proofs.lemmas.List.{map-append}
 use Rattle.std.specs.Prelude.{Result, Err, map, not, nat_eq}
 use Rattle.std.specs.List.{range_with_len}
 use Rattle.std.proofs.lemmas.List.Elements.{filter-append}
-use Rattle.page_model.specs.Arrangement.{live}
-use Rattle.page_model.specs.Figures.{figures_of}
-use Rattle.page_model.specs.Held.{objects}
-use Rattle.cf_model.specs.State.{HeapState, paging_in}
 use Rattle.cf_base.specs.declared.answers.Failed.{Failed}
-use Rattle.cf_base.specs.declared.answers.Totals.{Totals}
+use Rattle.cf_base.specs.declared.answers.Figures.{Figures}
 use Rattle.cf_io.specs.Feeds.{appended, Puts}
 use Rattle.cf_io.proofs.CallerLemmas.{appended_then, led-append, puts_then, puts_cut}
-use Rattle.cf_model.specs.Answers.{classes_in, totals_in}
-use Rattle.run_model.specs.Reports.{class_line, pages_report, total_line}
-use Rattle.run_model.specs.Texts.{led, said}
+use Rattle.cf_lemmas.proofs.Tests.{lt_no, lt_yes}
+use Rattle.page_model.specs.Arrangement.{live}
+use Rattle.page_model.specs.Figures.{figures_of}
+use Rattle.page_model.specs.Held.{Held, objects}
+use Rattle.page_model.specs.Paging.{Paging}
+use Rattle.run_model.specs.Reports.{class_line}
+use Rattle.run_model.specs.Texts.{Reply, led, said}
 use Rattle.frag_report.specs.Classes.{lines_of, classes_below, class_if_live}
 
 -- the numbers up to n begin with those up to c
-pub range_from : (a n m : ℕ) → range_with_len a (n + m) ≡ range_with_len a n ++ range_with_len (a + n) m
+range_from : (a n m : ℕ) → range_with_len a (n + m) ≡ range_with_len a n ++ range_with_len (a + n) m
 range_from a zero m = let e : a ≡ a + 0 = omega arith in let z : 0 + m ≡ m = omega arith in ap (range_with_len a) z ∙ ap (λ b. range_with_len b m) e
 range_from a (suc n) m =
     let next : suc n + m ≡ suc (n + m) = omega arith in
@@ -28,56 +30,75 @@ range_from a (suc n) m =
 pub one_class_more : (c : ℕ) → range_with_len 0 (c + 1) ≡ range_with_len 0 c ++ c ∷ []
 one_class_more c = let here : 0 + c ≡ c = omega arith in range_from 0 c 1 ∙ ap (λ k. range_with_len 0 c ++ k ∷ []) here
 
-lines-append : (s : HeapState) (some more : List ℕ) → lines_of s (some ++ more) ≡ lines_of s some ++ lines_of s more
-lines-append s some more =
-    ap (map (λ c. class_line (figures_of (paging_in s) s.held c))) (filter-append (λ c. not (nat_eq (live (paging_in s) (objects s.held) c) 0)) some more)
-    ∙ map-append (λ c. class_line (figures_of (paging_in s) s.held c)) _ _
+-- a class that is there, and one that is past the last
+pub class_there : (c n : ℕ) (f x : Figures) → Some f ≡ cond (nat_lt c n) (Some x) None → (c < n) × (f ≡ x)
+class_there c n f x is = elim (cases_lt c n) [
+  | inl lt ↦ (let e : Some f ≡ Some x = is ∙ ap (λ b. cond b (Some x) None) (lt_yes c n lt) in (lt, cc))
+  | inr le ↦ absurd (let e : Some f ≡ None = is ∙ ap (λ b. cond b (Some x) None) (lt_no c n le) in cc)
+]
 
-pub below_more : (s : HeapState) (lead : List ℕ) (c : ℕ) → led lead (classes_below s (c + 1)) ≡ led lead (classes_below s c) ++ led lead (class_if_live s c)
-below_more s lead c =
-    ap (λ r. led lead (lines_of s r)) (one_class_more c)
-    ∙ ap (led lead) (lines-append s (range_with_len 0 c) (c ∷ [])) ∙ led-append lead (classes_below s c) (class_if_live s c)
+pub class_past : (c n : ℕ) (x : Figures) → None ≡ cond (nat_lt c n) (Some x) None → n ≤ c
+class_past c n x is = elim (cases_lt c n) [
+  | inl lt ↦ absurd (let e : ◌≡◌ {A = Option Figures} None (Some x) = is ∙ ap (λ b. cond b (Some x) None) (lt_yes c n lt) in cc)
+  | inr le ↦ le
+]
 
 abbrev Told : Type 0
 Told = Option (List ℕ)
 
-module _ (s : HeapState) (lead : List ℕ) where
+-- lines were put, and then more lines; or the first lines were cut
+module _ (lead : List ℕ) (lines more : Reply) (w y : Told) where
+  pub lines_then : {T : Type 0} (x : Told) (r : Result T Failed) → x ≡ appended w (led lead lines) → Puts x (led lead more) r y
+      → Puts w (led lead (lines ++ more)) r y
+  lines_then {T = T} x r first next =
+      subst (λ (bytes : List ℕ). Puts {T = T} w bytes r y) (sym (led-append lead lines more)) (puts_then w x y (led lead lines) (led lead more) r first next)
+
+  pub lines_cut : (e : Failed) → Puts {T = Unit {0}} w (led lead lines) (Err e) y → Puts {T = Unit {0}} w (led lead (lines ++ more)) (Err e) y
+  lines_cut e cut =
+      subst (λ (bytes : List ℕ). Puts {T = Unit {0}} w bytes (Err e) y) (sym (led-append lead lines more)) (puts_cut w y (led lead lines) (led lead more) e cut)
+
+module _ (p : Paging) (m : Held) where
+  lines-append : (some more : List ℕ) → lines_of p m (some ++ more) ≡ lines_of p m some ++ lines_of p m more
+  lines-append some more =
+      ap (map (λ c. class_line (figures_of p m c))) (filter-append (λ c. not (nat_eq (live p (objects m) c) 0)) some more)
+      ∙ map-append (λ c. class_line (figures_of p m c)) _ _
+
+  line_is : (c : ℕ) → lines_of p m (c ∷ []) ≡ class_if_live (figures_of p m c)
+  line_is c = go (nat_eq (live p (objects m) c) 0)
+    where
+      go : (b : Bool) → map (λ d. class_line (figures_of p m d)) (cond (not b) (c ∷ []) []) ≡ cond b [] (said (class_line (figures_of p m c)))
+      go true = refl
+      go false = refl
+
+  below_more : (c : ℕ) (f : Figures) → f ≡ figures_of p m c → classes_below p m (c + 1) ≡ classes_below p m c ++ class_if_live f
+  below_more c f is =
+      ap (lines_of p m) (one_class_more c) ∙ lines-append (range_with_len 0 c) (c ∷ [])
+      ∙ ap (λ (r : Reply). classes_below p m c ++ r) (line_is c ∙ ap class_if_live (sym is))
+
   -- the lines of all classes below c are put, and then that of c
-  pub class_put : (c : ℕ) (w x y : Told) → x ≡ appended w (led lead (classes_below s c)) → y ≡ appended x (led lead (class_if_live s c))
-      → y ≡ appended w (led lead (classes_below s (c + 1)))
-  class_put c w x y first next =
-      next ∙ ap (λ (o : Told). appended o (led lead (class_if_live s c))) first ∙ appended_then w (led lead (classes_below s c)) (led lead (class_if_live s c))
-      ∙ ap (appended w) (sym (below_more s lead c))
+  pub class_put : (lead : List ℕ) (c : ℕ) (f : Figures) (w x y : Told) → f ≡ figures_of p m c → x ≡ appended w (led lead (classes_below p m c))
+      → y ≡ appended x (led lead (class_if_live f)) → y ≡ appended w (led lead (classes_below p m (c + 1)))
+  class_put lead c f w x y is first next =
+      next ∙ ap (λ (o : Told). appended o (led lead (class_if_live f))) first
+      ∙ appended_then w (led lead (classes_below p m c)) (led lead (class_if_live f))
+      ∙ ap (appended w) (sym (led-append lead (classes_below p m c) (class_if_live f)) ∙ ap (led lead) (sym (below_more c f is)))
 
   -- the classes from c on, after that of c
-  lines_rest : (c n : ℕ) → c < n → (more : List ℕ) × (led lead (classes_below s n) ≡ led lead (classes_below s (c + 1)) ++ more)
-  lines_rest c n lt =
+  lines_rest : (c n : ℕ) (f : Figures) → c < n → f ≡ figures_of p m c
+      → (more : Reply) × (classes_below p m n ≡ (classes_below p m c ++ class_if_live f) ++ more)
+  lines_rest c n f lt is =
       let all : n ≡ (c + 1) + (n - (c + 1)) = omega arith in (
-        led lead (lines_of s (range_with_len (0 + (c + 1)) (n - (c + 1)))),
-        ap (λ k. led lead (classes_below s k)) all ∙ ap (λ r. led lead (lines_of s r)) (range_from 0 (c + 1) (n - (c + 1)))
-            ∙ ap (led lead) (lines-append s (range_with_len 0 (c + 1)) _) ∙ led-append lead (classes_below s (c + 1)) _,
+        lines_of p m (range_with_len (0 + (c + 1)) (n - (c + 1))),
+        ap (classes_below p m) all ∙ ap (lines_of p m) (range_from 0 (c + 1) (n - (c + 1)))
+            ∙ lines-append (range_with_len 0 (c + 1)) _
+            ∙ ap (λ (r : Reply). r ++ lines_of p m (range_with_len (0 + (c + 1)) (n - (c + 1)))) (below_more c f is),
       )
 
-  pub class_cut : (c n : ℕ) (w x y : Told) (e : Failed) → c < n → x ≡ appended w (led lead (classes_below s c))
-      → Puts {T = Unit {0}} x (led lead (class_if_live s c)) (Err e) y → Puts {T = Unit {0}} w (led lead (classes_below s n)) (Err e) y
-  class_cut c n w x y e lt first cut =
-      let rest = lines_rest c n lt in
-      let P : List ℕ → Type 0 = λ bytes. Puts {T = Unit {0}} w bytes (Err e) y in
-      subst P (ap (λ (b : List ℕ). b ++ rest.0) (sym (below_more s lead c)) ∙ sym rest.1)
-      (puts_cut w y _ rest.0 e (puts_then {T = Unit {0}} w x y (led lead (classes_below s c)) (led lead (class_if_live s c)) (Err e) first cut))
-
-  -- the lines of all classes are put, and then the last line
-  pub pages_put : {T : Type 0} (t : Totals) (w x y : Told) (r : Result T Failed) → t ≡ totals_in s.kind s
-      → x ≡ appended w (led lead (classes_below s (classes_in s.kind s)))
-      → Puts x (led lead (said (total_line t))) r y → Puts w (led lead (pages_report s)) r y
-  pages_put {T = T} t w x y r is first next =
-      let P : List ℕ → Type 0 = λ bytes. Puts {T = T} w bytes r y in
-      subst P (ap (λ (u : Totals). led lead (classes_below s (classes_in s.kind s)) ++ led lead (said (total_line u))) is
-      ∙ sym (led-append lead (classes_below s (classes_in s.kind s)) (said (total_line (totals_in s.kind s)))))
-      (puts_then w x y _ _ r first next)
-
-  pub pages_cut : (w y : Told) (e : Failed) → Puts {T = Unit {0}} w (led lead (classes_below s (classes_in s.kind s))) (Err e) y
-      → Puts {T = Unit {0}} w (led lead (pages_report s)) (Err e) y
-  pages_cut w y e cut =
-      let P : List ℕ → Type 0 = λ bytes. Puts {T = Unit {0}} w bytes (Err e) y in
-      subst P (sym (led-append lead (classes_below s (classes_in s.kind s)) (said (total_line (totals_in s.kind s))))) (puts_cut w y _ _ e cut)
+  pub class_cut : (lead : List ℕ) (c n : ℕ) (f : Figures) (w x y : Told) (e : Failed) → c < n → f ≡ figures_of p m c
+      → x ≡ appended w (led lead (classes_below p m c)) → Puts {T = Unit {0}} x (led lead (class_if_live f)) (Err e) y
+      → Puts {T = Unit {0}} w (led lead (classes_below p m n)) (Err e) y
+  class_cut lead c n f w x y e lt is first cut =
+      let rest = lines_rest c n f lt is in
+      subst (λ (r : Reply). Puts {T = Unit {0}} w (led lead r) (Err e) y) (sym rest.1)
+      (lines_cut lead (classes_below p m c ++ class_if_live f) rest.0 w y e
+      (lines_then lead (classes_below p m c) (class_if_live f) w y {T = Unit {0}} x (Err e) first cut))

@@ -1,21 +1,27 @@
--- How far the report on classes has come.
-use Rattle.std.specs.Prelude.{ℕ, List, ◌∷◌, [], map, filter, not, nat_eq}
+-- The lines of the classes, and the last line.
+use Rattle.std.specs.Prelude.{ℕ, List, [], map, filter, not, nat_eq, if◌then◌else◌}
 use Rattle.std.specs.List.{range_with_len}
+use Rattle.cf_base.specs.declared.answers.Figures.{Figures}
+use Rattle.cf_base.specs.declared.answers.Totals.{Totals}
 use Rattle.page_model.specs.Arrangement.{live}
 use Rattle.page_model.specs.Figures.{figures_of}
-use Rattle.page_model.specs.Held.{objects}
-use Rattle.cf_model.specs.State.{HeapState, paging_in}
+use Rattle.page_model.specs.Held.{Held, objects}
+use Rattle.page_model.specs.Paging.{Paging}
 use Rattle.run_model.specs.Reports.{class_line}
-use Rattle.run_model.specs.Texts.{Reply}
+use Rattle.run_model.specs.Texts.{Reply, said}
 
 -- the lines of those classes of a list that have live objects
-abbrev pub lines_of : HeapState → List ℕ → Reply
-lines_of s classes = map (λ c. class_line (figures_of (paging_in s) s.held c)) (filter (λ c. not (nat_eq (live (paging_in s) (objects s.held) c) 0)) classes)
+abbrev pub lines_of : Paging → Held → List ℕ → Reply
+lines_of p m classes = map (λ c. class_line (figures_of p m c)) (filter (λ c. not (nat_eq (live p (objects m) c) 0)) classes)
 
 -- the lines of the classes below c
-abbrev pub classes_below : HeapState → ℕ → Reply
-classes_below s c = lines_of s (range_with_len 0 c)
+abbrev pub classes_below : Paging → Held → ℕ → Reply
+classes_below p m c = lines_of p m (range_with_len 0 c)
 
--- the line of class c, where it has live objects
-abbrev pub class_if_live : HeapState → ℕ → Reply
-class_if_live s c = lines_of s (c ∷ [])
+-- the line of a class, if it has live objects
+abbrev pub class_if_live : Figures → Reply
+class_if_live f = if nat_eq f.live 0 then [] else said (class_line f)
+
+-- the figures that the last line of a report on pages shows
+abbrev pub totals_with : ℕ → ℕ → ℕ → Totals
+totals_with live used free = record { live = live; asked = 0; taken = 0; held = 0; used = used; free = free; largest = 0 }

@@ -3,4 +3,4 @@
 
 mod reports;
 
-pub use reports::{frag_line, walk_lines};
+pub use reports::{frag_line, put_class, put_total, walk_lines};

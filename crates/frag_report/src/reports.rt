@@ -1,10 +1,11 @@
 //! The reports on a heap.
-ghost use Rattle.std.specs.Prelude.{◌≡◌, ◌<◌, ◌≤◌, ◌++◌, IsTrue, OnErr, length, OnOk};
+ghost use Rattle.std.specs.Prelude.{◌≡◌, ◌≤◌, IsTrue, OnErr, length, OnOk};
 ghost use Rattle.cf_io.specs.Feeds.{Rose, Puts};
 ghost use Rattle.cf_base.specs.declared.answers.Totals.{Totals};
 ghost use Rattle.cf_model.specs.Answers.{classes_in, totals_in, usage_of};
-ghost use Rattle.frag_report.specs.Classes.{classes_below, class_if_live};
-ghost use Rattle.run_model.specs.Reports.{blocks_line, class_line, frag_line as frag_text, frag_of, pages_report, total_line, walk_of};
+ghost use Rattle.cf_model.specs.State.{paging_in};
+ghost use Rattle.frag_report.specs.Classes.{classes_below, class_if_live, totals_with};
+ghost use Rattle.run_model.specs.Reports.{blocks_line, frag_line as frag_text, frag_of, pages_report, total_line, walk_of};
 ghost use Rattle.run_model.specs.Texts.{led, said};
 
 use cf_base::{Failed, Figures, Kind, Totals};
@@ -12,9 +13,8 @@ use cf_io::{Line, Sink, begin_line, push_field, put_line};
 use cf_model::{Manager, Usage};
 use step_ledger::Steps;
 
-/// Writes the report on classes and pages, or on blocks: each of its lines after the lead, built in
-/// `line` and put in one call. `Failed` only where the sink failed; then a prefix of the report was
-/// put.
+/// Puts the report on classes and pages, or on blocks: each line after the lead, built in `line` and
+/// put in one call. `Failed` if the sink failed; a prefix of the report was put.
 pub fn walk_lines<H: Manager, K: Sink>(
     heap: &H,
     lead: &[u8],
@@ -39,8 +39,8 @@ pub fn walk_lines<H: Manager, K: Sink>(
     }
 }
 
-/// Writes the report on the bytes asked for, taken and held: one line after the lead, built in `line`
-/// and put in one call. `Failed` only where the sink failed; then a prefix of the line was put.
+/// Puts the report on the bytes asked for, taken and held: one line after the lead, built in `line`
+/// and put in one call. `Failed` if the sink failed; a prefix of the line was put.
 pub fn frag_line<H: Manager, K: Sink>(
     heap: &H,
     lead: &[u8],
@@ -79,7 +79,14 @@ fn put_pages<H: Manager, K: Sink>(
     ensures failed { OnErr result (Rose (K.faults out.old) (K.faults out.new)) }
 {
     match put_classes(heap, lead, line, out) {
-        Ok(()) => put_total(totals, lead, line, out),
+        Ok(()) => put_total(
+            totals.live,
+            totals.used as u64,
+            totals.free as u64,
+            lead,
+            line,
+            out,
+        ),
         Err(failed) => Err(failed),
     }
 }
@@ -94,14 +101,17 @@ fn put_classes<H: Manager, K: Sink>(
     requires open { IsTrue (H.state heap.now).is_open }
     requires lead { length lead.now ≤ 8 }
     ensures puts { Puts (K.written out.old)
-        (led lead.now (classes_below (H.state heap.now) (classes_in (H.state heap.now).kind (H.state heap.now))))
+        (led lead.now (classes_below (paging_in (H.state heap.now)) (H.state heap.now).held (classes_in (H.state heap.now).kind (H.state heap.now))))
         result (K.written out.new) }
     ensures grows { K.faults out.old ≤ K.faults out.new }
     ensures same { OnOk result (K.faults out.new ≡ K.faults out.old) }
     ensures failed { OnErr result (Rose (K.faults out.old) (K.faults out.new)) }
 {
     for c in 0..heap.classes() {
-        match put_if_live(heap, c, lead, line, out) {
+        let Some(figures) = heap.figures(c) else {
+            unreachable!();
+        };
+        match put_class(&figures, lead, line, out) {
             Ok(()) => {}
             Err(failed) => return Err(failed),
         }
@@ -109,43 +119,22 @@ fn put_classes<H: Manager, K: Sink>(
     Ok(())
 }
 
-/// Puts the line of class c where the class has live objects.
-fn put_if_live<H: Manager, K: Sink>(
-    heap: &H,
-    c: u32,
-    lead: &[u8],
-    line: &mut Line,
-    out: &mut K,
-) -> Result<(), Failed>
-    requires open { IsTrue (H.state heap.now).is_open }
-    requires class { c < classes_in (H.state heap.now).kind (H.state heap.now) }
-    requires lead { length lead.now ≤ 8 }
-    ensures puts { Puts (K.written out.old) (led lead.now (class_if_live (H.state heap.now) c))
-        result (K.written out.new) }
-    ensures grows { K.faults out.old ≤ K.faults out.new }
-    ensures same { OnOk result (K.faults out.new ≡ K.faults out.old) }
-    ensures failed { OnErr result (Rose (K.faults out.old) (K.faults out.new)) }
-{
-    match heap.figures(c) {
-        Some(figures) if figures.live > 0 => put_class(&figures, lead, line, out),
-        _ => Ok(()),
-    }
-}
-
-/// Puts the line of a class.
-fn put_class<K: Sink>(
+/// Puts the line of a class after the lead, if the class has live objects.
+pub fn put_class<K: Sink>(
     figures: &Figures,
     lead: &[u8],
     line: &mut Line,
     out: &mut K,
 ) -> Result<(), Failed>
     requires { length lead.now ≤ 8 }
-    ensures puts { Puts (K.written out.old) (led lead.now (said (class_line figures.now)))
-        result (K.written out.new) }
+    ensures puts { Puts (K.written out.old) (led lead.now (class_if_live figures.now)) result (K.written out.new) }
     ensures grows { K.faults out.old ≤ K.faults out.new }
     ensures same { OnOk result (K.faults out.new ≡ K.faults out.old) }
     ensures failed { OnErr result (Rose (K.faults out.old) (K.faults out.new)) }
 {
+    if figures.live == 0 {
+        return Ok(());
+    }
     begin_line(line, lead);
     push_field(line, b"class ", figures.slot_words as u64);
     push_field(line, b" slots ", figures.slots as u64);
@@ -155,24 +144,27 @@ fn put_class<K: Sink>(
     put_line(line, out)
 }
 
-/// Puts the last line of a report on pages.
-fn put_total<K: Sink>(
-    totals: &Totals,
+/// Puts the last line of a report on pages after the lead: the live objects, the pages in use, the
+/// free pages.
+pub fn put_total<K: Sink>(
+    live: u32,
+    used: u64,
+    free: u64,
     lead: &[u8],
     line: &mut Line,
     out: &mut K,
 ) -> Result<(), Failed>
     requires { length lead.now ≤ 8 }
-    ensures puts { Puts (K.written out.old) (led lead.now (said (total_line totals.now)))
+    ensures puts { Puts (K.written out.old) (led lead.now (said (total_line (totals_with live used free))))
         result (K.written out.new) }
     ensures grows { K.faults out.old ≤ K.faults out.new }
     ensures same { OnOk result (K.faults out.new ≡ K.faults out.old) }
     ensures failed { OnErr result (Rose (K.faults out.old) (K.faults out.new)) }
 {
     begin_line(line, lead);
-    push_field(line, b"total live ", totals.live as u64);
-    push_field(line, b" pages ", totals.used as u64);
-    push_field(line, b" free ", totals.free as u64);
+    push_field(line, b"total live ", live as u64);
+    push_field(line, b" pages ", used);
+    push_field(line, b" free ", free);
     put_line(line, out)
 }
 

@@ -1,7 +1,7 @@
 -- Where every bound is 1, the replies that meet the headline are the transcript's.
 use Rattle.std.proofs.Common.{◌≡◌, ◌≢◌, ℕ, Bool, true, false, cond, ◌+◌, ◌<◌, ◌≤◌, ◌++◌, List, [], ◌∷◌, Option, Some, None, Err, length, map, arith, sym, ◌∙◌, ap, refl, subst, inl, inr}
 use Rattle.std.specs.Prelude.{⊤, ◌⊎◌, ◌↔◌, codes, filter, nat_eq, nat_le, not, option_map, replicate}
-use Rattle.std.proofs.lemmas.Bool.{cases_eq, cases_lt}
+use Rattle.std.proofs.lemmas.Bool.{cases_lt}
 use Rattle.std.specs.List.{range_with_len}
 use Rattle.std.specs.FinMap.{get, insert, len, remove}
 use Rattle.cf_base.specs.Classes.{need}
@@ -12,7 +12,6 @@ use Rattle.cf_base.specs.declared.answers.Refusal.TheVariants as refusal
 use Rattle.cf_base.specs.declared.answers.ResizeFault.{ResizeFault}
 use Rattle.cf_base.specs.declared.answers.ResizeFault.TheVariants as resize
 use Rattle.cf_base.specs.declared.kind.Kind.{Kind}
-use Rattle.cf_lemmas.proofs.Maps.{equal_maps, get_remove_other, get_removed}
 use Rattle.cf_lemmas.proofs.Searches.{fresh_key}
 use Rattle.cf_lemmas.proofs.Values.{map_values-empty}
 use Rattle.cf_lemmas.proofs.Tests.{eq_no, eq_yes, lt_no, lt_yes}
@@ -45,16 +44,10 @@ use Rattle.transcript_laws.specs.Replies.{after_by_id, bounds_with, class_bounde
 use Rattle.transcript_laws.specs.Replies.{put_unless, read_said, reply_by_id, resize_fault, resize_leaves, resize_said, write_leaves, write_said}
 use Rattle.transcript_laws.specs.Transcripts.{ArePlaceless, IsAtOne, IsPlaceless, StaysAtOne, TellsNoPlace, IsItemAtOne, after_at, replies_from, reply_at, transcript}
 use Rattle.transcript_laws.proofs.CallerLemmas.{figures_are, totals_are}
-use Rattle.transcript_laws.proofs.CallerLemmas.{said_alike}
+use Rattle.transcript_laws.proofs.CallerLemmas.{remove_none, said_alike}
 use Rattle.headline_laws.specs.Headline.{Answers, Frees, IsAnswer, Mallocs, MeetsHeadline, Opens, RefitsElsewhere, RefitsInPlace, Resizes, Writes}
 use Rattle.headline_laws.specs.ShownHeap.{IsArranged, ShownHeap, heap_opened}
 use Rattle.headline_laws.proofs.After.{changed_there, class_is, class_told, either, view, view_after, view_is}
-
-remove_none : (o : Objects) (id : ℕ) → get o id ≡ None → remove o id ≡ o
-remove_none o id none = equal_maps _ _ (λ q. elim (cases_eq q id) [
-  | inl is ↦ rw is (get_removed o id ∙ sym none)
-  | inr ne ↦ get_remove_other o id q ne
-])
 
 freed_told : (o : Option (List ℕ)) (m : Objects) (id : ℕ) → get m id ≡ o → remove m id ≡ cond (is_ok (said (free_said o))) (remove m id) m
 freed_told None m id is = remove_none m id is
@@ -313,7 +306,7 @@ module _ (kind : Kind) (is_paged : IsPaged kind) where
   abbrev pub view_in : Option ShownHeap → Option ById
   view_in t = option_map view t
 
-  item_is : (t : Option ShownHeap) (item : Item) (reply : Reply) (after : Option ShownHeap) → IsInOrder t → IsItemAtOne (view_in t) item → IsPlaceless item
+  pub item_is : (t : Option ShownHeap) (item : Item) (reply : Reply) (after : Option ShownHeap) → IsInOrder t → IsItemAtOne (view_in t) item → IsPlaceless item
       → PlayStep (Opens kind) Answers t item reply after
       → (reply ≡ reply_at (view_in t) item) × (view_in after ≡ after_at kind (view_in t) item) × IsInOrder after
   item_is t (starts p) reply after order ones none step =

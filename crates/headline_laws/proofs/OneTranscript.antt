@@ -55,7 +55,7 @@ further_placeless [] may = tt
 further_placeless (item ∷ rest) may = ((further_item item may.0).1, further_placeless rest may.1)
 
 -- the bytes of an id's object
-bytes_are : (s : RunState) (going : IsGoing s) (id : ℕ) → bytes_of s id ≡ get (view (shown s)).objects id
+pub bytes_are : (s : RunState) (going : IsGoing s) (id : ℕ) → bytes_of s id ≡ get (view (shown s)).objects id
 bytes_are s going id = ap (option_map (λ (x : Placed). x.bytes)) (object_is s going id)
     ∙ sym (get-map_values (λ (x : Placed). x.bytes) (shown s).heap.held id)
 

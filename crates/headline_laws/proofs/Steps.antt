@@ -37,7 +37,7 @@ use Rattle.run_model.specs.Reports.{blocks_line, class_line, frag_line, frag_of,
 use Rattle.run_model.specs.Sessions.{CostsAtMost, Ids, IsGoing, RunState, SessionState, counted}
 use Rattle.run_model.specs.Steps.{Bounds as GetsBound, Frees as FreesStep, bound_text, class_to_bound, ids_given, session_resized}
 use Rattle.run_model.specs.Texts.{Reply, said}
-use Rattle.run_model.proofs.CallerLemmas.{FreesAt, MallocsAt, ResizesAt, WritesAt, counted_ids, pages_kept, resized_ids}
+use Rattle.run_model.proofs.CallerLemmas.{FreesAt, MallocsAt, ResizesAt, WritesAt, counted_bound, counted_ids, pages_kept, resized_ids}
 use Rattle.transcript_laws.proofs.CallerLemmas.{changed_renamed, given_renamed, gone_with, live_renamed}
 use Rattle.headline_laws.specs.Headline.{Bounds, Frees, IsFree, IsMalloc, IsRefusedMalloc, Mallocs, Peeks, RefitsElsewhere, RefitsInPlace, Resizes, Writes}
 use Rattle.headline_laws.specs.Headline.{resize_bound_for, with_object}
@@ -51,10 +51,6 @@ pub run_is : (s new : RunState) → new.session ≡ s.session → new.heap ≡ s
 run_is s new e f = λ i. record { session = e i; heap = f i }
 
 -- the counters after a move
-counted_bound : {T : Type 0} (s : SessionState) (o : Option T) (n : ℕ) → (counted s o n).bound ≡ s.bound
-counted_bound s None n = refl
-counted_bound s (Some h) n = refl
-
 moves_named : (ids : Ids) (s : SessionState) (base : ShownHeap) (moved : Option Handle) (by_id : Option ℕ) (n : ℕ) → IsNamed ids moved by_id
     → s.moves ≡ base.moves → (counted s moved n).moves ≡ (with_move base by_id n).moves
 moves_named ids s base None None n is e = e

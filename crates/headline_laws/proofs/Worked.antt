@@ -5,10 +5,8 @@ use Rattle.std.specs.Prelude.{⊤, codes}
 use Rattle.std.proofs.lemmas.Bool.{and_parts}
 use Rattle.std.specs.List.{list_all}
 use Rattle.std.specs.Fmt.{decimal, digits}
-use Rattle.std.proofs.lemmas.List.{nil_from_length}
-use Rattle.std.specs.Ordering.{nat_cmp, eq_by_cmp}
-use Rattle.std.specs.Cmp.{nat_cmp_total}
-use Rattle.std.specs.FinMap.{empty, entries, entries-insert, get, get-empty, get-insert, insert, len, len-empty, len-entries, put}
+use Rattle.std.specs.Ordering.{nat_cmp}
+use Rattle.std.specs.FinMap.{empty, get, get-empty, insert, len}
 use Rattle.hex.specs.Hex.{decode_pairs, encode_with}
 use Rattle.cf_base.specs.Classes.{sizes_from}
 use Rattle.cf_base.specs.Settings.{Profile}
@@ -37,27 +35,10 @@ use Rattle.run_model.specs.Texts.{Reply, said, with_number}
 use Rattle.transcript_laws.specs.AtOne.{classes_in_use, figures_at_one, part_pages, totals_at_one}
 use Rattle.transcript_laws.specs.ById.{ById, begun, paging_by_id}
 use Rattle.transcript_laws.specs.Replies.{after_by_id, reply_by_id}
-use Rattle.transcript_laws.proofs.CallerLemmas.{stays_at_one}
+use Rattle.transcript_laws.proofs.CallerLemmas.{counted, got, got_none, listed, listed_none, stays_at_one}
 use Rattle.headline_laws.specs.Headline.{Answers, IsMalloc, Mallocs, MeetsHeadline, Opens, steps_line, steps_shown}
 use Rattle.headline_laws.specs.ShownHeap.{IsArranged, ShownHeap, heap_opened}
 use Rattle.headline_laws.proofs.Exact.{headline_is_transcript}
-
--- what finite maps answer, step by step
-module _ (m : Objects) where
-  got : (k : ℕ) (v : List ℕ) (q : ℕ) → get (insert m k v) q ≡ cond (eq_by_cmp nat_cmp q k) (Some v) (get m q)
-  got k v q = get-insert nat_cmp_total m k v q
-
-  listed : (k : ℕ) (v : List ℕ) → entries (insert m k v) ≡ put nat_cmp k v (entries m)
-  listed k v = entries-insert nat_cmp_total m k v
-
-  counted : len m ≡ length (entries m)
-  counted = len-entries m
-
-got_none : (q : ℕ) → get (empty {X = List ℕ} {R = nat_cmp}) q ≡ None
-got_none q = get-empty nat_cmp q
-
-listed_none : entries (empty {X = List ℕ} {R = nat_cmp}) ≡ []
-listed_none = nil_from_length _ (sym (len-entries (empty {X = List ℕ} {R = nat_cmp})) ∙ len-empty nat_cmp (List ℕ))
 
 ruleset maps = (got, got_none, counted, listed, listed_none)
 

@@ -74,7 +74,7 @@ module _ {A B : Type 0} (Q : B → Type 0) where
   bound_any f None all = sort_none Q
   bound_any f (Some x) all = all x
 
-within_range : (low high n : ℕ) → is_within low high n ≡ true → (low ≤ n) × (n ≤ high)
+pub within_range : (low high n : ℕ) → is_within low high n ≡ true → (low ≤ n) × (n ≤ high)
 within_range low high n is =
     let t = both (nat_le low n) (nat_le n high) is in
     let a = t.0 in

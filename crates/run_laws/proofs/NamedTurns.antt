@@ -85,6 +85,13 @@ pub record Refuses (old : Named) (reply : Reply) (new : Named) : Type 0 where
   pub told : is_ok reply ≡ false
   pub same : IsSame old new
 
+pub refuses : {old new : Named} {reply : Reply} (text : List ℕ) → is_ok (said text) ≡ false → reply ≡ said text → IsSame old new → Refuses old reply new
+refuses text fails is rest = record { told = ap is_ok is ∙ fails; same = rest }
+
+-- a state that stays the same names the same
+pub same_named : {S : Type 0} (named : S → Named) {old new : S} → new ≡ old → IsSame (named old) (named new)
+same_named named is = record { ids = ap (λ s. (named s).ids) is; objects = ap (λ s. (named s).objects) is }
+
 -- the id, which wasn't live, gets an object of n zeros under a handle that wasn't live
 pub record Adds (old : Named) (id n : ℕ) (reply : Reply) (new : Named) : Type 0 where
   pub handle : ℕ

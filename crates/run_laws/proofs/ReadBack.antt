@@ -1,5 +1,5 @@
 -- Over a run on one manager, reads print the bytes that follow from the lines before them and their replies.
-use Rattle.std.proofs.Common.{◌≡◌, ◌⊎◌, ℕ, false, true, List, Option, Some, None, Result, Ok, Err, sym, ◌∙◌, ap, refl, subst, inl, inr}
+use Rattle.std.proofs.Common.{◌≡◌, ◌⊎◌, ℕ, false, List, Option, Some, None, Result, Ok, Err, sym, ◌∙◌, ap, refl, inl, inr}
 use Rattle.std.specs.Prelude.{codes, option_map}
 use Rattle.std.specs.FinMap.{get}
 use Rattle.cf_base.specs.declared.answers.AccessFault.{AccessFault}
@@ -12,9 +12,7 @@ use Rattle.cf_base.specs.declared.answers.ResizeFault.{ResizeFault}
 use Rattle.cf_base.specs.declared.answers.ResizeFault.TheVariants as resize
 use Rattle.cf_base.specs.declared.kind.Kind.{Kind}
 use Rattle.cf_lemmas.proofs.MapValues.{get-map_values, map_values-insert}
-use Rattle.page_model.specs.Bytes.{written}
-use Rattle.page_model.specs.Held.{Held, Placed, objects}
-use Rattle.page_model.specs.Steps.{resized}
+use Rattle.page_model.specs.Held.{Placed, objects}
 use Rattle.page_model.proofs.CallerLemmas.{malloc_objects}
 use Rattle.cf_model.specs.Answers.{bound_put}
 use Rattle.cf_model.specs.State.{HeapState}
@@ -31,22 +29,24 @@ use Rattle.run_model.specs.Texts.{Reply, said}
 use Rattle.run_model.proofs.CallerLemmas.{begins_going, step_going}
 use Rattle.run_model.proofs.CallerLemmas.{bytes_held, bytes_missing, counted_ids, names_of_objects, resized_ids, unmoved_held}
 use Rattle.run_laws.specs.Told.{AreReadsOf, is_ok, read_told}
-use Rattle.run_laws.proofs.NamedTurns.{Adds, Changes, IsSame, Named, NamedTurn, NamesObjects, Refuses, Takes, bytes_of, any_reads_are_told, through}
+use Rattle.run_laws.proofs.NamedTurns.{Adds, Named, NamedTurn, NamesObjects, Refuses, bytes_of, any_reads_are_told, same_named, through}
+
+-- a read prints the bytes of the object
+pub read_same : (o : Option Placed) (at count : ℕ) → read_text o at count ≡ read_told (option_map (λ (x : Placed). x.bytes) o) at count
+read_same None at count = refl
+read_same (Some x) at count = refl
 
 -- the ids and the objects of a run
 abbrev named : RunState → Named
 named s = record { ids = s.session.ids; objects = objects s.heap.held }
 
 module _ (old new : RunState) where
-  same : new ≡ old → IsSame (named old) (named new)
-  same is = record { ids = ap (λ (s : RunState). s.session.ids) is; objects = ap (λ (s : RunState). objects s.heap.held) is }
-
   refuses : (text : List ℕ) (reply : Reply) → is_ok (said text) ≡ false → reply ≡ said text → new.session.ids ≡ old.session.ids
       → new.heap.held ≡ old.heap.held → Refuses (named old) reply (named new)
   refuses text reply fails is e f = record { told = ap is_ok is ∙ fails; same = record { ids = e; objects = ap objects f } }
 
   stays : (text : List ℕ) (reply : Reply) → is_ok (said text) ≡ false → reply ≡ said text → new ≡ old → Refuses (named old) reply (named new)
-  stays text reply fails is e = record { told = ap is_ok is ∙ fails; same = same e }
+  stays text reply fails is e = record { told = ap is_ok is ∙ fails; same = same_named named e }
 
   malloc_turn : (id n : ℕ) (answer : Result Handle Refusal) (reply : Reply) → get old.session.ids id ≡ None → IsMallocStep old.heap n answer new.heap
       → new.session.ids ≡ ids_given old.session.ids id answer → reply ≡ said (malloc_text answer)
@@ -140,10 +140,6 @@ module _ (old new : RunState) where
       go None = refl
       go (Some h) = sym (get-map_values (λ (x : Placed). x.bytes) old.heap.held h)
 
-  read_same : (o : Option Placed) (at count : ℕ) → read_text o at count ≡ read_told (option_map (λ (x : Placed). x.bytes) o) at count
-  read_same None at count = refl
-  read_same (Some x) at count = refl
-
   turn_named : (c : Command) (reply : Reply) → Step old c reply new → NamedTurn (named old) c reply (named new)
   turn_named (Malloc id n) reply step = malloc_at (get old.session.ids id) id n reply refl step
   turn_named (Free id) reply step = free_at (get old.session.ids id) id reply refl step
@@ -155,9 +151,9 @@ module _ (old new : RunState) where
   }
   turn_named (Read id at count) reply step = (
     step.0 ∙ ap said (read_same (object_of old id) at count ∙ ap (λ (o : Option (List ℕ)). read_told o at count) (object_told id)),
-    same step.1,
+    same_named named step.1,
   )
-  turn_named c reply step = same step.1
+  turn_named c reply step = same_named named step.1
 
 -- the rules of a run on one manager, seen as ids and objects
 pub kind_names : (kind : Kind) → NamesObjects (BeginsOne kind) Turn

@@ -23,12 +23,6 @@ pub one_run : {S : Type 0} (begins : Profile → Reply → S → Type 0) (turns 
     → PlayStep begins turns old item reply new → PlayRun begins turns old (item ∷ []) (reply ∷ []) new
 one_run begins turns old new item reply step = (new, reply, [], step, refl, (refl, refl))
 
--- the lines of two consecutive replies
-pub led_joined : (lead : List ℕ) (reply more : Reply) → led lead (reply ++ more) ≡ led lead reply ++ led lead more
-led_joined lead [] more = refl
-led_joined lead (text ∷ rest) more = ap (λ l. (lead ++ (text ++ 10 ∷ [])) ++ l) (led_joined lead rest more)
-    ∙ sym (append_assoc (lead ++ (text ++ 10 ∷ [])) (led lead rest) (led lead more))
-
 -- the text of consecutive replies
 pub text_joined : (lead : List ℕ) (replies more : List Reply) → text_of lead (replies ++ more) ≡ text_of lead replies ++ text_of lead more
 text_joined lead [] more = refl

@@ -13,6 +13,7 @@ use Rattle.id_table.proofs.CallerLemmas.{tied_less, tied_more, tied_same}
 use Rattle.cf_lemmas.proofs.MapValues.{get-map_values}
 use Rattle.page_model.specs.Held.{Held, Placed, objects}
 use Rattle.page_model.specs.Steps.{Request}
+use Rattle.page_model.proofs.CallerLemmas.{bytes_held}
 use Rattle.cf_model.specs.Answers.{bound_put}
 use Rattle.cf_model.specs.Families.{Family, paged, tiled, family_of}
 use Rattle.cf_model.specs.State.{HeapState}
@@ -28,13 +29,6 @@ use Rattle.run_model.specs.Texts.{Reply}
 mapped : {X Y : Type 0} (f : X → Y) (o : Option X) (y : Y) → option_map f o ≡ Some y → (x : X) × (o ≡ Some x)
 mapped f None y is = absurd (let e : None ≡ Some y = is in cc)
 mapped f (Some x) y is = (x, refl)
-
--- the bytes of an object
-pub bytes_held : (m : Held) (h : ℕ) (x : Placed) → get m h ≡ Some x → get (objects m) h ≡ Some x.bytes
-bytes_held m h x there = get-map_values (λ (y : Placed). y.bytes) m h ∙ ap (option_map (λ (y : Placed). y.bytes)) there
-
-pub bytes_missing : (m : Held) (h : ℕ) → get m h ≡ None → get (objects m) h ≡ None
-bytes_missing m h none = get-map_values (λ (y : Placed). y.bytes) m h ∙ ap (option_map (λ (y : Placed). y.bytes)) none
 
 -- the ids are tied to the objects without their addresses too
 module _ (ids : Ids) (m : Held) where
@@ -60,7 +54,7 @@ pub counted_ids : {T : Type 0} (s : SessionState) (o : Option T) (n : ℕ) → (
 counted_ids s None n = refl
 counted_ids s (Some h) n = refl
 
-counted_bound : {T : Type 0} (s : SessionState) (o : Option T) (n : ℕ) → (counted s o n).bound ≡ s.bound
+pub counted_bound : {T : Type 0} (s : SessionState) (o : Option T) (n : ℕ) → (counted s o n).bound ≡ s.bound
 counted_bound s None n = refl
 counted_bound s (Some h) n = refl
 

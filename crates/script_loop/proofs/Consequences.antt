@@ -21,7 +21,7 @@ use Rattle.script_loop.proofs.Rows.{observed_row}
 use Rattle.headline_laws.proofs.CallerLemmas.{one_told}
 use Rattle.transcript_laws.specs.Transcripts.{transcript}
 
--- where all was answered, a run over all the items led to the end
+-- if all items were answered, a run over all of them led to the end
 module _ {S P : Type 0} (m : Semantics S P) (from to : S) where
   row_wrote : (all left : List ℕ) (call : Effects) (st : Status) → IsRow m st from all left call to → AnswersAll st
       → Wrote m from (items_within all) call to

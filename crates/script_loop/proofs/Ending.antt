@@ -6,29 +6,30 @@ use Rattle.std.proofs.lemmas.Bool.{le-leb}
 use Rattle.std.proofs.lemmas.List.{take_all, take_at}
 use Rattle.std.specs.Prelude.{nat_le}
 use Rattle.cf_io.specs.Feeds.{appended}
+use Rattle.cf_lemmas.proofs.Tests.{le_no}
 use Rattle.script_reader.specs.Items.{Item, items}
 use Rattle.script_reader.specs.Reading.{Reading, fresh, items_left}
 use Rattle.script_reader.proofs.CallerLemmas.{finished_left}
 use Rattle.run_model.proofs.CallerLemmas.{run_joined, text_joined}
 use Rattle.run_model.specs.Plays.{PlayPart, PlayRun}
 use Rattle.run_model.specs.Texts.{text_of}
-use Rattle.script_loop.specs.Going.{Answered, CutOff, IsWaiting, WasWanting}
+use Rattle.script_loop.specs.AnswersSoFar.{Answered, CutOff, IsWaiting, WasWanting}
 use Rattle.script_loop.specs.Progress.{Playing, progress, run_of}
 use Rattle.script_loop.specs.ScriptOutcome.{Effects, Lacks, MOST_BYTES, Wrote, WroteInPart, has_bad, items_within}
 use Rattle.script_loop.specs.Semantics.{RunBy, Semantics}
 use Rattle.script_loop.proofs.Feeding.{appended_none}
-use Rattle.script_loop.proofs.Going.{bad_then, nothing_left}
+use Rattle.script_loop.proofs.AnswersSoFar.{bad_then, nothing_left}
 use Rattle.script_loop.proofs.Stages.{stands}
 
 -- at the start of a script
 abbrev pub starting : {S : Type 0} → S → Playing S
 starting s = record { reading = fresh; state = s }
 
--- a reader that was told the end
+-- a reader after the end of its bytes
 abbrev pub told_end : Reading → Reading
 told_end r = record r { ended = true }
 
--- the same script, told the end
+-- the same script after the end of its bytes
 abbrev pub ending : {S : Type 0} → Playing S → Playing S
 ending p = record p { reading = told_end p.reading }
 
@@ -39,9 +40,6 @@ within_is all t more parts fits =
     let room : MOST_BYTES ≡ length t + (MOST_BYTES - length t) = omega arith in
     ap (λ (l : List ℕ). items l (nat_le (length all) MOST_BYTES))
     (ap (λ (l : List ℕ). take MOST_BYTES l) parts ∙ ap (λ n. take n (t ++ more)) room ∙ take-append-add t more (MOST_BYTES - length t))
-
-too_many : (m n : ℕ) → n < m → nat_le m n ≡ false
-too_many m n h = grind arith
 
 -- up to the limit
 pub longer : (all t more : List ℕ) → all ≡ t ++ more → length t ≡ MOST_BYTES → 0 < length more → MOST_BYTES < length all
@@ -84,7 +82,7 @@ module _ {S P : Type 0} (m : Semantics S P) where
 
   -- ---- the items of the bytes so far
 
-  -- where no line is begun
+  -- if no line is begun
   pub quiet_items : {s : S} {new : Playing S} {t text : List ℕ} (a : Answered m (starting s) t new text false) → IsWaiting new.reading
       → items t false ≡ a.done
   quiet_items {s} {new} {t} {text} a waits =
@@ -111,7 +109,7 @@ module _ {S P : Type 0} (m : Semantics S P) where
       → length t ≡ MOST_BYTES → 0 < length more → items_within all ≡ a.done
   full_items {s} {new} {t} {text} all more a waits parts full some =
       ap (λ (l : List ℕ). items l (nat_le (length all) MOST_BYTES)) (ap (λ (l : List ℕ). take MOST_BYTES l) parts ∙ take_at t more MOST_BYTES full)
-      ∙ ap (items t) (too_many (length all) MOST_BYTES (longer all t more parts full some)) ∙ quiet_items a waits
+      ∙ ap (items t) (le_no (length all) MOST_BYTES (longer all t more parts full some)) ∙ quiet_items a waits
 
   -- ---- at the end of the input
 
@@ -183,7 +181,7 @@ module _ {S P : Type 0} (m : Semantics S P) where
         stands = stands new.reading.stage s new.state (λ at. let last = c.untouched at in last.1 ∙ (a.untouched last.0).1);
       }
 
-  -- ---- where an allocation failed
+  -- ---- an allocation failed
 
   -- nothing was written before the heap line
   pub silent_before : {s : S} {mid new : Playing S} {t text : List ℕ} {w0 w w' : Option (List ℕ)} → Answered m (starting s) t mid text false

@@ -1,11 +1,12 @@
 pub mod Ending
 pub mod Feeding
-pub mod Going
+pub mod AnswersSoFar
 pub mod Stages
 pub mod Consequences
 pub mod OneManager
 pub mod Prefix
 pub mod Settling
 pub mod CallerLemmas
-pub mod Turning
+pub mod LoopTurn
 pub mod Rows
+pub mod Reporting

@@ -1,4 +1,4 @@
--- What a cut call wrote is a prefix of what a whole run prints, for any player whose commands always have a turn.
+-- The output of a call that was cut is a prefix of that of a whole run, for any mode handler whose commands always have a turn.
 use Rattle.std.proofs.Common.{◌≡◌, ◌++◌, ◌∙◌, ℕ, List, [], ◌∷◌, Option, Some, None, refl, sym, ap, subst, append_assoc}
 use Rattle.script_reader.specs.Items.{Item, asks, bad, starts}
 use Rattle.script_reader.specs.declared.command.Command.{Command}
@@ -11,7 +11,7 @@ use Rattle.script_loop.specs.Consequences.{IsPrefixBy}
 use Rattle.script_loop.specs.ScriptOutcome.{Effects, MOST_BYTES, WroteInPart, items_within}
 use Rattle.script_loop.specs.Semantics.{PartBy, RunBy, Semantics, StepBy}
 
--- What a player owes is that its runs go on, and that a reply that was cut is that of a turn.
+-- The premises: runs of the mode handler can go on, and a reply that was cut is that of a turn.
 module _ {S P : Type 0} (m : Semantics S P) (from : S) (rules : CanGoOn (m.begins (m.plan from)) m.turns)
     (cut_whole : (old : S) (c : Command) (out : List ℕ) (new : S) → rules.is_going old → IsSayable c → m.turns_in_part old c out new
     → (reply : Reply) × (mid : S) × (lost : List ℕ) × m.turns old c reply mid × (led [] reply ≡ out ++ lost)) where

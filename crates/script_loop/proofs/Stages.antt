@@ -1,4 +1,4 @@
--- What the stage of a script tells of its run.
+-- The stage of a script and its run.
 use Rattle.std.proofs.Common.{◌≡◌, Bool, true, false, Some, refl}
 use Rattle.script_reader.specs.Items.{stage_after_command}
 use Rattle.script_reader.specs.declared.stage.Stage.{Stage}
@@ -36,7 +36,7 @@ going_after m a Opening k s leads going = absurd (never_opening a Opening k lead
 going_after m a Bounding k s leads going = going
 going_after m a Running k s leads going = going
 
--- where a state stands after its run
+-- the state after a run
 pub stands : {S : Type 0} (a : Stage) (s t : S) → (a ≡ Opening → t ≡ s) → StandsAfter s (run_in a t) t
 stands Opening s t untouched = untouched refl
 stands Bounding s t untouched = refl

@@ -21,13 +21,13 @@ AnswersAll BadScript = ⊤
 AnswersAll TooLong = ⊤
 AnswersAll status = ⊥
 
--- replies to these items were printed, and each read among them gives the bytes last written
+-- replies to these items were printed, and the reply to each read is the bytes last written
 pub record PrintsReads (wanted : List Item) (call : Effects) : Type 0 where
   pub replies : List Reply
   pub reads : AreReadsOf None wanted replies
   pub written : call.after ≡ appended call.before (text_of [] replies)
 
--- the text is a prefix of what some run over all the items prints
+-- the text is a prefix of the output of some run over all the items
 pub record IsPrefixOfRun (kind : Kind) (wanted : List Item) (text : List ℕ) : Type 0 where
   pub replies : List Reply
   pub end : Option RunState
@@ -35,18 +35,18 @@ pub record IsPrefixOfRun (kind : Kind) (wanted : List Item) (text : List ℕ) : 
   pub missing : List ℕ
   pub prefix : text_of [] replies ≡ text ++ missing
 
--- with pages, every bound is 1 at each command but `k`, and none asks for a place or a cost
+-- with pages, every bound is 1 at each command except `k`, and no command asks for an address or a cost
 pub record ArePlain (kind : Kind) (wanted : List Item) : Type 0 where
   pub paged : IsPaged kind
   pub ones : StaysAtOne kind None wanted
   pub placeless : ArePlaceless wanted
 
--- what is printed over plain items is their transcript
+-- the output over plain items is their transcript
 abbrev pub TellsTranscript : Kind → Option (List ℕ) → Effects → Type 0
 TellsTranscript kind None call = ⊤
 TellsTranscript kind (Some all) call = ArePlain kind (items_within all) → call.after ≡ appended call.before (text_of [] (transcript kind (items_within all)))
 
--- the text is a prefix of what some run by these rules prints over all the items
+-- the text is a prefix of the output of some run by these rules over all the items
 pub record IsPrefixBy {S P : Type 0} (m : Semantics S P) (from : S) (wanted : List Item) (text : List ℕ) : Type 0 where
   pub replies : List Reply
   pub end : Option S

@@ -4,5 +4,6 @@ pub mod OneManager
 pub mod WithSettings
 pub mod Consequences
 pub mod Progress
-pub mod Going
-pub mod Turns
+pub mod AnswersSoFar
+pub mod LoopTurn
+pub mod Applying

@@ -1,4 +1,4 @@
--- A session over one manager, as a player.
+-- The mode handler of a session over one manager.
 use Rattle.std.specs.Prelude.{◌≡◌, ◌++◌, ℕ, List, []}
 use Rattle.cf_base.specs.declared.kind.Kind.{Kind}
 use Rattle.cf_model.specs.Steps.{IsClosed}
@@ -8,14 +8,14 @@ use Rattle.run_model.specs.Sessions.{IsGoing, RunState, fresh_session}
 use Rattle.run_model.specs.Texts.{Reply, led}
 use Rattle.script_loop.specs.Semantics.{Semantics}
 
--- the command took effect, and just these bytes of its reply were written
+-- the command took effect, and these bytes, a prefix of its reply, were written
 pub record TurnInPart (old : RunState) (command : Command) (out : List ℕ) (new : RunState) : Type 0 where
   pub reply : Reply
   pub lost : List ℕ
   pub turn : Turn old command reply new
   pub cut : led [] reply ≡ out ++ lost
 
--- the manager found no memory, and the session is as it was
+-- the manager is out of memory, and the session is unchanged
 pub record LacksOne (old new : RunState) : Type 0 where
   pub closed : IsClosed old.heap new.heap
   pub session : new.session ≡ old.session

@@ -1,11 +1,11 @@
--- A script that is being played.
+-- A script in the middle of its run.
 use Rattle.std.specs.Prelude.{ℕ, List, Option, Some, None}
 use Rattle.script_reader.specs.Reading.{Reading}
 use Rattle.script_reader.specs.declared.stage.Stage.{Stage}
 use Rattle.script_reader.specs.declared.stage.Stage.TheVariants.{Opening, Bounding, Running}
 use Rattle.script_loop.specs.Semantics.{Semantics}
 
--- what is read, and the state that the answers led to
+-- the reader, and the state after the replies so far
 pub record Playing (S : Type 0) : Type 0 where
   pub reading : Reading
   pub state : S
@@ -13,7 +13,7 @@ pub record Playing (S : Type 0) : Type 0 where
 abbrev pub playing : {S : Type 0} → Reading → S → Playing S
 playing reading state = record { reading = reading; state = state }
 
--- the run that the script has come to: none before its `heap` line
+-- the run so far: none before the `heap` line
 abbrev pub run_in : {S : Type 0} → Stage → S → Option S
 run_in Opening s = None
 run_in Bounding s = Some s
@@ -22,7 +22,7 @@ run_in Running s = Some s
 abbrev pub run_of : {S : Type 0} → Playing S → Option S
 run_of p = run_in p.reading.stage p.state
 
--- The state is fresh before the `heap` line, and goes on after it.
+-- The state is fresh before the `heap` line, and that of a run after it.
 abbrev pub IsReadyAt : {S P : Type 0} → Semantics S P → Stage → S → Type 0
 IsReadyAt m Opening s = m.is_fresh s
 IsReadyAt m Bounding s = m.is_going s
@@ -31,7 +31,7 @@ IsReadyAt m Running s = m.is_going s
 abbrev pub IsReady : {S P : Type 0} → Semantics S P → Playing S → Type 0
 IsReady m p = IsReadyAt m p.reading.stage p.state
 
--- the same, and the bytes written by then, where the sink is observable
+-- the same, and the bytes written by then, if the sink is observable
 pub record Progress (S : Type 0) : Type 0 where
   pub playing : Playing S
   pub written : Option (List ℕ)

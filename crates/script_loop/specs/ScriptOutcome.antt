@@ -1,4 +1,4 @@
--- How the answering of a whole script may end.
+-- How a whole script may end.
 use Rattle.std.specs.Prelude.{◌≡◌, ◌≢◌, ◌<◌, ◌≤◌, ◌+◌, ◌⊎◌, ◌++◌, ⊤, ℕ, Bool, true, false, List, [], ◌∷◌, length, take, nat_le, Option, Some, None}
 use Rattle.std.specs.List.{list_any}
 use Rattle.cf_base.specs.declared.status.Status.{Status}
@@ -8,7 +8,7 @@ use Rattle.script_reader.specs.Items.{Item, asks, bad, items, starts}
 use Rattle.run_model.specs.Texts.{Reply, text_of}
 use Rattle.script_loop.specs.Semantics.{PartBy, RunBy, Semantics}
 
--- the most bytes of a script that are answered
+-- the most bytes of a script
 abbrev pub MOST_BYTES : ℕ
 MOST_BYTES = 268435455
 
@@ -17,15 +17,15 @@ is_bad (starts settings) = false
 is_bad (asks command) = false
 is_bad (bad n) = true
 
--- whether a line isn't in the grammar at its place
+-- whether some line isn't in the grammar
 abbrev pub has_bad : List Item → Bool
 has_bad = list_any is_bad
 
--- the items of the bytes within the limit; the script ends there where it isn't longer
+-- the items of the bytes within the limit; the script ends there if it isn't longer
 abbrev pub items_within : List ℕ → List Item
 items_within all = items (take MOST_BYTES all) (nat_le (length all) MOST_BYTES)
 
--- what a source shows: the bytes that it has left, where it is observable, how many it gave, and how often it failed
+-- a source: the bytes left, if it is observable, how many it gave, and how often it failed
 pub record SourceState : Type 0 where
   pub rest : Option (List ℕ)
   pub given : ℕ
@@ -34,7 +34,7 @@ pub record SourceState : Type 0 where
 abbrev pub source_at : Option (List ℕ) → ℕ → ℕ → SourceState
 source_at rest given faults = record { rest = rest; given = given; faults = faults }
 
--- what a sink shows: the bytes written, where it is observable, and how often it failed
+-- a sink: the bytes written, if it is observable, and how often it failed
 pub record SinkState : Type 0 where
   pub written : Option (List ℕ)
   pub faults : ℕ
@@ -42,8 +42,8 @@ pub record SinkState : Type 0 where
 abbrev pub sink_at : Option (List ℕ) → ℕ → SinkState
 sink_at written faults = record { written = written; faults = faults }
 
--- what a source had and has left, and what a sink held and holds, where they are observable; how many bytes the source had given and has given; and how the
--- call ended
+-- A call: the bytes left in its source and the bytes in its sink before and after, if they are observable; how many bytes the source gave before and after;
+-- and the status.
 pub record Effects : Type 0 where
   pub had : Option (List ℕ)
   pub left : Option (List ℕ)
@@ -65,12 +65,12 @@ effects source sink status source' sink' = record {
   status = status;
 }
 
--- a state is where the run led; untouched where no run began
+-- the state after the run; unchanged if no run began
 abbrev pub StandsAfter : {S : Type 0} → S → Option S → S → Type 0
 StandsAfter from None to = to ≡ from
 StandsAfter from (Some s) to = to ≡ s
 
--- a run over these items led here, and its replies were written
+-- a run over these items leads to this state, and its replies were written
 pub record Wrote {S P : Type 0} (m : Semantics S P) (from : S) (wanted : List Item) (call : Effects) (to : S) : Type 0 where
   pub replies : List Reply
   pub end : Option S
@@ -78,7 +78,7 @@ pub record Wrote {S P : Type 0} (m : Semantics S P) (from : S) (wanted : List It
   pub written : call.after ≡ appended call.before (text_of [] replies)
   pub stands : StandsAfter from end to
 
--- a run over the items before one of them, and that one, of whose reply just a part was written
+-- a run over the items before one of them, and a prefix of the reply to that one was written
 pub record WroteInPart {S P : Type 0} (m : Semantics S P) (from : S) (wanted : List Item) (call : Effects) (to : S) : Type 0 where
   pub before : List Item
   pub item : Item
@@ -98,7 +98,7 @@ pub record Lacks {S P : Type 0} (m : Semantics S P) (from : S) (call : Effects) 
   pub lacks : m.lacks from to
   pub unwritten : call.after ≡ call.before
 
--- where a source had the bytes `all` and has those of `left`, by how the call ended
+-- a source with the bytes `all`, of which `left` are left, by the status
 abbrev pub IsRow : {S P : Type 0} → Semantics S P → Status → S → List ℕ → List ℕ → Effects → S → Type 0
 IsRow m Done from all left call to = (length all ≤ MOST_BYTES) × (left ≡ []) × (has_bad (items_within all) ≡ false) × Wrote m from (items_within all) call to
 IsRow m BadScript from all left call to = (has_bad (items_within all) ≡ true) × Wrote m from (items_within all) call to
@@ -110,13 +110,13 @@ IsRow m OutOfMemory from all left call to = Lacks m from call to
 IsRow m Words from all left call to = ⊥
 IsRow m BadImage from all left call to = ⊥
 
--- the bytes that may come next: those that are left, where they are observable; none where the source has ended
+-- the bytes that may be read next: the bytes left, if they are observable; none if the source has ended
 abbrev pub MayFollow : Option (List ℕ) → Bool → List ℕ → Type 0
 MayFollow (Some left) ended more = more ≡ left
 MayFollow None true more = more ≡ []
 MayFollow None false more = ⊤
 
--- Over every source: these bytes were taken, as many as the source gave, and whatever bytes may come next, the row of the status holds over all of them.
+-- Over every source: these bytes were taken, as many as the source gave, and for all bytes that may be read next the row of the status holds over all of them.
 pub record MeetsOutcome {S P : Type 0} (m : Semantics S P) (from : S) (call : Effects) (to : S) : Type 0 where
   pub taken : List ℕ
   pub ended : Bool
@@ -124,7 +124,7 @@ pub record MeetsOutcome {S P : Type 0} (m : Semantics S P) (from : S) (call : Ef
   pub counted : HasGiven call.given_before (length taken) call.given_after
   pub row : (more : List ℕ) → MayFollow call.left ended more → IsRow m call.status from (taken ++ more) more call to
 
--- The causes of how a script ended, over every source and sink.
+-- The cause of each status, over every source and sink.
 pub record HasCauses (source : SourceState) (sink : SinkState) (status : Status) (source' : SourceState) (sink' : SinkState) : Type 0 where
   pub silent : status ≡ OutOfMemory → sink'.written ≡ sink.written
   pub source_same : status ≢ ReadFault → source'.faults ≡ source.faults
@@ -133,14 +133,14 @@ pub record HasCauses (source : SourceState) (sink : SinkState) (status : Status)
   pub write_fault : status ≡ WriteFault → Rose sink.faults sink'.faults
   pub too_long : status ≡ TooLong → (source.given + MOST_BYTES < source'.given) ⊎ (source'.given ≡ last_count)
 
--- A script was played from a state to another: how it ended, for which causes, and what no item changes.
+-- A script led from one state to another: the row of its status, its cause, and what no item changes.
 pub record Plays {S P : Type 0} (m : Semantics S P) (from : S) (source : SourceState) (sink : SinkState) (status : Status) (source' : SourceState)
     (sink' : SinkState) (to : S) : Type 0 where
   pub outcome : MeetsOutcome m from (effects source sink status source' sink') to
   pub plan : m.plan to ≡ m.plan from
   pub causes : HasCauses source sink status source' sink'
 
--- the source is observable, its bytes are within the limit and have no bad line
+-- the source is observable, its bytes are within the limit, and no line is bad
 abbrev pub IsClean : Option (List ℕ) → Type 0
 IsClean None = ⊥
 IsClean (Some all) = (length all ≤ MOST_BYTES) × (has_bad (items all true) ≡ false)

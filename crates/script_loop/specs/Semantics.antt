@@ -1,4 +1,4 @@
--- What the answers of a player mean.
+-- What the replies of a mode handler mean.
 use Rattle.std.specs.Prelude.{◌≡◌, ◌++◌, ℕ, List, [], Option, Result, Ok, Err}
 use Rattle.cf_base.specs.Settings.{Profile, profile_of}
 use Rattle.cf_base.specs.declared.answers.Failed.{Failed}
@@ -11,9 +11,8 @@ use Rattle.run_model.specs.Texts.{Reply, led}
 use Rattle.script_loop.specs.declared.player.OpenFault.{OpenFault}
 use Rattle.script_loop.specs.declared.player.OpenFault.TheVariants as fault
 
--- The states are those of a run. The plan is what no item changes. A run begins by a `heap` line, from a fresh state, and each command has its turn in a
--- state that goes on. Of a reply that the sink cut, `turns_in_part` says which bytes were written, and what state that leaves; `lacks` says what an
--- allocation that failed leaves.
+-- The states are those of a run. No item changes the plan. A run begins with a `heap` line in a fresh state, and each command has a turn in a state of a
+-- run. If the sink cuts a reply, `turns_in_part` fixes the bytes written and the state afterwards. `lacks` fixes the state after an allocation that failed.
 pub record Semantics (S P : Type 0) : Type 1 where
   pub plan : S → P
   pub is_fresh : S → Type 0
@@ -31,11 +30,11 @@ StepBy m from old item reply new = PlayStep (m.begins (m.plan from)) m.turns old
 abbrev pub RunBy : {S P : Type 0} → Semantics S P → S → Option S → List Item → List Reply → Option S → Type 0
 RunBy m from old items replies new = PlayRun (m.begins (m.plan from)) m.turns old items replies new
 
--- one item, of whose reply just these bytes were written
+-- one item, and these bytes of its reply were written
 abbrev pub PartBy : {S P : Type 0} → Semantics S P → S → Option S → Item → List ℕ → Option S → Type 0
 PartBy m from old item out new = PlayPart (m.begins (m.plan from)) m.turns_in_part old item out new
 
--- a state, and the bytes written by then, where the sink is observable
+-- a state, and the bytes written by then, if the sink is observable
 pub record Snapshot (S : Type 0) : Type 0 where
   pub state : S
   pub written : Option (List ℕ)
@@ -49,7 +48,7 @@ pub record IsOpened {S P : Type 0} (m : Semantics S P) (old : Snapshot S) (p : P
   pub begins : m.begins (m.plan old.state) p reply new.state
   pub written : new.written ≡ appended old.written (led [] reply)
 
--- a `heap` line took effect, and of its reply just a prefix was written
+-- a `heap` line took effect, and a prefix of its reply was written
 pub record IsOpenedInPart {S P : Type 0} (m : Semantics S P) (old : Snapshot S) (p : Profile) (new : Snapshot S) : Type 0 where
   pub reply : Reply
   pub front : List ℕ
@@ -58,7 +57,7 @@ pub record IsOpenedInPart {S P : Type 0} (m : Semantics S P) (old : Snapshot S) 
   pub cut : led [] reply ≡ front ++ lost
   pub written : new.written ≡ appended old.written front
 
--- by how it ended
+-- by the result
 abbrev pub OpensBy : {S P T : Type 0} → Semantics S P → Snapshot S → Settings → Result T OpenFault → Snapshot S → Type 0
 OpensBy m old settings (Ok u) new = IsOpened m old (profile_of settings) new
 OpensBy m old settings (Err fault.Failed) new = IsOpenedInPart m old (profile_of settings) new
@@ -70,13 +69,13 @@ pub record HasTurn {S P : Type 0} (m : Semantics S P) (old : Snapshot S) (comman
   pub turns : m.turns old.state command reply new.state
   pub written : new.written ≡ appended old.written (led [] reply)
 
--- a command took effect, and of its reply just these bytes were written
+-- a command took effect, and these bytes, a prefix of its reply, were written
 pub record HasTurnInPart {S P : Type 0} (m : Semantics S P) (old : Snapshot S) (command : Command) (new : Snapshot S) : Type 0 where
   pub out : List ℕ
   pub turns : m.turns_in_part old.state command out new.state
   pub written : new.written ≡ appended old.written out
 
--- by how it ended
+-- by the result
 abbrev pub AnswersBy : {S P T : Type 0} → Semantics S P → Snapshot S → Command → Result T Failed → Snapshot S → Type 0
 AnswersBy m old command (Ok u) new = HasTurn m old command new
 AnswersBy m old command (Err failed) new = HasTurnInPart m old command new

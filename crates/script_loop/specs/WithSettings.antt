@@ -1,11 +1,11 @@
--- A player that keeps the settings of the `heap` line.
+-- A mode handler that keeps the settings of the `heap` line.
 use Rattle.std.specs.Prelude.{◌≡◌, ⊤, Option, Some, None, option_map}
 use Rattle.cf_base.specs.Settings.{profile_of}
 use Rattle.cf_base.specs.declared.settings.Settings.{Settings}
 use Rattle.run_model.specs.Sessions.{IsGoing, RunState}
 use Rattle.script_loop.specs.Semantics.{Semantics}
 
--- a state of another player, and the settings that were met
+-- a state of another mode handler, and the settings of the `heap` line, if any
 pub record Settled (S : Type 0) : Type 0 where
   pub state : S
   pub settings : Option Settings
@@ -13,7 +13,7 @@ pub record Settled (S : Type 0) : Type 0 where
 abbrev pub settled : {S : Type 0} → S → Option Settings → Settled S
 settled state settings = record { state = state; settings = settings }
 
--- it answers as the other player does; the `heap` line gives the settings, and nothing changes them
+-- It answers as the other mode handler does. The `heap` line sets the settings, and no command changes them.
 abbrev pub with_settings : {S P : Type 0} → Semantics S P → Semantics (Settled S) P
 with_settings m = record {
   plan = λ s. m.plan s.state;

@@ -1,28 +1,28 @@
-//! Answering what a reader has.
+//! Answering the items that a reader has.
 ghost use Rattle.std.specs.Prelude.{◌≡◌, ◌≤◌, ◌+◌, [], length, false, None, ◌≢◌};
 ghost use Rattle.cf_io.specs.Feeds.{Rose};
 ghost use Rattle.script_reader.specs.Reading.{MOST_FED};
-ghost use Rattle.script_loop.specs.Going.{Goes, IsWaiting, NamesBad};
+ghost use Rattle.script_loop.specs.AnswersSoFar.{Goes, IsWaiting, NamesBad};
 ghost use Rattle.script_loop.specs.Progress.{IsReady, playing, progress};
 
 use crate::player::{OpenFault, Player};
 use cf_io::{Line, Sink, push_field, put_line};
 use script_reader::{NextRef, Reader, Room};
 
-/// How far the answers came.
+/// Why the answers stopped.
 #[derive(Clone, Copy, Debug, PartialEq, Eq)]
 pub enum Ready {
-    /// Up to where more is needed, or to the end.
+    /// The reader needs more bytes, or the script has ended.
     GoesOn,
-    /// To a bad line, which was named.
+    /// At a bad line, which was named.
     Stopped,
-    /// To where the sink failed.
+    /// The sink failed.
     Cut,
-    /// To the `heap` line, at which an allocation failed.
+    /// An allocation failed at the `heap` line.
     Wanting,
 }
 
-/// Names the bad line.
+/// Writes the number of the bad line.
 fn name_bad<K: Sink>(number: u32, sink: &mut K) -> Ready
     ensures names { NamesBad (K.written sink.old) number result (K.written sink.new) }
     ensures grows { K.faults sink.old ≤ K.faults sink.new }
@@ -37,8 +37,8 @@ fn name_bad<K: Sink>(number: u32, sink: &mut K) -> Ready
     }
 }
 
-/// Answers what the reader has, until it needs more, has ended, or is at a bad line. The bytes of a write
-/// stand in the room.
+/// Answers the items of the reader until it needs more bytes, has ended, or is at a bad line. The bytes
+/// of a write are in `room`.
 pub fn answer_kept<H, A: Player<H>, K: Sink>(
     reader: &mut Reader,
     player: &mut A,
@@ -73,7 +73,7 @@ pub fn answer_kept<H, A: Player<H>, K: Sink>(
     }
 }
 
-/// Answers what the chunk completes.
+/// Answers the items that the chunk completes.
 pub fn answer_piece<H, A: Player<H>, K: Sink>(
     reader: &mut Reader,
     player: &mut A,

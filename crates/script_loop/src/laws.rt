@@ -9,8 +9,8 @@ ghost use Rattle.script_loop.specs.OneManager.{one_manager};
 ghost use Rattle.script_loop.specs.ScriptOutcome.{Effects, MeetsOutcome, Wrote, WroteInPart, items_within};
 ghost use Rattle.script_loop.specs.WithSettings.{GoesWith, Settled, with_settings};
 
-/// From the outcome of a script: each read that was answered gives the bytes last written through its
-/// id, on any kind of manager.
+/// Each read of a script that was answered returns the bytes last written through its id, on any kind
+/// of manager.
 pub fn every_read_gives_what_was_written()
     ensures printed { (from to : RunState) (call : Effects) (all : List ℕ) → call.had ≡ Some all
         → MeetsOutcome one_manager from call to → AnswersAll call.status
@@ -21,22 +21,22 @@ pub fn every_read_gives_what_was_written()
         (w : WroteInPart one_manager from wanted call to) → AreReadsOf None w.before w.replies }
 {}
 
-/// What was written before the sink failed is a prefix of what a run over the whole script prints, on
-/// any kind of manager.
+/// The output before the sink failed is a prefix of the output of a run over the whole script, on any
+/// kind of manager.
 pub fn what_was_cut_is_a_prefix()
     ensures { (from to : RunState) (call : Effects) (all : List ℕ)
         → (w : WroteInPart one_manager from (items_within all) call to)
         → IsPrefixOfRun from.heap.kind (items_within all) (text_of [] w.replies ++ w.front) }
 {}
 
-/// Where all was answered, the output over plain items is their transcript.
+/// If all items were answered, the output over plain items is their transcript.
 pub fn plain_scripts_print_their_transcript()
     ensures { (from to : RunState) (call : Effects) → MeetsOutcome one_manager from call to
         → AnswersAll call.status → TellsTranscript from.heap.kind call.had call }
 {}
 
-/// How a source cuts its bytes never matters: two calls over the same bytes that answered all end
-/// alike, and over plain items on managers of one kind they print the same.
+/// The chunks of a source do not matter: two calls that answered all of the same bytes return the same
+/// status, and over plain items on managers of one kind they print the same.
 pub fn cuts_never_matter()
     ensures status { (from other to there : RunState) (one two : Effects) (all : List ℕ)
         → one.had ≡ Some all → two.had ≡ Some all
@@ -50,8 +50,8 @@ pub fn cuts_never_matter()
         → two.before ≡ one.before → two.after ≡ one.after }
 {}
 
-/// A player that keeps the settings answers as the session does, and where its run began it goes on,
-/// and the manager has the settings that are kept.
+/// A mode handler that keeps the settings answers as the session does. If its run began, it goes on,
+/// and the manager has those settings.
 pub fn settings_are_kept()
     ensures { (from to : Settled RunState) (wanted : List Item) (call : Effects)
         (w : Wrote (with_settings one_manager) from wanted call to)

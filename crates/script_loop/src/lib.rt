@@ -1,4 +1,4 @@
-//! A whole script, answered as it comes: bytes from a source to replies in a sink.
+//! A whole script: reads bytes from a source, and writes replies into a sink.
 #![tactic(auto)]
 
 mod answering;

@@ -52,10 +52,10 @@ impl<H: Manager> Player<H> for Session {
     }
 }
 
-/// Answers each line of a script before it takes the next chunk of it: its `heap` line opens the
-/// manager, and each command is answered on it. It stops at a bad line, at a fault of the source or
-/// the sink, where an allocation fails at the `heap` line, and past 268,435,455 bytes. Session and
-/// manager are then at the end of that run, and go on from there.
+/// Answers each line of a script before it takes the next chunk: the `heap` line opens the manager, and
+/// each command is done on it. It stops at a bad line, if the source or the sink fails, if an allocation
+/// fails at the `heap` line, and after 268,435,455 bytes. Session and manager are then at the end of
+/// that run, and can go on from there.
 pub fn run_script<H: Manager, S: Source, K: Sink>(
     session: &mut Session,
     heap: &mut H,

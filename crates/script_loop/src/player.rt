@@ -1,4 +1,4 @@
-//! Who answers the items of a script.
+//! Mode handlers: who answers the items of a script.
 ghost use Rattle.std.specs.Prelude.{◌≡◌, ◌≤◌, Err, OnErr, OnOk, ◌≢◌};
 ghost use Rattle.cf_io.specs.Feeds.{Rose};
 ghost use Rattle.script_reader.specs.Commands.{IsWellFormed};
@@ -9,29 +9,29 @@ use cf_base::{Failed, Settings};
 use cf_io::Sink;
 use script_reader::CommandRef;
 
-/// Why a `heap` line wasn't answered whole.
+/// Why the reply to a `heap` line wasn't written.
 #[derive(Clone, Copy, Debug, Drop, PartialEq, Eq)]
 pub enum OpenFault {
-    /// The sink failed; the line has taken effect, and a prefix of its reply was written.
+    /// The sink failed. The line has taken effect, and a prefix of its reply was written.
     Failed,
     /// An allocation failed, and nothing was written.
     OutOfMemory,
 }
 
-/// Answers the items of a script on a heap: on one manager, on a list of managers, or on another
-/// heap. Each mode that reads a script is a player, and `play_script` is the loop of all.
+/// A mode handler: it answers the items of a script on a heap, which is one manager, a list of managers,
+/// or another heap. Each mode that reads a script has one, and `play_script` is the loop of all.
 pub trait Player<H> {
-    /// A run at one moment: what the player keeps, and its heap.
+    /// A run at one moment: the state of the handler and its heap.
     ghost State: { Type 0 };
 
-    /// What no item changes.
+    /// The part of it that no item changes.
     ghost Plan: { Type 0 };
 
     ghost state: { Self → H → State };
 
     ghost semantics: { Semantics State Plan };
 
-    /// Answers the `heap` line, which comes once and first.
+    /// Answers the `heap` line, the first item of a script.
     fn open<K: Sink>(
         &mut self,
         heap: &mut H,
@@ -47,7 +47,7 @@ pub trait Player<H> {
         ensures same { result ≢ Err OpenFault.Failed → K.faults sink.new ≡ K.faults sink.old }
         ensures failed { result ≡ Err OpenFault.Failed → Rose (K.faults sink.old) (K.faults sink.new) };
 
-    /// Answers a command. At `Failed` the command has taken effect, and a part of its reply was
+    /// Answers a command. If the sink fails, the command has taken effect, and a prefix of its reply was
     /// written.
     fn answer<K: Sink>(
         &mut self,

@@ -4,7 +4,7 @@ ghost use Rattle.cf_io.specs.Feeds.{Rose};
 ghost use Rattle.cf_io.specs.Schedules.{one_more};
 ghost use Rattle.script_reader.specs.Reading.{fresh};
 ghost use Rattle.script_loop.specs.ScriptOutcome.{MOST_BYTES, Plays, sink_at, source_at};
-ghost use Rattle.script_loop.specs.Turns.{AwaitsChunk, TakesTurn, between, left_in, reading_in};
+ghost use Rattle.script_loop.specs.LoopTurn.{AwaitsChunk, TakesTurn, between, left_in, reading_in};
 
 use crate::answering::{Ready, answer_kept, answer_piece};
 use crate::player::Player;
@@ -12,7 +12,7 @@ use cf_base::Status;
 use cf_io::{Sink, Source};
 use script_reader::{Reader, Room};
 
-/// The most bytes of a script that are answered.
+/// The most bytes of a script.
 pub const LIMIT: usize = 268_435_455;
 
 /// The most bytes of a chunk.
@@ -21,15 +21,15 @@ const CHUNK: usize = 4_096;
 /// How a turn of the loop ends.
 #[derive(Clone, Copy, Debug, PartialEq, Eq)]
 pub enum TurnEnd {
-    /// A chunk came, and all that it completes was answered.
+    /// A chunk was taken, and the items that it completes were answered.
     Answered,
     /// The source has ended.
     Ended,
-    /// The script ends by this status.
+    /// The script ends with this status.
     Stopped(Status),
 }
 
-/// A script between two chunks: its reader, the payload of a write, and how many more bytes are answered.
+/// A script between two chunks: its reader, the payload of a write, and the bytes left up to the limit.
 #[derive(Drop)]
 pub struct Script {
     reader: Reader,
@@ -38,7 +38,7 @@ pub struct Script {
 }
 
 impl Script {
-    /// A script of which nothing was taken.
+    /// A script before its first chunk.
     pub fn new() -> Script
         ensures reading { reading_in result ≡ fresh }
         ensures left { left_in result ≡ MOST_BYTES }
@@ -50,9 +50,9 @@ impl Script {
         }
     }
 
-    /// One turn of the loop: takes one chunk, and answers each command whose line is whole by then. It ends
-    /// the script at a bad line, at a fault of the source or the sink, where an allocation fails at the `heap`
-    /// line, and past the limit.
+    /// One turn of the loop: takes one chunk, and answers each command whose line is complete. It ends the
+    /// script at a bad line, if the source or the sink fails, if an allocation fails at the `heap` line, and
+    /// after the limit.
     pub fn turn<H, A: Player<H>, S: Source, K: Sink>(
         &mut self,
         player: &mut A,
@@ -101,9 +101,9 @@ impl Script {
     }
 }
 
-/// Lets the player answer each line of a script before it takes the next chunk of it. It stops at a
-/// bad line, at a fault of the source or the sink, where an allocation fails at the `heap` line, and
-/// past 268,435,455 bytes.
+/// The mode handler answers each line of a script before the loop takes the next chunk. The loop stops at
+/// a bad line, if the source or the sink fails, if an allocation fails at the `heap` line, and after
+/// 268,435,455 bytes.
 pub fn play_script<H, A: Player<H>, S: Source, K: Sink>(
     player: &mut A,
     heap: &mut H,

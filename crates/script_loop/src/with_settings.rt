@@ -1,4 +1,4 @@
-//! A player that keeps the settings of the `heap` line.
+//! A mode handler that keeps the settings of the `heap` line.
 ghost use Rattle.script_loop.specs.WithSettings.{Settled, settled, with_settings};
 
 use crate::player::{OpenFault, Player};
@@ -6,8 +6,8 @@ use cf_base::{Failed, Settings};
 use cf_io::Sink;
 use script_reader::CommandRef;
 
-/// A player, and the settings of the `heap` line that it met, so that they can be told with what its
-/// heap holds at the end of a script.
+/// A mode handler, and the settings of the `heap` line that it answered, so that an image of the heap
+/// after the script can contain them.
 #[derive(Drop)]
 pub struct WithSettings<A> {
     pub player: A,

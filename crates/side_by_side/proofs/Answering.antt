@@ -1,9 +1,9 @@
--- How a list of managers answers, as one player.
+-- How the mode handler of a list of managers answers.
 use Rattle.std.proofs.Common.{ℕ, List, Option, Result, Ok, Err}
 use Rattle.cf_base.specs.declared.answers.Failed.{Failed}
 use Rattle.script_loop.specs.Semantics.{AnswersBy, snapshot}
 use Rattle.script_reader.specs.declared.command.Command.{Command}
-use Rattle.side_by_side.specs.Going.{AnswersWith}
+use Rattle.side_by_side.specs.Progress.{AnswersWith}
 use Rattle.side_by_side.specs.Many.{EachInPart, EachTurn, Many, many_managers, runs_of}
 
 pub each_answers : {T : Type 0} (old new : Many) (w w' : Option (List ℕ)) (c : Command) (r : Result T Failed)

@@ -18,7 +18,7 @@ use Rattle.cf_base.specs.declared.kind.Kind.{Kind}
 use Rattle.side_by_side.proofs.Zipping.{mapped_twice}
 use Rattle.side_by_side.specs.Many.{EachBegins, IsEachFresh, IsEachGoing, LacksSome, kinds_of, many_at, oks, runs_of, zipped}
 
--- the lists of which each entry has a pair
+-- lists whose entries are paired
 pairwise_rest : {X : Type 0} (R : X → X → Type 0) (x y : X) (xs ys : List X) → Pairwise R (x ∷ xs) (y ∷ ys) → Pairwise R xs ys
 pairwise_rest R x y xs ys p = record { count = omega (arith, p.count); each = λ k d e lt. p.each (suc k) d e (omega (arith, lt)) }
 
@@ -50,7 +50,7 @@ each_begun f p (s ∷ ss) (x ∷ xs) (y ∷ ys) count fresh pairs = (
   refl,
 )
 
--- what began goes on
+-- a run that began goes on
 pub begun_goes : (kinds : List Kind) (p : Profile) (reply : Reply) (news : List RunState) → EachBegins kinds p reply news → All IsGoing news
 begun_goes [] p reply news (is, are) = rw are (All-nil IsGoing)
 begun_goes (kind ∷ kinds) p reply news (first, more, new, rest, begins, others, is, are) =

@@ -1,6 +1,6 @@
 -- The first manager of a kind.
 use Rattle.std.proofs.Common.{◌≡◌, ◌∙◌, ◌+◌, ◌<◌, ◌≤◌, ℕ, true, false, List, Option, Some, None, refl, sym, ap}
-use Rattle.std.proofs.Common.{subst, length, get_or, set, map, arith, inl, inr}
+use Rattle.std.proofs.Common.{length, get_or, set, map, arith, inl, inr}
 use Rattle.std.proofs.lemmas.Bool.{cases_lt}
 use Rattle.std.proofs.lemmas.List.{get_or-map, length-map}
 use Rattle.std.proofs.lemmas.List.Quantifiers.{position-Some}
@@ -29,7 +29,7 @@ are_same HalfFit NonMoving is = cc
 are_same HalfFit Tlsf is = cc
 are_same HalfFit HalfFit is = refl
 
--- A loop over managers, of which the states are seen.
+-- A loop over managers, by their states.
 module _ {X : Type 0} (f : X → HeapState) (kind : Kind) (xs : List X) where
   -- none below i is of the kind
   abbrev pub NoneBelow : ℕ → Type 0
@@ -82,7 +82,7 @@ module _ (kind : Kind) (heaps : List HeapState) where
   kinds_at new same (Some i) is =
       map-set_same (λ (h : HeapState). h.kind) heaps i new (closed_state kind) (same ∙ sym (first_kind kind heaps i is))
 
-  -- the managers keep their kinds where the chosen one does
+  -- the managers keep their kinds if the chosen one does
   pub chosen_kinds : (new : HeapState) → new.kind ≡ (chosen_of kind heaps).kind → map (λ h. h.kind) (with_chosen kind heaps new) ≡ map (λ h. h.kind) heaps
   chosen_kinds new same = kinds_at new (same ∙ chosen_kind) (first_of_kind kind heaps) refl
 

@@ -1,4 +1,4 @@
--- Replies of which each line comes after a name.
+-- Replies with a name before each line.
 use Rattle.std.proofs.Common.{◌≡◌, ◌++◌, ◌∙◌, ℕ, List, [], ◌∷◌, refl, sym, ap, append_assoc}
 use Rattle.cf_io.specs.Feeds.{appended}
 use Rattle.run_model.specs.Texts.{Reply, led}
@@ -9,7 +9,7 @@ use Rattle.run_model.specs.Answering.{IsAnswered, IsCutShort, Moment}
 use Rattle.run_model.specs.Runs.{Turn}
 use Rattle.run_model.specs.Sessions.{IsGoing, RunState}
 use Rattle.cf_base.specs.declared.kind.Kind.{Kind}
-use Rattle.side_by_side.specs.Going.{TurnNamed, TurnNamedInPart}
+use Rattle.side_by_side.specs.Progress.{TurnNamed, TurnNamedInPart}
 use Rattle.side_by_side.specs.Many.{named}
 
 -- the lead of each line, or its name

@@ -3,7 +3,7 @@ use Rattle.std.proofs.Common.{◌≡◌, ◌++◌, ◌∙◌, ◌+◌, ◌<◌, 
 use Rattle.std.proofs.Common.{take-append-drop}
 use Rattle.std.proofs.lemmas.List.{get_or-map, length-map, map-append, take_more}
 use Rattle.std.specs.Prelude.{codes}
-use Rattle.run_model.proofs.CallerLemmas.{led_joined}
+use Rattle.cf_io.proofs.CallerLemmas.{led-append}
 use Rattle.run_model.specs.Texts.{led}
 use Rattle.side_by_side.specs.Many.{lead_of}
 use Rattle.cf_base.specs.declared.kind.Kind.{Kind}
@@ -17,7 +17,7 @@ pub oks_more : (kinds : List Kind) (i : ℕ) (kind : Kind) → i < length kinds 
     → led [] (oks (take i kinds)) ++ (lead_of kind ++ codes "ok\n") ≡ led [] (oks (take (i + 1) kinds))
 oks_more kinds i kind lt is =
     ap (λ l. led [] (oks (take i kinds)) ++ l) (sym (line_of kind))
-    ∙ sym (led_joined [] (oks (take i kinds)) (oks (kind ∷ [])))
+    ∙ sym (led-append [] (oks (take i kinds)) (oks (kind ∷ [])))
     ∙ ap (λ l. led [] l) (sym (map-append (λ (k : Kind). lead_of k ++ codes "ok") (take i kinds) (kind ∷ [])))
     ∙ ap (λ k. led [] (oks (take i kinds ++ k ∷ []))) is
     ∙ ap (λ l. led [] (oks l)) (sym (take_more kinds i kind lt))
@@ -28,7 +28,7 @@ pub oks_cut : (kinds : List Kind) (i : ℕ) (kind : Kind) (front lost : List ℕ
 oks_cut kinds i kind front lost lt is cut =
     ap (λ l. led [] (oks l)) (sym (take-append-drop (i + 1) kinds))
     ∙ ap (λ l. led [] l) (map-append (λ (k : Kind). lead_of k ++ codes "ok") (take (i + 1) kinds) (drop (i + 1) kinds))
-    ∙ led_joined [] (oks (take (i + 1) kinds)) (oks (drop (i + 1) kinds))
+    ∙ led-append [] (oks (take (i + 1) kinds)) (oks (drop (i + 1) kinds))
     ∙ ap (λ l. l ++ led [] (oks (drop (i + 1) kinds)))
     (sym (oks_more kinds i kind lt is) ∙ ap (λ l. led [] (oks (take i kinds)) ++ l) cut ∙ sym (append_assoc (led [] (oks (take i kinds))) front lost))
     ∙ append_assoc (led [] (oks (take i kinds)) ++ front) lost (led [] (oks (drop (i + 1) kinds)))

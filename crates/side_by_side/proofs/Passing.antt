@@ -2,7 +2,7 @@
 use Rattle.std.proofs.Common.{◌≡◌, ◌++◌, ◌∙◌, ◌+◌, ◌<◌, ◌≤◌, ℕ, List, [], ◌∷◌, refl, sym, ap, subst, inl, inr, length, set, get_or, map, append_assoc}
 use Rattle.std.proofs.Common.{append-nil, length-append, arith}
 use Rattle.std.proofs.lemmas.List.{get_or_at, length-map, set_at, length_push}
-use Rattle.run_model.proofs.CallerLemmas.{led_joined}
+use Rattle.cf_io.proofs.CallerLemmas.{led-append}
 use Rattle.run_model.specs.Texts.{Reply, led}
 use Rattle.std.specs.List.{All}
 use Rattle.std.proofs.lemmas.List.Elements.{All-set}
@@ -10,7 +10,7 @@ use Rattle.cf_model.specs.State.{HeapState}
 use Rattle.script_reader.specs.declared.command.Command.{Command}
 use Rattle.run_model.specs.Sessions.{IsGoing, RunState, SessionState}
 use Rattle.cf_session.specs.Apply.{run_at}
-use Rattle.side_by_side.specs.Going.{Swept, TurnNamed, TurnNamedInPart}
+use Rattle.side_by_side.specs.Progress.{Swept, TurnNamed, TurnNamedInPart}
 use Rattle.side_by_side.specs.Many.{EachInPart, EachTurn, named, zipped}
 use Rattle.side_by_side.proofs.Zipping.{runs_read, runs_set, zipped_length}
 
@@ -40,7 +40,7 @@ each_cut (x ∷ xs) ys c t out ps qs (first, more, new, rest, turn, turns, is, a
       rest ++ qs,
       turn,
       each_cut xs ys c more out rest qs turns b,
-      ap (λ r. led [] r ++ out) is ∙ ap (λ l. l ++ out) (led_joined [] (named x.heap.kind first) more)
+      ap (λ r. led [] r ++ out) is ∙ ap (λ l. l ++ out) (led-append [] (named x.heap.kind first) more)
           ∙ append_assoc (led [] (named x.heap.kind first)) (led [] more) out,
       ap (λ l. l ++ qs) are,
     )
@@ -87,7 +87,7 @@ module _ (olds news : List RunState) (i : ℕ) (c : Command) (reply : Reply) (ol
   pub swept_more : Swept olds i c reply news → (first : Reply) → TurnNamed old c first new → Swept olds (i + 1) c (reply ++ first) (set news i new)
   swept_more s first turn = more_at s.done s.turned s.ahead s.olds_are s.news_are s.count s.turns first turn
 
-  -- of the reply of the run at i a front was written
+  -- a prefix of the reply of the run at i was written
   pub swept_cut : Swept olds i c reply news → (out : List ℕ) → TurnNamedInPart old c out new → EachInPart olds c (led [] reply ++ out) (set news i new)
   swept_cut s out turn = cut_at s.done s.turned s.ahead s.olds_are s.news_are s.count s.turns out turn
 
@@ -104,7 +104,7 @@ whole_at olds news c reply done turned (z ∷ ahead) olds_are news_are count tur
 pub swept_whole : (olds news : List RunState) (i : ℕ) (c : Command) (reply : Reply) → length news ≤ i → Swept olds i c reply news → EachTurn olds c reply news
 swept_whole olds news i c reply le s = whole_at olds news c reply s.done s.turned s.ahead s.olds_are s.news_are (omega (arith, le, s.count)) s.turns
 
--- The same with sessions beside managers, of which the states are seen.
+-- The same with sessions beside managers, by the states of the managers.
 module _ {X : Type 0} (f : X → HeapState) (olds : List RunState) (ss : List SessionState) (ms : List X) (i : ℕ) (c : Command) (reply : Reply)
     (s t : SessionState) (m n : X) (count : length ss ≡ length ms) (lt : i < length ms)
     (is : s ≡ get_or ss i s) (is' : m ≡ get_or ms i m) where

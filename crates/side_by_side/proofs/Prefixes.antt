@@ -8,11 +8,12 @@ use Rattle.cf_base.specs.declared.kind.Kind.{Kind}
 use Rattle.cf_model.specs.Rules.{AreInRange}
 use Rattle.run_laws.specs.Sayable.{IsSayable}
 use Rattle.run_laws.proofs.CallerLemmas.{CanGoOn, begins_there, turn_there}
-use Rattle.run_model.proofs.CallerLemmas.{led_joined, step_going}
+use Rattle.cf_io.proofs.CallerLemmas.{led-append}
+use Rattle.run_model.proofs.CallerLemmas.{step_going}
 use Rattle.run_model.specs.Sessions.{IsGoing, RunState}
 use Rattle.run_model.specs.Texts.{Reply, led, said}
 use Rattle.script_reader.specs.declared.command.Command.{Command}
-use Rattle.side_by_side.specs.Many.{EachBegins, EachInPart, EachTurn, Many, kinds_of, many_at, many_managers, named, runs_of, zipped}
+use Rattle.side_by_side.specs.Many.{EachBegins, EachInPart, EachTurn, Many, kinds_of, many_at, many_managers, named, runs_of}
 use Rattle.side_by_side.proofs.Begun.{begun_goes}
 
 -- runs as sessions beside managers
@@ -44,7 +45,7 @@ each_goes_on (old ∷ olds) c reply news on (first, more, new, rest, turn, turns
     subst (All IsGoing) (sym are) (All-cons IsGoing new rest (step_going old new c first (All-head IsGoing old olds on) turn.step)
     (each_goes_on olds c more rest (All-tail IsGoing old olds on) turns))
 
--- a reply that was cut is the front of one of all
+-- a reply that was cut is a prefix of one of all
 each_whole : (olds : List RunState) (c : Command) (out : List ℕ) (news : List RunState) → All IsGoing olds → IsSayable c → EachInPart olds c out news
     → (reply : Reply) × (mids : List RunState) × (lost : List ℕ) × EachTurn olds c reply mids × (led [] reply ≡ out ++ lost)
 each_whole [] c out news on can part = absurd part
@@ -54,7 +55,7 @@ each_whole (old ∷ olds) c out news on can (inl cut) =
       cut.new ∷ rest.1,
       cut.lost ++ led [] rest.0,
       (cut.reply, rest.0, cut.new, rest.1, cut.turn, rest.2, refl, refl),
-      led_joined [] (named old.heap.kind cut.reply) rest.0 ∙ ap (λ l. l ++ led [] rest.0) cut.cut ∙ append_assoc out cut.lost (led [] rest.0),
+      led-append [] (named old.heap.kind cut.reply) rest.0 ∙ ap (λ l. l ++ led [] rest.0) cut.cut ∙ append_assoc out cut.lost (led [] rest.0),
     )
 each_whole (old ∷ olds) c out news on can (inr (first, more, new, rest, turn, part, is, are)) =
     let w = each_whole olds c more rest (All-tail IsGoing old olds on) can part in (
@@ -62,7 +63,7 @@ each_whole (old ∷ olds) c out news on can (inr (first, more, new, rest, turn, 
       new ∷ w.1,
       w.2,
       (first, w.0, new, w.1, turn, w.3, refl, refl),
-      led_joined [] (named old.heap.kind first) w.0 ∙ ap (λ l. led [] (named old.heap.kind first) ++ l) w.4
+      led-append [] (named old.heap.kind first) w.0 ∙ ap (λ l. led [] (named old.heap.kind first) ++ l) w.4
           ∙ sym (append_assoc (led [] (named old.heap.kind first)) more w.2) ∙ ap (λ l. l ++ w.2) (sym is),
     )
 

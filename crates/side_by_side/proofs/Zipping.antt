@@ -15,7 +15,7 @@ zipped_set (t ∷ ss) [] (suc i) s h = refl
 zipped_set (t ∷ ss) (k ∷ hs) zero s h = refl
 zipped_set (t ∷ ss) (k ∷ hs) (suc i) s h = ap (λ l. run_at t k ∷ l) (zipped_set ss hs i s h)
 
--- the run that stands at i
+-- the run at i
 pub zipped_read : (ss : List SessionState) (hs : List HeapState) (i : ℕ) (s : SessionState) (h : HeapState) → i < length ss → i < length hs
     → s ≡ get_or ss i s → h ≡ get_or hs i h
     → run_at s h ≡ get_or (zipped ss hs) i (run_at s h)
@@ -30,7 +30,7 @@ zipped_length [] (k ∷ hs) e = cc
 zipped_length (t ∷ ss) [] e = refl
 zipped_length (t ∷ ss) (k ∷ hs) e = ap suc (zipped_length ss hs (omega (arith, e)))
 
--- the same over managers, of which the states are seen
+-- the same over managers, by their states
 module _ {X : Type 0} (f : X → HeapState) (ss : List SessionState) (ms : List X) (i : ℕ) (s t : SessionState) (m n : X) where
   pub runs_set : zipped (set ss i t) (map f (set ms i n)) ≡ set (zipped ss (map f ms)) i (run_at t (f n))
   runs_set = ap (λ l. zipped (set ss i t) l) (map-set f ms i n) ∙ zipped_set ss (map f ms) i t (f n)

@@ -5,7 +5,7 @@ use Rattle.cf_base.specs.declared.kind.Kind.{Kind}
 use Rattle.cf_base.specs.declared.kind.Kind.TheVariants.{Moving, NonMoving, Tlsf, HalfFit}
 use Rattle.cf_model.specs.State.{HeapState, closed_state}
 
--- whether the two are one kind
+-- whether the kinds are the same
 abbrev pub same_kind : Kind → Kind → Bool
 same_kind Moving Moving = true
 same_kind NonMoving NonMoving = true
@@ -13,14 +13,14 @@ same_kind Tlsf Tlsf = true
 same_kind HalfFit HalfFit = true
 same_kind one other = false
 
--- the place of the first manager of the kind
+-- the index of the first manager of the kind
 abbrev pub first_of_kind : Kind → List HeapState → Option ℕ
 first_of_kind kind heaps = position (λ h. same_kind h.kind kind) heaps
 
--- the first manager of the kind; where there is none, one that was never open
+-- the first manager of the kind; if there is none, one that was never open
 abbrev pub chosen_of : Kind → List HeapState → HeapState
 chosen_of kind heaps = elim (first_of_kind kind heaps) [ None ↦ closed_state kind | Some i ↦ slice_index_or heaps i (closed_state kind) ]
 
--- The managers after the first of the kind became this one: all others are as they were, and where none is of the kind all are.
+-- The managers after the first of the kind became this one: all others are unchanged, and all are if none is of the kind.
 abbrev pub with_chosen : Kind → List HeapState → HeapState → List HeapState
 with_chosen kind heaps new = elim (first_of_kind kind heaps) [ None ↦ heaps | Some i ↦ slice_set heaps i new ]

@@ -1,4 +1,4 @@
 pub mod Many
 pub mod Own
 pub mod First
-pub mod Going
+pub mod Progress

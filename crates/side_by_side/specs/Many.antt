@@ -35,16 +35,16 @@ runs_of m = zipped m.sessions m.heaps
 abbrev pub kinds_of : Many → List Kind
 kinds_of m = map (λ h. h.kind) m.heaps
 
--- so many sessions, which were just begun
+-- n new sessions
 pub record AreFresh (count : ℕ) (sessions : List SessionState) : Type 0 where
   pub many : length sessions ≡ count
   pub fresh : All (λ s. s ≡ fresh_session) sessions
 
--- managers, each with a session that was just begun
+-- managers, each with a new session
 abbrev pub fresh_many : List HeapState → Many
 fresh_many heaps = many_at (map (λ h. fresh_session) heaps) heaps
 
--- each manager has a session, which was just begun
+-- each manager has a session, and it is new
 pub record IsEachFresh (m : Many) : Type 0 where
   pub count : length m.sessions ≡ length m.heaps
   pub fresh : All (λ s. s ≡ fresh_session) m.sessions
@@ -54,7 +54,7 @@ pub record IsEachGoing (m : Many) : Type 0 where
   pub count : length m.sessions ≡ length m.heaps
   pub going : All IsGoing (runs_of m)
 
--- what leads each line of a reply: the name of the kind, and a space
+-- the lead of each line of a reply: the name of the kind, and a space
 abbrev pub lead_of : Kind → List ℕ
 lead_of kind = kind_name kind ++ 32 ∷ []
 
@@ -72,13 +72,13 @@ EachBegins [] p reply news = (reply ≡ []) × (news ≡ [])
 EachBegins (kind ∷ kinds) p reply news = (first : Reply) × (more : Reply) × (new : RunState) × (rest : List RunState)
     × BeginsOne kind p first new × EachBegins kinds p more rest × (reply ≡ named kind first ++ more) × (news ≡ new ∷ rest)
 
--- a command is answered by each, in order
+-- each manager does a command, in order
 abbrev pub EachTurn : List RunState → Command → Reply → List RunState → Type 0
 EachTurn [] c reply news = (reply ≡ []) × (news ≡ [])
 EachTurn (old ∷ olds) c reply news = (first : Reply) × (more : Reply) × (new : RunState) × (rest : List RunState)
     × Turn old c first new × EachTurn olds c more rest × (reply ≡ named old.heap.kind first ++ more) × (news ≡ new ∷ rest)
 
--- the command took effect on the first one, of whose reply a front was written; the others are as they were
+-- the command took effect on the first one, and a prefix of its reply was written; the others are unchanged
 pub record IsCutHere (old : RunState) (olds : List RunState) (c : Command) (out : List ℕ) (news : List RunState) : Type 0 where
   pub reply : Reply
   pub lost : List ℕ
@@ -87,7 +87,7 @@ pub record IsCutHere (old : RunState) (olds : List RunState) (c : Command) (out 
   pub cut : led [] (named old.heap.kind reply) ≡ out ++ lost
   pub are : news ≡ new ∷ olds
 
--- a command is answered by each in order up to one of them, of whose reply a front was written
+-- each manager does a command, in order, up to one of them, and a prefix of the reply of that one was written
 abbrev pub EachInPart : List RunState → Command → List ℕ → List RunState → Type 0
 EachInPart [] c out news = ⊥
 EachInPart (old ∷ olds) c out news =
@@ -95,13 +95,13 @@ EachInPart (old ∷ olds) c out news =
     ⊎ ((first : Reply) × (more : List ℕ) × (new : RunState) × (rest : List RunState)
     × Turn old c first new × EachInPart olds c more rest × (out ≡ led [] (named old.heap.kind first) ++ more) × (news ≡ new ∷ rest))
 
--- memory was wanting: some are open and empty, then one is closed, and those after it are as they were
+-- out of memory: the first managers are open and empty, the next one is closed, and the later ones are unchanged
 pub record LacksSome (old new : Many) : Type 0 where
   pub settings : Settings
   pub stops : Stops (Opens settings) IsClosed old.heaps new.heaps
   pub sessions : new.sessions ≡ old.sessions
 
--- the managers of a list, each with its session, as one player
+-- the mode handler of a list of managers, each with its session
 abbrev pub many_managers : Semantics Many (List Kind)
 many_managers = record {
   plan = kinds_of;

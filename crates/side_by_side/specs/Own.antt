@@ -1,4 +1,4 @@
--- The own runs of many managers that answer side by side.
+-- The run of each of many managers side by side.
 use Rattle.std.specs.Prelude.{◌≡◌, ◌++◌, ◌⊎◌, ⊤, ℕ, List, [], ◌∷◌, Option, Some, None, map}
 use Rattle.script_reader.specs.Items.{Item, asks, bad, starts}
 use Rattle.script_reader.specs.declared.command.Command.{Command}
@@ -10,13 +10,13 @@ use Rattle.run_model.specs.Sessions.{RunState}
 use Rattle.headline_laws.specs.Headline.{MeetsHeadline}
 use Rattle.side_by_side.specs.Many.{named}
 
--- what is printed of an item by no manager: a bad line is named
+-- the reply to an item without managers: a bad line is named
 abbrev pub alone : Item → Reply
 alone (starts p) = []
 alone (asks c) = []
 alone (bad n) = said (bad_line n)
 
--- One manager's reply to an item, each line after its name, and after it that of the others. A bad line is named once, without a name before it.
+-- One manager's reply to an item, each line after its name, then the replies of the others. A bad line is named once, without a manager's name.
 abbrev pub woven : Kind → Item → Reply → Reply → Reply
 woven kind (starts p) own others = named kind own ++ others
 woven kind (asks c) own others = named kind own ++ others
@@ -29,7 +29,7 @@ beside kind (item ∷ items) [] others = []
 beside kind (item ∷ items) (own ∷ owns) [] = []
 beside kind (item ∷ items) (own ∷ owns) (other ∷ others) = woven kind item own other ∷ beside kind items owns others
 
--- the state of one manager and those of the others make the states of all; none has one before the `heap` line
+-- the states of one manager and of the others are the states of all; there are none before the `heap` line
 abbrev pub AreTogether : Option RunState → Option (List RunState) → Option (List RunState) → Type 0
 AreTogether None None all = all ≡ None
 AreTogether None (Some others) all = ⊥
@@ -40,20 +40,20 @@ abbrev pub IsOfNone : Option (List RunState) → Type 0
 IsOfNone None = ⊤
 IsOfNone (Some all) = all ≡ []
 
--- The replies are woven of those of a run of each manager's own over the items, which led it where it stands.
+-- The replies interleave those of a run of each manager over the items, which led it to its state.
 abbrev pub OwnRuns : List Kind → List Item → List Reply → Option (List RunState) → Type 0
 OwnRuns [] items replies end = (replies ≡ map alone items) × IsOfNone end
 OwnRuns (kind ∷ kinds) items replies end = (owns : List Reply) × (others : List Reply) × (own : Option RunState) × (rest : Option (List RunState))
     × Run kind None items owns own × OwnRuns kinds items others rest × (replies ≡ beside kind items owns others) × AreTogether own rest end
 
--- The replies are woven of replies by kind, each of which meets the headline.
+-- The replies interleave replies by kind, and those of each kind meet the headline.
 abbrev pub MeetHeadlines : List Kind → List Item → List Reply → Type 0
 MeetHeadlines [] items replies = replies ≡ map alone items
 MeetHeadlines (kind ∷ kinds) items replies = (owns : List Reply) × (others : List Reply)
     × MeetsHeadline kind items owns × MeetHeadlines kinds items others × (replies ≡ beside kind items owns others)
 
--- Own runs over the items before a command, of whose reply `front` was written: the managers up to the one whose reply was cut are at the end of their runs
--- over the items with the command, those after it over the items before.
+-- A run of each manager over the items before a command, and the prefix `front` of the reply to that was written: the managers up to the one whose reply was
+-- cut are at the end of their runs with the command, the later ones without it.
 abbrev pub OwnRunsUpTo : List Kind → List Item → Command → List Reply → List ℕ → List RunState → Type 0
 OwnRunsUpTo [] before c replies front news = ⊥
 OwnRunsUpTo (kind ∷ kinds) before c replies front news = (owns : List Reply) × (others : List Reply) × (own : Reply) × (new : RunState)
@@ -62,14 +62,14 @@ OwnRunsUpTo (kind ∷ kinds) before c replies front news = (owns : List Reply) �
     × (((lost : List ℕ) × (led [] (named kind own) ≡ front ++ lost) × OwnRuns kinds before others (Some rest))
     ⊎ ((more : List ℕ) × (front ≡ led [] (named kind own) ++ more) × OwnRunsUpTo kinds before c others more rest))
 
--- the items before one of them were answered by each, and of the reply to that one just `front` was written
+-- each manager answered the items before one of them, and the prefix `front` of the reply to that one was written
 abbrev pub OwnRunsInPart : List Kind → List Item → Item → List Reply → List ℕ → Option (List RunState) → Type 0
 OwnRunsInPart kinds before (starts p) replies front end = (reply : Reply) × (lost : List ℕ)
     × OwnRuns kinds (before ++ starts p ∷ []) (replies ++ reply ∷ []) end × (led [] reply ≡ front ++ lost)
 OwnRunsInPart kinds before (asks c) replies front end = (news : List RunState) × OwnRunsUpTo kinds before c replies front news × (end ≡ Some news)
 OwnRunsInPart kinds before (bad n) replies front end = (lost : List ℕ) × OwnRuns kinds before replies end × (led [] (said (bad_line n)) ≡ front ++ lost)
 
--- each manager stands where its run led it; none was touched where none began
+-- each manager is at the end of its run; all are unchanged if no run began
 abbrev pub StandEach : List HeapState → Option (List RunState) → List HeapState → Type 0
 StandEach olds None news = news ≡ olds
 StandEach olds (Some runs) news = news ≡ map (λ r. r.heap) runs

@@ -3,8 +3,8 @@ ghost use Rattle.std.specs.Prelude.{◌≡◌, IfOk, List, map};
 ghost use Rattle.cf_base.specs.declared.kind.Kind.{Kind as TheKind};
 ghost use Rattle.side_by_side.specs.Many.{AreFresh, Many, many_at, many_managers};
 
-use crate::telling::tell_open;
-use crate::turning::answer_each;
+use crate::answer::answer_each;
+use crate::open_reply::tell_open;
 use cf_base::{Failed, OutOfMemory, Settings};
 use cf_io::Sink;
 use cf_model::{Manager, open_all};
@@ -20,7 +20,7 @@ pub struct Sessions {
 }
 
 impl Sessions {
-    /// So many sessions, in which no id is live.
+    /// `count` sessions in which no id is live.
     pub fn start(rt: &HostRuntime, alloc: Global, count: usize) -> Result<Sessions, OutOfMemory>
         ensures { IfOk result (λ s. AreFresh count s.each.items) }
     {

@@ -5,7 +5,7 @@ ghost use Rattle.side_by_side.specs.First.{first_of_kind, same_kind};
 use cf_base::Kind;
 use cf_model::Manager;
 
-/// Whether the two are one kind.
+/// Whether the kinds are the same.
 fn is_same(one: Kind, other: Kind) -> bool
     ensures { result ≡ same_kind one other }
 {
@@ -18,7 +18,7 @@ fn is_same(one: Kind, other: Kind) -> bool
     }
 }
 
-/// The place of the first manager of the kind; none where there is no such manager.
+/// The index of the first manager of the kind; none if there is no such manager.
 pub fn first_of<H: Manager>(managers: &Vec<H>, kind: Kind) -> Option<usize>
     ensures { result ≡ first_of_kind kind (map (λ m. H.state m) managers.now.items) }
 {

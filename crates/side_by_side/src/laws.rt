@@ -11,7 +11,7 @@ ghost use Rattle.script_loop.specs.ScriptOutcome.{Effects, Wrote, WroteInPart, i
 ghost use Rattle.side_by_side.specs.Many.{EachBegins, EachInPart, EachTurn, Many, kinds_of, many_managers, runs_of};
 ghost use Rattle.side_by_side.specs.Own.{MeetHeadlines, OwnRuns, OwnRunsInPart, StandEach};
 
-/// What many managers answer side by side is woven of a run of each manager's own over the same
+/// The replies of many managers side by side interleave those of a run of each manager over the same
 /// items.
 pub fn each_has_its_own_run()
     ensures { (kinds : List Kind) (items : List Item) (replies : List Reply) (end : Option (List RunState))
@@ -19,14 +19,14 @@ pub fn each_has_its_own_run()
         → OwnRuns kinds items replies end }
 {}
 
-/// The replies of each manager's own run meet the headline of its kind.
+/// The replies of each manager's run meet the headline of its kind.
 pub fn each_meets_the_headline()
     ensures { (kinds : List Kind) (items : List Item) (replies : List Reply) (end : Option (List RunState))
         → OwnRuns kinds items replies end → MeetHeadlines kinds items replies }
 {}
 
-/// Where an item's reply was cut, the managers up to the one whose reply it was stand after the item,
-/// and those after that one before it.
+/// If the reply to an item was cut, the managers up to the one whose reply was cut are after the item,
+/// and the later ones before it.
 pub fn a_cut_stops_between_two_managers()
     ensures { (kinds : List Kind) (before : List Item) (replies : List Reply) (mid : Option (List RunState))
         (item : Item) (front : List ℕ) (end : Option (List RunState))
@@ -35,8 +35,7 @@ pub fn a_cut_stops_between_two_managers()
         → OwnRunsInPart kinds before item replies front end }
 {}
 
-/// The same from the outcome of a script on many managers; and each manager stands where its own run
-/// led it.
+/// The same by the outcome of a script on many managers; each manager is at the end of its run.
 pub fn outcomes_are_of_each()
     ensures whole { (from to : Many) (wanted : List Item) (call : Effects)
         (w : Wrote many_managers from wanted call to)
@@ -52,7 +51,7 @@ pub fn outcomes_are_of_each()
         → StandEach from.heaps (option_map runs_of w.end) to.heaps }
 {}
 
-/// Where a script has a `heap` line, each manager is open after it, keeps its rules, and is consistent
+/// If a script has a `heap` line, each manager is open afterwards, keeps its rules, and is consistent
 /// with its session, wherever the script was cut.
 pub fn each_manager_is_open_after_its_run()
     ensures whole { (kinds : List Kind) (items : List Item) (replies : List Reply) (all : List RunState)
@@ -62,8 +61,8 @@ pub fn each_manager_is_open_after_its_run()
         → OwnRunsInPart kinds before item replies front (Some all) → All IsGoing all }
 {}
 
-/// What was written before the sink failed is a prefix of what a run of all over the whole script
-/// prints.
+/// The output before the sink failed is a prefix of the output of a run of all managers over the whole
+/// script.
 pub fn what_was_cut_is_a_prefix()
     ensures { (from to : Many) (call : Effects) (all : List ℕ)
         → (w : WroteInPart many_managers from (items_within all) call to)

@@ -1,11 +1,11 @@
 //! A script on many managers side by side.
 #![tactic(auto)]
 
+mod answer;
 mod each;
 mod first;
 mod laws;
-mod telling;
-mod turning;
+mod open_reply;
 
 pub use each::Sessions;
 pub use first::first_of;

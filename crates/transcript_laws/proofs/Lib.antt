@@ -1,4 +1,5 @@
 pub mod ByIds
+pub mod SmallMaps
 pub mod PagesAtOne
 pub mod BoundsAtOne
 pub mod Worked

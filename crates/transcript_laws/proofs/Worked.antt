@@ -1,14 +1,13 @@
 -- A small script, worked out.
-use Rattle.std.proofs.Common.{◌≡◌, ℕ, true, false, List, [], ◌∷◌, Some, None, length, cond, refl, sym, ◌∙◌, ap, inl, inr}
+use Rattle.std.proofs.Common.{◌≡◌, ℕ, true, false, List, [], ◌∷◌, Some, length, cond, refl, sym, ◌∙◌, ap, inl, inr}
 use Rattle.std.proofs.lemmas.Bool.{cases_eq, eq-eqb}
 use Rattle.cf_lemmas.proofs.Tests.{eq_no}
 use Rattle.std.specs.Prelude.{◌++◌, ◌-◌, codes, count_by, filter, map, nat_eq, not, replicate, sum_by}
 use Rattle.std.specs.List.{range_with_len}
 use Rattle.std.specs.Fmt.{digits}
 use Rattle.std.specs.Ordering.{nat_cmp, eq_by_cmp}
-use Rattle.std.specs.Cmp.{nat_cmp_total, unsigned_tied}
-use Rattle.std.specs.FinMap.{empty, entries, entries-insert, get, get-empty, get-insert, insert, len, len-empty, len-entries, put, remove}
-use Rattle.std.proofs.lemmas.List.{nil_from_length}
+use Rattle.std.specs.Cmp.{unsigned_tied}
+use Rattle.std.specs.FinMap.{empty, entries, insert, len, remove}
 use Rattle.cf_lemmas.proofs.Maps.{equal_maps, get_inserted, get_insert_other, get_remove_other, get_removed}
 use Rattle.hex.specs.Hex.{decode_pairs, encode_with}
 use Rattle.cf_base.specs.Classes.{sizes_from}
@@ -28,24 +27,8 @@ use Rattle.transcript_laws.specs.AtOne.{part_pages}
 use Rattle.transcript_laws.specs.ById.{ById, begun, paging_by_id}
 use Rattle.transcript_laws.specs.Replies.{after_by_id, reply_by_id}
 use Rattle.transcript_laws.specs.Transcripts.{replies_from, transcript}
+use Rattle.transcript_laws.proofs.SmallMaps.{counted, got, got_none, listed, listed_none}
 use Rattle.transcript_laws.specs.Small.{small_replies, small_script}
-
--- what finite maps answer, step by step
-module _ (m : Objects) where
-  got : (k : ℕ) (v : List ℕ) (q : ℕ) → get (insert m k v) q ≡ cond (eq_by_cmp nat_cmp q k) (Some v) (get m q)
-  got k v q = get-insert nat_cmp_total m k v q
-
-  listed : (k : ℕ) (v : List ℕ) → entries (insert m k v) ≡ put nat_cmp k v (entries m)
-  listed k v = entries-insert nat_cmp_total m k v
-
-  counted : len m ≡ length (entries m)
-  counted = len-entries m
-
-got_none : (q : ℕ) → get (empty {X = List ℕ} {R = nat_cmp}) q ≡ None
-got_none q = get-empty nat_cmp q
-
-listed_none : entries (empty {X = List ℕ} {R = nat_cmp}) ≡ []
-listed_none = nil_from_length _ (sym (len-entries (empty {X = List ℕ} {R = nat_cmp})) ∙ len-empty nat_cmp (List ℕ))
 
 -- the first key alone goes
 gone : (m : Objects) (k : ℕ) (v : List ℕ) (q : ℕ) → remove (insert m k v) q ≡ cond (eq_by_cmp nat_cmp q k) (remove m q) (insert (remove m q) k v)

@@ -1,6 +1,6 @@
 use Rattle.std.proofs.Common.{◌≡◌, ◌≤◌, ◌+◌, ◌-◌, List, ℕ, false, length, take}
 use Rattle.cf_io.specs.Feeds.{appended}
-use Rattle.script_loop.specs.Going.{Answered, IsWaiting}
+use Rattle.script_loop.specs.AnswersSoFar.{Answered, IsWaiting}
 use Rattle.script_loop.specs.Progress.{IsReady, playing}
 use Rattle.script_loop.proofs.answering.answer_piece.Given as goal
 

@@ -1,7 +1,7 @@
 use Rattle.std.proofs.Common.{◌∙◌, ◌≡◌, ap, subst, refl}
 use Rattle.cf_base.specs.declared.status.Status.TheVariants.{Done, BadScript, WriteFault, OutOfMemory, ReadFault}
 use Rattle.cf_io.specs.Feeds.{Rose}
-use Rattle.script_loop.proofs.Turning.{at_end, has_stopped, next_so_far, none_so_far, plays_of}
+use Rattle.script_loop.proofs.LoopTurn.{at_end, has_stopped, next_so_far, none_so_far, plays_of}
 use Rattle.script_loop.specs.declared.running.TurnEnd.TheVariants.{Stopped}
 use Rattle.script_loop.proofs.running.play_script.Goals as goal
 

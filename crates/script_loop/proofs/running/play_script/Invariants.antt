@@ -1,6 +1,6 @@
 use Rattle.std.proofs.Common.{◌≡◌}
-use Rattle.script_loop.proofs.Turning.{SoFar}
-use Rattle.script_loop.specs.Turns.{between, left_in}
+use Rattle.script_loop.proofs.LoopTurn.{SoFar}
+use Rattle.script_loop.specs.LoopTurn.{between, left_in}
 use Rattle.script_loop.proofs.running.play_script.Given as goal
 
 abbrev pub invariant-turns : goal.invariant-turns

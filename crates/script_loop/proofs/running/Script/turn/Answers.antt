@@ -3,7 +3,7 @@ use Rattle.cf_io.specs.Feeds.{last_count}
 use Rattle.std.proofs.Common.{◌∙◌}
 use Rattle.std.proofs.lemmas.List.{length-take-le}
 use Rattle.script_loop.proofs.Feeding.{given_min, nothing_taken}
-use Rattle.script_loop.proofs.Turning.{chunk_of, some_past, whole_chunk}
+use Rattle.script_loop.proofs.LoopTurn.{chunk_of, some_past, whole_chunk}
 use Rattle.script_loop.proofs.running.Script.turn.Goals as goal
 
 pub returns-in-Err-clause-turn : goal.returns-in-Err-clause-turn

@@ -1,0 +1,86 @@
+//! Putting a reply of one line, and its outcome.
+ghost use Rattle.std.specs.Prelude.{◌≤◌, List, ℕ, OnErr, length, OnOk, ◌≡◌};
+ghost use Rattle.cf_io.specs.Feeds.{Puts, Rose};
+ghost use Rattle.cf_session.specs.Apply.{IsEnded};
+ghost use Rattle.cf_session.specs.OneLine.{HasRoom, IsTold, SaidOn, lines_at};
+ghost use Rattle.cf_session.specs.Short.{short_text};
+ghost use Rattle.run_model.specs.Texts.{led, said};
+
+use crate::outcome::Outcome;
+use crate::short::{OneLine, Short};
+use cf_base::Failed;
+use cf_io::{Line, Sink, begin_line, push_text, put_all, put_line};
+
+/// The outcome, if the reply was written.
+pub fn ended(written: Result<(), Failed>, outcome: Outcome) -> Result<Outcome, Failed>
+    ensures { IsEnded written outcome result }
+{
+    match written {
+        Ok(()) => Ok(outcome),
+        Err(failed) => Err(failed),
+    }
+}
+
+/// Puts a reply of one line: a short one, or the text on the line after the lead.
+pub(crate) fn tell<K: Sink>(
+    reply: OneLine,
+    lead: &[u8],
+    line: &mut Line,
+    out: &mut K,
+) -> Result<Outcome, Failed>
+    requires lead { length lead.now ≤ 8 }
+    requires room { HasRoom line.old reply }
+    ensures told { (text : List ℕ) → SaidOn (lines_at lead.now line.old) text reply
+        → IsTold text lead.now (K.written out.old) result (K.written out.new) }
+    ensures grows { K.faults out.old ≤ K.faults out.new }
+    ensures same { OnOk result (K.faults out.new ≡ K.faults out.old) }
+    ensures failed { OnErr result (Rose (K.faults out.old) (K.faults out.new)) }
+{
+    match reply {
+        OneLine::Short(short) => tell_short(short, lead, line, out),
+        OneLine::Written(outcome) => ended(put_line(line, out), outcome),
+    }
+}
+
+/// Puts a short reply after the lead.
+pub(crate) fn tell_short<K: Sink>(
+    short: Short,
+    lead: &[u8],
+    line: &mut Line,
+    out: &mut K,
+) -> Result<Outcome, Failed>
+    requires { length lead.now ≤ 8 }
+    ensures told { IsTold (short_text short) lead.now (K.written out.old) result (K.written out.new) }
+    ensures grows { K.faults out.old ≤ K.faults out.new }
+    ensures same { OnOk result (K.faults out.new ≡ K.faults out.old) }
+    ensures failed { OnErr result (Rose (K.faults out.old) (K.faults out.new)) }
+{
+    ended(put_short(short, lead, line, out), short.outcome())
+}
+
+/// Puts a short reply after the lead. Without a lead it is put without a copy.
+fn put_short<K: Sink>(short: Short, lead: &[u8], line: &mut Line, out: &mut K) -> Result<(), Failed>
+    requires { length lead.now ≤ 8 }
+    ensures puts { Puts (K.written out.old) (led lead.now (said (short_text short))) result (K.written out.new) }
+    ensures grows { K.faults out.old ≤ K.faults out.new }
+    ensures same { OnOk result (K.faults out.new ≡ K.faults out.old) }
+    ensures failed { OnErr result (Rose (K.faults out.old) (K.faults out.new)) }
+{
+    if lead.len() > 0 {
+        return put_led(short, lead, line, out);
+    }
+    put_all(out, short.text_line())
+}
+
+/// Puts a short reply after the lead in one chunk.
+fn put_led<K: Sink>(short: Short, lead: &[u8], line: &mut Line, out: &mut K) -> Result<(), Failed>
+    requires { length lead.now ≤ 8 }
+    ensures puts { Puts (K.written out.old) (led lead.now (said (short_text short))) result (K.written out.new) }
+    ensures grows { K.faults out.old ≤ K.faults out.new }
+    ensures same { OnOk result (K.faults out.new ≡ K.faults out.old) }
+    ensures failed { OnErr result (Rose (K.faults out.old) (K.faults out.new)) }
+{
+    begin_line(line, lead);
+    push_text(line, short.text_line());
+    put_all(out, line.bytes())
+}

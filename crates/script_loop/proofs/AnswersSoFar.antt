@@ -1,0 +1,364 @@
+-- The replies so far, and those to the next items.
+use Rattle.std.proofs.Common.{◌≡◌, ◌++◌, ◌∙◌, ◌+◌, Bool, true, false, List, [], ◌∷◌, ℕ, Option, Some, None, refl, ap, ap₂, sym, subst}
+use Rattle.std.proofs.Common.{append_assoc, append-nil, take, drop, take-append-drop}
+use Rattle.std.proofs.Math.Seq.{take-add}
+use Rattle.std.proofs.lemmas.Bool.{true≢false}
+use Rattle.cf_base.specs.Settings.{profile_of}
+use Rattle.cf_base.specs.declared.settings.Settings.{Settings}
+use Rattle.cf_io.specs.Feeds.{appended}
+use Rattle.script_reader.proofs.CallerLemmas.{bad_now, fed_left}
+use Rattle.script_reader.specs.Items.{Item, asks, bad, is_bound, stage_after_command, starts}
+use Rattle.script_reader.specs.Reading.{Answers, PassesOver, Reading, fed_with, items_left}
+use Rattle.script_reader.specs.declared.command.Command.{Command}
+use Rattle.script_reader.specs.declared.next.Next.TheVariants as next
+use Rattle.script_reader.specs.declared.stage.Stage.{Stage}
+use Rattle.script_reader.specs.declared.stage.Stage.TheVariants.{Opening, Bounding}
+use Rattle.run_model.proofs.CallerLemmas.{one_run, run_joined, text_joined}
+use Rattle.run_model.specs.Plays.{PlayRun, PlayPart}
+use Rattle.run_model.specs.Texts.{Reply, bad_line, led, said, text_of}
+use Rattle.script_loop.specs.AnswersSoFar.{Answered, CutOff, Goes, IsWaiting, NamesBad}
+use Rattle.script_loop.specs.Progress.{IsReadyAt, Playing, Progress, progress, run_in, run_of}
+use Rattle.script_loop.specs.ScriptOutcome.{has_bad}
+use Rattle.script_loop.specs.Semantics.{IsOpened, IsOpenedInPart, PartBy, RunBy, Semantics, StepBy}
+use Rattle.script_loop.specs.declared.answering.Ready.{Ready}
+use Rattle.script_loop.specs.declared.answering.Ready.TheVariants.{GoesOn, Stopped, Cut, Wanting}
+use Rattle.script_loop.proofs.Feeding.{appended_after}
+use Rattle.script_loop.proofs.Stages.{going_after, never_opening, run_before, run_after}
+
+pub bad_then : (xs ys : List Item) → has_bad xs ≡ false → has_bad (xs ++ ys) ≡ has_bad ys
+bad_then [] ys h = refl
+bad_then (bad n ∷ xs) ys h = cc
+bad_then (asks c ∷ xs) ys h = bad_then xs ys h
+bad_then (starts p ∷ xs) ys h = bad_then xs ys h
+
+pub nothing_left : (r : Reading) (line : ℕ) (more : List ℕ) (ended : Bool) → r.stopped ≡ Some line → items_left r more ended ≡ []
+nothing_left r line more ended over = rw over refl
+
+-- ---- what an answer of the reader says
+
+bounding_opening : (b : Stage) → b ≡ Bounding → b ≡ Opening → ⊥
+bounding_opening b leads at = absurd (let e : Bounding ≡ Opening = sym leads ∙ at in cc)
+
+pub waits_for_more : (r r' : Reading) → Answers r next.NeedMore r' → IsWaiting r'
+waits_for_more r r' needs = record { going = needs.passes.still; quiet = sym (needs.passes.reads.left [] false) ∙ needs.none_left; room = λ _. needs.few }
+
+pub waits_for_nothing : (r r' : Reading) → Answers r next.End r' → IsWaiting r'
+waits_for_nothing r r' over = record {
+  going = over.passes.still;
+  quiet = sym (over.passes.reads.left [] false) ∙ (let same : items_left r [] false ≡ items_left r [] true = rw over.told refl in same ∙ over.none_left);
+  room = λ is. absurd (true≢false (sym over.told ∙ sym over.passes.reads.same_end ∙ is));
+}
+
+-- a bad line, by its parts
+pub record IsBadAt (r : Reading) (line : ℕ) (r' : Reading) : Type 0 where
+  pub first : (more : List ℕ) (ended : Bool) → items_left r more ended ≡ bad line ∷ []
+  pub stopped : r'.stopped ≡ Some line
+  pub same_stage : r'.stage ≡ r.stage
+
+pub bad_at : (r r' : Reading) (line : ℕ) → r.stopped ≡ None → Answers r (next.Bad line) r' → IsBadAt r line r'
+bad_at r r' line going h =
+    let stops = bad_now r line r' going h in
+    record {
+      first = λ more ended. stops.reads.left more ended ∙ ap (λ (l : List Item). bad line ∷ l) (nothing_left r' line more ended stops.stopped);
+      stopped = stops.stopped;
+      same_stage = stops.same_stage;
+    }
+
+module _ {S P : Type 0} (m : Semantics S P) where
+  -- ---- answers that follow one another
+
+  pub answered_none : (p : Playing S) → Answered m p [] p [] false
+  answered_none p = record {
+    done = [];
+    replies = [];
+    run = (refl, refl);
+    text_is = refl;
+    stops = refl;
+    left = λ more ended. refl;
+    plan = refl;
+    untouched = λ at. (at, refl);
+    silent = λ is at. refl;
+  }
+
+  -- a run by the plan of another state with the same plan
+  replanned : (from other : S) (old new : Option S) (done : List Item) (replies : List Reply) → m.plan other ≡ m.plan from
+      → RunBy m other old done replies new → RunBy m from old done replies new
+  replanned from other old new done replies same run = subst (λ (k : P). PlayRun (m.begins k) m.turns old done replies new) same run
+
+  pub answered_then : {old mid new : Playing S} {p q t u : List ℕ} {stop : Bool} → Answered m old p mid t false → Answered m mid q new u stop
+      → Answered m old (p ++ q) new (t ++ u) stop
+  answered_then {old} {mid} {new} {p} {q} {t} {u} {stop} a b = record {
+    done = a.done ++ b.done;
+    replies = a.replies ++ b.replies;
+    run = run_joined (m.begins (m.plan old.state)) m.turns (run_of old) a.done b.done a.replies b.replies (run_of mid) (run_of new) a.run
+        (replanned old.state mid.state (run_of mid) (run_of new) b.done b.replies a.plan b.run);
+    text_is = ap₂ (λ (x y : List ℕ). x ++ y) a.text_is b.text_is ∙ sym (text_joined [] a.replies b.replies);
+    stops = bad_then a.done b.done a.stops ∙ b.stops;
+    left = λ more ended. ap (λ (l : List ℕ). items_left old.reading l ended) (append_assoc p q more) ∙ a.left (q ++ more) ended
+        ∙ ap (λ (l : List Item). a.done ++ l) (b.left more ended) ∙ sym (append_assoc a.done b.done (items_left new.reading more ended));
+    plan = b.plan ∙ a.plan;
+    untouched = λ at. let m = b.untouched at in let o = a.untouched m.0 in (o.0, m.1 ∙ o.1);
+    silent = λ is at. let m = b.untouched at in ap₂ (λ (x y : List ℕ). x ++ y) (a.silent refl m.0) (b.silent is at);
+  }
+
+  pub cut_then : {old mid new : Playing S} {p q t out : List ℕ} → Answered m old p mid t false → CutOff m mid q new out → CutOff m old (p ++ q) new (t ++ out)
+  cut_then {old} {mid} {new} {p} {q} {t} {out} a b = record {
+    done = a.done ++ b.done;
+    replies = a.replies ++ b.replies;
+    mid = b.mid;
+    item = b.item;
+    front = b.front;
+    run = run_joined (m.begins (m.plan old.state)) m.turns (run_of old) a.done b.done a.replies b.replies (run_of mid) b.mid a.run
+        (replanned old.state mid.state (run_of mid) b.mid b.done b.replies a.plan b.run);
+    part = subst (λ (k : P). PlayPart (m.begins k) m.turns_in_part b.mid b.item b.front (run_of new)) a.plan b.part;
+    out_is = ap₂ (λ (x y : List ℕ). x ++ y) a.text_is b.out_is ∙ sym (append_assoc (text_of [] a.replies) (text_of [] b.replies) b.front)
+        ∙ ap (λ (l : List ℕ). l ++ b.front) (sym (text_joined [] a.replies b.replies));
+    plan = b.plan ∙ a.plan;
+    left = λ more ended. let after = b.left more ended in (
+      after.0,
+      ap (λ (l : List ℕ). items_left old.reading l ended) (append_assoc p q more) ∙ a.left (q ++ more) ended
+          ∙ ap (λ (l : List Item). a.done ++ l) after.1 ∙ sym (append_assoc a.done b.done (b.item ∷ after.0)),
+    );
+    untouched = λ at. let m = b.untouched at in let o = a.untouched m.0 in (o.0, m.1 ∙ o.1);
+  }
+
+  -- with no byte in between
+  pub answered_next : {old mid new : Playing S} {p t u : List ℕ} {stop : Bool} → Answered m old p mid t false → Answered m mid [] new u stop
+      → Answered m old p new (t ++ u) stop
+  answered_next {old} {mid} {new} {p} {t} {u} {stop} a b = subst (λ (l : List ℕ). Answered m old l new (t ++ u) stop) (append-nil p) (answered_then a b)
+
+  pub cut_next : {old mid new : Playing S} {p t out : List ℕ} → Answered m old p mid t false → CutOff m mid [] new out → CutOff m old p new (t ++ out)
+  cut_next {old} {mid} {new} {p} {t} {out} a b = subst (λ (l : List ℕ). CutOff m old l new (t ++ out)) (append-nil p) (cut_then a b)
+
+  -- ---- one answer of the reader
+
+  -- nothing but blank lines and comments
+  pub answered_blank : (r r' : Reading) (s : S) → PassesOver r r'
+      → Answered m (record { reading = r; state = s }) [] (record { reading = r'; state = s }) [] false
+  answered_blank r r' s passes = record {
+    done = [];
+    replies = [];
+    run = (refl, ap (λ (a : Stage). run_in a s) passes.same_stage);
+    text_is = refl;
+    stops = refl;
+    left = passes.reads.left;
+    plan = refl;
+    untouched = λ at. (sym passes.same_stage ∙ at, refl);
+    silent = λ is at. refl;
+  }
+
+  pub ready_blank : (r r' : Reading) (s : S) → PassesOver r r' → IsReadyAt m r.stage s → IsReadyAt m r'.stage s
+  ready_blank r r' s passes ready = subst (λ (a : Stage). IsReadyAt m a s) (sym passes.same_stage) ready
+
+  -- the `heap` line
+  pub fresh_at : (a : Stage) (s : S) → a ≡ Opening → IsReadyAt m a s → m.is_fresh s
+  fresh_at a s is ready = subst (λ (z : Stage). IsReadyAt m z s) is ready
+
+  pub ready_open : (b : Stage) (t : S) → b ≡ Bounding → m.is_going t → IsReadyAt m b t
+  ready_open b t leads going = subst (λ (a : Stage). IsReadyAt m a t) (sym leads) going
+
+  run_opened : (b : Stage) (t : S) → b ≡ Bounding → run_in b t ≡ Some t
+  run_opened b t leads = ap (λ (z : Stage). run_in z t) leads
+
+  pub answered_open : (old new : Playing S) (settings : Settings) (w w' : Option (List ℕ)) → Answers old.reading (next.Start settings) new.reading
+      → (o : IsOpened m (record { state = old.state; written = w }) (profile_of settings) (record { state = new.state; written = w' }))
+      → m.plan new.state ≡ m.plan old.state → Answered m old [] new (led [] o.reply) false
+  answered_open old new settings w w' answer o plan = record {
+    done = starts (profile_of settings) ∷ [];
+    replies = o.reply ∷ [];
+    run = one_run (m.begins (m.plan old.state)) m.turns (run_of old) (run_of new) (starts (profile_of settings)) o.reply
+        (new.state, o.begins, run_opened new.reading.stage new.state answer.bounding);
+    text_is = sym (append-nil (led [] o.reply));
+    stops = refl;
+    left = answer.reads.left;
+    plan = plan;
+    untouched = λ at. absurd (bounding_opening _ answer.bounding at);
+    silent = λ is at. absurd (bounding_opening _ answer.bounding at);
+  }
+
+  pub cut_open : (old new : Playing S) (settings : Settings) (w w' : Option (List ℕ)) → Answers old.reading (next.Start settings) new.reading
+      → (o : IsOpenedInPart m (record { state = old.state; written = w }) (profile_of settings) (record { state = new.state; written = w' }))
+      → m.plan new.state ≡ m.plan old.state → CutOff m old [] new o.front
+  cut_open old new settings w w' answer o plan = record {
+    done = [];
+    replies = [];
+    mid = run_of old;
+    item = starts (profile_of settings);
+    front = o.front;
+    run = (refl, refl);
+    part = (new.state, o.reply, o.lost, o.begins, o.cut, run_opened new.reading.stage new.state answer.bounding);
+    out_is = refl;
+    plan = plan;
+    left = λ more ended. (items_left new.reading more ended, answer.reads.left more ended);
+    untouched = λ at. absurd (bounding_opening _ answer.bounding at);
+  }
+
+  -- a command
+  command_step : (from : S) (c : Command) (reply : Reply) (a b : Stage) (s t : S) → stage_after_command a (is_bound c) ≡ Some b → m.turns s c reply t
+      → StepBy m from (run_in a s) (asks c) reply (run_in b t)
+  command_step from c reply a b s t leads turn =
+      subst (λ (o : Option S). StepBy m from o (asks c) reply (run_in b t)) (sym (run_before a b (is_bound c) leads s))
+      (subst (λ (o : Option S). StepBy m from (Some s) (asks c) reply o) (sym (run_after a b (is_bound c) leads t)) (t, turn, refl))
+
+  command_part : (from : S) (c : Command) (out : List ℕ) (a b : Stage) (s t : S) → stage_after_command a (is_bound c) ≡ Some b → m.turns_in_part s c out t
+      → PartBy m from (run_in a s) (asks c) out (run_in b t)
+  command_part from c out a b s t leads turn =
+      subst (λ (o : Option S). PartBy m from o (asks c) out (run_in b t)) (sym (run_before a b (is_bound c) leads s))
+      (subst (λ (o : Option S). PartBy m from (Some s) (asks c) out o) (sym (run_after a b (is_bound c) leads t)) (t, turn, refl))
+
+  pub answered_command : (old new : Playing S) (c : Command) (reply : Reply) → Answers old.reading (next.Command c) new.reading
+      → m.turns old.state c reply new.state
+      → m.plan new.state ≡ m.plan old.state → Answered m old [] new (led [] reply) false
+  answered_command old new c reply answer turn plan = record {
+    done = asks c ∷ [];
+    replies = reply ∷ [];
+    run = one_run (m.begins (m.plan old.state)) m.turns (run_of old) (run_of new) (asks c) reply
+        (command_step old.state c reply _ _ old.state new.state answer.leads turn);
+    text_is = sym (append-nil (led [] reply));
+    stops = refl;
+    left = answer.reads.left;
+    plan = plan;
+    untouched = λ at. absurd (never_opening _ _ _ answer.leads at);
+    silent = λ is at. absurd (never_opening _ _ _ answer.leads at);
+  }
+
+  pub cut_command : (old new : Playing S) (c : Command) (out : List ℕ) → Answers old.reading (next.Command c) new.reading
+      → m.turns_in_part old.state c out new.state
+      → m.plan new.state ≡ m.plan old.state → CutOff m old [] new out
+  cut_command old new c out answer turn plan = record {
+    done = [];
+    replies = [];
+    mid = run_of old;
+    item = asks c;
+    front = out;
+    run = (refl, refl);
+    part = command_part old.state c out _ _ old.state new.state answer.leads turn;
+    out_is = refl;
+    plan = plan;
+    left = λ more ended. (items_left new.reading more ended, answer.reads.left more ended);
+    untouched = λ at. absurd (never_opening _ _ _ answer.leads at);
+  }
+
+  pub ready_command : (r r' : Reading) (c : Command) (t : S) → Answers r (next.Command c) r' → m.is_going t → IsReadyAt m r'.stage t
+  ready_command r r' c t answer going = going_after m _ _ _ t answer.leads going
+
+  -- a bad line
+  bad_step : (from : S) (old : Option S) (n : ℕ) → StepBy m from old (bad n) (said (bad_line n)) old
+  bad_step from None n = (refl, refl)
+  bad_step from (Some s) n = (refl, refl)
+
+  bad_part : (from : S) (old : Option S) (n : ℕ) (front lost : List ℕ) → led [] (said (bad_line n)) ≡ front ++ lost → PartBy m from old (bad n) front old
+  bad_part from None n front lost cut = (lost, cut, refl)
+  bad_part from (Some s) n front lost cut = (lost, cut, refl)
+
+  pub answered_bad : (r r' : Reading) (s : S) (line : ℕ) → IsBadAt r line r'
+      → Answered m (record { reading = r; state = s }) [] (record { reading = r'; state = s }) (led [] (said (bad_line line))) true
+  answered_bad r r' s line h = record {
+    done = bad line ∷ [];
+    replies = said (bad_line line) ∷ [];
+    run = one_run (m.begins (m.plan s)) m.turns (run_in r.stage s) (run_in r'.stage s) (bad line) (said (bad_line line))
+        (subst (λ (z : Stage). StepBy m s (run_in r.stage s) (bad line) (said (bad_line line)) (run_in z s)) (sym h.same_stage)
+        (bad_step s (run_in r.stage s) line));
+    text_is = sym (append-nil (led [] (said (bad_line line))));
+    stops = refl;
+    left = λ more ended. h.first more ended ∙ ap (λ (l : List Item). bad line ∷ l) (sym (nothing_left r' line more ended h.stopped));
+    plan = refl;
+    untouched = λ at. (sym h.same_stage ∙ at, refl);
+    silent = λ is at. absurd (true≢false is);
+  }
+
+  pub cut_bad : (r r' : Reading) (s : S) (line : ℕ) (front lost : List ℕ) → IsBadAt r line r' → led [] (said (bad_line line)) ≡ front ++ lost
+      → CutOff m (record { reading = r; state = s }) [] (record { reading = r'; state = s }) front
+  cut_bad r r' s line front lost h cut = record {
+    done = [];
+    replies = [];
+    mid = run_in r.stage s;
+    item = bad line;
+    front = front;
+    run = (refl, refl);
+    part = subst (λ (z : Stage). PartBy m s (run_in r.stage s) (bad line) front (run_in z s)) (sym h.same_stage)
+        (bad_part s (run_in r.stage s) line front lost cut);
+    out_is = refl;
+    plan = refl;
+    left = λ more ended. ([], h.first more ended);
+    untouched = λ at. (sym h.same_stage ∙ at, refl);
+  }
+
+  -- a bad line is named
+  pub named : (old : Progress S) (r r' : Reading) (s : S) (w w' : Option (List ℕ)) (line : ℕ) (text : List ℕ) (ready : Ready)
+      → Answered m old.playing [] (record { reading = r; state = s }) text false → w ≡ appended old.written text → IsBadAt r line r'
+      → NamesBad w line ready w' → Goes m old [] ready (progress (record { reading = r'; state = s }) w')
+  named old r r' s w w' line text Stopped a wrote h names = record {
+    text = text ++ led [] (said (bad_line line));
+    answered = answered_then a (answered_bad r r' s line h);
+    wrote = appended_after _ _ _ _ _ wrote names;
+    over = (line, h.stopped);
+  }
+  named old r r' s w w' line text Cut a wrote h names = record {
+    out = text ++ names.front;
+    cut = cut_then a (cut_bad r r' s line names.front names.lost h names.cut);
+    wrote = appended_after _ _ _ _ _ wrote names.wrote;
+  }
+  named old r r' s w w' line text GoesOn a wrote h names = absurd names
+  named old r r' s w w' line text Wanting a wrote h names = absurd names
+
+  -- ---- bytes that are fed
+
+  -- what was fed was neither answered nor lost
+  pub answered_fed : {old : Playing S} {r : Reading} {s : S} {t : List ℕ} (r' : Reading) (piece : List ℕ) (i n : ℕ)
+      → Answered m old (take i piece) (record { reading = r; state = s }) t false
+      → r.ended ≡ false → r' ≡ fed_with r (take n (drop i piece)) → Answered m old (take (i + n) piece) (record { reading = r'; state = s }) t false
+  answered_fed {old} {r} {s} {t} r' piece i n a open_end is =
+      subst (λ (z : Reading). Answered m old (take (i + n) piece) (record { reading = z; state = s }) t false) (sym is) (record {
+        done = a.done;
+        replies = a.replies;
+        run = a.run;
+        text_is = a.text_is;
+        stops = a.stops;
+        left = λ more ended. ap (λ (l : List ℕ). items_left old.reading (l ++ more) ended) (take-add i n piece)
+            ∙ ap (λ (l : List ℕ). items_left old.reading l ended) (append_assoc (take i piece) (take n (drop i piece)) more)
+            ∙ a.left (take n (drop i piece) ++ more) ended
+            ∙ ap (λ (l : List Item). a.done ++ l) (fed_left r (take n (drop i piece)) more ended open_end);
+        plan = a.plan;
+        untouched = a.untouched;
+        silent = a.silent;
+      })
+
+  -- after a bad line, and after a cut, further bytes change nothing
+  pub answered_over : {old new : Playing S} {t : List ℕ} (line : ℕ) (piece : List ℕ) (i : ℕ) → Answered m old (take i piece) new t true
+      → new.reading.stopped ≡ Some line
+      → Answered m old piece new t true
+  answered_over {old} {new} {t} line piece i a over = record {
+    done = a.done;
+    replies = a.replies;
+    run = a.run;
+    text_is = a.text_is;
+    stops = a.stops;
+    left = λ more ended. ap (λ (l : List ℕ). items_left old.reading (l ++ more) ended) (sym (take-append-drop i piece))
+        ∙ ap (λ (l : List ℕ). items_left old.reading l ended) (append_assoc (take i piece) (drop i piece) more)
+        ∙ a.left (drop i piece ++ more) ended
+        ∙ ap (λ (l : List Item). a.done ++ l)
+        (nothing_left new.reading line (drop i piece ++ more) ended over ∙ sym (nothing_left new.reading line more ended over));
+    plan = a.plan;
+    untouched = a.untouched;
+    silent = a.silent;
+  }
+
+  pub cut_over : {old new : Playing S} {out : List ℕ} (piece : List ℕ) (i : ℕ) → CutOff m old (take i piece) new out → CutOff m old piece new out
+  cut_over {old} {new} {out} piece i a = record {
+    done = a.done;
+    replies = a.replies;
+    mid = a.mid;
+    item = a.item;
+    front = a.front;
+    run = a.run;
+    part = a.part;
+    out_is = a.out_is;
+    plan = a.plan;
+    left = λ more ended. let after = a.left (drop i piece ++ more) ended in (
+      after.0,
+      ap (λ (l : List ℕ). items_left old.reading (l ++ more) ended) (sym (take-append-drop i piece))
+          ∙ ap (λ (l : List ℕ). items_left old.reading l ended) (append_assoc (take i piece) (drop i piece) more) ∙ after.1,
+    );
+    untouched = a.untouched;
+  }

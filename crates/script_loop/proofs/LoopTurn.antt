@@ -1,0 +1,379 @@
+-- What the turns of the loop answer, and how they make the outcome of a script.
+use Rattle.std.proofs.Common.{◌≡◌, ◌≢◌, ◌≤◌, ◌<◌, ◌+◌, ◌⊎◌, ◌++◌, ◌∙◌, false, true, List, [], ℕ, Option, refl, ap, sym, subst, length, inl, inr, arith}
+use Rattle.std.proofs.Common.{take, drop, append_assoc, append-nil, length-append, length-drop, take-append-drop, min}
+use Rattle.std.proofs.lemmas.List.{length-take-le, take-take}
+use Rattle.cf_base.specs.declared.status.Status.{Status}
+use Rattle.cf_base.specs.declared.status.Status.TheVariants.{Done, Words, BadScript, ReadFault, WriteFault, OutOfMemory, TooLong, BadImage}
+use Rattle.cf_io.specs.Feeds.{HasGiven, IsSpent, Rose, appended, last_count, preceded}
+use Rattle.script_reader.specs.Items.{items}
+use Rattle.script_reader.specs.Reading.{Reading, fresh}
+use Rattle.script_loop.specs.AnswersSoFar.{Answered, HasStopped, WasCut, WasWanting, WentOn}
+use Rattle.script_loop.specs.Progress.{Progress, playing, progress}
+use Rattle.script_loop.specs.ScriptOutcome.{Effects, IsRow, MOST_BYTES, MeetsOutcome, Plays, SinkState, SourceState, effects, items_within}
+use Rattle.script_loop.specs.Semantics.{Semantics}
+use Rattle.script_loop.specs.LoopTurn.{AnswersChunk, AwaitsChunk, Between, Chunk, StopsBy, TakesNothing, between, left_in, reading_in}
+use Rattle.script_loop.specs.declared.running.Script.{Script}
+use Rattle.script_loop.proofs.Ending.{bad_end_items, bad_items, bads, bads_then, cut_at_end, cut_items, ending, full_items, longer, quiet_items, silent_at_end}
+use Rattle.script_loop.proofs.Ending.{silent_before, starting, wants_at_end, wants_memory, whole_items, wrote, wrote_in_part, wrote_then}
+use Rattle.script_loop.proofs.Feeding.{appended_after, appended_none, given_more, given_none, nothing_follows, preceded_after, preceded_none}
+use Rattle.script_loop.proofs.AnswersSoFar.{answered_none, answered_then, cut_then}
+
+-- ---- the chunk of a call: its first k bytes are within the limit
+
+abbrev pub chunk_of : {S : Type 0} (old new : Between S) (buf : List ℕ) (k n : ℕ) → k ≤ n → k ≤ old.left → n ≤ length buf
+    → old.rest ≡ preceded (take n buf) new.rest → new.given ≡ min (old.given + n) last_count → Chunk old new
+chunk_of old new buf k n below left fits took counted =
+    let parts : take k buf ++ drop k (take n buf) ≡ take n buf =
+    ap (λ (l : List ℕ). l ++ drop k (take n buf)) (sym (take-take k n buf below)) ∙ take-append-drop k (take n buf) in
+    let long : length (take k buf ++ drop k (take n buf)) ≡ n = ap length parts ∙ length-take-le n buf fits in
+    let short = length-take-le k buf (omega (arith, below, fits)) in
+    record {
+      within = take k buf;
+      past = drop k (take n buf);
+      took = took ∙ ap (λ (l : List ℕ). preceded l new.rest) (sym parts);
+      counted = counted ∙ ap (λ m. min (old.given + m) last_count) (sym long);
+      fits = omega (arith, short, left);
+    }
+
+-- it lies within it as a whole
+abbrev pub whole_chunk : {S : Type 0} (old new : Between S) (buf : List ℕ) (n : ℕ) → n ≤ old.left → n ≤ length buf
+    → old.rest ≡ preceded (take n buf) new.rest → new.given ≡ min (old.given + n) last_count → Chunk old new
+whole_chunk old new buf n left fits took counted =
+    let parts : take n buf ++ [] ≡ take n buf = append-nil (take n buf) in
+    let long : length (take n buf ++ []) ≡ n = ap length parts ∙ length-take-le n buf fits in
+    let short = length-take-le n buf fits in
+    record {
+      within = take n buf;
+      past = [];
+      took = took ∙ ap (λ (l : List ℕ). preceded l new.rest) (sym parts);
+      counted = counted ∙ ap (λ m. min (old.given + m) last_count) (sym long);
+      fits = omega (arith, short, left);
+    }
+
+pub some_past : (buf : List ℕ) (k n : ℕ) → k < n → n ≤ length buf → 0 < length (drop k (take n buf))
+some_past buf k n below fits = rw (length-drop, length-take-le n buf fits) (omega arith)
+
+-- ---- how a script ended
+
+-- the outcome and what else each end claims
+pub record HasEnded {S P : Type 0} (m : Semantics S P) (from : S) (call : Effects) (to : S) : Type 0 where
+  pub outcome : MeetsOutcome m from call to
+  pub plan : m.plan to ≡ m.plan from
+  pub silent : call.status ≡ OutOfMemory → call.after ≡ call.before
+  pub too_long : call.status ≡ TooLong → (call.given_before + MOST_BYTES < call.given_after) ⊎ (call.given_after ≡ last_count)
+
+-- with the causes of faults
+pub plays_of : {S P : Type 0} (m : Semantics S P) (from : S) (s : SourceState) (k : SinkState) (st : Status) (s' : SourceState) (k' : SinkState) (to : S)
+    → HasEnded m from (effects s k st s' k') to → (st ≢ ReadFault → s'.faults ≡ s.faults)
+    → (st ≡ ReadFault → Rose s.faults s'.faults) → (st ≢ WriteFault → k'.faults ≡ k.faults) → (st ≡ WriteFault → Rose k.faults k'.faults)
+    → Plays m from s k st s' k' to
+plays_of m from s k st s' k' to ended source_same read_fault sink_same write_fault = record {
+  outcome = ended.outcome;
+  plan = ended.plan;
+  causes = record {
+    silent = ended.silent;
+    source_same = source_same;
+    read_fault = read_fault;
+    sink_same = sink_same;
+    write_fault = write_fault;
+    too_long = ended.too_long;
+  };
+}
+
+-- how the answers to what the end completes came out
+abbrev pub EndsAs : {S P : Type 0} → Semantics S P → Status → Progress S → Progress S → Type 0
+EndsAs m Done old new = WentOn m old [] new
+EndsAs m BadScript old new = HasStopped m old [] new
+EndsAs m WriteFault old new = WasCut m old [] new
+EndsAs m OutOfMemory old new = WasWanting m old new
+EndsAs m status old new = ⊥
+
+-- ---- from the start of a script
+
+-- what the turns answered since a state, and what the source had and gave and the sink held then
+pub record SoFar {S P : Type 0} (m : Semantics S P) (from : S) (had : Option (List ℕ)) (given : ℕ) (before : Option (List ℕ)) (b : Between S) : Type 0 where
+  pub taken : List ℕ
+  pub text : List ℕ
+  pub answered : Answered m (starting from) taken b.progress.playing text false
+  pub awaits : AwaitsChunk m b
+  pub count : length taken + b.left ≡ MOST_BYTES
+  pub took : had ≡ preceded taken b.rest
+  pub counted : HasGiven given (length taken) b.given
+  pub wrote : b.progress.written ≡ appended before text
+
+-- before the first turn
+pub none_so_far : {S P : Type 0} (m : Semantics S P) (script : Script) (from : S) (had before : Option (List ℕ)) (given : ℕ) → reading_in script ≡ fresh
+    → left_in script ≡ MOST_BYTES → m.is_fresh from → SoFar m from had given before (between script from before had given)
+none_so_far m script from had before given new full is_fresh =
+    subst (λ (r : Reading). SoFar m from had given before (record { progress = progress (playing r from) before; rest = had; given = given; left = left_in script }))
+    (sym new) (record {
+      taken = [];
+      text = [];
+      answered = answered_none m (starting from);
+      awaits = record {
+        waiting = record { going = refl; quiet = refl; room = λ _. omega arith };
+        ready = is_fresh;
+        going = refl;
+        few = omega (arith, full);
+      };
+      count = omega (arith, full);
+      took = preceded_none had;
+      counted = inl (omega arith);
+      wrote = appended_none before;
+    })
+
+module _ {S P : Type 0} (m : Semantics S P) {from : S} {had before : Option (List ℕ)} {given : ℕ} {b : Between S} (f : SoFar m from had given before b) where
+  module _ {b' : Between S} (c : Chunk b b') where
+    abbrev all_taken : List ℕ
+    all_taken = f.taken ++ (c.within ++ c.past)
+
+    took_all : had ≡ preceded all_taken b'.rest
+    took_all = preceded_after _ _ _ f.taken (c.within ++ c.past) f.took c.took
+
+    gave_all : HasGiven given (length all_taken) b'.given
+    gave_all = given_more _ _ _ _ _ _ f.counted c.counted (length-append f.taken (c.within ++ c.past))
+
+    few_within : length (f.taken ++ c.within) ≤ MOST_BYTES
+    few_within = let long = length-append f.taken c.within in omega (arith, long, f.count, c.fits)
+
+    parted : (more : List ℕ) → all_taken ++ more ≡ (f.taken ++ c.within) ++ (c.past ++ more)
+    parted more = ap (λ (l : List ℕ). l ++ more) (sym (append_assoc f.taken c.within c.past)) ∙ append_assoc (f.taken ++ c.within) c.past more
+
+    abbrev call_to : Status → Effects
+    call_to st = record {
+      had = had;
+      left = b'.rest;
+      given_before = given;
+      given_after = b'.given;
+      before = before;
+      after = b'.progress.written;
+      status = st;
+    }
+
+    by_chunk : (st : Status) → ((more : List ℕ) → IsRow m st from (all_taken ++ more) more (call_to st) b'.progress.playing.state)
+        → MeetsOutcome m from (call_to st) b'.progress.playing.state
+    by_chunk st row = record { taken = all_taken; ended = false; took = took_all; counted = gave_all; row = λ more follows. row more }
+
+    stopped : HasStopped m b.progress c.within b'.progress → HasEnded m from (call_to BadScript) b'.progress.playing.state
+    stopped went =
+        let both = answered_then m f.answered went.answered in
+        record {
+          outcome = by_chunk BadScript (λ more.
+              let wanted = bad_items m (all_taken ++ more) (c.past ++ more) both (parted more) few_within went.over.1 in (
+                bads m both (items_within (all_taken ++ more)) wanted,
+                wrote m both (items_within (all_taken ++ more)) _ wanted
+                    (appended_after _ _ _ _ _ f.wrote went.wrote),
+              ));
+          plan = both.plan;
+          silent = λ is. absurd (let e : BadScript ≡ OutOfMemory = is in cc);
+          too_long = λ is. absurd (let e : BadScript ≡ TooLong = is in cc);
+        }
+
+    was_cut : WasCut m b.progress c.within b'.progress → HasEnded m from (call_to WriteFault) b'.progress.playing.state
+    was_cut went =
+        let both = cut_then m f.answered went.cut in
+        record {
+          outcome = by_chunk WriteFault (λ more.
+              let wanted = cut_items m (all_taken ++ more) (c.past ++ more) both (parted more) few_within in
+              wrote_in_part m both (all_taken ++ more) _ wanted.0 wanted.1 (appended_after _ _ _ _ _ f.wrote went.wrote));
+          plan = both.plan;
+          silent = λ is. absurd (let e : WriteFault ≡ OutOfMemory = is in cc);
+          too_long = λ is. absurd (let e : WriteFault ≡ TooLong = is in cc);
+        }
+
+    was_wanting : WasWanting m b.progress b'.progress → HasEnded m from (call_to OutOfMemory) b'.progress.playing.state
+    was_wanting went = record {
+      outcome = by_chunk OutOfMemory (λ more. wants_memory m (call_to OutOfMemory) f.answered went f.wrote);
+      plan = went.plan ∙ f.answered.plan;
+      silent = λ is. silent_before m f.answered went f.wrote;
+      too_long = λ is. absurd (let e : OutOfMemory ≡ TooLong = is in cc);
+    }
+
+    passed : 0 < length c.past → length c.within ≡ b.left → WentOn m b.progress c.within b'.progress
+        → HasEnded m from (call_to TooLong) b'.progress.playing.state
+    passed some full went =
+        let both = answered_then m f.answered went.answered in
+        let long = length-append f.taken c.within in
+        let limit : length (f.taken ++ c.within) ≡ MOST_BYTES = omega (arith, long, full, f.count) in
+        record {
+          outcome = by_chunk TooLong (λ more.
+              let behind : 0 < length (c.past ++ more) = rw length-append (omega (arith, some)) in
+              let wanted = full_items m (all_taken ++ more) (c.past ++ more) both went.waiting (parted more) limit behind in (
+                longer (all_taken ++ more) (f.taken ++ c.within) (c.past ++ more) (parted more) limit behind,
+                bads m both (items_within (all_taken ++ more)) wanted,
+                wrote m both (items_within (all_taken ++ more)) _ wanted (appended_after _ _ _ _ _ f.wrote went.wrote),
+              ));
+          plan = both.plan;
+          silent = λ is. absurd (let e : TooLong ≡ OutOfMemory = is in cc);
+          too_long = λ is.
+              let first = length-append f.taken (c.within ++ c.past) in
+              let second = length-append c.within c.past in
+              gave_past (length all_taken) (omega (arith, first, second, some, full, f.count)) gave_all (omega (arith, c.counted));
+        }
+      where
+        gave_past : (n : ℕ) → MOST_BYTES < n → HasGiven given n b'.given → b'.given ≤ last_count
+            → (given + MOST_BYTES < b'.given) ⊎ (b'.given ≡ last_count)
+        gave_past n over (inl just) most = inl (omega (arith, over, just))
+        gave_past n over (inr last) most = inr (omega (arith, last, most))
+
+  -- all that a chunk completes was answered: so the next turn begins
+  module _ {b' : Between S} (a : AnswersChunk m b b') where
+    whole : f.taken ++ (a.chunk.within ++ a.chunk.past) ≡ f.taken ++ a.chunk.within
+    whole = ap (λ (l : List ℕ). f.taken ++ l) (ap (λ (l : List ℕ). a.chunk.within ++ l) a.whole ∙ append-nil a.chunk.within)
+
+    pub next_so_far : SoFar m from had given before b'
+    next_so_far =
+        let long = length-append f.taken a.chunk.within in
+        record {
+          taken = f.taken ++ a.chunk.within;
+          text = f.text ++ a.went.text;
+          answered = answered_then m f.answered a.went.answered;
+          awaits = record {
+            waiting = a.went.waiting;
+            ready = a.went.ready;
+            going = a.went.same_end ∙ f.awaits.going;
+            few = omega (arith, a.went.fed, a.left, f.awaits.few);
+          };
+          count = omega (arith, long, a.left, f.count);
+          took = preceded_after _ _ _ f.taken (a.chunk.within ++ a.chunk.past) f.took a.chunk.took ∙ ap (λ (l : List ℕ). preceded l b'.rest) whole;
+          counted = subst (λ (l : List ℕ). HasGiven given (length l) b'.given) whole
+              (given_more _ _ _ _ _ _ f.counted a.chunk.counted (length-append f.taken (a.chunk.within ++ a.chunk.past)));
+          wrote = appended_after _ _ _ _ _ f.wrote a.went.wrote;
+        }
+
+  -- nothing was taken
+  pub same_so_far : {b' : Between S} → TakesNothing b b' → SoFar m from had given before b'
+  same_so_far {b'} none = record {
+    taken = f.taken;
+    text = f.text;
+    answered = subst (λ (p : Progress S). Answered m (starting from) f.taken p.playing f.text false) (sym none.progress) f.answered;
+    awaits = subst (λ (p : Progress S). AwaitsChunk m (record { progress = p; rest = b'.rest; given = b'.given; left = b'.left })) (sym none.progress)
+        (record { waiting = f.awaits.waiting; ready = f.awaits.ready; going = f.awaits.going; few = omega (arith, f.awaits.few, none.left) });
+    count = omega (arith, f.count, none.left);
+    took = f.took ∙ ap (preceded f.taken) (sym none.rest);
+    counted = given_none _ _ _ _ f.counted none.counted;
+    wrote = ap (λ (p : Progress S). p.written) none.progress ∙ f.wrote;
+  }
+
+  abbrev call_at : Status → Effects
+  call_at st = record {
+    had = had;
+    left = b.rest;
+    given_before = given;
+    given_after = b.given;
+    before = before;
+    after = b.progress.written;
+    status = st;
+  }
+
+  -- the source failed, and nothing was taken since
+  pub read_failed : HasEnded m from (call_at ReadFault) b.progress.playing.state
+  read_failed =
+      let quiet = quiet_items m f.answered f.awaits.waiting in
+      record {
+        outcome = record {
+          taken = f.taken;
+          ended = false;
+          took = f.took;
+          counted = f.counted;
+          row = λ more follows. (
+            f.taken,
+            refl,
+            omega (arith, f.count),
+            bads m f.answered (items f.taken false) quiet,
+            wrote m f.answered (items f.taken false) _ quiet f.wrote,
+          );
+        };
+        plan = f.answered.plan;
+        silent = λ is. absurd (let e : ReadFault ≡ OutOfMemory = is in cc);
+        too_long = λ is. absurd (let e : ReadFault ≡ TooLong = is in cc);
+      }
+
+  -- ---- at the end of the source
+
+  module _ (spent : IsSpent b.rest) (p : Progress S) where
+    abbrev call_by : Status → Effects
+    call_by st = record {
+      had = had;
+      left = b.rest;
+      given_before = given;
+      given_after = b.given;
+      before = before;
+      after = p.written;
+      status = st;
+    }
+
+    by_end : (st : Status) → ((all : List ℕ) → all ≡ f.taken → length f.taken ≤ MOST_BYTES → IsRow m st from all [] (call_by st) p.playing.state)
+        → MeetsOutcome m from (call_by st) p.playing.state
+    by_end st row = record {
+      taken = f.taken;
+      ended = true;
+      took = f.took;
+      counted = f.counted;
+      row = λ more follows.
+          let none = nothing_follows b.rest more spent follows in
+          subst (λ (l : List ℕ). IsRow m st from (f.taken ++ more) l (call_by st) p.playing.state) (sym none)
+          (row (f.taken ++ more) (ap (λ (l : List ℕ). f.taken ++ l) none ∙ append-nil f.taken) (omega (arith, f.count)));
+    }
+
+    pub has_ended : (st : Status) → EndsAs m st (progress (ending b.progress.playing) b.progress.written) p → HasEnded m from (call_by st) p.playing.state
+    has_ended Done went = record {
+      outcome = by_end Done (λ all same few.
+          let wanted = whole_items m all f.answered went.answered same few went.waiting in (
+            (let e = ap length same in omega (arith, e, few)),
+            refl,
+            bads_then m f.answered went.answered (items_within all) wanted,
+            wrote_then m f.answered went.answered (items_within all) _ wanted (appended_after _ _ _ _ _ f.wrote went.wrote),
+          ));
+      plan = went.answered.plan ∙ f.answered.plan;
+      silent = λ is. absurd (let e : Done ≡ OutOfMemory = is in cc);
+      too_long = λ is. absurd (let e : Done ≡ TooLong = is in cc);
+    }
+    has_ended BadScript went = record {
+      outcome = by_end BadScript (λ all same few.
+          let wanted = bad_end_items m all f.answered went.answered same few went.over.1 in (
+            bads_then m f.answered went.answered (items_within all) wanted,
+            wrote_then m f.answered went.answered (items_within all) _ wanted (appended_after _ _ _ _ _ f.wrote went.wrote),
+          ));
+      plan = went.answered.plan ∙ f.answered.plan;
+      silent = λ is. absurd (let e : BadScript ≡ OutOfMemory = is in cc);
+      too_long = λ is. absurd (let e : BadScript ≡ TooLong = is in cc);
+    }
+    has_ended WriteFault went = record {
+      outcome = by_end WriteFault (λ all same few. cut_at_end m all f.answered went.cut _ same few (appended_after _ _ _ _ _ f.wrote went.wrote));
+      plan = went.cut.plan ∙ f.answered.plan;
+      silent = λ is. absurd (let e : WriteFault ≡ OutOfMemory = is in cc);
+      too_long = λ is. absurd (let e : WriteFault ≡ TooLong = is in cc);
+    }
+    has_ended OutOfMemory went = record {
+      outcome = by_end OutOfMemory (λ all same few. wants_at_end m (call_by OutOfMemory) f.answered went f.wrote);
+      plan = went.plan ∙ f.answered.plan;
+      silent = λ is. silent_at_end m f.answered went f.wrote;
+      too_long = λ is. absurd (let e : OutOfMemory ≡ TooLong = is in cc);
+    }
+    has_ended Words went = absurd went
+    has_ended ReadFault went = absurd went
+    has_ended TooLong went = absurd went
+    has_ended BadImage went = absurd went
+
+-- a turn ended the script
+pub has_stopped : {S P : Type 0} (m : Semantics S P) {from : S} {had before : Option (List ℕ)} {given : ℕ} {b : Between S}
+    (f : SoFar m from had given before b) (b' : Between S) (st : Status) → StopsBy m st b b'
+    → HasEnded m from (record { had = had; left = b'.rest; given_before = given; given_after = b'.given; before = before; after = b'.progress.written; status = st })
+    b'.progress.playing.state
+has_stopped m f b' ReadFault none = read_failed m (same_so_far m f none)
+has_stopped m f b' BadScript (c, went) = stopped m f c went
+has_stopped m f b' WriteFault (c, went) = was_cut m f c went
+has_stopped m f b' OutOfMemory (c, went) = was_wanting m f c went
+has_stopped m f b' TooLong passes = passed m f passes.chunk passes.some passes.full passes.went
+has_stopped m f b' Done never = absurd never
+has_stopped m f b' Words never = absurd never
+has_stopped m f b' BadImage never = absurd never
+
+-- the source ended, and what that completes was answered
+pub at_end : {S P : Type 0} (m : Semantics S P) {from : S} {had before : Option (List ℕ)} {given : ℕ} {b : Between S}
+    (f : SoFar m from had given before b) (b' : Between S) → TakesNothing b b' × IsSpent b.rest → (p : Progress S) (st : Status)
+    → EndsAs m st (progress (ending b'.progress.playing) b'.progress.written) p
+    → HasEnded m from (record { had = had; left = b'.rest; given_before = given; given_after = b'.given; before = before; after = p.written; status = st })
+    p.playing.state
+at_end m f b' (none, spent) p st went = has_ended m (same_so_far m f none) (subst IsSpent (sym none.rest) spent) p st went

@@ -1,0 +1,35 @@
+-- What a command of a session did and what was written of its reply, together.
+use Rattle.std.proofs.Common.{◌≡◌, ℕ, ◌++◌, List, [], ◌∷◌, Option, Result, Ok, Err, refl, sym, subst}
+use Rattle.cf_base.specs.declared.answers.Failed.{Failed}
+use Rattle.cf_io.specs.Feeds.{Puts}
+use Rattle.cf_io.specs.Texts.{Reply, led, said}
+use Rattle.cf_io.proofs.CallerLemmas.{puts_line}
+use Rattle.cf_session.specs.Apply.{IsEnded, outcome_in, outcome_of}
+use Rattle.cf_session.specs.declared.outcome.Outcome.{Outcome}
+use Rattle.script_loop.specs.Semantics.{Semantics, snapshot}
+use Rattle.script_reader.specs.declared.command.Command.{Command}
+use Rattle.script_loop.specs.Applying.{Applies, Speaks, TurnsInPart}
+
+-- a semantics whose turns in part are those of a reply that was cut
+module _ {S P : Type 0} (m : Semantics S P)
+    (in_part : (old : S) (c : Command) (out : List ℕ) (new : S) → TurnsInPart m.turns old c out new → m.turns_in_part old c out new) where
+  -- a reply that was written, or a prefix of it
+  pub reported : (old new : S) (c : Command) (reply : Reply) (w y : Option (List ℕ)) (r : Result Unit Failed) (outcome : Outcome)
+      (answer : Result Outcome Failed) → m.turns old c reply new → outcome ≡ outcome_of reply → Puts w (led [] reply) r y → IsEnded r outcome answer
+      → Applies m (snapshot old w) c answer (snapshot new y)
+  reported old new c reply w y (Ok u) outcome answer turn told put is =
+      subst (λ (a : Result Outcome Failed). Applies m (snapshot old w) c a (snapshot new y)) (sym is)
+      (record { reply = reply; turns = turn; written = put }, told)
+  reported old new c reply w y (Err e) outcome answer turn told (front, lost, parts, put) is =
+      subst (λ (a : Result Outcome Failed). Applies m (snapshot old w) c a (snapshot new y)) (sym is) (record {
+        out = front;
+        turns = in_part old c front new (record { reply = reply; lost = lost; turn = turn; cut = parts });
+        written = put;
+      })
+
+  -- a reply of one line
+  pub told_line : (old new : S) (c : Command) (line : List ℕ) (w y : Option (List ℕ)) (r : Result Unit Failed) (outcome : Outcome)
+      (answer : Result Outcome Failed) → Speaks m.turns old c new line → outcome ≡ outcome_in line → Puts w (line ++ 10 ∷ []) r y
+      → IsEnded r outcome answer → Applies m (snapshot old w) c answer (snapshot new y)
+  told_line old new c line w y r outcome answer speaks told put is =
+      reported old new c (said line) w y r outcome answer speaks.turn told (puts_line w y [] line line r refl put) is

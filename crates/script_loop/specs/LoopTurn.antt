@@ -1,0 +1,85 @@
+-- One turn of the loop over a script: it takes one chunk, and answers the items that the chunk completes.
+use Rattle.std.specs.Prelude.{◌≡◌, ◌<◌, ◌≤◌, ◌+◌, ◌++◌, ℕ, false, List, [], length, Option}
+use Rattle.cf_base.specs.declared.status.Status.{Status}
+use Rattle.cf_base.specs.declared.status.Status.TheVariants.{BadScript, ReadFault, WriteFault, OutOfMemory, TooLong}
+use Rattle.cf_io.specs.Feeds.{HasGiven, IsSpent, preceded}
+use Rattle.cf_io.specs.Sources.{more_given}
+use Rattle.script_reader.specs.Reading.{Reading}
+use Rattle.script_loop.specs.AnswersSoFar.{HasStopped, IsWaiting, WasCut, WasWanting, WentOn}
+use Rattle.script_loop.specs.Progress.{IsReady, Progress, playing, progress}
+use Rattle.script_loop.specs.ScriptOutcome.{MOST_BYTES}
+use Rattle.script_loop.specs.Semantics.{Semantics}
+use Rattle.script_loop.specs.declared.running.Script.{Script}
+use Rattle.script_loop.specs.declared.running.TurnEnd.{TurnEnd}
+use Rattle.script_loop.specs.declared.running.TurnEnd.TheVariants.{Answered, Ended, Stopped}
+
+-- the bytes that its reader was fed
+abbrev pub reading_in : Script → Reading
+reading_in script = script.reader
+
+-- the bytes left up to the limit
+abbrev pub left_in : Script → ℕ
+left_in script = script.left
+
+-- A script between two turns: the run so far, the bytes left in its source and how many it gave, and the bytes left up to the limit.
+pub record Between (S : Type 0) : Type 0 where
+  pub progress : Progress S
+  pub rest : Option (List ℕ)
+  pub given : ℕ
+  pub left : ℕ
+
+abbrev pub between : {S : Type 0} → Script → S → Option (List ℕ) → Option (List ℕ) → ℕ → Between S
+between script state written rest given =
+    record { progress = progress (playing (reading_in script) state) written; rest = rest; given = given; left = left_in script }
+
+-- all items that were taken are answered, except a line without its end
+pub record AwaitsChunk {S P : Type 0} (m : Semantics S P) (b : Between S) : Type 0 where
+  pub waiting : IsWaiting b.progress.playing.reading
+  pub ready : IsReady m b.progress.playing
+  pub going : b.progress.playing.reading.ended ≡ false
+  pub few : b.progress.playing.reading.fed + b.left ≡ MOST_BYTES
+
+-- a chunk was taken: its bytes within the limit, and those past it
+pub record Chunk {S : Type 0} (old new : Between S) : Type 0 where
+  pub within : List ℕ
+  pub past : List ℕ
+  pub took : old.rest ≡ preceded (within ++ past) new.rest
+  pub counted : new.given ≡ more_given old.given (length (within ++ past))
+  pub fits : length within ≤ old.left
+
+-- it is within the limit, and the items that it completes were answered
+pub record AnswersChunk {S P : Type 0} (m : Semantics S P) (old new : Between S) : Type 0 where
+  pub chunk : Chunk old new
+  pub whole : chunk.past ≡ []
+  pub some : 0 < length chunk.within
+  pub left : new.left + length chunk.within ≡ old.left
+  pub went : WentOn m old.progress chunk.within new.progress
+
+-- it passes the limit, and the items that it completes within the limit were answered
+pub record PassesLimit {S P : Type 0} (m : Semantics S P) (old new : Between S) : Type 0 where
+  pub chunk : Chunk old new
+  pub some : 0 < length chunk.past
+  pub full : length chunk.within ≡ old.left
+  pub went : WentOn m old.progress chunk.within new.progress
+
+-- nothing was taken, and nothing was answered
+pub record TakesNothing {S : Type 0} (old new : Between S) : Type 0 where
+  pub progress : new.progress ≡ old.progress
+  pub rest : new.rest ≡ old.rest
+  pub counted : HasGiven old.given 0 new.given
+  pub left : new.left ≡ old.left
+
+-- the turn was the last one, by the status at which the script ends
+abbrev pub StopsBy : {S P : Type 0} → Semantics S P → Status → Between S → Between S → Type 0
+StopsBy m ReadFault old new = TakesNothing old new
+StopsBy m BadScript old new = (c : Chunk old new) × HasStopped m old.progress c.within new.progress
+StopsBy m WriteFault old new = (c : Chunk old new) × WasCut m old.progress c.within new.progress
+StopsBy m OutOfMemory old new = (c : Chunk old new) × WasWanting m old.progress new.progress
+StopsBy m TooLong old new = PassesLimit m old new
+StopsBy m status old new = ⊥
+
+-- a turn, by its end
+abbrev pub TakesTurn : {S P : Type 0} → Semantics S P → Between S → TurnEnd → Between S → Type 0
+TakesTurn m old Answered new = AnswersChunk m old new
+TakesTurn m old Ended new = TakesNothing old new × IsSpent old.rest
+TakesTurn m old (Stopped status) new = StopsBy m status old new

@@ -1,0 +1,40 @@
+-- How far a loop over many managers has come. No public clause cites this module.
+use Rattle.std.specs.Prelude.{◌≡◌, ◌++◌, ℕ, List, [], Option, Result, Ok, Err, length}
+use Rattle.cf_io.specs.Feeds.{appended}
+use Rattle.run_model.specs.Texts.{Reply, led}
+use Rattle.script_reader.specs.declared.command.Command.{Command}
+use Rattle.run_model.specs.Sessions.{RunState}
+use Rattle.run_model.specs.Runs.{Turn}
+use Rattle.side_by_side.specs.Many.{EachTurn, named}
+
+-- one manager does a command, and each line of the reply has its name before it
+pub record TurnNamed (old : RunState) (c : Command) (reply : Reply) (new : RunState) : Type 0 where
+  pub own : Reply
+  pub turn : Turn old c own new
+  pub reply_is : reply ≡ named old.heap.kind own
+
+-- the same, and a prefix of the reply was written
+pub record TurnNamedInPart (old : RunState) (c : Command) (out : List ℕ) (new : RunState) : Type 0 where
+  pub own : Reply
+  pub lost : List ℕ
+  pub turn : Turn old c own new
+  pub cut : led [] (named old.heap.kind own) ≡ out ++ lost
+
+-- a reply was written whole or in part, by these relations
+abbrev pub AnswersWith : {S T E : Type 0} → (S → Command → Reply → S → Type 0) → (S → Command → List ℕ → S → Type 0) → S → Option (List ℕ) → Command
+    → Result T E → S → Option (List ℕ) → Type 0
+AnswersWith turns in_part old before c (Ok u) new after = (reply : Reply) × turns old c reply new × (after ≡ appended before (led [] reply))
+AnswersWith turns in_part old before c (Err e) new after = (out : List ℕ) × in_part old c out new × (after ≡ appended before out)
+
+abbrev pub AnswersNamed : {T E : Type 0} → RunState → Option (List ℕ) → Command → Result T E → RunState → Option (List ℕ) → Type 0
+AnswersNamed old before c r new after = AnswersWith TurnNamed TurnNamedInPart old before c r new after
+
+-- The first i runs did the command, with this reply; the others are unchanged.
+pub record Swept (olds : List RunState) (i : ℕ) (c : Command) (reply : Reply) (news : List RunState) : Type 0 where
+  pub done : List RunState
+  pub turned : List RunState
+  pub ahead : List RunState
+  pub olds_are : olds ≡ done ++ ahead
+  pub news_are : news ≡ turned ++ ahead
+  pub count : length turned ≡ i
+  pub turns : EachTurn done c reply turned

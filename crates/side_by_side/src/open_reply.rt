@@ -1,0 +1,39 @@
+//! The reply to the `heap` line.
+ghost use Rattle.std.specs.Prelude.{◌≤◌, ◌++◌, [], OnErr, codes, map, OnOk, ◌≡◌};
+ghost use Rattle.cf_io.specs.Feeds.{Puts, Rose};
+ghost use Rattle.run_model.specs.Texts.{led};
+ghost use Rattle.side_by_side.specs.Many.{lead_of, oks};
+
+use crate::answer::lead_bytes;
+use cf_base::{Failed, Kind};
+use cf_io::{Line, Sink, put_all};
+use cf_model::Manager;
+
+/// Writes `ok` for each manager, after its name.
+pub fn tell_open<H: Manager, K: Sink>(managers: &Vec<H>, sink: &mut K) -> Result<(), Failed>
+    ensures puts { Puts (K.written sink.old) (led [] (oks (map (λ m. (H.state m).kind) managers.now.items))) result (K.written sink.new) }
+    ensures grows { K.faults sink.old ≤ K.faults sink.new }
+    ensures same { OnOk result (K.faults sink.new ≡ K.faults sink.old) }
+    ensures failed { OnErr result (Rose (K.faults sink.old) (K.faults sink.new)) }
+{
+    for i in 0..managers.len() {
+        match tell_one(managers[i].kind(), sink) {
+            Ok(()) => {}
+            Err(failed) => return Err(failed),
+        }
+    }
+    Ok(())
+}
+
+/// Writes `ok` after the name.
+fn tell_one<K: Sink>(kind: Kind, sink: &mut K) -> Result<(), Failed>
+    ensures puts { Puts (K.written sink.old) (lead_of kind ++ codes "ok\n") result (K.written sink.new) }
+    ensures grows { K.faults sink.old ≤ K.faults sink.new }
+    ensures same { OnOk result (K.faults sink.new ≡ K.faults sink.old) }
+    ensures failed { OnErr result (Rose (K.faults sink.old) (K.faults sink.new)) }
+{
+    let mut line = Line::new();
+    line.push(lead_bytes(kind)).unwrap();
+    line.push(b"ok\n").unwrap();
+    put_all(sink, line.bytes())
+}
