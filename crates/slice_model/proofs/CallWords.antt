@@ -15,7 +15,7 @@ use Rattle.page_model.specs.Held.{Held, Placed}
 use Rattle.page_model.specs.Image.{IsDisjoint, IsOutside, Rewrites, header_word, object_word, slot_for, word_of_bytes}
 use Rattle.page_model.specs.Paging.{Paging, class_for, slot_words}
 use Rattle.page_model.specs.Steps.{Moves, Request, zeros_at}
-use Rattle.page_model.proofs.CallerLemmas.{within_or, disjoint_outside, byte_of_object, class_holds, mover_is_other}
+use Rattle.page_model.proofs.CallerLemmas.{fresh_word, within_or, disjoint_outside, byte_of_object, class_holds, mover_is_other}
 use Rattle.page_model.proofs.CallerLemmas.{length-written, written_before, written_behind}
 use Rattle.slice_model.specs.State.{Plan, IsPlan, JobSlot, Job, Sliced, IsKept, IsJobOf, advanced, job_slot, Idle, Clear, Move}
 use Rattle.slice_model.specs.Steps.{Ends, GivesObject, GoesOn, IsDone, SliceOf, Vacates, done_after}
@@ -59,7 +59,7 @@ pub done_within : (plan : Plan) (k : JobSlot) → k.done ≤ slot_words plan.pag
 done_within plan k le = omega arith
 
 module _ (plan : Plan) (ok : IsPlan plan) (words words' : List ℕ) where
-  -- so many words of a job
+  -- n words of a job
   advances : (m : Held) (j : Job) (k : JobSlot) → job_slot j ≡ Some k → IsJobOf plan.paging m j → AreApart plan.paging m (job_slot j)
       → DoesWords m j (min plan.quantum (slot_words plan.paging k.class - k.done)) words words'
       → HasWords plan.paging (record { held = m; job = j }) words → HasWords plan.paging (record { held = m; job = advanced j (done_after plan k) }) words'
@@ -114,7 +114,7 @@ module _ (plan : Plan) (ok : IsPlan plan) (words words' : List ℕ) where
   words_sliced m (Clear k) kept has new slice does = pending m (Clear k) k refl kept has new slice does
   words_sliced m (Move q k) kept has new slice does = pending m (Move q k) k refl kept has new slice does
 
--- an object goes
+-- a free
 pub words_begun : (plan : Plan) → IsPlan plan → (words : List ℕ) (m : Held) → IsKept plan (record { held = m; job = Idle })
     → HasWords plan.paging (record { held = m; job = Idle }) words → (h : ℕ) (x : Placed) → get m h ≡ Some x → (moved : Option ℕ)
     → Moves plan.paging m x moved → (new : Sliced) → Vacates (remove m h) x.place (class_at plan.paging x) moved new → HasWords plan.paging new words
@@ -134,15 +134,6 @@ words_begun plan ok words m kept has h x there (Some q) (must, (y, there', may))
           rw f at at)
       | inr nh ↦ out r z (get_remove_other m h r nh ∙ was)
     ]) (λ g e. absurd (let e' : None ≡ Some g = e in cc))))
-
-take_zeros : (m n : ℕ) → word_of_bytes (take m (replicate n 0)) ≡ 0
-take_zeros zero n = refl
-take_zeros (suc m) zero = refl
-take_zeros (suc m) (suc n) = omega (arith, take_zeros m n)
-
--- past its header a fresh object has zeros
-fresh_word : (h n i : ℕ) → object_word h (replicate n 0) (suc i) ≡ 0
-fresh_word h n i = ap (λ xs. word_of_bytes (take 8 xs)) (drop-replicate (8 * i) n 0) ∙ take_zeros 8 (n - 8 * i)
 
 outside_one : (a w : ℕ) → w ≢ a → IsOutside a 1 w
 outside_one a w ne = elim (cases_lt w a) [
@@ -169,7 +160,7 @@ no_mover p m h none (Move q f) is k e = (
     let z : Some o.0 ≡ None = sym o.1 ∙ ap (get m) a ∙ none in
     cc)
 
--- so many zeros come at a place
+-- zeros are put at a place
 module _ (p : Paging) (m : Held) (j : Job) (is_job : IsJobOf p m j) (words words' : List ℕ) (has : HasWords p (record { held = m; job = j }) words)
     (h n a : ℕ) (unused : get m h ≡ None) (size : 0 < slot_for p n) (apart : AreApart p (insert m h (zeros_at a n)) (job_slot j))
     (re : Rewrites words words' (record { from = a; count = 1 }) (λ _. header_word h n)) where
@@ -233,7 +224,7 @@ module _ (p : Paging) (m : Held) (j : Job) (is_job : IsJobOf p m j) (words words
         re.others w (outside_one a w (λ e. first_not a extent w some o (sym e))) ∙ has.zeros w (λ q y was. out q y (stays q y was).1) beyond);
   }
 
--- an object comes
+-- a malloc
 pub words_given : (plan : Plan) → IsPlan plan → (old : Sliced) → IsKept plan old → (words words' : List ℕ) → HasWords plan.paging old words
     → (asked : Request) (new : Sliced) → (g : GivesObject plan old asked new)
     → Rewrites words words' (record { from = g.place; count = 1 }) (λ _. header_word asked.number asked.length) → HasWords plan.paging new words'
@@ -269,7 +260,7 @@ same_but v at bytes fits h zero out = ap (header_word h) (length-written v at by
 same_but v at bytes fits h (suc i) (inl l) = words_kept v at bytes fits h i (inl (omega arith))
 same_but v at bytes fits h (suc i) (inr r) = words_kept v at bytes fits h i (inr (omega arith))
 
--- only the address of an object tells where its words stand
+-- the addresses of an object's words depend on its address alone
 same_place : (j : Job) (h : ℕ) (x y : Placed) (i : ℕ) → x.place ≡ y.place → word_at j h x i ≡ word_at j h y i
 same_place Idle h x y i e = ap (λ a. a + i) e
 same_place (Clear k) h x y i e = ap (λ a. a + i) e
@@ -349,7 +340,7 @@ module _ (plan : Plan) (ok : IsPlan plan) (old : Sliced) (kept : IsKept plan old
         ]) beyond;
   }
 
--- a byte is read from where its word stands
+-- a byte is read from its word, wherever that lies
 pub byte_there : (plan : Plan) → IsPlan plan → (s : Sliced) → IsKept plan s → (words : List ℕ) → HasWords plan.paging s words
     → (h : ℕ) (x : Placed) → get s.held h ≡ Some x → AreBytes x.bytes → (k : ℕ) → k < length x.bytes → byte_read s.job words h x k ≡ get_or x.bytes k 0
 byte_there plan ok s kept words has h x there bytes k lt =

@@ -18,7 +18,7 @@ use Rattle.slice_model.specs.Runs.{Event, Happens, Runs, Turn, Working, is_step,
 use Rattle.slice_model.proofs.Occupied.{job_class, no_stand_in}
 use Rattle.slice_model.proofs.Keeping.{kept_slice, two_is_last}
 
--- so many slices of a quantum do n words: one fewer do not
+-- n words take this number of slices of a quantum: one fewer is too few
 pub ceil_bounds : (n q : ℕ) → 0 < n → 1 ≤ q → (k : ℕ) × (ceil_div n q ≡ suc k) × (k * q < n) × (n ≤ k * q + q)
 ceil_bounds n q some one = go (ceil_div n q) refl
   where
@@ -51,7 +51,7 @@ slot_advanced (Clear g) k d e = (let f : g ≡ k = (let e' : Some g ≡ Some k =
 slot_advanced (Move q g) k d e = (let f : g ≡ k = (let e' : Some g ≡ Some k = e in cc) in ap (λ (z : JobSlot). Some (record z { done = d })) f)
 
 module _ (plan : Plan) where
-  -- a slice where more than a quantum is left
+  -- a slice if more than a quantum is left
   slice_goes_on : (old new : Sliced) (k : JobSlot) → job_slot old.job ≡ Some k → k.done + plan.quantum < slot_words plan.paging k.class → IsSlice plan old new
       → new ≡ record old { job = advanced old.job (k.done + plan.quantum) }
   slice_goes_on old new k e more slice = go (rw e at slice)
@@ -63,7 +63,7 @@ module _ (plan : Plan) where
       go (inl on) = on.whole ∙ ap (λ d. record old { job = advanced old.job d }) all
       go (inr done) = absurd (let a = done.all in omega arith)
 
-  -- a slice where no more is left
+  -- a slice if no more is left
   slice_ends : (old new : Sliced) (k : JobSlot) → job_slot old.job ≡ Some k → slot_words plan.paging k.class ≤ k.done + plan.quantum → IsSlice plan old new
       → Ends plan.paging old.held k new
   slice_ends old new k e few slice = go (rw e at slice)

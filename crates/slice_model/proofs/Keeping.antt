@@ -1,4 +1,4 @@
--- What every state keeps is kept by each step.
+-- Each step keeps what every state keeps.
 use Rattle.std.proofs.Common.{◌≡◌, ◌≢◌, ℕ, ◌+◌, ◌-◌, ◌*◌, ◌<◌, ◌≤◌, List, Option, Some, None, length, replicate, arith, sym, ◌∙◌, ap, refl, subst, inl, inr}
 use Rattle.std.specs.Prelude.{nat_lt}
 use Rattle.std.proofs.lemmas.Bool.{cases_eq, cases_lt}
@@ -24,7 +24,7 @@ pub record IsAlike (p : Paging) (m n : Held) : Type 0 where
   pub sound : IsSound p n
   pub counts : (c page : ℕ) → objects_on p n c page ≡ objects_on p m c page
 
--- another object of the class comes in the place of one that goes
+-- another object of the class takes the place of one that is removed
 exchange : (p : Paging) (m : Held) (h : ℕ) (x : Placed) → get m h ≡ Some x → (q : ℕ) (bytes : List ℕ) → get (remove m h) q ≡ None
     → class_at p (record { place = x.place; bytes = bytes }) ≡ class_at p x → IsSound p m
     → IsAlike p m (insert (remove m h) q (record { place = x.place; bytes = bytes }))
@@ -36,12 +36,12 @@ exchange p m h x there q bytes free class s = record {
 alike_then : (p : Paging) (a b c : Held) → IsAlike p a b → IsAlike p b c → IsAlike p a c
 alike_then p a b c x y = record { sound = y.sound; counts = λ d page. y.counts d page ∙ x.counts d page }
 
--- a number that an object has isn't the stand-in's
+-- a number that an object has isn't the placeholder's
 pub other_than : (m : Held) (P q : ℕ) (y : Placed) → get m P ≡ None → get m q ≡ Some y → q ≢ P
 other_than m P q y none there is = (let e : get m P ≡ Some y = rw is at there in absurd (let z : Some y ≡ None = sym e ∙ none in cc))
 
 module _ (p : Paging) (P : ℕ) where
-  -- An object moves to the place of one that goes, and the stand-in comes where it stood.
+  -- An object moves to the place of one that is removed, and the placeholder takes its old place.
   pub moved_away : (m : Held) → get m P ≡ None → (h : ℕ) (x : Placed) → get m h ≡ Some x → (q : ℕ) (y : Placed) → get m q ≡ Some y → q ≢ h
       → (bytes : List ℕ) → class_at p y ≡ class_at p x → class_for p (length bytes) ≡ class_at p x → IsSound p m
       → IsAlike p m (insert (insert (remove m h) q (record { place = x.place; bytes = y.bytes })) P (record { place = y.place; bytes = bytes }))
@@ -81,7 +81,7 @@ module _ (p : Paging) (P : ℕ) where
         ]
       ])
 
-  -- An object and the stand-in change places, by way of a number that is in use for nothing.
+  -- An object and the placeholder change places, by way of a number that nothing uses.
   module _ (m : Held) (a : ℕ) (bytes : List ℕ) (q : ℕ) (y : Placed) (qP : q ≢ P) (qT : q ≢ P + 1) (none : get m (P + 1) ≡ None)
       (there : get m q ≡ Some y) (class : class_at p y ≡ class_for p (length bytes)) where
     abbrev f : Placed
@@ -135,7 +135,7 @@ module _ (p : Paging) (P : ℕ) where
         let third = exchange p second_map (P + 1) g g2 P bytes P2 refl second.sound in
         subst (IsAlike p (insert m P f)) third_map (alike_then p _ _ _ (alike_then p _ _ _ first second) third)
 
--- a job stays one where its object stays of its class
+-- a job stays one if its object stays in its class
 pub job_stays : (p : Paging) (m n : Held) (j : Job) → ((q : ℕ) (y : Placed) → get m q ≡ Some y
     → (z : Placed) × (get n q ≡ Some z) × (class_at p z ≡ class_at p y))
     → IsJobOf p m j → IsJobOf p n j
@@ -143,7 +143,7 @@ job_stays p m n Idle stays is = tt
 job_stays p m n (Clear k) stays is = is
 job_stays p m n (Move h k) stays is = (let o = is.1 in let z = stays h o.0 o.1 in (is.0, (z.0, z.1, z.2 ∙ o.2)))
 
--- a job's slot stands where it did, whatever is done of it
+-- a job's slot keeps its address, however much of it is done
 pub slot_stays : (plan : Plan) (m : Held) (j : Job) (d : ℕ) → with_slot plan m (job_slot (advanced j d)) ≡ with_slot plan m (job_slot j)
 slot_stays plan m Idle d = refl
 slot_stays plan m (Clear k) d = refl
@@ -155,10 +155,10 @@ job_goes_on p m Idle d lt is = tt
 job_goes_on p m (Clear k) d lt is = record { class = is.class; under_way = lt k refl }
 job_goes_on p m (Move h k) d lt is = (record { class = is.0.class; under_way = lt k refl }, is.1)
 
-part_over : (n s : ℕ) → s ≤ n → one (part_full n s) ≡ 0
+pub part_over : (n s : ℕ) → s ≤ n → one (part_full n s) ≡ 0
 part_over n s le = (let b = lt_no n s le in rw b (ap one (and_false (nat_lt 0 n))))
 
--- what a page is told to be by whether it counts
+-- what kind a page is, by whether it counts
 part_told : (n s : ℕ) → one (part_full n s) ≡ 1 → (0 < n) × (n < s)
 part_told n s is = elim (cases_lt 0 n) [
   | inr none ↦ absurd (let z = part_none n s (omega arith) in omega arith)
@@ -177,7 +177,7 @@ full_told n s some is = elim (cases_lt n s) [
   | inr over ↦ over
 ]
 
--- what came goes again
+-- what was added is removed again
 taken_again : (m : Held) (h : ℕ) (x : Placed) → get m h ≡ None → remove (insert m h x) h ≡ m
 taken_again m h x none = equal_maps _ _ (λ q. elim (cases_eq q h) [
   | inl is ↦ rw is (get_removed (insert m h x) h ∙ sym none)
@@ -231,7 +231,7 @@ module _ (plan : Plan) (ok : IsPlan plan) where
         sound = subst (IsSound plan.paging) (again ∙ inserted_beside plan old.held (job_slot old.job) h (record { place = x.place; bytes = bytes }) lt) sound;
       }
 
-  -- an object goes: its slot is to be cleared, or that of the object that moves there
+  -- an object is removed: its slot is to be cleared, or that of the object that moves there
   pub kept_begun : (m : Held) → IsKept plan (record { held = m; job = Idle }) → (h : ℕ) (x : Placed) → get m h ≡ Some x → (moved : Option ℕ)
       → Moves plan.paging m x moved → (new : Sliced) → Vacates (remove m h) x.place (class_at plan.paging x) moved new → IsKept plan new
   kept_begun m kept h x there None never new is =
@@ -278,7 +278,7 @@ module _ (plan : Plan) (ok : IsPlan plan) where
         sound = alike.sound;
       })
 
-  -- the class of a job has two partly full pages without its slot exactly where a free of the slot would have to move an object
+  -- the class of a job has two partly full pages without its slot if and only if a free of the slot would have to move an object
   module _ (m : Held) (k : JobSlot) (none : get m plan.proxies ≡ None) (class : k.class < classes plan.paging)
       (s : IsSound plan.paging (insert m plan.proxies (stand_in plan.paging k))) where
     abbrev all : Held
@@ -293,7 +293,7 @@ module _ (plan : Plan) (ok : IsPlan plan) where
     of_class : class_at plan.paging (stand_in plan.paging k) ≡ k.class
     of_class = stand_in_class plan.paging ok.paging k class
 
-    -- one more on the page of the slot, and none elsewhere
+    -- one more on the page of the slot, and none on another page
     pub one_more : objects_on plan.paging all k.class page ≡ objects_on plan.paging m k.class page + 1
     one_more =
         let i = objects_on-inserted plan.paging m plan.proxies (stand_in plan.paging k) none k.class page in
@@ -331,7 +331,7 @@ module _ (plan : Plan) (ok : IsPlan plan) where
         let no = part_over (objects_on plan.paging all k.class page) (slots_of plan.paging k.class) (omega arith) in
         omega arith
 
-    -- where there are two, the slot fills its page, which held an object, and another page is partly full
+    -- if there are two, the slot fills its page, which held an object, and another page is partly full
     pub record IsLast : Type 0 where
       pub some : 0 < objects_on plan.paging m k.class page
       pub filled : objects_on plan.paging m k.class page + 1 ≡ slots_of plan.paging k.class
@@ -366,7 +366,7 @@ module _ (plan : Plan) (ok : IsPlan plan) where
     at_most_two = (let d = pages_differ in let f = few in
         let a = one_le (part_full (objects_on plan.paging m k.class page) (slots_of plan.paging k.class)) in omega arith)
 
-    -- without the slot the arrangement is sound where there aren't two
+    -- without the slot the arrangement is sound if there aren't two
     pub sound_without_slot : not_full_pages plan.paging m k.class ≢ 2 → IsSound plan.paging m
     sound_without_slot ne =
         let s' = sound_without plan.paging ok.paging all s plan.proxies (stand_in plan.paging k) here None (λ must. ne (must_is_two must)) in

@@ -22,7 +22,7 @@ use Rattle.cf_lemmas.proofs.Searches.{search_below}
 use Rattle.page_model.proofs.CallerLemmas.{IsOpen, IsVacant, vacant_where_less, open_counts, open_page}
 use Rattle.slice_model.proofs.Slots.{less_where_vacant}
 
--- the stand-in for a slot is of its class
+-- the placeholder of a slot is of its class
 pub stand_in_class : (p : Paging) → IsPaging p → (k : JobSlot) → k.class < classes p → class_at p (stand_in p k) ≡ k.class
 unfolding class_for
 stand_in_class p ok k lt =
@@ -52,7 +52,7 @@ stand_in_class p ok k lt =
           ])
     ]
 
--- no object has the number of the stand-in
+-- no object has the number of the placeholder
 pub no_stand_in : (plan : Plan) (m : Held) → ((h : ℕ) (x : Placed) → get m h ≡ Some x → h < plan.proxies) → get m plan.proxies ≡ None
 no_stand_in plan m numbers = go (get m plan.proxies) refl
   where
@@ -65,7 +65,7 @@ pub get_beside : (plan : Plan) (m : Held) (o : Option JobSlot) (h : ℕ) → h <
 get_beside plan m None h lt = refl
 get_beside plan m (Some k) h lt = get_insert_other m plan.proxies (stand_in plan.paging k) h (omega arith)
 
--- with the job's slot stand the objects and its stand-in
+-- with the job's slot there are the objects and its placeholder
 pub some_beside : (plan : Plan) (m : Held) (o : Option JobSlot) (q : ℕ) (y : Placed) → get (with_slot plan m o) q ≡ Some y
     → (get m q ≡ Some y) ⊎ ((k : JobSlot) × (o ≡ Some k) × (q ≡ plan.proxies) × (stand_in plan.paging k ≡ y))
 some_beside plan m None q y there = inl there
@@ -74,7 +74,7 @@ some_beside plan m (Some k) q y there = elim (some_inserted m plan.proxies (stan
   | inr (_, was) ↦ inl was
 ]
 
--- an object that comes, comes beside the job's slot too
+-- an object that is added is added beside the job's slot too
 pub inserted_beside : (plan : Plan) (m : Held) (o : Option JobSlot) (h : ℕ) (x : Placed) → h < plan.proxies
     → insert (with_slot plan m o) h x ≡ with_slot plan (insert m h x) o
 inserted_beside plan m None h x lt = refl
@@ -121,7 +121,7 @@ module _ (plan : Plan) (ok : IsPlan plan) (s : Sliced) (kept : IsKept plan s) wh
   pub slot_there : (k : JobSlot) → job_slot s.job ≡ Some k → get (occupied plan s) plan.proxies ≡ Some (stand_in plan.paging k)
   slot_there k e = rw e (get_inserted s.held plan.proxies (stand_in plan.paging k))
 
-  -- as many objects stand on a page, and one more on the job's
+  -- each page holds the same number of objects, and the job's page one more
   on_beside : (o : Option JobSlot) (c page : ℕ) → objects_on p s.held c page ≤ objects_on p (with_slot plan s.held o) c page
   on_beside None c page = omega arith
   on_beside (Some k) c page = (let e = objects_on-inserted p s.held plan.proxies (stand_in p k) fresh c page in omega arith)
@@ -138,7 +138,7 @@ module _ (plan : Plan) (ok : IsPlan plan) (s : Sliced) (kept : IsKept plan s) wh
       ≡ objects_on p s.held k.class page + 1 = rw yes at i in omega arith) in
       rw e more
 
-  -- nothing stands at an address that is neither an object's nor the job's
+  -- an address that is neither an object's nor the job's holds nothing
   vacant : (a : ℕ) → ((q : ℕ) (y : Placed) → get s.held q ≡ Some y → y.place ≢ a) → ((k : JobSlot) → job_slot s.job ≡ Some k → k.address ≢ a) → IsVacant all a
   vacant a empty unheld q y there at = elim (some_beside plan s.held (job_slot s.job) q y there) [
     | inl was ↦ empty q y was at
@@ -158,7 +158,7 @@ module _ (plan : Plan) (ok : IsPlan plan) (s : Sliced) (kept : IsKept plan s) wh
         less = less_where_vacant p ok.paging c u.slot.class (page_of p a) u.slot.page all kept.sound some a u.slot refl (vacant a u.empty u.unheld);
       }
 
-  -- a vacant slot is usable where an object of its class stands on its page
+  -- a vacant slot is usable if an object of its class lies on its page
   usable_of : (c a : ℕ) → IsSlotAt p c a → IsVacant all a → 0 < objects_on p all c (page_of p a) → IsUsable p s c a
   usable_of c a slot free some = record {
     slot = slot;
@@ -186,7 +186,7 @@ module _ (plan : Plan) (ok : IsPlan plan) (s : Sliced) (kept : IsKept plan s) wh
       let some = o.some in
       (address_of p c page free.0, usable_of c (address_of p c page free.0) at.0 free.2 (rw on some))
 
-  -- a page holds nothing at all where it is free
+  -- a free page holds nothing at all
   bare : (page : ℕ) → IsFreePage p s page → standing_on p all page ≡ 0
   bare page f = elim (cases_lt 0 (standing_on p all page)) [
     | inr none ↦ omega arith
@@ -240,7 +240,7 @@ module _ (plan : Plan) (ok : IsPlan plan) (s : Sliced) (kept : IsKept plan s) wh
     ];
   }
 
-  -- There is no place exactly where the arrangement with the job's slot lacks room.
+  -- There is no place if and only if the arrangement with the job's slot lacks room.
   pub lacking_is_no_place : (c : ℕ) → LacksRoom plan.paging (occupied plan s) c → NoPlace plan.paging s c
   lacking_is_no_place c l = record {
     unusable = no_usable c l.full;

@@ -11,7 +11,7 @@ use Rattle.cf_lemmas.proofs.Maps.{some_inserted, some_removed}
 use Rattle.page_model.specs.Arrangement.{class_at}
 use Rattle.page_model.specs.Bytes.{AreBytes, written}
 use Rattle.page_model.specs.Held.{Held, Objects, Placed, objects}
-use Rattle.page_model.proofs.CallerLemmas.{inserted_there, malloc_objects, length-written, written_are_bytes, zeros_are_bytes}
+use Rattle.page_model.proofs.CallerLemmas.{bytes_held, bytes_missing, inserted_there, malloc_objects, length-written, written_are_bytes, zeros_are_bytes}
 use Rattle.slice_model.specs.State.{Plan, IsPlan, JobSlot, Sliced, IsKept, job_slot, Idle}
 use Rattle.slice_model.specs.Steps.{Carries, Ends, IsSlice, SliceOf, Vacates}
 use Rattle.slice_model.specs.Runs.{Event, Frees, Happens, HappensOnMap, IsConsistent, Mallocs, Part, Runs, RunsOnMap, Slices, Turn, Working, Writes, Malloc}
@@ -21,19 +21,12 @@ use Rattle.slice_model.specs.Words.{HasWords}
 use Rattle.slice_model.proofs.Keeping.{kept_begun, kept_malloc, kept_slice, kept_write}
 use Rattle.slice_model.proofs.CallWords.{byte_there, words_begun, words_given, words_sliced, words_written}
 
--- what an object's bytes are on the map
-pub bytes_there : (m : Held) (h : ℕ) (x : Placed) → get m h ≡ Some x → get (objects m) h ≡ Some x.bytes
-bytes_there m h x there = get-map_values (λ (x : Placed). x.bytes) m h ∙ ap (option_map (λ (x : Placed). x.bytes)) there
-
-none_there : (m : Held) (h : ℕ) → get m h ≡ None → get (objects m) h ≡ None
-none_there m h none = get-map_values (λ (x : Placed). x.bytes) m h ∙ ap (option_map (λ (x : Placed). x.bytes)) none
-
 -- an object that is carried keeps its bytes
 objects_carried : (m : Held) (q a c : ℕ) (new : Sliced) → Carries m q a c new → objects new.held ≡ objects m
 objects_carried m q a c new is =
     let w = is.whole in
     let e = map_values-insert (λ (x : Placed). x.bytes) m q (record { place = a; bytes = is.object.bytes }) in
-    rw w (e ∙ inserted_there (objects m) q is.object.bytes (bytes_there m q is.object is.found))
+    rw w (e ∙ inserted_there (objects m) q is.object.bytes (bytes_held m q is.object is.found))
 
 objects_ended : (plan : Plan) (m : Held) (k : JobSlot) (new : Sliced) → Ends plan.paging m k new → objects new.held ≡ objects m
 objects_ended plan m k new (inl (_, whole)) = rw whole refl
@@ -51,7 +44,7 @@ objects_begun : (m : Held) (h a c : ℕ) (moved : Option ℕ) (new : Sliced) →
 objects_begun m h a c None new is = rw is (map_values-remove (λ (x : Placed). x.bytes) m h)
 objects_begun m h a c (Some q) new is = objects_carried (remove m h) q a c new is ∙ map_values-remove (λ (x : Placed). x.bytes) m h
 
--- a list of bytes is told by its bytes
+-- a list of bytes is determined by its bytes
 part_is : (v out : List ℕ) (at count : ℕ) → at + count ≤ length v → length out ≡ count → ((k : ℕ) → k < count → get_or out k 0 ≡ get_or v (at + k) 0)
     → out ≡ take count (drop at v)
 part_is v out at count fits len each =
@@ -74,7 +67,7 @@ bytes_removed : (o : Objects) (h : ℕ) → AllBytes o → AllBytes (remove o h)
 bytes_removed o h all q u there = all q u (some_removed o h q u there).1
 
 module _ (plan : Plan) (ok : IsPlan plan) where
-  -- the same heap at work answers the same calls
+  -- the same heap at work gives the same results to the same calls
   same_heap : (old new : Working) → IsConsistent plan old → new ≡ old → (objects new.state.held ≡ objects old.state.held) × IsConsistent plan new
   same_heap old new good same = (ap (λ (w : Working). objects w.state.held) same, subst (IsConsistent plan) (sym same) good)
 
@@ -85,7 +78,7 @@ module _ (plan : Plan) (ok : IsPlan plan) where
       let g = is.gives in
       let o : objects new.state.held ≡ insert (objects old.state.held) h.0 (replicate bytes 0) = ap (λ (s : Sliced). objects s.held) g.placed
       ∙ malloc_objects old.state.held h.0 g.place bytes in (
-        (none_there old.state.held h.0 g.unused, o),
+        (bytes_missing old.state.held h.0 g.unused, o),
         record {
           kept = kept_malloc plan ok old.state good.kept (record { number = h.0; length = bytes }) new.state g;
           words = words_given plan ok old.state good.kept old.words new.words good.words (record { number = h.0; length = bytes }) new.state g is.words;
@@ -106,7 +99,7 @@ module _ (plan : Plan) (ok : IsPlan plan) where
       let words' = words_begun plan ok old.words old.state.held kept words h r.freed r.found r.moved r.moves r.begun r.begins in
       let o : objects new.state.held ≡ remove (objects old.state.held) h = objects_sliced plan r.begun new.state r.slice
       ∙ objects_begun old.state.held h r.freed.place (class_at plan.paging r.freed) r.moved r.begun r.begins in (
-        ((r.freed.bytes, bytes_there old.state.held h r.freed r.found), o),
+        ((r.freed.bytes, bytes_held old.state.held h r.freed r.found), o),
         record {
           kept = kept_slice plan ok r.begun new.state kept' r.slice;
           words = words_sliced plan ok old.words new.words r.begun.held r.begun.job kept' words' new.state r.slice is.words;
@@ -134,7 +127,7 @@ module _ (plan : Plan) (ok : IsPlan plan) where
       ap (λ (s : Sliced). objects s.held) is.state
       ∙ map_values-insert (λ (x : Placed). x.bytes) old.state.held part.number
       (record { place = is.object.place; bytes = written is.object.bytes part.from bytes }) in
-      let there = bytes_there old.state.held part.number is.object is.found in (
+      let there = bytes_held old.state.held part.number is.object is.found in (
         (is.object.bytes, there, is.fits, o),
         record {
           kept = subst (IsKept plan) (sym is.state) (kept_write plan ok old.state good.kept part.number is.object is.found
@@ -152,16 +145,16 @@ module _ (plan : Plan) (ok : IsPlan plan) where
   call_on_map old (Malloc bytes (Ok h)) new good is = malloc_on_map old bytes h new good is
   call_on_map old (Malloc bytes (Err e)) new good is = same_heap old new good is.1
   call_on_map old (Free h None) new good is = free_on_map old h new good is
-  call_on_map old (Free h (Some fault.Unknown)) new good is = (let s = same_heap old new good is.1 in ((none_there old.state.held h is.0, s.0), s.1))
+  call_on_map old (Free h (Some fault.Unknown)) new good is = (let s = same_heap old new good is.1 in ((bytes_missing old.state.held h is.0, s.0), s.1))
   call_on_map old (Free h (Some fault.Busy)) new good is = (let s = same_heap old new good is.1 in
-      (((is.0.object.bytes, bytes_there old.state.held h is.0.object is.0.found), s.0), s.1))
+      (((is.0.object.bytes, bytes_held old.state.held h is.0.object is.0.found), s.0), s.1))
   call_on_map old Step new good is = step_on_map old new good is
   call_on_map old (Write part bytes None) new good is = write_on_map old part bytes new good is
   call_on_map old (Write part bytes (Some e)) new good is = (let s = same_heap old new good is.1 in ((is.0, s.0), s.1))
   call_on_map old (Read part count (Ok out)) new good is =
       let s = same_heap old new good is.1 in
       let r = is.0 in
-      let there = bytes_there old.state.held part.number r.object r.found in
+      let there = bytes_held old.state.held part.number r.object r.found in
       let fits = r.fits in
       let out_is = part_is r.object.bytes out part.from count r.fits r.size (λ k lt. r.bytes k lt
       ∙ byte_there plan ok old.state good.kept old.words good.words part.number r.object r.found (good.bytes part.number r.object.bytes there)

@@ -203,13 +203,11 @@ module _ (plan : Plan) (ok : IsPlan plan) where
       let all : ceil_div (slot_words plan.paging c - 0) plan.quantum ≡ whole c = ap (λ n. ceil_div n plan.quantum) from_start in
       record { k = fresh_slot a c; slot = slot; class = refl; bound = omega arith }
 
-  -- the job that a free begins is the only one, where nothing comes between
-  begun_within : (m : Held) → IsKept plan (record { held = m; job = Idle }) → (h : ℕ) (x : Placed) → get m h ≡ Some x → (moved : Option ℕ)
+  -- when a free begins a job, the class has no second partly full page
+  pub begun_once : (m : Held) → IsKept plan (record { held = m; job = Idle }) → (h : ℕ) (x : Placed) → get m h ≡ Some x → (moved : Option ℕ)
       → Moves plan.paging m x moved → (begun : Sliced) → Vacates (remove m h) x.place (class_at plan.paging x) moved begun
-      → InTime (class_at plan.paging x) 0 (whole (class_at plan.paging x)) begun
-  begun_within m kept h x there None never begun is =
-      let c : ℕ = class_at plan.paging x in
-      let k : JobSlot = fresh_slot x.place (class_at plan.paging x) in
+      → not_full_pages plan.paging begun.held (class_at plan.paging x) ≢ 2
+  begun_once m kept h x there None never begun is two =
       let lt = (kept.sound.slots h x there).class in
       let none = no_stand_in plan m kept.numbers in
       let ne = other_than m plan.proxies h x none there in
@@ -217,26 +215,23 @@ module _ (plan : Plan) (ok : IsPlan plan) where
       let class = stand_in_class plan.paging ok.paging (fresh_slot x.place (class_at plan.paging x)) lt in
       let kept' : IsKept plan (record { held = remove m h; job = Clear (fresh_slot x.place (class_at plan.paging x)) }) =
       subst (IsKept plan) is (kept_begun plan ok m kept h x there None never begun is) in
-      let bytes : List ℕ = replicate (8 * (slot_words plan.paging (class_at plan.paging x) - 1)) 0 in
       let counts = objects_on-exchanged plan.paging m h x there plan.proxies (replicate (8 * (slot_words plan.paging (class_at plan.paging x) - 1)) 0) none' class in
-      let few : not_full_pages plan.paging (remove m h) (class_at plan.paging x) ≢ 2 = λ two. never (
-      let must = two_is_must plan ok (remove m h) (fresh_slot x.place (class_at plan.paging x)) none' lt kept'.sound two in
+      let two' : not_full_pages plan.paging (remove m h) (class_at plan.paging x) ≡ 2 =
+      sym (ap (λ (s : Sliced). not_full_pages plan.paging s.held (class_at plan.paging x)) is) ∙ two in
+      let must = two_is_must plan ok (remove m h) (fresh_slot x.place (class_at plan.paging x)) none' lt kept'.sound two' in
       let full = must.full in
       let several = must.several in
       let many = must.many in
       let full' : objects_on plan.paging (insert (remove m h) plan.proxies (stand_in plan.paging (fresh_slot x.place (class_at plan.paging x))))
       (class_at plan.paging x) (page_of plan.paging x.place) ≡ slots_of plan.paging (class_at plan.paging x) = rw class at full in
       let several' : 1 < slots_of plan.paging (class_at plan.paging x) = rw class at several in
-      record {
+      never (record {
         full = sym (counts (class_at plan.paging x) (page_of plan.paging x.place)) ∙ full';
         several = several';
         many = sym (not_full-same plan.paging m (insert (remove m h) plan.proxies (stand_in plan.paging (fresh_slot x.place (class_at plan.paging x))))
             (class_at plan.paging x) (λ page. counts (class_at plan.paging x) page)) ∙ (rw class at many);
-      }) in
-      let next_is : next begun.held (class_at plan.paging x) ≡ 0 = ap (λ (s : Sliced). next s.held (class_at plan.paging x)) is
-      ∙ next_none (remove m h) (class_at plan.paging x) few in
-      inr (fresh_within (class_at plan.paging x) x.place begun (ap (λ (s : Sliced). job_slot s.job) is) next_is)
-  begun_within m kept h x there (Some q) (must, (y, there', may)) begun is =
+      })
+  begun_once m kept h x there (Some q) (must, (y, there', may)) begun is two =
       let ne = mover_is_other plan.paging ok.paging m kept.sound h x there q y there' must may in
       let kept' = kept_begun plan ok m kept h x there (Some q) (must, (y, there', may)) begun is in
       let full = must.full in
@@ -253,9 +248,22 @@ module _ (plan : Plan) (ok : IsPlan plan) where
         page = apart;
         not_full = omega arith;
       } in
-      let once = followed_once plan ok (remove m h) x.place (class_at plan.paging x) q begun beside is kept' in
-      inr (fresh_within (class_at plan.paging x) is.object.place begun (ap (λ (s : Sliced). job_slot s.job) is.whole)
-      (next_none begun.held (class_at plan.paging x) once))
+      followed_once plan ok (remove m h) x.place (class_at plan.paging x) q begun beside is kept' two
+
+  -- the job that a free begins is of the freed object's class, and nothing of it is done
+  pub begun_fresh : (m : Held) (a c : ℕ) (moved : Option ℕ) (begun : Sliced) → Vacates m a c moved begun
+      → (b : ℕ) × (job_slot begun.job ≡ Some (fresh_slot b c))
+  begun_fresh m a c None begun is = (a, ap (λ (s : Sliced). job_slot s.job) is)
+  begun_fresh m a c (Some q) begun is = (is.object.place, ap (λ (s : Sliced). job_slot s.job) is.whole)
+
+  -- it is the only one, where nothing comes between
+  begun_within : (m : Held) → IsKept plan (record { held = m; job = Idle }) → (h : ℕ) (x : Placed) → get m h ≡ Some x → (moved : Option ℕ)
+      → Moves plan.paging m x moved → (begun : Sliced) → Vacates (remove m h) x.place (class_at plan.paging x) moved begun
+      → InTime (class_at plan.paging x) 0 (whole (class_at plan.paging x)) begun
+  begun_within m kept h x there moved moves begun is =
+      let fresh = begun_fresh (remove m h) x.place (class_at plan.paging x) moved begun is in
+      inr (fresh_within (class_at plan.paging x) fresh.0 begun fresh.1
+      (next_none begun.held (class_at plan.paging x) (begun_once m kept h x there moved moves begun is)))
 
   -- after a free, its own slice is one of them
   pub freed_idle : (old freed new : Working) (h : ℕ) (x : Placed) (turns : List Turn) → IsConsistent plan old → get old.state.held h ≡ Some x

@@ -48,14 +48,14 @@ module _ (plan : Plan) (ok : IsPlan plan) (s : Sliced) (kept : IsKept plan s) (n
   lt : class_for plan.paging n < classes plan.paging
   lt = class_fits plan.paging ok.paging n fits
 
-  -- where the sum is over there is no place
+  -- if the sum is over there is no place
   pub over_is_no_place : plan.paging.pages < pages_needed_with plan.paging (objects s.held) n → NoPlace plan.paging s (class_for plan.paging n)
   over_is_no_place over =
       let more = needed_beside plan ok s.held (no_stand_in plan s.held kept.numbers) (job_slot s.job) n in
       lacking_is_no_place plan ok s kept (class_for plan.paging n)
       ((lacks_room_at_one plan.paging ok.paging ok.ones (occupied plan s) kept.sound n lt).1 (omega arith))
 
-  -- so where there is a place it isn't
+  -- so if there is a place it isn't
   pub place_is_within : (a : ℕ) → IsPlaceFor plan.paging s (class_for plan.paging n) a → pages_needed_with plan.paging (objects s.held) n ≤ plan.paging.pages
   place_is_within a f = elim (cases_lt plan.paging.pages (pages_needed_with plan.paging (objects s.held) n)) [
     | inr within ↦ within
@@ -76,7 +76,7 @@ module _ (plan : Plan) (ok : IsPlan plan) (s : Sliced) (kept : IsKept plan s) (n
     | inl over ↦ absurd ((over_is_no_place over).taken page free)
   ]
 
-  -- without a job there is no place only where the sum is over
+  -- without a job there is no place only if the sum is over
   pub idle_is_over : s.job ≡ Idle → NoPlace plan.paging s (class_for plan.paging n) → plan.paging.pages < pages_needed_with plan.paging (objects s.held) n
   idle_is_over idle none =
       let l = (lacks_room_at_one plan.paging ok.paging ok.ones (occupied plan s) kept.sound n lt).0

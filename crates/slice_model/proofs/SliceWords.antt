@@ -1,4 +1,4 @@
--- The words after a slice, and where a slot has become vacant.
+-- The words after a slice, and once a slot is vacant.
 use Rattle.std.proofs.Common.{◌≡◌, ℕ, ◌+◌, ◌-◌, ◌<◌, ◌≤◌, List, Some, None, length, get_or, arith, sym, ◌∙◌, ap, refl, subst, inl, inr}
 use Rattle.std.proofs.lemmas.Bool.{cases_eq, cases_lt}
 use Rattle.std.specs.FinMap.{get, insert, remove}
@@ -136,7 +136,7 @@ words_ended p m j k words is all class has = record {
   ];
 }
 
--- an object goes, and its slot is to be cleared
+-- an object is removed, and its slot is to be cleared
 pub words_to_clear : (p : Paging) (m : Held) (words : List ℕ) → HasWords p (record { held = m; job = Idle }) words → (h : ℕ) (x : Placed) → get m h ≡ Some x
     → HasWords p (record { held = remove m h; job = Clear (fresh_slot x.place (class_at p x)) }) words
 words_to_clear p m words has h x there = record {

@@ -1,4 +1,4 @@
--- One more object needs one more page at most; so where a page is spare, the job's slot is no cause to wait.
+-- One more object needs one more page at most; so if a page is spare, the job's slot is no cause to wait.
 use Rattle.std.proofs.Common.{◌≡◌, ℕ, zero, suc, ◌+◌, ◌-◌, ◌*◌, ◌/◌, ◌%◌, ◌<◌, ◌≤◌, Option, Some, None, length, arith, refl, ◌∙◌, ap, subst, inl, inr}
 use Rattle.std.specs.Prelude.{nat_eq, sum_by, option_map}
 use Rattle.std.specs.List.{range_with_len}
@@ -25,14 +25,14 @@ ceil_more x m pos =
     let b : x + m + (m - 1) ≡ ((x + (m - 1)) / m + 1) * m + (x + (m - 1)) % m = omega arith in
     ap (λ z. z / m) b ∙ div-mul-add ((x + (m - 1)) / m + 1) m ((x + (m - 1)) % m) lt
 
-ceil_one_more : (x m : ℕ) → 0 < m → ceil_div (x + 1) m ≤ ceil_div x m + 1
+pub ceil_one_more : (x m : ℕ) → 0 < m → ceil_div (x + 1) m ≤ ceil_div x m + 1
 ceil_one_more x m pos =
     let y = ceil_more x m pos in
     let le : ceil_div (x + 1) m ≤ ceil_div (x + m) m = ceil_mono (x + 1) (x + m) m (omega arith) in
     omega arith
 
 -- a sum of which one term is greater by one at most
-sum_one_more : (f g : ℕ → ℕ) (c a n : ℕ) → ((d : ℕ) → a ≤ d → d < a + n → g d ≤ f d + one (nat_eq c d))
+pub sum_one_more : (f g : ℕ → ℕ) (c a n : ℕ) → ((d : ℕ) → a ≤ d → d < a + n → g d ≤ f d + one (nat_eq c d))
     → sum_by g (range_with_len a n) ≤ sum_by f (range_with_len a n) + 1
 sum_one_more f g c a zero le = omega arith
 sum_one_more f g c a (suc n) le =

@@ -1,4 +1,4 @@
--- Where the words of objects stand beside a job, and that no two stand at one address.
+-- The addresses of objects' words beside a job, and that no two words have one address.
 use Rattle.std.proofs.Common.{◌≡◌, ◌≢◌, ℕ, ◌+◌, ◌*◌, ◌<◌, ◌≤◌, Option, Some, length, arith, sym, ◌∙◌, ap, refl, subst, inl, inr}
 use Rattle.std.specs.Prelude.{◌⊎◌, nat_eq}
 use Rattle.std.proofs.lemmas.Bool.{cases_eq, cases_lt}
@@ -32,7 +32,7 @@ kept_apart plan ok s kept = record {
       subst (λ c. IsDisjoint k.address (slot_words plan.paging c) x.place (slot_for plan.paging (length x.bytes))) class d);
 }
 
--- a word of an object stands at the object's address, or in the job's slot
+-- a word of an object lies at the object's address, or in the job's slot
 pub where_word : (j : Job) (h : ℕ) (x : Placed) (i : ℕ) → (word_at j h x i ≡ x.place + i)
     ⊎ ((k : JobSlot) × (j ≡ Move h k) × (k.done ≤ i) × (word_at j h x i ≡ k.address + i))
 where_word Idle h x i = inl refl
@@ -45,7 +45,7 @@ where_word (Move q k) h x i = elim (cases_eq q h) [
   ]
 ]
 
--- where it stands is told by the job
+-- the job fixes which
 pub word_of_other : (q h : ℕ) (k : JobSlot) (x : Placed) (i : ℕ) → q ≢ h → word_at (Move q k) h x i ≡ x.place + i
 word_of_other q h k x i ne = (let f = eq_no q h ne in rw f)
 
@@ -68,7 +68,7 @@ apart_words : (a n b m i k : ℕ) → IsDisjoint a n b m → i < n → k < m →
 apart_words a n b m i k (inl l) x y e = omega arith
 apart_words a n b m i k (inr r) x y e = omega arith
 
--- no two words of objects stand at one address
+-- no two words of objects have one address
 pub own_words_at : (p : Paging) (m : Held) (j : Job) → AreApart p m (job_slot j) → ((k : JobSlot) (h : ℕ) (x : Placed) → j ≡ Move h k → get m h ≡ Some x
     → class_at p x ≡ k.class)
     → (h : ℕ) (x : Placed) (q : ℕ) (y : Placed) → get m h ≡ Some x → get m q ≡ Some y → (i : ℕ) → i < slot_for p (length x.bytes)

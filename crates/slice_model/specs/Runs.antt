@@ -22,7 +22,7 @@ pub record Part : Type 0 where
   pub number : ℕ
   pub from : ℕ
 
--- A call with its answer: a malloc of so many bytes, a free, a slice, a write and a read. Of a free and a write None says that it was done.
+-- A call with its result: a malloc of so many bytes, a free, a slice, a write and a read. Of a free and a write None means that it was done.
 pub data Event : Type 0 where
   Malloc : ℕ → Result Handle SliceRefusal → Event
   Free : ℕ → Option SliceFault → Event
@@ -45,12 +45,12 @@ abbrev pub words_of_slice : Plan → Option JobSlot → ℕ
 words_of_slice plan None = 0
 words_of_slice plan (Some k) = min plan.quantum (slot_words plan.paging k.class - k.done)
 
--- the object comes, and its header is written where it stands
+-- the object is added, and its header is written at its address
 pub record Mallocs (plan : Plan) (old : Working) (asked : Request) (new : Working) : Type 0 where
   pub gives : GivesObject plan old.state asked new.state
   pub words : Rewrites old.words new.words (record { from = gives.place; count = 1 }) (λ _. header_word asked.number asked.length)
 
--- the object goes, and the first slice of its job is done
+-- the object is removed, and the first slice of its job is done
 pub record Frees (plan : Plan) (old : Working) (h : ℕ) (new : Working) : Type 0 where
   pub removes : RemovesObject plan old.state h new.state
   pub words : DoesWords removes.begun.held removes.begun.job (words_of_slice plan (job_slot removes.begun.job)) old.words new.words
@@ -60,7 +60,7 @@ pub record Slices (plan : Plan) (old new : Working) : Type 0 where
   pub slice : IsSlice plan old.state new.state
   pub words : DoesWords old.state.held old.state.job (words_of_slice plan (job_slot old.state.job)) old.words new.words
 
--- bytes of the object are written, in the words that hold one of them, where these stand
+-- bytes of the object are written, in the words that hold one of them, wherever these lie
 pub record Writes (old : Working) (part : Part) (bytes : List ℕ) (new : Working) : Type 0 where
   pub object : Placed
   pub found : get old.state.held part.number ≡ Some object
@@ -72,7 +72,7 @@ pub record Writes (old : Working) (part : Part) (bytes : List ℕ) (new : Workin
   pub words : RewritesObject old.state.job part.number object (written object.bytes part.from bytes)
       (record { from = 1 + part.from / 8; count = (part.from % 8 + length bytes + 7) / 8 }) old.words new.words
 
--- bytes of the object are read from the words that hold them, where these stand
+-- bytes of the object are read from the words that hold them, wherever these lie
 pub record Reads (old : Working) (part : Part) (count : ℕ) (out : List ℕ) : Type 0 where
   pub object : Placed
   pub found : get old.state.held part.number ≡ Some object
@@ -163,7 +163,7 @@ abbrev pub RunsOnMap : Objects → List Turn → Objects → Type 0
 RunsOnMap old [] new = new ≡ old
 RunsOnMap old (turn ∷ rest) new = (mid : Objects) × HappensOnMap old turn.event mid × RunsOnMap mid rest new
 
--- Between two calls: what every state keeps, and the words that go with it.
+-- Between two calls: what every state keeps, and its words.
 pub record IsConsistent (plan : Plan) (w : Working) : Type 0 where
   pub kept : IsKept plan w.state
   pub words : HasWords plan.paging w.state w.words

@@ -29,13 +29,13 @@ pub record Sliced : Type 0 where
   pub held : Held
   pub job : Job
 
--- the slot that the job holds, where there is a job
+-- the slot that the job holds, if there is a job
 abbrev pub job_slot : Job → Option JobSlot
 job_slot Idle = None
 job_slot (Clear k) = Some k
 job_slot (Move h k) = Some k
 
--- the same job, with so many words done
+-- the same job, with n words done
 abbrev pub advanced : Job → ℕ → Job
 advanced Idle d = Idle
 advanced (Clear k) d = Clear (record k { done = d })
@@ -49,11 +49,11 @@ left_of_slot p (Some k) = slot_words p k.class - k.done
 abbrev pub left_of : Plan → Sliced → ℕ
 left_of plan s = left_of_slot plan.paging (job_slot s.job)
 
--- what stands for the job in its slot: as many zeros as fill a slot of its class
+-- the placeholder of the job in its slot: zeros that fill a slot of its class
 abbrev pub stand_in : Paging → JobSlot → Placed
 stand_in p k = record { place = k.address; bytes = replicate (8 * (slot_words p k.class - 1)) 0 }
 
--- the objects, and at the job's slot its stand-in, under the first number that no object can have
+-- the objects, and at the job's slot its placeholder, under the first number that no object can have
 abbrev pub with_slot : Plan → Held → Option JobSlot → Held
 with_slot plan m None = m
 with_slot plan m (Some k) = insert m plan.proxies (stand_in plan.paging k)
@@ -86,7 +86,7 @@ IsUnheld s a = (k : JobSlot) → job_slot s.job ≡ Some k → k.address ≢ a
 abbrev pub IsJobPage : Paging → Sliced → ℕ → ℕ → Type 0
 IsJobPage p s c page = (k : JobSlot) × (job_slot s.job ≡ Some k) × (page_of p k.address ≡ page) × (k.class ≡ c)
 
--- A slot of class c is usable: no object stands in it, the job doesn't hold it, and its page holds an object of the class or is the job's.
+-- A slot of class c is usable: no object has it, the job doesn't hold it, and its page holds an object of the class or is the job's.
 pub record IsUsable (p : Paging) (s : Sliced) (c a : ℕ) : Type 0 where
   pub slot : IsSlotAt p c a
   pub empty : (q : ℕ) (y : Placed) → get s.held q ≡ Some y → y.place ≢ a
@@ -104,12 +104,12 @@ pub record NoPlace (p : Paging) (s : Sliced) (c : ℕ) : Type 0 where
   pub unusable : (a : ℕ) → ¬ IsUsable p s c a
   pub taken : (page : ℕ) → ¬ IsFreePage p s page
 
--- an object of class c goes to this address: a usable slot, or where there is none a slot of a free page
+-- an object of class c gets this address: of a usable slot, or if there is none of a slot of a free page
 pub record IsPlaceFor (p : Paging) (s : Sliced) (c a : ℕ) : Type 0 where
   pub slot : IsSlotAt p c a
   pub choice : IsUsable p s c a ⊎ (((b : ℕ) → ¬ IsUsable p s c b) × IsFreePage p s (page_of p a))
 
--- What the objects alone are like beside a job: the slot's page is of its class, and has but one slot free where a second page is partly full.
+-- What the objects alone are like beside a job: the slot's page is of its class, and has but one slot free if a second page is partly full.
 pub record StandBeside (p : Paging) (m : Held) (k : JobSlot) : Type 0 where
   pub address : (h : ℕ) (x : Placed) → get m h ≡ Some x → x.place ≢ k.address
   pub class : (h : ℕ) (x : Placed) → get m h ≡ Some x → page_of p x.place ≡ page_of p k.address → class_at p x ≡ k.class

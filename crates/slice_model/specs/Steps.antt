@@ -13,7 +13,7 @@ use Rattle.slice_model.specs.declared.answers.SliceRefusal.TheVariants as refusa
 use Rattle.slice_model.specs.declared.answers.SliceFault.{SliceFault}
 use Rattle.slice_model.specs.declared.answers.SliceFault.TheVariants as fault
 
--- so many zeros come under a number that wasn't in use; the job stays
+-- zeros are added under a number that wasn't in use; the job stays
 pub record GivesObject (plan : Plan) (old : Sliced) (asked : Request) (new : Sliced) : Type 0 where
   pub fits : need asked.length ≤ plan.paging.page_words
   pub few : len old.held < plan.proxies
@@ -53,22 +53,22 @@ abbrev pub IsMalloc : Plan → Sliced → ℕ → Result Handle SliceRefusal →
 IsMalloc plan old bytes (Ok h) new = GivesObject plan old (record { number = h.0; length = bytes }) new
 IsMalloc plan old bytes (Err e) new = IsRefusedBy plan old bytes e × (new ≡ old)
 
--- a slot of class c, of which nothing is done
+-- a slot of class c, with nothing done
 abbrev pub fresh_slot : ℕ → ℕ → JobSlot
 fresh_slot a c = record { address = a; class = c; done = 0 }
 
--- object q gets the address a, and is to be carried there from the slot of class c where it stood
+-- object q gets the address a, and is to be carried there from its old slot of class c
 pub record Carries (m : Held) (q a c : ℕ) (new : Sliced) : Type 0 where
   pub object : Placed
   pub found : get m q ≡ Some object
   pub whole : new ≡ record { held = insert m q (record { place = a; bytes = object.bytes }); job = Move q (fresh_slot object.place c) }
 
--- the slot of class c at a is vacant: the object that moves is to be carried there, and where none does the slot is to be cleared
+-- the slot of class c at a is vacant: the object that moves is to be carried there; if none moves, the slot is to be cleared
 abbrev pub Vacates : Held → ℕ → ℕ → Option ℕ → Sliced → Type 0
 Vacates m a c None new = new ≡ record { held = m; job = Clear (fresh_slot a c) }
 Vacates m a c (Some q) new = Carries m q a c new
 
--- object q, of class c, stands on another partly full page than that of address a
+-- object q, of class c, lies on another partly full page than address a
 pub record IsBeside (p : Paging) (m : Held) (a c q : ℕ) : Type 0 where
   pub object : Placed
   pub found : get m q ≡ Some object
@@ -83,7 +83,7 @@ pub record Chains (p : Paging) (m : Held) (k : JobSlot) (new : Sliced) : Type 0 
   pub beside : IsBeside p m k.address k.class object
   pub carries : Carries m object k.address k.class new
 
--- the job is done: there is none, or the next one where two pages of the class are partly full
+-- the job is done: there is none, or the next one if two pages of the class are partly full
 abbrev pub Ends : Paging → Held → JobSlot → Sliced → Type 0
 Ends p m k new = ((not_full_pages p m k.class ≢ 2) × (new ≡ record { held = m; job = Idle })) ⊎ Chains p m k new
 
@@ -101,7 +101,7 @@ pub record IsDone (plan : Plan) (old : Sliced) (k : JobSlot) (new : Sliced) : Ty
   pub all : done_after plan k ≡ slot_words plan.paging k.class
   pub ends : Ends plan.paging old.held k new
 
--- a slice does so many words of the job, and where there is none nothing
+-- a slice does n words of the job, and nothing if there is none
 abbrev pub SliceOf : Plan → Sliced → Option JobSlot → Sliced → Type 0
 SliceOf plan old None new = new ≡ old
 SliceOf plan old (Some k) new = GoesOn plan old k new ⊎ IsDone plan old k new
@@ -109,7 +109,7 @@ SliceOf plan old (Some k) new = GoesOn plan old k new ⊎ IsDone plan old k new
 abbrev pub IsSlice : Plan → Sliced → Sliced → Type 0
 IsSlice plan old new = SliceOf plan old (job_slot old.job) new
 
--- so many slices, one after the other
+-- slices, one after the other
 abbrev pub AreSlices : Plan → ℕ → Sliced → Sliced → Type 0
 AreSlices plan zero old new = new ≡ old
 AreSlices plan (suc n) old new = (mid : Sliced) × IsSlice plan old mid × AreSlices plan n mid new
@@ -118,7 +118,7 @@ AreSlices plan (suc n) old new = (mid : Sliced) × IsSlice plan old mid × AreSl
 abbrev pub IsOver : JobSlot → Job → Type 0
 IsOver k j = (j ≡ Idle) ⊎ ((h : ℕ) × (g : JobSlot) × (j ≡ Move h g) × (g.class ≡ k.class) × (g.done ≡ 0))
 
--- The object goes; the slot that is vacant then, its own or that of the object that moves, is the job's. One slice follows.
+-- The object is removed; the slot that is vacant then, its own or that of the object that moves, is the job's. One slice follows.
 pub record RemovesObject (plan : Plan) (old : Sliced) (h : ℕ) (new : Sliced) : Type 0 where
   pub idle : old.job ≡ Idle
   pub freed : Placed

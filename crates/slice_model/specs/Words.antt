@@ -7,7 +7,7 @@ use Rattle.page_model.specs.Image.{IsOutside, IsOutsideOf, WordRange, Clears, Mo
 use Rattle.page_model.specs.Bytes.{byte_of}
 use Rattle.slice_model.specs.State.{JobSlot, Job, Sliced, job_slot, Idle, Clear, Move}
 
--- Where word i of object h stands. Of an object in motion the words that the job has yet to do stand in the job's slot; every other word stands at the
+-- The address of word i of object h. Of an object in motion the words that the job has yet to do lie in the job's slot; every other word lies at the
 -- object's address.
 abbrev pub word_at : Job → ℕ → Placed → ℕ → ℕ
 word_at Idle h x i = x.place + i
@@ -18,7 +18,7 @@ word_at (Move q k) h x i = if nat_eq q h && nat_le k.done i then k.address + i e
 abbrev pub IsOutsideJob : Paging → Job → ℕ → Type 0
 IsOutsideJob p j w = (k : JobSlot) → job_slot j ≡ Some k → IsOutside k.address (slot_words p k.class) w
 
--- The words of each object stand where they must; what is done of the job's slot is zeros, and so is every word outside of all slots.
+-- The words of each object are at these addresses; the words of the job's slot that are done are zeros, and so is every word outside of all slots.
 pub record HasWords (p : Paging) (s : Sliced) (words : List ℕ) : Type 0 where
   pub held : (h : ℕ) (x : Placed) → get s.held h ≡ Some x → (i : ℕ) → i < slot_for p (length x.bytes)
       → slice_index words (word_at s.job h x i) ≡ object_word h x.bytes i
@@ -35,13 +35,13 @@ IsClosed p m Idle w = ⊤
 IsClosed p m (Clear k) w = IsBehind p k k.address w
 IsClosed p m (Move h k) w = IsBehind p k k.address w × ((x : Placed) → get m h ≡ Some x → IsBehind p k x.place w)
 
--- n words of the job are done in the region: they are cleared, or go from the job's slot to the object's address
+-- n words of the job are done in the region: they are cleared, or moved from the job's slot to the object's address
 abbrev pub DoesWords : Held → Job → ℕ → List ℕ → List ℕ → Type 0
 DoesWords m Idle n old new = new ≡ old
 DoesWords m (Clear k) n old new = Clears old new (record { from = k.address + k.done; count = n })
 DoesWords m (Move h k) n old new = (x : Placed) × (get m h ≡ Some x) × MovesWords old new (record { from = k.address + k.done; count = n }) (x.place + k.done)
 
--- the words of object h in the part become those of the bytes v, where they stand, and every other word stays
+-- the words of object h in the part become those of the bytes v, wherever they lie, and every other word stays
 pub record RewritesObject (j : Job) (h : ℕ) (x : Placed) (v : List ℕ) (part : WordRange) (old new : List ℕ) : Type 0 where
   pub within : (i : ℕ) → i < part.count → slice_index new (word_at j h x (part.from + i)) ≡ object_word h v (part.from + i)
   pub others : (w : ℕ) → ((i : ℕ) → i < part.count → word_at j h x (part.from + i) ≢ w) → slice_index new w ≡ slice_index old w

@@ -16,8 +16,8 @@ pub fn a_job_advances_by_its_slices()
         → new.state.job ≡ advanced old.state.job (k.done + steps_in turns * plan.quantum) }
 {}
 
-/// A job, a chained one too, ends with the slice that makes them as many as its words left over the
-/// quantum, rounded up, whatever else is called between.
+/// A job, a chained one too, ends after its words left over the quantum, rounded up, in slices, whatever
+/// else is called in between.
 pub fn a_job_ends_after_its_words_over_the_quantum()
     ensures { (plan : Plan) (turns : List Turn) (old mid new : Working) (k : JobSlot) → IsPlan plan
         → job_slot old.state.job ≡ Some k → k.done < slot_words plan.paging k.class → Runs plan old turns mid
@@ -25,7 +25,7 @@ pub fn a_job_ends_after_its_words_over_the_quantum()
         → Happens plan mid Step new → IsOver k new.state.job }
 {}
 
-/// Where nothing else is called between, one more job follows at most: no job is pending after the
+/// If nothing else is called in between, at most one more job follows: no job is pending after the
 /// slices of both.
 pub fn slices_alone_end_every_job()
     ensures { (plan : Plan) (old new : Sliced) (k : JobSlot) → IsPlan plan → IsKept plan old → job_slot old.job ≡ Some k
@@ -33,9 +33,9 @@ pub fn slices_alone_end_every_job()
         → new.job ≡ Idle }
 {}
 
-/// After a free that is done, and before another one is, no job is pending any more after as many
-/// slices as the free's slot takes, the free's own among them, and as many again for each malloc of
-/// the class that is done between.
+/// After a successful free and before the next one, no job is pending once the slices number those of
+/// the free's slot, its own first one included, and that number again for each malloc of the class in
+/// between.
 pub fn each_malloc_between_prolongs_a_job_once()
     ensures { (plan : Plan) (old freed new : Working) (h : ℕ) (x : Placed) (turns : List Turn) → IsPlan plan → IsConsistent plan old
         → get old.state.held h ≡ Some x → Happens plan old (Free h None) freed → Runs plan freed turns new → frees_in turns ≡ 0
@@ -43,7 +43,7 @@ pub fn each_malloc_between_prolongs_a_job_once()
         → new.state.job ≡ Idle }
 {}
 
-/// Where nothing else is called between, a malloc that had to wait is done after the slices of both.
+/// If nothing else is called in between, a malloc that had to wait is done after the slices of both.
 pub fn a_waiting_malloc_is_done_after_the_slices()
     ensures { (plan : Plan) (old new : Sliced) (bytes : ℕ) (k : JobSlot) → IsPlan plan → IsKept plan old
         → WantsSlot plan old bytes → job_slot old.job ≡ Some k

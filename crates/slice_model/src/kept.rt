@@ -25,7 +25,7 @@ pub fn a_free_keeps_the_rules()
         → RemovesObject plan old h new → IsKept plan new }
 {}
 
-/// So does a slice, where it ends the job and where another job follows too.
+/// So does a slice, also if it ends the job and if another job follows.
 pub fn a_slice_keeps_the_rules()
     ensures { (plan : Plan) (old new : Sliced) → IsPlan plan → IsKept plan old
         → IsSlice plan old new → IsKept plan new }
@@ -38,11 +38,10 @@ pub fn a_write_keeps_the_rules()
         → IsKept plan (record old { held = insert old.held h (record { place = x.place; bytes = bytes }) }) }
 {}
 
-/// What the rules say of the objects alone. Each stands in a slot of its class, no two at one
-/// address, those of one page in one class. Without a job their arrangement is sound. With one no
-/// object stands in the job's slot, and all others on its page are of its class. Each other class
-/// has one partly full page at most. The job's has at most two, and where it has two only the job's
-/// slot is free on its page.
+/// What the rules require of the objects alone. Each has a slot of its class, no two one address, and
+/// those of one page one class. Without a job their arrangement is sound. With one no object has the
+/// job's slot, and all others on its page are of its class. Each other class has one partly full page
+/// at most. The job's has at most two; if it has two, only the job's slot is free on its page.
 pub fn what_the_rules_say_of_pages()
     ensures slots { (plan : Plan) (s : Sliced) (h : ℕ) (x : Placed) → IsPlan plan → IsKept plan s
         → get s.held h ≡ Some x → IsSlotAt plan.paging (class_at plan.paging x) x.place }

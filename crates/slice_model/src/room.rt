@@ -11,13 +11,13 @@ ghost use Rattle.slice_model.specs.Steps.{GivesObject, IsFaultOf, IsRefusedBy, I
 ghost use Rattle.slice_model.specs.declared.answers.SliceFault.{SliceFault};
 ghost use Rattle.slice_model.specs.declared.answers.SliceRefusal.{SliceRefusal};
 
-/// A malloc has to wait only where a job is pending: without one, lack of a place is the sum that is
-/// over.
+/// A malloc has to wait only if a job is pending: without one, there is no place only if the pages
+/// needed are more than there are.
 pub fn a_malloc_waits_for_a_job_alone()
     ensures { (plan : Plan) (s : Sliced) (bytes : ℕ) → IsPlan plan → IsKept plan s → WantsSlot plan s bytes → s.job ≢ Idle }
 {}
 
-/// Where a slot is usable, or a page free, the pages that are needed with the new object are within
+/// If a slot is usable, or a page free, the pages that are needed with the new object are at most
 /// those that there are.
 pub fn a_place_is_within_the_sum()
     ensures slot { (plan : Plan) (s : Sliced) (bytes a : ℕ) → IsPlan plan → IsKept plan s → need bytes ≤ plan.paging.page_words
@@ -28,14 +28,14 @@ pub fn a_place_is_within_the_sum()
         → pages_needed_with plan.paging (objects s.held) bytes ≤ plan.paging.pages }
 {}
 
-/// There is no place exactly where the pages are too few with the job's slot as one more object.
+/// There is no place if and only if the pages are too few with the job's slot as one more object.
 pub fn a_malloc_waits_exactly_by_arithmetic()
     ensures { (plan : Plan) (s : Sliced) (bytes : ℕ) → IsPlan plan → IsKept plan s → need bytes ≤ plan.paging.page_words
         → NoPlace plan.paging s (class_for plan.paging bytes)
         ↔ (plan.paging.pages < pages_needed_with plan.paging (objects (occupied plan s)) bytes) }
 {}
 
-/// Where a page more than are needed is there, no malloc has to wait.
+/// If there is a page more than are needed, no malloc has to wait.
 pub fn a_spare_page_never_waits()
     ensures { (plan : Plan) (s : Sliced) (bytes : ℕ) → IsPlan plan → IsKept plan s
         → pages_needed_with plan.paging (objects s.held) bytes < plan.paging.pages → ¬ WantsSlot plan s bytes }

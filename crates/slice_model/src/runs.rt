@@ -5,8 +5,8 @@ ghost use Rattle.page_model.specs.Held.{objects};
 ghost use Rattle.slice_model.specs.Runs.{Event, Happens, HappensOnMap, IsConsistent, Runs, RunsOnMap, Turn, Working};
 ghost use Rattle.slice_model.specs.State.{Idle, IsPlan, Plan};
 
-/// Over every list of calls of several tasks, and wherever slices of the jobs stand between them,
-/// mallocs, frees, reads and writes are those of one map of objects: so a read gives the bytes last
+/// Over every list of calls of several tasks, with slices of the jobs anywhere in between, mallocs,
+/// frees, reads and writes are those of one map of objects: so a read returns the bytes last
 /// written, also of an object in motion. The heap and its words stay consistent.
 pub fn calls_of_all_tasks_are_those_of_one_map()
     ensures { (plan : Plan) (old : Working) (turns : List Turn) (new : Working) → IsPlan plan → IsConsistent plan old

@@ -11,9 +11,8 @@ ghost use Rattle.slice_model.specs.State.{Idle, IsKept, IsPlan, JobSlot, Move, P
 ghost use Rattle.slice_model.specs.Steps.{GivesObject, IsSlice, RemovesObject};
 ghost use Rattle.slice_model.specs.Words.{DoesWords, HasWords, IsClosed, RewritesObject, byte_read};
 
-/// Without a job the words are the image of the objects. With one they are, where the job leaves no
-/// word open; and the words of an object in motion that are yet to be carried stand in the job's
-/// slot.
+/// Without a job the words are the image of the objects. With one every word is that the job does not
+/// hold open; and the words of an object in motion that are yet to be carried lie in the job's slot.
 pub fn words_are_the_image_but_for_the_job()
     ensures idle { (p : Paging) (m : Held) (words : List ℕ)
         → HasWords p (record { held = m; job = Idle }) words ↔ IsSlotImage p m words }
@@ -27,7 +26,7 @@ pub fn words_are_the_image_but_for_the_job()
 {}
 
 /// A malloc writes a header, a free and a slice do words of the job, and a write changes the words
-/// that hold one of its bytes where these stand: then the words are those of the new state.
+/// that hold one of its bytes, wherever these lie: then the words are those of the new state.
 pub fn words_after_each_call()
     ensures malloc { (plan : Plan) (old : Sliced) (words after : List ℕ) (asked : Request) (new : Sliced) → IsPlan plan → IsKept plan old
         → HasWords plan.paging old words → (g : GivesObject plan old asked new)
@@ -49,7 +48,7 @@ pub fn words_after_each_call()
         (record old { held = insert old.held h (record { place = x.place; bytes = written x.bytes at bytes }) }) after }
 {}
 
-/// A byte of an object is read from the word that holds it, where that stands: of an object in
+/// A byte of an object is read from the word that holds it, wherever that lies: of an object in
 /// motion in the half that the job has done, or in the one that it has yet to do.
 pub fn bytes_are_read_where_they_stand()
     ensures { (plan : Plan) (s : Sliced) (words : List ℕ) (h : ℕ) (x : Placed) (k : ℕ) → IsPlan plan → IsKept plan s

@@ -12,12 +12,12 @@ use Rattle.page_model.specs.Bytes.{AreBytes, written}
 use Rattle.page_model.specs.Held.{Placed}
 use Rattle.page_model.specs.Image.{header_word}
 use Rattle.page_model.specs.Paging.{class_for}
-use Rattle.page_model.proofs.CallerLemmas.{slot_inside}
+use Rattle.page_model.proofs.CallerLemmas.{bytes_held, slot_inside}
 use Rattle.slice_model.specs.Runs.{Event, Happens, Malloc, Free, Step, Write}
 use Rattle.slice_model.specs.State.{Idle, IsKept, Plan, Sliced}
 use Rattle.slice_model.specs.declared.answers.SliceFault.{SliceFault}
 use Rattle.slice_model.specs.declared.answers.SliceRefusal.{SliceRefusal}
-use Rattle.slice_model.proofs.CallerLemmas.{answered, bytes_there, free_answered, kept_begun, slice_there}
+use Rattle.slice_model.proofs.CallerLemmas.{answered, free_answered, kept_begun, slice_there}
 use Rattle.sliced_heap.specs.Shown.{KeepsRules, SlicedState, plan_in, working_in}
 use Rattle.slice_session.specs.SliceRun.{Does}
 use Rattle.slice_session.proofs.WordsThere.{does_there, rewrites_there, written_there}
@@ -85,7 +85,7 @@ module _ (s : SlicedState) (rules : KeepsRules s) where
       | inl past ↦ (
         Some access.Range,
         s,
-        stands (Write (record { number = h; from = from }) bytes (Some access.Range)) ((x.bytes, bytes_there s.held h x found, past), refl),
+        stands (Write (record { number = h; from = from }) bytes (Some access.Range)) ((x.bytes, bytes_held s.held h x found, past), refl),
       )
       | inr within ↦ (
           let v = written x.bytes from bytes in

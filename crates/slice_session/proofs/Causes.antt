@@ -1,4 +1,4 @@
--- What a reply tells of the cause of a refusal.
+-- The cause of a refusal by its reply.
 use Rattle.std.proofs.Common.{◌≡◌, ◌≢◌, ℕ, List, [], ◌∷◌, Some, None, get_or, refl, sym, ◌∙◌, ap, subst}
 use Rattle.std.specs.Prelude.{Option, Result, Ok, Err, codes, nat_eq, if◌then◌else◌}
 use Rattle.std.specs.Option.{MatchOption}
@@ -34,7 +34,7 @@ heap_same old new s is = ap (λ b. heap_by b new.profile new.quantum (working_in
     ∙ ap (λ p. heap_by old.is_open p new.quantum (working_in new)) s.profile
     ∙ ap (λ q. heap_by old.is_open old.profile q (working_in new)) s.quantum ∙ ap (heap_by old.is_open old.profile old.quantum) is
 
--- the refusal that a text tells of: by one of its letters
+-- the refusal of a text: by one of its letters
 abbrev refusal_in : List ℕ → Option SliceRefusal
 refusal_in t = if nat_eq (get_or t 9 0) 105 then Some refusal.Size else (if nat_eq (get_or t 9 0) 114 then Some refusal.Proxy
     else (if nat_eq (get_or t 9 0) 112 then Some refusal.Space else (if nat_eq (get_or t 0 0) 98 then Some refusal.Busy else None)))
@@ -108,7 +108,7 @@ module _ (old new : SliceRun) (id : ℕ) where
       let ids : new.ids ≡ old.ids = f.ids ∙ ap (ids_without old.ids id) is in
       (d.happens.0, ap₂ slice_run ids (heap_same old.heap new.heap d.stays d.happens.1))
 
-  -- where there is a cause, it is the one that is told
+  -- a cause that holds is the one of the reply
   pub cause_told : (n : ℕ) (e : SliceRefusal) (reply : Reply) → IsGoingSliced old → get old.ids id ≡ None
       → IsRefusedBy (plan_in old.heap) (working_in old.heap).state n e → SliceStep old (command.Malloc id n) reply new
       → reply ≡ said (slice_malloc_text (Err e))

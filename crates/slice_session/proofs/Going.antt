@@ -1,5 +1,5 @@
--- A run over a sliced heap goes on after each command, and each command does to the ids and the objects that they name what it has to.
-use Rattle.std.proofs.Common.{◌≡◌, ◌∙◌, ◌*◌, ℕ, List, Some, None, false, sym, ap, ap₂, refl, subst, inl, inr}
+-- A run over a sliced heap goes on after each command; and what each command does to the ids and the objects that they name.
+use Rattle.std.proofs.Common.{◌≡◌, ◌∙◌, ◌*◌, ℕ, List, Some, None, sym, ap, ap₂, refl, subst, inl, inr}
 use Rattle.std.specs.Prelude.{IsTrue, Bool, Option, Result, Ok, Err, codes, option_map}
 use Rattle.std.specs.Option.{MatchOption}
 use Rattle.std.specs.FinMap.{get}
@@ -14,8 +14,7 @@ use Rattle.id_table.specs.Ids.{Ids}
 use Rattle.page_model.specs.Held.{Placed, objects}
 use Rattle.page_model.specs.Paging.{first_bounds, paging_of}
 use Rattle.run_laws.specs.Told.{is_ok, read_told}
-use Rattle.run_laws.proofs.CallerLemmas.{IsSame, Named, NamedTurn, Refuses, bytes_of, still_tied, through}
-use Rattle.run_model.specs.Replies.{read_text}
+use Rattle.run_laws.proofs.CallerLemmas.{Named, NamedTurn, bytes_of, read_same, refuses, same_named, still_tied, through}
 use Rattle.script_reader.specs.declared.command.Command.{Command}
 use Rattle.script_reader.specs.declared.command.Command.TheVariants as command
 use Rattle.id_table.specs.Ties.{AreTiedTo}
@@ -68,18 +67,7 @@ going_before ids inside same heap opened rules tied = record {
 abbrev pub named : SliceRun → Named
 named s = record { ids = s.ids; objects = live_in s }
 
--- what a read tells of an object is what is told of its bytes
-text_same : (o : Option Placed) (from count : ℕ) → read_text o from count ≡ read_told (option_map (λ (x : Placed). x.bytes) o) from count
-text_same None from count = refl
-text_same (Some x) from count = refl
-
 module _ (old new : SliceRun) (going : IsGoingSliced old) (reply : Reply) where
-  same : new ≡ old → IsSame (named old) (named new)
-  same is = record { ids = ap (λ (s : SliceRun). s.ids) is; objects = ap live_in is }
-
-  refuses : (text : List ℕ) → is_ok (said text) ≡ false → reply ≡ said text → IsSame (named old) (named new) → Refuses (named old) reply (named new)
-  refuses text fails is rest = record { told = ap is_ok is ∙ fails; same = rest }
-
   on_map : (event : Event) → Does old.heap event new.heap → HappensOnMap (live_in old) event (live_in new)
   on_map event d = (done_on_map old.heap new.heap going.rules event d).0
 
@@ -108,19 +96,19 @@ module _ (old new : SliceRun) (going : IsGoingSliced old) (reply : Reply) where
 
   malloc_at : (o : Option ℕ) (id n : ℕ) → get old.ids id ≡ o → MatchOption o (MallocsSliced old id n reply new) (λ h. StaysSliced old (codes "live") reply new)
       → NamedTurn (named old) (command.Malloc id n) reply (named new)
-  malloc_at (Some h) id n is (told, rest) = inr (refuses (codes "live") refl told (same rest))
+  malloc_at (Some h) id n is (told, rest) = inr (refuses (codes "live") refl told (same_named named rest))
   malloc_at None id n is m = malloc_turn id n m.answer is (on_map (Malloc n m.answer) m.does) m.ids m.reply_is
 
   free_at : (o : Option ℕ) (id : ℕ) → get old.ids id ≡ o
       → MatchOption o (StaysSliced old (codes "unknown") reply new) (λ h. FreesSliced old id h reply new)
       → NamedTurn (named old) (command.Free id) reply (named new)
-  free_at None id is (told, rest) = inr (refuses (codes "unknown") refl told (same rest))
+  free_at None id is (told, rest) = inr (refuses (codes "unknown") refl told (same_named named rest))
   free_at (Some h) id is f = free_turn id h f.answer is (on_map (Free h f.answer) f.does) f.ids f.reply_is
 
   write_at : (o : Option ℕ) (id from : ℕ) (bytes : List ℕ) → get old.ids id ≡ o
       → MatchOption o (StaysSliced old (codes "unknown") reply new) (λ h. WritesSliced old h from bytes reply new)
       → NamedTurn (named old) (command.Write id from bytes) reply (named new)
-  write_at None id from bytes is (told, rest) = inr (refuses (codes "unknown") refl told (same rest))
+  write_at None id from bytes is (told, rest) = inr (refuses (codes "unknown") refl told (same_named named rest))
   write_at (Some h) id from bytes is w = write_turn id h from bytes w.answer is
       (on_map (Write (record { number = h; from = from }) bytes w.answer) w.does) w.ids w.reply_is
 
@@ -139,11 +127,11 @@ module _ (old new : SliceRun) (going : IsGoingSliced old) (reply : Reply) where
   turn_named (command.Write id from bytes) step = write_at (get old.ids id) id from bytes refl step
   turn_named command.Slice step = record { ids = step.ids; objects = on_map Step step.does }
   turn_named (command.Read id from count) step = (
-    step.0 ∙ ap said (text_same (sliced_object_of old id) from count ∙ ap (λ (o : Option (List ℕ)). read_told o from count) (bytes_same id)),
-    same step.1,
+    step.0 ∙ ap said (read_same (sliced_object_of old id) from count ∙ ap (λ (o : Option (List ℕ)). read_told o from count) (bytes_same id)),
+    same_named named step.1,
   )
-  turn_named (command.Resize id n) step = inr (refuses (codes "none") refl step.0 (same step.1))
-  turn_named c step = same step.1
+  turn_named (command.Resize id n) step = inr (refuses (codes "none") refl step.0 (same_named named step.1))
+  turn_named c step = same_named named step.1
 
   -- a call leaves the heap open, with its rules
   open_after : (event : Event) → Does old.heap event new.heap → IsTrue new.heap.is_open × KeepsRules new.heap

@@ -7,3 +7,4 @@ pub mod Turns
 pub mod ReadBack
 pub mod Causes
 pub mod Plays
+pub mod CallerLemmas

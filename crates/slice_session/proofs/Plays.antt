@@ -1,11 +1,11 @@
--- What a player answers is a run of its session.
+-- The replies of the mode handler are those of a run of its session.
 use Rattle.std.proofs.Common.{List, None}
 use Rattle.std.specs.Prelude.{Option, option_map}
 use Rattle.cf_io.specs.Texts.{Reply}
 use Rattle.run_model.proofs.CallerLemmas.{run_seen}
 use Rattle.script_loop.specs.Semantics.{RunBy}
 use Rattle.script_reader.specs.Items.{Item}
-use Rattle.session_model.specs.Applying.{TurnsInPart}
+use Rattle.script_loop.specs.Applying.{TurnsInPart}
 use Rattle.slice_session.specs.Playing.{BeginsSlices, RunsSliced, SlicePlay, run_of_play, slices}
 use Rattle.slice_session.specs.SliceRun.{SliceStep}
 

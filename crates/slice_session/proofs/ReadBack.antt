@@ -1,4 +1,4 @@
--- Over a run, reads give the bytes that the lines and their replies tell of.
+-- In a run, reads return the bytes that follow from the lines and their replies.
 use Rattle.std.proofs.Common.{ℕ, List, Option, None}
 use Rattle.cf_io.specs.Texts.{Reply}
 use Rattle.run_laws.specs.Told.{AreReadsOf}

@@ -1,5 +1,5 @@
--- What a command of a session over a sliced heap did and told, put together.
-use Rattle.std.proofs.Common.{◌≡◌, ◌∙◌, ◌+◌, ◌≤◌, ◌<◌, ℕ, ◌++◌, List, Option, Result, Ok, Err, length, take, drop, Some, None, ap, refl, sym}
+-- What a command of a session over a sliced heap did and what was written of its reply, together.
+use Rattle.std.proofs.Common.{◌≡◌, ◌∙◌, ◌<◌, ℕ, ◌++◌, List, Option, Result, Ok, Err, length, take, drop, Some, None, ap, refl, sym}
 use Rattle.std.specs.Prelude.{codes, option_map}
 use Rattle.std.specs.FinMap.{get}
 use Rattle.hex.specs.Hex.{encode_lower}
@@ -8,16 +8,17 @@ use Rattle.cf_base.specs.declared.answers.AccessFault.TheVariants as access
 use Rattle.cf_base.specs.declared.answers.Failed.{Failed}
 use Rattle.cf_io.specs.Lines.{line_room}
 use Rattle.cf_io.specs.Texts.{said, with_number}
-use Rattle.cf_lemmas.proofs.Tests.{le_no, le_yes}
 use Rattle.cf_lemmas.proofs.MapValues.{get-map_values}
+use Rattle.cf_session.proofs.CallerLemmas.{read_past, read_within}
 use Rattle.cf_session.specs.declared.outcome.Outcome.{Outcome}
 use Rattle.id_table.specs.Ids.{Ids}
 use Rattle.page_model.specs.Held.{Held, Placed, objects}
+use Rattle.run_model.proofs.CallerLemmas.{held_of_bytes}
 use Rattle.run_model.specs.Replies.{read_text, write_text}
 use Rattle.script_loop.specs.Semantics.{snapshot}
 use Rattle.script_reader.specs.declared.command.Command.{Command}
 use Rattle.script_reader.specs.declared.command.Command.TheVariants as command
-use Rattle.session_model.specs.Applying.{Applies, Speaks, TurnsInPart}
+use Rattle.script_loop.specs.Applying.{Applies, Speaks}
 use Rattle.slice_model.specs.Runs.{Happens, IsOutOfReach, Read, Step}
 use Rattle.slice_model.specs.State.{left_of}
 use Rattle.slice_model.proofs.CallerLemmas.{call_on_map}
@@ -28,10 +29,6 @@ use Rattle.slice_session.proofs.Going.{still_going}
 
 abbrev Told : Type 0
 Told = Option (List ℕ)
-
--- a reply that was cut is told as the loop has it
-pub in_part : (old : SliceRun) (c : Command) (out : List ℕ) (new : SliceRun) → TurnsInPart SliceStep old c out new → TurnsInPart SliceStep old c out new
-in_part old c out new turn = turn
 
 -- a run goes on after an answer
 pub applied_going : (old new : SliceRun) (c : Command) (w y : Told) (answer : Result Outcome Failed) → IsGoingSliced old
@@ -45,30 +42,14 @@ pub speaks_left : (ids : Ids) (old new : SlicedState) (line : List ℕ) → Does
     → Speaks SliceStep (slice_run ids old) command.Slice (slice_run ids new) line
 speaks_left ids old new line does is room = record { turn = record { does = does; ids = refl; reply_is = ap said is }; room = room }
 
--- the object of a handle, where there is one
+-- the object of a handle, if any
 abbrev object_at : SliceRun → Option ℕ → Option Placed
 object_at run o = elim o [ None ↦ None | Some h ↦ get run.heap.held h ]
 
 object_is : (run : SliceRun) (id : ℕ) (o : Option ℕ) → o ≡ get run.ids id → sliced_object_of run id ≡ object_at run o
 object_is run id o is = ap (object_at run) (sym is)
 
--- what a read tells of an object, by its bytes
-within_text : (x : Placed) (from count : ℕ) → from + count ≤ length x.bytes
-    → read_text (Some x) from count ≡ codes "=" ++ encode_lower (take count (drop from x.bytes))
-within_text x from count le = rw (le_yes (from + count) (length x.bytes) le) refl
-
-past_text : (x : Placed) (from count : ℕ) → length x.bytes < from + count → read_text (Some x) from count ≡ codes "range"
-past_text x from count lt = rw (le_no (from + count) (length x.bytes) lt) refl
-
--- the object whose bytes are on the map
-by_bytes : (m : Held) (h : ℕ) (v : List ℕ) → get (objects m) h ≡ Some v → (x : Placed) × (get m h ≡ Some x) × (x.bytes ≡ v)
-by_bytes m h v there = go (get m h) refl (sym (get-map_values (λ (x : Placed). x.bytes) m h) ∙ there)
-  where
-    go : (o : Option Placed) → get m h ≡ o → option_map (λ (x : Placed). x.bytes) o ≡ Some v → (x : Placed) × (get m h ≡ Some x) × (x.bytes ≡ v)
-    go None is e = absurd (let z : ◌≡◌ {A = Option (List ℕ)} None (Some v) = e in cc)
-    go (Some x) is e = (x, is, (let z : Some x.bytes ≡ Some v = e in cc))
-
--- none is there, where none is on the map
+-- no object is held if none is on the map
 none_by_bytes : (m : Held) (h : ℕ) → get (objects m) h ≡ None → get m h ≡ None
 none_by_bytes m h none = go (get m h) refl (sym (get-map_values (λ (x : Placed). x.bytes) m h) ∙ none)
   where
@@ -90,10 +71,10 @@ module _ (run : SliceRun) (id from count : ℕ) where
   read_said h out rules is happens =
       let on = (call_on_map (plan_in run.heap) rules.plan (working_in run.heap) (Read (record { number = h; from = from }) count (Ok out))
       (working_in run.heap) rules.consistent happens).0 in
-      let x = by_bytes run.heap.held h on.0 on.1 in
+      let x = held_of_bytes run.heap.held h on.0 on.1 in
       let same : x.0.bytes ≡ on.0 = x.2 in
       ap text (object_is run id (Some h) is ∙ x.1)
-      ∙ within_text x.0 from count (rw same (on.2))
+      ∙ read_within x.0 from count (rw same (on.2))
       ∙ ap (λ (b : List ℕ). codes "=" ++ encode_lower (take count (drop from b))) same
       ∙ ap (λ (b : List ℕ). codes "=" ++ encode_lower b) (sym on.3)
 
@@ -106,6 +87,6 @@ module _ (run : SliceRun) (id from count : ℕ) where
           → text (sliced_object_of run id) ≡ write_text (Err e)
       go access.Unknown none = ap text (object_is run id (Some h) is ∙ none_by_bytes run.heap.held h none)
       go access.Range (v, found, past) =
-          let x = by_bytes run.heap.held h v found in
+          let x = held_of_bytes run.heap.held h v found in
           let same : x.0.bytes ≡ v = x.2 in
-          ap text (object_is run id (Some h) is ∙ x.1) ∙ past_text x.0 from count (rw same past)
+          ap text (object_is run id (Some h) is ∙ x.1) ∙ read_past x.0 from count (rw same past)

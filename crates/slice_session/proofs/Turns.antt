@@ -75,7 +75,7 @@ module _ (old : SliceRun) (going : IsGoingSliced old) where
   answer_there (command.Write id from bytes) can = write_at (get old.ids id) id from bytes can
   answer_there c can = record { reply = slice_told old c; new = old; done = (refl, refl) }
 
--- every command that can be said is answered
+-- every command of the grammar has a reply
 pub turn_there : (old : SliceRun) (c : Command) → IsGoingSliced old → IsSayable c → (reply : Reply) × (new : SliceRun) × SliceStep old c reply new
 turn_there old c going can = (let s = answer_there old going c can in (s.reply, s.new, s.done))
 

@@ -30,7 +30,7 @@ module _ (a f : ℕ → ℕ) (words : List ℕ) where
   put_outside (suc n) w out = get_or-set_other (put_all a f n words) (a n) w (f n) 0 (λ e. out n (omega arith) (sym e))
       ∙ put_outside n w (λ i lt. out i (omega arith))
 
-  -- where no two of the places are one, and none is past the end
+  -- if the places differ and none is past the end
   put_inside : (n : ℕ) → ((i : ℕ) → i < n → a i < length words) → ((i k : ℕ) → i < n → k < n → a i ≡ a k → i ≡ k) → (i : ℕ) → i < n
       → get_or (put_all a f n words) (a i) 0 ≡ f i
   put_inside zero within own i lt = absurd (omega arith)

@@ -1,4 +1,4 @@
--- A session over a sliced heap, as a player.
+-- The mode handler of a session over a sliced heap.
 use Rattle.std.specs.Prelude.{◌≡◌, ◌≤◌, ◌*◌, ℕ, true, List, Option, codes, replicate}
 use Rattle.std.specs.FinMap.{empty}
 use Rattle.cf_base.specs.Settings.{Profile}
@@ -7,12 +7,12 @@ use Rattle.id_table.specs.Ids.{Ids}
 use Rattle.run_model.specs.Plays.{PlayRun}
 use Rattle.script_loop.specs.Semantics.{Semantics}
 use Rattle.script_reader.specs.Items.{Item}
-use Rattle.session_model.specs.Applying.{TurnsInPart}
+use Rattle.script_loop.specs.Applying.{TurnsInPart}
 use Rattle.slice_model.specs.State.{Idle}
 use Rattle.sliced_heap.specs.Shown.{KeepsRules, SlicedState, closed_state}
 use Rattle.slice_session.specs.SliceRun.{IsGoingSliced, SliceRun, SliceStep, slice_run}
 
--- an open heap without objects and without a job, with the settings of a `heap` line at the bound 1, whatever it says
+-- an open heap without objects and without a job, with the settings of a `heap` line at the bound 1, whatever bound it has
 abbrev pub first_heap : ℕ → Profile → SlicedState
 first_heap quantum p = record {
   is_open = true;
@@ -23,21 +23,21 @@ first_heap quantum p = record {
   words = replicate (p.pages * p.page_words) 0;
 }
 
--- a heap with slices of so many words was opened, and a session begun
+-- a heap with slices of `quantum` words was opened, with a new session
 pub record BeginsSliced (quantum : ℕ) (p : Profile) (new : SliceRun) : Type 0 where
   pub ids : new.ids ≡ empty
   pub heap : new.heap ≡ first_heap quantum p
   pub rules : KeepsRules new.heap
 
--- the same, and `ok` is the reply
+-- the same, and the reply is `ok`
 abbrev pub BeginsSlices : ℕ → Profile → Reply → SliceRun → Type 0
 BeginsSlices quantum p reply new = BeginsSliced quantum p new × (reply ≡ said (codes "ok"))
 
--- The items of a script may get these replies, one each, and lead to the new state.
+-- The items of a script may have these replies, one each, and lead to the new state.
 abbrev pub RunsSliced : ℕ → Option SliceRun → List Item → List Reply → Option SliceRun → Type 0
 RunsSliced quantum = PlayRun (BeginsSlices quantum) SliceStep
 
--- an allocation failed: the heap is closed, and the session is as it was
+-- an allocation failed: the heap is closed, and the session is unchanged
 pub record LacksSliced (old new : SliceRun) : Type 0 where
   pub closed : new.heap ≡ closed_state
   pub ids : new.ids ≡ old.ids
@@ -54,7 +54,7 @@ sliced = record {
   lacks = LacksSliced;
 }
 
--- a player: its run, and how many words a slice has on the heap that it opens
+-- a mode handler: its run, and the words of a slice on the heap that it opens
 pub record SlicePlay : Type 0 where
   pub run : SliceRun
   pub quantum : ℕ
@@ -62,7 +62,7 @@ pub record SlicePlay : Type 0 where
 abbrev pub slice_play : Ids → ℕ → SlicedState → SlicePlay
 slice_play ids quantum heap = record { run = slice_run ids heap; quantum = quantum }
 
--- a slice has one word at least, and 16,384 at most
+-- a slice has 1 to 16,384 words
 pub record IsQuantum (n : ℕ) : Type 0 where
   pub least : 1 ≤ n
   pub most : n ≤ 16384
@@ -72,7 +72,7 @@ pub record IsFreshPlay (s : SlicePlay) : Type 0 where
   pub ids : s.run.ids ≡ empty
   pub quantum : IsQuantum s.quantum
 
--- The same session as a player, which opens the heap with slices of its own quantum. No item changes that.
+-- The mode handler, which opens the heap with slices of its own quantum. No item changes that.
 abbrev pub slices : Semantics SlicePlay ℕ
 slices = record {
   plan = λ s. s.quantum;
@@ -84,6 +84,6 @@ slices = record {
   lacks = λ old new. LacksSliced old.run new.run;
 }
 
--- the run of a player
+-- the run of a mode handler
 abbrev pub run_of_play : SlicePlay → SliceRun
 run_of_play s = s.run

@@ -33,17 +33,17 @@ slice_run ids heap = record { ids = ids; heap = heap }
 abbrev pub live_in : SliceRun → Objects
 live_in s = objects s.heap.held
 
--- the run goes on: the heap is open and keeps its rules, and the ids are those of its objects
+-- a state of a run: the heap is open and keeps its rules, and the ids name its objects, each once
 pub record IsGoingSliced (s : SliceRun) : Type 0 where
   pub opened : IsTrue s.heap.is_open
   pub rules : KeepsRules s.heap
   pub tied : AreTiedTo s.ids (live_in s)
 
--- the object that an id names, where it is live
+-- the object that an id names, if it is live
 abbrev pub sliced_object_of : SliceRun → ℕ → Option Placed
 sliced_object_of s id = elim (get s.ids id) [ None ↦ None | Some h ↦ get s.heap.held h ]
 
--- m: as on every manager, and `busy` where a job still holds the only room
+-- m: as on every manager, and `busy` if a pending job still holds the last free page
 abbrev pub slice_malloc_text : Result Handle SliceRefusal → List ℕ
 slice_malloc_text (Ok h) = malloc_text (Ok h)
 slice_malloc_text (Err refusal.Size) = malloc_text (Err told.Size)
@@ -51,13 +51,13 @@ slice_malloc_text (Err refusal.Proxy) = malloc_text (Err told.Proxy)
 slice_malloc_text (Err refusal.Space) = malloc_text (Err told.Space)
 slice_malloc_text (Err refusal.Busy) = codes "busy"
 
--- f: None says that it was done
+-- f: None if it was done
 abbrev pub slice_free_text : Option SliceFault → List ℕ
 slice_free_text None = codes "ok"
 slice_free_text (Some fault.Unknown) = codes "unknown"
 slice_free_text (Some fault.Busy) = codes "busy"
 
--- w: None says that it was done
+-- w: None if it was done
 abbrev pub slice_write_text : Option AccessFault → List ℕ
 slice_write_text None = write_text (Ok tt)
 slice_write_text (Some e) = write_text (Err e)
@@ -71,7 +71,7 @@ abbrev pub ids_without : Ids → ℕ → Option SliceFault → Ids
 ids_without ids id None = remove ids id
 ids_without ids id (Some e) = ids
 
--- the heap answered this call, and stays open with its pages and its quantum
+-- the heap did this call, and stays open with its pages and its quantum
 pub record Does (old : SlicedState) (event : Event) (new : SlicedState) : Type 0 where
   pub happens : Happens (plan_in old) (working_in old) event (working_in new)
   pub stays : StaysOpen old new
@@ -94,7 +94,7 @@ pub record FreesSliced (old : SliceRun) (id h : ℕ) (reply : Reply) (new : Slic
   pub ids : new.ids ≡ ids_without old.ids id answer
   pub reply_is : reply ≡ said (slice_free_text answer)
 
--- a slice of the job, and the words that are left of it then
+-- a slice of the job; the reply is the words left of it
 pub record StepsSliced (old : SliceRun) (reply : Reply) (new : SliceRun) : Type 0 where
   pub does : Does old.heap Step new.heap
   pub ids : new.ids ≡ old.ids
@@ -107,7 +107,7 @@ pub record WritesSliced (old : SliceRun) (h from : ℕ) (bytes : List ℕ) (repl
   pub ids : new.ids ≡ old.ids
   pub reply_is : reply ≡ said (slice_write_text answer)
 
--- the reply of a command that changes nothing: a read tells the bytes of the object, in motion or not, and `none` answers all that isn't of this mode
+-- the reply to a command that changes nothing: the bytes of the object for a read, in motion or not, and `none` for a command of another mode
 abbrev pub slice_told : SliceRun → Command → Reply
 slice_told s (command.Read id from count) = said (read_text (sliced_object_of s id) from count)
 slice_told s (command.Peek word) = said (peek_text (slice_get s.heap.words word))
@@ -123,7 +123,7 @@ SliceStep old (command.Write id from bytes) reply new =
     MatchOption (get old.ids id) (StaysSliced old (codes "unknown") reply new) (λ h. WritesSliced old h from bytes reply new)
 SliceStep old other reply new = (reply ≡ slice_told old other) × (new ≡ old)
 
--- The most steps of a command, with slices of so many words: those of the heap's call.
+-- The most steps of a command, with slices of `quantum` words: those of the heap's call.
 abbrev pub most_steps : ℕ → Command → ℕ
 most_steps quantum (command.Malloc id bytes) = 17
 most_steps quantum (command.Free id) = 23 + quantum

@@ -1,17 +1,19 @@
-//! The commands of a session over a sliced heap: each writes the text of its reply on the line.
+//! The commands of a session over a sliced heap: each returns its reply, or writes it on the line.
 ghost use Rattle.std.specs.Prelude.{◌≡◌, ◌+◌, ◌<◌, ◌≤◌, [], IsTrue, Err, Some, length, slice_get};
 ghost use Rattle.cf_io.specs.Lines.{line_room};
 ghost use Rattle.cf_io.specs.Texts.{said};
+ghost use Rattle.cf_session.specs.Apply.{outcome_in};
+ghost use Rattle.cf_session.specs.Short.{short_text};
 ghost use Rattle.cf_model.specs.Costs.{words_touched};
 ghost use Rattle.run_model.specs.Replies.{peek_text, read_text};
 ghost use Rattle.script_reader.specs.declared.command.Command.TheVariants.{Malloc, Free, Slice, Write};
-ghost use Rattle.session_model.specs.Applying.{Speaks};
+ghost use Rattle.script_loop.specs.Applying.{Speaks};
 ghost use Rattle.sliced_heap.specs.Shown.{KeepsRules};
 ghost use Rattle.step_ledger.specs.Counting.{RoseAtMost};
-ghost use Rattle.slice_session.specs.SliceRun.{SliceStep, slice_free_text, slice_malloc_text, slice_run, slice_write_text, sliced_object_of};
+ghost use Rattle.slice_session.specs.SliceRun.{SliceStep, slice_free_text, slice_malloc_text, slice_run, sliced_object_of};
 
-use cf_base::AccessFault;
-use cf_io::{Line, push_field, push_text};
+use cf_io::{Line, push_field};
+use cf_session::{Outcome, Short, fault_reply, push_bytes, push_short};
 use id_table::IdTable;
 use slice_model::{SliceFault, SliceRefusal};
 use sliced_heap::SlicedHeap;
@@ -24,69 +26,60 @@ pub(crate) fn malloc(
     id: u16,
     bytes: u32,
     steps: &mut Steps,
-) -> &'static [u8]
+) -> Short
     requires { IsTrue heap.old.is_open }
-    ensures step { SliceStep (slice_run ids.old heap.old) (Malloc id bytes) (said result.now) (slice_run ids.new heap.new) }
-    ensures short { length result.now ≤ 20 }
+    ensures step { SliceStep (slice_run ids.old heap.old) (Malloc id bytes) (said (short_text result)) (slice_run ids.new heap.new) }
     ensures bound { RoseAtMost steps.old steps.new 17 }
 {
     if ids.handle(id).is_some() {
-        return b"live";
+        return Short::Live;
     }
     match heap.malloc(bytes, steps) {
         Ok(h) => {
             ids.bind(id, h);
-            b"ok"
+            Short::Done
         }
-        Err(refusal) => refusal_text(refusal),
+        Err(refusal) => malloc_reply(refusal),
     }
 }
 
-/// How a malloc's refusal is told.
-fn refusal_text(refusal: SliceRefusal) -> &'static [u8]
-    ensures value { result.now ≡ slice_malloc_text (Err refusal) }
-    ensures short { length result.now ≤ 20 }
+/// The reply to a malloc that the heap refused.
+fn malloc_reply(refusal: SliceRefusal) -> Short
+    ensures { short_text result ≡ slice_malloc_text (Err refusal) }
 {
     match refusal {
-        SliceRefusal::Size => b"refused size",
-        SliceRefusal::Proxy => b"refused proxy",
-        SliceRefusal::Space => b"refused space",
-        SliceRefusal::Busy => b"busy",
+        SliceRefusal::Size => Short::RefusedSize,
+        SliceRefusal::Proxy => Short::RefusedProxy,
+        SliceRefusal::Space => Short::RefusedSpace,
+        SliceRefusal::Busy => Short::Busy,
     }
 }
 
-/// `f`: frees the object of a live id, and does the first slice of the job that it leaves.
-pub(crate) fn free(
-    ids: &mut IdTable,
-    heap: &mut SlicedHeap,
-    id: u16,
-    steps: &mut Steps,
-) -> &'static [u8]
+/// `f`: frees the object of a live id, and does the first slice of the job that this begins.
+pub(crate) fn free(ids: &mut IdTable, heap: &mut SlicedHeap, id: u16, steps: &mut Steps) -> Short
     requires { IsTrue heap.old.is_open }
-    ensures step { SliceStep (slice_run ids.old heap.old) (Free id) (said result.now) (slice_run ids.new heap.new) }
-    ensures short { length result.now ≤ 20 }
+    ensures step { SliceStep (slice_run ids.old heap.old) (Free id) (said (short_text result)) (slice_run ids.new heap.new) }
     ensures bound { RoseAtMost steps.old steps.new (23 + heap.old.quantum) }
 {
     let Some(h) = ids.handle(id) else {
-        return b"unknown";
+        return Short::Unknown;
     };
     match heap.free(h, steps) {
         Ok(()) => {
             ids.unbind(id);
-            b"ok"
+            Short::Done
         }
-        Err(fault) => free_fault_text(fault),
+        Err(fault) => free_reply(fault),
     }
 }
 
-/// How a free's refusal is told.
-fn free_fault_text(fault: SliceFault) -> &'static [u8]
-    ensures value { result.now ≡ slice_free_text (Some fault) }
-    ensures short { length result.now ≤ 20 }
+/// The reply to a free that the heap refused.
+fn free_reply(fault: SliceFault) -> Short
+    ensures { short_text result ≡ slice_free_text (Some fault) }
 {
     match fault {
-        SliceFault::Unknown => b"unknown",
-        SliceFault::Busy => b"busy",
+        SliceFault::Unknown => Short::Unknown,
+        SliceFault::Busy => Short::Busy,
     }
 }
 
@@ -98,33 +91,21 @@ pub(crate) fn write(
     at: u32,
     bytes: &[u8],
     steps: &mut Steps,
-) -> &'static [u8]
+) -> Short
     requires { IsTrue heap.old.is_open }
-    ensures step { SliceStep (slice_run ids.now heap.old) (Write id at bytes.now) (said result.now) (slice_run ids.now heap.new) }
-    ensures short { length result.now ≤ 20 }
+    ensures step { SliceStep (slice_run ids.now heap.old) (Write id at bytes.now) (said (short_text result)) (slice_run ids.now heap.new) }
     ensures bound { RoseAtMost steps.old steps.new (2 + words_touched at (length bytes.now)) }
 {
     let Some(h) = ids.handle(id) else {
-        return b"unknown";
+        return Short::Unknown;
     };
     match heap.write(h, at, bytes, steps) {
-        Ok(()) => b"ok",
-        Err(fault) => fault_text(fault),
+        Ok(()) => Short::Done,
+        Err(fault) => fault_reply(fault),
     }
 }
 
-/// How the refusal of a read or a write is told.
-fn fault_text(fault: AccessFault) -> &'static [u8]
-    ensures value { result.now ≡ slice_write_text (Some fault) }
-    ensures short { length result.now ≤ 20 }
-{
-    match fault {
-        AccessFault::Unknown => b"unknown",
-        AccessFault::Range => b"range",
-    }
-}
-
-/// `r`: the bytes of a live id's object from `at` on, in hexadecimal, as many as there is room for.
+/// `r`: writes the bytes of a live id's object from `at` on, in hexadecimal, on the line.
 pub(crate) fn read(
     ids: &IdTable,
     heap: &SlicedHeap,
@@ -133,48 +114,57 @@ pub(crate) fn read(
     room: &mut [u8],
     line: &mut Line,
     steps: &mut Steps,
-)
+) -> Outcome
     requires open { IsTrue heap.now.is_open }
     requires rules { KeepsRules heap.now }
     requires few { length room.old ≤ 4096 }
     requires empty { line.old ≡ [] }
     ensures text { line.new ≡ read_text (sliced_object_of (slice_run ids.now heap.now) id) at (length room.old) }
     ensures room { length line.new < line_room }
+    ensures outcome { result ≡ outcome_in line.new }
     ensures bound { RoseAtMost steps.old steps.new (2 + words_touched at (length room.old)) }
 {
     let Some(h) = ids.handle(id) else {
-        return push_text(line, b"unknown");
+        return push_short(line, Short::Unknown);
     };
     match heap.read(h, at, room, steps) {
-        Ok(()) => {
-            push_text(line, b"=");
-            line.push_hex(room).unwrap();
-        }
-        Err(fault) => push_text(line, fault_text(fault)),
+        Ok(()) => push_bytes(line, room),
+        Err(fault) => push_short(line, fault_reply(fault)),
     }
 }
 
-/// `s`: does one slice of the job, where one is pending, and tells the words that are left of it then.
-pub(crate) fn step(ids: &IdTable, heap: &mut SlicedHeap, line: &mut Line, steps: &mut Steps)
+/// `s`: does one slice of the pending job, if any, and writes how many of its words are left.
+pub(crate) fn step(
+    ids: &IdTable,
+    heap: &mut SlicedHeap,
+    line: &mut Line,
+    steps: &mut Steps,
+) -> Outcome
     requires open { IsTrue heap.old.is_open }
     requires empty { line.old ≡ [] }
     ensures speaks { Speaks SliceStep (slice_run ids.now heap.old) Slice (slice_run ids.now heap.new) line.new }
+    ensures outcome { result ≡ outcome_in line.new }
     ensures bound { RoseAtMost steps.old steps.new (15 + heap.old.quantum) }
 {
     heap.step(steps);
     push_field(line, b"left ", heap.left() as u64);
+    Outcome::Other
 }
 
-/// `p`: a word of the region.
-pub(crate) fn peek(heap: &SlicedHeap, word: u32, line: &mut Line, steps: &mut Steps)
+/// `p`: writes a word of the region.
+pub(crate) fn peek(heap: &SlicedHeap, word: u32, line: &mut Line, steps: &mut Steps) -> Outcome
     requires open { IsTrue heap.now.is_open }
     requires empty { line.old ≡ [] }
     ensures text { line.new ≡ peek_text (slice_get heap.now.words word) }
     ensures room { length line.new < line_room }
+    ensures outcome { result ≡ outcome_in line.new }
     ensures bound { RoseAtMost steps.old steps.new 1 }
 {
     match heap.peek(word, steps) {
-        Some(v) => line.push_word(v).unwrap(),
-        None => push_text(line, b"range"),
+        Some(v) => {
+            line.push_word(v).unwrap();
+            Outcome::Other
+        }
+        None => push_short(line, Short::Range),
     }
 }

@@ -1,4 +1,4 @@
-//! Laws of sessions over sliced heaps. The functions do nothing: what each ensures is the law.
+//! Laws of sessions over sliced heaps. The functions do nothing: their clauses are the laws.
 ghost use Rattle.std.specs.Prelude.{◌≡◌, ◌≢◌, ℕ, ◌++◌, Bool, List, [], Option, Err, None, Some, codes};
 ghost use Rattle.std.specs.Option.{option_map};
 ghost use Rattle.std.specs.FinMap.{get};
@@ -23,9 +23,9 @@ ghost use Rattle.slice_session.specs.SliceRun.{IsGoingSliced, SliceRun, SliceSte
 
 use slice_model::{a_malloc_waits_for_a_job_alone, an_empty_heap_is_consistent};
 
-/// Over every list of commands of several tasks, and wherever slices of the jobs stand between them,
-/// each read gives the bytes last written through its id, also of an object in motion. What the lines
-/// and their replies tell of ids is all that it depends on: no address, no handle and no job.
+/// In every list of commands of several tasks, with slices of the jobs anywhere between them, each read
+/// returns the bytes last written through its id, also of an object in motion. The bytes depend on the
+/// ids in the lines and replies alone: on no address, handle or job.
 pub fn reads_give_what_was_written()
     ensures run { (quantum : ℕ) (items : List Item) (replies : List Reply) (new : Option SliceRun)
         → RunsSliced quantum None items replies new → AreReadsOf None items replies }
@@ -33,9 +33,9 @@ pub fn reads_give_what_was_written()
         → RunBy slices from None items replies new → AreReadsOf None items replies }
 {}
 
-/// A refusal's reply tells its cause, and nothing has changed. A malloc and a free are answered
-/// `busy` only where a job is pending; and `refused space` is the answer to a malloc exactly where
-/// the pages that are needed are more than there are, whether a job is pending or not.
+/// The reply to a refused command is its cause, and nothing has changed. The reply to a malloc or a free
+/// is `busy` only if a job is pending. The reply to a malloc is `refused space` if and only if the
+/// objects need more pages than there are, whether a job is pending or not.
 pub fn replies_tell_their_causes()
     ensures malloc { (old new : SliceRun) (id n : ℕ) (e : SliceRefusal) → get old.ids id ≡ None
         → SliceStep old (Malloc id n) (said (slice_malloc_text (Err e))) new
@@ -54,9 +54,8 @@ pub fn replies_tell_their_causes()
     a_malloc_waits_for_a_job_alone();
 }
 
-/// A run begins under any settings in their ranges, with slices of any quantum; and from each state
-/// of a run that goes on every command that a script can say gets a reply, after which the run goes
-/// on.
+/// A run can begin with any settings in their ranges and slices of any quantum. In each state of a run
+/// every command of the grammar has a reply, after which the run goes on.
 pub fn each_command_has_its_turn()
     ensures begins { (quantum : ℕ) (p : Profile) → IsQuantum quantum → AreInRange p
         → (new : SliceRun) × BeginsSliced quantum p new }
@@ -69,7 +68,7 @@ pub fn each_command_has_its_turn()
     an_empty_heap_is_consistent();
 }
 
-/// There is a run over the items of any bytes, and each run over a prefix of them can go on to the end.
+/// There is a run over the items of any bytes, and each run over a prefix can go on to the end.
 pub fn a_sliced_run_can_always_go_on()
     ensures there { (quantum : ℕ) (given : List ℕ) (ended : Bool) → IsQuantum quantum
         → (replies : List Reply) × (new : Option SliceRun) × RunsSliced quantum None (items given ended) replies new }
@@ -81,14 +80,15 @@ pub fn a_sliced_run_can_always_go_on()
     an_empty_heap_is_consistent();
 }
 
-/// What a player answers over a script is a run of its session, with slices of its quantum.
+/// The replies of the mode handler to a script are those of a run of its session, with slices of its
+/// quantum.
 pub fn plays_are_runs()
     ensures { (from : SlicePlay) (items : List Item) (replies : List Reply) (new : Option SlicePlay)
         → RunBy slices from None items replies new
         → RunsSliced from.quantum None items replies (option_map run_of_play new) }
 {}
 
-/// What was written before the sink failed is a prefix of what a run over the whole script prints.
+/// The output before the sink failed is a prefix of the output of a run over the whole script.
 pub fn what_was_cut_is_a_prefix()
     ensures { (from to : SlicePlay) (call : Effects) (all : List ℕ) → IsQuantum from.quantum
         → (w : WroteInPart slices from (items_within all) call to)

@@ -1,5 +1,5 @@
-//! A session over a sliced heap, for several tasks whose commands come in any order, and a script on
-//! it. One command gets one reply.
+//! A session over a sliced heap, for several tasks with commands in any order, and a script on it. Each
+//! command has one reply.
 #![tactic(auto)]
 
 mod commands;

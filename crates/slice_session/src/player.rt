@@ -13,12 +13,11 @@ use sliced_heap::SlicedHeap;
 use std::alloc::Global;
 use step_ledger::Meter;
 
-/// A session over a sliced heap that answers a script, with the words of a slice and the ledger that
-/// it uses.
+/// The mode handler: a session over a sliced heap, with the words of a slice and a ledger.
 #[derive(Drop)]
 pub struct SlicePlayer {
     pub session: SliceSession,
-    /// How many words a slice has at most on the heap that is opened.
+    /// The most words of a slice on the heap that the script opens.
     pub quantum: u32,
     meter: Meter,
 }
@@ -53,7 +52,7 @@ impl Player<SlicedHeap> for SlicePlayer {
         settings: &Settings,
         sink: &mut K,
     ) -> Result<(), OpenFault> {
-        // Every class has the bound 1, whatever the line says.
+        // Every class has the bound 1, whatever bound the line has.
         match heap.open_heap(settings, self.quantum) {
             Ok(()) => {}
             Err(_) => return Err(OpenFault::OutOfMemory),
@@ -77,10 +76,9 @@ impl Player<SlicedHeap> for SlicePlayer {
     }
 }
 
-/// Answers each line of a script before it takes the next chunk of it: its `heap` line opens the
-/// heap, with the bound 1 for each class, and each command is answered from its objects. It stops at
-/// a bad line, at a fault of the source or the sink, where an allocation fails at the `heap` line, and
-/// past 268,435,455 bytes.
+/// Answers each line of a script before it takes the next chunk: the `heap` line opens the heap, with the
+/// bound 1 for each class, and each command is done on its objects. It stops at a bad line, if the source
+/// or the sink fails, if an allocation fails at the `heap` line, and after 268,435,455 bytes.
 pub fn run_slices<S: Source, K: Sink>(
     player: &mut SlicePlayer,
     heap: &mut SlicedHeap,

@@ -3,38 +3,38 @@ ghost use Rattle.std.specs.Prelude.{◌≡◌, ◌<◌, ◌≤◌, [], IsTrue, I
 ghost use Rattle.std.specs.FinMap as map;
 ghost use Rattle.cf_io.specs.Feeds.{Rose};
 ghost use Rattle.cf_io.specs.Lines.{line_room};
+ghost use Rattle.cf_session.specs.Apply.{outcome_in};
 ghost use Rattle.page_model.specs.Held.{objects};
 ghost use Rattle.script_reader.specs.Commands.{IsWellFormed};
 ghost use Rattle.script_reader.specs.Owned.{owned_command};
 ghost use Rattle.script_loop.specs.Semantics.{snapshot};
 ghost use Rattle.step_ledger.specs.Counting.{RoseAtMost};
-ghost use Rattle.session_model.specs.Applying.{Applies, Speaks};
+ghost use Rattle.script_loop.specs.Applying.{Applies, Speaks};
 ghost use Rattle.id_table.specs.Ties.{AreTiedTo};
 ghost use Rattle.slice_session.specs.SliceRun.{IsGoingSliced, SliceStep, most_steps, slice_run};
 ghost use Rattle.slice_session.specs.Playing.{sliced};
 
 use crate::commands::{free, malloc, peek, read, step, write};
 use cf_base::{Failed, OutOfMemory};
-use cf_io::{Line, Sink, push_text, put_line};
-use cf_session::Outcome;
+use cf_io::{Line, Sink, put_line};
+use cf_session::{Outcome, Short, ended, push_short};
 use id_table::IdTable;
 use script_reader::{Command, CommandRef};
-use session_model::{ended, outcome_of_text};
 use sliced_heap::SlicedHeap;
 use std::alloc::Global;
 use std::marker::Model;
 use step_ledger::{Meter, Steps};
 
-/// The most bytes that are read at once.
+/// The most bytes of one read.
 const MOST: usize = 4_096;
 
-/// The ids of the objects of one sliced heap. Its tasks are callers whose commands come in any order.
+/// The ids of the objects of one sliced heap. Its tasks are callers with commands in any order.
 #[derive(Drop)]
 pub struct SliceSession {
     ids: IdTable,
-    /// The line that a reply is built in.
+    /// The line for the reply.
     line: Line,
-    /// Room for the bytes that are read.
+    /// The buffer of a read.
     room: [u8; MOST],
 }
 
@@ -49,7 +49,7 @@ impl Model for SliceSession {
 }
 
 impl SliceSession {
-    /// A session in which no id is live. The table of all 65,536 ids is taken here.
+    /// A session in which no id is live. Allocates the table of all 65,536 ids.
     pub fn start(alloc: Global) -> Result<SliceSession, OutOfMemory>
         ensures { IfOk result (λ s. s ≡ map.empty) }
     {
@@ -60,9 +60,8 @@ impl SliceSession {
         })
     }
 
-    /// Does the command on the heap, with a ledger that is lapped first, and writes its reply.
-    /// `Failed` only where the sink failed; the command has taken effect then, and a prefix of its
-    /// reply was written.
+    /// Laps the ledger, does the command on the heap and writes its reply. If the sink fails, the result
+    /// is `Failed`: the command has taken effect, and a prefix of its reply was written.
     pub fn apply<K: Sink>(
         &mut self,
         heap: &mut SlicedHeap,
@@ -85,7 +84,7 @@ impl SliceSession {
         self.apply_ref(heap, c.as_ref(), out, meter)
     }
 
-    /// The same for a command whose bytes are borrowed.
+    /// `apply` for a command with borrowed bytes.
     pub fn apply_ref<K: Sink>(
         &mut self,
         heap: &mut SlicedHeap,
@@ -108,8 +107,7 @@ impl SliceSession {
         self.answer_ref(heap, c, out, meter.steps())
     }
 
-    /// The same on the ledger that is handed in, which no call lowers: the command takes at most so
-    /// many steps.
+    /// The same on a ledger that isn't lapped. No call lowers it, so the bound is that of the command.
     pub fn answer_ref<K: Sink>(
         &mut self,
         heap: &mut SlicedHeap,
@@ -142,7 +140,7 @@ impl SliceSession {
     }
 }
 
-/// Does the command, and writes its reply.
+/// Does the command and writes its reply.
 fn answer<K: Sink>(
     ids: &mut IdTable,
     heap: &mut SlicedHeap,
@@ -162,12 +160,11 @@ fn answer<K: Sink>(
     ensures same { OnOk result (K.faults out.new ≡ K.faults out.old) }
     ensures failed { OnErr result (Rose (K.faults out.old) (K.faults out.new)) }
 {
-    speak(ids, heap, c, room, line, steps);
-    let outcome = outcome_of_text(line.bytes());
+    let outcome = speak(ids, heap, c, room, line, steps);
     ended(put_line(line, out), outcome)
 }
 
-/// Does a command, and writes the text of its reply on the line.
+/// Does a command and writes the text of its reply on the line.
 fn speak(
     ids: &mut IdTable,
     heap: &mut SlicedHeap,
@@ -175,27 +172,28 @@ fn speak(
     room: &mut [u8],
     line: &mut Line,
     steps: &mut Steps,
-)
+) -> Outcome
     requires going { IsGoingSliced (slice_run ids.old heap.old) }
     requires formed { IsWellFormed (owned_command c) }
     requires place { length room.old ≡ 4096 }
     ensures speaks { Speaks SliceStep (slice_run ids.old heap.old) (owned_command c.entry) (slice_run ids.new heap.new) line.new }
+    ensures outcome { result ≡ outcome_in line.new }
     ensures steps { RoseAtMost steps.old steps.new (most_steps heap.old.quantum (owned_command c.entry)) }
 {
     line.clear();
     match c {
         CommandRef::Malloc { id, bytes } => {
-            push_text(line, malloc(ids, heap, id, bytes, steps));
+            push_short(line, malloc(ids, heap, id, bytes, steps))
         }
-        CommandRef::Free { id } => push_text(line, free(ids, heap, id, steps)),
+        CommandRef::Free { id } => push_short(line, free(ids, heap, id, steps)),
         CommandRef::Slice => step(ids, heap, line, steps),
         CommandRef::Write { id, at, bytes } => {
-            push_text(line, write(ids, heap, id, at, bytes, steps));
+            push_short(line, write(ids, heap, id, at, bytes, steps))
         }
         CommandRef::Read { id, at, len } => {
-            read(ids, heap, id, at, &mut room[..len as usize], line, steps);
+            read(ids, heap, id, at, &mut room[..len as usize], line, steps)
         }
         CommandRef::Peek { word } => peek(heap, word, line, steps),
-        _ => push_text(line, b"none"),
+        _ => push_short(line, Short::Lacking),
     }
 }

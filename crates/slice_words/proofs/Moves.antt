@@ -1,4 +1,4 @@
--- Words of a region that are cleared, and words that go to another place.
+-- Words of a region that are cleared, and words that are moved.
 use Rattle.std.proofs.Common.{ℕ, ◌+◌, ◌≤◌, List, length, arith, inl, inr}
 use Rattle.page_model.specs.Image.{Clears, IsDisjoint, MovesWords}
 use Rattle.region.specs.Words.{cleared, moved}
@@ -15,7 +15,7 @@ moved_moves words a b n source target apart = record {
   others = moved_others words a b n source target;
 }
 
--- parts of two slots, as far from the start of each, are apart where the slots are
+-- parts of two slots, equally far from the start of each, are apart if the slots are
 pub part_apart : (a b n d c : ℕ) → IsDisjoint a n b n → d + c ≤ n → IsDisjoint (a + d) c (b + d) c
 part_apart a b n d c (inl l) le = inl (omega arith)
 part_apart a b n d c (inr r) le = inr (omega arith)

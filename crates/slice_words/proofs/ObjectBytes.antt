@@ -23,7 +23,7 @@ use Rattle.slice_words.proofs.TwoPieces.{word_high, word_low}
 abbrev carried_halves : JobSlot → ℕ → Halves
 carried_halves k a = record { to = a; from = k.address; done = k.done }
 
--- beside every job each word stands where the halves say
+-- beside every job the halves hold each word
 pub word_by_halves : (j : Job) (h : ℕ) (x : Placed) (i : ℕ) → place_of_word (halves_of j h x.place) i ≡ word_at j h x i
 word_by_halves Idle h x i = word_high (together x.place) i (omega arith)
 word_by_halves (Clear k) h x i = word_high (together x.place) i (omega arith)
@@ -82,7 +82,7 @@ module _ (place : ℕ → ℕ) (h : ℕ) (v : List ℕ) (old new : List ℕ) (at
       ∙ ap (λ d. byte_of j (object_word h (written v at bytes) (suc d))) div in
       sym a ∙ w.value (8 * i + j) touched ∙ new_byte (8 * i + j) (omega arith) ∙ sym (byte_of_object h (written v at bytes) (8 * i + j) good) ∙ b))
 
-  -- where no byte is written nothing changes
+  -- if no byte is written nothing changes
   pub nothing_written : length bytes ≡ 0 → (a : ℕ) → get_or new a 0 ≡ get_or old a 0
   nothing_written none a = w.others a (λ i t. absurd (let some = t.some in omega arith))
 

@@ -1,4 +1,4 @@
--- Bytes of an object whose words stand side by side.
+-- Bytes of an object whose words lie side by side.
 use Rattle.std.proofs.Common.{◌≡◌, ◌≢◌, ℕ, ◌+◌, ◌-◌, ◌*◌, ◌/◌, ◌%◌, ◌^◌, ◌<◌, ◌≤◌, List, length, get_or, arith, refl, sym, ◌∙◌, ap, subst, inl, inr}
 use Rattle.std.proofs.lemmas.Bool.{cases_lt}
 use Rattle.page_model.specs.Bytes.{byte_of}
@@ -28,7 +28,7 @@ module _ (words : List ℕ) (place at k : ℕ) (le : 8 * (at / 8) ≤ k) where
   byte_later : byte_from words (place + 1 + at / 8) (k - 8 * (at / 8)) ≡ byte_by (word_from place) words k
   byte_later = byte_shift words (place + 1) (at / 8) k le ∙ byte_here words place k
 
--- the bytes that a read of a run gives, counted from the header
+-- the bytes that a read of a run returns, counted from the header
 pub read_later : (words : List ℕ) (place at k : ℕ) → byte_from words (place + 1 + at / 8) (at % 8 + k) ≡ byte_from words (place + 1) (at + k)
 read_later words place at k =
     let e : at % 8 + k ≡ at + k - 8 * (at / 8) = omega arith in

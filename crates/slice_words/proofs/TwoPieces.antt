@@ -1,4 +1,4 @@
--- Bytes of an object that stands in two halves: those of the first half, and those behind them.
+-- Bytes of an object whose words lie in two halves: those of the first half, and those after them.
 use Rattle.std.proofs.Common.{◌≡◌, ℕ, ◌+◌, ◌-◌, ◌/◌, ◌%◌, ◌<◌, ◌≤◌, List, length, get_or, ◌++◌, take, drop}
 use Rattle.std.proofs.Common.{arith, sym, ◌∙◌, ap, inl, inr, length-append, length-drop}
 use Rattle.std.specs.Prelude.{◌⊎◌}
@@ -16,14 +16,14 @@ use Rattle.slice_words.specs.Halves.{AreApart, byte_in, first_bytes, place_of_wo
 use Rattle.slice_words.specs.Writes.{IsTouched, WritesBytes, byte_by, word_from}
 use Rattle.slice_words.specs.declared.halves.Halves.{Halves}
 
--- where a word of each half stands
+-- the address of a word of each half
 pub word_low : (s : Halves) (i : ℕ) → i < s.done → place_of_word s i ≡ s.to + i
 word_low s i lt = (let f = le_no s.done i lt in rw f)
 
 pub word_high : (s : Halves) (i : ℕ) → s.done ≤ i → place_of_word s i ≡ s.from + i
 word_high s i le = (let f = le_yes s.done i le in rw f)
 
--- what the first bytes of a part do, where a byte that isn't one of them is none of the part
+-- what the first bytes of a part do, if a byte that isn't one of them is none of the part
 front_same : (f : ℕ → ℕ) (at first : ℕ) (bytes : List ℕ) (k : ℕ) → first ≤ length bytes → (k < at + first) ⊎ (first ≡ length bytes)
     → overwritten f at (take first bytes) k ≡ overwritten f at bytes k
 front_same f at first bytes k le (inr all) = ap (λ part. overwritten f at part k) (take_all first bytes (omega arith))
@@ -69,14 +69,14 @@ module _ (s : Halves) (at count : ℕ) where
   touched_rest i le t = (let some = t.some in let low = t.first in let high = t.last in
       record { some = omega arith; first = omega arith; last = omega arith })
 
-  -- a byte in a word of the first half is one of the first bytes, where there are others
+  -- a byte in a word of the first half is one of the first bytes, if there are others
   low_byte : (k : ℕ) → 1 + k / 8 < s.done → (k < at + first) ⊎ (first ≡ count)
   low_byte k lt = elim (cases_lt first count) [
     | inl less ↦ inl (omega arith)
     | inr all ↦ inr (omega arith)
   ]
 
-  -- a byte in a word of the second half is none of the first bytes, where there are some
+  -- a byte in a word of the second half is none of the first bytes, if there are some
   high_byte : (k : ℕ) → s.done ≤ 1 + k / 8 → (at + first ≤ k) ⊎ (first ≡ 0)
   high_byte k le = elim (cases_lt 0 first) [
     | inl some ↦ inl (omega arith)

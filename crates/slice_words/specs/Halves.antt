@@ -1,10 +1,10 @@
--- Where the words of an object stand while it is carried, and the bytes in them.
+-- The addresses of an object's words while it is carried, and the bytes in them.
 use Rattle.std.specs.Prelude.{◌≢◌, ℕ, ◌+◌, ◌-◌, ◌*◌, ◌/◌, ◌%◌, ◌<◌, ◌≤◌, List, slice_index, if◌then◌else◌, nat_eq, nat_le, min}
 use Rattle.page_model.specs.Bytes.{byte_of}
 use Rattle.slice_model.specs.State.{Job, Idle, Clear, Move}
 use Rattle.slice_words.specs.declared.halves.Halves.{Halves}
 
--- where word i of the object stands
+-- the address of word i of the object
 abbrev pub place_of_word : Halves → ℕ → ℕ
 place_of_word s i = if nat_le s.done i then s.from + i else s.to + i
 
@@ -12,11 +12,11 @@ place_of_word s i = if nat_le s.done i then s.from + i else s.to + i
 abbrev pub byte_in : Halves → List ℕ → ℕ → ℕ
 byte_in s words k = byte_of (k % 8) (slice_index words (place_of_word s (1 + k / 8)))
 
--- how many of so many bytes of the object from byte `at` on stand in the first half, whose first word is the header
+-- how many of the `count` bytes of the object from byte `at` on lie in the first half, whose first word is the header
 abbrev pub first_bytes : Halves → ℕ → ℕ → ℕ
 first_bytes s at count = min (8 * (s.done - 1) - at) count
 
--- of the object's first n words no two in different halves stand at one place
+-- of the object's first n words no two in different halves have one address
 abbrev pub AreApart : Halves → ℕ → Type 0
 AreApart s n = (i k : ℕ) → i < s.done → s.done ≤ k → k < n → s.to + i ≢ s.from + k
 

@@ -1,23 +1,23 @@
--- Bytes that are written over those of an object, wherever its words stand.
+-- Bytes that are written over those of an object, wherever its words lie.
 use Rattle.std.specs.Prelude.{◌≡◌, ◌≢◌, ℕ, ◌+◌, ◌-◌, ◌/◌, ◌%◌, ◌^◌, ◌<◌, ◌≤◌, List, length, slice_index}
 use Rattle.page_model.specs.Bytes.{byte_of}
 use Rattle.word_bytes.specs.Cells.{overwritten}
 
--- word i of an object whose words stand side by side from there on
+-- word i of an object whose words lie side by side from there on
 abbrev pub word_from : ℕ → ℕ → ℕ
 word_from place i = place + i
 
--- word i of the object holds one of so many of its bytes from byte `at` on
+-- word i of the object holds one of its `count` bytes from byte `at` on
 pub record IsTouched (at count i : ℕ) : Type 0 where
   pub some : 0 < count
   pub first : 1 + at / 8 ≤ i
   pub last : i ≤ 1 + (at + count - 1) / 8
 
--- byte k of an object whose word i stands at `place i`
+-- byte k of an object whose word i is at `place i`
 abbrev pub byte_by : (ℕ → ℕ) → List ℕ → ℕ → ℕ
 byte_by place words k = byte_of (k % 8) (slice_index words (place (1 + k / 8)))
 
--- The bytes stand in the object from byte `at` on, in the words that hold one of them, and no other byte and no other word changes.
+-- The object holds the bytes from byte `at` on, in the words that hold one of them, and no other byte and no other word changes.
 pub record WritesBytes (old new : List ℕ) (place : ℕ → ℕ) (at : ℕ) (bytes : List ℕ) : Type 0 where
   pub others : (w : ℕ) → ((i : ℕ) → IsTouched at (length bytes) i → place i ≢ w) → slice_index new w ≡ slice_index old w
   pub small : (i : ℕ) → IsTouched at (length bytes) i → slice_index new (place i) < 2 ^ 64

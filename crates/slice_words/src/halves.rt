@@ -1,4 +1,4 @@
-//! An object that stands in two halves.
+//! An object whose words lie in two halves.
 ghost use Rattle.std.specs.Prelude.{◌≡◌, ℕ, ◌+◌, ◌-◌, ◌*◌, ◌/◌, ◌^◌, ◌<◌, ◌≤◌, length, min, slice_index};
 ghost use Rattle.cf_model.specs.Costs.{words_touched};
 ghost use Rattle.step_ledger.specs.Counting.{RoseAtMost, RoseBy};
@@ -12,7 +12,7 @@ use step_ledger::Steps;
 /// The bytes of a word.
 const CELL: usize = 8;
 
-/// Where the words of an object stand, its header among them: the first `done` from word `to` on, at
+/// The addresses of the words of an object, its header among them: the first `done` from word `to` on, at
 /// its new address, and those behind as far from word `from` on. Of an object that isn't carried
 /// both are its address.
 #[derive(Clone, Copy, Debug, PartialEq, Eq)]
@@ -34,7 +34,7 @@ pub fn read_word(region: &Region, s: Halves, i: u32, steps: &mut Steps) -> u64
     region.read(start + i, steps)
 }
 
-/// How many of `count` bytes of the object from byte `at` on stand in its first half.
+/// How many of `count` bytes of the object from byte `at` on lie in its first half.
 fn first_bytes(s: Halves, at: u32, count: usize) -> usize
     ensures { result ≡ first_bytes s at count }
 {
@@ -43,7 +43,7 @@ fn first_bytes(s: Halves, at: u32, count: usize) -> usize
         .min(count)
 }
 
-/// Copies the bytes of the object from byte `at` on, each from the half where it stands.
+/// Copies the bytes of the object from byte `at` on, each from its half.
 pub fn read_halves(region: &Region, s: Halves, at: u32, out: &mut [u8], steps: &mut Steps)
     requires small { length region.now < 2 ^ 32 }
     requires short { at + length out.old < 2 ^ 32 }
@@ -58,7 +58,7 @@ pub fn read_halves(region: &Region, s: Halves, at: u32, out: &mut [u8], steps: &
     read_piece(region, s.from, at + first as u32, high, steps);
 }
 
-/// Writes the bytes over those of the object from byte `at` on, each in the half where it stands.
+/// Writes the bytes over those of the object from byte `at` on, each in its half.
 pub fn write_halves(region: &mut Region, s: Halves, at: u32, bytes: &[u8], steps: &mut Steps)
     requires small { length region.old < 2 ^ 32 }
     requires short { at + length bytes.now < 2 ^ 32 }

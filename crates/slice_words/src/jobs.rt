@@ -7,7 +7,7 @@ use region::Region;
 use slice_model::JobSlot;
 use step_ledger::Steps;
 
-/// How many words of a job a slice does, of which `done` of `size` are done: a quantum, or those
+/// The number of words that a slice does of a job, with `done` of `size` words done: a quantum, or those
 /// that are left.
 pub fn words_of_slice(size: u32, done: u32, quantum: u32) -> u32
     requires { done ≤ size }
@@ -27,7 +27,7 @@ pub fn clear_next(region: &mut Region, k: JobSlot, n: u32, steps: &mut Steps)
     region.clear(k.address + k.done, n, steps);
 }
 
-/// The next `n` words of the job's slot go to where they are to stand from word `to` on, and leave
+/// Moves the next `n` words of the job's slot to their new place, from word `to` on, and leaves
 /// zeros behind, for a step each.
 pub fn carry_next(region: &mut Region, k: JobSlot, to: u32, n: u32, steps: &mut Steps)
     requires small { length region.old < 2 ^ 32 }

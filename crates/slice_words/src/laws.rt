@@ -8,13 +8,13 @@ ghost use Rattle.slice_model.specs.Words.{RewritesObject, byte_read, word_at};
 ghost use Rattle.slice_words.specs.Halves.{byte_in, halves_of, place_of_word};
 ghost use Rattle.slice_words.specs.Writes.{WritesBytes};
 
-/// Beside every job each word of an object stands where its halves say, so its bytes are read there.
+/// Beside every job the halves of an object hold each of its words, so its bytes are read there.
 pub fn halves_are_where_the_words_stand()
     ensures words { (j : Job) (h : ℕ) (x : Placed) (i : ℕ) → place_of_word (halves_of j h x.place) i ≡ word_at j h x i }
     ensures bytes { (j : Job) (h : ℕ) (x : Placed) (words : List ℕ) (k : ℕ) → byte_in (halves_of j h x.place) words k ≡ byte_read j words h x k }
 {}
 
-/// Bytes that are written over those of an object make its words, where they stand, those of the
+/// Bytes that are written over those of an object make its words, wherever they lie, those of the
 /// object with these bytes.
 pub fn written_bytes_are_those_of_the_object()
     ensures { (j : Job) (h : ℕ) (x : Placed) (old new : List ℕ) (at : ℕ) (bytes : List ℕ)

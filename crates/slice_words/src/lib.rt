@@ -1,6 +1,6 @@
 //! The words of an object while a sliced heap carries it from one slot to another: the first of them
-//! stand at its new address, those behind in the slot that it leaves. Its bytes are read and written
-//! where they stand, in at most two pieces; and the next words of a job are cleared or carried.
+//! lie at its new address, the others in the slot that it leaves. Its bytes are read and written in
+//! place, in at most two pieces; and the next words of a job are cleared or carried.
 #![tactic(auto)]
 
 mod halves;

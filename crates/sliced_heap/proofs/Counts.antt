@@ -1,4 +1,4 @@
--- The pages that the objects need by arithmetic, where one comes or goes.
+-- The pages that the objects need by arithmetic, with one object more or less.
 use Rattle.std.proofs.Common.{◌≡◌, ◌≢◌, ℕ, zero, suc, ◌+◌, ◌-◌, ◌*◌, ◌/◌, ◌%◌, ◌<◌, ◌≤◌, List, Some, None, length}
 use Rattle.std.proofs.Common.{arith, refl, sym, ◌∙◌, ap, inl, inr}
 use Rattle.std.specs.Prelude.{nat_eq, sum_by}
@@ -41,7 +41,7 @@ ceil_more n m pos =
           rw t (omega arith))
     ]
 
--- a sum over a range where one number differs
+-- a sum over a range in which one number differs
 sum_below : (f g : ℕ → ℕ) (a n c : ℕ) → c < a → ((d : ℕ) → d ≢ c → f d ≡ g d) → sum_by f (range_with_len a n) ≡ sum_by g (range_with_len a n)
 sum_below f g a zero c lt same = refl
 sum_below f g a (suc n) c lt same =

@@ -1,4 +1,4 @@
--- What an open heap's invariant tells: its paging, its tables, its objects.
+-- What follows from an open heap's invariant: its paging, its tables, its objects.
 use Rattle.std.proofs.Common.{◌≡◌, ℕ, ◌^◌, ◌<◌, ◌≤◌, length, Some, None, arith, refl, sym, ◌∙◌, ap, subst}
 use Rattle.std.specs.Prelude.{option_map}
 use Rattle.std.specs.FinMap.{get, len}

@@ -1,4 +1,4 @@
--- Objects and the job's slot at the used slots of the tables, where they change places or numbers.
+-- Objects and the job's slot at the used slots of the tables, as they change places or numbers.
 use Rattle.std.proofs.Common.{◌≡◌, ◌≢◌, ℕ, List, Some, None, sym, ◌∙◌, ap, subst, inl, inr}
 use Rattle.std.specs.Prelude.{◌⊎◌}
 use Rattle.std.proofs.lemmas.Bool.{cases_eq}
@@ -11,21 +11,21 @@ use Rattle.page_slots.specs.Tables.{Tables, IsUsed, slot_at}
 use Rattle.page_slots.specs.Occupying.{Occupies, class_table}
 use Rattle.page_slots.proofs.CallerLemmas.{renumbered_occupied, rewritten_occupied}
 
--- what was put under a number goes with it
+-- what was put under a number is removed with it
 pub removed_again : (m : Held) (q : ℕ) (x : Placed) → remove (insert m q x) q ≡ remove m q
 removed_again m q x = equal_maps _ _ (λ r. elim (cases_eq r q) [
   | inl is ↦ rw is (get_removed (insert m q x) q ∙ sym (get_removed m q))
   | inr ne ↦ get_remove_other (insert m q x) q r ne ∙ get_insert_other m q x r ne ∙ sym (get_remove_other m q r ne)
 ])
 
--- and what came goes again
+-- and an object that was added is removed again
 pub taken_again : (m : Held) (q : ℕ) (x : Placed) → get m q ≡ None → remove (insert m q x) q ≡ m
 taken_again m q x none = equal_maps _ _ (λ r. elim (cases_eq r q) [
   | inl is ↦ rw is (get_removed (insert m q x) q ∙ sym none)
   | inr ne ↦ get_remove_other (insert m q x) q r ne ∙ get_insert_other m q x r ne
 ])
 
--- a stand-in of the same class comes where an object stood
+-- a placeholder of the same class takes the place of an object
 pub stood_in : (p : Paging) (m : Held) (t : Tables) → Occupies p m t → (q : ℕ) (x : Placed) → get m q ≡ Some x → (P : ℕ) → get m P ≡ None
     → (bytes : List ℕ) → class_at p (record { place = x.place; bytes = bytes }) ≡ class_at p x
     → Occupies p (insert (remove m q) P (record { place = x.place; bytes = bytes })) t
@@ -40,7 +40,7 @@ stood_in p m t o q x there P none bytes class =
     without (inl is) = ap (get (remove m q)) is ∙ get_removed m q
     without (inr ne) = get_remove_other m q P ne ∙ none
 
--- An object gets the place of the stand-in, which comes where the object stood.
+-- An object gets the place of the placeholder, which takes the object's old place.
 module _ (p : Paging) (m : Held) (t : Tables) (P : ℕ) (f : Placed) (o : Occupies p (insert m P f) t) (q : ℕ) (y : Placed) (there : get m q ≡ Some y)
     (ne : q ≢ P)
     (class : class_at p y ≡ class_at p f) where

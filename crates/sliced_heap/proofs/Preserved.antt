@@ -12,7 +12,7 @@ use Rattle.slice_model.specs.Words.{HasWords}
 use Rattle.sliced_heap.specs.Heap.{Heap}
 use Rattle.sliced_heap.specs.Layout.{IsValid, paging_at, plan_of, state_of, tables_in}
 use Rattle.sliced_heap.proofs.Facts.{plan_ok}
-use Rattle.sliced_heap.proofs.HeldIs.{held_told}
+use Rattle.sliced_heap.proofs.HeldFromWords.{held_told}
 
 -- n has the state s, and is h in what no call changes
 pub record Becomes (h n : Heap) (s : Sliced) : Type 0 where

@@ -31,7 +31,7 @@ drop_partly used n lt = (let e = eq_no used n (λ same. absurd (omega arith)) in
     by_test true = omega arith
     by_test false = omega arith
 
--- the words of a slice, where some are left after it and where none is
+-- the words of a slice, if some are left after it and if none is
 words_on : (q n last : ℕ) → q < n → words_steps q n last ≡ q
 words_on q n last lt = (let e = le_no n q lt in rw e refl)
 
@@ -50,14 +50,14 @@ end_within h k =
     let d = drop_most (used_in (slots_on (tables_in h) (page_at h.classes k.address))) (length (slots_on (tables_in h) (page_at h.classes k.address))) in
     omega arith
 
--- the words of the object that goes are those of its slot, of which nothing is done
+-- the words of the freed object are those of its slot, with nothing done
 gone_words : (h a : Heap) (q : ℕ) (g : JobSlot) → Forgets h q g a → slot_words (paging_at h) g.class - 0 ≡ words_of (plan_of h) (state_of h) q
 gone_words h a q g f =
     let none : slot_words (paging_at h) g.class - 0 ≡ slot_words (paging_at h) g.class = omega arith in
     let there = f.found in
     none ∙ ap (λ (k : JobSlot). slot_words (paging_at h) k.class) f.slot ∙ sym (rw (words_of, there) refl)
 
--- A free: an object goes, its slot is filled or not, and the first slice follows.
+-- A free: an object is removed, its slot is filled or not, and the first slice follows.
 pub free_takes : (h a b : Heap) (q : ℕ) (g : JobSlot) (filled : Bool) (w x y z : ℕ) → Forgets h q g a → Fills a g filled b
     → (IsTrue filled → (k : JobSlot) → job_slot b.job ≡ Some k → IsPartlyFull b k)
     → RoseBy w x 4 → RoseBy x y (if filled then 6 else 1) → RoseAtMost y z (job_most b b.job)

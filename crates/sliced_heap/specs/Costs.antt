@@ -12,7 +12,7 @@ use Rattle.slice_model.specs.declared.answers.SliceFault.{SliceFault}
 use Rattle.slice_model.specs.declared.answers.SliceRefusal.{SliceRefusal}
 use Rattle.slice_model.specs.declared.answers.SliceRefusal.TheVariants as refusal
 
--- a malloc: the class, a slot that fills its page, the proxy and the header; refused, the class, and as busy the look for a slot
+-- a malloc: the class, a slot that fills its page, the proxy and the header; refused, the class; busy, also the search for a slot
 abbrev pub malloc_steps : Result Handle SliceRefusal → ℕ
 malloc_steps (Ok h) = 17
 malloc_steps (Err refusal.Size) = 1
@@ -20,11 +20,11 @@ malloc_steps (Err refusal.Proxy) = 1
 malloc_steps (Err refusal.Space) = 1
 malloc_steps (Err refusal.Busy) = 3
 
--- the words that a slice of q does where n are left, and `last` more where it does them all
+-- the words that a slice of q words does if n are left, and `last` more if it does them all
 abbrev pub words_steps : ℕ → ℕ → ℕ → ℕ
 words_steps q n last = if nat_le n q then n + last else q
 
--- a slice: the words, and after the last ones the tables of the slot's page; where an object is carried its address too
+-- a slice: its words, and after the last ones the tables of the slot's page; if an object is carried also its address
 abbrev pub job_steps : Plan → Job → ℕ
 job_steps plan Idle = 0
 job_steps plan (Clear k) = words_steps plan.quantum (slot_words plan.paging k.class - k.done) 14
@@ -37,7 +37,7 @@ slice_steps plan s = job_steps plan s.job
 abbrev pub words_of : Plan → Sliced → ℕ → ℕ
 words_of plan s h = elim (get s.held h) [ None ↦ 0 | Some x ↦ slot_words plan.paging (class_at plan.paging x) ]
 
--- a free: the proxy, the headers and the tables of two objects, and the first slice; refused, the look for the proxy
+-- a free: the proxy, the headers and the tables of two objects, and the first slice; refused, the proxy
 abbrev pub free_steps : Plan → Sliced → ℕ → Option SliceFault → ℕ
 free_steps plan s h None = 12 + words_steps plan.quantum (words_of plan s h) 11
 free_steps plan s h (Some e) = 1

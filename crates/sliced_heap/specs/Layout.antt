@@ -20,7 +20,7 @@ use Rattle.slice_model.specs.Words.{HasWords}
 use Rattle.slice_model.specs.Runs.{Working}
 use Rattle.sliced_heap.specs.Heap.{Heap}
 
--- the numbers of the settings, where each class has at most one partly full page, whatever bound they name
+-- the numbers of the settings, with the bound 1, whatever bound they name
 abbrev pub profile_at : Settings → Profile
 profile_at s = record { pages = s.pages; page_words = s.page_words; k = 1; proxies = s.proxies }
 
@@ -33,7 +33,7 @@ paging_at h = paging_for h.settings
 abbrev pub plan_of : Heap → Plan
 plan_of h = record { paging = paging_for h.settings; proxies = h.settings.proxies; quantum = h.quantum }
 
--- the words when those left of this slot stand from `a + done` on
+-- the words once those left of this slot lie from `a + done` on
 abbrev pub carried_to : Paging → JobSlot → Option ℕ → List ℕ → List ℕ
 carried_to p k None words = words
 carried_to p k (Some a) words = moved words (k.address + k.done) (a + k.done) (slot_words p k.class - k.done)
@@ -56,12 +56,12 @@ working_of h = record { state = state_of h; words = h.words }
 abbrev pub tables_in : Heap → Tables
 tables_in h = tables h.maps h.lists h.pool
 
--- how many pages more one more of n objects needs, where a page has m slots
+-- how many more pages one object more than n needs, with m slots to a page
 abbrev pub opens : ℕ → ℕ → ℕ
 opens m n = if nat_eq (n % m) 0 then 1 else 0
 
--- What an open heap keeps: the rules of its state; words that are those of the state; tables that tell which slots the objects and the job occupy; and
--- the counts of the objects.
+-- What an open heap keeps: the rules of its state; the words of the state; tables that hold which slots the objects and the job occupy; and the counts
+-- of the objects.
 pub record IsValid (h : Heap) : Type 0 where
   pub table : h.classes ≡ table_of h.settings.page_words Words
   pub quantum : 1 ≤ h.quantum

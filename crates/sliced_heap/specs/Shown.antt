@@ -30,7 +30,7 @@ pub record SlicedState : Type 0 where
 abbrev pub closed_state : SlicedState
 closed_state = record { is_open = false; profile = no_profile; quantum = 0; held = map.empty; job = Idle; words = [] }
 
--- the pages and the quantum, and the state with the words: what the model speaks of
+-- the pages and the quantum, and the state with the words, as the model has them
 abbrev pub plan_in : SlicedState → Plan
 plan_in s = record { paging = paging_of s.profile Words (first_bounds s.profile Words); proxies = s.profile.proxies; quantum = s.quantum }
 
@@ -73,7 +73,7 @@ shown (Some h) = record {
   words = h.region;
 }
 
--- what it keeps where it is open
+-- what it keeps while it is open
 abbrev pub IsValidIn : Option OpenHeap → Type 0
 IsValidIn None = Unit {0}
 IsValidIn (Some h) = IsValid (seen h)

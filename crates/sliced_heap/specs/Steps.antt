@@ -5,7 +5,7 @@ use Rattle.page_model.specs.Arrangement.{class_at}
 use Rattle.page_model.specs.Held.{Placed}
 use Rattle.page_model.specs.Paging.{slot_words}
 use Rattle.page_model.specs.Steps.{MustMove}
-use Rattle.page_slots.specs.Freeing.{IsFiller, steps_to_drop}
+use Rattle.page_slots.specs.Release.{IsFiller, steps_to_drop}
 use Rattle.page_slots.specs.Tables.{page_at}
 use Rattle.proxy_table.specs.Proxies.{AreBelowLimit, with_place}
 use Rattle.slice_model.specs.declared.job_slot.JobSlot.{JobSlot}
@@ -21,7 +21,7 @@ abbrev pub fault_in : {T : Type 0} → Result T SliceFault → Option SliceFault
 fault_in (Ok u) = None
 fault_in (Err e) = Some e
 
--- object q goes, and its slot is to be cleared
+-- object q is freed, and its slot is to be cleared
 pub record Forgets (old : Heap) (q : ℕ) (k : JobSlot) (new : Heap) : Type 0 where
   pub object : Placed
   pub found : get (state_of old).held q ≡ Some object
@@ -65,7 +65,7 @@ pub record StartsCarry (old : Heap) (k : JobSlot) (new : Heap) : Type 0 where
 abbrev pub IsPartlyFull : Heap → JobSlot → Type 0
 IsPartlyFull h k = steps_to_drop (tables_in h) (page_at h.classes k.address) ≤ 10
 
--- the steps of the end of a job of this slot: another page is asked for, and the slot becomes free
+-- the steps of the end of a job of this slot: another partly full page is looked up, and the slot becomes free
 abbrev pub end_most : Heap → JobSlot → ℕ
 end_most h k = 1 + steps_to_drop (tables_in h) (page_at h.classes k.address)
 

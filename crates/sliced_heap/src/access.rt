@@ -1,4 +1,4 @@
-//! Reading and writing what stands in an open heap, an object in motion included.
+//! Reads and writes of an open heap, also of an object in motion.
 ghost use Rattle.std.specs.Prelude.{◌≡◌, ◌+◌, ◌≤◌, if◌then◌else◌, is_some, length, slice_get, IsErr};
 ghost use Rattle.step_ledger.specs.Counting.{RoseAtMost, RoseBy};
 ghost use Rattle.slice_model.specs.Runs.{Happens, Read, Write};
@@ -27,7 +27,7 @@ impl OpenHeap {
         }
     }
 
-    /// Reads the bytes of an object from byte `at` on, as many as `out` holds.
+    /// Fills `out` with the bytes of an object from byte `at` on.
     pub fn read(
         &self,
         h: Handle,
@@ -68,7 +68,7 @@ impl OpenHeap {
         Ok(())
     }
 
-    /// Where the words of the object stand, of which `count` bytes from `at` on are asked for.
+    /// The two halves in which the words of the object lie, if `count` bytes from `at` on lie within it.
     fn find(
         &self,
         h: Handle,
@@ -91,7 +91,7 @@ impl OpenHeap {
         Ok(halves)
     }
 
-    /// Where the words of the object of this address stand.
+    /// The two halves in which the words of the object with this address lie.
     fn halves(&self, h: Handle, place: u32) -> Halves
         ensures { result ≡ halves_of (job_of self.now.job) h.0 place }
     {

@@ -2,7 +2,7 @@
 ghost use Rattle.std.specs.Prelude.{◌≡◌, ℕ, ◌+◌, ◌<◌, ◌≤◌, slice_index};
 ghost use Rattle.step_ledger.specs.Counting.{RoseAtMost, RoseBy};
 ghost use Rattle.page_model.specs.Paging.{slot_words};
-ghost use Rattle.page_slots.specs.Freeing.{Vacates, steps_to_drop};
+ghost use Rattle.page_slots.specs.Release.{Vacates, steps_to_drop};
 ghost use Rattle.page_slots.specs.Tables.{AreTables, IsUsed, page_at, slot_at, tables};
 ghost use Rattle.slice_model.specs.State.{Clear};
 ghost use Rattle.slice_model.specs.Steps.{Ends};
@@ -16,8 +16,7 @@ use slice_model::JobSlot;
 use step_ledger::Steps;
 
 impl OpenHeap {
-    /// The slot of the job is zeros: it is filled where it must be, and else it is free, and no job is
-    /// pending.
+    /// The slot of the job is zeros. It is filled if it must be; else it is free, and no job is pending.
     pub(crate) fn end(&mut self, k: JobSlot, steps: &mut Steps)
         requires kept { IsValid (seen self.old) }
         requires job { job_of self.old.job ≡ Clear k }

@@ -1,11 +1,11 @@
-//! A slot that is vacant is filled where it must be.
+//! A vacant slot is filled if it must be.
 ghost use Rattle.std.specs.Prelude.{◌≡◌, ℕ, ◌+◌, ◌%◌, ◌^◌, ◌<◌, ◌≤◌, IsSome, IsTrue, Some, if◌then◌else◌, length, slice_index};
 ghost use Rattle.std.specs.FinMap as map;
 ghost use Rattle.step_ledger.specs.Counting.{RoseBy};
 ghost use Rattle.class_lists.specs.PageLists.{pages_in};
 ghost use Rattle.class_lists.specs.declared.Which.TheVariants.{NotFull};
 ghost use Rattle.page_pool.specs.Pool.{Pool};
-ghost use Rattle.page_slots.specs.Freeing.{IsFiller};
+ghost use Rattle.page_slots.specs.Release.{IsFiller};
 ghost use Rattle.page_slots.specs.Tables.{AreTables, tables};
 ghost use Rattle.proxy_table.specs.Proxies.{AreBelowLimit};
 ghost use Rattle.slice_model.specs.declared.job_slot.JobSlot.{JobSlot};
@@ -21,9 +21,8 @@ use step_ledger::Steps;
 use word_bytes::Header;
 
 impl OpenHeap {
-    /// Where the slot that is to be cleared fills the only page of its class but one that is partly
-    /// full, an object of that other page gets its address, and is to be carried there. Returns
-    /// whether it is so.
+    /// If the slot's page was full and another page of its class is partly full, an object of that
+    /// page gets the slot's address, and is to be carried there. Returns whether one did.
     pub(crate) fn fill(&mut self, k: JobSlot, steps: &mut Steps) -> bool
         requires kept { IsValid (seen self.old) }
         requires job { job_of self.old.job ≡ Clear k }

@@ -1,4 +1,4 @@
-//! An object goes.
+//! A free.
 ghost use Rattle.std.specs.Prelude.{◌≡◌, ◌+◌, ◌*◌, ◌-◌, ◌<◌, ◌≤◌, Some, length, slice_index, slice_set};
 ghost use Rattle.std.specs.FinMap as map;
 ghost use Rattle.cf_base.specs.Classes.{slots};
@@ -17,7 +17,7 @@ use step_ledger::Steps;
 use word_bytes::Header;
 
 impl OpenHeap {
-    /// Takes an object away, and does the first slice of the job that it leaves.
+    /// Frees an object, and does the first slice of the job that this leaves.
     pub fn free(&mut self, h: Handle, steps: &mut Steps) -> Result<(), SliceFault>
         requires { IsValid (seen self.old) }
         ensures step { Happens (plan_of (seen self.old)) (working_of (seen self.old)) (Free h.0 (fault_in result)) (working_of (seen self.new)) }
@@ -36,7 +36,7 @@ impl OpenHeap {
         Ok(())
     }
 
-    /// Takes a live object away while no job is pending.
+    /// Frees a live object while no job is pending.
     fn free_live(&mut self, h: Handle, place: u32, steps: &mut Steps)
         requires kept { IsValid (seen self.old) }
         requires idle { job_of self.old.job ≡ Idle }
@@ -51,7 +51,7 @@ impl OpenHeap {
         self.slice(steps);
     }
 
-    /// Takes a live object away: its slot is to be cleared.
+    /// Removes a live object. Its slot is then to be cleared.
     fn forget(&mut self, h: Handle, place: u32, steps: &mut Steps) -> JobSlot
         requires kept { IsValid (seen self.old) }
         requires idle { job_of self.old.job ≡ Idle }
@@ -75,7 +75,7 @@ impl OpenHeap {
         k
     }
 
-    /// Counts an object less in class c.
+    /// Counts one object less in class c.
     fn count_out(&mut self, c: u32)
         requires class { c < length self.old.classes.sizes }
         requires listed { c < length self.old.live }

@@ -16,9 +16,9 @@ use std::alloc::Global;
 use std::marker::Model;
 use step_ledger::Steps;
 
-/// A moving heap for several tasks. A free leaves its long work, to clear a slot or to carry an
-/// object to another one, as a job, of which each free and each step does a slice of at most so many
-/// words as the quantum says. Every class has at most one partly full page, and one more beside a job.
+/// A moving heap for several tasks. A free leaves its long work as a job: to clear a slot, or to carry
+/// an object to another one. The free and each step do a slice of it, of at most a quantum of words.
+/// Every class has at most one partly full page, and one more while a job is pending.
 #[derive(Drop)]
 pub struct SlicedHeap {
     alloc: Global,
@@ -55,7 +55,7 @@ impl SlicedHeap {
         self.inner.is_some()
     }
 
-    /// Opens an empty heap with these settings, whatever stood before, and slices of `quantum` words.
+    /// Opens an empty heap with these settings, whatever it held before, and slices of `quantum` words.
     /// The bound of partly full pages is 1, whatever the settings say. All memory is taken here. At
     /// `OutOfMemory` the heap is closed, and may be opened again.
     pub fn open_heap(&mut self, s: &Settings, quantum: u32) -> Result<(), OutOfMemory>
@@ -70,10 +70,10 @@ impl SlicedHeap {
         Ok(())
     }
 
-    /// Adds an object of `bytes` bytes, all zero, under a handle that wasn't live. It is refused for
-    /// `Size` where it needs more than a page, then for `Proxy` where every proxy is in use, then for
-    /// `Space` where with it the objects need more pages than there are, then as `Busy` where the only
-    /// room left is what a job still holds. A refusal changes nothing.
+    /// Adds an object of `bytes` bytes, all zero, under a handle that wasn't live. Fails with `Size` if
+    /// it needs more than a page, else with `Proxy` if every proxy is in use, else with `Space` if the
+    /// objects with it would need more pages than there are, else with `Busy` if only the slot of the
+    /// pending job is left. A refusal changes nothing.
     pub fn malloc(&mut self, bytes: u32, steps: &mut Steps) -> Result<Handle, SliceRefusal>
         requires open { IsTrue self.old.is_open }
         ensures step { Happens (plan_in self.old) (working_in self.old) (Malloc bytes result) (working_in self.new) }
@@ -88,9 +88,8 @@ impl SlicedHeap {
         }
     }
 
-    /// Takes an object away and does the first slice of the job that is left. It is refused as
-    /// `Unknown` where the handle isn't live, then as `Busy` where a job is pending, and then changes
-    /// nothing.
+    /// Frees an object and does the first slice of the job that this leaves. Fails with `Unknown` if the
+    /// handle isn't live, else with `Busy` if a job is pending. A refusal changes nothing.
     pub fn free(&mut self, h: Handle, steps: &mut Steps) -> Result<(), SliceFault>
         requires open { IsTrue self.old.is_open }
         ensures step { Happens (plan_in self.old) (working_in self.old) (Free h.0 (fault_in result)) (working_in self.new) }
@@ -105,7 +104,7 @@ impl SlicedHeap {
         }
     }
 
-    /// Does one slice of the job, where one is pending.
+    /// Does one slice of the job, if one is pending.
     pub fn step(&mut self, steps: &mut Steps)
         requires open { IsTrue self.old.is_open }
         ensures step { Happens (plan_in self.old) (working_in self.old) Step (working_in self.new) }
@@ -120,7 +119,7 @@ impl SlicedHeap {
         }
     }
 
-    /// The words left of the job, 0 where none is pending.
+    /// The words left of the job, 0 if none is pending.
     pub fn left(&self) -> u32
         requires open { IsTrue self.now.is_open }
         ensures { result ≡ left_of (plan_in self.now) (working_in self.now).state }
@@ -131,8 +130,8 @@ impl SlicedHeap {
         }
     }
 
-    /// Reads the bytes of an object from byte `at` on, as many as `out` holds, each where it stands. A
-    /// refusal leaves `out` as it was.
+    /// Fills `out` with the bytes of an object from byte `at` on, also of an object in motion. A refusal
+    /// leaves `out` as it was.
     pub fn read(
         &self,
         h: Handle,
@@ -153,8 +152,8 @@ impl SlicedHeap {
         }
     }
 
-    /// Writes bytes into an object from byte `at` on, each where it stands, and changes nothing else;
-    /// nor does a refusal.
+    /// Writes bytes into an object from byte `at` on, also of an object in motion, and changes nothing
+    /// else. A refusal changes nothing.
     pub fn write(
         &mut self,
         h: Handle,

@@ -1,6 +1,6 @@
-//! A moving heap for several tasks, whose free leaves the long work in slices: a job of at most a
-//! quantum of words in each call. The rules are those of Compact-fit (2008) with one partly full page
-//! to a class; an object in motion is read and written where its words stand.
+//! A moving heap for several tasks. A free leaves its long work as a job, of which each call does a
+//! slice of at most a quantum of words. The rules are those of Compact-fit (2008) with one partly full
+//! page to a class. An object in motion can be read and written.
 #![tactic(auto)]
 
 mod access;

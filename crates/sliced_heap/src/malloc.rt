@@ -1,11 +1,11 @@
-//! An object comes.
+//! A malloc.
 ghost use Rattle.std.specs.Prelude.{◌≡◌, ◌≢◌, ◌+◌, ◌<◌, ◌≤◌, ◌↔◌, IsTrue, None, length, slice_index, slice_set};
 ghost use Rattle.std.specs.FinMap as map;
 ghost use Rattle.cf_base.specs.Classes.{slots};
 ghost use Rattle.step_ledger.specs.Counting.{RoseAtMost, RoseBy};
 ghost use Rattle.page_model.specs.Image.{header_word};
 ghost use Rattle.page_slots.specs.Tables.{AreTables, tables};
-ghost use Rattle.page_slots.specs.Taking.{TakesSlot, steps_to_take};
+ghost use Rattle.page_slots.specs.Take.{TakesSlot, steps_to_take};
 ghost use Rattle.proxy_table.specs.Proxies.{AreBelowLimit, with_place};
 ghost use Rattle.slice_model.specs.Runs.{Happens, Malloc};
 ghost use Rattle.sliced_heap.specs.Costs.{malloc_steps};
@@ -45,7 +45,7 @@ impl OpenHeap {
         Ok(handle)
     }
 
-    /// How many pages more are needed for one more object of class c: one, or none.
+    /// How many more pages one more object of class c needs: one, or none.
     pub(crate) fn opens_page(&self, c: u32) -> u32
         requires class { c < length self.now.classes.sizes }
         requires listed { c < length self.now.live }
@@ -59,7 +59,7 @@ impl OpenHeap {
         }
     }
 
-    /// Whether with one more object of class c more pages are needed than there are.
+    /// Whether the objects would need more pages than there are with one more of class c.
     fn is_over(&self, c: u32) -> bool
         requires class { c < length self.now.classes.sizes }
         requires listed { c < length self.now.live }
@@ -70,7 +70,7 @@ impl OpenHeap {
         self.needed + self.opens_page(c) > self.settings.pages
     }
 
-    /// Takes a free slot of class c; none where there is no room.
+    /// Takes a free slot of class c; none if there is none.
     fn take_slot(&mut self, c: u32, steps: &mut Steps) -> Option<u32>
         requires tables { AreTables self.old.classes (tables self.old.maps.items self.old.lists self.old.pool) }
         requires class { c < length self.old.classes.sizes }
@@ -91,7 +91,7 @@ impl OpenHeap {
         )
     }
 
-    /// Gives an object of so many zeros at an address its number and its header.
+    /// Gives an object of `bytes` zeros at an address its number and its header.
     fn bind(&mut self, place: u32, bytes: u32, steps: &mut Steps) -> Handle
         requires some { map.len self.old.proxies.places ≢ self.old.proxies.limit }
         requires within { place < length self.old.region }

@@ -15,7 +15,7 @@ use slice_words::{carry_next, clear_next, words_of_slice};
 use step_ledger::Steps;
 
 impl OpenHeap {
-    /// Does one slice of the job, where one is pending.
+    /// Does one slice of the job, if one is pending.
     pub fn step(&mut self, steps: &mut Steps)
         requires { IsValid (seen self.old) }
         ensures step { Happens (plan_of (seen self.old)) (working_of (seen self.old)) Step (working_of (seen self.new)) }
@@ -26,7 +26,7 @@ impl OpenHeap {
         self.slice(steps);
     }
 
-    /// The words left of the job, 0 where none is pending.
+    /// The words left of the job, 0 if none is pending.
     pub fn left(&self) -> u32
         requires { IsValid (seen self.now) }
         ensures { result ≡ left_of (plan_of (seen self.now)) (state_of (seen self.now)) }
@@ -53,7 +53,7 @@ impl OpenHeap {
         }
     }
 
-    /// How many words of the job of this slot a slice does.
+    /// The number of words that a slice does of the job of this slot.
     fn words_of(&self, k: JobSlot) -> u32
         requires class { k.class < length self.now.classes.sizes }
         requires done { k.done ≤ slice_index self.now.classes.sizes k.class }

@@ -1,4 +1,4 @@
-//! What the heap keeps.
+//! The fields of the heap.
 use super::SlicedHeap;
 use crate::open_heap::{CLASSES, OpenHeap, Pending};
 use cf_base::Settings;

@@ -1,8 +1,8 @@
 use Rattle.std.proofs.Common.{arith, refl}
 use Rattle.slice_model.specs.State.{Move}
 use Rattle.sliced_heap.specs.Heap.{seen}
-use Rattle.sliced_heap.proofs.ClearSlices.{carry_apart, carry_does, carry_ended, carry_known, carry_source, carry_target}
-use Rattle.sliced_heap.proofs.Slicing.{all_zeros, goes_on, goes_on_valid, goes_to_end, vacated_valid}
+use Rattle.sliced_heap.proofs.SliceWords.{carry_apart, carry_does, carry_ended, carry_known, carry_source, carry_target}
+use Rattle.sliced_heap.proofs.SliceLemmas.{all_zeros, goes_on, goes_on_valid, goes_to_end, vacated_valid}
 use Rattle.sliced_heap.proofs.open_heap.OpenHeap.carry_slice.Goals as goal
 
 pub unreachable-requires : goal.unreachable-requires

@@ -1,5 +1,5 @@
 use Rattle.std.proofs.Common.{subst}
-use Rattle.page_slots.specs.Freeing.{IsFiller}
+use Rattle.page_slots.specs.Release.{IsFiller}
 use Rattle.sliced_heap.proofs.open_heap.OpenHeap.carry_to.Goals as goal
 
 pub read-requires : goal.read-requires

@@ -1,8 +1,8 @@
 use Rattle.std.proofs.Common.{arith, refl}
 use Rattle.slice_model.specs.State.{Clear}
 use Rattle.sliced_heap.specs.Heap.{seen}
-use Rattle.sliced_heap.proofs.ClearSlices.{clear_ended, clear_within}
-use Rattle.sliced_heap.proofs.Slicing.{all_zeros, goes_on, goes_on_valid, goes_to_end, vacated_valid}
+use Rattle.sliced_heap.proofs.SliceWords.{clear_ended, clear_within}
+use Rattle.sliced_heap.proofs.SliceLemmas.{all_zeros, goes_on, goes_on_valid, goes_to_end, vacated_valid}
 use Rattle.sliced_heap.proofs.open_heap.OpenHeap.clear_slice.Goals as goal
 
 pub clear_next-requires-clause-within : goal.clear_next-requires-clause-within

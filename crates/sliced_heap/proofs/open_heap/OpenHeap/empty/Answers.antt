@@ -1,5 +1,5 @@
 use Rattle.std.proofs.Common.{refl}
-use Rattle.sliced_heap.proofs.Opening.{first_new, first_valid}
+use Rattle.sliced_heap.proofs.OpenLemmas.{first_new, first_valid}
 use Rattle.sliced_heap.proofs.open_heap.OpenHeap.empty.Goals as goal
 
 pub returns-clause-kept : goal.returns-clause-kept

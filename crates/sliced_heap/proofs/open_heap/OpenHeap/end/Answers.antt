@@ -5,7 +5,7 @@ use Rattle.sliced_heap.specs.Heap.{Heap, seen}
 use Rattle.sliced_heap.specs.Layout.{tables_in}
 use Rattle.sliced_heap.specs.Steps.{Fills, StaysVacant}
 use Rattle.sliced_heap.specs.declared.open_heap.OpenHeap.{OpenHeap}
-use Rattle.sliced_heap.proofs.Ending.{filled_ends, idle_at, slot_used}
+use Rattle.sliced_heap.proofs.EndLemmas.{filled_ends, idle_at, slot_used}
 use Rattle.sliced_heap.proofs.open_heap.OpenHeap.end.Goals as goal
 
 pub returns-then-fill-clause-ended : goal.returns-then-fill-clause-ended

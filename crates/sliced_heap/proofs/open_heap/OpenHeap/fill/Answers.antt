@@ -4,12 +4,12 @@ use Rattle.std.proofs.lemmas.Bool.{false≢true}
 use Rattle.class_lists.specs.PageLists.{pages_in}
 use Rattle.class_lists.specs.declared.Which.TheVariants.{NotFull}
 use Rattle.page_model.specs.Steps.{MustMove}
-use Rattle.page_slots.specs.Freeing.{MovesObject}
+use Rattle.page_slots.specs.Release.{MovesObject}
 use Rattle.page_slots.specs.Tables.{page_at}
 use Rattle.slice_model.specs.State.{stand_in}
 use Rattle.sliced_heap.specs.Heap.{seen}
 use Rattle.sliced_heap.specs.Layout.{paging_at}
-use Rattle.sliced_heap.proofs.Filling.{all_are, carried_partly, carried_valid, from_within, is_filled, must_is, number_live, page_within}
+use Rattle.sliced_heap.proofs.FillLemmas.{all_are, carried_partly, carried_valid, from_within, is_filled, must_is, number_live, page_within}
 use Rattle.sliced_heap.proofs.open_heap.OpenHeap.fill.Goals as goal
 
 pub must_move-requires-clause-page : goal.must_move-requires-clause-page

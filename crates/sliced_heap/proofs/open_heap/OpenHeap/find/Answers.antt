@@ -1,6 +1,6 @@
 use Rattle.std.proofs.Common.{arith, sym}
 use Rattle.sliced_heap.specs.Heap.{seen}
-use Rattle.sliced_heap.proofs.Reaching.{head_from, head_to, lies, passes, unknown}
+use Rattle.sliced_heap.proofs.AccessLemmas.{head_from, head_to, lies, passes, unknown}
 use Rattle.sliced_heap.proofs.open_heap.OpenHeap.find.Goals as goal
 use Rattle.sliced_heap.proofs.open_heap.OpenHeap.find.Goals.{then-length-count-via-then-length-count}
 use Rattle.sliced_heap.proofs.open_heap.OpenHeap.find.Goals.{then-length-count-via-else-length-count+then-length-count-2}

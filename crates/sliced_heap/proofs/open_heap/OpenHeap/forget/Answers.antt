@@ -6,8 +6,8 @@ use Rattle.slice_model.specs.Steps.{fresh_slot}
 use Rattle.sliced_heap.specs.Heap.{seen}
 use Rattle.sliced_heap.specs.Layout.{opens}
 use Rattle.sliced_heap.specs.declared.open_heap.OpenHeap.{OpenHeap}
-use Rattle.sliced_heap.proofs.Forgetting.{forgets_at, live_some, needed_some}
-use Rattle.sliced_heap.proofs.Finding.{class_found, found, has_class, place_in}
+use Rattle.sliced_heap.proofs.ForgetLemmas.{forgets_at, live_some, needed_some}
+use Rattle.sliced_heap.proofs.FindLemmas.{class_found, found, has_class, place_in}
 use Rattle.sliced_heap.proofs.open_heap.OpenHeap.forget.Goals as goal
 
 pub read-requires : goal.read-requires

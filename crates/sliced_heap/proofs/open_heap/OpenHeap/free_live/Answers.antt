@@ -1,5 +1,5 @@
 use Rattle.sliced_heap.specs.Heap.{seen}
-use Rattle.sliced_heap.proofs.Removing.{frees_from}
+use Rattle.sliced_heap.proofs.FreeLemmas.{frees_from}
 use Rattle.sliced_heap.proofs.StepCounts.{free_takes}
 use Rattle.sliced_heap.proofs.open_heap.OpenHeap.free_live.Goals as goal
 

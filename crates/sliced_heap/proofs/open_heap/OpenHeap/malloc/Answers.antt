@@ -2,7 +2,7 @@ use Rattle.std.proofs.Common.{length, get_or, arith, refl, sym, ◌∙◌, ap}
 use Rattle.sliced_heap.specs.Heap.{seen}
 use Rattle.sliced_heap.specs.Layout.{working_of}
 use Rattle.sliced_heap.specs.declared.open_heap.OpenHeap.{OpenHeap}
-use Rattle.sliced_heap.proofs.Giving.{given_from, live_room, place_inside, wants_proxy, wants_slot, wants_space, within_of}
+use Rattle.sliced_heap.proofs.MallocLemmas.{given_from, live_room, place_inside, wants_proxy, wants_slot, wants_space, within_of}
 use Rattle.sliced_heap.proofs.open_heap.OpenHeap.malloc.Goals as goal
 
 pub returns-then-live-self-clause-step : goal.returns-then-live-self-clause-step

@@ -1,6 +1,6 @@
 use Rattle.std.proofs.Common.{length, refl}
 use Rattle.sliced_heap.specs.Heap.{seen}
-use Rattle.sliced_heap.proofs.Reaching.{part_from, part_read, part_short, part_to}
+use Rattle.sliced_heap.proofs.AccessLemmas.{part_from, part_read, part_short, part_to}
 use Rattle.sliced_heap.proofs.open_heap.OpenHeap.read.Goals as goal
 
 pub read_halves-requires-clause-short : goal.read_halves-requires-clause-short

@@ -1,6 +1,6 @@
 use Rattle.std.proofs.Common.{length, arith, refl}
 use Rattle.sliced_heap.specs.Heap.{Heap, seen}
-use Rattle.sliced_heap.proofs.Reaching.{part_apart, part_from, part_short, part_to, part_valid, part_written}
+use Rattle.sliced_heap.proofs.AccessLemmas.{part_apart, part_from, part_short, part_to, part_valid, part_written}
 use Rattle.sliced_heap.proofs.open_heap.OpenHeap.write.Goals as goal
 
 pub write_halves-requires-clause-short : goal.write_halves-requires-clause-short

@@ -16,14 +16,14 @@ use Rattle.slice_model.proofs.CallerLemmas.{job_class, kept_slice, slot_stays, w
 use Rattle.sliced_heap.specs.Heap.{Heap}
 use Rattle.sliced_heap.specs.Layout.{IsValid, paging_at, plan_of, state_of, tables_in, working_of}
 use Rattle.sliced_heap.proofs.Facts.{held_bytes, places_are, plan_ok}
-use Rattle.sliced_heap.proofs.HeldIs.{AreEnded}
+use Rattle.sliced_heap.proofs.HeldFromWords.{AreEnded}
 use Rattle.sliced_heap.proofs.Preserved.{Becomes, becomes_plan, becomes_state, becomes_valid}
 
 -- the same state, by its job
 pub state_at : (h : Heap) (j : Job) → h.job ≡ j → state_of h ≡ record { held = (state_of h).held; job = j }
 state_at h j at = ap (λ j. record { held = (state_of h).held; job = j }) at
 
--- a slice of this job, where it is the heap's
+-- a slice of this job, if it is the heap's
 pub slices_at : (plan : Plan) (old : Working) (j : Job) → old.state.job ≡ j → (new : Working)
     → IsSlice plan (record { held = old.state.held; job = j }) new.state
     → DoesWords old.state.held j (words_of_slice plan (job_slot j)) old.words new.words → Slices plan old new
@@ -95,7 +95,7 @@ module _ (h n : Heap) (k : IsValid h) (same : KeepsTables h n) (j : Job) (at : h
   slot_at : job_slot h.job ≡ Some g
   slot_at = ap job_slot at ∙ slot
 
-  -- as many words as a slice does
+  -- the number of words that a slice does
   module _ (does : DoesWords (state_of h).held j (min h.quantum (slot_words (paging_at h) g.class - g.done)) h.words n.words) where
     does_slice : DoesWords m j (words_of_slice (plan_of h) (job_slot j)) h.words n.words
     does_slice = subst (λ o. DoesWords m j (words_of_slice (plan_of h) o) h.words n.words) (sym slot) does

@@ -1,4 +1,4 @@
--- The objects that words and addresses tell beside a job are those whose words they are.
+-- The objects that words and addresses hold beside a job are those whose words they are.
 use Rattle.std.proofs.Common.{◌≡◌, ℕ, ◌+◌, ◌-◌, ◌*◌, ◌<◌, ◌≤◌, List, Option, Some, None, length, get_or, arith, refl, sym, ◌∙◌, ap, subst}
 use Rattle.std.specs.Prelude.{option_map}
 use Rattle.std.specs.Ordering.{nat_cmp}
@@ -24,7 +24,7 @@ use Rattle.sliced_heap.specs.Layout.{carried_to, completed}
 pub place_there : (m : Held) (at : FinMap nat_cmp ℕ) → at ≡ places m → (q : ℕ) (x : Placed) → get m q ≡ Some x → get at q ≡ Some x.place
 place_there m at e q x there = ap (λ n. get n q) e ∙ get-map_values (λ (y : Placed). y.place) m q ∙ ap (option_map (λ (y : Placed). y.place)) there
 
--- the object that a job carries is of the class of its slot, whatever is done of it
+-- the object that a job carries is of the class of its slot, however much is done
 pub mover_at : (p : Paging) (m : Held) (q : ℕ) (k : JobSlot) (x : Placed) → get m q ≡ Some x → class_at p x ≡ k.class → (d : ℕ)
     → (g : JobSlot) (h : ℕ) (y : Placed) → Move q (record k { done = d }) ≡ Move h g → get m h ≡ Some y → class_at p y ≡ g.class
 mover_at p m q k x there class d g h y move there' =
@@ -35,7 +35,7 @@ mover_at p m q k x there class d g h y move there' =
     let f' : x ≡ y = cc in
     sym (ap (class_at p) f') ∙ class ∙ ap (λ (z : JobSlot). z.class) b
 
--- The words when all that is left of a job is done: those of no job, and zeros in the job's slot.
+-- The words once all that is left of a job is done: those of no job, and zeros in the job's slot.
 pub record AreEnded (p : Paging) (m : Held) (k : JobSlot) (words : List ℕ) : Type 0 where
   pub idle : HasWords p (record { held = m; job = Idle }) words
   pub zeros : (i : ℕ) → i < slot_words p k.class → get_or words (k.address + i) 0 ≡ 0
@@ -65,7 +65,7 @@ module _ (plan : Plan) (ok : IsPlan plan) (m : Held) (k : JobSlot) (words words'
         zeros = λ i lt. after.done (record k { done = k.done + n }) refl i (omega arith);
       }
 
--- the part of the job's slot that is yet to be carried is apart from where it goes
+-- the part of the job's slot that is yet to be carried is apart from its new place
 pub parts_apart : (plan : Plan) → IsPlan plan → (m : Held) (q : ℕ) (k : JobSlot) → IsKept plan (record { held = m; job = Move q k }) → (x : Placed)
     → get m q ≡ Some x → class_at plan.paging x ≡ k.class → (n : ℕ) → k.done + n ≤ slot_words plan.paging k.class
     → IsDisjoint (k.address + k.done) n (x.place + k.done) n

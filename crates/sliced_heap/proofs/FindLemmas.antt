@@ -24,7 +24,7 @@ module _ (h : Heap) (k : IsValid h) (idle : h.job ≡ Idle) (q a : ℕ) (known :
   head_at : a ≡ word_at h.job q w.0 0
   head_at = sym w.2 ∙ (let e : w.0.place ≡ w.0.place + 0 = omega arith in e) ∙ sym (ap (λ j. word_at j q w.0 0) idle)
 
-  -- its header tells its length
+  -- its header holds its length
   module _ (size : ℕ) (told : size ≡ get_or h.words a 0 / 2 ^ 32) where
     pub length_told : size ≡ length (found h k q a known).0.bytes
     length_told = told ∙ head_length h k q w.0 w.1 a head_at

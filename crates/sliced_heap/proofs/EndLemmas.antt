@@ -6,7 +6,7 @@ use Rattle.page_model.specs.Held.{Held}
 use Rattle.page_model.specs.Paging.{page_of, slot_words}
 use Rattle.page_model.specs.Steps.{MustMove}
 use Rattle.page_model.proofs.CallerLemmas.{within_or}
-use Rattle.page_slots.specs.Freeing.{Vacates}
+use Rattle.page_slots.specs.Release.{Vacates}
 use Rattle.page_slots.specs.Occupying.{Occupies, class_table}
 use Rattle.page_slots.specs.Tables.{AreTables, IsUsed, page_at, slot_at}
 use Rattle.page_slots.proofs.CallerLemmas.{vacated_occupied, vacated_tell}
@@ -21,12 +21,12 @@ use Rattle.sliced_heap.specs.Heap.{Heap}
 use Rattle.sliced_heap.specs.Layout.{IsValid, paging_at, plan_of, state_of, tables_in}
 use Rattle.sliced_heap.specs.Steps.{IsFilled}
 use Rattle.sliced_heap.proofs.Facts.{held_bytes, paging_ok, places_are, plan_ok, table_is}
-use Rattle.sliced_heap.proofs.Filling.{all_are, at_last, class_in, kept_clear, last_done, none_there, occupied_clear, sound_clear}
-use Rattle.sliced_heap.proofs.Filling.{stand_class, stand_there, two, words_clear}
+use Rattle.sliced_heap.proofs.FillLemmas.{all_are, at_last, class_in, kept_clear, last_done, none_there, occupied_clear, sound_clear}
+use Rattle.sliced_heap.proofs.FillLemmas.{stand_class, stand_there, two, words_clear}
 use Rattle.sliced_heap.proofs.Places.{taken_again}
 use Rattle.sliced_heap.proofs.Preserved.{Becomes, becomes_plan, becomes_state, becomes_valid}
 
--- where an object is to be carried to the slot, the next job follows
+-- if an object is to be carried to the slot, the next job follows
 pub filled_ends : (h : Heap) (k : IsValid h) (g : JobSlot) → h.job ≡ Clear g → (n : Heap) → IsFilled h g n → Ends (paging_at h) (state_of h).held g (state_of n)
 filled_ends h k g at n f =
     let must : MustMove (paging_at h) (insert (state_of h).held h.settings.proxies (stand_in (paging_at h) g)) (stand_in (paging_at h) g) =
@@ -119,7 +119,7 @@ module _ (h : Heap) (k : IsValid h) (g : JobSlot) (at : h.job ≡ Clear g) where
     pub idle_ends : Ends (paging_at h) (state_of h).held g (state_of n)
     idle_ends = subst (Ends (paging_at h) m g) (sym (becomes_state h n k s becomes)) ends_idle
 
--- the same where the heap is one that equals h
+-- the same for a heap that equals h
 pub idle_at : (h : Heap) (k : IsValid h) (g : JobSlot) → h.job ≡ Clear g → ¬ MustMove (paging_at h) (occupied (plan_of h) (state_of h))
     (stand_in (paging_at h) g)
     → ((i : ℕ) → i < slot_words (paging_at h) g.class → get_or h.words (g.address + i) 0 ≡ 0) → (t n : Heap) → t ≡ h

@@ -14,7 +14,7 @@ use Rattle.slice_model.proofs.CallerLemmas.{job_within, object_within}
 use Rattle.sliced_heap.specs.Heap.{Heap}
 use Rattle.sliced_heap.specs.Layout.{IsValid, paging_at, plan_of, state_of}
 use Rattle.sliced_heap.proofs.Facts.{place_known, plan_ok}
-use Rattle.sliced_heap.proofs.HeldIs.{AreEnded, carried_all, cleared_all, parts_apart}
+use Rattle.sliced_heap.proofs.HeldFromWords.{AreEnded, carried_all, cleared_all, parts_apart}
 
 module _ (h : Heap) (k : IsValid h) (g : JobSlot) where
   sizes_are : get_or h.classes.sizes g.class 0 ≡ slot_words (paging_at h) g.class

@@ -1,4 +1,4 @@
--- An object comes: a malloc, and why one is refused.
+-- A malloc, and why one is refused.
 use Rattle.std.proofs.Common.{◌≡◌, ◌≢◌, ℕ, ◌+◌, ◌<◌, ◌≤◌, List, length, get_or, set, replicate, Some, None, arith, refl, sym, ◌∙◌, ap, subst, inl, inr}
 use Rattle.std.specs.Prelude.{◌↔◌, Bool, IsTrue, false, nat_eq, option_map}
 use Rattle.std.proofs.lemmas.Bool.{cases_lt, false≢true}
@@ -18,7 +18,7 @@ use Rattle.page_model.specs.Paging.{Paging, class_for, classes, slots_of}
 use Rattle.page_model.specs.Steps.{IsFreePlace, zeros_at}
 use Rattle.page_model.proofs.CallerLemmas.{len-objects, live_added, malloc_objects, malloc_places, one_le, slot_inside, zeros_are_bytes}
 use Rattle.page_slots.specs.Tables.{AreTables, Tables}
-use Rattle.page_slots.specs.Taking.{TakesAt, TakesSlot}
+use Rattle.page_slots.specs.Take.{TakesAt, TakesSlot}
 use Rattle.page_slots.specs.Occupying.{Occupies, Tell, class_table}
 use Rattle.page_slots.proofs.CallerLemmas.{refused_lacks_room, taken_is_free, taken_occupied, taken_tell}
 use Rattle.proxy_table.specs.Proxies.{AreBelowLimit, with_place}
@@ -245,7 +245,7 @@ module _ (h : Heap) (k : IsValid h) (bytes c : ℕ) (found : Some c ≡ class_of
             words = writes;
           }
 
--- where the test that the sum is over fails
+-- if the test that the sum is over fails
 pub within_of : (b : Bool) (x y : ℕ) → (IsTrue b ↔ (y < x)) → b ≡ false → x ≤ y
 within_of b x y iff fails = elim (cases_lt y x) [
   | inl lt ↦ absurd (false≢true (sym fails ∙ iff.1 lt))
@@ -293,7 +293,7 @@ module _ (h t b n : Heap) (a q c w : ℕ) (et : t ≡ record h { maps = t.maps; 
   unfolding with_tables
   all_changes = by_taken ∙ ap with_tables (sym on_taken)
 
--- so the object has come
+-- so the object is added
 pub given_from : (h : Heap) (k : IsValid h) (bytes c : ℕ) → Some c ≡ class_of h.classes.sizes bytes → len h.proxies.places ≢ h.settings.proxies
     → h.needed + opens (slots h.classes.page_words h.classes.sizes c) (get_or h.live c 0) ≤ h.settings.pages → (t b n : Heap) (a q : ℕ)
     → TakesAt h.classes (tables_in h) c a (tables_in t) → AreTables h.classes (tables_in t) → t ≡ record h { maps = t.maps; lists = t.lists; pool = t.pool }

@@ -1,4 +1,4 @@
--- Parts of objects that are read or written, where their words stand.
+-- Parts of objects that are read or written, by the halves in which their words lie.
 use Rattle.std.proofs.Common.{◌≡◌, ℕ, ◌+◌, ◌/◌, ◌%◌, ◌^◌, ◌<◌, ◌≤◌, List, length, get_or, Some, None, arith, refl, sym, ◌∙◌, ap, subst, inl, inr}
 use Rattle.std.specs.Prelude.{option_map}
 use Rattle.std.proofs.lemmas.Bool.{cases_eq}
@@ -12,7 +12,7 @@ use Rattle.page_model.specs.Bytes.{AreBytes, written}
 use Rattle.page_model.specs.Held.{Held, Placed, objects, places}
 use Rattle.page_model.specs.Image.{slot_for}
 use Rattle.page_model.specs.Paging.{Paging, class_for, slot_words}
-use Rattle.page_model.proofs.CallerLemmas.{inserted_there, length-written, written_are_bytes}
+use Rattle.page_model.proofs.CallerLemmas.{bytes_held, inserted_there, length-written, written_are_bytes}
 use Rattle.page_slots.specs.Occupying.{Occupies, Tell}
 use Rattle.page_slots.proofs.CallerLemmas.{rewritten_occupied}
 use Rattle.proxy_table.specs.Proxies.{AreBelowLimit}
@@ -20,7 +20,7 @@ use Rattle.slice_model.specs.declared.job_slot.JobSlot.{JobSlot}
 use Rattle.slice_model.specs.State.{Job, Sliced, job_slot, occupied, Idle, Clear, Move}
 use Rattle.slice_model.specs.Runs.{IsOutOfReach, Reads, Writes}
 use Rattle.slice_model.specs.Words.{RewritesObject}
-use Rattle.slice_model.proofs.CallerLemmas.{beside, bytes_there, inserted_beside, job_within, kept_apart, kept_write, mover_class, own_words_at, words_written}
+use Rattle.slice_model.proofs.CallerLemmas.{beside, inserted_beside, job_within, kept_apart, kept_write, mover_class, own_words_at, words_written}
 use Rattle.slice_words.specs.Halves.{AreApart, byte_in, halves_of, place_of_word}
 use Rattle.slice_words.specs.Writes.{WritesBytes}
 use Rattle.slice_words.specs.declared.halves.Halves.{Halves}
@@ -31,7 +31,7 @@ use Rattle.sliced_heap.specs.Access.{Lies}
 use Rattle.sliced_heap.proofs.Facts.{has_place, held_bytes, no_place, plan_ok, places_are}
 use Rattle.sliced_heap.proofs.Headers.{bytes_few, head_length, holds, inside, number_low}
 use Rattle.sliced_heap.proofs.Counts.{live_rewritten, needed_same}
-use Rattle.sliced_heap.proofs.HeldIs.{place_there}
+use Rattle.sliced_heap.proofs.HeldFromWords.{place_there}
 use Rattle.sliced_heap.proofs.Preserved.{Becomes, becomes_plan, becomes_state, becomes_valid}
 
 -- the halves of an object, one of which may be in the job's slot
@@ -66,7 +66,7 @@ module _ (h : Heap) (k : IsValid h) (q : ℕ) (x : Placed) (there : get (state_o
       let long = k.words_long in
       omega arith))
 
-  -- no two words of different halves stand at one place
+  -- no two words of different halves have one address
   pub apart : (n : ℕ) → n ≤ slot_for (paging_at h) (length x.bytes) → AreApart (halves_of h.job q x.place) n
   apart n le i j lt ge less same =
       let a = word_low s i lt in
@@ -80,7 +80,7 @@ module _ (h : Heap) (k : IsValid h) (q : ℕ) (x : Placed) (there : get (state_o
   -- a part that passes the end, and one that doesn't
   pub out_of_reach : (from count : ℕ) → length x.bytes < from + count
       → (v : List ℕ) × (get (objects (state_of h).held) q ≡ Some v) × (length v < from + count)
-  out_of_reach from count more = (x.bytes, bytes_there m q x there, more)
+  out_of_reach from count more = (x.bytes, bytes_held m q x there, more)
 
   -- bytes that are read
   pub reads : (at count : ℕ) → at + count ≤ length x.bytes → (out : List ℕ) → length out ≡ count
@@ -115,7 +115,7 @@ module _ (h : Heap) (k : IsValid h) (q : ℕ) (x : Placed) (there : get (state_o
     same_class = ap (class_for (paging_at h)) size
 
     some : get (objects m) q ≡ Some x.bytes
-    some = bytes_there m q x there
+    some = bytes_held m q x there
 
     objects_are : objects (insert m q z) ≡ insert (objects m) q (written x.bytes at bytes)
     objects_are = map_values-insert (λ (y : Placed). y.bytes) m q z
@@ -196,7 +196,7 @@ module _ (h : Heap) (k : IsValid h) (q a : ℕ) (known : get h.proxies.places q 
   head_from = (let w = (within h k q x found.1).1 in let o = holds h k q x found.1 in
       let e : s.from ≡ (halves_of h.job q x.place).from = ap (λ (y : Halves). y.from) halves_are in omega arith)
 
-  -- the length that the header tells
+  -- the length that the header holds
   module _ (size : ℕ) (told : size ≡ get_or h.words (place_of_word s 0) 0 / 2 ^ 32) where
     size_is : size ≡ length x.bytes
     size_is = told ∙ head_length h k q x found.1 (place_of_word s 0) (ap (λ y. place_of_word y 0) halves_are ∙ word_by_halves h.job q x 0)

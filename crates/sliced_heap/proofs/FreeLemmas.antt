@@ -1,4 +1,4 @@
--- A free put together: the object goes, its slot is filled where it must be, and a slice follows.
+-- A free in whole: the object is removed, its slot is filled if it must be, and a slice follows.
 use Rattle.std.proofs.Common.{◌≡◌, ◌≢◌, ℕ, ◌*◌, ◌-◌, ◌<◌, replicate, Bool, true, false, Some, None, arith, sym, ◌∙◌, ap, subst}
 use Rattle.std.specs.FinMap.{get, insert, remove}
 use Rattle.cf_lemmas.proofs.Maps.{get_remove_other, some_removed}
@@ -42,7 +42,7 @@ module _ (h : Heap) (k : IsValid h) (idle : h.job ≡ Idle) (q : ℕ) (x : Place
       let none = no_stand_in (plan_of h) m k.kept.numbers in
       get_remove_other m q h.settings.proxies (λ e. other_than m h.settings.proxies q x none there (sym e)) ∙ none
 
-  -- as many objects of each class stand on each page, with the slot's stand-in in the place of the object
+  -- each page holds the same number of objects of each class, with the slot's placeholder in place of the object
   same_counts : (d page : ℕ) → objects_on (paging_at h) all d page ≡ objects_on (paging_at h) m d page
   same_counts d page = objects_on-exchanged (paging_at h) m q x there h.settings.proxies
       (replicate (8 * (slot_words (paging_at h) c - 1)) 0) none_left stand_class d page
@@ -50,7 +50,7 @@ module _ (h : Heap) (k : IsValid h) (idle : h.job ≡ Idle) (q : ℕ) (x : Place
   same_open : not_full_pages (paging_at h) all c ≡ not_full_pages (paging_at h) m c
   same_open = not_full-same (paging_at h) m all c (λ page. same_counts c page)
 
-  -- so a free of the one has to move an object exactly where a free of the other has
+  -- so a free of the one has to move an object if and only if a free of the other has
   pub must_of_stand : MustMove (paging_at h) (insert (remove (state_of h).held q) h.settings.proxies
       (stand_in (paging_at h) (fresh_slot x.place (class_at (paging_at h) x))))
       (stand_in (paging_at h) (fresh_slot x.place (class_at (paging_at h) x))) → MustMove (paging_at h) (state_of h).held x
@@ -156,7 +156,7 @@ module _ (h : Heap) (k : IsValid h) (idle : h.job ≡ Idle) (q : ℕ) (x : Place
       frees true v = filled_frees v
       frees false v = vacant_frees v
 
--- the same by what the parts of a free tell
+-- the same from the clauses of the parts of a free
 pub frees_from : (h : Heap) (k : IsValid h) → h.job ≡ Idle → (q : ℕ) (g : JobSlot) (a b n : Heap) → Forgets h q g a → IsValid a → (filled : Bool)
     → Fills a g filled b
     → Slices (plan_of b) (working_of b) (working_of n) → Frees (plan_of h) (working_of h) q (working_of n)

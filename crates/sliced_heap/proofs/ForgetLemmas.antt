@@ -1,4 +1,4 @@
--- An object goes, and its slot is to be cleared.
+-- An object is freed, and its slot is to be cleared.
 use Rattle.std.proofs.Common.{◌≡◌, ℕ, ◌+◌, ◌-◌, ◌*◌, ◌<◌, ◌≤◌, length, get_or, set, replicate, Some, arith, refl, sym, ◌∙◌, ap, subst}
 use Rattle.std.specs.Prelude.{nat_eq}
 use Rattle.std.proofs.lemmas.List.{length-set}
@@ -12,14 +12,14 @@ use Rattle.cf_lemmas.proofs.Tallies.{counted_out}
 use Rattle.page_model.specs.Arrangement.{class_at, live, pages_needed}
 use Rattle.page_model.specs.Held.{Held, Placed, objects}
 use Rattle.page_model.specs.Paging.{slot_words, slots_of}
-use Rattle.page_model.proofs.CallerLemmas.{live_taken, sound_exchanged}
+use Rattle.page_model.proofs.CallerLemmas.{bytes_held, live_taken, sound_exchanged}
 use Rattle.page_slots.specs.Occupying.{Occupies, Tell}
 use Rattle.proxy_table.specs.Proxies.{AreBelowLimit, without_place}
 use Rattle.size_classes.specs.Table.{ClassTable}
 use Rattle.slice_model.specs.State.{Plan, IsPlan, Sliced, IsKept, occupied, Idle, Clear}
 use Rattle.slice_model.specs.Steps.{fresh_slot}
 use Rattle.slice_model.specs.Words.{HasWords}
-use Rattle.slice_model.proofs.CallerLemmas.{bytes_there, no_stand_in, other_than, stand_in_class, words_to_clear}
+use Rattle.slice_model.proofs.CallerLemmas.{no_stand_in, other_than, stand_in_class, words_to_clear}
 use Rattle.sliced_heap.specs.Heap.{Heap}
 use Rattle.sliced_heap.specs.Layout.{IsValid, opens, paging_at, plan_of, state_of, tables_in}
 use Rattle.sliced_heap.specs.Steps.{Forgets}
@@ -63,7 +63,7 @@ module _ (h : Heap) (k : IsValid h) (idle : h.job ≡ Idle) (q : ℕ) (x : Place
   c = class_at (paging_at h) x
 
   left : get (objects (state_of h).held) q ≡ Some x.bytes
-  left = bytes_there m q x there
+  left = bytes_held m q x there
 
   listed : c < length h.live
   listed = (let few = few_classes h k in let lt = in_class h k q x there in let long = k.live_long in omega arith)

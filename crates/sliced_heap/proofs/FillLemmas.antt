@@ -12,7 +12,7 @@ use Rattle.page_model.specs.Bytes.{AreBytes}
 use Rattle.page_model.specs.Held.{Held, Placed, objects}
 use Rattle.page_model.specs.Paging.{bound_of, classes, page_of, slot_words, slots_of}
 use Rattle.page_model.specs.Steps.{MustMove}
-use Rattle.page_slots.specs.Freeing.{IsFiller, MovesObject, steps_to_drop}
+use Rattle.page_slots.specs.Release.{IsFiller, MovesObject, steps_to_drop}
 use Rattle.page_slots.specs.Occupying.{Occupies, Tell, class_table}
 use Rattle.page_slots.specs.Tables.{IsOf, page_at, slot_at, slots_on}
 use Rattle.page_slots.proofs.CallerLemmas.{drop_same, filler, filler_is, filler_not_full, found_class, found_page, moves_is, moves_some}
@@ -33,7 +33,7 @@ use Rattle.sliced_heap.proofs.Places.{changed_occupied}
 use Rattle.sliced_heap.proofs.Preserved.{Becomes, becomes_plan, becomes_state, becomes_valid}
 use Rattle.sliced_heap.proofs.StepCounts.{drop_partly}
 
--- A job ends where all of its words but one are done: that tells what every state keeps where its slot gets an object.
+-- A job of which all words but one are done: what every state keeps if its slot gets an object.
 module _ (plan : Plan) (ok : IsPlan plan) (m : Held) (k : JobSlot) (kept : IsKept plan (record { held = m; job = Clear k })) where
   abbrev last : JobSlot
   last = record k { done = slot_words plan.paging k.class - 1 }
@@ -112,7 +112,7 @@ module _ (h : Heap) (k : IsValid h) (g : JobSlot) (at : h.job ≡ Clear g) where
   pub class_listed : g.class < h.lists.classes
   class_listed = (let lt = found_class (paging_ok h k) k.tell.part occupied_clear h.settings.proxies stand_there in rw stand_class at lt)
 
-  -- and what it tells
+  -- and what follows from it
   pub must_is : MovesObject (slice_index_or h.maps (page_at h.classes g.address) []) (length (pages_in h.lists g.class NotFull)) 1
       ↔ MustMove (paging_at h) (insert (state_of h).held h.settings.proxies (stand_in (paging_at h) g)) (stand_in (paging_at h) g)
   must_is =
@@ -128,7 +128,7 @@ module _ (h : Heap) (k : IsValid h) (g : JobSlot) (at : h.job ≡ Clear g) where
       (sym stand_class) in
       subst (λ A. A ↔ MustMove (paging_at h) all stand) (sym same) is
 
-  -- where an object has to move
+  -- if an object has to move
   module _ (must : MustMove (paging_at h) (insert (state_of h).held h.settings.proxies (stand_in (paging_at h) g)) (stand_in (paging_at h) g)) where
     pub two : not_full_pages (paging_at h) (state_of h).held g.class ≡ 2
     two = must_is_two (plan_of h) (plan_ok h k) m g none_there class_in sound_clear must

@@ -1,0 +1,2 @@
+-- What upper crates may cite, passed on from one place. Declares nothing.
+pub use Rattle.slice_laws.proofs.Claims.{sliced_headline_met}

@@ -1,0 +1,9 @@
+pub mod Filled
+pub mod Slicing
+pub mod Steps
+pub mod Claims
+pub mod OneTranscript
+pub mod Worked
+pub mod ShownLaws
+pub mod Ending
+pub mod CallerLemmas

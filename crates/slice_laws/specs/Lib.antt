@@ -1,0 +1,3 @@
+pub mod ShownSlices
+pub mod SliceHeadline
+pub mod Small

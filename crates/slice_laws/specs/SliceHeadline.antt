@@ -1,0 +1,105 @@
+-- What is claimed of every script in mode slice, by its lines and their replies alone.
+--
+-- Each reply is a function of the heap that the lines before show, but for the word that `p` prints.
+use Rattle.std.specs.Prelude.{◌≡◌, ⊤, ℕ, zero, suc, false, List, [], ◌∷◌, Option, Some, None, Err, codes, if◌then◌else◌, length, nat_eq, nat_lt, replicate}
+use Rattle.std.specs.FinMap.{get, insert, len, remove}
+use Rattle.cf_base.specs.Classes.{need}
+use Rattle.cf_base.specs.Settings.{Profile}
+use Rattle.cf_model.specs.State.{region_words}
+use Rattle.page_model.specs.Arrangement.{pages_needed_with}
+use Rattle.page_model.specs.Held.{Objects}
+use Rattle.page_model.specs.Paging.{class_for}
+use Rattle.run_model.specs.Plays.{PlayRun}
+use Rattle.run_model.specs.Replies.{peek_text}
+use Rattle.run_model.specs.Texts.{Reply, said, with_number}
+use Rattle.script_reader.specs.Items.{Item, asks}
+use Rattle.script_reader.specs.declared.command.Command.{Command}
+use Rattle.script_reader.specs.declared.command.Command.TheVariants.{Malloc, Free, Slice, Write, Read, Peek}
+use Rattle.slice_model.specs.declared.answers.SliceFault.{SliceFault}
+use Rattle.slice_model.specs.declared.answers.SliceFault.TheVariants as fault
+use Rattle.slice_model.specs.declared.answers.SliceRefusal.{SliceRefusal}
+use Rattle.slice_model.specs.declared.answers.SliceRefusal.TheVariants as refusal
+use Rattle.slice_session.specs.SliceRun.{slice_free_text, slice_malloc_text}
+use Rattle.transcript_laws.specs.Replies.{objects_after, ok_or, read_said, write_said}
+use Rattle.slice_laws.specs.ShownSlices.{ShownJob, ShownSlices, after_slice, needed_beside, noted, paging_shown, slices_opened, words_left}
+
+-- why a malloc is refused, if it is: the size; then the proxies; then the pages that the objects need; then those that are needed while the job has its slot
+abbrev pub slice_refusal : ShownSlices → ℕ → Option SliceRefusal
+slice_refusal t n =
+    if nat_lt t.heap.profile.page_words (need n) then Some refusal.Size
+    else (if nat_eq (len t.heap.objects) t.heap.profile.proxies then Some refusal.Proxy
+    else (if nat_lt t.heap.profile.pages (pages_needed_with (paging_shown t) t.heap.objects n) then Some refusal.Space
+    else (if nat_lt t.heap.profile.pages (needed_beside t n) then Some refusal.Busy else None)))
+
+-- why a free is refused, if it is
+abbrev pub slice_fault : Option (List ℕ) → Option ShownJob → Option SliceFault
+slice_fault None job = Some fault.Unknown
+slice_fault (Some v) None = None
+slice_fault (Some v) (Some job) = Some fault.Busy
+
+-- m
+abbrev pub malloc_line : Option (List ℕ) → ShownSlices → ℕ → List ℕ
+malloc_line (Some v) t n = codes "live"
+malloc_line None t n = ok_or (λ e. slice_malloc_text (Err e)) (slice_refusal t n)
+
+-- the reply to a command, but for `p`; `none` to the commands of other modes
+abbrev pub line_of : ShownSlices → Command → List ℕ
+line_of t (Malloc id n) = malloc_line (get t.heap.objects id) t n
+line_of t (Free id) = slice_free_text (slice_fault (get t.heap.objects id) t.job)
+line_of t Slice = with_number (codes "left ") (words_left (after_slice t))
+line_of t (Write id at bytes) = write_said (get t.heap.objects id) at (length bytes)
+line_of t (Read id at count) = read_said (get t.heap.objects id) at count
+line_of t command = codes "none"
+
+abbrev pub with_objects : ShownSlices → Objects → ShownSlices
+with_objects t o = record t { heap = record t.heap { objects = o } }
+
+-- after m: n zeros under the id, unless it is live or the malloc is refused
+abbrev pub after_malloc : Option (List ℕ) → Option SliceRefusal → ShownSlices → ℕ → ℕ → ShownSlices
+after_malloc None None t id n = noted (with_objects t (insert t.heap.objects id (replicate n 0)))
+after_malloc None (Some e) t id n = t
+after_malloc (Some v) e t id n = t
+
+-- after f: the object is gone, a slot of its class is the job's, and one slice is done, unless the id isn't live or a job is pending
+abbrev pub job_begun : ShownSlices → List ℕ → ShownJob
+job_begun t v = record { class = class_for (paging_shown t) (length v); done = 0; filled = false }
+
+abbrev pub after_free : Option (List ℕ) → Option ShownJob → ShownSlices → ℕ → ShownSlices
+after_free None job t id = t
+after_free (Some v) None t id = after_slice (noted (record (with_objects t (remove t.heap.objects id)) { job = Some (job_begun t v) }))
+after_free (Some v) (Some job) t id = t
+
+-- the heap after a command
+abbrev pub after : ShownSlices → Command → ShownSlices
+after t (Malloc id n) = after_malloc (get t.heap.objects id) (slice_refusal t n) t id n
+after t (Free id) = after_free (get t.heap.objects id) t.job t id
+after t Slice = after_slice t
+after t (Write id at bytes) = with_objects t (objects_after t.heap (Write id at bytes))
+after t command = t
+
+-- after n slices
+abbrev pub after_slices : ℕ → ShownSlices → ShownSlices
+after_slices zero t = t
+after_slices (suc n) t = after_slices n (after t Slice)
+
+-- `p` prints 16 digits of a word of the region, else `range`; every other command has one reply
+abbrev pub Answers : ShownSlices → Command → Reply → ShownSlices → Type 0
+Answers old (Peek word) reply new = (value : ℕ)
+    × (reply ≡ said (peek_text (if nat_lt word (region_words old.heap.profile) then Some value else None))) × (new ≡ old)
+Answers old command reply new = (reply ≡ said (line_of old command)) × (new ≡ after old command)
+
+abbrev pub Opens : ℕ → Profile → Reply → ShownSlices → Type 0
+Opens quantum p reply new = (reply ≡ said (codes "ok")) × (new ≡ slices_opened quantum p)
+
+-- The replies to a script are as claimed, one for each item, where a slice does at most so many words.
+abbrev pub MeetsSliced : ℕ → List Item → List Reply → Type 0
+MeetsSliced quantum items replies = (end : Option ShownSlices) × PlayRun (Opens quantum) Answers None items replies end
+
+-- no item asks for a word of the region
+abbrev pub IsNoPeek : Item → Type 0
+IsNoPeek (asks (Peek word)) = ⊥
+IsNoPeek item = ⊤
+
+abbrev pub AreNoPeeks : List Item → Type 0
+AreNoPeeks [] = ⊤
+AreNoPeeks (item ∷ rest) = IsNoPeek item × AreNoPeeks rest

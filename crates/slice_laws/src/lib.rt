@@ -1,0 +1,78 @@
+//! What is claimed of every script in mode slice, by its lines and their replies alone. The public
+//! functions do nothing: each one's contract is a law.
+#![tactic(auto)]
+
+ghost use Rattle.std.specs.Prelude.{◌≡◌, ◌≢◌, ℕ, ◌+◌, ◌-◌, ◌*◌, ◌<◌, ◌≤◌, ◌↔◌, codes, length, take, List, [], ◌∷◌, ◌++◌, None, Option, Some};
+ghost use Rattle.std.specs.FinMap.{get};
+ghost use Rattle.page_model.specs.Arrangement.{pages_needed_with};
+ghost use Rattle.page_model.specs.Paging.{IsPaging, class_for, slot_words};
+ghost use Rattle.run_model.specs.Texts.{Reply, said};
+ghost use Rattle.script_loop.specs.Semantics.{RunBy};
+ghost use Rattle.script_reader.specs.Items.{Item};
+ghost use Rattle.script_reader.specs.declared.command.Command.TheVariants.{Free, Slice};
+ghost use Rattle.slice_model.specs.declared.answers.SliceRefusal.TheVariants.{Busy};
+ghost use Rattle.slice_session.specs.Playing.{RunsSliced, SlicePlay, slices};
+ghost use Rattle.slice_session.specs.SliceRun.{SliceRun};
+ghost use Rattle.slice_laws.specs.ShownSlices.{ShownJob, ShownSlices, paging_shown, words_left};
+ghost use Rattle.slice_laws.specs.SliceHeadline.{AreNoPeeks, MeetsSliced, after, after_slices, line_of, slice_refusal};
+ghost use Rattle.slice_laws.specs.Small.{MeetsSmall, small_replies};
+
+/// The replies of every run in mode slice meet the claim, with its own words of a slice.
+pub fn the_sliced_headline()
+    ensures run { (quantum : ℕ) (items : List Item) (replies : List Reply) (end : Option SliceRun)
+        → RunsSliced quantum None items replies end → MeetsSliced quantum items replies }
+    ensures play { (from : SlicePlay) (items : List Item) (replies : List Reply) (end : Option SlicePlay)
+        → RunBy slices from None items replies end → MeetsSliced from.quantum items replies }
+{}
+
+/// Without `p` just one list of replies meets the claim: nothing is left open.
+pub fn one_sliced_transcript()
+    ensures one { (quantum : ℕ) (items : List Item) (replies others : List Reply) → AreNoPeeks items
+        → MeetsSliced quantum items replies → MeetsSliced quantum items others → others ≡ replies }
+    ensures some { (quantum : ℕ) (items : List Item) → AreNoPeeks items
+        → (replies : List Reply) × MeetsSliced quantum items replies }
+{}
+
+/// What the heap that is shown says of waiting. A free of a live id is answered `busy` exactly if a
+/// job is pending. A malloc is not if there is a page more than the objects need with the new one.
+/// `s` prints `left 0` exactly if no job is pending after it. After a free each `s` lowers the words
+/// that are left by those of a slice, if no malloc comes between. A malloc that is answered `busy` is
+/// done after a slices that do what is left of the job, and b that do its whole slot, if nothing else
+/// is asked: one more job follows at most.
+pub fn who_waits_and_how_long()
+    ensures free { (t : ShownSlices) (id : ℕ) (v : List ℕ) → get t.heap.objects id ≡ Some v
+        → (line_of t (Free id) ≡ codes "busy") ↔ (t.job ≢ None) }
+    ensures malloc { (t : ShownSlices) (n : ℕ) → IsPaging (paging_shown t)
+        → pages_needed_with (paging_shown t) t.heap.objects n < t.heap.profile.pages
+        → slice_refusal t n ≢ Some Busy }
+    ensures none_left { (t : ShownSlices)
+        → ((job : ShownJob) → t.job ≡ Some job → 0 < slot_words (paging_shown t) job.class)
+        → (words_left (after t Slice) ≡ 0) ↔ ((after t Slice).job ≡ None) }
+    ensures left { (t : ShownSlices) (id n : ℕ) (v : List ℕ) → get t.heap.objects id ≡ Some v → t.job ≡ None
+        → words_left (after_slices n (after t (Free id)))
+        ≡ slot_words (paging_shown t) (class_for (paging_shown t) (length v)) - (n + 1) * t.quantum }
+    ensures ended { (t : ShownSlices) (job : ShownJob) (n a b : ℕ) → t.job ≡ Some job
+        → job.done < slot_words (paging_shown t) job.class
+        → slot_words (paging_shown t) job.class ≤ job.done + a * t.quantum → slot_words (paging_shown t) job.class ≤ b * t.quantum
+        → slice_refusal t n ≡ Some Busy → slice_refusal (after_slices (a + b) t) n ≡ None }
+{}
+
+/// On two pages of 64 words, with slices of 8 words: two objects of 23 words, one is freed, a slice,
+/// a free of the other, an object of a page, and a third one of 23 words. The replies are `ok` to the
+/// first malloc, `left 7`, `busy`, `ok` and `busy`, and no others: not `refused size` to a malloc that
+/// fits, not silence, no reply fewer or more; not `left 0` at once, nor the words that are done; not
+/// `ok` to a free beside the job; not `busy` while there is a page, nor `ok` while the job has the
+/// only slot.
+pub fn wrong_sliced_replies_fall_short()
+    ensures right { MeetsSmall (small_replies (codes "ok") (codes "left 7") (codes "busy") (codes "ok") (codes "busy")) }
+    ensures size { ¬ MeetsSmall (small_replies (codes "refused size") (codes "left 7") (codes "busy") (codes "ok") (codes "busy")) }
+    ensures silent { ¬ MeetsSmall [] }
+    ensures missing { ¬ MeetsSmall (take 7 (small_replies (codes "ok") (codes "left 7") (codes "busy") (codes "ok") (codes "busy"))) }
+    ensures over { ¬ MeetsSmall (small_replies (codes "ok") (codes "left 7") (codes "busy") (codes "ok") (codes "busy")
+        ++ said (codes "ok") ∷ []) }
+    ensures at_once { ¬ MeetsSmall (small_replies (codes "ok") (codes "left 0") (codes "busy") (codes "ok") (codes "busy")) }
+    ensures done { ¬ MeetsSmall (small_replies (codes "ok") (codes "left 16") (codes "busy") (codes "ok") (codes "busy")) }
+    ensures beside { ¬ MeetsSmall (small_replies (codes "ok") (codes "left 7") (codes "ok") (codes "ok") (codes "busy")) }
+    ensures page { ¬ MeetsSmall (small_replies (codes "ok") (codes "left 7") (codes "busy") (codes "busy") (codes "busy")) }
+    ensures slot { ¬ MeetsSmall (small_replies (codes "ok") (codes "left 7") (codes "busy") (codes "ok") (codes "ok")) }
+{}
