@@ -29,7 +29,7 @@ ceil_more x a m pos more = (let le = le-div (a + 1) (x + (m - 1)) m pos (omega a
 pub of_ceil : (x a m : ℕ) → 0 < m → ceil_div x m ≤ a → x ≤ a * m
 of_ceil x a m pos le = elim (cases_lt (a * m) x) [ inl more ↦ absurd (let b = ceil_more x a m pos more in omega arith) | inr fine ↦ fine ]
 
--- a sum over a range where one term changes
+-- a sum over a range in which one term changes
 sum_changed : (f g : ℕ → ℕ) (a n c : ℕ) → a ≤ c → c < a + n → ((d : ℕ) → d ≢ c → f d ≡ g d)
     → sum_by f (range_with_len a n) + g c ≡ sum_by g (range_with_len a n) + f c
 sum_changed f g a zero c low high same = absurd (omega arith)
@@ -89,7 +89,7 @@ module _ (p : Paging) (ok : IsPaging p) (n : ℕ) (fits : need n ≤ p.page_word
   ceil_within = sum_at_least (λ c. ceil_div (count_of_class p pre c) (slots_of p c)) 0 (classes p) (class_for p n) (omega arith)
       (let lt = there_is in omega arith)
 
-  -- so many more objects of these bytes change the pages of their class alone
+  -- more objects of this length change the pages of their class alone
   pub pages_with : (j : ℕ) → pages_of p (pre ++ replicate j n) + ceil_div (count_of_class p pre (class_for p n)) (slots_of p (class_for p n))
       ≡ pages_of p pre + ceil_div (count_of_class p pre (class_for p n) + j) (slots_of p (class_for p n))
   pages_with j =

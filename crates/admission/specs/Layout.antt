@@ -13,7 +13,7 @@ pub record IsFilled (page_words : ℕ) (table : List ℕ) (count size : ℕ) : T
   pub enough : page_words ≤ size + left
   pub made : take count table ++ sizes_from left size page_words ≡ sizes page_words Words
 
--- of so many more objects the first `fit` need no more pages than the quota has with those of other classes, and with one more they do
+-- of these objects the first `fit` need no more pages than the quota has with those of other classes, and with one more they do
 pub record IsPast (quota others had more slots fit : ℕ) : Type 0 where
   pub fewer : fit < more
   pub within : others + ceil_div (had + fit) slots ≤ quota

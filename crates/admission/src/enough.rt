@@ -15,11 +15,11 @@ use cf_base::{Settings, need_of};
 use quota_model::{Admission, Need};
 
 /// Whether `quota` pages are enough for a task under these settings that never has more objects
-/// than it declares, live or asked for. Of each number of bytes it declares the sum of the counts
-/// of the entries with it. A quota that is enough is so after every history of the task. Else the
-/// answer is which malloc is refused for space where the declared objects are all asked for in
-/// order. An entry whose object is larger than a page is answered before all else, and then counts
-/// that sum to more than the proxies.
+/// than it declares, live or asked for. For each length it declares the sum of the counts of the
+/// entries with that length. A quota that is enough is so after every history of the task. Else the
+/// result names the malloc that is refused for space if the declared objects are all asked for in
+/// order. An entry whose object is larger than a page comes before all else, then counts that sum to
+/// more than the proxies.
 pub fn admit(s: &Settings, quota: u32, needs: &[Need]) -> Admission
     requires few { length needs.now ≤ 64 }
     ensures { IsAdmission (record { profile = profile_of s.now; quota = quota }) needs.now result }
@@ -75,7 +75,7 @@ fn count_in_all(needs: &[Need]) -> u64
     needs.iter().map(|entry| entry.count as u64).sum()
 }
 
-/// The least number of pages of so many slots on which `count` objects stand.
+/// The least number of pages that hold `count` objects.
 fn pages_for(count: u64, slots: u64) -> u64
     requires some { 1 ≤ slots }
     requires few { count + slots < 2 ^ 63 }
@@ -84,8 +84,8 @@ fn pages_for(count: u64, slots: u64) -> u64
     (count + (slots - 1)) / slots
 }
 
-/// The pages with `more` objects of a class, of which there were `had`, so many to a page; or else
-/// how many of them fit into the quota.
+/// The pages with `more` objects of a class that had `had`, `slots` to a page; if these exceed the
+/// quota, how many of the objects fit.
 fn pages_with(quota: u64, pages: u64, had: u64, more: u64, slots: u64) -> Result<u64, u64>
     requires some { 1 ≤ slots }
     requires low { slots ≤ 4096 }

@@ -1,5 +1,5 @@
 //! Admission: whether a quota of pages is enough for a task, whatever the task does within the
-//! objects that it declares, told before it runs. It takes no memory and no heap.
+//! objects that it declares, known before it runs. It needs no memory and no heap.
 #![tactic(auto)]
 
 mod enough;

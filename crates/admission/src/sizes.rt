@@ -12,8 +12,8 @@ use cf_base::{Settings, class_in};
 /// The most classes that a page may have.
 pub(crate) const CLASSES: usize = 67;
 
-/// Writes the slot sizes of pages with so many words into the table from its start on, in rising
-/// order, and returns how many they are.
+/// Writes the slot sizes of pages with `page_words` words into the table, in rising order, and returns
+/// their number.
 pub(crate) fn fill_sizes(page_words: u32, table: &mut [u32]) -> usize
     requires page { IsTrue (is_page_size page_words) }
     requires room { length table.old ≡ 67 }

@@ -61,13 +61,6 @@ module _ (g : SharedPages) where
               (fits, is, subst (λ c. c < classes (paging_at g)) is lt))
         ]
 
--- an object's bytes are among the objects
-pub bytes_held : (m : Held) (q : ℕ) (x : Placed) → get m q ≡ Some x → get (objects m) q ≡ Some x.bytes
-bytes_held m q x some = get-map_values (λ (y : Placed). y.bytes) m q ∙ ap (option_map (λ (y : Placed). y.bytes)) some
-
-pub no_bytes : (m : Held) (q : ℕ) → get m q ≡ None → get (objects m) q ≡ None
-no_bytes m q none = get-map_values (λ (y : Placed). y.bytes) m q ∙ ap (option_map (λ (y : Placed). y.bytes)) none
-
 pub live_few : (p : Paging) (m : Held) (c : ℕ) → live p (objects m) c ≤ len m
 unfolding live
 live_few p m c =

@@ -3,7 +3,7 @@ use Rattle.std.proofs.Common.{◌≡◌, ℕ, ◌+◌, ◌-◌, ◌*◌, ◌%◌
 use Rattle.std.specs.FinMap.{get, remove}
 use Rattle.cf_lemmas.proofs.Maps.{get_remove_other}
 use Rattle.page_model.specs.Image.{IsDisjoint}
-use Rattle.page_slots.specs.Freeing.{FillsFrom}
+use Rattle.page_slots.specs.Release.{FillsFrom}
 use Rattle.page_slots.specs.Tables.{AreTables, Tables}
 use Rattle.quota_model.specs.Parts.{key_of}
 use Rattle.quota_heap.specs.Calls.{IsMoving, IsObjectAt}
@@ -13,7 +13,7 @@ use Rattle.quota_heap.specs.declared.task.Task.{Task}
 use Rattle.quota_heap.proofs.Facts.{place_known}
 use Rattle.quota_heap.proofs.FreeCalls.{filled_account, is_other, number_told, other, slots_apart, source_in}
 
--- the number that the header at b tells, and where it stands
+-- the number in the header at b, and its address
 pub record Told (g : SharedPages) (x : Task) (t q b w : ℕ) : Type 0 where
   pub above : t * 65536 ≤ w
   pub there : get x.proxies.places (w - t * 65536) ≡ Some b

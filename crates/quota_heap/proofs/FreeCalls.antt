@@ -17,7 +17,7 @@ use Rattle.page_model.specs.Image.{Clears, MovesWords, header_word, slot_for}
 use Rattle.page_model.specs.Paging.{slot_words}
 use Rattle.page_model.specs.Steps.{MayFill, Moves, MustMove, moved_to, without}
 use Rattle.page_model.proofs.CallerLemmas.{mover_is_other, sound_apart_from}
-use Rattle.page_slots.specs.Freeing.{FillsFrom, Vacates}
+use Rattle.page_slots.specs.Release.{FillsFrom, Vacates}
 use Rattle.page_slots.specs.Occupying.{Occupies, TellPart, class_table}
 use Rattle.page_slots.specs.Tables.{AreTables, Tables, page_at, slot_at}
 use Rattle.page_slots.proofs.CallerLemmas.{filled_occupied, filled_part, filler, filler_in, filler_may, vacated_occupied, vacated_part}
@@ -117,7 +117,7 @@ module _ {g : SharedPages} (k : ArePages g) {t : ℕ} {x : Task} (i : IsTask g t
           let e = same_slot in let f = it_slot k i o in let p = at in
           elim d [ inl l ↦ inl (omega arith) | inr l ↦ inr (omega arith) ]
 
-      -- its header tells its number
+      -- its header holds its number
       pub number_told : t < 16 → (get_or g.region b 0 % 2 ^ 32 ≡ key_of t r)
       number_told lt =
           let e = i.headed r y there in

@@ -1,4 +1,4 @@
--- An object of a task goes: what is known of it, and what is left.
+-- A freed object of a task: what is known of it, and what is left.
 use Rattle.std.proofs.Common.{◌≡◌, ℕ, ◌+◌, ◌-◌, ◌<◌, ◌≤◌, List, length, get_or, set, Option, Some, arith, refl, sym, ◌∙◌, ap, subst, inl, inr}
 use Rattle.std.specs.Prelude.{nat_eq, option_map}
 use Rattle.std.proofs.lemmas.Bool.{cases_eq}
@@ -18,8 +18,8 @@ use Rattle.page_model.specs.Held.{Held, Placed, objects, places}
 use Rattle.page_model.specs.Image.{IsSlotImage, slot_for}
 use Rattle.page_model.specs.Paging.{bound_of, class_for, classes, page_of, slot_words}
 use Rattle.page_model.specs.Steps.{Moves, MustMove, without}
-use Rattle.page_model.proofs.CallerLemmas.{live_taken, storable_without}
-use Rattle.page_slots.specs.Freeing.{MovesObject}
+use Rattle.page_model.proofs.CallerLemmas.{bytes_held, live_taken, storable_without}
+use Rattle.page_slots.specs.Release.{MovesObject}
 use Rattle.page_slots.specs.Occupying.{Occupies, TellPart, class_table}
 use Rattle.page_slots.specs.Tables.{IsUsed, page_at, slot_at, slots_on}
 use Rattle.page_slots.proofs.CallerLemmas.{found_page, moves_is, moves_some}
@@ -35,7 +35,7 @@ use Rattle.quota_heap.specs.Steps.{FreesOfTask, with_held}
 use Rattle.quota_heap.specs.declared.shared_pages.SharedPages.{SharedPages}
 use Rattle.quota_heap.specs.declared.open_tasks.OpenTasks.{OpenTasks}
 use Rattle.quota_heap.specs.declared.task.Task.{Task}
-use Rattle.quota_heap.proofs.Facts.{as_many, at_one, bytes_held, few_classes, has_place, paging_ok, size_is, slot_there, table_is}
+use Rattle.quota_heap.proofs.Facts.{as_many, at_one, few_classes, has_place, paging_ok, size_is, slot_there, table_is}
 use Rattle.quota_heap.proofs.PageAccount.{Accounts}
 use Rattle.quota_heap.proofs.PagesAfter.{pages_after}
 use Rattle.quota_heap.proofs.Preserved.{Becomes, becomes_kept, becomes_state, stored}

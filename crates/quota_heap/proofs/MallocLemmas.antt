@@ -1,4 +1,4 @@
--- An object comes to a task.
+-- A malloc of a task.
 use Rattle.std.proofs.Common.{◌≡◌, ◌≢◌, ℕ, ◌+◌, ◌<◌, ◌≤◌, List, length, get_or, set, replicate, Some, None, arith, refl, sym, ◌∙◌, ap, subst, inl, inr}
 use Rattle.std.specs.Prelude.{nat_eq}
 use Rattle.std.proofs.lemmas.Bool.{cases_eq}
@@ -15,10 +15,10 @@ use Rattle.page_model.specs.Held.{Held, Placed, objects}
 use Rattle.page_model.specs.Image.{IsSlotImage, header_word}
 use Rattle.page_model.specs.Paging.{class_for, classes, page_of}
 use Rattle.page_model.specs.Steps.{IsFreePlace, Request, zeros_at}
-use Rattle.page_model.proofs.CallerLemmas.{live_added, malloc_objects, malloc_places, storable_added, zeros_are_bytes}
+use Rattle.page_model.proofs.CallerLemmas.{bytes_missing, live_added, malloc_objects, malloc_places, storable_added, zeros_are_bytes}
 use Rattle.page_slots.specs.Occupying.{Occupies, TellPart, class_table}
 use Rattle.page_slots.specs.Tables.{AreTables, IsElsewhere, IsOf, Tables}
-use Rattle.page_slots.specs.Taking.{TakesAt}
+use Rattle.page_slots.specs.Take.{TakesAt}
 use Rattle.page_slots.proofs.CallerLemmas.{taken_is_free, taken_occupied, taken_part}
 use Rattle.proxy_table.specs.Proxies.{Proxies}
 use Rattle.quota_model.specs.Joined.{joined}
@@ -32,7 +32,7 @@ use Rattle.quota_heap.specs.Steps.{GivesTask}
 use Rattle.quota_heap.specs.declared.shared_pages.SharedPages.{SharedPages}
 use Rattle.quota_heap.specs.declared.open_tasks.OpenTasks.{OpenTasks}
 use Rattle.quota_heap.specs.declared.task.Task.{Task}
-use Rattle.quota_heap.proofs.Facts.{few_classes, no_bytes, no_place, paging_ok, table_is}
+use Rattle.quota_heap.proofs.Facts.{few_classes, no_place, paging_ok, table_is}
 use Rattle.quota_heap.proofs.PageAccount.{take_accounts}
 use Rattle.quota_heap.proofs.PagesAfter.{pages_after, used_after}
 use Rattle.quota_heap.proofs.Preserved.{Becomes, becomes_kept, becomes_state, places_are, stored}
@@ -188,7 +188,7 @@ module _ (h n : OpenTasks) (k : IsValid h) (t : ℕ) (x x' : Task) (at : IsTaskI
 
   counts : (d : ℕ) → d < classes (paging_at h.shared_pages) → get_or x'.live d 0 ≡ live (paging_at h.shared_pages) (objects (part_of after t)) d
   counts d l =
-      let add = live_added (paging_at h.shared_pages) (objects_of h.shared_pages x) q (replicate bytes 0) d (no_bytes (held_of h.shared_pages x) q unused) in
+      let add = live_added (paging_at h.shared_pages) (objects_of h.shared_pages x) q (replicate bytes 0) d (bytes_missing (held_of h.shared_pages x) q unused) in
       let was = i.counted d l in
       let all : live (paging_at h.shared_pages) (objects (part_of after t)) d ≡ live (paging_at h.shared_pages) (insert (objects_of h.shared_pages x) q (replicate bytes 0)) d =
       ap (λ o. live (paging_at h.shared_pages) o d) objects_are in

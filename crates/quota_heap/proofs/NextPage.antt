@@ -1,4 +1,4 @@
--- An object more needs a page more exactly where no page of its class is partly full.
+-- An object more needs a page more if and only if no page of its class is partly full.
 use Rattle.std.proofs.Common.{◌≡◌, ℕ, zero, suc, ◌+◌, ◌-◌, ◌*◌, ◌<◌, ◌≤◌, cond, arith, refl, sym, subst, inl, inr}
 use Rattle.std.specs.Prelude.{nat_eq}
 use Rattle.std.proofs.lemmas.Bool.{cases_eq, cases_lt}

@@ -14,10 +14,10 @@ use Rattle.page_model.specs.Arrangement.{home_pages, used_pages}
 use Rattle.page_model.specs.Held.{Held}
 use Rattle.page_model.specs.Paging.{IsPaging, Paging, classes}
 use Rattle.page_pool.specs.Pool.{Pool}
-use Rattle.page_slots.specs.Freeing.{FillsFrom, Vacates}
+use Rattle.page_slots.specs.Release.{FillsFrom, Vacates}
 use Rattle.page_slots.specs.Occupying.{Occupies, TellPart}
 use Rattle.page_slots.specs.Tables.{AreTables, JoinsList, LeavesList, Tables, slots_in, slots_on, used_in}
-use Rattle.page_slots.specs.Taking.{TakesAt, TakesOnFreePage, TakesOnOpenPage}
+use Rattle.page_slots.specs.Take.{TakesAt, TakesOnFreePage, TakesOnOpenPage}
 use Rattle.page_slots.proofs.CallerLemmas.{home_pages_are}
 use Rattle.quota_heap.proofs.Sums.{sum_changed}
 
@@ -95,7 +95,7 @@ leaves_paged old c NotFull page new apart there l =
       λ d ne. (let x = ap length (l.others d Full (inl ne)) in let y = ap length (l.others d NotFull (inl ne)) in omega arith),
     )
 
--- what the pool gives goes to the class, and back
+-- a page moves from the pool to the class, and back
 pub record Accounts (old new : Tables) (c : ℕ) : Type 0 where
   pub here : paged new.lists c + length new.pool.free ≡ paged old.lists c + length old.pool.free
   pub others : (d : ℕ) → d ≢ c → paged new.lists d ≡ paged old.lists d
@@ -105,7 +105,7 @@ front_in [] page e = absurd (let z : Some page ≡ slice_get [] 0 = sym e in cc)
 front_in (x ∷ xs) page e = (let z : Some x ≡ Some page = e in let is : x ≡ page = cc in subst (λ y. Contains (y ∷ xs) page) (sym is) (contains_head page xs))
 
 module _ (k : ClassTable) (old : Tables) (a : AreTables k old) (c : ℕ) (new : Tables) where
-  -- a page goes from one list of the class to the other
+  -- a page moves from one list of the class to the other
   moves : (v w : Which) (page : ℕ) (between : PageLists) → Contains (pages_in old.lists c v) page → LeavesList old.lists c v page between
       → JoinsList between c w page new.lists → (paged new.lists c ≡ paged old.lists c) × KeepsClasses old.lists new.lists c
   moves v w page between there l j =

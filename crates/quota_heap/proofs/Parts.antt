@@ -74,7 +74,7 @@ pub some_to : {X : Type 0} {P Q : X → Type 0} (r : Option X) → ((x : X) → 
 some_to None f p = p
 some_to (Some x) f p = f x p
 
--- where a part lies, its words are in the region
+-- the words of a part are in the region
 module _ (h : OpenTasks) (k : IsValid h) (t : ℕ) (x : Task) (at : IsTaskIn h t x) (part : Part) (count a : ℕ) (l : Lies h.shared_pages x part count a) where
   abbrev task : IsTask h.shared_pages t x
   task = k.task t x at

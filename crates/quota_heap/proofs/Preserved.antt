@@ -1,4 +1,4 @@
--- An open heap of which one task, and the shared pages with it, changed keeps what it keeps.
+-- An open heap keeps its invariant if one task, and the shared pages with it, changed.
 use Rattle.std.proofs.Common.{◌≡◌, ◌≢◌, ℕ, ◌+◌, ◌<◌, length, get_or, set, Some, arith, sym, ◌∙◌, ap, subst, inl, inr}
 use Rattle.std.specs.Prelude.{slice_get, sum}
 use Rattle.std.proofs.lemmas.Bool.{cases_eq}

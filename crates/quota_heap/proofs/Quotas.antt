@@ -26,7 +26,7 @@ use Rattle.quota_heap.proofs.Refusals.{objects_same}
 use Rattle.quota_heap.proofs.Sums.{sum_set}
 use Rattle.quota_heap.proofs.Tasks.{map_set, map_set_same, set_here, set_there}
 
--- a sum of which one number is another
+-- a sum in which one number is replaced
 sum_changed_at : (xs : List ℕ) (i n : ℕ) → i < length xs → sum (set xs i n) + get_or xs i 0 ≡ sum xs + n
 sum_changed_at [] i n lt = absurd (omega arith)
 sum_changed_at (x ∷ xs) zero n lt =

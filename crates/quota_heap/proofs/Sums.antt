@@ -48,7 +48,7 @@ sum_set f (w ∷ xs) (suc i) x y e =
     let rest = sum_set f xs i x y e in
     omega arith
 
--- where each is at most another number, and one is less, the sum is less
+-- if each is at most another number, and one is less, the sum is less
 pub sum_below : {X : Type 0} (f g : X → ℕ) (xs : List X) → ((i : ℕ) (x : X) → slice_get xs i ≡ Some x → f x ≤ g x) → sum_by f xs ≤ sum_by g xs
 sum_below f g [] le = omega arith
 sum_below f g (w ∷ xs) le =

@@ -39,7 +39,7 @@ set_there (x ∷ xs) zero (suc j) y ne = refl
 set_there (x ∷ xs) (suc i) zero y ne = refl
 set_there (x ∷ xs) (suc i) (suc j) y ne = set_there xs i j y (λ e. ne (ap suc e))
 
--- an element of which a function is the same
+-- another element with the same value of a function
 pub map_set_same : {X Y : Type 0} (f : X → Y) (xs : List X) (i : ℕ) (x y : X) → slice_get xs i ≡ Some x → f y ≡ f x → map f (set xs i y) ≡ map f xs
 map_set_same f [] i x y e same = refl
 map_set_same f (w ∷ xs) zero x y e same = (let z : Some w ≡ Some x = e in let is : w ≡ x = cc in ap (λ v. v ∷ map f xs) (same ∙ sym (ap f is)))

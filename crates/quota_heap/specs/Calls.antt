@@ -9,9 +9,9 @@ use Rattle.cf_model.specs.Steps.{Part}
 use Rattle.page_model.specs.Bytes.{bytes_at}
 use Rattle.page_model.specs.Image.{Clears, MovesWords, header_word}
 use Rattle.page_model.specs.Paging.{class_for, classes}
-use Rattle.page_slots.specs.Freeing.{FillsFrom, MovesObject, Vacates}
+use Rattle.page_slots.specs.Release.{FillsFrom, MovesObject, Vacates}
 use Rattle.page_slots.specs.Tables.{AreTables, KeepsElsewhere, page_at, slot_at, slots_on}
-use Rattle.page_slots.specs.Taking.{TakesAt}
+use Rattle.page_slots.specs.Take.{TakesAt}
 use Rattle.proxy_table.specs.Proxies.{AreBelowLimit, with_place, without_place}
 use Rattle.quota_model.specs.Parts.{key_of}
 use Rattle.quota_heap.specs.Layout.{paging_at, state_of, tables_of}
@@ -30,7 +30,7 @@ pub record KeepsRest (g : SharedPages) (x : Task) (g' : SharedPages) (x' : Task)
   pub handles : AreBelowLimit x'.proxies
   pub account : x'.pages + length g'.pool.free ≡ x.pages + length g.pool.free
 
--- an object of so many bytes has come to a free slot of class c, under number q
+-- an object of `bytes` bytes is added at a free slot of class c, under number q
 pub record Comes (g : SharedPages) (x : Task) (t c bytes q : ℕ) (g' : SharedPages) (x' : Task) : Type 0 where
   pub rest : KeepsRest g x g' x'
   pub place : ℕ
@@ -41,7 +41,7 @@ pub record Comes (g : SharedPages) (x : Task) (t c bytes q : ℕ) (g' : SharedPa
   pub words : g'.region ≡ slice_set g.region place (header_word (key_of t q) bytes)
   pub live : x'.live ≡ slice_set x.live c (slice_index x.live c + 1)
 
--- object q of the task stands at the address, and has so many bytes, in class c
+-- object q of the task has this address and length, in class c
 pub record IsObjectAt (g : SharedPages) (x : Task) (q place bytes c : ℕ) : Type 0 where
   pub known : get x.proxies.places q ≡ Some place
   pub long : length (bytes_at g.region place) ≡ bytes
@@ -52,7 +52,7 @@ pub record IsObjectAt (g : SharedPages) (x : Task) (q place bytes c : ℕ) : Typ
 abbrev pub IsMoving : SharedPages → Task → ℕ → ℕ → Type 0
 IsMoving g x place c = MovesObject (slots_on (tables_of g x) (page_at g.classes place)) (length (pages_in x.lists c NotFull)) 1
 
--- the object of number q, which stood at the address, has gone, and its slot of class c is free
+-- the object of number q, which had this address, is removed, and its slot of class c is free
 pub record Goes (g : SharedPages) (x : Task) (q place c : ℕ) (g' : SharedPages) (x' : Task) : Type 0 where
   pub rest : KeepsRest g x g' x'
   pub vacated : Vacates (tables_of g x) c (page_at g.classes place) (slot_at g.classes c place) (tables_of g' x')
@@ -61,7 +61,7 @@ pub record Goes (g : SharedPages) (x : Task) (q place c : ℕ) (g' : SharedPages
   pub words_long : length g'.region ≡ length g.region
   pub live : x'.live ≡ slice_set x.live c (slice_index x.live c - 1)
 
--- the object of number q has gone, and that of number r, which stood at `from`, fills its slot at the address; its own slot is free
+-- the object of number q is removed, and that of number r, which had the address `from`, fills its slot; its own slot is free
 pub record Fills (g : SharedPages) (x : Task) (q place c r : ℕ) (g' : SharedPages) (x' : Task) : Type 0 where
   pub rest : KeepsRest g x g' x'
   pub from : ℕ
@@ -72,7 +72,7 @@ pub record Fills (g : SharedPages) (x : Task) (q place c r : ℕ) (g' : SharedPa
   pub words_long : length g'.region ≡ length g.region
   pub live : x'.live ≡ slice_set x.live c (slice_index x.live c - 1)
 
--- the object stands at the address, and has so many bytes from the part's first on
+-- the object has this address, and the part lies within it
 pub record Lies (g : SharedPages) (x : Task) (part : Part) (count place : ℕ) : Type 0 where
   pub found : get x.proxies.places part.number ≡ Some place
   pub within : part.from + count ≤ length (bytes_at g.region place)
@@ -93,7 +93,7 @@ abbrev pub IsFound : SharedPages → Task → Part → ℕ → Result ℕ Access
 IsFound g x part count (Ok place) = Lies g x part count place
 IsFound g x part count (Err e) = IsMissing g x part count e
 
--- the object has gone; where its slot had to be filled another one has moved there, and else none
+-- the object is removed; if its slot had to be filled another one has moved there, else none
 abbrev pub IsRemoved : SharedPages → Task → ℕ → ℕ → ℕ → Option ℕ → SharedPages → Task → Type 0
 IsRemoved g x q place c None g' x' = (IsMoving g x place c → ⊥) × Goes g x q place c g' x'
 IsRemoved g x q place c (Some r) g' x' = IsMoving g x place c × Fills g x q place c r g' x'

@@ -30,7 +30,7 @@ abbrev pub free_steps : Result Freed NotLive → ℕ
 free_steps (Ok freed) = most_of_free freed.slot_words
 free_steps (Err e) = 1
 
--- a refused read or write reads the proxy, and the header where there is an object
+-- a refused read or write reads the proxy, and the header if there is an object
 abbrev pub fault_steps : AccessFault → ℕ
 fault_steps Unknown = 1
 fault_steps Range = 2
@@ -39,7 +39,7 @@ abbrev pub access_steps : Result Unit AccessFault → ℕ → ℕ → ℕ
 access_steps (Ok done) from count = most_of_access from count
 access_steps (Err e) from count = fault_steps e
 
--- a look at a word, where there is one
+-- a read of a word, if there is one
 abbrev pub peek_steps : Option ℕ → ℕ
 peek_steps None = 0
 peek_steps (Some word) = 1

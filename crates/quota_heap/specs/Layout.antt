@@ -40,12 +40,12 @@ held_of g x = held_at g.region x.proxies.places
 abbrev pub objects_of : SharedPages → Task → Objects
 objects_of g x = objects (held_of g x)
 
--- the classes are those of the pages, and the words are as many as these have
+-- the classes are those of the pages, and the region has their words
 pub record ArePages (g : SharedPages) : Type 0 where
   pub table : g.classes ≡ table_of g.settings.page_words Words
   pub words_long : length g.region ≡ g.settings.pages * g.settings.page_words
 
--- What holds of task t: its objects are a sound arrangement, which its tables tell; each has its header; and its numbers and counts are theirs.
+-- What holds of task t: its objects are a sound arrangement, and its tables hold it; each object has its header; its numbers and counts are theirs.
 pub record IsTask (g : SharedPages) (t : ℕ) (x : Task) : Type 0 where
   pub sound : IsSound (paging_at g) (held_of g x)
   pub tell : TellPart (paging_at g) (tables_of g x)
@@ -104,7 +104,7 @@ abbrev pub state_in : Option OpenTasks → QuotaState
 state_in None = closed_state
 state_in (Some h) = state_of h
 
--- what it keeps where it is open
+-- what it keeps while it is open
 abbrev pub IsValidIn : Option OpenTasks → Type 0
 IsValidIn None = Unit {0}
 IsValidIn (Some h) = IsValid h

@@ -38,7 +38,7 @@ objects_by s task = objects (held_by s task)
 abbrev pub quota_of : QuotaState → ℕ → ℕ
 quota_of s task = slice_index s.quotas task
 
--- What every call keeps of an open heap: the tasks stand apart and within their quotas, and the words are those of all objects.
+-- What every call keeps of an open heap: the tasks are apart and within their quotas, and the words are those of all objects.
 pub record KeepsTasks (s : QuotaState) : Type 0 where
   pub opened : IsTrue s.is_open
   pub page_size : IsTrue (is_page_size s.profile.page_words)

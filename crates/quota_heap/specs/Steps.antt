@@ -21,11 +21,11 @@ use Rattle.quota_model.specs.Shared.{PlacesForTask, RemovesForTask}
 use Rattle.quota_model.specs.declared.answers.QuotaFault.{QuotaFault}
 use Rattle.quota_heap.specs.State.{QuotaState, held_by, objects_by, quota_of}
 
--- the same heap, with other objects and the words that tell them
+-- the same heap, with other objects and their words
 abbrev pub with_held : QuotaState → Held → List ℕ → QuotaState
 with_held s m words = record s { held = m; words = words }
 
--- the quota of a task is n pages, where the quotas and the task's own pages allow it; else nothing changes
+-- the quota of a task is n pages, if the quotas and the task's own pages allow it; else nothing changes
 abbrev pub IsQuotaStep : QuotaState → ℕ → ℕ → Result Unit QuotaFault → QuotaState → Type 0
 IsQuotaStep old task n (Ok done) new = (quota_refusal old.profile old.quotas task n (objects_by old task) ≡ None)
     × (new ≡ record old { quotas = slice_set old.quotas task n })
@@ -42,7 +42,7 @@ abbrev pub IsMallocStep : QuotaState → ℕ → ℕ → Result Handle Refusal �
 IsMallocStep old task n (Ok h) new = GivesTask old task (record { number = h.0; length = n }) new
 IsMallocStep old task n (Err e) new = (malloc_refusal old.profile (quota_of old task) (objects_by old task) n ≡ Some e) × (new ≡ old)
 
--- an object of a task goes
+-- a free of an object of a task
 pub record FreesOfTask (old : QuotaState) (task h : ℕ) (freed : Freed) (new : QuotaState) : Type 0 where
   pub removed : RemovesForTask old.profile old.held task h (number_of freed.moved) new.held
   pub slot : freed.slot_words ≡ slot_for (task_paging old.profile) (length (removed.freed).bytes)

@@ -1,11 +1,11 @@
-//! An object goes.
+//! A free.
 ghost use Rattle.std.specs.Prelude.{◌≡◌, ◌+◌, ◌*◌, ◌<◌, ◌≤◌, IfSome, IsSome, None, length, slice_index};
 ghost use Rattle.step_ledger.specs.Counting.{RoseAtMost};
 ghost use Rattle.cf_model.specs.Steps.{number_of};
 ghost use Rattle.quota_heap.specs.Calls.{Fills, Goes, IsMoving, IsObjectAt, IsRemoved};
 ghost use Rattle.class_lists.specs.PageLists.{pages_in};
 ghost use Rattle.class_lists.specs.declared.Which.TheVariants.{NotFull};
-ghost use Rattle.page_slots.specs.Freeing.{FillsFrom, Vacates};
+ghost use Rattle.page_slots.specs.Release.{FillsFrom, Vacates};
 ghost use Rattle.page_slots.specs.Tables.{AreTables, IsUsed, KeepsElsewhere, page_at, slot_at};
 ghost use Rattle.quota_heap.specs.Layout.{ArePages, IsTask, tables_of};
 
@@ -17,8 +17,8 @@ use step_ledger::Steps;
 use word_bytes::Header;
 
 impl SharedPages {
-    /// Takes an object of task t away. Where its page is full and another page of its class is partly
-    /// full, an object of that one takes its slot.
+    /// Frees an object of task t. If its page was full and another page of its class is partly
+    /// full, an object of that page takes its slot.
     pub(crate) fn free_inner(
         &mut self,
         task: &mut Task,

@@ -47,7 +47,7 @@ impl QuotaHeap {
     }
 
     /// Opens the heap: no task has an object, all quotas are 0, and each task has as many proxies as
-    /// the settings say. Where memory is lacking the heap is closed.
+    /// the settings say. Out of memory, the heap is closed.
     pub fn open_heap(&mut self, s: &Settings) -> Result<(), OutOfMemory>
         ensures opened { IfOk result (λ done. self.new ≡ empty_state (profile_of s.now)) }
         ensures kept { IfOk result (λ done. KeepsTasks self.new) }
@@ -58,7 +58,7 @@ impl QuotaHeap {
         Ok(())
     }
 
-    /// Whether the heap is open. Where it is, it keeps its tasks apart and within their quotas.
+    /// Whether the heap is open. An open heap keeps its tasks apart and within their quotas.
     pub fn is_open(&self) -> bool
         ensures value { result ≡ self.now.is_open }
         ensures rules { IsTrue result → KeepsTasks self.now }
@@ -103,8 +103,8 @@ impl QuotaHeap {
         }
     }
 
-    /// Makes `pages` pages the quota of a task: `Sum` where the quotas would add up to more pages
-    /// than there are, else `Used` where the task uses more.
+    /// Sets the quota of a task to `pages` pages. Fails with `Sum` if the quotas would add up to more
+    /// pages than there are, else with `Used` if the task uses more.
     pub fn set_quota(&mut self, task: u32, pages: u32) -> Result<(), QuotaFault>
         requires opened { IsTrue self.old.is_open }
         requires sixteen { task < 16 }
@@ -117,9 +117,9 @@ impl QuotaHeap {
         }
     }
 
-    /// Adds an object of `bytes` bytes, all zero, to those of a task: `Size` where it is larger than a
-    /// page, else `Proxy` where the task's proxies are all in use, else `Space` where the task's
-    /// objects with this one need more pages than its quota has.
+    /// Adds an object of `bytes` bytes, all zero, to those of a task. Fails with `Size` if it is larger
+    /// than a page, else with `Proxy` if the task's proxies are all in use, else with `Space` if the
+    /// task's objects with this one need more pages than its quota.
     pub fn malloc(&mut self, task: u32, bytes: u32, steps: &mut Steps) -> Result<Handle, Refusal>
         requires opened { IsTrue self.old.is_open }
         requires sixteen { task < 16 }
@@ -151,8 +151,8 @@ impl QuotaHeap {
         }
     }
 
-    /// Writes bytes into an object of a task from byte `at` on: `Unknown` where the task has no such
-    /// object, `Range` where they would pass its end.
+    /// Writes bytes into an object of a task from byte `at` on. Fails with `Unknown` if the task has no
+    /// such object, else with `Range` if they would pass its end.
     pub fn write(
         &mut self,
         task: u32,
@@ -175,8 +175,8 @@ impl QuotaHeap {
         }
     }
 
-    /// Reads the bytes of an object of a task from byte `at` on, as many as `out` holds; refused as a
-    /// write is, and then `out` is left.
+    /// Fills `out` with the bytes of an object of a task from byte `at` on. Fails as a write does, and
+    /// then leaves `out` as it was.
     pub fn read(
         &self,
         task: u32,
@@ -198,7 +198,7 @@ impl QuotaHeap {
         }
     }
 
-    /// The figures of class c of a task; none where there is no such class.
+    /// The figures of class c of a task; none if there is no such class.
     pub fn figures(&self, task: u32, c: u32) -> Option<Figures>
         requires opened { IsTrue self.now.is_open }
         requires sixteen { task < 16 }

@@ -166,7 +166,7 @@ impl OpenTasks {
         Ok(self.shared_pages.free_inner(owner, t, h, x, steps))
     }
 
-    /// The object of a task under this number; none where it isn't live.
+    /// The object of a task under this number; none if it isn't live.
     fn object(&self, t: u32, h: Handle, steps: &mut Steps) -> Option<Found>
         requires kept { IsValid self.now }
         requires sixteen { t < 16 }
@@ -180,7 +180,7 @@ impl OpenTasks {
         self.shared_pages.object(task, h, steps)
     }
 
-    /// The address of an object of a task, of which `count` bytes from `at` on are asked for.
+    /// The address of an object of a task, if `count` bytes from `at` on lie within the object.
     fn find(
         &self,
         t: u32,
@@ -227,7 +227,7 @@ impl OpenTasks {
         Ok(())
     }
 
-    /// Reads the bytes of an object of a task from byte `at` on, as many as `out` holds.
+    /// Fills `out` with the bytes of an object of a task from byte `at` on.
     pub(crate) fn read(
         &self,
         t: u32,
@@ -254,7 +254,7 @@ impl OpenTasks {
         Ok(())
     }
 
-    /// The figures of a class of a task; none where there is no such class.
+    /// The figures of a class of a task; none if there is no such class.
     pub(crate) fn figures(&self, t: u32, c: u32) -> Option<Figures>
         requires kept { IsValid self.now }
         requires sixteen { t < 16 }

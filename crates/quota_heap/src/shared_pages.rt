@@ -54,7 +54,7 @@ impl SharedPages {
         })
     }
 
-    /// The object of a task under this number; none where it isn't live.
+    /// The object of a task under this number; none if it isn't live.
     pub(crate) fn object(&self, task: &Task, h: Handle, steps: &mut Steps) -> Option<Found>
         requires shared_pages { ArePages self.now }
         requires kept { (t : ℕ) × IsTask self.now t task.now }
@@ -77,7 +77,7 @@ impl SharedPages {
         })
     }
 
-    /// The address of an object of a task, of which `count` bytes from `at` on are asked for.
+    /// The address of an object of a task, if `count` bytes from `at` on lie within the object.
     pub(crate) fn find(
         &self,
         task: &Task,
@@ -113,7 +113,7 @@ pub(crate) fn wipe(region: &mut Region, place: u32, slot_words: u32, steps: &mut
     region.clear(place, slot_words, steps);
 }
 
-/// The words of a slot go to another one, and leave zeros.
+/// Moves the words of a slot to another one, and leaves zeros.
 pub(crate) fn shift(region: &mut Region, from: u32, to: u32, slot_words: u32, steps: &mut Steps)
     requires source { from + slot_words ≤ length region.old }
     requires target { to + slot_words ≤ length region.old }

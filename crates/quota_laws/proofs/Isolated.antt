@@ -1,7 +1,7 @@
 -- The replies to a task are the same without the other tasks.
-use Rattle.std.proofs.Common.{◌≡◌, ◌≢◌, ℕ, zero, suc, Bool, true, false, cond, ◌<◌, ◌≤◌, List, [], ◌∷◌, Option, Some, None, length, get_or, replicate, set}
+use Rattle.std.proofs.Common.{◌≡◌, ◌≢◌, ℕ, suc, Bool, true, false, cond, ◌<◌, ◌≤◌, List, [], ◌∷◌, Option, Some, None, length, get_or, set}
 use Rattle.std.proofs.Common.{arith, ap, sym, ◌∙◌, refl, inl, inr, subst}
-use Rattle.std.specs.Prelude.{◌&&◌, nat_eq, nat_lt, sum}
+use Rattle.std.specs.Prelude.{◌&&◌, nat_eq, nat_lt, not, sum}
 use Rattle.std.proofs.lemmas.Bool.{and_parts, cases_eq, cases_lt}
 use Rattle.std.proofs.lemmas.List.{get_or-set_same, get_or-set_other, length-set, length-replicate}
 use Rattle.std.proofs.lemmas.List.Sums.{sum_by-cons}
@@ -12,9 +12,14 @@ use Rattle.quota_model.proofs.CallerLemmas.{zeros}
 use Rattle.quota_model.specs.Refusals.{task_paging}
 use Rattle.quota_model.specs.declared.answers.QuotaFault.{QuotaFault}
 use Rattle.quota_model.specs.declared.answers.QuotaFault.TheVariants.{Sum, Used}
+use Rattle.run_model.specs.Texts.{Reply, said}
+use Rattle.script_reader.specs.Items.{Item, asks, bad, starts}
 use Rattle.script_reader.specs.declared.command.Command.{Command}
-use Rattle.quota_laws.specs.Tasks.{TaskItem, Tasks, after_item, calls, no_tasks, quotas_after, set_refusal, sets, task_leaves, task_reply}
-use Rattle.quota_laws.specs.Runs.{is_accepted, own_items, replies_to}
+use Rattle.script_reader.specs.declared.command.Command.TheVariants as command
+use Rattle.quota_laws.specs.Own.{is_left_out, is_own, own_items, replies_of}
+use Rattle.quota_laws.specs.Runs.{is_accepted}
+use Rattle.quota_laws.specs.Tasks.{Tasks, after_item, calls, quotas_after, set_refusal, sets, task_leaves, task_reply}
+use Rattle.quota_laws.specs.Transcript.{MeetsTasks, TaskState, admission, admission_text, command_reply, first_state, need_text, one_more, present_after, state_after, task_replies}
 use Rattle.quota_laws.proofs.Alone.{same_leaves, same_reply}
 
 -- smaller entries have a smaller sum
@@ -39,7 +44,7 @@ pub record IsOwn (task : ℕ) (all own : Tasks) : Type 0 where
 
 module _ (task : ℕ) (lt : task < 16) where
   -- a call of the task
-  own_call : (all own : Tasks) (u : ℕ) (command : Command) → u ≡ task → IsOwn task all own
+  pub own_call : (all own : Tasks) (u : ℕ) (command : Command) → u ≡ task → IsOwn task all own
       → IsOwn task (after_item all (calls u command)) (after_item own (calls u command))
   own_call all own u command is o =
       let yes : nat_eq task u ≡ true = eq_yes task u (sym is) in
@@ -60,7 +65,7 @@ module _ (task : ℕ) (lt : task < 16) where
       }
 
   -- a call of another one
-  others_call : (all own : Tasks) (u : ℕ) (command : Command) → u ≢ task → IsOwn task all own → IsOwn task (after_item all (calls u command)) own
+  pub others_call : (all own : Tasks) (u : ℕ) (command : Command) → u ≢ task → IsOwn task all own → IsOwn task (after_item all (calls u command)) own
   others_call all own u command ne o =
       let no : nat_eq task u ≡ false = eq_no task u (λ e. ne (sym e)) in
       record {
@@ -73,7 +78,7 @@ module _ (task : ℕ) (lt : task < 16) where
       }
 
   -- a quota line that is left out: it is refused, or another task's
-  left_set : (all own : Tasks) (u pages : ℕ) (r : Option QuotaFault) → ((nat_eq u task && is_accepted r) ≡ false) → IsOwn task all own
+  pub left_set : (all own : Tasks) (u pages : ℕ) (r : Option QuotaFault) → ((nat_eq u task && is_accepted r) ≡ false) → IsOwn task all own
       → IsOwn task (record all { quotas = quotas_after r all.quotas u pages }) own
   left_set all own u pages (Some e) out o = o
   left_set all own u pages None out o = elim (cases_eq u task) [
@@ -141,87 +146,216 @@ module _ (task : ℕ) (lt : task < 16) where
       (λ i. nat_lt pages (pages_needed (task_paging (o.profile i)) (o.objects i))) ∙ both.1 in
       λ i. cond (x i) (Some Sum) (cond (y i) (Some Used) None)
 
-  pub isolated : (items : List TaskItem) (all own : Tasks) → IsOwn task all own → replies_to task own (own_items task all items) ≡ replies_to task all items
-  isolated [] all own o = refl
-  isolated (calls u command ∷ rest) all own o = elim (cases_eq u task) [
-    | inl is ↦ (
-        let yes : nat_eq u task ≡ true = eq_yes u task is in
-        let reply = same_reply all own task o.profile o.quota o.objects command in
-        let ih = isolated rest (after_item all (calls u command)) (after_item own (calls u command)) (own_call all own u command is o) in
-        let a : own_items task all (calls u command ∷ rest) ≡ calls u command ∷ own_items task (after_item all (calls u command)) rest =
-        ap (λ b. cond b (calls u command ∷ own_items task (after_item all (calls u command)) rest) (own_items task (after_item all (calls u command)) rest))
-        yes in
-        let b : replies_to task own (calls u command ∷ own_items task (after_item all (calls u command)) rest)
-        ≡ task_reply own task command ∷ replies_to task (after_item own (calls u command)) (own_items task (after_item all (calls u command)) rest) =
-        ap (λ b. cond b
-        (task_reply own task command ∷ replies_to task (after_item own (calls u command)) (own_items task (after_item all (calls u command)) rest))
-        (replies_to task (after_item own (calls u command)) (own_items task (after_item all (calls u command)) rest)))
-        yes in
-        let d : replies_to task all (calls u command ∷ rest) ≡ task_reply all task command ∷ replies_to task (after_item all (calls u command)) rest =
-        ap (λ b. cond b (task_reply all task command ∷ replies_to task (after_item all (calls u command)) rest)
-        (replies_to task (after_item all (calls u command)) rest))
-        yes in
-        let e : task_reply own task command ∷ replies_to task (after_item own (calls u command)) (own_items task (after_item all (calls u command)) rest)
-        ≡ task_reply all task command ∷ replies_to task (after_item all (calls u command)) rest = λ i. reply i ∷ ih i in
-        ap (replies_to task own) a ∙ b ∙ e ∙ sym d)
-    | inr ne ↦ (
-        let no : nat_eq u task ≡ false = eq_no u task ne in
-        let ih = isolated rest (after_item all (calls u command)) own (others_call all own u command ne o) in
-        let a : own_items task all (calls u command ∷ rest) ≡ own_items task (after_item all (calls u command)) rest =
-        ap (λ b. cond b (calls u command ∷ own_items task (after_item all (calls u command)) rest) (own_items task (after_item all (calls u command)) rest))
-        no in
-        let d : replies_to task all (calls u command ∷ rest) ≡ replies_to task (after_item all (calls u command)) rest =
-        ap (λ b. cond b (task_reply all task command ∷ replies_to task (after_item all (calls u command)) rest)
-        (replies_to task (after_item all (calls u command)) rest))
-        no in
-        ap (replies_to task own) a ∙ ih ∙ sym d)
-  ]
-  isolated (sets u pages ∷ rest) all own o = go (nat_eq u task && is_accepted (set_refusal all u pages)) refl
-      (λ p. isolated rest (after_item all (sets u pages)) own p)
-      (λ p. isolated rest (after_item all (sets u pages)) (after_item own (sets u pages)) p)
-    where
-      go : (b : Bool) → (nat_eq u task && is_accepted (set_refusal all u pages)) ≡ b
-          → (IsOwn task (after_item all (sets u pages)) own
-          → replies_to task own (own_items task (after_item all (sets u pages)) rest) ≡ replies_to task (after_item all (sets u pages)) rest)
-          → (IsOwn task (after_item all (sets u pages)) (after_item own (sets u pages))
-          → replies_to task (after_item own (sets u pages)) (own_items task (after_item all (sets u pages)) rest)
-          ≡ replies_to task (after_item all (sets u pages)) rest)
-          → replies_to task own (cond b (sets u pages ∷ own_items task (after_item all (sets u pages)) rest)
-          (own_items task (after_item all (sets u pages)) rest))
-          ≡ replies_to task (after_item all (sets u pages)) rest
-      go false is out kept = out (left_set all own u pages (set_refusal all u pages) is o)
-      go true is out kept = kept (kept_set is)
-        where
-          kept_set : (nat_eq u task && is_accepted (set_refusal all u pages)) ≡ true
-              → IsOwn task (after_item all (sets u pages)) (after_item own (sets u pages))
-          kept_set is = elim (cases_eq u task) [
-            | inr ne ↦ absurd (let e : true ≡ false = sym (and_parts (nat_eq u task) _ is).0 ∙ eq_no u task ne in cc)
-            | inl same ↦ (
-                let accepted : is_accepted (set_refusal all task pages) ≡ true =
-                subst (λ v. is_accepted (set_refusal all v pages) ≡ true) same (and_parts (nat_eq u task) _ is).1 in
-                let a : set_refusal all task pages ≡ None = accepted_is (set_refusal all task pages) accepted in
-                let b : set_refusal own task pages ≡ None = accepted_own all own pages o accepted in
-                let done : IsOwn task (record all { quotas = quotas_after (set_refusal all task pages) all.quotas task pages })
-                (record own { quotas = quotas_after (set_refusal own task pages) own.quotas task pages }) =
-                subst (λ x. IsOwn task (record all { quotas = quotas_after x all.quotas task pages })
-                (record own { quotas = quotas_after (set_refusal own task pages) own.quotas task pages })) (sym a)
-                (subst (λ x. IsOwn task (record all { quotas = set all.quotas task pages }) (record own { quotas = quotas_after x own.quotas task pages }))
-                (sym b) (set_own all own pages o)) in
-                subst (λ v. IsOwn task (record all { quotas = quotas_after (set_refusal all v pages) all.quotas v pages })
-                (record own { quotas = quotas_after (set_refusal own v pages) own.quotas v pages })) (sym same) done)
-          ]
-            where
-              accepted_is : (r : Option QuotaFault) → is_accepted r ≡ true → r ≡ None
-              accepted_is None e = refl
-              accepted_is (Some f) e = absurd (let e' : false ≡ true = e in cc)
+  accepted_is : (r : Option QuotaFault) → is_accepted r ≡ true → r ≡ None
+  accepted_is None e = refl
+  accepted_is (Some f) e = absurd (let e' : false ≡ true = e in cc)
 
-  pub isolated_from_nothing : (s : Profile) (items : List TaskItem)
-      → replies_to task (no_tasks s) (own_items task (no_tasks s) items) ≡ replies_to task (no_tasks s) items
-  isolated_from_nothing s items = isolated items (no_tasks s) (no_tasks s) (record {
-    profile = refl;
-    objects = refl;
-    quota = refl;
-    others = λ u ne. zeros 16 u;
-    many = length-replicate {A = ℕ} 16 0;
-    as_many = length-replicate {A = ℕ} 16 0;
-  })
+  -- a quota line of the task that is accepted
+  pub kept_set : (all own : Tasks) (u pages : ℕ) → (nat_eq u task && is_accepted (set_refusal all u pages)) ≡ true → IsOwn task all own
+      → IsOwn task (after_item all (sets u pages)) (after_item own (sets u pages))
+  kept_set all own u pages is o = elim (cases_eq u task) [
+    | inr ne ↦ absurd (let e : true ≡ false = sym (and_parts (nat_eq u task) _ is).0 ∙ eq_no u task ne in cc)
+    | inl same ↦ (
+        let accepted : is_accepted (set_refusal all task pages) ≡ true =
+        subst (λ v. is_accepted (set_refusal all v pages) ≡ true) same (and_parts (nat_eq u task) _ is).1 in
+        let a : set_refusal all task pages ≡ None = accepted_is (set_refusal all task pages) accepted in
+        let b : set_refusal own task pages ≡ None = accepted_own all own pages o accepted in
+        let done : IsOwn task (record all { quotas = quotas_after (set_refusal all task pages) all.quotas task pages })
+        (record own { quotas = quotas_after (set_refusal own task pages) own.quotas task pages }) =
+        subst (λ x. IsOwn task (record all { quotas = quotas_after x all.quotas task pages })
+        (record own { quotas = quotas_after (set_refusal own task pages) own.quotas task pages })) (sym a)
+        (subst (λ x. IsOwn task (record all { quotas = set all.quotas task pages }) (record own { quotas = quotas_after x own.quotas task pages }))
+        (sym b) (set_own all own pages o)) in
+        subst (λ v. IsOwn task (record all { quotas = quotas_after (set_refusal all v pages) all.quotas v pages })
+        (record own { quotas = quotas_after (set_refusal own v pages) own.quotas v pages })) (sym same) done)
+  ]
+
+  -- `own` is what `all` is for the task, with its entries
+  record AreOwn (all own : TaskState) : Type 0 where
+    tasks : IsOwn task all.tasks own.tasks
+    present : all.present ≡ task → own.present ≡ task
+    needs : own.needs task ≡ all.needs task
+
+  first_own : (p : Profile) → AreOwn (first_state p) (first_state p)
+  first_own p = record {
+    tasks = record {
+      profile = refl;
+      objects = refl;
+      quota = refl;
+      others = λ u ne. zeros 16 u;
+      many = length-replicate {A = ℕ} 16 0;
+      as_many = length-replicate {A = ℕ} 16 0;
+    };
+    present = λ e. e;
+    needs = refl;
+  }
+
+  equal : (a b : ℕ) → not (nat_eq a b) ≡ false → a ≡ b
+  equal a b e = elim (cases_eq a b) [
+    | inl is ↦ is
+    | inr ne ↦ absurd (let e' : true ≡ false = sym (ap not (eq_no a b ne)) ∙ e in cc)
+  ]
+
+  unequal : (a b : ℕ) → not (nat_eq a b) ≡ true → a ≢ b
+  unequal a b e is = (let e' : false ≡ true = sym (ap not (eq_yes a b is)) ∙ e in absurd cc)
+
+  not_true : (b : Bool) → not b ≡ true → b ≡ false
+  not_true true e = sym e
+  not_true false e = refl
+
+  not_false : (b : Bool) → not b ≡ false → b ≡ true
+  not_false true e = refl
+  not_false false e = sym e
+
+  -- a command that is left out
+  record Skips (all own : TaskState) (c : Command) : Type 0 where
+    state : AreOwn (state_after all c) own
+    foreign : is_own task all.present c ≡ false
+
+  skips : (all own : TaskState) → AreOwn all own → (c : Command) → is_left_out task all c ≡ true → Skips all own c
+  skips all own o (command.Task u) out = record {
+    state = record { tasks = o.tasks; present = λ e. absurd (unequal u task out e); needs = o.needs };
+    foreign = refl;
+  }
+  skips all own o (command.Quota u pages) out = record {
+    state = record {
+      tasks = left_set all.tasks own.tasks u pages (set_refusal all.tasks u pages)
+          (not_true (nat_eq u task && is_accepted (set_refusal all.tasks u pages)) out) o.tasks;
+      present = o.present;
+      needs = o.needs;
+    };
+    foreign = refl;
+  }
+  skips all own o (command.Need u bytes count) out =
+      let no : nat_eq task u ≡ false = eq_no task u (λ e. unequal u task out (sym e)) in
+      record {
+        state = record {
+          tasks = o.tasks;
+          present = o.present;
+          needs = o.needs ∙ sym (ap (λ b. cond b (one_more (all.needs task) (record { bytes = bytes; count = count })) (all.needs task)) no);
+        };
+        foreign = not_true (nat_eq u task) out;
+      }
+  skips all own o (command.Admit u) out = record {
+    state = record { tasks = o.tasks; present = o.present; needs = o.needs };
+    foreign = not_true (nat_eq u task) out;
+  }
+  skips all own o c out = record {
+    state = record {
+      tasks = others_call all.tasks own.tasks all.present c (unequal all.present task out) o.tasks;
+      present = o.present;
+      needs = o.needs;
+    };
+    foreign = not_true (nat_eq all.present task) out;
+  }
+
+  -- a command that stays
+  record Keeps (all own : TaskState) (c : Command) : Type 0 where
+    state : AreOwn (state_after all c) (state_after own c)
+    own_too : is_own task own.present c ≡ is_own task all.present c
+    reply : is_own task all.present c ≡ true → command_reply own c ≡ command_reply all c
+
+  keeps : (all own : TaskState) → AreOwn all own → (c : Command) → is_left_out task all c ≡ false → Keeps all own c
+  keeps all own o (command.Task u) stays = record {
+    state = record { tasks = o.tasks; present = λ e. e; needs = o.needs };
+    own_too = refl;
+    reply = λ e. absurd (let e' : false ≡ true = e in cc);
+  }
+  keeps all own o (command.Quota u pages) stays = record {
+    state = record {
+      tasks = kept_set all.tasks own.tasks u pages (not_false (nat_eq u task && is_accepted (set_refusal all.tasks u pages)) stays) o.tasks;
+      present = o.present;
+      needs = o.needs;
+    };
+    own_too = refl;
+    reply = λ e. absurd (let e' : false ≡ true = e in cc);
+  }
+  keeps all own o (command.Need u bytes count) stays = record {
+    state = record {
+      tasks = o.tasks;
+      present = o.present;
+      needs = ap (λ l. cond (nat_eq task u) (one_more l (record { bytes = bytes; count = count })) l) o.needs;
+    };
+    own_too = refl;
+    reply = λ e. ap (λ l. said (need_text l)) (subst (λ v. own.needs v ≡ all.needs v) (sym (equal u task stays)) o.needs);
+  }
+  keeps all own o (command.Admit u) stays = record {
+    state = record { tasks = o.tasks; present = o.present; needs = o.needs };
+    own_too = refl;
+    reply = λ e. subst (λ v. command_reply own (command.Admit v) ≡ command_reply all (command.Admit v)) (sym (equal u task stays))
+        (λ i. said (admission_text (admission (record { profile = o.tasks.profile i; quota = o.tasks.quota i }) (o.needs i))));
+  }
+  keeps all own o c stays =
+      let is : all.present ≡ task = equal all.present task stays in
+      let there : own.present ≡ all.present = o.present is ∙ sym is in
+      record {
+        state = record {
+          tasks = subst (λ v. IsOwn task (after_item all.tasks (calls all.present c)) (after_item own.tasks (calls v c))) (sym there)
+              (own_call all.tasks own.tasks all.present c is o.tasks);
+          present = o.present;
+          needs = o.needs;
+        };
+        own_too = ap (λ v. nat_eq v task) there;
+        reply = λ e. ap (λ v. task_reply own.tasks v c) (o.present is)
+            ∙ same_reply all.tasks own.tasks task o.tasks.profile o.tasks.quota o.tasks.objects c
+            ∙ sym (ap (λ v. task_reply all.tasks v c) is);
+      }
+
+  -- what the task is answered in the items that are left, and in all of them
+  abbrev IsSame : ℕ → ℕ → Option TaskState → Option TaskState → List Item → Type 0
+  IsSame present here all own items =
+      replies_of task here (own_items task all items) (task_replies own (own_items task all items)) ≡ replies_of task present items (task_replies all items)
+
+  by_own : (b : Bool) (one other : Reply) → (b ≡ true → one ≡ other) → {xs ys : List Reply} → xs ≡ ys → cond b (one ∷ xs) xs ≡ cond b (other ∷ ys) ys
+  by_own true one other reply same = λ i. reply refl i ∷ same i
+  by_own false one other reply same = same
+
+  -- one command more; `left` is what is left of the items after it
+  module _ (all own : TaskState) (o : AreOwn all own) (c : Command) (left rest : List Item) (replies : List Reply) where
+    with_command : (b : Bool) → is_left_out task all c ≡ b
+        → (AreOwn (state_after all c) own
+        → replies_of task own.present left (task_replies (Some own) left) ≡ replies_of task (present_after all.present c) rest replies)
+        → (AreOwn (state_after all c) (state_after own c) → replies_of task (present_after own.present c) left (task_replies (Some (state_after own c)) left)
+        ≡ replies_of task (present_after all.present c) rest replies)
+        → replies_of task own.present (cond b left (asks c ∷ left)) (task_replies (Some own) (cond b left (asks c ∷ left)))
+        ≡ replies_of task all.present (asks c ∷ rest) (command_reply all c ∷ replies)
+    with_command true is out kept =
+        let s = skips all own o c is in
+        out s.state
+        ∙ sym (ap (λ b. cond b (command_reply all c ∷ replies_of task (present_after all.present c) rest replies)
+        (replies_of task (present_after all.present c) rest replies)) s.foreign)
+    with_command false is out kept =
+        let k = keeps all own o c is in
+        ap (λ b. cond b (command_reply own c ∷ replies_of task (present_after own.present c) left (task_replies (Some (state_after own c)) left))
+        (replies_of task (present_after own.present c) left (task_replies (Some (state_after own c)) left))) k.own_too
+        ∙ by_own (is_own task all.present c) _ _ k.reply (kept k.state)
+
+  isolated : (items : List Item) (all own : TaskState) → AreOwn all own → IsSame all.present own.present (Some all) (Some own) items
+  isolated [] all own o = refl
+  isolated (starts p ∷ rest) all own o = isolated rest (first_state p) (first_state p) (first_own p)
+  isolated (bad n ∷ rest) all own o = isolated rest all own o
+  isolated (asks c ∷ rest) all own o =
+      with_command all own o c (own_items task (Some (state_after all c)) rest) rest (task_replies (Some (state_after all c)) rest)
+      (is_left_out task all c) refl (λ state. isolated rest (state_after all c) own state)
+      (λ state. isolated rest (state_after all c) (state_after own c) state)
+
+  -- before the `heap` line no command has a reply
+  isolated_first : (items : List Item) (present : ℕ) → IsSame present present None None items
+  isolated_first [] present = refl
+  isolated_first (starts p ∷ rest) present = isolated rest (first_state p) (first_state p) (first_own p)
+  isolated_first (bad n ∷ rest) present = isolated_first rest present
+  isolated_first (asks c ∷ rest) present =
+      let same = isolated_first rest (present_after present c) in
+      λ i. cond (is_own task present c) ([] ∷ same i) (same i)
+
+  pub isolated_in : (items : List Item) (replies told : List Reply) → MeetsTasks items replies → MeetsTasks (own_items task None items) told
+      → replies_of task 0 (own_items task None items) told ≡ replies_of task 0 items replies
+  isolated_in items replies told meets met =
+      ap (replies_of task 0 (own_items task None items)) met ∙ isolated_first items 0 ∙ sym (ap (replies_of task 0 items) meets)
+
+  -- two scripts of which the same is left
+  pub isolated_alike : (items others : List Item) (replies told : List Reply) → own_items task None others ≡ own_items task None items
+      → MeetsTasks items replies → MeetsTasks others told → replies_of task 0 others told ≡ replies_of task 0 items replies
+  isolated_alike items others replies told same meets met =
+      sym (isolated_in others told _ met refl) ∙ ap (λ (l : List Item). replies_of task 0 l (task_replies None l)) same
+      ∙ isolated_in items replies _ meets refl

@@ -18,15 +18,15 @@ abbrev pub is_accepted : Option QuotaFault → Bool
 is_accepted None = true
 is_accepted (Some e) = false
 
--- the items of a run without all calls and quota lines of other tasks, and without every quota line that is refused
-abbrev pub own_items : ℕ → Tasks → List TaskItem → List TaskItem
-own_items task s [] = []
-own_items task s (calls u command ∷ rest) =
-    if nat_eq u task then calls u command ∷ own_items task (after_item s (calls u command)) rest
-    else own_items task (after_item s (calls u command)) rest
-own_items task s (sets u pages ∷ rest) =
-    if nat_eq u task && is_accepted (set_refusal s u pages) then sets u pages ∷ own_items task (after_item s (sets u pages)) rest
-    else own_items task (after_item s (sets u pages)) rest
+-- the calls without those of other tasks, and without every quota that is another task's or is refused
+abbrev pub own_calls : ℕ → Tasks → List TaskItem → List TaskItem
+own_calls task s [] = []
+own_calls task s (calls u command ∷ rest) =
+    if nat_eq u task then calls u command ∷ own_calls task (after_item s (calls u command)) rest
+    else own_calls task (after_item s (calls u command)) rest
+own_calls task s (sets u pages ∷ rest) =
+    if nat_eq u task && is_accepted (set_refusal s u pages) then sets u pages ∷ own_calls task (after_item s (sets u pages)) rest
+    else own_calls task (after_item s (sets u pages)) rest
 
 -- no item sets the quota of the task
 abbrev pub LeaveQuota : ℕ → List TaskItem → Type 0

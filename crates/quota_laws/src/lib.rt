@@ -3,16 +3,22 @@
 //! one's contract is a law of the definitions of tasks.
 #![tactic(auto)]
 
-ghost use Rattle.std.specs.Prelude.{◌≡◌, ℕ, ◌<◌, List, None, Some, slice_index};
+ghost use Rattle.std.specs.Prelude.{◌≡◌, ℕ, ◌+◌, ◌<◌, ◌++◌, true, codes, drop, length, List, [], ◌∷◌, None, Some, slice_index, slice_index_or};
 ghost use Rattle.cf_base.specs.Settings.{Profile};
 ghost use Rattle.cf_base.specs.declared.kind.Kind.TheVariants.{Moving};
 ghost use Rattle.page_model.specs.Held.{Objects};
 ghost use Rattle.quota_model.specs.Refusals.{malloc_refusal};
+ghost use Rattle.run_model.specs.Texts.{Reply, said};
+ghost use Rattle.script_reader.specs.Items.{Item, asks, items};
 ghost use Rattle.script_reader.specs.declared.command.Command.{Command};
+ghost use Rattle.script_reader.specs.declared.command.Command.TheVariants.{Admit};
 ghost use Rattle.transcript_laws.specs.Replies.{malloc_fault};
 ghost use Rattle.transcript_laws.specs.Transcripts.{replies_from};
-ghost use Rattle.quota_laws.specs.Runs.{AreAnswered, LeaveQuota, commands_of, own_items, replies_to};
+ghost use Rattle.quota_laws.specs.Admitted.{AreServed, StayWithin, states_in};
+ghost use Rattle.quota_laws.specs.Own.{own_items, replies_of};
+ghost use Rattle.quota_laws.specs.Runs.{AreAnswered, LeaveQuota, commands_of, own_calls, replies_to};
 ghost use Rattle.quota_laws.specs.Tasks.{TaskItem, Tasks, no_tasks, own_heap, task_leaves, task_reply};
+ghost use Rattle.quota_laws.specs.Transcript.{MeetsTasks, TaskState};
 
 /// The reply to a call of a task, and the objects that the call leaves it, are the same wherever
 /// the settings, the task's quota and its objects by id are the same.
@@ -32,12 +38,64 @@ pub fn a_reply_follows_from_the_task_alone()
         ≡ malloc_refusal one.profile (slice_index one.quotas task) (one.objects task) bytes }
 {}
 
-/// Isolation: leave out all calls and all quotas of other tasks, and every quota that is refused;
-/// the replies to the task are the same, in the same order.
+/// Isolation: of a list of calls, each with its task, leave out all calls and all quotas of other
+/// tasks, and every quota that is refused; the replies to the task are the same, in the same order.
 pub fn tasks_are_isolated()
     ensures { (s : Profile) (task : ℕ) (items : List TaskItem) → task < 16
-        → replies_to task (no_tasks s) (own_items task (no_tasks s) items)
+        → replies_to task (no_tasks s) (own_calls task (no_tasks s) items)
         ≡ replies_to task (no_tasks s) items }
+{}
+
+/// Isolation: leave out of a script all lines of tasks other than one, and every quota line that is
+/// refused; the replies to the commands of that task are the same, in the same order. So are those in
+/// any two scripts of which the same is left, whatever the other tasks do in either. Each script may
+/// be that of a call of its own: the replies alone are compared.
+pub fn tasks_are_isolated_in_a_script()
+    ensures own { (items : List Item) (task : ℕ) (replies told : List Reply) → task < 16
+        → MeetsTasks items replies → MeetsTasks (own_items task None items) told
+        → replies_of task 0 (own_items task None items) told ≡ replies_of task 0 items replies }
+    ensures alike { (items others : List Item) (task : ℕ) (replies told : List Reply) → task < 16
+        → own_items task None others ≡ own_items task None items
+        → MeetsTasks items replies → MeetsTasks others told
+        → replies_of task 0 others told ≡ replies_of task 0 items replies }
+{}
+
+/// Admission: let `admit` of a task be answered `yes`, and let each later malloc of the task ask for
+/// an object that it had declared, while its quota is no less. Then each of them is answered `ok`, or
+/// `live` if its id is, whatever the other tasks do.
+pub fn an_admitted_task_is_served()
+    ensures { (before later : List Item) (task : ℕ) (admitted : TaskState) (replies : List Reply)
+        → states_in None before ≡ Some admitted
+        → MeetsTasks (before ++ asks (Admit task) ∷ later) replies
+        → slice_index_or replies (length before) [] ≡ said (codes "yes")
+        → StayWithin admitted task (Some admitted) later
+        → AreServed task admitted.present later (drop (length before + 1) replies) }
+{}
+
+/// Wrong replies do not meet the claim. On two pages of 64 words, of which task 0 has one: refusals of
+/// everything; of a malloc that fits `refused space`, no line, no reply, or a reply more than there are
+/// items; `ok` for a malloc beyond the quota; another task's bytes; `yes` for two objects that need a
+/// page each; and `ok` for quotas of three pages.
+pub fn wrong_task_replies_fall_short()
+    ensures refused { ¬ MeetsTasks (items (codes "heap 2 512 1 8\nquota 0 1\nm 1 176\n") true)
+        (said (codes "ok") ∷ said (codes "refused sum") ∷ said (codes "refused space") ∷ []) }
+    ensures room { ¬ MeetsTasks (items (codes "heap 2 512 1 8\nquota 0 1\nm 1 176\n") true)
+        (said (codes "ok") ∷ said (codes "ok") ∷ said (codes "refused space") ∷ []) }
+    ensures silent { ¬ MeetsTasks (items (codes "heap 2 512 1 8\nquota 0 1\nm 1 176\n") true)
+        (said (codes "ok") ∷ said (codes "ok") ∷ [] ∷ []) }
+    ensures missing { ¬ MeetsTasks (items (codes "heap 2 512 1 8\nquota 0 1\nm 1 176\n") true)
+        (said (codes "ok") ∷ said (codes "ok") ∷ []) }
+    ensures over { ¬ MeetsTasks (items (codes "heap 2 512 1 8\nquota 0 1\nm 1 176\n") true)
+        (said (codes "ok") ∷ said (codes "ok") ∷ said (codes "ok") ∷ said (codes "ok") ∷ []) }
+    ensures beyond { ¬ MeetsTasks (items (codes "heap 2 512 1 8\nquota 0 1\nm 1 504\nm 2 504\n") true)
+        (said (codes "ok") ∷ said (codes "ok") ∷ said (codes "ok") ∷ said (codes "ok") ∷ []) }
+    ensures foreign { ¬ MeetsTasks (items (codes "heap 2 512 1 8\nquota 0 1\nm 1 1\nw 1 0 aa\nt 1\nr 1 0 1\n") true)
+        (said (codes "ok") ∷ said (codes "ok") ∷ said (codes "ok") ∷ said (codes "ok") ∷ said (codes "ok")
+        ∷ said (codes "=aa") ∷ []) }
+    ensures admitted { ¬ MeetsTasks (items (codes "heap 2 512 1 8\nquota 0 1\nneed 0 504 2\nadmit 0\n") true)
+        (said (codes "ok") ∷ said (codes "ok") ∷ said (codes "ok") ∷ said (codes "yes") ∷ []) }
+    ensures sum { ¬ MeetsTasks (items (codes "heap 2 512 1 8\nquota 0 1\nquota 1 2\n") true)
+        (said (codes "ok") ∷ said (codes "ok") ∷ said (codes "ok") ∷ []) }
 {}
 
 /// While its quota stays, a task is answered as on a heap of its own with as many pages as its

@@ -1,7 +1,8 @@
 -- What upper crates may cite: the laws of admission, counts by class and the pages that they need, and the parts of tasks before and after a call.
 pub use Rattle.quota_model.proofs.Ceilings.{count-append, count-cons, pages_grow, pages_same, pages_of_none, pages_few}
 pub use Rattle.quota_model.proofs.Declared.{all_fail, length-in_order}
-pub use Rattle.quota_model.proofs.AdmissionLaws.{enough_iff, none_iff, some_iff}
+pub use Rattle.quota_model.proofs.Enough.{granted_within, live_of-inserted}
+pub use Rattle.quota_model.proofs.AdmissionLaws.{enough_iff, none_iff, one_answer, some_iff}
 pub use Rattle.quota_model.proofs.TaskParts.{get_part, get_part_past, found_small, found_whole, found_part, part_inserted, part_removed, part_other_inserted}
 pub use Rattle.quota_model.proofs.TaskParts.{part_other_removed}
 pub use Rattle.quota_model.proofs.SharedPages.{tasks_paged, tasks_at_one}

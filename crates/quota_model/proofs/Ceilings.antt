@@ -10,6 +10,7 @@ use Rattle.cf_lemmas.proofs.Tests.{eq_no, eq_yes}
 use Rattle.page_model.specs.Arrangement.{pages_for}
 use Rattle.page_model.specs.Counts.{ceil_div}
 use Rattle.page_model.specs.Paging.{Paging, class_for, classes, slots_of}
+pub use Rattle.page_model.proofs.CallerLemmas.{pages_grow, pages_same}
 use Rattle.page_model.proofs.CallerLemmas.{ceil_mono, sum_plus, sum_same, sum_zeros}
 use Rattle.quota_model.specs.Admission.{count_of_class, pages_of}
 
@@ -20,14 +21,6 @@ ceil_nothing (suc m) = (let lt : 0 + (suc m - 1) < suc m = omega arith in div-eq
 ceil_few : (n m : ℕ) → ceil_div n m ≤ n
 ceil_few n zero = (let none = div-zero (n + (0 - 1)) in omega arith)
 ceil_few n (suc m) = (let lt : ceil_div n (suc m) < n + 1 = (div-lt_iff_lt-mul {k = suc m} {x = n + (suc m - 1)} {y = n + 1} (omega arith)).1 (omega arith) in omega arith)
-
-pub pages_grow : (p : Paging) (f g : ℕ → ℕ) → ((c : ℕ) → f c ≤ g c) → pages_for p f ≤ pages_for p g
-pages_grow p f g le = sum_grows (λ c. ceil_div (f c) (slots_of p c)) (λ c. ceil_div (g c) (slots_of p c)) (range_with_len 0 (classes p))
-    (λ c. ceil_mono (f c) (g c) (slots_of p c) (le c))
-
-pub pages_same : (p : Paging) (f g : ℕ → ℕ) → ((c : ℕ) → f c ≡ g c) → pages_for p f ≡ pages_for p g
-pages_same p f g same = sum_same (λ c. ceil_div (f c) (slots_of p c)) (λ c. ceil_div (g c) (slots_of p c)) (range_with_len 0 (classes p))
-    (λ c. ap (λ n. ceil_div n (slots_of p c)) (same c))
 
 -- nothing needs no pages
 pub pages_of_none : (p : Paging) → pages_of p [] ≡ 0

@@ -11,7 +11,7 @@ remove_first : ℕ → List ℕ → List ℕ
 remove_first n [] = []
 remove_first n (x ∷ xs) = cond (nat_eq x n) xs (x ∷ remove_first n xs)
 
--- how often n stands there
+-- how often n occurs
 abbrev pub times : ℕ → List ℕ → ℕ
 times n xs = count_by (λ m. nat_eq m n) xs
 

@@ -48,7 +48,7 @@ fit_again : (P k n : ℕ) (ns : List ℕ) → need n ≤ P → AllFit P ns → A
 fit_again P zero n ns le rest = rest
 fit_again P (suc k) n ns le rest = (le, fit_again P k n ns le rest)
 
--- where no element passes, each fails
+-- if no element passes, each fails
 pub all_fail : {X : Type 0} (f : X → Bool) (xs : List X) → position f xs ≡ None → (i : ℕ) (d : X) → i < length xs → f (get_or xs i d) ≡ false
 all_fail f xs none i d lt = elim (cases_lt (position_or_len f xs) (length xs)) [
   | inl found ↦ absurd (

@@ -1,26 +1,27 @@
--- Where the declared objects together need no more pages than the quota has, no call within the needs is refused for space.
+-- If the declared objects together need no more pages than the quota has, no call within the needs is refused for space.
 use Rattle.std.proofs.Common.{◌≡◌, ℕ, Bool, true, false, cond, ◌+◌, ◌<◌, ◌≤◌, List, [], ◌∷◌, Option, Some, None, length, map, replicate}
 use Rattle.std.proofs.Common.{arith, ap, sym, ◌∙◌, inl, inr, refl}
 use Rattle.std.specs.Prelude.{IsSome, count_by, nat_eq, nat_lt}
 use Rattle.std.proofs.lemmas.Bool.{cases_eq, cases_lt, false≢true}
-use Rattle.std.proofs.lemmas.List.{length-replicate}
-use Rattle.std.specs.FinMap.{empty, get, insert, remove, values}
+use Rattle.std.proofs.lemmas.List.{length-map, length-replicate}
+use Rattle.std.specs.FinMap.{empty, entries, get, insert, len, len-entries, remove, values}
+use Rattle.cf_base.specs.Classes.{need}
 use Rattle.cf_base.specs.declared.answers.Refusal.{Refusal}
 use Rattle.cf_base.specs.declared.answers.Refusal.TheVariants as refusal
 use Rattle.cf_lemmas.proofs.Ranges.{one}
 use Rattle.cf_lemmas.proofs.Sums.{sum_by-inserted, sum_by-removed}
-use Rattle.cf_lemmas.proofs.Tests.{eq_yes, eq_no, lt_no}
+use Rattle.cf_lemmas.proofs.Tests.{eq_yes, eq_no, lt_no, lt_yes}
 use Rattle.cf_lemmas.proofs.Values.{no_values}
 use Rattle.page_model.specs.Arrangement.{live, pages_needed_with}
 use Rattle.page_model.specs.Held.{Objects}
 use Rattle.page_model.specs.Paging.{class_for}
-use Rattle.quota_model.specs.Admission.{AreWithin, Call, IsEnough, IsShort, IsWithin, RunsShort, Share, after, asks, count_of_class, declared, frees, granted}
+use Rattle.quota_model.specs.Admission.{AreWithin, Call, CanBeAsked, IsEnough, IsShort, IsWithin, RunsShort, Share, after, asks, count_of_class, declared, frees, granted}
 use Rattle.quota_model.specs.Admission.{in_order, live_of, pages_of}
 use Rattle.quota_model.specs.Refusals.{malloc_refusal, task_paging}
 use Rattle.quota_model.specs.declared.answers.Need.{Need}
 use Rattle.quota_model.proofs.Ceilings.{count-cons, pages_grow}
 use Rattle.quota_model.proofs.Contained.{contained, times}
-use Rattle.quota_model.proofs.Declared.{declared_is}
+use Rattle.quota_model.proofs.Declared.{AllFit, all_fit, declared_is, length-in_order}
 
 pick_space : (a b c : Bool) → cond a (Some refusal.Size) (cond b (Some refusal.Proxy) (cond c (Some refusal.Space) None)) ≡ Some refusal.Space → c ≡ true
 pick_space true b c e = absurd (let e' : Some refusal.Size ≡ Some refusal.Space = e in cc)
@@ -32,11 +33,23 @@ pub count-map : {X : Type 0} (g : X → ℕ) (f : ℕ → Bool) (xs : List X) �
 count-map g f [] = refl
 count-map g f (x ∷ xs) = (let a = count-cons f (g x) (map g xs) in let b = count-cons (λ y. f (g y)) x xs in let c = count-map g f xs in omega arith)
 
+none_large : (P : ℕ) (ns : List ℕ) → AllFit P ns → count_by (λ n. nat_lt P (need n)) ns ≡ 0
+none_large P [] fit = refl
+none_large P (n ∷ ns) fit =
+    let a = count-cons (λ n. nat_lt P (need n)) n ns in
+    let b : one (nat_lt P (need n)) ≡ 0 = (let e = lt_no P (need n) fit.0 in rw e) in
+    let c = none_large P ns fit.1 in
+    omega arith
+
+all_counted : (ns : List ℕ) → count_by (λ n. true) ns ≡ length ns
+all_counted [] = refl
+all_counted (n ∷ ns) = (let a = count-cons (λ m. true) n ns in let b = all_counted ns in omega arith)
+
 -- the lengths of the objects
 abbrev lengths : Objects → List ℕ
 lengths o = map length (values o)
 
--- an object that comes counts among those of its bytes
+-- an object that is added counts among those of its length
 pub live_of-inserted : (o : Objects) (h n m : ℕ) → get o h ≡ None → live_of (insert o h (replicate n 0)) m ≡ live_of o m + one (nat_eq n m)
 live_of-inserted o h n m none =
     let a = sum_by-inserted (λ v. one (nat_eq (length v) m)) o h (replicate n 0) none in
@@ -82,6 +95,35 @@ module _ (t : Share) (needs : List Need) where
       let b = count-cons f n (lengths o) in
       let d = count-map length f (values o) in
       omega arith))
+
+  -- a declared object is granted
+  pub granted_within : CanBeAsked t.profile needs → pages_of (task_paging t.profile) (in_order needs) ≤ t.quota → (o : Objects) (n : ℕ) → IsBounded o
+      → live_of o n + 1 ≤ declared needs n → malloc_refusal t.profile t.quota o n ≡ None
+  granted_within asked enough o n bounded within =
+      let most = contained (n ∷ lengths o) (in_order needs) (with_one o n bounded within) in
+      let few = asked.few in
+      let large : ℕ → Bool = λ m. nat_lt t.profile.page_words (need m) in
+      let fits : need n ≤ t.profile.page_words = elim (cases_lt t.profile.page_words (need n)) [
+        | inl more ↦ absurd (
+            let a = most large in
+            let b = count-cons large n (lengths o) in
+            let d : one (large n) ≡ 1 = (let y = lt_yes t.profile.page_words (need n) more in rw y) in
+            let e = none_large t.profile.page_words (in_order needs) (all_fit t.profile needs asked.none_large) in
+            omega arith)
+        | inr le ↦ le
+      ] in
+      let some : len o < t.profile.proxies = (
+      let a = most (λ m. true) in
+      let b = all_counted (n ∷ lengths o) in
+      let d = all_counted (in_order needs) in
+      let e = length-in_order needs in
+      let g : length (lengths o) ≡ len o = length-map (values o) length ∙ length-map (entries o) (λ x. x.1) ∙ sym (len-entries o) in
+      omega arith) in
+      let space = needed_within o n bounded within in
+      let size : nat_lt t.profile.page_words (need n) ≡ false = lt_no _ _ fits in
+      let proxy : nat_eq (len o) t.profile.proxies ≡ false = eq_no _ _ (λ e. omega arith) in
+      let pages : nat_lt t.quota (pages_needed_with (task_paging t.profile) o n) ≡ false = lt_no _ _ (omega arith) in
+      λ i. cond (size i) (Some refusal.Size) (cond (proxy i) (Some refusal.Proxy) (cond (pages i) (Some refusal.Space) None))
 
   module _ (enough : pages_of (task_paging t.profile) (in_order needs) ≤ t.quota) where
     not_short : (o : Objects) → IsBounded o → (call : Call) → IsWithin t needs o call → ¬ IsShort t o call

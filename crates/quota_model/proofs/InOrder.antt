@@ -30,7 +30,7 @@ pub record FirstPast (p : Paging) (quota : ℕ) (pre rest : List ℕ) (i : ℕ) 
   pub enough : pages_of p (pre ++ take i rest) ≤ quota
   pub past : quota < pages_of p (pre ++ take (suc i) rest)
 
--- none is the first, or it is told by its number, from k + 1 on
+-- no malloc is the first refused, or the first has a number, from k + 1 on
 abbrev pub IsTold : Paging → ℕ → List ℕ → List ℕ → ℕ → Option ℕ → Type 0
 IsTold p quota pre rest k None = pages_of p (pre ++ rest) ≤ quota
 IsTold p quota pre rest k (Some nth) = (i : ℕ) × (nth ≡ k + suc i) × FirstPast p quota pre rest i
@@ -149,7 +149,7 @@ module _ (t : Share) where
   short_or_not (Some refusal.Proxy) = inl refl
   short_or_not (Some refusal.Space) = inr refl
 
-  -- where one is told, the mallocs run short
+  -- if there is one, the mallocs run short
   pub runs_short : (rest : List ℕ) (o : Objects) (k nth : ℕ) → first_short t o k rest ≡ Some nth → RunsShort t o (mallocs k rest)
   runs_short [] o k nth e = absurd (let e' : None ≡ Some nth = e in cc)
   runs_short (n ∷ ns) o k nth e = elim (short_or_not (malloc_refusal t.profile t.quota o n)) [

@@ -16,7 +16,7 @@ use Rattle.quota_model.specs.Parts.{key_of, number_of, part_of, task_of}
 use Rattle.quota_model.proofs.TaskParts.{get_part, get_part_past, tied_no, tied_yes}
 use Rattle.quota_model.specs.Joined.{AreNumbers, all_keyed, joined, keyed, places_at}
 
--- the first of two lists that tells of a key
+-- the first of two lists that has a key
 found_first : (k v : ℕ) (xs ys : List (ℕ × ℕ)) → find nat_cmp k xs ≡ Some v → find nat_cmp k (xs ++ ys) ≡ Some v
 found_first k v [] ys f = absurd (let e : None ≡ Some v = f in cc)
 found_first k v (x ∷ xs) ys f = elim (cases_eq k x.0) [
@@ -111,7 +111,7 @@ find_joined from (suc t) h (m ∷ ms) small lt =
     ∙ ap (λ t. find nat_cmp (key_of t h) (all_keyed (from + 1) ms)) e
     ∙ find_joined (from + 1) t h ms (λ u q a f. small (suc u) q a f) lt
 
--- under the key of a task's object stands its address
+-- under the key of a task's object is its address
 pub get_joined : (all : List (FinMap nat_cmp ℕ)) → AreNumbers all → (t h : ℕ) → h < 65536 → get (joined all) (key_of t h) ≡ get (places_at all t) h
 unfolding joined
 get_joined all small t h lt = get-from_entries nat_cmp_total (all_keyed 0 all) (key_of t h) ∙ ap (λ u. find nat_cmp (key_of u h) (all_keyed 0 all))
@@ -182,7 +182,7 @@ module _ (all : List (FinMap nat_cmp ℕ)) (small : AreNumbers all) (t : ℕ) (l
               ∙ sym (get_remove_other (joined all) (key_of t h) key (λ e. ne (omega arith)))
         ])
 
--- a task's part of what stands at the addresses of all is what stands at its own
+-- a task's part of all objects at their addresses is its own objects at theirs
 pub part_joined : (words : List ℕ) (all : List (FinMap nat_cmp ℕ)) → AreNumbers all → (t : ℕ)
     → part_of (held_at words (joined all)) t ≡ held_at words (places_at all t)
 part_joined words all small t = equal_maps _ _ (λ q. elim (cases_lt q 65536) [

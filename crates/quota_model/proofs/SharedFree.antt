@@ -57,7 +57,7 @@ module _ (s : Profile) (old : Held) (task h : ℕ) (x : Placed) (found : get (pa
       ∙ part_other_inserted (remove old (key_of task h)) task q q_small other ne (record { place = x.place; bytes = (o.0).bytes })
       ∙ part_other_removed old task h small other ne
 
-  -- what stands afterwards stood there before, under a key of the same task
+  -- what is held afterwards was held before, under a key of the same task
   record Stood (key : ℕ) (y : Placed) : Type 0 where
     again : Placed
     under : get old key ≡ Some again

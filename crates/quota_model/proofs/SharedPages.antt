@@ -61,7 +61,7 @@ sum_by_places f (x ∷ xs) a is =
     let rest = sum_by_places f xs (a + 1) (λ i. is (suc i) ∙ ap f (omega arith)) in
     omega arith
 
--- where fewer numbers pass than there are, one doesn't
+-- if fewer numbers pass than there are, one doesn't
 one_fails : (f : ℕ → Bool) (a n : ℕ) → count_by f (range_with_len a n) < n → (d : ℕ) × (d < a + n) × (one (f d) ≡ 0)
 one_fails f a zero less = absurd (omega arith)
 one_fails f a (suc n) less =
@@ -74,7 +74,7 @@ one_fails f a (suc n) less =
     ]
 
 module _ (s : Profile) (quotas : List ℕ) (m : Held) (shared : IsShared s m) (are : AreQuotas s quotas m) (is_page : IsTrue (is_page_size s.page_words)) where
-  -- what stands on a page is some task's
+  -- what lies on a page is some task's
   stands_for_one : (g : ℕ) → one (nat_lt 0 (standing_on (task_paging s) m g))
       ≤ sum_by (λ task. one (nat_lt 0 (standing_on (task_paging s) (part_of m task) g))) (range_with_len 0 16)
   stands_for_one g = elim (cases_lt 0 (standing_on (task_paging s) m g)) [

@@ -13,7 +13,7 @@ use Rattle.page_model.specs.Image.{Clears, IsApartFrom, IsDisjoint, IsImage, IsO
 use Rattle.page_model.specs.Image.{slot_for, word_of_bytes}
 use Rattle.page_model.specs.Paging.{class_for, slot_words}
 use Rattle.page_model.specs.Steps.{MayFill, MustMove, Request, moved_to, zeros_at}
-use Rattle.page_model.proofs.CallerLemmas.{disjoint_outside, image_added, image_after_bytes, image_after_free, image_exchanged}
+use Rattle.page_model.proofs.CallerLemmas.{fresh_word, disjoint_outside, image_added, image_after_bytes, image_after_free, image_exchanged}
 use Rattle.page_model.proofs.CallerLemmas.{mover_is_other, own_words, slot_inside}
 use Rattle.page_model.proofs.CallerLemmas.{sound_apart_from, within_or}
 use Rattle.quota_model.specs.Parts.{key_of, part_of}
@@ -23,15 +23,6 @@ use Rattle.quota_model.proofs.SharedMalloc.{stays_shared}
 use Rattle.quota_model.proofs.SharedPages.{tasks_paged}
 use Rattle.quota_model.proofs.TaskParts.{found_small, found_whole, get_part}
 use Rattle.quota_model.proofs.WholeSound.{from_wide, to_wide, whole_sound, wide, wide_paged, wide_slot}
-
-take_zeros : (m n : ℕ) → word_of_bytes (take m (replicate n 0)) ≡ 0
-take_zeros zero n = refl
-take_zeros (suc m) zero = refl
-take_zeros (suc m) (suc n) = omega (arith, take_zeros m n)
-
--- past its header a fresh object has zeros
-fresh_word : (h n i : ℕ) → object_word h (replicate n 0) (suc i) ≡ 0
-fresh_word h n i = ap (λ xs. word_of_bytes (take 8 xs)) (drop-replicate (8 * i) n 0) ∙ take_zeros 8 (n - 8 * i)
 
 turned : (a n b m : ℕ) → IsDisjoint a n b m → IsDisjoint b m a n
 turned a n b m (inl x) = inr x

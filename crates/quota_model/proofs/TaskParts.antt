@@ -22,7 +22,7 @@ of_task task es = filter (λ (e : ℕ × Placed). nat_eq (task_of e.0) task) es
 abbrev renumbered : List (ℕ × Placed) → List (ℕ × Placed)
 renumbered es = map (λ (e : ℕ × Placed). (number_of e.0, e.1)) es
 
--- an entry of the task is found under its number exactly where it is found under its key
+-- an entry of the task is found under its number if and only if it is found under its key
 same_test : (task h key : ℕ) → h < 65536 → task_of key ≡ task → eq_by_cmp nat_cmp h (number_of key) ≡ eq_by_cmp nat_cmp (key_of task h) key
 same_test task h key lt is = elim (cases_eq h (number_of key)) [
   | inl same ↦ tied_yes h (number_of key) same ∙ sym (tied_yes (key_of task h) key (omega arith))

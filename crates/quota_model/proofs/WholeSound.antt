@@ -1,4 +1,4 @@
--- The objects of all tasks are one sound arrangement, where any number of pages of a class may be partly full.
+-- The objects of all tasks are one sound arrangement, in which any number of pages of a class may be partly full.
 use Rattle.std.proofs.Common.{◌≡◌, ℕ, ◌+◌, ◌≤◌, List, Some, length, get_or, arith, ap, sym, ◌∙◌, refl, inl, inr}
 use Rattle.std.specs.Prelude.{IsTrue}
 use Rattle.std.proofs.lemmas.Bool.{cases_eq}
@@ -19,7 +19,7 @@ use Rattle.quota_model.specs.Refusals.{task_paging}
 use Rattle.quota_model.specs.Shared.{IsShared}
 use Rattle.quota_model.proofs.TaskParts.{found_part}
 
--- the pages and classes of tasks, where every page of a class may be partly full
+-- the pages and classes of tasks, in which every page of a class may be partly full
 abbrev pub wide : Profile → Paging
 wide s = paging_of s Words (first_bounds (record s { k = s.pages + 1 }) Words)
 

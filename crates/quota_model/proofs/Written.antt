@@ -65,7 +65,7 @@ module _ (s : Profile) (m : Held) (t h : ℕ) (x : Placed) (found : get (part_of
   unfolding pages_needed
   needed_same = pages_same (task_paging s) (live (task_paging s) (objects (part_of rewritten t))) (live (task_paging s) (objects (part_of m t))) live_same
 
-  -- what stands afterwards stood there before, of the same task
+  -- what is held afterwards was held before, by the same task
   record Stood (key : ℕ) (y : Placed) : Type 0 where
     before : Placed
     under : get m key ≡ Some before

@@ -15,12 +15,12 @@ use Rattle.quota_model.specs.declared.answers.Admission.{Admission}
 use Rattle.quota_model.specs.declared.answers.Admission.TheVariants.{Yes, No, Size, Proxies}
 use Rattle.quota_model.specs.declared.answers.Need.{Need}
 
--- a task that may use so many pages, under these settings
+-- a task with this quota of pages, under these settings
 pub record Share : Type 0 where
   pub profile : Profile
   pub quota : ℕ
 
--- a call of a task: it asks for n bytes, which get number h where they are granted, or it frees object h
+-- a call of a task: it asks for n bytes, which get number h if they are granted, or it frees object h
 pub data Call : Type 0 where
   asks : (h n : ℕ) → Call
   frees : (h : ℕ) → Call
@@ -73,7 +73,7 @@ abbrev pub in_order : List Need → List ℕ
 in_order [] = []
 in_order (e ∷ es) = replicate e.count e.bytes ++ in_order es
 
--- the mallocs of so many bytes, numbered from k on
+-- mallocs of these lengths, numbered from k on
 abbrev pub mallocs : ℕ → List ℕ → List Call
 mallocs k [] = []
 mallocs k (n ∷ ns) = asks k n ∷ mallocs (k + 1) ns
@@ -96,7 +96,7 @@ first_short t o k (n ∷ ns) =
 abbrev pub count_of_class : Paging → List ℕ → ℕ → ℕ
 count_of_class p ns c = count_by (λ n. nat_eq (class_for p n) c) ns
 
--- the pages that so many bytes need by arithmetic: over the classes, the sum of the counts over the slots, rounded up
+-- the pages that objects of these lengths need by arithmetic: over the classes, the sum of the counts over the slots, rounded up
 abbrev pub pages_of : Paging → List ℕ → ℕ
 pages_of p ns = pages_for p (count_of_class p ns)
 
@@ -113,7 +113,7 @@ pub record CanBeAsked (s : Profile) (needs : List Need) : Type 0 where
   pub none_large : first_large s needs ≡ None
   pub few : declared_in_all needs ≤ s.proxies
 
--- What each answer says: an entry is too large; the proxies are too few; the quota is enough; or this malloc, of all in order, is the first refused for space.
+-- What each admission means: an entry is too large; the proxies are too few; the quota is enough; or this malloc, of all in order, is the first refused for space.
 abbrev pub IsAdmission : Share → List Need → Admission → Type 0
 IsAdmission t needs (Size entry) = first_large t.profile needs ≡ Some entry
 IsAdmission t needs Proxies = (first_large t.profile needs ≡ None) × (t.profile.proxies < declared_in_all needs)

@@ -9,7 +9,7 @@ use Rattle.page_model.specs.Steps.{IsFreePlace, Moves, Request, without, zeros_a
 use Rattle.quota_model.specs.Parts.{key_of, number_of, part_of, task_of}
 use Rattle.quota_model.specs.Refusals.{task_paging}
 
--- Where the objects of tasks may stand. Those of one task are a sound arrangement, each class with the bound 1: so one page at most of each of its classes is
+-- How the objects of tasks may be placed. Those of one task are a sound arrangement, each class with the bound 1: so one page at most of each of its classes is
 -- partly full. No page has objects of two tasks.
 pub record IsShared (s : Profile) (m : Held) : Type 0 where
   pub tasks : (key : ℕ) (x : Placed) → get m key ≡ Some x → task_of key < 16
@@ -24,7 +24,7 @@ pub record AreQuotas (s : Profile) (quotas : List ℕ) (m : Held) : Type 0 where
   pub all : sum quotas ≤ s.pages
   pub enough : (task : ℕ) → pages_needed (task_paging s) (objects (part_of m task)) ≤ slice_index quotas task
 
--- A malloc of a task: zeros come to a free place of its own arrangement, on a page of its own or one that holds nothing, under a number that it wasn't using.
+-- A malloc of a task: zeros are put at a free place of its own arrangement, on a page of its own or an empty one, under a number that it wasn't using.
 pub record PlacesForTask (s : Profile) (old : Held) (task : ℕ) (asked : Request) (new : Held) : Type 0 where
   pub place : ℕ
   pub in_range : asked.number < s.proxies
@@ -33,7 +33,7 @@ pub record PlacesForTask (s : Profile) (old : Held) (task : ℕ) (asked : Reques
   pub own : (key : ℕ) (y : Placed) → get old key ≡ Some y → page_of (task_paging s) y.place ≡ page_of (task_paging s) place → task_of key ≡ task
   pub placed : new ≡ insert old (key_of task asked.number) (zeros_at place asked.length)
 
--- A free of a task: its object goes, and where it must be so another of its objects takes the place.
+-- A free of a task: its object is removed, and another of its objects takes the place if it must.
 pub record RemovesForTask (s : Profile) (old : Held) (task h : ℕ) (moved : Option ℕ) (new : Held) : Type 0 where
   pub freed : Placed
   pub found : get (part_of old task) h ≡ Some freed

@@ -6,7 +6,7 @@ ghost use Rattle.quota_model.specs.Refusals.{task_paging};
 ghost use Rattle.quota_model.specs.declared.answers.Admission.{Admission};
 ghost use Rattle.quota_model.specs.declared.answers.Need.{Need};
 
-/// A list of calls within the needs has a malloc that is refused for space exactly where all the
+/// Some list of calls within the needs has a malloc that is refused for space if and only if all the
 /// declared objects together need more pages than the quota has.
 pub fn a_quota_is_enough_by_ceilings()
     ensures { (t : Share) (needs : List Need)

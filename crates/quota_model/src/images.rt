@@ -15,8 +15,8 @@ ghost use Rattle.quota_model.specs.Parts.{key_of, part_of};
 ghost use Rattle.quota_model.specs.Refusals.{task_paging};
 ghost use Rattle.quota_model.specs.Shared.{AreQuotas, IsShared, PlacesForTask, RemovesForTask};
 
-/// Under the key of an object stands its address, and a task's part of what stands at all addresses
-/// is what stands at its own.
+/// Under the key of an object is its address. A task's part of all objects at their addresses is its
+/// own objects at theirs.
 pub fn addresses_stand_by_their_keys()
     ensures found { (all : List (FinMap nat_cmp ℕ)) (task h : ℕ) → AreNumbers all → h < 65536
         → get (joined all) (key_of task h) ≡ get (places_at all task) h }
@@ -42,7 +42,7 @@ pub fn words_after_a_malloc_of_a_task()
 {}
 
 /// A free of a task clears the object's slot, or moves there the slot of the object that moves, and
-/// leaves zeros where that one stood.
+/// leaves zeros in the old place.
 pub fn words_after_a_free_of_a_task()
     ensures still { (s : Profile) (old : Held) (words left : List ℕ) (task h : ℕ) (new : Held)
         (step : RemovesForTask s old task h None new)

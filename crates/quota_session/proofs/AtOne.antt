@@ -1,13 +1,13 @@
--- What is told of a task follows from its objects by id.
+-- The replies for a task follow from its objects by id.
 use Rattle.std.proofs.Common.{◌≡◌, ℕ, ◌-◌, ◌<◌, List, cond, Some, None}
 use Rattle.std.proofs.Common.{map, arith, sym, ◌∙◌, ap, refl}
-use Rattle.std.specs.Prelude.{◌++◌, nat_eq, nat_lt, not, slice_index}
+use Rattle.std.specs.Prelude.{◌++◌, nat_eq, nat_lt, not}
 use Rattle.cf_base.specs.Classes.{need}
 use Rattle.cf_base.specs.Settings.{Profile}
 use Rattle.cf_base.specs.declared.answers.Refusal.TheVariants as refusal
 use Rattle.cf_io.specs.Texts.{said}
 use Rattle.cf_lemmas.proofs.Renaming.{CountAlike}
-use Rattle.page_model.specs.Arrangement.{IsSound, live, pages_needed, pages_needed_with, used_pages}
+use Rattle.page_model.specs.Arrangement.{IsSound, live, pages_needed, used_pages}
 use Rattle.page_model.specs.Figures.{figures_of}
 use Rattle.page_model.specs.Held.{Held, Objects, objects}
 use Rattle.page_model.specs.Paging.{IsPaging, Paging, class_for, classes}
@@ -19,9 +19,8 @@ use Rattle.quota_model.proofs.CallerLemmas.{tasks_at_one, tasks_paged}
 use Rattle.run_model.specs.Reports.{class_line, total_line}
 use Rattle.transcript_laws.specs.AtOne.{classes_in_use, figures_at_one, totals_at_one, walk_at_one}
 use Rattle.transcript_laws.specs.ById.{paging_by_id}
-use Rattle.transcript_laws.specs.Replies.{malloc_fault}
 use Rattle.transcript_laws.proofs.CallerLemmas.{figures_alike, figures_are, live_alike, needed_alike, needed_with_alike, said_alike}
-use Rattle.quota_session.specs.Layout.{totals_with}
+use Rattle.frag_report.specs.Classes.{totals_with}
 use Rattle.quota_session.specs.TaskRun.{class_lines, task_classes, task_report, task_totals}
 
 -- why a malloc is refused to a task
@@ -38,7 +37,7 @@ own_live : (s : Tasks) (task c : ℕ) (o : Objects) → live (paging_by_id (own_
 unfolding live class_for
 own_live s task c o = refl
 
--- what the last line of a report tells
+-- the last line of a report
 abbrev total_of : ℕ → ℕ → ℕ → List ℕ
 total_of live used free = total_line (totals_with live used free)
 

@@ -150,7 +150,7 @@ module _ (law : PageLaw) (s : QuotaState) (rules : KeepsTasks s) (task : ℕ) (l
     slots = slots;
   }
 
-  -- the key of an object of the task tells the task and the number
+  -- the key of an object fixes its task and its number
   own_key : (h : ℕ) (y : Placed) → get m h ≡ Some y → task_of (key_of task h) ≡ task
   own_key h y there = (let small = found_small s.held task h y there in omega arith)
 

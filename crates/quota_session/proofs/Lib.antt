@@ -9,3 +9,4 @@ pub mod ScriptTold
 pub mod TaskReads
 pub mod CallsThere
 pub mod Turns
+pub mod CallerLemmas

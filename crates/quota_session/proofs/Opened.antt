@@ -13,7 +13,7 @@ use Rattle.id_table.proofs.CallerLemmas.{none_tied}
 use Rattle.quota_session.specs.Playing.{BeginsQuotas}
 use Rattle.quota_session.specs.QuotaRun.{AreTasksTied, HasSixteen, IsGoingQuotas, QuotaRun, TaskSession, first_session, ids_of, quota_run}
 
--- every one of so many values is the default
+-- each of n values is the default
 pub all_same : {X : Type 0} (n i : ℕ) (x : X) → get_or (replicate n x) i x ≡ x
 all_same zero i x = refl
 all_same (suc n) zero x = refl

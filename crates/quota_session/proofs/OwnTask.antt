@@ -1,15 +1,13 @@
 -- A call of the present task is answered from its own objects by id, and changes no others.
-use Rattle.std.proofs.Common.{◌≡◌, ℕ, ◌+◌, ◌<◌, ◌≤◌, List, Some, None, length, replicate, sym, ◌∙◌, ap, refl, subst, inl, inr}
+use Rattle.std.proofs.Common.{◌≡◌, ℕ, ◌+◌, ◌<◌, ◌≤◌, List, Some, None, length, replicate, sym, ◌∙◌, ap, refl, subst}
 use Rattle.std.specs.Prelude.{Option, option_map, Result, Ok, Err, codes}
 use Rattle.std.specs.Option.{MatchOption}
-use Rattle.std.proofs.lemmas.Bool.{cases_eq}
 use Rattle.std.specs.FinMap.{get, insert, remove}
 use Rattle.cf_base.specs.declared.answers.AccessFault.{AccessFault}
 use Rattle.cf_base.specs.declared.answers.AccessFault.TheVariants as access
 use Rattle.cf_base.specs.declared.answers.Handle.{Handle}
 use Rattle.cf_base.specs.declared.answers.Refusal.{Refusal}
 use Rattle.cf_io.specs.Texts.{Reply, said}
-use Rattle.cf_lemmas.proofs.Maps.{equal_maps, get_remove_other, get_removed}
 use Rattle.cf_lemmas.proofs.Renaming.{CountAlike}
 use Rattle.cf_lemmas.proofs.Tests.{le_no, le_yes}
 use Rattle.page_model.specs.Bytes.{written}
@@ -29,25 +27,19 @@ use Rattle.transcript_laws.specs.ById.{ById}
 use Rattle.transcript_laws.specs.Histories.{objects_by_id}
 use Rattle.transcript_laws.specs.Replies.{free_said, malloc_fault, malloc_leaves, malloc_said, ok_or, put_unless, read_said, write_fault}
 use Rattle.transcript_laws.specs.Replies.{write_leaves, write_said}
-use Rattle.transcript_laws.proofs.CallerLemmas.{by_id_changed, by_id_counts, by_id_given, by_id_gone, gone_by_id, live_by_id}
+use Rattle.transcript_laws.proofs.CallerLemmas.{by_id_changed, by_id_counts, by_id_given, by_id_gone, gone_by_id, live_by_id, remove_none}
 use Rattle.quota_session.specs.TaskRun.{FreesIdOfTask, MallocsForTask, StaysTask, TaskRun, TaskStep, WritesIdOfTask, task_object}
 use Rattle.quota_session.proofs.AtOne.{refusal_alike, walk_is}
 use Rattle.quota_session.proofs.TaskKept.{bytes_by, freed_objects, given_objects, given_unused, written_found, written_objects}
 
-pub remove_none : (o : Objects) (id : ℕ) → get o id ≡ None → remove o id ≡ o
-remove_none o id none = equal_maps _ _ (λ q. elim (cases_eq q id) [
-  | inl is ↦ rw is (get_removed o id ∙ sym none)
-  | inr ne ↦ get_remove_other o id q ne
-])
-
--- a write is refused where it passes the end
+-- a write that passes the end is refused
 write_within : (v : List ℕ) (at count : ℕ) → at + count ≤ length v → write_fault v at count ≡ None
 write_within v at count within = (let e = le_yes (at + count) (length v) within in rw e)
 
 write_past : (v : List ℕ) (at count : ℕ) → length v < at + count → write_fault v at count ≡ Some access.Range
 write_past v at count past = (let e = le_no (at + count) (length v) past in rw e)
 
--- of an object it is the bytes alone that a read tells
+-- the reply to a read depends on the bytes of the object alone
 same_bytes : (o : Option Placed) (at count : ℕ) → read_text o at count ≡ read_said (option_map (λ (x : Placed). x.bytes) o) at count
 same_bytes None at count = refl
 same_bytes (Some x) at count = refl
@@ -76,7 +68,7 @@ module _ (old new : TaskRun) (rules : KeepsTasks old.heap) (tied : AreTiedTo old
   live : (id n : ℕ) (v : List ℕ) → get old.ids id ≡ Some n → get m n ≡ Some v → get (all old.task) id ≡ Some v
   live id n v named some = ap (λ (o : Objects). get o id) own ∙ live_by_id old.ids m id n v named some
 
-  -- the reply is the one that the task's own heap tells, and so is what is left
+  -- the reply and the objects afterwards are those of the task's own heap
   pub record IsTold (c : Command) : Type 0 where
     pub reply_is : reply ≡ task_reply t old.task c
     pub left : objects_by_id new.ids (objects_by new.heap old.task) ≡ task_leaves t old.task c

@@ -1,5 +1,5 @@
--- What a command of a session over tasks did and told, put together.
-use Rattle.std.proofs.Common.{◌≡◌, ◌∙◌, ℕ, ◌+◌, ◌-◌, ◌<◌, ◌≤◌, ◌++◌, List, [], ◌∷◌, Some, None, length, take, drop, ap, refl, sym, subst}
+-- What a command of a session over tasks did and what was written of its reply, together.
+use Rattle.std.proofs.Common.{◌≡◌, ◌∙◌, ℕ, ◌-◌, ◌++◌, List, [], Some, None, ap, refl, sym, subst}
 use Rattle.std.specs.Prelude.{Option, Result, Err, codes}
 use Rattle.std.specs.FinMap.{empty, get, len}
 use Rattle.std.proofs.lemmas.List.{set-get_or}
@@ -9,14 +9,15 @@ use Rattle.cf_base.specs.declared.answers.AccessFault.{AccessFault}
 use Rattle.cf_base.specs.declared.answers.AccessFault.TheVariants as access
 use Rattle.cf_base.specs.declared.answers.Failed.{Failed}
 use Rattle.cf_io.specs.Feeds.{Puts}
-use Rattle.cf_io.specs.Texts.{Reply, led, said}
-use Rattle.cf_lemmas.proofs.Tests.{le_no, le_yes}
+use Rattle.cf_io.specs.Texts.{Reply, led}
 use Rattle.cf_lemmas.proofs.Values.{len-map_values}
-use Rattle.cf_session.specs.Apply.{outcome_of}
+use Rattle.cf_session.specs.Apply.{IsEnded, outcome_of}
+use Rattle.cf_session.proofs.CallerLemmas.{pages_other, read_past, read_within}
 use Rattle.cf_session.specs.declared.outcome.Outcome.{Outcome}
 use Rattle.cf_session.specs.declared.outcome.Outcome.TheVariants.{Other}
 use Rattle.id_table.specs.Ids.{Ids}
 use Rattle.page_model.specs.Arrangement.{used_pages}
+use Rattle.page_model.specs.Figures.{figures_of}
 use Rattle.page_model.specs.Held.{Objects, Placed}
 use Rattle.quota_heap.specs.State.{QuotaState, held_by, objects_by, quota_of}
 use Rattle.quota_heap.specs.Steps.{IsFault, ReadsOfTask}
@@ -25,58 +26,45 @@ use Rattle.run_model.specs.Replies.{read_text, write_text}
 use Rattle.run_model.specs.Reports.{total_line}
 use Rattle.script_loop.specs.Semantics.{snapshot}
 use Rattle.script_reader.specs.declared.command.Command.{Command}
+use Rattle.script_reader.specs.declared.command.Command.TheVariants as command
 use Rattle.script_reader.specs.declared.command.Command.TheVariants.{Walk}
-use Rattle.session_model.specs.Applying.{Applies, IsEndedAs, TurnsInPart}
+use Rattle.script_loop.specs.Applying.{Applies}
 use Rattle.id_table.specs.Ties.{AreTiedTo}
 use Rattle.id_table.proofs.CallerLemmas.{clash}
-use Rattle.session_model.proofs.CallerLemmas.{reported}
+use Rattle.script_loop.proofs.CallerLemmas.{reported}
 use Rattle.transcript_laws.proofs.CallerLemmas.{by_id_counts}
-use Rattle.quota_session.specs.Layout.{totals_with}
+use Rattle.frag_report.specs.Classes.{totals_with}
+use Rattle.quota_session.specs.Layout.{IsOfTask}
 use Rattle.quota_session.specs.Playing.{quota_tasks}
 use Rattle.quota_session.specs.QuotaRun.{QuotaRun, QuotaStep, StepsPresent, TaskSession, ids_of, quota_run, with_ids}
-use Rattle.quota_session.specs.TaskRun.{TaskRun, TaskStep, class_lines, task_classes, task_object, task_report, task_run, task_totals}
+use Rattle.quota_session.specs.TaskRun.{TaskRun, TaskStep, task_classes, task_object, task_report, task_run, task_totals}
 use Rattle.quota_session.proofs.TaskKept.{bytes_by}
-
--- a reply that was cut is told as the loop has it
-pub in_part : (old : QuotaRun) (c : Command) (out : List ℕ) (new : QuotaRun) → TurnsInPart QuotaStep old c out new → TurnsInPart QuotaStep old c out new
-in_part old c out new turn = turn
 
 -- a report is neither good nor a refusal
 report_other : (s : QuotaState) (task : ℕ) → Other ≡ outcome_of (task_report s task)
-report_other s task = go (task_classes s task)
-  where
-    go : (cs : List ℕ) → Other ≡ outcome_of (class_lines s task cs ++ said (total_line (task_totals s task)))
-    go [] = refl
-    go (c ∷ cs) = refl
+report_other s task = pages_other (λ c. figures_of (task_paging s.profile) (held_by s task) c) (task_totals s task) (task_classes s task)
 
 -- ids as they are change nothing
 pub same_ids : (s : TaskSession) → with_ids s (ids_of s s.present) ≡ s
 same_ids s = ap (λ (all : List Ids). record s { ids = all }) (set-get_or s.ids s.present empty)
 
 pub told_walk : (old : QuotaRun) (c : Command) (w y : Option (List ℕ)) (r : Result Unit Failed) (answer : Result Outcome Failed) → c ≡ Walk
-    → Puts w (led [] (task_report old.heap old.session.present)) r y → IsEndedAs r Other answer
+    → Puts w (led [] (task_report old.heap old.session.present)) r y → IsEnded r Other answer
     → Applies quota_tasks (snapshot old w) c answer (snapshot old y)
 told_walk old c w y r answer is put told =
     subst (λ (k : Command). Applies quota_tasks (snapshot old w) k answer (snapshot old y)) (sym is)
-    (reported quota_tasks in_part old old Walk (task_report old.heap old.session.present) w y r Other answer
+    (reported quota_tasks (λ _ _ _ _ turn. turn) old old Walk (task_report old.heap old.session.present) w y r Other answer
     (record {
       ids = ids_of old.session old.session.present;
       step = (refl, refl);
       whole = ap (λ (s : TaskSession). record old { session = s }) (sym (same_ids old.session));
     }) (report_other old.heap old.session.present) put told)
 
--- the object of a handle, where there is one
+-- the object of a handle, if any
 abbrev object_at : TaskRun → Option ℕ → Option Placed
 object_at s o = elim o [ None ↦ None | Some h ↦ get (held_by s.heap s.task) h ]
 
--- a part that the object has, and one that passes its end
-within_text : (x : Placed) (at count : ℕ) → at + count ≤ length x.bytes → read_text (Some x) at count ≡ codes "=" ++ encode_lower (take count (drop at x.bytes))
-within_text x at count le = rw (le_yes (at + count) (length x.bytes) le) refl
-
-past_text : (x : Placed) (at count : ℕ) → length x.bytes < at + count → read_text (Some x) at count ≡ codes "range"
-past_text x at count lt = rw (le_no (at + count) (length x.bytes) lt) refl
-
--- What a read tells.
+-- The reply to a read.
 module _ (s : TaskRun) (id at count : ℕ) where
   object_is : (o : Option ℕ) → o ≡ get s.ids id → task_object s id ≡ object_at s o
   object_is o is = ap (object_at s) (sym is)
@@ -88,13 +76,13 @@ module _ (s : TaskRun) (id at count : ℕ) where
       → read_text (task_object s id) at count ≡ codes "=" ++ encode_lower bytes
   read_said h bytes is r =
       ap (λ (o : Option Placed). read_text o at count) (object_is (Some h) is ∙ r.found)
-      ∙ within_text r.object at count r.within ∙ ap (λ (b : List ℕ). codes "=" ++ encode_lower b) (sym r.value)
+      ∙ read_within r.object at count r.within ∙ ap (λ (b : List ℕ). codes "=" ++ encode_lower b) (sym r.value)
 
   pub read_fault : (h : ℕ) (e : AccessFault) → Some h ≡ get s.ids id → IsFault s.heap s.task (record { number = h; from = at }) count e
       → read_text (task_object s id) at count ≡ write_text (Err e)
   read_fault h access.Unknown is none = ap (λ (o : Option Placed). read_text o at count) (object_is (Some h) is ∙ none)
   read_fault h access.Range is past =
-      ap (λ (o : Option Placed). read_text o at count) (object_is (Some h) is ∙ past.found) ∙ past_text past.object at count past.past
+      ap (λ (o : Option Placed). read_text o at count) (object_is (Some h) is ∙ past.found) ∙ read_past past.object at count past.past
 
 -- the ids of a task are as many as its objects
 pub as_many : (ids : Ids) (m : Objects) → AreTiedTo ids m → len ids ≡ len m
@@ -116,11 +104,19 @@ free_found s task ids id h tied live none =
     clash (get (objects_by s task) h) x.0 x.1 (bytes_by s task h None none)
 
 -- a command of the present task is one of the session
-pub present_step : (old : TaskSession) (heap heap' : QuotaState) (x x' : Ids) (c : Command) (reply : Reply) → x ≡ ids_of old old.present
+own_step : (old new : QuotaRun) (c : Command) (reply : Reply) → IsOfTask c → StepsPresent old c reply new → QuotaStep old c reply new
+own_step old new (command.Task task) reply own step = absurd own
+own_step old new (command.Quota task pages) reply own step = absurd own
+own_step old new (command.Need task bytes count) reply own step = absurd own
+own_step old new (command.Admit task) reply own step = absurd own
+own_step old new c reply own step = step
+
+pub present_step : (old : TaskSession) (heap heap' : QuotaState) (x x' : Ids) (c : Command) (reply : Reply) → x ≡ ids_of old old.present → IsOfTask c
     → TaskStep (task_run old.present x heap) c reply (task_run old.present x' heap') → (settings : Option Profile)
-    → StepsPresent (quota_run settings old heap) c reply (quota_run settings (with_ids old x') heap')
-present_step old heap heap' x x' c reply is step settings = record {
-  ids = x';
-  step = subst (λ (i : Ids). TaskStep (task_run old.present i heap) c reply (task_run old.present x' heap')) is step;
-  whole = refl;
-}
+    → QuotaStep (quota_run settings old heap) c reply (quota_run settings (with_ids old x') heap')
+present_step old heap heap' x x' c reply is own step settings =
+    own_step (quota_run settings old heap) (quota_run settings (with_ids old x') heap') c reply own (record {
+      ids = x';
+      step = subst (λ (i : Ids). TaskStep (task_run old.present i heap) c reply (task_run old.present x' heap')) is step;
+      whole = refl;
+    })

@@ -18,7 +18,7 @@ use Rattle.script_loop.specs.Semantics.{snapshot}
 use Rattle.script_reader.specs.Commands.{IsWellFormed}
 use Rattle.script_reader.specs.declared.command.Command.{Command}
 use Rattle.script_reader.specs.declared.command.Command.TheVariants as command
-use Rattle.session_model.specs.Applying.{Applies}
+use Rattle.script_loop.specs.Applying.{Applies}
 use Rattle.id_table.specs.Ties.{AreTiedTo}
 use Rattle.quota_session.specs.Playing.{quota_tasks}
 use Rattle.quota_session.specs.QuotaRun.{AreTasksTied, HasSixteen, IsGoingQuotas, QuotaRun, QuotaStep, SetsQuota, StepsPresent, TaskSession, ids_of}
@@ -125,7 +125,7 @@ module _ (old : QuotaRun) (going : IsGoingQuotas old) where
   still_going (command.Admit task) reply new formed step = subst IsGoingQuotas (sym step.1) going
   still_going c reply new formed step = steps c reply new step
 
-  -- also where the reply was cut
+  -- also if the reply was cut
   pub applied_going : (new : QuotaRun) (c : Command) (w y : Option (List ℕ)) (answer : Result Outcome Failed) → IsWellFormed c
       → Applies quota_tasks (snapshot old w) c answer (snapshot new y) → IsGoingQuotas new
   applied_going new c w y (Ok outcome) formed a = still_going c a.0.reply new formed a.0.turns

@@ -1,39 +1,50 @@
--- The replies to a task in a script are those that its calls get on the tasks by id, so no other task is seen in them.
-use Rattle.std.proofs.Common.{◌≡◌, ℕ, ◌<◌, ◌≤◌, List, [], ◌∷◌, Some, None, Bool, true, false, cond, get_or, arith, sym, ◌∙◌, ap, refl}
+-- The replies to a script are those of its transcript: by the told state, with no word of numbers and addresses.
+use Rattle.std.proofs.Common.{◌≡◌, ℕ, ◌<◌, ◌≤◌, List, [], ◌∷◌, Some, None, true, false, cond, get_or, length, take, arith, sym, ◌∙◌, ap, refl}
 use Rattle.std.proofs.Common.{subst, inl, inr}
-use Rattle.std.specs.Prelude.{Option, ◌&&◌, map, nat_eq, nat_lt, not, slice_set, sum}
+use Rattle.std.specs.Prelude.{⊤, Option, nat_eq, nat_le, nat_lt, option_map, slice_set, sum}
 use Rattle.std.proofs.lemmas.Bool.{cases_eq}
+use Rattle.std.proofs.lemmas.List.{get_or-set_same, get_or-set_other}
 use Rattle.std.specs.Ordering.{nat_cmp}
 use Rattle.std.specs.FinMap.{empty, get-empty}
 use Rattle.cf_base.specs.Settings.{Profile, at_bound_one}
-use Rattle.cf_io.specs.Texts.{Reply}
+use Rattle.cf_io.specs.Texts.{Reply, said}
 use Rattle.cf_lemmas.proofs.Maps.{equal_maps}
 use Rattle.cf_lemmas.proofs.Renaming.{CountAlike}
 use Rattle.cf_lemmas.proofs.Tests.{eq_no, eq_yes}
 use Rattle.id_table.specs.Ids.{Ids}
 use Rattle.page_model.specs.Held.{Objects}
 use Rattle.quota_heap.specs.State.{empty_state, objects_by}
-use Rattle.quota_laws.specs.Runs.{is_accepted, own_items, replies_to}
-use Rattle.quota_laws.specs.Tasks.{TaskItem, Tasks, after_item, calls, is_for_task, no_tasks, quotas_after, set_refusal, sets, task_leaves, task_reply}
+use Rattle.quota_laws.proofs.CallerLemmas.{admission_is}
+use Rattle.quota_laws.specs.Tasks.{Tasks, after_item, calls, is_for_task, no_tasks, quota_text, quotas_after, set_refusal, sets, task_leaves, task_reply}
+use Rattle.quota_laws.specs.Transcript.{MeetsTasks, TaskState, admission_text, command_reply, first_state, needs_after, one_more, reply_in, state_after, state_in}
+use Rattle.quota_laws.specs.Transcript.{task_replies}
 use Rattle.quota_model.specs.Refusals.{task_paging}
+use Rattle.quota_model.specs.declared.answers.Need.{Need}
 use Rattle.quota_model.specs.declared.answers.QuotaFault.{QuotaFault}
 use Rattle.quota_model.specs.declared.answers.QuotaFault.TheVariants.{Sum, Used}
-use Rattle.run_laws.specs.Sayable.{IsSayable}
+use Rattle.run_laws.specs.Sayable.{AreSayable, IsSayable, IsSayableItem}
+use Rattle.run_laws.proofs.CallerLemmas.{items_sayable}
+use Rattle.run_model.specs.Plays.{PlayStep}
+use Rattle.script_loop.specs.ScriptOutcome.{MOST_BYTES, items_within}
+use Rattle.script_loop.specs.Semantics.{RunBy}
 use Rattle.id_table.specs.Ties.{AreTiedTo}
-use Rattle.script_reader.specs.Items.{asks}
+use Rattle.script_reader.specs.Items.{Item, asks, bad, starts}
 use Rattle.script_reader.specs.declared.command.Command.{Command}
 use Rattle.script_reader.specs.declared.command.Command.TheVariants as command
 use Rattle.transcript_laws.specs.Histories.{objects_by_id}
 use Rattle.transcript_laws.proofs.CallerLemmas.{by_id_counts, gone_by_id, needed_alike}
-use Rattle.quota_session.specs.Alone.{AreAlikeFor, CanBeSaid, after_if, is_left_out, item_of, own_commands, present_after}
-use Rattle.quota_session.specs.Alone.{replies_of, script_of, task_items, tasks_of}
-use Rattle.quota_session.specs.Playing.{BeginsQuotas, RunsQuotas}
-use Rattle.quota_session.specs.QuotaRun.{IsGoingQuotas, QuotaRun, QuotaStep, SetsQuota, StepsPresent, TaskSession, ids_of, present_run}
+use Rattle.quota_session.specs.Alone.{AreAlikeFor, after_if, item_of, present_after, tasks_of}
+use Rattle.quota_session.specs.Playing.{BeginsAtOne, BeginsQuotas, RunsQuotas, quota_tasks}
+use Rattle.quota_session.specs.QuotaRun.{IsGoingQuotas, QuotaRun, QuotaStep, SetsQuota, StepsPresent, TaskSession, ids_of, needs_of, present_run}
 use Rattle.quota_session.specs.QuotaRun.{quota_fault, with_ids}
 use Rattle.quota_session.specs.TaskRun.{TaskRun, task_run}
 use Rattle.quota_session.proofs.RunInvariant.{ids_here, ids_there, present_kept, still_going}
 use Rattle.quota_session.proofs.Opened.{all_same, begins_going}
 use Rattle.quota_session.proofs.OwnTask.{IsTold, told}
+
+-- what the lines of a script leave, of a run
+abbrev state_of : QuotaRun → TaskState
+state_of s = record { present = s.session.present; tasks = tasks_of s; needs = needs_of s.session }
 
 module _ (old : QuotaRun) (going : IsGoingQuotas old) where
   abbrev now : ℕ
@@ -122,11 +133,6 @@ abbrev pub ReplyLaw : Type 0
 ReplyLaw = (one other : Tasks) (task : ℕ) (command : Command) → other.profile ≡ one.profile → get_or other.quotas task 0 ≡ get_or one.quotas task 0
     → other.objects task ≡ one.objects task → task_reply other task command ≡ task_reply one task command
 
--- the replies to a task are the same without the others
-abbrev pub IsolationLaw : Type 0
-IsolationLaw = (s : Profile) (task : ℕ) (items : List TaskItem) → task < 16
-    → replies_to task (no_tasks s) (own_items task (no_tasks s) items) ≡ replies_to task (no_tasks s) items
-
 -- two runs that are alike for a task answer it alike
 pub alike_replies : ReplyLaw → (task : ℕ) (one other after later : QuotaRun) (c : Command) (reply told_ : Reply) → IsGoingQuotas one → IsGoingQuotas other
     → AreAlikeFor task one other → is_for_task c ≡ true → QuotaStep one c reply after → QuotaStep other c told_ later → told_ ≡ reply
@@ -135,94 +141,6 @@ alike_replies law task one other after later c reply told_ goes going a own step
     ∙ ap (λ v. task_reply (tasks_of other) v c) a.there
     ∙ law (tasks_of one) (tasks_of other) task c a.profile a.quota a.objects
     ∙ sym (reply_told one goes c reply after own step ∙ ap (λ v. task_reply (tasks_of one) v c) a.here)
-
-module _ (task : ℕ) where
-  -- the reply to a call counts where it is one of the task
-  call_counts : (t : Tasks) (now : ℕ) (c : Command) (reply : Reply) (rest more : List Reply) → reply ≡ task_reply t now c → rest ≡ more
-      → cond (nat_eq now task) (reply ∷ rest) rest ≡ cond (nat_eq now task) (task_reply t task c ∷ more) more
-  call_counts t now c reply rest more is same = elim (cases_eq now task) [
-    | inl at ↦ (
-        let yes = eq_yes now task at in
-        ap (λ b. cond b (reply ∷ rest) rest) yes ∙ (λ i. (is ∙ ap (λ v. task_reply t v c) at) i ∷ same i)
-        ∙ sym (ap (λ b. cond b (task_reply t task c ∷ more) more) yes))
-    | inr ne ↦ (
-        let no' = eq_no now task ne in
-        ap (λ b. cond b (reply ∷ rest) rest) no' ∙ same ∙ sym (ap (λ b. cond b (task_reply t task c ∷ more) more) no'))
-  ]
-
-  -- the replies of a run from a state on
-  abbrev Tells : QuotaRun → List Command → List Reply → Type 0
-  Tells old commands replies = replies_of task old.session.present commands replies ≡ replies_to task (tasks_of old) (task_items old.session.present commands)
-
-  -- one command more
-  told_more : (old mid : QuotaRun) → IsGoingQuotas old → (c : Command) (reply : Reply) (rest : List Command) (more : List Reply) → IsSayable c
-      → QuotaStep old c reply mid → Tells mid rest more → Tells old (c ∷ rest) (reply ∷ more)
-  told_more old mid going c reply rest more can step tells =
-      let after = tasks_after old going c reply mid can step in
-      let then_ = present_then old going c reply mid step in
-      by_command old mid going c reply rest more step (
-      ap (λ p. replies_of task p rest more) (sym then_) ∙ tells
-      ∙ (λ i. replies_to task (after i) (task_items (then_ i) rest)))
-    where
-      by_command : (old mid : QuotaRun) → IsGoingQuotas old → (c : Command) (reply : Reply) (rest : List Command) (more : List Reply)
-          → QuotaStep old c reply mid
-          → replies_of task (present_after old.session.present c) rest more
-          ≡ replies_to task (after_if (tasks_of old) (item_of old.session.present c)) (task_items (present_after old.session.present c) rest)
-          → Tells old (c ∷ rest) (reply ∷ more)
-      by_command old mid going (command.Task u) reply rest more step same = same
-      by_command old mid going (command.Quota u pages) reply rest more step same = same
-      by_command old mid going (command.Need u bytes count) reply rest more step same = same
-      by_command old mid going (command.Admit u) reply rest more step same = same
-      by_command old mid going c reply rest more step same =
-          call_counts (tasks_of old) old.session.present c reply _ _ (call_reply old going c reply mid step) same
-
-  run_told : (commands : List Command) (old : QuotaRun) (replies : List Reply) (end : Option QuotaRun) → IsGoingQuotas old → CanBeSaid commands
-      → RunsQuotas (Some old) (map asks commands) replies end → Tells old commands replies
-  run_told [] old replies end going can run = refl
-  run_told (c ∷ rest) old replies end going can run =
-      let mid = run.3.0 in
-      let step = run.3.1 in
-      let next : RunsQuotas (Some mid) (map asks rest) run.2 end = subst (λ o. RunsQuotas o (map asks rest) run.2 end) run.3.2 run.5 in
-      let tells = run_told rest mid run.2 end (still_going old going c run.1 mid can.0.formed step) can.1 next in
-      subst (λ r. Tells old (c ∷ rest) r) (sym run.4) (told_more old mid going c run.1 rest run.2 can.0 step tells)
-
-  -- what is left of a script is what is left of its items
-  own_are : (commands : List Command) (s : Tasks) (now : ℕ) → task_items now (own_commands task s now commands) ≡ own_items task s (task_items now commands)
-  own_are [] s now = refl
-  own_are (command.Task u ∷ rest) s now = own_are rest s u
-  own_are (command.Need u bytes count ∷ rest) s now = own_are rest s now
-  own_are (command.Admit u ∷ rest) s now = own_are rest s now
-  own_are (command.Quota u pages ∷ rest) s now = go (nat_eq u task && is_accepted (set_refusal s u pages))
-      (own_are rest (after_item s (sets u pages)) now)
-    where
-      go : (b : Bool)
-          → task_items now (own_commands task (after_item s (sets u pages)) now rest) ≡ own_items task (after_item s (sets u pages)) (task_items now rest)
-          → task_items now (cond (not b) (own_commands task (after_item s (sets u pages)) now rest)
-          (command.Quota u pages ∷ own_commands task (after_item s (sets u pages)) now rest))
-          ≡ cond b (sets u pages ∷ own_items task (after_item s (sets u pages)) (task_items now rest))
-          (own_items task (after_item s (sets u pages)) (task_items now rest))
-      go true same = ap (λ xs. sets u pages ∷ xs) same
-      go false same = same
-  own_are (c ∷ rest) s now = go (nat_eq now task) (own_are rest (after_item s (calls now c)) now)
-    where
-      go : (b : Bool)
-          → task_items now (own_commands task (after_item s (calls now c)) now rest) ≡ own_items task (after_item s (calls now c)) (task_items now rest)
-          → task_items now (cond (not b) (own_commands task (after_item s (calls now c)) now rest)
-          (c ∷ own_commands task (after_item s (calls now c)) now rest))
-          ≡ cond b (calls now c ∷ own_items task (after_item s (calls now c)) (task_items now rest))
-          (own_items task (after_item s (calls now c)) (task_items now rest))
-      go true same = ap (λ xs. calls now c ∷ xs) same
-      go false same = same
-
-  own_can : (commands : List Command) (s : Tasks) (now : ℕ) → CanBeSaid commands → CanBeSaid (own_commands task s now commands)
-  own_can [] s now can = tt
-  own_can (c ∷ rest) s now can = go (is_left_out task s (item_of now c)) (own_can rest (after_if s (item_of now c)) (present_after now c) can.1)
-    where
-      go : (b : Bool) → CanBeSaid (own_commands task (after_if s (item_of now c)) (present_after now c) rest)
-          → CanBeSaid (cond b (own_commands task (after_if s (item_of now c)) (present_after now c) rest)
-          (c ∷ own_commands task (after_if s (item_of now c)) (present_after now c) rest))
-      go true more = more
-      go false more = (can.0, more)
 
 -- a run that began has no objects by id
 nothing_by_id : (m : Objects) → objects_by_id empty m ≡ empty
@@ -236,35 +154,99 @@ begun_is p s b =
           ∙ nothing_by_id (objects_by (empty_state (at_bound_one p)) u)) i;
     })
 
-tails : (a b : Reply) (xs ys : List Reply) → a ∷ xs ≡ b ∷ ys → xs ≡ ys
-tails a b xs ys e = cc
+begun_told : (p : Profile) (s : QuotaRun) → BeginsQuotas p s → state_of s ≡ first_state p
+begun_told p s b = λ i. record {
+  present = ap (λ (e : TaskSession). e.present) b.session i;
+  tasks = begun_is p s b i;
+  needs = λ u. (ap (λ (e : TaskSession). needs_of e u) b.session ∙ all_same {X = List Need} 16 u []) i;
+}
 
--- the replies to a task of a script
-script_told : (p : Profile) (task : ℕ) (commands : List Command) (first : Reply) (replies : List Reply) (end : Option QuotaRun) → CanBeSaid commands
-    → RunsQuotas None (script_of p commands) (first ∷ replies) end
-    → replies_of task 0 commands replies ≡ replies_to task (no_tasks (at_bound_one p)) (task_items 0 commands)
-script_told p task commands first replies end can run =
-    let s = run.3.0 in
-    let begins = run.3.1.0 in
-    let next : RunsQuotas (Some s) (map asks commands) run.2 end = subst (λ o. RunsQuotas o (map asks commands) run.2 end) run.3.2 run.5 in
-    let zero' : s.session.present ≡ 0 = ap (λ (e : TaskSession). e.present) begins.session in
-    let tells = run_told task commands s run.2 end (begins_going p s begins) can next in
-    let same : replies ≡ run.2 = tails first run.1 replies run.2 run.4 in
-    ap (replies_of task 0 commands) same
-    ∙ ap (λ n. replies_of task n commands run.2) (sym zero')
-    ∙ tells
-    ∙ (λ i. replies_to task (begun_is p s begins i) (task_items (zero' i) commands))
+module _ (old : QuotaRun) (going : IsGoingQuotas old) where
+  -- the entries after a command
+  needs_told : (c : Command) (reply : Reply) (new : QuotaRun) → IsSayable c → QuotaStep old c reply new → (u : ℕ)
+      → needs_of new.session u ≡ needs_after (needs_of old.session) c u
+  needs_told (command.Task task) reply new can step u = ap (λ (r : QuotaRun). needs_of r.session u) step.1
+  needs_told (command.Quota task pages) reply new can step u = ap (λ (r : QuotaRun). needs_of r.session u) step.whole
+  needs_told (command.Need task bytes count) reply new can step u = ap (λ (r : QuotaRun). needs_of r.session u) step.1 ∙ elim (cases_eq u task) [
+    | inl is ↦ (
+        let many = (going.sixteen).needs in
+        let low : task ≤ 15 = can.formed in
+        rw is (get_or-set_same old.session.needs task (one_more (needs_of old.session task) entry) [] (omega arith)
+        ∙ sym (ap (λ b. cond b (one_more (needs_of old.session task) entry) (needs_of old.session task)) (eq_yes task task refl))))
+    | inr ne ↦ get_or-set_other old.session.needs task u (one_more (needs_of old.session task) entry) [] ne
+        ∙ sym (ap (λ b. cond b (one_more (needs_of old.session u) entry) (needs_of old.session u)) (eq_no u task ne))
+  ]
+    where
+      entry : Need
+      entry = record { bytes = bytes; count = count }
+  needs_told (command.Admit task) reply new can step u = ap (λ (r : QuotaRun). needs_of r.session u) step.1
+  needs_told c reply new can step u = ap (λ (r : QuotaRun). needs_of r.session u) step.whole
 
--- the replies to a task are the same without the others
-pub isolated : IsolationLaw → (p : Profile) (task : ℕ) (commands : List Command) (first second : Reply)
-    (replies told_ : List Reply) (end last : Option QuotaRun) → task < 16
-    → CanBeSaid commands
-    → RunsQuotas None (script_of p commands) (first ∷ replies) end
-    → RunsQuotas None (script_of p (own_commands task (no_tasks (at_bound_one p)) 0 commands)) (second ∷ told_) last
-    → replies_of task 0 (own_commands task (no_tasks (at_bound_one p)) 0 commands) told_ ≡ replies_of task 0 commands replies
-isolated law p task commands first second replies told_ end last lt can run fewer =
-    let own = own_commands task (no_tasks (at_bound_one p)) 0 commands in
-    script_told p task own second told_ last (own_can task commands (no_tasks (at_bound_one p)) 0 can) fewer
-    ∙ ap (replies_to task (no_tasks (at_bound_one p))) (own_are task commands (no_tasks (at_bound_one p)) 0)
-    ∙ law (at_bound_one p) task (task_items 0 commands) lt
-    ∙ sym (script_told p task commands first replies end can run)
+  state_told : (c : Command) (reply : Reply) (new : QuotaRun) → IsSayable c → QuotaStep old c reply new → state_of new ≡ state_after (state_of old) c
+  state_told c reply new can step = λ i. record {
+    present = present_then old going c reply new step i;
+    tasks = tasks_after old going c reply new can step i;
+    needs = λ u. needs_told c reply new can step u i;
+  }
+
+  -- the reply to any command
+  command_told : (c : Command) (reply : Reply) (new : QuotaRun) → IsSayable c → QuotaStep old c reply new → reply ≡ command_reply (state_of old) c
+  command_told (command.Task task) reply new can step = step.0
+  command_told (command.Quota task pages) reply new can step = step.reply_is
+      ∙ ap (λ f. said (quota_text f)) (fault_same old going task pages (below old going task can.formed))
+  command_told (command.Need task bytes count) reply new can step = step.0
+  command_told (command.Admit task) reply new can step = (step.0).reply_is
+      ∙ ap (λ a. said (admission_text a)) (admission_is _ (needs_of old.session task) (step.0).answer (step.0).meets)
+  command_told c reply new can step = call_reply old going c reply new step
+
+-- a run that hasn't begun, or goes on
+abbrev GoesOn : Option QuotaRun → Type 0
+GoesOn None = ⊤
+GoesOn (Some s) = IsGoingQuotas s
+
+-- what an item is answered, and what it leaves
+record IsToldItem (old : Option QuotaRun) (item : Item) (reply : Reply) (new : Option QuotaRun) : Type 0 where
+  reply_is : reply ≡ reply_in (option_map state_of old) item
+  state : option_map state_of new ≡ state_in (option_map state_of old) item
+  going : GoesOn new
+
+item_told : (old : Option QuotaRun) (item : Item) (reply : Reply) (new : Option QuotaRun) → GoesOn old → IsSayableItem item
+    → PlayStep BeginsAtOne QuotaStep old item reply new → IsToldItem old item reply new
+item_told old (starts p) reply new going can step = record {
+  reply_is = step.1.1;
+  state = ap (option_map state_of) step.2 ∙ ap (λ t. Some t) (begun_told p step.0 step.1.0);
+  going = subst GoesOn (sym step.2) (begins_going p step.0 step.1.0);
+}
+item_told None (asks c) reply new going can step = record {
+  reply_is = step.0;
+  state = ap (option_map state_of) step.1;
+  going = subst GoesOn (sym step.1) tt;
+}
+item_told (Some old) (asks c) reply new going can step = record {
+  reply_is = command_told old going c reply step.0 can step.1;
+  state = ap (option_map state_of) step.2 ∙ ap (λ t. Some t) (state_told old going c reply step.0 can step.1);
+  going = subst GoesOn (sym step.2) (still_going old going c reply step.0 can.formed step.1);
+}
+item_told old (bad n) reply new going can step = record {
+  reply_is = step.0;
+  state = ap (option_map state_of) step.1;
+  going = subst GoesOn (sym step.1) going;
+}
+
+run_told : (items : List Item) (old : Option QuotaRun) (replies : List Reply) (end : Option QuotaRun) → GoesOn old → AreSayable items
+    → RunsQuotas old items replies end → replies ≡ task_replies (option_map state_of old) items
+run_told [] old replies end going can run = run.0
+run_told (item ∷ rest) old replies end going can run =
+    let now = item_told old item run.1 run.0 going can.0 run.3 in
+    run.4 ∙ ap (λ l. run.1 ∷ l) (run_told rest run.0 run.2 end now.going can.1 run.5)
+    ∙ (λ i. now.reply_is i ∷ task_replies (now.state i) rest)
+
+-- the replies to a script
+pub transcript_told : (items : List Item) (replies : List Reply) (end : Option QuotaRun) → AreSayable items → RunsQuotas None items replies end
+    → MeetsTasks items replies
+transcript_told items replies end can run = run_told items None replies end tt can run
+
+-- and to the bytes of one, from any state before its `heap` line
+pub tasks_met : (from : QuotaRun) (all : List ℕ) (replies : List Reply) (end : Option QuotaRun) → RunBy quota_tasks from None (items_within all) replies end
+    → MeetsTasks (items_within all) replies
+tasks_met from all replies end run = transcript_told (items_within all) replies end (items_sayable (take MOST_BYTES all) (nat_le (length all) MOST_BYTES)) run

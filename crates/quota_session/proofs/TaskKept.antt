@@ -48,7 +48,7 @@ pub rest_same : (task : ℕ) (old new : QuotaState) → KeepsTasks old → new �
 rest_same task old new rules same = subst (λ (s : QuotaState). KeepsRest task old s) (sym same)
     (record { rules = rules; profile = refl; quotas = refl; others = λ u ne. refl })
 
--- what a malloc gives, a free takes and a write changes
+-- the objects after a malloc, a free and a write
 module _ (old new : QuotaState) (rules : KeepsTasks old) (kept : KeepsTasks new) (task : ℕ) where
   module _ (h n : ℕ) (g : GivesTask old task (record { number = h; length = n }) new) where
     pub given_rest : KeepsRest task old new

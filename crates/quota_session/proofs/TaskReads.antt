@@ -1,9 +1,8 @@
--- Over a run, each read gives the bytes that the lines and their replies tell of the present task.
+-- In a run, each read returns the bytes of the present task that follow from the lines and their replies.
 use Rattle.std.proofs.Common.{◌≡◌, ℕ, Bool, true, false, cond, List, [], ◌∷◌, Option, Some, None, length, replicate, sym, ◌∙◌, ap, refl, subst, inl, inr}
 use Rattle.std.specs.Prelude.{◌&&◌, Err, nat_eq}
 use Rattle.std.proofs.lemmas.Bool.{cases_eq}
-use Rattle.std.specs.FinMap.{empty, get, insert, remove}
-use Rattle.cf_base.specs.Settings.{at_bound_one}
+use Rattle.std.specs.FinMap.{get, insert, remove}
 use Rattle.cf_base.specs.declared.answers.AccessFault.{AccessFault}
 use Rattle.cf_base.specs.declared.answers.AccessFault.TheVariants as access
 use Rattle.cf_base.specs.declared.answers.Refusal.{Refusal}
@@ -25,11 +24,11 @@ use Rattle.transcript_laws.specs.Replies.{free_said, malloc_fault, malloc_leaves
 use Rattle.transcript_laws.specs.Replies.{write_leaves, write_said}
 use Rattle.quota_session.specs.Alone.{after_if, item_of, tasks_of}
 use Rattle.quota_session.specs.Playing.{BeginsAtOne, RunsQuotas}
-use Rattle.quota_session.specs.QuotaRun.{IsGoingQuotas, QuotaRun, QuotaStep, StepsPresent, TaskSession}
+use Rattle.quota_session.specs.QuotaRun.{IsGoingQuotas, QuotaRun, QuotaStep, TaskSession}
 use Rattle.quota_session.specs.Told.{AreReadsOfTasks, IsReadOfTasks, ToldTasks, tasks_told_after, told_with}
 use Rattle.quota_session.proofs.RunInvariant.{still_going}
 use Rattle.quota_session.proofs.Opened.{begins_going}
-use Rattle.quota_session.proofs.OwnTask.{remove_none}
+use Rattle.transcript_laws.proofs.CallerLemmas.{remove_none}
 use Rattle.quota_session.proofs.ScriptTold.{begun_is, call_reply, present_then, reply_told, tasks_after}
 
 either : {X : Type 0} (b : Bool) (x : X) → x ≡ cond b x x
@@ -76,7 +75,7 @@ module _ (t : Tasks) (now : ℕ) where
   leaves_told command.Walk = either (is_ok (task_reply t now command.Walk)) all
   leaves_told c = refl
 
--- of an object it is the bytes alone that a read tells
+-- the reply to a read depends on the bytes of the object alone
 read_is : (o : Option (List ℕ)) (at count : ℕ) → read_said o at count ≡ read_told o at count
 read_is None at count = refl
 read_is (Some v) at count = refl

@@ -1,6 +1,6 @@
 -- Each command of a run over tasks has its turn, and a run goes on to the end of its items.
-use Rattle.std.proofs.Common.{◌≡◌, ◌++◌, ℕ, ◌<◌, ◌≤◌, List, [], ◌∷◌, Some, None, arith, refl, sym, subst, inl, inr}
-use Rattle.std.specs.Prelude.{⊤, Bool, Option, codes}
+use Rattle.std.proofs.Common.{◌≡◌, ℕ, ◌<◌, ◌≤◌, List, Some, None, arith, refl, inl, inr}
+use Rattle.std.specs.Prelude.{Option, codes}
 use Rattle.std.specs.Option.{MatchOption}
 use Rattle.std.specs.FinMap.{empty, get, remove}
 use Rattle.std.proofs.lemmas.List.{length-replicate}
@@ -25,16 +25,12 @@ use Rattle.quota_model.specs.declared.answers.QuotaFault.{QuotaFault}
 use Rattle.quota_model.proofs.CallerLemmas.{enough_iff, first_quotas, first_shared, granted_quotas, none_iff}
 use Rattle.run_laws.specs.Sayable.{IsSayable}
 use Rattle.run_laws.proofs.CallerLemmas.{CanGoOn}
-use Rattle.run_model.specs.Plays.{PlayStep}
 use Rattle.run_model.specs.Replies.{malloc_text, write_text}
 use Rattle.run_model.specs.Steps.{ids_given}
-use Rattle.run_model.specs.Texts.{bad_line}
-use Rattle.run_model.proofs.CallerLemmas.{run_joined}
-use Rattle.script_reader.specs.Items.{Item, asks, bad, items, starts}
 use Rattle.script_reader.specs.declared.command.Command.{Command}
 use Rattle.script_reader.specs.declared.command.Command.TheVariants as command
 use Rattle.id_table.proofs.CallerLemmas.{clash}
-use Rattle.quota_session.specs.Playing.{BeginsAtOne, BeginsQuotas, RunsQuotas}
+use Rattle.quota_session.specs.Playing.{BeginsAtOne, BeginsQuotas}
 use Rattle.quota_session.specs.QuotaRun.{IsGoingQuotas, QuotaRun, QuotaStep, StepsPresent, admission_text, first_session, need_text, needs_of}
 use Rattle.quota_session.specs.QuotaRun.{present_run, quota_fault}
 use Rattle.quota_session.specs.QuotaRun.{with_ids, with_need, with_present}
@@ -151,7 +147,7 @@ module _ (law : PageLaw) (old : QuotaRun) (going : IsGoingQuotas old) where
       let a = task_there law before going.rules (going.sixteen).present object c in
       (a.reply, record old { session = with_ids old.session a.ids; heap = a.heap }, record { ids = a.ids; step = a.done; whole = refl })
 
-  -- every command that can be said is answered
+  -- every command of the grammar has a reply
   pub turn_there : (c : Command) → IsSayable c → (reply : Reply) × (new : QuotaRun) × QuotaStep old c reply new
   turn_there (command.Task task) can = (said (codes "ok"), with_present old task, (refl, refl))
   turn_there (command.Quota task pages) can = (

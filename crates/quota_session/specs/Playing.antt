@@ -1,4 +1,4 @@
--- A session over a heap that tasks share, as a player.
+-- The mode handler of a session over a heap that tasks share.
 use Rattle.std.specs.Prelude.{◌≡◌, ⊤, List, Option, Some, codes, false}
 use Rattle.cf_base.specs.Settings.{Profile, at_bound_one}
 use Rattle.cf_io.specs.Texts.{Reply, said}
@@ -6,25 +6,25 @@ use Rattle.quota_heap.specs.State.{KeepsTasks, empty_state}
 use Rattle.run_model.specs.Plays.{PlayRun}
 use Rattle.script_loop.specs.Semantics.{Semantics}
 use Rattle.script_reader.specs.Items.{Item}
-use Rattle.session_model.specs.Applying.{TurnsInPart}
+use Rattle.script_loop.specs.Applying.{TurnsInPart}
 use Rattle.quota_session.specs.QuotaRun.{IsGoingQuotas, QuotaRun, QuotaStep, first_session}
 
--- a heap that tasks share was opened with the settings of the line, and a session begun
+-- a heap that tasks share was opened with the settings of the line, with a new session
 pub record BeginsQuotas (p : Profile) (new : QuotaRun) : Type 0 where
   pub settings : new.settings ≡ Some (at_bound_one p)
   pub session : new.session ≡ first_session
   pub heap : new.heap ≡ empty_state (at_bound_one p)
   pub rules : KeepsTasks new.heap
 
--- the same, and `ok` is the reply
+-- the same, and the reply is `ok`
 abbrev pub BeginsAtOne : Profile → Reply → QuotaRun → Type 0
 BeginsAtOne p reply new = BeginsQuotas p new × (reply ≡ said (codes "ok"))
 
--- The items of a script may get these replies, one each, and lead to the new state.
+-- The items of a script may have these replies, one each, and lead to the new state.
 abbrev pub RunsQuotas : Option QuotaRun → List Item → List Reply → Option QuotaRun → Type 0
 RunsQuotas = PlayRun BeginsAtOne QuotaStep
 
--- an allocation failed: the heap is closed, and the session is as it was
+-- an allocation failed: the heap is closed, and the session is unchanged
 pub record LacksQuotas (old new : QuotaRun) : Type 0 where
   pub closed : new.heap.is_open ≡ false
   pub settings : new.settings ≡ old.settings

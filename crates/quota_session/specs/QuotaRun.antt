@@ -1,18 +1,18 @@
 -- A session over a heap that tasks share, and what each command does there.
-use Rattle.std.specs.Prelude.{◌≡◌, ℕ, ◌<◌, ◌≤◌, ◌++◌, IsTrue, List, [], ◌∷◌, Option, Some, codes, length, if◌then◌else◌, nat_lt, replicate, refl}
+use Rattle.std.specs.Prelude.{◌≡◌, ℕ, ◌<◌, ◌≤◌, IsTrue, List, [], Option, Some, codes, length, replicate, refl}
 use Rattle.std.specs.Prelude.{slice_index_or, slice_set}
 use Rattle.std.specs.Coded.{Coded, code_by, coded×, coded_ℕ, coded_list}
 use Rattle.std.specs.FinMap.{empty}
 use Rattle.cf_base.specs.Settings.{Profile}
-use Rattle.cf_io.specs.Texts.{Reply, said, with_number}
+use Rattle.cf_io.specs.Texts.{Reply, said}
 use Rattle.id_table.specs.Ids.{Ids, ids_code}
 use Rattle.quota_heap.specs.State.{KeepsTasks, QuotaState, objects_by, quota_of}
 use Rattle.quota_laws.specs.Tasks.{quota_text, quotas_after}
+pub use Rattle.quota_laws.specs.Transcript.{admission_text, need_text, one_more}
 use Rattle.quota_model.specs.Admission.{IsAdmission}
 use Rattle.quota_model.specs.Refusals.{quota_refusal}
 use Rattle.quota_model.specs.contracts.Need as need
 use Rattle.quota_model.specs.declared.answers.Admission.{Admission}
-use Rattle.quota_model.specs.declared.answers.Admission.TheVariants as admission
 use Rattle.quota_model.specs.declared.answers.Need.{Need}
 use Rattle.quota_model.specs.declared.answers.QuotaFault.{QuotaFault}
 use Rattle.script_loop.specs.Semantics.{Snapshot, snapshot}
@@ -98,24 +98,9 @@ pub record SetsQuota (old : QuotaRun) (task pages : ℕ) (reply : Reply) (new : 
   pub rules : KeepsTasks new.heap
   pub reply_is : reply ≡ said (quota_text (quota_fault old.heap task pages))
 
--- need: `full` where the task declared 64 entries
-abbrev pub need_text : List Need → List ℕ
-need_text needs = if nat_lt (length needs) 64 then codes "ok" else codes "full"
-
--- the entries with one more, where there is room for it
-abbrev pub one_more : List Need → Need → List Need
-one_more needs entry = if nat_lt (length needs) 64 then needs ++ entry ∷ [] else needs
-
 -- the session, with one more entry of a task
 abbrev pub with_need : TaskSession → ℕ → Need → TaskSession
 with_need s task entry = record s { needs = slice_set s.needs task (one_more (needs_of s task) entry) }
-
--- admit
-abbrev pub admission_text : Admission → List ℕ
-admission_text (admission.Size entry) = codes "size"
-admission_text admission.Proxies = codes "proxies"
-admission_text (admission.No nth) = with_number (codes "no ") nth
-admission_text admission.Yes = codes "yes"
 
 -- admit: the answer to what a task declared, at its quota
 pub record Admits (s : QuotaRun) (task : ℕ) (reply : Reply) : Type 0 where

@@ -33,7 +33,7 @@ pub record TaskRun : Type 0 where
 abbrev pub task_run : ℕ → Ids → QuotaState → TaskRun
 task_run task ids heap = record { task = task; ids = ids; heap = heap }
 
--- the object that an id of the task names, where it is live
+-- the object that an id of the task names, if it is live
 abbrev pub task_object : TaskRun → ℕ → Option Placed
 task_object s id = elim (get s.ids id) [ None ↦ None | Some h ↦ get (held_by s.heap s.task) h ]
 
@@ -45,7 +45,7 @@ task_classes s task = filter (λ c. not (nat_eq (live (task_paging s.profile) (o
 abbrev pub class_lines : QuotaState → ℕ → List ℕ → Reply
 class_lines s task cs = map (λ c. class_line (figures_of (task_paging s.profile) (held_by s task) c)) cs
 
--- the figures of a whole task; the pages of its quota that it doesn't use are its free ones
+-- the totals of a task; its free pages are the pages of its quota that it doesn't use
 abbrev pub task_totals : QuotaState → ℕ → Totals
 task_totals s task = record (totals_of (task_paging s.profile) (held_by s task)) {
   free = quota_of s task - used_pages (task_paging s.profile) (held_by s task);
@@ -86,7 +86,7 @@ pub record WritesIdOfTask (old : TaskRun) (part : Part) (bytes : List ℕ) (repl
   pub task : new.task ≡ old.task
   pub reply_is : reply ≡ said (write_text answer)
 
--- the reply of a command that changes nothing; `none` answers all that isn't of this mode
+-- the reply to a command that changes nothing; `none` to a command of another mode
 abbrev pub task_told : TaskRun → Command → Reply
 task_told s (Read id at count) = said (read_text (task_object s id) at count)
 task_told s Walk = task_report s.heap s.task

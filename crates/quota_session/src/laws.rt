@@ -1,21 +1,22 @@
 //! Laws of a session over tasks. What each function ensures is the law; it calls the laws that it follows from.
-ghost use Rattle.std.specs.Prelude.{◌≡◌, ℕ, ◌<◌, ◌∷◌, ◌++◌, Bool, List, [], None, Option, true};
-ghost use Rattle.cf_base.specs.Settings.{Profile, at_bound_one};
+ghost use Rattle.std.specs.Prelude.{◌≡◌, ℕ, ◌++◌, Bool, List, [], None, Option, true};
+ghost use Rattle.cf_base.specs.Settings.{Profile};
 ghost use Rattle.cf_io.specs.Texts.{Reply, text_of};
 ghost use Rattle.cf_model.specs.Rules.{AreInRange};
-ghost use Rattle.quota_laws.specs.Tasks.{is_for_task, no_tasks, task_reply};
+ghost use Rattle.quota_laws.specs.Tasks.{is_for_task, task_reply};
+ghost use Rattle.quota_laws.specs.Transcript.{MeetsTasks};
 ghost use Rattle.run_laws.specs.Sayable.{AreSayable, IsSayable};
 ghost use Rattle.script_loop.specs.Consequences.{IsPrefixBy};
 ghost use Rattle.script_loop.specs.ScriptOutcome.{Effects, WroteInPart, items_within};
 ghost use Rattle.script_reader.specs.Commands.{IsWellFormed};
 ghost use Rattle.script_reader.specs.Items.{Item, items};
 ghost use Rattle.script_reader.specs.declared.command.Command.{Command};
-ghost use Rattle.quota_session.specs.Alone.{AreAlikeFor, CanBeSaid, after_if, item_of, own_commands, replies_of, script_of, tasks_of};
+ghost use Rattle.quota_session.specs.Alone.{AreAlikeFor, after_if, item_of, tasks_of};
 ghost use Rattle.quota_session.specs.Playing.{BeginsQuotas, RunsQuotas, quota_tasks};
 ghost use Rattle.quota_session.specs.QuotaRun.{IsGoingQuotas, QuotaRun, QuotaStep};
 ghost use Rattle.quota_session.specs.Told.{AreReadsOfTasks};
 
-use quota_laws::{a_reply_follows_from_the_task_alone, tasks_are_isolated};
+use quota_laws::a_reply_follows_from_the_task_alone;
 use quota_model::a_page_is_there_for_each_quota;
 
 /// The reply to a call of a task is a function of the settings, its quota and its objects by id:
@@ -49,18 +50,15 @@ pub fn reads_give_what_was_written()
     a_task_is_answered_from_its_own();
 }
 
-/// Isolation: leave out of a script all calls and quotas of tasks other than one, and every quota
-/// that is refused; the replies to the calls of that task are the same, in the same order.
-pub fn tasks_are_isolated_in_a_script()
-    ensures { (p : Profile) (task : ℕ) (commands : List Command) (first second : Reply) (replies told : List Reply)
-        (end last : Option QuotaRun)
-        → task < 16 → CanBeSaid commands
-        → RunsQuotas None (script_of p commands) (first ∷ replies) end
-        → RunsQuotas None (script_of p (own_commands task (no_tasks (at_bound_one p)) 0 commands)) (second ∷ told) last
-        → replies_of task 0 (own_commands task (no_tasks (at_bound_one p)) 0 commands) told
-        ≡ replies_of task 0 commands replies }
+/// One transcript: the replies to every script are a function of its lines, one for each item and none
+/// over. Numbers, addresses and choices of the heap change none of them.
+pub fn one_transcript_of_tasks()
+    ensures run { (items : List Item) (replies : List Reply) (new : Option QuotaRun)
+        → AreSayable items → RunsQuotas None items replies new → MeetsTasks items replies }
+    ensures script { (given : List ℕ) (ended : Bool) (replies : List Reply) (new : Option QuotaRun)
+        → RunsQuotas None (items given ended) replies new → MeetsTasks (items given ended) replies }
 {
-    tasks_are_isolated();
+    a_task_is_answered_from_its_own();
 }
 
 /// A run begins under any settings in their ranges; and from each state of a run that goes on every

@@ -1,4 +1,4 @@
-//! What a task declares.
+//! The declared needs of a task.
 ghost use Rattle.std.specs.Prelude.{◌≡◌, ◌<◌, ◌≤◌, [], IsTrue, length, nat_lt};
 ghost use Rattle.quota_model.specs.declared.answers.Need.{Need as ANeed};
 ghost use Rattle.quota_session.specs.QuotaRun.{one_more};
@@ -50,7 +50,7 @@ impl Needs {
         &self.entries[..self.count]
     }
 
-    /// Adds an entry, where there are fewer than 64; and whether there were.
+    /// Adds an entry if there are fewer than 64, and returns whether there were.
     pub(crate) fn push(&mut self, entry: Need) -> bool
         ensures room { result ≡ nat_lt (length self.old) 64 }
         ensures value { self.new ≡ one_more self.old entry }

@@ -14,8 +14,7 @@ use script_reader::CommandRef;
 use std::alloc::Global;
 use step_ledger::Meter;
 
-/// A session over sixteen tasks that answers a script, with the settings of its `heap` line and the
-/// ledger that it uses.
+/// The mode handler: a session over sixteen tasks, with the settings of the `heap` line and a ledger.
 #[derive(Drop)]
 pub struct QuotaPlayer {
     pub session: QuotaSession,
@@ -24,7 +23,7 @@ pub struct QuotaPlayer {
 }
 
 impl QuotaPlayer {
-    /// A session that was just begun, with no settings yet. All its memory is taken here.
+    /// A new session without settings. Allocates all its memory.
     pub fn start(rt: &HostRuntime, alloc: Global) -> Result<QuotaPlayer, OutOfMemory>
         ensures session { IfOk result (λ p. p.session ≡ first_session) }
         ensures settings { IfOk result (λ p. p.settings ≡ None) }
@@ -52,7 +51,7 @@ impl Player<QuotaHeap> for QuotaPlayer {
         settings: &Settings,
         sink: &mut K,
     ) -> Result<(), OpenFault> {
-        // Every class has the bound 1, whatever the line says.
+        // Every class has the bound 1, whatever bound the line has.
         let settings = Settings {
             pages: settings.pages,
             page_words: settings.page_words,
@@ -89,10 +88,10 @@ impl Player<QuotaHeap> for QuotaPlayer {
     }
 }
 
-/// Answers each line of a script before it takes the next chunk of it: its `heap` line opens the
-/// heap, with the bound 1 for each class, and each command is answered for the task that is present
-/// or that it names. It stops at a bad line, at a fault of the source or the sink, where an allocation
-/// fails at the `heap` line, and past 268,435,455 bytes.
+/// Answers each line of a script before it takes the next chunk: the `heap` line opens the heap, with the
+/// bound 1 for each class, and each command is done for the present task or the one that it names. It
+/// stops at a bad line, if the source or the sink fails, if an allocation fails at the `heap` line, and
+/// after 268,435,455 bytes.
 pub fn run_quotas<S: Source, K: Sink>(
     player: &mut QuotaPlayer,
     heap: &mut QuotaHeap,

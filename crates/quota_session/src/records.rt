@@ -1,4 +1,4 @@
-//! What a session keeps of its tasks.
+//! The records of a session.
 ghost use Rattle.std.specs.Prelude.{◌≡◌, IfOk, [], replicate};
 ghost use Rattle.std.specs.FinMap as map;
 ghost use Rattle.quota_session.specs.Layout.{session_of};
@@ -9,10 +9,10 @@ use cf_base::OutOfMemory;
 use id_table::IdTable;
 use std::alloc::Global;
 
-/// How many tasks there are.
+/// The number of tasks.
 pub(crate) const TASKS: u32 = 16;
 
-/// By task, the handles of its live ids and the entries that it declared; and the present task.
+/// By task, the handles of its live ids and its declared needs; and the present task.
 #[derive(Drop)]
 pub(crate) struct Records {
     pub(crate) ids: Vec<IdTable>,
@@ -21,7 +21,7 @@ pub(crate) struct Records {
 }
 
 impl Records {
-    /// No id of any task is live, nothing is declared, and task 0 is present. All memory is taken here.
+    /// Records in which no id is live, no need is declared, and task 0 is present. Allocates all memory.
     pub(crate) fn new(alloc: Global) -> Result<Records, OutOfMemory>
         ensures { IfOk result (λ r. session_of r ≡ first_session) }
     {
@@ -51,7 +51,7 @@ fn first_ids(alloc: Global) -> Result<Vec<IdTable>, OutOfMemory>
     Ok(all)
 }
 
-/// The entries of sixteen tasks of which none declared any.
+/// The needs of sixteen tasks, none declared.
 fn first_needs(alloc: Global) -> Result<Vec<Needs>, OutOfMemory>
     ensures { IfOk result (λ needs. needs.items ≡ replicate 16 []) }
 {

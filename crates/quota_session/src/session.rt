@@ -5,15 +5,16 @@ ghost use Rattle.cf_base.specs.Settings.{Profile, profile_of};
 ghost use Rattle.cf_io.specs.Feeds.{Rose};
 ghost use Rattle.cf_io.specs.Lines.{line_room};
 ghost use Rattle.cf_io.specs.Texts.{said};
+ghost use Rattle.cf_session.specs.Apply.{outcome_in};
 ghost use Rattle.quota_heap.specs.State.{KeepsTasks, objects_by};
 ghost use Rattle.script_reader.specs.Commands.{IsWellFormed};
 ghost use Rattle.script_reader.specs.Owned.{owned_command};
-ghost use Rattle.session_model.specs.Applying.{Applies, Speaks};
+ghost use Rattle.script_loop.specs.Applying.{Applies, Speaks};
 ghost use Rattle.id_table.specs.Ties.{AreTiedTo};
 ghost use Rattle.quota_session.specs.Costs.{most_steps, task_steps};
 ghost use Rattle.quota_session.specs.Layout.{IsOfTask, IsOneLine, session_of};
 ghost use Rattle.quota_session.specs.Playing.{quota_tasks};
-ghost use Rattle.quota_session.specs.QuotaRun.{AreTasksTied, HasSixteen, IsGoingQuotas, QuotaStep, StepsPresent, first_session, present_run, quota_moment, quota_run};
+ghost use Rattle.quota_session.specs.QuotaRun.{AreTasksTied, HasSixteen, IsGoingQuotas, QuotaStep, first_session, present_run, quota_moment, quota_run};
 ghost use Rattle.quota_session.specs.TaskRun.{TaskStep, task_run};
 
 use crate::changes::{free, malloc, read, write};
@@ -22,25 +23,24 @@ use crate::reports::walk;
 use crate::tasks::{declare, push_admission, set_quota};
 use admission::{Need, admit};
 use cf_base::{Failed, OutOfMemory, Settings};
-use cf_io::{Line, Sink, push_text, put_line};
-use cf_session::Outcome;
+use cf_io::{Line, Sink, put_line};
+use cf_session::{Outcome, Short, ended, push_short};
 use id_table::IdTable;
 use quota_heap::QuotaHeap;
 use script_reader::{Command, CommandRef};
-use session_model::{ended, outcome_of_text};
 use std::alloc::Global;
 use std::marker::Model;
 use step_ledger::{Meter, Steps};
 
-/// The most bytes that are read at once.
+/// The most bytes of one read.
 const MOST: usize = 4_096;
 
-/// The ids of the objects of sixteen tasks, what each task declared, and which task is present.
+/// By task the ids of its objects and its declared needs; and the present task.
 #[derive(Drop)]
 pub struct QuotaSession {
     records: Records,
     line: Line,
-    /// Room for the bytes that are read.
+    /// The buffer of a read.
     room: [u8; MOST],
 }
 
@@ -58,8 +58,8 @@ impl Model for QuotaSession {
 }
 
 impl QuotaSession {
-    /// A session in which no id of any task is live, no task declared anything, and task 0 is present.
-    /// All its memory is taken here: a table of 65,536 ids for each task.
+    /// A session in which no id is live, no need is declared, and task 0 is present. Allocates all its
+    /// memory: a table of 65,536 ids for each task.
     pub fn start(alloc: Global) -> Result<QuotaSession, OutOfMemory>
         ensures { IfOk result (λ s. s ≡ first_session) }
     {
@@ -70,9 +70,9 @@ impl QuotaSession {
         })
     }
 
-    /// Does the command on the heap, which is open with the settings `s`, and writes its reply. The
-    /// ledger is lapped first. `Failed` only where the sink failed; the command has taken effect
-    /// then, and a prefix of its reply was written.
+    /// Laps the ledger, does the command on the heap, which is open with the settings `s`, and writes its
+    /// reply. If the sink fails, the result is `Failed`: the command has taken effect, and a prefix of
+    /// its reply was written.
     pub fn apply<K: Sink>(
         &mut self,
         heap: &mut QuotaHeap,
@@ -97,7 +97,7 @@ impl QuotaSession {
         self.apply_ref(heap, s, c.as_ref(), out, meter)
     }
 
-    /// The same for a command whose bytes are borrowed.
+    /// `apply` for a command with borrowed bytes.
     pub fn apply_ref<K: Sink>(
         &mut self,
         heap: &mut QuotaHeap,
@@ -122,8 +122,7 @@ impl QuotaSession {
         self.answer_ref(heap, s, c, out, meter.steps())
     }
 
-    /// The same on a ledger that is not lapped: no call lowers it, so the bound is that of the command
-    /// itself.
+    /// The same on a ledger that isn't lapped. No call lowers it, so the bound is that of the command.
     pub fn answer_ref<K: Sink>(
         &mut self,
         heap: &mut QuotaHeap,
@@ -146,7 +145,7 @@ impl QuotaSession {
         ensures same { OnOk result (K.faults out.new ≡ K.faults out.old) }
         ensures failed { OnErr result (Rose (K.faults out.old) (K.faults out.new)) }
     {
-        // An open heap keeps its tasks apart.
+        // For its contract: an open heap keeps its tasks apart.
         let _open = heap.is_open();
         answer(
             &mut self.records,
@@ -161,7 +160,7 @@ impl QuotaSession {
     }
 }
 
-/// Does the command, and writes its reply.
+/// Does the command and writes its reply.
 fn answer<K: Sink>(
     records: &mut Records,
     heap: &mut QuotaHeap,
@@ -191,14 +190,13 @@ fn answer<K: Sink>(
             ended(written, Outcome::Other)
         }
         _ => {
-            speak(records, heap, s, c, room, line, steps);
-            let outcome = outcome_of_text(line.bytes());
+            let outcome = speak(records, heap, s, c, room, line, steps);
             ended(put_line(line, out), outcome)
         }
     }
 }
 
-/// Does a command whose reply is one line, and writes its text on the line.
+/// Does a command with a reply of one line, and writes its text on the line.
 fn speak(
     records: &mut Records,
     heap: &mut QuotaHeap,
@@ -207,7 +205,7 @@ fn speak(
     room: &mut [u8],
     line: &mut Line,
     steps: &mut Steps,
-)
+) -> Outcome
     requires going { IsGoingQuotas (quota_run (Some (profile_of s.now)) (session_of records.old) heap.old) }
     requires formed { IsWellFormed (owned_command c) }
     requires one { IsOneLine (owned_command c) }
@@ -215,6 +213,7 @@ fn speak(
     requires count { steps.old ≤ 2 ^ 63 }
     ensures speaks { Speaks QuotaStep (quota_run (Some (profile_of s.now)) (session_of records.old) heap.old) (owned_command c.entry)
         (quota_run (Some (profile_of s.now)) (session_of records.new) heap.new) line.new }
+    ensures outcome { result ≡ outcome_in line.new }
     ensures steps { RoseAtMost steps.old steps.new
         (most_steps (quota_run (Some (profile_of s.now)) (session_of records.old) heap.old) (owned_command c.entry)) }
 {
@@ -222,22 +221,22 @@ fn speak(
     match c {
         CommandRef::Task { task } => {
             records.present = task;
-            push_text(line, b"ok");
+            push_short(line, Short::Done)
         }
-        CommandRef::Quota { task, pages } => push_text(line, set_quota(heap, task, pages)),
+        CommandRef::Quota { task, pages } => push_short(line, set_quota(heap, task, pages)),
         CommandRef::Need { task, bytes, count } => {
-            push_text(line, declare(records, task, Need { bytes, count }));
+            push_short(line, declare(records, task, Need { bytes, count }))
         }
         CommandRef::Admit { task } => {
             let quota = heap.quota(task);
             let needs = &records.needs[task as usize];
-            push_admission(line, admit(s, quota, needs.entries()));
+            push_admission(line, admit(s, quota, needs.entries()))
         }
         _ => speak_present(records, heap, c, room, line, steps),
     }
 }
 
-/// Does a command of the present task whose reply is one line, and writes its text on the line.
+/// Does a command of the present task with a reply of one line, and writes its text on the line.
 fn speak_present(
     records: &mut Records,
     heap: &mut QuotaHeap,
@@ -245,7 +244,7 @@ fn speak_present(
     room: &mut [u8],
     line: &mut Line,
     steps: &mut Steps,
-)
+) -> Outcome
     requires opened { IsTrue heap.old.is_open }
     requires sixteen { HasSixteen (session_of records.old) }
     requires tied { AreTasksTied (session_of records.old) heap.old }
@@ -254,14 +253,15 @@ fn speak_present(
     requires place { length room.old ≡ 4096 }
     requires count { steps.old ≤ 2 ^ 63 }
     requires empty { line.old ≡ [] }
-    ensures step { (settings : Option Profile) → StepsPresent (quota_run settings (session_of records.old) heap.old)
+    ensures step { (settings : Option Profile) → QuotaStep (quota_run settings (session_of records.old) heap.old)
         (owned_command c.entry) (said line.new) (quota_run settings (session_of records.new) heap.new) }
     ensures room { length line.new < line_room }
+    ensures outcome { result ≡ outcome_in line.new }
     ensures steps { RoseAtMost steps.old steps.new (task_steps (present_run (session_of records.old) heap.old) (owned_command c.entry)) }
 {
     let task = records.present;
     let ids = &mut records.ids[task as usize];
-    speak_task(ids, heap, task, c, room, line, steps);
+    speak_task(ids, heap, task, c, room, line, steps)
 }
 
 /// The same, with the ids of the task.
@@ -273,7 +273,7 @@ fn speak_task(
     room: &mut [u8],
     line: &mut Line,
     steps: &mut Steps,
-)
+) -> Outcome
     requires opened { IsTrue heap.old.is_open }
     requires sixteen { task < 16 }
     requires tied { AreTiedTo ids.old (objects_by heap.old task) }
@@ -283,15 +283,16 @@ fn speak_task(
     requires count { steps.old ≤ 2 ^ 63 }
     requires empty { line.old ≡ [] }
     ensures speaks { Speaks TaskStep (task_run task ids.old heap.old) (owned_command c.entry) (task_run task ids.new heap.new) line.new }
+    ensures outcome { result ≡ outcome_in line.new }
     ensures steps { RoseAtMost steps.old steps.new (task_steps (task_run task ids.old heap.old) (owned_command c.entry)) }
 {
     match c {
         CommandRef::Malloc { id, bytes } => {
-            push_text(line, malloc(ids, heap, task, id, bytes, steps));
+            push_short(line, malloc(ids, heap, task, id, bytes, steps))
         }
-        CommandRef::Free { id } => push_text(line, free(ids, heap, task, id, steps)),
+        CommandRef::Free { id } => push_short(line, free(ids, heap, task, id, steps)),
         CommandRef::Write { id, at, bytes } => {
-            push_text(line, write(ids, heap, task, id, at, bytes, steps));
+            push_short(line, write(ids, heap, task, id, at, bytes, steps))
         }
         CommandRef::Read { id, at, len } => {
             read(
@@ -303,8 +304,8 @@ fn speak_task(
                 &mut room[..len as usize],
                 line,
                 steps,
-            );
+            )
         }
-        _ => push_text(line, b"none"),
+        _ => push_short(line, Short::Lacking),
     }
 }

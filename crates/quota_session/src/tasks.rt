@@ -1,6 +1,8 @@
 //! The commands that name a task.
-ghost use Rattle.std.specs.Prelude.{◌≡◌, ◌+◌, ◌<◌, ◌≤◌, [], IsTrue, length, slice_set};
+ghost use Rattle.std.specs.Prelude.{◌≡◌, ◌<◌, [], IsTrue, length};
 ghost use Rattle.cf_io.specs.Lines.{line_room};
+ghost use Rattle.cf_session.specs.Apply.{outcome_in};
+ghost use Rattle.cf_session.specs.Short.{short_text};
 ghost use Rattle.quota_heap.specs.State.{KeepsTasks};
 ghost use Rattle.quota_laws.specs.Tasks.{quota_text, quotas_after};
 ghost use Rattle.quota_session.specs.Layout.{session_of};
@@ -9,41 +11,45 @@ ghost use Rattle.quota_session.specs.QuotaRun.{HasSixteen, admission_text, need_
 use crate::records::Records;
 use admission::{Admission, Need};
 use cf_io::{Line, push_field, push_text};
+use cf_session::{Outcome, Short};
 use quota_heap::{QuotaFault, QuotaHeap};
 
-/// `quota`: gives a task another quota.
-pub(crate) fn set_quota(heap: &mut QuotaHeap, task: u32, pages: u32) -> &'static [u8]
+/// `quota`: sets the quota of a task.
+pub(crate) fn set_quota(heap: &mut QuotaHeap, task: u32, pages: u32) -> Short
     requires opened { IsTrue heap.old.is_open }
     requires sixteen { task < 16 }
     ensures heap { heap.new ≡ record heap.old { quotas = quotas_after (quota_fault heap.old task pages) heap.old.quotas task pages } }
     ensures rules { KeepsTasks heap.new }
-    ensures text { result.now ≡ quota_text (quota_fault heap.old task pages) }
-    ensures short { length result.now ≤ 20 }
+    ensures text { short_text result ≡ quota_text (quota_fault heap.old task pages) }
 {
     match heap.set_quota(task, pages) {
-        Ok(()) => b"ok",
-        Err(QuotaFault::Sum) => b"refused sum",
-        Err(QuotaFault::Used) => b"refused used",
+        Ok(()) => Short::Done,
+        Err(QuotaFault::Sum) => Short::RefusedSum,
+        Err(QuotaFault::Used) => Short::RefusedUsed,
     }
 }
 
-/// `need`: a task declares one more entry, where it has fewer than 64.
-pub(crate) fn declare(records: &mut Records, task: u32, entry: Need) -> &'static [u8]
+/// `need`: a task declares one more entry, if it has fewer than 64.
+pub(crate) fn declare(records: &mut Records, task: u32, entry: Need) -> Short
     requires sixteen { task < 16 }
     requires kept { HasSixteen (session_of records.old) }
     ensures session { session_of records.new ≡ with_need (session_of records.old) task entry }
-    ensures text { result.now ≡ need_text (needs_of (session_of records.old) task) }
-    ensures short { length result.now ≤ 20 }
+    ensures text { short_text result ≡ need_text (needs_of (session_of records.old) task) }
 {
     let needs = &mut records.needs[task as usize];
-    if needs.push(entry) { b"ok" } else { b"full" }
+    if needs.push(entry) {
+        Short::Done
+    } else {
+        Short::Full
+    }
 }
 
 /// `admit`: writes the answer on the line.
-pub(crate) fn push_admission(line: &mut Line, answer: Admission)
+pub(crate) fn push_admission(line: &mut Line, answer: Admission) -> Outcome
     requires { line.old ≡ [] }
     ensures text { line.new ≡ admission_text answer }
     ensures room { length line.new < line_room }
+    ensures outcome { result ≡ outcome_in line.new }
 {
     match answer {
         Admission::Size { .. } => push_text(line, b"size"),
@@ -51,4 +57,5 @@ pub(crate) fn push_admission(line: &mut Line, answer: Admission)
         Admission::No { nth } => push_field(line, b"no ", nth as u64),
         Admission::Yes => push_text(line, b"yes"),
     }
+    Outcome::Other
 }

@@ -1,4 +1,3 @@
-use Rattle.std.proofs.Common.{refl}
 use Rattle.script_loop.proofs.Prefix.{cut_is_prefix_by}
 use Rattle.quota_session.specs.Playing.{quota_tasks}
 use Rattle.quota_session.proofs.Turns.{tasks_go_on}

@@ -3,17 +3,16 @@ use Rattle.std.specs.Prelude.{sum_by}
 use Rattle.std.specs.List.{range_with_len}
 use Rattle.cf_io.specs.Feeds.{appended}
 use Rattle.cf_io.specs.Texts.{led}
+use Rattle.frag_report.specs.Classes.{classes_below}
 use Rattle.page_model.specs.Arrangement.{home_pages}
 use Rattle.page_model.specs.Paging.{classes}
 use Rattle.quota_heap.specs.State.{held_by}
 use Rattle.quota_model.specs.Refusals.{task_paging}
-use Rattle.quota_session.specs.Layout.{classes_below}
-use Rattle.quota_session.specs.TaskRun.{class_lines}
 use Rattle.quota_session.proofs.reports.put_classes.Given as goal
 
 abbrev pub invariant-loop-c : goal.invariant-loop-c
 invariant-loop-c g l = record {
-  put : g.K.Sink.written l.out ≡ appended (g.K.Sink.written l.initial.out) (led [] (class_lines l.heap l.task (classes_below l.heap l.task l.c)));
+  put : g.K.Sink.written l.out ≡ appended (g.K.Sink.written l.initial.out) (led [] (classes_below (task_paging l.heap.profile) (held_by l.heap l.task) l.c));
   same : g.K.Sink.faults l.out ≡ g.K.Sink.faults l.initial.out;
   used : l.used ≡ sum_by (home_pages (task_paging l.heap.profile) (held_by l.heap l.task)) (range_with_len 0 l.c);
   within : l.c ≤ classes (task_paging l.heap.profile);

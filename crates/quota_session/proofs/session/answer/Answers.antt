@@ -1,21 +1,20 @@
-use Rattle.std.proofs.Common.{Some, ◌∙◌, ap}
+use Rattle.std.proofs.Common.{Some, ap}
 use Rattle.cf_base.specs.Settings.{profile_of}
-use Rattle.cf_session.specs.Apply.{outcome_in}
 use Rattle.script_reader.specs.Owned.{owned_command}
-use Rattle.session_model.proofs.CallerLemmas.{told_line}
+use Rattle.script_loop.proofs.CallerLemmas.{told_line}
 use Rattle.quota_session.specs.Layout.{session_of}
 use Rattle.quota_session.specs.Playing.{quota_tasks}
 use Rattle.quota_session.specs.QuotaRun.{quota_run}
-use Rattle.quota_session.proofs.ReplyLemmas.{in_part, told_walk}
+use Rattle.quota_session.proofs.ReplyLemmas.{told_walk}
 use Rattle.quota_session.proofs.session.answer.Goals as goal
 
 pub returns-in_default-clause-answers : goal.returns-in_default-clause-answers
-returns-in_default-clause-answers g c = told_line quota_tasks in_part
+returns-in_default-clause-answers g c = told_line quota_tasks (λ _ _ _ _ turn. turn)
     (quota_run (Some (profile_of c.args.s.now)) (session_of c.args.records.now) c.args.heap.now)
-    (quota_run (Some (profile_of c.args.s.now)) (session_of c.speak.new.records) c.speak.new.heap)
+    (quota_run (Some (profile_of c.args.s.now)) (session_of c.speak-outcome.new.records) c.speak-outcome.new.heap)
     (owned_command c.args.c)
-    c.speak.new.line _ _ c.put_line.result c.outcome_of_text-outcome.result c.ended-in_default.result c.speak.ensures.speaks
-    (c.outcome_of_text-outcome.ensures ∙ ap outcome_in c.bytes.ensures.value) c.put_line.ensures.puts c.ended-in_default.ensures
+    c.speak-outcome.new.line _ _ c.put_line.result c.speak-outcome.result c.ended-in_default.result c.speak-outcome.ensures.speaks
+    c.speak-outcome.ensures.outcome c.put_line.ensures.puts c.ended-in_default.ensures
 
 pub returns-in-Walk-clause-answers : goal.returns-in-Walk-clause-answers
 returns-in-Walk-clause-answers g c = told_walk (quota_run (Some (profile_of c.args.s.now)) (session_of c.args.records.now) c.args.heap.now)

@@ -13,4 +13,4 @@ returns-clause-step c =
     let x = c.index_mut-ids.result.now in
     let here = get_or_read r.ids.items r.present x (omega (arith, c.requires.sixteen.ids, c.requires.sixteen.present)) c.index_mut-ids.ensures.value empty in
     present_step (session_of r) c.args.heap.now c.speak_task.new.heap x c.speak_task.new.ids (owned_command c.args.c) (said c.speak_task.new.line) here
-    c.speak_task.ensures.speaks.turn
+    c.requires.own c.speak_task.ensures.speaks.turn

@@ -1,6 +1,6 @@
 use Rattle.std.proofs.Common.{arith, subst}
 use Rattle.page_slots.specs.Tables.{tables}
-use Rattle.page_slots.specs.Taking.{TakesAt}
+use Rattle.page_slots.specs.Take.{TakesAt}
 use Rattle.quota_heap.proofs.Facts.{live_room}
 use Rattle.quota_heap.proofs.MallocLemmas.{taken_inside}
 use Rattle.quota_heap.proofs.ObjectFacts.{pool_few}

@@ -1,0 +1,116 @@
+-- What is claimed of every script in mode `quota`: each reply is a function of the lines before it.
+use Rattle.std.specs.Prelude.{◌≡◌, ℕ, ◌++◌, Bool, true, false, List, [], ◌∷◌, Option, Some, None, codes, if◌then◌else◌, length, nat_eq, nat_lt, slice_index}
+use Rattle.std.specs.FinMap.{empty}
+use Rattle.cf_base.specs.Settings.{Profile, at_bound_one}
+use Rattle.quota_model.specs.Admission.{Share, declared_in_all, first_large, first_short, in_order}
+use Rattle.quota_model.specs.declared.answers.Admission.{Admission}
+use Rattle.quota_model.specs.declared.answers.Admission.TheVariants.{Yes, No, Size, Proxies}
+use Rattle.quota_model.specs.declared.answers.Need.{Need}
+use Rattle.run_model.specs.Texts.{Reply, bad_line, said, with_number}
+use Rattle.script_reader.specs.Items.{Item, asks, bad, starts}
+use Rattle.script_reader.specs.declared.command.Command.{Command}
+use Rattle.script_reader.specs.declared.command.Command.TheVariants as command
+use Rattle.quota_laws.specs.Tasks.{TaskItem, Tasks, after_item, calls, no_tasks, quota_text, set_refusal, sets, task_reply}
+
+-- what the lines of a script leave: the present task; by task its quota, its objects by id, and the entries that it declared
+pub record TaskState : Type 0 where
+  pub present : ℕ
+  pub tasks : Tasks
+  pub needs : ℕ → List Need
+
+-- after the `heap` line task 0 is present, and there are no quotas, objects and entries; each class has the bound 1, whatever K is
+abbrev pub first_state : Profile → TaskState
+first_state p = record { present = 0; tasks = no_tasks (at_bound_one p); needs = λ task. [] }
+
+-- need: `full` if the task declared 64 entries
+abbrev pub need_text : List Need → List ℕ
+need_text needs = if nat_lt (length needs) 64 then codes "ok" else codes "full"
+
+-- the entries with one more, if there is room for it
+abbrev pub one_more : List Need → Need → List Need
+one_more needs entry = if nat_lt (length needs) 64 then needs ++ entry ∷ [] else needs
+
+-- admit
+abbrev pub admission_text : Admission → List ℕ
+admission_text (Size entry) = codes "size"
+admission_text Proxies = codes "proxies"
+admission_text (No nth) = with_number (codes "no ") nth
+admission_text Yes = codes "yes"
+
+-- admit: a declared object exceeds a page; else the counts exceed the proxies; else of the declared mallocs, made in order, one is the first refused for space
+abbrev pub admission_by : Option ℕ → Bool → Option ℕ → Admission
+admission_by (Some entry) exceeds short = Size entry
+admission_by None true short = Proxies
+admission_by None false (Some nth) = No nth
+admission_by None false None = Yes
+
+abbrev pub admission : Share → List Need → Admission
+admission t needs =
+    admission_by (first_large t.profile needs) (nat_lt t.profile.proxies (declared_in_all needs)) (first_short t empty 0 (in_order needs))
+
+-- the settings and the task's quota
+abbrev pub share_of : Tasks → ℕ → Share
+share_of s task = record { profile = s.profile; quota = slice_index s.quotas task }
+
+-- the reply to a command
+abbrev pub command_reply : TaskState → Command → Reply
+command_reply s (command.Task task) = said (codes "ok")
+command_reply s (command.Quota task pages) = said (quota_text (set_refusal s.tasks task pages))
+command_reply s (command.Need task bytes count) = said (need_text (s.needs task))
+command_reply s (command.Admit task) = said (admission_text (admission (share_of s.tasks task) (s.needs task)))
+command_reply s command = task_reply s.tasks s.present command
+
+-- what a command is to the tasks while one of them is present: a call of that one, or a quota; `t`, `need` and `admit` are neither
+abbrev pub item_of : ℕ → Command → Option TaskItem
+item_of present (command.Task task) = None
+item_of present (command.Quota task pages) = Some (sets task pages)
+item_of present (command.Need task bytes count) = None
+item_of present (command.Admit task) = None
+item_of present command = Some (calls present command)
+
+-- the tasks after an item, if there is one
+abbrev pub after_if : Tasks → Option TaskItem → Tasks
+after_if s None = s
+after_if s (Some item) = after_item s item
+
+-- the task that is present after a command
+abbrev pub present_after : ℕ → Command → ℕ
+present_after present (command.Task task) = task
+present_after present command = present
+
+-- the entries by task after a command
+abbrev pub needs_after : (ℕ → List Need) → Command → ℕ → List Need
+needs_after needs (command.Need task bytes count) u =
+    if nat_eq u task then one_more (needs u) (record { bytes = bytes; count = count }) else needs u
+needs_after needs command u = needs u
+
+-- the state after a command
+abbrev pub state_after : TaskState → Command → TaskState
+state_after s command = record {
+  present = present_after s.present command;
+  tasks = after_if s.tasks (item_of s.present command);
+  needs = needs_after s.needs command;
+}
+
+-- the reply to an item; before the `heap` line a command has none
+abbrev pub reply_in : Option TaskState → Item → Reply
+reply_in s (starts p) = said (codes "ok")
+reply_in None (asks command) = []
+reply_in (Some s) (asks command) = command_reply s command
+reply_in s (bad n) = said (bad_line n)
+
+-- the state after an item
+abbrev pub state_in : Option TaskState → Item → Option TaskState
+state_in s (starts p) = Some (first_state p)
+state_in None (asks command) = None
+state_in (Some s) (asks command) = Some (state_after s command)
+state_in s (bad n) = s
+
+-- the replies to the items from a state on, one each
+abbrev pub task_replies : Option TaskState → List Item → List Reply
+task_replies s [] = []
+task_replies s (item ∷ rest) = reply_in s item ∷ task_replies (state_in s item) rest
+
+-- the claim: the replies to a script are these
+abbrev pub MeetsTasks : List Item → List Reply → Type 0
+MeetsTasks items replies = replies ≡ task_replies None items
