@@ -32,7 +32,7 @@ insert_over m h a b = equal_maps _ _ (λ q. elim (cases_eq q h) [
   | inr ne ↦ get_insert_other (insert m h a) h b q ne ∙ get_insert_other m h a q ne ∙ sym (get_insert_other m h b q ne)
 ])
 
--- where a byte stands: in a piece, and where in it
+-- the piece of a byte, and its place there
 module _ (u from : ℕ) (some : 0 < u) where
   pub place_is : u * (from / u) + from % u ≡ from
   place_is = div-add-mod from u
@@ -46,7 +46,7 @@ module _ (u from : ℕ) (some : 0 < u) where
       let l : u * (from / u) < u * pieces u n = omega arith in
       lt_of_mul-lt-mul_left u l
 
--- the chunk that comes next lies in one piece
+-- the next chunk is in one piece
 pub next_part : (s : LargeState) (h at done count total : ℕ) (v : List ℕ) → 0 < piece_in s → get s.objects h ≡ Some v → piece_in s < length v
     → at + total ≤ length v → done + count ≤ total → 0 < count → (at + done) % piece_in s + count ≤ piece_in s
     → HasLongPart s h ((at + done) / piece_in s) ((at + done) % piece_in s) count
@@ -183,7 +183,7 @@ module _ (old now : LargeState) (h at done count piece : ℕ) (bytes : List ℕ)
       wrote_more old now new h at done count bytes v chunk (piece_in now * ((at + done) / piece) + (at + done) % piece) found within few (so_far v found)
       chunk_is from wrote
 
--- a read of the chunk that comes next
+-- a read of the next chunk
 module _ (s : LargeState) (h at done count piece total : ℕ) (has : HasLong s h at total) (parts : KeepsParts s) (piece_is : piece ≡ piece_in s)
     (positive : 0 < piece)
     (few : done + count ≤ total) (more : 0 < count) where

@@ -71,7 +71,7 @@ module _ (v : List ℕ) (at : ℕ) (bs : List ℕ) (fits : at + length bs ≤ le
         ]
       ])
 
--- the handles of a spine where one is written
+-- the handles of a spine after one is written
 module _ (spine : List ℕ) (i q : ℕ) (long : 4 * i + 4 ≤ length spine) where
   pub handle_written : q < 2 ^ 32 → handle_at (written spine (4 * i) (to_le_bytes w32 q)) i ≡ q
   unfolding handle_at
@@ -84,7 +84,7 @@ module _ (spine : List ℕ) (i q : ℕ) (long : 4 * i + 4 ≤ length spine) wher
     | inr after ↦ inr (omega arith)
   ]))
 
--- the pieces of an object where bytes are written into one of them
+-- the pieces of an object after a write into one of them
 module _ (u : ℕ) (v : List ℕ) (i off : ℕ) (bs : List ℕ) (fits : u * i + off + length bs ≤ length v) (inside : off + length bs ≤ u) where
   pub piece_written : piece_of u (written v (u * i + off) bs) i ≡ written (piece_of u v i) off bs
   piece_written = part_around v (u * i + off) bs fits u (u * i) off refl inside
@@ -132,7 +132,7 @@ part_of_piece u v i off count inside =
     ∙ ap (λ x. get_or v x 0) (let e : u * i + (off + k) ≡ u * i + off + k = omega arith in e)
     ∙ sym (part_at count (u * i + off) v k less))
 
--- what was written up to some place, and then what comes next
+-- the bytes written up to some place, and the next ones
 pub written_more : (v : List ℕ) (at : ℕ) (bs : List ℕ) (d c : ℕ) → at + length bs ≤ length v → d + c ≤ length bs
     → written (written v at (take d bs)) (at + d) (take c (drop d bs)) ≡ written v at (take (d + c) bs)
 written_more v at bs d c fits some =

@@ -36,7 +36,7 @@ module _ (u n : ℕ) (some : 0 < u) where
   unfolding pieces
   pieces_are = ceil_is n u some
 
-  -- the pieces have room for the object, and less than a piece besides
+  -- the pieces hold the object, and less than one piece is unused
   pub pieces_enough : n ≤ u * pieces u n
   pieces_enough =
       let e = pieces_are in let t = (div_ceil_times n u some).0 in

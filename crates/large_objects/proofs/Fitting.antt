@@ -54,7 +54,7 @@ class_least p n c lt = (let fails : nat_le (need n) (get_or p.sizes c 0) ≡ fal
     fails_before_first (λ s. nat_le (need n) s) p.sizes c 0 lt in grind (arith, nat_tests))
 
 module _ (p : Paging) (ok : IsPaging p) (c : ℕ) (lt : c < classes p) where
-  -- a length is in a class up to c exactly where it needs at most the words of a slot of c
+  -- a length is in a class up to c if and only if it needs at most the words of a slot of c
   within_is : (n : ℕ) → nat_le (need n) (slot_words p c) ≡ nat_lt (class_for p n) (c + 1)
   within_is n = elim (cases_lt c (class_for p n)) [
     | inl over ↦ (

@@ -1,7 +1,8 @@
 -- What is gathered from the inner objects is what they were made of; and the counts and lengths after each call.
 use Rattle.std.proofs.Common.{◌≡◌, ◌≢◌, ℕ, zero, suc, ◌+◌, ◌-◌, ◌*◌, ◌<◌, ◌≤◌, List, [], ◌∷◌, ◌++◌}
 use Rattle.std.proofs.Common.{Some, None, length, get_or, set, drop, replicate, arith, sym, ◌∙◌, ap, refl, inl, inr, length-drop}
-use Rattle.std.specs.Prelude.{Option, nat_eq, option_map}
+use Rattle.std.specs.Prelude.{Option, nat_eq, option_map, sum_by}
+use Rattle.std.proofs.lemmas.List.Sums.{sum_by-cons}
 use Rattle.std.proofs.lemmas.Bool.{cases_eq, cases_lt}
 use Rattle.std.proofs.lemmas.List.{get_or-set_same, get_or-set_other, length-replicate, length-set, take_all}
 use Rattle.std.specs.FinMap.{get, insert, remove}
@@ -22,6 +23,7 @@ use Rattle.large_objects.proofs.Cutting.{in_class_cons, in_class_one, length_lon
 use Rattle.large_objects.proofs.LaidOut.{IsNew, IsPartOf, clash, not_large}
 use Rattle.large_objects.proofs.Room.{count_inserted, count_removed, count_replaced, live_inserted, live_removed, live_replaced, live_rewritten}
 use Rattle.large_objects.proofs.ShrinkLemmas.{len_without}
+use Rattle.large_objects.proofs.Summed.{parts_inserted, parts_removed, parts_rewritten, sum_inserted, sum_one, sum_removed, sum_rewritten}
 
 drop_none : (xs : List ℕ) → drop 0 xs ≡ xs
 drop_none [] = refl
@@ -61,7 +63,7 @@ all_gathered u proxies lengths large inner some laid known = equal_maps _ large 
     back q None is = rw is refl
     back q (Some v) is = (let g = gathered_is u large inner some laid q v is in rw is (ap (λ b. Some b) g))
 
--- the lengths where an object comes, goes, or changes
+-- the lengths after an object is made, freed or changed
 module _ (lengths : List (Option ℕ)) (large : Objects) (proxies h : ℕ) (known : AreLengths lengths large proxies) (lt : h < length lengths) where
   pub lengths_more : (v : List ℕ) → AreLengths (set lengths h (Some (length v))) (insert large h v) proxies
   lengths_more v = record {
@@ -91,7 +93,7 @@ lengths_same lengths large proxies h v w known is same = record {
   ];
 }
 
--- a short object comes
+-- a short object is made
 module _ (p : Paging) (u : ℕ) (some : 0 < u) (large inner : Objects) (laid : AreLaidOut u large inner) (counted : AreCounted p u large inner) (h n : ℕ)
     (unused : get inner h ≡ None) where
   abbrev zeros : List ℕ
@@ -135,6 +137,13 @@ module _ (p : Paging) (u : ℕ) (some : 0 < u) (large inner : Objects) (laid : A
             let l = ap (λ n. in_class p c (parts u n)) long_zeros in
             let s = ap (in_class p c) (parts_short u n some short) ∙ in_class_one p c n in
             let before = counted.each c in omega arith);
+        sums = λ f. (
+            let a = sum_inserted f inner h zeros unused in
+            let b = parts_inserted f u large h zeros none in
+            let x = ap f long_zeros in
+            let l = ap (λ n. sum_by f (parts u n)) long_zeros in
+            let s = ap (sum_by f) (parts_short u n some short) ∙ sum_one f n in
+            let before = counted.sums f in omega arith);
       }
 
   -- a long one, when all its pieces are made
@@ -172,9 +181,14 @@ module _ (p : Paging) (u : ℕ) (some : 0 < u) (large inner : Objects) (laid : A
               let z = ap (λ n. in_class p c (parts u n)) long_zeros in
               let t = ap (in_class p c) (take_all (1 + pieces u n) (parts u n) (omega arith)) in
               let a = grown.live_now c in let before = counted.each c in omega arith);
+          sums = λ f. (
+              let b = parts_inserted f u large h zeros none in
+              let z = ap (λ n. sum_by f (parts u n)) long_zeros in
+              let t = ap (sum_by f) (take_all (1 + pieces u n) (parts u n) (omega arith)) in
+              let a = grown.sums_now f in let before = counted.sums f in omega arith);
         }
 
--- an object goes
+-- an object is freed
 module _ (p : Paging) (u : ℕ) (some : 0 < u) (large inner : Objects) (laid : AreLaidOut u large inner) (counted : AreCounted p u large inner) (h : ℕ)
     (v : List ℕ)
     (found : get large h ≡ Some v) where
@@ -199,6 +213,11 @@ module _ (p : Paging) (u : ℕ) (some : 0 < u) (large inner : Objects) (laid : A
             let b = live_removed p u large h v c found in
             let s = ap (in_class p c) (parts_short u (length v) some short) ∙ in_class_one p c (length v) in
             let before = counted.each c in omega arith);
+        sums = λ f. (
+            let a = sum_removed f inner h v there in
+            let b = parts_removed f u large h v found in
+            let s = ap (sum_by f) (parts_short u (length v) some short) ∙ sum_one f (length v) in
+            let before = counted.sums f in omega arith);
       }
 
   module _ (long : u < length v) (mid : Objects) (shrunk : IsShrinking p u (length v) inner h (pieces u (length v)) mid) where
@@ -237,6 +256,18 @@ module _ (p : Paging) (u : ℕ) (some : 0 < u) (large inner : Objects) (laid : A
               let z : in_class p c (drop 0 rest) ≡ in_class p c rest = ap (in_class p c) (drop_none rest) in
               let m = shrunk.live_now c in
               let before = counted.each c in omega arith);
+          sums = λ f. (
+              let a = sum_removed f mid h s.spine there in
+              let x = ap f s.long in
+              let b = parts_removed f u large h v found in
+              let t = ap (sum_by f) (take_all (pieces u (length v)) (drop 1 (parts u (length v))) (omega arith)) in
+              let rest : List ℕ = replicate (pieces u (length v) - 1) u ++ ((length v - u * (pieces u (length v) - 1)) ∷ []) in
+              let w : sum_by f (parts u (length v)) ≡ f (spine_bytes u (length v)) + sum_by f rest =
+              ap (sum_by f) (parts_long u (length v) some long) ∙ sum_by-cons f (spine_bytes u (length v)) rest in
+              let y : sum_by f (drop 1 (parts u (length v))) ≡ sum_by f (drop 0 rest) = ap (λ xs. sum_by f (drop 1 xs)) (parts_long u (length v) some long) in
+              let z : sum_by f (drop 0 rest) ≡ sum_by f rest = ap (sum_by f) (drop_none rest) in
+              let m = shrunk.sums_now f in
+              let before = counted.sums f in omega arith);
         }
 
 -- an inner object is written: it has the same length, and so has the object
@@ -251,4 +282,8 @@ counted_written p u large inner h q v w b c counted found same there alike = rec
       let x = live_replaced p u large h v w d found same in
       let y = live_rewritten p inner q b c d there alike in
       let before = counted.each d in omega arith);
+  sums = λ f. (
+      let x = parts_rewritten f u large h v w found same in
+      let y = sum_rewritten f inner q b c there alike in
+      let before = counted.sums f in omega arith);
 }

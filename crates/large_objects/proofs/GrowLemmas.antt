@@ -1,7 +1,8 @@
 -- A malloc of a long object, piece by piece.
 use Rattle.std.proofs.Common.{◌≡◌, ◌≢◌, ℕ, suc, ◌+◌, ◌-◌, ◌*◌, ◌^◌, ◌<◌, ◌≤◌, List, [], ◌∷◌, ◌++◌}
 use Rattle.std.proofs.Common.{Some, None, length, get_or, take, replicate, arith, sym, ◌∙◌, ap, refl, subst, inl, inr}
-use Rattle.std.specs.Prelude.{◌⊎◌, Option, nat_eq}
+use Rattle.std.specs.Prelude.{◌⊎◌, Option, nat_eq, sum_by}
+use Rattle.std.proofs.lemmas.List.Sums.{sum_by-cons}
 use Rattle.std.specs.Int.{to_le_bytes, w32}
 use Rattle.std.proofs.lemmas.Bool.{cases_eq}
 use Rattle.std.proofs.lemmas.List.{length-replicate}
@@ -19,14 +20,15 @@ use Rattle.cf_model.specs.State.{HeapState, paging_in}
 use Rattle.large_objects.specs.Growing.{Grows, HasPartsRoom, IsGrowing, NamesPiece}
 use Rattle.large_objects.specs.InnerCalls.{GivesPart, HasPart, HasPartRoom, WritesPart}
 use Rattle.large_objects.specs.Large.{bytes_in, handle_at, named}
-use Rattle.large_objects.specs.Parts.{in_class, parts, piece_length, pieces, spine_bytes}
+use Rattle.large_objects.specs.Parts.{in_class, length_sum, parts, piece_length, pieces, spine_bytes}
 use Rattle.large_objects.proofs.Bytes.{handle_other, handle_written}
 use Rattle.large_objects.proofs.Cutting.{in_class_cons, in_class_more, in_class_one, in_class_take_none}
 use Rattle.large_objects.proofs.Cutting.{length_long, length_short, part_is, parts_long, parts_short}
 use Rattle.large_objects.proofs.InnerSteps.{same_paging, then_ready}
 use Rattle.large_objects.proofs.Room.{in_class_take, live_rewritten, part_has_pages, piece_fits}
+use Rattle.large_objects.proofs.Summed.{sum_inserted, sum_more, sum_rewritten, sum_take_none}
 
--- what was there stays where something fresh comes
+-- a fresh object leaves the others unchanged
 stays_there : (o : Objects) (q : ℕ) (v : List ℕ) → get o q ≡ None → (h : ℕ) (b : List ℕ) → get o h ≡ Some b → (h ≢ q) × (get (insert o q v) h ≡ Some b)
 stays_there o q v none h b is =
     let ne : h ≢ q = (λ e. (let z : get o q ≡ Some b = ap (get o) (sym e) ∙ is in absurd (let w : Some b ≡ None = sym z ∙ none in cc))) in
@@ -57,6 +59,15 @@ module _ (p : Paging) (u n : ℕ) (some : 0 < u) (long : u < n) (old : Objects) 
         let s : in_class p c (take (1 + 0) (parts u n)) ≡ in_class p c (take 1 (parts u n)) = refl in
         omega arith);
     all = len_fresh old h _ unused;
+    sums_now = λ f. (
+        let e = sum_inserted f old h (replicate (spine_bytes u n) 0) unused in
+        let l = ap f (length-replicate {A = ℕ} (spine_bytes u n) 0) in
+        let rest : List ℕ = replicate (pieces u n - 1) u ++ ((n - u * (pieces u n - 1)) ∷ []) in
+        let t : sum_by f (take 1 (parts u n)) ≡ f (spine_bytes u n) + sum_by f (take 0 rest) =
+        ap (λ xs. sum_by f (take 1 xs)) (parts_long u n some long) ∙ sum_by-cons f (spine_bytes u n) (take 0 rest) in
+        let z = sum_take_none f rest in
+        let s : sum_by f (take (1 + 0) (parts u n)) ≡ sum_by f (take 1 (parts u n)) = refl in
+        omega arith);
   }
 
   -- one piece more, which the spine names
@@ -179,6 +190,22 @@ module _ (p : Paging) (u n : ℕ) (some : 0 < u) (long : u < n) (old : Objects) 
         ap (λ k. in_class p c (take k (parts u n))) (let e : 1 + i ≡ suc i = omega arith in e) in
         let before = g.live_now c in omega arith
 
+    sums_next : (f : ℕ → ℕ) → length_sum f next ≡ length_sum f old + sum_by f (take (1 + (i + 1)) (parts u n))
+    sums_next f =
+        let a = sum_inserted f now q piece unused in
+        let l = ap f (length-replicate {A = ℕ} (piece_length u n i) 0) in
+        let there : get mid h ≡ Some spine = get_insert_other now q piece h (λ e. not_h (sym e)) ∙ found in
+        let b = sum_rewritten f mid h spine spine' there (length-written spine (4 * i) (to_le_bytes w32 q) room) in
+        let ll = length_long u n some long in
+        let m : sum_by f (take (suc i + 1) (parts u n)) ≡ sum_by f (take (suc i) (parts u n)) + f (get_or (parts u n) (suc i) 0) =
+        sum_more f (parts u n) (suc i) (omega arith) in
+        let x = ap f (part_is u n some long i below) in
+        let s : sum_by f (take (1 + (i + 1)) (parts u n)) ≡ sum_by f (take (suc i + 1) (parts u n)) =
+        ap (λ k. sum_by f (take k (parts u n))) (let e : 1 + (i + 1) ≡ suc i + 1 = omega arith in e) in
+        let t : sum_by f (take (1 + i) (parts u n)) ≡ sum_by f (take (suc i) (parts u n)) =
+        ap (λ k. sum_by f (take k (parts u n))) (let e : 1 + i ≡ suc i = omega arith in e) in
+        let before = g.sums_now f in omega arith
+
     pub growing_more : IsGrowing p u n old h (i + 1) next
     growing_more = record {
       spine = record {
@@ -205,6 +232,7 @@ module _ (p : Paging) (u n : ℕ) (some : 0 < u) (long : u < n) (old : Objects) 
           let there : get mid h ≡ Some spine = get_insert_other now q piece h (λ e. not_h (sym e)) ∙ found in
           let b = len_rebound mid h spine' spine there in
           let before = g.all in omega arith);
+      sums_now = sums_next;
     }
 
 -- there is room for one inner object alone
@@ -279,7 +307,7 @@ module _ (u n : ℕ) (old now : HeapState) (h i : ℕ) (some : 0 < u) (long : u 
         names.spine names.found);
   }
 
--- a spine comes
+-- a spine is made
 pub grows_first : (u n : ℕ) (old new : HeapState) (h : ℕ) → 0 < u → u < n → GivesPart old h (spine_bytes u n) new → Grows u n old h 0 new
 grows_first u n old new h some long given = record {
   stays = given.stays;
@@ -287,7 +315,7 @@ grows_first u n old new h some long given = record {
       (growing_first (paging_in old) u n some long (objects old.held) h given.unused);
 }
 
--- a piece comes, and then its handle
+-- a piece is made, and then its handle is written
 pub piece_named : (old made new : HeapState) (h i n q : ℕ) → GivesPart old q n made → (v : List ℕ) → get (objects old.held) h ≡ Some v
     → WritesPart made h (4 * i) (to_le_bytes w32 q) new → NamesPiece old h i n new
 piece_named old made new h i n q given v found wrote =

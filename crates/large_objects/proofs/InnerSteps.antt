@@ -1,6 +1,6 @@
 -- What the calls of an inner manager that is ready do to its objects.
 use Rattle.std.proofs.Common.{◌≡◌, ℕ, ◌+◌, ◌*◌, ◌^◌, ◌<◌, ◌≤◌, List, Some, None, true, length, take, drop, arith, sym, ◌∙◌, ap, refl, subst}
-use Rattle.std.specs.Prelude.{Result, Ok, Err, Option, option_map}
+use Rattle.std.specs.Prelude.{Result, Ok, Err}
 use Rattle.std.proofs.lemmas.Option.{same_Some}
 use Rattle.std.proofs.lemmas.Nat.{mul-le}
 use Rattle.std.specs.FinMap.{get}
@@ -10,23 +10,20 @@ use Rattle.cf_base.specs.declared.answers.Freed.{Freed}
 use Rattle.cf_base.specs.declared.answers.NotLive.{NotLive}
 use Rattle.cf_base.specs.declared.answers.Refusal.{Refusal}
 use Rattle.cf_base.specs.declared.answers.Refusal.TheVariants as refusal
-use Rattle.cf_lemmas.proofs.MapValues.{get-map_values, map_values-insert}
+use Rattle.cf_lemmas.proofs.MapValues.{map_values-insert}
 use Rattle.page_model.specs.Arrangement.{LacksRoom}
-use Rattle.page_model.specs.Held.{Held, Objects, Placed, objects}
+use Rattle.page_model.specs.Held.{Objects, Placed, objects}
 use Rattle.page_model.specs.Paging.{AreOne, Paging, class_for, paging_of}
 use Rattle.page_model.specs.Steps.{Request}
 use Rattle.page_model.proofs.CallerLemmas.{class_fits, class_holds, lacks_room_at_one, len-objects, malloc_objects, slot_fits}
-use Rattle.cf_base.specs.declared.kind.Kind.{Kind}
-use Rattle.cf_model.specs.Families.{IsPaged, family_of}
-use Rattle.cf_model.specs.Rules.{KeepsPages, KeepsRules, KeepsRulesOf, KeepsTable}
+use Rattle.cf_model.specs.Families.{family_of}
+use Rattle.cf_model.specs.Rules.{KeepsPages, KeepsRules}
 use Rattle.cf_model.specs.State.{HeapState, layout_of, paging_in}
 use Rattle.cf_model.specs.Steps.{GivesObject, IsFault, IsFreeStep, IsReadAnswer, IsRefusedBy, IsWriteStep, KeepsSettings, LacksRoomIn, Part}
+use Rattle.run_model.proofs.CallerLemmas.{bytes_held, bytes_missing, held_of_bytes, pages_kept}
 use Rattle.large_objects.specs.InnerCalls.{FreesPart, GivesPart, HasPart, HasPartRoom, IsReady, StaysReady, WritesPart}
 
 -- what a ready manager keeps of its pages
-pages_kept : (k : Kind) (s : HeapState) → IsPaged k → KeepsRulesOf k s → KeepsPages s
-pages_kept k s is rules = (let kept : KeepsPages s × KeepsTable k s = rw (is, KeepsRulesOf) at rules in kept.0)
-
 pub keeps_pages : (s : HeapState) → IsReady s → KeepsPages s
 keeps_pages s r = pages_kept s.kind s r.pages r.rules.of_kind
 
@@ -63,17 +60,10 @@ then_ready a b c x y = record {
 pub same_ready : (s : HeapState) → IsReady s → StaysReady s s
 same_ready s r = record { settings = record { kind = refl; opened = refl; profile = refl; bounds = refl }; ready = r }
 
--- what is held is an object
-pub held_object : (m : Held) (h : ℕ) (x : Placed) → get m h ≡ Some x → get (objects m) h ≡ Some x.bytes
-held_object m h x is = get-map_values (λ (x : Placed). x.bytes) m h ∙ ap (option_map (λ (x : Placed). x.bytes)) is
-
 not_both : (o : Objects) (h : ℕ) (v : List ℕ) → get o h ≡ Some v → get o h ≡ None → ⊥
 not_both o h v some none = (let g : Some v ≡ None = sym some ∙ none in cc)
 
-none_object : (m : Held) (h : ℕ) → get m h ≡ None → get (objects m) h ≡ None
-none_object m h is = get-map_values (λ (x : Placed). x.bytes) m h ∙ ap (option_map (λ (x : Placed). x.bytes)) is
-
--- a malloc for which there is room isn't refused
+-- a malloc with room isn't refused
 pub part_not_refused : (s : HeapState) (n : ℕ) → IsReady s → HasPartRoom s n → (e : Refusal) → IsRefusedBy s n e → ⊥
 part_not_refused s n r room refusal.Size cause = (let fits = room.fits in omega arith)
 part_not_refused s n r room refusal.Proxy cause = (let few = room.few in let all = cause.all in let l = len-objects s.held in omega arith)
@@ -92,7 +82,7 @@ part_given old new asked r given rules = record {
     profile = ap (λ (s : HeapState). s.profile) given.whole;
     bounds = ap (λ (s : HeapState). s.bounds) given.whole;
   }) rules;
-  unused = none_object old.held asked.number given.unused;
+  unused = bytes_missing old.held asked.number given.unused;
   below = (let h = given.in_range in let f = r.rules.settings.few_proxies in omega arith);
   left = ap (λ (s : HeapState). objects s.held) given.whole ∙ malloc_objects old.held asked.number given.place asked.length;
 }
@@ -100,9 +90,9 @@ part_given old new asked r given rules = record {
 module _ (old : HeapState) (part : Part) (count : ℕ) (has : HasPart old part.number part.from count) where
   -- what is there isn't refused
   pub part_no_fault : (e : AccessFault) → IsFault old part count e → ⊥
-  part_no_fault access.Unknown none = not_both (objects old.held) part.number has.bytes has.found (none_object old.held part.number none)
+  part_no_fault access.Unknown none = not_both (objects old.held) part.number has.bytes has.found (bytes_missing old.held part.number none)
   part_no_fault access.Range past =
-      let e = same_Some past.object.bytes has.bytes (sym (held_object old.held part.number past.object past.found) ∙ has.found) in
+      let e = same_Some past.object.bytes has.bytes (sym (bytes_held old.held part.number past.object past.found) ∙ has.found) in
       let l = ap length e in let more = past.past in let within = has.within in omega arith
 
 pub part_written : (old new : HeapState) (part : Part) (bytes : List ℕ) (r : Result Unit AccessFault) → IsReady old
@@ -116,7 +106,7 @@ part_written old new part bytes (Ok u) ready has step rules = record {
     bounds = ap (λ (s : HeapState). s.bounds) step.whole;
   }) rules;
   object = step.object.bytes;
-  found = held_object old.held part.number step.object step.found;
+  found = bytes_held old.held part.number step.object step.found;
   left = ap (λ (s : HeapState). objects s.held) step.whole ∙ map_values-insert (λ (x : Placed). x.bytes) old.held part.number _;
 }
 part_written old new part bytes (Err e) ready has (fault, same) rules = absurd (part_no_fault old part (length bytes) has e fault)
@@ -124,7 +114,7 @@ part_written old new part bytes (Err e) ready has (fault, same) rules = absurd (
 pub part_read : (s : HeapState) (part : Part) (room out : List ℕ) (r : Result Unit AccessFault) (v : List ℕ) → get (objects s.held) part.number ≡ Some v
     → part.from + length room ≤ length v → IsReadAnswer s part room r out → out ≡ take (length room) (drop part.from v)
 part_read s part room out (Ok u) v found within answer =
-    let e = same_Some answer.object.bytes v (sym (held_object s.held part.number answer.object answer.found) ∙ found) in
+    let e = same_Some answer.object.bytes v (sym (bytes_held s.held part.number answer.object answer.found) ∙ found) in
     answer.value ∙ ap (λ (b : List ℕ). take (length room) (drop part.from b)) e
 part_read s part room out (Err e) v found within (fault, same) =
     absurd (part_no_fault s part (length room) (record { bytes = v; found = found; within = within }) e fault)
@@ -133,20 +123,12 @@ pub part_freed : (old new : HeapState) (h : ℕ) (v : List ℕ) (r : Result Free
     → IsFreeStep old h r new → KeepsRules new → FreesPart old h new
 part_freed old new h v (Ok freed) ready found step rules = record { stays = stays_ready old new ready step.rest rules; left = step.left }
 part_freed old new h v (Err e) ready found (none, same) rules =
-    absurd (not_both (objects old.held) h v found (none_object old.held h none))
-
--- an object has what is held of it
-pub object_held : (m : Held) (h : ℕ) (v : List ℕ) → get (objects m) h ≡ Some v → (x : Placed) × (get m h ≡ Some x) × (x.bytes ≡ v)
-object_held m h v is = go (get m h) refl
-  where
-    go : (r : Option Placed) → get m h ≡ r → (x : Placed) × (get m h ≡ Some x) × (x.bytes ≡ v)
-    go None none = absurd (not_both (objects m) h v is (none_object m h none))
-    go (Some x) some = (x, some, same_Some x.bytes v (sym (held_object m h x some) ∙ is))
+    absurd (not_both (objects old.held) h v found (bytes_missing old.held h none))
 
 -- no inner object is longer than a page, nor than a number of 32 bits
 pub part_small : (s : HeapState) → IsReady s → (q : ℕ) (v : List ℕ) → get (objects s.held) q ≡ Some v → length v < 2 ^ 32
 part_small s r q v is =
-    let x = object_held s.held q v is in
+    let x = held_of_bytes s.held q v is in
     let kept = keeps_pages s r in
     let slot = kept.sound.slots q x.0 x.1 in
     let holds = class_holds (paging_in s) kept.paging (length x.0.bytes) slot.class in
@@ -160,4 +142,4 @@ part_small s r q v is =
 
 -- a handle that is live is below the number of proxies
 pub handle_below : (s : HeapState) → IsReady s → (q : ℕ) (v : List ℕ) → get (objects s.held) q ≡ Some v → q < s.profile.proxies
-handle_below s r q v is = (let x = object_held s.held q v is in r.rules.numbers.handles q x.0 x.1)
+handle_below s r q v is = (let x = held_of_bytes s.held q v is in r.rules.numbers.handles q x.0 x.1)

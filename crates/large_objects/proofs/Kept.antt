@@ -318,9 +318,6 @@ module _ (b : Bool) (pages u : ℕ) (lengths : List (Option ℕ)) (s : HeapState
 
   -- an object is made
   module _ (n h : ℕ) (s' : HeapState) where
-    zeros_long : length (replicate {A = ℕ} n 0) ≡ n
-    zeros_long = length-replicate {A = ℕ} n 0
-
     pub made_unused : Makes u n s h s' → get (objects s.held) h ≡ None
     made_unused (inl m) = m.unused
     made_unused (inr m) = m.grown.growing.unused
@@ -355,7 +352,7 @@ module _ (b : Bool) (pages u : ℕ) (lengths : List (Option ℕ)) (s : HeapState
         let l = kept.lengths_are.count in omega arith
 
     pub made_lengths : Makes u n s h s' → AreLengths (set lengths h (Some n)) (insert old.objects h (replicate n 0)) s.profile.proxies
-    made_lengths m = subst (λ (k : ℕ). AreLengths (set lengths h (Some k)) (insert old.objects h (replicate n 0)) s.profile.proxies) zeros_long
+    made_lengths m = subst (λ (k : ℕ). AreLengths (set lengths h (Some k)) (insert old.objects h (replicate n 0)) s.profile.proxies) (length-replicate {A = ℕ} n 0)
         (lengths_more lengths old.objects s.profile.proxies h kept.lengths_are (made_below m) (replicate n 0))
 
   -- an object with this length
@@ -560,7 +557,7 @@ module _ (b : Bool) (pages u : ℕ) (lengths : List (Option ℕ)) (s : HeapState
     pages = (let a = needed_old n in let b = pages_old in omega arith);
   }
 
-  -- where nothing changes
+  -- if nothing changes
   pub same_kept : StaysKept old old
   same_kept = record {
     stays = record {

@@ -16,11 +16,11 @@ clash o q v some none = absurd (let z : Some v ≡ None = sym some ∙ none in c
 
 -- none, as some can't be
 none_by : (o : Objects) (q : ℕ) → ((b : List ℕ) → get o q ≡ Some b → ⊥) → get o q ≡ None
-none_by o q never = go (get o q) refl
+none_by o q never = go (get o q) never
   where
-    go : (r : Option (List ℕ)) → get o q ≡ r → get o q ≡ None
-    go None is = is
-    go (Some b) is = absurd (never b is)
+    go : (r : Option (List ℕ)) → ((b : List ℕ) → r ≡ Some b → ⊥) → r ≡ None
+    go None never = refl
+    go (Some b) never = absurd (never b refl)
 
 module _ (u : ℕ) (large inner : Objects) (laid : AreLaidOut u large inner) where
   -- an object's handle is live in the inner manager
@@ -50,7 +50,7 @@ module _ (u : ℕ) (large inner : Objects) (laid : AreLaidOut u large inner) whe
             (laid.of_one (named inner h j) h j h k (piece j lj) other).1);
       }
 
--- An object h comes with these bytes, and its parts with it.
+-- An object h with these bytes is made, with its parts.
 pub record IsNew (u : ℕ) (inner : Objects) (h : ℕ) (v : List ℕ) (next : Objects) : Type 0 where
   pub unused : get inner h ≡ None
   pub others : (q : ℕ) (b : List ℕ) → get inner q ≡ Some b → get next q ≡ Some b

@@ -4,12 +4,13 @@ use Rattle.std.proofs.Common.{None, length, set, take, drop, min, arith, sym, �
 use Rattle.std.specs.Prelude.{◌⊎◌, IsTrue, Option, option_map}
 use Rattle.std.specs.FinMap.{get, insert}
 use Rattle.std.proofs.lemmas.Bool.{cases_lt}
-use Rattle.std.proofs.lemmas.List.{get_or_past, length-drop, length-take}
+use Rattle.std.proofs.lemmas.List.{length-drop, length-take}
 use Rattle.std.proofs.lemmas.Option.{same_Some}
 use Rattle.cf_base.specs.declared.answers.Refusal.{Refusal}
 use Rattle.cf_base.specs.declared.answers.Refusal.TheVariants as refusal
 use Rattle.page_model.specs.Bytes.{AreBytes, written}
 use Rattle.page_model.specs.Held.{Objects, objects}
+use Rattle.page_model.proofs.CallerLemmas.{bytes_part}
 use Rattle.cf_model.specs.State.{HeapState, paging_in}
 use Rattle.large_objects.specs.InnerCalls.{IsReady}
 use Rattle.large_objects.specs.Large.{KeepsParts, LargeState, named}
@@ -17,7 +18,6 @@ use Rattle.large_objects.specs.LargeSteps.{FreesLarge, GivesLarge, HasLong, HasL
 use Rattle.large_objects.specs.Layout.{AreKept, AreLengths, IsValid, gathered_objects, large_state}
 use Rattle.large_objects.specs.Parts.{inner_count, inner_pages_with, parts, spine_bytes}
 use Rattle.large_objects.proofs.AccessLemmas.{inside_piece, is_ready, next_write, so_far_more, then_kept, wrote_all, wrote_nothing}
-use Rattle.large_objects.proofs.Bytes.{part_at}
 use Rattle.large_objects.proofs.Gathering.{all_gathered}
 use Rattle.large_objects.proofs.InnerSteps.{handle_below}
 use Rattle.large_objects.proofs.Kept.{gone_frees, gone_kept, has_parts, long_kept, long_writes, made_gives}
@@ -25,13 +25,6 @@ use Rattle.large_objects.proofs.Kept.{made_kept, parts_room, piece_there, same_k
 use Rattle.large_objects.proofs.Opening.{some_words}
 use Rattle.large_objects.proofs.OwnRun.{length-listed, listed, listed_is, writes_there}
 use Rattle.large_objects.proofs.PartsThere.{makes_there, releases_there}
-
--- a part of bytes is bytes
-part_bytes : (m k : ℕ) (v : List ℕ) → AreBytes v → AreBytes (take m (drop k v))
-part_bytes m k v are i = elim (cases_lt i m) [
-  | inl lt ↦ (let e = part_at m k v i lt in let b = are (k + i) in omega arith)
-  | inr past ↦ (let e = get_or_past (take m (drop k v)) i 0 (let l = length-take m (drop k v) in omega arith) in omega arith)
-]
 
 module _ (old : LargeState) (opened : IsTrue old.is_open) (kept : KeepsParts old) where
   abbrev u : ℕ
@@ -90,7 +83,7 @@ module _ (old : LargeState) (opened : IsTrue old.is_open) (kept : KeepsParts old
     pages_are = refl;
   })
 
-  -- an object is made, where there is room
+  -- an object is made, if there is room
   pub malloc_there : (n : ℕ) → HasRoom old n → (h : ℕ) × (new : LargeState) × GivesLarge old h n new × StaysKept old new
   malloc_there n room =
       let m = makes_there u n old.inner some (parts_room true old.inner.profile.pages u lengths old.inner old view opened valid n room) in (
@@ -119,7 +112,7 @@ module _ (old : LargeState) (opened : IsTrue old.is_open) (kept : KeepsParts old
         ]
       ]
 
-  -- an object goes
+  -- an object is freed
   pub free_there : (h : ℕ) (v : List ℕ) → get old.objects h ≡ Some v → (new : LargeState) × FreesLarge old h new × StaysKept old new
   free_there h v found =
       let is : option_map length (get old.objects h) ≡ Some (length v) = ap (option_map length) found in
@@ -176,7 +169,7 @@ module _ (old : LargeState) (opened : IsTrue old.is_open) (kept : KeepsParts old
       let long : length (take count (drop done bytes)) ≡ count = length-take count (drop done bytes) ∙ (let d = length-drop done bytes in omega arith) in
       let part = next_write old now h at done count piece bytes has w.so_far w.stays refl positive (omega arith) more (omega arith) in
       let c = chunk_there now w.stays.stays.open_now w.stays.parts h ((at + done) / piece) ((at + done) % piece) (take count (drop done bytes))
-      (subst (λ k. HasLongPart now h ((at + done) / piece) ((at + done) % piece) k) (sym long) part) (part_bytes count done bytes are) (omega arith)
+      (subst (λ k. HasLongPart now h ((at + done) / piece) ((at + done) % piece) k) (sym long) part) (bytes_part count done bytes are) (omega arith)
       (omega arith) in (
         count,
         more,

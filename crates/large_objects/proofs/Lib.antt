@@ -2,6 +2,7 @@ pub mod Cutting
 pub mod Fitting
 pub mod InnerSteps
 pub mod Room
+pub mod Summed
 pub mod Bytes
 pub mod GrowLemmas
 pub mod ShrinkLemmas
@@ -11,12 +12,13 @@ pub mod Kept
 pub mod AccessLemmas
 pub mod Opening
 pub mod PagesWith
-pub mod Going
-pub mod Telling
+pub mod RunInvariant
+pub mod ReplyLemmas
 pub mod ObjectLaws
-pub mod Opened
+pub mod OpenReply
 pub mod OwnRun
 pub mod PartsThere
 pub mod LargeThere
 pub mod Turns
 pub mod ReadBack
+pub mod CallerLemmas

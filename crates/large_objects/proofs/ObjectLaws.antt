@@ -18,7 +18,7 @@ use Rattle.large_objects.specs.LargeSteps.{FitsSpine, GivesLarge, IsLargeFault, 
 use Rattle.large_objects.specs.Parts.{inner_live}
 use Rattle.large_objects.proofs.Bytes.{part_same}
 use Rattle.large_objects.proofs.InnerSteps.{keeps_pages}
-use Rattle.large_objects.proofs.Room.{pages_same}
+use Rattle.page_model.proofs.CallerLemmas.{pages_same}
 
 no_spine : (s : LargeState) (n : ℕ) → FitsSpine (piece_in s) n → WantsLongerSpine s n → ⊥
 no_spine s n (inl short) w = (let l = w.long in omega arith)

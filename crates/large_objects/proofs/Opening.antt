@@ -22,7 +22,7 @@ use Rattle.cf_model.specs.Steps.{IsEmptyHeap, opening_bounds}
 use Rattle.large_objects.specs.Large.{AreCounted, AreLaidOut, KeepsParts, LargeState}
 use Rattle.large_objects.specs.LargeSteps.{IsEmptyLarge}
 use Rattle.large_objects.specs.Layout.{AreKept, AreLengths, IsValid, gathered_objects, large_state}
-use Rattle.large_objects.specs.Parts.{inner_count, inner_live}
+use Rattle.large_objects.specs.Parts.{inner_count, inner_live, inner_sum, length_sum}
 use Rattle.large_objects.proofs.Gathering.{all_gathered}
 
 -- a page has more than its header
@@ -51,10 +51,11 @@ none_laid u inner is = record {
 }
 
 none_counted : (p : Paging) (u : ℕ) (inner : Objects) → inner ≡ nothing → AreCounted p u nothing inner
-unfolding live inner_count inner_live
+unfolding live inner_count inner_live inner_sum length_sum
 none_counted p u inner is = record {
   all = ap (λ (o : Objects). len o) is ∙ len-empty nat_cmp (List ℕ) ∙ sym (ap (sum_by _) no_values);
   each = λ c. ap (λ (o : Objects). live p o c) is ∙ ap (sum_by _) no_values ∙ sym (ap (sum_by _) no_values);
+  sums = λ f. ap (λ (o : Objects). length_sum f o) is ∙ ap (sum_by _) no_values ∙ sym (ap (sum_by _) no_values);
 }
 
 module _ (settings : Settings) (kind : Kind) (s : HeapState) (lengths : List (Option ℕ)) (paged : IsPaged kind) (one : settings.k ≡ 1)

@@ -1,4 +1,4 @@
--- An inner manager as a run of its own, in which each handle is its own id: so each call for which there is room is answered.
+-- An inner manager as a run of its own, in which each handle is its own id: so each call that it has room for is done.
 use Rattle.std.proofs.Common.{◌≡◌, ℕ, zero, suc, ◌+◌, ◌<◌, ◌≤◌, List, [], ◌∷◌, Some, None, length, get_or, arith, sym, ◌∙◌, ap, refl, subst, inl, inr}
 use Rattle.std.specs.Prelude.{Option, option_map, Result, Ok, Err, codes}
 use Rattle.std.specs.Option.{MatchOption}
@@ -22,7 +22,8 @@ use Rattle.run_model.specs.Sessions.{AreTied, CostsAtMost, IsGoing, RunState, Se
 use Rattle.run_model.specs.Steps.{Frees, Mallocs, Stays, Writes}
 use Rattle.run_laws.proofs.CallerLemmas.{turn_there}
 use Rattle.large_objects.specs.InnerCalls.{FreesPart, GivesPart, HasPart, HasPartRoom, IsReady, WritesPart}
-use Rattle.large_objects.proofs.InnerSteps.{object_held, part_freed, part_given, part_not_refused, part_written}
+use Rattle.run_model.proofs.CallerLemmas.{held_of_bytes}
+use Rattle.large_objects.proofs.InnerSteps.{part_freed, part_given, part_not_refused, part_written}
 
 -- the n values of f from k on
 abbrev pub listed : {X : Type 0} → (ℕ → Option X) → ℕ → ℕ → List (Option X)
@@ -39,7 +40,7 @@ module _ {X : Type 0} (f : ℕ → Option X) where
   listed_at k (suc n) zero q lt is = (let e : k ≡ q = omega arith in ap f e)
   listed_at k (suc n) (suc i) q lt is = listed_at (k + 1) n i q (omega arith) (omega arith)
 
-  -- they are all of f's, where it has none from n on
+  -- they are all of f's, if it has none from n on
   pub listed_is : (n : ℕ) → ((q : ℕ) → n ≤ q → f q ≡ None) → (q : ℕ) → get_or (listed f 0 n) q None ≡ f q
   listed_is n none q = elim (cases_lt q n) [
     | inl lt ↦ listed_at 0 n q q lt (omega arith)
@@ -92,7 +93,7 @@ module _ (s : HeapState) (ready : IsReady s) where
   going : IsGoing run
   going = record { opened = ready.opened; rules = ready.rules; tied = tied }
 
-  -- an inner object is given, where there is room
+  -- an inner object is made, if there is room
   pub gives_there : (n : ℕ) → HasPartRoom s n → (q : ℕ) × (new : HeapState) × GivesPart s q n new
   gives_there n room =
       let t = turn_there run (Malloc s.profile.proxies n) going (record { formed = tt; bytes = tt }) in
@@ -109,10 +110,10 @@ module _ (s : HeapState) (ready : IsReady s) where
       by_answer new (Ok h) given rules = (h.0, new, part_given s new (record { number = h.0; length = n }) ready given rules)
       by_answer new (Err e) (cause, same) rules = absurd (part_not_refused s n ready room e cause)
 
-  -- one that is there goes
+  -- a live one is freed
   pub frees_there : (q : ℕ) → HasPart s q 0 0 → (new : HeapState) × FreesPart s q new
   frees_there q has =
-      let x = object_held s.held q has.bytes has.found in
+      let x = held_of_bytes s.held q has.bytes has.found in
       let t = turn_there run (Free q) going (record { formed = tt; bytes = tt }) in
       let f = of_live t.0 t.1 (get ids q) (id_is q ∙ ap (option_map (λ (x : Placed). q)) x.1) t.2.step in
       (t.1.heap, part_freed s t.1.heap q has.bytes (Ok f.freed) ready has.found f.step f.rules)
@@ -127,7 +128,7 @@ module _ (s : HeapState) (ready : IsReady s) where
   pub writes_there : (q at : ℕ) (bytes : List ℕ) → HasPart s q at (length bytes) → AreBytes bytes → 1 ≤ length bytes → length bytes ≤ 4096
       → (new : HeapState) × WritesPart s q at bytes new
   writes_there q at bytes has are some few =
-      let x = object_held s.held q has.bytes has.found in
+      let x = held_of_bytes s.held q has.bytes has.found in
       let t = turn_there run (Write q at bytes) going (record { formed = (some, few); bytes = are }) in
       let w = of_live t.0 t.1 (get ids q) (id_is q ∙ ap (option_map (λ (x : Placed). q)) x.1) t.2.step in
       (t.1.heap, part_written s t.1.heap (record { number = q; from = at }) bytes w.answer ready has w.step w.rules)

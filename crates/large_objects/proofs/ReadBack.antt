@@ -1,4 +1,4 @@
--- Over a run, reads give the bytes that the lines and their replies tell of.
+-- In a run, reads return the bytes that follow from the lines and their replies.
 use Rattle.std.proofs.Common.{List, Option, None}
 use Rattle.cf_base.specs.declared.kind.Kind.{Kind}
 use Rattle.cf_io.specs.Texts.{Reply}
@@ -7,7 +7,7 @@ use Rattle.run_laws.proofs.CallerLemmas.{NamesObjects, any_reads_are_told}
 use Rattle.script_reader.specs.Items.{Item}
 use Rattle.large_objects.specs.LargeRun.{IsGoingLarge, LargeRun, LargeStep}
 use Rattle.large_objects.specs.Playing.{BeginsAtOne, RunsLarge}
-use Rattle.large_objects.proofs.Going.{named, still_going, turn_named}
+use Rattle.large_objects.proofs.RunInvariant.{named, still_going, turn_named}
 use Rattle.large_objects.proofs.Turns.{begins_going}
 
 -- a run over large objects names them

@@ -1,51 +1,24 @@
--- Where there is room for all inner objects there is room for each in turn; and the arithmetic of it.
-use Rattle.std.proofs.Common.{◌≡◌, ℕ, zero, suc, ◌+◌, ◌-◌, ◌/◌, ◌≤◌, List, [], ◌∷◌, Some, None, length, take, arith, ap}
-use Rattle.std.specs.Prelude.{sum_by, nat_eq}
-use Rattle.std.specs.List.{range_with_len}
-use Rattle.std.proofs.lemmas.List.Sums.{sum_by-cons, sum_by-take-le}
-use Rattle.std.proofs.Math.Nat.{div-mul-le_self, div-zero}
-use Rattle.std.proofs.lemmas.Nat.{le-div}
+-- If all inner objects have room, each in turn has; and the arithmetic of it.
+use Rattle.std.proofs.Common.{◌≡◌, ℕ, ◌+◌, ◌≤◌, List, Some, None, length, take, arith, ap}
+use Rattle.std.specs.Prelude.{nat_eq}
+use Rattle.std.proofs.lemmas.List.Sums.{sum_by-take-le}
 use Rattle.std.specs.FinMap.{get, insert, remove}
 use Rattle.cf_base.specs.Classes.{need}
 use Rattle.cf_base.specs.Settings.{Profile}
 use Rattle.cf_lemmas.proofs.Ranges.{one}
 use Rattle.cf_lemmas.proofs.Sums.{sum_by-inserted, sum_by-removed, sum_by-replaced}
 use Rattle.page_model.specs.Arrangement.{live, pages_for, pages_needed_with}
-use Rattle.page_model.specs.Counts.{ceil_div}
 use Rattle.page_model.specs.Held.{Objects}
-use Rattle.page_model.specs.Paging.{Paging, class_for, classes, slots_of}
-use Rattle.page_model.proofs.CallerLemmas.{sum_same}
+use Rattle.page_model.specs.Paging.{Paging, class_for}
+use Rattle.page_model.proofs.CallerLemmas.{pages_grow, pages_same}
 use Rattle.large_objects.specs.Large.{AreCounted}
 use Rattle.large_objects.specs.Parts.{in_class, inner_count, inner_live, inner_pages_with, parts, piece_bytes}
-
-less_quotient : (a b m : ℕ) → a ≤ b → a / m ≤ b / m
-less_quotient a b zero le = rw (div-zero a) (omega arith)
-less_quotient a b (suc m) le = (let t = div-mul-le_self a (suc m) in le-div (a / suc m) b (suc m) (omega arith) (omega arith))
-
-ceil_le : (a b m : ℕ) → a ≤ b → ceil_div a m ≤ ceil_div b m
-ceil_le a b m le = less_quotient (a + (m - 1)) (b + (m - 1)) m (omega arith)
-
--- fewer objects need no more pages
-pub pages_less : (p : Paging) (f g : ℕ → ℕ) → ((c : ℕ) → f c ≤ g c) → pages_for p f ≤ pages_for p g
-pages_less p f g le = go (range_with_len 0 (classes p))
-  where
-    go : (cs : List ℕ) → sum_by (λ c. ceil_div (f c) (slots_of p c)) cs ≤ sum_by (λ c. ceil_div (g c) (slots_of p c)) cs
-    go [] = omega arith
-    go (c ∷ cs) =
-        let a = sum_by-cons (λ c. ceil_div (f c) (slots_of p c)) c cs in
-        let b = sum_by-cons (λ c. ceil_div (g c) (slots_of p c)) c cs in
-        let h = ceil_le (f c) (g c) (slots_of p c) (le c) in
-        let rest = go cs in omega arith
-
-pub pages_same : (p : Paging) (f g : ℕ → ℕ) → ((c : ℕ) → f c ≡ g c) → pages_for p f ≡ pages_for p g
-pages_same p f g same = sum_same (λ c. ceil_div (f c) (slots_of p c)) (λ c. ceil_div (g c) (slots_of p c)) (range_with_len 0 (classes p))
-    (λ c. ap (λ n. ceil_div n (slots_of p c)) (same c))
 
 -- one more of the parts needs no more pages than all of them
 pub part_has_pages : (p : Paging) (o : Objects) (n : ℕ) (g : ℕ → ℕ) (most : ℕ) → pages_for p g ≤ most
     → ((c : ℕ) → live p o c + one (nat_eq (class_for p n) c) ≤ g c) → pages_needed_with p o n ≤ most
 unfolding pages_needed_with
-part_has_pages p o n g most le each = (let h = pages_less p (λ c. live p o c + one (nat_eq (class_for p n) c)) g each in omega arith)
+part_has_pages p o n g most le each = (let h = pages_grow p (λ c. live p o c + one (nat_eq (class_for p n) c)) g each in omega arith)
 
 pub in_class_take : (p : Paging) (c : ℕ) (xs : List ℕ) (i : ℕ) → in_class p c (take i xs) ≤ in_class p c xs
 unfolding in_class

@@ -17,8 +17,9 @@ use Rattle.large_objects.specs.Parts.{parts, piece_length, pieces}
 use Rattle.large_objects.specs.Shrinking.{HasPieces, IsShrinking, ReleasesLong, Shrinks}
 use Rattle.large_objects.proofs.Cutting.{in_class_more, in_class_take_none, length_long, part_is}
 use Rattle.large_objects.proofs.InnerSteps.{same_ready, then_ready}
+use Rattle.large_objects.proofs.Summed.{sum_more, sum_removed, sum_take_none}
 
--- one fewer where something goes
+-- one fewer after a free
 pub len_without : (o : Objects) (q : ℕ) (v : List ℕ) → get o q ≡ Some v → len o ≡ len (remove o q) + 1
 len_without o q v is = sym (ap (λ (m : Objects). len m) (put_back o q v is)) ∙ len_fresh (remove o q) q v (get_removed o q)
 
@@ -29,6 +30,7 @@ module _ (p : Paging) (u n : ℕ) (some : 0 < u) (long : u < n) (old : Objects) 
     others = λ q ne. refl;
     live_now = λ c. (let z = in_class_take_none p c (drop 1 (parts u n)) in omega arith);
     all = omega arith;
+    sums_now = λ f. (let z = sum_take_none f (drop 1 (parts u n)) in omega arith);
   }
 
   module _ (i : ℕ) (below : i < pieces u n) (now : Objects) (g : IsShrinking p u n old h i now) where
@@ -64,6 +66,17 @@ module _ (p : Paging) (u n : ℕ) (some : 0 < u) (long : u < n) (old : Objects) 
           let m = has.made i below in
           let e = len_without now (named old h i) m.0 (piece_there ∙ m.1) in
           let before = g.all in omega arith);
+      sums_now = λ f. (
+          let m = has.made i below in
+          let a = sum_removed f now (named old h i) m.0 (piece_there ∙ m.1) in
+          let l = ap f m.2 in
+          let ll = length_long u n some long in
+          let d = length-drop 1 (parts u n) in
+          let more = sum_more f (drop 1 (parts u n)) i (omega arith) in
+          let at : get_or (drop 1 (parts u n)) i 0 ≡ piece_length u n i = get_or-drop 1 (parts u n) i 0
+          ∙ ap (λ k. get_or (parts u n) k 0) (let e : 1 + i ≡ suc i = omega arith in e) ∙ part_is u n some long i below in
+          let x = ap f at in
+          let before = g.sums_now f in omega arith);
     }
 
 module _ (u n : ℕ) (old now : HeapState) (h i : ℕ) (some : 0 < u) (long : u < n) (has : HasPieces u n (objects old.held) h) (g : Shrinks u n old h i now)
@@ -106,7 +119,7 @@ spine_is_live u n old now h has g = record {
   within = omega arith;
 }
 
--- and then it goes
+-- and then it is freed
 pub releases_long : (u n : ℕ) (old now new : HeapState) (h : ℕ) → u < n → Shrinks u n old h (pieces u n) now → FreesPart now h new → ReleasesLong u n old h new
 releases_long u n old now new h long g frees = record {
   long = long;

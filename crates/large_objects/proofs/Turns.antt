@@ -1,6 +1,6 @@
 -- Each command of a run over large objects has its turn, and a run goes on to the end of its items.
-use Rattle.std.proofs.Common.{◌≡◌, ◌++◌, ℕ, ◌+◌, List, [], ◌∷◌, Some, None, length, arith, refl, sym, subst, inl, inr}
-use Rattle.std.specs.Prelude.{⊤, Bool, true, Option, Ok, Err, codes}
+use Rattle.std.proofs.Common.{◌≡◌, ℕ, ◌+◌, List, Some, None, length, arith, refl, inl, inr}
+use Rattle.std.specs.Prelude.{true, Option, Ok, Err, codes}
 use Rattle.std.specs.Option.{MatchOption}
 use Rattle.std.specs.FinMap.{empty, get, remove}
 use Rattle.std.proofs.lemmas.Bool.{cases_lt}
@@ -15,17 +15,13 @@ use Rattle.cf_model.specs.Steps.{IsEmptyHeap}
 use Rattle.cf_lemmas.specs.Maps.{vacant}
 use Rattle.run_laws.proofs.CallerLemmas.{CanGoOn, begins_there}
 use Rattle.run_laws.specs.Sayable.{IsSayable}
-use Rattle.run_model.proofs.CallerLemmas.{run_joined}
-use Rattle.run_model.specs.Plays.{PlayStep}
 use Rattle.run_model.specs.Replies.{malloc_text, write_text}
 use Rattle.run_model.specs.Steps.{ids_given}
-use Rattle.run_model.specs.Texts.{bad_line}
-use Rattle.script_reader.specs.Items.{Item, asks, bad, items, starts}
 use Rattle.script_reader.specs.declared.command.Command.{Command}
 use Rattle.script_reader.specs.declared.command.Command.TheVariants.{Malloc, Free, Write}
 use Rattle.large_objects.specs.LargeRun.{FreesIdLarge, IsGoingLarge, LargeRun, LargeStep, MallocsLarge, StaysLarge, WritesIdLarge, large_told}
-use Rattle.large_objects.specs.Playing.{BeginsAtOne, BeginsLarge, RunsLarge}
-use Rattle.large_objects.proofs.Going.{still_going}
+use Rattle.large_objects.specs.Playing.{BeginsAtOne, BeginsLarge}
+use Rattle.large_objects.proofs.RunInvariant.{still_going}
 use Rattle.id_table.proofs.CallerLemmas.{none_tied}
 use Rattle.large_objects.proofs.Opening.{parts as empty_parts}
 use Rattle.large_objects.proofs.LargeThere.{free_there, kept_same, malloc_there, room_or_cause, write_there}
@@ -101,7 +97,7 @@ module _ (old : LargeRun) (going : IsGoingLarge old) where
   step_there (Write id at bytes) can = write_at (get old.ids id) id at bytes can refl
   step_there c can = record { reply = large_told old c; new = old; done = (refl, refl) }
 
--- every command that can be said is answered
+-- every command of the grammar has a reply
 pub turn_there : (old : LargeRun) (c : Command) → IsGoingLarge old → IsSayable c → (reply : Reply) × (new : LargeRun) × LargeStep old c reply new
 turn_there old c going can = (let s = step_there old going c can in (s.reply, s.new, s.done))
 

@@ -1,5 +1,5 @@
 -- An inner manager in the middle of a malloc of a long object. No public clause cites this module.
-use Rattle.std.specs.Prelude.{◌≡◌, ◌≢◌, ℕ, ◌+◌, ◌*◌, ◌^◌, ◌≤◌, ◌<◌, ◌⊎◌, List, Some, None, length, take, replicate}
+use Rattle.std.specs.Prelude.{◌≡◌, ◌≢◌, ℕ, ◌+◌, ◌*◌, ◌^◌, ◌≤◌, ◌<◌, ◌⊎◌, List, Some, None, length, take, replicate, sum_by}
 use Rattle.std.specs.FinMap.{get, insert, len}
 use Rattle.std.specs.Int.{to_le_bytes, w32}
 use Rattle.page_model.specs.Arrangement.{live, pages_for}
@@ -10,7 +10,7 @@ use Rattle.cf_model.specs.State.{HeapState, paging_in}
 use Rattle.large_objects.specs.InnerCalls.{IsReady, StaysReady}
 use Rattle.large_objects.specs.Large.{HasSpine, named}
 use Rattle.large_objects.specs.LargeSteps.{FitsSpine}
-use Rattle.large_objects.specs.Parts.{in_class, parts, piece_bytes, piece_length, pieces}
+use Rattle.large_objects.specs.Parts.{in_class, length_sum, parts, piece_bytes, piece_length, pieces}
 
 -- there is room for all inner objects of one more object of n bytes
 pub record HasPartsRoom (u n : ℕ) (s : HeapState) : Type 0 where
@@ -20,7 +20,7 @@ pub record HasPartsRoom (u n : ℕ) (s : HeapState) : Type 0 where
   pub proxies : len (objects s.held) + length (parts u n) ≤ s.profile.proxies
   pub pages : pages_for (paging_in s) (λ c. live (paging_in s) (objects s.held) c + in_class (paging_in s) c (parts u n)) ≤ s.profile.pages
 
--- The spine h of an object of n bytes is made, with i pieces, which it names. What was there before is as it was.
+-- The spine h of an object of n bytes is made, with the handles of i pieces. All other objects are unchanged.
 pub record IsGrowing (p : Paging) (u n : ℕ) (old : Objects) (h i : ℕ) (now : Objects) : Type 0 where
   pub spine : HasSpine u now h n
   pub unused : get old h ≡ None
@@ -32,13 +32,14 @@ pub record IsGrowing (p : Paging) (u n : ℕ) (old : Objects) (h i : ℕ) (now :
   pub no_others : (q : ℕ) (b : List ℕ) → get now q ≡ Some b → get old q ≡ None → (q ≡ h) ⊎ ((j : ℕ) × (j < i) × (q ≡ named now h j))
   pub live_now : (c : ℕ) → live p now c ≡ live p old c + in_class p c (take (1 + i) (parts u n))
   pub all : len now ≡ len old + (1 + i)
+  pub sums_now : (f : ℕ → ℕ) → length_sum f now ≡ length_sum f old + sum_by f (take (1 + i) (parts u n))
 
--- the same of a manager that is at work
+-- the same of an open manager
 pub record Grows (u n : ℕ) (old : HeapState) (h i : ℕ) (now : HeapState) : Type 0 where
   pub stays : StaysReady old now
   pub growing : IsGrowing (paging_in old) u n (objects old.held) h i (objects now.held)
 
--- a piece of n bytes comes, and the spine names it at place i
+-- a piece of n bytes is made, and the spine holds its handle at place i
 pub record NamesPiece (old : HeapState) (h i n : ℕ) (new : HeapState) : Type 0 where
   pub stays : StaysReady old new
   pub number : ℕ

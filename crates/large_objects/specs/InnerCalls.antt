@@ -1,4 +1,4 @@
--- What the calls of an inner manager do to its objects, where they aren't refused. No public clause cites this module.
+-- The calls of an inner manager that it never refuses. No public clause cites this module.
 use Rattle.std.specs.Prelude.{◌≡◌, ℕ, IsTrue, ◌+◌, ◌^◌, ◌≤◌, ◌<◌, List, Some, None, length, replicate}
 use Rattle.std.specs.FinMap.{get, insert, remove, len}
 use Rattle.cf_base.specs.Classes.{need}
@@ -29,14 +29,14 @@ pub record HasPartRoom (s : HeapState) (n : ℕ) : Type 0 where
   pub few : len (objects s.held) < s.profile.proxies
   pub pages : pages_needed_with (paging_in s) (objects s.held) n ≤ s.profile.pages
 
--- an inner object of zeros comes
+-- an inner object of zeros is made
 pub record GivesPart (old : HeapState) (q n : ℕ) (new : HeapState) : Type 0 where
   pub stays : StaysReady old new
   pub unused : get (objects old.held) q ≡ None
   pub below : q < 2 ^ 32
   pub left : objects new.held ≡ insert (objects old.held) q (replicate n 0)
 
--- an inner object has so many bytes from `at` on
+-- an inner object has `count` bytes from `at` on
 pub record HasPart (s : HeapState) (q at count : ℕ) : Type 0 where
   pub bytes : List ℕ
   pub found : get (objects s.held) q ≡ Some bytes
@@ -49,7 +49,7 @@ pub record WritesPart (old : HeapState) (q at : ℕ) (bytes : List ℕ) (new : H
   pub found : get (objects old.held) q ≡ Some object
   pub left : objects new.held ≡ insert (objects old.held) q (written object at bytes)
 
--- an inner object goes
+-- an inner object is freed
 pub record FreesPart (old : HeapState) (q : ℕ) (new : HeapState) : Type 0 where
   pub stays : StaysReady old new
   pub left : objects new.held ≡ remove (objects old.held) q

@@ -1,4 +1,4 @@
--- Large objects over an inner manager: what they are made of there.
+-- Large objects, and their inner objects.
 use Rattle.std.specs.Prelude.{◌≡◌, ℕ, Bool, IsTrue, ◌*◌, ◌<◌, ◌≤◌, List, [], Option, Some, None, length, take, drop, refl}
 use Rattle.std.specs.Coded.{Coded, code_by, coded×, coded_ℕ, coded_list, coded_bool}
 use Rattle.std.specs.FinMap as map
@@ -10,7 +10,7 @@ use Rattle.page_model.specs.Paging.{AreOne, Paging}
 use Rattle.cf_model.specs.Families.{IsPaged}
 use Rattle.cf_model.specs.Rules.{KeepsRules}
 use Rattle.cf_model.specs.State.{HeapState, paging_in, state_code}
-use Rattle.large_objects.specs.Parts.{inner_count, inner_live, piece_bytes, pieces, spine_bytes}
+use Rattle.large_objects.specs.Parts.{inner_count, inner_live, inner_sum, length_sum, piece_bytes, pieces, spine_bytes}
 
 -- a heap of large objects: the objects by handle, and the inner manager
 pub record LargeState : Type 0 where
@@ -22,16 +22,16 @@ abbrev pub large_code : Coded LargeState
 large_code = code_by (Bool × (Objects × HeapState)) (coded× coded_bool (coded× (map.code coded_ℕ (coded_list coded_ℕ)) state_code))
     (λ s. (s.is_open, (s.objects, s.inner))) (λ q. record { is_open = q.0; objects = q.1.0; inner = q.1.1 }) (λ _. refl)
 
--- the bytes under a number; none where it isn't live
+-- the bytes under a number; none if it isn't live
 abbrev pub bytes_in : Option (List ℕ) → List ℕ
 bytes_in None = []
 bytes_in (Some v) = v
 
--- the handle that stands in place i of a spine, in four bytes, the least first
+-- the handle in place i of a spine: four bytes, the least significant first
 unfoldable pub handle_at : List ℕ → ℕ → ℕ
 handle_at spine i = from_le_bytes w32 (take 4 (drop (4 * i) spine))
 
--- the handle of piece i of an object, as its spine names it
+-- the handle of piece i of an object, by its spine
 abbrev pub named : Objects → ℕ → ℕ → ℕ
 named inner h i = handle_at (bytes_in (get inner h)) i
 
@@ -53,8 +53,8 @@ pub record HasSpine (u : ℕ) (inner : Objects) (h n : ℕ) : Type 0 where
   pub found : get inner h ≡ Some spine
   pub long : length spine ≡ spine_bytes u n
 
--- The inner objects are those of the large ones: an object that fits a page is an inner object, and a longer one has a spine, which names its pieces in order;
--- what is a piece of one isn't a piece of another, nor an object; and there are no others.
+-- The inner objects are those of the large ones: an object that fits a page is an inner object, and a longer one has a spine, which holds the handles of its
+-- pieces in order. A piece belongs to one object, and isn't an object itself. There are no other inner objects.
 pub record AreLaidOut (u : ℕ) (large inner : Objects) : Type 0 where
   pub small : (h : ℕ) (v : List ℕ) → get large h ≡ Some v → length v ≤ u → get inner h ≡ Some v
   pub spines : (h : ℕ) (v : List ℕ) → get large h ≡ Some v → u < length v → HasSpine u inner h (length v)
@@ -64,10 +64,11 @@ pub record AreLaidOut (u : ℕ) (large inner : Objects) : Type 0 where
   pub of_one : (q h i g j : ℕ) → IsPiece u large inner q h i → IsPiece u large inner q g j → (h ≡ g) × (i ≡ j)
   pub no_others : (q : ℕ) (b : List ℕ) → get inner q ≡ Some b → get large q ≡ None → (h : ℕ) × (i : ℕ) × IsPiece u large inner q h i
 
--- Their numbers, in all and of each class, are those of the lengths of their objects.
+-- The numbers of inner objects, in all and in each class, and all sums over their lengths, are those by the lengths of the large objects.
 pub record AreCounted (p : Paging) (u : ℕ) (large inner : Objects) : Type 0 where
   pub all : len inner ≡ inner_count u large
   pub each : (c : ℕ) → live p inner c ≡ inner_live p u large c
+  pub sums : (f : ℕ → ℕ) → length_sum f inner ≡ inner_sum f u large
 
 -- What an open heap of large objects keeps: its inner manager is open, with pages, and each of its classes has the bound 1.
 pub record KeepsParts (s : LargeState) : Type 0 where

@@ -27,13 +27,13 @@ pub record LargeRun : Type 0 where
 abbrev pub large_run : Ids → LargeState → LargeRun
 large_run ids heap = record { ids = ids; heap = heap }
 
--- the run goes on: the heap is open and keeps its parts, and the ids are those of its objects
+-- a state of a run: the heap is open and keeps its parts, and the ids name its objects, each once
 pub record IsGoingLarge (s : LargeRun) : Type 0 where
   pub opened : IsTrue s.heap.is_open
   pub parts : KeepsParts s.heap
   pub tied : AreTiedTo s.ids s.heap.objects
 
--- the object that an id names, where it is live
+-- the object that an id names, if it is live
 abbrev pub large_object_of : LargeRun → ℕ → Option (List ℕ)
 large_object_of s id = elim (get s.ids id) [ None ↦ None | Some h ↦ get s.heap.objects h ]
 
@@ -69,7 +69,7 @@ pub record WritesIdLarge (old : LargeRun) (part : Part) (bytes : List ℕ) (repl
   pub ids : new.ids ≡ old.ids
   pub reply_is : reply ≡ said (write_text answer)
 
--- the reply of a command that changes nothing: the reports are those of the inner manager, and `none` answers all that isn't of this mode
+-- the reply to a command that changes nothing: the reports are those of the inner manager, and `none` is the reply to a command of another mode
 abbrev pub large_told : LargeRun → Command → Reply
 large_told s (Read id at count) = said (large_read_text (large_object_of s id) at count)
 large_told s Walk = walk_of s.heap.inner.kind s.heap.inner

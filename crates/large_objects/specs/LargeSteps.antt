@@ -14,7 +14,7 @@ use Rattle.cf_model.specs.Steps.{IsClosed, IsEmptyHeap, Part, StaysOpen}
 use Rattle.large_objects.specs.Large.{KeepsParts, LargeState}
 use Rattle.large_objects.specs.Parts.{inner_count, inner_pages_with, parts, piece_bytes, pieces, spine_bytes}
 
--- the bytes of a piece there
+-- the bytes of a piece on these pages
 abbrev pub piece_in : LargeState → ℕ
 piece_in s = piece_bytes s.inner.profile
 
@@ -24,7 +24,7 @@ pub record IsEmptyLarge (old : LargeState) (settings : Settings) (new : LargeSta
   pub none : new.objects ≡ empty
   pub inner : IsEmptyHeap old.inner.kind settings new.inner
 
--- out of memory: the heap is closed and has no objects, and the inner manager is as it was, or closed
+-- out of memory: the heap is closed and has no objects, and the inner manager is unchanged or closed
 pub record IsShutLarge (old new : LargeState) : Type 0 where
   pub closed : new.is_open ≡ false
   pub none : new.objects ≡ empty
@@ -35,7 +35,7 @@ pub record StaysOpenLarge (old new : LargeState) : Type 0 where
   pub open_now : new.is_open ≡ true
   pub inner : StaysOpen old.inner new.inner
 
--- the spine of an object of n bytes fits a page, where the object needs one
+-- the spine of an object of n bytes fits a page, if the object needs one
 abbrev pub FitsSpine : ℕ → ℕ → Type 0
 FitsSpine u n = (n ≤ u) ⊎ (spine_bytes u n ≤ u)
 
@@ -53,7 +53,7 @@ pub record HasRoom (s : LargeState) (n : ℕ) : Type 0 where
   pub proxies : HasProxies s n
   pub pages : HasPages s n
 
--- A handle that wasn't live is given to so many zeros, for which there is room.
+-- A handle that wasn't live gets n zeros, which the heap has room for.
 pub record GivesLarge (old : LargeState) (h n : ℕ) (new : LargeState) : Type 0 where
   pub room : HasRoom old n
   pub unused : get old.objects h ≡ None
@@ -86,18 +86,18 @@ abbrev pub IsLargeMalloc : LargeState → ℕ → Result Handle Refusal → Larg
 IsLargeMalloc old n (Ok h) new = GivesLarge old h.0 n new
 IsLargeMalloc old n (Err e) new = IsRefusedLarge old n e × (new ≡ old)
 
--- an object goes
+-- an object is removed
 pub record FreesLarge (old : LargeState) (h : ℕ) (new : LargeState) : Type 0 where
   pub bytes : List ℕ
   pub found : get old.objects h ≡ Some bytes
   pub left : new.objects ≡ remove old.objects h
 
--- a free takes an object away, or is refused and changes nothing
+-- a free removes an object, or is refused and changes nothing
 abbrev pub IsLargeFree : LargeState → ℕ → Result Unit NotLive → LargeState → Type 0
 IsLargeFree old h (Ok u) new = FreesLarge old h new
 IsLargeFree old h (Err e) new = (get old.objects h ≡ None) × (new ≡ old)
 
--- the part of so many bytes passes the end of the object
+-- the part of n bytes passes the end of the object
 pub record PassesLarge (s : LargeState) (part : Part) (count : ℕ) : Type 0 where
   pub bytes : List ℕ
   pub found : get s.objects part.number ≡ Some bytes
@@ -108,7 +108,7 @@ abbrev pub IsLargeFault : LargeState → Part → ℕ → AccessFault → Type 0
 IsLargeFault s part count access.Unknown = get s.objects part.number ≡ None
 IsLargeFault s part count access.Range = PassesLarge s part count
 
--- the bytes stand in the object from `from` on, and nothing else changes
+-- the object holds the bytes from `from` on, and nothing else changes
 pub record WritesLarge (old : LargeState) (part : Part) (bytes : List ℕ) (new : LargeState) : Type 0 where
   pub object : List ℕ
   pub found : get old.objects part.number ≡ Some object
@@ -127,7 +127,7 @@ pub record ReadsLarge (s : LargeState) (part : Part) (count : ℕ) (bytes : List
   pub within : part.from + count ≤ length object
   pub value : bytes ≡ take count (drop part.from object)
 
--- a read gives the bytes, or is refused and leaves the room as it was
+-- a read returns the bytes, or is refused and leaves the buffer unchanged
 abbrev pub IsLargeRead : LargeState → Part → List ℕ → Result Unit AccessFault → List ℕ → Type 0
 IsLargeRead s part room (Ok u) out = ReadsLarge s part (length room) out
 IsLargeRead s part room (Err e) out = IsLargeFault s part (length room) e × (out ≡ room)
@@ -155,7 +155,7 @@ pub record HasShort (s : LargeState) (h at count : ℕ) : Type 0 where
   pub short : length bytes ≤ piece_in s
   pub within : at + count ≤ length bytes
 
--- the same heap, which keeps what it must
+-- the same heap, with its parts in order
 pub record StaysKept (old new : LargeState) : Type 0 where
   pub stays : StaysOpenLarge old new
   pub parts : KeepsParts new

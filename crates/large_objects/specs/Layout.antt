@@ -1,4 +1,4 @@
--- How a heap of large objects keeps what it knows: the length of each object, by handle. No public clause cites this module.
+-- What a heap of large objects stores: the length of each object, by handle. No public clause cites this module.
 use Rattle.std.specs.Prelude.{◌≡◌, ℕ, ◌+◌, ◌<◌, Bool, true, false, List, [], ◌∷◌, Option, Some, None, length, option_map, nat_le, if◌then◌else◌, slice_index_or}
 use Rattle.std.specs.FinMap.{get, empty}
 use Rattle.std.specs.List.{flat_map, range_with_len}
@@ -22,7 +22,7 @@ gathered_from u inner k (Some n ∷ lengths) = Some (gathered u inner k n) ∷ g
 unfoldable pub gathered_objects : ℕ → List (Option ℕ) → Objects → Objects
 gathered_objects u lengths inner = numbered 0 (gathered_from u inner 0 lengths)
 
--- the objects of a heap, none where it is closed
+-- the objects of a heap; none if it is closed
 abbrev pub objects_in : Bool → ℕ → List (Option ℕ) → HeapState → Objects
 objects_in true u lengths s = gathered_objects u lengths (objects s.held)
 objects_in false u lengths s = empty
@@ -35,7 +35,7 @@ pub record AreLengths (lengths : List (Option ℕ)) (large : Objects) (proxies :
   pub count : length lengths ≡ proxies
   pub each : (h : ℕ) → slice_index_or lengths h None ≡ option_map length (get large h)
 
--- what is kept of these objects: their lengths, the bytes of a piece, and the number of pages
+-- the fields for these objects: their lengths, the bytes of a piece, and the number of pages
 pub record AreKept (pages u : ℕ) (lengths : List (Option ℕ)) (large : Objects) (s : HeapState) : Type 0 where
   pub parts : KeepsParts (record { is_open = true; objects = large; inner = s })
   pub lengths_are : AreLengths lengths large s.profile.proxies
@@ -43,7 +43,7 @@ pub record AreKept (pages u : ℕ) (lengths : List (Option ℕ)) (large : Object
   pub some : 0 < u
   pub pages_are : pages ≡ s.profile.pages
 
--- where it is open
+-- what holds if it is open
 abbrev pub IsValid : Bool → ℕ → ℕ → List (Option ℕ) → HeapState → Type 0
 IsValid true pages u lengths s = AreKept pages u lengths (gathered_objects u lengths (objects s.held)) s
 IsValid false pages u lengths s = Unit {0}

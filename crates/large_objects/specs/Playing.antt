@@ -1,4 +1,4 @@
--- A session over a heap of large objects, as a player.
+-- The mode handler of a session over a heap of large objects.
 use Rattle.std.specs.Prelude.{◌≡◌, true, List, Option, codes}
 use Rattle.std.specs.FinMap.{empty}
 use Rattle.cf_base.specs.Settings.{Profile, at_bound_one}
@@ -9,12 +9,12 @@ use Rattle.cf_model.specs.Steps.{IsOpeningWords, empty_heap}
 use Rattle.run_model.specs.Plays.{PlayRun}
 use Rattle.script_loop.specs.Semantics.{Semantics}
 use Rattle.script_reader.specs.Items.{Item}
-use Rattle.session_model.specs.Applying.{TurnsInPart}
+use Rattle.script_loop.specs.Applying.{TurnsInPart}
 use Rattle.large_objects.specs.Large.{KeepsParts}
 use Rattle.large_objects.specs.LargeRun.{IsGoingLarge, LargeRun, LargeStep}
 use Rattle.large_objects.specs.LargeSteps.{IsShutLarge}
 
--- a heap of large objects was opened over a manager of the kind, and a session begun
+-- a heap of large objects was opened over a manager of the kind, with a new session
 pub record BeginsLarge (kind : Kind) (p : Profile) (new : LargeRun) : Type 0 where
   pub ids : new.ids ≡ empty
   pub open_now : new.heap.is_open ≡ true
@@ -23,11 +23,11 @@ pub record BeginsLarge (kind : Kind) (p : Profile) (new : LargeRun) : Type 0 whe
   pub inner : new.heap.inner ≡ empty_heap kind (at_bound_one p) new.heap.inner.words
   pub parts : KeepsParts new.heap
 
--- the same, and `ok` is the reply
+-- the same, and the reply is `ok`
 abbrev pub BeginsAtOne : Kind → Profile → Reply → LargeRun → Type 0
 BeginsAtOne kind p reply new = BeginsLarge kind p new × (reply ≡ said (codes "ok"))
 
--- The items of a script may get these replies, one each, and lead to the new state.
+-- The items of a script may have these replies, one each, and lead to the new state.
 abbrev pub RunsLarge : Kind → Option LargeRun → List Item → List Reply → Option LargeRun → Type 0
 RunsLarge kind = PlayRun (BeginsAtOne kind) LargeStep
 
@@ -36,7 +36,7 @@ pub record IsFreshLarge (s : LargeRun) : Type 0 where
   pub ids : s.ids ≡ empty
   pub pages : IsPaged s.heap.inner.kind
 
--- an allocation failed: the heap is closed, its inner manager is as it was or closed, and the session is as it was
+-- an allocation failed: the heap is closed, its inner manager is unchanged or closed, and the session is unchanged
 pub record LacksLarge (old new : LargeRun) : Type 0 where
   pub heap : IsShutLarge old.heap new.heap
   pub ids : new.ids ≡ old.ids

@@ -1,5 +1,5 @@
 -- An inner manager in the middle of a free of a long object. No public clause cites this module.
-use Rattle.std.specs.Prelude.{◌≡◌, ◌≢◌, ℕ, ◌+◌, ◌<◌, ◌≤◌, ◌⊎◌, List, Some, None, length, take, drop}
+use Rattle.std.specs.Prelude.{◌≡◌, ◌≢◌, ℕ, ◌+◌, ◌<◌, ◌≤◌, ◌⊎◌, List, Some, None, length, take, drop, sum_by}
 use Rattle.std.specs.FinMap.{get, remove, len}
 use Rattle.page_model.specs.Arrangement.{live}
 use Rattle.page_model.specs.Held.{Objects, objects}
@@ -7,14 +7,15 @@ use Rattle.page_model.specs.Paging.{Paging}
 use Rattle.cf_model.specs.State.{HeapState, paging_in}
 use Rattle.large_objects.specs.InnerCalls.{StaysReady}
 use Rattle.large_objects.specs.Large.{HasSpine, named}
-use Rattle.large_objects.specs.Parts.{in_class, parts, piece_length, pieces}
+use Rattle.large_objects.specs.Parts.{in_class, length_sum, parts, piece_length, pieces}
 
--- The first i pieces of the object of n bytes with the spine h are gone. All else is as it was.
+-- The first i pieces of the object of n bytes with the spine h are freed. Nothing else changed.
 pub record IsShrinking (p : Paging) (u n : ℕ) (old : Objects) (h i : ℕ) (now : Objects) : Type 0 where
   pub gone : (j : ℕ) → j < i → get now (named old h j) ≡ None
   pub others : (q : ℕ) → ((j : ℕ) → j < i → q ≢ named old h j) → get now q ≡ get old q
   pub live_now : (c : ℕ) → live p now c + in_class p c (take i (drop 1 (parts u n))) ≡ live p old c
   pub all : len now + i ≡ len old
+  pub sums_now : (f : ℕ → ℕ) → length_sum f now + sum_by f (take i (drop 1 (parts u n))) ≡ length_sum f old
 
 -- the spine h of an object of n bytes and its pieces, which are apart
 pub record HasPieces (u n : ℕ) (o : Objects) (h : ℕ) : Type 0 where
@@ -23,7 +24,7 @@ pub record HasPieces (u n : ℕ) (o : Objects) (h : ℕ) : Type 0 where
   pub not_spine : (j : ℕ) → j < pieces u n → named o h j ≢ h
   pub apart : (j k : ℕ) → j < pieces u n → k < pieces u n → named o h j ≡ named o h k → j ≡ k
 
--- the same of a manager that is at work
+-- the same of an open manager
 pub record Shrinks (u n : ℕ) (old : HeapState) (h i : ℕ) (now : HeapState) : Type 0 where
   pub stays : StaysReady old now
   pub shrinking : IsShrinking (paging_in old) u n (objects old.held) h i (objects now.held)
@@ -37,7 +38,7 @@ pub record ReleasesShort (u n : ℕ) (old : HeapState) (h : ℕ) (new : HeapStat
   pub stays : StaysReady old new
   pub left : objects new.held ≡ remove (objects old.held) h
 
--- after all pieces, the spine goes
+-- after all pieces, the spine is freed
 pub record ReleasesLong (u n : ℕ) (old : HeapState) (h : ℕ) (new : HeapState) : Type 0 where
   pub long : u < n
   pub stays : StaysReady old new

@@ -1,10 +1,10 @@
-//! How an object is cut into inner objects.
+//! The inner objects of an object, by arithmetic.
 ghost use Rattle.std.specs.Prelude.{◌≡◌, ◌<◌, ◌*◌, ◌↔◌, IsTrue, cond, count_by, length, nat_le};
 ghost use Rattle.cf_base.specs.Classes.{need};
 ghost use Rattle.large_objects.specs.LargeSteps.{FitsSpine};
 ghost use Rattle.large_objects.specs.Parts.{parts, pieces, piece_length};
 
-/// How many pieces of `piece` bytes an object of `bytes` bytes takes.
+/// The number of pieces of `piece` bytes for an object of `bytes` bytes.
 #[tactic(auto, using(crate::proofs::Cutting::pieces_are))]
 pub(crate) fn piece_count(bytes: u32, piece: u32) -> u32
     requires { 0 < piece }
@@ -22,7 +22,7 @@ pub(crate) fn bytes_of_piece(bytes: u32, piece: u32, i: u32) -> u32
     piece.min(bytes - piece * i)
 }
 
-/// Whether the spine of such an object, where it needs one, fits a page.
+/// Whether the spine of such an object, if it needs one, fits a page.
 pub(crate) fn has_spine_that_fits(bytes: u32, piece: u32) -> bool
     requires { 0 < piece }
     ensures { IsTrue result ↔ FitsSpine piece bytes }
@@ -30,7 +30,7 @@ pub(crate) fn has_spine_that_fits(bytes: u32, piece: u32) -> bool
     bytes <= piece || 4 * piece_count(bytes, piece) as u64 <= piece as u64
 }
 
-/// How many inner objects such an object is made of.
+/// The number of inner objects of such an object.
 pub(crate) fn part_count(bytes: u32, piece: u32) -> u64
     requires { 0 < piece }
     ensures { result ≡ length (parts piece bytes) }
@@ -42,7 +42,7 @@ pub(crate) fn part_count(bytes: u32, piece: u32) -> u64
     }
 }
 
-/// Whether an inner object needs at most so many words, with its header.
+/// Whether an inner object needs at most `words` words, with its header.
 fn is_within(bytes: u32, words: u32) -> bool
     ensures { result ≡ nat_le (need bytes) words }
 {
@@ -56,7 +56,7 @@ fn count_if(count: u32, yes: bool) -> u64
     if yes { count as u64 } else { 0 }
 }
 
-/// How many of the inner objects of such an object need at most so many words.
+/// The number of inner objects of such an object that need at most `words` words.
 pub(crate) fn parts_within(bytes: u32, piece: u32, words: u32) -> u64
     requires some { 0 < piece }
     requires fits { FitsSpine piece bytes }

@@ -13,7 +13,7 @@ use cf_base::Handle;
 use cf_model::Manager;
 use step_ledger::Meter;
 
-/// Frees the object of `bytes` bytes: its pieces, where it has some, and then itself.
+/// Frees the object of `bytes` bytes: its pieces, if any, and then itself.
 pub(crate) fn release<H: Manager>(
     inner: &mut H,
     h: Handle,

@@ -1,4 +1,4 @@
-//! The heap that a caller holds.
+//! The heap of large objects.
 ghost use Rattle.std.specs.Prelude.{◌≡◌, ◌+◌, ◌≤◌, IsTrue, OnOk, OnErr, IfOk, IfErr, Some, None, false, length, option_map};
 ghost use Rattle.std.specs.FinMap.{get};
 ghost use Rattle.cf_lemmas.specs.Maps.{vacant};
@@ -16,7 +16,7 @@ use std::marker::Model;
 use step_ledger::Meter;
 
 /// Objects of any length over an inner manager with pages. A handle is that of an inner object: the
-/// object itself, where it fits a page, or else its spine.
+/// object itself if it fits a page, else its spine.
 #[derive(Drop)]
 pub struct LargeHeap<H: Manager> {
     alloc: Global,
@@ -26,7 +26,7 @@ pub struct LargeHeap<H: Manager> {
     pub(crate) pages: u32,
     /// The bytes of a whole piece.
     pub(crate) piece: u32,
-    /// By handle, the length of the object; none where the handle is a piece's or isn't live.
+    /// By handle, the length of the object; none if the handle is a piece's or isn't live.
     pub(crate) lengths: Vec<Option<u32>>,
 }
 
@@ -45,7 +45,7 @@ impl<H: Manager> Model for LargeHeap<H> {
 }
 
 impl<H: Manager> LargeHeap<H> {
-    /// A closed heap over this manager, which takes no memory.
+    /// A closed heap over this manager. Allocates nothing.
     pub fn new(alloc: Global, heap: H) -> LargeHeap<H>
         requires { IsPaged (H.state heap).kind }
         ensures closed { result.is_open ≡ false }
@@ -68,7 +68,7 @@ impl<H: Manager> LargeHeap<H> {
         &self.inner
     }
 
-    /// Whether the heap is open. An open one keeps its inner objects in order.
+    /// Whether the heap is open. An open heap keeps its inner objects in order.
     pub fn is_open(&self) -> bool
         ensures value { result ≡ self.now.is_open }
         ensures parts { IsTrue result → KeepsParts self.now }
@@ -76,9 +76,9 @@ impl<H: Manager> LargeHeap<H> {
         self.is_open
     }
 
-    /// Opens an empty heap with these settings, whatever stood before. All memory is taken here, for
-    /// the inner manager and a length for each proxy. At `OutOfMemory` the heap is closed, and the inner
-    /// manager is as it was or closed; the heap may be opened again.
+    /// Opens an empty heap with these settings; an open heap loses its objects. Allocates all memory, for
+    /// the inner manager and a length for each proxy. After `OutOfMemory` the heap is closed, and the
+    /// inner manager is unchanged or closed; the heap may be opened again.
     pub fn open_heap(&mut self, s: &Settings) -> Result<(), OutOfMemory>
         requires pages { IsPaged self.old.inner.kind }
         requires one { s.now.k ≡ 1 }
@@ -103,10 +103,10 @@ impl<H: Manager> LargeHeap<H> {
         Ok(())
     }
 
-    /// Adds an object of `bytes` bytes, all zero, under a handle that wasn't live. It is refused for
-    /// `Size` where its spine would need more than a page, then for `Proxy` where the inner objects
-    /// would be more than the proxies, then for `Space` where they would need more pages than there
-    /// are; a refusal changes nothing, nor the inner manager.
+    /// Adds an object of `bytes` bytes, all zero, under a handle that wasn't live. It fails with `Size`
+    /// if the spine would need more than a page, else with `Proxy` if there would be more inner objects
+    /// than proxies, else with `Space` if they would need more pages than there are. A refusal changes
+    /// nothing, not even the inner manager.
     pub fn malloc(&mut self, bytes: u32, meter: &mut Meter) -> Result<Handle, Refusal>
         requires { IsTrue self.old.is_open }
         ensures step { IsLargeMalloc self.old bytes result self.new }
@@ -118,8 +118,8 @@ impl<H: Manager> LargeHeap<H> {
         }
     }
 
-    /// Takes an object away, with its pieces. `NotLive` where the handle isn't that of an object, so
-    /// for a piece's too; that changes nothing.
+    /// Removes an object and its pieces. It fails with `NotLive` if the handle isn't that of an object,
+    /// so also for that of a piece, and changes nothing.
     pub fn free(&mut self, h: Handle, meter: &mut Meter) -> Result<(), NotLive>
         requires { IsTrue self.old.is_open }
         ensures step { IsLargeFree self.old h.0 result self.new }
@@ -134,7 +134,7 @@ impl<H: Manager> LargeHeap<H> {
         }
     }
 
-    /// Writes bytes into an object from byte `at` on, and changes nothing else; nor does a refusal.
+    /// Writes bytes into an object from byte `at` on, and changes nothing else. A refusal changes nothing.
     pub fn write(
         &mut self,
         h: Handle,
@@ -159,8 +159,7 @@ impl<H: Manager> LargeHeap<H> {
         }
     }
 
-    /// Reads the bytes of an object from byte `at` on, as many as `out` holds. A refusal leaves `out`
-    /// as it was.
+    /// Reads bytes of an object from byte `at` on, until `out` is full. A refusal leaves `out` unchanged.
     pub fn read(
         &self,
         h: Handle,
@@ -185,7 +184,7 @@ impl<H: Manager> LargeHeap<H> {
         }
     }
 
-    /// Makes an object for which there is room.
+    /// Makes an object that the heap has room for.
     fn make_object(&mut self, bytes: u32, meter: &mut Meter) -> Handle
         requires open { IsTrue self.old.is_open }
         requires room { HasRoom self.old bytes }
@@ -197,7 +196,7 @@ impl<H: Manager> LargeHeap<H> {
         h
     }
 
-    /// Frees an object of so many bytes.
+    /// Frees an object of `bytes` bytes.
     fn release_object(&mut self, h: Handle, bytes: u32, meter: &mut Meter)
         requires open { IsTrue self.old.is_open }
         requires found { option_map length (get self.old.objects h.0) ≡ Some bytes }
@@ -208,7 +207,7 @@ impl<H: Manager> LargeHeap<H> {
         self.lengths[h.0 as usize] = None;
     }
 
-    /// The length of an object; none where the handle isn't that of one.
+    /// The length of an object; none if the handle isn't that of an object.
     fn length_of(&self, h: Handle) -> Option<u32>
         requires { IsTrue self.now.is_open }
         ensures value { result ≡ option_map length (get self.now.objects h.0) }
@@ -220,7 +219,7 @@ impl<H: Manager> LargeHeap<H> {
         }
     }
 
-    /// The length of an object that has so many bytes from byte `at` on.
+    /// The length of an object that has `len` bytes from byte `at` on.
     fn length_for(&self, h: Handle, at: u32, count: usize) -> Result<u32, AccessFault>
         requires { IsTrue self.now.is_open }
         ensures found { IfOk result (λ n. option_map length (get self.now.objects h.0) ≡ Some n) }
@@ -239,7 +238,7 @@ impl<H: Manager> LargeHeap<H> {
     }
 }
 
-/// For each proxy no length.
+/// No length for each proxy.
 fn no_lengths(alloc: Global, proxies: u32) -> Result<Vec<Option<u32>>, AllocError>
     ensures { IfOk result (λ lengths. lengths.items ≡ vacant proxies) }
 {

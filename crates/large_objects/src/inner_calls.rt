@@ -1,4 +1,4 @@
-//! The calls of an inner manager, where none is refused.
+//! Calls of an inner manager that it never refuses.
 ghost use Rattle.std.specs.Prelude.{◌≡◌, ℕ, List, Some, length, take, drop};
 ghost use Rattle.std.specs.FinMap.{get};
 ghost use Rattle.page_model.specs.Held.{objects};
@@ -8,7 +8,7 @@ use cf_base::Handle;
 use cf_model::Manager;
 use step_ledger::Meter;
 
-/// Makes an inner object, for which there is room.
+/// Makes an inner object that the manager has room for.
 pub(crate) fn make_part<H: Manager>(inner: &mut H, bytes: u32, meter: &mut Meter) -> Handle
     requires ready { IsReady (H.state inner.old) }
     requires room { HasPartRoom (H.state inner.old) bytes }

@@ -1,4 +1,4 @@
-//! Laws of large objects. The functions do nothing: what each ensures is the law.
+//! Laws of large objects. The functions do nothing: their clauses are the laws.
 ghost use Rattle.std.specs.Prelude.{◌≡◌, ◌≢◌, ℕ, ◌+◌, ◌*◌, ◌<◌, ◌≤◌, ◌++◌, Bool, List, [], Option, None, length};
 ghost use Rattle.std.specs.FinMap.{get};
 ghost use Rattle.cf_base.specs.declared.answers.AccessFault.{AccessFault};
@@ -23,8 +23,8 @@ ghost use Rattle.large_objects.specs.LargeSteps.{GivesLarge, IsLargeFault, IsRef
 ghost use Rattle.large_objects.specs.Parts.{inner_live, pieces};
 ghost use Rattle.large_objects.specs.Playing.{BeginsLarge, RunsLarge, large_heap};
 
-/// A malloc that gives an object has no cause for a refusal, and there is one cause at most; so each
-/// refusal comes exactly where its arithmetic says so. A write that is done has no fault.
+/// A malloc that makes an object has no cause of a refusal, and at most one cause holds: so each refusal
+/// comes if and only if its arithmetic says so. A write that is done has no fault.
 pub fn refusals_come_exactly_by_their_causes()
     ensures malloc { (old new : LargeState) (h n : ℕ) (e : Refusal)
         → GivesLarge old h n new → ¬ IsRefusedLarge old n e }
@@ -34,20 +34,20 @@ pub fn refusals_come_exactly_by_their_causes()
         → WritesLarge old part bytes new → ¬ IsLargeFault old part (length bytes) e }
 {}
 
-/// The pages that the inner manager has in use are those that the inner objects of all large objects
-/// need by arithmetic: every bound is 1.
+/// The inner manager uses as few pages as the inner objects of all large objects need by arithmetic:
+/// every bound is 1.
 pub fn pages_in_use_are_those_of_the_parts()
     ensures { (s : LargeState) → KeepsParts s
         → used_pages (paging_in s.inner) s.inner.held ≡ pages_for (paging_in s.inner) (inner_live (paging_in s.inner) (piece_in s) s.objects) }
 {}
 
-/// The pieces of an object have room for its bytes, and less than a piece besides.
+/// The pieces of an object hold its bytes, and less than one piece is unused.
 pub fn pieces_are_as_many_as_needed()
     ensures enough { (u n : ℕ) → 0 < u → n ≤ u * pieces u n }
     ensures few { (u n : ℕ) → 0 < u → u * pieces u n < n + u }
 {}
 
-/// The bytes that were written are read again, and no other object changes.
+/// A read after a write returns the written bytes, and no other object changes.
 pub fn what_is_written_is_read()
     ensures same { (old new : LargeState) (part : Part) (bytes out : List ℕ)
         → WritesLarge old part bytes new → ReadsLarge new part (length bytes) out → out ≡ bytes }
@@ -55,16 +55,16 @@ pub fn what_is_written_is_read()
         → (q : ℕ) → q ≢ part.number → get new.objects q ≡ get old.objects q }
 {}
 
-/// Over every list of commands each read gives the bytes last written through its id, however its
-/// object is cut into pieces. What the lines and their replies say of ids is all that it depends on:
-/// no address, no handle and no piece.
+/// In every list of commands each read returns the bytes last written through its id, however its object
+/// is cut into pieces. The bytes depend on the ids in the lines and replies alone: on no address, handle
+/// or piece.
 pub fn reads_give_what_was_written()
     ensures { (kind : Kind) (items : List Item) (replies : List Reply) (new : Option LargeRun)
         → RunsLarge kind None items replies new → AreReadsOf None items replies }
 {}
 
-/// Over any manager with pages a run begins under any settings in their ranges; and from each state of
-/// a run that goes on every command that a script can say gets a reply, after which the run goes on.
+/// Over any manager with pages a run can begin with any settings in their ranges. In each state of a run
+/// every command of the grammar has a reply, after which the run goes on.
 pub fn each_command_has_its_turn()
     ensures begins { (kind : Kind) (p : Profile) → IsPaged kind → AreInRange p
         → (new : LargeRun) × BeginsLarge kind p new }
@@ -75,7 +75,7 @@ pub fn each_command_has_its_turn()
         → LargeStep old command reply new → IsGoingLarge new }
 {}
 
-/// There is a run over the items of any bytes, and each run over a prefix of them can go on to the end.
+/// There is a run over the items of any bytes, and each run over a prefix can go on to the end.
 pub fn a_long_run_can_always_go_on()
     ensures there { (kind : Kind) (given : List ℕ) (ended : Bool) → IsPaged kind
         → (replies : List Reply) × (new : Option LargeRun) × RunsLarge kind None (items given ended) replies new }
@@ -85,7 +85,7 @@ pub fn a_long_run_can_always_go_on()
         → (more : List Reply) × (new : Option LargeRun) × RunsLarge kind None (items given ended) (replies ++ more) new }
 {}
 
-/// What was written before the sink failed is a prefix of what a run over the whole script prints.
+/// The output before the sink failed is a prefix of the output of a run over the whole script.
 pub fn what_was_cut_is_a_prefix()
     ensures { (from to : LargeRun) (call : Effects) (all : List ℕ) → IsPaged from.heap.inner.kind
         → (w : WroteInPart large_heap from (items_within all) call to)

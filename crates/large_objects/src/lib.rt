@@ -1,5 +1,5 @@
-//! Objects longer than a page, over any manager with pages. Such an object is a spine, which holds the
-//! handles of its pieces, and pieces of as many bytes as a page has for one object.
+//! Objects longer than a page, over any manager with pages. Such an object has a spine, which holds the
+//! handles of its pieces. A whole piece is the largest object that fits a page.
 #![tactic(auto)]
 
 mod access;

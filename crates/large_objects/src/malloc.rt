@@ -10,7 +10,7 @@ use cf_base::Handle;
 use cf_model::Manager;
 use step_ledger::Meter;
 
-/// Makes an object for which there is room: as one inner object, or a spine and its pieces.
+/// Makes an object that the heap has room for: one inner object, or a spine and its pieces.
 pub(crate) fn make<H: Manager>(inner: &mut H, bytes: u32, piece: u32, meter: &mut Meter) -> Handle
     requires some { 0 < piece }
     requires room { HasPartsRoom piece bytes (H.state inner.old) }
@@ -37,7 +37,7 @@ fn make_long<H: Manager>(inner: &mut H, bytes: u32, piece: u32, meter: &mut Mete
     spine
 }
 
-/// Makes a piece of `bytes` bytes, and names it in the spine at place i.
+/// Makes a piece of `bytes` bytes, and writes its handle into place i of the spine.
 fn make_piece<H: Manager>(inner: &mut H, spine: Handle, i: u32, bytes: u32, meter: &mut Meter)
     requires ready { IsReady (H.state inner.old) }
     requires room { HasPartRoom (H.state inner.old) bytes }

@@ -17,7 +17,7 @@ use script_reader::CommandRef;
 use std::alloc::Global;
 use step_ledger::Meter;
 
-/// A session over large objects that answers a script, with the line and the ledger that it uses.
+/// The mode handler: a session over large objects, with its line and its ledger.
 #[derive(Drop)]
 pub struct LargePlayer {
     pub session: LargeSession,
@@ -53,7 +53,7 @@ impl<H: Manager> Player<LargeHeap<H>> for LargePlayer {
         settings: &Settings,
         sink: &mut K,
     ) -> Result<(), OpenFault> {
-        // Every class has the bound 1, whatever the line says.
+        // Every class has the bound 1, whatever bound the line has.
         let settings = Settings {
             pages: settings.pages,
             page_words: settings.page_words,
@@ -86,10 +86,9 @@ impl<H: Manager> Player<LargeHeap<H>> for LargePlayer {
     }
 }
 
-/// Answers each line of a script before it takes the next chunk of it: its `heap` line opens the
-/// heap, with the bound 1 for each class, and each command is answered from its objects. It stops at
-/// a bad line, at a fault of the source or the sink, where an allocation fails at the `heap` line, and
-/// past 268,435,455 bytes.
+/// Answers each line of a script before it takes the next chunk: the `heap` line opens the heap, with the
+/// bound 1 for each class, and each command is done on its objects. It stops at a bad line, if the source
+/// or the sink fails, if an allocation fails at the `heap` line, and after 268,435,455 bytes.
 pub fn run_large<H: Manager, S: Source, K: Sink>(
     player: &mut LargePlayer,
     heap: &mut LargeHeap<H>,

@@ -15,7 +15,7 @@ use cf_model::Manager;
 use step_ledger::Meter;
 
 impl<H: Manager> LargeHeap<H> {
-    /// Why an object of `bytes` bytes is refused; none where it isn't.
+    /// Why the heap refuses an object of `bytes` bytes; none if it doesn't.
     pub(crate) fn refusal(&self, bytes: u32, meter: &mut Meter) -> Option<Refusal>
         requires { IsTrue self.now.is_open }
         ensures cause { MatchOption result (HasRoom self.now bytes) (λ e. IsRefusedLarge self.now bytes e) }
@@ -35,7 +35,7 @@ impl<H: Manager> LargeHeap<H> {
     }
 }
 
-/// The pages that all inner objects need by arithmetic, with those of one more object.
+/// The pages that all inner objects and those of one more object need by arithmetic.
 fn pages_with<H: Manager>(inner: &H, bytes: u32, piece: u32) -> u64
     requires some { 0 < piece }
     requires fits { FitsSpine piece bytes }

@@ -2,10 +2,10 @@
 ghost use Rattle.std.specs.Prelude.{◌≡◌, ◌<◌, ◌≤◌, [], IsTrue, IfOk, OnErr, length, OnOk};
 ghost use Rattle.std.specs.FinMap as map;
 ghost use Rattle.cf_io.specs.Feeds.{Rose};
-ghost use Rattle.cf_io.specs.Lines.{line_room};
+ghost use Rattle.cf_session.specs.Apply.{outcome_in};
 ghost use Rattle.script_reader.specs.Commands.{IsWellFormed};
 ghost use Rattle.script_reader.specs.Owned.{owned_command};
-ghost use Rattle.session_model.specs.Applying.{Applies, Speaks};
+ghost use Rattle.script_loop.specs.Applying.{Applies, Speaks};
 ghost use Rattle.id_table.specs.Ties.{AreTiedTo};
 ghost use Rattle.large_objects.specs.LargeRun.{IsGoingLarge, LargeStep, large_moment, large_run};
 ghost use Rattle.large_objects.specs.Playing.{large_heap};
@@ -14,25 +14,24 @@ ghost use Rattle.large_objects.specs.Speaking.{IsOneLine};
 use crate::commands::{free, malloc, read, write};
 use crate::heap::LargeHeap;
 use cf_base::{Failed, OutOfMemory};
-use cf_io::{Line, Sink, push_text, put_line};
+use cf_io::{Line, Sink, put_line};
 use cf_model::Manager;
-use cf_session::Outcome;
+use cf_session::{Outcome, Short, ended, push_short};
 use frag_report::{frag_line, walk_lines};
 use id_table::IdTable;
 use script_reader::{Command, CommandRef};
-use session_model::{ended, outcome_of_text};
 use std::alloc::Global;
 use std::marker::Model;
 use step_ledger::Meter;
 
-/// The most bytes that are read at once.
+/// The most bytes of one read.
 const MOST: usize = 4_096;
 
 /// The ids of the objects of one heap of large objects.
 #[derive(Drop)]
 pub struct LargeSession {
     ids: IdTable,
-    /// Room for the bytes that are read.
+    /// The buffer of a read.
     room: [u8; MOST],
 }
 
@@ -47,7 +46,7 @@ impl Model for LargeSession {
 }
 
 impl LargeSession {
-    /// A session in which no id is live. The table of all 65,536 ids is taken here.
+    /// A session in which no id is live. Allocates the table of all 65,536 ids.
     pub fn start(alloc: Global) -> Result<LargeSession, OutOfMemory>
         ensures { IfOk result (λ s. s ≡ map.empty) }
     {
@@ -57,8 +56,8 @@ impl LargeSession {
         })
     }
 
-    /// Does the command on the heap, and writes its reply, built in `line`. `Failed` only where the
-    /// sink failed; the command has taken effect then, and a prefix of its reply was written.
+    /// Does the command on the heap and writes its reply, built in `line`. If the sink fails, the result
+    /// is `Failed`: the command has taken effect, and a prefix of its reply was written.
     pub fn apply<H: Manager, K: Sink>(
         &mut self,
         heap: &mut LargeHeap<H>,
@@ -80,7 +79,7 @@ impl LargeSession {
         self.apply_ref(heap, c.as_ref(), line, out, meter)
     }
 
-    /// The same for a command whose bytes are borrowed.
+    /// `apply` for a command with borrowed bytes.
     pub fn apply_ref<H: Manager, K: Sink>(
         &mut self,
         heap: &mut LargeHeap<H>,
@@ -99,13 +98,13 @@ impl LargeSession {
         ensures same { OnOk result (K.faults out.new ≡ K.faults out.old) }
         ensures failed { OnErr result (Rose (K.faults out.old) (K.faults out.new)) }
     {
-        // An open heap keeps its inner objects in order.
+        // For its contract: an open heap keeps its inner objects in order.
         let _open = heap.is_open();
         answer(&mut self.ids, heap, c, &mut self.room, line, out, meter)
     }
 }
 
-/// Does the command, and writes its reply.
+/// Does the command and writes its reply.
 fn answer<H: Manager, K: Sink>(
     ids: &mut IdTable,
     heap: &mut LargeHeap<H>,
@@ -134,14 +133,13 @@ fn answer<H: Manager, K: Sink>(
             ended(written, Outcome::Other)
         }
         _ => {
-            speak(ids, heap, c, room, line, meter);
-            let outcome = outcome_of_text(line.bytes());
+            let outcome = speak(ids, heap, c, room, line, meter);
             ended(put_line(line, out), outcome)
         }
     }
 }
 
-/// Does a command whose reply is one line, and writes its text on the line.
+/// Does a command with a reply of one line, and writes its text on the line.
 fn speak<H: Manager>(
     ids: &mut IdTable,
     heap: &mut LargeHeap<H>,
@@ -149,25 +147,26 @@ fn speak<H: Manager>(
     room: &mut [u8],
     line: &mut Line,
     meter: &mut Meter,
-)
+) -> Outcome
     requires going { IsGoingLarge (large_run ids.old heap.old) }
     requires formed { IsWellFormed (owned_command c) }
     requires one { IsOneLine (owned_command c) }
     requires place { length room.old ≡ 4096 }
-    ensures { Speaks LargeStep (large_run ids.old heap.old) (owned_command c.entry) (large_run ids.new heap.new) line.new }
+    ensures speaks { Speaks LargeStep (large_run ids.old heap.old) (owned_command c.entry) (large_run ids.new heap.new) line.new }
+    ensures outcome { result ≡ outcome_in line.new }
 {
     line.clear();
     match c {
         CommandRef::Malloc { id, bytes } => {
-            push_text(line, malloc(ids, heap, id, bytes, meter));
+            push_short(line, malloc(ids, heap, id, bytes, meter))
         }
-        CommandRef::Free { id } => push_text(line, free(ids, heap, id, meter)),
+        CommandRef::Free { id } => push_short(line, free(ids, heap, id, meter)),
         CommandRef::Write { id, at, bytes } => {
-            push_text(line, write(ids, heap, id, at, bytes, meter));
+            push_short(line, write(ids, heap, id, at, bytes, meter))
         }
         CommandRef::Read { id, at, len } => {
-            read(ids, heap, id, at, &mut room[..len as usize], line, meter);
+            read(ids, heap, id, at, &mut room[..len as usize], line, meter)
         }
-        _ => push_text(line, b"none"),
+        _ => push_short(line, Short::Lacking),
     }
 }

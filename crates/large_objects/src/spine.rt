@@ -9,7 +9,7 @@ use cf_base::Handle;
 use cf_model::Manager;
 use step_ledger::Meter;
 
-/// The handle of piece i, as the spine names it.
+/// The handle of piece i in the spine.
 pub(crate) fn piece_handle<H: Manager>(
     inner: &H,
     spine: Handle,

@@ -1,4 +1,4 @@
-use Rattle.large_objects.proofs.Going.{still_going}
+use Rattle.large_objects.proofs.RunInvariant.{still_going}
 use Rattle.large_objects.proofs.Turns.{begins_going, begins_large, turn_there}
 use Rattle.large_objects.proofs.laws.each_command_has_its_turn.Goals as goal
 

@@ -1,4 +1,3 @@
-use Rattle.std.proofs.Common.{refl}
 use Rattle.script_loop.proofs.Prefix.{cut_is_prefix_by}
 use Rattle.large_objects.specs.Playing.{large_heap}
 use Rattle.large_objects.proofs.Turns.{large_goes_on}

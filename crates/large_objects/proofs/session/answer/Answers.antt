@@ -1,10 +1,9 @@
-use Rattle.std.proofs.Common.{◌∙◌, ap}
-use Rattle.cf_session.specs.Apply.{outcome_in}
+use Rattle.std.proofs.Common.{ap}
 use Rattle.script_reader.specs.Owned.{owned_command}
 use Rattle.large_objects.specs.LargeRun.{large_run}
-use Rattle.session_model.proofs.CallerLemmas.{told_line}
+use Rattle.script_loop.proofs.CallerLemmas.{told_line}
 use Rattle.large_objects.specs.Playing.{large_heap}
-use Rattle.large_objects.proofs.Telling.{in_part, told_frag, told_walk}
+use Rattle.large_objects.proofs.ReplyLemmas.{told_frag, told_walk}
 use Rattle.large_objects.proofs.session.answer.Goals as goal
 
 pub returns-in-Walk-clause-answers : goal.returns-in-Walk-clause-answers
@@ -18,7 +17,7 @@ returns-in-Frag-clause-answers g c = told_frag (large_run c.args.ids.now c.args.
     c.ended-in-Frag.ensures
 
 pub returns-in_default-clause-answers : goal.returns-in_default-clause-answers
-returns-in_default-clause-answers g c = told_line large_heap in_part (large_run c.args.ids.now c.args.heap.now) (large_run c.speak.new.ids c.speak.new.heap)
+returns-in_default-clause-answers g c = told_line large_heap (λ _ _ _ _ turn. turn) (large_run c.args.ids.now c.args.heap.now) (large_run c.speak-outcome.new.ids c.speak-outcome.new.heap)
     (owned_command c.args.c)
-    c.speak.new.line _ _ c.put_line.result c.outcome_of_text-outcome.result c.ended-in_default.result c.speak.ensures
-    (c.outcome_of_text-outcome.ensures ∙ ap outcome_in c.bytes.ensures.value) c.put_line.ensures.puts c.ended-in_default.ensures
+    c.speak-outcome.new.line _ _ c.put_line.result c.speak-outcome.result c.ended-in_default.result c.speak-outcome.ensures.speaks
+    c.speak-outcome.ensures.outcome c.put_line.ensures.puts c.ended-in_default.ensures

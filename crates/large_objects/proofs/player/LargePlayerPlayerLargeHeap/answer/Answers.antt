@@ -1,5 +1,5 @@
 use Rattle.script_reader.specs.Owned.{owned_command}
-use Rattle.large_objects.proofs.Opened.{kind_kept}
+use Rattle.large_objects.proofs.OpenReply.{kind_kept}
 use Rattle.large_objects.proofs.player.LargePlayerPlayerLargeHeap.answer.Goals as goal
 
 pub returns-in-Ok-clause-plan : goal.returns-in-Ok-clause-plan

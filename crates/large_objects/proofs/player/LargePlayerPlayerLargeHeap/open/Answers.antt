@@ -1,5 +1,5 @@
 use Rattle.std.proofs.Common.{refl}
-use Rattle.large_objects.proofs.Opened.{opened_begins, opened_going}
+use Rattle.large_objects.proofs.OpenReply.{opened_begins, opened_going}
 use Rattle.large_objects.proofs.player.LargePlayerPlayerLargeHeap.open.Goals as goal
 
 pub returns-in-Ok-put_all-clause-going : goal.returns-in-Ok-put_all-clause-going

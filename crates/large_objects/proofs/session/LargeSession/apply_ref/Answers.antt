@@ -1,8 +1,8 @@
 use Rattle.std.proofs.Common.{◌∙◌, sym}
 use Rattle.script_reader.specs.Owned.{owned_command}
 use Rattle.large_objects.specs.LargeRun.{large_run}
-use Rattle.large_objects.proofs.Going.{going_before}
-use Rattle.large_objects.proofs.Telling.{applied_going}
+use Rattle.large_objects.proofs.RunInvariant.{going_before}
+use Rattle.large_objects.proofs.ReplyLemmas.{applied_going}
 use Rattle.large_objects.proofs.session.LargeSession.apply_ref.Goals as goal
 
 pub answer-requires-clause-going : goal.answer-requires-clause-going

@@ -1,36 +1,31 @@
--- What a command of a session over large objects did and told, put together.
-use Rattle.std.proofs.Common.{◌≡◌, ◌∙◌, ◌+◌, ◌≤◌, ℕ, ◌++◌, List, [], ◌∷◌, Option, Result, Ok}
-use Rattle.std.proofs.Common.{Err, ◌<◌, length, take, drop, map, Some, None, ap, refl, sym, subst}
+-- What a command of a session over large objects did and what was written of its reply, together.
+use Rattle.std.proofs.Common.{◌≡◌, ◌∙◌, ◌+◌, ◌≤◌, ℕ, ◌++◌, List, [], Option, Result, Ok}
+use Rattle.std.proofs.Common.{Err, ◌<◌, length, take, drop, Some, None, ap, refl, sym, subst}
 use Rattle.std.specs.Prelude.{codes}
 use Rattle.std.specs.FinMap.{get}
 use Rattle.hex.specs.Hex.{encode_lower}
 use Rattle.cf_base.specs.declared.answers.AccessFault.{AccessFault}
 use Rattle.cf_base.specs.declared.answers.AccessFault.TheVariants as access
 use Rattle.cf_base.specs.declared.answers.Failed.{Failed}
-use Rattle.cf_base.specs.declared.answers.Figures.{Figures}
-use Rattle.cf_base.specs.declared.answers.Totals.{Totals}
-use Rattle.cf_base.specs.declared.kind.Kind.{Kind}
-use Rattle.cf_base.specs.declared.kind.Kind.TheVariants.{Moving, NonMoving, Tlsf, HalfFit}
 use Rattle.cf_io.specs.Feeds.{Puts}
-use Rattle.cf_io.specs.Texts.{led, said}
+use Rattle.cf_io.specs.Texts.{led}
 use Rattle.cf_lemmas.proofs.Tests.{le_no, le_yes}
-use Rattle.cf_model.specs.Answers.{totals_in}
-use Rattle.cf_model.specs.State.{HeapState, paging_in}
-use Rattle.cf_session.specs.Apply.{outcome_of}
+use Rattle.cf_model.specs.State.{HeapState}
+use Rattle.cf_session.specs.Apply.{IsEnded}
+use Rattle.cf_session.proofs.CallerLemmas.{frag_other, walk_other}
 use Rattle.cf_session.specs.declared.outcome.Outcome.{Outcome}
 use Rattle.cf_session.specs.declared.outcome.Outcome.TheVariants.{Other}
-use Rattle.page_model.specs.Figures.{figures_of}
 use Rattle.run_model.specs.Replies.{write_text}
-use Rattle.run_model.specs.Reports.{class_line, frag_of, live_classes, total_line, walk_of}
+use Rattle.run_model.specs.Reports.{frag_of, walk_of}
 use Rattle.script_loop.specs.Semantics.{Snapshot, snapshot}
 use Rattle.script_reader.specs.declared.command.Command.{Command}
 use Rattle.script_reader.specs.declared.command.Command.TheVariants.{Walk, Frag}
-use Rattle.session_model.specs.Applying.{Applies, IsEndedAs, TurnsInPart}
-use Rattle.session_model.proofs.CallerLemmas.{reported}
-use Rattle.large_objects.specs.LargeRun.{IsGoingLarge, LargeRun, LargeStep, large_object_of, large_read_text}
+use Rattle.script_loop.specs.Applying.{Applies}
+use Rattle.script_loop.proofs.CallerLemmas.{reported}
+use Rattle.large_objects.specs.LargeRun.{IsGoingLarge, LargeRun, large_object_of, large_read_text}
 use Rattle.large_objects.specs.LargeSteps.{IsLargeFault, ReadsLarge}
 use Rattle.large_objects.specs.Playing.{large_heap}
-use Rattle.large_objects.proofs.Going.{still_going}
+use Rattle.large_objects.proofs.RunInvariant.{still_going}
 
 abbrev Told : Type 0
 Told = Option (List ℕ)
@@ -38,34 +33,19 @@ Told = Option (List ℕ)
 abbrev at : LargeRun → Told → Snapshot LargeRun
 at = snapshot
 
--- a reply that was cut is told as the loop has it
-pub in_part : (old : LargeRun) (c : Command) (out : List ℕ) (new : LargeRun) → TurnsInPart LargeStep old c out new → TurnsInPart LargeStep old c out new
-in_part old c out new turn = turn
-
--- a report is neither good nor a refusal
-pages_other : (f : ℕ → Figures) (t : Totals) (cs : List ℕ) → Other ≡ outcome_of (map (λ c. class_line (f c)) cs ++ said (total_line t))
-pages_other f t [] = refl
-pages_other f t (c ∷ cs) = refl
-
-walk_other : (k : Kind) (s : HeapState) → Other ≡ outcome_of (walk_of k s)
-walk_other Moving s = pages_other (λ c. figures_of (paging_in s) s.held c) (totals_in s.kind s) (live_classes s)
-walk_other NonMoving s = pages_other (λ c. figures_of (paging_in s) s.held c) (totals_in s.kind s) (live_classes s)
-walk_other Tlsf s = refl
-walk_other HalfFit s = refl
-
 pub told_walk : (old : LargeRun) (inner : HeapState) (c : Command) (w y : Told) (r : Result Unit Failed) (answer : Result Outcome Failed) → c ≡ Walk
-    → inner ≡ old.heap.inner → Puts w (led [] (walk_of inner.kind inner)) r y → IsEndedAs r Other answer → Applies large_heap (at old w) c answer (at old y)
+    → inner ≡ old.heap.inner → Puts w (led [] (walk_of inner.kind inner)) r y → IsEnded r Other answer → Applies large_heap (at old w) c answer (at old y)
 told_walk old inner c w y r answer is same put told =
     subst (λ (k : Command). Applies large_heap (at old w) k answer (at old y)) (sym is)
-    (reported large_heap in_part old old Walk (walk_of old.heap.inner.kind old.heap.inner) w y r Other answer (refl, refl)
+    (reported large_heap (λ _ _ _ _ turn. turn) old old Walk (walk_of old.heap.inner.kind old.heap.inner) w y r Other answer (refl, refl)
     (walk_other old.heap.inner.kind old.heap.inner)
     (subst (λ (s : HeapState). Puts w (led [] (walk_of s.kind s)) r y) same put) told)
 
 pub told_frag : (old : LargeRun) (inner : HeapState) (c : Command) (w y : Told) (r : Result Unit Failed) (answer : Result Outcome Failed) → c ≡ Frag
-    → inner ≡ old.heap.inner → Puts w (led [] (frag_of inner)) r y → IsEndedAs r Other answer → Applies large_heap (at old w) c answer (at old y)
+    → inner ≡ old.heap.inner → Puts w (led [] (frag_of inner)) r y → IsEnded r Other answer → Applies large_heap (at old w) c answer (at old y)
 told_frag old inner c w y r answer is same put told =
     subst (λ (k : Command). Applies large_heap (at old w) k answer (at old y)) (sym is)
-    (reported large_heap in_part old old Frag (frag_of old.heap.inner) w y r Other answer (refl, refl) refl
+    (reported large_heap (λ _ _ _ _ turn. turn) old old Frag (frag_of old.heap.inner) w y r Other answer (refl, refl) (frag_other old.heap.inner)
     (subst (λ (s : HeapState). Puts w (led [] (frag_of s)) r y) same put) told)
 
 -- a run goes on after an answer
@@ -74,7 +54,7 @@ pub applied_going : (old new : LargeRun) (c : Command) (w y : Told) (answer : Re
 applied_going old new c w y (Ok outcome) going a = still_going old new going a.0.reply c a.0.turns
 applied_going old new c w y (Err e) going a = still_going old new going a.turns.reply c a.turns.turn
 
--- the object of a handle, where there is one
+-- the object of a handle, if any
 abbrev object_at : LargeRun → Option ℕ → Option (List ℕ)
 object_at run o = elim o [ None ↦ None | Some h ↦ get run.heap.objects h ]
 
@@ -85,7 +65,7 @@ within_text v at count le = rw (le_yes (at + count) (length v) le) refl
 past_text : (v : List ℕ) (at count : ℕ) → length v < at + count → large_read_text (Some v) at count ≡ codes "range"
 past_text v at count lt = rw (le_no (at + count) (length v) lt) refl
 
--- What a read tells.
+-- The reply to a read.
 object_is : (run : LargeRun) (id : ℕ) (o : Option ℕ) → o ≡ get run.ids id → large_object_of run id ≡ object_at run o
 object_is run id o is = ap (object_at run) (sym is)
 

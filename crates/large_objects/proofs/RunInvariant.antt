@@ -1,5 +1,5 @@
--- A run over large objects goes on after each command, and each command does to the ids and the objects that they name what it has to.
-use Rattle.std.proofs.Common.{◌≡◌, ◌∙◌, ℕ, List, Some, None, false, sym, ap, refl, subst, inl, inr}
+-- A run over large objects goes on after each command; and what each command does to the ids and the objects that they name.
+use Rattle.std.proofs.Common.{◌≡◌, ◌∙◌, ℕ, List, Some, None, sym, ap, refl, subst, inl, inr}
 use Rattle.std.specs.Prelude.{IsTrue, Option, Result, Ok, Err, codes}
 use Rattle.std.specs.Option.{MatchOption}
 use Rattle.std.specs.FinMap.{get}
@@ -13,7 +13,7 @@ use Rattle.id_table.specs.Ids.{Ids}
 use Rattle.script_reader.specs.declared.command.Command.{Command}
 use Rattle.script_reader.specs.declared.command.Command.TheVariants as command
 use Rattle.run_laws.specs.Told.{is_ok, read_told}
-use Rattle.run_laws.proofs.CallerLemmas.{IsSame, Named, NamedTurn, Refuses, bytes_of, still_tied, through}
+use Rattle.run_laws.proofs.CallerLemmas.{IsSame, Named, NamedTurn, bytes_of, refuses, same_named, still_tied, through}
 use Rattle.run_model.specs.Replies.{malloc_text, write_text}
 use Rattle.run_model.specs.Steps.{ids_given}
 use Rattle.id_table.specs.Ties.{AreTiedTo}
@@ -36,12 +36,6 @@ abbrev pub named : LargeRun → Named
 named s = record { ids = s.ids; objects = s.heap.objects }
 
 module _ (old new : LargeRun) (going : IsGoingLarge old) (reply : Reply) where
-  same : new ≡ old → IsSame (named old) (named new)
-  same is = record { ids = ap (λ (s : LargeRun). s.ids) is; objects = ap (λ (s : LargeRun). s.heap.objects) is }
-
-  refuses : (text : List ℕ) → is_ok (said text) ≡ false → reply ≡ said text → IsSame (named old) (named new) → Refuses (named old) reply (named new)
-  refuses text fails is rest = record { told = ap is_ok is ∙ fails; same = rest }
-
   unmoved : new.ids ≡ old.ids → new.heap ≡ old.heap → IsSame (named old) (named new)
   unmoved e is = record { ids = e; objects = ap (λ (s : LargeState). s.objects) is }
 
@@ -63,21 +57,21 @@ module _ (old new : LargeRun) (going : IsGoingLarge old) (reply : Reply) where
 
   malloc_at : (o : Option ℕ) (id n : ℕ) → get old.ids id ≡ o → MatchOption o (MallocsLarge old id n reply new) (λ h. StaysLarge old (codes "live") reply new)
       → NamedTurn (named old) (command.Malloc id n) reply (named new)
-  malloc_at (Some h) id n is (told, rest) = inr (refuses (codes "live") refl told (same rest))
+  malloc_at (Some h) id n is (told, rest) = inr (refuses (codes "live") refl told (same_named named rest))
   malloc_at None id n is m = malloc_turn id n m.answer is m.step m.ids m.reply_is
 
   free_at : (o : Option ℕ) (id : ℕ) → get old.ids id ≡ o → MatchOption o (StaysLarge old (codes "unknown") reply new) (λ h. FreesIdLarge old id h reply new)
       → NamedTurn (named old) (command.Free id) reply (named new)
-  free_at None id is (told, rest) = inr (refuses (codes "unknown") refl told (same rest))
+  free_at None id is (told, rest) = inr (refuses (codes "unknown") refl told (same_named named rest))
   free_at (Some h) id is f = inl (record { handle = h; told = ap is_ok f.reply_is; live = is; ids = f.ids; objects = (f.step).left })
 
   write_at : (o : Option ℕ) (id at : ℕ) (bytes : List ℕ) → get old.ids id ≡ o
       → MatchOption o (StaysLarge old (codes "unknown") reply new) (λ h. WritesIdLarge old (record { number = h; from = at }) bytes reply new)
       → NamedTurn (named old) (command.Write id at bytes) reply (named new)
-  write_at None id at bytes is (told, rest) = inr (refuses (codes "unknown") refl told (same rest))
+  write_at None id at bytes is (told, rest) = inr (refuses (codes "unknown") refl told (same_named named rest))
   write_at (Some h) id at bytes is w = write_turn id h at bytes w.answer is w.step w.ids w.reply_is
 
-  -- the bytes of an id, and what a read tells of them
+  -- the bytes of an id, and the reply to a read of them
   bytes_same : (id : ℕ) → large_object_of old id ≡ bytes_of (named old) id
   bytes_same id = go (get old.ids id)
     where
@@ -96,10 +90,10 @@ module _ (old new : LargeRun) (going : IsGoingLarge old) (reply : Reply) where
   turn_named (command.Write id at bytes) step = write_at (get old.ids id) id at bytes refl step
   turn_named (command.Read id at count) step = (
     step.0 ∙ ap said (text_same (large_object_of old id) at count ∙ ap (λ (o : Option (List ℕ)). read_told o at count) (bytes_same id)),
-    same step.1,
+    same_named named step.1,
   )
-  turn_named (command.Resize id n) step = inr (refuses (codes "none") refl step.0 (same step.1))
-  turn_named c step = same step.1
+  turn_named (command.Resize id n) step = inr (refuses (codes "none") refl step.0 (same_named named step.1))
+  turn_named c step = same_named named step.1
 
   -- a command leaves the heap open, with its parts in order
   open_still : new ≡ old → IsTrue new.heap.is_open × KeepsParts new.heap

@@ -1,0 +1,2 @@
+pub mod LargeHeadline
+pub mod Small

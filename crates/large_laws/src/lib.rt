@@ -1,0 +1,52 @@
+//! What is claimed of every script in mode large, by its lines and their replies alone. The public
+//! functions do nothing: each one's contract is a law.
+#![tactic(auto)]
+
+ghost use Rattle.std.specs.Prelude.{◌≡◌, ℕ, codes, take, List, [], ◌∷◌, ◌++◌, None, Option};
+ghost use Rattle.cf_base.specs.declared.kind.Kind.{Kind};
+ghost use Rattle.large_objects.specs.LargeRun.{LargeRun};
+ghost use Rattle.large_objects.specs.Playing.{RunsLarge, large_heap};
+ghost use Rattle.run_model.specs.Texts.{Reply, said};
+ghost use Rattle.script_loop.specs.Semantics.{RunBy};
+ghost use Rattle.script_reader.specs.Items.{Item};
+ghost use Rattle.large_laws.specs.LargeHeadline.{MeetsLarge};
+ghost use Rattle.large_laws.specs.Small.{MeetsSmall, small_replies, small_walk, walk_of_wholes};
+
+/// The replies of every run in mode large meet the claim, and just one list of replies meets it:
+/// nothing is left open.
+pub fn the_large_headline()
+    ensures run { (kind : Kind) (items : List Item) (replies : List Reply) (end : Option LargeRun)
+        → RunsLarge kind None items replies end → MeetsLarge kind items replies }
+    ensures play { (from : LargeRun) (items : List Item) (replies : List Reply) (end : Option LargeRun)
+        → RunBy large_heap from None items replies end → MeetsLarge from.heap.inner.kind items replies }
+    ensures one { (kind : Kind) (items : List Item) (replies others : List Reply)
+        → MeetsLarge kind items replies → MeetsLarge kind items others → others ≡ replies }
+{}
+
+/// On eight pages of 512 bytes: an object of 600 bytes, of which two bytes on both sides of a piece's
+/// end are written; one of 90 bytes; a read of the two bytes; `walk`; `frag`; and an object for which
+/// there are no pages. The claim takes these replies and no others: not `refused size` to a malloc
+/// that fits, not silence, no reply fewer or more; not the bytes of the other object; not a report
+/// that counts a long object as one, nor bytes asked or taken without its spine; not `ok`
+/// without pages.
+pub fn wrong_large_replies_fall_short()
+    ensures right { MeetsSmall (small_replies (codes "ok") (codes "=aabb") small_walk
+        (codes "frag asked 698 taken 752 held 1536") (codes "refused space")) }
+    ensures size { ¬ MeetsSmall (small_replies (codes "refused size") (codes "=aabb") small_walk
+        (codes "frag asked 698 taken 752 held 1536") (codes "refused space")) }
+    ensures silent { ¬ MeetsSmall [] }
+    ensures missing { ¬ MeetsSmall (take 7 (small_replies (codes "ok") (codes "=aabb") small_walk
+        (codes "frag asked 698 taken 752 held 1536") (codes "refused space"))) }
+    ensures over { ¬ MeetsSmall (small_replies (codes "ok") (codes "=aabb") small_walk
+        (codes "frag asked 698 taken 752 held 1536") (codes "refused space") ++ said (codes "ok") ∷ []) }
+    ensures other { ¬ MeetsSmall (small_replies (codes "ok") (codes "=0000") small_walk
+        (codes "frag asked 698 taken 752 held 1536") (codes "refused space")) }
+    ensures whole { ¬ MeetsSmall (small_replies (codes "ok") (codes "=aabb") walk_of_wholes
+        (codes "frag asked 698 taken 752 held 1536") (codes "refused space")) }
+    ensures spine { ¬ MeetsSmall (small_replies (codes "ok") (codes "=aabb") small_walk
+        (codes "frag asked 690 taken 752 held 1536") (codes "refused space")) }
+    ensures slots { ¬ MeetsSmall (small_replies (codes "ok") (codes "=aabb") small_walk
+        (codes "frag asked 698 taken 720 held 1536") (codes "refused space")) }
+    ensures pages { ¬ MeetsSmall (small_replies (codes "ok") (codes "=aabb") small_walk
+        (codes "frag asked 698 taken 752 held 1536") (codes "ok")) }
+{}
