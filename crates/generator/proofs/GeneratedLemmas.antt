@@ -8,8 +8,7 @@ use Rattle.script_reader.specs.Items.{is_bound}
 use Rattle.script_reader.specs.declared.command.Command.{Command}
 use Rattle.script_reader.specs.declared.command.Command.TheVariants.{Malloc, Free, Write, Read}
 use Rattle.generator.specs.Generated.{bytes_asked, command_of_word, generated, id_named, one_of_eight, words_from}
-use Rattle.generator.specs.ReadBack.{IsCommand}
-use Rattle.generator.proofs.ReadBack.{ArePlain}
+use Rattle.generator.specs.ReadBack.{ArePlain, IsCommand}
 
 few_bytes : (word : ℕ) → bytes_asked word < 16384
 few_bytes word = go (word / 2 ^ 32 % 8 == 0)

@@ -2,3 +2,4 @@ mod TextLemmas
 mod TokenLemmas
 mod ReadBack
 mod GeneratedLemmas
+pub mod CallerLemmas

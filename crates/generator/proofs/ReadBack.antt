@@ -20,7 +20,7 @@ use Rattle.script_reader.specs.declared.command.Command.TheVariants.{Task, Quota
 use Rattle.script_reader.specs.declared.stage.Stage.{Stage}
 use Rattle.script_reader.specs.declared.stage.Stage.TheVariants.{Opening, Bounding, Running}
 use Rattle.generator.specs.CommandText.{after_spaces, line_of, spaced, tokens_of, word_and_numbers}
-use Rattle.generator.specs.ReadBack.{CanOpen, IsCommand, IsShort, IsWord, heap_line, lines_of}
+use Rattle.generator.specs.ReadBack.{ArePlain, CanOpen, IsCommand, IsShort, IsWord, heap_line, lines_of}
 use Rattle.generator.proofs.TextLemmas.{AreWords, hex_token, number_token, number_tokens, numbers_short}
 use Rattle.generator.proofs.TokenLemmas.{AreTokens, IsToken, high_by_test, line_cut, no_return, shown_spaced, tokens_spaced}
 
@@ -184,11 +184,6 @@ alone_back pages page_bytes k proxies c can is =
     ∙ ap (λ l. starts (profile_from pages page_bytes k proxies) ∷ items_at l 1 Bounding)
     (ap (λ l. lines l true) (sym (append-nil (line_of c))) ∙ line_back c [] true is)
     ∙ ap (λ says. starts (profile_from pages page_bytes k proxies) ∷ items_by (verdict Bounding says) 1 Bounding (items_at [] 2)) (says_back c is)
-
--- none of the commands is a `k`
-abbrev pub ArePlain : List Command → Type 0
-ArePlain [] = ⊤
-ArePlain (c ∷ rest) = IsCommand c × (is_bound c ≡ false) × ArePlain rest
 
 -- the stage after the `heap` line
 abbrev IsOpened : Stage → Type 0

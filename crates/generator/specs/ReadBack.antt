@@ -1,8 +1,9 @@
 -- Commands whose lines are read back.
-use Rattle.std.specs.Prelude.{◌≡◌, ◌≤◌, ⊤, ℕ, ◌++◌, List, [], ◌∷◌, None, codes}
+use Rattle.std.specs.Prelude.{◌≡◌, ◌≤◌, ⊤, ℕ, false, ◌++◌, List, [], ◌∷◌, None, codes}
 use Rattle.cf_base.specs.Settings.{setting_fault}
 use Rattle.hex.specs.Hex.{IsBytes}
 use Rattle.script_reader.specs.Commands.{IsWellFormed}
+use Rattle.script_reader.specs.Items.{is_bound}
 use Rattle.script_reader.specs.declared.command.Command.{Command}
 use Rattle.script_reader.specs.declared.command.Command.TheVariants.{Malloc, Free, Write, Read, Place, Block, Peek, Walk, Frag, Steps, Bound, Resize, Slice}
 use Rattle.script_reader.specs.declared.command.Command.TheVariants.{Task, Quota, Need, Admit}
@@ -49,3 +50,8 @@ heap_line pages page_bytes k proxies = spaced (word_and_numbers (codes "heap") (
 abbrev pub lines_of : List Command → List ℕ
 lines_of [] = []
 lines_of (c ∷ rest) = line_of c ++ lines_of rest
+
+-- commands of a program, none of them `k`
+abbrev pub ArePlain : List Command → Type 0
+ArePlain [] = ⊤
+ArePlain (c ∷ rest) = IsCommand c × (is_bound c ≡ false) × ArePlain rest

@@ -3,7 +3,7 @@ ghost use Rattle.std.specs.Prelude.{◌≡◌, ◌++◌, ◌∷◌, [], ℕ, Lis
 ghost use Rattle.cf_base.specs.Settings.{profile_from};
 ghost use Rattle.generator.specs.CommandText.{line_of, spaced, tokens_of};
 ghost use Rattle.generator.specs.Generated.{generated};
-ghost use Rattle.generator.specs.ReadBack.{CanOpen, IsCommand, heap_line, lines_of};
+ghost use Rattle.generator.specs.ReadBack.{ArePlain, CanOpen, IsCommand, heap_line, lines_of};
 ghost use Rattle.script_reader.specs.Items.{asks, item, items, line_says, starts};
 ghost use Rattle.script_reader.specs.Lines.{lines};
 ghost use Rattle.script_reader.specs.declared.command.Command.{Command};
@@ -15,6 +15,14 @@ pub fn commands_are_read_back()
     ensures says { (c : Command) → IsCommand c → line_says (spaced (tokens_of c)) ≡ item (asks c) }
     ensures after_heap { (pages page_bytes k proxies : ℕ) (c : Command) → CanOpen pages page_bytes k proxies → IsCommand c
         → items (heap_line pages page_bytes k proxies ++ line_of c) true ≡ starts (profile_from pages page_bytes k proxies) ∷ asks c ∷ [] }
+{}
+
+/// A script of a `heap` line and other lines of commands, none of them `k`, is read back as those
+/// commands.
+pub fn scripts_are_read_back()
+    ensures { (pages page_bytes k proxies : ℕ) (commands : List Command) → CanOpen pages page_bytes k proxies → ArePlain commands
+        → items (heap_line pages page_bytes k proxies ++ lines_of commands) true
+        ≡ starts (profile_from pages page_bytes k proxies) ∷ map (λ c. asks c) commands }
 {}
 
 /// A script of a `heap` line and the commands of a seed is read back as those commands.

@@ -6,5 +6,5 @@ mod laws;
 mod line_text;
 
 pub use commands::Generator;
-pub use laws::{commands_are_read_back, generated_scripts_are_read_back};
+pub use laws::{commands_are_read_back, generated_scripts_are_read_back, scripts_are_read_back};
 pub use line_text::command_text;

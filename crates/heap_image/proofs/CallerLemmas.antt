@@ -1,4 +1,6 @@
 -- What upper crates may cite, passed on from one place. Declares nothing.
 pub use Rattle.heap_image.proofs.Chunks.{chunk_is, object_length}
-pub use Rattle.heap_image.proofs.Encoded.{needed_added}
+pub use Rattle.heap_image.proofs.Encoded.{AreBelow, below_none, below_some, needed_added, needed_more}
+pub use Rattle.heap_image.proofs.Listing.{listed_all, listed_end, listed_none, listed_some}
+pub use Rattle.heap_image.proofs.LoadRows.{observed_load, some_load}
 pub use Rattle.heap_image.proofs.Numbers.{bytes_back_2, bytes_back_4}

@@ -1,16 +1,16 @@
 -- The entries of an image that is loaded, one after the other, and its end.
-use Rattle.std.proofs.Common.{◌≡◌, ◌≢◌, ◌∙◌, ◌++◌, ◌+◌, ◌-◌, ◌≤◌, ◌<◌, ℕ, suc, List, [], ◌∷◌, Option, Some, None, length, refl, ap, sym, subst, arith, inl}
+use Rattle.std.proofs.Common.{◌≡◌, ◌≢◌, ◌∙◌, ◌++◌, ◌+◌, ◌-◌, ◌≤◌, ◌<◌, ℕ, suc, List, [], ◌∷◌, Some, None, length, refl, ap, sym, arith, inl}
 use Rattle.std.specs.Prelude.{Result, Ok, Err}
 use Rattle.std.specs.FinMap.{empty, get, get-empty, insert, len, len-empty}
 use Rattle.std.specs.Ordering.{nat_cmp}
 use Rattle.cf_base.specs.Settings.{Profile}
-use Rattle.cf_io.specs.Feeds.{preceded}
 use Rattle.cf_lemmas.proofs.Maps.{get_insert_other, len_fresh}
 use Rattle.page_model.specs.Held.{Objects}
 use Rattle.run_model.specs.Sessions.{RunState}
 use Rattle.heap_image.specs.Decoded.{BreaksNoRule, Decoded, Reached, at_first, breaks_in, end_decoded, entries_decoded, entry_decoded, passed, whole}
 use Rattle.heap_image.specs.Ends.{EndTold, EndsBy}
 use Rattle.heap_image.specs.Entries.{EntryBy, reached_in}
+use Rattle.heap_image.specs.Feed.{Feed, Takes}
 use Rattle.heap_image.specs.Heaps.{objects_of}
 use Rattle.heap_image.specs.Load.{HoldsObjects, IsLoading}
 use Rattle.heap_image.specs.Stages.{LeadsTo, Passes, StopsBy}
@@ -18,28 +18,21 @@ use Rattle.heap_image.specs.declared.fault.LoadFault.{LoadFault}
 use Rattle.heap_image.specs.declared.fault.LoadFault.TheVariants as fault
 use Rattle.heap_image.specs.declared.objects_in.Entry.{Entry}
 use Rattle.heap_image.proofs.ImageDecoded.{entries_next}
-use Rattle.heap_image.proofs.StageLemmas.{broken_then, field_breaks, part_then, passes_part, passes_spent, passes_then}
-
-abbrev Rest : Type 0
-Rest = Option (List ℕ)
+use Rattle.heap_image.proofs.StageLemmas.{broken_then, field_breaks, passes_part, passes_then, takes_nothing, tells_then}
 
 abbrev Reading : Type 0
 Reading = List ℕ → Decoded
 
-pub nothing_taken : (o : Rest) → o ≡ preceded [] o
-nothing_taken None = refl
-nothing_taken (Some r) = refl
-
 -- readings that are the same
-pub passes_same : (T U : Reading) (had : Rest) → ((bytes : List ℕ) → T bytes ≡ U bytes) → Passes T had had U
-passes_same T U had same = record { taken = []; took = nothing_taken had; tells = same }
+pub passes_same : (T U : Reading) (had : Feed) → ((bytes : List ℕ) → T bytes ≡ U bytes) → Passes T had had U
+passes_same T U had same = record { taken = []; took = takes_nothing had; tells = same }
 
 reached_is : (next next2 at at2 : ℕ) (o o2 : Objects) → next ≡ next2 → o ≡ o2 → at ≡ at2
     → ◌≡◌ {A = Reached} (record { next = next; objects = o; at = at }) (record { next = next2; objects = o2; at = at2 })
 reached_is next next2 at at2 o o2 a b c = λ i. record { next = a i; objects = b i; at = c i }
 
 -- no entry was read
-pub entries_begin : (p : Profile) (count : ℕ) (s : RunState) (had : Rest) → objects_of s ≡ empty
+pub entries_begin : (p : Profile) (count : ℕ) (s : RunState) (had : Feed) → objects_of s ≡ empty
     → Passes (entries_decoded p count at_first) had had (entries_decoded p (count - 0) (reached_in s 0 20))
 entries_begin p count s had none = passes_same _ _ had (λ bytes.
     let same : count ≡ count - 0 = omega arith in
@@ -53,7 +46,7 @@ pub nothing_counts : (s : RunState) → objects_of s ≡ empty → len (objects_
 nothing_counts s none = ap len none ∙ len-empty nat_cmp (List ℕ)
 
 -- one more entry
-module _ (p q : Profile) (count i next at : ℕ) (had mid left : Rest) (old new : RunState) (e : Entry) (lt : i < count) (same : q ≡ p)
+module _ (p q : Profile) (count i next at : ℕ) (had mid left : Feed) (old new : RunState) (e : Entry) (lt : i < count) (same : q ≡ p)
     (before : Passes (entries_decoded p count at_first) had mid (entries_decoded p (count - i) (reached_in old next at)))
     (entry : (go : Reached → List ℕ → Decoded) → EntryBy (λ bytes. entry_decoded q (reached_in old next at) bytes go) go old (reached_in old next at) mid
     (Ok e) left new)
@@ -92,7 +85,7 @@ module _ (p q : Profile) (count i next at : ℕ) (had mid left : Rest) (old new 
       ap len entry_leads.objects ∙ len_fresh (objects_of old) e.id (entry go).0 (fresh e.id least) ∙ ap (λ k. k + 1) n
 
 -- an entry was not read
-pub entry_ends : (p q : Profile) (count i next at : ℕ) (had mid left : Rest) (old new : RunState) (f : LoadFault) → i < count → q ≡ p → old.heap.profile ≡ p
+pub entry_ends : (p q : Profile) (count i next at : ℕ) (had mid left : Feed) (old new : RunState) (f : LoadFault) → i < count → q ≡ p → old.heap.profile ≡ p
     → Passes (entries_decoded p count at_first) had mid (entries_decoded p (count - i) (reached_in old next at))
     → ((go : Reached → List ℕ → Decoded) → EntryBy (λ bytes. entry_decoded q (reached_in old next at) bytes go) go old (reached_in old next at) mid (Err f)
     left new)
@@ -114,7 +107,7 @@ entry_ends p q count i next at had mid left old new f lt same profile before ent
     by : (f : LoadFault) → StopsBy (Some old.heap.profile) (objects_of old) (λ bytes. entry_decoded q (reached_in old next at) bytes go) mid f left
         → LeadsTo old new (objects_of old) → EndsBy (entries_decoded p count at_first) p had (Err f) left new
     by (fault.Bad b) s w = (s.0, s.1, s.2 ∙ ap (λ p. Some p) profile, broken_then _ _ had mid left all s.0 s.4, holds s.0 s.3 w)
-    by fault.Read s w = (s.0, s.1 ∙ ap (λ p. Some p) profile, part_then _ _ had mid left all s.0 s.3, s.4, holds s.0 s.2 w)
+    by fault.Read s w = (s.0, s.1 ∙ ap (λ p. Some p) profile, tells_then _ _ had mid left all s.0 s.3, s.4, holds s.0 s.2 w)
     by fault.OutOfMemory s w = absurd s
 
 -- no entry is left
@@ -135,7 +128,7 @@ end_sound : (p : Profile) (r : Reached) (few : List ℕ) → length few < 1 → 
 end_sound p r [] short = inl (ap (λ (d : Decoded). d.broken) (end_whole p r))
 end_sound p r (x ∷ rest) short = absurd (omega arith)
 
-pub all_end : (p : Profile) (count i next at : ℕ) (had mid left : Rest) (s : RunState) (answer : Result Unit LoadFault) → count ≤ i → IsLoading s
+pub all_end : (p : Profile) (count i next at : ℕ) (had mid left : Feed) (s : RunState) (answer : Result Unit LoadFault) → count ≤ i → IsLoading s
     → s.heap.profile ≡ p
     → Passes (entries_decoded p count at_first) had mid (entries_decoded p (count - i) (reached_in s next at)) → EndTold at mid answer left
     → EndsBy (entries_decoded p count at_first) p had answer left s
@@ -151,14 +144,14 @@ all_end p count i next at had mid left s answer past loading profile before end 
       tells = λ more. before.tells more ∙ (let none : count - i ≡ 0 = omega arith in ap (λ n. entries_decoded p n r more) none) ∙ end_is p r more;
     }
 
-    here : mid ≡ left → Passes (entries_decoded p count at_first) had left (end_decoded p r)
-    here same = subst (λ (o : Rest). Passes (entries_decoded p count at_first) had o (end_decoded p r)) same all
+    here : Takes [] mid left → Passes (entries_decoded p count at_first) had left (end_decoded p r)
+    here none = passes_then _ _ had mid left all (end_decoded p r) (record { taken = []; took = none; tells = λ more. refl })
 
     holds : HoldsObjects p (objects_of s) s
     holds = record { loading = loading; profile = profile; objects = refl }
 
     by : (answer : Result Unit LoadFault) → EndTold at mid answer left → EndsBy (entries_decoded p count at_first) p had answer left s
-    by (Ok u) end = (objects_of s, passes_spent _ _ had left (whole p (objects_of s)) (here end.0) end.1 (end_whole p r), end.1, holds)
+    by (Ok u) end = (objects_of s, passes_part _ _ had left (whole p (objects_of s)) (here end.0) (end_whole p r), end.1, holds)
     by (Err (fault.Bad b)) end = (
       breaks_in p r 0,
       (let z : at + 0 ≡ b = omega (arith, end.0) in ap (λ k. Some k) z),

@@ -1,14 +1,14 @@
 -- A buffer that is filled chunk by chunk.
-use Rattle.std.proofs.Common.{◌≡◌, ◌∙◌, ◌++◌, ◌+◌, ◌≤◌, ℕ, List, [], ◌∷◌, Option, length, take, drop, get_or, refl, ap, sym, arith}
+use Rattle.std.proofs.Common.{◌≡◌, ◌∙◌, ◌++◌, ◌+◌, ◌≤◌, ℕ, List, [], ◌∷◌, length, take, drop, get_or, refl, ap, sym, subst, arith}
 use Rattle.std.proofs.Common.{length-append}
 use Rattle.std.proofs.lemmas.List.{length-take-le, take-append-le}
 use Rattle.std.proofs.Math.Seq.{take-add, take-append_seam, drop-append_seam}
 use borrow.Rule.Slice.PartMut.{put_mid, post_of}
-use Rattle.cf_io.specs.Feeds.{preceded}
-use Rattle.heap_image.proofs.StageLemmas.{preceded_then}
-
-abbrev Rest : Type 0
-Rest = Option (List ℕ)
+use Rattle.std.specs.Prelude.{min}
+use Rattle.cf_io.specs.Feeds.{HasGiven, last_count, preceded}
+use Rattle.script_loop.proofs.CallerLemmas.{given_min}
+use Rattle.heap_image.specs.Feed.{Feed, Takes}
+use Rattle.heap_image.proofs.StageLemmas.{takes_then}
 
 -- the front of a list, and a part of what follows it
 front_and : (a b : List ℕ) (n k : ℕ) → k ≡ length a → take (k + n) (a ++ b) ≡ a ++ take n b
@@ -27,12 +27,20 @@ module _ (at n k : ℕ) (buffer chunk : List ℕ) (within : at ≤ length buffer
       let c = front in
       omega arith
 
-  pub filled_more : (had mid left : Rest) → had ≡ preceded (take at buffer) mid → mid ≡ preceded (take n chunk) left
-      → had ≡ preceded (take (at + n) (put_mid at k buffer chunk)) left
-  filled_more had mid left before more =
-      before ∙ ap (preceded (take at buffer)) more ∙ preceded_then (take at buffer) (take n chunk) left
-      ∙ ap (λ (b : List ℕ). preceded b left) (sym (front_and (take at buffer) (chunk ++ post_of at k buffer) n at front
+  pub filled_more : (had mid left : Feed) → Takes (take at buffer) had mid → Takes (take n chunk) mid left
+      → Takes (take (at + n) (put_mid at k buffer chunk)) had left
+  filled_more had mid left before more = subst (λ (b : List ℕ). Takes b had left)
+      (sym (front_and (take at buffer) (chunk ++ post_of at k buffer) n at front
       ∙ ap (λ (b : List ℕ). take at buffer ++ b) (take-append-le n chunk (post_of at k buffer) few)))
+      (takes_then (take at buffer) (take n chunk) had mid left before more)
+
+-- what a call of a source took
+pub chunk_taken : (n : ℕ) (chunk : List ℕ) (had left : Feed) → n ≤ length chunk → had.rest ≡ preceded (take n chunk) left.rest
+    → left.given ≡ min (had.given + n) last_count → Takes (take n chunk) had left
+chunk_taken n chunk had left few first counted = record {
+  first = first;
+  counted = subst (λ k. HasGiven had.given k left.given) (sym (length-take-le n chunk few)) (given_min had.given left.given n counted);
+}
 
 -- a list of one byte
 pub one_byte : (xs : List ℕ) → length xs ≡ 1 → xs ≡ get_or xs 0 0 ∷ []

@@ -9,8 +9,10 @@ mod ImageDecoded
 mod LivesLemmas
 mod StageLemmas
 mod StepLemmas
+mod CountLemmas
 mod EndLemmas
 mod LoadLemmas
+mod LoadRows
 mod MarkLemmas
 mod FillLemmas
 mod PartLemmas

@@ -1,5 +1,5 @@
 -- The stages of a load put together.
-use Rattle.std.proofs.Common.{◌≡◌, ◌∙◌, ℕ, List, [], Option, Some, None, refl, ap, sym, subst, append-nil}
+use Rattle.std.proofs.Common.{◌≡◌, ◌∙◌, ◌++◌, ℕ, Bool, true, false, List, [], Option, Some, None, refl, ap, sym, subst, append-nil}
 use Rattle.std.specs.Prelude.{Result, Ok, Err}
 use Rattle.std.specs.FinMap.{empty, get, get-empty}
 use Rattle.std.specs.Ordering.{nat_cmp}
@@ -8,6 +8,7 @@ use Rattle.cf_base.specs.declared.kind.Kind.{Kind}
 use Rattle.cf_base.specs.declared.kind.Kind.TheVariants.{Moving}
 use Rattle.cf_base.specs.declared.kind.Layout.TheVariants.{Words}
 use Rattle.cf_base.specs.declared.settings.Settings.{Settings}
+use Rattle.cf_io.specs.Feeds.{IsSpent}
 use Rattle.cf_lemmas.proofs.Maps.{equal_maps}
 use Rattle.cf_model.specs.Rules.{KeepsRules}
 use Rattle.cf_model.specs.State.{HeapState, layout_of}
@@ -19,36 +20,66 @@ use Rattle.page_model.specs.Paging.{AreOne, first_bounds, paging_of}
 use Rattle.page_model.proofs.CallerLemmas.{first_ones}
 use Rattle.run_model.specs.Sessions.{RunState, SessionState}
 use Rattle.run_model.proofs.CallerLemmas.{costs_nothing}
-use Rattle.heap_image.specs.Decoded.{Decoded, breaks_behind, count_decoded, cut, decoded, whole}
+use Rattle.script_loop.specs.ScriptOutcome.{MayFollow}
+use Rattle.heap_image.specs.Decoded.{BreaksNoRule, Decoded, breaks_behind, count_decoded, cut, decoded, whole}
 use Rattle.heap_image.specs.Ends.{EndsBy}
+use Rattle.heap_image.specs.Feed.{Feed}
 use Rattle.heap_image.specs.Heaps.{objects_of}
-use Rattle.heap_image.specs.Load.{HoldsObjects, HoldsTold, IsLoading, LoadsBy, LoadsNothing, TellsBroken}
-use Rattle.heap_image.specs.Stages.{Passes, ReadsSettings, StopsBy}
+use Rattle.heap_image.specs.Load.{HoldsObjects, HoldsTold, IsLoading, LoadsBy, TakesNoMore}
+use Rattle.heap_image.specs.Stages.{Passes, ReadsSettings, StopsAt, StopsBy, Tells, TellsBroken}
 use Rattle.heap_image.specs.declared.fault.LoadFault.{LoadFault}
 use Rattle.heap_image.specs.declared.fault.LoadFault.TheVariants as fault
 use Rattle.transcript_laws.proofs.CallerLemmas.{gone_by_id}
-use Rattle.heap_image.proofs.StageLemmas.{broken_then, part_then, tells_then}
-
-abbrev Rest : Type 0
-Rest = Option (List ℕ)
+use Rattle.heap_image.proofs.StageLemmas.{broken_then, tells_then}
 
 abbrev Reading : Type 0
 Reading = List ℕ → Decoded
 
+-- what may follow where nothing is left
+nothing_follows : (rest : Option (List ℕ)) (more : List ℕ) → IsSpent rest → MayFollow rest true more → more ≡ []
+nothing_follows (Some left) more spent follows = follows ∙ spent
+nothing_follows None more spent follows = follows
+
+-- the bytes break a rule: how the load ends, whether the end cuts them or not
+broken_row : (from to : RunState) (had left : Feed) (at : ℕ) (t : Decoded) → t.broken ≡ Some at → HoldsTold from t.settings t.objects to
+    → TellsBroken decoded had left t → LoadsBy from had (Err (fault.Bad at)) left to
+broken_row from to had left at t broken holds q = record {
+  taken = q.tells.taken;
+  ended = t.is_cut;
+  took = q.tells.took;
+  row = λ more follows. (let row = by t.is_cut more q.stops follows in record {
+    told = t;
+    reads = q.tells.reads;
+    reads_all = row.0;
+    broken = broken;
+    no_more = row.1;
+    holds = holds;
+  });
+}
+  where
+    by : (cut : Bool) (more : List ℕ) → StopsAt decoded q.tells.taken t left cut → MayFollow left.rest cut more
+        → (decoded (q.tells.taken ++ more) ≡ t) × TakesNoMore q.tells.taken more cut
+    by true more stops follows =
+        let none = nothing_follows left.rest more stops follows in
+        (ap (λ (m : List ℕ). decoded (q.tells.taken ++ m)) none ∙ ap decoded (append-nil q.tells.taken) ∙ q.tells.reads, none)
+    by false more stops follows = (stops.reads_on more, stops.last)
+
+-- the source failed: how the load ends
+part_row : (from to : RunState) (had left : Feed) (t : Decoded) → BreaksNoRule t → HoldsTold from t.settings t.objects to
+    → Tells decoded had left t → LoadsBy from had (Err fault.Read) left to
+part_row from to had left t sound holds q = record {
+  taken = q.taken;
+  ended = false;
+  took = q.took;
+  row = λ more follows. record { told = t; reads = q.reads; sound = sound; holds = holds };
+}
+
 -- the settings were not told
-pub settings_stop : (from : RunState) (had left : Rest) (f : LoadFault) → StopsBy None empty decoded had f left → LoadsBy from had (Err f) left from
-settings_stop from had left (fault.Bad at) s = record {
-  told = s.0;
-  tells = s.4;
-  broken = s.1;
-  holds = subst (λ (p : Option Profile). HoldsTold from p s.0.objects from) (sym s.2) refl;
-}
-settings_stop from had left fault.Read s = record {
-  told = s.0;
-  tells = s.3;
-  sound = s.4;
-  holds = subst (λ (p : Option Profile). HoldsTold from p s.0.objects from) (sym s.1) refl;
-}
+pub settings_stop : (from : RunState) (had left : Feed) (f : LoadFault) → StopsBy None empty decoded had f left → LoadsBy from had (Err f) left from
+settings_stop from had left (fault.Bad at) s = broken_row from from had left at s.0 s.1
+    (subst (λ (p : Option Profile). HoldsTold from p s.0.objects from) (sym s.2) refl) s.4
+settings_stop from had left fault.Read s = part_row from from had left s.0 s.4
+    (subst (λ (p : Option Profile). HoldsTold from p s.0.objects from) (sym s.1) refl) s.3
 settings_stop from had left fault.OutOfMemory s = absurd s
 
 nothing_counted : (p : Profile) → count_decoded p [] ≡ cut (breaks_behind p empty 16)
@@ -56,32 +87,39 @@ unfolding count_decoded
 nothing_counted p = refl
 
 -- no memory was found
-pub settings_lack : (from to : RunState) (had left : Rest) (s : Settings) → ReadsSettings 16 decoded had left s → IsClosed from.heap to.heap
-    → to.session ≡ from.session → LoadsNothing from had left to
+pub settings_lack : (from to : RunState) (had left : Feed) (s : Settings) → ReadsSettings 16 decoded had left s → IsClosed from.heap to.heap
+    → to.session ≡ from.session → LoadsBy from had (Err fault.OutOfMemory) left to
 settings_lack from to had left s q closed session = record {
-  profile = profile_of s;
-  told = cut (breaks_behind (profile_of s) empty 16);
-  tells = record {
-    taken = q.taken;
-    took = q.took;
-    taken_tell = ap decoded (sym (append-nil q.taken)) ∙ q.tells [] ∙ nothing_counted (profile_of s);
+  taken = q.taken;
+  ended = false;
+  took = q.took;
+  row = λ more follows. record {
+    profile = profile_of s;
+    told = cut (breaks_behind (profile_of s) empty 16);
+    reads = ap decoded (sym (append-nil q.taken)) ∙ q.tells [] ∙ nothing_counted (profile_of s);
+    settings = refl;
+    few = q.few;
+    lacks = record { closed = closed; session = session };
   };
-  settings = refl;
-  few = q.few;
-  lacks = record { closed = closed; session = session };
 }
 
 -- the objects were told after the settings
-module _ (from to : RunState) (settings : Settings) (q : Profile) (had mid left : Rest) where
+module _ (from to : RunState) (settings : Settings) (q : Profile) (had mid left : Feed) where
   pub loads_whole : q ≡ profile_of settings → Passes decoded had mid (count_decoded (profile_of settings)) → EndsBy (count_decoded q) q mid (Ok tt) left to
       → LoadsBy from had (Ok settings) left to
   loads_whole same passes told =
       let ends = subst (λ (p : Profile). EndsBy (count_decoded p) p mid (Ok tt) left to) same told in
+      let tells = tells_then _ _ had mid left passes (whole (profile_of settings) ends.0) ends.1 in
       record {
-        objects = ends.0;
-        tells = tells_then _ _ had mid left passes (whole (profile_of settings) ends.0) ends.1;
-        spent = ends.2;
-        holds = ends.3;
+        taken = tells.taken;
+        ended = true;
+        took = tells.took;
+        row = λ more follows. record {
+          ended = nothing_follows left.rest more ends.2 follows;
+          objects = ends.0;
+          reads = tells.reads;
+          holds = ends.3;
+        };
       }
 
   pub loads_bad : (f : LoadFault) → q ≡ profile_of settings → Passes decoded had mid (count_decoded (profile_of settings))
@@ -90,30 +128,22 @@ module _ (from to : RunState) (settings : Settings) (q : Profile) (had mid left 
   loads_bad f same passes told = by f (subst (λ (p : Profile). EndsBy (count_decoded p) p mid (Err f) left to) same told)
     where
       by : (f : LoadFault) → EndsBy (count_decoded (profile_of settings)) (profile_of settings) mid (Err f) left to → LoadsBy from had (Err f) left to
-      by (fault.Bad at) ends = record {
-        told = ends.0;
-        tells = broken_then _ _ had mid left passes ends.0 ends.3;
-        broken = ends.1;
-        holds = subst (λ (p : Option Profile). HoldsTold from p ends.0.objects to) (sym ends.2) ends.4;
-      }
-      by fault.Read ends = record {
-        told = ends.0;
-        tells = part_then _ _ had mid left passes ends.0 ends.2;
-        sound = ends.3;
-        holds = subst (λ (p : Option Profile). HoldsTold from p ends.0.objects to) (sym ends.1) ends.4;
-      }
+      by (fault.Bad at) ends = broken_row from to had left at ends.0 ends.1
+          (subst (λ (p : Option Profile). HoldsTold from p ends.0.objects to) (sym ends.2) ends.4) (broken_then _ _ had mid left passes ends.0 ends.3)
+      by fault.Read ends = part_row from to had left ends.0 ends.3
+          (subst (λ (p : Option Profile). HoldsTold from p ends.0.objects to) (sym ends.1) ends.4) (tells_then _ _ had mid left passes ends.0 ends.2)
       by fault.OutOfMemory ends = absurd ends
 
 -- the number of objects was read, and then they
-pub ends_then : (T U : Reading) (p : Profile) (had mid left : Rest) (r : Result Unit LoadFault) (to : RunState) → Passes T had mid U
+pub ends_then : (T U : Reading) (p : Profile) (had mid left : Feed) (r : Result Unit LoadFault) (to : RunState) → Passes T had mid U
     → EndsBy U p mid r left to → EndsBy T p had r left to
 ends_then T U p had mid left (Ok u) to passes ends = (ends.0, tells_then T U had mid left passes _ ends.1, ends.2, ends.3)
 ends_then T U p had mid left (Err (fault.Bad at)) to passes ends = (ends.0, ends.1, ends.2, broken_then T U had mid left passes ends.0 ends.3, ends.4)
-ends_then T U p had mid left (Err fault.Read) to passes ends = (ends.0, ends.1, part_then T U had mid left passes ends.0 ends.2, ends.3, ends.4)
+ends_then T U p had mid left (Err fault.Read) to passes ends = (ends.0, ends.1, tells_then T U had mid left passes ends.0 ends.2, ends.3, ends.4)
 ends_then T U p had mid left (Err fault.OutOfMemory) to passes ends = absurd ends
 
 -- the number of objects was not read
-module _ (T : Reading) (p : Profile) (had left : Rest) (s : RunState) (loading : IsLoading s) (profile : s.heap.profile ≡ p) (none : objects_of s ≡ empty) where
+module _ (T : Reading) (p : Profile) (had left : Feed) (s : RunState) (loading : IsLoading s) (profile : s.heap.profile ≡ p) (none : objects_of s ≡ empty) where
   holds : (t : Decoded) → t.objects ≡ empty → HoldsObjects p t.objects s
   holds t is = record { loading = loading; profile = profile; objects = none ∙ sym is }
 

@@ -1,5 +1,5 @@
 -- The mark of an image, and the settings after it.
-use Rattle.std.proofs.Common.{◌≡◌, ◌∙◌, ◌++◌, ◌+◌, ◌≤◌, ◌<◌, ℕ, Bool, true, false, List, Option, None, length, take, refl, ap, sym, arith}
+use Rattle.std.proofs.Common.{◌≡◌, ◌∙◌, ◌++◌, ◌+◌, ◌≤◌, ◌<◌, ℕ, Bool, true, false, List, None, length, take, refl, ap, sym, arith}
 use Rattle.std.proofs.Common.{append_assoc, inr, length-append}
 use Rattle.std.specs.Prelude.{Result, Ok, Err, if◌then◌else◌, nat_lt}
 use Rattle.std.specs.Int.{w32}
@@ -11,26 +11,22 @@ use Rattle.std.proofs.lemmas.List.{take_all}
 use Rattle.std.proofs.lemmas.Slice.Eq.{bytes_eq-Decides}
 use Rattle.cf_base.specs.Settings.{profile_of}
 use Rattle.cf_base.specs.declared.settings.Settings.{Settings}
-use Rattle.cf_io.specs.Feeds.{preceded}
 use Rattle.heap_image.specs.Decoded.{BreaksNoRule, Decoded, count_decoded, cut, decoded, number, pages_decoded, unopened}
+use Rattle.heap_image.specs.Feed.{Feed, Takes}
 use Rattle.heap_image.specs.Image.{mark}
-use Rattle.heap_image.specs.Load.{TellsBroken}
-use Rattle.heap_image.specs.Stages.{Passes, ReadsNumber, ReadsSettings, SettingsBy, StopsShort}
+use Rattle.heap_image.specs.Stages.{Passes, ReadsNumber, ReadsSettings, SettingsBy, StopsShort, TellsBroken}
 use Rattle.heap_image.specs.declared.fault.LoadFault.{LoadFault}
 use Rattle.heap_image.specs.declared.fault.LoadFault.TheVariants as fault
 use Rattle.heap_image.proofs.ImageDecoded.{if_false, mark_read}
-use Rattle.heap_image.proofs.StageLemmas.{falls_stops, field_breaks, field_tells, preceded_then, stops_then}
-
-abbrev Rest : Type 0
-Rest = Option (List ℕ)
+use Rattle.heap_image.proofs.StageLemmas.{falls_stops, field_breaks, field_tells, stops_then, takes_then}
 
 -- the settings behind so many bytes
-pub settings_then : (T U : List ℕ → Decoded) (a : List ℕ) (k n : ℕ) (had mid left : Rest) (r : Result Settings LoadFault) → length a ≡ k → had ≡ preceded a mid
+pub settings_then : (T U : List ℕ → Decoded) (a : List ℕ) (k n : ℕ) (had mid left : Feed) (r : Result Settings LoadFault) → length a ≡ k → Takes a had mid
     → ((more : List ℕ) → T (a ++ more) ≡ U more) → SettingsBy n U mid r left → SettingsBy (k + n) T had r left
 settings_then T U a k n had mid left (Ok s) long took tells q = record {
   taken = a ++ q.taken;
   few = (let joined = length-append a q.taken in let few = q.few in omega arith);
-  took = took ∙ ap (preceded a) q.took ∙ preceded_then a q.taken left;
+  took = takes_then a q.taken had mid left took q.took;
   tells = λ more. ap T (append_assoc a q.taken more) ∙ tells (q.taken ++ more) ∙ q.tells more;
   one = q.one;
 }
@@ -38,19 +34,19 @@ settings_then T U a k n had mid left (Err f) long took tells q =
     stops_then T U had mid left (record { taken = a; took = took; tells = tells }) None empty f q
 
 -- behind a field
-pub field_then : (bad : Decoded) (test : ℕ → Bool) (go : ℕ → List ℕ → Decoded) (n at count : ℕ) (had mid left : Rest) (r : Result Settings LoadFault)
+pub field_then : (bad : Decoded) (test : ℕ → Bool) (go : ℕ → List ℕ → Decoded) (n at count : ℕ) (had mid left : Feed) (r : Result Settings LoadFault)
     → ReadsNumber w32 at had (Ok n) mid → test n ≡ true → SettingsBy count (go n) mid r left
     → SettingsBy (4 + count) (λ bytes. number w32 bytes bad (λ n rest. if test n then go n rest else bad)) had r left
 field_then bad test go n at count had mid left r reads good q =
     settings_then _ (go n) reads.0 4 count had mid left r reads.1 reads.3 (field_tells w32 bad test go had mid at n reads good) q
 
 -- the settings go on to the objects
-pub settings_pass_on : (n : ℕ) (T : List ℕ → Decoded) (had left : Rest) (s : Settings) → ReadsSettings n T had left s
+pub settings_pass_on : (n : ℕ) (T : List ℕ → Decoded) (had left : Feed) (s : Settings) → ReadsSettings n T had left s
     → Passes T had left (count_decoded (profile_of s))
 settings_pass_on n T had left s q = record { taken = q.taken; took = q.took; tells = q.tells }
 
 -- a field of the settings breaks a rule
-pub settings_bad : (n : ℕ) (T : List ℕ → Decoded) (had left : Rest) (at : ℕ) → TellsBroken T had left (unopened at)
+pub settings_bad : (n : ℕ) (T : List ℕ → Decoded) (had left : Feed) (at : ℕ) → TellsBroken T had left (unopened at)
     → SettingsBy n T had (Err (fault.Bad at)) left
 settings_bad n T had left at tells = (unopened at, refl, refl, refl, tells)
 
@@ -69,8 +65,8 @@ unmarked_short : (bytes : List ℕ) → length bytes < 4 → unmarked bytes ≡ 
 unmarked_short bytes short = (let yes : nat_lt (length bytes) 4 ≡ true = grind (arith, nat_tests) in ap (λ b. record (unopened 0) { is_cut = b }) yes)
 
 -- the mark was read, and then the settings
-pub mark_then : (bytes : List ℕ) (n : ℕ) (had mid left : Rest) (r : Result Settings LoadFault) → length bytes ≡ 4 → bytes_eq bytes mark ≡ true
-    → had ≡ preceded bytes mid → SettingsBy n pages_decoded mid r left → SettingsBy (4 + n) decoded had r left
+pub mark_then : (bytes : List ℕ) (n : ℕ) (had mid left : Feed) (r : Result Settings LoadFault) → length bytes ≡ 4 → bytes_eq bytes mark ≡ true
+    → Takes bytes had mid → SettingsBy n pages_decoded mid r left → SettingsBy (4 + n) decoded had r left
 mark_then bytes n had mid left r four good took q =
     let is = (bytes_eq-Decides bytes mark).0 good in
     settings_then decoded pages_decoded bytes 4 n had mid left r four took (λ more. ap (λ (b : List ℕ). decoded (b ++ more)) is ∙ mark_read more) q
@@ -87,11 +83,11 @@ short_mark bytes short = unmarked_are bytes (go (bytes_eq (take 4 bytes) mark) r
         let n : length bytes ≡ 4 = ap (length {A = ℕ}) (sym all ∙ is) in
         absurd (omega arith)
 
-pub mark_stops : (n : ℕ) (had left : Rest) (f : LoadFault) → StopsShort 4 0 had f left → SettingsBy n decoded had (Err f) left
+pub mark_stops : (n : ℕ) (had left : Feed) (f : LoadFault) → StopsShort 4 0 had f left → SettingsBy n decoded had (Err f) left
 mark_stops n had left f q = falls_stops decoded 4 (unopened 0) short_mark had left 0 f None empty refl refl refl q
 
 -- other bytes were read
-pub mark_bad : (n : ℕ) (bytes : List ℕ) (had left : Rest) → length bytes ≡ 4 → bytes_eq bytes mark ≡ false → had ≡ preceded bytes left
+pub mark_bad : (n : ℕ) (bytes : List ℕ) (had left : Feed) → length bytes ≡ 4 → bytes_eq bytes mark ≡ false → Takes bytes had left
     → SettingsBy n decoded had (Err (fault.Bad 0)) left
 mark_bad n bytes had left four other took = settings_bad n decoded had left 0
     (field_breaks decoded bytes had left (unopened 0) refl (omega arith) took unmarked_on unmarked_sound)

@@ -1,5 +1,5 @@
 -- An object that is filled part by part.
-use Rattle.std.proofs.Common.{◌≡◌, ◌∙◌, ◌++◌, ◌+◌, ◌-◌, ◌≤◌, ◌<◌, ℕ, true, List, [], Option, Some, None, length, take, drop, refl, ap, sym, subst}
+use Rattle.std.proofs.Common.{◌≡◌, ◌∙◌, ◌++◌, ◌+◌, ◌-◌, ◌≤◌, ◌<◌, ℕ, true, List, [], Some, None, length, take, drop, refl, ap, sym, subst}
 use Rattle.std.proofs.Common.{arith, append_assoc, inl, inr, length-append}
 use Rattle.std.specs.Prelude.{replicate, Result, Ok, Err}
 use Rattle.std.specs.FinMap.{get, insert, remove}
@@ -8,23 +8,20 @@ use Rattle.std.proofs.lemmas.Bool.{cases_eq}
 use Rattle.std.proofs.lemmas.List.{drop-replicate, length-replicate}
 use Rattle.std.proofs.Math.Seq.{drop-append-add, take-append_seam}
 use Rattle.cf_base.specs.Settings.{Profile}
-use Rattle.cf_io.specs.Feeds.{preceded}
 use Rattle.cf_lemmas.proofs.Maps.{equal_maps, get_inserted, get_insert_other, get_remove_other, get_removed}
 use Rattle.page_model.specs.Bytes.{written}
 use Rattle.page_model.specs.Held.{Objects}
 use Rattle.run_model.specs.Sessions.{RunState}
 use Rattle.heap_image.specs.Decoded.{Decoded, Reached, breaks_in, bytes_decoded, cut, has_room, length_decoded, passed}
 use Rattle.heap_image.specs.Entries.{EntryBy, FillsObject}
+use Rattle.heap_image.specs.Feed.{Feed, Takes}
 use Rattle.heap_image.specs.Heaps.{objects_of}
 use Rattle.heap_image.specs.Load.{IsLoading}
 use Rattle.heap_image.specs.Stages.{Falls, LeadsTo, Passes, ReadsNumber, StopsBy, StopsShort}
 use Rattle.heap_image.specs.declared.fault.LoadFault.{LoadFault}
 use Rattle.heap_image.specs.declared.objects_in.Entry.{Entry}
 use Rattle.heap_image.proofs.ImageDecoded.{bytes_read, if_true, lt_yes}
-use Rattle.heap_image.proofs.StageLemmas.{falls_stops, field_good, passes_then, preceded_then, stops_then}
-
-abbrev Rest : Type 0
-Rest = Option (List ℕ)
+use Rattle.heap_image.proofs.StageLemmas.{falls_stops, field_good, passes_then, stops_then, takes_then}
 
 module _ (m : Objects) (k : ℕ) (v w : List ℕ) where
   insert_same : get m k ≡ Some v → m ≡ insert m k v
@@ -110,30 +107,27 @@ pub part_fits : (bytes : List ℕ) (n done count : ℕ) → length bytes ≡ don
 part_fits bytes n done count is fits =
     let a = length-append bytes (replicate {A = ℕ} (n - done) 0) in let b = length-replicate {A = ℕ} (n - done) 0 in omega arith
 
--- a part more was taken
-pub took_more : (a b : List ℕ) (had mid left : Rest) → had ≡ preceded a mid → mid ≡ preceded b left → had ≡ preceded (a ++ b) left
-took_more a b had mid left first next = first ∙ ap (preceded a) next ∙ preceded_then a b left
-
-pub falls_more : (a : List ℕ) (n done count : ℕ) (had mid left : Rest) → length a ≡ done → done + count ≤ n → had ≡ preceded a mid → Falls count mid left
+-- a part more was taken, and then fewer bytes than so many
+pub falls_more : (a : List ℕ) (n done count : ℕ) (had mid left : Feed) → length a ≡ done → done + count ≤ n → Takes a had mid → Falls count mid left
     → Falls n had left
 falls_more a n done count had mid left is fits took f = record {
   taken = a ++ f.taken;
   short = (let x = length-append a f.taken in let y = f.short in omega arith);
-  took = took_more a f.taken had mid left took f.took;
+  took = takes_then a f.taken had mid left took f.took;
 }
 
 -- an entry after a part
-pub entry_then : (T U : List ℕ → Decoded) (go : Reached → List ℕ → Decoded) (old : RunState) (r : Reached) (had mid left : Rest) (e : Result Entry LoadFault)
+pub entry_then : (T U : List ℕ → Decoded) (go : Reached → List ℕ → Decoded) (old : RunState) (r : Reached) (had mid left : Feed) (e : Result Entry LoadFault)
     (new : RunState) → Passes T had mid U → EntryBy U go old r mid e left new → EntryBy T go old r had e left new
 entry_then T U go old r had mid left (Ok e) new p q = (q.0, q.1, q.2, passes_then T U had mid left p (go (passed r e.id q.0)) q.3, q.4)
 entry_then T U go old r had mid left (Err f) new p q = (stops_then T U had mid left p (Some old.heap.profile) r.objects f q.0, q.1)
 
 -- the bytes of an object
-module _ (p : Profile) (r : Reached) (id n : ℕ) (go : Reached → List ℕ → Decoded) (had left : Rest) where
+module _ (p : Profile) (r : Reached) (id n : ℕ) (go : Reached → List ℕ → Decoded) (had left : Feed) where
   abbrev bytes_reading : List ℕ → Decoded
   bytes_reading bytes = bytes_decoded p r id n bytes go
 
-  pub bytes_pass : (v : List ℕ) → length v ≡ n → had ≡ preceded v left → Passes bytes_reading had left (go (passed r id v))
+  pub bytes_pass : (v : List ℕ) → length v ≡ n → Takes v had left → Passes bytes_reading had left (go (passed r id v))
   bytes_pass v is took = record {
     taken = v;
     took = took;
@@ -148,7 +142,7 @@ module _ (p : Profile) (r : Reached) (id n : ℕ) (go : Reached → List ℕ →
   bytes_stop f q = falls_stops bytes_reading n (breaks_in p r 6) bytes_short had left (r.at + 6) f (Some p) r.objects refl refl refl q
 
 -- the length and the bytes
-module _ (old mid new : RunState) (r : Reached) (id n : ℕ) (had rest left : Rest) (mine : r.objects ≡ objects_of old) (rises : r.next ≤ id)
+module _ (old mid new : RunState) (r : Reached) (id n : ℕ) (had rest left : Feed) (mine : r.objects ≡ objects_of old) (rises : r.next ≤ id)
     (good : has_room old.heap.profile r.objects n ≡ true) (reads : ReadsNumber w32 (r.at + 2) had (Ok n) rest)
     (made : LeadsTo old mid (insert (objects_of old) id (replicate n 0))) (go : Reached → List ℕ → Decoded) where
   length_passes : Passes (λ bytes. length_decoded old.heap.profile r id bytes go) had rest (λ bytes. bytes_decoded old.heap.profile r id n bytes go)

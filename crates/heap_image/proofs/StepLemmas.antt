@@ -1,5 +1,5 @@
 -- What commands do to the objects by id, where every bound is 1.
-use Rattle.std.proofs.Common.{◌≡◌, ◌≢◌, ◌∙◌, ◌+◌, ◌≤◌, ◌<◌, ℕ, Bool, true, false, List, Option, Some, None, length, refl, ap, sym, subst, arith, inl, inr}
+use Rattle.std.proofs.Common.{◌≡◌, ◌≢◌, ◌∙◌, ◌+◌, ◌*◌, ◌≤◌, ◌<◌, ℕ, Bool, true, false, List, Option, Some, None, length, refl, ap, sym, subst, arith, inl, inr}
 use Rattle.std.specs.Prelude.{◌⊎◌, ◌&&◌, cond, nat_eq, Result, Ok, Err, nat_le, replicate, ◌↔◌}
 use Rattle.std.specs.Bool.{OnFalse, OnTrue}
 use Rattle.std.specs.List.{range_with_len}
@@ -31,13 +31,14 @@ use Rattle.page_model.proofs.CallerLemmas.{malloc_objects, sum_same}
 use Rattle.run_model.specs.Bounds.{IsWanting, MeetsBounds, RefusesByNeed, RefusesForWant}
 use Rattle.run_model.specs.Replies.{malloc_text}
 use Rattle.run_model.specs.Runs.{Turn}
-use Rattle.run_model.specs.Sessions.{Ids, IsGoing, RunState, SessionState}
+use Rattle.run_model.specs.Sessions.{Ids, IsGoing, RunState, SessionState, counted}
 use Rattle.run_model.specs.Steps.{Frees, Mallocs, Writes, ids_given}
 use Rattle.run_model.specs.Texts.{Reply, said}
 use Rattle.run_model.proofs.CallerLemmas.{FreesAt, MallocsAt, WritesAt, bytes_held, bytes_missing, counted_ids, names_of_objects, step_same}
 use Rattle.id_table.specs.Ties.{AreTiedTo}
 use Rattle.script_reader.specs.declared.command.Command.TheVariants.{Free, Malloc, Write}
 use Rattle.transcript_laws.specs.Histories.{objects_by_id}
+use Rattle.heap_image.specs.Counts.{CountsFree, after_mallocs}
 use Rattle.heap_image.specs.Decoded.{has_room, image_paging}
 use Rattle.heap_image.specs.Heaps.{objects_of}
 use Rattle.heap_image.specs.Load.{IsLoading}
@@ -159,6 +160,9 @@ module _ (old new : RunState) (loading : IsLoading old) (going : IsGoing new) wh
         let same = step_same old new (Malloc id n) reply loading.going.rules turn.step in
         made_by outcome mallocs.answer mallocs.step (ap (λ (s : SessionState). s.ids) mallocs.session) same.kind same.profile mallocs.reply_is told
 
+    pub made_counts : new.session ≡ after_mallocs old.session true new.session.ids
+    made_counts = mallocs.session ∙ ap (λ (i : Ids). record old.session { ids = i; bound = 64 }) (sym (ap (λ (s : SessionState). s.ids) mallocs.session))
+
     -- whether it was made
     pub made_or_not : (b : Bool) (outcome : Outcome) → OnTrue b (outcome ≡ Good) → OnFalse b (outcome ≢ Good) → outcome ≡ outcome_of reply
         → (b ≡ has_room old.heap.profile o n) × OnTrue b (LeadsTo old new (insert o id (replicate n 0))) × OnFalse b (LeadsTo old new o)
@@ -205,6 +209,9 @@ module _ (old new : RunState) (loading : IsLoading old) (going : IsGoing new) wh
     wrote = (let same = step_same old new (Write id at bytes) reply loading.going.rules turn.step in
         wrote_by writes.answer writes.step (ap (λ (s : SessionState). s.ids) writes.session) same.kind same.profile)
 
+    pub wrote_counts : new.session ≡ old.session
+    wrote_counts = writes.session
+
   -- f
   module _ (id : ℕ) (v : List ℕ) (some : get o id ≡ Some v) (reply : Reply) (turn : Turn old (Free id) reply new) where
     freed_handle : (h : ℕ) × (get ids id ≡ Some h) × (get m h ≡ Some v)
@@ -219,3 +226,11 @@ module _ (old new : RunState) (loading : IsLoading old) (going : IsGoing new) wh
         let e : new.session.ids ≡ remove ids id = ap (λ (s : SessionState). s.ids) frees.session ∙ counted_ids _ frees.freed.moved _ in
         leads (remove o id) same.kind same.profile frees.step.rest.bounds
         ((λ i. objects_by_id (e i) (frees.step.left i)) ∙ by_id_gone ids m names id freed_handle.0 freed_handle.1)
+
+    pub freed_counts : CountsFree old.session new.session
+    freed_counts = record {
+      freed = frees.freed;
+      counts = frees.session
+          ∙ ap (λ (i : Ids). counted (record old.session { ids = i; bound = 96 + 2 * frees.freed.slot_words }) frees.freed.moved frees.freed.slot_words)
+          (sym (ap (λ (s : SessionState). s.ids) frees.session ∙ counted_ids _ frees.freed.moved _));
+    }

@@ -1,9 +1,9 @@
 -- The objects of an image that is loaded. No public clause cites this module.
-use Rattle.std.specs.Prelude.{◌≡◌, ◌≤◌, ℕ, List, length, Option, Some, Result, Ok, Err}
+use Rattle.std.specs.Prelude.{◌≡◌, ◌≤◌, ℕ, List, length, Some, Result, Ok, Err}
 use Rattle.std.specs.FinMap.{insert, remove}
-use Rattle.cf_io.specs.Feeds.{preceded}
 use Rattle.run_model.specs.Sessions.{RunState}
 use Rattle.heap_image.specs.Decoded.{Decoded, Reached, passed}
+use Rattle.heap_image.specs.Feed.{Feed, Takes}
 use Rattle.heap_image.specs.Heaps.{objects_of}
 use Rattle.heap_image.specs.Stages.{LeadsTo, Passes, StopsBy, StopsShort}
 use Rattle.heap_image.specs.declared.fault.LoadFault.{LoadFault}
@@ -14,13 +14,12 @@ abbrev pub reached_in : RunState → ℕ → ℕ → Reached
 reached_in s next at = record { next = next; objects = objects_of s; at = at }
 
 -- an entry was read, and its object is held; or the objects are as they were
-abbrev pub EntryBy : (List ℕ → Decoded) → (Reached → List ℕ → Decoded) → RunState → Reached → Option (List ℕ) → Result Entry LoadFault → Option (List ℕ)
-    → RunState → Type 0
+abbrev pub EntryBy : (List ℕ → Decoded) → (Reached → List ℕ → Decoded) → RunState → Reached → Feed → Result Entry LoadFault → Feed → RunState → Type 0
 EntryBy reading go old r had (Ok e) left new = (v : List ℕ) × (length v ≡ e.length) × (r.next ≤ e.id) × Passes reading had left (go (passed r e.id v))
     × LeadsTo old new (insert r.objects e.id v)
 EntryBy reading go old r had (Err f) left new = StopsBy (Some old.heap.profile) r.objects reading had f left × LeadsTo old new r.objects
 
 -- an object got its n bytes; or it is gone
-abbrev pub FillsObject : ℕ → ℕ → RunState → ℕ → Option (List ℕ) → Result Unit LoadFault → Option (List ℕ) → RunState → Type 0
-FillsObject n at old id had (Ok u) left new = (v : List ℕ) × (length v ≡ n) × (had ≡ preceded v left) × LeadsTo old new (insert (objects_of old) id v)
+abbrev pub FillsObject : ℕ → ℕ → RunState → ℕ → Feed → Result Unit LoadFault → Feed → RunState → Type 0
+FillsObject n at old id had (Ok u) left new = (v : List ℕ) × (length v ≡ n) × Takes v had left × LeadsTo old new (insert (objects_of old) id v)
 FillsObject n at old id had (Err f) left new = StopsShort n at had f left × LeadsTo old new (remove (objects_of old) id)

@@ -1,7 +1,9 @@
 pub mod Image
 pub mod Decoded
 pub mod Heaps
+pub mod Feed
 pub mod Load
+pub mod Counts
 pub mod Stages
 pub mod Entries
 pub mod Ends

@@ -1,25 +1,19 @@
 -- What loading an image does.
-use Rattle.std.specs.Prelude.{◌≡◌, ℕ, Bool, true, false, List, [], ◌∷◌, ◌++◌, length, Option, Some, None, IfSome, Result, Ok, Err}
+use Rattle.std.specs.Prelude.{◌≡◌, ℕ, Bool, true, false, List, [], ◌∷◌, ◌++◌, length, Option, Some, None, Result, Ok, Err}
 use Rattle.cf_base.specs.Settings.{Profile, profile_of}
 use Rattle.cf_base.specs.declared.kind.Kind.TheVariants.{Moving}
 use Rattle.cf_base.specs.declared.settings.Settings.{Settings}
-use Rattle.cf_io.specs.Feeds.{IsSpent, preceded}
 use Rattle.cf_model.specs.State.{paging_in}
 use Rattle.page_model.specs.Held.{Objects}
 use Rattle.page_model.specs.Paging.{AreOne}
 use Rattle.run_model.specs.Sessions.{IsGoing, RunState}
 use Rattle.script_loop.specs.OneManager.{LacksOne}
+use Rattle.script_loop.specs.ScriptOutcome.{MayFollow}
 use Rattle.heap_image.specs.Decoded.{BreaksNoRule, Decoded, decoded, whole}
+use Rattle.heap_image.specs.Feed.{Feed, Takes}
 use Rattle.heap_image.specs.Heaps.{objects_of}
 use Rattle.heap_image.specs.declared.fault.LoadFault.{LoadFault}
 use Rattle.heap_image.specs.declared.fault.LoadFault.TheVariants as fault
-
--- What was taken of a source, by a reading of it, and what all its bytes tell, where it is observable.
-pub record Tells (reading : List ℕ → Decoded) (had left : Option (List ℕ)) (t : Decoded) : Type 0 where
-  pub taken : List ℕ
-  pub took : had ≡ preceded taken left
-  pub taken_tell : reading taken ≡ t
-  pub all_tell : IfSome had (λ all. reading all ≡ t)
 
 -- the last of these bytes breaks a rule: those before it break none
 pub record LastBreaks (reading : List ℕ → Decoded) (taken : List ℕ) : Type 0 where
@@ -28,24 +22,10 @@ pub record LastBreaks (reading : List ℕ → Decoded) (taken : List ℕ) : Type
   pub are : taken ≡ before ++ (last ∷ [])
   pub sound : BreaksNoRule (reading before)
 
--- no byte was taken past a broken field: where the end cuts the field nothing is left, else its last byte was the last one taken
-abbrev pub TakesNoMore : (List ℕ → Decoded) → List ℕ → Option (List ℕ) → Bool → Type 0
-TakesNoMore reading taken left true = IsSpent left
-TakesNoMore reading taken left false = LastBreaks reading taken
-
--- What was taken of a source, up to the end of the field that breaks, and what all its bytes tell, where it is observable.
-pub record TellsBroken (reading : List ℕ → Decoded) (had left : Option (List ℕ)) (t : Decoded) : Type 0 where
-  pub taken : List ℕ
-  pub took : had ≡ preceded taken left
-  pub taken_tell : reading taken ≡ t
-  pub all_tell : IfSome had (λ all. reading all ≡ t)
-  pub no_more : TakesNoMore reading taken left t.is_cut
-
--- What was taken of a source that then failed.
-pub record TellsInPart (reading : List ℕ → Decoded) (had left : Option (List ℕ)) (t : Decoded) : Type 0 where
-  pub taken : List ℕ
-  pub took : had ≡ preceded taken left
-  pub taken_tell : reading taken ≡ t
+-- no byte was taken past a broken field: where the end cuts the field nothing may follow, else its last byte was the last one taken
+abbrev pub TakesNoMore : List ℕ → List ℕ → Bool → Type 0
+TakesNoMore taken more true = more ≡ []
+TakesNoMore taken more false = LastBreaks decoded taken
 
 -- a session and a manager of kind Moving go on, and every bound is 1
 pub record IsLoading (s : RunState) : Type 0 where
@@ -64,39 +44,48 @@ abbrev pub HoldsTold : RunState → Option Profile → Objects → RunState → 
 HoldsTold from None o to = to ≡ from
 HoldsTold from (Some p) o to = HoldsObjects p o to
 
--- the bytes are an image, all of it was taken, nothing is left, and what it tells is held
-pub record LoadsAll (from : RunState) (had : Option (List ℕ)) (settings : Settings) (left : Option (List ℕ)) (to : RunState) : Type 0 where
+-- the bytes taken are an image of these settings, nothing follows, and what it holds is held
+pub record LoadsAll (taken more : List ℕ) (settings : Settings) (to : RunState) : Type 0 where
+  pub ended : more ≡ []
   pub objects : Objects
-  pub tells : Tells decoded had left (whole (profile_of settings) objects)
-  pub spent : IsSpent left
+  pub reads : decoded taken ≡ whole (profile_of settings) objects
   pub holds : HoldsObjects (profile_of settings) objects to
 
--- the bytes are no image, none was taken past the field that breaks, and what they tell before it is held
-pub record LoadsBroken (from : RunState) (had : Option (List ℕ)) (at : ℕ) (left : Option (List ℕ)) (to : RunState) : Type 0 where
+-- the bytes are no image, none was taken past the field that breaks, and the objects before it are held
+pub record LoadsBroken (from : RunState) (taken more : List ℕ) (at : ℕ) (to : RunState) : Type 0 where
   pub told : Decoded
-  pub tells : TellsBroken decoded had left told
+  pub reads : decoded taken ≡ told
+  pub reads_all : decoded (taken ++ more) ≡ told
   pub broken : told.broken ≡ Some at
+  pub no_more : TakesNoMore taken more told.is_cut
   pub holds : HoldsTold from told.settings told.objects to
 
--- the source failed, the bytes taken by then break no rule, and what they tell is held
-pub record LoadsInPart (from : RunState) (had left : Option (List ℕ)) (to : RunState) : Type 0 where
+-- the bytes taken break no rule, and the objects in them are held
+pub record LoadsInPart (from : RunState) (taken : List ℕ) (to : RunState) : Type 0 where
   pub told : Decoded
-  pub tells : TellsInPart decoded had left told
+  pub reads : decoded taken ≡ told
   pub sound : BreaksNoRule told
   pub holds : HoldsTold from told.settings told.objects to
 
 -- just the mark and the settings were taken, which are 16 bytes, and the manager found no memory for these settings
-pub record LoadsNothing (from : RunState) (had left : Option (List ℕ)) (to : RunState) : Type 0 where
+pub record LoadsNothing (from : RunState) (taken : List ℕ) (to : RunState) : Type 0 where
   pub profile : Profile
   pub told : Decoded
-  pub tells : TellsInPart decoded had left told
+  pub reads : decoded taken ≡ told
   pub settings : told.settings ≡ Some profile
-  pub few : length tells.taken ≡ 16
+  pub few : length taken ≡ 16
   pub lacks : LacksOne from to
 
--- how a load may end
-abbrev pub LoadsBy : RunState → Option (List ℕ) → Result Settings LoadFault → Option (List ℕ) → RunState → Type 0
-LoadsBy from had (Ok settings) left to = LoadsAll from had settings left to
-LoadsBy from had (Err (fault.Bad at)) left to = LoadsBroken from had at left to
-LoadsBy from had (Err fault.Read) left to = LoadsInPart from had left to
-LoadsBy from had (Err fault.OutOfMemory) left to = LoadsNothing from had left to
+-- by the result: what the bytes taken, and those that follow them, are, and what is held
+abbrev pub IsLoaded : RunState → List ℕ → List ℕ → Result Settings LoadFault → RunState → Type 0
+IsLoaded from taken more (Ok settings) to = LoadsAll taken more settings to
+IsLoaded from taken more (Err (fault.Bad at)) to = LoadsBroken from taken more at to
+IsLoaded from taken more (Err fault.Read) to = LoadsInPart from taken to
+IsLoaded from taken more (Err fault.OutOfMemory) to = LoadsNothing from taken to
+
+-- Over every source: these bytes were taken, as many as the source gave, and whatever bytes may follow, the result is that of all of them.
+pub record LoadsBy (from : RunState) (had : Feed) (result : Result Settings LoadFault) (left : Feed) (to : RunState) : Type 0 where
+  pub taken : List ℕ
+  pub ended : Bool
+  pub took : Takes taken had left
+  pub row : (more : List ℕ) → MayFollow left.rest ended more → IsLoaded from taken more result to

@@ -2,6 +2,7 @@
 ghost use Rattle.std.specs.Prelude.{◌≡◌, ◌≤◌, Err, ◌≢◌};
 ghost use Rattle.std.specs.Int.{w16, w32};
 ghost use Rattle.cf_io.specs.Feeds.{Rose};
+ghost use Rattle.heap_image.specs.Feed.{feed_at};
 ghost use Rattle.heap_image.specs.Stages.{Fills, ReadsNumber};
 
 use crate::fault::LoadFault;
@@ -20,7 +21,7 @@ pub(crate) enum Filled {
 
 /// Fills the buffer, however the source cuts its bytes.
 pub(crate) fn fill<S: Source>(source: &mut S, buffer: &mut [u8]) -> Filled
-    ensures fills { Fills (S.rest source.old) buffer.new result (S.rest source.new) }
+    ensures fills { Fills (feed_at (S.rest source.old) (S.given source.old)) buffer.new result (feed_at (S.rest source.new) (S.given source.new)) }
     ensures grows { S.faults source.old ≤ S.faults source.new }
     ensures same { result ≢ Filled.Failed → S.faults source.new ≡ S.faults source.old }
     ensures failed { result ≡ Filled.Failed → Rose (S.faults source.old) (S.faults source.new) }
@@ -42,7 +43,7 @@ pub(crate) fn fill<S: Source>(source: &mut S, buffer: &mut [u8]) -> Filled
 
 /// Reads a number of 16 bits at this offset.
 pub(crate) fn read_u16<S: Source>(source: &mut S, at: u64) -> Result<u16, LoadFault>
-    ensures reads { ReadsNumber w16 at (S.rest source.old) result (S.rest source.new) }
+    ensures reads { ReadsNumber w16 at (feed_at (S.rest source.old) (S.given source.old)) result (feed_at (S.rest source.new) (S.given source.new)) }
     ensures grows { S.faults source.old ≤ S.faults source.new }
     ensures same { result ≢ Err LoadFault.Read → S.faults source.new ≡ S.faults source.old }
     ensures failed { result ≡ Err LoadFault.Read → Rose (S.faults source.old) (S.faults source.new) }
@@ -57,7 +58,7 @@ pub(crate) fn read_u16<S: Source>(source: &mut S, at: u64) -> Result<u16, LoadFa
 
 /// Reads a number of 32 bits at this offset.
 pub(crate) fn read_u32<S: Source>(source: &mut S, at: u64) -> Result<u32, LoadFault>
-    ensures reads { ReadsNumber w32 at (S.rest source.old) result (S.rest source.new) }
+    ensures reads { ReadsNumber w32 at (feed_at (S.rest source.old) (S.given source.old)) result (feed_at (S.rest source.new) (S.given source.new)) }
     ensures grows { S.faults source.old ≤ S.faults source.new }
     ensures same { result ≢ Err LoadFault.Read → S.faults source.new ≡ S.faults source.old }
     ensures failed { result ≡ Err LoadFault.Read → Rose (S.faults source.old) (S.faults source.new) }

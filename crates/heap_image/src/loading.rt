@@ -6,6 +6,8 @@ ghost use Rattle.cf_io.specs.Feeds.{Rose};
 ghost use Rattle.cf_session.specs.Apply.{run_at};
 ghost use Rattle.heap_image.specs.Decoded.{at_first, count_decoded, end_decoded, entries_decoded};
 ghost use Rattle.heap_image.specs.Ends.{EndsBy, EndTold};
+ghost use Rattle.heap_image.specs.Counts.{CountsLoad};
+ghost use Rattle.heap_image.specs.Feed.{feed_at};
 ghost use Rattle.heap_image.specs.Heaps.{objects_of};
 ghost use Rattle.heap_image.specs.Load.{IsLoading, LoadsBy};
 
@@ -32,9 +34,10 @@ pub fn load<S: Source, H: Manager>(
 ) -> Result<Settings, LoadFault>
     requires moving { (H.state heap.old).kind ≡ Moving }
     requires idle { session.old.ids ≡ map.empty }
-    ensures loads { LoadsBy (run_at session.old (H.state heap.old)) (S.rest source.old) result (S.rest source.new)
+    ensures loads { LoadsBy (run_at session.old (H.state heap.old)) (feed_at (S.rest source.old) (S.given source.old)) result (feed_at (S.rest source.new) (S.given source.new))
         (run_at session.new (H.state heap.new)) }
     ensures kind { (H.state heap.new).kind ≡ Moving }
+    ensures counts { CountsLoad session.old result (run_at session.new (H.state heap.new)) }
     ensures grows { S.faults source.old ≤ S.faults source.new }
     ensures same { result ≢ Err LoadFault.Read → S.faults source.new ≡ S.faults source.old }
     ensures read { result ≡ Err LoadFault.Read → Rose (S.faults source.old) (S.faults source.new) }
@@ -65,7 +68,8 @@ fn load_objects<S: Source, H: Manager>(
     requires proxies { (H.state heap.old).profile.proxies ≡ proxies }
     requires few { proxies ≤ 65536 }
     ensures ends { EndsBy (count_decoded (H.state heap.old).profile) (H.state heap.old).profile
-        (S.rest source.old) result (S.rest source.new) (run_at session.new (H.state heap.new)) }
+        (feed_at (S.rest source.old) (S.given source.old)) result (feed_at (S.rest source.new) (S.given source.new)) (run_at session.new (H.state heap.new)) }
+    ensures counts { CountsLoad session.old result (run_at session.new (H.state heap.new)) }
     ensures grows { S.faults source.old ≤ S.faults source.new }
     ensures same { result ≢ Err LoadFault.Read → S.faults source.new ≡ S.faults source.old }
     ensures failed { result ≡ Err LoadFault.Read → Rose (S.faults source.old) (S.faults source.new) }
@@ -92,7 +96,8 @@ fn load_entries<S: Source, H: Manager>(
     requires few { count ≤ (H.state heap.old).profile.proxies }
     requires proxies { (H.state heap.old).profile.proxies ≤ 65536 }
     ensures ends { EndsBy (entries_decoded (H.state heap.old).profile count at_first) (H.state heap.old).profile
-        (S.rest source.old) result (S.rest source.new) (run_at session.new (H.state heap.new)) }
+        (feed_at (S.rest source.old) (S.given source.old)) result (feed_at (S.rest source.new) (S.given source.new)) (run_at session.new (H.state heap.new)) }
+    ensures counts { CountsLoad session.old result (run_at session.new (H.state heap.new)) }
     ensures grows { S.faults source.old ≤ S.faults source.new }
     ensures same { result ≢ Err LoadFault.Read → S.faults source.new ≡ S.faults source.old }
     ensures failed { result ≡ Err LoadFault.Read → Rose (S.faults source.old) (S.faults source.new) }
@@ -114,7 +119,7 @@ fn load_entries<S: Source, H: Manager>(
 
 /// Sees that the source ended at this offset.
 fn read_end<S: Source>(source: &mut S, at: u64) -> Result<(), LoadFault>
-    ensures end { EndTold at (S.rest source.old) result (S.rest source.new) }
+    ensures end { EndTold at (feed_at (S.rest source.old) (S.given source.old)) result (feed_at (S.rest source.new) (S.given source.new)) }
     ensures grows { S.faults source.old ≤ S.faults source.new }
     ensures same { result ≢ Err LoadFault.Read → S.faults source.new ≡ S.faults source.old }
     ensures failed { result ≡ Err LoadFault.Read → Rose (S.faults source.old) (S.faults source.new) }

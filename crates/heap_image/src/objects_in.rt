@@ -1,11 +1,13 @@
 //! The objects of an image: each is made, filled, or freed again, by commands of a session.
-ghost use Rattle.std.specs.Prelude.{◌≡◌, ◌≢◌, ◌+◌, ◌<◌, ◌≤◌, ◌^◌, ℕ, List, Some, None, Err, true, false, length, replicate};
+ghost use Rattle.std.specs.Prelude.{◌≡◌, ◌≢◌, ◌+◌, ◌<◌, ◌≤◌, ◌^◌, ℕ, List, Some, None, Err, OnErr, OnOk, true, false, length, replicate};
 ghost use Rattle.std.specs.Bool.{OnFalse, OnTrue};
 ghost use Rattle.std.specs.FinMap as map;
 ghost use Rattle.cf_io.specs.Feeds.{Rose};
 ghost use Rattle.cf_session.specs.Apply.{run_at};
 ghost use Rattle.page_model.specs.Bytes.{written};
 ghost use Rattle.heap_image.specs.Decoded.{Decoded, Reached, entry_decoded, has_room, length_decoded};
+ghost use Rattle.heap_image.specs.Counts.{CountsFree, CountsStop, after_mallocs};
+ghost use Rattle.heap_image.specs.Feed.{feed_at};
 ghost use Rattle.heap_image.specs.Heaps.{objects_of};
 ghost use Rattle.heap_image.specs.Load.{IsLoading};
 ghost use Rattle.heap_image.specs.Entries.{EntryBy, FillsObject, reached_in};
@@ -45,7 +47,9 @@ pub(crate) fn read_entry<S: Source, H: Manager>(
     ensures entry { (go : Reached → List ℕ → Decoded) → EntryBy (λ bytes. entry_decoded (H.state heap.old).profile
         (reached_in (run_at session.old (H.state heap.old)) next at) bytes go) go
         (run_at session.old (H.state heap.old)) (reached_in (run_at session.old (H.state heap.old)) next at)
-        (S.rest source.old) result (S.rest source.new) (run_at session.new (H.state heap.new)) }
+        (feed_at (S.rest source.old) (S.given source.old)) result (feed_at (S.rest source.new) (S.given source.new)) (run_at session.new (H.state heap.new)) }
+    ensures counts { OnOk result (session.new ≡ after_mallocs session.old true session.new.ids) }
+    ensures stopped { OnErr result (CountsStop session.old session.new) }
     ensures grows { S.faults source.old ≤ S.faults source.new }
     ensures same { result ≢ Err LoadFault.Read → S.faults source.new ≡ S.faults source.old }
     ensures failed { result ≡ Err LoadFault.Read → Rose (S.faults source.old) (S.faults source.new) }
@@ -79,7 +83,9 @@ fn read_object<S: Source, H: Manager>(
     ensures entry { (go : Reached → List ℕ → Decoded) → EntryBy (λ bytes. length_decoded (H.state heap.old).profile
         (reached_in (run_at session.old (H.state heap.old)) next at) id bytes go) go
         (run_at session.old (H.state heap.old)) (reached_in (run_at session.old (H.state heap.old)) next at)
-        (S.rest source.old) result (S.rest source.new) (run_at session.new (H.state heap.new)) }
+        (feed_at (S.rest source.old) (S.given source.old)) result (feed_at (S.rest source.new) (S.given source.new)) (run_at session.new (H.state heap.new)) }
+    ensures counts { OnOk result (session.new ≡ after_mallocs session.old true session.new.ids) }
+    ensures stopped { OnErr result (CountsStop session.old session.new) }
     ensures grows { S.faults source.old ≤ S.faults source.new }
     ensures same { result ≢ Err LoadFault.Read → S.faults source.new ≡ S.faults source.old }
     ensures failed { result ≡ Err LoadFault.Read → Rose (S.faults source.old) (S.faults source.new) }
@@ -105,6 +111,7 @@ fn make_object<H: Manager>(heap: &mut H, session: &mut Session, id: u16, n: u32)
     ensures test { result ≡ has_room (H.state heap.old).profile (objects_of (run_at session.old (H.state heap.old))) n }
     ensures made { OnTrue result (LeadsTo (run_at session.old (H.state heap.old)) (run_at session.new (H.state heap.new))
         (map.insert (objects_of (run_at session.old (H.state heap.old))) id (replicate n 0))) }
+    ensures counts { session.new ≡ after_mallocs session.old true session.new.ids }
     ensures refused { OnFalse result (LeadsTo (run_at session.old (H.state heap.old)) (run_at session.new (H.state heap.new))
         (objects_of (run_at session.old (H.state heap.old)))) }
 {
@@ -143,8 +150,10 @@ fn fill_object<S: Source, H: Manager>(
     requires loading { IsLoading (run_at session.old (H.state heap.old)) }
     requires made { map.get (objects_of (run_at session.old (H.state heap.old))) id ≡ Some (replicate n 0) }
     requires place { length room.old ≡ 4096 }
-    ensures fills { FillsObject n at (run_at session.old (H.state heap.old)) id (S.rest source.old) result (S.rest source.new)
+    ensures fills { FillsObject n at (run_at session.old (H.state heap.old)) id (feed_at (S.rest source.old) (S.given source.old)) result (feed_at (S.rest source.new) (S.given source.new))
         (run_at session.new (H.state heap.new)) }
+    ensures counts { OnOk result (session.new ≡ session.old) }
+    ensures freed { OnErr result (CountsFree session.old session.new) }
     ensures grows { S.faults source.old ≤ S.faults source.new }
     ensures same { result ≢ Err LoadFault.Read → S.faults source.new ≡ S.faults source.old }
     ensures failed { result ≡ Err LoadFault.Read → Rose (S.faults source.old) (S.faults source.new) }
@@ -177,7 +186,8 @@ fn write_part<H: Manager>(heap: &mut H, session: &mut Session, id: u16, at: u32,
     requires few { length bytes.now ≤ 4096 }
     requires within { (v : List ℕ) × (map.get (objects_of (run_at session.old (H.state heap.old))) id ≡ Some v)
         × (at + length bytes.now ≤ length v) }
-    ensures { (v : List ℕ) → map.get (objects_of (run_at session.old (H.state heap.old))) id ≡ Some v
+    ensures counts { session.new ≡ session.old }
+    ensures writes { (v : List ℕ) → map.get (objects_of (run_at session.old (H.state heap.old))) id ≡ Some v
         → LeadsTo (run_at session.old (H.state heap.old)) (run_at session.new (H.state heap.new))
         (map.insert (objects_of (run_at session.old (H.state heap.old))) id (written v at bytes.now)) }
 {
@@ -196,7 +206,8 @@ fn write_part<H: Manager>(heap: &mut H, session: &mut Session, id: u16, at: u32,
 fn free_object<H: Manager>(heap: &mut H, session: &mut Session, id: u16)
     requires loading { IsLoading (run_at session.old (H.state heap.old)) }
     requires live { (v : List ℕ) × (map.get (objects_of (run_at session.old (H.state heap.old))) id ≡ Some v) }
-    ensures { LeadsTo (run_at session.old (H.state heap.old)) (run_at session.new (H.state heap.new))
+    ensures counts { CountsFree session.old session.new }
+    ensures frees { LeadsTo (run_at session.old (H.state heap.old)) (run_at session.new (H.state heap.new))
         (map.remove (objects_of (run_at session.old (H.state heap.old))) id) }
 {
     match session.apply_ref(heap, CommandRef::Free { id }, b"", &mut NullSink) {

@@ -4,6 +4,7 @@ ghost use Rattle.std.specs.Str.{bytes_eq};
 ghost use Rattle.cf_base.specs.Limits.{is_within};
 ghost use Rattle.cf_io.specs.Feeds.{Rose};
 ghost use Rattle.heap_image.specs.Decoded.{decoded, is_page_of, page_bytes_decoded, pages_decoded, proxies_decoded};
+ghost use Rattle.heap_image.specs.Feed.{feed_at};
 ghost use Rattle.heap_image.specs.Image.{mark};
 ghost use Rattle.heap_image.specs.Stages.{SettingsBy};
 
@@ -14,7 +15,7 @@ use cf_io::Source;
 
 /// Reads the mark and the settings, which have the bound 1.
 pub(crate) fn read_settings<S: Source>(source: &mut S) -> Result<Settings, LoadFault>
-    ensures settings { SettingsBy 16 decoded (S.rest source.old) result (S.rest source.new) }
+    ensures settings { SettingsBy 16 decoded (feed_at (S.rest source.old) (S.given source.old)) result (feed_at (S.rest source.new) (S.given source.new)) }
     ensures grows { S.faults source.old ≤ S.faults source.new }
     ensures same { result ≢ Err LoadFault.Read → S.faults source.new ≡ S.faults source.old }
     ensures failed { result ≡ Err LoadFault.Read → Rose (S.faults source.old) (S.faults source.new) }
@@ -47,7 +48,7 @@ fn are_pages(pages: u32) -> bool
 
 /// Reads the settings from the pages on.
 fn read_pages<S: Source>(source: &mut S) -> Result<Settings, LoadFault>
-    ensures settings { SettingsBy 12 pages_decoded (S.rest source.old) result (S.rest source.new) }
+    ensures settings { SettingsBy 12 pages_decoded (feed_at (S.rest source.old) (S.given source.old)) result (feed_at (S.rest source.new) (S.given source.new)) }
     ensures grows { S.faults source.old ≤ S.faults source.new }
     ensures same { result ≢ Err LoadFault.Read → S.faults source.new ≡ S.faults source.old }
     ensures failed { result ≡ Err LoadFault.Read → Rose (S.faults source.old) (S.faults source.new) }
@@ -65,7 +66,7 @@ fn read_pages<S: Source>(source: &mut S) -> Result<Settings, LoadFault>
 /// Reads the settings from the bytes of a page on.
 fn read_page_bytes<S: Source>(source: &mut S, pages: u32) -> Result<Settings, LoadFault>
     requires pages { IsTrue (is_within 1 4096 pages) }
-    ensures settings { SettingsBy 8 (page_bytes_decoded pages) (S.rest source.old) result (S.rest source.new) }
+    ensures settings { SettingsBy 8 (page_bytes_decoded pages) (feed_at (S.rest source.old) (S.given source.old)) result (feed_at (S.rest source.new) (S.given source.new)) }
     ensures grows { S.faults source.old ≤ S.faults source.new }
     ensures same { result ≢ Err LoadFault.Read → S.faults source.new ≡ S.faults source.old }
     ensures failed { result ≡ Err LoadFault.Read → Rose (S.faults source.old) (S.faults source.new) }
@@ -88,7 +89,7 @@ fn read_proxies<S: Source>(
 ) -> Result<Settings, LoadFault>
     requires pages { IsTrue (is_within 1 4096 pages) }
     requires page { IsTrue (is_page_of pages page_bytes) }
-    ensures settings { SettingsBy 4 (proxies_decoded pages page_bytes) (S.rest source.old) result (S.rest source.new) }
+    ensures settings { SettingsBy 4 (proxies_decoded pages page_bytes) (feed_at (S.rest source.old) (S.given source.old)) result (feed_at (S.rest source.new) (S.given source.new)) }
     ensures grows { S.faults source.old ≤ S.faults source.new }
     ensures same { result ≢ Err LoadFault.Read → S.faults source.new ≡ S.faults source.old }
     ensures failed { result ≡ Err LoadFault.Read → Rose (S.faults source.old) (S.faults source.new) }

@@ -14,6 +14,8 @@ use Rattle.cf_base.specs.Settings.{Profile, profile_from}
 use Rattle.cf_model.specs.Rules.{AreInRange}
 use Rattle.page_model.specs.Bytes.{AreBytes}
 use Rattle.page_model.specs.Held.{Objects}
+use Rattle.run_laws.proofs.CallerLemmas.{within_range}
+use Rattle.transcript_laws.proofs.CallerLemmas.{listed_none}
 use Rattle.heap_image.specs.Decoded.{Decoded, IsImage, at_first, breaks_behind, count_decoded, decoded, entries_decoded, is_page_of, page_bytes_decoded}
 use Rattle.heap_image.specs.Decoded.{pages_decoded, proxies_decoded, unopened, whole}
 use Rattle.heap_image.specs.Heaps.{HaveImage, image_under}
@@ -30,9 +32,6 @@ record HasObjects (p : Profile) (bytes : List ℕ) : Type 0 where
   few : len objects ≤ p.proxies
   are : bytes ≡ number_bytes w32 (len objects) ++ entries_of (entries objects)
 
-no_entries : entries (empty {X = List ℕ} {R = nat_cmp}) ≡ []
-no_entries = nil_from_length _ (sym (len-entries (empty {X = List ℕ} {R = nat_cmp})) ∙ len-empty nat_cmp (List ℕ))
-
 count_accepted : (p : Profile) (bytes : List ℕ) → AreBytes bytes → (count_decoded p bytes).broken ≡ None
     → Accepts w32 bytes (λ n. nat_le n p.proxies) (λ n rest. entries_decoded p n at_first rest)
 unfolding count_decoded
@@ -41,8 +40,8 @@ count_accepted p bytes b is = accepts w32 bytes b (breaks_behind p empty 16) 16 
 has_objects : (p : Profile) (bytes : List ℕ) → AreBytes bytes → (count_decoded p bytes).broken ≡ None → HasObjects p bytes
 has_objects p bytes b is =
     let a = count_accepted p bytes b is in
-    let all = enters_all a.n p at_first a.rest a.left (none_held p) (subst (AreUnder 0) (sym no_entries) tt) a.on in
-    let listed : entries all.objects ≡ all.more = all.all ∙ ap (λ (l : List (ℕ × List ℕ)). l ++ all.more) no_entries in
+    let all = enters_all a.n p at_first a.rest a.left (none_held p) (subst (AreUnder 0) (sym listed_none) tt) a.on in
+    let listed : entries all.objects ≡ all.more = all.all ∙ ap (λ (l : List (ℕ × List ℕ)). l ++ all.more) listed_none in
     let many : len all.objects ≡ a.n = len-entries all.objects ∙ ap (length {A = ℕ × List ℕ}) listed ∙ all.many in
     let few = le_told a.n p.proxies a.good in
     record {
@@ -78,9 +77,6 @@ mark_accepted bytes is =
     ((bytes_eq-Decides (take 4 bytes) mark).0 whole.0, whole.1)
 
 -- tests of the settings that hold
-within : (low high n : ℕ) → is_within low high n ≡ true → (low ≤ n) × (n ≤ high)
-within low high n e = (le_told low n (first_true (nat_le low n) (nat_le n high) e), le_told n high (second_true (nat_le low n) (nat_le n high) e))
-
 page_of : (pages n : ℕ) → is_page_of pages n ≡ true → (8 * (n / 8) ≡ n) × (is_page_size (n / 8) ≡ true) × (pages * n ≤ 67108864)
 page_of pages n e =
     let size = first_true (is_page_bytes n) (nat_le (pages * n) 67108864) e in
@@ -95,9 +91,9 @@ page_of pages n e =
 in_range : (pages n proxies : ℕ) → is_within 1 4096 pages ≡ true → is_page_of pages n ≡ true → is_within 1 65536 proxies ≡ true
     → AreInRange (profile_from pages n 1 proxies)
 in_range pages n proxies a b c =
-    let p = within 1 4096 pages a in
+    let p = within_range 1 4096 pages a in
     let q = page_of pages n b in
-    let r = within 1 65536 proxies c in
+    let r = within_range 1 65536 proxies c in
     record {
       some_pages = p.0;
       few_pages = p.1;

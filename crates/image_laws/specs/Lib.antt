@@ -1,1 +1,3 @@
 pub mod Images
+pub mod Scripts
+pub mod Claims

@@ -1,15 +1,36 @@
-//! Which bytes are heap images: just those that are the image of some objects. The public functions
-//! do nothing: each one's contract is a law of the definitions of `heap_image`.
+//! Laws of heap images: which bytes are one, how long it is, that the script that mode `load` prints
+//! makes the objects of the image, and that modes `save` and `load` undo each other. The public
+//! functions do nothing: each one's contract is a law.
 #![tactic(auto)]
 
-ghost use Rattle.std.specs.Prelude.{◌≡◌, ◌↔◌, ◌++◌, ℕ, List, Some, false};
-ghost use Rattle.cf_base.specs.Settings.{Profile};
+ghost use Rattle.std.specs.Prelude.{IsTrue, ◌≡◌, ◌≢◌, ◌↔◌, ◌+◌, ◌*◌, ◌<◌, ◌^◌, ◌++◌, [], ℕ, List, None, Option, Some, codes, false, length, map, true};
+ghost use Rattle.std.specs.FinMap.{get, insert, len};
+ghost use Rattle.cf_base.specs.Settings.{Profile, at_bound_one};
+ghost use Rattle.cf_base.specs.declared.kind.Kind.TheVariants.{Moving};
+ghost use Rattle.cf_base.specs.declared.status.Status.TheVariants.{BadImage, Done};
+ghost use Rattle.cf_model.specs.State.{paging_in};
 ghost use Rattle.heap_image.specs.Decoded.{IsImage, decoded, whole};
+ghost use Rattle.heap_image.specs.Heaps.{HaveImage, image_under, objects_of};
+ghost use Rattle.heap_image.specs.Load.{IsLoading};
+ghost use Rattle.image_laws.specs.Claims.{MeetsLoad, MeetsSave};
 ghost use Rattle.image_laws.specs.Images.{IsImageOf};
+ghost use Rattle.image_laws.specs.Scripts.{after_items, holding, script_items};
+ghost use Rattle.image_run.specs.Loads.{EndsLoad};
+ghost use Rattle.image_run.specs.Saves.{EndsSave, saved};
+ghost use Rattle.image_run.specs.Script.{script_under};
 ghost use Rattle.page_model.specs.Bytes.{AreBytes};
+ghost use Rattle.page_model.specs.Figures.{asked_bytes};
 ghost use Rattle.page_model.specs.Held.{Objects};
+ghost use Rattle.page_model.specs.Paging.{AreOne};
+ghost use Rattle.run_model.specs.Runs.{Run};
+ghost use Rattle.run_model.specs.Sessions.{IsGoing, RunState};
+ghost use Rattle.run_model.specs.Texts.{Reply, said};
+ghost use Rattle.script_loop.specs.ScriptOutcome.{Effects, IsClean};
+ghost use Rattle.script_reader.specs.Items.{Item, items};
+ghost use Rattle.transcript_laws.specs.Histories.{AreAlike, AreFurther};
 
-use heap_image::an_image_is_read_back;
+use headline_laws::equal_objects_get_equal_replies;
+use heap_image::{an_image_determines_its_objects, an_image_is_read_back};
 
 /// Only images are read: bytes that are accepted are the image of some objects under some settings,
 /// byte for byte. And bytes tell just those settings and objects that they are the image of, so that
@@ -29,3 +50,81 @@ pub fn a_broken_rule_stays_broken()
     ensures { (bytes more : List ℕ) (at : ℕ) → (decoded bytes).broken ≡ Some at → (decoded bytes).is_cut ≡ false
         → decoded (bytes ++ more) ≡ decoded bytes }
 {}
+
+/// An image has 20 bytes, 6 for each object, and the bytes of all objects.
+pub fn the_size_of_an_image_is_known_beforehand()
+    ensures { (p : Profile) (o : Objects) → ((id : ℕ) (v : List ℕ) → get o id ≡ Some v → id < 2 ^ 16)
+        → length (image_under p o) ≡ 20 + 6 * len o + asked_bytes o }
+{}
+
+/// The script that mode `load` prints of objects is read back as the commands that make them. It has
+/// no bad line and is within the limit of a script, its commands leave just these objects, and in
+/// every run each reply is `ok`.
+pub fn printed_scripts_are_read_back()
+    ensures read { (p : Profile) (o : Objects) → HaveImage p o → items (script_under p o) true ≡ script_items p o }
+    ensures clean { (p : Profile) (o : Objects) → HaveImage p o → IsClean (Some (script_under p o)) }
+    ensures makes { (p : Profile) (o : Objects) → HaveImage p o
+        → after_items Moving None (script_items p o) ≡ Some (holding p o) }
+    ensures replies { (p : Profile) (o : Objects) (replies : List Reply) (last : Option RunState) → HaveImage p o
+        → Run Moving None (items (script_under p o) true) replies last
+        → replies ≡ map (λ i. said (codes "ok")) (script_items p o) }
+{}
+
+/// The script that mode `load` prints of an image, run in mode `save`, gives that image back, byte for
+/// byte, and ends with equal objects by id.
+pub fn what_was_loaded_is_saved_again()
+    ensures { (from to begin end : RunState) (one two : Effects) (all script : List ℕ)
+        → AreBytes all → one.had ≡ Some all → one.status ≡ Done → one.before ≡ Some [] → one.after ≡ Some script → EndsLoad from one to
+        → begin.heap.kind ≡ Moving
+        → two.had ≡ Some script → two.before ≡ Some [] → two.status ≡ Done → EndsSave begin two end
+        → (two.after ≡ Some all) × AreAlike to end × IsGoing end }
+{
+    only_images_are_read();
+}
+
+/// What mode `save` prints at the end of a script with a `heap` line is an image. Mode `load` never
+/// refuses it, and holds the same objects by id after it, under the same settings with the bound 1.
+/// So if all bounds of the first heap are 1, the same further items get the same replies from both.
+pub fn what_was_saved_is_loaded_again()
+    ensures image { (from to : RunState) (one : Effects) → one.status ≡ Done → EndsSave from one to → IsTrue to.heap.is_open
+        → IsImage (saved to) }
+    ensures taken { (from to : RunState) (one : Effects) → one.status ≡ Done → EndsSave from one to → IsTrue to.heap.is_open
+        → (image : List ℕ) → one.before ≡ Some [] → one.after ≡ Some image
+        → (there begin : RunState) (two : Effects) → two.had ≡ Some image → EndsLoad begin two there → two.status ≢ BadImage }
+    ensures loads { (from to : RunState) (one : Effects) → one.status ≡ Done → EndsSave from one to → IsTrue to.heap.is_open
+        → (image : List ℕ) → one.before ≡ Some [] → one.after ≡ Some image
+        → (there begin : RunState) (two : Effects) → two.had ≡ Some image → two.status ≡ Done → EndsLoad begin two there
+        → (objects_of there ≡ objects_of to) × (there.heap.profile ≡ at_bound_one to.heap.profile) × IsLoading there }
+    ensures further { (from to : RunState) (one : Effects) → one.status ≡ Done → EndsSave from one to → IsTrue to.heap.is_open
+        → (image : List ℕ) → one.before ≡ Some [] → one.after ≡ Some image
+        → (there begin : RunState) (two : Effects) → two.had ≡ Some image → two.status ≡ Done → EndsLoad begin two there
+        → to.heap.profile.k ≡ 1 → AreOne (paging_in to.heap)
+        → (items : List Item) (replies told : List Reply) (last end : Option RunState) → AreFurther items
+        → Run Moving (Some to) items replies last → Run Moving (Some there) items told end → told ≡ replies }
+{
+    an_image_is_read_back();
+    equal_objects_get_equal_replies();
+}
+
+/// Of the script of objects nothing meets the claim of mode `save` but their image: not nothing, not
+/// another length, not an entry too many, not the image of other objects. Of their image nothing meets
+/// the claim of mode `load` but their script: not nothing, not the script of other objects.
+pub fn wrong_images_fall_short()
+    ensures save { (p : Profile) (o : Objects) → HaveImage p o → (printed : List ℕ) → MeetsSave (script_items p o) printed
+        → printed ≡ image_under p o }
+    ensures nothing { (p : Profile) (o : Objects) → HaveImage p o → ¬ MeetsSave (script_items p o) [] }
+    ensures size { (p : Profile) (o : Objects) → HaveImage p o → (printed : List ℕ)
+        → length printed ≢ 20 + 6 * len o + asked_bytes o → ¬ MeetsSave (script_items p o) printed }
+    ensures over { (p : Profile) (o : Objects) → HaveImage p o → (id : ℕ) (v : List ℕ) → get o id ≡ None
+        → HaveImage p (insert o id v) → ¬ MeetsSave (script_items p o) (image_under p (insert o id v)) }
+    ensures others { (p : Profile) (o n : Objects) → HaveImage p o → HaveImage p n → n ≢ o
+        → ¬ MeetsSave (script_items p o) (image_under p n) }
+    ensures load { (p : Profile) (o : Objects) → HaveImage p o → (printed : List ℕ) → MeetsLoad (image_under p o) printed
+        → printed ≡ script_under p o }
+    ensures silent { (p : Profile) (o : Objects) → HaveImage p o → ¬ MeetsLoad (image_under p o) [] }
+    ensures exchanged { (p : Profile) (o n : Objects) → HaveImage p o → HaveImage p n → n ≢ o
+        → ¬ MeetsLoad (image_under p o) (script_under p n) }
+{
+    an_image_determines_its_objects();
+    an_image_is_read_back();
+}

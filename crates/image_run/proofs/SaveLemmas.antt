@@ -1,5 +1,5 @@
 -- What the end of a script tells, where its settings are kept.
-use Rattle.std.proofs.Common.{◌≡◌, ◌≢◌, ◌∙◌, ◌++◌, ℕ, List, [], false, Option, Some, None, refl, ap, sym, subst, inl, inr, arith}
+use Rattle.std.proofs.Common.{◌≡◌, ◌≢◌, ◌∙◌, ◌++◌, ℕ, List, [], false, true, Option, Some, None, refl, ap, sym, subst, inl, inr, arith}
 use Rattle.std.specs.Prelude.{Err, option_map, if◌then◌else◌}
 use Rattle.cf_base.specs.Settings.{profile_of}
 use Rattle.cf_base.specs.declared.answers.Failed.{Failed}
@@ -8,7 +8,7 @@ use Rattle.cf_base.specs.declared.status.Status.{Status}
 use Rattle.cf_base.specs.declared.status.Status.TheVariants.{Done, Words, BadScript, ReadFault, WriteFault, OutOfMemory, TooLong, BadImage}
 use Rattle.cf_io.specs.Feeds.{Puts, Rose, appended, last_count}
 use Rattle.heap_image.specs.Heaps.{heap_image}
-use Rattle.image_run.specs.Saves.{EndsSave, saved}
+use Rattle.image_run.specs.Saves.{CanBeSaved, EndsSave, saved}
 use Rattle.run_model.specs.Sessions.{IsGoing, RunState}
 use Rattle.script_loop.proofs.CallerLemmas.{appended_none, whole_run, wrote_settled}
 use Rattle.script_loop.specs.OneManager.{one_manager}
@@ -68,13 +68,14 @@ module _ (from to : Settled RunState) (call : Effects) where
   }
 
   -- no `heap` line came: nothing was opened
-  pub unopened : MeetsOutcome (with_settings one_manager) from call to → call.status ≡ Done → to.settings ≡ None → from.state.heap.is_open ≡ false → saved to.state ≡ []
+  pub unopened : MeetsOutcome (with_settings one_manager) from call to → call.status ≡ Done → to.settings ≡ None → from.state.heap.is_open ≡ false
+      → to.state.heap.is_open ≡ false
   unopened met done none closed =
       let run = whole_run (with_settings one_manager) from to call met done in
       go run.1.end run.1.stands (wrote_settled from to run.0 call run.1).1
     where
-      go : (end : Option (Settled RunState)) → StandsAfter from end to → GoesWith end → saved to.state ≡ []
-      go None stands on = ap (λ (s : Settled RunState). saved s.state) stands ∙ ap (λ b. if b then heap_image from.state else []) closed
+      go : (end : Option (Settled RunState)) → StandsAfter from end to → GoesWith end → to.state.heap.is_open ≡ false
+      go None stands on = ap (λ (s : Settled RunState). s.state.heap.is_open) stands ∙ closed
       go (Some s) stands on =
           let kept : s.settings ≡ None = ap (λ (s : Settled RunState). s.settings) (sym stands) ∙ none in
           let e : None ≡ Some s.state.heap.profile = ap (option_map profile_of) (sym kept) ∙ on.1 in
@@ -120,12 +121,18 @@ module _ (from to : Settled RunState) (had left : Option (List ℕ)) (gave given
           → EndsSave from.state (call_as st) to.state
       go Done unfinished script whole = absurd (unfinished refl)
       go WriteFault unfinished script whole = absurd (whole refl)
-      go Words unfinished script whole = record { script = script; written = same }
-      go BadScript unfinished script whole = record { script = script; written = same }
-      go ReadFault unfinished script whole = record { script = script; written = same }
-      go OutOfMemory unfinished script whole = record { script = script; written = same }
-      go TooLong unfinished script whole = record { script = script; written = same }
-      go BadImage unfinished script whole = record { script = script; written = same }
+      go Words unfinished script whole =
+          record { script = script; written = same; image = λ is opened. (let e : Words ≡ Done = is in absurd cc) }
+      go BadScript unfinished script whole =
+          record { script = script; written = same; image = λ is opened. (let e : BadScript ≡ Done = is in absurd cc) }
+      go ReadFault unfinished script whole =
+          record { script = script; written = same; image = λ is opened. (let e : ReadFault ≡ Done = is in absurd cc) }
+      go OutOfMemory unfinished script whole =
+          record { script = script; written = same; image = λ is opened. (let e : OutOfMemory ≡ Done = is in absurd cc) }
+      go TooLong unfinished script whole =
+          record { script = script; written = same; image = λ is opened. (let e : TooLong ≡ Done = is in absurd cc) }
+      go BadImage unfinished script whole =
+          record { script = script; written = same; image = λ is opened. (let e : BadImage ≡ Done = is in absurd cc) }
 
   module _ (st : Status) (done : st ≡ Done) (met : MeetsOutcome (with_settings one_manager) from (script_as st) to) where
     script : MeetsOutcome one_manager from.state (script_as Done) to.state
@@ -133,14 +140,22 @@ module _ (from to : Settled RunState) (had left : Option (List ℕ)) (gave given
         (subst (λ (st : Status). MeetsOutcome (with_settings one_manager) from (script_as st) to) done met)
 
     -- it was answered to its end, and nothing was opened
-    pub ends_unopened : saved to.state ≡ [] → after ≡ before → EndsSave from.state (call_as Done) to.state
-    ends_unopened nothing same = record { script = script; written = same ∙ appended_none before ∙ ap (appended before) (sym nothing) }
+    pub ends_unopened : to.state.heap.is_open ≡ false → after ≡ before → EndsSave from.state (call_as Done) to.state
+    ends_unopened closed same = record {
+      script = script;
+      written = same ∙ appended_none before ∙ ap (appended before) (sym (ap (λ b. if b then heap_image to.state else []) closed));
+      image = λ is opened. (let e : false ≡ true = sym closed ∙ opened in absurd cc);
+    }
 
     module _ (image : saved to.state ≡ heap_image to.state) where
       -- the image was written
-      pub ends_saved : after ≡ appended before (heap_image to.state) → EndsSave from.state (call_as Done) to.state
-      ends_saved put = record { script = script; written = put ∙ ap (appended before) (sym image) }
+      pub ends_saved : after ≡ appended before (heap_image to.state) → CanBeSaved to.state → EndsSave from.state (call_as Done) to.state
+      ends_saved put can = record { script = script; written = put ∙ ap (appended before) (sym image); image = λ is opened. can }
 
       -- the image was cut
       pub ends_cut : (e : Failed) → Puts {T = Unit {0}} before (heap_image to.state) (Err e) after → EndsSave from.state (call_as WriteFault) to.state
-      ends_cut e (front, lost, parts, put) = record { script = script; written = (front, lost, image ∙ parts, put) }
+      ends_cut e (front, lost, parts, put) = record {
+        script = script;
+        written = (front, lost, image ∙ parts, put);
+        image = λ is opened. (let e : WriteFault ≡ Done = is in absurd cc);
+      }

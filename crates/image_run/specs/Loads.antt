@@ -5,6 +5,7 @@ use Rattle.cf_base.specs.declared.status.Status.{Status}
 use Rattle.cf_base.specs.declared.status.Status.TheVariants.{Done, ReadFault, WriteFault, OutOfMemory, BadImage}
 use Rattle.cf_io.specs.Feeds.{appended}
 use Rattle.cf_io.specs.Texts.{led, said, with_number}
+use Rattle.heap_image.specs.Feed.{feed_at}
 use Rattle.heap_image.specs.Load.{LoadsBy}
 use Rattle.heap_image.specs.declared.fault.LoadFault.{LoadFault}
 use Rattle.heap_image.specs.declared.fault.LoadFault.TheVariants as fault
@@ -24,14 +25,17 @@ IsCutOff (Err (fault.Bad at)) before to after = WritesPrefix before (bad_image a
 IsCutOff (Err fault.Read) before to after = ⊥
 IsCutOff (Err fault.OutOfMemory) before to after = ⊥
 
+-- a load of the bytes of a call by a result: these bytes were taken, as many as the source gave, and whatever bytes may follow, the result is that of all of them
+abbrev pub LoadsIn : RunState → Effects → Result Settings LoadFault → RunState → Type 0
+LoadsIn from call result to = LoadsBy from (feed_at call.had call.given_before) result (feed_at call.left call.given_after) to
+
 -- by the status: how the image was loaded, and what was written
 abbrev pub EndsLoadBy : Status → RunState → Effects → RunState → Type 0
-EndsLoadBy Done from call to = (settings : Settings) × LoadsBy from call.had (Ok settings) call.left to × (call.after ≡ appended call.before (heap_script to))
-EndsLoadBy BadImage from call to = (at : ℕ) × LoadsBy from call.had (Err (fault.Bad at)) call.left to × (call.after ≡ appended call.before (bad_image at))
-EndsLoadBy ReadFault from call to = LoadsBy from call.had (Err fault.Read) call.left to × (call.after ≡ call.before)
-EndsLoadBy OutOfMemory from call to = LoadsBy from call.had (Err fault.OutOfMemory) call.left to × (call.after ≡ call.before)
-EndsLoadBy WriteFault from call to = (result : Result Settings LoadFault) × LoadsBy from call.had result call.left to
-    × IsCutOff result call.before to call.after
+EndsLoadBy Done from call to = (settings : Settings) × LoadsIn from call (Ok settings) to × (call.after ≡ appended call.before (heap_script to))
+EndsLoadBy BadImage from call to = (at : ℕ) × LoadsIn from call (Err (fault.Bad at)) to × (call.after ≡ appended call.before (bad_image at))
+EndsLoadBy ReadFault from call to = LoadsIn from call (Err fault.Read) to × (call.after ≡ call.before)
+EndsLoadBy OutOfMemory from call to = LoadsIn from call (Err fault.OutOfMemory) to × (call.after ≡ call.before)
+EndsLoadBy WriteFault from call to = (result : Result Settings LoadFault) × LoadsIn from call result to × IsCutOff result call.before to call.after
 EndsLoadBy status from call to = ⊥
 
 -- how an image that is loaded may end

@@ -1,10 +1,12 @@
 -- A script is answered, and what lives at its end is written as an image.
-use Rattle.std.specs.Prelude.{◌≡◌, ◌++◌, ℕ, List, [], Option, None, if◌then◌else◌}
+use Rattle.std.specs.Prelude.{◌≡◌, ◌++◌, ℕ, List, [], Option, None, IsTrue, if◌then◌else◌}
+use Rattle.cf_base.specs.Settings.{at_bound_one}
+use Rattle.cf_base.specs.declared.kind.Kind.TheVariants.{Moving}
 use Rattle.cf_base.specs.declared.status.Status.{Status}
 use Rattle.cf_base.specs.declared.status.Status.TheVariants.{Done, WriteFault}
 use Rattle.cf_io.specs.Feeds.{appended}
-use Rattle.heap_image.specs.Heaps.{heap_image}
-use Rattle.run_model.specs.Sessions.{RunState}
+use Rattle.heap_image.specs.Heaps.{HaveImage, heap_image, objects_of}
+use Rattle.run_model.specs.Sessions.{IsGoing, RunState}
 use Rattle.script_loop.specs.OneManager.{one_manager}
 use Rattle.script_loop.specs.ScriptOutcome.{Effects, MeetsOutcome}
 
@@ -31,7 +33,14 @@ WritesAtEnd Done before bytes after = after ≡ appended before bytes
 WritesAtEnd WriteFault before bytes after = WritesPrefix before bytes after
 WritesAtEnd status before bytes after = after ≡ before
 
+-- a run that can be saved is in progress, and its objects have an image under the settings with the bound 1
+pub record CanBeSaved (s : RunState) : Type 0 where
+  pub going : IsGoing s
+  pub kind : s.heap.kind ≡ Moving
+  pub have : HaveImage (at_bound_one s.heap.profile) (objects_of s)
+
 -- how a script that is saved may end
 pub record EndsSave (from : RunState) (call : Effects) (to : RunState) : Type 0 where
   pub script : MeetsOutcome one_manager from (unseen call) to
   pub written : WritesAtEnd call.status call.before (saved to) call.after
+  pub image : call.status ≡ Done → IsTrue to.heap.is_open → CanBeSaved to

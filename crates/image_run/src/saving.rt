@@ -10,7 +10,7 @@ use cf_base::Status;
 use cf_io::{NullSink, Sink, Source};
 use cf_model::Manager;
 use cf_session::Session;
-use heap_image::save;
+use heap_image::{save, what_lives_has_an_image};
 use script_loop::{WithSettings, play_script};
 use step_ledger::Meter;
 
@@ -45,6 +45,9 @@ pub fn save_script<H: Manager, S: Source, K: Sink>(
     let Some(settings) = player.settings else {
         return Status::Done;
     };
+    // For its contract: each live id has 16 bits. So the objects have an image.
+    let _handle = player.player.handle(0);
+    what_lives_has_an_image();
     let mut meter = Meter::new(rt);
     match save(&settings, heap, &player.player, sink, &mut meter) {
         Ok(()) => Status::Done,

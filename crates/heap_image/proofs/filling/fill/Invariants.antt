@@ -1,11 +1,11 @@
 use Rattle.std.proofs.Common.{◌-◌, ◌≡◌, ◌≤◌, length, take}
-use Rattle.cf_io.specs.Feeds.{preceded}
+use Rattle.heap_image.specs.Feed.{Takes, feed_at}
 use Rattle.heap_image.proofs.filling.fill.Given as goal
 
 abbrev pub invariant-fills : goal.invariant-fills
 invariant-fills g l = record {
   within : l.at ≤ length l.buffer;
-  took : g.S.Source.rest l.initial.source ≡ preceded (take l.at l.buffer) (g.S.Source.rest l.source);
+  took : Takes (take l.at l.buffer) (feed_at (g.S.Source.rest l.initial.source) (g.S.Source.given l.initial.source)) (feed_at (g.S.Source.rest l.source) (g.S.Source.given l.source));
   same : g.S.Source.faults l.source ≡ g.S.Source.faults l.initial.source;
 }
 

@@ -1,5 +1,6 @@
 use Rattle.std.proofs.Common.{refl}
 use Rattle.cf_session.specs.Apply.{run_at}
+use Rattle.heap_image.proofs.CountLemmas.{counts_nothing}
 use Rattle.heap_image.proofs.LoadLemmas.{loads_bad, loads_whole, opened_loading, opened_none, opened_profile, settings_lack, settings_stop}
 use Rattle.heap_image.proofs.MarkLemmas.{settings_pass_on}
 use Rattle.heap_image.proofs.loading.load.Goals as goal
@@ -32,3 +33,9 @@ returns-in-Err-load_objects-clause-loads g c =
     c.in-Ok.ensures.settings.one c.requires.idle c.in-Ok-open_heap.ensures.ok c.in-Ok-open_heap.ensures.rules in
     loads_bad (run_at c.args.session.now (g.H.Manager.state c.args.heap.now)) (run_at c.load_objects.new.session (g.H.Manager.state c.load_objects.new.heap))
     c.in-Ok.settings _ _ _ _ c.in-Err-load_objects.fault opened (settings_pass_on _ _ _ _ _ c.in-Ok.ensures.settings) c.in-Err-load_objects.ensures.ends
+
+pub returns-in-Err-clause-counts : goal.returns-in-Err-clause-counts
+returns-in-Err-clause-counts g c = counts_nothing _
+
+pub returns-in-Err-open_heap-clause-counts : goal.returns-in-Err-open_heap-clause-counts
+returns-in-Err-open_heap-clause-counts g c = counts_nothing _

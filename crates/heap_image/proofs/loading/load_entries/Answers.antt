@@ -1,5 +1,9 @@
-use Rattle.std.proofs.Common.{◌∙◌, arith, refl, rules}
+use Rattle.std.proofs.Common.{◌≡◌, ◌∙◌, ◌+◌, ap, arith, refl, rules, sym, true}
+use Rattle.std.specs.Prelude.{nat_lt}
+use Rattle.std.proofs.lemmas.Bool.Decides.{nat_tests}
 use Rattle.cf_session.specs.Apply.{run_at}
+use Rattle.heap_image.specs.Counts.{after_mallocs}
+use Rattle.heap_image.proofs.CountLemmas.{all_counted, mallocs_then, stop_then}
 use Rattle.heap_image.proofs.EndLemmas.{all_end, entries_begin, entry_counts, entry_ends, entry_fresh, entry_leads, entry_passes, nothing_counts, nothing_fresh}
 use Rattle.heap_image.proofs.loading.load_entries.Goals as goal
 
@@ -12,6 +16,7 @@ entries-init g c =
       passed = entries_begin (g.H.Manager.state c.args.heap.now).profile c.args.count s _ c.requires.none;
       fresh = λ id le. nothing_fresh s c.requires.none id;
       count = nothing_counts s c.requires.none;
+      counts = refl;
       at = omega arith;
       same = omega arith;
     }
@@ -42,6 +47,8 @@ entries-preserved g c =
           c.in-Ok.ensures.entry inv.fresh;
       count = entry_counts p q c.args.count c.entries.i c.entries.next c.entries.at _ _ _ old new c.in-Ok.entry c.entries-test.true inv.profile inv.passed
           c.in-Ok.ensures.entry inv.fresh inv.count;
+      counts = mallocs_then c.args.session.now c.entries.session c.read_entry.new.session (nat_lt 0 c.entries.i) inv.counts c.in-Ok.ensures.counts
+          ∙ ap (λ b. after_mallocs c.args.session.now b c.read_entry.new.session.ids) (let lt : nat_lt 0 (c.entries.i + 1) ≡ true = grind (arith, nat_tests) in sym lt);
       at = first_of (omega (arith, at), omega (arith, at, c.read_entry.type_inv), grind (arith, at), search rules);
       same = c.in-Ok.ensures.same (λ e. cc) ∙ inv.same;
     }
@@ -52,3 +59,11 @@ returns-clause-ends g c =
     all_end (g.H.Manager.state c.args.heap.now).profile c.args.count c.entries.i c.entries.next c.entries.at _ _ _
     (run_at c.entries.session (g.H.Manager.state c.entries.heap)) c.read_end.result c.entries-test.false inv.loading inv.profile inv.passed
     c.read_end.ensures.end
+
+pub returns-in-Err-clause-counts : goal.returns-in-Err-clause-counts
+returns-in-Err-clause-counts g c = stop_then c.args.session.now c.entries.session c.read_entry.new.session (nat_lt 0 c.entries.i) c.entries.invariant.counts c.in-Err.ensures.stopped
+
+pub returns-clause-counts : goal.returns-clause-counts
+returns-clause-counts g c =
+    all_counted c.args.session.now (run_at c.entries.session (g.H.Manager.state c.entries.heap)) c.entries.i c.read_end.result c.entries.invariant.counts
+    c.entries.invariant.count

@@ -5,6 +5,7 @@ use Rattle.std.specs.Int.{w32}
 use Rattle.std.proofs.lemmas.Bool.Decides.{nat_tests}
 use Rattle.cf_session.specs.Apply.{run_at}
 use Rattle.heap_image.specs.Decoded.{at_first, breaks_behind, count_decoded, entries_decoded}
+use Rattle.heap_image.proofs.CountLemmas.{counts_nothing}
 use Rattle.heap_image.proofs.LoadLemmas.{bad_end, ends_then, stops_end}
 use Rattle.heap_image.proofs.StageLemmas.{field_bad, field_good, field_stops}
 use Rattle.heap_image.proofs.loading.load_objects.Goals as goal
@@ -36,3 +37,9 @@ returns-clause-ends g c =
     ends_then (count_decoded p) (entries_decoded p c.in-Ok.count at_first) p _ _ _ c.load_entries.result _
     (field_good w32 (breaks_behind p empty 16) (λ n. nat_le n p.proxies) (λ n rest. entries_decoded p n at_first rest) _ _ 16 c.in-Ok.count
     c.in-Ok.ensures.reads yes) c.load_entries.ensures.ends
+
+pub returns-in-Err-clause-counts : goal.returns-in-Err-clause-counts
+returns-in-Err-clause-counts g c = counts_nothing _
+
+pub returns-then-count-proxies-clause-counts : goal.returns-then-count-proxies-clause-counts
+returns-then-count-proxies-clause-counts g c = counts_nothing _

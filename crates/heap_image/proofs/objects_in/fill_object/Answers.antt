@@ -1,10 +1,13 @@
 use Rattle.std.proofs.Common.{◌≡◌, ◌∙◌, ◌+◌, ◌-◌, ◌++◌, ◌≤◌, [], length, length-append, refl, arith, subst}
 use Rattle.std.specs.Prelude.{replicate}
+use Rattle.run_model.specs.Sessions.{SessionState}
 use Rattle.std.proofs.lemmas.List.{length-take-le}
 use Rattle.cf_session.specs.Apply.{run_at}
+use Rattle.heap_image.specs.Counts.{CountsFree}
+use Rattle.heap_image.specs.Feed.{feed_at}
 use Rattle.heap_image.specs.Stages.{Falls}
-use Rattle.heap_image.proofs.EndLemmas.{nothing_taken}
-use Rattle.heap_image.proofs.PartLemmas.{falls_more, held_in, leads_first, leads_removed, leads_written, part_fits, took_more, written_next}
+use Rattle.heap_image.proofs.PartLemmas.{falls_more, held_in, leads_first, leads_removed, leads_written, part_fits, written_next}
+use Rattle.heap_image.proofs.StageLemmas.{takes_nothing, takes_then}
 use Rattle.heap_image.proofs.objects_in.fill_object.Goals as goal
 
 pub chunks-init : goal.chunks-init
@@ -12,8 +15,9 @@ chunks-init g c = record {
   within = omega arith;
   bytes = [];
   count = refl;
-  took = nothing_taken _;
+  took = takes_nothing _;
   leads = leads_first (run_at c.args.session.now (g.H.Manager.state c.args.heap.now)) c.args.id c.args.n c.requires.loading c.requires.made;
+  counts = refl;
   same = omega arith;
 }
 
@@ -39,10 +43,11 @@ returns-in-Cut-clause-fills g c =
     let size : length c.fill.new.buffer ≡ c.min-count.result = c.fill.auto.buffer ∙ length-take-le c.min-count.result c.chunks.room
     (omega (arith, c.min-count.ensures, c.requires.place, c.chunks.auto.room)) in
     let fits : c.chunks.done + c.min-count.result ≤ c.args.n = omega (arith, c.min-count.ensures) in
-    let falls = subst (λ k. Falls k (g.S.Source.rest c.chunks.source) (g.S.Source.rest c.fill.new.source)) size c.in-Cut.ensures.fills.0 in (
+    let falls = subst (λ k. Falls k (feed_at (g.S.Source.rest c.chunks.source) (g.S.Source.given c.chunks.source))
+    (feed_at (g.S.Source.rest c.fill.new.source) (g.S.Source.given c.fill.new.source))) size c.in-Cut.ensures.fills.0 in (
       (refl, falls_more so_far.bytes c.args.n c.chunks.done c.min-count.result _ _ _ so_far.count fits so_far.took falls, c.in-Cut.ensures.fills.1),
       leads_removed (run_at c.args.session.now (g.H.Manager.state c.args.heap.now)) (run_at c.chunks.session (g.H.Manager.state c.chunks.heap))
-          (run_at c.free_object.new.session (g.H.Manager.state c.free_object.new.heap)) c.args.id _ so_far.leads c.free_object.ensures,
+          (run_at c.free_object.new.session (g.H.Manager.state c.free_object.new.heap)) c.args.id _ so_far.leads c.free_object.ensures.frees,
     )
 
 pub returns-in-Failed-clause-fills : goal.returns-in-Failed-clause-fills
@@ -51,11 +56,12 @@ returns-in-Failed-clause-fills g c =
     let size : length c.fill.new.buffer ≡ c.min-count.result = c.fill.auto.buffer ∙ length-take-le c.min-count.result c.chunks.room
     (omega (arith, c.min-count.ensures, c.requires.place, c.chunks.auto.room)) in
     let fits : c.chunks.done + c.min-count.result ≤ c.args.n = omega (arith, c.min-count.ensures) in
-    let falls = subst (λ k. Falls k (g.S.Source.rest c.chunks.source) (g.S.Source.rest c.fill.new.source)) size c.in-Failed.ensures.fills in (
+    let falls = subst (λ k. Falls k (feed_at (g.S.Source.rest c.chunks.source) (g.S.Source.given c.chunks.source))
+    (feed_at (g.S.Source.rest c.fill.new.source) (g.S.Source.given c.fill.new.source))) size c.in-Failed.ensures.fills in (
       falls_more so_far.bytes c.args.n c.chunks.done c.min-count.result _ _ _ so_far.count fits so_far.took falls,
       leads_removed (run_at c.args.session.now (g.H.Manager.state c.args.heap.now)) (run_at c.chunks.session (g.H.Manager.state c.chunks.heap))
           (run_at c.free_object-in-Failed.new.session (g.H.Manager.state c.free_object-in-Failed.new.heap)) c.args.id _ so_far.leads
-          c.free_object-in-Failed.ensures,
+          c.free_object-in-Failed.ensures.frees,
     )
 
 pub write_part-requires-clause-within : goal.write_part-requires-clause-within
@@ -82,9 +88,18 @@ chunks-preserved g c =
       within = fits;
       bytes = so_far.bytes ++ c.fill.new.buffer;
       count = (let l = length-append so_far.bytes c.fill.new.buffer in let m = so_far.count in omega (arith, l, m, size));
-      took = took_more so_far.bytes c.fill.new.buffer _ _ _ so_far.took c.in-Whole.ensures.fills;
+      took = takes_then so_far.bytes c.fill.new.buffer _ _ _ so_far.took c.in-Whole.ensures.fills;
       leads = leads_written old mid (run_at c.write_part.new.session (g.H.Manager.state c.write_part.new.heap)) c.args.id _ _ _ so_far.leads
-          (c.write_part.ensures (so_far.bytes ++ replicate (c.args.n - c.chunks.done) 0) (held_in old mid c.args.id _ so_far.leads))
+          (c.write_part.ensures.writes (so_far.bytes ++ replicate (c.args.n - c.chunks.done) 0) (held_in old mid c.args.id _ so_far.leads))
           (written_next so_far.bytes c.fill.new.buffer c.args.n c.chunks.done c.min-count.result so_far.count size fits);
+      counts = c.write_part.ensures.counts ∙ so_far.counts;
       same = c.in-Whole.ensures.same (λ e. cc) ∙ so_far.same;
     }
+
+pub returns-in-Cut-clause-freed : goal.returns-in-Cut-clause-freed
+returns-in-Cut-clause-freed g c =
+    subst (λ (s : SessionState). CountsFree s c.free_object.new.session) c.chunks.invariant.counts c.free_object.ensures.counts
+
+pub returns-in-Failed-clause-freed : goal.returns-in-Failed-clause-freed
+returns-in-Failed-clause-freed g c =
+    subst (λ (s : SessionState). CountsFree s c.free_object-in-Failed.new.session) c.chunks.invariant.counts c.free_object-in-Failed.ensures.counts

@@ -5,6 +5,7 @@ use Rattle.std.proofs.lemmas.Bool.Decides.{nat_tests}
 use Rattle.cf_session.specs.Apply.{run_at}
 use Rattle.heap_image.specs.Decoded.{breaks_in, entry_decoded, length_decoded}
 use Rattle.heap_image.specs.Entries.{reached_in}
+use Rattle.heap_image.proofs.CountLemmas.{counts_nothing}
 use Rattle.heap_image.proofs.PartLemmas.{entry_then, leads_still}
 use Rattle.heap_image.proofs.StageLemmas.{field_bad, field_good, field_stops}
 use Rattle.heap_image.proofs.objects_in.read_entry.Goals as goal
@@ -50,3 +51,9 @@ returns-clause-entry g c = λ go.
     entry_then (λ bytes. entry_decoded p r bytes go) (λ bytes. length_decoded p r c.in-Ok.id bytes go) go old r _ _ _ c.read_object.result _
     (field_good w16 (breaks_in p r 0) (λ id. nat_le r.next id) (λ id rest. length_decoded p r id rest go) _ _ c.args.at c.in-Ok.id c.in-Ok.ensures.reads yes)
     (c.read_object.ensures.entry go)
+
+pub returns-in-Err-clause-stopped : goal.returns-in-Err-clause-stopped
+returns-in-Err-clause-stopped g c = counts_nothing _
+
+pub returns-then-id-next-clause-stopped : goal.returns-then-id-next-clause-stopped
+returns-then-id-next-clause-stopped g c = counts_nothing _

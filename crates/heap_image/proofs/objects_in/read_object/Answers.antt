@@ -1,4 +1,4 @@
-use Rattle.std.proofs.Common.{◌≡◌, ◌∙◌, ◌+◌, Some, false, true, refl, subst, sym, arith}
+use Rattle.std.proofs.Common.{◌≡◌, ◌∙◌, ◌+◌, Some, false, true, ap, refl, inl, inr, subst, sym, arith}
 use Rattle.std.specs.Prelude.{replicate}
 use Rattle.std.specs.Bool.{OnFalse, OnTrue}
 use Rattle.std.specs.FinMap.{insert}
@@ -8,6 +8,9 @@ use Rattle.heap_image.specs.Decoded.{breaks_in, bytes_decoded, has_room, length_
 use Rattle.heap_image.specs.Entries.{reached_in}
 use Rattle.heap_image.specs.Heaps.{objects_of}
 use Rattle.heap_image.specs.Stages.{LeadsTo}
+use Rattle.run_model.specs.Sessions.{Ids, SessionState}
+use Rattle.heap_image.specs.Counts.{after_mallocs}
+use Rattle.heap_image.proofs.CountLemmas.{counts_nothing, free_then}
 use Rattle.heap_image.proofs.PartLemmas.{held_in, leads_still, object_read, object_stops}
 use Rattle.heap_image.proofs.StageLemmas.{field_bad, field_stops}
 use Rattle.heap_image.proofs.objects_in.read_object.Goals as goal
@@ -69,3 +72,18 @@ returns-in-Err-fill_object-clause-entry g c = λ go.
     let made = subst (λ b. OnTrue b (LeadsTo old mid (insert (objects_of old) c.args.id (replicate c.in-Ok.n 0)))) yes c.make_object.ensures.made in
     object_stops old mid new (reached_in old c.args.next c.args.at) c.args.id c.in-Ok.n _ _ _ refl c.requires.rises (sym c.make_object.ensures.test ∙ yes)
     c.in-Ok.ensures.reads made go c.in-Err-fill_object.fault c.requires.fresh c.in-Err-fill_object.ensures.fills
+
+pub returns-in-Err-clause-stopped : goal.returns-in-Err-clause-stopped
+returns-in-Err-clause-stopped g c = counts_nothing _
+
+pub returns-then-not-make_object-clause-stopped : goal.returns-then-not-make_object-clause-stopped
+returns-then-not-make_object-clause-stopped g c = inl (true, c.make_object.ensures.counts)
+
+pub returns-in-Ok-fill_object-clause-counts : goal.returns-in-Ok-fill_object-clause-counts
+returns-in-Ok-fill_object-clause-counts g c =
+    c.in-Ok-fill_object.ensures.counts ∙ c.make_object.ensures.counts
+    ∙ ap (λ (i : Ids). after_mallocs c.args.session.now true i) (sym (ap (λ (s : SessionState). s.ids) c.in-Ok-fill_object.ensures.counts))
+
+pub returns-in-Err-fill_object-clause-stopped : goal.returns-in-Err-fill_object-clause-stopped
+returns-in-Err-fill_object-clause-stopped g c =
+    inr (free_then _ _ _ true c.make_object.ensures.counts c.in-Err-fill_object.ensures.freed)

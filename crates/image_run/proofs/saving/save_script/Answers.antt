@@ -1,4 +1,5 @@
-use Rattle.std.proofs.Common.{refl}
+use Rattle.std.proofs.Common.{◌≡◌, ◌∙◌, refl}
+use Rattle.cf_base.specs.declared.kind.Kind.TheVariants.{Moving}
 use Rattle.cf_session.specs.Apply.{run_at}
 use Rattle.script_loop.specs.WithSettings.{settled}
 use Rattle.image_run.proofs.SaveLemmas.{cut_causes, done_same, ends_cut, ends_early, ends_saved, ends_unopened, never_cut, opened, saved_going, unopened, whole_causes}
@@ -55,7 +56,13 @@ returns-in-Ok-clause-ends g c =
     let from = settled (run_at c.args.player.now.player (g.H.Manager.state c.args.heap.now)) c.args.player.now.settings in
     let to = settled (run_at c.play_script.new.player.player (g.H.Manager.state c.play_script.new.heap)) c.play_script.new.player.settings in
     let going = (opened from to _ c.in-Some.settings by.outcome c.in-Done.is c.in-Some.is c.requires.unset).0 in
+    let moving : (g.H.Manager.state c.play_script.new.heap).kind ≡ Moving = by.plan ∙ c.requires.moving in
     ends_saved from to _ _ _ _ _ _ c.play_script.result c.in-Done.is by.outcome (saved_going to.state going) c.in-Ok.ensures.puts
+    (record {
+      going = going;
+      kind = moving;
+      have = (c.what_lives_has_an_image.ensures.lives to.state going c.handle-handle.ensures.within moving).0;
+    })
 
 pub returns-in-Err-clause-ends : goal.returns-in-Err-clause-ends
 returns-in-Err-clause-ends g c =

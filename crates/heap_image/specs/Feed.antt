@@ -1,0 +1,16 @@
+-- What a source shows of the bytes that are read.
+use Rattle.std.specs.Prelude.{◌≡◌, ℕ, List, length, Option}
+use Rattle.cf_io.specs.Feeds.{HasGiven, preceded}
+
+-- the bytes left, where the source is observable, and how many it has given
+pub record Feed : Type 0 where
+  pub rest : Option (List ℕ)
+  pub given : ℕ
+
+abbrev pub feed_at : Option (List ℕ) → ℕ → Feed
+feed_at rest given = record { rest = rest; given = given }
+
+-- These bytes were taken: they came first, where the source is observable, and over every source they were given.
+pub record Takes (taken : List ℕ) (had left : Feed) : Type 0 where
+  pub first : had.rest ≡ preceded taken left.rest
+  pub counted : HasGiven had.given (length taken) left.given
