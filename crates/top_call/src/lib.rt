@@ -1,16 +1,9 @@
-//! The top call: what the words of the command line choose is done over any source, any sink and any
-//! managers.
+//! The top call: does what the arguments choose, over any source, any sink and any managers.
 #![tactic(auto)]
 
-mod benching;
-mod boxed;
-mod comparing;
-mod images;
-mod large;
 mod quota;
-mod running;
 mod slice;
 mod top;
 
-pub use boxed::Boxed;
+pub use manager_modes::Boxed;
 pub use top::cf_main;

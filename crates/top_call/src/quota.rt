@@ -1,8 +1,6 @@
 //! Mode `quota`.
-ghost use Rattle.std.specs.Prelude.{List};
-ghost use Rattle.cf_model.specs.State.{HeapState};
-ghost use Rattle.script_loop.specs.ScriptOutcome.{sink_at, source_at};
-ghost use Rattle.top_call.specs.TopOutcome.{Ends, PlaysQuotas, handed};
+ghost use Rattle.manager_modes.specs.Outcomes.{EndsBeside, sink_seen, source_seen};
+ghost use Rattle.top_call.specs.TopOutcome.{PlaysQuotas};
 
 use cf_base::Status;
 use cf_io::{Sink, Source};
@@ -10,19 +8,15 @@ use quota_heap::QuotaHeap;
 use quota_session::{QuotaPlayer, run_quotas};
 use std::alloc::Global;
 
-/// Answers a script of tasks, each with a quota of pages, on a heap that is made for it.
+/// Runs a script of tasks, each with a quota of pages, on a heap that is made for it.
 pub fn play_quotas<S: Source, K: Sink>(
     rt: &HostRuntime,
     alloc: Global,
     source: &mut S,
     sink: &mut K,
 ) -> Status
-    ensures { (managers : List HeapState) → Ends PlaysQuotas
-        (handed (source_at (S.rest source.old) (S.given source.old) (S.faults source.old))
-        (sink_at (K.written sink.old) (K.faults sink.old)) managers)
-        result
-        (handed (source_at (S.rest source.new) (S.given source.new) (S.faults source.new))
-        (sink_at (K.written sink.new) (K.faults sink.new)) managers) }
+    ensures { EndsBeside PlaysQuotas (source_seen S.Source source.old) (sink_seen K.Sink sink.old) result
+        (source_seen S.Source source.new) (sink_seen K.Sink sink.new) }
 {
     let Ok(mut player) = QuotaPlayer::start(rt, alloc) else {
         return Status::OutOfMemory;

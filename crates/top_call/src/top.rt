@@ -1,35 +1,33 @@
 //! The top call.
-ghost use Rattle.std.specs.Prelude.{◌≡◌, ◌<◌, ◌+◌, ◌⊎◌, map, string_bytes, ◌≢◌};
+ghost use Rattle.std.specs.Prelude.{◌≡◌, ◌<◌, ◌≤◌, ◌+◌, ◌⊎◌, map, string_bytes, ◌≢◌};
 ghost use Rattle.cf_io.specs.Feeds.{Rose, last_count};
-ghost use Rattle.script_loop.specs.ScriptOutcome.{MOST_BYTES, sink_at, source_at};
-ghost use Rattle.top_call.specs.TopOutcome.{EndsWell, EndsWhole, HasRightInput, TellsAsClaimed, handed};
+ghost use Rattle.script_loop.specs.ScriptOutcome.{MOST_BYTES};
+ghost use Rattle.manager_modes.specs.Outcomes.{Ends, EndsWhole, seen};
+ghost use Rattle.top_call.specs.TopOutcome.{EndsWell, HasRightInput, InMode, TellsAsClaimed};
 
-use crate::benching::bench;
-use crate::comparing::compare;
-use crate::images::{load_image, save_image};
-use crate::large::play_large;
 use crate::quota::play_quotas;
-use crate::running::run_chosen;
 use crate::slice::play_slices;
 use cf_base::Status;
 use cf_io::{Sink, Source};
 use cf_model::Manager;
-use command_line::{Mode, WordsFault, read_words};
+use command_line::{Choice, Mode, WordsFault, read_words};
+use manager_modes::{bench_seed, compare_all, load_image, play_large, run_chosen, save_image};
 use std::alloc::Global;
 
-/// Reads the words, of which the first is the program's name, and does what they choose.
+/// Reads the arguments, of which the first is the program's name, and does what they choose.
 ///
-/// In mode `run` the first manager of the chosen kind answers a script of at most 268,435,455 bytes,
-/// or a closed one that is made where none is of the kind: its `heap` line opens the manager, and each
-/// command is answered before the next chunk is taken from the source. No other manager is touched.
-/// In mode `compare` every manager handed in answers, in order: each line of its replies after its
-/// name, and `bad line` once and without a name. Mode `save` prints no reply, and at the end what lives
-/// as an image; mode `load` reads an image, and prints the script that makes what it holds, or answers
-/// `BadImage`. In the modes `large`, `slice` and `quota` a heap that is made for it answers the script.
-/// The call ends at the end of the script with `Done`; at a line that isn't in the grammar at its place with
-/// `BadScript`; where more bytes come with `TooLong`; at a fault with `ReadFault` or
-/// `WriteFault`; and out of memory with `OutOfMemory`, before any reply. It answers `Words` exactly
-/// where `clap` refuses the words for another cause than memory.
+/// In mode `run` the first manager of the chosen kind runs a script of at most 268,435,455 bytes; if
+/// there is none of the kind, a closed one that is made for it. The `heap` line opens the manager, and
+/// the reply to each command is written before the next chunk is taken from the source. No other manager
+/// is touched. In mode `compare` every given manager runs the script, in order: each line of its replies
+/// follows its name; `bad line` is printed once and without a name. Mode `save` prints no reply, and at
+/// the end the objects that are live, as an image; mode `load` reads an image, and prints the script that
+/// makes its objects, or returns `BadImage`. In the modes `large`, `slice` and `quota` a heap that is made
+/// for it runs the script.
+/// The call returns `Done` at the end of the script; `BadScript` at a line that the grammar does not allow
+/// at its place; `TooLong` if more bytes come; `ReadFault` or `WriteFault` at a fault; and `OutOfMemory`
+/// before any reply. It returns `Words` if and only if `clap` refuses the arguments for another cause than
+/// memory.
 pub fn cf_main<H: Manager, S: Source, K: Sink>(
     rt: &HostRuntime,
     alloc: Global,
@@ -39,18 +37,12 @@ pub fn cf_main<H: Manager, S: Source, K: Sink>(
     managers: &mut Vec<H>,
 ) -> Status
     ensures outcome { EndsWell (map (λ word. string_bytes word) words.now)
-        (handed (source_at (S.rest source.old) (S.given source.old) (S.faults source.old))
-        (sink_at (K.written sink.old) (K.faults sink.old)) (map (λ m. H.state m) managers.old.items))
-        result
-        (handed (source_at (S.rest source.new) (S.given source.new) (S.faults source.new))
-        (sink_at (K.written sink.new) (K.faults sink.new)) (map (λ m. H.state m) managers.new.items)) }
-    // What is printed meets the headline; where every bound is 1, it is computed from the script.
+        (seen S.Source K.Sink H.Manager source.old sink.old managers.old.items) result
+        (seen S.Source K.Sink H.Manager source.new sink.new managers.new.items) }
+    // The replies meet the claim of the mode.
     ensures claimed { TellsAsClaimed (map (λ word. string_bytes word) words.now)
-        (handed (source_at (S.rest source.old) (S.given source.old) (S.faults source.old))
-        (sink_at (K.written sink.old) (K.faults sink.old)) (map (λ m. H.state m) managers.old.items))
-        result
-        (handed (source_at (S.rest source.new) (S.given source.new) (S.faults source.new))
-        (sink_at (K.written sink.new) (K.faults sink.new)) (map (λ m. H.state m) managers.new.items)) }
+        (seen S.Source K.Sink H.Manager source.old sink.old managers.old.items) result
+        (seen S.Source K.Sink H.Manager source.new sink.new managers.new.items) }
     ensures kinds { map (λ h. h.kind) (map (λ m. H.state m) managers.new.items)
         ≡ map (λ h. h.kind) (map (λ m. H.state m) managers.old.items) }
     ensures complete { HasRightInput (map (λ word. string_bytes word) words.now) (S.rest source.old)
@@ -63,17 +55,32 @@ pub fn cf_main<H: Manager, S: Source, K: Sink>(
     ensures too_long { result ≡ Status.TooLong
         → (S.given source.old + MOST_BYTES < S.given source.new) ⊎ (S.given source.new ≡ last_count) }
 {
-    let choice = match read_words(alloc, words) {
-        Ok(choice) => choice,
-        Err(fault) => match fault {
-            WordsFault::Refused => return Status::Words,
-            WordsFault::OutOfMemory => return Status::OutOfMemory,
-        },
-    };
+    match read_words(alloc, words) {
+        Ok(choice) => run_mode(rt, alloc, choice, source, sink, managers),
+        Err(WordsFault::Refused) => Status::Words,
+        Err(WordsFault::OutOfMemory) => Status::OutOfMemory,
+    }
+}
+
+/// Does what the choice asks.
+fn run_mode<H: Manager, S: Source, K: Sink>(
+    rt: &HostRuntime,
+    alloc: Global,
+    choice: Choice,
+    source: &mut S,
+    sink: &mut K,
+    managers: &mut Vec<H>,
+) -> Status
+    requires least { 1 ≤ choice.quantum }
+    requires most { choice.quantum ≤ 16384 }
+    ensures { Ends (InMode choice.mode choice)
+        (seen S.Source K.Sink H.Manager source.old sink.old managers.old.items) result
+        (seen S.Source K.Sink H.Manager source.new sink.new managers.new.items) }
+{
     match choice.mode {
         Mode::Run => run_chosen(rt, alloc, choice.kind, managers, source, sink),
-        Mode::Compare => compare(rt, alloc, managers, source, sink),
-        Mode::Bench => bench(rt, alloc, choice, sink),
+        Mode::Compare => compare_all(rt, alloc, managers, source, sink),
+        Mode::Bench => bench_seed(rt, alloc, choice, sink),
         Mode::Large => play_large(rt, alloc, source, sink),
         Mode::Save => save_image(rt, alloc, source, sink),
         Mode::Load => load_image(rt, alloc, source, sink),

@@ -3,7 +3,7 @@ use Rattle.std.specs.Option.{option_map}
 use Rattle.cf_base.specs.Settings.{profile_of}
 use Rattle.quota_session.specs.Playing.{quota_tasks}
 use Rattle.quota_session.specs.QuotaRun.{quota_run}
-use Rattle.top_call.proofs.Playing.{made_ends}
+use Rattle.manager_modes.proofs.CallerLemmas.{made_ends}
 use Rattle.top_call.specs.TopOutcome.{IsMadeForTasks}
 use Rattle.top_call.proofs.quota.play_quotas.Goals as goal
 

@@ -1,6 +1,6 @@
 use Rattle.std.proofs.Common.{refl, subst, sym}
 use Rattle.slice_session.specs.Playing.{IsQuantum, slice_play, slices}
-use Rattle.top_call.proofs.Playing.{made_ends}
+use Rattle.manager_modes.proofs.CallerLemmas.{made_ends}
 use Rattle.top_call.specs.TopOutcome.{IsMadeSliced}
 use Rattle.top_call.proofs.slice.play_slices.Goals as goal
 

@@ -1,0 +1,229 @@
+-- What follows from the outcome of a mode, over every source and sink.
+use Rattle.std.proofs.Common.{◌≡◌, ◌≤◌, ◌∙◌, ℕ, List, Option, Some, None, true, false, refl, ap, sym, subst, length, arith, inl, inr}
+use Rattle.std.proofs.lemmas.Bool.{le-leb}
+use Rattle.std.proofs.lemmas.List.{take_all}
+use Rattle.std.specs.Prelude.{Err, nat_le, ⊤}
+use Rattle.cf_base.specs.declared.kind.Kind.{Kind}
+use Rattle.cf_base.specs.declared.kind.Kind.TheVariants.{Moving}
+use Rattle.cf_base.specs.declared.status.Status.{Status}
+use Rattle.cf_base.specs.declared.status.Status.TheVariants.{Done, Words, BadScript, ReadFault, WriteFault, OutOfMemory, TooLong, BadImage}
+use Rattle.cf_io.specs.Feeds.{Rose}
+use Rattle.cf_model.specs.State.{closed_state}
+use Rattle.cf_session.specs.Apply.{run_at}
+use Rattle.command_line.specs.declared.choice.Choice.{Choice}
+use Rattle.script_reader.specs.Items.{Item, items}
+use Rattle.run_model.specs.Sessions.{RunState, fresh_session}
+use Rattle.run_model.specs.Texts.{Reply}
+use Rattle.headline_laws.proofs.CallerLemmas.{headline_met}
+use Rattle.headline_laws.specs.Headline.{MeetsHeadline}
+use Rattle.script_loop.proofs.CallerLemmas.{observed_row, some_row, wrote_by}
+use Rattle.script_loop.specs.Consequences.{AnswersAll}
+use Rattle.script_loop.specs.OneManager.{one_manager}
+use Rattle.script_loop.specs.ScriptOutcome.{Effects, IsClean, IsRow, MOST_BYTES, MeetsOutcome, Wrote, has_bad, items_within}
+use Rattle.script_loop.specs.Semantics.{RunBy, Semantics}
+use Rattle.heap_image.proofs.CallerLemmas.{observed_load}
+use Rattle.heap_image.specs.Decoded.{Decoded, decoded}
+use Rattle.heap_image.specs.Feed.{Feed}
+use Rattle.heap_image.specs.Load.{LoadsBy}
+use Rattle.heap_image.specs.declared.fault.LoadFault.TheVariants as fault
+use Rattle.image_run.specs.Saves.{unseen}
+use Rattle.side_by_side.proofs.CallerLemmas.{chosen_kind, headlines_met, own_of}
+use Rattle.side_by_side.specs.First.{chosen_of}
+use Rattle.side_by_side.specs.Many.{fresh_many, many_managers}
+use Rattle.side_by_side.specs.Own.{MeetHeadlines}
+use Rattle.manager_modes.specs.Claims.{HoldsImage, TellsAs}
+use Rattle.manager_modes.specs.Outcomes.{Benches, Compares, Ends, EndsWhole, Handed, Loads, OrLacks, PlaysOwn, Runs, Saves, effects_of, kinds_in}
+
+-- no call ends by `Words`; one whose input is right, and that met no fault, did all that the mode asks
+pub record IsSound (Does : Handed → Status → Handed → Type 0) (IsRight : Option (List ℕ) → Type 0) : Type 0 where
+  pub never_words : (old new : Handed) → Does old Words new → ⊥
+  pub whole : (old : Handed) (st : Status) (new : Handed) → Ends Does old st new → IsRight old.source.rest
+      → ¬ Rose old.source.faults new.source.faults → ¬ Rose old.sink.faults new.sink.faults → EndsWhole st
+
+-- the mode's outcome, if it is not that memory ran out
+outcome_at : (Does : Handed → Status → Handed → Type 0) (old new : Handed) (P : Status → Type 0) → P OutOfMemory
+    → ((st : Status) → Does old st new → P st) → (st : Status) → OrLacks Does old st new → P st
+outcome_at Does old new P lacks does OutOfMemory done = lacks
+outcome_at Does old new P lacks does Words done = does Words done
+outcome_at Does old new P lacks does Done done = does Done done
+outcome_at Does old new P lacks does BadScript done = does BadScript done
+outcome_at Does old new P lacks does ReadFault done = does ReadFault done
+outcome_at Does old new P lacks does WriteFault done = does WriteFault done
+outcome_at Does old new P lacks does TooLong done = does TooLong done
+outcome_at Does old new P lacks does BadImage done = does BadImage done
+
+-- with no fault, a call is whole if it is for each outcome of its mode
+whole_of : (Does : Handed → Status → Handed → Type 0) (old new : Handed)
+    → ((st : Status) → Does old st new → (st ≡ ReadFault → Rose old.source.faults new.source.faults)
+    → (st ≡ WriteFault → Rose old.sink.faults new.sink.faults) → EndsWhole st)
+    → (st : Status) → Ends Does old st new → EndsWhole st
+whole_of Does old new does st ends =
+    outcome_at Does old new (λ st. (st ≡ ReadFault → Rose old.source.faults new.source.faults)
+    → (st ≡ WriteFault → Rose old.sink.faults new.sink.faults) → EndsWhole st) (λ read wrote. inr refl) does st ends.outcome ends.read_fault ends.write_fault
+
+-- no script ends by `Words`
+never_words : {S P : Type 0} (m : Semantics S P) (from to : S) (call : Effects) → call.status ≡ Words → MeetsOutcome m from call to → ⊥
+never_words m from to call is met =
+    let row = some_row m from to call met in
+    subst (λ (st : Status). IsRow m st from row.0 row.1 call to) is row.2
+
+within_all : (all : List ℕ) → length all ≤ MOST_BYTES → items_within all ≡ items all true
+within_all all fits = ap (λ (l : List ℕ). items l (nat_le (length all) MOST_BYTES)) (take_all MOST_BYTES all fits)
+    ∙ ap (items all) (le-leb (length all) MOST_BYTES fits)
+
+-- with no fault, a script with no bad line ends whole
+row_whole : {S P : Type 0} (m : Semantics S P) (from to : S) (all left : List ℕ) (call : Effects) (st : Status) (a b d e : ℕ)
+    → IsRow m st from all left call to → (st ≡ ReadFault → Rose a b) → (st ≡ WriteFault → Rose d e)
+    → IsClean (Some all) → ¬ Rose a b → ¬ Rose d e → EndsWhole st
+row_whole m from to all left call Words a b d e row read wrote clean sure firm = absurd row
+row_whole m from to all left call BadImage a b d e row read wrote clean sure firm = absurd row
+row_whole m from to all left call Done a b d e row read wrote clean sure firm = inl refl
+row_whole m from to all left call OutOfMemory a b d e row read wrote clean sure firm = inr refl
+row_whole m from to all left call BadScript a b d e row read wrote clean sure firm =
+    let both : true ≡ false = sym row.0 ∙ ap has_bad (within_all all clean.0) ∙ clean.1 in absurd cc
+row_whole m from to all left call TooLong a b d e row read wrote clean sure firm = absurd (let past = row.0 in let few = clean.0 in omega arith)
+row_whole m from to all left call ReadFault a b d e row read wrote clean sure firm = absurd (sure (read refl))
+row_whole m from to all left call WriteFault a b d e row read wrote clean sure firm = absurd (firm (wrote refl))
+
+met_whole : {S P : Type 0} (m : Semantics S P) (from to : S) (call : Effects) (a b d e : ℕ)
+    → MeetsOutcome m from call to → (call.status ≡ ReadFault → Rose a b) → (call.status ≡ WriteFault → Rose d e)
+    → IsClean call.had → ¬ Rose a b → ¬ Rose d e → EndsWhole call.status
+met_whole m from to call a b d e met read wrote clean sure firm = go call.had refl clean
+  where
+    go : (had : Option (List ℕ)) → had ≡ call.had → IsClean had → EndsWhole call.status
+    go None is clean = absurd clean
+    go (Some all) is clean =
+        let row = observed_row m from to call all (sym is) met in
+        row_whole m from to all row.0 call call.status a b d e row.1 read wrote clean sure firm
+
+-- A mode that runs a script.
+script_sound : {S P : Type 0} (m : Semantics S P) (Does : Handed → Status → Handed → Type 0)
+    → ((old : Handed) (st : Status) (new : Handed) → Does old st new → (ends : S × S) × MeetsOutcome m ends.0 (effects_of old st new) ends.1)
+    → IsSound Does IsClean
+script_sound m Does met = record {
+  never_words = λ old new done.
+      let outcome = met old Words new done in
+      never_words m outcome.0.0 outcome.0.1 (effects_of old Words new) refl outcome.1;
+  whole = λ old st new ends clean sure firm.
+      whole_of Does old new (λ st done read wrote.
+      let outcome = met old st new done in
+      met_whole m outcome.0.0 outcome.0.1 (effects_of old st new) _ _ _ _ outcome.1 read wrote clean sure firm) st ends;
+}
+
+-- What was written of all the items is as claimed.
+claim_of : {S P : Type 0} (m : Semantics S P) (from to : S) (Claim : List Item → List Reply → Type 0)
+    → ((all : List ℕ) (call : Effects) (w : Wrote m from (items_within all) call to) → Claim (items_within all) w.replies)
+    → (call : Effects) (had : Option (List ℕ)) → had ≡ call.had → MeetsOutcome m from call to → AnswersAll call.status → TellsAs Claim had call
+claim_of m from to Claim claims call None told met is = tt
+claim_of m from to Claim claims call (Some all) told met is =
+    let w = wrote_by m from to call all (sym told) met is in
+    record { replies = w.replies; printed = w.written; claimed = claims all call w }
+
+-- what a call did that answered all items
+pub did_all : (Does : Handed → Status → Handed → Type 0) (old new : Handed) (st : Status) → OrLacks Does old st new → AnswersAll st → Does old st new
+did_all Does old new = outcome_at Does old new (λ st. AnswersAll st → Does old st new) absurd (λ st done all. done)
+
+-- Mode `run`.
+module _ (kind : Kind) where
+  pub run_sound : IsSound (Runs kind) IsClean
+  run_sound = script_sound one_manager (Runs kind) λ old st new done. ((run_at fresh_session (chosen_of kind old.managers), done.end), done.outcome)
+
+  pub run_told : (old : Handed) (st : Status) (new : Handed) → OrLacks (Runs kind) old st new → AnswersAll st
+      → TellsAs (MeetsHeadline kind) old.source.rest (effects_of old st new)
+  run_told old st new done is =
+      let did = did_all (Runs kind) old new st done is in
+      subst (λ (k : Kind). TellsAs (MeetsHeadline k) old.source.rest (effects_of old st new)) (chosen_kind kind old.managers)
+      (claim_of one_manager (run_at fresh_session (chosen_of kind old.managers)) did.end (MeetsHeadline (chosen_of kind old.managers).kind)
+      (λ all call w. headline_met (chosen_of kind old.managers).kind (items_within all) w.replies w.end w.run) (effects_of old st new) old.source.rest refl did.outcome is)
+
+-- Mode `compare`.
+pub compare_sound : IsSound Compares IsClean
+compare_sound = script_sound many_managers Compares λ old st new done. ((fresh_many old.managers, done.end), done.outcome)
+
+pub compare_told : (old : Handed) (st : Status) (new : Handed) → OrLacks Compares old st new → AnswersAll st
+    → TellsAs (MeetHeadlines (kinds_in old)) old.source.rest (effects_of old st new)
+compare_told old st new done is =
+    let did = did_all Compares old new st done is in
+    claim_of many_managers (fresh_many old.managers) did.end (MeetHeadlines (kinds_in old))
+    (λ all call w. headlines_met (kinds_in old) (items_within all) w.replies _ (own_of (fresh_many old.managers) did.end (items_within all) call w))
+    (effects_of old st new) old.source.rest refl did.outcome is
+
+-- Mode `bench`.
+module _ (choice : Choice) where
+  bench_whole : (old : Handed) (st : Status) (new : Handed) → Ends (Benches choice) old st new → ¬ Rose old.sink.faults new.sink.faults → EndsWhole st
+  bench_whole old Done new ends firm = inl refl
+  bench_whole old OutOfMemory new ends firm = inr refl
+  bench_whole old WriteFault new ends firm = absurd (firm (ends.write_fault refl))
+  bench_whole old Words new ends firm = absurd ends.outcome.outcome.written
+  bench_whole old BadScript new ends firm = absurd ends.outcome.outcome.written
+  bench_whole old ReadFault new ends firm = absurd ends.outcome.outcome.written
+  bench_whole old TooLong new ends firm = absurd ends.outcome.outcome.written
+  bench_whole old BadImage new ends firm = absurd ends.outcome.outcome.written
+
+  pub bench_sound : IsSound (Benches choice) (λ had. ⊤)
+  bench_sound = record {
+    never_words = λ old new done. done.outcome.written;
+    whole = λ old st new ends right sure firm. bench_whole old st new ends firm;
+  }
+
+-- A mode that runs a script on a heap that is made for it.
+module _ {S P : Type 0} (m : Semantics S P) (IsMade : S → Type 0) where
+  pub own_sound : IsSound (PlaysOwn m IsMade) IsClean
+  own_sound = script_sound m (PlaysOwn m IsMade) λ old st new done. ((done.begin, done.end), done.outcome)
+
+  -- if each run from such a state is as claimed, so is what is printed
+  pub own_told : (Claim : List Item → List Reply → Type 0)
+      → ((begin : S) → IsMade begin → (all : List ℕ) (replies : List Reply) (end : Option S) → RunBy m begin None (items_within all) replies end
+      → Claim (items_within all) replies)
+      → (old : Handed) (st : Status) (new : Handed) → OrLacks (PlaysOwn m IsMade) old st new → AnswersAll st
+      → TellsAs Claim old.source.rest (effects_of old st new)
+  own_told Claim claims old st new done is =
+      let did = did_all (PlaysOwn m IsMade) old new st done is in
+      claim_of m did.begin did.end Claim (λ all call w. claims did.begin did.made all w.replies w.end w.run) (effects_of old st new) old.source.rest refl
+      did.outcome is
+
+-- Mode `save`.
+save_whole : (old new : Handed) → IsClean old.source.rest → ¬ Rose old.source.faults new.source.faults → ¬ Rose old.sink.faults new.sink.faults
+    → (st : Status) → Saves old st new → (st ≡ ReadFault → Rose old.source.faults new.source.faults)
+    → (st ≡ WriteFault → Rose old.sink.faults new.sink.faults) → EndsWhole st
+save_whole old new clean sure firm WriteFault done read wrote = absurd (firm (wrote refl))
+save_whole old new clean sure firm st done read wrote = met_whole one_manager (run_at fresh_session (closed_state Moving)) done.end
+    (unseen (effects_of old st new)) _ _ _ _ done.outcome.script read wrote clean sure firm
+
+pub save_sound : IsSound Saves IsClean
+save_sound = record {
+  never_words = λ old new done.
+      never_words one_manager (run_at fresh_session (closed_state Moving)) done.end (unseen (effects_of old Words new)) refl done.outcome.script;
+  whole = λ old st new ends clean sure firm. whole_of Saves old new (save_whole old new clean sure firm) st ends;
+}
+
+-- Mode `load`.
+-- an image isn't broken
+not_broken : (from to : RunState) (at : ℕ) (had left : Feed) → HoldsImage had.rest → LoadsBy from had (Err (fault.Bad at)) left to → ⊥
+not_broken from to at had left image q = go had.rest refl image
+  where
+    go : (o : Option (List ℕ)) → o ≡ had.rest → HoldsImage o → ⊥
+    go None is image = image
+    go (Some all) is image =
+        let row = observed_load from to had left (Err (fault.Bad at)) q all (sym is) in
+        let e : None ≡ Some at = sym image ∙ ap (λ (b : List ℕ). (decoded b).broken) row.1 ∙ ap (λ (t : Decoded). t.broken) row.2.reads_all ∙ row.2.broken in
+        absurd cc
+
+load_whole : (old new : Handed) → HoldsImage old.source.rest → ¬ Rose old.source.faults new.source.faults → ¬ Rose old.sink.faults new.sink.faults
+    → (st : Status) → Loads old st new → (st ≡ ReadFault → Rose old.source.faults new.source.faults)
+    → (st ≡ WriteFault → Rose old.sink.faults new.sink.faults) → EndsWhole st
+load_whole old new image sure firm Done done read wrote = inl refl
+load_whole old new image sure firm OutOfMemory done read wrote = inr refl
+load_whole old new image sure firm WriteFault done read wrote = absurd (firm (wrote refl))
+load_whole old new image sure firm ReadFault done read wrote = absurd (sure (read refl))
+load_whole old new image sure firm BadImage done read wrote =
+    absurd (not_broken (run_at fresh_session (closed_state Moving)) done.end done.outcome.0 _ _ image done.outcome.1)
+load_whole old new image sure firm Words done read wrote = absurd done.outcome
+load_whole old new image sure firm BadScript done read wrote = absurd done.outcome
+load_whole old new image sure firm TooLong done read wrote = absurd done.outcome
+
+pub load_sound : IsSound Loads HoldsImage
+load_sound = record {
+  never_words = λ old new done. done.outcome;
+  whole = λ old st new ends image sure firm. whole_of Loads old new (load_whole old new image sure firm) st ends;
+}

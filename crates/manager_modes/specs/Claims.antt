@@ -1,0 +1,23 @@
+-- What a mode claims of what it prints, and of what it reads.
+use Rattle.std.specs.Prelude.{◌≡◌, ⊤, ℕ, List, [], Option, Some, None}
+use Rattle.cf_io.specs.Feeds.{appended}
+use Rattle.script_reader.specs.Items.{Item}
+use Rattle.run_model.specs.Texts.{Reply, text_of}
+use Rattle.script_loop.specs.ScriptOutcome.{Effects, items_within}
+use Rattle.heap_image.specs.Decoded.{IsImage}
+
+-- replies to all the items of a script were printed, and they are as claimed
+pub record PrintsAs (Claim : List Item → List Reply → Type 0) (wanted : List Item) (call : Effects) : Type 0 where
+  pub replies : List Reply
+  pub printed : call.after ≡ appended call.before (text_of [] replies)
+  pub claimed : Claim wanted replies
+
+-- if the source is observable, what is printed of the bytes that it had is as claimed
+abbrev pub TellsAs : (List Item → List Reply → Type 0) → Option (List ℕ) → Effects → Type 0
+TellsAs Claim None call = ⊤
+TellsAs Claim (Some all) call = PrintsAs Claim (items_within all) call
+
+-- the source is observable, and its bytes are an image
+abbrev pub HoldsImage : Option (List ℕ) → Type 0
+HoldsImage None = ⊥
+HoldsImage (Some all) = IsImage all

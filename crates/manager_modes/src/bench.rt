@@ -1,0 +1,44 @@
+//! Mode `bench`.
+ghost use Rattle.script_loop.specs.ScriptOutcome.{SourceState};
+ghost use Rattle.manager_modes.specs.Outcomes.{Benches, EndsBeside, sink_seen};
+
+use bench_run::run_bench;
+use cf_base::{Kind, Status};
+use cf_io::Sink;
+use cf_session::Session;
+use command_line::Choice;
+use half_fit_heap::HalfFitHeap;
+use moving_heap::MovingHeap;
+use nonmoving_heap::NonMovingHeap;
+use std::alloc::Global;
+use tlsf_heap::TlsfHeap;
+
+/// Runs the generated script of the choice on a closed manager of the kind, which is made for it, and
+/// prints its counts. It reads nothing and touches no other manager.
+pub fn bench_seed<K: Sink>(rt: &HostRuntime, alloc: Global, choice: Choice, sink: &mut K) -> Status
+    ensures { (source : SourceState) → EndsBeside (Benches choice)
+        source (sink_seen K.Sink sink.old) result source (sink_seen K.Sink sink.new) }
+{
+    let Ok(mut session) = Session::start(rt, alloc) else {
+        return Status::OutOfMemory;
+    };
+    let (seed, count) = (choice.seed, choice.count);
+    match choice.kind {
+        Kind::Moving => {
+            let mut own = MovingHeap::closed(alloc);
+            run_bench(rt, &mut session, &mut own, seed, count, sink)
+        }
+        Kind::NonMoving => {
+            let mut own = NonMovingHeap::closed(alloc);
+            run_bench(rt, &mut session, &mut own, seed, count, sink)
+        }
+        Kind::Tlsf => {
+            let mut own = TlsfHeap::closed(alloc);
+            run_bench(rt, &mut session, &mut own, seed, count, sink)
+        }
+        Kind::HalfFit => {
+            let mut own = HalfFitHeap::closed(alloc);
+            run_bench(rt, &mut session, &mut own, seed, count, sink)
+        }
+    }
+}

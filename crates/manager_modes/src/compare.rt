@@ -1,0 +1,27 @@
+//! Mode `compare`.
+ghost use Rattle.manager_modes.specs.Outcomes.{Compares, Ends, seen};
+
+use cf_base::Status;
+use cf_io::{Sink, Source};
+use cf_model::Manager;
+use script_loop::play_script;
+use side_by_side::Sessions;
+use std::alloc::Global;
+
+/// Runs a script on each of the managers, in order, with a session each.
+pub fn compare_all<H: Manager, S: Source, K: Sink>(
+    rt: &HostRuntime,
+    alloc: Global,
+    managers: &mut Vec<H>,
+    source: &mut S,
+    sink: &mut K,
+) -> Status
+    ensures { Ends Compares
+        (seen S.Source K.Sink H.Manager source.old sink.old managers.old.items) result
+        (seen S.Source K.Sink H.Manager source.new sink.new managers.new.items) }
+{
+    let Ok(mut sessions) = Sessions::start(rt, alloc, managers.len()) else {
+        return Status::OutOfMemory;
+    };
+    play_script(&mut sessions, managers, source, sink)
+}

@@ -1,0 +1,92 @@
+//! Modes `save` and `load`. Their manager is behind a box, as the given ones are, so that only the bench has
+//! the code of a session over one that is not, and has it in its loop.
+ghost use Rattle.std.specs.Prelude.{◌≡◌};
+ghost use Rattle.cf_base.specs.declared.kind.Kind.TheVariants.{Moving};
+ghost use Rattle.cf_model.specs.State.{closed_state};
+ghost use Rattle.manager_modes.specs.Outcomes.{EndsBeside, Loads, Saves, sink_seen, source_seen};
+
+use crate::boxed::Boxed;
+use cf_base::Status;
+use cf_io::{Sink, Source};
+use cf_model::Manager;
+use cf_session::Session;
+use image_run::{load_script, save_script};
+use moving_heap::MovingHeap;
+use script_loop::WithSettings;
+use std::alloc::Global;
+
+/// Runs a script on a moving manager that is made for it, and writes the image of the objects that are
+/// live at its end in place of the replies.
+pub fn save_image<S: Source, K: Sink>(
+    rt: &HostRuntime,
+    alloc: Global,
+    source: &mut S,
+    sink: &mut K,
+) -> Status
+    ensures { EndsBeside Saves (source_seen S.Source source.old) (sink_seen K.Sink sink.old) result
+        (source_seen S.Source source.new) (sink_seen K.Sink sink.new) }
+{
+    let Ok(inner) = Box::new(alloc, MovingHeap::closed(alloc)) else {
+        return Status::OutOfMemory;
+    };
+    let mut heap = Boxed { inner };
+    save_on(rt, alloc, &mut heap, source, sink)
+}
+
+/// The same, on a moving manager that was never open.
+fn save_on<H: Manager, S: Source, K: Sink>(
+    rt: &HostRuntime,
+    alloc: Global,
+    heap: &mut H,
+    source: &mut S,
+    sink: &mut K,
+) -> Status
+    requires { H.state heap.old ≡ closed_state Moving }
+    ensures { EndsBeside Saves (source_seen S.Source source.old) (sink_seen K.Sink sink.old) result
+        (source_seen S.Source source.new) (sink_seen K.Sink sink.new) }
+{
+    let Ok(session) = Session::start(rt, alloc) else {
+        return Status::OutOfMemory;
+    };
+    let mut player = WithSettings {
+        player: session,
+        settings: None,
+    };
+    save_script(rt, &mut player, heap, source, sink)
+}
+
+/// Loads an image into a moving manager that is made for it, and writes the script that makes its
+/// objects.
+pub fn load_image<S: Source, K: Sink>(
+    rt: &HostRuntime,
+    alloc: Global,
+    source: &mut S,
+    sink: &mut K,
+) -> Status
+    ensures { EndsBeside Loads (source_seen S.Source source.old) (sink_seen K.Sink sink.old) result
+        (source_seen S.Source source.new) (sink_seen K.Sink sink.new) }
+{
+    let Ok(inner) = Box::new(alloc, MovingHeap::closed(alloc)) else {
+        return Status::OutOfMemory;
+    };
+    let mut heap = Boxed { inner };
+    load_on(rt, alloc, &mut heap, source, sink)
+}
+
+/// The same, on a moving manager that was never open.
+fn load_on<H: Manager, S: Source, K: Sink>(
+    rt: &HostRuntime,
+    alloc: Global,
+    heap: &mut H,
+    source: &mut S,
+    sink: &mut K,
+) -> Status
+    requires { H.state heap.old ≡ closed_state Moving }
+    ensures { EndsBeside Loads (source_seen S.Source source.old) (sink_seen K.Sink sink.old) result
+        (source_seen S.Source source.new) (sink_seen K.Sink sink.new) }
+{
+    let Ok(mut session) = Session::start(rt, alloc) else {
+        return Status::OutOfMemory;
+    };
+    load_script(rt, &mut session, heap, source, sink)
+}

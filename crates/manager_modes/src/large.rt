@@ -1,0 +1,25 @@
+//! Mode `large`.
+ghost use Rattle.manager_modes.specs.Outcomes.{EndsBeside, PlaysLarge, sink_seen, source_seen};
+
+use cf_base::Status;
+use cf_io::{Sink, Source};
+use large_objects::{LargeHeap, LargePlayer, run_large};
+use moving_heap::MovingHeap;
+use std::alloc::Global;
+
+/// Runs a script whose objects may be larger than a page, on a moving manager that is made for it.
+pub fn play_large<S: Source, K: Sink>(
+    rt: &HostRuntime,
+    alloc: Global,
+    source: &mut S,
+    sink: &mut K,
+) -> Status
+    ensures { EndsBeside PlaysLarge (source_seen S.Source source.old) (sink_seen K.Sink sink.old) result
+        (source_seen S.Source source.new) (sink_seen K.Sink sink.new) }
+{
+    let Ok(mut player) = LargePlayer::start(rt, alloc) else {
+        return Status::OutOfMemory;
+    };
+    let mut heap = LargeHeap::new(alloc, MovingHeap::closed(alloc));
+    run_large(&mut player, &mut heap, source, sink)
+}

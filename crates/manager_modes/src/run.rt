@@ -1,0 +1,98 @@
+//! Mode `run`.
+ghost use Rattle.std.specs.Prelude.{◌≡◌};
+ghost use Rattle.cf_model.specs.State.{closed_state};
+ghost use Rattle.run_model.specs.Sessions.{fresh_session};
+ghost use Rattle.manager_modes.specs.Outcomes.{Ends, Runs, RunsOwn, seen, sink_seen, source_seen};
+
+use crate::boxed::Boxed;
+use cf_base::{Kind, Status};
+use cf_io::{Sink, Source};
+use cf_model::Manager;
+use cf_session::Session;
+use half_fit_heap::HalfFitHeap;
+use moving_heap::MovingHeap;
+use nonmoving_heap::NonMovingHeap;
+use script_loop::run_script;
+use side_by_side::first_of;
+use std::alloc::Global;
+use tlsf_heap::TlsfHeap;
+
+/// Runs a script on the first manager of the kind; if there is none, on a closed one that is made for
+/// it.
+pub fn run_chosen<H: Manager, S: Source, K: Sink>(
+    rt: &HostRuntime,
+    alloc: Global,
+    kind: Kind,
+    managers: &mut Vec<H>,
+    source: &mut S,
+    sink: &mut K,
+) -> Status
+    ensures { Ends (Runs kind)
+        (seen S.Source K.Sink H.Manager source.old sink.old managers.old.items) result
+        (seen S.Source K.Sink H.Manager source.new sink.new managers.new.items) }
+{
+    let Ok(mut session) = Session::start(rt, alloc) else {
+        return Status::OutOfMemory;
+    };
+    match first_of(managers, kind) {
+        Some(i) => run_script(&mut session, &mut managers[i], source, sink),
+        None => run_own(alloc, kind, &mut session, source, sink),
+    }
+}
+
+/// Runs a script on a closed manager of the kind, which is made for it. It is behind a box, as the given
+/// ones are, so that only the bench has the code of a session over one that is not, and has it in its loop.
+fn run_own<S: Source, K: Sink>(
+    alloc: Global,
+    kind: Kind,
+    session: &mut Session,
+    source: &mut S,
+    sink: &mut K,
+) -> Status
+    requires { session.old ≡ fresh_session }
+    ensures { RunsOwn kind (source_seen S.Source source.old) (sink_seen K.Sink sink.old) result
+        (source_seen S.Source source.new) (sink_seen K.Sink sink.new) }
+{
+    match kind {
+        Kind::Moving => {
+            let Ok(inner) = Box::new(alloc, MovingHeap::closed(alloc)) else {
+                return Status::OutOfMemory;
+            };
+            run_on(Kind::Moving, &mut Boxed { inner }, session, source, sink)
+        }
+        Kind::NonMoving => {
+            let Ok(inner) = Box::new(alloc, NonMovingHeap::closed(alloc)) else {
+                return Status::OutOfMemory;
+            };
+            run_on(Kind::NonMoving, &mut Boxed { inner }, session, source, sink)
+        }
+        Kind::Tlsf => {
+            let Ok(inner) = Box::new(alloc, TlsfHeap::closed(alloc)) else {
+                return Status::OutOfMemory;
+            };
+            run_on(Kind::Tlsf, &mut Boxed { inner }, session, source, sink)
+        }
+        Kind::HalfFit => {
+            let Ok(inner) = Box::new(alloc, HalfFitHeap::closed(alloc)) else {
+                return Status::OutOfMemory;
+            };
+            run_on(Kind::HalfFit, &mut Boxed { inner }, session, source, sink)
+        }
+    }
+}
+
+/// The same, on a manager of the kind that was never open.
+fn run_on<H: Manager, S: Source, K: Sink>(
+    kind: Kind,
+    heap: &mut H,
+    session: &mut Session,
+    source: &mut S,
+    sink: &mut K,
+) -> Status
+    requires fresh { session.old ≡ fresh_session }
+    requires closed { H.state heap.old ≡ closed_state kind }
+    ensures { RunsOwn kind (source_seen S.Source source.old) (sink_seen K.Sink sink.old) result
+        (source_seen S.Source source.new) (sink_seen K.Sink sink.new) }
+{
+    run_script(session, heap, source, sink)
+}

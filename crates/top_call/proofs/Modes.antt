@@ -1,0 +1,106 @@
+-- From the outcome of the chosen mode to that of the whole call.
+use Rattle.std.proofs.Common.{◌≡◌, ◌≢◌, ℕ, List, Option, Some, None, ap, inl, inr, refl, subst, sym}
+use Rattle.clap.specs.Words.{Text}
+use Rattle.cf_base.specs.declared.kind.Kind.TheVariants.{Moving}
+use Rattle.cf_base.specs.declared.status.Status.{Status}
+use Rattle.cf_base.specs.declared.status.Status.TheVariants.{Done, Words, BadScript, ReadFault, WriteFault, OutOfMemory, TooLong, BadImage}
+use Rattle.cf_io.specs.Feeds.{Rose}
+use Rattle.cf_model.specs.State.{HeapState, closed_state}
+use Rattle.cf_session.specs.Apply.{run_at}
+use Rattle.run_model.specs.Sessions.{fresh_session}
+use Rattle.image_laws.proofs.CallerLemmas.{load_met, save_met}
+use Rattle.image_laws.specs.Claims.{LoadsAs, Prints, SavesAs}
+use Rattle.command_line.proofs.CallerLemmas.{one_choice}
+use Rattle.command_line.specs.Choices.{Chooses}
+use Rattle.command_line.specs.declared.choice.Choice.{Choice}
+use Rattle.command_line.specs.declared.choice.Mode.{Mode}
+use Rattle.command_line.specs.declared.choice.Mode.TheVariants.{Run, Compare, Bench, Large, Save, Load, Slice, Quota}
+use Rattle.large_objects.specs.Playing.{large_heap}
+use Rattle.large_laws.proofs.CallerLemmas.{large_met}
+use Rattle.large_laws.specs.LargeHeadline.{MeetsLarge}
+use Rattle.script_loop.specs.Consequences.{AnswersAll}
+use Rattle.script_loop.specs.ScriptOutcome.{Effects, items_within}
+use Rattle.slice_session.specs.Playing.{SlicePlay, slices}
+use Rattle.slice_laws.proofs.CallerLemmas.{sliced_headline_met}
+use Rattle.slice_laws.specs.SliceHeadline.{MeetsSliced}
+use Rattle.quota_laws.specs.Transcript.{MeetsTasks}
+use Rattle.quota_session.proofs.CallerLemmas.{tasks_met}
+use Rattle.quota_session.specs.Playing.{quota_tasks}
+use Rattle.manager_modes.proofs.CallerLemmas.{IsSound, bench_sound, compare_sound, compare_told, did_all, load_sound, own_sound, own_told, run_sound, run_told, save_sound}
+use Rattle.manager_modes.specs.Outcomes.{Ends, EndsWhole, Handed, IsMadeLarge, Loads, OrLacks, Saves, effects_of, kinds_in}
+use Rattle.top_call.specs.TopOutcome.{DoesChosen, EndsWell, HasRightInput, InMode, IsMadeForTasks, IsMadeSliced, IsRightInput, PrintsBytes, TellsAsClaimed, TellsInMode}
+
+sound : (mode : Mode) (choice : Choice) → IsSound (InMode mode choice) (IsRightInput mode)
+sound Run choice = run_sound choice.kind
+sound Compare choice = compare_sound
+sound Bench choice = bench_sound choice
+sound Large choice = own_sound large_heap IsMadeLarge
+sound Save choice = save_sound
+sound Load choice = load_sound
+sound Slice choice = own_sound slices (IsMadeSliced choice.quantum)
+sound Quota choice = own_sound quota_tasks IsMadeForTasks
+
+-- the choice is of this mode
+pub in_mode : (mode : Mode) (choice : Choice) → choice.mode ≡ mode → (old : Handed) (st : Status) (new : Handed) → Ends (InMode mode choice) old st new
+    → Ends (InMode choice.mode choice) old st new
+in_mode mode choice is old st new ends = subst (λ (m : Mode). Ends (InMode m choice) old st new) (sym is) ends
+
+-- a call that answered all items did not fail to write
+not_cut : (st : Status) → AnswersAll st → st ≢ WriteFault
+not_cut st is cut = subst (λ (s : Status). AnswersAll s) cut is
+
+-- what was printed is as claimed
+printed_of : (Claim : Status → List ℕ → List ℕ → Type 0) (call : Effects) → ((read : List ℕ) → call.had ≡ Some read → Prints Claim read call)
+    → (had : Option (List ℕ)) → had ≡ call.had → PrintsBytes Claim had call
+printed_of Claim call met None is = tt
+printed_of Claim call met (Some read) is = met read (sym is)
+
+-- what a mode claims of its output holds
+told : (mode : Mode) (choice : Choice) (old : Handed) (st : Status) (new : Handed) → OrLacks (InMode mode choice) old st new → AnswersAll st
+    → TellsInMode mode choice (kinds_in old) (effects_of old st new)
+told Run choice = run_told choice.kind
+told Compare choice = compare_told
+told Large choice = own_told large_heap IsMadeLarge (MeetsLarge Moving) λ begin made all replies end run.
+    subst (λ (s : HeapState). MeetsLarge s.kind (items_within all) replies) made.inner (large_met begin (items_within all) replies end run)
+told Save choice = λ old st new done is.
+    let did = did_all Saves old new st done is in
+    printed_of SavesAs (effects_of old st new)
+    (λ read had. save_met (run_at fresh_session (closed_state Moving)) did.end (effects_of old st new) read refl refl had (not_cut st is) did.outcome)
+    old.source.rest refl
+told Load choice = λ old st new done is.
+    let did = did_all Loads old new st done is in
+    printed_of LoadsAs (effects_of old st new)
+    (λ read had. load_met (run_at fresh_session (closed_state Moving)) did.end (effects_of old st new) read had (not_cut st is) did.outcome)
+    old.source.rest refl
+told Slice choice = own_told slices (IsMadeSliced choice.quantum) (MeetsSliced choice.quantum) λ begin made all replies end run.
+    subst (λ (n : ℕ). MeetsSliced n (items_within all) replies) (ap (λ (s : SlicePlay). s.quantum) made)
+    (sliced_headline_met begin (items_within all) replies end run)
+told Quota choice = own_told quota_tasks IsMadeForTasks MeetsTasks λ begin made. tasks_met begin
+told mode choice = λ old st new done is. tt
+
+-- The arguments make a choice, and its mode ends so.
+module _ (words : List Text) (choice : Choice) (chosen : Chooses words choice) (old : Handed) (st : Status) (new : Handed)
+    (ends : Ends (InMode choice.mode choice) old st new) where
+  pub chosen_ends : EndsWell words old st new
+  chosen_ends = go st ends.outcome
+    where
+      does : (st : Status) → InMode choice.mode choice old st new → DoesChosen words old st new
+      does st done = record { choice = choice; chosen = chosen; done = done }
+
+      go : (st : Status) → OrLacks (InMode choice.mode choice) old st new → EndsWell words old st new
+      go Words done = absurd ((sound choice.mode choice).never_words old new done)
+      go OutOfMemory (silent, inl same) = (silent, inl same)
+      go OutOfMemory (silent, inr done) = (silent, inr (does OutOfMemory done))
+      go Done done = does Done done
+      go BadScript done = does BadScript done
+      go ReadFault done = does ReadFault done
+      go WriteFault done = does WriteFault done
+      go TooLong done = does TooLong done
+      go BadImage done = does BadImage done
+
+  pub chosen_tells : TellsAsClaimed words old st new
+  chosen_tells is = record { choice = choice; chosen = chosen; tells = told choice.mode choice old st new ends.outcome is }
+
+  pub chosen_whole : HasRightInput words old.source.rest → ¬ Rose old.source.faults new.source.faults → ¬ Rose old.sink.faults new.sink.faults → EndsWhole st
+  chosen_whole have = (sound choice.mode choice).whole old st new ends
+      (subst (λ (c : Choice). IsRightInput c.mode old.source.rest) (one_choice words choice have.choice chosen have.chosen) have.right)
