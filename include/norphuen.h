@@ -1,10 +1,11 @@
 /* Norphuen: a verified memory manager for real-time programs. It is no drop-in malloc: objects are reached by handles.
  *
  * A heap has one region. nph_open takes all memory, so that later calls take none. Each call on an open heap takes a
- * bounded number of steps; nph_last_steps returns the steps of the last one. Link one of two libraries:
+ * bounded number of steps (docs/C.md); nph_last_steps returns the steps of the last one. Link one of three libraries:
  *
  *   libnorphuen.a            Compact-fit, moving: a free may move one object, whose handle stays the same
  *   libnorphuen_nonmoving.a  Compact-fit, non-moving: a free may exchange entries of a block table
+ *   libnorphuen_tlsf.a       TLSF, for comparison: blocks in place of pages. No object moves or changes its length
  *
  * The program defines the three functions rattle_alloc, rattle_realloc and rattle_dealloc, by which the library takes
  * and returns memory: examples/c/malloc.c does so over malloc, examples/c/arena.c over a static array.
@@ -43,10 +44,10 @@ enum {
     NPH_OK = 0,
     NPH_SIZE = 1,    /* the object with its header needs more words than a page has */
     NPH_PROXY = 2,   /* every proxy is in use */
-    NPH_SPACE = 3,   /* no free slot of the class and no free page */
-    NPH_UNKNOWN = 4, /* the handle is not live; there is no such class */
+    NPH_SPACE = 3,   /* no free slot of the class and no free page; with TLSF no free block that serves */
+    NPH_UNKNOWN = 4, /* the handle is not live; there is no such class (TLSF has none) */
     NPH_RANGE = 5,   /* the range passes the end of the object */
-    NPH_KIND = 6,    /* nph_resize: this manager does not resize (of these two, both do) */
+    NPH_KIND = 6,    /* nph_resize: TLSF does not resize */
     NPH_CLOSED = 7,  /* the heap is not open */
     NPH_OPEN = 8,    /* nph_open: the heap is open already */
     NPH_MEMORY = 10, /* nph_open: out of memory; the heap is not open */
@@ -60,7 +61,7 @@ enum {
 /* No handle. */
 #define NPH_NONE UINT32_MAX
 
-/* A free: the words of the freed slot, and the object that moved to its address, or NPH_NONE. */
+/* A free: the words of the freed slot or block, and the object that moved to its address, or NPH_NONE. */
 typedef struct nph_freed {
     uint32_t slot_words;
     uint32_t moved;
@@ -82,8 +83,8 @@ typedef struct nph_class {
     uint32_t not_full;
 } nph_class;
 
-/* The whole heap. Bytes: that live objects asked for, of their slots, and that the heap holds. Then the live
- * objects, the pages in use, those free, and the words of the largest free one. */
+/* The whole heap. Bytes: that live objects asked for, of their slots or blocks, and that the heap holds. Then the live
+ * objects, the pages or blocks in use, those free, and the words of the largest free one. */
 typedef struct nph_heap_totals {
     uint64_t asked;
     uint64_t taken;
@@ -95,7 +96,7 @@ typedef struct nph_heap_totals {
 } nph_heap_totals;
 
 /* Opens an empty heap of `pages` pages of `page_bytes` bytes. At most `proxies` objects are live at a time, and each
- * size class has at most `k` partly full pages. */
+ * size class has at most `k` partly full pages. With TLSF the pages are one region without classes, and k means nothing. */
 int32_t nph_open(nph_heap *heap, uint32_t pages, uint32_t page_bytes, uint32_t k, uint32_t proxies);
 
 /* Returns the memory. The heap is not open afterwards, and may be opened again. May be called twice. */
@@ -107,7 +108,7 @@ int32_t nph_malloc(nph_heap *heap, uint32_t bytes, uint32_t *handle);
 /* Removes an object. */
 int32_t nph_free(nph_heap *heap, uint32_t handle, nph_freed *freed);
 
-/* Gives an object another length: its first bytes stay, and zeros are added. */
+/* Changes the length of an object: its first bytes stay, and zeros are added. */
 int32_t nph_resize(nph_heap *heap, uint32_t handle, uint32_t bytes, nph_resized *resized);
 
 /* Writes `count` bytes into an object, from byte `at` on. */
@@ -125,10 +126,10 @@ int32_t nph_has_room(nph_heap *heap, uint32_t bytes);
 /* Writes the figures of a size class; the classes are numbered from 0. */
 int32_t nph_figures(nph_heap *heap, uint32_t size_class, nph_class *figures);
 
-/* Writes the figures of the whole heap. */
+/* Writes the figures of the whole heap. With TLSF this visits each free block. */
 int32_t nph_totals(nph_heap *heap, nph_heap_totals *totals);
 
-/* Writes the steps of the last call on the heap. */
+/* Writes the steps of the last call on the heap. nph_figures and this call take none, and leave the count as it was. */
 int32_t nph_last_steps(nph_heap *heap, uint64_t *steps);
 
 /* A block of memory. If out of memory, `ok` is false and `at` is any address but null. */

@@ -1,4 +1,5 @@
 pub mod Parts
 pub mod MovingPlaces
 pub mod NonMovingPlaces
+pub mod TlsfPlaces
 pub mod Rooms

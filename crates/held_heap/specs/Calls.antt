@@ -1,4 +1,4 @@
--- What a call on an open heap tells its caller, by its code and by the numbers that it writes, and what that says of the heap.
+-- What a call on an open heap returns and writes for its caller, and what it does to the heap.
 use Rattle.std.specs.Prelude.{◌≡◌, ℕ, ℤ, pos, List, Option, Some, None, Result, Ok, Err}
 use Rattle.cf_base.specs.Settings.{Profile}
 use Rattle.cf_base.specs.declared.answers.Handle.{Handle}
@@ -15,7 +15,9 @@ use Rattle.cf_model.specs.Answers.{figures_in, totals_in}
 use Rattle.cf_model.specs.Rules.{KeepsRules}
 use Rattle.cf_model.specs.State.{HeapState}
 use Rattle.cf_model.specs.Steps.{IsOpeningWords, empty_heap}
-use Rattle.held_heap.specs.Bounds.{Bounds, IsFree, IsMalloc, IsRead, IsResize, IsRoomFor, IsWrite, length_in}
+use Rattle.step_ledger.specs.Counting.{RoseAtMost, RoseBy}
+use Rattle.tag_heap.specs.Room.{IsRoomAnswer, length_of}
+use Rattle.held_heap.specs.Bounds.{Bounds, IsFree, IsMalloc, IsRead, IsResize, IsWrite}
 use Rattle.held_heap.specs.Codes.{access_code, free_code, malloc_code, moved_number, resize_code}
 use Rattle.held_heap.specs.HeldState.{HeldState}
 use Rattle.held_heap.specs.declared.answers.NphClass.{NphClass}
@@ -35,7 +37,7 @@ abbrev pub malloc_number : ℕ → Result Handle Refusal → ℕ
 malloc_number before (Ok h) = h.0
 malloc_number before (Err e) = before
 
--- A malloc of these bytes. The ledger has its steps.
+-- a malloc of these bytes; the ledger has its steps
 pub record IsMallocCall (most : Bounds) (old : HeldState) (bytes before : ℕ) (code : ℤ) (after : ℕ) (new : HeldState) : Type 0 where
   pub answer : Result Handle Refusal
   pub by_code : code ≡ malloc_code answer
@@ -79,33 +81,35 @@ pub record IsReadCall (most : Bounds) (old : HeldState) (number from : ℕ) (bef
   pub call : IsRead most old.heap (record { number = number; from = from }) before answer after 0 new.steps
   pub kept : new.heap ≡ old.heap
 
--- the code of a look at what may not be there
+-- the code of a number that may be absent
 abbrev pub found_code : Option ℕ → ℤ
 found_code (Some n) = pos 0
 found_code None = pos 4
 
--- the number that is there; else what the caller had
+-- the number; without one what the caller had
 abbrev pub found_number : Option ℕ → ℕ → ℕ
 found_number (Some n) before = n
 found_number None before = before
 
--- a look at the length of this object; the heap stays
-pub record IsLengthCall (old : HeldState) (number before : ℕ) (code : ℤ) (after : ℕ) (new : HeldState) : Type 0 where
-  pub by_code : code ≡ found_code (length_in old.heap number)
-  pub by_length : after ≡ found_number (length_in old.heap number) before
+-- the length of this object; the heap stays
+pub record IsLengthCall (most : Bounds) (old : HeldState) (number before : ℕ) (code : ℤ) (after : ℕ) (new : HeldState) : Type 0 where
+  pub by_code : code ≡ found_code (length_of old.heap number)
+  pub by_length : after ≡ found_number (length_of old.heap number) before
   pub kept : new.heap ≡ old.heap
+  pub exact : RoseBy 0 new.steps (most.length (length_of old.heap number))
 
--- the code of a look for room
+-- the code of a room
 abbrev pub room_code : Result (Unit {0}) Refusal → ℤ
 room_code (Ok u) = pos 0
 room_code (Err e) = malloc_code (Err e)
 
--- a look at the room for an object of these bytes; the heap stays
-pub record IsRoomCall (old : HeldState) (bytes : ℕ) (code : ℤ) (new : HeldState) : Type 0 where
+-- the room for an object of these bytes; the heap stays
+pub record IsRoomCall (most : Bounds) (old : HeldState) (bytes : ℕ) (code : ℤ) (new : HeldState) : Type 0 where
   pub answer : Result (Unit {0}) Refusal
   pub by_code : code ≡ room_code answer
-  pub room : IsRoomFor old.heap bytes answer
+  pub room : IsRoomAnswer old.heap bytes answer
   pub kept : new.heap ≡ old.heap
+  pub bound : RoseAtMost 0 new.steps (most.room answer)
 
 -- the code of the figures of a class
 abbrev pub figures_code : HeapState → ℕ → ℤ
@@ -130,19 +134,20 @@ totals_shown s = shown (totals_in s.kind s)
     shown : Totals → NphHeapTotals
     shown t = record { asked = t.asked; taken = t.taken; held = t.held; live = t.live; used = t.used; free = t.free; largest = t.largest }
 
--- a look at the figures of a class, which changes nothing
+-- the figures of a class; nothing changes, so the steps stay those of the call before
 pub record IsFiguresCall (old : HeldState) (class : ℕ) (before : NphClass) (code : ℤ) (after : NphClass) (new : HeldState) : Type 0 where
   pub by_code : code ≡ figures_code old.heap class
   pub by_figures : after ≡ figures_shown old.heap class before
   pub kept : new ≡ old
 
--- a look at the figures of the whole heap; the heap stays
-pub record IsTotalsCall (old : HeldState) (code : ℤ) (after : NphHeapTotals) (new : HeldState) : Type 0 where
+-- the figures of the whole heap; the heap stays
+pub record IsTotalsCall (most : Bounds) (old : HeldState) (code : ℤ) (after : NphHeapTotals) (new : HeldState) : Type 0 where
   pub by_code : code ≡ pos 0
   pub by_totals : after ≡ totals_shown old.heap
   pub kept : new.heap ≡ old.heap
+  pub bound : RoseAtMost 0 new.steps (most.totals (totals_in old.heap.kind old.heap))
 
--- a look at the steps of the last call, which changes nothing
+-- the steps of the last call; nothing changes
 pub record IsStepsCall (old : HeldState) (code : ℤ) (after : ℕ) (new : HeldState) : Type 0 where
   pub by_code : code ≡ pos 0
   pub by_steps : after ≡ old.steps

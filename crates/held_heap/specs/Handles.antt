@@ -7,12 +7,12 @@ use Rattle.held_heap.specs.Calls.{IsFreshHeap}
 use Rattle.held_heap.specs.Codes.{fault_code}
 use Rattle.held_heap.specs.HeldState.{HeldState}
 
--- the heap is open, and this is so of it
+-- the heap is open, and this holds of it
 abbrev pub IsOpenWith : Option HeldState → (HeldState → Type 0) → Type 0
 IsOpenWith None holds = ⊥
 IsOpenWith (Some h) holds = holds h
 
--- A call on an open heap is this step. On one that isn't open it has the code 7, and all is kept.
+-- A call on an open heap is this step. On one that isn't open it returns 7 and changes nothing.
 abbrev pub OnOpen : Option HeldState → ℤ → Option HeldState → Type 0 → (HeldState → HeldState → Type 0) → Type 0
 OnOpen None code new kept step = (code ≡ pos 7) × (new ≡ None) × kept
 OnOpen (Some h) code new kept step = IsOpenWith new (step h)

@@ -6,6 +6,11 @@ pub mod Calls
 pub mod Handles
 pub mod Place
 pub mod Moving
+pub mod MovingLoan
 pub mod MovingHandle
 pub mod NonMoving
+pub mod NonMovingLoan
 pub mod NonMovingHandle
+pub mod Tlsf
+pub mod TlsfLoan
+pub mod TlsfHandle

@@ -1,9 +1,36 @@
--- The bounds of each manager.
+-- The steps of the calls of each manager.
+use Rattle.std.specs.Prelude.{ℕ, ◌+◌, ◌*◌, Option, Some, None}
 use Rattle.cf_base.specs.declared.kind.Kind.{Kind}
-use Rattle.cf_model.specs.Costs.{access_bound, resize_bound}
+use Rattle.page_model.specs.Order.{word_steps}
 use Rattle.held_heap.specs.Bounds.{Bounds}
-use Rattle.paged_heap.specs.Costs.{free_steps, malloc_steps}
+use Rattle.paged_heap.specs.Costs as pages
+use Rattle.tag_heap.specs.Costs as blocks
 
--- of a manager with pages
+-- a length with pages: the proxy, and the header with its block
+abbrev pub length_steps : Kind → Option ℕ → ℕ
+length_steps kind (Some n) = 1 + word_steps kind
+length_steps kind None = 1
+
+-- with pages
 abbrev pub page_bounds : Kind → Bounds
-page_bounds kind = record { malloc = λ answer. malloc_steps kind; free = free_steps kind; resize = resize_bound; access = λ from count answer. access_bound from count }
+page_bounds kind = record {
+  malloc = λ answer. pages.malloc_steps kind;
+  free = pages.free_steps kind;
+  resize = pages.resize_steps kind;
+  access = pages.access_steps kind;
+  length = length_steps kind;
+  room = λ answer. 1;
+  totals = λ totals. 0;
+}
+
+-- with blocks; a resize is refused once the proxy is read, and the totals visit each free block
+abbrev pub block_bounds : Bounds
+block_bounds = record {
+  malloc = blocks.malloc_steps;
+  free = blocks.free_steps;
+  resize = λ n answer. 1;
+  access = blocks.access_steps;
+  length = blocks.length_steps;
+  room = blocks.room_steps;
+  totals = λ totals. 3 + 2 * totals.free;
+}

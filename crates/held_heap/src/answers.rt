@@ -1,6 +1,6 @@
 //! What a call writes for its caller. The header repeats these types.
 
-/// A free: the words of the freed slot, and the handle of the object that moved to its address.
+/// A free: the words of the freed slot or block, and the handle of the object that moved to its address.
 #[repr(C)]
 #[derive(Clone, Copy, Drop)]
 pub struct NphFreed {

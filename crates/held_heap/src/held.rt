@@ -32,7 +32,7 @@ impl<H: Offered> Model for Held<H> {
 }
 
 impl<H: Offered> Held<H> {
-    ghost use Rattle.held_heap.specs.Calls.{IsFreeCall, IsFreshHeap, IsLengthCall, IsMallocCall, IsReadCall, IsResizeCall, IsRoomCall, IsWriteCall, figures_code, figures_shown, totals_shown};
+    ghost use Rattle.held_heap.specs.Calls.{IsFiguresCall, IsFreeCall, IsFreshHeap, IsLengthCall, IsMallocCall, IsReadCall, IsResizeCall, IsRoomCall, IsStepsCall, IsTotalsCall, IsWriteCall};
 
     /// A heap without objects, in memory of its own; none if out of memory.
     pub fn open(memory: Memory, s: &Settings) -> Option<Box<Held<H>>>
@@ -123,12 +123,12 @@ impl<H: Offered> Held<H> {
         }
     }
 
-    /// The bytes of an object.
+    /// How many bytes the object has.
     pub fn length(&mut self, handle: u32, bytes: &mut u32) -> i32
-        ensures { IsLengthCall self.old handle bytes.old result bytes.new self.new }
+        ensures { IsLengthCall H.most self.old handle bytes.old result bytes.new self.new }
     {
         self.meter.lap();
-        match self.heap.length_of(Handle(handle), self.meter.steps()) {
+        match self.heap.length_within(Handle(handle), self.meter.steps()) {
             Some(n) => {
                 *bytes = n;
                 DONE
@@ -137,20 +137,19 @@ impl<H: Offered> Held<H> {
         }
     }
 
-    /// Whether a malloc of `bytes` bytes would be served now, else why not.
+    /// The code that a malloc of `bytes` bytes would return now.
     pub fn has_room(&mut self, bytes: u32) -> i32
-        ensures { IsRoomCall self.old bytes result self.new }
+        ensures { IsRoomCall H.most self.old bytes result self.new }
     {
         self.meter.lap();
-        match self.heap.room_for(bytes, self.meter.steps()) {
+        match self.heap.room_within(bytes, self.meter.steps()) {
             Ok(()) => DONE,
             Err(cause) => of_refusal(cause),
         }
     }
 
-    pub fn figures(&self, class: u32, figures: &mut NphClass) -> i32
-        ensures code { result ≡ figures_code self.now.heap class }
-        ensures shown { figures.new ≡ figures_shown self.now.heap class figures.old }
+    pub fn figures(&mut self, class: u32, figures: &mut NphClass) -> i32
+        ensures { IsFiguresCall self.old class figures.old result figures.new self.new }
     {
         match self.heap.figures(class) {
             Some(f) => {
@@ -167,12 +166,11 @@ impl<H: Offered> Held<H> {
         }
     }
 
-    pub fn totals(&mut self, totals: &mut NphHeapTotals)
-        ensures shown { totals.new ≡ totals_shown self.old.heap }
-        ensures kept { self.new.heap ≡ self.old.heap }
+    pub fn totals(&mut self, totals: &mut NphHeapTotals) -> i32
+        ensures { IsTotalsCall H.most self.old result totals.new self.new }
     {
         self.meter.lap();
-        let all = self.heap.totals(self.meter.steps());
+        let all = self.heap.totals_within(self.meter.steps());
         *totals = NphHeapTotals {
             asked: all.asked,
             taken: all.taken,
@@ -182,13 +180,14 @@ impl<H: Offered> Held<H> {
             free: all.free,
             largest: all.largest,
         };
+        DONE
     }
 
     /// The steps of the last call.
-    pub fn last_steps(&mut self) -> u64
-        ensures count { result ≡ self.old.steps }
-        ensures kept { self.new ≡ self.old }
+    pub fn last_steps(&mut self, steps: &mut u64) -> i32
+        ensures { IsStepsCall self.old result steps.new self.new }
     {
-        self.meter.steps().count()
+        *steps = self.meter.steps().count();
+        DONE
     }
 }

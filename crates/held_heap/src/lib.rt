@@ -1,4 +1,4 @@
-//! A manager behind an address, for callers of other languages: a call returns a code, and writes its numbers through
+//! A heap at an address, for callers in other languages: a call returns a code, and writes its numbers through
 //! references.
 #![tactic(auto)]
 
@@ -9,6 +9,8 @@ pub mod moving;
 pub mod nonmoving;
 mod offered;
 mod place;
+pub mod tlsf;
 mod unboxed;
 
 pub use answers::{NphClass, NphFreed, NphHeapTotals, NphResized};
+pub use codes::CLOSED;

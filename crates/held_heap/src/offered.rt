@@ -3,17 +3,21 @@ ghost use Rattle.std.specs.Prelude.{◌≡◌, ◌^◌, ◌≤◌, IsTrue};
 ghost use Rattle.cf_base.specs.declared.kind.Kind.{Kind};
 ghost use Rattle.cf_base.specs.declared.kind.Kind.TheVariants.{Moving, NonMoving};
 ghost use Rattle.cf_model.specs.State.{closed_state};
-ghost use Rattle.held_heap.specs.Bounds.{Bounds, IsFree, IsMalloc, IsRead, IsResize, IsRoomFor, IsWrite, length_in};
-ghost use Rattle.held_heap.specs.ManagerBounds.{page_bounds};
+ghost use Rattle.cf_model.specs.Answers.{totals_in};
+ghost use Rattle.step_ledger.specs.Counting.{RoseAtMost, RoseBy};
+ghost use Rattle.tag_heap.specs.Room.{IsRoomAnswer, length_of};
+ghost use Rattle.held_heap.specs.Bounds.{Bounds, IsFree, IsMalloc, IsRead, IsResize, IsWrite};
+ghost use Rattle.held_heap.specs.ManagerBounds.{block_bounds, page_bounds};
 
-use cf_base::{AccessFault, Freed, Handle, NotLive, Refusal, ResizeFault, Resized};
+use cf_base::{AccessFault, Freed, Handle, NotLive, Refusal, ResizeFault, Resized, Totals};
 use cf_model::Manager;
 use moving_heap::MovingHeap;
 use nonmoving_heap::NonMovingHeap;
 use std::alloc::Global;
 use step_ledger::Steps;
+use tag_heap::{TagHeap, Yardstick};
 
-/// A manager whose calls keep within bounds of its own.
+/// A manager with the bounds of its own calls.
 pub trait Offered: Manager {
     /// The kind.
     ghost of_kind: { Kind };
@@ -72,15 +76,23 @@ pub trait Offered: Manager {
         requires room { steps.old ≤ 2 ^ 63 }
         ensures { IsRead most (Self.state self.now) (record { number = h.0; from = at }) out.old result out.new steps.old steps.new };
 
-    /// The bytes of an object; none where the handle isn't live.
-    fn length_of(&self, h: Handle, steps: &mut Steps) -> Option<u32>
+    /// How many bytes the object has; none if the handle isn't live.
+    fn length_within(&self, h: Handle, steps: &mut Steps) -> Option<u32>
         requires { IsTrue (Self.state self.now).is_open }
-        ensures { result ≡ length_in (Self.state self.now) h.0 };
+        ensures value { result ≡ length_of (Self.state self.now) h.0 }
+        ensures exact { RoseBy steps.old steps.new (most.length result) };
 
-    /// Why a malloc of `bytes` bytes would be refused now, if it would.
-    fn room_for(&self, bytes: u32, steps: &mut Steps) -> Result<(), Refusal>
+    /// The refusal that a malloc of `bytes` bytes would return now, else `Ok`.
+    fn room_within(&self, bytes: u32, steps: &mut Steps) -> Result<(), Refusal>
         requires { IsTrue (Self.state self.now).is_open }
-        ensures { IsRoomFor (Self.state self.now) bytes result };
+        ensures answer { IsRoomAnswer (Self.state self.now) bytes result }
+        ensures bound { RoseAtMost steps.old steps.new (most.room result) };
+
+    /// The figures of the whole heap.
+    fn totals_within(&self, steps: &mut Steps) -> Totals
+        requires { IsTrue (Self.state self.now).is_open }
+        ensures value { result ≡ totals_in (Self.state self.now).kind (Self.state self.now) }
+        ensures bound { RoseAtMost steps.old steps.new (most.totals result) };
 }
 
 impl Offered for MovingHeap {
@@ -129,12 +141,16 @@ impl Offered for MovingHeap {
         self.read(h, at, out, steps)
     }
 
-    fn length_of(&self, h: Handle, steps: &mut Steps) -> Option<u32> {
+    fn length_within(&self, h: Handle, steps: &mut Steps) -> Option<u32> {
         self.length(h, steps)
     }
 
-    fn room_for(&self, bytes: u32, steps: &mut Steps) -> Result<(), Refusal> {
+    fn room_within(&self, bytes: u32, steps: &mut Steps) -> Result<(), Refusal> {
         self.has_room(bytes, steps)
+    }
+
+    fn totals_within(&self, steps: &mut Steps) -> Totals {
+        self.totals(steps)
     }
 }
 
@@ -184,11 +200,74 @@ impl Offered for NonMovingHeap {
         self.read(h, at, out, steps)
     }
 
-    fn length_of(&self, h: Handle, steps: &mut Steps) -> Option<u32> {
+    fn length_within(&self, h: Handle, steps: &mut Steps) -> Option<u32> {
         self.length(h, steps)
     }
 
-    fn room_for(&self, bytes: u32, steps: &mut Steps) -> Result<(), Refusal> {
+    fn room_within(&self, bytes: u32, steps: &mut Steps) -> Result<(), Refusal> {
         self.has_room(bytes, steps)
+    }
+
+    fn totals_within(&self, steps: &mut Steps) -> Totals {
+        self.totals(steps)
+    }
+}
+
+impl<B: Yardstick> Offered for TagHeap<B> {
+    ghost of_kind = { B.kind };
+
+    ghost most = { block_bounds };
+
+    fn new_closed(alloc: Global) -> TagHeap<B> {
+        TagHeap::closed(alloc)
+    }
+
+    fn malloc_within(&mut self, bytes: u32, steps: &mut Steps) -> Result<Handle, Refusal> {
+        self.malloc(bytes, steps)
+    }
+
+    fn free_within(&mut self, h: Handle, steps: &mut Steps) -> Result<Freed, NotLive> {
+        self.free(h, steps)
+    }
+
+    fn resize_within(
+        &mut self,
+        h: Handle,
+        bytes: u32,
+        steps: &mut Steps,
+    ) -> Result<Resized, ResizeFault> {
+        self.resize(h, bytes, steps)
+    }
+
+    fn write_within(
+        &mut self,
+        h: Handle,
+        at: u32,
+        bytes: &[u8],
+        steps: &mut Steps,
+    ) -> Result<(), AccessFault> {
+        self.write(h, at, bytes, steps)
+    }
+
+    fn read_within(
+        &self,
+        h: Handle,
+        at: u32,
+        out: &mut [u8],
+        steps: &mut Steps,
+    ) -> Result<(), AccessFault> {
+        self.read(h, at, out, steps)
+    }
+
+    fn length_within(&self, h: Handle, steps: &mut Steps) -> Option<u32> {
+        self.length(h, steps)
+    }
+
+    fn room_within(&self, bytes: u32, steps: &mut Steps) -> Result<(), Refusal> {
+        self.has_room(bytes, steps)
+    }
+
+    fn totals_within(&self, steps: &mut Steps) -> Totals {
+        self.totals(steps)
     }
 }

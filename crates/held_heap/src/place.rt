@@ -1,4 +1,4 @@
-//! What the address in a place points to.
+//! The type that the pointer of a place names.
 
 /// The block of an open heap, which only the library reads.
 #[repr(C)]

@@ -9,7 +9,7 @@ ghost use Rattle.held_heap.specs.NonMovingHandle.{held_in};
 ghost use Rattle.held_heap.specs.ManagerBounds.{page_bounds};
 
 use held_heap::nonmoving::NphHeap;
-use held_heap::{NphClass, NphFreed, NphHeapTotals, NphResized};
+use held_heap::{CLOSED, NphClass, NphFreed, NphHeapTotals, NphResized};
 use std::rt::Memory;
 
 #[unsafe(no_mangle)]
@@ -34,35 +34,32 @@ pub extern "C" fn nph_close(heap: &mut NphHeap, memory: Memory)
 }
 
 #[unsafe(no_mangle)]
-pub extern "C" fn nph_malloc(
-    heap: &mut NphHeap,
-    memory: Memory,
-    bytes: u32,
-    handle: &mut u32,
-) -> i32
+pub extern "C" fn nph_malloc(heap: &mut NphHeap, bytes: u32, handle: &mut u32) -> i32
     ensures { OnOpen (held_in heap.old) result (held_in heap.new) (handle.new ≡ handle.old)
         (λ h h2. IsMallocCall (page_bounds NonMoving) h bytes handle.old result handle.new h2) }
 {
-    heap.malloc(memory, bytes, handle)
+    if heap.is_open() {
+        heap.held().malloc(bytes, handle)
+    } else {
+        CLOSED
+    }
 }
 
 #[unsafe(no_mangle)]
-pub extern "C" fn nph_free(
-    heap: &mut NphHeap,
-    memory: Memory,
-    handle: u32,
-    freed: &mut NphFreed,
-) -> i32
+pub extern "C" fn nph_free(heap: &mut NphHeap, handle: u32, freed: &mut NphFreed) -> i32
     ensures { OnOpen (held_in heap.old) result (held_in heap.new) (freed.new ≡ freed.old)
         (λ h h2. IsFreeCall (page_bounds NonMoving) h handle freed.old result freed.new h2) }
 {
-    heap.free(memory, handle, freed)
+    if heap.is_open() {
+        heap.held().free(handle, freed)
+    } else {
+        CLOSED
+    }
 }
 
 #[unsafe(no_mangle)]
 pub extern "C" fn nph_resize(
     heap: &mut NphHeap,
-    memory: Memory,
     handle: u32,
     bytes: u32,
     resized: &mut NphResized,
@@ -70,83 +67,93 @@ pub extern "C" fn nph_resize(
     ensures { OnOpen (held_in heap.old) result (held_in heap.new) (resized.new ≡ resized.old)
         (λ h h2. IsResizeCall (page_bounds NonMoving) h handle bytes resized.old result resized.new h2) }
 {
-    heap.resize(memory, handle, bytes, resized)
+    if heap.is_open() {
+        heap.held().resize(handle, bytes, resized)
+    } else {
+        CLOSED
+    }
 }
 
 #[unsafe(no_mangle)]
-pub extern "C" fn nph_write(
-    heap: &mut NphHeap,
-    memory: Memory,
-    handle: u32,
-    at: u32,
-    bytes: &[u8],
-) -> i32
+pub extern "C" fn nph_write(heap: &mut NphHeap, handle: u32, at: u32, bytes: &[u8]) -> i32
     ensures { OnOpen (held_in heap.old) result (held_in heap.new) (Unit {0})
         (λ h h2. IsWriteCall (page_bounds NonMoving) h handle at bytes.now result h2) }
 {
-    heap.write(memory, handle, at, bytes)
+    if heap.is_open() {
+        heap.held().write(handle, at, bytes)
+    } else {
+        CLOSED
+    }
 }
 
 #[unsafe(no_mangle)]
-pub extern "C" fn nph_read(
-    heap: &mut NphHeap,
-    memory: Memory,
-    handle: u32,
-    at: u32,
-    out: &mut [u8],
-) -> i32
+pub extern "C" fn nph_read(heap: &mut NphHeap, handle: u32, at: u32, out: &mut [u8]) -> i32
     ensures { OnOpen (held_in heap.old) result (held_in heap.new) (out.new ≡ out.old)
         (λ h h2. IsReadCall (page_bounds NonMoving) h handle at out.old result out.new h2) }
 {
-    heap.read(memory, handle, at, out)
+    if heap.is_open() {
+        heap.held().read(handle, at, out)
+    } else {
+        CLOSED
+    }
 }
 
 #[unsafe(no_mangle)]
-pub extern "C" fn nph_length(
-    heap: &mut NphHeap,
-    memory: Memory,
-    handle: u32,
-    bytes: &mut u32,
-) -> i32
+pub extern "C" fn nph_length(heap: &mut NphHeap, handle: u32, bytes: &mut u32) -> i32
     ensures { OnOpen (held_in heap.old) result (held_in heap.new) (bytes.new ≡ bytes.old)
-        (λ h h2. IsLengthCall h handle bytes.old result bytes.new h2) }
+        (λ h h2. IsLengthCall (page_bounds NonMoving) h handle bytes.old result bytes.new h2) }
 {
-    heap.length(memory, handle, bytes)
+    if heap.is_open() {
+        heap.held().length(handle, bytes)
+    } else {
+        CLOSED
+    }
 }
 
 #[unsafe(no_mangle)]
-pub extern "C" fn nph_has_room(heap: &mut NphHeap, memory: Memory, bytes: u32) -> i32
+pub extern "C" fn nph_has_room(heap: &mut NphHeap, bytes: u32) -> i32
     ensures { OnOpen (held_in heap.old) result (held_in heap.new) (Unit {0})
-        (λ h h2. IsRoomCall h bytes result h2) }
+        (λ h h2. IsRoomCall (page_bounds NonMoving) h bytes result h2) }
 {
-    heap.has_room(memory, bytes)
+    if heap.is_open() {
+        heap.held().has_room(bytes)
+    } else {
+        CLOSED
+    }
 }
 
 #[unsafe(no_mangle)]
-pub extern "C" fn nph_figures(
-    heap: &mut NphHeap,
-    memory: Memory,
-    class: u32,
-    figures: &mut NphClass,
-) -> i32
+pub extern "C" fn nph_figures(heap: &mut NphHeap, class: u32, figures: &mut NphClass) -> i32
     ensures { OnOpen (held_in heap.old) result (held_in heap.new) (figures.new ≡ figures.old)
         (λ h h2. IsFiguresCall h class figures.old result figures.new h2) }
 {
-    heap.figures(memory, class, figures)
+    if heap.is_open() {
+        heap.held().figures(class, figures)
+    } else {
+        CLOSED
+    }
 }
 
 #[unsafe(no_mangle)]
-pub extern "C" fn nph_totals(heap: &mut NphHeap, memory: Memory, totals: &mut NphHeapTotals) -> i32
+pub extern "C" fn nph_totals(heap: &mut NphHeap, totals: &mut NphHeapTotals) -> i32
     ensures { OnOpen (held_in heap.old) result (held_in heap.new) (totals.new ≡ totals.old)
-        (λ h h2. IsTotalsCall h result totals.new h2) }
+        (λ h h2. IsTotalsCall (page_bounds NonMoving) h result totals.new h2) }
 {
-    heap.totals(memory, totals)
+    if heap.is_open() {
+        heap.held().totals(totals)
+    } else {
+        CLOSED
+    }
 }
 
 #[unsafe(no_mangle)]
-pub extern "C" fn nph_last_steps(heap: &mut NphHeap, memory: Memory, steps: &mut u64) -> i32
+pub extern "C" fn nph_last_steps(heap: &mut NphHeap, steps: &mut u64) -> i32
     ensures { OnOpen (held_in heap.old) result (held_in heap.new) (steps.new ≡ steps.old)
         (λ h h2. IsStepsCall h result steps.new h2) }
 {
-    heap.last_steps(memory, steps)
+    if heap.is_open() {
+        heap.held().last_steps(steps)
+    } else {
+        CLOSED
+    }
 }

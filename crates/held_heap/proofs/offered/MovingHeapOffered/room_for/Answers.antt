@@ -1,6 +1,0 @@
--- A refusal has its cause, and without one there is none.
-use Rattle.held_heap.proofs.Rooms.{room_by_result}
-use Rattle.held_heap.proofs.offered.MovingHeapOffered.room_for.Goals as goal
-
-pub returns : goal.returns
-returns c = room_by_result c.args.self.now c.args.bytes c.has_room.result c.has_room.ensures.ok c.has_room.ensures.err

@@ -1,0 +1,16 @@
+-- The heap at a caller's address.
+use Rattle.std.specs.Prelude.{Option, refl, true}
+use Rattle.std.specs.Borrow.{Fml, Lends, MutBor}
+use Rattle.held_heap.specs.HeldState.{HeldState}
+use Rattle.held_heap.specs.Tlsf.{open_heap}
+use Rattle.held_heap.specs.TlsfLoan.{with_heap}
+use Rattle.held_heap.specs.declared.tlsf.NphHeap.{NphHeap}
+use Rattle.held_heap.specs.contracts.tlsf.NphHeap.{the_row}
+
+-- an open heap, or none
+abbrev pub held_in : NphHeap → Option HeldState
+held_in n = n.place.held
+
+-- at its end the borrow r leaves its heap at the address
+abbrev pub LendsHeap : MutBor NphHeap → MutBor HeldState → Fml
+LendsHeap s r = Lends the_row open_heap s r (λ h. record { place = with_heap s.now.place h; is_open = true; told = refl })

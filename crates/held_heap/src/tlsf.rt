@@ -1,0 +1,148 @@
+//! A heap of the TLSF manager at an address of its caller.
+ghost use Rattle.std.specs.Prelude.{◌≡◌, Option, Some, None, IsSome, is_some};
+ghost use Rattle.std.specs.Borrow.{sem};
+ghost use Rattle.std.specs.Coded.{coded_option};
+ghost use Rattle.held_heap.specs.HeldState.{HeldState, held_code};
+ghost use Rattle.held_heap.specs.Tlsf.{open_heap};
+ghost use Rattle.held_heap.specs.Place.{place_owns};
+
+use crate::codes::{DONE, MEMORY, OPEN, of_setting};
+use crate::held::Held;
+use crate::place::Sealed;
+use crate::unboxed::Unboxed;
+use cf_base::Settings;
+use std::alloc::Global;
+use std::marker::Model;
+use std::rt::Memory;
+use tlsf_heap::TlsfHeap;
+
+type Open = Held<TlsfHeap>;
+
+/// An address, and the open heap in a block of its own there; or null.
+#[repr(C)]
+#[derive(Drop)]
+pub struct Place {
+    at: *mut Sealed,
+    pub(crate) ghost held: { Option HeldState } by { coded_option held_code },
+}
+
+impl Model for Place {
+    ghost also_owns = { λ p. place_owns open_heap p.at p.held };
+}
+
+impl Place {
+    ghost use Rattle.held_heap.specs.TlsfLoan.{LendsPlace};
+
+    fn nowhere() -> Place
+        ensures { result.held ≡ None }
+    {
+        Place {
+            at: std::ptr::null_mut(),
+        }
+    }
+
+    fn of(b: Box<Open>) -> Place
+        ensures { result.held ≡ Some b.value }
+    {
+        place_of(Unboxed::new(b))
+    }
+
+    fn into_box(self, alloc: Global) -> Box<Open>
+        requires { IsSome self.held }
+        ensures { self.held ≡ Some result.value }
+    {
+        unboxed_of(self, alloc).boxed()
+    }
+
+    /// Lends the open heap.
+    fn lend(&mut self) -> &mut Open
+        requires { IsSome self.old.held }
+        ensures* writes_back { sem 𝓛 (LendsPlace self.entry result) }
+        ensures value { self.old.held ≡ Some result.now }
+    {
+        unsafe { &mut *(self.at as *mut Open) }
+    }
+}
+
+fn place_of(u: Unboxed<Open, Global>) -> Place
+    ensures { result.held ≡ Some u.value }
+{
+    let Unboxed { alloc: _, at } = u;
+    Place {
+        at: at as *mut Sealed,
+    }
+}
+
+fn unboxed_of(p: Place, alloc: Global) -> Unboxed<Open, Global>
+    requires { IsSome p.held }
+    ensures { p.held ≡ Some result.value }
+{
+    let Place { at } = p;
+    Unboxed {
+        alloc,
+        at: at as *mut Open,
+    }
+}
+
+/// A heap, open or not. One that is dropped without a close keeps its memory.
+#[repr(C)]
+#[derive(Drop)]
+pub struct NphHeap {
+    place: Place,
+    is_open: bool,
+    ghost told: { is_open ≡ is_some place.held },
+}
+
+impl NphHeap {
+    ghost use Rattle.cf_base.specs.declared.kind.Kind.TheVariants.{Tlsf};
+    ghost use Rattle.held_heap.specs.Handles.{IsOpenCall};
+    ghost use Rattle.held_heap.specs.TlsfHandle.{LendsHeap, held_in};
+
+    /// Whether the heap is open.
+    pub fn is_open(&self) -> bool
+        ensures { result ≡ is_some (held_in self.now) }
+    {
+        self.is_open
+    }
+
+    /// Lends the open heap.
+    pub fn held(&mut self) -> &mut Open
+        requires { IsSome (held_in self.old) }
+        ensures* writes_back { sem 𝓛 (LendsHeap self.entry result) }
+        ensures value { held_in self.old ≡ Some result.now }
+    {
+        self.place.lend()
+    }
+
+    /// Opens an empty heap with these settings. Only this call takes memory.
+    pub fn open(&mut self, memory: Memory, pages: u32, page_bytes: u32, k: u32, proxies: u32) -> i32
+        ensures { IsOpenCall Tlsf (held_in self.old) pages page_bytes k proxies result (held_in self.new) }
+    {
+        if self.is_open {
+            return OPEN;
+        }
+        match Settings::check(pages, page_bytes, k, proxies) {
+            Err(fault) => of_setting(fault),
+            Ok(s) => match Held::open(memory, &s) {
+                Some(heap) => {
+                    self.place = Place::of(heap);
+                    self.is_open = true;
+                    DONE
+                }
+                None => MEMORY,
+            },
+        }
+    }
+
+    /// Returns the memory; does nothing if the heap isn't open.
+    pub fn close(&mut self, memory: Memory)
+        ensures { held_in self.new ≡ None }
+    {
+        if !self.is_open {
+            return;
+        }
+        self.is_open = false;
+        let place = std::mem::replace(&mut self.place, Place::nowhere());
+        drop(place.into_box(Global::new(memory)));
+    }
+}

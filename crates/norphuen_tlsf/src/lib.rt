@@ -1,0 +1,159 @@
+//! The TLSF manager as a library for C, for comparison. Each export has the clause of the call that it makes.
+#![tactic(auto)]
+
+ghost use Rattle.std.specs.Prelude.{◌≡◌, None};
+ghost use Rattle.cf_base.specs.declared.kind.Kind.TheVariants.{Tlsf};
+ghost use Rattle.held_heap.specs.Calls.{IsFiguresCall, IsFreeCall, IsLengthCall, IsMallocCall, IsReadCall, IsResizeCall, IsRoomCall, IsStepsCall, IsTotalsCall, IsWriteCall};
+ghost use Rattle.held_heap.specs.Handles.{IsOpenCall, OnOpen};
+ghost use Rattle.held_heap.specs.TlsfHandle.{held_in};
+ghost use Rattle.held_heap.specs.ManagerBounds.{block_bounds};
+
+use held_heap::tlsf::NphHeap;
+use held_heap::{CLOSED, NphClass, NphFreed, NphHeapTotals, NphResized};
+use std::rt::Memory;
+
+#[unsafe(no_mangle)]
+pub extern "C" fn nph_open(
+    heap: &mut NphHeap,
+    memory: Memory,
+    pages: u32,
+    page_bytes: u32,
+    k: u32,
+    proxies: u32,
+) -> i32
+    ensures { IsOpenCall Tlsf (held_in heap.old) pages page_bytes k proxies result (held_in heap.new) }
+{
+    heap.open(memory, pages, page_bytes, k, proxies)
+}
+
+#[unsafe(no_mangle)]
+pub extern "C" fn nph_close(heap: &mut NphHeap, memory: Memory)
+    ensures { held_in heap.new ≡ None }
+{
+    heap.close(memory);
+}
+
+#[unsafe(no_mangle)]
+pub extern "C" fn nph_malloc(heap: &mut NphHeap, bytes: u32, handle: &mut u32) -> i32
+    ensures { OnOpen (held_in heap.old) result (held_in heap.new) (handle.new ≡ handle.old)
+        (λ h h2. IsMallocCall block_bounds h bytes handle.old result handle.new h2) }
+{
+    if heap.is_open() {
+        heap.held().malloc(bytes, handle)
+    } else {
+        CLOSED
+    }
+}
+
+#[unsafe(no_mangle)]
+pub extern "C" fn nph_free(heap: &mut NphHeap, handle: u32, freed: &mut NphFreed) -> i32
+    ensures { OnOpen (held_in heap.old) result (held_in heap.new) (freed.new ≡ freed.old)
+        (λ h h2. IsFreeCall block_bounds h handle freed.old result freed.new h2) }
+{
+    if heap.is_open() {
+        heap.held().free(handle, freed)
+    } else {
+        CLOSED
+    }
+}
+
+#[unsafe(no_mangle)]
+pub extern "C" fn nph_resize(
+    heap: &mut NphHeap,
+    handle: u32,
+    bytes: u32,
+    resized: &mut NphResized,
+) -> i32
+    ensures { OnOpen (held_in heap.old) result (held_in heap.new) (resized.new ≡ resized.old)
+        (λ h h2. IsResizeCall block_bounds h handle bytes resized.old result resized.new h2) }
+{
+    if heap.is_open() {
+        heap.held().resize(handle, bytes, resized)
+    } else {
+        CLOSED
+    }
+}
+
+#[unsafe(no_mangle)]
+pub extern "C" fn nph_write(heap: &mut NphHeap, handle: u32, at: u32, bytes: &[u8]) -> i32
+    ensures { OnOpen (held_in heap.old) result (held_in heap.new) (Unit {0})
+        (λ h h2. IsWriteCall block_bounds h handle at bytes.now result h2) }
+{
+    if heap.is_open() {
+        heap.held().write(handle, at, bytes)
+    } else {
+        CLOSED
+    }
+}
+
+#[unsafe(no_mangle)]
+pub extern "C" fn nph_read(heap: &mut NphHeap, handle: u32, at: u32, out: &mut [u8]) -> i32
+    ensures { OnOpen (held_in heap.old) result (held_in heap.new) (out.new ≡ out.old)
+        (λ h h2. IsReadCall block_bounds h handle at out.old result out.new h2) }
+{
+    if heap.is_open() {
+        heap.held().read(handle, at, out)
+    } else {
+        CLOSED
+    }
+}
+
+#[unsafe(no_mangle)]
+pub extern "C" fn nph_length(heap: &mut NphHeap, handle: u32, bytes: &mut u32) -> i32
+    ensures { OnOpen (held_in heap.old) result (held_in heap.new) (bytes.new ≡ bytes.old)
+        (λ h h2. IsLengthCall block_bounds h handle bytes.old result bytes.new h2) }
+{
+    if heap.is_open() {
+        heap.held().length(handle, bytes)
+    } else {
+        CLOSED
+    }
+}
+
+#[unsafe(no_mangle)]
+pub extern "C" fn nph_has_room(heap: &mut NphHeap, bytes: u32) -> i32
+    ensures { OnOpen (held_in heap.old) result (held_in heap.new) (Unit {0})
+        (λ h h2. IsRoomCall block_bounds h bytes result h2) }
+{
+    if heap.is_open() {
+        heap.held().has_room(bytes)
+    } else {
+        CLOSED
+    }
+}
+
+#[unsafe(no_mangle)]
+pub extern "C" fn nph_figures(heap: &mut NphHeap, class: u32, figures: &mut NphClass) -> i32
+    ensures { OnOpen (held_in heap.old) result (held_in heap.new) (figures.new ≡ figures.old)
+        (λ h h2. IsFiguresCall h class figures.old result figures.new h2) }
+{
+    if heap.is_open() {
+        heap.held().figures(class, figures)
+    } else {
+        CLOSED
+    }
+}
+
+#[unsafe(no_mangle)]
+pub extern "C" fn nph_totals(heap: &mut NphHeap, totals: &mut NphHeapTotals) -> i32
+    ensures { OnOpen (held_in heap.old) result (held_in heap.new) (totals.new ≡ totals.old)
+        (λ h h2. IsTotalsCall block_bounds h result totals.new h2) }
+{
+    if heap.is_open() {
+        heap.held().totals(totals)
+    } else {
+        CLOSED
+    }
+}
+
+#[unsafe(no_mangle)]
+pub extern "C" fn nph_last_steps(heap: &mut NphHeap, steps: &mut u64) -> i32
+    ensures { OnOpen (held_in heap.old) result (held_in heap.new) (steps.new ≡ steps.old)
+        (λ h h2. IsStepsCall h result steps.new h2) }
+{
+    if heap.is_open() {
+        heap.held().last_steps(steps)
+    } else {
+        CLOSED
+    }
+}
