@@ -1,4 +1,4 @@
--- What a bench does, and what it tells.
+-- What a bench does, and what it prints.
 use Rattle.std.specs.Prelude.{◌≡◌, ◌++◌, ℕ, Bool, true, false, List, [], ◌∷◌, Option, Some, None, map, codes}
 use Rattle.std.specs.List.{count_by}
 use Rattle.bench_run.specs.declared.figures.BenchFigures.{BenchFigures}
@@ -47,7 +47,7 @@ pub record BenchRun (kind : Kind) (seed count : ℕ) (end : RunState) : Type 0 w
   pub replies : List Reply
   pub run : Run kind None (bench_items seed count) (said (codes "ok") ∷ replies) (Some end)
 
--- what is told of a run with these replies and this end
+-- the numbers of a run with these replies and this end
 abbrev pub figures_of : ℕ → List Reply → RunState → BenchFigures
 figures_of count replies end = record {
   commands = count;
@@ -58,7 +58,7 @@ figures_of count replies end = record {
   moves = end.session.moves;
 }
 
--- the line that tells it
+-- their line
 abbrev pub bench_line : BenchFigures → List ℕ
 bench_line f = with_number (codes "bench commands ") f.commands ++ (with_number (codes " ok ") f.ok ++ (with_number (codes " refused ") f.refused
     ++ (with_number (codes " live ") f.live ++ (with_number (codes " pages ") f.pages ++ with_number (codes " moves ") f.moves))))
@@ -87,7 +87,7 @@ abbrev pub EndsBench : Status → ℕ → ℕ → RunState → RunState → Opti
 EndsBench OutOfMemory seed count from to before after = LacksBench from to before after
 EndsBench status seed count from to before after = TellsBench status seed count from to before after
 
--- the commands were applied, and so many of the replies are good and refusals
+-- the commands were applied, and this many of the replies are good and refusals
 pub record IsAppliedTo (old : RunState) (commands : List Command) (new : RunState) (ok refused : ℕ) : Type 0 where
   pub replies : List Reply
   pub run : Run old.heap.kind (Some old) (map (λ c. asks c) commands) replies (Some new)

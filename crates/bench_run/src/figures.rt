@@ -1,4 +1,4 @@
-//! What is told of a bench.
+//! The numbers of a bench.
 ghost use Rattle.std.specs.Prelude.{◌≡◌, ◌≤◌, [], ◌≢◌};
 ghost use Rattle.bench_run.specs.Bench.{IsWritten, bench_line};
 ghost use Rattle.cf_io.specs.Feeds.{Rose};
@@ -20,7 +20,7 @@ pub struct BenchFigures {
 }
 
 impl BenchFigures {
-    /// Writes the line that tells them, in one piece: `Done`, or `WriteFault` where the sink failed.
+    /// Writes their line, in one piece: `Done`, or `WriteFault` if the sink failed.
     pub(crate) fn put<K: Sink>(&self, sink: &mut K) -> Status
         ensures written { IsWritten result (K.written sink.old) (led [] (said (bench_line self.now))) (K.written sink.new) }
         ensures grows { K.faults sink.old ≤ K.faults sink.new }

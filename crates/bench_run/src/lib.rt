@@ -1,4 +1,4 @@
-//! A generated script on one manager, of which only numbers are told.
+//! A generated script on one manager; it prints only numbers.
 #![tactic(auto)]
 
 mod bench;

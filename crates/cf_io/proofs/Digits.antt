@@ -15,7 +15,7 @@ use Rattle.std.proofs.lemmas.Str.Parse.{digits_value-take-le}
 use Rattle.std.proofs.lemmas.Bool.{cases_lt, false≢true, lt-leb}
 use Rattle.cf_io.specs.Numbers.{digits_first, is_digit, leading_number, number_in}
 
--- what a text that spells a number tells
+-- what follows from a text that spells a number
 pub record Spells (text : List ℕ) (n : ℕ) : Type 0 where
   pub some : 0 < length text
   pub digits : list_all is_digit text ≡ true
@@ -108,7 +108,7 @@ first_spell text i v some within all ends value fits =
 pub first_none : (text : List ℕ) → (0 < length text → is_digit (get_or text 0 0) ≡ false) → None ≡ leading_number text
 first_none text ends = rw (digits_end text 0 (omega arith) refl ends) refl
 
--- what the first digits tell of a whole text
+-- what the first digits show of a whole text
 pub first_told : (text : List ℕ) (v n : ℕ) → Some (v, n) ≡ leading_number text → (n ≡ digits_first text) × (number_in (take n text) ≡ Some v)
 first_told text v n told = go (number_in (take (digits_first text) text)) refl told
   where

@@ -1,4 +1,4 @@
--- For the layers above: what stands on a line, and what is put chunk by chunk.
+-- For the layers above: the bytes of a line, and what is put chunk by chunk.
 use Rattle.std.proofs.Common.{◌≡◌, ◌∙◌, ℕ, ◌+◌, ◌<◌, ◌≤◌, ◌^◌, ◌++◌, List, [], ◌∷◌, Option, refl, ap, sym, append_assoc, append-nil, subst, arith, length, lit<}
 use Rattle.std.specs.Prelude.{Result, Ok, Err, decimal}
 use Rattle.std.specs.Result.{IsOk}
@@ -53,7 +53,7 @@ pub five : (lead l m n o p q a b c d e : List ℕ) → l ≡ lead → m ≡ l ++
     → q ≡ lead ++ (a ++ (b ++ (c ++ (d ++ e))))
 five lead l m n o p q a b c d e first second third fourth fifth sixth = rw (sixth, fifth, fourth, third, second, first) (simp append_assoc)
 
--- a text stands on the line where there was room for it
+-- a text is on the line if it fitted
 pub pushed : {T : Type 0} (old text new : List ℕ) (r : Result T Full) → Pushes old text r new → length old + length text ≤ line_room
     → IsOk r × (new ≡ old ++ text)
 pushed old text new (Ok u) p room = (refl, p.0)

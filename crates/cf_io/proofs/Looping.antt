@@ -15,7 +15,7 @@ begins_again at full n next len was whole = sym (mod_self len) ∙ ap (λ m. m %
 pub goes_on_inside : (at full n next len : ℕ) → next ≡ (at + full) % len → next + n < len → next + n ≡ (at + (full + n)) % len
 goes_on_inside at full n next len was inside = sym (mod-eq_of_lt inside) ∙ goes_on at full n next len was
 
--- where byte k stands, if the next one to be copied is the piece's byte `next`
+-- the index of byte k, if the next one to be copied is the piece's byte `next`
 place : (at full next k len : ℕ) → next ≡ (at + full) % len → full ≤ k → next + (k - full) < len → (at + k) % len ≡ next + (k - full)
 place at full next k len was behind inside =
     let e : at + full + (k - full) ≡ at + k = omega arith in

@@ -1,4 +1,4 @@
--- What stands in a source or a sink over a reader or a writer.
+-- What a source over a reader, or a sink over a writer, shows.
 use Rattle.std.specs.Prelude.{ℕ, List, Option, Result}
 use Rattle.std.specs.Io.KnownBytes.{Appends, ReadConsumes}
 use Rattle.cf_base.specs.declared.answers.Failed.{Failed}
@@ -29,10 +29,10 @@ writer_of s = s.writer
 abbrev pub sink_faults : {T : Type 0} → StdSink T → ℕ
 sink_faults s = s.faults
 
--- what the reader has left, where it is known, lost just what was given
+-- what the reader has left, if it is known, lost just what was returned
 abbrev pub ReadsFrom : {T : Type 0} → (T → Option (List ℕ)) → StdSource T → Result ℕ Failed → StdSource T → List ℕ → Type 0
 ReadsFrom remaining old answer new buf = ReadConsumes (remaining (reader_of old)) (remaining (reader_of new)) answer buf
 
--- what the writer holds, where it is known, grew by this piece
+-- what the writer holds, if it is known, grew by this piece
 abbrev pub WritesTo : {T : Type 0} → (T → Option (List ℕ)) → StdSink T → List ℕ → StdSink T → Type 0
 WritesTo contents old piece new = Appends (contents (writer_of old)) (contents (writer_of new)) piece

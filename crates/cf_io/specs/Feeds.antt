@@ -1,4 +1,4 @@
--- What sources and sinks say.
+-- What sources and sinks show.
 use Rattle.std.specs.Prelude.{◌≡◌, ◌<◌, ◌≤◌, ◌+◌, ◌⊎◌, ◌++◌, ℕ, List, [], Option, option_map, IfSome, Result, Ok, Err}
 use Rattle.cf_base.specs.declared.answers.Failed.{Failed}
 
@@ -10,15 +10,15 @@ last_count = 18446744073709551615
 abbrev pub Rose : ℕ → ℕ → Type 0
 Rose old new = (old < new) ⊎ (new ≡ last_count)
 
--- these bytes come first, where any are told
+-- these bytes are put before, if the bytes are observable
 abbrev pub preceded : List ℕ → Option (List ℕ) → Option (List ℕ)
 preceded piece = option_map (λ rest. piece ++ rest)
 
--- these bytes come last, where any are told
+-- these bytes are put after, if the bytes are observable
 abbrev pub appended : Option (List ℕ) → List ℕ → Option (List ℕ)
 appended written piece = option_map (λ all. all ++ piece) written
 
--- nothing is left, where it is told
+-- nothing is left, if that is observable
 abbrev pub IsSpent : Option (List ℕ) → Type 0
 IsSpent rest = IfSome rest (λ bytes. bytes ≡ [])
 

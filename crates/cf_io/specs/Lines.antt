@@ -12,7 +12,7 @@ line_room = 9000
 abbrev pub word_text : ℕ → List ℕ
 word_text v = encode_lower (to_be_bytes w64 v)
 
--- the text stands after what the line held; or there was no room for it, and the line is unchanged
+-- the text follows what the line held; or it did not fit, and the line is unchanged
 abbrev pub Pushes : {T : Type 0} → List ℕ → List ℕ → Result T Full → List ℕ → Type 0
 Pushes old text (Ok u) new = (new ≡ old ++ text) × (length old + length text ≤ line_room)
 Pushes old text (Err e) new = (new ≡ old) × (line_room < length old + length text)

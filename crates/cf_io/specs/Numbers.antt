@@ -8,7 +8,7 @@ use Rattle.cf_base.specs.Limits.{is_within}
 abbrev pub is_digit : ℕ → Bool
 is_digit b = is_within 48 57 b
 
--- the number that the text spells in decimal; none where it is empty, has another byte, or passes 2^32 - 1
+-- the number that the text spells in decimal; none if it is empty, has another byte, or passes 2^32 - 1
 abbrev pub number_in : List ℕ → Option ℕ
 number_in text = if not (length text == 0) && list_all is_digit text && nat_le (digits_value 10 text) 4294967295
     then Some (digits_value 10 text) else None
@@ -17,6 +17,6 @@ number_in text = if not (length text == 0) && list_all is_digit text && nat_le (
 abbrev pub digits_first : List ℕ → ℕ
 digits_first text = position_or_len (λ b. not (is_digit b)) text
 
--- the number that these digits spell, and how many they are; none where they spell no number
+-- the number that these digits spell, and how many they are; none if they spell no number
 abbrev pub leading_number : List ℕ → Option (ℕ × ℕ)
 leading_number text = option_map (λ n. (n, digits_first text)) (number_in (take (digits_first text) text))

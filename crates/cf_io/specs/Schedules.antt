@@ -14,7 +14,7 @@ pub record Schedule : Type 0 where
 abbrev pub planned : List ℕ → List ℕ → Schedule
 planned cuts fails = record { cuts = cuts; fails = fails; call = 0; faults = 0 }
 
--- one more, as far as a counter of 64 bits goes
+-- one more, until the last value of a u64
 abbrev pub one_more : ℕ → ℕ
 one_more n = min (n + 1) last_count
 
@@ -22,7 +22,7 @@ one_more n = min (n + 1) last_count
 abbrev pub is_due : Schedule → Bool
 is_due s = list_any (λ j. j == s.call) s.fails
 
--- how many bytes the next call moves where n could be: at most its cut, which counts as 1 where it is 0
+-- how many bytes the next call moves if n could be: at most its cut, or 1 if that is 0
 abbrev pub count_moved : Schedule → ℕ → ℕ
 count_moved s n = if nat_lt s.call (length s.cuts) then min n (max 1 (slice_index s.cuts s.call)) else n
 

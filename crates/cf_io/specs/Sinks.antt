@@ -20,7 +20,7 @@ put_fails s bytes = is_due s.schedule || (s.room == 0 && not (length bytes == 0)
 abbrev pub put_count : MemSink → List ℕ → ℕ
 put_count s bytes = count_moved s.schedule (min (length bytes) s.room)
 
--- what the next call returns: none where it fails
+-- what the next call returns: none if it fails
 abbrev pub put_answer : MemSink → List ℕ → Option ℕ
 put_answer s bytes = if put_fails s bytes then None else Some (put_count s bytes)
 

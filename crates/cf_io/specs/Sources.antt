@@ -9,13 +9,13 @@ pub record SureSource : Type 0 where
   pub given : ℕ
   pub calls : ℕ
 
--- a source that fails when it is told to: the bytes left, how many were given, and what its calls do
+-- a source that fails by a schedule: the bytes left, how many it returned, and what its calls do
 pub record MemSource : Type 0 where
   pub left : List ℕ
   pub given : ℕ
   pub schedule : Schedule
 
--- a source that gives its piece over and over: the piece, where it goes on, how many bytes were given, and how often it was asked
+-- a source that returns its piece over and over: the piece, its next byte, how many bytes it returned, and how often it was asked
 pub record LoopSource : Type 0 where
   pub piece : List ℕ
   pub at : ℕ
@@ -32,7 +32,7 @@ mem_source bytes cuts fails = record { left = bytes; given = 0; schedule = plann
 abbrev pub loop_source : List ℕ → LoopSource
 loop_source piece = record { piece = piece; at = 0; given = 0; calls = 0 }
 
--- n more were given, as far as a counter of 64 bits goes
+-- n more were returned, until the last value of a u64
 abbrev pub more_given : ℕ → ℕ → ℕ
 more_given given n = min (given + n) last_count
 
@@ -40,7 +40,7 @@ more_given given n = min (given + n) last_count
 abbrev pub filled : ℕ → List ℕ → List ℕ → List ℕ
 filled n bytes buf = take n bytes ++ drop n buf
 
--- how many bytes a source that never fails gives into a buffer of so many
+-- how many bytes a source that never fails returns into a buffer of this length
 abbrev pub sure_count : SureSource → ℕ → ℕ
 sure_count s room = min room (length s.left)
 
@@ -48,11 +48,11 @@ sure_count s room = min room (length s.left)
 abbrev pub sure_after : SureSource → ℕ → SureSource
 sure_after s n = record { left = drop n s.left; given = more_given s.given n; calls = one_more s.calls }
 
--- how many bytes the next call would give into a buffer of so many
+-- how many bytes the next call would return into a buffer of this length
 abbrev pub mem_count : MemSource → ℕ → ℕ
 mem_count s room = count_moved s.schedule (min room (length s.left))
 
--- what the next call returns: none where it fails
+-- what the next call returns: none if it fails
 abbrev pub mem_answer : MemSource → ℕ → Option ℕ
 mem_answer s room = if is_due s.schedule then None else Some (mem_count s room)
 

@@ -11,7 +11,7 @@ use crate::source::Source;
 use cf_base::Failed;
 use std::io::{Read, Write};
 
-/// Takes from a reader of std. It tells nothing of what is left; each error of the reader counts as
+/// Takes from a reader of std. What is left is not observable; each error of the reader counts as
 /// a failure.
 #[derive(Drop)]
 pub struct StdSource<T> {
@@ -71,7 +71,7 @@ impl<T: Read> Source for StdSource<T> {
     }
 }
 
-/// Puts to a writer of std, and flushes what it put. It tells nothing of what was written; an error
+/// Puts to a writer of std, and flushes what it put. What was written is not observable; an error
 /// of the writer or of its flush counts as a failure, and so does a writer that takes nothing.
 #[derive(Drop)]
 pub struct StdSink<T> {
@@ -89,7 +89,7 @@ impl<T> StdSink<T> {
     }
 }
 
-/// Writes once, then flushes. None where either fails, or nothing of the bytes was taken.
+/// Writes once, then flushes. None if either fails, or if no byte was taken.
 fn write_and_flush<T: Write>(writer: &mut T, bytes: &[u8]) -> Option<usize>
     ensures within { IfSome result (λ n. n ≤ length bytes.now) }
     ensures some { 0 < length bytes.now → IfSome result (λ n. 0 < n) }

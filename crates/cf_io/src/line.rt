@@ -14,7 +14,7 @@ pub const LINE_ROOM: usize = 9_000;
 #[derive(Clone, Copy, Debug, PartialEq, Eq)]
 pub struct Full;
 
-/// A line that is being written: at most 9,000 bytes, kept in place, so that no push takes memory.
+/// A line that is being written: at most 9,000 bytes, kept in place, so that no push allocates.
 #[derive(Drop)]
 pub struct Line {
     buffer: ArrayVec<u8, LINE_ROOM>,
@@ -29,7 +29,7 @@ impl Model for Line {
 }
 
 impl Line {
-    /// A line with nothing on it.
+    /// An empty line.
     pub fn new() -> Line
         ensures { result ≡ [] }
     {
@@ -38,7 +38,7 @@ impl Line {
         }
     }
 
-    /// What stands on the line.
+    /// The bytes of the line.
     pub fn bytes(&self) -> &[u8]
         ensures value { result.now ≡ self.now }
         ensures fits { length self.now ≤ line_room }
@@ -46,7 +46,7 @@ impl Line {
         self.buffer.as_slice()
     }
 
-    /// Appends the bytes. `Full` exactly where the line would pass 9,000 bytes.
+    /// Appends the bytes. Fails with `Full` if and only if the line would pass 9,000 bytes.
     pub fn push(&mut self, bytes: &[u8]) -> Result<(), Full>
         ensures { Pushes self.old bytes.now result self.new }
     {
@@ -56,7 +56,7 @@ impl Line {
         }
     }
 
-    /// Appends the number in decimal. `Full` exactly where the line would pass 9,000 bytes.
+    /// Appends the number in decimal. Fails with `Full` if and only if the line would pass 9,000 bytes.
     pub fn push_number(&mut self, n: u64) -> Result<(), Full>
         ensures { Pushes self.old (decimal n) result self.new }
     {
@@ -64,8 +64,8 @@ impl Line {
         self.push(digits.format(n).as_bytes())
     }
 
-    /// Appends the bytes in hex, two lower-case digits each. `Full` exactly where the line would
-    /// pass 9,000 bytes.
+    /// Appends the bytes in hex, two lower-case digits each. Fails with `Full` if and only if the line
+    /// would pass 9,000 bytes.
     // Out of line, since its loop then keeps all it needs in registers.
     #[inline(never)]
     #[tactic(auto, using(crate::proofs::CallerLemmas::length_in_hex))]
@@ -76,7 +76,7 @@ impl Line {
         if bytes.len() > (LINE_ROOM - start) / 2 {
             return Err(Full);
         }
-        // The bytes, twice, are the room that their digits are written into.
+        // The bytes, twice, are the space that their digits are written into.
         self.buffer.try_extend_from_slice(bytes).unwrap();
         self.buffer.try_extend_from_slice(bytes).unwrap();
         let room = &mut self.buffer.as_mut_slice()[start..];
@@ -84,15 +84,15 @@ impl Line {
         Ok(())
     }
 
-    /// Appends the word in hex, as 16 lower-case digits, the most significant first. `Full` exactly
-    /// where the line would pass 9,000 bytes.
+    /// Appends the word in hex, as 16 lower-case digits, the most significant first. Fails with `Full`
+    /// if and only if the line would pass 9,000 bytes.
     pub fn push_word(&mut self, v: u64) -> Result<(), Full>
         ensures { Pushes self.old (word_text v) result self.new }
     {
         self.push_hex(&v.to_be_bytes())
     }
 
-    /// Takes all off the line.
+    /// Empties the line.
     pub fn clear(&mut self)
         ensures { self.new ≡ [] }
     {

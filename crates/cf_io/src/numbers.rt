@@ -4,8 +4,8 @@ ghost use Rattle.cf_io.specs.Numbers.{leading_number as digits_before, number_in
 
 const LARGEST: u64 = 4_294_967_295;
 
-/// The number that the digits at the start of a text spell, leading zeros accepted, and how many
-/// digits they are. None where there are none, or their value passes `2^32 - 1`.
+/// The number that the digits at the start of a text spell, leading zeros accepted, and the number
+/// of digits. None if there are none, or their value passes `2^32 - 1`.
 #[inline(always)]
 pub fn leading_number(text: &[u8]) -> Option<(u32, usize)>
     ensures value { result ≡ digits_before text.now }
@@ -13,7 +13,7 @@ pub fn leading_number(text: &[u8]) -> Option<(u32, usize)>
 {
     let mut value = 0u64;
     let mut at = 0;
-    // A value past the largest stays just past it, so that the loop is left only where the digits end.
+    // A value past the largest stays just past it, so that the loop ends only with the digits.
     'digits: while at < text.len() && text[at].is_ascii_digit() {
         value = (10 * value + (text[at] - b'0') as u64).min(LARGEST + 1);
         at += 1;
@@ -27,7 +27,7 @@ pub fn leading_number(text: &[u8]) -> Option<(u32, usize)>
     Some((value as u32, at))
 }
 
-/// The number that a text of decimal digits spells, leading zeros accepted. None where the text is
+/// The number that a text of decimal digits spells, leading zeros accepted. None if the text is
 /// empty, has another byte, or its value passes `2^32 - 1`.
 pub fn number_of(text: &[u8]) -> Option<u32>
     ensures { result ≡ number_in text.now }

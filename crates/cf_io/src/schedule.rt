@@ -22,7 +22,7 @@ impl Model for Schedule {
 }
 
 impl Schedule {
-    /// A schedule of which no call was made yet.
+    /// A schedule before its first call.
     pub fn new(cuts: Vec<usize>, fails: Vec<u64>) -> Schedule
         ensures { result ≡ planned cuts.items fails.items }
     {
@@ -41,7 +41,7 @@ impl Schedule {
         self.fails.contains(&self.call)
     }
 
-    /// How many bytes the next call moves where n could be moved.
+    /// How many bytes the next call moves if n could be moved.
     pub fn count_moved(&self, n: usize) -> usize
         ensures { result ≡ count_moved self.now n }
     {
@@ -60,7 +60,7 @@ impl Schedule {
         self.faults = self.faults.saturating_add(1);
     }
 
-    /// Counts a call that went well.
+    /// Counts a call that did not fail.
     pub fn go_well(&mut self)
         ensures { self.new ≡ gone_well self.old }
     {

@@ -1,12 +1,12 @@
-//! Where bytes go.
+//! Sinks of bytes.
 ghost use Rattle.std.specs.Prelude.{◌≡◌, ◌<◌, ◌≤◌, ◌+◌, ℕ, List, Option, length, take, IfOk, OnErr, OnOk};
 ghost use Rattle.cf_io.specs.Feeds.{Rose, appended};
 
 use cf_base::Failed;
 
-/// Where bytes go, chunk by chunk.
+/// A sink of bytes, written chunk by chunk.
 pub trait Sink {
-    /// The bytes written, where they are observable.
+    /// The bytes written, if they are observable.
     ghost written: { Self → Option (List ℕ) };
 
     /// How often it has failed; this never falls.

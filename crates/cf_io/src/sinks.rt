@@ -25,12 +25,12 @@ impl Sink for NullSink {
     }
 }
 
-/// Keeps what is put, as far as its room goes, and fails when it is told to.
+/// Keeps what is put, while it has room, and fails by a schedule.
 ///
 /// Its calls are numbered from 0; the number, and the count of the calls that failed, stay at
-/// `2^64 - 1` once they reach it. Call j fails exactly where j is in `fails`, or there is no room
+/// `2^64 - 1` once they reach it. Call j fails if and only if j is in `fails`, or there is no room
 /// left for any byte of a piece. Else it takes at most its room, and at most `max(1, cuts[j])` bytes
-/// where j is below the length of `cuts`.
+/// if j is below the length of `cuts`.
 #[derive(Drop)]
 pub struct MemSink {
     bytes: Vec<u8>,
@@ -50,7 +50,7 @@ impl Model for MemSink {
 }
 
 impl MemSink {
-    /// An empty sink with room for so many bytes. All its room is taken here.
+    /// An empty sink with room for `room` bytes. All its memory is allocated here.
     pub fn new(
         alloc: Global,
         room: usize,

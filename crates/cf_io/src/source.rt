@@ -1,13 +1,13 @@
-//! Where bytes come from.
+//! Sources of bytes.
 ghost use Rattle.std.specs.Prelude.{◌≡◌, ◌<◌, ◌≤◌, ◌+◌, ℕ, List, Option, length, take, min, IfOk, OnErr, OnOk};
 ghost use Rattle.cf_io.specs.Feeds.{Rose, preceded, IsSpent, last_count};
 ghost use Rattle.cf_io.specs.Schedules.{one_more};
 
 use cf_base::Failed;
 
-/// Where bytes come from, chunk by chunk.
+/// A source of bytes, read chunk by chunk.
 pub trait Source {
-    /// The bytes left, where they are observable.
+    /// The bytes left, if they are observable.
     ghost rest: { Self → Option (List ℕ) };
 
     /// How many bytes it has handed out; this saturates at the last value of a u64.

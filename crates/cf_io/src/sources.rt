@@ -10,7 +10,7 @@ use crate::source::Source;
 use cf_base::Failed;
 use std::marker::Model;
 
-/// Gives its bytes and never fails; what is left is observable.
+/// Returns its bytes and never fails; what is left is observable.
 #[derive(Drop)]
 pub struct SureSource {
     bytes: Vec<u8>,
@@ -54,7 +54,7 @@ impl Source for SureSource {
     ghost faults = { λ _. 0 };
 
     fn take(&mut self, buf: &mut [u8]) -> Result<usize, Failed>
-        // It gives as many as fit and are left, and nothing else changes.
+        // It returns the bytes that fit and are left, and nothing else changes.
         ensures sure { result ≡ Ok (sure_count self.old (length buf.old)) }
         ensures source { self.new ≡ sure_after self.old (sure_count self.old (length buf.old)) }
         ensures buffer { buf.new ≡ filled (sure_count self.old (length buf.old)) self.old.left buf.old }
@@ -68,11 +68,11 @@ impl Source for SureSource {
     }
 }
 
-/// Gives its bytes, and fails when it is told to; what is left is observable.
+/// Returns its bytes, and fails by a schedule; what is left is observable.
 ///
 /// Its calls are numbered from 0; the number, and the count of the calls that failed, stay at
-/// `2^64 - 1` once they reach it. Call j fails exactly where j is in `fails`. Else it gives as many
-/// bytes as fit and are left, and at most `max(1, cuts[j])` where j is below the length of `cuts`.
+/// `2^64 - 1` once they reach it. Call j fails if and only if j is in `fails`. Else it returns the bytes
+/// that fit and are left, at most `max(1, cuts[j])` of them if j is below the length of `cuts`.
 #[derive(Drop)]
 pub struct MemSource {
     bytes: Vec<u8>,
@@ -93,7 +93,7 @@ impl Model for MemSource {
 }
 
 impl MemSource {
-    /// A source of these bytes, of which no call was made yet.
+    /// A source of these bytes, before its first call.
     pub fn new(bytes: Vec<u8>, cuts: Vec<usize>, fails: Vec<u64>) -> MemSource
         ensures { result ≡ mem_source bytes.items cuts.items fails.items }
     {
@@ -136,8 +136,8 @@ impl Source for MemSource {
     }
 }
 
-/// Gives its piece over and over, fills each buffer, and never fails. It tells nothing of what is
-/// left, since it never ends.
+/// Returns its piece over and over, fills each buffer, and never fails. It never ends, so what is left
+/// is not observable.
 #[derive(Drop)]
 pub struct LoopSource {
     piece: Vec<u8>,
@@ -203,8 +203,8 @@ fn hand(bytes: &[u8], n: usize, buf: &mut [u8])
     buf[..n].copy_from_slice(&bytes[..n]);
 }
 
-/// Fills the buffer with the piece over and over, from its byte `at` on, and returns where the
-/// piece goes on.
+/// Fills the buffer with the piece over and over, from its byte `at` on, and returns the piece's next
+/// byte.
 fn fill_over(piece: &[u8], at: usize, buf: &mut [u8]) -> usize
     requires { at < length piece.now }
     ensures next { result ≡ (at + length buf.old) % length piece.now }

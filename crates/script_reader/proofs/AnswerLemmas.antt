@@ -98,7 +98,7 @@ first_counted kept ended len at first = go first.cut
         let one : lines kept true ≡ kept ∷ [] = lines_alone kept true h.2 ∙ alone kept (omega (arith, first.some)) in
         rw (drop_all at kept (omega arith)) (ap length one)
 
--- what is read with the first line, where it leads to this stage, or to its being bad
+-- what is read with the first line, if it leads to this stage, or is bad
 module _ (old : Reading) (len at : ℕ) (going : old.stopped ≡ None) (first : IsFirstLine old.kept old.ended len at) where
   one_line : (next : Stage) (stopped : Option ℕ) (items : List Item)
       → ((more : List ℕ) (e : Bool) → items_left old more e ≡ items ++ items_left (record (after_line old at next) { stopped = stopped }) more e)
@@ -116,7 +116,7 @@ module _ (old : Reading) (len at : ℕ) (going : old.stopped ≡ None) (first : 
   fewer : length (drop at old.kept) < length old.kept
   fewer = omega (arith, length-drop at old.kept, first.some, first.within)
 
--- ---- what a line gives
+-- ---- the result of a line
 
 -- a heap is opened first, and bounds may follow
 opens_first : (old new : Stage) → Some new ≡ stage_opened old → (old ≡ Opening) × (new ≡ Bounding)
@@ -139,10 +139,10 @@ passes_line old len at going first silent = record {
     line_is_passed wrong is silent = absurd cc
     line_is_passed (item i) is silent = absurd cc
 
--- the next line, which is in the grammar and gives this answer, or isn't
+-- the next line, which is in the grammar with this result, or isn't
 module _ (old : Reading) (len at : ℕ) (formed : Bool) (n : Next) (going : old.stopped ≡ None) (line : IsNextLine old len at)
     (says : saying_if formed n ≡ line_says (take len old.kept)) where
-  -- a line that is in its place is answered
+  -- a line in its place has its result
   pub step_in_place : (stage : Stage) → (formed ≡ true → IsInRange n) → Some stage ≡ stage_said old.stage (saying_if formed n)
       → Answers old n (after_line old at stage)
   step_in_place stage fits place = go formed fits (sym says) place
@@ -196,7 +196,7 @@ module _ (old : Reading) (len at : ℕ) (formed : Bool) (n : Next) (going : old.
       go wrong is place = ap (verdict old.stage) is
       go (item i) is place = ap (verdict old.stage) is ∙ ap (gives_or_breaks i) (sym place)
 
--- a command that is answered is well-formed
+-- a command that is returned is well-formed
 pub answer_in_range : (old new : Reading) (n : Next) → Answers old n new → IsInRange n
 answer_in_range old new (Start settings) answer = tt
 answer_in_range old new (Command command) answer = answer.formed
@@ -210,7 +210,7 @@ few_kept : (kept : List ℕ) → is_last_line false kept ≡ false → length ke
 few_kept [] none = omega arith
 few_kept (x ∷ r) none = ltb-false 8999 (length (x ∷ r)) none
 
--- and no end was told
+-- and the end was not announced
 pub step_waits : (old : Reading) (kept : List ℕ) → old.stopped ≡ None → kept ≡ old.kept → HasNoLine kept old.ended → old.ended ≡ false → NeedsMore old old
 step_waits old kept going same none open_end =
     let none2 = subst (λ (e : Bool). HasNoLine old.kept e) open_end (subst (λ (k : List ℕ). HasNoLine k old.ended) same none) in
@@ -226,7 +226,7 @@ empty_kept : (kept : List ℕ) → is_last_line true kept ≡ false → kept ≡
 empty_kept [] none = refl
 empty_kept (x ∷ r) none = absurd (false≢true (sym none))
 
--- and the end was told
+-- and the end was announced
 pub step_ends : (old : Reading) (kept : List ℕ) → old.stopped ≡ None → kept ≡ old.kept → HasNoLine kept old.ended → old.ended ≡ true → HasEnded old old
 step_ends old kept going same none told =
     let none2 = subst (λ (e : Bool). HasNoLine old.kept e) told (subst (λ (k : List ℕ). HasNoLine k old.ended) same none) in

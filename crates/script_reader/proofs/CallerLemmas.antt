@@ -1,4 +1,4 @@
--- What a reader gives over calls of feed, finish and next_command.
+-- What a reader returns over calls of feed, finish and next_command.
 use Rattle.std.proofs.Common.{◌≡◌, ◌∙◌, ◌++◌, ℕ, Bool, true, false, List, [], ◌∷◌, Option, Some, None, refl, sym, ap, subst, append-nil, append_assoc}
 use Rattle.std.proofs.lemmas.Bool.{true≢false}
 use Rattle.cf_base.specs.Settings.{profile_of}
@@ -16,7 +16,7 @@ bad_same_end : (old : Reading) (before : Option ℕ) (line : ℕ) (new : Reading
 bad_same_end old None line new answer = answer.reads.same_end
 bad_same_end old (Some before) line new answer = ap (λ (r : Reading). r.ended) answer.1
 
--- an answer tells no end
+-- a result announces no end
 pub answer_same_end : (old : Reading) (next : Next) (new : Reading) → Answers old next new → new.ended ≡ old.ended
 answer_same_end old (Start settings) new answer = answer.reads.same_end
 answer_same_end old (Command command) new answer = answer.reads.same_end
@@ -35,7 +35,7 @@ fed_nothing (answers next ∷ rest) old now told (mid, is, are) = fed_nothing re
 pub fed_left : (old : Reading) (bytes more : List ℕ) (e : Bool) → old.ended ≡ false → items_left old (bytes ++ more) e ≡ items_left (fed_with old bytes) more e
 fed_left old bytes more e open_end = rw (open_end, append_assoc) refl
 
--- where the end was told, nothing is to come
+-- once the end was announced, nothing follows
 pub finished_left : (old : Reading) (e : Bool) → items_left old [] true ≡ items_left (record old { ended = true }) [] e
 finished_left old e = go old.ended refl
   where
@@ -47,11 +47,11 @@ finished_left old e = go old.ended refl
 pub nothing_left : (r : Reading) (line : ℕ) (more : List ℕ) (e : Bool) → r.stopped ≡ Some line → items_left r more e ≡ []
 nothing_left r line more e over = rw over refl
 
--- where the reader goes on, a bad line is met now
+-- if the reader continues, a bad line is met now
 pub bad_now : (old : Reading) (line : ℕ) (new : Reading) → old.stopped ≡ None → Answers old (Bad line) new → StopsAt old line new
 bad_now old line new going answer = subst (λ (o : Option ℕ). AnswersBad old o line new) going answer
 
--- after a bad line it is answered again, and nothing else is
+-- after a bad line the same is returned again, and nothing else
 still_over : (old : Reading) (next : Next) (new : Reading) (line : ℕ) → old.stopped ≡ Some line → Answers old next new → new.stopped ≡ Some line
 still_over old (Start settings) new line over answer = absurd (let e = sym answer.reads.going ∙ over in cc)
 still_over old (Command command) new line over answer = absurd (let e = sym answer.reads.going ∙ over in cc)

@@ -12,7 +12,7 @@ use Rattle.script_reader.specs.Reading.{IsFirstLine, holds_line_feed}
 abbrev pub feed_place : List ℕ → ℕ
 feed_place kept = position_or_len (λ x. x == 10) kept
 
--- where a line feed is found, the bytes before it hold none
+-- if a line feed is found, the bytes before it hold none
 pub feed_found : (kept : List ℕ) → feed_place kept < length kept
     → (kept ≡ take (feed_place kept) kept ++ (10 ∷ drop (suc (feed_place kept)) kept)) × (holds_line_feed (take (feed_place kept) kept) ≡ false)
 feed_found [] h = absurd (omega arith)
@@ -28,7 +28,7 @@ feed_found (x ∷ r) h = go (x == 10) refl h (feed_found r)
         let tail = rest (omega arith) in
         rw e (ap (λ (l : List ℕ). x ∷ l) tail.0, rw isnt tail.1)
 
--- where none is found, there is none
+-- if none is found, there is none
 pub feed_missing : (kept : List ℕ) → length kept ≤ feed_place kept → holds_line_feed kept ≡ false
 feed_missing [] h = refl
 feed_missing (x ∷ r) h = go (x == 10) refl h (feed_missing r)
@@ -38,7 +38,7 @@ feed_missing (x ∷ r) h = go (x == 10) refl h (feed_missing r)
     go true is h rest = absurd (omega arith)
     go false isnt h rest = rest (omega arith)
 
--- the first line feed, where none stands before `from`
+-- the first line feed, if there is none before `from`
 pub place_from : (from : ℕ) (kept : List ℕ) → from ≤ length kept → holds_line_feed (take from kept) ≡ false
     → feed_place kept ≡ from + feed_place (drop from kept)
 place_from zero kept h searched = omega arith

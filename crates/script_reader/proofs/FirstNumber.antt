@@ -13,7 +13,7 @@ use Rattle.script_reader.specs.Fields.{first_by}
 use Rattle.script_reader.specs.Lines.{is_gap, is_parted, tokens}
 use Rattle.script_reader.proofs.Words.{after_gaps, first_token, gaps_in, no_gap_left, past_gaps, place-le-length}
 
--- no token is left exactly where the gaps reach the end
+-- no token is left if and only if the gaps reach the end
 pub all_gaps : (t : List ℕ) (g : ℕ) → g ≡ gaps_in t → nat_eq g (length t) ≡ none_of (tokens t)
 all_gaps t g count = elim (cases_lt (gaps_in t) (length t)) [
   | inl below ↦
@@ -33,7 +33,7 @@ gap_no_digit x gap digit = grind (arith, gap, digit)
 abbrev Numbered : Type 0
 Numbered = Option (ℕ × List (List ℕ))
 
--- a text that begins with a token, if it has one: where the token ends, and where its first digits do
+-- a text that begins with a token, if it has one: the end of the token, and of its first digits
 module _ (s : List ℕ) (begun : gaps_in s ≡ 0) where
   abbrev token : ℕ
   token = position_or_len is_gap s

@@ -100,7 +100,7 @@ first_items kept ended len next h more e n stage = go h.cut
     go (inl h) = closed_items kept (take len kept) (drop next kept) ended h.0 h.1 more e n stage
     go (inr h) = rw (take_all len kept (omega arith), drop_all next kept (omega arith)) (open_items kept ended h.2 h.3 more e n stage)
 
--- where no line is there, nothing comes but by further bytes
+-- if there is no line, no item follows without further bytes
 pub no_items : (kept : List ℕ) (ended : Bool) → HasNoLine kept ended → (n : ℕ) (stage : Stage) → items_at (lines kept ended) n stage ≡ []
 no_items kept ended h n stage =
     let nothing : cond (is_last_line ended kept) (kept ∷ []) [] ≡ [] = rw h.1 refl in

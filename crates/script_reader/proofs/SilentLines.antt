@@ -1,4 +1,4 @@
--- Lines that say nothing, and those that say something.
+-- Blank lines and comments, and lines with a command.
 use Rattle.std.proofs.Common.{◌≡◌, ◌∙◌, ◌<◌, ◌==◌, ℕ, suc, Bool, true, false, cond, not, List, [], ◌∷◌, Option, Some, None, length, take, drop, get_or}
 use Rattle.std.proofs.Common.{if◌then◌else◌, option_map, refl, sym, ap, arith, codes}
 use Rattle.std.proofs.Math.Bool.{and-false}
@@ -30,7 +30,7 @@ not_passes : (b : Bool) → not b ≡ true → b ≡ false
 not_passes true is = absurd (false≢true is)
 not_passes false is = refl
 
--- what the first byte that is no gap tells
+-- what follows from the first byte that is no gap
 first_byte : (t : List ℕ) → gaps_in t < length t → (get_or t (gaps_in t) 0 == 35) ≡ says_nothing (tokens_say (tokens t))
 first_byte t below =
     let x = get_or t (gaps_in t) 0 in
@@ -65,7 +65,7 @@ silent_gaps t h = go (nat_lt (gaps_in t) (length t)) refl h
         let none : tokens t ≡ [] = sym (past_gaps t) ∙ ap tokens (drop_all (gaps_in t) t (ltb-false _ _ isnt)) in
         sym (ap (λ (ts : List (List ℕ)). says_nothing (tokens_say ts)) none)
 
--- a line that is no comment says what its item is
+-- a line that is no comment means its item
 pub speaks : (word : List ℕ) (args : List (List ℕ)) → says_nothing (tokens_say (word ∷ args)) ≡ false
     → tokens_say (word ∷ args) ≡ item_or_wrong (item_in word args)
 speaks word args says = go (is_comment word) says

@@ -29,7 +29,7 @@ past_gaps (x ∷ r) = go (is_gap x) refl (past_gaps r)
     go false isnt rest = refl
     go true is rest = let e : 1 + gaps_in r ≡ suc (gaps_in r) = omega arith in rw (e, is) rest
 
--- after the gaps stands no gap
+-- no gap follows the gaps
 pub no_gap_left : (t : List ℕ) → gaps_in (drop (gaps_in t) t) ≡ 0
 no_gap_left [] = refl
 no_gap_left (x ∷ r) = go (is_gap x) refl (no_gap_left r)
@@ -78,7 +78,7 @@ place_or_end p t = go (nat_lt (position_or_len p t) (length t)) refl
 pub after_gaps : (t s : List ℕ) (g : ℕ) → s ≡ take (length t - g) (drop g t) → g ≡ gaps_in t → s ≡ drop (gaps_in t) t
 after_gaps t s g is count = is ∙ take_rest t g ∙ ap (λ (n : ℕ). drop n t) count
 
--- no token is left where only gaps are
+-- no token is left if only gaps are
 pub only_gaps : (t s : List ℕ) (g : ℕ) → s ≡ take (length t - g) (drop g t) → g ≡ gaps_in t → length s ≡ 0 → tokens t ≡ []
 only_gaps t s g is count none =
     sym (past_gaps t) ∙ ap tokens (sym (after_gaps t s g is count)) ∙ ap tokens (nil_from_length s none)

@@ -1,4 +1,4 @@
--- What is answered to a line, by what the line says. No public clause cites this module.
+-- What the reader returns for a line, by its meaning. No public clause cites this module.
 use Rattle.std.specs.Prelude.{◌≡◌, ◌+◌, ℕ, Bool, true, false, Option, Some, None, drop, take}
 use Rattle.cf_base.specs.Settings.{profile_of}
 use Rattle.script_reader.specs.Commands.{IsWellFormed}
@@ -8,23 +8,23 @@ use Rattle.script_reader.specs.declared.next.Next.{Next}
 use Rattle.script_reader.specs.declared.next.Next.TheVariants as next
 use Rattle.script_reader.specs.declared.stage.Stage.{Stage}
 
--- this value, where there is one
+-- this value, if there is one
 abbrev pub some_if : {A : Type 0} → Bool → A → Option A
 some_if true x = Some x
 some_if false x = None
 
--- the item that was answered, if it was one
+-- the item that was returned, if it was one
 abbrev pub item_answered : Next → Option Item
 item_answered (next.Start settings) = Some (starts (profile_of settings))
 item_answered (next.Command command) = Some (asks command)
 item_answered _ = None
 
--- a command that is answered is well-formed
+-- a command that is returned is well-formed
 abbrev pub IsInRange : Next → Type 0
 IsInRange (next.Command command) = IsWellFormed command
 IsInRange _ = Unit {0}
 
--- what a line says that gives this answer, or isn't in the grammar
+-- the meaning of a line with this result, or it isn't in the grammar
 abbrev pub saying_if : Bool → Next → Saying
 saying_if true n = item_or_wrong (item_answered n)
 saying_if false n = wrong
@@ -35,7 +35,7 @@ says_nothing nothing = true
 says_nothing wrong = false
 says_nothing (item i) = false
 
--- the stage after a line that says this; none where it breaks a rule at its place
+-- the stage after a line of this meaning; none if it breaks a rule at its place
 abbrev pub stage_said : Stage → Saying → Option Stage
 stage_said stage nothing = Some stage
 stage_said stage wrong = None
@@ -45,7 +45,7 @@ stage_said stage (item i) = stage_after stage i
 abbrev pub line_passed : Reading → ℕ → Reading
 line_passed old next = record old { kept = drop next old.kept; passed = old.passed + 1 }
 
--- the first line says something: where it ends, and where the next one begins
+-- the first line has a command: its end, and the start of the next one
 pub record IsNextLine (r : Reading) (len next : ℕ) : Type 0 where
   pub first : IsFirstLine r.kept r.ended len next
   pub says : says_nothing (line_says (take len r.kept)) ≡ false

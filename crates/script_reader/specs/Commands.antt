@@ -212,7 +212,7 @@ abbrev pub command_of : List ℕ → List (List ℕ) → Option Command
 command_of (letter ∷ []) args = letter_command letter args
 command_of word args = word_command word args
 
--- these settings, where all are in range
+-- these settings, if all are in range
 abbrev pub settings_if : Option SettingFault → Profile → Option Profile
 settings_if None settings = Some settings
 settings_if (Some fault) settings = None

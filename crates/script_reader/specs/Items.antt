@@ -15,7 +15,7 @@ pub data Item : Type 0 where
   asks : Command → Item
   bad : ℕ → Item
 
--- what a line says, wherever it stands
+-- the meaning of a line, at any place
 pub data Saying : Type 0 where
   nothing : Saying
   wrong : Saying
@@ -34,7 +34,7 @@ abbrev pub item_or_wrong : Option Item → Saying
 item_or_wrong None = wrong
 item_or_wrong (Some i) = item i
 
--- what a line with these tokens says
+-- the meaning of a line with these tokens
 abbrev pub tokens_say : List (List ℕ) → Saying
 tokens_say [] = nothing
 tokens_say (word ∷ args) = if is_comment word then nothing else item_or_wrong (item_in word args)
@@ -46,25 +46,25 @@ abbrev pub is_bound : Command → Bool
 is_bound (Bound slot_words k) = true
 is_bound _ = false
 
--- the stage after a command; `k` stands only after `heap` and before the other commands
+-- the stage after a command; `k` is allowed only after `heap` and before the other commands
 abbrev pub stage_after_command : Stage → Bool → Option Stage
 stage_after_command Opening bounds = None
 stage_after_command Bounding bounds = Some (if bounds then Bounding else Running)
 stage_after_command Running bounds = if bounds then None else Some Running
 
--- the stage after the `heap` line, which is the first command, and stands nowhere else
+-- the stage after the `heap` line, which is the first command and allowed nowhere else
 abbrev pub stage_opened : Stage → Option Stage
 stage_opened Opening = Some Bounding
 stage_opened Bounding = None
 stage_opened Running = None
 
--- the stage after an item; none where it breaks a rule at its place
+-- the stage after an item; none if it breaks a rule at its place
 abbrev pub stage_after : Stage → Item → Option Stage
 stage_after stage (starts settings) = stage_opened stage
 stage_after stage (asks command) = stage_after_command stage (is_bound command)
 stage_after stage (bad line) = None
 
--- what becomes of a line at its place: it is passed, or gives an item and leads to a stage, or breaks a rule
+-- the verdict on a line at its place: it is skipped, or is an item and leads to a stage, or breaks a rule
 pub data Verdict : Type 0 where
   passes : Verdict
   gives : Item → Stage → Verdict
@@ -74,7 +74,7 @@ abbrev pub gives_or_breaks : Item → Option Stage → Verdict
 gives_or_breaks i None = breaks
 gives_or_breaks i (Some next) = gives i next
 
--- the verdict on a line that says this, where the script stands at this stage
+-- the verdict on a line of this meaning, at this stage of the script
 abbrev pub verdict : Stage → Saying → Verdict
 verdict stage nothing = passes
 verdict stage wrong = breaks
@@ -86,12 +86,12 @@ items_by passes n stage after = after stage
 items_by (gives i next) n stage after = i ∷ after next
 items_by breaks n stage after = bad (n + 1) ∷ []
 
--- the items of these lines, where n lines came before and the script stands at this stage
+-- the items of these lines, after n lines, at this stage of the script
 abbrev pub items_at : List (List ℕ) → ℕ → Stage → List Item
 items_at [] n stage = []
 items_at (line ∷ rest) n stage = items_by (verdict stage (line_says line)) n stage (items_at rest (n + 1))
 
--- the items of these bytes, where `ended` says whether the input ends there
+-- the items of these bytes; `ended` is whether the input ends after them
 abbrev pub items : List ℕ → Bool → List Item
 items bytes ended = items_at (lines bytes ended) 0 Opening
 

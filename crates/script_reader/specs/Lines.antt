@@ -14,7 +14,7 @@ abbrev pub onto_first : ℕ → List (List ℕ) → List (List ℕ)
 onto_first x [] = (x ∷ []) ∷ []
 onto_first x (text ∷ rest) = (x ∷ text) ∷ rest
 
--- what stands between the line feeds, before the first one and after the last one: one text or more
+-- the texts between line feeds, before the first one and after the last one: one or more
 abbrev pub stretches : List ℕ → List (List ℕ)
 stretches [] = [] ∷ []
 stretches (x ∷ rest) = if x == 10 then [] ∷ stretches rest else onto_first x (stretches rest)
@@ -24,13 +24,13 @@ abbrev pub is_last_line : Bool → List ℕ → Bool
 is_last_line ended [] = false
 is_last_line ended (x ∷ rest) = ended || is_too_long (x ∷ rest)
 
--- the stretches but for the last one, and the last one where it is a line
+-- these texts without the last one, which counts if it is a line
 abbrev pub lines_among : Bool → List (List ℕ) → List (List ℕ)
 lines_among ended [] = []
 lines_among ended (last ∷ []) = if is_last_line ended last then last ∷ [] else []
 lines_among ended (line ∷ next ∷ rest) = line ∷ lines_among ended (next ∷ rest)
 
--- the lines of these bytes, where `ended` says whether the input ends there
+-- the lines of these bytes; `ended` is whether the input ends after them
 abbrev pub lines : List ℕ → Bool → List (List ℕ)
 lines bytes ended = lines_among ended (stretches bytes)
 
@@ -42,7 +42,7 @@ without_return line = if slice_index line (length line - 1) == 13 then take (len
 abbrev pub is_gap : ℕ → Bool
 is_gap x = x == 32 || x == 9
 
--- whether no token goes on here
+-- whether a token ends here
 abbrev pub is_parted : List ℕ → Bool
 is_parted [] = true
 is_parted (x ∷ rest) = is_gap x

@@ -1,4 +1,4 @@
--- What a command and an answer with borrowed bytes stand for.
+-- The command and the item that one with borrowed bytes means.
 use Rattle.script_reader.specs.declared.command.Command.{Command}
 use Rattle.script_reader.specs.declared.command.Command.TheVariants as command
 use Rattle.script_reader.specs.declared.command_ref.CommandRef.{CommandRef}

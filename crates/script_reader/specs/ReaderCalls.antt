@@ -6,7 +6,7 @@ use Rattle.script_reader.specs.Reading.{Answers, Reading, fed_with}
 use Rattle.script_reader.specs.declared.next.Next.{Next}
 use Rattle.script_reader.specs.declared.next.Next.TheVariants.{Start, Command, NeedMore, Bad, End}
 
--- these bytes were taken, the end was told, or this was answered
+-- these bytes were taken, the end was announced, or this was returned
 pub data ReaderCall : Type 0 where
   feeds : List ℕ → ReaderCall
   finishes : ReaderCall
@@ -29,14 +29,14 @@ bytes_fed (feeds bytes ∷ rest) = bytes ++ bytes_fed rest
 bytes_fed (finishes ∷ rest) = bytes_fed rest
 bytes_fed (answers next ∷ rest) = bytes_fed rest
 
--- whether the end was told
+-- whether the end was announced
 abbrev pub is_finished : List ReaderCall → Bool
 is_finished [] = false
 is_finished (feeds bytes ∷ rest) = is_finished rest
 is_finished (finishes ∷ rest) = true
 is_finished (answers next ∷ rest) = is_finished rest
 
--- the answer, where it is an item, and then the items after it; nothing comes after a bad line
+-- the result, if it is an item, and then the items after it; nothing follows a bad line
 abbrev pub given_then : Next → List Item → List Item
 given_then (Start settings) after = starts (profile_of settings) ∷ after
 given_then (Command command) after = asks command ∷ after
@@ -44,14 +44,14 @@ given_then NeedMore after = after
 given_then (Bad line) after = bad line ∷ []
 given_then End after = after
 
--- the items that were answered, up to the first bad line
+-- the items that were returned, up to the first bad line
 abbrev pub items_given : List ReaderCall → List Item
 items_given [] = []
 items_given (feeds bytes ∷ rest) = items_given rest
 items_given (finishes ∷ rest) = items_given rest
 items_given (answers next ∷ rest) = given_then next (items_given rest)
 
--- whether a bad line was answered
+-- whether a bad line was returned
 abbrev pub is_stopped : List ReaderCall → Bool
 is_stopped [] = false
 is_stopped (feeds bytes ∷ rest) = is_stopped rest

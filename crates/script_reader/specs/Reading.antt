@@ -1,4 +1,4 @@
--- What a reader was fed and keeps, which items it still has, and what each answer says of them.
+-- What a reader was fed and keeps, which items it still has, and what each result means for them.
 use Rattle.std.specs.Prelude.{◌≡◌, ◌<◌, ◌≤◌, ◌+◌, ◌-◌, ◌==◌, ◌||◌, ◌⊎◌, ◌++◌, ℕ, Bool, true, false, List, [], ◌∷◌, Option, Some, None, is_some, length, take}
 use Rattle.std.specs.Prelude.{drop, min, if◌then◌else◌}
 use Rattle.std.specs.List.{list_any}
@@ -14,7 +14,7 @@ use Rattle.script_reader.specs.declared.stage.Stage.{Stage}
 use Rattle.script_reader.specs.declared.stage.Stage.TheVariants.{Opening, Bounding}
 
 -- A script that is being read: the bytes that are kept, the lines passed, the stage that they led to,
--- whether the end was told, the number of the bad line, where it was answered, and the bytes ever fed.
+-- whether the end was announced, the number of the bad line, if it was returned, and the bytes ever fed.
 pub record Reading : Type 0 where
   pub kept : List ℕ
   pub passed : ℕ
@@ -43,11 +43,11 @@ taken r piece = min (length piece) (min (ROOM - length r.kept) (MOST_FED - r.fed
 abbrev pub fed_with : Reading → List ℕ → Reading
 fed_with r bytes = record r { kept = r.kept ++ bytes; fed = r.fed + length bytes }
 
--- the bytes to come; none where the end was told
+-- the bytes that may follow; none if the end was announced
 abbrev pub to_come : Bool → List ℕ → List ℕ → List ℕ
 to_come ended kept more = if ended then kept else kept ++ more
 
--- the items still to come, where these bytes come next and the input then ends or doesn't
+-- the items that follow, if these bytes come next and the input then ends or doesn't
 abbrev pub items_left : Reading → List ℕ → Bool → List Item
 items_left r more ended = if is_some r.stopped then []
     else items_at (lines (to_come r.ended r.kept more) (r.ended || ended)) r.passed r.stage
@@ -96,7 +96,7 @@ pub record NeedsMore (old new : Reading) : Type 0 where
   pub few : length new.kept ≤ LONGEST
   pub no_feed : holds_line_feed new.kept ≡ false
 
--- no item is left, and the end was told
+-- no item is left, and the end was announced
 pub record HasEnded (old new : Reading) : Type 0 where
   pub passes : PassesOver old new
   pub told : old.ended ≡ true
@@ -115,7 +115,7 @@ abbrev pub AnswersBad : Reading → Option ℕ → ℕ → Reading → Type 0
 AnswersBad old None line new = StopsAt old line new
 AnswersBad old (Some before) line new = (line ≡ before) × (new ≡ old)
 
--- what the answer says of the items, whatever comes next
+-- what the result means for the items, whatever comes next
 abbrev pub Answers : Reading → Next → Reading → Type 0
 Answers old (answer.Start settings) new = AnswersStart old settings new
 Answers old (answer.Command command) new = AnswersCommand old command new
@@ -123,7 +123,7 @@ Answers old answer.NeedMore new = NeedsMore old new
 Answers old (answer.Bad line) new = AnswersBad old old.stopped line new
 Answers old answer.End new = HasEnded old new
 
--- where the first line ends, and where the next one begins: after the line feed, or at the end where the rest counts as a line
+-- the end of the first line, and the start of the next one: after the line feed, or at the end if the rest counts as a line
 pub record IsFirstLine (kept : List ℕ) (ended : Bool) (len next : ℕ) : Type 0 where
   pub some : 1 ≤ next
   pub within : next ≤ length kept

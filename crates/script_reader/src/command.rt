@@ -2,10 +2,10 @@
 
 use crate::payload::Payload;
 
-/// A command of a script, and the line that says it.
+/// A command of a script, and its line.
 #[derive(Debug, PartialEq, Eq, Drop)]
 pub enum Command {
-    /// `m ID BYTES`: makes an object of so many bytes.
+    /// `m ID BYTES`: makes an object of BYTES bytes.
     Malloc { id: u16, bytes: u32 },
     /// `f ID`: frees the object.
     Free { id: u16 },
@@ -13,7 +13,7 @@ pub enum Command {
     Write { id: u16, at: u32, bytes: Payload },
     /// `r ID AT LEN`: reads bytes of the object, at most 4,096.
     Read { id: u16, at: u32, len: u16 },
-    /// `q ID`: where the object is.
+    /// `q ID`: the object's address.
     Place { id: u16 },
     /// `b ID I`: the physical block of a block of the object.
     Block { id: u16, i: u32 },

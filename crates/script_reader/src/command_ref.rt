@@ -1,4 +1,4 @@
-//! A command whose bytes stand elsewhere.
+//! A command whose bytes are borrowed.
 ghost use Rattle.std.specs.Prelude.{◌≡◌};
 ghost use Rattle.script_reader.specs.Commands.{IsWellFormed};
 ghost use Rattle.script_reader.specs.Owned.{owned_command};
@@ -7,7 +7,7 @@ use crate::command::Command;
 use crate::payload::Payload;
 
 /// A command by the same name; the bytes of a write are borrowed. A `Command` keeps 4,096 bytes in
-/// place, so that it is dear to move; this is a few words.
+/// place, so moving it costs time; this is a few words.
 #[derive(Clone, Copy, Debug, PartialEq, Eq)]
 pub enum CommandRef<'a> {
     Malloc { id: u16, bytes: u32 },

@@ -11,7 +11,7 @@ pub fn items_stay()
     ensures { (bytes more : List ℕ) (ended : Bool) → AreFirstOf (items bytes false) (items (bytes ++ more) ended) }
 {}
 
-/// However a script is cut into chunks, and whenever the reader is asked: its answers up to the first
+/// However a script is cut into chunks, and whenever the reader is asked: its results up to the first
 /// bad line, and then what it has left, are the items of the bytes fed so far.
 pub fn answers_are_items()
     ensures first { (calls : List ReaderCall) (now : Reading) → AreCalls fresh calls now
@@ -20,9 +20,9 @@ pub fn answers_are_items()
         → items (bytes_fed calls) (is_finished calls) ≡ items_given calls ++ items_left now [] false }
 {}
 
-/// Which answer comes after these calls. `NeedMore` comes exactly where no end was told and every item
-/// of the bytes fed was given, none bad; `End` exactly where the end was told and every item was given,
-/// none bad; and as long as none was bad, `Bad` exactly where the next item is bad.
+/// What the next call returns. `NeedMore` if and only if the end was not announced and every item of the
+/// bytes fed was returned, none bad; `End` if and only if it was announced and every item was returned,
+/// none bad; and while none was bad, `Bad` if and only if the next item is bad.
 pub fn answers_come_exactly()
     ensures need_more { (calls : List ReaderCall) (now new : Reading) (next : Next) → AreCalls fresh calls now → Answers now next new
         → (next ≡ NeedMore ↔ AllGiven calls × (is_finished calls ≡ false)) }

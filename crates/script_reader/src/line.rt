@@ -1,4 +1,4 @@
-//! What a line says, by the grammar.
+//! What a line means, by the grammar.
 ghost use Rattle.std.specs.Prelude.{◌≡◌, IsTrue, codes, false, option_map};
 ghost use Rattle.std.specs.Str.{bytes_eq};
 ghost use Rattle.cf_base.specs.Settings.{profile_of};
@@ -48,7 +48,7 @@ fn free(args: &[u8], next: &mut NextRef) -> bool
     true
 }
 
-/// `w ID AT HEX`: the bytes go to the room.
+/// `w ID AT HEX`: the bytes are put into the room.
 fn write<'a>(args: &[u8], room: &'a mut Room, next: &mut NextRef<'a>) -> bool
     ensures value { some_if result (owned_next next.new) ≡ option_map answer.Command (grammar.write_in (tokens args.now)) }
     ensures fits { IsTrue result → IsInRange (owned_next next.new) }
@@ -314,8 +314,8 @@ fn has_no_item(text: &[u8]) -> bool
     }
 }
 
-/// Whether a line that isn't silent is in the grammar, without its line feed; what it says goes to the
-/// place of the answer, and the bytes of a write to the room.
+/// Whether a line that is neither blank nor a comment is in the grammar, without its line feed. Its command
+/// is put into `next`, and the bytes of a write into the room.
 pub fn read_line<'a>(text: &[u8], room: &'a mut Room, next: &mut NextRef<'a>) -> bool
     requires { says_nothing (line_says text.now) ≡ false }
     ensures value { saying_if result (owned_next next.new) ≡ line_says text.now }

@@ -1,15 +1,15 @@
-//! What comes next in a script.
+//! The next item of a script.
 use crate::command::Command;
 use cf_base::Settings;
 
-/// What comes next in a script.
+/// The next item of a script.
 #[derive(Debug, PartialEq, Eq, Drop)]
 pub enum Next {
     /// The heap is opened with these settings.
     Start(Settings),
     /// A command.
     Command(Command),
-    /// More bytes must be fed, or the end told.
+    /// More bytes must be fed, or the end announced.
     NeedMore,
     /// The line of this number, counted from 1, isn't in the grammar at its place.
     Bad { line: u32 },

@@ -1,4 +1,4 @@
-//! What comes next in a script, with borrowed bytes.
+//! The next item of a script, with borrowed bytes.
 ghost use Rattle.std.specs.Prelude.{◌≡◌};
 ghost use Rattle.script_reader.specs.Owned.{owned_next};
 ghost use Rattle.script_reader.specs.Answered.{IsInRange};
@@ -7,14 +7,14 @@ use crate::command_ref::CommandRef;
 use crate::next::Next;
 use cf_base::Settings;
 
-/// What comes next in a script, as `Next`, but that the bytes of a write are borrowed.
+/// The next item of a script, as `Next`, but the bytes of a write are borrowed.
 #[derive(Clone, Copy, Debug, PartialEq, Eq)]
 pub enum NextRef<'a> {
     /// The heap is opened with these settings.
     Start(Settings),
     /// A command.
     Command(CommandRef<'a>),
-    /// More bytes must be fed, or the end told.
+    /// More bytes must be fed, or the end announced.
     NeedMore,
     /// The line of this number, counted from 1, isn't in the grammar at its place.
     Bad { line: u32 },

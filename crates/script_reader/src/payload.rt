@@ -25,7 +25,7 @@ impl Model for Payload {
 }
 
 impl Payload {
-    /// These bytes. None exactly where there are none, or more than 4,096.
+    /// These bytes. None if and only if there are none, or more than 4,096.
     pub fn new(bytes: &[u8]) -> Option<Payload>
         ensures { MatchOption result ((length bytes.now ≡ 0) ⊎ (4096 < length bytes.now))
             (λ p. (p ≡ bytes.now) × (1 ≤ length bytes.now) × (length bytes.now ≤ 4096)) }

@@ -18,17 +18,17 @@ use std::marker::Model;
 /// The most bytes that are kept.
 const ROOM: usize = 9_000;
 
-/// The bytes that the buffer has in place: so many that what is kept never overlaps what it is moved to.
+/// The size of the buffer in place: large enough that what is kept never overlaps its new place.
 const PLACE: usize = 2 * ROOM;
 
-/// Reads a script from bytes that come in chunks. It keeps at most 9,000 bytes in place, and takes no
-/// memory.
+/// Reads a script from bytes that are fed in chunks. It keeps at most 9,000 bytes in place, and allocates
+/// nothing.
 #[derive(Drop)]
 pub struct Reader {
     /// The bytes fed that were not dropped; those from `start` on are kept.
     buffer: ArrayVec<u8, PLACE>,
     start: usize,
-    /// In how many of the kept bytes no line feed stands, as far as is known.
+    /// How many of the kept bytes, from the first on, are known to hold no line feed.
     searched: usize,
     passed: u32,
     stage: Stage,
@@ -85,16 +85,16 @@ impl Reader {
         n
     }
 
-    /// The end is told: no byte comes any more.
+    /// Announces the end: no more bytes are fed.
     pub fn finish(&mut self)
         ensures { self.new ≡ record self.old { ended = true } }
     {
         self.ended = true;
     }
 
-    /// What comes next. Blank lines and comments are passed over. `NeedMore` comes exactly where no end
-    /// was told and the bytes kept after such lines are no whole line, `End` exactly where the end was
-    /// told and no line is left, and `Bad` exactly where the next line isn't in the grammar at its
+    /// The next item. Blank lines and comments are skipped. `NeedMore` if and only if the end was not
+    /// announced and the bytes kept after such lines are no whole line; `End` if and only if it was
+    /// announced and no line is left; `Bad` if and only if the next line isn't in the grammar at its
     /// place; from then on every call returns that same `Bad`.
     pub fn next_command(&mut self) -> Next
         ensures { Answers self.old result self.new }
@@ -103,7 +103,7 @@ impl Reader {
         self.next_ref(&mut room).to_next()
     }
 
-    /// What comes next, as `next_command` tells it; the bytes of a write are borrowed from the room.
+    /// The next item, as `next_command` returns it; the bytes of a write are borrowed from the room.
     pub fn next_ref<'a>(&mut self, room: &'a mut Room) -> NextRef<'a>
         ensures { Answers self.old (owned_next result) self.new }
     {
@@ -112,7 +112,7 @@ impl Reader {
         next
     }
 
-    /// The same, which is put where the caller keeps it, and so is copied nowhere.
+    /// The same, put into the caller's place, and so copied nowhere.
     pub fn read_next<'a>(&mut self, room: &'a mut Room, next: &mut NextRef<'a>)
         ensures { Answers self.old (owned_next next.new) self.new }
     {
@@ -126,7 +126,7 @@ impl Reader {
         }
     }
 
-    /// The answer where no line is there.
+    /// The result if there is no line.
     fn without_line<'a>(&self) -> NextRef<'a>
         requires going { self.now.stopped ≡ None }
         requires none { HasNoLine self.now.kept self.now.ended }
@@ -139,7 +139,7 @@ impl Reader {
         }
     }
 
-    /// The first line that says something; those before it, which are blank or comments, are passed.
+    /// The first line with a command; blank lines and comments before it are skipped.
     fn next_line(&mut self) -> Option<Cut>
         requires { self.old.stopped ≡ None }
         ensures passes { PassesOver self.old self.new }
@@ -154,7 +154,7 @@ impl Reader {
         }
     }
 
-    /// The first line, where it is there.
+    /// The first line, if it is whole.
     fn find_line(&mut self) -> Option<Cut>
         ensures same { self.new ≡ self.old }
         ensures found { MatchOption result (HasNoLine self.old.kept self.old.ended)
@@ -177,7 +177,7 @@ impl Reader {
         is_silent(&kept[..cut.len])
     }
 
-    /// Passes the first line.
+    /// Skips the first line.
     fn pass_line(&mut self, cut: Cut)
         requires some { 1 ≤ cut.next }
         requires within { cut.next ≤ length self.old.kept }
@@ -188,7 +188,7 @@ impl Reader {
         self.passed += 1;
     }
 
-    /// Passes the first line, which says something, and answers it.
+    /// Reads the first line, which has a command, and passes it.
     fn answer_line<'a>(&mut self, cut: Cut, room: &'a mut Room, next: &mut NextRef<'a>)
         requires going { self.old.stopped ≡ None }
         requires line { IsNextLine self.old cut.len cut.next }
@@ -220,14 +220,14 @@ fn drop_front(buffer: &mut ArrayVec<u8, PLACE>, start: usize)
     buffer.truncate(left);
 }
 
-/// Where a line ends, and where the next one begins.
+/// The end of a line, and the start of the next one.
 #[derive(Clone, Copy)]
 struct Cut {
     len: usize,
     next: usize,
 }
 
-/// Where the first line feed is, where none is before `from`.
+/// The first line feed, if none is before `from`.
 fn line_feed_from(kept: &[u8], from: usize) -> Option<usize>
     requires within { from ≤ length kept.now }
     requires searched { holds_line_feed (take from kept.now) ≡ false }
@@ -237,7 +237,7 @@ fn line_feed_from(kept: &[u8], from: usize) -> Option<usize>
     Some(from + at)
 }
 
-/// The first line, where it is there.
+/// The first line, if it is whole.
 fn first_line(kept: &[u8], searched: usize, ended: bool) -> Option<Cut>
     requires within { searched ≤ length kept.now }
     requires searched { holds_line_feed (take searched kept.now) ≡ false }

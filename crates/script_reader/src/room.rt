@@ -44,7 +44,7 @@ impl Room {
         &self.cells[..self.len]
     }
 
-    /// Takes the bytes that the text spells in hexadecimal, from 1 to 4,096 of them. False where it
+    /// Takes the bytes that the text spells in hexadecimal, from 1 to 4,096 of them. False if it
     /// spells none.
     // Out of line, since its loop then keeps all it needs in registers.
     #[inline(never)]

@@ -1,4 +1,4 @@
-//! How far a script has come.
+//! The stages of a script.
 ghost use Rattle.std.specs.Prelude.{◌≡◌};
 ghost use Rattle.script_reader.specs.Answered.{saying_if, stage_said};
 ghost use Rattle.script_reader.specs.Items as place;
@@ -7,18 +7,18 @@ ghost use Rattle.script_reader.specs.Owned.{owned_command, owned_next};
 use crate::command_ref::CommandRef;
 use crate::next_ref::NextRef;
 
-/// How far a script has come.
+/// The stage of a script, by the lines before.
 #[derive(Clone, Copy, Debug, PartialEq, Eq)]
 pub enum Stage {
     /// The heap isn't open.
     Opening,
     /// The heap was opened, and bounds of classes may follow.
     Bounding,
-    /// Another command came.
+    /// There was another command.
     Running,
 }
 
-/// The stage after a line that is in the grammar, or isn't, and then says this; none where it breaks a
+/// The stage after a line that is in the grammar with this meaning, or isn't; none if it breaks a
 /// rule at its place.
 pub fn stage_after(stage: Stage, formed: bool, next: NextRef) -> Option<Stage>
     ensures { result ≡ stage_said stage (saying_if formed (owned_next next.entry)) }
@@ -51,7 +51,7 @@ fn stage_after_command(stage: Stage, bounds: bool) -> Option<Stage>
     }
 }
 
-/// Whether the command gives a class its bound.
+/// Whether the command sets the bound of a class.
 fn is_bound(command: CommandRef) -> bool
     ensures { result ≡ place.is_bound (owned_command command.entry) }
 {

@@ -13,7 +13,7 @@ use memchr::{memchr_iter, memchr2};
 /// Texts from this length on are searched many bytes at once.
 const LONG: usize = 64;
 
-/// Where the first line feed is.
+/// The first line feed.
 pub fn line_feed_at(bytes: &[u8]) -> Option<usize>
     ensures { result ≡ position (λ x. x == 10) bytes.now }
 {
@@ -35,7 +35,7 @@ pub fn without_return(line: &[u8]) -> &[u8]
     }
 }
 
-/// Whether the byte parts tokens.
+/// Whether the byte separates tokens.
 fn is_gap(x: u8) -> bool
     ensures { result ≡ gap x }
 {
@@ -55,7 +55,7 @@ fn gaps(text: &[u8]) -> usize
     first_other(text).unwrap_or(text.len())
 }
 
-/// How many bytes stand before the first gap.
+/// How many bytes precede the first gap.
 fn token_length(text: &[u8]) -> usize
     ensures value { result ≡ position_or_len gap text.now }
     ensures within { result ≤ length text.now }
@@ -63,7 +63,7 @@ fn token_length(text: &[u8]) -> usize
     first_gap(text).unwrap_or(text.len())
 }
 
-/// Where the first byte is that parts no tokens.
+/// The first byte that separates no tokens.
 pub fn first_other(text: &[u8]) -> Option<usize>
     ensures { result ≡ position (λ x. not (gap x)) text.now }
 {
@@ -80,7 +80,7 @@ fn first_gap(text: &[u8]) -> Option<usize>
     }
 }
 
-/// Where the first gap is. It stands apart, so that the search of short texts stays small.
+/// The first gap. A function of its own, so that the search of short texts stays small.
 #[inline(never)]
 fn first_gap_in_long(text: &[u8]) -> Option<usize>
     ensures { result ≡ position gap text.now }
@@ -104,14 +104,14 @@ pub fn split_token(text: &[u8]) -> Option<(&[u8], &[u8])>
     Some(text.split_at(token_length(text)))
 }
 
-/// Whether no token is there.
+/// Whether there is no token.
 pub fn is_done(text: &[u8]) -> bool
     ensures { result ≡ none_of (tokens text.now) }
 {
     gaps(text) == text.len()
 }
 
-/// The number that the first token spells, and what follows it. None where no token is there, or it
+/// The number that the first token spells, and what follows it. None if there is no token, or it
 /// spells none.
 #[inline(always)]
 pub fn take_number(text: &[u8]) -> Option<(u32, &[u8])>
@@ -142,7 +142,7 @@ fn leading_digits(text: &[u8]) -> (u32, usize)
     (value, at)
 }
 
-/// The number that so many digits at the start of a text spell, where they spell this value modulo `2^32`.
+/// The number that the first `digits` bytes of a text spell; `value` is that number modulo `2^32`.
 #[inline(always)]
 fn spelled_number(text: &[u8], digits: usize, value: u32) -> Option<u32>
     requires count { digits ≤ length text.now }
@@ -150,7 +150,7 @@ fn spelled_number(text: &[u8], digits: usize, value: u32) -> Option<u32>
     requires value { value ≡ digits_value 10 (take digits text.now) % 2 ^ 32 }
     ensures { result ≡ number_in (take digits text.now) }
 {
-    // So few digits spell a number that fits.
+    // Few digits spell a number that fits.
     if 0 < digits && digits < 10 {
         Some(value)
     } else {
@@ -158,7 +158,7 @@ fn spelled_number(text: &[u8], digits: usize, value: u32) -> Option<u32>
     }
 }
 
-/// What follows a token that ends here: the text after one gap. None where the token goes on.
+/// What follows a token that ends here: the text after one gap. None if the token continues.
 #[inline(always)]
 fn past_token(text: &[u8]) -> Option<&[u8]>
     ensures { MatchOption result (parted text.now ≡ false) (λ rest. (parted text.now ≡ true) × (tokens rest.now ≡ tokens text.now)) }
