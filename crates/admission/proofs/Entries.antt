@@ -1,17 +1,15 @@
 -- An entry of the needs: the pages with its objects, and which of them is the first past the quota.
-use Rattle.std.proofs.Common.{◌≡◌, ◌≢◌, ℕ, zero, suc, ◌+◌, ◌-◌, ◌*◌, ◌<◌, ◌≤◌, List, [], ◌∷◌, ◌++◌, length, get_or, replicate, take, drop}
+use Rattle.std.proofs.Common.{◌≡◌, ◌≢◌, ℕ, suc, ◌+◌, ◌-◌, ◌*◌, ◌<◌, ◌≤◌, List, [], ◌∷◌, ◌++◌, length, get_or, replicate, take, drop}
 use Rattle.std.proofs.Common.{arith, ap, sym, ◌∙◌, inl, inr, refl}
-use Rattle.std.specs.Prelude.{nat_eq, sum_by}
-use Rattle.std.specs.List.{range_with_len}
-use Rattle.std.proofs.lemmas.Bool.{cases_eq, cases_lt}
+use Rattle.std.specs.Prelude.{nat_eq}
+use Rattle.std.proofs.lemmas.Bool.{cases_lt}
 use Rattle.std.proofs.lemmas.List.{append-nil, append_assoc, length-append, length-replicate, take-append-drop, take-append-le, take-replicate}
 use Rattle.std.proofs.lemmas.List.Folds.{sum_by-replicate}
-use Rattle.std.proofs.lemmas.List.Sums.{sum_by-cons}
 use Rattle.std.proofs.lemmas.Nat.{le-div}
 use Rattle.std.proofs.Math.Nat.{div-lt_iff_lt-mul}
 use Rattle.std.proofs.Math.Seq.{take-append-add, drop-cons, take-suc}
 use Rattle.cf_base.specs.Classes.{need}
-use Rattle.cf_lemmas.proofs.Ranges.{one, sum_at_least}
+use Rattle.cf_lemmas.proofs.Ranges.{one, sum_at_least, sum_changed}
 use Rattle.cf_lemmas.proofs.Tests.{eq_no, eq_yes}
 use Rattle.page_model.specs.Counts.{ceil_div}
 use Rattle.page_model.specs.Paging.{Paging, IsPaging, class_for, classes, slots_of}
@@ -28,34 +26,6 @@ ceil_more x a m pos more = (let le = le-div (a + 1) (x + (m - 1)) m pos (omega a
 
 pub of_ceil : (x a m : ℕ) → 0 < m → ceil_div x m ≤ a → x ≤ a * m
 of_ceil x a m pos le = elim (cases_lt (a * m) x) [ inl more ↦ absurd (let b = ceil_more x a m pos more in omega arith) | inr fine ↦ fine ]
-
--- a sum over a range in which one term changes
-sum_changed : (f g : ℕ → ℕ) (a n c : ℕ) → a ≤ c → c < a + n → ((d : ℕ) → d ≢ c → f d ≡ g d)
-    → sum_by f (range_with_len a n) + g c ≡ sum_by g (range_with_len a n) + f c
-sum_changed f g a zero c low high same = absurd (omega arith)
-sum_changed f g a (suc n) c low high same =
-    let x = sum_by-cons f a (range_with_len (a + 1) n) in
-    let y = sum_by-cons g a (range_with_len (a + 1) n) in
-    elim (cases_eq a c) [
-      | inl is ↦ (
-          let rest = sum_kept f g (a + 1) n (λ d l. same d (omega arith)) in
-          let u : f a ≡ f c = ap f is in
-          let v : g a ≡ g c = ap g is in
-          omega arith)
-      | inr ne ↦ (
-          let rest = sum_changed f g (a + 1) n c (omega arith) (omega arith) same in
-          let here = same a ne in
-          omega arith)
-    ]
-  where
-    sum_kept : (f g : ℕ → ℕ) (a n : ℕ) → ((d : ℕ) → a ≤ d → f d ≡ g d) → sum_by f (range_with_len a n) ≡ sum_by g (range_with_len a n)
-    sum_kept f g a zero same = refl
-    sum_kept f g a (suc n) same =
-        let x = sum_by-cons f a (range_with_len (a + 1) n) in
-        let y = sum_by-cons g a (range_with_len (a + 1) n) in
-        let here = same a (omega arith) in
-        let rest = sum_kept f g (a + 1) n (λ d l. same d (omega arith)) in
-        omega arith
 
 module _ (p : Paging) (ok : IsPaging p) (n : ℕ) (fits : need n ≤ p.page_words) (pre : List ℕ) where
   there_is : class_for p n < classes p
@@ -95,7 +65,7 @@ module _ (p : Paging) (ok : IsPaging p) (n : ℕ) (fits : need n ≤ p.page_word
   pages_with j =
       let lt = there_is in
       let sum = sum_changed (λ c. ceil_div (count_of_class p (pre ++ replicate j n) c) (slots_of p c)) (λ c. ceil_div (count_of_class p pre c) (slots_of p c))
-      0 (classes p) (class_for p n) (omega arith) (omega arith) (λ d ne. ap (λ x. ceil_div x (slots_of p d)) (count_other j d ne)) in
+      0 (classes p) (class_for p n) (omega arith) (omega arith) (λ d _ _ ne. ap (λ x. ceil_div x (slots_of p d)) (count_other j d ne)) in
       let e : ceil_div (count_of_class p (pre ++ replicate j n) (class_for p n)) (slots_of p (class_for p n))
       ≡ ceil_div (count_of_class p pre (class_for p n) + j) (slots_of p (class_for p n)) = ap (λ x. ceil_div x (slots_of p (class_for p n))) (count_here j) in
       omega arith

@@ -1,4 +1,4 @@
-pub mod Filling
+pub mod SizeList
 pub mod Classes
 pub mod Entries
 pub mod Counted

@@ -1,4 +1,4 @@
--- Counts and sums over a range: if the test changes at one number, at which numbers it passes, and lower bounds of a sum.
+-- Counts and sums over a range: if the test or a term changes at one number, at which numbers the test passes, and lower bounds of a sum.
 use Rattle.std.proofs.Common.{◌≡◌, ◌≢◌, ℕ, zero, suc, Bool, cond, ◌+◌, ◌<◌, ◌≤◌, List, [], ◌∷◌, arith, ap, refl, inl, inr}
 use Rattle.std.specs.Prelude.{count_by, sum_by}
 use Rattle.std.specs.List.{range_with_len}
@@ -38,6 +38,32 @@ module _ (f g : ℕ → Bool) where
             let rest : count_by f r + one (g c) ≡ count_by g r + one (f c) = count_changed (a + 1) n c (omega arith) (omega arith) same in
             let e : one (f a) ≡ one (g a) = ap one (same a ne) in
             omega arith)
+      ]
+
+-- two sums over a range with the same terms, and with the same terms but one
+module _ (f g : ℕ → ℕ) where
+  pub sum_range_same : (a n : ℕ) → ((d : ℕ) → a ≤ d → d < a + n → f d ≡ g d) → sum_by f (range_with_len a n) ≡ sum_by g (range_with_len a n)
+  sum_range_same a zero same = refl
+  sum_range_same a (suc n) same =
+      let x = sum_by-cons f a (range_with_len (a + 1) n) in
+      let y = sum_by-cons g a (range_with_len (a + 1) n) in
+      let e = same a (omega arith) (omega arith) in
+      let rest = sum_range_same (a + 1) n (λ d l h. same d (omega arith) (omega arith)) in
+      omega arith
+
+  pub sum_changed : (a n c : ℕ) → a ≤ c → c < a + n → ((d : ℕ) → a ≤ d → d < a + n → d ≢ c → f d ≡ g d)
+      → sum_by f (range_with_len a n) + g c ≡ sum_by g (range_with_len a n) + f c
+  sum_changed a zero c low high same = absurd (omega arith)
+  sum_changed a (suc n) c low high same =
+      let x = sum_by-cons f a (range_with_len (a + 1) n) in
+      let y = sum_by-cons g a (range_with_len (a + 1) n) in
+      elim (cases_eq a c) [
+        | inl is ↦ (
+            let rest = sum_range_same (a + 1) n (λ d l h. same d (omega arith) (omega arith) (omega arith)) in
+            let u : f a ≡ f c = ap f is in let v : g a ≡ g c = ap g is in omega arith)
+        | inr ne ↦ (
+            let rest = sum_changed (a + 1) n c (omega arith) (omega arith) (λ d l h ne. same d (omega arith) (omega arith) ne) in
+            let e = same a (omega arith) (omega arith) ne in omega arith)
       ]
 
 -- at most n of n numbers pass a test

@@ -10,6 +10,10 @@ use Rattle.cf_lemmas.proofs.Maps.{equal_maps, some_removed, get_removed, get_rem
 use Rattle.cf_lemmas.proofs.Ranges.{one}
 use Rattle.cf_lemmas.proofs.Sums.{put_back}
 
+-- a number below n + 1 other than n is below n
+pub below_other : (n h : ℕ) → h < suc n → h ≢ n → h < n
+below_other n h lt ne = omega arith
+
 -- either A holds of each number below n, or B of one of them
 pub search_below : (A B : ℕ → Type 0) → ((k : ℕ) → A k ⊎ B k) → (n : ℕ) → ((k : ℕ) → k < n → A k) ⊎ ((k : ℕ) × (k < n) × B k)
 search_below A B test zero = inl (λ k lt. absurd (omega arith))
@@ -69,16 +73,13 @@ module _ {V : Type 0} where
       ]) in
       rw e (let z = len-empty nat_cmp V in omega arith)
   few_keys (suc n) m below = elim (there_or_not m n) [
-    | inr none ↦ (let l = few_keys n m (λ h x there. (let b = below h x there in lower h b
+    | inr none ↦ (let l = few_keys n m (λ h x there. (let b = below h x there in below_other n h b
         (λ is. (let z : Some x ≡ None = sym there ∙ ap (get m) is ∙ none in cc)))) in omega arith)
     | inl (v, some) ↦ (
         let less = len_without m n v some in
-        let l = few_keys n (remove m n) (λ h x there. (let was = some_removed m n h x there in let b = below h x was.1 in lower h b was.0)) in
+        let l = few_keys n (remove m n) (λ h x there. (let was = some_removed m n h x there in let b = below h x was.1 in below_other n h b was.0)) in
         omega arith)
   ]
-    where
-      lower : (h : ℕ) → h < suc n → h ≢ n → h < n
-      lower h b ne = omega arith
 
   -- with fewer than n keys, a number below n isn't a key
   pub fresh_key : (n : ℕ) (m : FinMap nat_cmp V) → len m < n → (h : ℕ) × (h < n) × (get m h ≡ None)

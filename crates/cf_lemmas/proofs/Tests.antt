@@ -1,7 +1,9 @@
 -- When tests on numbers pass, and when they fail.
-use Rattle.std.proofs.Common.{◌≡◌, ◌≢◌, ℕ, Bool, true, false, ◌<◌, ◌≤◌, refl}
+use Rattle.std.proofs.Common.{◌≡◌, ◌≢◌, ◌∙◌, ℕ, Bool, true, false, ◌<◌, ◌≤◌, refl}
 use Rattle.std.specs.Prelude.{◌&&◌, nat_eq, nat_le, nat_lt}
 use Rattle.std.proofs.lemmas.Bool.{eq-eqb, ne_eqb, lt-ltb, le-ltb, le-leb, lt-leb}
+use Rattle.std.specs.Ordering.{nat_cmp, eq_by_cmp}
+use Rattle.std.specs.Cmp.{unsigned_tied}
 
 pub eq_yes : (a b : ℕ) → a ≡ b → nat_eq a b ≡ true
 eq_yes a b is = eq-eqb a b is
@@ -24,3 +26,10 @@ lt_no a b le = le-ltb a b le
 pub and_false : (b : Bool) → (b && false) ≡ false
 and_false true = refl
 and_false false = refl
+
+-- the order of keys finds two numbers equal if and only if they are
+pub tied_yes : (a b : ℕ) → a ≡ b → eq_by_cmp nat_cmp a b ≡ true
+tied_yes a b is = unsigned_tied a b ∙ eq_yes a b is
+
+pub tied_no : (a b : ℕ) → a ≢ b → eq_by_cmp nat_cmp a b ≡ false
+tied_no a b ne = unsigned_tied a b ∙ eq_no a b ne

@@ -1,13 +1,13 @@
 -- Generated commands are well formed, and their numbers fit their types.
-use Rattle.std.proofs.Common.{◌≡◌, ◌≤◌, ◌<◌, ◌+◌, ◌/◌, ◌%◌, ◌^◌, ◌==◌, ℕ, Bool, zero, suc, true, false, List, [], ◌∷◌, length, map, refl, arith, lit≤}
-use Rattle.std.specs.Prelude.{⊤, nat_lt, slice_index, if◌then◌else◌}
+use Rattle.std.proofs.Common.{◌≡◌, ◌≤◌, ◌<◌, ◌/◌, ◌%◌, ◌^◌, ◌==◌, ℕ, Bool, zero, suc, true, false, List, [], ◌∷◌, refl, arith, lit≤}
+use Rattle.std.specs.Prelude.{⊤, nat_lt, if◌then◌else◌}
 use Rattle.std.specs.Int.{w64, to_le_bytes}
 use Rattle.hex.specs.Hex.{IsBytes}
 use Rattle.rand_xoshiro.specs.SplitMix64.{mix_u64}
 use Rattle.script_reader.specs.Items.{is_bound}
 use Rattle.script_reader.specs.declared.command.Command.{Command}
 use Rattle.script_reader.specs.declared.command.Command.TheVariants.{Malloc, Free, Write, Read}
-use Rattle.generator.specs.Generated.{bytes_asked, command_of_word, generated, id_named, one_of_eight, words_from}
+use Rattle.generator.specs.Generated.{bytes_asked, command_of_word, generated, id_named, one_of_eight}
 use Rattle.generator.specs.ReadBack.{ArePlain, IsCommand}
 
 few_bytes : (word : ℕ) → bytes_asked word < 16384

@@ -1,14 +1,14 @@
 -- The line of a command is read back.
-use Rattle.std.proofs.Common.{◌≡◌, ◌∙◌, ◌≤◌, ◌<◌, ◌+◌, ◌*◌, ◌++◌, ◌&&◌, ℕ, Bool, true, false, List, [], ◌∷◌, length, map, refl, sym, ap, arith}
-use Rattle.std.proofs.Common.{Option, Some, None, codes, append-nil, append_assoc}
+use Rattle.std.proofs.Common.{◌≡◌, ◌∙◌, ◌≤◌, ◌+◌, ◌*◌, ◌++◌, ℕ, Bool, true, false, List, [], ◌∷◌, length, map, refl, sym, ap, arith}
+use Rattle.std.proofs.Common.{Some, codes, append-nil, append_assoc}
 use Rattle.std.proofs.Common.{length-append}
-use Rattle.std.specs.Prelude.{nat_le, ⊤, option_map, if◌then◌else◌}
+use Rattle.std.specs.Prelude.{⊤, option_map, if◌then◌else◌}
 use Rattle.std.specs.Fmt.{decimal}
 use Rattle.std.proofs.lemmas.Bool.Decides.{nat_tests}
 use Rattle.hex.specs.Hex.{IsBytes, encode_lower}
 use Rattle.hex.proofs.HexLemmas.{decode_of-encode_lower}
-use Rattle.cf_base.specs.Limits.{is_within}
-use Rattle.cf_base.specs.Settings.{profile_from, setting_fault}
+use Rattle.cf_base.specs.Settings.{profile_from}
+use Rattle.cf_base.proofs.CallerLemmas.{within_limits}
 use Rattle.cf_io.specs.Numbers.{number_in}
 use Rattle.cf_io.proofs.CallerLemmas.{length_in_hex, number_of_decimal}
 use Rattle.script_reader.specs.Commands.{bytes_in, number_from, settings_in}
@@ -24,12 +24,9 @@ use Rattle.generator.specs.ReadBack.{ArePlain, CanOpen, IsCommand, IsShort, IsWo
 use Rattle.generator.proofs.TextLemmas.{AreWords, hex_token, number_token, number_tokens, numbers_short}
 use Rattle.generator.proofs.TokenLemmas.{AreTokens, IsToken, high_by_test, line_cut, no_return, shown_spaced, tokens_spaced}
 
-within : (low high n : ℕ) → low ≤ n → n ≤ high → is_within low high n ≡ true
-within low high n least most = grind (arith, nat_tests)
-
 -- a number of a field is read back
 number_back : (low high n : ℕ) → IsWord n → low ≤ n → n ≤ high → number_from low high (decimal n) ≡ Some n
-number_back low high n word least most = rw (number_of_decimal n word, within low high n least most) refl
+number_back low high n word least most = rw (number_of_decimal n word, within_limits low high n least most) refl
 
 id_back : (n : ℕ) → IsShort n → number_from 0 65535 (decimal n) ≡ Some n
 id_back n short = number_back 0 65535 n (omega (arith, short)) (omega arith) short
@@ -43,7 +40,7 @@ task_back n few = number_back 0 15 n (omega (arith, few)) (omega arith) few
 bytes_back : (bytes : List ℕ) → IsBytes bytes → 1 ≤ length bytes → length bytes ≤ 4096 → bytes_in (encode_lower bytes) ≡ Some bytes
 bytes_back bytes are some few =
     let long = length_in_hex bytes in
-    rw (within 2 8192 (length (encode_lower bytes)) (omega arith) (omega arith), decode_of-encode_lower bytes are) refl
+    rw (within_limits 2 8192 (length (encode_lower bytes)) (omega arith) (omega arith), decode_of-encode_lower bytes are) refl
 
 -- the tokens of a command are read as the command
 pub tokens_back : (c : Command) → IsCommand c → tokens_say (tokens_of c) ≡ item (asks c)

@@ -1,18 +1,17 @@
 -- The texts of numbers and bytes are valid tokens, and short.
-use Rattle.std.proofs.Common.{◌≡◌, ◌∙◌, ◌≤◌, ◌<◌, ◌+◌, ◌*◌, ◌^◌, ◌/◌, ◌%◌, ◌++◌, ◌&&◌, ℕ, Bool, zero, suc, true, false, List, [], ◌∷◌, length, map}
-use Rattle.std.proofs.Common.{refl, sym, ap, arith, lit<, append-nil, append_assoc, Option, Some, None}
+use Rattle.std.proofs.Common.{◌≡◌, ◌∙◌, ◌≤◌, ◌<◌, ◌+◌, ◌*◌, ◌/◌, ◌%◌, ◌++◌, ◌&&◌, ℕ, Bool, suc, true, false, List, [], ◌∷◌, length, map}
+use Rattle.std.proofs.Common.{refl, sym, ap, arith, append-nil, append_assoc, Some}
 use Rattle.std.proofs.Common.{length-append}
-use Rattle.std.specs.Prelude.{⊤, nat_le, slice_index}
+use Rattle.std.specs.Prelude.{⊤, slice_index}
 use Rattle.std.proofs.lemmas.Bool.{false≢true}
 use Rattle.std.specs.Fmt.{decimal}
 use Rattle.std.specs.List.{list_all}
 use Rattle.std.proofs.lemmas.Bool.Decides.{nat_tests}
-use Rattle.std.proofs.lemmas.Fmt.{length-decimal-le}
 use Rattle.hex.specs.Hex.{IsBytes, encode_lower, encode_with, hex_digit_value, lower_digits}
 use Rattle.hex.proofs.HexLemmas.{IsDigits-lower_digits}
 use Rattle.cf_io.specs.Numbers.{is_digit}
-use Rattle.cf_io.proofs.CallerLemmas.{Spells, length_in_hex, number_of_decimal, spells}
-use Rattle.generator.specs.CommandText.{after_spaces, spaced, word_and_numbers}
+use Rattle.cf_io.proofs.CallerLemmas.{Spells, length_in_hex, number_of_decimal, spells, decimal_short}
+use Rattle.generator.specs.CommandText.{after_spaces, spaced}
 use Rattle.generator.specs.ReadBack.{IsWord}
 use Rattle.generator.proofs.TokenLemmas.{AreHigh, AreTokens, IsToken}
 
@@ -56,9 +55,6 @@ AreWords (n ∷ rest) = IsWord n × AreWords rest
 pub number_tokens : (numbers : List ℕ) → AreWords numbers → AreTokens (map decimal numbers)
 number_tokens [] are = tt
 number_tokens (n ∷ rest) are = (number_token n are.0, number_tokens rest are.1)
-
-pub decimal_short : (n : ℕ) → n < 2 ^ 64 → length (decimal n) ≤ 20
-decimal_short n fits = length-decimal-le 20 n (lit< tt) (omega (arith, fits)) fits
 
 pub numbers_short : (numbers : List ℕ) → AreWords numbers → length (after_spaces (map decimal numbers)) ≤ 21 * length numbers
 numbers_short [] are = omega arith

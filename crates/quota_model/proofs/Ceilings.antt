@@ -7,11 +7,10 @@ use Rattle.std.proofs.lemmas.Bool.{cases_eq}
 use Rattle.std.proofs.Math.Nat.{div-zero, div-eq_of_lt, div-lt_iff_lt-mul}
 use Rattle.cf_lemmas.proofs.Ranges.{one, sum_grows}
 use Rattle.cf_lemmas.proofs.Tests.{eq_no, eq_yes}
-use Rattle.page_model.specs.Arrangement.{pages_for}
 use Rattle.page_model.specs.Counts.{ceil_div}
 use Rattle.page_model.specs.Paging.{Paging, class_for, classes, slots_of}
 pub use Rattle.page_model.proofs.CallerLemmas.{pages_grow, pages_same}
-use Rattle.page_model.proofs.CallerLemmas.{ceil_mono, sum_plus, sum_same, sum_zeros}
+use Rattle.page_model.proofs.CallerLemmas.{sum_plus, sum_same, sum_zeros}
 use Rattle.quota_model.specs.Admission.{count_of_class, pages_of}
 
 ceil_nothing : (m : ℕ) → ceil_div 0 m ≡ 0

@@ -1,19 +1,19 @@
 -- One map of the addresses of all tasks, by its keys.
-use Rattle.std.proofs.Common.{◌≡◌, ◌≢◌, ℕ, zero, suc, true, false, cond, ◌+◌, ◌<◌, ◌≤◌, List, [], ◌∷◌, ◌++◌, Option, Some, None, length, set, arith, ap}
+use Rattle.std.proofs.Common.{◌≡◌, ◌≢◌, ℕ, zero, suc, cond, ◌+◌, ◌<◌, ◌≤◌, List, [], ◌∷◌, ◌++◌, Option, Some, None, length, set, arith, ap}
 use Rattle.std.proofs.Common.{sym, ◌∙◌, refl, inl, inr}
 use Rattle.std.proofs.lemmas.Bool.{cases_eq, cases_lt}
 use Rattle.std.proofs.lemmas.List.{get_or-set_same, get_or-set_other}
 use Rattle.std.specs.Prelude.{option_map}
-use Rattle.std.specs.Ordering.{nat_cmp, eq_by_cmp}
-use Rattle.std.specs.Cmp.{nat_cmp_total, unsigned_tied}
+use Rattle.std.specs.Ordering.{nat_cmp}
+use Rattle.std.specs.Cmp.{nat_cmp_total}
 use Rattle.std.specs.FinMap.{FinMap, empty, entries, find, get, get-empty, get-entries, get-from_entries, insert, remove}
 use Rattle.cf_lemmas.proofs.Maps.{equal_maps, get_inserted, get_insert_other, get_removed, get_remove_other}
 use Rattle.cf_lemmas.proofs.MapValues.{get-map_values}
-use Rattle.cf_lemmas.proofs.Tests.{eq_yes, eq_no}
+use Rattle.cf_lemmas.proofs.Tests.{tied_no, tied_yes}
 use Rattle.page_model.specs.Bytes.{bytes_at, held_at}
 use Rattle.page_model.specs.Held.{Placed}
 use Rattle.quota_model.specs.Parts.{key_of, number_of, part_of, task_of}
-use Rattle.quota_model.proofs.TaskParts.{get_part, get_part_past, tied_no, tied_yes}
+use Rattle.quota_model.proofs.TaskParts.{get_part, get_part_past}
 use Rattle.quota_model.specs.Joined.{AreNumbers, all_keyed, joined, keyed, places_at}
 
 -- the first of two lists that has a key

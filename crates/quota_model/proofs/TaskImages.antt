@@ -1,21 +1,21 @@
 -- The words of the region after a call of one task.
-use Rattle.std.proofs.Common.{◌≡◌, ◌≢◌, ℕ, zero, suc, ◌+◌, ◌-◌, ◌*◌, ◌/◌, ◌%◌, ◌<◌, ◌≤◌, List, Some, None, length, get_or, set, replicate, take, arith, ap, sym}
-use Rattle.std.proofs.Common.{◌∙◌, refl, inl, inr, subst}
+use Rattle.std.proofs.Common.{◌≡◌, ◌≢◌, ℕ, zero, suc, ◌+◌, ◌-◌, ◌*◌, ◌/◌, ◌%◌, ◌<◌, ◌≤◌, List, Some, None, length, get_or, set, replicate, arith, ap, sym}
+use Rattle.std.proofs.Common.{◌∙◌, inl, inr, subst}
 use Rattle.std.specs.Prelude.{IsTrue}
-use Rattle.std.proofs.lemmas.List.{drop-replicate, get_or-set_other, get_or-set_same, length-replicate}
+use Rattle.std.proofs.lemmas.List.{get_or-set_other, get_or-set_same, length-replicate}
 use Rattle.std.specs.FinMap.{get, insert, remove}
 use Rattle.cf_base.specs.Limits.{is_page_size}
 use Rattle.cf_base.specs.Settings.{Profile}
 use Rattle.cf_lemmas.proofs.Maps.{get_insert_other, get_inserted}
 use Rattle.page_model.specs.Bytes.{written}
 use Rattle.page_model.specs.Held.{Held, Placed}
-use Rattle.page_model.specs.Image.{Clears, IsApartFrom, IsDisjoint, IsImage, IsOutside, IsSlotImage, MovesWords, Rewrites, header_word, object_word}
-use Rattle.page_model.specs.Image.{slot_for, word_of_bytes}
+use Rattle.page_model.specs.Image.{Clears, IsApartFrom, IsImage, IsOutside, IsSlotImage, MovesWords, Rewrites, header_word, object_word}
+use Rattle.page_model.specs.Image.{slot_for}
 use Rattle.page_model.specs.Paging.{class_for, slot_words}
 use Rattle.page_model.specs.Steps.{MayFill, MustMove, Request, moved_to, zeros_at}
-use Rattle.page_model.proofs.CallerLemmas.{fresh_word, disjoint_outside, image_added, image_after_bytes, image_after_free, image_exchanged}
+use Rattle.page_model.proofs.CallerLemmas.{fresh_word, disjoint_outside, image_added, image_after_bytes, image_after_free, image_exchanged, turned}
 use Rattle.page_model.proofs.CallerLemmas.{mover_is_other, own_words, slot_inside}
-use Rattle.page_model.proofs.CallerLemmas.{sound_apart_from, within_or}
+use Rattle.page_model.proofs.CallerLemmas.{sound_apart_from}
 use Rattle.quota_model.specs.Parts.{key_of, part_of}
 use Rattle.quota_model.specs.Refusals.{task_paging}
 use Rattle.quota_model.specs.Shared.{IsShared, PlacesForTask, RemovesForTask}
@@ -23,10 +23,6 @@ use Rattle.quota_model.proofs.SharedMalloc.{stays_shared}
 use Rattle.quota_model.proofs.SharedPages.{tasks_paged}
 use Rattle.quota_model.proofs.TaskParts.{found_small, found_whole, get_part}
 use Rattle.quota_model.proofs.WholeSound.{from_wide, to_wide, whole_sound, wide, wide_paged, wide_slot}
-
-turned : (a n b m : ℕ) → IsDisjoint a n b m → IsDisjoint b m a n
-turned a n b m (inl x) = inr x
-turned a n b m (inr y) = inl y
 
 module _ (s : Profile) (m : Held) (shared : IsShared s m) (is_page : IsTrue (is_page_size s.page_words)) (words : List ℕ)
     (im : IsSlotImage (task_paging s) m words) where

@@ -3,18 +3,12 @@ use Rattle.std.proofs.Common.{◌≡◌, ◌≢◌, ℕ, true, false, cond, ◌<
 use Rattle.std.specs.Prelude.{filter, nat_eq}
 use Rattle.std.proofs.lemmas.Bool.{cases_eq, cases_lt}
 use Rattle.std.specs.Ordering.{nat_cmp, eq_by_cmp}
-use Rattle.std.specs.Cmp.{nat_cmp_total, unsigned_tied}
+use Rattle.std.specs.Cmp.{nat_cmp_total}
 use Rattle.std.specs.FinMap.{entries, find, get, get-entries, get-from_entries, insert, remove}
 use Rattle.cf_lemmas.proofs.Maps.{equal_maps, get_inserted, get_insert_other, get_removed, get_remove_other}
-use Rattle.cf_lemmas.proofs.Tests.{eq_yes, eq_no}
+use Rattle.cf_lemmas.proofs.Tests.{eq_yes, eq_no, tied_yes, tied_no}
 use Rattle.page_model.specs.Held.{Held, Placed}
 use Rattle.quota_model.specs.Parts.{key_of, number_of, part_of, task_of}
-
-pub tied_yes : (a b : ℕ) → a ≡ b → eq_by_cmp nat_cmp a b ≡ true
-tied_yes a b is = unsigned_tied a b ∙ eq_yes a b is
-
-pub tied_no : (a b : ℕ) → a ≢ b → eq_by_cmp nat_cmp a b ≡ false
-tied_no a b ne = unsigned_tied a b ∙ eq_no a b ne
 
 abbrev of_task : ℕ → List (ℕ × Placed) → List (ℕ × Placed)
 of_task task es = filter (λ (e : ℕ × Placed). nat_eq (task_of e.0) task) es

@@ -1,32 +1,21 @@
 -- Other bytes of the same class in an object of a task.
 use Rattle.std.proofs.Common.{◌≡◌, ◌≢◌, ℕ, ◌<◌, List, Some, length, get_or, arith, ap, sym, ◌∙◌, refl, inl, inr, subst}
-use Rattle.std.specs.Prelude.{nat_eq, option_map}
+use Rattle.std.specs.Prelude.{option_map}
 use Rattle.std.proofs.lemmas.Bool.{cases_eq}
-use Rattle.std.specs.FinMap.{get, insert, remove}
+use Rattle.std.specs.FinMap.{get, insert}
 use Rattle.cf_base.specs.Settings.{Profile}
 use Rattle.cf_lemmas.proofs.MapValues.{get-map_values, map_values-insert}
 use Rattle.cf_lemmas.proofs.Maps.{get_removed, some_inserted}
-use Rattle.cf_lemmas.proofs.Ranges.{one}
 use Rattle.cf_lemmas.proofs.Sums.{insert_again}
 use Rattle.page_model.specs.Arrangement.{IsSound, live, pages_needed}
-use Rattle.page_model.specs.Held.{Held, Objects, Placed, objects}
-use Rattle.page_model.specs.Paging.{Paging, class_for, page_of}
-use Rattle.page_model.proofs.CallerLemmas.{live_added, live_taken, sound_exchanged}
+use Rattle.page_model.specs.Held.{Held, Placed, objects}
+use Rattle.page_model.specs.Paging.{class_for, page_of}
+use Rattle.page_model.proofs.CallerLemmas.{sound_exchanged, live_rewritten}
 use Rattle.quota_model.specs.Parts.{key_of, part_of}
 use Rattle.quota_model.specs.Refusals.{task_paging}
 use Rattle.quota_model.specs.Shared.{AreQuotas, IsShared}
 use Rattle.quota_model.proofs.Ceilings.{pages_same}
 use Rattle.quota_model.proofs.TaskParts.{found_small, found_whole, part_inserted, part_other_inserted}
-
--- one object's bytes instead of others of the same class
-pub live_rewritten : (p : Paging) (o : Objects) (q : ℕ) (v u : List ℕ) → get o q ≡ Some v → class_for p (length u) ≡ class_for p (length v)
-    → (c : ℕ) → live p (insert o q u) c ≡ live p o c
-live_rewritten p o q v u some class c =
-    let a = live_taken p o q v c some in
-    let b = live_added p (remove o q) q u c (get_removed o q) in
-    let e : live p (insert (remove o q) q u) c ≡ live p (insert o q u) c = ap (λ o. live p o c) (insert_again o q u) in
-    let k : one (nat_eq (class_for p (length u)) c) ≡ one (nat_eq (class_for p (length v)) c) = ap (λ d. one (nat_eq d c)) class in
-    omega arith
 
 module _ (s : Profile) (m : Held) (t h : ℕ) (x : Placed) (found : get (part_of m t) h ≡ Some x) (u : List ℕ)
     (class : class_for (task_paging s) (length u) ≡ class_for (task_paging s) (length x.bytes)) where

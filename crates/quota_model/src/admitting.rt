@@ -29,7 +29,7 @@ pub fn the_first_refusal_is_the_first_sum_past_the_quota()
         × (t.quota < pages_of (task_paging t.profile) (take nth (in_order needs)))) }
 {}
 
-/// Settings, quota and needs have one answer.
+/// Settings, quota and needs determine the admission.
 pub fn there_is_one_admission()
     ensures { (t : Share) (needs : List Need) (a b : Admission) → IsAdmission t needs a
         → IsAdmission t needs b → a ≡ b }

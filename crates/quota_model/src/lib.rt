@@ -1,7 +1,7 @@
 //! Tasks that share the pages of one region, each with a quota of its own: why a call is refused,
-//! which answer a task gets before it runs, what stays of an arrangement of all tasks, and the words
-//! of their region after a call. The public functions do nothing: each one's contract is a law of
-//! these definitions.
+//! whether a quota is enough for the needs that a task declares, which rules an arrangement of all tasks
+//! keeps, and the words of their region after a call. The public functions do nothing: each one's
+//! contract is a law of these definitions.
 #![tactic(auto)]
 
 mod admitting;

@@ -1,4 +1,4 @@
--- What a reader returns over calls of feed, finish and next_command.
+-- What other crates' proofs may cite: the lines of a text, and what a reader returns over calls of feed, finish and next_command.
 use Rattle.std.proofs.Common.{◌≡◌, ◌∙◌, ◌++◌, ℕ, Bool, true, false, List, [], ◌∷◌, Option, Some, None, refl, sym, ap, subst, append-nil, append_assoc}
 use Rattle.std.proofs.lemmas.Bool.{true≢false}
 use Rattle.cf_base.specs.Settings.{profile_of}
@@ -7,6 +7,7 @@ use Rattle.script_reader.specs.Items.{Item, asks, bad, items, starts}
 use Rattle.script_reader.specs.Reading.{Answers, AnswersBad, Reading, StopsAt, fed_with, fresh, items_left}
 use Rattle.script_reader.specs.declared.next.Next.{Next}
 use Rattle.script_reader.specs.declared.next.Next.TheVariants.{Start, Command, NeedMore, Bad, End}
+pub use Rattle.script_reader.proofs.ItemLemmas.{some_stretch}
 
 -- a fresh reader has all items to give
 pub fresh_left : (more : List ℕ) (ended : Bool) → items_left fresh more ended ≡ items more ended

@@ -3,7 +3,7 @@ use Rattle.std.proofs.Common.{◌≡◌, ◌∙◌, ◌<◌, ◌==◌, ℕ, suc,
 use Rattle.std.proofs.Common.{if◌then◌else◌, option_map, refl, sym, ap, arith, codes}
 use Rattle.std.proofs.Math.Bool.{and-false}
 use Rattle.std.proofs.Math.Seq.{drop-cons}
-use Rattle.std.proofs.lemmas.Bool.{false≢true, ltb-false, ltb-true, ne_eqb}
+use Rattle.std.proofs.lemmas.Bool.{ltb-false, ltb-true, ne_eqb, not-true}
 use Rattle.std.proofs.lemmas.List.{drop_all}
 use Rattle.std.proofs.lemmas.List.Sums.{passes_at_first}
 use Rattle.std.specs.Prelude.{position, nat_lt}
@@ -26,16 +26,12 @@ comment_or_item : (b : Bool) (o : Option Item) → says_nothing (if b then nothi
 comment_or_item true o = refl
 comment_or_item false o = item_speaks o
 
-not_passes : (b : Bool) → not b ≡ true → b ≡ false
-not_passes true is = absurd (false≢true is)
-not_passes false is = refl
-
 -- what follows from the first byte that is no gap
 first_byte : (t : List ℕ) → gaps_in t < length t → (get_or t (gaps_in t) 0 == 35) ≡ says_nothing (tokens_say (tokens t))
 first_byte t below =
     let x = get_or t (gaps_in t) 0 in
     let r = drop (suc (gaps_in t)) t in
-    let isnt : is_gap x ≡ false = not_passes (is_gap x) (passes_at_first (λ b. not (is_gap b)) t 0 below) in
+    let isnt : is_gap x ≡ false = not-true (is_gap x) (passes_at_first (λ b. not (is_gap b)) t 0 below) in
     let first : tokens t ≡ (x ∷ take (position_or_len is_gap r) r) ∷ tokens (drop (position_or_len is_gap r) r) =
     sym (past_gaps t) ∙ ap tokens (drop-cons t (gaps_in t) 0 below) ∙ run x r isnt in
     sym (ap (λ (ts : List (List ℕ)). says_nothing (tokens_say ts)) first ∙ comment_or_item (x == 35) _)

@@ -18,7 +18,7 @@ abbrev pub ◌>>=◌ : {A B : Type 0} → Option A → (A → Option B) → Opti
 None >>= f = None
 Some x >>= f = f x
 
--- exactly so many
+-- exactly none, one, and more tokens
 abbrev pub none_of : List (List ℕ) → Bool
 none_of [] = true
 none_of (a ∷ rest) = false

@@ -3,7 +3,7 @@ use Rattle.std.proofs.Common.{◌≡◌, ◌≢◌, ℕ, zero, suc, ◌+◌, ◌
 use Rattle.std.proofs.Common.{sym, ◌∙◌, ap, refl, subst, inl, inr, length-drop}
 use Rattle.std.specs.Prelude.{◌⊎◌, min}
 use Rattle.std.proofs.lemmas.Bool.{cases_eq, cases_lt}
-use Rattle.std.proofs.lemmas.List.{length-take, length-replicate, drop-replicate, get_or-take, get_or-drop}
+use Rattle.std.proofs.lemmas.List.{length-take, length-replicate, get_or-take, get_or-drop}
 use Rattle.std.proofs.lemmas.Grind.{same_number_lists}
 use Rattle.std.specs.FinMap.{get, insert, remove}
 use Rattle.cf_base.specs.Classes.{need}
@@ -21,10 +21,10 @@ use Rattle.slice_model.specs.State.{Plan, IsPlan, JobSlot, Job, Sliced, IsKept, 
 use Rattle.slice_model.specs.Steps.{Ends, GivesObject, GoesOn, IsDone, SliceOf, Vacates, done_after}
 use Rattle.slice_model.specs.Words.{HasWords, DoesWords, RewritesObject, byte_read, word_at}
 use Rattle.slice_model.specs.Runs.{words_of_slice}
-use Rattle.slice_model.proofs.Keeping.{job_stays, kept_malloc}
+use Rattle.slice_model.proofs.KeptSteps.{job_stays, kept_malloc}
 use Rattle.slice_model.proofs.Occupied.{beside, job_class}
 use Rattle.slice_model.proofs.SliceWords.{carried, cleared, words_ended, words_to_carry, words_to_clear}
-use Rattle.slice_model.proofs.Standing.{AreApart, kept_apart, not_done, not_outside, own_words_at, where_word, word_done, word_left, word_of_other}
+use Rattle.slice_model.proofs.WordAddresses.{AreApart, kept_apart, not_done, not_outside, own_words_at, where_word, word_done, word_left, word_of_other}
 
 -- the object that a job carries is of the class of its slot
 pub mover_class : (p : Paging) (m : Held) (j : Job) → IsJobOf p m j → (k : JobSlot) (h : ℕ) (x : Placed) → j ≡ Move h k → get m h ≡ Some x

@@ -10,7 +10,7 @@ use Rattle.page_model.proofs.CallerLemmas.{within_or}
 use Rattle.slice_model.specs.State.{Plan, IsPlan, JobSlot, Job, Sliced, IsKept, job_slot, Idle, Clear, Move}
 use Rattle.slice_model.specs.Words.{HasWords, IsBehind, IsClosed, word_at}
 use Rattle.slice_model.proofs.CallWords.{mover_class}
-use Rattle.slice_model.proofs.Standing.{where_word, word_left}
+use Rattle.slice_model.proofs.WordAddresses.{where_word, word_left}
 
 pub idle_words : (p : Paging) (m : Held) (words : List ℕ) → HasWords p (record { held = m; job = Idle }) words ↔ IsSlotImage p m words
 idle_words p m words = (

@@ -15,8 +15,8 @@ use Rattle.page_model.proofs.CallerLemmas.{objects_on-elsewhere, objects_on-left
 use Rattle.slice_model.specs.State.{Plan, IsPlan, JobSlot, Job, Sliced, IsKept, advanced, job_slot, Idle, Clear, Move}
 use Rattle.slice_model.specs.Steps.{AreSlices, Carries, Ends, GoesOn, IsBeside, IsDone, IsOver, IsSlice, SliceOf, done_after, fresh_slot}
 use Rattle.slice_model.specs.Runs.{Event, Happens, Runs, Turn, Working, is_step, steps_in, Malloc, Free, Step, Write, Read}
-use Rattle.slice_model.proofs.Occupied.{job_class, no_stand_in}
-use Rattle.slice_model.proofs.Keeping.{kept_slice, two_is_last}
+use Rattle.slice_model.proofs.Occupied.{job_class, no_placeholder}
+use Rattle.slice_model.proofs.KeptSteps.{kept_slice, two_is_last}
 
 -- n words take this number of slices of a quantum: one fewer is too few
 pub ceil_bounds : (n q : ℕ) → 0 < n → 1 ≤ q → (k : ℕ) × (ceil_div n q ≡ suc k) × (k * q < n) × (n ≤ k * q + q)
@@ -98,7 +98,7 @@ module _ (plan : Plan) where
       then ∙ ap (λ (s : Sliced). record s { job = advanced s.job (k.done + plan.quantum + n * plan.quantum) }) first
       ∙ ap (λ j. record old { job = j }) (advanced_twice old.job (k.done + plan.quantum) (k.done + plan.quantum + n * plan.quantum) ∙ ap (advanced old.job) d)
 
-  slices_split : (a b : ℕ) (old new : Sliced) → AreSlices plan (a + b) old new → (mid : Sliced) × AreSlices plan a old mid × AreSlices plan b mid new
+  pub slices_split : (a b : ℕ) (old new : Sliced) → AreSlices plan (a + b) old new → (mid : Sliced) × AreSlices plan a old mid × AreSlices plan b mid new
   slices_split zero b old new s = (old, refl, (let e : 0 + b ≡ b = omega arith in subst (λ n. AreSlices plan n old new) e s))
   slices_split (suc a) b old new s =
       let e : suc a + b ≡ suc (a + b) = omega arith in
@@ -130,7 +130,7 @@ module _ (plan : Plan) where
       same_ends m k d new (inr c) = inr (record { two = c.two; object = c.object; beside = c.beside; carries = c.carries })
 
   -- without a job slices do nothing
-  slices_idle : (n : ℕ) (old new : Sliced) → old.job ≡ Idle → AreSlices plan n old new → new.job ≡ Idle
+  pub slices_idle : (n : ℕ) (old new : Sliced) → old.job ≡ Idle → AreSlices plan n old new → new.job ≡ Idle
   slices_idle zero old new idle same = rw same idle
   slices_idle (suc n) old new idle (mid, slice, rest) =
       let same : mid ≡ old = subst (λ j. SliceOf plan old (job_slot j) mid) idle slice in
@@ -167,7 +167,7 @@ module _ (plan : Plan) where
         sym (ap (λ (s : Sliced). not_full_pages plan.paging s.held e) w) ∙ two in
         let l = two_is_last plan ok (insert m q (record { place = a; bytes = carries.object.bytes }))
         (fresh_slot carries.object.place e)
-        (no_stand_in plan (insert m q (record { place = a; bytes = carries.object.bytes })) kept'.numbers) kept'.job.0.class kept'.sound
+        (no_placeholder plan (insert m q (record { place = a; bytes = carries.object.bytes })) kept'.numbers) kept'.job.0.class kept'.sound
         two' in
         let filled = l.filled in
         omega arith

@@ -17,15 +17,15 @@ use Rattle.page_model.specs.Steps.{IsFreePlace}
 use Rattle.page_model.proofs.CallerLemmas.{class_fits, class_holds, slot_fits, slots_some, address_is_slot, nothing_on, on_page}
 use Rattle.page_model.proofs.CallerLemmas.{on_yes, standing, objects_on-inserted, objects_on-left}
 use Rattle.slice_model.specs.State.{Plan, IsPlan, JobSlot, Job, Sliced, IsUnderWay, IsJobOf, IsKept, IsUsable, IsFreePage, NoPlace, IsPlaceFor, job_slot}
-use Rattle.slice_model.specs.State.{occupied, stand_in, with_slot, Idle, Clear, Move}
+use Rattle.slice_model.specs.State.{occupied, placeholder, with_slot, Idle, Clear, Move}
 use Rattle.cf_lemmas.proofs.Searches.{search_below}
 use Rattle.page_model.proofs.CallerLemmas.{IsOpen, IsVacant, vacant_where_less, open_counts, open_page}
 use Rattle.slice_model.proofs.Slots.{less_where_vacant}
 
 -- the placeholder of a slot is of its class
-pub stand_in_class : (p : Paging) → IsPaging p → (k : JobSlot) → k.class < classes p → class_at p (stand_in p k) ≡ k.class
+pub placeholder_class : (p : Paging) → IsPaging p → (k : JobSlot) → k.class < classes p → class_at p (placeholder p k) ≡ k.class
 unfolding class_for
-stand_in_class p ok k lt =
+placeholder_class p ok k lt =
     let n : ℕ = 8 * (slot_words p k.class - 1) in
     let len : length (replicate {A = ℕ} (8 * (slot_words p k.class - 1)) 0) ≡ 8 * (slot_words p k.class - 1) =
     length-replicate {A = ℕ} (8 * (slot_words p k.class - 1)) 0 in
@@ -53,8 +53,8 @@ stand_in_class p ok k lt =
     ]
 
 -- no object has the number of the placeholder
-pub no_stand_in : (plan : Plan) (m : Held) → ((h : ℕ) (x : Placed) → get m h ≡ Some x → h < plan.proxies) → get m plan.proxies ≡ None
-no_stand_in plan m numbers = go (get m plan.proxies) refl
+pub no_placeholder : (plan : Plan) (m : Held) → ((h : ℕ) (x : Placed) → get m h ≡ Some x → h < plan.proxies) → get m plan.proxies ≡ None
+no_placeholder plan m numbers = go (get m plan.proxies) refl
   where
     go : (o : Option Placed) → get m plan.proxies ≡ o → o ≡ None
     go None e = refl
@@ -63,13 +63,13 @@ no_stand_in plan m numbers = go (get m plan.proxies) refl
 -- an object keeps its number with a job's slot beside it
 pub get_beside : (plan : Plan) (m : Held) (o : Option JobSlot) (h : ℕ) → h < plan.proxies → get (with_slot plan m o) h ≡ get m h
 get_beside plan m None h lt = refl
-get_beside plan m (Some k) h lt = get_insert_other m plan.proxies (stand_in plan.paging k) h (omega arith)
+get_beside plan m (Some k) h lt = get_insert_other m plan.proxies (placeholder plan.paging k) h (omega arith)
 
 -- with the job's slot there are the objects and its placeholder
 pub some_beside : (plan : Plan) (m : Held) (o : Option JobSlot) (q : ℕ) (y : Placed) → get (with_slot plan m o) q ≡ Some y
-    → (get m q ≡ Some y) ⊎ ((k : JobSlot) × (o ≡ Some k) × (q ≡ plan.proxies) × (stand_in plan.paging k ≡ y))
+    → (get m q ≡ Some y) ⊎ ((k : JobSlot) × (o ≡ Some k) × (q ≡ plan.proxies) × (placeholder plan.paging k ≡ y))
 some_beside plan m None q y there = inl there
-some_beside plan m (Some k) q y there = elim (some_inserted m plan.proxies (stand_in plan.paging k) q y there) [
+some_beside plan m (Some k) q y there = elim (some_inserted m plan.proxies (placeholder plan.paging k) q y there) [
   | inl (is, same) ↦ inr (k, refl, is, same)
   | inr (_, was) ↦ inl was
 ]
@@ -79,12 +79,12 @@ pub inserted_beside : (plan : Plan) (m : Held) (o : Option JobSlot) (h : ℕ) (x
     → insert (with_slot plan m o) h x ≡ with_slot plan (insert m h x) o
 inserted_beside plan m None h x lt = refl
 inserted_beside plan m (Some k) h x lt = equal_maps _ _ (λ q. elim (cases_eq q h) [
-  | inl is ↦ rw is (get_inserted (insert m plan.proxies (stand_in plan.paging k)) h x
-      ∙ sym (get_insert_other (insert m h x) plan.proxies (stand_in plan.paging k) h (omega arith) ∙ get_inserted m h x))
-  | inr ne ↦ get_insert_other (insert m plan.proxies (stand_in plan.paging k)) h x q ne ∙ elim (cases_eq q plan.proxies) [
-    | inl is ↦ rw is (get_inserted m plan.proxies (stand_in plan.paging k) ∙ sym (get_inserted (insert m h x) plan.proxies (stand_in plan.paging k)))
-    | inr ne' ↦ get_insert_other m plan.proxies (stand_in plan.paging k) q ne' ∙ sym (get_insert_other m h x q ne)
-        ∙ sym (get_insert_other (insert m h x) plan.proxies (stand_in plan.paging k) q ne')
+  | inl is ↦ rw is (get_inserted (insert m plan.proxies (placeholder plan.paging k)) h x
+      ∙ sym (get_insert_other (insert m h x) plan.proxies (placeholder plan.paging k) h (omega arith) ∙ get_inserted m h x))
+  | inr ne ↦ get_insert_other (insert m plan.proxies (placeholder plan.paging k)) h x q ne ∙ elim (cases_eq q plan.proxies) [
+    | inl is ↦ rw is (get_inserted m plan.proxies (placeholder plan.paging k) ∙ sym (get_inserted (insert m h x) plan.proxies (placeholder plan.paging k)))
+    | inr ne' ↦ get_insert_other m plan.proxies (placeholder plan.paging k) q ne' ∙ sym (get_insert_other m h x q ne)
+        ∙ sym (get_insert_other (insert m h x) plan.proxies (placeholder plan.paging k) q ne')
   ]
 ])
 
@@ -109,32 +109,32 @@ module _ (plan : Plan) (ok : IsPlan plan) (s : Sliced) (kept : IsKept plan s) wh
   all = occupied plan s
 
   fresh : get s.held plan.proxies ≡ None
-  fresh = no_stand_in plan s.held kept.numbers
+  fresh = no_placeholder plan s.held kept.numbers
 
   -- what an object is there still is
   pub beside : (h : ℕ) (x : Placed) → get s.held h ≡ Some x → get (occupied plan s) h ≡ Some x
   beside h x there = get_beside plan s.held (job_slot s.job) h (kept.numbers h x there) ∙ there
 
-  pub slot_class : (k : JobSlot) → job_slot s.job ≡ Some k → class_at plan.paging (stand_in plan.paging k) ≡ k.class
-  slot_class k e = stand_in_class plan.paging ok.paging k (job_class plan.paging s.held s.job kept.job k e).class
+  pub slot_class : (k : JobSlot) → job_slot s.job ≡ Some k → class_at plan.paging (placeholder plan.paging k) ≡ k.class
+  slot_class k e = placeholder_class plan.paging ok.paging k (job_class plan.paging s.held s.job kept.job k e).class
 
-  pub slot_there : (k : JobSlot) → job_slot s.job ≡ Some k → get (occupied plan s) plan.proxies ≡ Some (stand_in plan.paging k)
-  slot_there k e = rw e (get_inserted s.held plan.proxies (stand_in plan.paging k))
+  pub slot_there : (k : JobSlot) → job_slot s.job ≡ Some k → get (occupied plan s) plan.proxies ≡ Some (placeholder plan.paging k)
+  slot_there k e = rw e (get_inserted s.held plan.proxies (placeholder plan.paging k))
 
   -- each page holds the same number of objects, and the job's page one more
   on_beside : (o : Option JobSlot) (c page : ℕ) → objects_on p s.held c page ≤ objects_on p (with_slot plan s.held o) c page
   on_beside None c page = omega arith
-  on_beside (Some k) c page = (let e = objects_on-inserted p s.held plan.proxies (stand_in p k) fresh c page in omega arith)
+  on_beside (Some k) c page = (let e = objects_on-inserted p s.held plan.proxies (placeholder p k) fresh c page in omega arith)
 
   pub on_more : (c page : ℕ) → objects_on plan.paging s.held c page ≤ objects_on plan.paging (occupied plan s) c page
   on_more c page = on_beside (job_slot s.job) c page
 
   on_job : (k : JobSlot) (page : ℕ) → job_slot s.job ≡ Some k → page_of p k.address ≡ page → 0 < objects_on p all k.class page
   on_job k page e on =
-      let i = objects_on-inserted p s.held plan.proxies (stand_in p k) fresh k.class page in
-      let yes = on_yes p k.class page (stand_in p k) on (slot_class k e) in
+      let i = objects_on-inserted p s.held plan.proxies (placeholder p k) fresh k.class page in
+      let yes = on_yes p k.class page (placeholder p k) on (slot_class k e) in
       let more : 0 < objects_on p (with_slot plan s.held (Some k)) k.class page =
-      (let i' : objects_on p (insert s.held plan.proxies (stand_in p k)) k.class page
+      (let i' : objects_on p (insert s.held plan.proxies (placeholder p k)) k.class page
       ≡ objects_on p s.held k.class page + 1 = rw yes at i in omega arith) in
       rw e more
 
@@ -163,7 +163,7 @@ module _ (plan : Plan) (ok : IsPlan plan) (s : Sliced) (kept : IsKept plan s) wh
   usable_of c a slot free some = record {
     slot = slot;
     empty = λ q y there. free q y (beside q y there);
-    unheld = λ k e. free plan.proxies (stand_in p k) (slot_there k e);
+    unheld = λ k e. free plan.proxies (placeholder p k) (slot_there k e);
     page = (
         let member = on_page p all c (page_of p a) some in
         elim (some_beside plan s.held (job_slot s.job) member.0 member.1 member.2) [
@@ -205,7 +205,7 @@ module _ (plan : Plan) (ok : IsPlan plan) (s : Sliced) (kept : IsKept plan s) wh
       | inr zero' ↦ omega arith
       | inl some ↦ absurd (let o = standing p s.held page some in nothing_on p all page none o.0 o.1 (beside o.0 o.1 o.2) o.3)
     ];
-    unheld = λ k e on. nothing_on p all page none plan.proxies (stand_in p k) (slot_there k e) on;
+    unheld = λ k e on. nothing_on p all page none plan.proxies (placeholder p k) (slot_there k e) on;
   }
 
   -- A place for an object is a free place of the arrangement with the job's slot.

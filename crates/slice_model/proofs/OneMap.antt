@@ -1,12 +1,12 @@
 -- The calls of all tasks are those of one map of objects.
 use Rattle.std.proofs.Common.{◌≡◌, ℕ, ◌+◌, ◌<◌, ◌≤◌, List, [], ◌∷◌, Option, Some, None, length, get_or, replicate, take, drop, arith, sym, ◌∙◌, ap, refl, subst}
 use Rattle.std.proofs.Common.{inl, inr, length-drop}
-use Rattle.std.specs.Prelude.{Ok, Err, option_map}
+use Rattle.std.specs.Prelude.{Ok, Err}
 use Rattle.std.proofs.lemmas.List.{length-take, get_or-take, get_or-drop}
 use Rattle.std.proofs.lemmas.Grind.{same_number_lists}
 use Rattle.std.specs.FinMap.{get, insert, remove}
 use Rattle.cf_base.specs.declared.answers.Handle.{Handle}
-use Rattle.cf_lemmas.proofs.MapValues.{get-map_values, map_values-insert, map_values-remove}
+use Rattle.cf_lemmas.proofs.MapValues.{map_values-insert, map_values-remove}
 use Rattle.cf_lemmas.proofs.Maps.{some_inserted, some_removed}
 use Rattle.page_model.specs.Arrangement.{class_at}
 use Rattle.page_model.specs.Bytes.{AreBytes, written}
@@ -18,7 +18,7 @@ use Rattle.slice_model.specs.Runs.{Event, Frees, Happens, HappensOnMap, IsConsis
 use Rattle.slice_model.specs.Runs.{Free, Step, Write, Read}
 use Rattle.slice_model.specs.declared.answers.SliceFault.TheVariants as fault
 use Rattle.slice_model.specs.Words.{HasWords}
-use Rattle.slice_model.proofs.Keeping.{kept_begun, kept_malloc, kept_slice, kept_write}
+use Rattle.slice_model.proofs.KeptSteps.{kept_begun, kept_malloc, kept_slice, kept_write}
 use Rattle.slice_model.proofs.CallWords.{byte_there, words_begun, words_given, words_sliced, words_written}
 
 -- an object that is carried keeps its bytes

@@ -14,13 +14,13 @@ use Rattle.page_model.specs.Held.{Held, Placed}
 use Rattle.page_model.specs.Paging.{class_for, page_of, slot_words, slots_of}
 use Rattle.page_model.specs.Steps.{Moves, zeros_at}
 use Rattle.page_model.proofs.CallerLemmas.{length-written, mover_is_other, not_full-same, objects_on-away, objects_on-elsewhere, objects_on-exchanged}
-use Rattle.slice_model.specs.State.{Plan, IsPlan, JobSlot, Sliced, IsKept, job_slot, stand_in, Idle, Clear}
+use Rattle.slice_model.specs.State.{Plan, IsPlan, JobSlot, Sliced, IsKept, job_slot, placeholder, Idle, Clear}
 use Rattle.slice_model.specs.Steps.{GivesObject, GoesOn, IsBeside, IsDone, IsSlice, SliceOf, Vacates, done_after, fresh_slot}
 use Rattle.slice_model.specs.Runs.{Event, Happens, IsConsistent, Runs, Turn, Working, frees_in, is_done_free, is_malloc_of, is_step, mallocs_in, steps_in}
 use Rattle.slice_model.specs.Runs.{Malloc, Free, Step, Write, Read}
 use Rattle.slice_model.proofs.JobSlices.{ceil_bounds, followed_once, slot_advanced}
-use Rattle.slice_model.proofs.Keeping.{kept_begun, kept_slice, other_than, two_is_must}
-use Rattle.slice_model.proofs.Occupied.{job_class, no_stand_in, stand_in_class}
+use Rattle.slice_model.proofs.KeptSteps.{kept_begun, kept_slice, other_than, two_is_must}
+use Rattle.slice_model.proofs.Occupied.{job_class, no_placeholder, placeholder_class}
 use Rattle.slice_model.proofs.OneMap.{call_on_map, run_on_map}
 use Rattle.slice_model.proofs.SparePage.{ceil_more}
 
@@ -29,7 +29,7 @@ module _ (plan : Plan) (ok : IsPlan plan) where
   abbrev whole : ℕ → ℕ
   whole c = ceil_div (slot_words plan.paging c) plan.quantum
 
-  -- those of the job that follows, where the class has a second partly full page
+  -- those of the job that follows, if the class has a second partly full page
   abbrev next : Held → ℕ → ℕ
   next m c = if nat_eq (not_full_pages plan.paging m c) 2 then whole c else 0
 
@@ -196,7 +196,7 @@ module _ (plan : Plan) (ok : IsPlan plan) where
       subst (λ n. InTime c n (most + (is_malloc_of plan c turn.event + mallocs_in plan c rest) * whole c) new.state) d
       (subst (λ n. InTime c (done + is_step turn.event + steps_in rest) n new.state) m more)
 
-  -- a job of which nothing is done, and which no other one follows
+  -- a job that has not started, and that no other job follows
   fresh_within : (c a : ℕ) (s : Sliced) → job_slot s.job ≡ Some (fresh_slot a c) → next s.held c ≡ 0 → IsWithin c 0 (whole c) s
   fresh_within c a s slot none =
       let from_start : slot_words plan.paging c - 0 ≡ slot_words plan.paging c = omega arith in
@@ -209,10 +209,10 @@ module _ (plan : Plan) (ok : IsPlan plan) where
       → not_full_pages plan.paging begun.held (class_at plan.paging x) ≢ 2
   begun_once m kept h x there None never begun is two =
       let lt = (kept.sound.slots h x there).class in
-      let none = no_stand_in plan m kept.numbers in
+      let none = no_placeholder plan m kept.numbers in
       let ne = other_than m plan.proxies h x none there in
       let none' : get (remove m h) plan.proxies ≡ None = get_remove_other m h plan.proxies (λ e. ne (sym e)) ∙ none in
-      let class = stand_in_class plan.paging ok.paging (fresh_slot x.place (class_at plan.paging x)) lt in
+      let class = placeholder_class plan.paging ok.paging (fresh_slot x.place (class_at plan.paging x)) lt in
       let kept' : IsKept plan (record { held = remove m h; job = Clear (fresh_slot x.place (class_at plan.paging x)) }) =
       subst (IsKept plan) is (kept_begun plan ok m kept h x there None never begun is) in
       let counts = objects_on-exchanged plan.paging m h x there plan.proxies (replicate (8 * (slot_words plan.paging (class_at plan.paging x) - 1)) 0) none' class in
@@ -222,13 +222,13 @@ module _ (plan : Plan) (ok : IsPlan plan) where
       let full = must.full in
       let several = must.several in
       let many = must.many in
-      let full' : objects_on plan.paging (insert (remove m h) plan.proxies (stand_in plan.paging (fresh_slot x.place (class_at plan.paging x))))
+      let full' : objects_on plan.paging (insert (remove m h) plan.proxies (placeholder plan.paging (fresh_slot x.place (class_at plan.paging x))))
       (class_at plan.paging x) (page_of plan.paging x.place) ≡ slots_of plan.paging (class_at plan.paging x) = rw class at full in
       let several' : 1 < slots_of plan.paging (class_at plan.paging x) = rw class at several in
       never (record {
         full = sym (counts (class_at plan.paging x) (page_of plan.paging x.place)) ∙ full';
         several = several';
-        many = sym (not_full-same plan.paging m (insert (remove m h) plan.proxies (stand_in plan.paging (fresh_slot x.place (class_at plan.paging x))))
+        many = sym (not_full-same plan.paging m (insert (remove m h) plan.proxies (placeholder plan.paging (fresh_slot x.place (class_at plan.paging x))))
             (class_at plan.paging x) (λ page. counts (class_at plan.paging x) page)) ∙ (rw class at many);
       })
   begun_once m kept h x there (Some q) (must, (y, there', may)) begun is two =
@@ -256,7 +256,7 @@ module _ (plan : Plan) (ok : IsPlan plan) where
   begun_fresh m a c None begun is = (a, ap (λ (s : Sliced). job_slot s.job) is)
   begun_fresh m a c (Some q) begun is = (is.object.place, ap (λ (s : Sliced). job_slot s.job) is.whole)
 
-  -- it is the only one, where nothing comes between
+  -- it is the only one if nothing comes between
   begun_within : (m : Held) → IsKept plan (record { held = m; job = Idle }) → (h : ℕ) (x : Placed) → get m h ≡ Some x → (moved : Option ℕ)
       → Moves plan.paging m x moved → (begun : Sliced) → Vacates (remove m h) x.place (class_at plan.paging x) moved begun
       → InTime (class_at plan.paging x) 0 (whole (class_at plan.paging x)) begun

@@ -1,4 +1,4 @@
--- Room by arithmetic beside a job: what is refused, and that each malloc has one answer.
+-- Free space by arithmetic beside a job: what is refused, and that each malloc has one result.
 use Rattle.std.proofs.Common.{◌≡◌, ℕ, ◌+◌, ◌<◌, ◌≤◌, Option, Some, None, arith, ◌∙◌, refl, subst, inl, inr}
 use Rattle.std.specs.Prelude.{◌⊎◌, nat_eq, option_map}
 use Rattle.std.proofs.lemmas.Bool.{cases_lt}
@@ -13,11 +13,11 @@ use Rattle.page_model.specs.Paging.{IsPaging, Paging, class_for, classes, slots_
 use Rattle.page_model.specs.Steps.{Request, zeros_at}
 use Rattle.page_model.proofs.CallerLemmas.{ceil_mono, class_fits, lacks_room_at_one, live_added}
 use Rattle.slice_model.specs.State.{Plan, IsPlan, JobSlot, Sliced, IsKept, IsFreePage, IsPlaceFor, IsUsable, NoPlace}
-use Rattle.slice_model.specs.State.{job_slot, occupied, stand_in, with_slot, Idle}
+use Rattle.slice_model.specs.State.{job_slot, occupied, placeholder, with_slot, Idle}
 use Rattle.slice_model.specs.Steps.{GivesObject, IsRefusedBy}
 use Rattle.slice_model.specs.declared.answers.SliceRefusal.{SliceRefusal}
 use Rattle.slice_model.specs.declared.answers.SliceRefusal.TheVariants as refusal
-use Rattle.slice_model.proofs.Occupied.{lacking_is_no_place, no_place_is_lacking, no_stand_in, place_or_none}
+use Rattle.slice_model.proofs.Occupied.{lacking_is_no_place, no_place_is_lacking, no_placeholder, place_or_none}
 use Rattle.cf_lemmas.proofs.Searches.{fresh_key, few_keys}
 
 needed_le : (p : Paging) → IsPaging p → (o u : Objects) (n : ℕ) → ((c : ℕ) → live p o c ≤ live p u c) → pages_needed_with p o n ≤ pages_needed_with p u n
@@ -32,10 +32,10 @@ needed_beside : (plan : Plan) → IsPlan plan → (m : Held) → get m plan.prox
     → pages_needed_with plan.paging (objects m) n ≤ pages_needed_with plan.paging (objects (with_slot plan m o)) n
 needed_beside plan ok m none None n = omega arith
 needed_beside plan ok m none (Some k) n =
-    let e = map_values-insert (λ (x : Placed). x.bytes) m plan.proxies (stand_in plan.paging k) in
+    let e = map_values-insert (λ (x : Placed). x.bytes) m plan.proxies (placeholder plan.paging k) in
     let none' : get (objects m) plan.proxies ≡ None = get-map_values (λ (x : Placed). x.bytes) m plan.proxies ∙ gone (get m plan.proxies) none in
-    rw e (needed_le plan.paging ok.paging (objects m) (insert (objects m) plan.proxies (stand_in plan.paging k).bytes) n
-    (λ c. (let l = live_added plan.paging (objects m) plan.proxies (stand_in plan.paging k).bytes c none' in omega arith)))
+    rw e (needed_le plan.paging ok.paging (objects m) (insert (objects m) plan.proxies (placeholder plan.paging k).bytes) n
+    (λ c. (let l = live_added plan.paging (objects m) plan.proxies (placeholder plan.paging k).bytes c none' in omega arith)))
   where
     gone : (o : Option Placed) → o ≡ None → option_map (λ (x : Placed). x.bytes) o ≡ None
     gone None e = refl
@@ -51,7 +51,7 @@ module _ (plan : Plan) (ok : IsPlan plan) (s : Sliced) (kept : IsKept plan s) (n
   -- if the sum is over there is no place
   pub over_is_no_place : plan.paging.pages < pages_needed_with plan.paging (objects s.held) n → NoPlace plan.paging s (class_for plan.paging n)
   over_is_no_place over =
-      let more = needed_beside plan ok s.held (no_stand_in plan s.held kept.numbers) (job_slot s.job) n in
+      let more = needed_beside plan ok s.held (no_placeholder plan s.held kept.numbers) (job_slot s.job) n in
       lacking_is_no_place plan ok s kept (class_for plan.paging n)
       ((lacks_room_at_one plan.paging ok.paging ok.ones (occupied plan s) kept.sound n lt).1 (omega arith))
 

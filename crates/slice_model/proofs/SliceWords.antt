@@ -11,7 +11,7 @@ use Rattle.page_model.proofs.CallerLemmas.{within_or}
 use Rattle.slice_model.specs.State.{JobSlot, Job, job_slot, Idle, Clear, Move}
 use Rattle.slice_model.specs.Steps.{fresh_slot}
 use Rattle.slice_model.specs.Words.{HasWords, word_at}
-use Rattle.slice_model.proofs.Standing.{AreApart, where_word, word_of_other, word_done, word_left, outside_part, outside_more}
+use Rattle.slice_model.proofs.WordAddresses.{AreApart, where_word, word_of_other, word_done, word_left, outside_part, outside_more}
 
 -- n words of a job are done
 module _ (p : Paging) (m : Held) (words words' : List ℕ) (n : ℕ) where

@@ -6,6 +6,7 @@ use Rattle.std.specs.FinMap.{get, remove}
 use Rattle.cf_lemmas.proofs.Maps.{some_removed}
 use Rattle.cf_lemmas.proofs.Ranges.{one}
 use Rattle.cf_lemmas.proofs.Tests.{lt_yes, lt_no}
+use Rattle.cf_lemmas.proofs.Searches.{below_other}
 use Rattle.page_model.specs.Arrangement.{IsSound, IsSlotAt, class_at, objects_on}
 use Rattle.page_model.specs.Held.{Held, Placed}
 use Rattle.page_model.specs.Paging.{IsPaging, Paging, address_of, classes, page_of, slot_words, slots_of}
@@ -30,7 +31,7 @@ module _ (p : Paging) (ok : IsPaging p) (c : ℕ) (lt : c < classes p) (page : �
     | inl is ↦ (
         let low : StandBelow m n j = record {
           class = s.class;
-          slot = λ q y there on. (let k = s.slot q y there on in (k.0, (let a = k.1 in let b = k.2 in lower k.0 a (λ e. b (e ∙ sym is))), k.2, k.3));
+          slot = λ q y there on. (let k = s.slot q y there on in (k.0, (let a = k.1 in let b = k.2 in below_other n k.0 a (λ e. b (e ∙ sym is))), k.2, k.3));
           own = s.own;
         } in
         let rest = stand_few n m j (omega arith) low in
@@ -46,7 +47,7 @@ module _ (p : Paging) (ok : IsPaging p) (c : ℕ) (lt : c < classes p) (page : �
                 class = s.class;
                 slot = λ q y there on. (let k = s.slot q y there on in (
                   k.0,
-                  lower k.0 k.1
+                  below_other n k.0 k.1
                       (λ is. vacant q y there (k.3 ∙ ap (address_of p c page) is)),
                   k.2,
                   k.3,
@@ -65,7 +66,7 @@ module _ (p : Paging) (ok : IsPaging p) (c : ℕ) (lt : c < classes p) (page : �
                 slot = λ r z is on'. (
                     let was = some_removed m q r z is in
                     let k = s.slot r z was.1 on' in
-                    (k.0, lower k.0 k.1 (λ e. s.own q y r z there was.1 was.0 (at ∙ sym (k.3 ∙ ap (address_of p c page) e))), k.2, k.3));
+                    (k.0, below_other n k.0 k.1 (λ e. s.own q y r z there was.1 was.0 (at ∙ sym (k.3 ∙ ap (address_of p c page) e))), k.2, k.3));
                 own = λ r z t w is is'. s.own r z t w (some_removed m q r z is).1 (some_removed m q t w is').1;
               } in
               let rest = stand_few n (remove m q) j (omega arith) low in
@@ -73,9 +74,6 @@ module _ (p : Paging) (ok : IsPaging p) (c : ℕ) (lt : c < classes p) (page : �
         ])
   ]
     where
-      lower : (k : ℕ) → k < suc n → k ≢ n → k < n
-      lower k a b = omega arith
-
       same_test : (j n : ℕ) → j ≢ n → one (nat_lt j (suc n)) ≡ one (nat_lt j n)
       same_test j n ne = elim (cases_lt j n) [
         | inl lt ↦ (let a = lt_yes j n lt in let b = lt_yes j (suc n) (omega arith) in rw (a, b))

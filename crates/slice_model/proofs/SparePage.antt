@@ -15,7 +15,7 @@ use Rattle.page_model.specs.Counts.{ceil_div}
 use Rattle.page_model.specs.Held.{Held, Objects, Placed, objects}
 use Rattle.page_model.specs.Paging.{IsPaging, Paging, class_for, classes, slots_of}
 use Rattle.page_model.proofs.CallerLemmas.{ceil_mono, live_added, slots_some}
-use Rattle.slice_model.specs.State.{Plan, IsPlan, JobSlot, with_slot, stand_in}
+use Rattle.slice_model.specs.State.{Plan, IsPlan, JobSlot, with_slot, placeholder}
 
 -- m more are one more of m
 pub ceil_more : (x m : ℕ) → 0 < m → ceil_div (x + m) m ≡ ceil_div x m + 1
@@ -31,7 +31,7 @@ ceil_one_more x m pos =
     let le : ceil_div (x + 1) m ≤ ceil_div (x + m) m = ceil_mono (x + 1) (x + m) m (omega arith) in
     omega arith
 
--- a sum of which one term is greater by one at most
+-- a sum in which one term grows by at most one
 pub sum_one_more : (f g : ℕ → ℕ) (c a n : ℕ) → ((d : ℕ) → a ≤ d → d < a + n → g d ≤ f d + one (nat_eq c d))
     → sum_by g (range_with_len a n) ≤ sum_by f (range_with_len a n) + 1
 sum_one_more f g c a zero le = omega arith
@@ -75,11 +75,11 @@ pub needed_with_slot : (plan : Plan) → IsPlan plan → (m : Held) → get m pl
     → pages_needed_with plan.paging (objects (with_slot plan m o)) n ≤ pages_needed_with plan.paging (objects m) n + 1
 needed_with_slot plan ok m none None n = omega arith
 needed_with_slot plan ok m none (Some k) n =
-    let e = map_values-insert (λ (x : Placed). x.bytes) m plan.proxies (stand_in plan.paging k) in
+    let e = map_values-insert (λ (x : Placed). x.bytes) m plan.proxies (placeholder plan.paging k) in
     let none' : get (objects m) plan.proxies ≡ None = get-map_values (λ (x : Placed). x.bytes) m plan.proxies ∙ gone (get m plan.proxies) none in
-    rw e (needed_one_more plan.paging ok.paging (objects m) (insert (objects m) plan.proxies (stand_in plan.paging k).bytes) n
-    (class_for plan.paging (length (stand_in plan.paging k).bytes))
-    (λ c. live_added plan.paging (objects m) plan.proxies (stand_in plan.paging k).bytes c none'))
+    rw e (needed_one_more plan.paging ok.paging (objects m) (insert (objects m) plan.proxies (placeholder plan.paging k).bytes) n
+    (class_for plan.paging (length (placeholder plan.paging k).bytes))
+    (λ c. live_added plan.paging (objects m) plan.proxies (placeholder plan.paging k).bytes c none'))
   where
     gone : (o : Option Placed) → o ≡ None → option_map (λ (x : Placed). x.bytes) o ≡ None
     gone None e = refl

@@ -8,7 +8,7 @@ use Rattle.slice_model.specs.State.{Plan, IsPlan, Sliced, IsKept, Idle}
 use Rattle.slice_model.specs.Steps.{AreSlices, GivesObject, IsRefusedBy, WantsSlot}
 use Rattle.slice_model.specs.declared.answers.SliceRefusal.{SliceRefusal}
 use Rattle.slice_model.specs.declared.answers.SliceRefusal.TheVariants as refusal
-use Rattle.slice_model.proofs.Keeping.{kept_slice}
+use Rattle.slice_model.proofs.KeptSteps.{kept_slice}
 use Rattle.slice_model.proofs.OneMap.{objects_sliced}
 use Rattle.slice_model.proofs.RoomBeside.{answered, idle_is_over}
 

@@ -22,7 +22,7 @@ pub record Part : Type 0 where
   pub number : ℕ
   pub from : ℕ
 
--- A call with its result: a malloc of so many bytes, a free, a slice, a write and a read. Of a free and a write None means that it was done.
+-- A call with its result: a malloc with its number of bytes, a free, a slice, a write and a read. For a free and a write None means success.
 pub data Event : Type 0 where
   Malloc : ℕ → Result Handle SliceRefusal → Event
   Free : ℕ → Option SliceFault → Event
@@ -30,7 +30,7 @@ pub data Event : Type 0 where
   Write : Part → List ℕ → Option AccessFault → Event
   Read : Part → ℕ → Result (List ℕ) AccessFault → Event
 
--- a call of a task, with its answer
+-- a call of a task, with its result
 pub record Turn : Type 0 where
   pub task : ℕ
   pub event : Event

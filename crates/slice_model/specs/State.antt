@@ -50,13 +50,13 @@ abbrev pub left_of : Plan → Sliced → ℕ
 left_of plan s = left_of_slot plan.paging (job_slot s.job)
 
 -- the placeholder of the job in its slot: zeros that fill a slot of its class
-abbrev pub stand_in : Paging → JobSlot → Placed
-stand_in p k = record { place = k.address; bytes = replicate (8 * (slot_words p k.class - 1)) 0 }
+abbrev pub placeholder : Paging → JobSlot → Placed
+placeholder p k = record { place = k.address; bytes = replicate (8 * (slot_words p k.class - 1)) 0 }
 
 -- the objects, and at the job's slot its placeholder, under the first number that no object can have
 abbrev pub with_slot : Plan → Held → Option JobSlot → Held
 with_slot plan m None = m
-with_slot plan m (Some k) = insert m plan.proxies (stand_in plan.paging k)
+with_slot plan m (Some k) = insert m plan.proxies (placeholder plan.paging k)
 
 abbrev pub occupied : Plan → Sliced → Held
 occupied plan s = with_slot plan s.held (job_slot s.job)

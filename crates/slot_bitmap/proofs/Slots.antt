@@ -17,7 +17,7 @@ use Rattle.std.proofs.lemmas.Option.{slice_get_within, slice_get-get_or}
 use Rattle.cf_lemmas.proofs.Positions.{position_is, position_none}
 use Rattle.slot_bitmap.proofs.CallerLemmas.{counted_set, count-replicate}
 use Rattle.cf_lemmas.specs.Bits.{WritesBit}
-use Rattle.slot_bitmap.specs.Layout.{bits_in, is_used, slots_told, has_free, has_used, IsValid}
+use Rattle.slot_bitmap.specs.Layout.{bits_in, is_used, slots_in_words, has_free, has_used, IsValid}
 
 -- the first free slot is free
 pub found_free : (xs : List Bool) (i : ℕ) → Some i ≡ position (λ u. not u) xs → slice_get xs i ≡ Some false
@@ -32,26 +32,26 @@ found_used xs i e =
 
 -- ---- the slots, one by one
 
-pub length-slots_of : (words : List ℕ) (n : ℕ) → length (slots_told words n) ≡ n
-unfolding slots_told
+pub length-slots_of : (words : List ℕ) (n : ℕ) → length (slots_in_words words n) ≡ n
+unfolding slots_in_words
 length-slots_of words n = length-map-range_with_len (is_used words) 0 n
 
-slot-at : (words : List ℕ) (n i : ℕ) (d : Bool) → i < n → get_or (slots_told words n) i d ≡ is_used words i
-unfolding slots_told
+slot-at : (words : List ℕ) (n i : ℕ) (d : Bool) → i < n → get_or (slots_in_words words n) i d ≡ is_used words i
+unfolding slots_in_words
 slot-at words n i d lt = get_or-map-range_with_len (is_used words) 0 n i i d lt (omega arith)
 
 -- a slot that the list has is one of the n
-pub slot_within : (words : List ℕ) (n i : ℕ) (b : Bool) → slice_get (slots_told words n) i ≡ Some b → i < n
-slot_within words n i b h = omega (arith, slice_get_within (slots_told words n) i b h, length-slots_of words n)
+pub slot_within : (words : List ℕ) (n i : ℕ) (b : Bool) → slice_get (slots_in_words words n) i ≡ Some b → i < n
+slot_within words n i b h = omega (arith, slice_get_within (slots_in_words words n) i b h, length-slots_of words n)
 
 used_from_bit : (words : List ℕ) (i : ℕ) (b : Bool) → bit_at (get_or words (i / 64) 0) (i % 64) ≡ cond b 1 0 → is_used words i ≡ b
 used_from_bit words i true h = eq-eqb _ 1 h
 used_from_bit words i false h = ne_eqb _ 1 (λ e. absurd (omega arith))
 
 pub slot_told : (words : List ℕ) (n i : ℕ) (b : Bool) → i < n → bit_at (get_or words (i / 64) 0) (i % 64) ≡ cond b 1 0
-    → slice_get (slots_told words n) i ≡ Some b
+    → slice_get (slots_in_words words n) i ≡ Some b
 slot_told words n i b lt is =
-    slice_get-get_or (slots_told words n) i b (omega (arith, length-slots_of words n)) ∙ ap Some (slot-at words n i b lt ∙ used_from_bit words i b is)
+    slice_get-get_or (slots_in_words words n) i b (omega (arith, length-slots_of words n)) ∙ ap Some (slot-at words n i b lt ∙ used_from_bit words i b is)
 
 -- ---- no slot is used
 
@@ -61,7 +61,7 @@ cleared = replicate 64 0
 cleared-at : (j : ℕ) → get_or cleared j 0 ≡ 0
 cleared-at j = elim (cases_lt j 64) [ inl lt ↦ get_or-replicate 64 j 0 0 lt | inr ge ↦ get_or_past cleared j 0 ge ]
 
-pub slots_of-cleared : (n : ℕ) → slots_told cleared n ≡ replicate n false
+pub slots_of-cleared : (n : ℕ) → slots_in_words cleared n ≡ replicate n false
 slots_of-cleared n = same_lists _ _ (length-slots_of cleared n ∙ sym (length-replicate n false)) (λ k d h.
     let lt : k < n = omega (arith, length-slots_of cleared n) in
     slot-at cleared n k d lt ∙ used_from_bit cleared k false (rw (cleared-at (k / 64), bit_at-zero) refl) ∙ sym (get_or-replicate n k false d lt))
@@ -91,7 +91,7 @@ tidy_new n full few is = record {
 }
 
 -- if no slot is used, no word has a bit set
-module _ (words : List ℕ) (f u n c : ℕ) (count : length words ≡ 64) (tidy : IsValid words f u n c) (none : count_by (λ u. u) (slots_told words n) ≡ 0) where
+module _ (words : List ℕ) (f u n c : ℕ) (count : length words ≡ 64) (tidy : IsValid words f u n c) (none : count_by (λ u. u) (slots_in_words words n) ≡ 0) where
   word_clear : (j : ℕ) → j < 64 → get_or words j 0 ≡ 0
   word_clear j short = elim (cases_eq (get_or words j 0) 0) [
     | inl e ↦ e
@@ -105,8 +105,8 @@ module _ (words : List ℕ) (f u n c : ℕ) (count : length words ≡ 64) (tidy 
         [ inl lt ↦ lt | inr ge ↦ absurd (omega (arith, bit_at_above (get_or words j 0) (bits_in n j) b clean ge, low.1)) ] in
         let row : (64 * j + b) / 64 ≡ j = omega arith in
         let column : (64 * j + b) % 64 ≡ b = omega arith in
-        let on : slice_get (slots_told words n) (64 * j + b) ≡ Some true = slot_told words n (64 * j + b) true (omega arith) (rw (row, column) low.1) in
-        absurd (omega (arith, counted_set (slots_told words n) (64 * j + b) true false on)))
+        let on : slice_get (slots_in_words words n) (64 * j + b) ≡ Some true = slot_told words n (64 * j + b) true (omega arith) (rw (row, column) low.1) in
+        absurd (omega (arith, counted_set (slots_in_words words n) (64 * j + b) true false on)))
   ]
 
   pub all_clear : words ≡ cleared
@@ -129,19 +129,19 @@ module _ (words : List ℕ) (n i w : ℕ) (b : Bool) (count : length words ≡ 6
     | inr off ↦ rw (get_or-set_other words (i / 64) (k / 64) w 0 off) refl
   ]
 
-  pub written : slots_told (set words (i / 64) w) n ≡ set (slots_told words n) i b
-  written = same_lists _ _ (length-slots_of (set words (i / 64) w) n ∙ sym (length-slots_of words n) ∙ sym (length-set (slots_told words n) i b)) (λ k d h.
+  pub written : slots_in_words (set words (i / 64) w) n ≡ set (slots_in_words words n) i b
+  written = same_lists _ _ (length-slots_of (set words (i / 64) w) n ∙ sym (length-slots_of words n) ∙ sym (length-set (slots_in_words words n) i b)) (λ k d h.
       let short : k < n = omega (arith, length-slots_of (set words (i / 64) w) n) in
       slot-at (set words (i / 64) w) n k d short ∙ elim (cases_eq k i) [
-        | inl e ↦ rw (e, get_or-set_same (slots_told words n) i b d (omega (arith, length-slots_of words n))) written_here
-        | inr ne ↦ rw (get_or-set_other (slots_told words n) i k b d ne) (written_elsewhere k ne ∙ sym (slot-at words n k d short))
+        | inl e ↦ rw (e, get_or-set_same (slots_in_words words n) i b d (omega (arith, length-slots_of words n))) written_here
+        | inr ne ↦ rw (get_or-set_other (slots_in_words words n) i k b d ne) (written_elsewhere k ne ∙ sym (slot-at words n k d short))
       ])
 
-pub counted_within : (words : List ℕ) (n : ℕ) → count_by (λ u. u) (slots_told words n) ≤ n
-counted_within words n = omega (arith, count_by-le-length (λ u. u) (slots_told words n), length-slots_of words n)
+pub counted_within : (words : List ℕ) (n : ℕ) → count_by (λ u. u) (slots_in_words words n) ≤ n
+counted_within words n = omega (arith, count_by-le-length (λ u. u) (slots_in_words words n), length-slots_of words n)
 
-pub counted_some : (words : List ℕ) (n i : ℕ) → slice_get (slots_told words n) i ≡ Some true → 1 ≤ count_by (λ u. u) (slots_told words n)
-counted_some words n i h = omega (arith, counted_set (slots_told words n) i true false h)
+pub counted_some : (words : List ℕ) (n i : ℕ) → slice_get (slots_in_words words n) i ≡ Some true → 1 ≤ count_by (λ u. u) (slots_in_words words n)
+counted_some words n i h = omega (arith, counted_set (slots_in_words words n) i true false h)
 
 -- bit j of a summary is written and agrees with word j; the others stay
 summary_kept : (j s s' : ℕ) (on : Bool) (old new : ℕ → Bool) → WritesBit 64 s s' j on → on ≡ new j → ((k : ℕ) → k ≢ j → new k ≡ old k)
@@ -152,7 +152,7 @@ summary_kept j s s' on old new wrote here there was k lt = elim (cases_eq k j) [
 ]
 
 pub tidy_written : (words : List ℕ) (n i w : ℕ) (old b : Bool) (f f' u u' c c' : ℕ) (bf bu : Bool) → length words ≡ 64 → IsValid words f u n c
-    → slice_get (slots_told words n) i ≡ Some old → WritesBit 64 (get_or words (i / 64) 0) w (i % 64) b → w < 2 ^ bits_in n (i / 64)
+    → slice_get (slots_in_words words n) i ≡ Some old → WritesBit 64 (get_or words (i / 64) 0) w (i % 64) b → w < 2 ^ bits_in n (i / 64)
     → WritesBit 64 f f' (i / 64) bf → bf ≡ not (w + 1 == 2 ^ bits_in n (i / 64)) → WritesBit 64 u u' (i / 64) bu → bu ≡ not (w == 0)
     → c' + cond old 1 0 ≡ c + cond b 1 0 → IsValid (set words (i / 64) w) f' u' n c'
 tidy_written words n i w old b f f' u u' c c' bf bu count tidy was wrote below wrote_f is_f wrote_u is_u counted =
@@ -168,7 +168,7 @@ tidy_written words n i w old b f f' u u' c c' bf bu count tidy was wrote below w
           (λ k ne. rw (there k ne) refl) tidy.some_free;
       some_used = summary_kept (i / 64) u u' bu (has_used words) (has_used (set words (i / 64) w)) wrote_u (rw here is_u)
           (λ k ne. rw (there k ne) refl) tidy.some_used;
-      counted = rw (written words n i w b count few lt wrote) (omega (arith, counted_set (slots_told words n) i old b was, tidy.counted));
+      counted = rw (written words n i w b count few lt wrote) (omega (arith, counted_set (slots_in_words words n) i old b was, tidy.counted));
     }
 
 -- ---- one slot becomes used, or free
@@ -190,20 +190,20 @@ full_word w full p is = elim (cases_eq w full) [
 
 module _ (words : List ℕ) (n i w f f' u u' c : ℕ) (count : length words ≡ 64) (tidy : IsValid words f u n c)
     (within : (m : ℕ) → i % 64 < m → get_or words (i / 64) 0 < 2 ^ m → w < 2 ^ m) where
-  place : (b : Bool) → slice_get (slots_told words n) i ≡ Some b → (i / 64 < 64) × (i % 64 < bits_in n (i / 64))
+  place : (b : Bool) → slice_get (slots_in_words words n) i ≡ Some b → (i / 64 < 64) × (i % 64 < bits_in n (i / 64))
   place b was = let few : n ≤ 4096 = tidy.few in let lt : i < n = slot_within words n i b was in (omega arith, omega arith)
 
-  below : (b : Bool) → slice_get (slots_told words n) i ≡ Some b → w < 2 ^ bits_in n (i / 64)
+  below : (b : Bool) → slice_get (slots_in_words words n) i ≡ Some b → w < 2 ^ bits_in n (i / 64)
   below b was = within _ (place b was).1 (tidy.clean (i / 64) (place b was).0)
 
-  pub tidy_set : (full : ℕ) → slice_get (slots_told words n) i ≡ Some false → WritesBit 64 (get_or words (i / 64) 0) w (i % 64) true
+  pub tidy_set : (full : ℕ) → slice_get (slots_in_words words n) i ≡ Some false → WritesBit 64 (get_or words (i / 64) 0) w (i % 64) true
       → full + 1 ≡ 2 ^ bits_in n (i / 64)
       → WritesBit 64 f f' (i / 64) (not (w == full)) → WritesBit 64 u u' (i / 64) true → IsValid (set words (i / 64) w) f' u' n (c + 1)
   tidy_set full was wrote is wrote_f wrote_u =
       tidy_written words n i w false true f f' u u' c (c + 1) _ true count tidy was wrote (below false was) wrote_f (full_word w full _ is) wrote_u
       (bit_makes_used w (i % 64) wrote.at) (omega arith)
 
-  pub tidy_unset : slice_get (slots_told words n) i ≡ Some true → WritesBit 64 (get_or words (i / 64) 0) w (i % 64) false
+  pub tidy_unset : slice_get (slots_in_words words n) i ≡ Some true → WritesBit 64 (get_or words (i / 64) 0) w (i % 64) false
       → WritesBit 64 f f' (i / 64) true → WritesBit 64 u u' (i / 64) (not (w == 0)) → IsValid (set words (i / 64) w) f' u' n (c - 1)
   tidy_unset was wrote wrote_f wrote_u =
       tidy_written words n i w true false f f' u u' c (c - 1) true _ count tidy was wrote (below true was)
@@ -212,7 +212,7 @@ module _ (words : List ℕ) (n i w f f' u u' c : ℕ) (count : length words ≡ 
 -- bit b of word j is set, and its summaries follow
 pub tidy_take : (words : List ℕ) (n j b w f f' u u' c full : ℕ) → IsValid words f u n c → j < 64 → b < 64
     → ((m : ℕ) → b < m → get_or words j 0 < 2 ^ m → w < 2 ^ m)
-    → slice_get (slots_told words n) (64 * j + b) ≡ Some false → WritesBit 64 (get_or words j 0) w b true → full + 1 ≡ 2 ^ bits_in n j
+    → slice_get (slots_in_words words n) (64 * j + b) ≡ Some false → WritesBit 64 (get_or words j 0) w b true → full + 1 ≡ 2 ^ bits_in n j
     → WritesBit 64 f f' j (not (w == full)) → WritesBit 64 u u' j true → IsValid (set words j w) f' u' n (c + 1)
 tidy_take words n j b w f f' u u' c full tidy short low within was wrote is wrote_f wrote_u =
     let row : (64 * j + b) / 64 ≡ j = omega arith in
@@ -222,7 +222,7 @@ tidy_take words n j b w f f' u u' c full tidy short low within was wrote is wrot
     rw row at all
 
 pub written_at : (words : List ℕ) (n j b w : ℕ) → length words ≡ 64 → n ≤ 4096 → 64 * j + b < n → b < 64 → WritesBit 64 (get_or words j 0) w b true
-    → slots_told (set words j w) n ≡ set (slots_told words n) (64 * j + b) true
+    → slots_in_words (set words j w) n ≡ set (slots_in_words words n) (64 * j + b) true
 written_at words n j b w count few lt low wrote =
     let row : (64 * j + b) / 64 ≡ j = omega arith in
     let column : (64 * j + b) % 64 ≡ b = omega arith in
@@ -252,13 +252,13 @@ module _ (words : List ℕ) (f u n c : ℕ) (tidy : IsValid words f u n c) where
       let e : get_or words (k / 64) 0 ≡ 2 ^ bits_in n (k / 64) - 1 = omega arith in
       rw e (bit_at_ones (bits_in n (k / 64)) (k % 64) (omega arith))
 
-  pub no_used : u ≡ 0 → position (λ u. u) (slots_told words n) ≡ None
-  no_used off = position_none (λ u. u) (slots_told words n) true (λ k h.
+  pub no_used : u ≡ 0 → position (λ u. u) (slots_in_words words n) ≡ None
+  no_used off = position_none (λ u. u) (slots_in_words words n) true (λ k h.
       let lt : k < n = omega (arith, length-slots_of words n) in
       slot-at words n k true lt ∙ used_from_bit words k false (none_used k lt (rw off (bit_at-zero (k / 64)))))
 
-  pub no_free : f ≡ 0 → position (λ u. not u) (slots_told words n) ≡ None
-  no_free off = position_none (λ u. not u) (slots_told words n) true (λ k h.
+  pub no_free : f ≡ 0 → position (λ u. not u) (slots_in_words words n) ≡ None
+  no_free off = position_none (λ u. not u) (slots_in_words words n) true (λ k h.
       let lt : k < n = omega (arith, length-slots_of words n) in
       ap not (slot-at words n k true lt ∙ used_from_bit words k true (none_free k lt (rw off (bit_at-zero (k / 64))))))
 
@@ -270,14 +270,14 @@ module _ (words : List ℕ) (f u n c : ℕ) (tidy : IsValid words f u n c) where
   -- the word that a summary names, and the bit within it
   module _ (j b : ℕ) (short : j < 64) (low : b < 64) where
     pub used_at : bit_at u j ≡ 1 → ((k : ℕ) → k < j → bit_at u k ≡ 0) → bit_at (get_or words j 0) b ≡ 1 → ((k : ℕ) → k < b → bit_at (get_or words j 0) k ≡ 0)
-        → Some (64 * j + b) ≡ position (λ u. u) (slots_told words n)
+        → Some (64 * j + b) ≡ position (λ u. u) (slots_in_words words n)
     used_at on before here below =
         let inside : b < bits_in n j = elim (cases_lt b (bits_in n j))
         [ inl lt ↦ lt | inr ge ↦ absurd (omega (arith, bit_at_above (get_or words j 0) (bits_in n j) b (tidy.clean j short) ge)) ] in
         let lt : 64 * j + b < n = omega arith in
         let row : (64 * j + b) / 64 ≡ j = omega arith in
         let column : (64 * j + b) % 64 ≡ b = omega arith in
-        sym (position_is (λ u. u) (slots_told words n) (64 * j + b) true (omega (arith, length-slots_of words n))
+        sym (position_is (λ u. u) (slots_in_words words n) (64 * j + b) true (omega (arith, length-slots_of words n))
         (λ k h. slot-at words n k true (omega arith) ∙ used_from_bit words k false (elim (cases_lt (k / 64) j) [
           | inl less ↦ none_used k (omega arith) (before (k / 64) less)
           | inr ge ↦ let same : k / 64 ≡ j = omega arith in rw same (below (k % 64) (omega arith))
@@ -285,7 +285,7 @@ module _ (words : List ℕ) (f u n c : ℕ) (tidy : IsValid words f u n c) where
         (slot-at words n (64 * j + b) true lt ∙ used_from_bit words (64 * j + b) true (rw (row, column) here)))
 
     pub free_at : bit_at f j ≡ 1 → ((k : ℕ) → k < j → bit_at f k ≡ 0) → bit_at (get_or words j 0) b ≡ 0 → ((k : ℕ) → k < b → bit_at (get_or words j 0) k ≡ 1)
-        → Some (64 * j + b) ≡ position (λ u. not u) (slots_told words n)
+        → Some (64 * j + b) ≡ position (λ u. not u) (slots_in_words words n)
     free_at on before here below =
         let ne = on_is _ (get_or words j 0 + 1) (2 ^ bits_in n j) (tidy.some_free j short) on in
         let full : bits_in n j ≤ b → get_or words j 0 ≡ 2 ^ bits_in n j - 1 =
@@ -295,7 +295,7 @@ module _ (words : List ℕ) (f u n c : ℕ) (tidy : IsValid words f u n c) where
         let lt : 64 * j + b < n = omega arith in
         let row : (64 * j + b) / 64 ≡ j = omega arith in
         let column : (64 * j + b) % 64 ≡ b = omega arith in
-        sym (position_is (λ u. not u) (slots_told words n) (64 * j + b) true (omega (arith, length-slots_of words n))
+        sym (position_is (λ u. not u) (slots_in_words words n) (64 * j + b) true (omega (arith, length-slots_of words n))
         (λ k h. ap not (slot-at words n k true (omega arith) ∙ used_from_bit words k true (elim (cases_lt (k / 64) j) [
           | inl less ↦ none_free k (omega arith) (before (k / 64) less)
           | inr ge ↦ let same : k / 64 ≡ j = omega arith in rw same (below (k % 64) (omega arith))

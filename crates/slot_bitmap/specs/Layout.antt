@@ -8,8 +8,8 @@ abbrev pub is_used : List ℕ → ℕ → Bool
 is_used words i = bit_at (slice_index words (i / 64)) (i % 64) == 1
 
 -- n slots, true for used
-unfoldable pub slots_told : List ℕ → ℕ → List Bool
-slots_told words n = map (is_used words) (range_with_len 0 n)
+unfoldable pub slots_in_words : List ℕ → ℕ → List Bool
+slots_in_words words n = map (is_used words) (range_with_len 0 n)
 
 -- how many of n slots are in word j
 abbrev pub bits_in : ℕ → ℕ → ℕ
@@ -30,4 +30,4 @@ pub record IsValid (words : List ℕ) (with_free with_used n used : ℕ) : Type 
   pub clean : (j : ℕ) → j < 64 → slice_index words j < 2 ^ bits_in n j
   pub some_free : (j : ℕ) → j < 64 → bit_at with_free j ≡ cond (has_free words n j) 1 0
   pub some_used : (j : ℕ) → j < 64 → bit_at with_used j ≡ cond (has_used words j) 1 0
-  pub counted : used ≡ count_by (λ u. u) (slots_told words n)
+  pub counted : used ≡ count_by (λ u. u) (slots_in_words words n)

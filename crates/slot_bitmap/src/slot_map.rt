@@ -23,11 +23,11 @@ pub struct SlotMap {
 
 impl Model for SlotMap {
     ghost use Rattle.std.specs.Prelude.{List, Bool};
-    ghost use Rattle.slot_bitmap.specs.Layout.{slots_told, IsValid};
+    ghost use Rattle.slot_bitmap.specs.Layout.{slots_in_words, IsValid};
 
     ghost Value = { List Bool };
 
-    ghost view = { λ m. slots_told m.words m.slots };
+    ghost view = { λ m. slots_in_words m.words m.slots };
 
     ghost invariant = { λ m. IsValid m.words m.with_free m.with_used m.slots m.used };
 }

@@ -1,3 +1,4 @@
 pub mod Overwriting
+pub mod WordRanges
 pub mod RunLemmas
 pub mod CallerLemmas

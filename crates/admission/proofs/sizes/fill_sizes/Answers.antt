@@ -1,5 +1,5 @@
 use Rattle.std.proofs.Common.{arith, ◌∙◌}
-use Rattle.admission.proofs.Filling.{filled_at_first, filled_last, filled_next, filled_room}
+use Rattle.admission.proofs.SizeList.{filled_at_first, filled_last, filled_next, filled_room}
 use Rattle.admission.proofs.sizes.fill_sizes.Goals as goal
 
 pub sizes-init : goal.sizes-init

@@ -1,4 +1,4 @@
-use Rattle.std.proofs.Common.{◌+◌, ◌<◌, ◌≤◌, get_or, arith}
+use Rattle.std.proofs.Common.{arith}
 use Rattle.size_classes.proofs.LeastSize.{IsLeast, next_size, told_more}
 use Rattle.size_classes.proofs.needs.classes_by_need.Goals as goal
 use Rattle.size_classes.proofs.needs.classes_by_need.Goals.{then-sizes-class, else-sizes-class}

@@ -1,4 +1,4 @@
-use Rattle.slice_model.proofs.Keeping.{kept_free}
+use Rattle.slice_model.proofs.KeptSteps.{kept_free}
 use Rattle.slice_model.proofs.kept.a_free_keeps_the_rules.Goals as goal
 
 pub returns : goal.returns

@@ -1,4 +1,4 @@
-use Rattle.slice_model.proofs.Keeping.{kept_malloc}
+use Rattle.slice_model.proofs.KeptSteps.{kept_malloc}
 use Rattle.slice_model.proofs.kept.a_malloc_keeps_the_rules.Goals as goal
 
 pub returns : goal.returns

@@ -1,4 +1,4 @@
-use Rattle.slice_model.proofs.Keeping.{kept_slice}
+use Rattle.slice_model.proofs.KeptSteps.{kept_slice}
 use Rattle.slice_model.proofs.kept.a_slice_keeps_the_rules.Goals as goal
 
 pub returns : goal.returns

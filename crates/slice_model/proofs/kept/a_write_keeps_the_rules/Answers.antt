@@ -1,4 +1,4 @@
-use Rattle.slice_model.proofs.Keeping.{kept_write}
+use Rattle.slice_model.proofs.KeptSteps.{kept_write}
 use Rattle.slice_model.proofs.kept.a_write_keeps_the_rules.Goals as goal
 
 pub returns : goal.returns

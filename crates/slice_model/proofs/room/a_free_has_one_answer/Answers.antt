@@ -1,4 +1,4 @@
-use Rattle.slice_model.proofs.Answering.{free_answered, freed_or_faulty, one_fault}
+use Rattle.slice_model.proofs.Results.{free_answered, freed_or_faulty, one_fault}
 use Rattle.slice_model.proofs.room.a_free_has_one_answer.Goals as goal
 
 pub returns-clause-some : goal.returns-clause-some

@@ -1,4 +1,4 @@
-use Rattle.slice_model.proofs.Answering.{slice_there}
+use Rattle.slice_model.proofs.Results.{slice_there}
 use Rattle.slice_model.proofs.room.a_slice_can_always_be_done.Goals as goal
 
 pub returns : goal.returns

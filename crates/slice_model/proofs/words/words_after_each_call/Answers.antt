@@ -2,7 +2,7 @@ use Rattle.std.proofs.Common.{subst}
 use Rattle.slice_model.specs.State.{IsKept, Idle}
 use Rattle.slice_model.specs.Words.{HasWords}
 use Rattle.slice_model.proofs.CallWords.{words_begun, words_given, words_sliced, words_written}
-use Rattle.slice_model.proofs.Keeping.{kept_begun}
+use Rattle.slice_model.proofs.KeptSteps.{kept_begun}
 use Rattle.slice_model.proofs.words.words_after_each_call.Goals as goal
 
 pub returns-clause-malloc : goal.returns-clause-malloc

@@ -1,6 +1,6 @@
 use Rattle.std.proofs.Common.{◌+◌, sym, subst}
 use Rattle.page_model.specs.Image.{MovesWords}
-use Rattle.slice_words.proofs.Moves.{moved_moves}
+use Rattle.word_bytes.proofs.CallerLemmas.{moved_moves}
 use Rattle.slice_words.proofs.jobs.carry_next.Goals as goal
 
 pub returns-clause-words : goal.returns-clause-words

@@ -1,4 +1,4 @@
-use Rattle.std.proofs.Common.{◌≡◌, ℕ, ◌+◌, arith, ◌∙◌, ap, sym, length, take, drop}
+use Rattle.std.proofs.Common.{◌≡◌, ℕ, arith, ◌∙◌, ap, take, drop}
 use Rattle.region.proofs.CallerLemmas.{length-with_words}
 use Rattle.word_bytes.specs.Cells.{byte_in, overwritten}
 use Rattle.word_bytes.proofs.RunLemmas.{loan_overwrites}

@@ -1,5 +1,3 @@
-use Rattle.std.proofs.Common.{◌-◌, ◌%◌, ◌∙◌, ap}
-use Rattle.std.specs.Int.Bits.{bit_and}
 use Rattle.std.proofs.lemmas.Nat.{and_mask}
 use Rattle.size_classes.proofs.table.Classes.offset_of.Goals as goal
 

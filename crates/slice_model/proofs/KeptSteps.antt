@@ -1,23 +1,21 @@
 -- Each step keeps what every state keeps.
 use Rattle.std.proofs.Common.{◌≡◌, ◌≢◌, ℕ, ◌+◌, ◌-◌, ◌*◌, ◌<◌, ◌≤◌, List, Option, Some, None, length, replicate, arith, sym, ◌∙◌, ap, refl, subst, inl, inr}
-use Rattle.std.specs.Prelude.{nat_lt}
 use Rattle.std.proofs.lemmas.Bool.{cases_eq, cases_lt}
 use Rattle.std.proofs.lemmas.List.{length-replicate}
 use Rattle.std.specs.FinMap.{get, insert, remove}
-use Rattle.cf_lemmas.proofs.Maps.{equal_maps, get_inserted, get_insert_other, get_removed, get_remove_other, some_inserted, some_removed}
+use Rattle.cf_lemmas.proofs.Maps.{equal_maps, get_inserted, get_insert_other, get_removed, get_remove_other, some_inserted, some_removed, remove_fresh}
 use Rattle.cf_lemmas.proofs.Ranges.{one, count_changed}
 use Rattle.cf_lemmas.proofs.Sums.{insert_again}
-use Rattle.cf_lemmas.proofs.Tests.{and_false, lt_no}
 use Rattle.cf_lemmas.proofs.Values.{still}
 use Rattle.page_model.specs.Arrangement.{IsSound, class_at, not_full_pages, objects_on}
 use Rattle.page_model.specs.Held.{Held, Placed}
 use Rattle.page_model.specs.Paging.{Paging, bound_of, class_for, classes, page_of, slot_words, slots_of}
 use Rattle.page_model.specs.Steps.{Moves, MustMove, Request, zeros_at}
 use Rattle.page_model.proofs.CallerLemmas.{mover_is_other, objects_on-exchanged, objects_on-inserted, objects_on-elsewhere, part_full, part_yes}
-use Rattle.page_model.proofs.CallerLemmas.{sound_exchanged, sound_placed, sound_without, on_yes, one_le}
-use Rattle.slice_model.specs.State.{Plan, IsPlan, JobSlot, Job, Sliced, IsJobOf, IsKept, advanced, job_slot, occupied, stand_in, with_slot, Idle, Clear, Move}
+use Rattle.page_model.proofs.CallerLemmas.{sound_exchanged, sound_placed, sound_without, on_yes, one_le, part_empty, part_over}
+use Rattle.slice_model.specs.State.{Plan, IsPlan, JobSlot, Job, Sliced, IsJobOf, IsKept, advanced, job_slot, occupied, placeholder, with_slot, Idle, Clear, Move}
 use Rattle.slice_model.specs.Steps.{Ends, GivesObject, IsSlice, RemovesObject, SliceOf, Vacates, done_after, fresh_slot}
-use Rattle.slice_model.proofs.Occupied.{get_beside, inserted_beside, job_class, no_stand_in, place_is_free, stand_in_class}
+use Rattle.slice_model.proofs.Occupied.{get_beside, inserted_beside, job_class, no_placeholder, place_is_free, placeholder_class}
 
 -- a sound arrangement with as many objects of each class on each page
 pub record IsAlike (p : Paging) (m n : Held) : Type 0 where
@@ -155,34 +153,21 @@ job_goes_on p m Idle d lt is = tt
 job_goes_on p m (Clear k) d lt is = record { class = is.class; under_way = lt k refl }
 job_goes_on p m (Move h k) d lt is = (record { class = is.0.class; under_way = lt k refl }, is.1)
 
-pub part_over : (n s : ℕ) → s ≤ n → one (part_full n s) ≡ 0
-part_over n s le = (let b = lt_no n s le in rw b (ap one (and_false (nat_lt 0 n))))
-
 -- what kind a page is, by whether it counts
 part_told : (n s : ℕ) → one (part_full n s) ≡ 1 → (0 < n) × (n < s)
 part_told n s is = elim (cases_lt 0 n) [
-  | inr none ↦ absurd (let z = part_none n s (omega arith) in omega arith)
+  | inr none ↦ absurd (let z = part_empty n s (omega arith) in omega arith)
   | inl some ↦ elim (cases_lt n s) [
     | inl less ↦ (some, less)
     | inr over ↦ absurd (let z = part_over n s over in omega arith)
   ]
 ]
-  where
-    part_none : (n s : ℕ) → n ≡ 0 → one (part_full n s) ≡ 0
-    part_none n s e = rw e
 
 full_told : (n s : ℕ) → 0 < n → one (part_full n s) ≡ 0 → s ≤ n
 full_told n s some is = elim (cases_lt n s) [
   | inl less ↦ absurd (let y = part_yes n s some less in omega arith)
   | inr over ↦ over
 ]
-
--- what was added is removed again
-taken_again : (m : Held) (h : ℕ) (x : Placed) → get m h ≡ None → remove (insert m h x) h ≡ m
-taken_again m h x none = equal_maps _ _ (λ q. elim (cases_eq q h) [
-  | inl is ↦ rw is (get_removed (insert m h x) h ∙ sym none)
-  | inr ne ↦ get_remove_other (insert m h x) h q ne ∙ get_insert_other m h x q ne
-])
 
 module _ (plan : Plan) (ok : IsPlan plan) where
   -- a malloc
@@ -235,10 +220,10 @@ module _ (plan : Plan) (ok : IsPlan plan) where
   pub kept_begun : (m : Held) → IsKept plan (record { held = m; job = Idle }) → (h : ℕ) (x : Placed) → get m h ≡ Some x → (moved : Option ℕ)
       → Moves plan.paging m x moved → (new : Sliced) → Vacates (remove m h) x.place (class_at plan.paging x) moved new → IsKept plan new
   kept_begun m kept h x there None never new is =
-      let none = no_stand_in plan m kept.numbers in
+      let none = no_placeholder plan m kept.numbers in
       let c : ℕ = class_at plan.paging x in
       let lt = (kept.sound.slots h x there).class in
-      let class = stand_in_class plan.paging ok.paging (fresh_slot x.place (class_at plan.paging x)) lt in
+      let class = placeholder_class plan.paging ok.paging (fresh_slot x.place (class_at plan.paging x)) lt in
       let size = ok.paging.sized.least (class_at plan.paging x) lt in
       let ne = other_than m plan.proxies h x none there in
       rw is (record {
@@ -248,9 +233,9 @@ module _ (plan : Plan) (ok : IsPlan plan) where
             (get_remove_other m h plan.proxies (λ e. ne (sym e)) ∙ none) class kept.sound;
       })
   kept_begun m kept h x there (Some q) (must, (y, there', may)) new is =
-      let none = no_stand_in plan m kept.numbers in
+      let none = no_placeholder plan m kept.numbers in
       let lt = (kept.sound.slots h x there).class in
-      let class = stand_in_class plan.paging ok.paging (fresh_slot y.place (class_at plan.paging x)) lt in
+      let class = placeholder_class plan.paging ok.paging (fresh_slot y.place (class_at plan.paging x)) lt in
       let size = ok.paging.sized.least (class_at plan.paging x) lt in
       let ne = mover_is_other plan.paging ok.paging m kept.sound h x there q y there' must may in
       let alike = moved_away plan.paging plan.proxies m none h x there q y there' ne
@@ -280,47 +265,47 @@ module _ (plan : Plan) (ok : IsPlan plan) where
 
   -- the class of a job has two partly full pages without its slot if and only if a free of the slot would have to move an object
   module _ (m : Held) (k : JobSlot) (none : get m plan.proxies ≡ None) (class : k.class < classes plan.paging)
-      (s : IsSound plan.paging (insert m plan.proxies (stand_in plan.paging k))) where
+      (s : IsSound plan.paging (insert m plan.proxies (placeholder plan.paging k))) where
     abbrev all : Held
-    all = insert m plan.proxies (stand_in plan.paging k)
+    all = insert m plan.proxies (placeholder plan.paging k)
 
     abbrev page : ℕ
     page = page_of plan.paging k.address
 
-    here : get all plan.proxies ≡ Some (stand_in plan.paging k)
-    here = get_inserted m plan.proxies (stand_in plan.paging k)
+    here : get all plan.proxies ≡ Some (placeholder plan.paging k)
+    here = get_inserted m plan.proxies (placeholder plan.paging k)
 
-    of_class : class_at plan.paging (stand_in plan.paging k) ≡ k.class
-    of_class = stand_in_class plan.paging ok.paging k class
+    of_class : class_at plan.paging (placeholder plan.paging k) ≡ k.class
+    of_class = placeholder_class plan.paging ok.paging k class
 
     -- one more on the page of the slot, and none on another page
     pub one_more : objects_on plan.paging all k.class page ≡ objects_on plan.paging m k.class page + 1
     one_more =
-        let i = objects_on-inserted plan.paging m plan.proxies (stand_in plan.paging k) none k.class page in
-        let yes = on_yes plan.paging k.class page (stand_in plan.paging k) refl of_class in
+        let i = objects_on-inserted plan.paging m plan.proxies (placeholder plan.paging k) none k.class page in
+        let yes = on_yes plan.paging k.class page (placeholder plan.paging k) refl of_class in
         rw yes at i
 
     pub same_elsewhere : (g : ℕ) → g ≢ page → objects_on plan.paging all k.class g ≡ objects_on plan.paging m k.class g
-    same_elsewhere g ne = objects_on-elsewhere plan.paging m plan.proxies (stand_in plan.paging k) none k.class g (inl (λ e. ne (sym e)))
+    same_elsewhere g ne = objects_on-elsewhere plan.paging m plan.proxies (placeholder plan.paging k) none k.class g (inl (λ e. ne (sym e)))
 
     pub same_class : (c : ℕ) → c ≢ k.class → (g : ℕ) → objects_on plan.paging all c g ≡ objects_on plan.paging m c g
-    same_class c ne g = objects_on-elsewhere plan.paging m plan.proxies (stand_in plan.paging k) none c g (inr (λ e. ne (sym e ∙ of_class)))
+    same_class c ne g = objects_on-elsewhere plan.paging m plan.proxies (placeholder plan.paging k) none c g (inr (λ e. ne (sym e ∙ of_class)))
 
     pub pages_differ : not_full_pages plan.paging all k.class + one (part_full (objects_on plan.paging m k.class page) (slots_of plan.paging k.class))
         ≡ not_full_pages plan.paging m k.class + one (part_full (objects_on plan.paging all k.class page) (slots_of plan.paging k.class))
     unfolding not_full_pages
     pages_differ = count_changed (λ g. part_full (objects_on plan.paging all k.class g) (slots_of plan.paging k.class))
         (λ g. part_full (objects_on plan.paging m k.class g) (slots_of plan.paging k.class)) 0 plan.paging.pages page (omega arith)
-        (let within = (s.slots plan.proxies (stand_in plan.paging k) here).page in omega arith)
+        (let within = (s.slots plan.proxies (placeholder plan.paging k) here).page in omega arith)
         (λ g ne. ap (λ n. part_full n (slots_of plan.paging k.class)) (same_elsewhere g ne))
 
-    bound_one : bound_of plan.paging (class_at plan.paging (stand_in plan.paging k)) ≡ 1
+    bound_one : bound_of plan.paging (class_at plan.paging (placeholder plan.paging k)) ≡ 1
     bound_one = rw of_class (ok.ones k.class class)
 
     few : not_full_pages plan.paging all k.class ≤ 1
     few = (let f = s.few_not_full k.class class in let o = ok.ones k.class class in omega arith)
 
-    pub must_is_two : MustMove plan.paging all (stand_in plan.paging k) → not_full_pages plan.paging m k.class ≡ 2
+    pub must_is_two : MustMove plan.paging all (placeholder plan.paging k) → not_full_pages plan.paging m k.class ≡ 2
     must_is_two must =
         let full : objects_on plan.paging all k.class page ≡ slots_of plan.paging k.class = rw of_class at must.full in
         let several : 1 < slots_of plan.paging k.class = rw of_class at must.several in
@@ -349,7 +334,7 @@ module _ (plan : Plan) (ok : IsPlan plan) where
         let c = full_told (objects_on plan.paging all k.class page) (slots_of plan.paging k.class) (omega arith) none' in
         record { some = b.0; filled = (let x = b.1 in omega arith); other = omega arith }
 
-    pub two_is_must : not_full_pages plan.paging m k.class ≡ 2 → MustMove plan.paging all (stand_in plan.paging k)
+    pub two_is_must : not_full_pages plan.paging m k.class ≡ 2 → MustMove plan.paging all (placeholder plan.paging k)
     two_is_must two =
         let l = two_is_last two in
         let some = l.some in
@@ -369,21 +354,21 @@ module _ (plan : Plan) (ok : IsPlan plan) where
     -- without the slot the arrangement is sound if there aren't two
     pub sound_without_slot : not_full_pages plan.paging m k.class ≢ 2 → IsSound plan.paging m
     sound_without_slot ne =
-        let s' = sound_without plan.paging ok.paging all s plan.proxies (stand_in plan.paging k) here None (λ must. ne (must_is_two must)) in
-        subst (IsSound plan.paging) (taken_again m plan.proxies (stand_in plan.paging k) none) s'
+        let s' = sound_without plan.paging ok.paging all s plan.proxies (placeholder plan.paging k) here None (λ must. ne (must_is_two must)) in
+        subst (IsSound plan.paging) (remove_fresh m plan.proxies (placeholder plan.paging k) none) s'
 
   ended : (m : Held) (j : Job) (k : JobSlot) → job_slot j ≡ Some k → IsKept plan (record { held = m; job = j }) → (new : Sliced)
       → Ends plan.paging m k new → IsKept plan new
   ended m j k is kept new (inl (ne, whole)) =
-      let none = no_stand_in plan m kept.numbers in
+      let none = no_placeholder plan m kept.numbers in
       let class = (job_class plan.paging m j kept.job k is).class in
-      let s : IsSound plan.paging (insert m plan.proxies (stand_in plan.paging k)) = subst (λ o. IsSound plan.paging (with_slot plan m o)) is kept.sound in
+      let s : IsSound plan.paging (insert m plan.proxies (placeholder plan.paging k)) = subst (λ o. IsSound plan.paging (with_slot plan m o)) is kept.sound in
       rw whole (record { numbers = kept.numbers; job = tt; sound = sound_without_slot m k none class s ne })
   ended m j k is kept new (inr chains) =
-      let none = no_stand_in plan m kept.numbers in
+      let none = no_placeholder plan m kept.numbers in
       let class = (job_class plan.paging m j kept.job k is).class in
       let size = ok.paging.sized.least k.class class in
-      let s : IsSound plan.paging (insert m plan.proxies (stand_in plan.paging k)) = subst (λ o. IsSound plan.paging (with_slot plan m o)) is kept.sound in
+      let s : IsSound plan.paging (insert m plan.proxies (placeholder plan.paging k)) = subst (λ o. IsSound plan.paging (with_slot plan m o)) is kept.sound in
       let carries = chains.carries in
       let q : ℕ = chains.object in
       let y : Placed = carries.object in
@@ -396,7 +381,7 @@ module _ (plan : Plan) (ok : IsPlan plan) where
       let qT : chains.object ≢ plan.proxies + 1 = (λ e. absurd (omega arith)) in
       let none' = past m (get m (plan.proxies + 1)) refl kept.numbers in
       let alike = changed_places plan.paging plan.proxies m k.address (replicate (8 * (slot_words plan.paging k.class - 1)) 0) chains.object carries.object
-      qP qT none' there (is_class ∙ sym (stand_in_class plan.paging ok.paging k class)) s in
+      qP qT none' there (is_class ∙ sym (placeholder_class plan.paging ok.paging k class)) s in
       let e = carries.whole in
       rw e (record {
         numbers = λ r z there'. elim (some_inserted m chains.object (record { place = k.address; bytes = carries.object.bytes }) r z there') [

@@ -6,24 +6,14 @@ use Rattle.std.proofs.lemmas.List.{append_assoc, length-append, length-take, tak
 use Rattle.cf_base.specs.Classes.{sizes, sizes_from}
 use Rattle.cf_base.specs.Limits.{is_page_size}
 use Rattle.cf_base.specs.declared.kind.Layout.TheVariants.{Words}
-use Rattle.cf_base.proofs.CallerLemmas.{are_sizes}
-use Rattle.cf_lemmas.proofs.Tests.{lt_no, lt_yes}
+use Rattle.cf_base.proofs.CallerLemmas.{are_sizes, sizes_from-page, sizes_from-below}
 use Rattle.admission.specs.Layout.{IsFilled}
 
-at_page : (left s page : ℕ) → page ≤ s → sizes_from left s page ≡ page ∷ []
-unfolding sizes_from
-at_page zero s page le = refl
-at_page (suc left) s page le = (let e = lt_no s page le in rw (e, sizes_from))
-
-below_page : (left s page : ℕ) → s < page → sizes_from (suc left) s page ≡ s ∷ sizes_from left ((9 * s + 7) / 8) page
-unfolding sizes_from
-below_page left s page lt = (let e = lt_yes s page lt in rw (e, sizes_from))
-
 some_left : (left s page : ℕ) → page ≤ s + left → 1 ≤ length (sizes_from left s page)
-some_left zero s page le = (let e = ap length (at_page zero s page (omega arith)) in omega arith)
+some_left zero s page le = (let e = ap length (sizes_from-page zero s page (omega arith)) in omega arith)
 some_left (suc left) s page le = elim (cases_lt s page) [
-  | inl lt ↦ (let e = ap length (below_page left s page lt) in omega arith)
-  | inr ge ↦ (let e = ap length (at_page (suc left) s page ge) in omega arith)
+  | inl lt ↦ (let e = ap length (sizes_from-below left s page lt) in omega arith)
+  | inr ge ↦ (let e = ap length (sizes_from-page (suc left) s page ge) in omega arith)
 ]
 
 module _ (page count : ℕ) (table : List ℕ) (is_page : IsTrue (is_page_size page)) (room : length table ≡ 67) where
@@ -53,13 +43,13 @@ module _ (page count : ℕ) (table : List ℕ) (is_page : IsTrue (is_page_size p
             let a : take (count + 1) (set table count size) ≡ take count table ++ size ∷ [] = take_more_set table count size (omega arith) in
             let b : sizes_from left next page ≡ sizes_from left ((9 * size + 7) / 8) page = ap (λ n. sizes_from left n page) is in
             (λ i. a i ++ b i) ∙ append_assoc (take count table) (size ∷ []) (sizes_from left ((9 * size + 7) / 8) page)
-            ∙ ap (λ xs. take count table ++ xs) (sym (below_page left size page lt)) ∙ made);
+            ∙ ap (λ xs. take count table ++ xs) (sym (sizes_from-below left size page lt)) ∙ made);
       }
 
   pub filled_last : (size : ℕ) → page ≤ size → IsFilled page table count size → take (count + 1) (set table count page) ≡ sizes page Words
   filled_last size ge f =
       let within = filled_room size f in
-      take_more_set table count page (omega arith) ∙ ap (λ xs. take count table ++ xs) (sym (at_page f.left size page ge)) ∙ f.made
+      take_more_set table count page (omega arith) ∙ ap (λ xs. take count table ++ xs) (sym (sizes_from-page f.left size page ge)) ∙ f.made
 
 pub filled_at_first : (page : ℕ) (table : List ℕ) → IsTrue (is_page_size page) → IsFilled page table 0 4
 filled_at_first page table is_page = record { left = page; some = omega arith; enough = omega arith; made = refl }

@@ -9,10 +9,10 @@ use Rattle.page_model.specs.Held.{Held, Placed}
 use Rattle.page_model.specs.Image.{IsDisjoint, IsOutside, slot_for}
 use Rattle.page_model.specs.Paging.{Paging, slot_words}
 use Rattle.page_model.proofs.CallerLemmas.{slot_inside, sound_apart_from}
-use Rattle.slice_model.specs.State.{Plan, IsPlan, JobSlot, Job, Sliced, IsKept, job_slot, occupied, stand_in, Idle, Clear, Move}
+use Rattle.slice_model.specs.State.{Plan, IsPlan, JobSlot, Job, Sliced, IsKept, job_slot, occupied, placeholder, Idle, Clear, Move}
 use Rattle.slice_model.specs.Words.{word_at}
-use Rattle.slice_model.proofs.Occupied.{beside, no_stand_in, slot_class, slot_there}
-use Rattle.slice_model.proofs.Keeping.{other_than}
+use Rattle.slice_model.proofs.Occupied.{beside, no_placeholder, slot_class, slot_there}
+use Rattle.slice_model.proofs.KeptSteps.{other_than}
 
 -- no two objects share a word, nor does one with the job's slot
 pub record AreApart (p : Paging) (m : Held) (o : Option JobSlot) : Type 0 where
@@ -25,8 +25,8 @@ pub kept_apart : (plan : Plan) → IsPlan plan → (s : Sliced) → IsKept plan 
 kept_apart plan ok s kept = record {
   objects = λ h x q y a b ne. sound_apart_from plan.paging (occupied plan s) kept.sound h x (beside plan ok s kept h x a) q y (beside plan ok s kept q y b) ne;
   job = λ k h x e there. (
-      let ne = other_than s.held plan.proxies h x (no_stand_in plan s.held kept.numbers) there in
-      let d = sound_apart_from plan.paging (occupied plan s) kept.sound plan.proxies (stand_in plan.paging k) (slot_there plan ok s kept k e) h x
+      let ne = other_than s.held plan.proxies h x (no_placeholder plan s.held kept.numbers) there in
+      let d = sound_apart_from plan.paging (occupied plan s) kept.sound plan.proxies (placeholder plan.paging k) (slot_there plan ok s kept k e) h x
       (beside plan ok s kept h x there) ne in
       let class = slot_class plan ok s kept k e in
       subst (λ c. IsDisjoint k.address (slot_words plan.paging c) x.place (slot_for plan.paging (length x.bytes))) class d);
@@ -117,6 +117,11 @@ not_done p m j apart k is within h x there i lt d low same = elim (where_word j 
       omega arith)
 ]
 
+-- a word of a range isn't outside of it
+pub outside_not : (a n w i : ℕ) → IsOutside a n w → i < n → a + i ≢ w
+outside_not a n w i (inl l) lt e = omega arith
+outside_not a n w i (inr r) lt e = omega arith
+
 -- a word of an object isn't outside of all slots
 pub not_outside : (p : Paging) (m : Held) (j : Job) → ((k : JobSlot) (h : ℕ) (x : Placed) → j ≡ Move h k → get m h ≡ Some x → class_at p x ≡ k.class)
     → (h : ℕ) (x : Placed) → get m h ≡ Some x → (i : ℕ) → i < slot_for p (length x.bytes) → (w : ℕ)
@@ -128,10 +133,6 @@ not_outside p m j class h x there i lt w out beyond same = elim (where_word j h 
       let size : slot_for p (length x.bytes) ≡ slot_words p g.class = ap (slot_words p) (class g h x move there) in
       outside_not g.address (slot_words p g.class) w i (beyond g (ap job_slot move)) (omega arith) (sym at ∙ same))
 ]
-  where
-    outside_not : (a n w i : ℕ) → IsOutside a n w → i < n → a + i ≢ w
-    outside_not a n w i (inl l) lt e = omega arith
-    outside_not a n w i (inr r) lt e = omega arith
 
 module _ (plan : Plan) (ok : IsPlan plan) (m : Held) (j : Job) (kept : IsKept plan (record { held = m; job = j })) where
   abbrev p : Paging
@@ -150,7 +151,7 @@ module _ (plan : Plan) (ok : IsPlan plan) (m : Held) (j : Job) (kept : IsKept pl
   -- so is the job's
   pub job_at : (k : JobSlot) → job_slot j ≡ Some k → IsSlotAt plan.paging k.class k.address
   job_at k e = subst (λ c. IsSlotAt p c k.address) (slot_class plan ok s kept k e)
-      (kept.sound.slots plan.proxies (stand_in p k) (slot_there plan ok s kept k e))
+      (kept.sound.slots plan.proxies (placeholder p k) (slot_there plan ok s kept k e))
 
   pub job_within : (k : JobSlot) → job_slot j ≡ Some k → k.address + slot_words plan.paging k.class ≤ plan.paging.pages * plan.paging.page_words
   job_within k e = slot_inside p k.class k.address (job_at k e)

@@ -1,4 +1,4 @@
--- Each free and each slice has an answer.
+-- Each free and each slice has a result.
 use Rattle.std.proofs.Common.{◌≡◌, ◌≢◌, ℕ, Option, Some, None, arith, sym, ◌∙◌, ap, refl, subst, inl, inr}
 use Rattle.std.specs.Prelude.{◌⊎◌}
 use Rattle.std.proofs.lemmas.Bool.{cases_eq, cases_lt}
@@ -9,12 +9,12 @@ use Rattle.page_model.specs.Held.{Held, Placed}
 use Rattle.page_model.specs.Paging.{page_of, slot_words}
 use Rattle.page_model.specs.Steps.{Moves}
 use Rattle.page_model.proofs.CallerLemmas.{mover_is_other, on_page}
-use Rattle.slice_model.specs.State.{Plan, IsPlan, JobSlot, Job, Sliced, IsKept, advanced, job_slot, stand_in, with_slot, Idle, Clear, Move}
+use Rattle.slice_model.specs.State.{Plan, IsPlan, JobSlot, Job, Sliced, IsKept, advanced, job_slot, placeholder, with_slot, Idle, Clear, Move}
 use Rattle.slice_model.specs.Steps.{Ends, IsFaultOf, IsSlice, RemovesObject, SliceOf, Vacates, done_after, fresh_slot}
 use Rattle.slice_model.specs.declared.answers.SliceFault.{SliceFault}
 use Rattle.slice_model.specs.declared.answers.SliceFault.TheVariants as fault
-use Rattle.slice_model.proofs.Keeping.{kept_begun, one_more, same_elsewhere, two_is_last}
-use Rattle.slice_model.proofs.Occupied.{job_class, no_stand_in}
+use Rattle.slice_model.proofs.KeptSteps.{kept_begun, one_more, same_elsewhere, two_is_last}
+use Rattle.slice_model.proofs.Occupied.{job_class, no_placeholder}
 use Rattle.cf_lemmas.proofs.Searches.{there_or_not}
 use Rattle.page_model.proofs.CallerLemmas.{open_page, some_move}
 
@@ -24,20 +24,20 @@ module _ (plan : Plan) (ok : IsPlan plan) where
   end_there m j k is kept = elim (cases_eq (not_full_pages plan.paging m k.class) 2) [
     | inr ne ↦ (record { held = m; job = Idle }, inl (ne, refl))
     | inl two ↦ (
-        let none = no_stand_in plan m kept.numbers in
+        let none = no_placeholder plan m kept.numbers in
         let class = (job_class plan.paging m j kept.job k is).class in
-        let s : IsSound plan.paging (insert m plan.proxies (stand_in plan.paging k)) = subst (λ o. IsSound plan.paging (with_slot plan m o)) is kept.sound in
+        let s : IsSound plan.paging (insert m plan.proxies (placeholder plan.paging k)) = subst (λ o. IsSound plan.paging (with_slot plan m o)) is kept.sound in
         let l = two_is_last plan ok m k none class s two in
         let other = l.other in
         let filled = l.filled in
-        let o = open_page plan.paging (insert m plan.proxies (stand_in plan.paging k)) k.class (omega arith) in
+        let o = open_page plan.paging (insert m plan.proxies (placeholder plan.paging k)) k.class (omega arith) in
         let more = one_more plan ok m k none class s in
         let less = (o.1).less in
         let some = (o.1).some in
         let ne : o.0 ≢ page_of plan.paging k.address = (λ e. (
-        let f : objects_on plan.paging (insert m plan.proxies (stand_in plan.paging k)) k.class o.0
-        ≡ objects_on plan.paging (insert m plan.proxies (stand_in plan.paging k)) k.class (page_of plan.paging k.address) =
-        ap (objects_on plan.paging (insert m plan.proxies (stand_in plan.paging k)) k.class) e in
+        let f : objects_on plan.paging (insert m plan.proxies (placeholder plan.paging k)) k.class o.0
+        ≡ objects_on plan.paging (insert m plan.proxies (placeholder plan.paging k)) k.class (page_of plan.paging k.address) =
+        ap (objects_on plan.paging (insert m plan.proxies (placeholder plan.paging k)) k.class) e in
         omega arith)) in
         let same = same_elsewhere plan ok m k none class s o.0 ne in
         let q = on_page plan.paging m k.class o.0 (omega arith) in
