@@ -1,5 +1,9 @@
 -- What other crates' proofs may cite, re-exported. Declares nothing.
 pub use Rattle.block_model.proofs.BucketLaws.{half_fit_lawful, tlsf_lawful}
+pub use Rattle.block_model.proofs.FreeOrderLemmas.{carve_follows, carve_is_malloc, carve_keeps_lists, first_is, led_other, led_same, length-led, length-without}
+pub use Rattle.block_model.proofs.FreeOrderLemmas.{list_without, no_list, none_is, one_carve, same_listed, without_used}
+pub use Rattle.block_model.proofs.FreeOrderRelease.{joined_apart, merged_same, none_ends, release_keeps_lists}
+pub use Rattle.block_model.proofs.Members.{at_head, head_or_tail, in_nothing, in_tail, none_twice, once_more, others_all, others_next, others_same}
 pub use Rattle.block_model.proofs.Others.{fill_le, free_stays, lies, malloc_gives, malloc_stays, released_is_free}
 pub use Rattle.block_model.proofs.ReadBlocks.{blocks_read}
 pub use Rattle.block_model.proofs.Releases.{free_keeps_tiling}

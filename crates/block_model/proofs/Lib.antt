@@ -9,4 +9,7 @@ pub mod ReadBlocks
 pub mod Rewriting
 pub mod Serving
 pub mod UsedWords
+pub mod Members
+pub mod FreeOrderLemmas
+pub mod FreeOrderRelease
 pub mod CallerLemmas

@@ -35,13 +35,13 @@ lies (x ∷ xs) from to a b f there = elim (cases_eq x.address a) [
       record { address = r.address; size = r.size; low = omega (arith, r.low); high = r.high })
 ]
 
-used_is_not_free : (b : Block) (h : ℕ) → b.owner ≡ Some h → b.owner ≡ None → ⊥
+pub used_is_not_free : (b : Block) (h : ℕ) → b.owner ≡ Some h → b.owner ≡ None → ⊥
 used_is_not_free b h e f = cc
 
-skip : (x : Block) (xs : List Block) (a : ℕ) → x.address ≢ a → block_at (x ∷ xs) a ≡ block_at xs a
+pub skip : (x : Block) (xs : List Block) (a : ℕ) → x.address ≢ a → block_at (x ∷ xs) a ≡ block_at xs a
 skip x xs a other = rw (eq_no x.address a other) refl
 
-take_first : (x : Block) (xs : List Block) (a : ℕ) → x.address ≡ a → block_at (x ∷ xs) a ≡ Some x
+pub take_first : (x : Block) (xs : List Block) (a : ℕ) → x.address ≡ a → block_at (x ∷ xs) a ≡ Some x
 take_first x xs a is = rw (eq_yes x.address a is) refl
 
 module _ (d : Demand) (place a : ℕ) (b : Block) (h : ℕ) (away : a ≢ place) (used : b.owner ≡ Some h) where

@@ -1,13 +1,9 @@
 -- A free keeps a tiling.
 use Rattle.std.proofs.Common.{◌≡◌, ℕ, Bool, true, false, ◌+◌, List, [], ◌∷◌, arith, inl, inr, refl, subst}
 use Rattle.std.specs.Prelude.{◌&&◌}
-use Rattle.std.proofs.lemmas.Bool.{cases_eq}
+use Rattle.std.proofs.lemmas.Bool.{cases_eq, and_parts}
 use Rattle.cf_lemmas.proofs.Tests.{eq_yes, eq_no, and_false}
 use Rattle.block_model.specs.Tiling.{Block, is_free, Fill, starts_free, AreMerged, IsTiling, joined, merged, freed_at, released}
-
-and_second : (x y : Bool) → (x && y) ≡ true → y ≡ true
-and_second true y e = e
-and_second false y e = cc
 
 behind_free : (x y : Bool) → x ≡ true → (x && y) ≡ false → y ≡ false
 behind_free true y e f = f
@@ -38,7 +34,7 @@ joined_merged b (c ∷ cs) m = by_cases (is_free b && is_free c) refl
   where
     by_cases : (t : Bool) → (is_free b && is_free c) ≡ t → AreMerged (joined b (c ∷ cs))
     by_cases false e = rw e (e, m)
-    by_cases true e = rw e (behind_free (is_free c) (starts_free cs) (and_second (is_free b) (is_free c) e) m.0, m.1)
+    by_cases true e = rw e (behind_free (is_free c) (starts_free cs) (and_parts (is_free b) (is_free c) e).1 m.0, m.1)
 
 -- no two neighbours are both free after merging
 pub merged_are : (blocks : List Block) → AreMerged (merged blocks)

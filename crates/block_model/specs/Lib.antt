@@ -2,4 +2,5 @@ pub mod Tiling
 pub mod Words
 pub mod ReadWords
 pub mod Buckets
+pub mod FreeOrder
 pub mod Worked

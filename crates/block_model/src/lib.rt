@@ -2,6 +2,7 @@
 //! what a malloc and a free do to it, and the free lists of both.
 #![tactic(auto)]
 
+pub mod free_order;
 pub mod half_fit;
 pub mod laws;
 pub mod tlsf;

@@ -10,6 +10,7 @@ use Rattle.block_model.specs.Buckets.{FreeLists}
 use Rattle.block_model.specs.Tiling.{Block, Fill, AreMerged, used_blocks, free_blocks}
 use Rattle.block_model.specs.Words.{block_header}
 use Rattle.cf_lemmas.proofs.Tests.{and_false as and_off}
+use Rattle.block_model.specs.FreeOrder.{lists_without}
 use Rattle.tag_blocks.specs.declared.header.Header.{Header}
 use Rattle.tag_blocks.specs.Links.{AreFreeLists, IsIn, without_block, lists_with, UnlinksBlock}
 use Rattle.tag_blocks.specs.Blocks.{Tagged, owner_of}
@@ -24,6 +25,7 @@ use Rattle.tag_blocks.proofs.ReplaceLemmas.{IsNextTold, next_told, next_kept, no
 use Rattle.tag_blocks.proofs.ListedAfter.{used-append, free-append, used-used, used-free, free-used, free-free}
 use Rattle.tag_blocks.proofs.ListsAfterChange.{FillsAt, left_same, removed, removed_owned}
 use Rattle.tag_blocks.proofs.HeaderAfter.{one_fills, one_told, one_before, before_length, before_other, before_next}
+use Rattle.tag_blocks.proofs.ListsSeen.{lists_left}
 use Rattle.tag_blocks.proofs.ViewLemmas.{seen, kept_as, blocks_now, kept_now, tags_kept}
 use Rattle.tag_blocks.proofs.WipeLemmas.{cleared_at}
 
@@ -272,7 +274,7 @@ module _ (rule : FreeLists) (p : Fields) (lists : ℕ → List ℕ) (pre rest : 
 
 -- ---- the call
 
-module _ (rule : FreeLists) (count : ℕ) (p : Fields) (v : Tagged) (kept : IsValid rule count p) (view : seen p.words ≡ v)
+module _ (rule : FreeLists) (count : ℕ) (p : Fields) (v : Tagged) (kept : IsValid rule count p) (view : seen p ≡ v)
     (start first second taken many : ℕ) (x : Detached) (h : ArePair v start first second taken many x) where
   now : IsValidWith rule p (x.before ++ (pair_first start first h.next_free ∷ pair_second (start + first) second h.next_free ∷ x.behind)) kept.lists
   now = kept_as rule p kept.lists v _ kept.kept view h.blocks
@@ -334,7 +336,7 @@ module _ (rule : FreeLists) (count : ℕ) (p : Fields) (v : Tagged) (kept : IsVa
     join_others w low =
         same_out rule p kept.lists x.before x.behind start first second h.next_free now left heads u long header refl refl is_before' blank w (inl low)
 
-    pub join_turns : Turns v x (seen made) start (pair_detached x (first + second))
+    pub join_turns : Turns v x (seen parts') start (pair_detached x (first + second))
     join_turns = record {
       detached = record {
         blocks = blocks_now rule parts' _ _ after;
@@ -345,6 +347,14 @@ module _ (rule : FreeLists) (count : ℕ) (p : Fields) (v : Tagged) (kept : IsVa
       others = subst (λ ws. KeepsOwned ws (x.before ++ x.behind) made) words_seen
           (joined_owned rule p kept.lists x.before x.behind start first second h.next_free now left heads u long header refl refl is_before' blank);
     }
+
+    -- the free one leaves its list
+    pub join_lists : (seen parts').lists ≡ lists_without v.lists taken
+    join_lists =
+        subst (λ a. (seen parts').lists ≡ lists_without (seen p).lists a) (sym h.taken)
+        (lists_left p.words p.heads kept.lists now.linked made heads as_many (cond h.next_free (start + first) start)
+        (rule.bucket (cond h.next_free second first)) (pair_listed rule p kept.lists x.before x.behind start first second h.next_free now) after.linked)
+        ∙ ap (λ (w : Tagged). lists_without w.lists taken) view
 
 -- ---- with the free one after the detached block
 

@@ -1,16 +1,18 @@
 -- What the stages of a release take together.
 use Rattle.std.proofs.Common.{◌≡◌, ◌≢◌, ℕ, Bool, true, false, ◌+◌, ◌-◌, ◌<◌, ◌≤◌, ◌==◌, List, [], ◌∷◌, ◌++◌, Option, Some, None, length, cond, get_or}
 use Rattle.std.proofs.Common.{arith, refl, sym, ap, ◌∙◌, inl, inr, subst}
-use Rattle.std.specs.Prelude.{◌⊎◌}
+use Rattle.std.specs.Prelude.{◌⊎◌, is_none}
 use Rattle.std.proofs.lemmas.Bool.{cases_eq}
 use Rattle.block_model.specs.Buckets.{FreeLists}
+use Rattle.block_model.specs.FreeOrder.{AreListsOf, free_from, free_size, free_up_to, lists_led_by, lists_released, lists_without, merged_size, merged_start}
 use Rattle.block_model.specs.Tiling.{Block, is_free, Fill, block_at, size_at, size_of}
-use Rattle.block_model.proofs.CallerLemmas.{fill_le}
+use Rattle.block_model.proofs.CallerLemmas.{fill_le, none_ends, without_used}
 use Rattle.cf_lemmas.proofs.Tests.{eq_yes, eq_no}
-use Rattle.tag_blocks.specs.Blocks.{Tagged, AreTags, IsUsedAt}
-use Rattle.tag_blocks.specs.Costs.{free_size, free_from, free_up_to, join_steps, link_then, list_length, next_merge_steps, previous_merge_steps, pushed_steps, release_sized}
+use Rattle.tag_blocks.specs.Blocks.{Tagged, AreTags, IsUsedAt, listed, owner_of}
+use Rattle.tag_blocks.specs.Costs.{join_steps, link_then, list_length, next_merge_steps, previous_merge_steps, pushed_steps, release_sized}
 use Rattle.tag_blocks.specs.Costs.{release_steps}
-use Rattle.tag_blocks.specs.Stages.{free_first, free_last}
+use Rattle.tag_blocks.specs.Stages.{Detached, IsDetached, free_first, free_last}
+use Rattle.tag_blocks.specs.Layout.{IsBlock, used_block}
 use Rattle.tag_blocks.proofs.FillLemmas.{lies_in, in_second, block_is, block_found}
 use Rattle.tag_blocks.proofs.ListsAfterChange.{FillsAt, fills_at}
 use Rattle.tag_blocks.proofs.ReleaseLemmas.{parts}
@@ -32,15 +34,8 @@ next_free pre (c ∷ cs) b mid n f g =
     ap (free_from (pre ++ (b ∷ c ∷ cs))) (sym g.0)
     ∙ ap free_size (block_found (pre ++ (b ∷ c ∷ cs)) 0 n c f (in_second c pre (b ∷ c ∷ cs) (inr (inl refl))))
 
--- no block behind the address ends at it
-none_behind : (bs : List Block) (from to a : ℕ) → Fill bs from to → a ≤ from → free_up_to bs a ≡ 0
-none_behind [] from to a f le = refl
-none_behind (b ∷ bs) from to a f le =
-    let at = f.0 in let two = f.1 in
-    rw (eq_no (b.address + b.size) a (λ e. absurd (omega arith))) (none_behind bs (from + b.size) to a f.2 (omega arith))
-
 pub previous_free : (pre post : List Block) (from at n : ℕ) → Fill pre from at → Fill post at n → free_up_to (pre ++ post) at ≡ free_last pre
-previous_free [] post from at n f g = none_behind post at n at g (omega arith)
+previous_free [] post from at n f g = none_ends post at n at g (omega arith)
 previous_free (b ∷ []) post from at n f g =
     rw (eq_yes (b.address + b.size) at (let a = f.0 in let e = f.2 in omega arith)) refl
 previous_free (b ∷ c ∷ cs) post from at n f g =
@@ -56,6 +51,34 @@ back_two (b ∷ []) from at f some = by_cases (is_free b) refl
     by_cases true e = rw e (let two = f.1 in let end = f.2 in (two, omega arith))
     by_cases false e = absurd (some (ap (λ t. cond t b.size 0) e))
 back_two (b ∷ c ∷ cs) from at f some = back_two (c ∷ cs) (from + b.size) at f.2 some
+
+-- ---- blocks that are in no list
+
+module _ (rule : FreeLists) (count : ℕ) (v : Tagged) (at : ℕ) (x : Detached) (tags : AreTags v) (h : IsDetached v at x)
+    (of : AreListsOf rule count (listed v)) where
+  abbrev own : Block
+  own = used_block at x.size (owner_of x.tag)
+
+  own_filled : Fill (x.before ++ (own ∷ x.behind)) 0 (length v.words)
+  own_filled = subst (λ bs. Fill bs 0 (length v.words)) h.blocks tags.tiling.fill
+
+  no_free : (a : ℕ) → free_from v.blocks a ≡ 0 → lists_without v.lists a ≡ v.lists
+  no_free a none = without_used rule count v.blocks v.lists a of (λ b there free. absurd (
+      let size : b.size ≡ 0 = sym (ap (λ o. cond (is_none o) b.size 0) free) ∙ sym (ap free_size there) ∙ none in
+      let l = lies_in v.blocks 0 (length v.words) b tags.tiling.fill (block_is v.blocks a b there).1 in
+      let two = l.size in omega arith))
+
+  -- a used block, or none, begins behind the detached one
+  pub next_unlisted : (size : ℕ) → size ≡ x.size → free_first x.behind ≡ 0 → v.lists ≡ lists_without v.lists (at + size)
+  next_unlisted size is none = sym (no_free (at + size) (
+      ap (λ s. free_from v.blocks (at + s)) is ∙ ap (λ bs. free_from bs (at + x.size)) h.blocks
+      ∙ next_free x.before x.behind own (at + x.size) (length v.words) own_filled
+      (fills_at x.before x.behind own (length v.words) own_filled).behind ∙ none))
+
+  -- the detached block is used
+  pub own_unlisted : v.lists ≡ lists_without v.lists at
+  own_unlisted = sym (no_free at (ap free_size (block_found v.blocks 0 (length v.words) own tags.tiling.fill
+      (subst (λ bs. IsBlock own bs) (sym h.blocks) (in_second own x.before (own ∷ x.behind) (inl refl))))))
 
 -- ---- the call
 
@@ -95,11 +118,32 @@ module _ (rule : FreeLists) (v : Tagged) (tags : AreTags v) (at : ℕ) (u : IsUs
   less_is = ap (λ bs. free_up_to bs at) (parts v at u).whole
       ∙ previous_free (parts v at u).before (u.block ∷ (parts v at u).behind) 0 at (length v.words) before_fills (at_is, both.size, behind_fills)
 
-  by_parts : (new : List Block) → release_sized rule v.words at size more less new ≡ release_steps rule v at new
+  by_parts : (new : List Block) → release_sized rule v.words at size more less new ≡ release_steps rule v.words v.blocks at new
   by_parts new = sym (
       ap (λ s. release_sized rule v.words at s (free_from v.blocks (at + s)) (free_up_to v.blocks at) new) size_is
       ∙ ap (λ m. release_sized rule v.words at size m (free_up_to v.blocks at) new) more_is
       ∙ ap (λ l. release_sized rule v.words at size more l new) less_is)
+
+  total_is : less + (size + more) ≡ merged_size v.blocks at
+  total_is = sym (
+      ap (λ s. free_up_to v.blocks at + (s + free_from v.blocks (at + s))) size_is
+      ∙ ap (λ m. free_up_to v.blocks at + (size + m)) more_is
+      ∙ ap (λ l. l + (size + more)) less_is)
+
+  start_is : at - less ≡ merged_start v.blocks at
+  start_is = ap (λ l. at - l) (sym less_is)
+
+  -- the lists after each stage
+  pub release_lists : (one two three new : List (List ℕ)) (first start third : ℕ) → first ≡ size → start ≡ at - less → third ≡ less + (size + more)
+      → one ≡ v.lists → two ≡ lists_without one (at + first) → three ≡ lists_without two start → new ≡ lists_led_by rule three start third
+      → new ≡ lists_released rule (listed v) at
+  release_lists one two three new first start third is_first is_start is_third same gone gone' led =
+      let begins : start ≡ merged_start v.blocks at = is_start ∙ start_is in
+      let two_is : two ≡ lists_without v.lists (at + size_at v.blocks at) =
+      gone ∙ ap (λ ls. lists_without ls (at + first)) same ∙ ap (λ s. lists_without v.lists (at + s)) (is_first ∙ sym size_is) in
+      led ∙ ap (λ n. lists_led_by rule three start n) (is_third ∙ total_is)
+      ∙ ap (λ ls. lists_led_by rule ls start (merged_size v.blocks at)) (gone' ∙ ap (λ ls. lists_without ls start) two_is)
+      ∙ ap (λ a. lists_led_by rule (lists_without (lists_without v.lists (at + size_at v.blocks at)) a) a (merged_size v.blocks at)) begins
 
   module _ (one two : List ℕ) (first second third : ℕ) (is_first : first ≡ size) (is_second : second ≡ size + more) (is_third : third ≡ less + (size + more))
       (others : (w : ℕ) → (w < at) ⊎ (at + first ≤ w) → get_or one w 0 ≡ get_or v.words w 0) (len_one : length one ≡ length v.words)
@@ -143,7 +187,7 @@ module _ (rule : FreeLists) (v : Tagged) (tags : AreTags v) (at : ℕ) (u : IsUs
     pub release_cost : (new : List Block)
         → first + (next_merge_steps (get_or one (at + first + 1) 0) (at + first) more (length one)
         + (previous_merge_steps (get_or two (at - less + 1) 0) at less (at + second) (length two)
-        + (2 + pushed_steps (list_length rule new (rule.bucket third))))) ≡ release_steps rule v at new
+        + (2 + pushed_steps (list_length rule new (rule.bucket third))))) ≡ release_steps rule v.words v.blocks at new
     release_cost new =
         ap (λ s. s + (next_merge_steps (get_or one (at + first + 1) 0) (at + first) more (length one)
         + (previous_merge_steps (get_or two (at - less + 1) 0) at less (at + second) (length two)

@@ -3,6 +3,7 @@ use Rattle.std.proofs.Common.{◌≡◌, ℕ, true, false, ◌+◌, ◌-◌, ◌
 use Rattle.std.proofs.lemmas.List.{set-set, set_comm}
 use Rattle.block_model.specs.Buckets.{FreeLists}
 use Rattle.block_model.specs.Tiling.{size_at}
+use Rattle.block_model.specs.FreeOrder.{lists_led_by, lists_without}
 use Rattle.tag_blocks.specs.Costs.{list_length, push_steps, pushed_steps}
 use Rattle.tag_blocks.specs.Links.{AreFreeLists, IsIn, PushesBlock, UnlinksBlock}
 use Rattle.tag_blocks.specs.Blocks.{Tagged, owner_of}
@@ -10,12 +11,12 @@ use Rattle.tag_blocks.specs.Tags.{size_in, before_in, block_header_word, with_be
 use Rattle.tag_blocks.specs.Layout.{Fields, used_block, IsValid}
 use Rattle.tag_blocks.specs.Stages.{Detached, IsSplittable, Turns, cut_detached}
 use Rattle.tag_blocks.proofs.CarveLemmas.{detached_size}
-use Rattle.tag_blocks.proofs.ClaimLemmas.{now as free_now, free_before, parts, claim_counts, claim_kept, claim_size, claim_turns, claim_within}
-use Rattle.tag_blocks.proofs.CutLemmas.{now as used_now, IsCuttable, cutting_linked, cutting_kept, cutting_steps, cutting_turns}
+use Rattle.tag_blocks.proofs.ClaimLemmas.{now as free_now, free_before, parts, claim_counts, claim_kept, claim_lists, claim_size, claim_turns, claim_within}
+use Rattle.tag_blocks.proofs.CutLemmas.{now as used_now, IsCuttable, cutting_linked, cutting_kept, cutting_lists, cutting_steps, cutting_turns}
 use Rattle.tag_blocks.proofs.HeaderAfter.{one_before}
 use Rattle.tag_blocks.proofs.ViewLemmas.{seen}
 
-module _ (rule : FreeLists) (count : ℕ) (p : Fields) (v : Tagged) (kept : IsValid rule count p) (view : seen p.words ≡ v) (at need : ℕ) (some : 2 ≤ need)
+module _ (rule : FreeLists) (count : ℕ) (p : Fields) (v : Tagged) (kept : IsValid rule count p) (view : seen p ≡ v) (at need : ℕ) (some : 2 ≤ need)
     (x : Detached) (h : IsSplittable v at need x) where
   pub split_sizes : (need + 2 ≤ x.size) × (at + x.size ≤ length p.words) × (length p.words ≤ 2 ^ 23)
   split_sizes = (let w = claim_within rule count p v kept view at x h.between in (h.rest, w.1, w.2))
@@ -33,19 +34,19 @@ module _ (rule : FreeLists) (count : ℕ) (p : Fields) (v : Tagged) (kept : IsVa
     abbrev used : Detached
     used = record { before = x.before; behind = x.behind; size = x.size; tag = tag }
 
-    turned : Turns v x (seen mid.words) at used
+    turned : Turns v x (seen mid) at used
     turned = claim_turns rule count p v kept view at x h.between tag size before list left heads many long is_size is_before is_list unlinked
 
-    cuttable : IsCuttable (seen mid.words) at need used
+    cuttable : IsCuttable (seen mid) at need used
     cuttable = record { held = turned.detached; rest = h.rest; apart = h.apart }
 
-    mid_size : size ≡ size_at (seen mid.words).blocks at
-    mid_size = claim_size rule count p v kept view at x h.between size is_size ∙ sym (detached_size (seen mid.words) at used turned.tags turned.detached)
+    mid_size : size ≡ size_at (seen mid).blocks at
+    mid_size = claim_size rule count p v kept view at x h.between size is_size ∙ sym (detached_size (seen mid) at used turned.tags turned.detached)
 
     mid_before : before_in (get_or mid.words at 0) ≡ before
     mid_before =
         one_before rule mid mid_kept.lists x.before x.behind (used_block at x.size (owner_of tag))
-        (used_now rule count mid (seen mid.words) mid_kept refl at need some used cuttable)
+        (used_now rule count mid (seen mid) mid_kept refl at need some used cuttable)
         ∙ sym (is_before ∙ free_before rule p kept.lists x.before x.behind at x.size (free_now rule count p v kept view at x h.between))
 
     -- its header is written once
@@ -70,7 +71,7 @@ module _ (rule : FreeLists) (count : ℕ) (p : Fields) (v : Tagged) (kept : IsVa
     split_linked = (
       mid_kept.lists,
       subst (λ ws. AreFreeLists (cut_from ws) heads mid_kept.lists) same_prefix
-          (cutting_linked rule count mid (seen mid.words) mid_kept refl at need some used cuttable size mid_size),
+          (cutting_linked rule count mid (seen mid) mid_kept refl at need some used cuttable size mid_size),
     )
 
     module _ (rest_list : ℕ) (words' heads' : List ℕ) (many' : length heads' ≡ length heads) (long' : length words' ≡ length (cut_from prefix))
@@ -86,17 +87,20 @@ module _ (rule : FreeLists) (count : ℕ) (p : Fields) (v : Tagged) (kept : IsVa
       pushed_cut = subst (λ ws. (lists : ℕ → List ℕ) → AreFreeLists (cut_from ws) heads lists → ((j : ℕ) → ¬ IsIn (at + need) (lists j))
           → PushesBlock (cut_from ws) lists rest_list (at + need) words' heads') (sym same_prefix) pushed
 
-      pub split_kept : IsValid rule count (record { words = words'; heads = heads'; used = p.used + 1; free = p.free })
+      abbrev pub after : Fields
+      after = record { words = words'; heads = heads'; used = p.used + 1; free = p.free }
+
+      pub split_kept : IsValid rule count after
       split_kept = subst (λ n. IsValid rule count (record { words = words'; heads = heads'; used = p.used + 1; free = n }))
           (let n = claim_counts rule count p v kept view at x h.between in let one = n.0 in omega arith)
-          (cutting_kept rule count mid (seen mid.words) mid_kept refl at need some used cuttable size mid_size
+          (cutting_kept rule count mid (seen mid) mid_kept refl at need some used cuttable size mid_size
           rest_list words' heads' many' long_cut is_rest pushed_cut)
 
-      cut : Turns (seen mid.words) used (seen words') at (cut_detached at need used)
-      cut = cutting_turns rule count mid (seen mid.words) mid_kept refl at need some used cuttable size mid_size
+      cut : Turns (seen mid) used (seen after) at (cut_detached at need used)
+      cut = cutting_turns rule count mid (seen mid) mid_kept refl at need some used cuttable size mid_size
           rest_list words' heads' many' long_cut is_rest pushed_cut
 
-      pub split_turns : Turns v x (seen words') at (cut_detached at need used)
+      pub split_turns : Turns v x (seen after) at (cut_detached at need used)
       split_turns = record {
         detached = cut.detached;
         tags = cut.tags;
@@ -105,6 +109,14 @@ module _ (rule : FreeLists) (count : ℕ) (p : Fields) (v : Tagged) (kept : IsVa
 
       -- what the push of the rest takes
       pub split_steps : rest_list < length heads
-          → push_steps (get_or heads rest_list 0) ≡ pushed_steps (list_length rule (seen words').blocks (rule.bucket (size - need)))
-      split_steps within = cutting_steps rule count mid (seen mid.words) mid_kept refl at need some used cuttable size mid_size
+          → push_steps (get_or heads rest_list 0) ≡ pushed_steps (list_length rule (seen after).blocks (rule.bucket (size - need)))
+      split_steps within = cutting_steps rule count mid (seen mid) mid_kept refl at need some used cuttable size mid_size
           rest_list words' heads' many' long_cut is_rest pushed_cut within
+
+      pub split_lists : rule.bucket (size - need) < length heads
+          → (seen after).lists ≡ lists_led_by rule (lists_without v.lists at) (at + need) (size - need)
+      split_lists below =
+          cutting_lists rule count mid (seen mid) mid_kept refl at need some used cuttable size mid_size
+          rest_list words' heads' many' long_cut is_rest pushed_cut below
+          ∙ ap (λ ls. lists_led_by rule ls (at + need) (size - need))
+          (claim_lists rule count p v kept view at x h.between tag size before list left heads many long is_size is_before is_list unlinked)

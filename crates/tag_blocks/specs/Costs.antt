@@ -1,11 +1,9 @@
 -- How many steps the calls on blocks take, by what they find.
-use Rattle.std.specs.Prelude.{ℕ, ◌+◌, ◌-◌, ◌/◌, ◌%◌, ◌^◌, ◌==◌, ◌&&◌, List, [], ◌∷◌, Option, Some, None, cond, if◌then◌else◌, nat_eq, nat_le, nat_lt, count_by}
+use Rattle.std.specs.Prelude.{ℕ, ◌+◌, ◌-◌, ◌/◌, ◌%◌, ◌^◌, ◌==◌, ◌&&◌, List, Option, Some, None, if◌then◌else◌, nat_eq, nat_le, nat_lt, count_by}
 use Rattle.std.specs.Prelude.{length, slice_index}
 use Rattle.block_model.specs.Buckets.{FreeLists}
-use Rattle.block_model.specs.Tiling.{Block, is_free, block_at, size_at}
-use Rattle.tag_blocks.specs.Blocks.{Tagged}
-use Rattle.tag_blocks.specs.ListHeads.{no_block}
-use Rattle.tag_blocks.specs.Links.{link_word}
+use Rattle.block_model.specs.FreeOrder.{free_from, free_up_to, link_word, no_block}
+use Rattle.block_model.specs.Tiling.{Block, is_free, size_at}
 
 -- The first list with a block, of the groups of 16 lists from this group on: the bits of all groups are read, and those of the group that is found.
 abbrev pub group_steps : ℕ → Option ℕ → ℕ
@@ -59,29 +57,16 @@ claim_steps link = 3 + unlink_steps link
 abbrev pub cut_steps : ℕ → ℕ → ℕ → ℕ
 cut_steps end words many = 1 + before_steps end words + pushed_steps many
 
--- A free block becomes used, and is cut if two words or more are left; `new` are the blocks afterwards.
-abbrev pub carve_at_steps : FreeLists → Tagged → ℕ → ℕ → List Block → ℕ
-carve_at_steps rule old need at new = claim_steps (slice_index old.words (at + 1)) + (if nat_le (need + 2) (size_at old.blocks at)
-    then cut_steps (at + size_at old.blocks at) (length old.words) (list_length rule new (rule.bucket (size_at old.blocks at - need)))
+-- A free block becomes used, and is cut if two words or more are left; `old` are the blocks before, `new` are the blocks afterwards.
+abbrev pub carve_at_steps : FreeLists → List ℕ → List Block → ℕ → ℕ → List Block → ℕ
+carve_at_steps rule words old need at new = claim_steps (slice_index words (at + 1)) + (if nat_le (need + 2) (size_at old at)
+    then cut_steps (at + size_at old at) (length words) (list_length rule new (rule.bucket (size_at old at - need)))
     else 0)
 
 -- A free block is found, and carved.
-abbrev pub carve_steps : FreeLists → ℕ → Tagged → ℕ → Option ℕ → List Block → ℕ
-carve_steps rule count old need None new = find_steps rule count old.blocks need None
-carve_steps rule count old need (Some at) new = find_steps rule count old.blocks need (Some at) + carve_at_steps rule old need at new
-
--- the words of the free block that begins at the address, 0 if there is none
-abbrev pub free_size : Option Block → ℕ
-free_size None = 0
-free_size (Some b) = cond (is_free b) b.size 0
-
-abbrev pub free_from : List Block → ℕ → ℕ
-free_from blocks a = free_size (block_at blocks a)
-
--- the words of the free block that ends at the address, 0 if there is none
-abbrev pub free_up_to : List Block → ℕ → ℕ
-free_up_to [] a = 0
-free_up_to (b ∷ bs) a = if nat_eq (b.address + b.size) a then cond (is_free b) b.size 0 else free_up_to bs a
+abbrev pub carve_steps : FreeLists → ℕ → List ℕ → List Block → ℕ → Option ℕ → List Block → ℕ
+carve_steps rule count words old need None new = find_steps rule count old need None
+carve_steps rule count words old need (Some at) new = find_steps rule count old need (Some at) + carve_at_steps rule words old need at new
 
 -- Two neighbours become one block that ends at `end`: the header of the first is read and written, the free one, which has this link, leaves its list, three
 -- words are cleared, and the header behind them is written, if there is one.
@@ -120,6 +105,5 @@ abbrev pub release_sized : FreeLists → List ℕ → ℕ → ℕ → ℕ → �
 release_sized rule words at size more less new = release_by words at size more less (list_length rule new (rule.bucket (less + (size + more))))
 
 -- A release, where `new` are the blocks afterwards.
-abbrev pub release_steps : FreeLists → Tagged → ℕ → List Block → ℕ
-release_steps rule old at new =
-    release_sized rule old.words at (size_at old.blocks at) (free_from old.blocks (at + size_at old.blocks at)) (free_up_to old.blocks at) new
+abbrev pub release_steps : FreeLists → List ℕ → List Block → ℕ → List Block → ℕ
+release_steps rule words old at new = release_sized rule words at (size_at old at) (free_from old (at + size_at old at)) (free_up_to old at) new

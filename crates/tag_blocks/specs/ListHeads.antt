@@ -1,10 +1,7 @@
 -- The heads of the free lists, and how two levels of bitmaps mark those that have one. No public clause cites this module.
-use Rattle.std.specs.Prelude.{◌≡◌, ◌≢◌, ℕ, ◌+◌, ◌-◌, ◌*◌, ◌^◌, ◌<◌, ◌≤◌, ◌==◌, not, List, length, Option, Some, None, cond, slice_index, slice_index_or}
+use Rattle.std.specs.Prelude.{◌≡◌, ◌≢◌, ℕ, ◌+◌, ◌*◌, ◌^◌, ◌<◌, ◌≤◌, ◌==◌, not, List, length, Option, Some, None, cond, slice_index, slice_index_or}
 use Rattle.std.specs.Int.{bit_at}
-
--- the address of no block
-abbrev pub no_block : ℕ
-no_block = 2 ^ 32 - 1
+pub use Rattle.block_model.specs.FreeOrder.{no_block}
 
 -- the head of a list, if it is a list
 abbrev pub head_of : List ℕ → ℕ → ℕ

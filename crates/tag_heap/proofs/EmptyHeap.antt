@@ -33,8 +33,8 @@ module _ (s : Settings) (t : Tagged) (p : Proxies) (blocks : t.blocks ≡ one_fr
   abbrev fresh : Heap
   fresh = record { settings = s; tagged = t; proxies = p; asked = 0; used_words = 0; cost = 0 }
 
-  one : AreTags (record { words = t.words; blocks = one_free_block (s.pages * s.page_words) })
-  one = subst (λ bs. AreTags (record { words = t.words; blocks = bs })) blocks tags
+  one : AreTags (record { words = t.words; blocks = one_free_block (s.pages * s.page_words); lists = t.lists })
+  one = subst (λ bs. AreTags (record { words = t.words; blocks = bs; lists = t.lists })) blocks tags
 
   header : get_or t.words 0 0 ≡ s.pages * s.page_words
   header = (let e = one.headers.0 in omega arith)
@@ -72,6 +72,7 @@ module _ (s : Settings) (t : Tagged) (p : Proxies) (blocks : t.blocks ≡ one_fr
   pub fresh_empty : (k : Kind) → IsTiled k → IsEmptyHeap k s (state_of k fresh)
   fresh_empty k is = record {
     words = of_tiled (λ k. IsOpeningWords k (profile_of s) t.words) tt tt k is;
+    order = tt;
     whole = of_tiled (λ k. state_of k fresh ≡ empty_heap k (profile_of s) t.words)
         (rw (held_is fresh empty becomes, blocks) refl) (rw (held_is fresh empty becomes, blocks) refl) k is;
   }

@@ -76,6 +76,7 @@ module _ (h : Heap) (m : Held) (b : Becomes h m) where
     words = b.contents;
     no_frames = refl;
     no_bounds = refl;
+    no_order = refl;
   }
 
   pub held_is : held_in h ≡ m

@@ -10,7 +10,6 @@ use Rattle.cf_base.specs.declared.answers.Refusal.{Refusal}
 use Rattle.cf_base.specs.declared.answers.Refusal.TheVariants as refusal
 use Rattle.block_model.specs.Buckets.{FreeLists}
 use Rattle.block_model.specs.Tiling.{Block}
-use Rattle.tag_blocks.specs.Blocks.{Tagged}
 use Rattle.tag_blocks.specs.Costs.{carve_steps, find_steps, release_steps}
 use Rattle.cf_model.specs.Answers.{place_of}
 use Rattle.cf_model.specs.State.{HeapState}
@@ -64,10 +63,6 @@ abbrev pub access_steps : ℕ → ℕ → Result Unit AccessFault → ℕ
 access_steps from count (Ok done) = 2 + words_with (from % 8) count
 access_steps from count (Err e) = fault_steps e
 
--- the words and the blocks of a heap
-abbrev pub blocks_in : HeapState → Tagged
-blocks_in s = record { words = s.words; blocks = s.tiling }
-
 -- an address, 0 if there is none
 abbrev pub address_of : Option ℕ → ℕ
 address_of None = 0
@@ -75,10 +70,10 @@ address_of (Some a) = a
 
 -- A malloc, exactly: a block is found and carved, and a proxy is bound; a refusal takes what its look for room takes.
 abbrev pub malloc_cost : FreeLists → ℕ → HeapState → ℕ → Result Handle Refusal → HeapState → ℕ
-malloc_cost rule count old bytes (Ok handle) new = carve_steps rule count (blocks_in old) (need bytes + 1) (place_of new handle.0) new.tiling + 2
+malloc_cost rule count old bytes (Ok handle) new = carve_steps rule count old.words old.tiling (need bytes + 1) (place_of new handle.0) new.tiling + 2
 malloc_cost rule count old bytes (Err e) new = search_steps rule count old.tiling bytes (Err e)
 
 -- A free, exactly: the proxy and the tag are read, the proxy is released, and so is the block.
 abbrev pub free_cost : FreeLists → HeapState → ℕ → Result Freed NotLive → HeapState → ℕ
-free_cost rule old handle (Ok freed) new = release_steps rule (blocks_in old) (address_of (place_of old handle)) new.tiling + 4
+free_cost rule old handle (Ok freed) new = release_steps rule old.words old.tiling (address_of (place_of old handle)) new.tiling + 4
 free_cost rule old handle (Err e) new = 1

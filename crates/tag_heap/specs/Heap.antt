@@ -40,6 +40,7 @@ state_of kind h = record {
   words = h.tagged.words;
   frames = [];
   tiling = h.tagged.blocks;
+  order = None;
   cost = h.cost;
 }
 
@@ -67,19 +68,19 @@ IsKeptIn kind (Some h) = KeepsRules (state_of kind h)
 
 -- its parts, as nested pairs
 abbrev pub HeapParts : Type 0
-HeapParts = Settings × (List ℕ × (List Block × (Proxies × (ℕ × (ℕ × ℕ)))))
+HeapParts = Settings × (List ℕ × (List Block × (List (List ℕ) × (Proxies × (ℕ × (ℕ × ℕ))))))
 
 abbrev pub heap_code : Coded Heap
 heap_code = code_by HeapParts
     (coded× settings.the_row.coded (coded× (coded_list coded_ℕ)
-    (coded× (coded_list block_code) (coded× proxies_code (coded× coded_ℕ (coded× coded_ℕ coded_ℕ))))))
-    (λ h. (h.settings, (h.tagged.words, (h.tagged.blocks, (h.proxies, (h.asked, (h.used_words, h.cost)))))))
+    (coded× (coded_list block_code) (coded× (coded_list (coded_list coded_ℕ)) (coded× proxies_code (coded× coded_ℕ (coded× coded_ℕ coded_ℕ)))))))
+    (λ h. (h.settings, (h.tagged.words, (h.tagged.blocks, (h.tagged.lists, (h.proxies, (h.asked, (h.used_words, h.cost))))))))
     (λ q. record {
       settings = q.0;
-      tagged = record { words = q.1.0; blocks = q.1.1.0 };
-      proxies = q.1.1.1.0;
-      asked = q.1.1.1.1.0;
-      used_words = q.1.1.1.1.1.0;
-      cost = q.1.1.1.1.1.1;
+      tagged = record { words = q.1.0; blocks = q.1.1.0; lists = q.1.1.1.0 };
+      proxies = q.1.1.1.1.0;
+      asked = q.1.1.1.1.1.0;
+      used_words = q.1.1.1.1.1.1.0;
+      cost = q.1.1.1.1.1.1.1;
     })
     (λ _. refl)

@@ -3,6 +3,7 @@ ghost use Rattle.std.specs.Prelude.{◌≡◌, ◌+◌, ◌*◌, ◌^◌, ◌≤
 ghost use Rattle.step_ledger.specs.Counting.{RoseAtMost, RoseBy};
 ghost use Rattle.cf_model.specs.Answers.{block_in, place_of, totals_in, usage_in};
 ghost use Rattle.cf_model.specs.Costs.{TakesAtMost, TellsCost, access_bound, free_bound, resize_bound};
+ghost use Rattle.cf_model.specs.Ordered.{IsOrderedFree, IsOrderedMalloc, IsOrderedResize};
 ghost use Rattle.cf_model.specs.Rules.{KeepsRules};
 ghost use Rattle.cf_model.specs.State.{closed_state};
 ghost use Rattle.cf_model.specs.Steps.{BlocksStayIn, IsFreeStep, IsMallocStep, IsReadAnswer, IsResizeStep, IsWriteStep, StaysOpen};
@@ -105,6 +106,7 @@ impl<B: Yardstick> Manager for TagHeap<B> {
         ensures same { StaysOpen self.old self.new }
         ensures step { IsMallocStep self.old bytes result self.new }
         ensures rules { KeepsRules self.new }
+        ensures ordered { IsOrderedMalloc self.old bytes result self.new }
         ensures bound { TakesAtMost self.old.kind steps.old steps.new 64 }
         ensures told { steps.new ≡ steps.old + self.new.cost }
         ensures steps { RoseAtMost steps.old steps.new (malloc_steps result) }
@@ -122,6 +124,7 @@ impl<B: Yardstick> Manager for TagHeap<B> {
         ensures same { StaysOpen self.old self.new }
         ensures step { IsFreeStep self.old h.0 result self.new }
         ensures rules { KeepsRules self.new }
+        ensures ordered { IsOrderedFree self.old h.0 result self.new }
         ensures bound { TakesAtMost self.old.kind steps.old steps.new (free_bound result) }
         ensures told { steps.new ≡ steps.old + self.new.cost }
         ensures blocks { BlocksStayIn self.old.kind self.old h.0 self.new }
@@ -175,6 +178,7 @@ impl<B: Yardstick> Manager for TagHeap<B> {
         ensures same { StaysOpen self.old self.new }
         ensures step { IsResizeStep self.old (record { number = h.0; length = _bytes }) result self.new }
         ensures rules { KeepsRules self.new }
+        ensures ordered { IsOrderedResize self.old (record { number = h.0; length = _bytes }) result self.new }
         ensures bound { TakesAtMost self.old.kind steps.old steps.new (resize_bound result) }
         ensures told { TellsCost self.old.kind steps.old steps.new self.new.cost }
         ensures blocks { BlocksStayIn self.old.kind self.old h.0 self.new }

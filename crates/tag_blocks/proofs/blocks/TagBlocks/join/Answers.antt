@@ -2,6 +2,7 @@ use Rattle.std.proofs.Common.{◌≡◌, ◌+◌, length, arith, ap, ◌∙◌}
 use Rattle.tag_blocks.specs.Costs.{before_steps}
 use Rattle.tag_blocks.proofs.CostLemmas.{by_same, then_by}
 use Rattle.tag_blocks.proofs.JoinLemmas.{join_sizes, join_many, join_listed, join_some, join_kept, join_others, join_turns}
+use Rattle.tag_blocks.proofs.JoinLemmas.{join_lists}
 use Rattle.tag_blocks.proofs.blocks.TagBlocks.join.Goals as goal
 
 pub unlink-requires-clause-linked : goal.unlink-requires-clause-linked
@@ -100,3 +101,8 @@ returns-clause-steps g c =
     rw (← c.self.view_is) (by_same _ _ _ _ (then_by _ _ _ _ _ c.read-header.ensures.steps (then_by _ _ _ _ _ c.unlink.ensures.steps
     (then_by _ _ _ _ _ c.clear.ensures.steps (then_by _ _ _ _ _ c.write.ensures.steps (then_by _ _ _ _ _ c.write-2.ensures.steps
     c.set_before.ensures.steps))))) (omega (arith, next)))
+
+pub returns-clause-lists : goal.returns-clause-lists
+returns-clause-lists g c = rw (c.set_before.ensures.words, c.write-2.ensures.words, c.write.ensures.words, c.clear.ensures.words) (
+    join_lists _ _ _ _ c.self.invariant c.self.view_is c.args.start c.args.first c.args.second c.args.taken c.args.many c.requires.pair.0 c.requires.pair.1
+    _ _ _ _ c.unlink.ensures.heads c.unlink.ensures.words c.read-header.ensures.before c.bucket-list.ensures c.unlink.ensures.unlinked)

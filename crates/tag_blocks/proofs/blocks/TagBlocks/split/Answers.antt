@@ -3,6 +3,8 @@ use Rattle.tag_blocks.specs.Costs.{before_steps}
 use Rattle.tag_blocks.proofs.ClaimLemmas.{claim_counts, claim_listed, claim_size}
 use Rattle.tag_blocks.proofs.CostLemmas.{by_same, then_by}
 use Rattle.tag_blocks.proofs.SplitLemmas.{split_sizes, split_linked, split_kept, split_turns, split_steps}
+use Rattle.tag_blocks.proofs.SplitLemmas.{split_lists}
+use Rattle.tag_blocks.proofs.ListedLemmas.{seen_listed}
 use Rattle.tag_blocks.proofs.blocks.TagBlocks.split.Goals as goal
 
 pub bucket-list-requires-clause-some : goal.bucket-list-requires-clause-some
@@ -155,3 +157,23 @@ returns-clause-steps g c =
     rw (← c.self.view_is) (by_same _ _ _ _ (then_by _ _ _ _ _ c.unlink.ensures.steps (then_by _ _ _ _ _ c.write.ensures.steps
     (then_by _ _ _ _ _ c.write-2.ensures.steps (then_by _ _ _ _ _ c.write-3.ensures.steps
     (then_by _ _ _ _ _ c.set_before.ensures.steps c.push.ensures.steps))))) (omega (arith, last, next)))
+
+pub returns-clause-lists : goal.returns-clause-lists
+returns-clause-lists g c =
+    let s = split_sizes _ _ _ _ c.self.invariant c.self.view_is c.args.at c.args.need c.requires.some c.requires.free.0 c.requires.free.1 in
+    let e = claim_size _ _ _ _ c.self.invariant c.self.view_is c.args.at c.requires.free.0 c.requires.free.1.between _ (rw (← c.self.view_is) at c.requires.told) in
+    let r = s.0 in let h = s.1 in let m = s.2 in
+    let below = g.met.B.Buckets.lawful.below (c.args.header.size - c.args.need) (omega arith) (omega arith) in
+    let pushed = rw (c.set_before.ensures.words, c.write-3.ensures.words, c.write-2.ensures.words, c.write.ensures.words) at c.push.ensures.pushed in
+    let long = rw (c.set_before.ensures.words, c.write-3.ensures.words, c.write-2.ensures.words, c.write.ensures.words) at c.push.ensures.words in
+    split_lists _ _ _ _ c.self.invariant c.self.view_is c.args.at c.args.need c.requires.some c.requires.free.0 c.requires.free.1
+    c.args.tag _ _ _ _ _ c.unlink.ensures.heads c.unlink.ensures.words (rw (← c.self.view_is) at c.requires.told) (rw (← c.self.view_is) at c.requires.before) c.bucket-list.ensures c.unlink.ensures.unlinked
+    _ _ _ c.push.ensures.heads long c.bucket-list-2.ensures pushed (omega (arith, below, c.unlink.ensures.heads, c.self.invariant.as_many))
+
+pub returns-clause-listed : goal.returns-clause-listed
+returns-clause-listed g c =
+    let pushed = rw (c.set_before.ensures.words, c.write-3.ensures.words, c.write-2.ensures.words, c.write.ensures.words) at c.push.ensures.pushed in
+    let long = rw (c.set_before.ensures.words, c.write-3.ensures.words, c.write-2.ensures.words, c.write.ensures.words) at c.push.ensures.words in
+    seen_listed _ _ _ (split_kept _ _ _ _ c.self.invariant c.self.view_is c.args.at c.args.need c.requires.some c.requires.free.0 c.requires.free.1
+    c.args.tag _ _ _ _ _ c.unlink.ensures.heads c.unlink.ensures.words (rw (← c.self.view_is) at c.requires.told) (rw (← c.self.view_is) at c.requires.before) c.bucket-list.ensures c.unlink.ensures.unlinked
+    _ _ _ c.push.ensures.heads long c.bucket-list-2.ensures pushed)

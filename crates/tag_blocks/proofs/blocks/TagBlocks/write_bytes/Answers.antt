@@ -3,6 +3,7 @@ use Rattle.word_bytes.specs.Overwriting.{Overwrites}
 use Rattle.tag_blocks.specs.Blocks.{Tagged}
 use Rattle.tag_blocks.proofs.ViewLemmas.{tags_kept}
 use Rattle.tag_blocks.proofs.AccessLemmas.{access_within, bytes_kept, bytes_blocks}
+use Rattle.tag_blocks.proofs.AccessLemmas.{bytes_lists}
 use Rattle.tag_blocks.proofs.blocks.TagBlocks.write_bytes.Goals as goal
 
 pub overflow_add-first : goal.overflow_add-first
@@ -47,3 +48,7 @@ pub returns-clause-kept : goal.returns-clause-kept
 returns-clause-kept g c = tags_kept _ _ _
     (bytes_kept _ _ _ _ c.self.invariant c.self.view_is c.args.at c.requires.used c.write_run.new.region c.args.from
     c.words_with-n.result c.args.bytes.now c.requires.within c.words_with-n.ensures c.write_run.ensures.words).kept
+
+pub returns-clause-lists : goal.returns-clause-lists
+returns-clause-lists g c = bytes_lists _ _ _ _ c.self.invariant c.self.view_is c.args.at c.requires.used c.write_run.new.region c.args.from
+    c.words_with-n.result c.args.bytes.now c.requires.within c.words_with-n.ensures c.write_run.ensures.words

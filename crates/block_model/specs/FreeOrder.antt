@@ -1,0 +1,114 @@
+-- The order in which the free blocks are used: one list for each bucket, what a carve takes of them, and what a carve and a release leave.
+use Rattle.std.specs.Prelude.{◌≡◌, ℕ, ◌+◌, ◌-◌, ◌*◌, ◌^◌, ◌↔◌, List, [], ◌∷◌, Option, Some, None, length, slice_index, slice_index_or, slice_set, map, drop, nat_eq, nat_le}
+use Rattle.std.specs.Prelude.{not, replicate, cond, if◌then◌else◌}
+use Rattle.std.specs.List.{Contains, IsDistinct, filter}
+use Rattle.block_model.specs.Buckets.{FreeLists}
+use Rattle.block_model.specs.Tiling.{Block, Demand, is_free, block_at, size_at, carved_at}
+
+-- the blocks of a region, and for each bucket the addresses of its free blocks, the next one to be used first
+pub record Listed : Type 0 where
+  pub blocks : List Block
+  pub lists : List (List ℕ)
+
+-- list k
+abbrev pub list_in : List (List ℕ) → ℕ → List ℕ
+list_in lists k = slice_index_or lists k []
+
+-- a free block of bucket k begins at the address
+pub record IsFreeOf (rule : FreeLists) (blocks : List Block) (k a : ℕ) : Type 0 where
+  pub block : Block
+  pub there : block_at blocks a ≡ Some block
+  pub free : block.owner ≡ None
+  pub bucket : rule.bucket block.size ≡ k
+
+-- there are `count` lists; each contains exactly the free blocks of its bucket, each once
+pub record AreListsOf (rule : FreeLists) (count : ℕ) (s : Listed) : Type 0 where
+  pub as_many : length s.lists ≡ count
+  pub members : (k a : ℕ) → Contains (list_in s.lists k) a ↔ IsFreeOf rule s.blocks k a
+  pub once : (k : ℕ) → IsDistinct nat_eq (list_in s.lists k)
+
+-- the first block of the first list that is not empty
+abbrev pub first_listed : List (List ℕ) → Option ℕ
+first_listed [] = None
+first_listed ([] ∷ lists) = first_listed lists
+first_listed ((a ∷ xs) ∷ lists) = Some a
+
+-- the next block for a need: the first block of the first list that is not empty, from the list that is searched first on
+abbrev pub next_block : FreeLists → List (List ℕ) → ℕ → Option ℕ
+next_block rule lists need = first_listed (drop (rule.search need) lists)
+
+-- the other numbers of a list, in order
+abbrev pub others_than : ℕ → List ℕ → List ℕ
+others_than a xs = filter (λ other. not (nat_eq other a)) xs
+
+-- the lists without the block at the address
+abbrev pub lists_without : List (List ℕ) → ℕ → List (List ℕ)
+lists_without lists a = map (others_than a) lists
+
+-- the lists, where a free block of `size` words is the first of its list now
+abbrev pub lists_led_by : FreeLists → List (List ℕ) → ℕ → ℕ → List (List ℕ)
+lists_led_by rule lists a size = slice_set lists (rule.bucket size) (a ∷ list_in lists (rule.bucket size))
+
+-- the lists of a region of `words` words that is one free block
+abbrev pub first_lists : FreeLists → ℕ → ℕ → List (List ℕ)
+first_lists rule count words = lists_led_by rule (replicate count []) 0 words
+
+-- the lists after a carve: the block leaves its list, and the rest of it, if two words or more are left, becomes the first of its list
+abbrev pub lists_carved : FreeLists → Listed → ℕ → ℕ → List (List ℕ)
+lists_carved rule s need place =
+    if nat_le (need + 2) (size_at s.blocks place)
+    then lists_led_by rule (lists_without s.lists place) (place + need) (size_at s.blocks place - need)
+    else lists_without s.lists place
+
+-- a malloc that follows the order: it carves the next block
+pub record CarvesNext (rule : FreeLists) (old : Listed) (d : Demand) (place : ℕ) (new : Listed) : Type 0 where
+  pub next : next_block rule old.lists d.need ≡ Some place
+  pub blocks : new.blocks ≡ carved_at old.blocks place d
+  pub lists : new.lists ≡ lists_carved rule old d.need place
+
+-- the words of the free block that begins at the address, 0 if there is none
+abbrev pub free_size : Option Block → ℕ
+free_size None = 0
+free_size (Some b) = cond (is_free b) b.size 0
+
+abbrev pub free_from : List Block → ℕ → ℕ
+free_from blocks a = free_size (block_at blocks a)
+
+-- the words of the free block that ends at the address, 0 if there is none
+abbrev pub free_up_to : List Block → ℕ → ℕ
+free_up_to [] a = 0
+free_up_to (b ∷ bs) a = if nat_eq (b.address + b.size) a then cond (is_free b) b.size 0 else free_up_to bs a
+
+-- where the block that a release leaves begins, and its words: the block at the address and its free neighbours
+abbrev pub merged_start : List Block → ℕ → ℕ
+merged_start blocks a = a - free_up_to blocks a
+
+abbrev pub merged_size : List Block → ℕ → ℕ
+merged_size blocks a = free_up_to blocks a + (size_at blocks a + free_from blocks (a + size_at blocks a))
+
+-- the lists after a release: its free neighbours leave their lists, and the block that it leaves is the first of its list; a used block is in no list
+abbrev pub lists_released : FreeLists → Listed → ℕ → List (List ℕ)
+lists_released rule s a =
+    lists_led_by rule (lists_without (lists_without s.lists (a + size_at s.blocks a)) (merged_start s.blocks a)) (merged_start s.blocks a) (merged_size s.blocks a)
+
+-- the address of no block
+abbrev pub no_block : ℕ
+no_block = 2 ^ 32 - 1
+
+-- word 1 of a free block: the next block of its list, and the one before it
+abbrev pub link_word : ℕ → ℕ → ℕ
+link_word next previous = next + 2 ^ 32 * previous
+
+-- the first block of a list, if any
+abbrev pub first : List ℕ → ℕ
+first [] = no_block
+first (a ∷ xs) = a
+
+-- word 1 of each block of the list links it with its neighbours there; before the first is `previous`
+abbrev pub AreThreaded : List ℕ → ℕ → List ℕ → Type 0
+AreThreaded words previous [] = Unit {0}
+AreThreaded words previous (a ∷ xs) = (slice_index words (a + 1) ≡ link_word (first xs) previous) × AreThreaded words a xs
+
+-- word 1 of each free block links it with its neighbours in its list
+abbrev pub HaveLinks : List ℕ → List (List ℕ) → Type 0
+HaveLinks words lists = (k : ℕ) → AreThreaded words no_block (list_in lists k)
