@@ -5,3 +5,4 @@ pub use Rattle.cf_model.proofs.EmptyHeaps.{empty_there, no_object, tiled_empty}
 pub use Rattle.cf_model.proofs.Exactly.{both_kinds, given_is_not_refused, not_none_found, resized_is_not_refused}
 pub use Rattle.cf_model.proofs.Owning.{no_one, owned_free, owned_malloc, owned_replaced}
 pub use Rattle.cf_model.proofs.ReadObjects.{fresh_word, objects_told}
+pub use Rattle.cf_model.proofs.OneOutcome.{free_same, one_malloc, one_resize, one_write, order_stays}

@@ -54,6 +54,7 @@ module _ (p : Profile) (ok : AreInRange p) where
     image = image_empty _ (region_words p);
     slots = image_empty _ (region_words p);
     no_tiling = refl;
+    order = tt;
   })
     where
       few : (n c : ℕ) → get_or (replicate n p.k) c 0 ≤ 64
@@ -116,8 +117,8 @@ module _ (p : Profile) (ok : AreInRange p) where
     ]
 
     tiling_kept : (s : HeapState) → s.profile ≡ p → s.tiling ≡ one_free_block (region_words p) → s.held ≡ empty → s.words ≡ words → s.frames ≡ []
-        → s.bounds ≡ [] → KeepsTiling s
-    tiling_kept s is tiles none w frames bounds =
+        → s.bounds ≡ [] → s.order ≡ None → KeepsTiling s
+    tiling_kept s is tiles none w frames bounds unordered =
         let l = large in
         record {
           tiling = rw (is, tiles) (record { fill = (refl, l, omega arith); merged = (refl, tt) });
@@ -132,6 +133,7 @@ module _ (p : Profile) (ok : AreInRange p) where
           });
           no_frames = frames;
           no_bounds = bounds;
+          no_order = unordered;
         }
 
     pub tiled_empty : (k : Kind) → IsTiled k → KeepsRules (empty_heap k p words)
@@ -139,7 +141,7 @@ module _ (p : Profile) (ok : AreInRange p) where
       settings = ok;
       region = count;
       numbers = no_objects (empty_heap k p words) refl;
-      of_kind = rw is (tiling_kept (empty_heap k p words) refl (rw (is, opening_tiling) refl) refl refl (no_table k p is) (rw (is, opening_bounds) refl));
+      of_kind = rw is (tiling_kept (empty_heap k p words) refl (rw (is, opening_tiling) refl) refl refl (no_table k p is) (rw (is, opening_bounds) refl) refl);
     }
 
   -- words of one free block

@@ -69,7 +69,7 @@ one_cause s bytes refusal.Space refusal.Space x y = refl
 pub not_none_found : (m : Held) (h : ℕ) (x : Placed) → get m h ≡ Some x → get m h ≡ None → ⊥
 not_none_found m h x e f = (let g : Some x ≡ None = sym e ∙ f in cc)
 
-same_found : (m : Held) (h : ℕ) (x y : Placed) → get m h ≡ Some x → get m h ≡ Some y → x ≡ y
+pub same_found : (m : Held) (h : ℕ) (x y : Placed) → get m h ≡ Some x → get m h ≡ Some y → x ≡ y
 same_found m h x y e f = (let g : Some x ≡ Some y = sym e ∙ f in cc)
 
 -- a read or write within the object has no cause for a refusal

@@ -1,5 +1,5 @@
 -- The calls of a manager with pages are steps of objects on pages.
-use Rattle.std.proofs.Common.{◌≡◌, ℕ, ap}
+use Rattle.std.proofs.Common.{ℕ, ap}
 use Rattle.cf_base.specs.declared.answers.Freed.{Freed}
 use Rattle.page_model.specs.Steps.{PlacesObject, RemovesObject, Request}
 use Rattle.cf_model.specs.Rules.{IsPaged}

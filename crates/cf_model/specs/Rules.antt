@@ -1,11 +1,12 @@
 -- The rules that every open manager keeps.
-use Rattle.std.specs.Prelude.{◌≡◌, ℕ, IsTrue, ◌+◌, ◌*◌, ◌^◌, ◌≤◌, ◌<◌, List, [], Option, Some, None, length, slice_index}
+use Rattle.std.specs.Prelude.{◌≡◌, ℕ, IfSome, IsTrue, ◌+◌, ◌*◌, ◌^◌, ◌≤◌, ◌<◌, List, [], Option, Some, None, length, slice_index}
 use Rattle.std.specs.FinMap.{get, len}
 use Rattle.cf_base.specs.Settings.{Profile}
 use Rattle.cf_base.specs.Limits.{is_page_size}
 use Rattle.cf_base.specs.declared.kind.Kind.{Kind}
 use Rattle.cf_base.specs.declared.kind.Kind.TheVariants.{Moving, NonMoving, Tlsf, HalfFit}
 use Rattle.page_model.specs.Held.{Held, Placed}
+use Rattle.page_model.specs.Order.{IsOrderOf}
 use Rattle.page_model.specs.Paging.{IsPaging}
 use Rattle.page_model.specs.Arrangement.{IsSound}
 use Rattle.page_model.specs.Bytes.{AreBytes}
@@ -47,6 +48,8 @@ pub record KeepsPages (s : HeapState) : Type 0 where
   -- and zeros fill the rest of each slot
   pub slots : IsSlotImage (paging_in s) s.held s.words
   pub no_tiling : s.tiling ≡ []
+  -- the order, if it has one, is one of its arrangement
+  pub order : IfSome s.order (IsOrderOf (paging_in s) s.held s.profile.proxies)
 
 -- there is no block table
 abbrev pub HasNoFrames : HeapState → Type 0
@@ -86,6 +89,7 @@ pub record KeepsTiling (s : HeapState) : Type 0 where
   pub words : AreTilingWords (content_word s.held) s.tiling s.words
   pub no_frames : s.frames ≡ []
   pub no_bounds : s.bounds ≡ []
+  pub no_order : s.order ≡ None
 
 -- what each kind keeps of a block table; only the non-moving kind has one
 abbrev pub KeepsTable : Kind → HeapState → Type 0

@@ -1,5 +1,5 @@
 -- What contracts see of a manager, as one record.
-use Rattle.std.specs.Prelude.{ℕ, Bool, false, List, [], Option, ◌*◌, refl}
+use Rattle.std.specs.Prelude.{ℕ, Bool, false, List, [], Option, None, ◌*◌, refl}
 use Rattle.std.specs.FinMap as map
 use Rattle.std.specs.Coded.{Coded, code_by, coded×, coded_ℕ, coded_list, coded_bool, coded_option}
 use Rattle.cf_base.specs.Settings.{Profile}
@@ -9,6 +9,7 @@ use Rattle.cf_base.specs.declared.kind.Kind.TheVariants.{Moving, NonMoving, Tlsf
 use Rattle.cf_base.specs.declared.kind.Layout.{Layout}
 use Rattle.cf_base.specs.declared.kind.Layout.TheVariants.{Words, Blocks}
 use Rattle.page_model.specs.Held.{Held, placed_code}
+use Rattle.page_model.specs.Order.{Order}
 use Rattle.page_model.specs.Paging.{Paging, paging_of}
 use Rattle.block_model.specs.Tiling.{Block}
 
@@ -28,6 +29,8 @@ pub record HeapState : Type 0 where
   pub frames : List ℕ
   -- the blocks that tile the region
   pub tiling : List Block
+  -- with pages, the pages and numbers that are used next; none if the manager promises no order
+  pub order : Option Order
   -- the steps of the last malloc or free, with pages also of the last resize
   pub cost : ℕ
 
@@ -37,7 +40,7 @@ no_profile = record { pages = 0; page_words = 0; k = 0; proxies = 0 }
 
 -- a manager that was never open
 abbrev pub closed_state : Kind → HeapState
-closed_state kind = record { kind = kind; is_open = false; profile = no_profile; bounds = []; held = map.empty; words = []; frames = []; tiling = []; cost = 0 }
+closed_state kind = record { kind = kind; is_open = false; profile = no_profile; bounds = []; held = map.empty; words = []; frames = []; tiling = []; order = None; cost = 0 }
 
 -- the sequence of slot sizes of each kind
 abbrev pub layout_of : Kind → Layout
@@ -64,19 +67,24 @@ abbrev pub block_code : Coded Block
 block_code = code_by (ℕ × (ℕ × Option ℕ)) (coded× coded_ℕ (coded× coded_ℕ (coded_option coded_ℕ)))
     (λ b. (b.address, (b.size, b.owner))) (λ q. record { address = q.0; size = q.1.0; owner = q.1.1 }) (λ _. refl)
 
+-- an order is stored as nested pairs
+abbrev pub order_code : Coded Order
+order_code = code_by (List ℕ × (List (List ℕ) × List ℕ)) (coded× (coded_list coded_ℕ) (coded× (coded_list (coded_list coded_ℕ)) (coded_list coded_ℕ)))
+    (λ o. (o.pool, (o.not_full, o.spare))) (λ q. record { pool = q.0; not_full = q.1.0; spare = q.1.1 }) (λ _. refl)
+
 -- the fields of a state, as nested pairs
 abbrev pub StateParts : Type 0
-StateParts = Kind × (Bool × (Profile × (List ℕ × (Held × (List ℕ × (List ℕ × (List Block × ℕ)))))))
+StateParts = Kind × (Bool × (Profile × (List ℕ × (Held × (List ℕ × (List ℕ × (List Block × (Option Order × ℕ))))))))
 
 -- nested pairs are stored as such
 abbrev pub parts_code : Coded StateParts
 parts_code = coded× kind.the_row.coded (coded× coded_bool (coded× profile_code (coded× (coded_list coded_ℕ) (coded× (map.code coded_ℕ placed_code)
-    (coded× (coded_list coded_ℕ) (coded× (coded_list coded_ℕ) (coded× (coded_list block_code) coded_ℕ)))))))
+    (coded× (coded_list coded_ℕ) (coded× (coded_list coded_ℕ) (coded× (coded_list block_code) (coded× (coded_option order_code) coded_ℕ))))))))
 
 -- a state is stored as the nested pairs of its fields
 abbrev pub state_code : Coded HeapState
 state_code = code_by StateParts parts_code
-    (λ s. (s.kind, (s.is_open, (s.profile, (s.bounds, (s.held, (s.words, (s.frames, (s.tiling, s.cost)))))))))
+    (λ s. (s.kind, (s.is_open, (s.profile, (s.bounds, (s.held, (s.words, (s.frames, (s.tiling, (s.order, s.cost))))))))))
     (λ q. record {
       kind = q.0;
       is_open = q.1.0;
@@ -87,6 +95,7 @@ state_code = code_by StateParts parts_code
       frames =
           q.1.1.1.1.1.1.0;
       tiling = q.1.1.1.1.1.1.1.0;
-      cost = q.1.1.1.1.1.1.1.1;
+      order = q.1.1.1.1.1.1.1.1.0;
+      cost = q.1.1.1.1.1.1.1.1.1;
     })
     (λ _. refl)

@@ -23,6 +23,7 @@ use Rattle.page_model.specs.Arrangement.{class_at, LacksRoom}
 use Rattle.page_model.specs.Bytes.{written}
 use Rattle.page_model.specs.Frames.{first_frames, frames_after, block_of, IsPhysical}
 use Rattle.page_model.specs.Image.{IsOutside, slot_for}
+use Rattle.page_model.specs.Order.{Order, first_order}
 use Rattle.page_model.specs.Steps.{Request, Leaves, IsFreePlace, zeros_at, Moves, without, resized, RefitsObject as IsResizedBy}
 use Rattle.block_model.specs.Tiling.{Block, LacksBlock, Carves, released, one_free_block, block_need, size_at}
 use Rattle.cf_model.specs.Families.{paged, tiled, family_of, free_lists_of}
@@ -82,13 +83,24 @@ empty_heap kind p words = record {
   frames =
       opening_frames kind p;
   tiling = opening_tiling kind p;
+  order = None;
   cost = 0;
 }
+
+-- the same, with this order
+abbrev pub ordered_heap : Kind → Profile → List ℕ → Option Order → HeapState
+ordered_heap kind p words order = record (empty_heap kind p words) { order = order }
+
+-- the order at the start, if there is one: pages and numbers in rising order
+abbrev pub IsOpeningOrder : Kind → Profile → Option Order → Type 0
+IsOpeningOrder kind p None = ⊤
+IsOpeningOrder kind p (Some order) = IsPaged kind × (order ≡ first_order (paging_in (empty_heap kind p [])) p.proxies)
 
 -- an open heap without objects; each class has the bound of the settings
 pub record IsEmptyHeap (kind : Kind) (s : Settings) (new : HeapState) : Type 0 where
   pub words : IsOpeningWords kind (profile_of s) new.words
-  pub whole : new ≡ empty_heap kind (profile_of s) new.words
+  pub order : IsOpeningOrder kind (profile_of s) new.order
+  pub whole : new ≡ ordered_heap kind (profile_of s) new.words new.order
 
 -- no space for an object of `bytes` bytes: its class has no slot left, or no free block serves
 abbrev pub LacksRoomIn : Kind → HeapState → ℕ → Type 0
@@ -116,7 +128,13 @@ pub record GivesObject (old : HeapState) (asked : Request) (new : HeapState) : T
   pub unused : get old.held asked.number ≡ None
   pub place : ℕ
   pub placed : IsPlacedBy old.kind old asked place new
-  pub whole : new ≡ record old { held = insert old.held asked.number (zeros_at place asked.length); words = new.words; tiling = new.tiling; cost = new.cost }
+  pub whole : new ≡ record old {
+    held = insert old.held asked.number (zeros_at place asked.length);
+    words = new.words;
+    tiling = new.tiling;
+    order = new.order;
+    cost = new.cost;
+  }
 
 -- the object would fit a page, but all proxies are in use
 pub record WantsProxy (s : HeapState) (bytes : ℕ) : Type 0 where
@@ -247,6 +265,7 @@ pub record ResizesObject (old : HeapState) (asked : Request) (done : Resized) (n
     words = new.words;
     frames =
         frames_left old.kind old (record { held = new.held; moved = number_of done.moved });
+    order = new.order;
     cost = new.cost;
   }
 

@@ -1,8 +1,10 @@
 //! What the clauses of `Manager` imply together. The functions do nothing; each contract is a law.
-ghost use Rattle.std.specs.Prelude.{◌≡◌, ◌≢◌, ℕ, ◌+◌, ◌<◌, ◌≤◌, List, None, Some, length, replicate, slice_index};
+ghost use Rattle.std.specs.Prelude.{◌≡◌, ◌≢◌, ℕ, ◌+◌, ◌<◌, ◌≤◌, IsSome, List, None, Result, Some, length, replicate, slice_index};
 ghost use Rattle.std.specs.FinMap.{get, insert, remove};
 ghost use Rattle.cf_base.specs.declared.answers.AccessFault.{AccessFault};
 ghost use Rattle.cf_base.specs.declared.answers.Freed.{Freed};
+ghost use Rattle.cf_base.specs.declared.answers.Handle.{Handle};
+ghost use Rattle.cf_base.specs.declared.answers.NotLive.{NotLive};
 ghost use Rattle.cf_base.specs.declared.answers.Refusal.{Refusal};
 ghost use Rattle.cf_base.specs.declared.answers.ResizeFault.{ResizeFault};
 ghost use Rattle.cf_base.specs.declared.answers.Resized.{Resized};
@@ -16,10 +18,12 @@ ghost use Rattle.block_model.specs.Tiling.{Block, Carves, IsCarvedTo, IsTiling, 
 ghost use Rattle.block_model.specs.ReadWords.{read_blocks};
 ghost use Rattle.block_model.specs.Words.{AreCleared, AreTilingWords, HaveHeaders};
 ghost use Rattle.page_model.specs.Steps.{PlacesObject, RefitsObject, RemovesObject, Request, zeros_at};
+ghost use Rattle.cf_model.specs.Ordered.{IsOrderedFree, IsOrderedMalloc, IsOrderedResize};
 ghost use Rattle.cf_model.specs.ReadObjects.{read_objects};
 ghost use Rattle.cf_model.specs.Rules.{AreInRange, AreObjects, AreOwned, IsPaged, IsTiled, KeepsRules, KeepsTiling, content_word};
 ghost use Rattle.cf_model.specs.State.{HeapState, paging_in, region_words};
 ghost use Rattle.cf_model.specs.Steps.{BlocksStay, ChangesCost, FreesObject, GivesObject, IsFault, IsOpeningWords, IsRefusedBy, IsResizeFault, Part};
+ghost use Rattle.cf_model.specs.Steps.{IsFreeStep, IsMallocStep, IsResizeStep, IsWriteStep};
 ghost use Rattle.cf_model.specs.Steps.{ReadsBytes, ResizesObject, WritesBytes, empty_heap, number_of};
 
 /// An empty heap of each kind keeps the rules. With blocks, its words are the header of the one
@@ -126,4 +130,28 @@ pub fn calls_are_the_steps_of_pages()
         → RemovesObject (paging_in old) old.held h (record { held = new.held; moved = number_of freed.moved }) }
     ensures resize { (old new : HeapState) (asked : Request) (done : Resized) → ResizesObject old asked done new
         → RefitsObject (paging_in old) old.held asked (record { held = new.held; moved = number_of done.moved }) }
+{}
+
+/// If a manager with pages has an order, each malloc, free and resize has one answer and leaves one
+/// state, with its addresses, words, order and cost. A write does so without an order too.
+pub fn an_order_leaves_one_outcome()
+    ensures malloc { (old new next : HeapState) (bytes : ℕ) (r s : Result Handle Refusal) → IsPaged old.kind → IsSome old.order
+        → KeepsRules old → KeepsRules new → KeepsRules next
+        → IsMallocStep old bytes r new → IsOrderedMalloc old bytes r new
+        → IsMallocStep old bytes s next → IsOrderedMalloc old bytes s next
+        → (r ≡ s) × (next ≡ new) }
+    ensures free { (old new next : HeapState) (h : ℕ) (r s : Result Freed NotLive) → IsPaged old.kind → IsSome old.order
+        → KeepsRules old → KeepsRules new → KeepsRules next
+        → IsFreeStep old h r new → IsOrderedFree old h r new
+        → IsFreeStep old h s next → IsOrderedFree old h s next
+        → (r ≡ s) × (next ≡ new) }
+    ensures resize { (old new next : HeapState) (asked : Request) (r s : Result Resized ResizeFault) → IsPaged old.kind → IsSome old.order
+        → KeepsRules old → KeepsRules new → KeepsRules next
+        → IsResizeStep old asked r new → IsOrderedResize old asked r new
+        → IsResizeStep old asked s next → IsOrderedResize old asked s next
+        → (r ≡ s) × (next ≡ new) }
+    ensures write { (old new next : HeapState) (part : Part) (bytes : List ℕ) (r s : Result Unit AccessFault) → IsPaged old.kind
+        → KeepsRules new → KeepsRules next
+        → IsWriteStep old part bytes r new → IsWriteStep old part bytes s next
+        → (r ≡ s) × (next ≡ new) }
 {}

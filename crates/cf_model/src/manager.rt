@@ -3,6 +3,7 @@ ghost use Rattle.std.specs.Prelude.{◌≡◌, ◌+◌, ◌^◌, ◌≤◌, IsTr
 ghost use Rattle.std.specs.FinMap as map;
 ghost use Rattle.cf_model.specs.Answers.{place_of, block_in, classes_in, figures_in, totals_in, usage_in, class_with, bound_put};
 ghost use Rattle.cf_model.specs.Costs.{TakesAtMost, free_bound, resize_bound, access_bound, TellsCost};
+ghost use Rattle.cf_model.specs.Ordered.{IsOrderedFree, IsOrderedMalloc, IsOrderedResize};
 ghost use Rattle.cf_model.specs.Rules.{KeepsRules};
 ghost use Rattle.cf_model.specs.State.{HeapState};
 ghost use Rattle.cf_model.specs.Steps.{
@@ -29,6 +30,10 @@ use step_ledger::Steps;
 /// A manager of kind `Moving` or `NonMoving` divides the region into pages, and pages into slots of
 /// size classes, by Compact-fit (2008). One of kind `Tlsf` or `HalfFit` divides it into blocks, by
 /// TLSF (2004) or Half-Fit (1995).
+///
+/// A manager with pages may promise an order (`HeapState`, field `order`): then each malloc, free and
+/// resize uses the page, slot, number and object that come next, and takes exactly the steps that the
+/// state before and the answer give (clause `ordered`).
 pub trait Manager: Drop {
     /// What contracts see of it.
     ghost state: { Self → HeapState };
@@ -59,6 +64,7 @@ pub trait Manager: Drop {
         ensures same { StaysOpen (state self.old) (state self.new) }
         ensures step { IsMallocStep (state self.old) bytes result (state self.new) }
         ensures rules { KeepsRules (state self.new) }
+        ensures ordered { IsOrderedMalloc (state self.old) bytes result (state self.new) }
         ensures bound { TakesAtMost (state self.old).kind steps.old steps.new 64 }
         ensures told { steps.new ≡ steps.old + (state self.new).cost };
 
@@ -72,6 +78,7 @@ pub trait Manager: Drop {
         ensures same { StaysOpen (state self.old) (state self.new) }
         ensures step { IsFreeStep (state self.old) h.0 result (state self.new) }
         ensures rules { KeepsRules (state self.new) }
+        ensures ordered { IsOrderedFree (state self.old) h.0 result (state self.new) }
         ensures bound { TakesAtMost (state self.old).kind steps.old steps.new (free_bound result) }
         ensures told { steps.new ≡ steps.old + (state self.new).cost }
         ensures blocks { BlocksStayIn (state self.old).kind (state self.old) h.0 (state self.new) };
@@ -113,6 +120,7 @@ pub trait Manager: Drop {
         ensures same { StaysOpen (state self.old) (state self.new) }
         ensures step { IsResizeStep (state self.old) (record { number = h.0; length = bytes }) result (state self.new) }
         ensures rules { KeepsRules (state self.new) }
+        ensures ordered { IsOrderedResize (state self.old) (record { number = h.0; length = bytes }) result (state self.new) }
         ensures bound { TakesAtMost (state self.old).kind steps.old steps.new (resize_bound result) }
         ensures told { TellsCost (state self.old).kind steps.old steps.new (state self.new).cost }
         ensures blocks { BlocksStayIn (state self.old).kind (state self.old) h.0 (state self.new) };

@@ -1,4 +1,4 @@
-//! Long runs of drawn calls, against a reference implementation that computes each answer from the objects.
+//! Long runs of drawn calls, against a reference implementation that computes each result from the objects.
 ghost use Rattle.std.specs.Prelude.{◌≡◌, ◌≤◌, ◌<◌, IfOk};
 
 use crate::bounds::open_bounded;
@@ -64,7 +64,7 @@ pub struct RandomRun<H: Manager> {
     pub(crate) bounds: Vec<u32>,
     /// How many objects a free or a resize of another one has moved.
     moves: u32,
-    /// There are more frees than mallocs now, for so many calls.
+    /// Whether frees are drawn more often than mallocs in this phase.
     drains: bool,
     phase: u32,
     draw: SplitMix64,
@@ -322,8 +322,8 @@ impl<H: Manager> RandomRun<H> {
         1 < slots && on_page == slots && bound == Some(self.reference.not_full_pages(class))
     }
 
-    /// The object that moved, if one did, stands at the address now, and its blocks have changed places
-    /// with those there.
+    /// If an object moved, it is at the address now, and its blocks have changed places with the blocks
+    /// there.
     fn fill_hole(
         &mut self,
         alloc: Global,

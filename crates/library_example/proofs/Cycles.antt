@@ -12,9 +12,10 @@ use Rattle.slice_model.specs.declared.answers.SliceRefusal.TheVariants.{Busy}
 use Rattle.slice_model.specs.declared.job_slot.JobSlot.{JobSlot}
 use Rattle.slice_model.specs.Runs.{Happens, Working, Free, Malloc}
 use Rattle.slice_model.specs.State.{Plan, IsPlan, Job, Sliced, IsKept, job_slot, Idle, Clear, Move}
-use Rattle.slice_model.specs.Steps.{AreSlices, IsRefusedBy, IsSlice, SliceOf, WantsSlot}
-use Rattle.slice_model.proofs.CallerLemmas.{call_on_map, job_class, objects_sliced}
+use Rattle.slice_model.specs.Steps.{AreSlices, IsRefusedBy, IsSlice, WantsSlot}
+use Rattle.slice_model.proofs.CallerLemmas.{call_on_map, job_class, objects_sliced, slices_idle, slices_split}
 use Rattle.sliced_heap.specs.Shown.{KeepsRules, SlicedState, StaysOpen, plan_in, working_in}
+use Rattle.sliced_heap.proofs.CallerLemmas.{plan_stays}
 use Rattle.step_ledger.specs.Counting.{RoseAtMost}
 use Rattle.library_example.specs.Cycle.{HasFrame, others}
 
@@ -32,23 +33,6 @@ module _ (plan : Plan) where
   objects_after zero old new same = ap (λ (s : Sliced). objects s.held) same
   objects_after (suc n) old new (mid, is, rest) = objects_after n mid new rest ∙ objects_sliced plan old mid is
 
-  split : (a b : ℕ) (old new : Sliced) → AreSlices plan (a + b) old new → (mid : Sliced) × AreSlices plan a old mid × AreSlices plan b mid new
-  split zero b old new s = (old, refl, (let e : 0 + b ≡ b = omega arith in subst (λ n. AreSlices plan n old new) e s))
-  split (suc a) b old new s =
-      let e : suc a + b ≡ suc (a + b) = omega arith in
-      let s' = subst (λ n. AreSlices plan n old new) e s in
-      let rest = split a b s'.0 new s'.2 in
-      (rest.0, (s'.0, s'.1, rest.1), rest.2)
-
-  idle_slice : (old new : Sliced) → old.job ≡ Idle → IsSlice plan old new → new.job ≡ Idle
-  idle_slice old new idle slice =
-      let none : SliceOf plan old None new = subst (λ j. SliceOf plan old (job_slot j) new) idle slice in
-      ap (λ (s : Sliced). s.job) none ∙ idle
-
-  stays_idle : (n : ℕ) (old new : Sliced) → old.job ≡ Idle → AreSlices plan n old new → new.job ≡ Idle
-  stays_idle zero old new idle same = ap (λ (s : Sliced). s.job) same ∙ idle
-  stays_idle (suc n) old new idle (mid, is, rest) = stays_idle n mid new (idle_slice old mid idle is) rest
-
   -- what the law on slices says of a pending job
   abbrev pub EndsBySlices : Type 0
   EndsBySlices = (old new : Sliced) (k : JobSlot) → IsPlan plan → IsKept plan old → job_slot old.job ≡ Some k
@@ -61,7 +45,7 @@ module _ (plan : Plan) where
     idle_after n old new kept enough s = go (job_slot old.job) refl
       where
         go : (o : Option JobSlot) → job_slot old.job ≡ o → new.job ≡ Idle
-        go None e = stays_idle n old new (is_idle old.job e) s
+        go None e = slices_idle plan n old new (is_idle old.job e) s
         go (Some k) e =
             let under = job_class plan.paging old.held old.job kept.job k e in
             let fits = slot_fits plan.paging ok.paging k.class under.class in
@@ -70,17 +54,14 @@ module _ (plan : Plan) where
             let b = ceil_mono (slot_words plan.paging k.class) plan.paging.page_words plan.quantum fits in
             let c : ℕ = ceil_div (slot_words plan.paging k.class - k.done) plan.quantum + ceil_div (slot_words plan.paging k.class) plan.quantum in
             let sum : c + (n - c) ≡ n = omega arith in
-            let parts = split c (n - c) old new (subst (λ m. AreSlices plan m old new) (sym sum) s) in
-            stays_idle (n - c) parts.0 new (ends old parts.0 k ok kept e parts.1) parts.2
-
-pub same_plan : (old new : SlicedState) → StaysOpen old new → plan_in new ≡ plan_in old
-same_plan old new stays = (let p = stays.profile in let q = stays.quantum in rw p (rw q refl))
+            let parts = slices_split plan c (n - c) old new (subst (λ m. AreSlices plan m old new) (sym sum) s) in
+            slices_idle plan (n - c) parts.0 new (ends old parts.0 k ok kept e parts.1) parts.2
 
 pub next_slice : (old mid new : SlicedState) (n : ℕ) → StaysOpen old mid → AreSlices (plan_in old) n (working_in old).state (working_in mid).state
     → IsSlice (plan_in mid) (working_in mid).state (working_in new).state
     → AreSlices (plan_in old) (n + 1) (working_in old).state (working_in new).state
 next_slice old mid new n stays slices slice =
-    let is = subst (λ p. IsSlice p (working_in mid).state (working_in new).state) (same_plan old mid stays) slice in
+    let is = subst (λ p. IsSlice p (working_in mid).state (working_in new).state) (plan_stays old mid stays) slice in
     let e : suc n ≡ n + 1 = omega arith in
     subst (λ k. AreSlices (plan_in old) k (working_in old).state (working_in new).state) e
     (slices_more (plan_in old) n (working_in old).state (working_in mid).state (working_in new).state slices is)
@@ -120,7 +101,7 @@ module _ (old freed ready : SlicedState) (last n : ℕ) (rules : KeepsRules old)
       → IsRefusedBy (plan_in new) (working_in new).state bytes cause × (objects new.held ≡ others old last)
   has_none new bytes cause stays is same =
       let s : (working_in new).state ≡ (working_in ready).state = ap (λ (w : Working). w.state) same in (
-        subst (λ p. IsRefusedBy p (working_in new).state bytes cause) (sym (same_plan ready new stays))
+        subst (λ p. IsRefusedBy p (working_in new).state bytes cause) (sym (plan_stays ready new stays))
             (subst (λ t. IsRefusedBy (plan_in ready) t bytes cause) (sym s) is),
         ap (λ (t : Sliced). objects t.held) s ∙ left,
       )

@@ -1,12 +1,10 @@
 -- An object that was just made is written with no refusal, and has the bytes.
-use Rattle.std.proofs.Common.{◌≡◌, ℕ, ◌+◌, ◌-◌, ◌≤◌, List, [], ◌∷◌, ◌++◌, Some, length, take, drop, replicate, arith, sym, ◌∙◌, ap, refl, inl, inr}
+use Rattle.std.proofs.Common.{◌≡◌, ℕ, ◌+◌, ◌-◌, ◌≤◌, List, [], ◌∷◌, ◌++◌, Some, length, take, drop, replicate, arith, sym, ◌∙◌, ap, refl}
 use Rattle.std.specs.Prelude.{Result, Ok, Err, None, IfOk, OnOk}
 use Rattle.std.specs.Result.{result_ok}
-use Rattle.std.specs.Ordering.{nat_cmp}
-use Rattle.std.proofs.lemmas.Bool.{cases_eq}
 use Rattle.std.proofs.lemmas.List.{drop-replicate, length-replicate}
 use Rattle.std.proofs.lemmas.Option.{same_Some}
-use Rattle.std.specs.FinMap.{FinMap, empty, get, insert}
+use Rattle.std.specs.FinMap.{empty, get, insert}
 use Rattle.cf_base.specs.declared.answers.AccessFault.{AccessFault}
 use Rattle.cf_base.specs.declared.answers.AccessFault.TheVariants as access
 use Rattle.cf_base.specs.declared.answers.Handle.{Handle}
@@ -14,7 +12,7 @@ use Rattle.cf_base.specs.declared.answers.OutOfMemory.{OutOfMemory}
 use Rattle.cf_base.specs.declared.answers.Refusal.{Refusal}
 use Rattle.cf_base.specs.declared.kind.Kind.{Kind}
 use Rattle.cf_base.specs.declared.settings.Settings.{Settings}
-use Rattle.cf_lemmas.proofs.Maps.{equal_maps, get_inserted, get_insert_other}
+use Rattle.cf_lemmas.proofs.Maps.{get_inserted, insert_twice}
 use Rattle.cf_lemmas.proofs.MapValues.{map_values-insert}
 use Rattle.cf_lemmas.proofs.Values.{map_values-empty}
 use Rattle.page_model.specs.Held.{Placed, objects}
@@ -24,13 +22,6 @@ use Rattle.cf_model.specs.State.{HeapState}
 use Rattle.cf_model.specs.Steps.{GivesObject, IsEmptyHeap, IsWriteStep, StaysOpen, WritesBytes}
 use Rattle.cf_model.proofs.CallerLemmas.{not_none_found}
 use Rattle.library_example.specs.Stored.{HoldsOne, begun, start_of}
-
--- the second of two insertions under one number is what counts
-put_twice : {V : Type 0} (m : FinMap nat_cmp V) (h : ℕ) (v w : V) → insert (insert m h v) h w ≡ insert m h w
-put_twice m h v w = equal_maps _ _ (λ q. elim (cases_eq q h) [
-  | inl is ↦ rw is (get_inserted (insert m h v) h w ∙ sym (get_inserted m h w))
-  | inr ne ↦ get_insert_other (insert m h v) h w q ne ∙ get_insert_other m h v q ne ∙ sym (get_insert_other m h w q ne)
-])
 
 take_none : (v : List ℕ) → take 0 v ≡ []
 take_none [] = refl
@@ -66,7 +57,7 @@ module _ (old made after : HeapState) (asked : Request) (bytes : List ℕ) (give
       let whole : w.object ≡ object = same_Some w.object object (sym w.found ∙ there) in
       let first = ap (λ (s : HeapState). objects s.held) given.whole ∙ map_values-insert (λ (x : Placed). x.bytes) old.held asked.number _ in
       let then = ap (λ (s : HeapState). objects s.held) w.whole ∙ map_values-insert (λ (x : Placed). x.bytes) made.held asked.number _ in
-      then ∙ ap (λ m. insert m asked.number (written w.object.bytes 0 bytes)) first ∙ put_twice (objects old.held) asked.number _ _
+      then ∙ ap (λ m. insert m asked.number (written w.object.bytes 0 bytes)) first ∙ insert_twice (objects old.held) asked.number _ _
       ∙ ap (λ (x : Placed). insert (objects old.held) asked.number (written x.bytes 0 bytes)) whole
       ∙ ap (insert (objects old.held) asked.number) (over_zeros bytes asked.length)
 

@@ -16,7 +16,7 @@ pub record HasFrame (old : SlicedState) (last bytes frame : ℕ) (new : SlicedSt
   pub unused : get (others old last) frame ≡ None
   pub whole : objects new.held ≡ insert (others old last) frame (replicate bytes 0)
 
--- The cause where there is no frame. All others keep their bytes, and so does the last frame if it was not freed.
+-- The cause if there is no frame. All others keep their bytes, and so does the last frame if it was not freed.
 abbrev pub IsMissed : SlicedState → ℕ → ℕ → Missed → SlicedState → Type 0
 IsMissed old last bytes (missed.Free cause) new = IsFaultOf (working_in old).state last cause × (working_in new ≡ working_in old)
 IsMissed old last bytes (missed.Malloc cause) new = IsRefusedBy (plan_in new) (working_in new).state bytes cause × (objects new.held ≡ others old last)

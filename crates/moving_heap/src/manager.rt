@@ -1,5 +1,5 @@
 //! The heap that a caller holds: closed, or open.
-ghost use Rattle.std.specs.Prelude.{◌≡◌, ◌+◌, ◌^◌, ◌≤◌, ℕ, ◌<◌, List, IfErr, IfOk, IsTrue, Result, if◌then◌else◌, is_some, length, slice_get, option_copied, option_map};
+ghost use Rattle.std.specs.Prelude.{◌≡◌, ◌+◌, ◌^◌, ◌≤◌, ℕ, ◌<◌, List, IfErr, IfOk, IsSome, IsTrue, OnErr, OnOk, Result, if◌then◌else◌, is_some, length, slice_get, option_copied, option_map};
 ghost use Rattle.std.specs.FinMap as map;
 ghost use Rattle.page_model.specs.Held.{Placed};
 ghost use Rattle.page_model.specs.Arrangement.{home_pages, not_full_pages, free_pages};
@@ -8,8 +8,9 @@ ghost use Rattle.cf_base.specs.declared.answers.Refusal.{Refusal};
 ghost use Rattle.cf_base.specs.declared.kind.Kind.TheVariants.{Moving};
 ghost use Rattle.cf_model.specs.Answers.{block_in, classes_in, place_of, totals_in, usage_in};
 ghost use Rattle.cf_model.specs.Costs.{TakesAtMost, TellsCost, access_bound, free_bound, resize_bound};
+ghost use Rattle.cf_model.specs.Ordered.{IsOrderedFree, IsOrderedMalloc, IsOrderedResize};
 ghost use Rattle.cf_model.specs.Rules.{KeepsRules};
-ghost use Rattle.cf_model.specs.Steps.{BlocksStayIn, IsFreeStep, IsMallocStep, IsReadAnswer, IsRefusedBy, IsResizeStep, IsWriteStep, StaysOpen};
+ghost use Rattle.cf_model.specs.Steps.{BlocksStayIn, IsClosed, IsEmptyHeap, IsFreeStep, IsMallocStep, IsReadAnswer, IsRefusedBy, IsResizeStep, IsWriteStep, StaysOpen};
 ghost use Rattle.cf_model.specs.State.{HeapState, closed_state, paging_in};
 ghost use Rattle.paged_heap.specs.Costs.{access_steps, free_steps, malloc_steps, resize_steps};
 ghost use Rattle.std.specs.Borrow.{sem};
@@ -70,11 +71,20 @@ impl Manager for MovingHeap {
         Kind::Moving
     }
 
-    fn is_open(&self) -> bool {
+    fn is_open(&self) -> bool
+        ensures value { result ≡ self.now.is_open }
+        ensures rules { IsTrue result → KeepsRules self.now }
+        ensures order { IsTrue result → IsSome self.now.order }
+    {
         self.inner.is_some()
     }
 
-    fn open_heap(&mut self, s: &Settings) -> Result<(), OutOfMemory> {
+    fn open_heap(&mut self, s: &Settings) -> Result<(), OutOfMemory>
+        ensures ok { OnOk result (IsEmptyHeap self.old.kind s.now self.new) }
+        ensures rules { OnOk result (KeepsRules self.new) }
+        ensures err { OnErr result (IsClosed self.old self.new) }
+        ensures order { OnOk result (IsSome self.new.order) }
+    {
         self.inner = None;
         self.inner = Some(OpenHeap::new::<Direct>(self.alloc, s, Layout::Words, None)?);
         Ok(())
@@ -86,6 +96,7 @@ impl Manager for MovingHeap {
         ensures same { StaysOpen self.old self.new }
         ensures step { IsMallocStep self.old bytes result self.new }
         ensures rules { KeepsRules self.new }
+        ensures ordered { IsOrderedMalloc self.old bytes result self.new }
         ensures bound { TakesAtMost self.old.kind steps.old steps.new 64 }
         ensures told { steps.new ≡ steps.old + self.new.cost }
         ensures steps { RoseAtMost steps.old steps.new (malloc_steps Moving) }
@@ -102,6 +113,7 @@ impl Manager for MovingHeap {
         ensures same { StaysOpen self.old self.new }
         ensures step { IsFreeStep self.old h.0 result self.new }
         ensures rules { KeepsRules self.new }
+        ensures ordered { IsOrderedFree self.old h.0 result self.new }
         ensures bound { TakesAtMost self.old.kind steps.old steps.new (free_bound result) }
         ensures told { steps.new ≡ steps.old + self.new.cost }
         ensures blocks { BlocksStayIn self.old.kind self.old h.0 self.new }
@@ -154,6 +166,7 @@ impl Manager for MovingHeap {
         ensures same { StaysOpen self.old self.new }
         ensures step { IsResizeStep self.old (record { number = h.0; length = bytes }) result self.new }
         ensures rules { KeepsRules self.new }
+        ensures ordered { IsOrderedResize self.old (record { number = h.0; length = bytes }) result self.new }
         ensures bound { TakesAtMost self.old.kind steps.old steps.new (resize_bound result) }
         ensures told { TellsCost self.old.kind steps.old steps.new self.new.cost }
         ensures blocks { BlocksStayIn self.old.kind self.old h.0 self.new }

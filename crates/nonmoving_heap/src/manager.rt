@@ -1,5 +1,5 @@
 //! The heap that a caller holds: closed, or open.
-ghost use Rattle.std.specs.Prelude.{◌≡◌, ◌+◌, ◌^◌, ◌<◌, ◌≤◌, [], IfErr, IfOk, IsTrue, Result, if◌then◌else◌, is_some, length, slice_get, option_map};
+ghost use Rattle.std.specs.Prelude.{◌≡◌, ◌+◌, ◌^◌, ◌<◌, ◌≤◌, [], IfErr, IfOk, IsSome, IsTrue, OnErr, OnOk, Result, if◌then◌else◌, is_some, length, slice_get, option_map};
 ghost use Rattle.std.specs.FinMap as map;
 ghost use Rattle.page_model.specs.Held.{Placed};
 ghost use Rattle.page_model.specs.Arrangement.{home_pages, not_full_pages, free_pages};
@@ -8,10 +8,11 @@ ghost use Rattle.cf_base.specs.declared.answers.Refusal.{Refusal};
 ghost use Rattle.cf_base.specs.declared.kind.Kind.TheVariants.{NonMoving};
 ghost use Rattle.cf_model.specs.Answers.{block_in, classes_in, place_of, totals_in, usage_in};
 ghost use Rattle.cf_model.specs.Costs.{TakesAtMost, TellsCost, access_bound, free_bound, resize_bound};
+ghost use Rattle.cf_model.specs.Ordered.{IsOrderedFree, IsOrderedMalloc, IsOrderedResize};
 ghost use Rattle.cf_model.specs.Rules.{KeepsRules};
 ghost use Rattle.paged_heap.specs.Costs.{access_steps, free_steps, malloc_steps, resize_steps};
 ghost use Rattle.step_ledger.specs.Counting.{RoseAtMost, RoseBy};
-ghost use Rattle.cf_model.specs.Steps.{BlocksStayIn, IsEmptyHeap, IsFreeStep, IsMallocStep, IsReadAnswer, IsRefusedBy, IsResizeStep, IsWriteStep, StaysOpen};
+ghost use Rattle.cf_model.specs.Steps.{BlocksStayIn, IsClosed, IsEmptyHeap, IsFreeStep, IsMallocStep, IsReadAnswer, IsRefusedBy, IsResizeStep, IsWriteStep, StaysOpen};
 ghost use Rattle.cf_model.specs.State.{HeapState, closed_state, paging_in};
 ghost use Rattle.page_model.specs.Frames.{block_of};
 ghost use Rattle.paged_heap.specs.Layout.{Holds, state_at};
@@ -71,11 +72,20 @@ impl Manager for NonMovingHeap {
         Kind::NonMoving
     }
 
-    fn is_open(&self) -> bool {
+    fn is_open(&self) -> bool
+        ensures value { result ≡ self.now.state.is_open }
+        ensures rules { IsTrue result → KeepsRules self.now.state }
+        ensures order { IsTrue result → IsSome self.now.state.order }
+    {
         self.inner.is_some()
     }
 
-    fn open_heap(&mut self, s: &Settings) -> Result<(), OutOfMemory> {
+    fn open_heap(&mut self, s: &Settings) -> Result<(), OutOfMemory>
+        ensures ok { OnOk result (IsEmptyHeap self.old.state.kind s.now self.new.state) }
+        ensures rules { OnOk result (KeepsRules self.new.state) }
+        ensures err { OnErr result (IsClosed self.old.state self.new.state) }
+        ensures order { OnOk result (IsSome self.new.state.order) }
+    {
         self.inner = None;
         self.inner = Some(empty_heap(self.alloc, s)?);
         Ok(())
@@ -87,6 +97,7 @@ impl Manager for NonMovingHeap {
         ensures same { StaysOpen self.old.state self.new.state }
         ensures step { IsMallocStep self.old.state bytes result self.new.state }
         ensures rules { KeepsRules self.new.state }
+        ensures ordered { IsOrderedMalloc self.old.state bytes result self.new.state }
         ensures bound { TakesAtMost self.old.state.kind steps.old steps.new 64 }
         ensures told { steps.new ≡ steps.old + self.new.state.cost }
         ensures steps { RoseAtMost steps.old steps.new (malloc_steps NonMoving) }
@@ -103,6 +114,7 @@ impl Manager for NonMovingHeap {
         ensures same { StaysOpen self.old.state self.new.state }
         ensures step { IsFreeStep self.old.state h.0 result self.new.state }
         ensures rules { KeepsRules self.new.state }
+        ensures ordered { IsOrderedFree self.old.state h.0 result self.new.state }
         ensures bound { TakesAtMost self.old.state.kind steps.old steps.new (free_bound result) }
         ensures told { steps.new ≡ steps.old + self.new.state.cost }
         ensures blocks { BlocksStayIn self.old.state.kind self.old.state h.0 self.new.state }
@@ -156,6 +168,7 @@ impl Manager for NonMovingHeap {
         ensures same { StaysOpen self.old.state self.new.state }
         ensures step { IsResizeStep self.old.state (record { number = h.0; length = bytes }) result self.new.state }
         ensures rules { KeepsRules self.new.state }
+        ensures ordered { IsOrderedResize self.old.state (record { number = h.0; length = bytes }) result self.new.state }
         ensures bound { TakesAtMost self.old.state.kind steps.old steps.new (resize_bound result) }
         ensures told { TellsCost self.old.state.kind steps.old steps.new self.new.state.cost }
         ensures blocks { BlocksStayIn self.old.state.kind self.old.state h.0 self.new.state }

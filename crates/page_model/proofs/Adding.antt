@@ -1,17 +1,19 @@
--- How the sums of the reports change when an object is added or removed.
-use Rattle.std.proofs.Common.{◌≡◌, ℕ, ◌+◌, ◌*◌, List, Some, None, length, arith}
+-- How the sums of the reports change when an object is added, removed or written, and bounds on them.
+use Rattle.std.proofs.Common.{◌≡◌, ℕ, ◌+◌, ◌*◌, ◌≤◌, List, Some, None, length, arith, ap}
 use Rattle.std.specs.Prelude.{nat_eq}
 use Rattle.std.specs.FinMap.{get, insert, remove, len}
-use Rattle.cf_lemmas.proofs.Sums.{sum_by-inserted, sum_by-removed}
-use Rattle.cf_lemmas.proofs.Ranges.{one}
-use Rattle.cf_lemmas.proofs.Values.{len-map_values}
+use Rattle.cf_lemmas.proofs.Maps.{get_removed}
+use Rattle.cf_lemmas.proofs.Sums.{insert_again, sum_by-inserted, sum_by-removed}
+use Rattle.cf_lemmas.proofs.Ranges.{count_at_most, one}
+use Rattle.cf_lemmas.proofs.Values.{len-map_values, sum_at_most}
 use Rattle.page_model.specs.Held.{Held, Objects, Placed, objects}
 use Rattle.page_model.specs.Paging.{Paging, slot_words, class_for}
-use Rattle.page_model.specs.Arrangement.{live, used_pages, free_pages, IsSound}
+use Rattle.page_model.specs.Arrangement.{home_pages, live, used_pages, free_pages, IsSound}
 use Rattle.page_model.specs.Figures.{asked_bytes, taken_bytes}
+use Rattle.page_model.proofs.Counting.{one_le}
 use Rattle.page_model.proofs.Lacking.{used_le}
 
--- `objects` has as many entries as the arrangement
+-- `objects` has one entry for each object
 pub len-objects : (m : Held) → len (objects m) ≡ len m
 len-objects = len-map_values (λ (x : Placed). x.bytes)
 
@@ -31,6 +33,29 @@ module _ (p : Paging) (o : Objects) (h : ℕ) (v : List ℕ) where
   pub taken_taken : get o h ≡ Some v → taken_bytes p (remove o h) + 8 * slot_words p (class_for p (length v)) ≡ taken_bytes p o
   unfolding taken_bytes
   taken_taken some = (let e = sum_by-removed (λ v. slot_words p (class_for p (length v))) o h v some in omega arith)
+
+-- other bytes of the same class change no count
+pub live_rewritten : (p : Paging) (o : Objects) (h : ℕ) (v u : List ℕ) → get o h ≡ Some v → class_for p (length u) ≡ class_for p (length v) → (c : ℕ)
+    → live p (insert o h u) c ≡ live p o c
+live_rewritten p o h v u some same c =
+    let a = live_taken p o h v c some in
+    let b = live_added p (remove o h) h u c (get_removed o h) in
+    let e : live p (insert (remove o h) h u) c ≡ live p (insert o h u) c = ap (λ o. live p o c) (insert_again o h u) in
+    let f : one (nat_eq (class_for p (length u)) c) ≡ one (nat_eq (class_for p (length v)) c) = ap (λ d. one (nat_eq d c)) same in
+    omega arith
+
+-- at most all objects are of one class
+pub live_few : (p : Paging) (m : Held) (c : ℕ) → live p (objects m) c ≤ len m
+unfolding live
+live_few p m c =
+    let a = sum_at_most (λ v. one (nat_eq (class_for p (length v)) c)) 1 (objects m) (λ q v e. one_le (nat_eq (class_for p (length v)) c)) in
+    let l = len-objects m in
+    omega arith
+
+-- and a class has at most all pages
+pub home_at_most : (p : Paging) (m : Held) (c : ℕ) → home_pages p m c ≤ p.pages
+unfolding home_pages
+home_at_most p m c = count_at_most _ 0 p.pages
 
 module _ (o : Objects) (h : ℕ) (v : List ℕ) where
   pub asked_added : get o h ≡ None → asked_bytes (insert o h v) ≡ asked_bytes o + length v

@@ -1,12 +1,12 @@
 -- The steps that follow an order have one outcome.
-use Rattle.std.proofs.Common.{◌≡◌, ◌≢◌, ℕ, ◌+◌, ◌<◌, List, [], ◌∷◌, Option, Some, None, arith, refl, sym, ◌∙◌, ap, subst, inl, inr}
+use Rattle.std.proofs.Common.{◌≡◌, ℕ, List, [], ◌∷◌, Option, Some, None, arith, refl, sym, ◌∙◌, ap, subst, inl, inr}
 use Rattle.std.specs.FinMap.{get}
 use Rattle.std.proofs.lemmas.Bool.{cases_eq, cases_lt}
 use Rattle.page_model.specs.Held.{Held, Placed}
 use Rattle.page_model.specs.Paging.{Paging, class_for, page_of, address_of}
 use Rattle.page_model.specs.Arrangement.{IsSound, class_at}
-use Rattle.page_model.specs.Order.{Order, FreeFollows, IsLeastFree, IsLeastTaken, IsNextToMove, MallocFollows, SlotFollows, TakesNext, TakesOnFreePage}
-use Rattle.page_model.specs.Order.{TakesOnOpenPage, not_full_in, slot_freed}
+use Rattle.page_model.specs.Order.{Order, FreeFollows, IsLeastFree, IsLeastTaken, IsNextToMove, MallocFollows, SlotFollows, TakesNext}
+use Rattle.page_model.specs.Order.{not_full_in, slot_freed}
 use Rattle.page_model.specs.Steps.{Leaves, Moves, RemovesObject, Request, without}
 
 same_front : (xs : List ℕ) (x y : ℕ) (rest more : List ℕ) → xs ≡ x ∷ rest → xs ≡ y ∷ more → (x ≡ y) × (rest ≡ more)
@@ -64,7 +64,7 @@ malloc_once p m asked other place elsewhere old new next s t same =
     (number, at, left)
 
 module _ (p : Paging) (m : Held) (sound : IsSound p m) where
-  found_once : (q : ℕ) (x y : Placed) → get m q ≡ Some x → get m q ≡ Some y → x ≡ y
+  pub found_once : (q : ℕ) (x y : Placed) → get m q ≡ Some x → get m q ≡ Some y → x ≡ y
   found_once q x y a b = (let e : Some x ≡ Some y = sym a ∙ b in cc)
 
   -- the object that moves next
@@ -79,7 +79,7 @@ module _ (p : Paging) (m : Held) (sound : IsSound p m) where
       ]
 
   -- the order after an object is removed
-  slot_once : (x : Placed) (moved other : Option ℕ) (old new next : Order) → Moves p m x moved → Moves p m x other
+  pub slot_once : (x : Placed) (moved other : Option ℕ) (old new next : Order) → Moves p m x moved → Moves p m x other
       → SlotFollows p m x moved old new → SlotFollows p m x other old next → (moved ≡ other) × (new ≡ next)
   slot_once x None None old new next a b s t = (refl, s ∙ sym t)
   slot_once x None (Some r) old new next a b s t = absurd (a b.0)

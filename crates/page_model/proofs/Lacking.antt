@@ -1,5 +1,5 @@
 -- When a sound arrangement has no slot left for a class.
-use Rattle.std.proofs.Common.{◌≡◌, ◌≢◌, ℕ, zero, suc, Bool, true, false, ◌+◌, ◌-◌, ◌*◌, ◌/◌, ◌%◌, ◌<◌, ◌≤◌, List, [], ◌∷◌, Some, arith, sym, ◌∙◌, inl, inr, ap}
+use Rattle.std.proofs.Common.{◌≡◌, ℕ, zero, suc, Bool, true, false, ◌+◌, ◌-◌, ◌*◌, ◌/◌, ◌%◌, ◌<◌, ◌≤◌, List, [], ◌∷◌, Some, arith, sym, ◌∙◌, inl, inr, ap}
 use Rattle.std.proofs.Common.{refl}
 use Rattle.std.specs.Prelude.{sum_by, count_by, ◌&&◌, ◌↔◌, nat_eq, nat_lt, filter, not}
 use Rattle.std.specs.List.{range_with_len}
@@ -30,31 +30,6 @@ swap_sums f (x ∷ xs) ys =
     omega arith
 
 module _ (f g : ℕ → ℕ) where
-  pub sum_range : (a n : ℕ) → ((d : ℕ) → a ≤ d → d < a + n → f d ≡ g d) → sum_by f (range_with_len a n) ≡ sum_by g (range_with_len a n)
-  sum_range a zero same = refl
-  sum_range a (suc n) same =
-      let x = sum_by-cons f a (range_with_len (a + 1) n) in
-      let y = sum_by-cons g a (range_with_len (a + 1) n) in
-      let e = same a (omega arith) (omega arith) in
-      let rest = sum_range (a + 1) n (λ d l h. same d (omega arith) (omega arith)) in
-      omega arith
-
-  -- two sums whose terms differ at one number
-  pub sum_changed : (a n c : ℕ) → a ≤ c → c < a + n → ((d : ℕ) → a ≤ d → d < a + n → d ≢ c → f d ≡ g d)
-      → sum_by f (range_with_len a n) + g c ≡ sum_by g (range_with_len a n) + f c
-  sum_changed a zero c low high same = absurd (omega arith)
-  sum_changed a (suc n) c low high same =
-      let x = sum_by-cons f a (range_with_len (a + 1) n) in
-      let y = sum_by-cons g a (range_with_len (a + 1) n) in
-      elim (cases_eq a c) [
-        | inl is ↦ (
-            let rest = sum_range (a + 1) n (λ d l h. same d (omega arith) (omega arith) (omega arith)) in
-            let u : f a ≡ f c = ap f is in let v : g a ≡ g c = ap g is in omega arith)
-        | inr ne ↦ (
-            let rest = sum_changed (a + 1) n c (omega arith) (omega arith) (λ d l h ne. same d (omega arith) (omega arith) ne) in
-            let e = same a (omega arith) (omega arith) ne in omega arith)
-      ]
-
   sum_kept : (keep : ℕ → Bool) (a n : ℕ) → ((d : ℕ) → a ≤ d → d < a + n → f d ≤ g d)
       → sum_by f (filter keep (range_with_len a n)) ≤ sum_by g (filter keep (range_with_len a n))
   sum_kept keep a zero le = omega arith

@@ -24,5 +24,13 @@ pub mod Adding
 pub mod ResizedWords
 pub mod Enough
 pub mod Following
-pub mod GoingOn
+pub mod ResizeOnce
+pub mod NumberLists
+pub mod OrderLists
+pub mod OrderTake
+pub mod OrderFree
+pub mod NextSlots
+pub mod NextMoves
+pub mod OrderNumbers
+pub mod OrderSteps
 pub mod CallerLemmas

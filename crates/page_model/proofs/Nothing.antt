@@ -1,7 +1,8 @@
 -- The empty arrangement is sound, uses no page, and its words are zeros.
-use Rattle.std.proofs.Common.{◌≡◌, ℕ, ◌*◌, List, Some, None, length, replicate, arith, sym, ◌∙◌, ap, inl, inr}
+use Rattle.std.proofs.Common.{◌≡◌, ℕ, zero, suc, ◌+◌, ◌-◌, ◌*◌, List, Some, None, length, replicate, arith, sym, ◌∙◌, ap, inl, inr}
 use Rattle.std.specs.Prelude.{sum_by}
 use Rattle.std.specs.List.{range_with_len}
+use Rattle.std.proofs.Math.Nat.{div-eq_of_lt, div-zero}
 use Rattle.std.proofs.lemmas.Bool.{cases_lt}
 use Rattle.std.proofs.lemmas.List.{get_or-replicate, get_or_past, length-replicate}
 use Rattle.std.specs.Ordering.{nat_cmp}
@@ -11,7 +12,8 @@ use Rattle.page_model.specs.Held.{Placed, objects}
 use Rattle.page_model.specs.Bytes.{bytes_at, held_at}
 use Rattle.page_model.specs.Figures.{asked_bytes, taken_bytes}
 use Rattle.page_model.specs.Paging.{Paging, class_for, classes, slot_words, slots_of}
-use Rattle.page_model.specs.Arrangement.{objects_on, home_pages, live, not_full_pages, used_pages, IsSound}
+use Rattle.page_model.specs.Arrangement.{objects_on, home_pages, live, not_full_pages, used_pages, IsSound, pages_needed}
+use Rattle.page_model.specs.Counts.{ceil_div}
 use Rattle.page_model.specs.Image.{IsImageOver}
 use Rattle.page_model.proofs.Counting.{part_empty, not_less_counts_none}
 use Rattle.page_model.proofs.Totals.{sum_zeros, on_none}
@@ -59,6 +61,15 @@ no_objects = map_values-empty (λ (x : Placed). x.bytes)
 pub none_live : (p : Paging) (c : ℕ) → live p empty c ≡ 0
 unfolding live
 none_live p c = ap (sum_by _) no_values
+
+-- no objects need no pages
+none_over : (m : ℕ) → ceil_div 0 m ≡ 0
+none_over zero = div-zero 0
+none_over (suc k) = div-eq_of_lt {n = 0 + (suc k - 1)} {m = suc k} (omega arith)
+
+pub none_needed : (p : Paging) → pages_needed p empty ≡ 0
+unfolding pages_needed
+none_needed p = sum_zeros _ (range_with_len 0 (classes p)) (λ c. ap (λ n. ceil_div n (slots_of p c)) (none_live p c) ∙ none_over (slots_of p c))
 
 pub none_asked : asked_bytes empty ≡ 0
 unfolding asked_bytes

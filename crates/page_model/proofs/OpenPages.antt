@@ -1,7 +1,7 @@
 -- Partly full pages, their free slots, and the object that a free moves from one.
 use Rattle.std.proofs.Common.{◌≡◌, ◌≢◌, ℕ, zero, suc, true, ◌+◌, ◌/◌, ◌%◌, ◌<◌, ◌≤◌, Option, Some, None, arith, sym, ◌∙◌, ap, inl, inr}
 use Rattle.std.specs.Prelude.{◌⊎◌, ◌&&◌, count_by, nat_eq, nat_lt}
-use Rattle.std.proofs.lemmas.Bool.{cases_eq, cases_lt, false≢true, and_parts as both}
+use Rattle.std.proofs.lemmas.Bool.{cases_eq, cases_lt, false≢true, and_parts as both, eqb-true}
 use Rattle.std.proofs.lemmas.Bool.Decides.{nat_tests}
 use Rattle.std.specs.FinMap.{get, remove, values}
 use Rattle.cf_lemmas.proofs.Maps.{get_remove_other, some_removed}
@@ -29,11 +29,8 @@ taken_or_vacant m a = elim (cases_eq (count_by (λ (x : Placed). nat_eq x.place 
   | inl none ↦ inr (λ q y there is. false≢true (sym (none_counted (λ (x : Placed). nat_eq x.place a) m q y there none) ∙ eq_yes y.place a is))
   | inr ne ↦ inl (
       let o = some_counted (λ (x : Placed). nat_eq x.place a) m (omega arith) in
-      (o.0, o.1, o.2, equal (o.1).place a o.3))
+      (o.0, o.1, o.2, eqb-true (o.1).place a o.3))
 ]
-  where
-    equal : (n k : ℕ) → nat_eq n k ≡ true → n ≡ k
-    equal n k e = grind (arith, nat_tests)
 
 -- the page is partly full, with objects of the class
 pub record IsOpen (p : Paging) (m : Held) (c page : ℕ) : Type 0 where

@@ -2,6 +2,7 @@
 use Rattle.std.proofs.Common.{◌≡◌, ◌≢◌, ℕ, ◌+◌, List, Option, Some, None, length, replicate, arith, sym, ◌∙◌, inl, inr, ap, refl}
 use Rattle.std.specs.Prelude.{option_map}
 use Rattle.std.proofs.lemmas.Bool.{cases_eq}
+use Rattle.std.proofs.lemmas.List.{length-replicate}
 use Rattle.std.specs.Ordering.{nat_cmp}
 use Rattle.std.specs.FinMap.{FinMap, get, insert, remove}
 use Rattle.cf_lemmas.proofs.Maps.{equal_maps, get_inserted, get_insert_other, get_removed, get_remove_other}
@@ -34,6 +35,10 @@ held_of_bytes m h v there = go (get m h) refl (sym (get-map_values (λ (y : Plac
     go : (o : Option Placed) → get m h ≡ o → option_map (λ (y : Placed). y.bytes) o ≡ Some v → (x : Placed) × (get m h ≡ Some x) × (x.bytes ≡ v)
     go None is e = absurd (let z : ◌≡◌ {A = Option (List ℕ)} None (Some v) = e in cc)
     go (Some x) is e = (x, is, (let z : Some x.bytes ≡ Some v = e in cc))
+
+-- the class of an object of zeros is that of its length
+pub class_of_zeros : (p : Paging) (a n c : ℕ) → class_for p n ≡ c → class_at p (zeros_at a n) ≡ c
+class_of_zeros p a n c class = ap (class_for p) (length-replicate {A = ℕ} n 0) ∙ class
 
 -- a malloc adds an object of zeros
 pub malloc_objects : (m : Held) (h a n : ℕ) → objects (insert m h (zeros_at a n)) ≡ insert (objects m) h (replicate n 0)

@@ -4,7 +4,7 @@ use Rattle.std.specs.Prelude.{◌↔◌, nat_eq}
 use Rattle.std.specs.List.{range_with_len}
 use Rattle.std.specs.FinMap.{get, insert}
 use Rattle.cf_lemmas.proofs.Sums.{sum_by-inserted}
-use Rattle.cf_lemmas.proofs.Ranges.{one}
+use Rattle.cf_lemmas.proofs.Ranges.{one, sum_changed, sum_range_same}
 use Rattle.page_model.specs.Held.{Held, Objects, objects}
 use Rattle.page_model.specs.Paging.{Paging, IsPaging, AreOne, classes, slots_of, class_for}
 use Rattle.page_model.specs.Counts.{Stand, CanHold, ceil_div}
@@ -13,7 +13,7 @@ use Rattle.cf_lemmas.proofs.Tests.{eq_yes, eq_no}
 use Rattle.page_model.proofs.Totals.{sum_same}
 use Rattle.page_model.proofs.PageCounts.{slots_some, sound_stand, sound_can_hold}
 use Rattle.page_model.proofs.PageLaws.{between_multiples, can_hold_one}
-use Rattle.page_model.proofs.Lacking.{sum_range, sum_changed, used_le, none_free, all_taken}
+use Rattle.page_model.proofs.Lacking.{used_le, none_free, all_taken}
 
 -- one object more takes one page more if and only if all pages are full
 next_page : (h n m q : ℕ) → 0 < m → Stand h n m 1 q → ceil_div (n + 1) m ≡ h + (1 - q)
@@ -44,7 +44,7 @@ module _ (p : Paging) where
       (λ c. ap (λ n. ceil_div n (slots_of p c)) (live-inserted objs r v c none))
 
 module _ (p : Paging) (ok : IsPaging p) (ones : AreOne p) (m : Held) (s : IsSound p m) where
-  home_at_one : (c : ℕ) → c < classes p → home_pages p m c ≡ ceil_div (live p (objects m) c) (slots_of p c)
+  pub home_at_one : (c : ℕ) → c < classes p → home_pages p m c ≡ ceil_div (live p (objects m) c) (slots_of p c)
   home_at_one c lt =
       let some = slots_some p ok c lt in
       let one_page : CanHold (home_pages p m c) (live p (objects m) c) (slots_of p c) 1 =
@@ -54,7 +54,7 @@ module _ (p : Paging) (ok : IsPaging p) (ones : AreOne p) (m : Held) (s : IsSoun
   -- the pages in use are exactly those that the objects need by arithmetic
   pub used_at_one : used_pages p m ≡ pages_needed p (objects m)
   unfolding used_pages pages_needed
-  used_at_one = sum_range (home_pages p m) (λ c. ceil_div (live p (objects m) c) (slots_of p c)) 0 (classes p) (λ d _ h. home_at_one d (omega arith))
+  used_at_one = sum_range_same (home_pages p m) (λ c. ceil_div (live p (objects m) c) (slots_of p c)) 0 (classes p) (λ d _ h. home_at_one d (omega arith))
 
   module _ (n : ℕ) (fits : class_for p n < classes p) where
     needed_next : pages_needed_with p (objects m) n ≡ used_pages p m + (1 - not_full_pages p m (class_for p n))

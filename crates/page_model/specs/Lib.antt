@@ -8,3 +8,4 @@ pub mod Bytes
 pub mod Figures
 pub mod Frames
 pub mod Order
+pub mod WordSteps

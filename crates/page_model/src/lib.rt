@@ -26,7 +26,10 @@ pub use counts::{
 pub use figures::{
     figures_where_an_object_comes, figures_where_an_object_goes, pages_and_objects_add_up,
 };
-pub use order::{a_malloc_can_follow_an_order, an_order_leaves_no_choice};
+pub use order::{
+    a_free_can_follow_an_order, a_malloc_can_follow_an_order, a_resize_can_follow_an_order,
+    an_order_leaves_no_choice,
+};
 pub use room::{
     lack_of_room_is_arithmetic_at_bound_one, lack_of_room_is_no_page_left,
     objects_need_no_more_pages, pages_are_those_needed_at_bound_one, pages_where_room_is_lacking,

@@ -1,14 +1,16 @@
-//! The order in which pages, slots and numbers are given out leaves no choice.
-ghost use Rattle.std.specs.Prelude.{ℕ, ◌≡◌, ◌<◌, ◌∷◌, List};
-ghost use Rattle.std.specs.FinMap.{insert};
-ghost use Rattle.page_model.specs.Arrangement.{IsSound};
-ghost use Rattle.page_model.specs.Held.{Held};
-ghost use Rattle.page_model.specs.Order.{FreeFollows, IsOrderOf, MallocFollows, Order, not_full_in};
+//! The order in which pages, slots and numbers are given out: it leaves no choice, and a call that
+//! may succeed can follow it.
+ghost use Rattle.std.specs.Prelude.{ℕ, ◌≡◌, ◌≢◌, ◌<◌, Option, Some, None};
+ghost use Rattle.std.specs.FinMap.{get, insert, len};
+ghost use Rattle.page_model.specs.Arrangement.{IsSound, LacksRoom, class_at};
+ghost use Rattle.page_model.specs.Held.{Held, Placed};
+ghost use Rattle.page_model.specs.Order.{FreeFollows, IsOrderOf, MallocFollows, Order, ResizeFollows};
 ghost use Rattle.page_model.specs.Paging.{IsPaging, Paging, class_for, classes};
-ghost use Rattle.page_model.specs.Steps.{IsFreePlace, Leaves, RemovesObject, Request, zeros_at};
+ghost use Rattle.page_model.specs.Steps.{IsFreePlace, Leaves, Moves, RefitsObject, RemovesObject, Request, without, zeros_at};
 
-/// Two mallocs of the same length that follow the same order give the same number and address, and
-/// leave the same order. Two frees of the same object leave the same objects and the same order.
+/// Two mallocs of the same length that follow the same order use the same number and address, and
+/// leave the same order. Two frees of the same object leave the same objects and the same order, and
+/// so do two resizes of the same object to the same length.
 pub fn an_order_leaves_no_choice()
     ensures malloc { (p : Paging) (m : Held) (asked other : Request) (place elsewhere : ℕ) (old new next : Order)
         → MallocFollows p m asked place old new → MallocFollows p m other elsewhere old next → asked.length ≡ other.length
@@ -17,13 +19,37 @@ pub fn an_order_leaves_no_choice()
         → RemovesObject p m h after → FreeFollows p m h after.moved old new
         → RemovesObject p m h other → FreeFollows p m h other.moved old next
         → (after ≡ other) × (new ≡ next) }
+    ensures resize { (p : Paging) (m : Held) (asked : Request) (after other : Leaves) (old new next : Order) → IsPaging p → IsSound p m
+        → RefitsObject p m asked after → ResizeFollows p m asked after old new
+        → RefitsObject p m asked other → ResizeFollows p m asked other old next
+        → (after ≡ other) × (new ≡ next) }
 {}
 
-/// If the class of a request has a partly full page, a malloc can follow the order. It leaves an
-/// order of the new arrangement.
+/// If a number is free and the class of a request has a slot left, a malloc can follow the order: on
+/// the first partly full page, or on the first free one. It leaves an order of the new arrangement.
 pub fn a_malloc_can_follow_an_order()
-    ensures { (p : Paging) (m : Held) (limit n h page : ℕ) (o : Order) (rest pages : List ℕ) → IsPaging p → IsSound p m → IsOrderOf p m limit o
-        → class_for p n < classes p → o.spare ≡ h ∷ rest → not_full_in o (class_for p n) ≡ page ∷ pages
-        → (place : ℕ) × (new : Order) × IsFreePlace p m n place × MallocFollows p m (record { number = h; length = n }) place o new
+    ensures { (p : Paging) (m : Held) (limit n : ℕ) (o : Order) → IsPaging p → IsSound p m → IsOrderOf p m limit o
+        → class_for p n < classes p → len m < limit → (¬ LacksRoom p m (class_for p n))
+        → (h place : ℕ) × (new : Order) × (h < limit) × (get m h ≡ None) × IsFreePlace p m n place
+        × MallocFollows p m (record { number = h; length = n }) place o new
         × IsOrderOf p (insert m h (zeros_at place n)) limit new }
+{}
+
+/// A free of each live object can follow the order, whether it moves an object or not. It leaves an
+/// order of what is left.
+pub fn a_free_can_follow_an_order()
+    ensures { (p : Paging) (m : Held) (limit h : ℕ) (x : Placed) (o : Order) → IsPaging p → IsSound p m → IsOrderOf p m limit o
+        → get m h ≡ Some x → h < limit
+        → (moved : Option ℕ) × (new : Order) × Moves p m x moved × FreeFollows p m h moved o new
+        × IsOrderOf p (without m h x.place moved) limit new }
+{}
+
+/// A resize of each live object can follow the order, within its class, and to another class that has
+/// a slot left. It leaves an order of the new arrangement.
+pub fn a_resize_can_follow_an_order()
+    ensures { (p : Paging) (m : Held) (limit : ℕ) (asked : Request) (x : Placed) (o : Order) → IsPaging p → IsSound p m → IsOrderOf p m limit o
+        → get m asked.number ≡ Some x → class_for p asked.length < classes p
+        → (class_for p asked.length ≢ class_at p x → ¬ LacksRoom p m (class_for p asked.length))
+        → (after : Leaves) × (new : Order) × RefitsObject p m asked after × ResizeFollows p m asked after o new
+        × IsOrderOf p after.held limit new }
 {}

@@ -28,10 +28,11 @@ use Rattle.page_slots.proofs.Occupied.{free_bare, occupied_renamed, stands_at}
 use Rattle.page_slots.proofs.OccupiedAfterTake.{gained_address, gained_unused, occupied_gained}
 use Rattle.page_slots.proofs.OccupiedAfterFree.{occupied_lost}
 use Rattle.page_slots.proofs.PageNumbers.{lacks_room}
--- re-exported: the order of the tables, and the next slot
+-- re-exported: the head of a list, the order of the tables, and the next slot
+pub use Rattle.page_slots.proofs.TablesAfterTake.{front_listed}
 pub use Rattle.page_slots.proofs.NextSlots.{drop_same, fill_same, filler_next, open_empty, order_is, steps_same, taken_next, vacated_order}
 -- re-exported: the tables of a heap without objects, and the numbers of pages
-pub use Rattle.page_slots.proofs.Start.{first_occupied, first_table, first_tables, first_whole, no_pages}
+pub use Rattle.page_slots.proofs.Start.{first_occupied, first_table, first_tables, first_whole, new_tell, no_pages}
 pub use Rattle.page_slots.proofs.PageNumbers.{free_pages_are, home_pages_are, not_full_pages_are, pages_are}
 
 module _ {p : Paging} (ok : IsPaging p) {m : Held} {old new : Tables} (tell : TellPart p old) (o : Occupies p m old)

@@ -1,19 +1,18 @@
 -- The slot that is taken is the next one in the order of the tables.
-use Rattle.std.proofs.Common.{◌≡◌, ◌≢◌, ℕ, Bool, true, false, ◌+◌, ◌*◌, ◌<◌, ◌≤◌, List, [], ◌∷◌, length, drop, get_or, set, replicate, Option, Some, arith, refl, sym, ◌∙◌, ap, subst, inl, inr}
-use Rattle.std.specs.Prelude.{◌⊎◌, ◌↔◌, None, not, nat_eq, slice_get, if◌then◌else◌}
+use Rattle.std.proofs.Common.{◌≡◌, ◌≢◌, ℕ, Bool, true, false, ◌+◌, ◌*◌, ◌<◌, List, [], ◌∷◌, length, drop, get_or, set, replicate, Some, arith, refl, sym, ◌∙◌, ap, subst, inl, inr}
+use Rattle.std.specs.Prelude.{◌↔◌, None, not, nat_eq, slice_get, if◌then◌else◌}
 use Rattle.std.specs.FinMap.{get, len}
-use Rattle.std.specs.List.{Contains, IsDistinct, filter, position, range_with_len}
-use Rattle.std.proofs.lemmas.Bool.{cases_eq, cases_lt}
+use Rattle.std.specs.List.{Contains, IsDistinct, filter}
+use Rattle.std.proofs.lemmas.Bool.{cases_eq, cases_lt, not-false}
 use Rattle.std.proofs.lemmas.List.{same_lists, length-replicate, length-set, get_or_past, get_or-replicate, get_or-set_same, get_or-set_other}
 use Rattle.std.proofs.lemmas.List.FromFn.{length-map-range_with_len, get_or-map-range_with_len}
 use Rattle.std.proofs.lemmas.List.Quantifiers.{position-Some}
-use Rattle.std.proofs.lemmas.Option.{slice_get_within, slice_get-get_or}
+use Rattle.std.proofs.lemmas.Option.{slice_get-get_or}
 use Rattle.cf_lemmas.proofs.Tests.{eq_no, eq_yes}
 use Rattle.class_lists.specs.declared.Which.{Which}
 use Rattle.class_lists.specs.declared.Which.TheVariants.{Full, NotFull}
 use Rattle.class_lists.specs.PageLists.{PageLists, empty_lists, pages_in, without_page}
-use Rattle.class_lists.proofs.CallerLemmas.{distinct_head, distinct_nil}
-use Rattle.class_lists.proofs.Members.{distinct_cons, without_absent, without_first}
+use Rattle.class_lists.proofs.CallerLemmas.{distinct_cons, distinct_head, distinct_nil, without_absent, without_first}
 use Rattle.page_pool.specs.Pool.{HasNoRepeats, Pool, is_in_pool}
 use Rattle.size_classes.specs.Table.{ClassTable}
 use Rattle.page_model.specs.Held.{Held, Placed}
@@ -22,8 +21,7 @@ use Rattle.page_model.specs.Arrangement.{class_at, objects_on, standing_on}
 use Rattle.page_model.proofs.CallerLemmas.{address_is_slot}
 use Rattle.page_model.specs.Order.{Order, IsLeastFree, IsNextToMove, IsOrderOf, IsPartlyFull, IsTaken, TakesNext, not_full_in, slot_freed, steps_to_take as order_steps, with_not_full}
 use Rattle.page_model.specs.Order.{drop_steps, fill_steps, steps_to_drop as order_drop, steps_to_fill as order_fill}
-use Rattle.page_model.specs.Order.{TakesOnFreePage as ModelTakesOnFreePage, TakesOnOpenPage as ModelTakesOnOpenPage}
-use Rattle.page_slots.specs.Tables.{Tables, AreTables, IsOf, IsPageOf, IsUsed, LeavesList, slot_at, slots_in, slots_on, used_in}
+use Rattle.page_slots.specs.Tables.{Tables, AreTables, IsOf, IsPageOf, IsUsed, LeavesList, slot_at, slots_on, used_in}
 use Rattle.page_slots.specs.Release.{IsFiller, Vacates, steps_to_drop as table_drop, steps_to_fill as table_fill}
 use Rattle.page_slots.specs.Take.{TakesAt, TakesOnFreePage, TakesOnOpenPage, steps_to_take as table_steps}
 use Rattle.page_slots.specs.Occupying.{Occupies, Tell, TellPart, class_table}
@@ -97,14 +95,10 @@ module _ {p : Paging} (ok : IsPaging p) {m : Held} {old new : Tables} (tell : Te
             let at = position-Some (λ used. not used) (slots_on old page) slot false on.least in
             let is : not (get_or (slots_on old page) s false) ≡ false = at.2 s lt in
             let u : slice_get (slots_on old page) s ≡ Some true =
-            slice_get-get_or (slots_on old page) s false (let l = at.0 in omega arith) ∙ ap Some (taken_bit _ is) in
+            slice_get-get_or (slots_on old page) s false (let l = at.0 in omega arith) ∙ ap Some (not-false _ is) in
             let f = o.filled c page s (record { of = inr listed; used = u }) in
             (f.0, f.1, f.2, f.4);
       }
-        where
-          taken_bit : (b : Bool) → not b ≡ false → b ≡ true
-          taken_bit true e = refl
-          taken_bit false e = cc
 
       left : after ≡ (if nat_eq (objects_on p m c page + 1) (slots_of p c) then with_not_full before c rest else before)
       left =

@@ -13,7 +13,6 @@ use Rattle.page_model.specs.Order as Order
 use Rattle.page_model.specs.Order.{word_steps}
 use Rattle.page_model.specs.Paging.{class_for, classes, page_of}
 use Rattle.page_slots.specs.Release.{FillsFrom, steps_to_drop, steps_to_fill}
-use Rattle.page_slots.specs.Occupying.{class_table}
 use Rattle.page_slots.specs.Orders.{order_of}
 use Rattle.page_slots.specs.Tables.{Tables, page_at}
 use Rattle.page_slots.specs.Take.{TakesAt, steps_to_take}
@@ -22,7 +21,7 @@ use Rattle.page_slots.proofs.CallerLemmas.{drop_same, fill_same, steps_same}
 use Rattle.step_ledger.specs.Counting.{RoseBy}
 use Rattle.virtual_words.specs.Words.{run_steps, slot_steps, wipe_steps}
 use Rattle.virtual_words.proofs.CallerLemmas.{whole_run}
-use Rattle.paged_heap.specs.ExactCosts.{free_cost, leaving_cost, malloc_cost}
+use Rattle.cf_model.specs.ExactCosts.{free_cost, leaving_cost, malloc_cost}
 use Rattle.paged_heap.specs.Free.{IsObjectAt}
 use Rattle.paged_heap.specs.Heap.{Heap}
 use Rattle.paged_heap.specs.Layout.{IsValid, held_in, order_in, paging_at, state_of, tables_in}

@@ -1,19 +1,16 @@
 -- An open heap without objects.
 use Rattle.std.proofs.Common.{◌≡◌, ℕ, Bool, false, ◌*◌, ◌<◌, ◌≤◌, inl, inr, List, [], length, take, replicate, get_or, arith, sym, ◌∙◌, ap, subst}
-use Rattle.std.specs.Prelude.{sum_by}
 use Rattle.std.specs.List.{range_with_len}
 use Rattle.std.proofs.lemmas.Bool.{cases_lt}
 use Rattle.std.proofs.lemmas.List.{get_or-replicate, get_or_past, length-replicate, take-replicate}
 use Rattle.std.specs.FinMap.{empty}
 use Rattle.cf_base.specs.Classes.{sizes}
 use Rattle.cf_base.proofs.CallerLemmas.{are_sizes, page_size}
-use Rattle.page_model.specs.Held.{Placed, objects}
-use Rattle.page_model.specs.Bytes.{bytes_at, held_at}
-use Rattle.page_model.specs.Paging.{Paging, class_for, slot_words}
+use Rattle.page_model.specs.Held.{objects}
+use Rattle.page_model.specs.Bytes.{held_at}
 use Rattle.page_model.specs.Arrangement.{IsSound, live}
 use Rattle.page_model.specs.Image.{IsSlotImage, slot_for}
 use Rattle.page_model.specs.Figures.{asked_bytes, taken_bytes}
-use Rattle.cf_lemmas.proofs.Values.{no_values, map_values-empty}
 use Rattle.page_model.proofs.CallerLemmas.{sound_empty, image_empty, no_objects, none_asked, none_live, none_taken, nothing_held}
 use Rattle.size_classes.specs.Table.{ClassTable, IsClassTable, table_of}
 use Rattle.class_lists.specs.PageLists.{empty_lists}
@@ -21,14 +18,16 @@ use Rattle.page_pool.specs.Pool.{Pool}
 use Rattle.proxy_table.specs.Proxies.{Proxies, AreBelowLimit, no_proxies}
 use Rattle.page_slots.specs.Tables.{AreTables, NoneElsewhere, tables, used_in}
 use Rattle.page_slots.specs.Occupying.{Occupies, Tell, class_table}
-use Rattle.page_slots.proofs.CallerLemmas.{first_occupied, first_tables, first_whole}
+use Rattle.page_slots.specs.Orders.{open_lists}
+use Rattle.page_slots.proofs.CallerLemmas.{first_occupied, first_tables, first_whole, open_empty}
 use Rattle.cf_base.specs.Settings.{profile_of}
-use Rattle.cf_model.specs.State.{layout_of}
-use Rattle.cf_model.specs.Steps.{IsEmptyHeap, opening_bounds, opening_frames, opening_tiling}
+use Rattle.page_model.specs.Order.{first_order}
+use Rattle.cf_model.specs.State.{layout_of, paging_in}
+use Rattle.cf_model.specs.Steps.{IsEmptyHeap, empty_heap, opening_bounds, opening_frames, opening_tiling}
 use Rattle.cf_model.specs.Rules.{IsPaged}
 use Rattle.paged_heap.specs.Heap.{Heap}
 use Rattle.paged_heap.proofs.ByKind.{opening_bounds_are, opening_tiling_is, opening_words, paged_of}
-use Rattle.paged_heap.specs.Layout.{IsFramed, IsValid, held_in, paging_at, state_of, tables_in}
+use Rattle.paged_heap.specs.Layout.{IsFramed, IsValid, held_in, order_in, paging_at, state_of, tables_in}
 
 -- what an opened heap is made of
 pub record IsFirst (h : Heap) : Type 0 where
@@ -129,9 +128,20 @@ module _ (h : Heap) (f : IsFirst h) where
     taken_all = f.taken ∙ sym (ap (taken_bytes (paging_at h)) none_of ∙ none_taken (paging_at h));
   }
 
+  -- pages and numbers come in rising order
+  order_first : order_in h ≡ first_order (paging_in (empty_heap h.kind (profile_of h.settings) [])) h.settings.proxies
+  order_first =
+      let lists : open_lists (length h.classes.sizes) h.lists ≡ replicate (length (sizes h.settings.page_words (layout_of h.kind))) [] =
+      ap (open_lists (length h.classes.sizes)) f.lists ∙ open_empty (length h.classes.sizes) (length h.classes.sizes) h.settings.pages
+      ∙ ap (λ n. replicate n []) many in
+      let pool = ap (λ (q : Pool). q.free) f.pool in
+      let spare = ap (λ (x : Proxies). x.free) f.proxies in
+      λ i. record { pool = pool i; not_full = lists i; spare = spare i }
+
   pub first_empty : IsEmptyHeap h.kind h.settings (state_of h)
   first_empty = record {
     words = opening_words h.kind paged (profile_of h.settings) h.words f.words;
+    order = (paged, order_first);
     whole =
         let p = profile_of h.settings in
         let bounds : take (length h.classes.sizes) h.bounds ≡ opening_bounds h.kind p = (

@@ -7,18 +7,13 @@ use Rattle.page_model.specs.Held.{Held, objects}
 use Rattle.page_model.specs.Paging.{Paging}
 use Rattle.page_model.specs.Arrangement.{home_pages, not_full_pages, used_pages, free_pages}
 use Rattle.page_model.specs.Figures.{asked_bytes, taken_bytes, totals_of}
-use Rattle.page_model.proofs.CallerLemmas.{len-objects}
+use Rattle.page_model.proofs.CallerLemmas.{len-objects, home_at_most}
 use Rattle.class_lists.specs.PageLists.{pages_in}
 use Rattle.class_lists.specs.declared.Which.TheVariants.{Full, NotFull}
 use Rattle.page_slots.proofs.CallerLemmas.{not_full_pages_are, home_pages_are, free_pages_are, pages_are}
 use Rattle.paged_heap.specs.Heap.{Heap}
 use Rattle.paged_heap.specs.Layout.{IsValid, held_in, paging_at, tables_in}
-use Rattle.cf_lemmas.proofs.Ranges.{count_at_most}
 use Rattle.paged_heap.proofs.LayoutFacts.{held_len, paging_ok}
-
-pub home_at_most : (p : Paging) (m : Held) (c : ℕ) → home_pages p m c ≤ p.pages
-unfolding home_pages
-home_at_most p m c = count_at_most _ 0 p.pages
 
 -- all figures at once
 pub totals_same : (p : Paging) (m : Held) (l a t h u f g : ℕ) → l ≡ len (objects m) → a ≡ asked_bytes (objects m) → t ≡ taken_bytes p (objects m)

@@ -3,19 +3,23 @@ use Rattle.std.proofs.Common.{◌≡◌, ℕ, ◌-◌, ◌*◌, length, get_or, 
 use Rattle.std.specs.FinMap.{remove}
 use Rattle.page_model.specs.Bytes.{bytes_at}
 use Rattle.page_model.specs.Image.{Clears, slot_for}
+use Rattle.page_model.specs.Arrangement.{class_at}
+use Rattle.page_model.specs.Order.{FreeFollows, slot_freed}
+use Rattle.page_model.specs.Paging.{classes, page_of}
 use Rattle.page_model.proofs.CallerLemmas.{still_places, image_after_free}
 use Rattle.size_classes.specs.Table.{ClassTable}
 use Rattle.proxy_table.specs.Proxies.{Proxies, AreBelowLimit, without_place}
 use Rattle.page_slots.specs.Release.{Vacates}
 use Rattle.page_slots.specs.Tables.{AreTables, page_at, slot_at}
 use Rattle.page_slots.specs.Occupying.{class_table}
-use Rattle.page_slots.proofs.CallerLemmas.{vacated_occupied, vacated_tell}
+use Rattle.page_slots.proofs.CallerLemmas.{vacated_occupied, vacated_order, vacated_tell}
+use Rattle.page_slots.specs.Orders.{order_of}
 use Rattle.paged_heap.specs.Heap.{Heap}
-use Rattle.paged_heap.specs.Layout.{IsFramed, IsValid, held_in, paging_at, tables_in}
+use Rattle.paged_heap.specs.Layout.{IsFramed, IsValid, held_in, order_in, paging_at, tables_in}
 use Rattle.paged_heap.specs.Free.{IsMoving, IsObjectAt}
-use Rattle.paged_heap.proofs.LayoutFacts.{paging_ok, table_is}
+use Rattle.paged_heap.proofs.LayoutFacts.{as_many, paging_ok, table_is}
 use Rattle.paged_heap.proofs.Preserved.{Becomes, places_are, rest_from}
-use Rattle.paged_heap.proofs.FreedObject.{goes, it, it_class, it_found, it_slot, moving, page_same, rest_held, slot_same}
+use Rattle.paged_heap.proofs.FreedObject.{follows_from, goes, it, it_class, it_found, it_slot, moving, page_same, rest_held, slot_same}
 
 module _ {h : Heap} (k : IsValid h) {q a size c : ℕ} (o : IsObjectAt h q a size c) (still : IsMoving h a c → ⊥) (e g n : Heap)
     (erased : e ≡ record h { proxies = without_place h.proxies q; words = e.words })
@@ -64,6 +68,19 @@ module _ {h : Heap} (k : IsValid h) {q a size c : ℕ} (o : IsObjectAt h q a siz
   clears =
       subst (λ s. Clears h.words n.words (record { from = a; count = s })) (it_slot k o)
       (subst (λ w. Clears h.words w (record { from = a; count = get_or h.classes.sizes c 0 })) (sym region_is) gone)
+
+  -- the slot that becomes free is the next one in the order
+  pub alone_follows : FreeFollows (paging_at h) (held_in h) q None (order_in h) (order_in n)
+  alone_follows =
+      let p = paging_at h in let m = held_in h in
+      let before = order_of (classes p) (tables_in h) h.proxies.free in
+      let freed_order : order_of (classes p) (tables_in n) h.proxies.free ≡ slot_freed p m before (class_at p (it k o)) (page_of p a) =
+      vacated_order (paging_ok h k) k.tell.part k.occupied kept_tables o.in_range h.proxies.free vacates
+      ∙ ap (λ d. slot_freed p m before d (page_at h.classes a)) (sym (it_class k o)) ∙ ap (slot_freed p m before (class_at p (it k o))) (sym (page_same k o)) in
+      follows_from k o n None (ap (λ (x : Heap). x.classes) dropped ∙ ap (λ (x : Heap). x.classes) from_erased)
+      (ap (λ (x : Proxies). x.free) proxies_are)
+      (subst (λ s. order_of s (tables_in n) h.proxies.free ≡ slot_freed p m (order_of s (tables_in h) h.proxies.free) (class_at p (it k o)) (page_of p a))
+      (sym (as_many h k)) freed_order)
 
   pub alone : Becomes h n (rest_held k o n None (λ m. still (moving k o m)))
   alone = goes k o n None (λ m. still (moving k o m))

@@ -1,13 +1,14 @@
 -- A free that moves another object to the freed slot.
-use Rattle.std.proofs.Common.{◌≡◌, ◌≢◌, ℕ, ◌+◌, ◌-◌, ◌*◌, ◌/◌, ◌%◌, ◌^◌, ◌<◌, ◌≤◌, List, length, get_or, set, Some, arith, sym, ◌∙◌, ap, subst, inl, inr}
+use Rattle.std.proofs.Common.{◌≡◌, ◌≢◌, ℕ, ◌+◌, ◌-◌, ◌*◌, ◌/◌, ◌%◌, ◌^◌, ◌<◌, ◌≤◌, ◌∷◌, List, length, get_or, set, Some, arith, sym, ◌∙◌, ap, subst, inl, inr}
 use Rattle.std.specs.Prelude.{◌⊎◌, IsSome, is_some}
 use Rattle.std.specs.FinMap.{get, insert, remove}
 use Rattle.cf_lemmas.proofs.Maps.{get_inserted, get_remove_other}
 use Rattle.cf_lemmas.specs.Exchanges.{exchanged}
 use Rattle.page_model.specs.Held.{Placed}
 use Rattle.page_model.specs.Image.{IsSlotImage, MovesWords, slot_for}
-use Rattle.page_model.specs.Paging.{slot_words}
+use Rattle.page_model.specs.Paging.{classes, page_of, slot_words}
 use Rattle.page_model.specs.Arrangement.{class_at}
+use Rattle.page_model.specs.Order.{FreeFollows, IsNextToMove, SlotFollows, slot_freed}
 use Rattle.page_model.specs.Steps.{MayFill, MustMove, Moves, moved_to}
 use Rattle.page_model.proofs.CallerLemmas.{mover_is_other, moved_places, image_after_move, object_inside, own_words, sound_apart_from, header_told}
 use Rattle.proxy_table.specs.Proxies.{AreBelowLimit, Proxies, with_place, without_place}
@@ -15,16 +16,17 @@ use Rattle.cf_model.specs.Steps.{frames_left}
 use Rattle.page_slots.specs.Release.{FillsFrom}
 use Rattle.page_slots.specs.Tables.{AreTables, Tables}
 use Rattle.page_slots.specs.Occupying.{Occupies, Tell, class_table}
-use Rattle.page_slots.proofs.CallerLemmas.{filled_occupied, filled_tell, filler, filler_in, filler_may}
+use Rattle.page_slots.proofs.CallerLemmas.{filled_occupied, filled_tell, filler, filler_in, filler_is, filler_may, filler_next, vacated_order}
+use Rattle.page_slots.specs.Orders.{order_of}
 use Rattle.virtual_words.specs.Words.{IsWhole}
 use Rattle.paged_heap.specs.Heap.{Heap}
-use Rattle.paged_heap.specs.Layout.{IsFramed, IsValid, held_in, paging_at, state_of, tables_in}
+use Rattle.paged_heap.specs.Layout.{IsFramed, IsValid, held_in, order_in, paging_at, state_of, tables_in}
 use Rattle.paged_heap.specs.Free.{IsMoving, IsObjectAt, MovesSlot}
 use Rattle.paged_heap.proofs.ByKind.{frames_change}
 use Rattle.paged_heap.proofs.WholeBlocks.{whole_slot}
-use Rattle.paged_heap.proofs.LayoutFacts.{number_small, paging_ok, place_known, table_is}
+use Rattle.paged_heap.proofs.LayoutFacts.{as_many, number_small, paging_ok, place_known, table_is}
 use Rattle.paged_heap.proofs.Preserved.{Becomes, places_are, rest_from}
-use Rattle.paged_heap.proofs.FreedObject.{goes, it, it_class, it_found, it_inside, it_slot, must, rest_held}
+use Rattle.paged_heap.proofs.FreedObject.{follows_from, goes, it, it_class, it_found, it_inside, it_slot, must, rest_held}
 
 -- A free that moves another object to the freed slot: its own slot, at b, is free in the new tables.
 pub record Fills (h : Heap) (q a size c b : ℕ) (new : Tables) : Type 0 where
@@ -175,6 +177,22 @@ module _ {h : Heap} {q a size c b : ℕ} {new : Tables} (f : Fills h q a size c 
         (ap (λ (x : Heap). x.proxies.limit) whole)
         handles
 
+    -- the object that moves is the next one, and its slot becomes free
+    pub fill_follows : n.proxies.free ≡ q ∷ h.proxies.free → FreeFollows (paging_at h) (held_in h) q (Some r) (order_in h) (order_in n)
+    fill_follows free =
+        let p = paging_at h in let m = held_in h in let d = class_at p (it k o) in
+        let lt : d < classes p = (k.sound.slots q (it k o) (it_found k o)).class in
+        let before = order_of (classes p) (tables_in h) h.proxies.free in
+        let first : IsNextToMove p m before d y = filler_next (paging_ok h k) k.tell.part k.occupied lt h.proxies.free (filler_in fills) y at in
+        let page : page_of p y.place ≡ fills.page = (filler_is (paging_ok h k) k.tell.part k.occupied (filler_in fills) k.sound r there at).1 in
+        let freed_order : order_of (classes p) (tables_in n) h.proxies.free ≡ slot_freed p m before d (page_of p y.place) =
+        ap (λ s. order_of (classes p) s h.proxies.free) on
+        ∙ vacated_order (paging_ok h k) k.tell.part k.occupied kept_tables lt h.proxies.free fills.vacates
+        ∙ ap (slot_freed p m before d) (sym page) in
+        let slot : SlotFollows p m (it k o) (Some r) before (order_of (classes p) (tables_in n) h.proxies.free) = (y, there, first, freed_order) in
+        follows_from k o n (Some r) (ap (λ (x : Heap). x.classes) whole) free
+        (subst (λ s. SlotFollows p m (it k o) (Some r) (order_of s (tables_in h) h.proxies.free) (order_of s (tables_in n) h.proxies.free)) (sym (as_many h k)) slot)
+
     -- the frames are those that the model has
     pub frames_are : n.frames ≡ frames_left h.kind (state_of h) (record { held = rest_held k o n (Some r) mover; moved = Some r })
     frames_are =
@@ -231,6 +249,10 @@ module _ {h : Heap} {q a size c b : ℕ} {new : Tables} (f : Fills h q a size c 
     counted_is = l.counted
         ∙ ap (λ (x : Heap). record x { live = set x.live c (get_or x.live c 0 - 1); asked = x.asked - size; taken = x.taken - 8 * get_or x.classes.sizes c 0 })
         (l.released_is ∙ ap (λ (x : Heap). record x { proxies = without_place x.proxies q }) l.found)
+
+    -- the number that was released is the next
+    pub free_is : {free : List ℕ} → free ≡ g.proxies.free → free ≡ q ∷ h.proxies.free
+    free_is e = e ∙ ap (λ (x : Heap). x.proxies.free) counted_is
 
     pub live_there : IsSome (get g.proxies.places i)
     live_there = ap (λ (x : Heap). is_some (get x.proxies.places i)) counted_is ∙ ap (λ j. is_some (get (remove h.proxies.places q) j)) l.is

@@ -1,5 +1,5 @@
 -- A freed object, and what a free leaves.
-use Rattle.std.proofs.Common.{◌≡◌, ℕ, ◌+◌, ◌-◌, ◌*◌, ◌<◌, ◌≤◌, length, get_or, set, Option, Some, arith, sym, ◌∙◌, ap, subst}
+use Rattle.std.proofs.Common.{◌≡◌, ℕ, ◌+◌, ◌-◌, ◌*◌, ◌<◌, ◌≤◌, ◌∷◌, length, get_or, set, Option, Some, arith, sym, ◌∙◌, ap, subst}
 use Rattle.std.specs.Prelude.{nat_eq}
 use Rattle.std.proofs.lemmas.List.{length-set}
 use Rattle.std.specs.FinMap.{get, remove}
@@ -11,6 +11,7 @@ use Rattle.page_model.specs.Paging.{bound_of, class_for, classes, page_of, slot_
 use Rattle.page_model.specs.Arrangement.{class_at, live}
 use Rattle.page_model.specs.Image.{IsSlotImage, slot_for}
 use Rattle.page_model.specs.Figures.{asked_bytes, taken_bytes}
+use Rattle.page_model.specs.Order.{FreeFollows, SlotFollows}
 use Rattle.page_model.specs.Steps.{Moves, MustMove, without}
 use Rattle.page_model.proofs.CallerLemmas.{live_taken, asked_taken, taken_taken, sound_without, free_objects, storable_without, bytes_held}
 use Rattle.cf_lemmas.proofs.Tests.{eq_yes}
@@ -21,11 +22,12 @@ use Rattle.proxy_table.specs.Proxies.{AreBelowLimit}
 use Rattle.page_slots.specs.Release.{MovesObject}
 use Rattle.page_slots.specs.Tables.{IsUsed, page_at, slot_at, slots_on}
 use Rattle.page_slots.specs.Occupying.{Occupies, Tell, class_table}
+use Rattle.page_slots.specs.Orders.{order_of}
 use Rattle.page_slots.proofs.CallerLemmas.{moves_is, moves_some}
 use Rattle.cf_model.specs.State.{HeapState}
 use Rattle.cf_model.specs.Steps.{FreesObject, MovesIn, frames_left, number_of, leaves_of}
 use Rattle.paged_heap.specs.Heap.{Heap}
-use Rattle.paged_heap.specs.Layout.{IsFramed, IsValid, held_in, paging_at, state_of, tables_in}
+use Rattle.paged_heap.specs.Layout.{IsFramed, IsValid, held_in, order_in, paging_at, state_of, tables_in}
 use Rattle.paged_heap.specs.Free.{IsMoving, IsObjectAt}
 use Rattle.cf_lemmas.proofs.Tallies.{counted_out}
 use Rattle.paged_heap.proofs.ByKind.{moves_in, slot_in_is, tiling_stays}
@@ -110,6 +112,19 @@ module _ {h : Heap} (k : IsValid h) {q a size c : ℕ} (o : IsObjectAt h q a siz
   some_not_full v =
       let l = moves_some (paging_ok h k) k.tell.part k.occupied q it_found (must v) (let e = it_class in let lt = o.in_range in omega arith) in
       subst (λ d. 1 ≤ length (pages_in h.lists d NotFull)) it_class l
+
+  -- a free that leaves these tables follows the order
+  pub follows_from : (n : Heap) (moved : Option ℕ) → n.classes ≡ h.classes → n.proxies.free ≡ q ∷ h.proxies.free
+      → SlotFollows (paging_at h) (held_in h) it moved (order_in h) (order_of (length h.classes.sizes) (tables_in n) h.proxies.free)
+      → FreeFollows (paging_at h) (held_in h) q moved (order_in h) (order_in n)
+  follows_from n moved classes_same free slot = record {
+    object = it;
+    found = it_found;
+    between = order_of (length h.classes.sizes) (tables_in n) h.proxies.free;
+    slot = slot;
+    number = ap (λ (t : ClassTable). order_of (length t.sizes) (tables_in n) n.proxies.free) classes_same
+        ∙ ap (order_of (length h.classes.sizes) (tables_in n)) free;
+  }
 
   -- what a free leaves, by the other object that moves
   module _ (n : Heap) (moved : Option ℕ) (mv : Moves (paging_at h) (held_in h) it moved) where

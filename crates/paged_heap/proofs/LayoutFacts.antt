@@ -1,6 +1,6 @@
 -- What follows from an open heap's invariant: its paging, its tables, and the rules.
 use Rattle.std.proofs.Common.{◌≡◌, ℕ, ◌<◌, ◌≤◌, length, take, get_or, Option, Some, None, arith, refl, sym, ◌∙◌, ap, subst, inl, inr}
-use Rattle.std.specs.Prelude.{IsTrue, is_some}
+use Rattle.std.specs.Prelude.{IsSome, IsTrue, is_some, option_map}
 use Rattle.std.proofs.lemmas.Bool.{cases_lt, false≢true}
 use Rattle.std.proofs.lemmas.List.{get_or-take, get_or_past, length-take-le}
 use Rattle.std.specs.FinMap.{get, len}
@@ -8,18 +8,22 @@ use Rattle.cf_base.specs.Classes.{sizes}
 use Rattle.cf_base.specs.Settings.{profile_of}
 use Rattle.page_model.specs.Held.{Placed}
 use Rattle.page_model.specs.Bytes.{bytes_at}
+use Rattle.page_model.specs.Order.{IsOrderOf}
 use Rattle.page_model.specs.Paging.{IsPaging, classes}
 use Rattle.page_model.proofs.CallerLemmas.{held_at_is, held_at_bytes, own_words, paged}
 use Rattle.size_classes.specs.Table.{ClassTable, IsClassTable}
 use Rattle.page_slots.specs.Tables.{AreTables}
 use Rattle.page_slots.specs.Occupying.{class_table}
+use Rattle.page_slots.specs.Orders.{order_of}
+use Rattle.page_slots.proofs.CallerLemmas.{order_is}
 use Rattle.cf_model.specs.State.{HeapState, layout_of}
 use Rattle.cf_model.specs.Rules.{IsPaged, KeepsRules}
 use Rattle.cf_base.specs.declared.kind.Kind.{Kind}
 use Rattle.paged_heap.specs.declared.open_heap.OpenHeap.{OpenHeap}
 use Rattle.paged_heap.specs.Heap.{Heap, seen}
-use Rattle.paged_heap.specs.Layout.{IsValid, IsValidIn, held_in, paging_at, state_in, state_of, tables_in}
+use Rattle.paged_heap.specs.Layout.{IsValid, IsValidIn, held_in, order_in, paging_at, state_in, state_of, tables_in}
 use Rattle.paged_heap.proofs.ByKind.{paged_of, rules_by}
+use Rattle.cf_lemmas.proofs.MapValues.{get-map_values}
 use Rattle.cf_lemmas.proofs.Values.{len-map_values}
 
 module _ (h : Heap) (k : IsValid h) where
@@ -83,6 +87,20 @@ module _ (h : Heap) (k : IsValid h) where
   pub paged_kind : IsPaged h.kind
   paged_kind = paged_of h.kind h k.framed
 
+  -- a number without an address is not held
+  pub no_place : (q : ℕ) → get h.proxies.places q ≡ None → get (held_in h) q ≡ None
+  no_place q e = get-map_values (λ a. record { place = a; bytes = bytes_at h.words a }) h.proxies.places q
+      ∙ ap (option_map (λ a. record { place = a; bytes = bytes_at h.words a })) e
+
+  -- the order of its tables is one of its objects
+  order_ok : IsOrderOf (paging_at h) (held_in h) h.settings.proxies (order_in h)
+  order_ok =
+      let many = k.numbers in
+      subst (λ n. IsOrderOf (paging_at h) (held_in h) h.settings.proxies (order_of n (tables_in h) h.proxies.free)) (sym as_many)
+      (order_is paging_ok k.tell k.occupied h.settings.proxies h.proxies.free
+      (λ q among. (let lt = k.handles.free_below q among in omega arith, no_place q (k.handles.not_live q among)))
+      k.handles.once (let all = k.handles.counted in let l = held_len in omega arith))
+
   pub rules : KeepsRules (state_of h)
   rules = record {
     settings = record {
@@ -108,6 +126,7 @@ module _ (h : Heap) (k : IsValid h) where
       image = own_words (paging_at h) paging_ok (held_in h) k.sound h.words k.image;
       slots = k.image;
       no_tiling = refl;
+      order = order_ok;
     });
   }
 
@@ -120,3 +139,8 @@ rules_in kind (Some h) k open_now = rules (seen kind h) k.kept
 pub rules_of : (kind : Kind) (o : Option OpenHeap) → IsValidIn kind o → (s : HeapState) → state_in kind o ≡ s → IsTrue s.is_open → KeepsRules s
 rules_of kind None k s is open_now = absurd (false≢true (ap (λ (t : HeapState). t.is_open) is ∙ open_now))
 rules_of kind (Some h) k s is open_now = subst KeepsRules is (rules (seen kind h) k.kept)
+
+-- an open heap has an order
+pub order_in_open : (kind : Kind) (o : Option OpenHeap) → IsTrue (is_some o) → IsSome (state_in kind o).order
+order_in_open kind None open_now = absurd (false≢true open_now)
+order_in_open kind (Some h) open_now = refl

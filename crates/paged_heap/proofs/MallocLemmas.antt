@@ -111,11 +111,11 @@ module _ (h : Heap) (k : IsValid h) (bytes c : ℕ) (found : Some c ≡ class_of
   pub comes : (t b n : Heap) (a q : ℕ) → len h.proxies.places ≢ h.settings.proxies
       → TakesAt h.classes (tables_in h) c a (tables_in t) → AreTables h.classes (tables_in t)
       → t ≡ record h { maps = t.maps; lists = t.lists; pool = t.pool }
-      → get t.proxies.places q ≡ None → q < t.proxies.limit
+      → get t.proxies.places q ≡ None → q < t.proxies.limit → t.proxies.free ≡ q ∷ b.proxies.free
       → b ≡ record t { proxies = with_place t.proxies q a; words = set t.words a (header_word q bytes) } → AreBelowLimit b.proxies
       → n ≡ record b { live = set b.live c (get_or b.live c 0 + 1); asked = b.asked + bytes; taken = b.taken + 8 * get_or b.classes.sizes c 0 }
       → Comes h n c a bytes q
-  comes t b n a q ne taken tables et unused below eb handles en =
+  comes t b n a q ne taken tables et unused below first eb handles en =
       let is = class_is h k bytes c found in
       let pt : t.proxies ≡ h.proxies = ap (λ (x : Heap). x.proxies) et in
       let on : tables_in n ≡ tables_in t = ap tables_in en ∙ ap tables_in eb in
@@ -134,6 +134,7 @@ module _ (h : Heap) (k : IsValid h) (bytes c : ℕ) (found : Some c ≡ class_of
         unused = sym (ap (λ (x : Proxies). get x.places q) pt) ∙ unused;
         below = (let e = ap (λ (x : Proxies). x.limit) pt in omega arith);
         proxies = ap (λ (x : Heap). x.proxies) en ∙ ap (λ (x : Heap). x.proxies) eb ∙ ap (λ x. with_place x q a) pt;
+        first = sym (ap (λ (x : Proxies). x.free) pt) ∙ first ∙ ap (λ (x : Proxies). q ∷ x.free) (sym (ap (λ (x : Heap). x.proxies) en));
         handles = subst AreBelowLimit (sym (ap (λ (x : Heap). x.proxies) en)) handles;
         frames = ap (λ (x : Heap). x.frames) en ∙ ap (λ (x : Heap). x.frames) eb ∙ ap (λ (x : Heap). x.frames) et;
         words = ap (λ (x : Heap). x.words) en ∙ ap (λ (x : Heap). x.words) eb ∙ ap (λ (x : Heap). set x.words a (header_word q bytes)) et;
@@ -148,8 +149,8 @@ module _ (h : Heap) (k : IsValid h) (bytes c : ℕ) (found : Some c ≡ class_of
           → b ≡ record h { maps = t.maps; lists = t.lists; pool = t.pool; proxies = with_place t.proxies q a; words = set t.words a (header_word q bytes) }
       eb' t b q a eb et = eb ∙ ap (λ (x : Heap). record x { proxies = with_place t.proxies q a; words = set t.words a (header_word q bytes) }) et
 
--- if only equal tables were read, the state is the same but for the cost
-pub same_state : (h t : Heap) → t ≡ record h { maps = t.maps; lists = t.lists; pool = t.pool } → ChangesCost (state_of h) (state_of t)
+-- in the same heap only the cost may differ
+pub same_state : (h t : Heap) → t ≡ h → ChangesCost (state_of h) (state_of t)
 same_state h t e = ap state_of e ∙ ap (λ x. record (state_of h) { cost = x }) (sym (ap (λ (x : Heap). x.cost) e))
 
 -- the cost of a malloc

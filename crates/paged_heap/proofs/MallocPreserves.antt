@@ -1,9 +1,10 @@
 -- A malloc: a new object in a free slot.
-use Rattle.std.proofs.Common.{◌≡◌, ℕ, ◌+◌, ◌*◌, ◌^◌, ◌<◌, ◌≤◌, length, get_or, set, replicate, None, arith, refl, sym, ◌∙◌, ap, subst}
-use Rattle.std.specs.Prelude.{nat_eq, option_map}
+use Rattle.std.proofs.Common.{◌≡◌, ℕ, ◌+◌, ◌*◌, ◌^◌, ◌<◌, ◌≤◌, ◌∷◌, length, get_or, set, replicate, Option, Some, None, arith, refl, sym, ◌∙◌, ap, subst}
+use Rattle.std.specs.Prelude.{IfSome, nat_eq, option_map}
 use Rattle.std.proofs.lemmas.List.{length-set, length-replicate}
 use Rattle.std.specs.FinMap.{get, insert, len}
 use Rattle.cf_base.specs.Classes.{need}
+use Rattle.cf_lemmas.proofs.Maps.{get_inserted}
 use Rattle.cf_lemmas.proofs.MapValues.{get-map_values}
 use Rattle.cf_lemmas.proofs.Ranges.{one}
 use Rattle.page_model.specs.Held.{Held, Placed, objects}
@@ -11,6 +12,7 @@ use Rattle.page_model.specs.Paging.{class_for, classes, slot_words}
 use Rattle.page_model.specs.Arrangement.{class_at, live}
 use Rattle.page_model.specs.Image.{header_word, IsSlotImage}
 use Rattle.page_model.specs.Figures.{asked_bytes, taken_bytes}
+use Rattle.page_model.specs.Order.{MallocFollows, TakesNext}
 use Rattle.page_model.specs.Steps.{IsFreePlace, zeros_at}
 use Rattle.page_model.proofs.CallerLemmas.{live_added, asked_added, taken_added, malloc_objects, malloc_places, sound_malloc, image_after_malloc}
 use Rattle.page_model.proofs.CallerLemmas.{storable_added, zeros_are_bytes}
@@ -18,14 +20,16 @@ use Rattle.proxy_table.specs.Proxies.{Proxies, AreBelowLimit, with_place}
 use Rattle.page_slots.specs.Tables.{AreTables}
 use Rattle.page_slots.specs.Take.{TakesAt}
 use Rattle.page_slots.specs.Occupying.{class_table}
-use Rattle.page_slots.proofs.CallerLemmas.{taken_is_free, taken_occupied, taken_tell}
+use Rattle.page_slots.specs.Orders.{order_of}
+use Rattle.page_slots.proofs.CallerLemmas.{taken_is_free, taken_next, taken_occupied, taken_tell}
+use Rattle.cf_model.specs.Answers.{place_of}
 use Rattle.cf_model.specs.Steps.{GivesObject}
 use Rattle.paged_heap.specs.Heap.{Heap}
-use Rattle.paged_heap.specs.Layout.{IsValid, held_in, paging_at, state_of, tables_in}
+use Rattle.paged_heap.specs.Layout.{IsValid, held_in, order_in, paging_at, state_of, tables_in}
 use Rattle.cf_lemmas.proofs.Tallies.{counted_in}
 use Rattle.paged_heap.proofs.ByKind.{framed_kept, placed_in}
-use Rattle.paged_heap.proofs.LayoutFacts.{few_classes, held_len, paged_kind, paging_ok}
-use Rattle.paged_heap.proofs.Preserved.{Becomes, becomes_kept, becomes_state, no_place, places_are, stored, with_parts}
+use Rattle.paged_heap.proofs.LayoutFacts.{as_many, few_classes, held_len, no_place, paged_kind, paging_ok}
+use Rattle.paged_heap.proofs.Preserved.{Becomes, becomes_kept, becomes_state, held_is, places_are, stored, with_parts}
 
 -- n has a new object of this many bytes in the free slot of class c at the address a, under number q
 pub record Comes (h n : Heap) (c a bytes q : ℕ) : Type 0 where
@@ -39,6 +43,7 @@ pub record Comes (h n : Heap) (c a bytes q : ℕ) : Type 0 where
   pub unused : get h.proxies.places q ≡ None
   pub below : q < h.proxies.limit
   pub proxies : n.proxies ≡ with_place h.proxies q a
+  pub first : h.proxies.free ≡ q ∷ n.proxies.free
   pub handles : AreBelowLimit n.proxies
   pub words : n.words ≡ set h.words a (header_word q bytes)
   pub frames : n.frames ≡ h.frames
@@ -115,6 +120,30 @@ module _ (h n : Heap) (k : IsValid h) (c a bytes q : ℕ) (co : Comes h n c a by
   pub comes_kept : IsValid n
   comes_kept = becomes_kept h n k after becomes
 
+  -- the number and the slot are the next ones
+  follows : MallocFollows (paging_at h) (held_in h) (record { number = q; length = bytes }) a (order_in h) (order_in n)
+  follows = record {
+    rest = n.proxies.free;
+    number = co.first;
+    taken =
+        let next = taken_next (paging_ok h k) k.tell.part k.occupied co.tables co.in_range n.proxies.free co.taken in
+        let of_class = subst (λ d. TakesNext (paging_at h) (held_in h) (order_of (classes (paging_at h)) (tables_in h) n.proxies.free) d a
+        (order_of (classes (paging_at h)) (tables_in n) n.proxies.free)) (sym co.class) next in
+        let old = subst (λ s. TakesNext (paging_at h) (held_in h) (order_of s (tables_in h) n.proxies.free) (class_for (paging_at h) bytes) a
+        (order_of s (tables_in n) n.proxies.free)) (sym (as_many h k)) of_class in
+        subst (λ s. TakesNext (paging_at h) (held_in h) (order_of (length h.classes.sizes) (tables_in h) n.proxies.free) (class_for (paging_at h) bytes) a
+        (order_of s (tables_in n) n.proxies.free)) (sym (ap (λ (x : Heap). length x.classes.sizes) co.rest)) old;
+  }
+
+  pub comes_chosen : IfSome (place_of (state_of n) q)
+      (λ b. MallocFollows (paging_at h) (held_in h) (record { number = q; length = bytes }) b (order_in h) (order_in n))
+  comes_chosen =
+      let there : place_of (state_of n) q ≡ Some a =
+      ap (λ (m : Held). option_map (λ (x : Placed). x.place) (get m q)) (held_is h n k after becomes)
+      ∙ ap (option_map (λ (x : Placed). x.place)) (get_inserted (held_in h) q (zeros_at a bytes)) in
+      subst (λ (o : Option ℕ). IfSome o (λ b. MallocFollows (paging_at h) (held_in h) (record { number = q; length = bytes }) b (order_in h) (order_in n)))
+      (sym there) follows
+
   pub comes_given : GivesObject (state_of h) (record { number = q; length = bytes }) (state_of n)
   comes_given = record {
     fits = co.fits;
@@ -123,5 +152,6 @@ module _ (h n : Heap) (k : IsValid h) (c a bytes q : ℕ) (co : Comes h n c a by
     unused = none;
     place = a;
     placed = placed_in h.kind (paged_kind h k) (state_of h) (record { number = q; length = bytes }) a (state_of n) free;
-    whole = becomes_state h n k after becomes ∙ ap (λ fs. record (state_of h) { held = after; words = n.words; frames = fs; cost = n.cost }) co.frames;
+    whole = becomes_state h n k after becomes
+        ∙ ap (λ fs. record (state_of h) { held = after; words = n.words; frames = fs; order = (state_of n).order; cost = n.cost }) co.frames;
   }

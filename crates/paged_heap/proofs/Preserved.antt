@@ -1,10 +1,10 @@
 -- An open heap whose objects, words, tables, proxies and counts changed together keeps what it keeps.
-use Rattle.std.proofs.Common.{◌≡◌, ℕ, ◌<◌, length, get_or, Some, None, arith, sym, ◌∙◌, ap, subst}
+use Rattle.std.proofs.Common.{◌≡◌, ℕ, ◌<◌, length, get_or, Some, arith, sym, ◌∙◌, ap, subst}
 use Rattle.std.specs.FinMap.{get}
 use Rattle.std.specs.Prelude.{option_map}
 use Rattle.cf_base.specs.declared.kind.Kind.{Kind}
 use Rattle.cf_base.specs.declared.kind.Kind.TheVariants.{Moving, NonMoving, Tlsf, HalfFit}
-use Rattle.page_model.specs.Held.{Held, Placed, objects, places}
+use Rattle.page_model.specs.Held.{Held, objects, places}
 use Rattle.page_model.specs.Bytes.{AreStorable, bytes_at}
 use Rattle.page_model.specs.Paging.{classes}
 use Rattle.page_model.specs.Arrangement.{IsSound, live}
@@ -78,8 +78,12 @@ module _ (h n : Heap) (k : IsValid h) (m : Held) (b : Becomes h n m) where
   pub becomes_kept : IsValid n
   becomes_kept = subst IsValid (sym b.rest) parts_kept
 
-  pub becomes_state : state_of n ≡ record (state_of h) { held = m; words = n.words; frames = n.frames; cost = n.cost }
-  becomes_state = ap state_of b.rest ∙ ap (λ m. record (state_of h) { held = m; words = n.words; frames = n.frames; cost = n.cost }) held_is
+  pub becomes_state : state_of n ≡ record (state_of h) { held = m; words = n.words; frames = n.frames; order = (state_of n).order; cost = n.cost }
+  becomes_state =
+      ap state_of b.rest
+      ∙ ap (λ m. record (state_of h) { held = m; words = n.words; frames = n.frames; order = (state_of (with_parts h n)).order; cost = n.cost }) held_is
+      ∙ ap (λ o. record (state_of h) { held = m; words = n.words; frames = n.frames; order = o; cost = n.cost })
+      (sym (ap (λ (x : Heap). (state_of x).order) b.rest))
 
 framed_same : (kind : Kind) (h : Heap) (cost : ℕ) → IsFramed kind h → IsFramed kind (record h { cost = cost })
 framed_same Moving h cost f = f
@@ -114,11 +118,6 @@ module _ (h : Heap) (k : IsValid h) where
 
   pub places_are : h.proxies.places ≡ places (held_in h)
   places_are = sym (places-held_at h.words h.proxies.places)
-
-  -- a number without an address is not held
-  pub no_place : (q : ℕ) → get h.proxies.places q ≡ None → get (held_in h) q ≡ None
-  no_place q e = get-map_values (λ a. record { place = a; bytes = bytes_at h.words a }) h.proxies.places q
-      ∙ ap (option_map (λ a. record { place = a; bytes = bytes_at h.words a })) e
 
   -- what has an address is held there
   pub has_place : (q a : ℕ) → get h.proxies.places q ≡ Some a → get (held_in h) q ≡ Some (record { place = a; bytes = bytes_at h.words a })

@@ -1,18 +1,21 @@
 -- An object with its new length in another class: the heap before its old slot is free, and the heap after the resize.
-use Rattle.std.proofs.Common.{◌≡◌, ◌≢◌, ℕ, ◌+◌, ◌-◌, ◌<◌, ◌≤◌, List, length, get_or, set, Option, Some, None, arith, refl, sym, ◌∙◌, ap, subst, inr}
-use Rattle.std.specs.Prelude.{nat_eq}
+use Rattle.std.proofs.Common.{◌≡◌, ◌≢◌, ℕ, ◌+◌, ◌-◌, ◌<◌, ◌≤◌, List, ◌∷◌, length, get_or, set, Option, Some, None, arith, refl, sym, ◌∙◌, ap, subst, inr}
+use Rattle.std.specs.Prelude.{if◌then◌else◌, nat_eq, not}
+use Rattle.std.specs.List.{filter}
 use Rattle.std.proofs.lemmas.List.{get_or-set_other, length-set}
 use Rattle.std.specs.FinMap.{get, insert, remove}
 use Rattle.cf_base.specs.declared.answers.Resized.{Resized}
+use Rattle.cf_lemmas.proofs.Maps.{get_inserted}
 use Rattle.cf_lemmas.proofs.MapValues.{map_values-insert}
 use Rattle.cf_lemmas.proofs.Ranges.{one}
 use Rattle.cf_lemmas.proofs.Sums.{insert_again}
 use Rattle.page_model.specs.Held.{Held, Placed, objects, places}
 use Rattle.page_model.specs.Bytes.{AreStorable}
-use Rattle.page_model.specs.Paging.{class_for, classes, page_of, slot_words}
+use Rattle.page_model.specs.Paging.{class_for, classes, page_of, slot_words, slots_of}
 use Rattle.page_model.specs.Arrangement.{class_at, IsSound, live, not_full_pages, objects_on}
 use Rattle.page_model.specs.Image.{Clears, IsDisjoint, IsSlotImage, MovesWords, Rewrites, object_word, slot_for}
 use Rattle.page_model.specs.Figures.{asked_bytes, taken_bytes}
+use Rattle.page_model.specs.Order.{IsNextToMove, Order, ResizeFollows, SlotFollows, TakesNext, not_full_in, slot_freed, with_not_full}
 use Rattle.page_model.specs.Steps.{ChangesClass, IsFreePlace, RefitsObject as IsResizedBy, Moves, MustMove, Request, resized_at, without}
 use Rattle.cf_lemmas.proofs.Values.{still}
 use Rattle.page_model.proofs.CallerLemmas.{not_full-same, free_objects, objects_on-elsewhere, sound_placed}
@@ -21,13 +24,14 @@ use Rattle.size_classes.specs.Table.{ClassTable}
 use Rattle.proxy_table.specs.Proxies.{AreBelowLimit}
 use Rattle.page_slots.specs.Tables.{IsUsed, page_at, slot_at}
 use Rattle.page_slots.specs.Occupying.{Occupies, Tell, class_table}
-use Rattle.page_slots.proofs.CallerLemmas.{taken_occupied, taken_tell}
+use Rattle.page_slots.specs.Orders.{order_of}
+use Rattle.page_slots.proofs.CallerLemmas.{taken_next, taken_occupied, taken_tell}
 use Rattle.cf_model.specs.Steps.{ResizesObject, frames_left, number_of}
 use Rattle.paged_heap.specs.Heap.{Heap}
 use Rattle.paged_heap.specs.declared.resize_class.Change.{Change}
 use Rattle.paged_heap.specs.ResizeClass.{EntersAt, IsChange, old_words}
-use Rattle.paged_heap.specs.Layout.{IsFramed, IsValid, held_in, paging_at, state_of, tables_in}
-use Rattle.paged_heap.proofs.LayoutFacts.{few_classes, paged_kind, paging_ok, sizes_are, table_is}
+use Rattle.paged_heap.specs.Layout.{IsFramed, IsValid, held_in, order_in, paging_at, state_of, tables_in}
+use Rattle.paged_heap.proofs.LayoutFacts.{as_many, few_classes, paged_kind, paging_ok, sizes_are, table_is}
 use Rattle.paged_heap.proofs.Preserved.{Becomes, becomes_kept, becomes_state, held_is, rest_from, stored}
 use Rattle.cf_lemmas.proofs.Tallies.{counted_in, counted_out}
 use Rattle.paged_heap.proofs.TwoWrites.{between, cleared_then, moved_then, written_first}
@@ -100,6 +104,40 @@ module _ {h : Heap} (k : IsValid h) {x : Change} (is : IsChange h x) {b : ℕ} {
 
   pub must_before : MustMove (paging_at h) both object → MustMove (paging_at h) (held_in h) object
   must_before m = record { full = sym (same_on _) ∙ m.full; several = m.several; many = sym same_not_full ∙ m.many }
+
+  -- the order means the same for the old class with the new object and without it
+  pub freed_same : (o : Order) (g : ℕ) → slot_freed (paging_at h) both o (class_at (paging_at h) object) g
+      ≡ slot_freed (paging_at h) (held_in h) o (class_at (paging_at h) object) g
+  freed_same o g =
+      let c = class_at (paging_at h) object in
+      ap (λ z. if nat_eq z 1 then record (with_not_full o c (filter (λ other. not (nat_eq other g)) (not_full_in o c))) { pool = g ∷ o.pool }
+      else if nat_eq z (slots_of (paging_at h) c) then with_not_full o c (g ∷ not_full_in o c) else o) (same_on g)
+
+  pub next_same : (o : Order) (c q : ℕ) (y : Placed) → get (held_in h) q ≡ Some y → IsNextToMove (paging_at h) both o c y
+      → IsNextToMove (paging_at h) (held_in h) o c y
+  next_same o c q y there f = record {
+    page = f.page;
+    slot = f.slot;
+    rest = f.rest;
+    front = f.front;
+    least = record {
+      taken = (q, y, there, f.address);
+      least = λ s lt (r, z, at, e). f.least.least s lt (r, z, (still (held_in h) spare new unused r z at).1, e);
+    };
+    address = f.address;
+  }
+
+  -- the order while both slots are taken
+  abbrev pub order_between : Order
+  order_between = order_of (length h.classes.sizes) (tables_in n) h.proxies.free
+
+  takes_next : TakesNext (paging_at h) (held_in h) (order_in h) (class_for (paging_at h) x.bytes) b order_between
+  takes_next =
+      let next = taken_next (paging_ok h k) k.tell.part k.occupied (of_table k is en.taken en.tables) is.in_range h.proxies.free (at_table k is en.taken en.tables) in
+      let of_class = subst (λ d. TakesNext (paging_at h) (held_in h) (order_of (classes (paging_at h)) (tables_in h) h.proxies.free) d b
+      (order_of (classes (paging_at h)) (tables_in n) h.proxies.free)) (sym is.class) next in
+      subst (λ s. TakesNext (paging_at h) (held_in h) (order_of s (tables_in h) h.proxies.free) (class_for (paging_at h) x.bytes) b
+      (order_of s (tables_in n) h.proxies.free)) (sym (as_many h k)) of_class
 
   pub old_used : IsUsed (tables_in n) x.class (page_at n.classes x.place) (slot_at n.classes x.class x.place)
   old_used =
@@ -275,12 +313,33 @@ module _ {h : Heap} (k : IsValid h) {x : Change} (is : IsChange h x) {b : ℕ} {
               (subst (λ v. IsResizedBy (paging_at h) (held_in h) asked (record { held = after; moved = v })) (sym none) (inr step));
           left = ap objects (held_is h m k after be) ∙ objects_are;
           whole = becomes_state h m k after be
-              ∙ ap (λ fs. record (state_of h) { held = after; words = m.words; frames = fs; cost = m.cost })
+              ∙ ap (λ fs. record (state_of h) { held = after; words = m.words; frames = fs; order = (state_of m).order; cost = m.cost })
               (frames ∙ ap (λ v. frames_left h.kind (state_of h) (record { held = after; moved = v })) (sym none))
               ∙ ap (λ g. record (state_of h) {
                 held = g;
                 words = m.words;
                 frames = frames_left h.kind (state_of h) (record { held = g; moved = number_of done.moved });
+                order = (state_of m).order;
                 cost = m.cost;
               }) (sym (held_is h m k after be));
+        }
+
+        -- the new slot is the next one, and the old one is left in the order
+        pub change_chosen : SlotFollows (paging_at h) (held_in h) object moved order_between (order_of (length h.classes.sizes) (tables_in m) h.proxies.free)
+            → m.proxies.free ≡ h.proxies.free → (told : Option ℕ) → told ≡ moved
+            → ResizeFollows (paging_at h) (held_in h) asked (record { held = held_in m; moved = told }) (order_in h) (order_in m)
+        change_chosen follows free told none = record {
+          object = object;
+          found = found;
+          stays = λ e. absurd (is.other (sym is.class ∙ e ∙ object_class));
+          changes = λ _. (
+            b,
+            order_between,
+            ap (λ g. get g x.handle.0) (held_is h m k after be) ∙ get_inserted (remove left spare) x.handle.0 new,
+            takes_next,
+            subst (λ v. SlotFollows (paging_at h) (held_in h) object v order_between (order_in m)) (sym none)
+                (subst (SlotFollows (paging_at h) (held_in h) object moved order_between)
+                (sym (ap (λ (t : ClassTable). order_of (length t.sizes) (tables_in m) m.proxies.free) (same.classes ∙ en.classes)
+                ∙ ap (order_of (length h.classes.sizes) (tables_in m)) free)) follows),
+          );
         }

@@ -5,7 +5,10 @@ use Rattle.cf_lemmas.proofs.Maps.{get_inserted, get_remove_other, get_removed}
 use Rattle.cf_lemmas.proofs.MapValues.{map_values-insert}
 use Rattle.cf_lemmas.proofs.Sums.{insert_again}
 use Rattle.page_model.specs.Held.{Placed, places}
+use Rattle.page_model.specs.Arrangement.{class_at}
 use Rattle.page_model.specs.Image.{Clears, IsSlotImage}
+use Rattle.page_model.specs.Order.{SlotFollows, slot_freed}
+use Rattle.page_model.specs.Paging.{classes, page_of}
 use Rattle.page_model.specs.Steps.{MustMove}
 use Rattle.page_model.proofs.CallerLemmas.{still_places, image_after_change}
 use Rattle.proxy_table.specs.Proxies.{AreBelowLimit, Proxies}
@@ -13,7 +16,8 @@ use Rattle.size_classes.specs.Table.{ClassTable}
 use Rattle.page_slots.specs.Release.{Vacates}
 use Rattle.page_slots.specs.Tables.{AreTables, page_at, slot_at}
 use Rattle.page_slots.specs.Occupying.{Occupies, class_table}
-use Rattle.page_slots.proofs.CallerLemmas.{renumbered_occupied, vacated_occupied, vacated_tell}
+use Rattle.page_slots.specs.Orders.{order_of}
+use Rattle.page_slots.proofs.CallerLemmas.{renumbered_occupied, vacated_occupied, vacated_order, vacated_tell}
 use Rattle.paged_heap.specs.Heap.{Heap}
 use Rattle.paged_heap.specs.declared.resize_class.Change.{Change}
 use Rattle.paged_heap.specs.ResizeClass.{EntersAt, IsChange, old_words}
@@ -21,11 +25,11 @@ use Rattle.paged_heap.specs.Free.{IsMoving}
 use Rattle.paged_heap.specs.Layout.{IsFramed, IsValid, held_in, paging_at, state_of, tables_in}
 use Rattle.cf_model.specs.Steps.{frames_left}
 use Rattle.paged_heap.proofs.ByKind.{frames_stay}
-use Rattle.paged_heap.proofs.LayoutFacts.{paged_kind, paging_ok, table_is}
+use Rattle.paged_heap.proofs.LayoutFacts.{as_many, paged_kind, paging_ok, table_is}
 use Rattle.paged_heap.proofs.Preserved.{Becomes, places_are}
 use Rattle.paged_heap.proofs.FreedObject.{it_class, moving, page_same, slot_same}
 use Rattle.paged_heap.proofs.ResizeClass.{Keeps, after, after_is, both, both_occupied, both_sound, both_tell, changes, entered_long, found, found_still, middle}
-use Rattle.paged_heap.proofs.ResizeClass.{must_before, new, new_free, object, rewritten, spare, spare_is_other, then_cleared, unused}
+use Rattle.paged_heap.proofs.ResizeClass.{freed_same, must_before, new, new_free, object, order_between, rewritten, spare, spare_is_other, then_cleared, unused}
 
 module _ {h : Heap} (k : IsValid h) {x : Change} (is : IsChange h x) {b : ℕ} {n : Heap} (en : EntersAt h x b n) (stays : IsMoving h x.place x.class → ⊥)
     (e m : Heap)
@@ -89,6 +93,23 @@ module _ {h : Heap} (k : IsValid h) {x : Change} (is : IsChange h x) {b : ℕ} {
       ∙ ap (λ g. insert g x.handle.0 b) (still_places (held_in h) x.handle.0 x.place)
       ∙ insert_again (places (held_in h)) x.handle.0 b
       ∙ ap (λ g. insert g x.handle.0 b) (sym (places_are h k))
+
+  -- its old slot becomes free
+  pub alone_follows : SlotFollows (paging_at h) (held_in h) (object k is en) None (order_between k is en)
+      (order_of (length h.classes.sizes) (tables_in m) h.proxies.free)
+  alone_follows =
+      let p = paging_at h in let c = class_at p (object k is en) in
+      let before = order_of (classes p) (tables_in n) h.proxies.free in
+      let freed_order : order_of (classes p) (tables_in m) h.proxies.free ≡ slot_freed p (held_in h) before c (page_of p x.place) =
+      vacated_order (paging_ok h k) (both_tell k is en).part (both_occupied k is en) kept_tables is.object.in_range h.proxies.free vacates
+      ∙ ap (λ d. slot_freed p (both k is en) before d (page_at h.classes x.place)) (sym (it_class k is.object))
+      ∙ ap (slot_freed p (both k is en) before c) (sym (page_same k is.object))
+      ∙ freed_same k is en before (page_of p x.place) in
+      subst (λ s. order_of s (tables_in m) h.proxies.free ≡ slot_freed p (held_in h) (order_of s (tables_in n) h.proxies.free) c (page_of p x.place))
+      (sym (as_many h k)) freed_order
+
+  pub free_same : m.proxies.free ≡ h.proxies.free
+  free_same = ap (λ (o : Heap). o.proxies.free) dropped ∙ en.free
 
   pub frames_are : m.frames ≡ frames_left h.kind (state_of h) (record { held = after k is en None never; moved = None })
   frames_are = ap (λ (o : Heap). o.frames) dropped ∙ en.frames ∙ sym (frames_stay h.kind (paged_kind h k) (state_of h) (after k is en None never))

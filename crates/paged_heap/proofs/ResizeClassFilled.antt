@@ -8,7 +8,8 @@ use Rattle.cf_lemmas.proofs.Maps.{equal_maps, get_insert_other, get_inserted, ge
 use Rattle.cf_lemmas.proofs.MapValues.{map_values-insert}
 use Rattle.page_model.specs.Held.{Placed, places}
 use Rattle.page_model.specs.Image.{IsDisjoint, IsOutside, IsSlotImage, MovesWords, slot_for}
-use Rattle.page_model.specs.Paging.{slot_words}
+use Rattle.page_model.specs.Order.{SlotFollows, slot_freed}
+use Rattle.page_model.specs.Paging.{classes, page_of, slot_words}
 use Rattle.page_model.specs.Arrangement.{class_at}
 use Rattle.page_model.specs.Steps.{MayFill, Moves, MustMove, without}
 use Rattle.cf_lemmas.proofs.Values.{still}
@@ -21,7 +22,9 @@ use Rattle.proxy_table.specs.Proxies.{AreBelowLimit, Proxies, with_place}
 use Rattle.page_slots.specs.Release.{FillsFrom}
 use Rattle.page_slots.specs.Tables.{AreTables, Tables}
 use Rattle.page_slots.specs.Occupying.{Occupies, Tell, class_table}
-use Rattle.page_slots.proofs.CallerLemmas.{filled_occupied, filled_tell, filler, filler_in, filler_may, moves_some, renumbered_occupied}
+use Rattle.page_slots.specs.Orders.{order_of}
+use Rattle.page_slots.proofs.CallerLemmas.{filled_occupied, filled_tell, filler, filler_in, filler_is, filler_may, filler_next, moves_some}
+use Rattle.page_slots.proofs.CallerLemmas.{renumbered_occupied, vacated_order}
 use Rattle.class_lists.specs.PageLists.{pages_in}
 use Rattle.class_lists.specs.declared.Which.TheVariants.{NotFull}
 use Rattle.paged_heap.specs.Heap.{Heap}
@@ -31,13 +34,13 @@ use Rattle.paged_heap.specs.Free.{IsMoving, MovesSlot}
 use Rattle.paged_heap.specs.Layout.{IsFramed, IsValid, held_in, paging_at, state_of, tables_in}
 use Rattle.paged_heap.proofs.ByKind.{frames_change}
 use Rattle.paged_heap.proofs.WholeBlocks.{whole_slot}
-use Rattle.paged_heap.proofs.LayoutFacts.{number_small, paging_ok, place_known, table_is}
+use Rattle.paged_heap.proofs.LayoutFacts.{as_many, number_small, paging_ok, place_known, table_is}
 use Rattle.paged_heap.proofs.Preserved.{Becomes, places_are}
 use Rattle.paged_heap.proofs.ResizeCopy.{untouched}
 use Rattle.paged_heap.proofs.FreedObject.{it_class, it_inside, it_slot, must}
 use Rattle.paged_heap.proofs.ResizeClass.{Keeps, after, after_is, both, both_occupied, both_sound, both_tell, changes, entered_long, found, found_still, left}
 use Rattle.paged_heap.proofs.ResizeClass.{middle, moves_before, must_still, new, new_free, object, place_free, rewritten, spare, spare_is_other, then_moved}
-use Rattle.paged_heap.proofs.ResizeClass.{unused}
+use Rattle.paged_heap.proofs.ResizeClass.{freed_same, next_same, order_between, unused}
 
 -- two addresses, in either order
 pub placed_in_turn : (m : FinMap nat_cmp ℕ) (q r a b : ℕ) → r ≢ q → insert (insert m q b) r a ≡ insert (insert (remove m q) r a) q b
@@ -275,6 +278,7 @@ module _ {h : Heap} {x : Change} {b : ℕ} {n : Heap} {f : ℕ} {t : Tables} (fs
     pub same : tables_in u ≡ t
     pub found : u ≡ record n { maps = u.maps; lists = u.lists; pool = u.pool }
     pub moved : m ≡ record u { proxies = with_place u.proxies i x.place; words = m.words; frames = m.frames }
+    pub free : m.proxies.free ≡ u.proxies.free
     pub shift : MovesSlot u m f x.place w
     pub framed : IsFramed h.kind m
     pub handles : AreBelowLimit m.proxies
@@ -288,10 +292,11 @@ module _ {h : Heap} {x : Change} {b : ℕ} {n : Heap} {f : ℕ} {t : Tables} (fs
       subst (λ i. IsSome (get u.proxies.places i)) (sym told) (subst (λ (o : Heap). IsSome (get o.proxies.places r)) (sym found) live_still)
 
   pub lands_of : {u m : Heap} {w i : ℕ} → w ≡ words → i ≡ r → tables_in u ≡ t → u ≡ record n { maps = u.maps; lists = u.lists; pool = u.pool }
-      → m ≡ record u { proxies = with_place u.proxies i x.place; words = m.words; frames = m.frames } → MovesSlot u m f x.place w
+      → m ≡ record u { proxies = with_place u.proxies i x.place; words = m.words; frames = m.frames } → m.proxies.free ≡ u.proxies.free
+      → MovesSlot u m f x.place w
       → IsFramed h.kind m → AreBelowLimit m.proxies → Lands u m w i
-  lands_of size_w told same found moved shift framed handles =
-      record { size_w = size_w; told = told; same = same; found = found; moved = moved; shift = shift; framed = framed; handles = handles }
+  lands_of size_w told same found moved free shift framed handles =
+      record { size_w = size_w; told = told; same = same; found = found; moved = moved; free = free; shift = shift; framed = framed; handles = handles }
 
   module _ {u m : Heap} {w i : ℕ} (l : Lands u m w i) where
     whole : m ≡ record n { maps = u.maps; lists = u.lists; pool = u.pool; proxies = with_place n.proxies r x.place; words = m.words; frames = m.frames }
@@ -327,6 +332,31 @@ module _ {h : Heap} {x : Change} {b : ℕ} {n : Heap} {f : ℕ} {t : Tables} (fs
       taken = ap (λ (o : Heap). o.taken) whole;
       limit = ap (λ (o : Heap). o.proxies.limit) whole;
     }
+
+    -- the object that moves is the next one, and its slot becomes free
+    pub fill_follows : SlotFollows (paging_at h) (held_in h) (object k is en) (Some r) (order_between k is en)
+        (order_of (length h.classes.sizes) (tables_in m) h.proxies.free)
+    fill_follows =
+        let p = paging_at h in let d = class_at p (object k is en) in
+        let lt : d < classes p = (k.sound.slots x.handle.0 (object k is en) (found k is en)).class in
+        let before = order_of (classes p) (tables_in n) h.proxies.free in
+        let first = filler_next (paging_ok h k) (both_tell k is en).part (both_occupied k is en) lt h.proxies.free (filler_in fills) stood stood_at in
+        let once = next_same k is en before d r stood stood_there first in
+        let both_there = (still (held_in h) (spare k is en) (new k is en) (unused k is en) r stood stood_there).1 in
+        let page : page_of p stood.place ≡ fills.page =
+        (filler_is (paging_ok h k) (both_tell k is en).part (both_occupied k is en) (filler_in fills) (both_sound k is en) r both_there stood_at).1 in
+        let freed_order : order_of (classes p) (tables_in m) h.proxies.free ≡ slot_freed p (held_in h) before d (page_of p stood.place) =
+        ap (λ s. order_of (classes p) s h.proxies.free) on
+        ∙ vacated_order (paging_ok h k) (both_tell k is en).part (both_occupied k is en) kept_tables lt h.proxies.free fills.vacates
+        ∙ ap (slot_freed p (both k is en) before d) (sym page)
+        ∙ freed_same k is en before (page_of p stood.place) in
+        let slot : SlotFollows p (held_in h) (object k is en) (Some r) before (order_of (classes p) (tables_in m) h.proxies.free) =
+        (stood, stood_there, once, freed_order) in
+        subst (λ s. SlotFollows p (held_in h) (object k is en) (Some r) (order_of s (tables_in n) h.proxies.free) (order_of s (tables_in m) h.proxies.free))
+        (sym (as_many h k)) slot
+
+    pub free_same : m.proxies.free ≡ h.proxies.free
+    free_same = l.free ∙ ap (λ (o : Heap). o.proxies.free) l.found ∙ en.free
 
     -- the frames are those that the model has
     pub frames_are : m.frames ≡ frames_left h.kind (state_of h) (record { held = after k is en (Some r) mover; moved = Some r })

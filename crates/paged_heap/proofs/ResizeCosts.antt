@@ -25,7 +25,7 @@ use Rattle.step_ledger.proofs.CallerLemmas.{rose_both, rose_by}
 use Rattle.step_ledger.specs.Counting.{RoseBy}
 use Rattle.virtual_words.specs.Words.{IsWhole, copy_steps, run_steps, slot_steps, wipe_steps}
 use Rattle.virtual_words.proofs.CallerLemmas.{whole_run}
-use Rattle.paged_heap.specs.ExactCosts.{carrying_cost, leaving_cost, resize_cost, resized_cost, tail_steps}
+use Rattle.cf_model.specs.ExactCosts.{carrying_cost, leaving_cost, resize_cost, resized_cost, tail_steps}
 use Rattle.paged_heap.specs.Free.{IsObjectAt}
 use Rattle.paged_heap.specs.Heap.{Heap}
 use Rattle.paged_heap.specs.Layout.{IsValid, held_in, order_in, paging_at, state_of, tables_in}

@@ -77,6 +77,10 @@ module _ {h : Heap} (k : IsValid h) {x : Change} (is : IsChange h x) where
     pub apart_there : IsDisjoint x.place (old_words h x) b (1 + (x.bytes + 7) / 8)
     apart_there = (let r = new_holds in elim slots_apart [ inl l ↦ inr (omega arith) | inr l ↦ inl (omega arith) ])
 
+-- if no slot was taken, the heap is as it was
+pub unchanged : (h : Heap) (x : Change) (n : Heap) → FindsNoRoom h x n → n ≡ h
+unchanged h x n none = none.rest ∙ ap (λ (t : Tables). record h { maps = t.maps; lists = t.lists; pool = t.pool }) none.tables
+
 -- if no slot was taken, nothing has changed
 module _ (h : Heap) (k : IsValid h) (x : Change) (is : IsChange h x) (n : Heap) (none : FindsNoRoom h x n) where
   pub refused : IsResizeStep (state_of h) (record { number = x.handle.0; length = x.bytes }) (Err resize.Space) (state_of n)
@@ -89,7 +93,7 @@ module _ (h : Heap) (k : IsValid h) (x : Change) (is : IsChange h x) (n : Heap) 
       other = λ e. is.other (sym is.class ∙ e ∙ it_class k is.object);
       lacking = subst (LacksRoom (paging_at h) (held_in h)) (sym is.class) none.lacking;
     },
-    unmoved h.kind (paged_kind h k) (state_of h) (state_of n) (same_state h n none.rest),
+    unmoved h.kind (paged_kind h k) (state_of h) (state_of n) (same_state h n (unchanged h x n none)),
   )
 
 -- words after the headers of two slots are apart
@@ -101,7 +105,8 @@ words_apart a b s z w (inr l) p q = inl (omega arith)
 pub entered : (h : Heap) (x : Change) → IsChange h x → (b : ℕ) (t c o n : Heap) → TakesAt h.classes (tables_in h) x.to b (tables_in t)
     → AreTables h.classes (tables_in t)
     → t ≡ record h { maps = t.maps; lists = t.lists; pool = t.pool }
-    → c ≡ record t { proxies = with_place t.proxies x.handle.0 b; words = c.words } → Carries t.words c.words x b → AreBelowLimit c.proxies
+    → c ≡ record t { proxies = with_place t.proxies x.handle.0 b; words = c.words } → c.proxies.free ≡ t.proxies.free → Carries t.words c.words x b
+    → AreBelowLimit c.proxies
     → o ≡ record c {
       live = set c.live x.class (get_or c.live x.class 0 - 1);
       asked = c.asked - x.length;
@@ -109,7 +114,7 @@ pub entered : (h : Heap) (x : Change) → IsChange h x → (b : ℕ) (t c o n : 
     }
     → n ≡ record o { live = set o.live x.to (get_or o.live x.to 0 + 1); asked = o.asked + x.bytes; taken = o.taken + 8 * get_or o.classes.sizes x.to 0 }
     → EntersAt h x b n
-entered h x is b t c o n taken tables et ec carries handles eo en =
+entered h x is b t c o n taken tables et ec free carries handles eo en =
     let to_c = ec ∙ ap (λ (z : Heap). record z { proxies = with_place z.proxies x.handle.0 b; words = c.words }) et in
     let to_o = eo ∙ ap (λ (z : Heap). record z
     { live = set z.live x.class (get_or z.live x.class 0 - 1); asked = z.asked - x.length; taken = z.taken - 8 * get_or z.classes.sizes x.class 0 }) to_c in
@@ -126,6 +131,7 @@ entered h x is b t c o n taken tables et ec carries handles eo en =
           (subst (λ ws. Carries t.words ws x b) (sym (ap (λ (z : Heap). z.words) en ∙ ap (λ (z : Heap). z.words) eo)) carries);
       frames = ap (λ (z : Heap). z.frames) to_n;
       proxies = ap (λ (z : Heap). z.proxies) to_n;
+      free = ap (λ (z : Heap). z.proxies.free) en ∙ ap (λ (z : Heap). z.proxies.free) eo ∙ free ∙ ap (λ (z : Heap). z.proxies.free) et;
       handles = subst AreBelowLimit (sym (ap (λ (z : Heap). z.proxies) en ∙ ap (λ (z : Heap). z.proxies) eo)) handles;
       live = ap (λ (z : Heap). z.live) to_n
           ∙ ap (λ m. set (set h.live x.class (get_or h.live x.class 0 - 1)) x.to (m + 1))
@@ -133,10 +139,6 @@ entered h x is b t c o n taken tables et ec carries handles eo en =
       asked = ap (λ (z : Heap). z.asked) to_n;
       all_taken = ap (λ (z : Heap). z.taken) to_n;
     }
-
--- if no slot was taken, the heap is as it was
-pub unchanged : (h : Heap) (x : Change) (n : Heap) → FindsNoRoom h x n → n ≡ h
-unchanged h x n none = none.rest ∙ ap (λ (t : Tables). record h { maps = t.maps; lists = t.lists; pool = t.pool }) none.tables
 
 -- the kept words are fewer than those of the old slot
 pub kept_few : (h : Heap) (k : IsValid h) (x : Change) (is : IsChange h x) → kept_words x + 1 ≤ old_words h x

@@ -12,12 +12,13 @@ use Rattle.page_model.specs.Held.{Placed, objects}
 use Rattle.page_model.specs.Bytes.{AreBytes, byte_of, bytes_at}
 use Rattle.page_model.specs.Image.{Clears, IsOutside, IsSlotImage, Rewrites, header_word, object_word, slot_for}
 use Rattle.page_model.specs.Paging.{class_for, classes, slot_words}
-use Rattle.page_model.specs.Steps.{resized}
+use Rattle.page_model.specs.Order.{ResizeFollows}
+use Rattle.page_model.specs.Steps.{Leaves, resized}
 use Rattle.page_model.proofs.CallerLemmas.{bytes_at-AreBytes, length-resized, image_after_write, resized_are_bytes, class_holds}
 use Rattle.word_bytes.proofs.CallerLemmas.{overwritten_before, overwritten_inside}
 use Rattle.cf_model.specs.Steps.{ResizesObject, frames_left, number_of}
 use Rattle.paged_heap.specs.Heap.{Heap}
-use Rattle.paged_heap.specs.Layout.{IsValid, held_in, paging_at, state_of}
+use Rattle.paged_heap.specs.Layout.{IsValid, held_in, order_in, paging_at, state_of}
 use Rattle.word_bytes.specs.Overwriting.{Overwrites, words_with}
 use Rattle.paged_heap.specs.ZeroTail.{Cuts}
 use Rattle.paged_heap.specs.Free.{IsObjectAt}
@@ -263,17 +264,32 @@ module _ (h t n : Heap) (k : IsValid h) (q a m c : ℕ) (o : IsObjectAt h q a m 
         ∙ map_values-insert (λ (x : Placed). x.bytes) (held_in h) q (record { place = a; bytes = new });
     whole = becomes_state h n k (insert (held_in h) q (record { place = a; bytes = new })) becomes
         ∙ ap (λ fs. record (state_of h)
-        { held = insert (held_in h) q (record { place = a; bytes = new }); words = n.words; frames = fs; cost = n.cost }) frames_still
+        { held = insert (held_in h) q (record { place = a; bytes = new }); words = n.words; frames = fs; order = (state_of n).order; cost = n.cost }) frames_still
         ∙ ap (λ v. record (state_of h) {
           held = insert (held_in h) q (record { place = a; bytes = new });
           words = n.words;
           frames = frames_left h.kind (state_of h) (record { held = insert (held_in h) q (record { place = a; bytes = new }); moved = v });
+          order = (state_of n).order;
           cost =
               n.cost;
         }) (sym (ap number_of none))
-        ∙ ap (λ m. record (state_of h)
-        { held = m; words = n.words; frames = frames_left h.kind (state_of h) (record { held = m; moved = number_of done.moved }); cost = n.cost })
+        ∙ ap (λ m. record (state_of h) {
+          held = m;
+          words = n.words;
+          frames = frames_left h.kind (state_of h) (record { held = m; moved = number_of done.moved });
+          order = (state_of n).order;
+          cost = n.cost;
+        })
         (sym (held_is h n k (insert (held_in h) q (record { place = a; bytes = new })) becomes));
+  }
+
+  -- the tables and the numbers are as they were
+  pub fits_chosen : (after : Leaves) → ResizeFollows (paging_at h) (held_in h) (record { number = q; length = size }) after (order_in h) (order_in n)
+  fits_chosen after = record {
+    object = record { place = a; bytes = old };
+    found = it_found k o;
+    stays = λ _. ap order_in en ∙ ap order_in et;
+    changes = λ other. absurd (other (same ∙ sym (it_class k o)));
   }
 
 -- its slot has the words of its bytes

@@ -9,7 +9,7 @@ use Rattle.page_model.specs.Order.{word_steps}
 use Rattle.step_ledger.specs.Counting.{RoseAtMost, RoseBy}
 use Rattle.virtual_words.specs.Words.{IsWhole, slot_steps}
 use Rattle.paged_heap.specs.Costs.{change_steps, resize_steps, stay_steps}
-use Rattle.paged_heap.specs.ExactCosts.{tail_steps}
+use Rattle.cf_model.specs.ExactCosts.{tail_steps}
 use Rattle.std.proofs.lemmas.Bool.{cases_lt}
 use Rattle.std.specs.FinMap.{get}
 use Rattle.cf_base.specs.Classes.{class_of, need}

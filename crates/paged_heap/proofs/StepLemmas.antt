@@ -1,5 +1,5 @@
 -- Steps, added up.
-use Rattle.std.proofs.Common.{◌≡◌, ◌≢◌, ℕ, ◌+◌, ◌-◌, ◌*◌, ◌/◌, ◌%◌, ◌^◌, ◌<◌, ◌≤◌, List, get_or, Result, Ok, arith, refl, sym, ◌∙◌, ap, subst, inl, inr}
+use Rattle.std.proofs.Common.{◌≡◌, ◌≢◌, ℕ, ◌+◌, ◌-◌, ◌*◌, ◌/◌, ◌%◌, ◌^◌, ◌<◌, ◌≤◌, List, get_or, Ok, arith, refl, sym, ◌∙◌, ap, subst, inl, inr}
 use Rattle.std.specs.Prelude.{if◌then◌else◌, length, min, nat_lt}
 use Rattle.std.proofs.lemmas.Bool.{cases_lt}
 use Rattle.cf_base.specs.Rising.{AreSizes}
@@ -14,7 +14,7 @@ use Rattle.virtual_words.proofs.Paying.{rose_none}
 use Rattle.virtual_words.specs.Words.{IsWhole, copy_steps, run_steps, slot_steps}
 use Rattle.word_bytes.specs.Overwriting.{words_with}
 use Rattle.paged_heap.specs.Costs.{access_steps, stay_steps}
-use Rattle.paged_heap.specs.ExactCosts.{tail_steps}
+use Rattle.cf_model.specs.ExactCosts.{tail_steps}
 
 -- no word, and one
 pub run_none : (kind : Kind) (i : ℕ) → run_steps kind i 0 ≡ 0

@@ -218,7 +218,10 @@ module _ (h n : Heap) (k : IsValid h) (q at a : ℕ) (bytes : List ℕ) (l : Lie
     outside = outside_in h.kind (paged_kind h k) (state_of h) (record { place = a; bytes = old }) (state_of n);
     whole = becomes_state h n k (insert (held_in h) q (record { place = a; bytes = new })) becomes
         ∙ ap (λ fs. record (state_of h)
-        { held = insert (held_in h) q (record { place = a; bytes = new }); words = n.words; frames = fs; cost = n.cost }) (ap (λ (x : Heap). x.frames) rest)
+        { held = insert (held_in h) q (record { place = a; bytes = new }); words = n.words; frames = fs; order = (state_of n).order; cost = n.cost })
+        (ap (λ (x : Heap). x.frames) rest)
+        ∙ ap (λ o. record (state_of h) { held = insert (held_in h) q (record { place = a; bytes = new }); words = n.words; order = o; cost = n.cost })
+        (ap (λ (x : Heap). (state_of x).order) rest)
         ∙ ap (λ x. record (state_of h) { held = insert (held_in h) q (record { place = a; bytes = new }); words = n.words; cost = x })
         (ap (λ (x : Heap). x.cost) rest);
   }

@@ -44,6 +44,7 @@ state_of h = record {
   words = h.words;
   frames = h.frames;
   tiling = [];
+  order = Some (order_in h);
   cost = h.cost;
 }
 

@@ -12,7 +12,7 @@ use Rattle.virtual_words.specs.Words.{copy_steps, slot_steps}
 use Rattle.proxy_table.specs.Proxies.{AreBelowLimit, with_place}
 use Rattle.page_slots.specs.Tables.{AreTables}
 use Rattle.page_slots.specs.Take.{TakesAt}
-use Rattle.paged_heap.specs.ExactCosts.{carrying_cost, leaving_cost}
+use Rattle.cf_model.specs.ExactCosts.{carrying_cost, leaving_cost}
 use Rattle.paged_heap.specs.Heap.{Heap}
 use Rattle.paged_heap.specs.declared.resize_class.Change.{Change}
 use Rattle.paged_heap.specs.ZeroTail.{Cuts}
@@ -56,6 +56,7 @@ pub record EntersAt (h : Heap) (x : Change) (b : ℕ) (n : Heap) : Type 0 where
   pub words : Carries h.words n.words x b
   pub frames : n.frames ≡ h.frames
   pub proxies : n.proxies ≡ with_place h.proxies x.handle.0 b
+  pub free : n.proxies.free ≡ h.proxies.free
   pub handles : AreBelowLimit n.proxies
   pub live : n.live ≡ slice_set (slice_set h.live x.class (slice_index h.live x.class - 1)) x.to (slice_index h.live x.to + 1)
   pub asked : n.asked ≡ h.asked - x.length + x.bytes

@@ -1,5 +1,5 @@
 //! Frees an object.
-ghost use Rattle.std.specs.Prelude.{◌≡◌, ◌≢◌, ◌+◌, ◌-◌, ◌*◌, ◌/◌, ◌^◌, ◌<◌, ◌≤◌, None, Some, IsSome, length, slice_index, slice_set};
+ghost use Rattle.std.specs.Prelude.{◌≡◌, ◌≢◌, ◌+◌, ◌-◌, ◌*◌, ◌/◌, ◌^◌, ◌<◌, ◌≤◌, None, Some, IfOk, IsSome, length, slice_index, slice_set};
 ghost use Rattle.std.specs.FinMap as map;
 ghost use Rattle.step_ledger.specs.Counting.{RoseAtMost, RoseBy};
 ghost use Rattle.page_model.specs.Image.{Clears, IsDisjoint};
@@ -13,7 +13,9 @@ ghost use Rattle.page_slots.specs.Tables.{AreTables, IsUsed, page_at, slot_at, t
 ghost use Rattle.proxy_table.specs.Proxies.{AreBelowLimit, with_place, without_place};
 ghost use Rattle.virtual_words.specs.Words.{AreLaid, IsWhole, run_bound, run_steps, slot_steps};
 ghost use Rattle.paged_heap.specs.Costs.{free_steps};
-ghost use Rattle.paged_heap.specs.ExactCosts.{free_cost, leaving_cost};
+ghost use Rattle.cf_model.specs.ExactCosts.{free_cost, leaving_cost};
+ghost use Rattle.cf_model.specs.Ordered.{IsOrderedFree};
+ghost use Rattle.paged_heap.specs.Choices.{FreeChooses};
 ghost use Rattle.paged_heap.specs.Free.{IsObjectAt, IsMoving, MovesSlot, placed_at};
 ghost use Rattle.paged_heap.specs.Heap.{seen};
 ghost use Rattle.paged_heap.specs.Layout.{Holds, order_in, state_at};
@@ -26,7 +28,8 @@ use virtual_words::Mapping;
 use word_bytes::Header;
 
 impl OpenHeap {
-    /// Frees an object, and notes the cost.
+    /// Frees an object. If another one moves to its slot, it is the next to move. The freed number is the
+    /// next to be used. Notes the cost, which the order and the result determine.
     pub fn free<A: Mapping>(&mut self, h: Handle, steps: &mut Steps) -> Result<Freed, NotLive>
         requires kept { Holds A.kind self.old }
         requires room { steps.old ≤ 2 ^ 63 }
@@ -34,8 +37,8 @@ impl OpenHeap {
         ensures kept { Holds A.kind self.new }
         ensures bound { RoseAtMost steps.old steps.new (free_bound result) }
         ensures steps { RoseAtMost steps.old steps.new (free_steps A.kind result) }
+        ensures ordered { IsOrderedFree (state_at A.kind self.old) h.0 result (state_at A.kind self.new) }
         ensures told { steps.new ≡ steps.old + self.new.cost }
-        ensures cost { self.new.cost ≡ free_cost (state_at A.kind self.old) (order_in (seen A.kind self.old)) h.0 result }
     {
         let before = steps.count();
         let result = self.free_inner::<A>(h, steps);
@@ -50,6 +53,7 @@ impl OpenHeap {
         ensures kept { Holds A.kind self.new }
         ensures bound { RoseAtMost steps.old steps.new (free_bound result) }
         ensures steps { RoseAtMost steps.old steps.new (free_steps A.kind result) }
+        ensures choice { IfOk result (λ freed. FreeChooses (seen A.kind self.old) h.0 freed (seen A.kind self.new)) }
         ensures cost { RoseBy steps.old steps.new (free_cost (state_at A.kind self.old) (order_in (seen A.kind self.old)) h.0 result) }
     {
         let Some(place) = self.proxies.lookup(h, steps) else {
@@ -89,6 +93,7 @@ impl OpenHeap {
         requires stays { IsMoving (seen A.kind self.old) place c → ⊥ }
         ensures step { FreesObject (state_at A.kind self.old) h.0 result (state_at A.kind self.new) }
         ensures kept { Holds A.kind self.new }
+        ensures choice { FreeChooses (seen A.kind self.old) h.0 result (seen A.kind self.new) }
         ensures bound { RoseAtMost steps.old steps.new (80 + 2 * result.slot_words) }
         ensures steps { RoseAtMost steps.old steps.new (15 + word_steps A.kind + slot_steps A.kind result.slot_words) }
         ensures cost { RoseBy steps.old steps.new
@@ -118,6 +123,7 @@ impl OpenHeap {
         requires moves { IsMoving (seen A.kind self.old) place c }
         ensures step { FreesObject (state_at A.kind self.old) h.0 result (state_at A.kind self.new) }
         ensures kept { Holds A.kind self.new }
+        ensures choice { FreeChooses (seen A.kind self.old) h.0 result (seen A.kind self.new) }
         ensures bound { RoseAtMost steps.old steps.new (80 + 2 * result.slot_words) }
         ensures steps { RoseAtMost steps.old steps.new (15 + word_steps A.kind + slot_steps A.kind result.slot_words) }
         ensures cost { RoseBy steps.old steps.new
@@ -177,6 +183,7 @@ impl OpenHeap {
           region = self.new.region;
           blocks = self.new.blocks;
         } }
+        ensures free { self.new.proxies.free ≡ self.old.proxies.free }
         ensures moves { MovesSlot (seen A.kind self.old) (seen A.kind self.new) from to slot_words }
         ensures laid { AreLaid A.kind self.new.blocks self.new.region }
         ensures handles { AreBelowLimit self.new.proxies }

@@ -1,5 +1,5 @@
 //! Makes an object.
-ghost use Rattle.std.specs.Prelude.{◌≡◌, ◌≢◌, ◌+◌, ◌*◌, ◌^◌, ◌<◌, ◌≤◌, IfErr, IfOk, IsFalse, IsTrue, None, Result, Some, length, slice_index, slice_set};
+ghost use Rattle.std.specs.Prelude.{◌≡◌, ◌≢◌, ◌+◌, ◌*◌, ◌^◌, ◌<◌, ◌≤◌, ◌∷◌, IfErr, IfOk, IsFalse, IsTrue, None, Result, Some, length, slice_index, slice_set};
 ghost use Rattle.std.specs.FinMap as map;
 ghost use Rattle.step_ledger.specs.Counting.{RoseAtMost, RoseBy};
 ghost use Rattle.class_lists.specs.PageLists.{pages_in};
@@ -15,7 +15,9 @@ ghost use Rattle.page_slots.specs.Take.{TakesAt, steps_to_take};
 ghost use Rattle.proxy_table.specs.Proxies.{AreBelowLimit, with_place};
 ghost use Rattle.virtual_words.specs.Words.{AreLaid};
 ghost use Rattle.paged_heap.specs.Costs.{malloc_steps};
-ghost use Rattle.paged_heap.specs.ExactCosts.{malloc_cost};
+ghost use Rattle.cf_model.specs.ExactCosts.{malloc_cost};
+ghost use Rattle.cf_model.specs.Ordered.{IsOrderedMalloc};
+ghost use Rattle.paged_heap.specs.Choices.{MallocChooses};
 ghost use Rattle.paged_heap.specs.Heap.{seen};
 ghost use Rattle.paged_heap.specs.Layout.{Holds, order_in, state_at};
 ghost use Rattle.paged_heap.specs.Room.{HasSlot, without_handle};
@@ -29,7 +31,8 @@ use virtual_words::Mapping;
 use word_bytes::Header;
 
 impl OpenHeap {
-    /// Adds an object of `bytes` bytes, all zero, and notes the cost.
+    /// Adds an object of `bytes` bytes, all zero, under the next number and in the next slot of its class.
+    /// Notes the cost, which the order and the result determine.
     pub fn malloc<A: Mapping>(&mut self, bytes: u32, steps: &mut Steps) -> Result<Handle, Refusal>
         requires kept { Holds A.kind self.old }
         requires room { steps.old ≤ 2 ^ 63 }
@@ -37,8 +40,8 @@ impl OpenHeap {
         ensures kept { Holds A.kind self.new }
         ensures bound { RoseAtMost steps.old steps.new 18 }
         ensures steps { RoseAtMost steps.old steps.new (malloc_steps A.kind) }
+        ensures ordered { IsOrderedMalloc (state_at A.kind self.old) bytes result (state_at A.kind self.new) }
         ensures told { steps.new ≡ steps.old + self.new.cost }
-        ensures cost { self.new.cost ≡ malloc_cost (state_at A.kind self.old) (order_in (seen A.kind self.old)) bytes result }
     {
         let before = steps.count();
         let result = self.malloc_inner::<A>(bytes, steps);
@@ -53,6 +56,7 @@ impl OpenHeap {
         ensures kept { Holds A.kind self.new }
         ensures bound { RoseAtMost steps.old steps.new 18 }
         ensures steps { RoseAtMost steps.old steps.new (malloc_steps A.kind) }
+        ensures choice { MallocChooses (seen A.kind self.old) bytes result (seen A.kind self.new) }
         ensures cost { RoseBy steps.old steps.new (malloc_cost (state_at A.kind self.old) (order_in (seen A.kind self.old)) bytes result) }
     {
         let c = self.class_with_room::<A>(bytes, steps)?;
@@ -144,6 +148,7 @@ impl OpenHeap {
         requires within { place < length self.old.region }
         ensures unused { map.get self.old.proxies.places result.0 ≡ None }
         ensures below { result.0 < self.old.proxies.limit }
+        ensures first { self.old.proxies.free ≡ result.0 ∷ self.new.proxies.free }
         ensures whole { seen A.kind self.new ≡ record (seen A.kind self.old) {
           proxies = with_place self.old.proxies result.0 place;
           words = slice_set (seen A.kind self.old).words place (header_word result.0 bytes);

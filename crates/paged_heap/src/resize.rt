@@ -1,5 +1,5 @@
 //! An object gets another length.
-ghost use Rattle.std.specs.Prelude.{◌≡◌, ◌+◌, ◌-◌, ◌*◌, ◌/◌, ◌^◌, ◌<◌, ◌≤◌, length, slice_index};
+ghost use Rattle.std.specs.Prelude.{◌≡◌, ◌+◌, ◌-◌, ◌*◌, ◌/◌, ◌^◌, ◌<◌, ◌≤◌, IfOk, length, slice_index};
 ghost use Rattle.step_ledger.specs.Counting.{RoseAtMost, RoseBy};
 ghost use Rattle.page_model.specs.Order.{word_steps};
 ghost use Rattle.page_model.specs.Paging.{class_for};
@@ -9,7 +9,9 @@ ghost use Rattle.cf_model.specs.Steps.{IsResizeStep, ResizesObject};
 ghost use Rattle.virtual_words.specs.Words.{AreLaid, run_bound};
 ghost use Rattle.paged_heap.specs.Costs.{resize_steps};
 ghost use Rattle.paged_heap.specs.ZeroTail.{Cuts};
-ghost use Rattle.paged_heap.specs.ExactCosts.{resize_cost, tail_steps};
+ghost use Rattle.cf_model.specs.ExactCosts.{resize_cost, tail_steps};
+ghost use Rattle.cf_model.specs.Ordered.{IsOrderedResize};
+ghost use Rattle.paged_heap.specs.Choices.{ResizeChooses};
 ghost use Rattle.paged_heap.specs.Free.{IsObjectAt};
 ghost use Rattle.paged_heap.specs.Heap.{seen};
 ghost use Rattle.paged_heap.specs.Layout.{Holds, order_in, paging_at, state_at};
@@ -22,7 +24,8 @@ use virtual_words::Mapping;
 use word_bytes::Header;
 
 impl OpenHeap {
-    /// Gives an object another length, and notes the cost.
+    /// Gives an object another length. In another class it takes the next slot, and leaves the old one as
+    /// a free does. Notes the cost, which the order and the result determine.
     pub fn resize<A: Mapping>(
         &mut self,
         h: Handle,
@@ -35,8 +38,8 @@ impl OpenHeap {
         ensures kept { Holds A.kind self.new }
         ensures bound { RoseAtMost steps.old steps.new (resize_bound result) }
         ensures steps { RoseAtMost steps.old steps.new (resize_steps A.kind bytes result) }
+        ensures ordered { IsOrderedResize (state_at A.kind self.old) (record { number = h.0; length = bytes }) result (state_at A.kind self.new) }
         ensures told { steps.new ≡ steps.old + self.new.cost }
-        ensures cost { self.new.cost ≡ resize_cost (state_at A.kind self.old) (order_in (seen A.kind self.old)) (record { number = h.0; length = bytes }) result }
     {
         let before = steps.count();
         let result = self.resize_inner::<A>(h, bytes, steps);
@@ -56,6 +59,7 @@ impl OpenHeap {
         ensures kept { Holds A.kind self.new }
         ensures bound { RoseAtMost steps.old steps.new (resize_bound result) }
         ensures steps { RoseAtMost steps.old steps.new (resize_steps A.kind bytes result) }
+        ensures choice { IfOk result (λ done. ResizeChooses (seen A.kind self.old) (record { number = h.0; length = bytes }) done (seen A.kind self.new)) }
         ensures cost { RoseBy steps.old steps.new
             (resize_cost (state_at A.kind self.old) (order_in (seen A.kind self.old)) (record { number = h.0; length = bytes }) result) }
     {
@@ -99,6 +103,7 @@ impl OpenHeap {
         requires fits { need bytes ≤ self.old.settings.page_words }
         ensures step { ResizesObject (state_at A.kind self.old) (record { number = h.0; length = bytes }) result (state_at A.kind self.new) }
         ensures kept { Holds A.kind self.new }
+        ensures choice { ResizeChooses (seen A.kind self.old) (record { number = h.0; length = bytes }) result (seen A.kind self.new) }
         ensures slot { result.slot_words ≡ slice_index self.old.classes.sizes c }
         ensures old_slot { result.old_slot_words ≡ result.slot_words }
         ensures bound { RoseAtMost steps.old steps.new (10 + 2 * result.slot_words) }

@@ -1,5 +1,5 @@
 //! Resizes an object to another class.
-ghost use Rattle.std.specs.Prelude.{◌≡◌, ◌+◌, ◌-◌, ◌*◌, ◌/◌, ◌^◌, ◌<◌, ◌≤◌, IfErr, IsNone, IsSome, length};
+ghost use Rattle.std.specs.Prelude.{◌≡◌, ◌+◌, ◌-◌, ◌*◌, ◌/◌, ◌^◌, ◌<◌, ◌≤◌, IfErr, IfOk, IsNone, IsSome, length};
 ghost use Rattle.std.specs.FinMap as map;
 ghost use Rattle.step_ledger.specs.Counting.{RoseAtMost, RoseBy};
 ghost use Rattle.page_model.specs.Image.{Clears, IsDisjoint};
@@ -8,10 +8,11 @@ ghost use Rattle.cf_model.specs.Steps.{IsResizeStep};
 ghost use Rattle.proxy_table.specs.Proxies.{AreBelowLimit, with_place};
 ghost use Rattle.virtual_words.specs.Words.{AreInStep, AreLaid, copy_steps, run_bound, run_steps};
 ghost use Rattle.paged_heap.specs.ResizeClass.{Carries, Enters, IsChange, changing_bound, changing_cost, changing_steps, entering_cost, kept_words};
+ghost use Rattle.paged_heap.specs.Choices.{ResizeChooses};
 ghost use Rattle.paged_heap.specs.Free.{IsMoving};
 ghost use Rattle.paged_heap.specs.Heap.{seen};
 ghost use Rattle.paged_heap.specs.Layout.{Holds, state_at};
-ghost use Rattle.paged_heap.specs.ExactCosts.{tail_steps};
+ghost use Rattle.cf_model.specs.ExactCosts.{tail_steps};
 
 use crate::open_heap::OpenHeap;
 use cf_base::{Handle, ResizeFault, Resized};
@@ -53,6 +54,7 @@ impl OpenHeap {
         ensures step { IsResizeStep (state_at A.kind self.old) (record { number = x.handle.0; length = x.bytes }) result (state_at A.kind self.new) }
         ensures kept { Holds A.kind self.new }
         ensures cause { IfErr result (λ e. e ≡ ResizeFault.Space) }
+        ensures choice { IfOk result (λ done. ResizeChooses (seen A.kind self.old) (record { number = x.handle.0; length = x.bytes }) done (seen A.kind self.new)) }
         ensures bound { RoseAtMost steps.old steps.new (1 + changing_bound result) }
         ensures steps { RoseAtMost steps.old steps.new (1 + changing_steps A.kind (seen A.kind self.old) x result) }
         ensures cost { RoseBy steps.old steps.new (1 + changing_cost (seen A.kind self.old) x result) }
@@ -85,6 +87,7 @@ impl OpenHeap {
         ensures step { IsResizeStep (state_at A.kind self.old) (record { number = x.handle.0; length = x.bytes }) result (state_at A.kind self.new) }
         ensures kept { Holds A.kind self.new }
         ensures cause { IfErr result (λ e. e ≡ ResizeFault.Space) }
+        ensures choice { IfOk result (λ done. ResizeChooses (seen A.kind self.old) (record { number = x.handle.0; length = x.bytes }) done (seen A.kind self.new)) }
         ensures bound { RoseAtMost steps.old steps.new (changing_bound result) }
         ensures steps { RoseAtMost steps.old steps.new (changing_steps A.kind (seen A.kind self.old) x result) }
         ensures cost { RoseBy steps.old steps.new (changing_cost (seen A.kind self.old) x result) }
@@ -115,6 +118,7 @@ impl OpenHeap {
         ensures step { IsResizeStep (state_at A.kind self.old) (record { number = x.handle.0; length = x.bytes }) result (state_at A.kind self.new) }
         ensures kept { Holds A.kind self.new }
         ensures cause { IfErr result (λ e. e ≡ ResizeFault.Space) }
+        ensures choice { IfOk result (λ done. ResizeChooses (seen A.kind self.old) (record { number = x.handle.0; length = x.bytes }) done (seen A.kind self.new)) }
         ensures bound { RoseAtMost steps.old steps.new (changing_bound result) }
         ensures steps { RoseAtMost steps.old steps.new (changing_steps A.kind (seen A.kind self.old) x result) }
         ensures cost { RoseBy steps.old steps.new (changing_cost (seen A.kind self.old) x result) }
@@ -169,6 +173,7 @@ impl OpenHeap {
           proxies = with_place self.old.proxies x.handle.0 to;
           words = (seen A.kind self.new).words;
         } }
+        ensures free { self.new.proxies.free ≡ self.old.proxies.free }
         ensures words { Carries (seen A.kind self.old).words (seen A.kind self.new).words x to }
         ensures laid { AreLaid A.kind self.new.blocks self.new.region }
         ensures handles { AreBelowLimit self.new.proxies }

@@ -26,7 +26,7 @@ use Rattle.run_model.specs.Sessions.{IsGoing, RunState}
 use Rattle.run_model.specs.Steps.{Step}
 use Rattle.run_model.proofs.NamedIds.{MallocsAt}
 use Rattle.run_model.specs.Texts.{Reply, said}
-use Rattle.run_model.proofs.Going.{step_rules, step_same}
+use Rattle.run_model.proofs.RunInvariant.{step_rules, step_same}
 
 -- the rules of a kind with pages
 pub pages_kept : (k : Kind) (s : HeapState) → IsPaged k → KeepsRulesOf k s → KeepsPages s

@@ -1,9 +1,9 @@
--- What other crates' proofs may cite, re-exported. Declares nothing.
+-- What other crates' proofs may cite: the steps of a run, the ids, and runs one after another.
 pub use Rattle.run_model.proofs.Bounded.{pages_kept, step_meets_bounds}
-pub use Rattle.run_model.proofs.Going.{begins_going, costs_nothing, step_going, step_same}
+pub use Rattle.run_model.proofs.RunInvariant.{begins_going, costs_nothing, step_going, step_same}
 pub use Rattle.run_model.proofs.Tied.{counted_bound, counted_ids, names_of_objects, resized_ids, unmoved_changes_cost}
 pub use Rattle.run_model.proofs.Tied.{unmoved_held}
-pub use Rattle.run_model.proofs.Going.{step_rules}
+pub use Rattle.run_model.proofs.RunInvariant.{step_rules}
 pub use Rattle.run_model.proofs.Plays.{one_run, part_seen, run_joined, run_seen, text_joined}
 pub use Rattle.run_model.proofs.NamedIds.{MallocsAt, FreesAt, WritesAt, ResizesAt}
 pub use Rattle.page_model.proofs.CallerLemmas.{bytes_held, bytes_missing, held_of_bytes}

@@ -1,6 +1,6 @@
 pub mod NamedIds
 pub mod Tied
-pub mod Going
+pub mod RunInvariant
 pub mod Bounded
 pub mod CallerLemmas
 pub mod Plays

@@ -3,7 +3,7 @@ use Rattle.std.specs.Prelude.{◌≡◌, List, Option, codes}
 use Rattle.cf_base.specs.Settings.{Profile}
 use Rattle.cf_base.specs.declared.kind.Kind.{Kind}
 use Rattle.cf_model.specs.Rules.{KeepsRules}
-use Rattle.cf_model.specs.Steps.{IsOpeningWords, empty_heap}
+use Rattle.cf_model.specs.Steps.{IsOpeningOrder, IsOpeningWords, ordered_heap}
 use Rattle.script_reader.specs.Items.{Item}
 use Rattle.script_reader.specs.declared.command.Command.{Command}
 use Rattle.run_model.specs.Bounds.{MeetsBounds}
@@ -16,7 +16,8 @@ use Rattle.run_model.specs.Texts.{Reply, said}
 pub record Begins (kind : Kind) (p : Profile) (new : RunState) : Type 0 where
   pub session : new.session ≡ fresh_session
   pub words : IsOpeningWords kind p new.heap.words
-  pub heap : new.heap ≡ empty_heap kind p new.heap.words
+  pub order : IsOpeningOrder kind p new.heap.order
+  pub heap : new.heap ≡ ordered_heap kind p new.heap.words new.heap.order
   pub rules : KeepsRules new.heap
 
 -- a command is answered: its step, which meets the bounds

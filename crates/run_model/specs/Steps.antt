@@ -11,6 +11,7 @@ use Rattle.cf_base.specs.declared.answers.ResizeFault.{ResizeFault}
 use Rattle.page_model.specs.Steps.{Request}
 use Rattle.cf_model.specs.Answers.{bound_put, class_with}
 use Rattle.cf_model.specs.Costs.{resize_bound}
+use Rattle.cf_model.specs.Ordered.{IsOrderedFree, IsOrderedMalloc, IsOrderedResize}
 use Rattle.cf_model.specs.Rules.{KeepsRules}
 use Rattle.cf_model.specs.State.{HeapState}
 use Rattle.cf_model.specs.Steps.{FreesObject, IsMallocStep, IsResizeStep, IsWriteStep, Part}
@@ -33,6 +34,7 @@ ids_given ids id (Err e) = ids
 pub record Mallocs (old : RunState) (asked : Request) (reply : Reply) (new : RunState) : Type 0 where
   pub answer : Result Handle Refusal
   pub step : IsMallocStep old.heap asked.length answer new.heap
+  pub ordered : IsOrderedMalloc old.heap asked.length answer new.heap
   pub rules : KeepsRules new.heap
   pub cost : CostsAtMost new.heap.kind new.heap.cost 64
   pub session : new.session ≡ record old.session { ids = ids_given old.session.ids asked.number answer; bound = 64 }
@@ -47,6 +49,7 @@ pub record Named : Type 0 where
 pub record Frees (old : RunState) (named : Named) (reply : Reply) (new : RunState) : Type 0 where
   pub freed : Freed
   pub step : FreesObject old.heap named.number freed new.heap
+  pub ordered : IsOrderedFree old.heap named.number (Ok freed) new.heap
   pub rules : KeepsRules new.heap
   pub cost : CostsAtMost new.heap.kind new.heap.cost (96 + 2 * freed.slot_words)
   pub session : new.session ≡ counted (record old.session { ids = remove old.session.ids named.id; bound = 96 + 2 * freed.slot_words }) freed.moved
@@ -70,6 +73,7 @@ session_resized s (Err e) = s
 pub record Resizes (old : RunState) (asked : Request) (reply : Reply) (new : RunState) : Type 0 where
   pub answer : Result Resized ResizeFault
   pub step : IsResizeStep old.heap asked answer new.heap
+  pub ordered : IsOrderedResize old.heap asked answer new.heap
   pub rules : KeepsRules new.heap
   pub cost : CostsAtMost new.heap.kind new.heap.cost (resize_bound answer)
   pub session : new.session ≡ session_resized (record old.session { bound = resize_bound answer }) answer

@@ -31,7 +31,7 @@ with_one : (bounds : List ℕ) (c : Option ℕ) (d : ℕ) → get_or bounds d 0 
 with_one bounds None d one = one
 with_one bounds (Some c) d one = set_to_one bounds c d one
 
--- every bound is 1, where the run has begun
+-- every bound is 1, if the run has begun
 abbrev pub IsOne : Option ById → Type 0
 IsOne None = ⊤
 IsOne (Some t) = AreOne (paging_by_id t)
@@ -57,7 +57,7 @@ module _ (kind : Kind) (paged : IsPaged kind) where
   item_at_one None (bad n) ones one = (tt, tt)
   item_at_one (Some t) (bad n) ones one = (tt, ones)
 
-  -- where no other bound than 1 is asked for, every bound stays 1
+  -- if a script sets no other bound than 1, every bound stays 1
   pub stays_at_one : (items : List Item) (t : Option ById) → IsOne t → AskForOne items → StaysAtOne kind t items
   stays_at_one [] t ones asked = tt
   stays_at_one (item ∷ rest) t ones asked =

@@ -1,10 +1,10 @@
--- What stands under the ids of a session: how many things there are, what sums over them are, and how they change with the things by number.
+-- The values by id of a session: how many there are, what sums over them are, and how they change with the values by number.
 use Rattle.std.proofs.Common.{◌≡◌, ◌≢◌, ℕ, List, [], Option, Some, None, sym, ◌∙◌, ap, refl, inl, inr}
 use Rattle.std.specs.Prelude.{option_map}
 use Rattle.std.specs.Option.{unwrap_or}
 use Rattle.std.proofs.lemmas.Bool.{cases_eq}
 use Rattle.std.specs.Ordering.{nat_cmp}
-use Rattle.std.specs.FinMap.{FinMap, get, insert, remove}
+use Rattle.std.specs.FinMap.{FinMap, empty, get, get-empty, insert, remove}
 use Rattle.cf_lemmas.specs.Maps.{map_values}
 use Rattle.cf_lemmas.proofs.Maps.{equal_maps, get_inserted, get_insert_other, get_remove_other, get_removed}
 use Rattle.cf_lemmas.proofs.MapValues.{get-map_values}
@@ -67,7 +67,7 @@ module _ {V : Type 0} (d : V) where
       once = names.once;
     })
 
-    -- where nothing changes but what one id names, the other ids have what they had
+    -- if only the value of one id changes, the other ids keep theirs
     module _ (ids' : Ids) (m' : FinMap nat_cmp V) (id h : ℕ) (same_ids : (q : ℕ) → q ≢ id → get ids' q ≡ get ids q)
         (same : (g : ℕ) → g ≢ h → get m' g ≡ get m g) (own : (q g : ℕ) → q ≢ id → get ids q ≡ Some g → g ≢ h) where
       same_under : (q : ℕ) → q ≢ id → (o : Option ℕ) → get ids q ≡ o → option_map (under m') o ≡ option_map (under m) o
@@ -126,6 +126,10 @@ module _ (ids : Ids) (m : Objects) where
 
   pub unnumbered_by_id : (id : ℕ) → get (objects_by_id ids m) id ≡ None → get ids id ≡ None
   unnumbered_by_id = unnumbered_renamed [] ids m
+
+-- without ids there are no objects by id
+pub none_by_id : (m : Objects) → objects_by_id empty m ≡ empty
+none_by_id m = equal_maps _ _ (λ q. gone_by_id empty m q (get-empty nat_cmp q) ∙ sym (get-empty nat_cmp q))
 
 module _ (ids : Ids) (m : Objects) (names : AreTiedTo ids m) where
   pub found_by_id : (id : ℕ) (v : List ℕ) → get (objects_by_id ids m) id ≡ Some v → (h : ℕ) × (get ids id ≡ Some h) × (get m h ≡ Some v)

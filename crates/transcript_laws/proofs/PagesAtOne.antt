@@ -1,4 +1,4 @@
--- The figures where every bound is 1.
+-- The figures if every bound is 1.
 use Rattle.std.proofs.Common.{◌≡◌, ℕ, zero, suc, ◌+◌, ◌-◌, ◌*◌, ◌%◌, ◌<◌, ◌≤◌, Bool, true, false, ◌∷◌, length, map, arith, sym, ◌∙◌, ap, refl, subst, cond}
 use Rattle.std.specs.Prelude.{filter, nat_eq}
 use Rattle.std.specs.List.{range_with_len}
@@ -21,7 +21,7 @@ divides n m is = (let e = eq_yes (n % m) 0 is in rw e)
 leaves : (n m : ℕ) → 0 < n % m → part_pages n m ≡ 1
 leaves n m some = (let e = eq_no (n % m) 0 (λ is. omega arith) in rw e)
 
--- of the pages at most one is partly full, and none where the objects fill them
+-- at most one page is partly full, and none if the objects fill the pages
 part_is : (h n m q : ℕ) → 0 < m → Stand h n m 1 q → q ≡ part_pages n m
 part_is h n m zero pos s =
     let e : h - 0 ≡ h = omega arith in
@@ -102,7 +102,7 @@ module _ (p : Paging) (m n : Objects) (a : CountAlike m n) where
     largest = cond (nat_eq (p.pages - needed_alike i) 0) 0 p.page_words;
   }
 
--- what is said of the numbers of a range that pass a test, where both functions and both tests agree
+-- two functions that agree on a range give the same list for the numbers that pass two tests that agree
 module _ {X : Type 0} (f g : ℕ → X) (t u : ℕ → Bool) where
   pub said_alike : (a n : ℕ) → ((d : ℕ) → d < a + n → f d ≡ g d) → ((d : ℕ) → t d ≡ u d)
       → map f (filter t (range_with_len a n)) ≡ map g (filter u (range_with_len a n))

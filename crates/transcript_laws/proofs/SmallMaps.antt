@@ -1,11 +1,9 @@
 -- Finite maps of objects, step by step.
-use Rattle.std.proofs.Common.{◌≡◌, ℕ, List, [], Some, None, length, cond, sym, ◌∙◌, inl, inr}
-use Rattle.std.proofs.lemmas.Bool.{cases_eq}
+use Rattle.std.proofs.Common.{◌≡◌, ℕ, List, [], Some, None, length, cond, sym, ◌∙◌}
 use Rattle.std.proofs.lemmas.List.{nil_from_length}
 use Rattle.std.specs.Ordering.{nat_cmp, eq_by_cmp}
 use Rattle.std.specs.Cmp.{nat_cmp_total}
-use Rattle.std.specs.FinMap.{empty, entries, entries-insert, get, get-empty, get-insert, insert, len, len-empty, len-entries, put, remove}
-use Rattle.cf_lemmas.proofs.Maps.{equal_maps, get_remove_other, get_removed}
+use Rattle.std.specs.FinMap.{empty, entries, entries-insert, get, get-empty, get-insert, insert, len, len-empty, len-entries, put}
 use Rattle.page_model.specs.Held.{Objects}
 
 module _ (m : Objects) where
@@ -23,10 +21,3 @@ got_none q = get-empty nat_cmp q
 
 pub listed_none : entries (empty {X = List ℕ} {R = nat_cmp}) ≡ []
 listed_none = nil_from_length _ (sym (len-entries (empty {X = List ℕ} {R = nat_cmp})) ∙ len-empty nat_cmp (List ℕ))
-
--- a key that isn't there changes nothing when it is removed
-pub remove_none : (o : Objects) (id : ℕ) → get o id ≡ None → remove o id ≡ o
-remove_none o id none = equal_maps _ _ (λ q. elim (cases_eq q id) [
-  | inl is ↦ rw is (get_removed o id ∙ sym none)
-  | inr ne ↦ get_remove_other o id q ne
-])

@@ -1,4 +1,4 @@
--- The reports where every bound is 1: they are counted from the objects alone.
+-- The reports if every bound is 1: they are counted from the objects alone.
 use Rattle.std.specs.Prelude.{ℕ, ◌-◌, ◌*◌, ◌%◌, List, ◌++◌, filter, map, if◌then◌else◌, nat_eq, not}
 use Rattle.std.specs.List.{range_with_len}
 use Rattle.std.specs.FinMap.{len}
@@ -12,11 +12,11 @@ use Rattle.page_model.specs.Paging.{Paging, classes, slot_words, slots_of}
 use Rattle.run_model.specs.Reports.{class_line, total_line}
 use Rattle.run_model.specs.Texts.{Reply, said}
 
--- how many of the pages of n objects, m to a page, are partly full: one, but none where m divides n
+-- how many of the pages of n objects, m to a page, are partly full: none if m divides n, else one
 abbrev pub part_pages : ℕ → ℕ → ℕ
 part_pages n m = if nat_eq (n % m) 0 then 0 else 1
 
--- the figures of class c: its objects stand on as few pages as they can
+-- the figures of class c, whose objects use the fewest pages possible
 abbrev pub figures_at_one : Paging → Objects → ℕ → Figures
 figures_at_one p objects c = record {
   slot_words = slot_words p c;

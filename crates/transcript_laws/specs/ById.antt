@@ -1,4 +1,4 @@
--- What a script leaves where it is not asked for addresses: the objects by the ids of the script.
+-- What a run leaves, without addresses: the objects by the ids of the script.
 use Rattle.std.specs.Prelude.{ℕ, List}
 use Rattle.std.specs.FinMap.{empty}
 use Rattle.cf_base.specs.Settings.{Profile}

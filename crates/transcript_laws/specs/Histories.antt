@@ -1,4 +1,4 @@
--- What is left of a run where the addresses are left out, and what may follow it.
+-- A run without its addresses, and what may follow it.
 use Rattle.std.specs.Prelude.{◌≡◌, ⊤, ℕ, List, [], ◌∷◌, Option, option_map}
 use Rattle.std.specs.Option.{unwrap_or}
 use Rattle.std.specs.FinMap.{get}
@@ -10,11 +10,11 @@ use Rattle.run_model.specs.Replies.{object_of}
 use Rattle.run_model.specs.Sessions.{Ids, RunState}
 use Rattle.transcript_laws.specs.Transcripts.{IsPlaceless}
 
--- under each id the bytes that stand under its number
+-- each id with the bytes of its number
 abbrev pub objects_by_id : Ids → Objects → Objects
 objects_by_id ids m = map_values (λ h. unwrap_or (get m h) []) ids
 
--- the bytes of the object that an id names, where it is live
+-- the bytes of the object that an id names, if it is live
 abbrev pub bytes_of : RunState → ℕ → Option (List ℕ)
 bytes_of s id = option_map (λ (x : Placed). x.bytes) (object_of s id)
 

@@ -1,4 +1,4 @@
--- What each command replies and leaves where every bound is 1.
+-- The reply to each command and what it leaves, if every bound is 1.
 use Rattle.std.specs.Prelude.{ℕ, ◌+◌, Bool, ◌&&◌, List, Option, Some, None, Err, codes, if◌then◌else◌, length, nat_eq, nat_le, nat_lt, not, option_map}
 use Rattle.std.specs.Prelude.{position, replicate, slice_set}
 use Rattle.std.specs.FinMap.{get, insert, len, remove}
@@ -23,7 +23,7 @@ use Rattle.run_model.specs.Texts.{Reply, said}
 use Rattle.transcript_laws.specs.AtOne.{totals_at_one, walk_at_one}
 use Rattle.transcript_laws.specs.ById.{ById, paging_by_id}
 
--- whether the objects need more pages with one more of so many bytes than there are, by arithmetic
+-- whether the objects with one more of `bytes` bytes need more pages than there are, by arithmetic
 abbrev pub passes_pages : ById → ℕ → Bool
 passes_pages t bytes = nat_lt t.profile.pages (pages_needed_with (paging_by_id t) t.objects bytes)
 
@@ -34,15 +34,15 @@ malloc_fault t bytes =
     else (if nat_eq (len t.objects) t.profile.proxies then Some refusal.Proxy
     else (if passes_pages t bytes then Some refusal.Space else None))
 
--- why a write of so many bytes from `at` on is refused, if it is: it passes the end of the object
+-- why a write of `count` bytes from `at` on is refused, if it is: it passes the end of the object
 abbrev pub write_fault : List ℕ → ℕ → ℕ → Option AccessFault
 write_fault v at count = if nat_le (at + count) (length v) then None else Some access.Range
 
--- whether an object of so many bytes has the class of v
+-- whether an object of `bytes` bytes has the class of v
 abbrev pub is_in_class : ById → List ℕ → ℕ → Bool
 is_in_class t v bytes = nat_eq (class_for (paging_by_id t) bytes) (class_for (paging_by_id t) (length v))
 
--- why a resize of v is refused, if it is: the size; then the pages, where the class is another one
+-- why a resize of v is refused, if it is: the size; then the pages, if the class changes
 abbrev pub resize_fault : ById → List ℕ → ℕ → Option ResizeFault
 resize_fault t v bytes =
     if nat_lt t.profile.page_words (need bytes) then Some resize.Size
@@ -77,11 +77,11 @@ abbrev pub resize_said : Option (List ℕ) → ById → ℕ → List ℕ
 resize_said (Some v) t bytes = ok_or (λ e. resize_text (Err e)) (resize_fault t v bytes)
 resize_said None t bytes = codes "unknown"
 
--- the class that gets a bound of its own: none where an object is live, or no class has such slots
+-- the class that gets a bound of its own; `None` if an object is live, or if no class has such slots
 abbrev pub class_bounded : ById → ℕ → Option ℕ
 class_bounded t slot_words = if nat_eq (len t.objects) 0 then position (λ w. nat_eq w slot_words) (paging_by_id t).sizes else None
 
--- The reply of a command; `none` to the words of the modes that do more. It says nothing of `q`, `b`, `p` and `steps`, which tell of addresses and costs.
+-- The reply of a command; `none` to the words of the modes that do more. It doesn't define the replies to `q`, `b`, `p` and `steps`, which depend on addresses and costs.
 abbrev pub reply_by_id : ById → Command → Reply
 reply_by_id t (Malloc id bytes) = said (malloc_said (get t.objects id) t bytes)
 reply_by_id t (Free id) = said (free_said (get t.objects id))
@@ -93,7 +93,7 @@ reply_by_id t (Bound slot_words k) = said (bound_text (class_bounded t slot_word
 reply_by_id t (Resize id bytes) = said (resize_said (get t.objects id) t bytes)
 reply_by_id t command = said (codes "none")
 
--- these bytes under the id, but where there is a fault the objects as they were
+-- these bytes under the id; after a fault the objects as they were
 abbrev pub put_unless : {E : Type 0} → Option E → Objects → ℕ → List ℕ → Objects
 put_unless (Some e) objects id v = objects
 put_unless None objects id v = insert objects id v
@@ -127,7 +127,7 @@ objects_after t (Write id at bytes) = write_leaves (get t.objects id) t.objects 
 objects_after t (Resize id bytes) = resize_leaves (get t.objects id) t (record { number = id; length = bytes })
 objects_after t command = t.objects
 
--- this class, where there is one, has the bound k
+-- this class, if there is one, has the bound k
 abbrev pub bounds_with : List ℕ → Option ℕ → ℕ → List ℕ
 bounds_with bounds None k = bounds
 bounds_with bounds (Some c) k = slice_set bounds c k

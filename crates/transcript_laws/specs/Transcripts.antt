@@ -32,7 +32,7 @@ replies_from kind t (item ∷ rest) = reply_at t item ∷ replies_from kind (aft
 abbrev pub transcript : Kind → List Item → List Reply
 transcript kind items = replies_from kind None items
 
--- every bound is 1 where this command is answered; `k` needs no premise, for it is answered alike
+-- every bound is 1 at this command; `k` needs no premise, since its reply is the same at all bounds
 abbrev pub IsAtOne : ById → Command → Type 0
 IsAtOne t (Bound slot_words k) = ⊤
 IsAtOne t command = AreOne (paging_by_id t)

@@ -1,7 +1,7 @@
-use Rattle.page_model.proofs.GoingOn.{goes_beside}
+use Rattle.page_model.proofs.OrderSteps.{can_malloc}
 use Rattle.page_model.proofs.order.a_malloc_can_follow_an_order.Goals as goal
 
 pub returns : goal.returns
-returns c = λ p m limit n h page o rest pages ok s is lt first front.
-    let g = goes_beside p ok m s limit o is n h rest first lt page pages front in
-    (g.place, g.new, g.free, g.follows, g.is_order)
+returns c = λ p m limit n o ok s is lt few room.
+    let g = can_malloc p ok m s limit o is n lt few room in
+    (g.number, g.place, g.new, g.below, g.unused, g.free, g.follows, g.is_order)

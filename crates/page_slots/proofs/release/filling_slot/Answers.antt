@@ -1,5 +1,5 @@
 -- The head page has a used slot.
-use Rattle.std.proofs.Common.{[], ◌<◌, ap, arith, ◌∙◌}
+use Rattle.std.proofs.Common.{[], ap, arith, ◌∙◌}
 use Rattle.std.proofs.lemmas.List.{get_or_default}
 use Rattle.page_slots.specs.Tables.{used_in}
 use Rattle.page_slots.proofs.Calls.{finds_used}

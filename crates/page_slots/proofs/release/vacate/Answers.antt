@@ -1,6 +1,4 @@
 -- A page is empty if its only used slot becomes free.
-use Rattle.std.proofs.Common.{◌≡◌, ◌+◌, [], get_or}
-use Rattle.page_slots.specs.Tables.{used_in}
 use Rattle.page_slots.proofs.Calls.{emptied_steps, kept_steps, used_still}
 use Rattle.page_slots.proofs.release.vacate.Goals as goal
 

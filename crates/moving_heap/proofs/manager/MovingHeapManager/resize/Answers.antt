@@ -1,7 +1,16 @@
+use Rattle.std.proofs.Common.{sym, ap, subst, ◌∙◌}
 use Rattle.cf_base.specs.declared.kind.Kind.TheVariants.{Moving}
+use Rattle.cf_model.specs.Ordered.{IsOrderedResize}
+use Rattle.cf_model.specs.State.{HeapState}
 use Rattle.paged_heap.specs.Heap.{seen}
+use Rattle.paged_heap.specs.Layout.{state_at, state_in}
 use Rattle.paged_heap.proofs.CallerLemmas.{rules}
 use Rattle.moving_heap.proofs.manager.MovingHeapManager.resize.Goals as goal
 
 pub returns-clause-rules : goal.returns-clause-rules
 returns-clause-rules c = rules (seen Moving c.resize.new.self) c.resize.ensures.kept.kept
+
+pub returns-clause-ordered : goal.returns-clause-ordered
+returns-clause-ordered c =
+    subst (λ (s : HeapState). IsOrderedResize s (record { number = c.args.h.0; length = c.args.bytes }) c.resize.result (state_at Moving c.resize.new.self))
+    (ap (state_in Moving) (sym c.in-Some.is) ∙ c.self.view_is) c.resize.ensures.ordered

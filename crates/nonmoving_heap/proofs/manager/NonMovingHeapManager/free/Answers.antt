@@ -1,5 +1,6 @@
 use Rattle.std.proofs.Common.{Some, refl, sym, ap, subst, ◌∙◌}
 use Rattle.cf_base.specs.declared.kind.Kind.TheVariants.{NonMoving}
+use Rattle.cf_model.specs.Ordered.{IsOrderedFree}
 use Rattle.cf_model.specs.State.{HeapState}
 use Rattle.cf_model.specs.Steps.{BlocksStayIn}
 use Rattle.paged_heap.specs.Heap.{seen}
@@ -28,3 +29,8 @@ returns-clause-others c =
     (others_in_place c.in-Some.open c.free.new.self c.args.h.0 was is
     (after_free (state_at NonMoving c.in-Some.open) c.args.h.0 _ (state_at NonMoving c.free.new.self) refl
     (rules (seen NonMoving c.in-Some.open) was.kept) (rules (seen NonMoving c.free.new.self) is.kept) c.free.ensures.step))
+
+pub returns-clause-ordered : goal.returns-clause-ordered
+returns-clause-ordered c =
+    subst (λ (s : HeapState). IsOrderedFree s c.args.h.0 c.free.result (state_at NonMoving c.free.new.self))
+    (ap (state_in NonMoving) (sym c.in-Some.is) ∙ ap (λ (v : MappedState). v.state) c.self.view_is) c.free.ensures.ordered

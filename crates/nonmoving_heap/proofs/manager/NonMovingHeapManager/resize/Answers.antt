@@ -1,5 +1,6 @@
 use Rattle.std.proofs.Common.{Some, refl, sym, ap, subst, ◌∙◌}
 use Rattle.cf_base.specs.declared.kind.Kind.TheVariants.{NonMoving}
+use Rattle.cf_model.specs.Ordered.{IsOrderedResize}
 use Rattle.cf_model.specs.State.{HeapState}
 use Rattle.cf_model.specs.Steps.{BlocksStayIn}
 use Rattle.paged_heap.specs.Heap.{seen}
@@ -28,3 +29,8 @@ returns-clause-others c =
     (others_in_place c.in-Some.open c.resize.new.self c.args.h.0 was is
     (after_resize (state_at NonMoving c.in-Some.open) (record { number = c.args.h.0; length = c.args.bytes }) _ (state_at NonMoving c.resize.new.self) refl
     (rules (seen NonMoving c.in-Some.open) was.kept) (rules (seen NonMoving c.resize.new.self) is.kept) c.resize.ensures.step))
+
+pub returns-clause-ordered : goal.returns-clause-ordered
+returns-clause-ordered c =
+    subst (λ (s : HeapState). IsOrderedResize s (record { number = c.args.h.0; length = c.args.bytes }) c.resize.result (state_at NonMoving c.resize.new.self))
+    (ap (state_in NonMoving) (sym c.in-Some.is) ∙ ap (λ (v : MappedState). v.state) c.self.view_is) c.resize.ensures.ordered

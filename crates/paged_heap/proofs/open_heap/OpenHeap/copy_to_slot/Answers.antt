@@ -8,7 +8,7 @@ use Rattle.virtual_words.specs.Words.{copy_steps, words_of}
 use Rattle.virtual_words.proofs.CallerLemmas.{laid_long}
 use Rattle.paged_heap.specs.declared.open_heap.OpenHeap.{OpenHeap}
 use Rattle.paged_heap.specs.ZeroTail.{Cuts}
-use Rattle.paged_heap.specs.ExactCosts.{tail_steps}
+use Rattle.cf_model.specs.ExactCosts.{tail_steps}
 use Rattle.paged_heap.specs.Heap.{seen}
 use Rattle.paged_heap.proofs.open_heap.OpenHeap.copy_to_slot.Goals as goal
 

@@ -125,7 +125,7 @@ returns-clause-entered g c =
     entered h x is c.take_slot-to.result (seen kind c.take_slot-to.new.self) (seen kind c.copy_to_slot.new.self) (seen kind c.count_out.new.self)
     (seen kind c.count_in.new.self)
     c.take_slot-to.ensures.taken c.take_slot-to.ensures.tables (ap (seen kind) c.take_slot-to.ensures.rest) c.copy_to_slot.ensures.rest
-    c.copy_to_slot.ensures.words c.copy_to_slot.ensures.handles (ap (seen kind) c.count_out.ensures) (ap (seen kind) c.count_in.ensures)
+    c.copy_to_slot.ensures.free c.copy_to_slot.ensures.words c.copy_to_slot.ensures.handles (ap (seen kind) c.count_out.ensures) (ap (seen kind) c.count_in.ensures)
 
 pub returns-clause-steps : goal.returns-clause-steps
 returns-clause-steps g c =

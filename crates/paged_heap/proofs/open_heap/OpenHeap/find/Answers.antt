@@ -1,6 +1,6 @@
 use Rattle.std.proofs.Common.{arith, sym}
 use Rattle.paged_heap.specs.Heap.{seen}
-use Rattle.paged_heap.proofs.Preserved.{no_place}
+use Rattle.paged_heap.proofs.LayoutFacts.{no_place}
 use Rattle.paged_heap.proofs.ByKind.{in_region}
 use Rattle.paged_heap.proofs.ReadLemmas.{lies, passes, place_in}
 use Rattle.page_model.proofs.CallerLemmas.{bytes_long}

@@ -16,8 +16,13 @@ returns-clause-kept g c =
       kept = cost_kept (seen g.A.Mapping.kind c.free_inner-result.new.self) _ c.free_inner-result.ensures.kept.kept;
     }
 
-pub returns-clause-cost : goal.returns-clause-cost
-returns-clause-cost g c =
-    let is = rose_is _ _ _ _ c.requires.room (few_free (seen g.A.Mapping.kind c.args.self.now) c.requires.kept.kept c.args.h.0 _ _ c.free_inner-result.ensures.step) c.free_inner-result.ensures.cost c.free_inner-result.ensures.bound in
-    let a = c.count-before.ensures in let b = c.count.ensures in
-    omega arith
+pub returns-clause-ordered : goal.returns-clause-ordered
+returns-clause-ordered g c = record {
+  choice = c.free_inner-result.ensures.choice;
+  cost = (
+      let is = rose_is _ _ _ _ c.requires.room
+      (few_free (seen g.A.Mapping.kind c.args.self.now) c.requires.kept.kept c.args.h.0 _ _ c.free_inner-result.ensures.step)
+      c.free_inner-result.ensures.cost c.free_inner-result.ensures.bound in
+      let a = c.count-before.ensures in let b = c.count.ensures in
+      omega arith);
+}

@@ -8,7 +8,7 @@ use Rattle.paged_heap.specs.declared.open_heap.OpenHeap.{OpenHeap}
 use Rattle.paged_heap.specs.Heap.{Heap, seen}
 use Rattle.paged_heap.specs.Layout.{held_in, paging_at, state_of, tables_in}
 use Rattle.paged_heap.proofs.CostLemmas.{alone_sum}
-use Rattle.paged_heap.proofs.FreeAlone.{alone}
+use Rattle.paged_heap.proofs.FreeAlone.{alone, alone_follows}
 use Rattle.paged_heap.proofs.ByKind.{clear_most, frames_stay, framed_of, in_region, laid_same}
 use Rattle.paged_heap.proofs.LayoutFacts.{paged_kind}
 use Rattle.paged_heap.proofs.FreedObject.{asked_some, goes_freed, goes_kept, it, it_inside, it_used, live_some, moving, rest_held, taken_some}
@@ -85,6 +85,20 @@ returns-clause-kept g c =
     (c.erase.ensures.rest) gone long (framed_of kind c.release_slot.new.self laid) c.erase.ensures.handles (ap (seen kind) c.count_out.ensures)
     c.release_slot.ensures.freed c.release_slot.ensures.tables (ap (seen kind) c.release_slot.ensures.rest) in
     record { laid = laid; kept = goes_kept k o n None no b }
+
+pub returns-clause-choice : goal.returns-clause-choice
+returns-clause-choice g c =
+    let kind = g.A.Mapping.kind in
+    let h = seen kind c.args.self.now in let k = c.requires.kept.kept in let o = c.requires.object in let n = seen kind c.release_slot.new.self in
+    let w = c.slot_words-slot_words.ensures.value in
+    let gone = subst (λ s. Clears h.words (seen kind c.erase.new.self).words (record { from = c.args.place; count = s })) w c.erase.ensures.words in
+    let long = in_region kind c.erase.new.self c.erase.ensures.laid ∙ c.erase.ensures.len ∙ sym (in_region kind c.args.self.now c.requires.kept.laid) in
+    let laid = laid_same kind c.erase.new.self c.release_slot.new.self
+    (ap (λ (x : OpenHeap). x.blocks) c.release_slot.ensures.rest ∙ ap (λ (x : OpenHeap). x.blocks) c.count_out.ensures)
+    (ap (λ (x : OpenHeap). x.region) c.release_slot.ensures.rest ∙ ap (λ (x : OpenHeap). x.region) c.count_out.ensures) c.erase.ensures.laid in
+    alone_follows k o c.requires.stays (seen kind c.erase.new.self) (seen kind c.count_out.new.self) n
+    c.erase.ensures.rest gone long (framed_of kind c.release_slot.new.self laid) c.erase.ensures.handles (ap (seen kind) c.count_out.ensures)
+    c.release_slot.ensures.freed c.release_slot.ensures.tables (ap (seen kind) c.release_slot.ensures.rest)
 
 pub returns-clause-steps : goal.returns-clause-steps
 returns-clause-steps g c =

@@ -1,11 +1,13 @@
 -- The other object's number is read from its header.
-use Rattle.std.proofs.Common.{length, get_or, Some, arith, refl, ◌∙◌, ap}
+use Rattle.std.proofs.Common.{length, get_or, Some, arith, refl, sym, ◌∙◌, ap, subst}
+use Rattle.page_model.specs.Order.{FreeFollows}
 use Rattle.paged_heap.specs.declared.open_heap.OpenHeap.{OpenHeap}
 use Rattle.paged_heap.specs.Heap.{seen}
+use Rattle.paged_heap.specs.Layout.{held_in, order_in, paging_at}
 use Rattle.paged_heap.proofs.ByKind.{framed_of, in_region, laid_same}
 use Rattle.paged_heap.proofs.CostLemmas.{filled_sum}
 use Rattle.paged_heap.proofs.FreedObject.{asked_some, goes_freed, goes_kept, live_some, taken_some}
-use Rattle.paged_heap.proofs.FreeAndFill.{apart_there, fills_of, frames_are, leaves_of, live_there, moved_is, mover, place_in, r, refilled, source_there}
+use Rattle.paged_heap.proofs.FreeAndFill.{apart_there, fill_follows, fills_of, frames_are, free_is, leaves_of, live_there, moved_is, mover, place_in, r, refilled, source_there}
 use Rattle.paged_heap.proofs.FreeAndFill.{target_there, whole_is, whole_source, whole_target, whole_there}
 use Rattle.paged_heap.proofs.open_heap.OpenHeap.free_and_fill.Goals as goal
 
@@ -147,6 +149,21 @@ returns-clause-kept g c =
       laid = c.move_to.ensures.laid;
       kept = goes_kept fills.valid fills.object (seen g.A.Mapping.kind c.move_to.new.self) (Some (r fills)) (mover fills) now;
     }
+
+pub returns-clause-choice : goal.returns-clause-choice
+returns-clause-choice g c =
+    let kind = g.A.Mapping.kind in let h = seen kind c.args.self.now in let n = seen kind c.move_to.new.self in
+    let fills = fills_of c.requires.kept.kept c.requires.object c.requires.moves c.take_filler-from.ensures.filled c.take_filler-from.ensures.tables in
+    let left =
+    leaves_of fills (ap (seen kind) c.take_filler-from.ensures.rest) c.read.ensures.value c.unpack.ensures.number
+    c.slot_words-slot_words.ensures.value
+    c.release.ensures.places (ap (seen kind) c.count_out.ensures) in
+    let whole = whole_is fills left (ap (seen kind) c.move_to.ensures.rest) in
+    let moved = moved_is fills left c.move_to.ensures.moves in
+    let framed = framed_of kind c.move_to.new.self c.move_to.ensures.laid in
+    subst (λ v. FreeFollows (paging_at h) (held_in h) c.args.h.0 v (order_in h) (order_in n)) (sym (ap Some left.is))
+    (fill_follows fills (seen kind c.take_filler-from.new.self) whole moved framed refl c.move_to.ensures.handles
+    (free_is fills left c.move_to.ensures.free))
 
 pub returns-clause-cost : goal.returns-clause-cost
 returns-clause-cost g c =

@@ -1,7 +1,7 @@
 -- The header holds the object's length.
 use Rattle.std.proofs.Common.{refl, sym, arith}
 use Rattle.paged_heap.specs.Heap.{seen}
-use Rattle.paged_heap.proofs.Preserved.{no_place}
+use Rattle.paged_heap.proofs.LayoutFacts.{no_place}
 use Rattle.paged_heap.proofs.ByKind.{in_region}
 use Rattle.paged_heap.proofs.ReadLemmas.{place_in}
 use Rattle.paged_heap.proofs.CostLemmas.{free_sum}

@@ -5,7 +5,7 @@ use Rattle.page_model.proofs.CallerLemmas.{bytes_long}
 use Rattle.step_ledger.proofs.CallerLemmas.{rose_both}
 use Rattle.paged_heap.specs.Heap.{seen}
 use Rattle.paged_heap.proofs.ByKind.{in_region}
-use Rattle.paged_heap.proofs.Preserved.{no_place}
+use Rattle.paged_heap.proofs.LayoutFacts.{no_place}
 use Rattle.paged_heap.proofs.ReadLemmas.{held, place_in}
 use Rattle.paged_heap.proofs.open_heap.OpenHeap.length.Goals as goal
 

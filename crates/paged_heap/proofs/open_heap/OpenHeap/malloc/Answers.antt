@@ -18,8 +18,11 @@ returns-clause-kept g c =
       kept = cost_kept (seen g.A.Mapping.kind c.malloc_inner-result.new.self) _ c.malloc_inner-result.ensures.kept.kept;
     }
 
-pub returns-clause-cost : goal.returns-clause-cost
-returns-clause-cost g c =
-    let is = rose_is _ _ _ 18 c.requires.room (omega arith) c.malloc_inner-result.ensures.cost c.malloc_inner-result.ensures.bound in
-    let a = c.count-before.ensures in let b = c.count.ensures in
-    omega arith
+pub returns-clause-ordered : goal.returns-clause-ordered
+returns-clause-ordered g c = record {
+  choice = c.malloc_inner-result.ensures.choice;
+  cost = (
+      let is = rose_is _ _ _ 18 c.requires.room (omega arith) c.malloc_inner-result.ensures.cost c.malloc_inner-result.ensures.bound in
+      let a = c.count-before.ensures in let b = c.count.ensures in
+      omega arith);
+}

@@ -6,7 +6,7 @@ use Rattle.paged_heap.proofs.ByKind.{in_region, laid_same}
 use Rattle.paged_heap.proofs.CostLemmas.{malloc_sum}
 use Rattle.paged_heap.proofs.CountLimits.{asked_room, class_is, live_room, taken_room}
 use Rattle.paged_heap.proofs.LayoutFacts.{as_many}
-use Rattle.paged_heap.proofs.MallocPreserves.{comes_given, comes_kept}
+use Rattle.paged_heap.proofs.MallocPreserves.{comes_chosen, comes_given, comes_kept}
 use Rattle.paged_heap.proofs.MallocLemmas.{comes, place_inside}
 use Rattle.paged_heap.proofs.open_heap.OpenHeap.malloc_inner.Goals as goal
 
@@ -60,7 +60,7 @@ returns-clause-step g c =
     (seen kind c.bind-handle.new.self) n c.take_slot-place.result c.bind-handle.result.0
     c.in_ok-c.ensures.few c.take_slot-place.ensures.taken c.take_slot-place.ensures.tables
     (ap (seen kind) c.take_slot-place.ensures.rest)
-    c.bind-handle.ensures.unused c.bind-handle.ensures.below c.bind-handle.ensures.whole c.bind-handle.ensures.handles (ap (seen kind) c.count_in.ensures) in
+    c.bind-handle.ensures.unused c.bind-handle.ensures.below c.bind-handle.ensures.first c.bind-handle.ensures.whole c.bind-handle.ensures.handles (ap (seen kind) c.count_in.ensures) in
     comes_given h n c.requires.kept c.in_ok-c.c c.take_slot-place.result c.args.bytes c.bind-handle.result.0 co
 
 pub returns-clause-kept : goal.returns-clause-kept
@@ -71,12 +71,24 @@ returns-clause-kept g c =
     (seen kind c.bind-handle.new.self) n c.take_slot-place.result c.bind-handle.result.0
     c.in_ok-c.ensures.few c.take_slot-place.ensures.taken c.take_slot-place.ensures.tables
     (ap (seen kind) c.take_slot-place.ensures.rest)
-    c.bind-handle.ensures.unused c.bind-handle.ensures.below c.bind-handle.ensures.whole c.bind-handle.ensures.handles (ap (seen kind) c.count_in.ensures) in
+    c.bind-handle.ensures.unused c.bind-handle.ensures.below c.bind-handle.ensures.first c.bind-handle.ensures.whole c.bind-handle.ensures.handles (ap (seen kind) c.count_in.ensures) in
     record {
       laid = laid_same kind c.bind-handle.new.self c.count_in.new.self (ap (λ (x : OpenHeap). x.blocks) c.count_in.ensures)
           (ap (λ (x : OpenHeap). x.region) c.count_in.ensures) c.bind-handle.ensures.laid;
       kept = comes_kept h n c.requires.kept c.in_ok-c.c c.take_slot-place.result c.args.bytes c.bind-handle.result.0 co;
     }
+
+pub returns-clause-choice : goal.returns-clause-choice
+returns-clause-choice g c =
+    let kind = g.A.Mapping.kind in
+    let h = seen kind c.args.self.now in let n = seen kind c.count_in.new.self in
+    let co = comes h c.requires.kept c.args.bytes c.in_ok-c.c c.in_ok-c.ensures.class (seen kind c.take_slot-place.new.self)
+    (seen kind c.bind-handle.new.self) n c.take_slot-place.result c.bind-handle.result.0
+    c.in_ok-c.ensures.few c.take_slot-place.ensures.taken c.take_slot-place.ensures.tables
+    (ap (seen kind) c.take_slot-place.ensures.rest)
+    c.bind-handle.ensures.unused c.bind-handle.ensures.below c.bind-handle.ensures.first c.bind-handle.ensures.whole c.bind-handle.ensures.handles
+    (ap (seen kind) c.count_in.ensures) in
+    comes_chosen h n c.requires.kept c.in_ok-c.c c.take_slot-place.result c.args.bytes c.bind-handle.result.0 co
 
 pub returns-clause-cost : goal.returns-clause-cost
 returns-clause-cost g c =

@@ -1,4 +1,4 @@
--- The words are as many as before, since the region is.
+-- The number of words stays, since that of the region does.
 use Rattle.std.proofs.Common.{sym, ◌∙◌}
 use Rattle.step_ledger.proofs.CallerLemmas.{rose_both}
 use Rattle.virtual_words.proofs.CallerLemmas.{laid_long}

@@ -19,10 +19,13 @@ returns-clause-kept g c =
       kept = cost_kept (seen g.A.Mapping.kind c.resize_inner-result.new.self) _ c.resize_inner-result.ensures.kept.kept;
     }
 
-pub returns-clause-cost : goal.returns-clause-cost
-returns-clause-cost g c =
-    let is = rose_is _ _ _ _ c.requires.room
-    (few_resize (seen g.A.Mapping.kind c.args.self.now) c.requires.kept.kept c.args.h.0 c.args.bytes _ _ c.resize_inner-result.ensures.step)
-    c.resize_inner-result.ensures.cost c.resize_inner-result.ensures.bound in
-    let a = c.count-before.ensures in let b = c.count.ensures in
-    omega arith
+pub returns-clause-ordered : goal.returns-clause-ordered
+returns-clause-ordered g c = record {
+  choice = c.resize_inner-result.ensures.choice;
+  cost = (
+      let is = rose_is _ _ _ _ c.requires.room
+      (few_resize (seen g.A.Mapping.kind c.args.self.now) c.requires.kept.kept c.args.h.0 c.args.bytes _ _ c.resize_inner-result.ensures.step)
+      c.resize_inner-result.ensures.cost c.resize_inner-result.ensures.bound in
+      let a = c.count-before.ensures in let b = c.count.ensures in
+      omega arith);
+}

@@ -9,8 +9,8 @@ use Rattle.paged_heap.specs.ResizeClass.{old_words}
 use Rattle.paged_heap.specs.Heap.{Heap, seen}
 use Rattle.paged_heap.specs.Layout.{IsValid, tables_in}
 use Rattle.paged_heap.proofs.ByKind.{clear_most, framed_of, in_region, laid_same}
-use Rattle.paged_heap.proofs.ResizeClass.{change_kept, change_resized, entered_long, old_used}
-use Rattle.paged_heap.proofs.ResizeClassAlone.{changed_alone, frames_are, keeps, never}
+use Rattle.paged_heap.proofs.ResizeClass.{change_chosen, change_kept, change_resized, entered_long, old_used}
+use Rattle.paged_heap.proofs.ResizeClassAlone.{alone_follows, changed_alone, frames_are, free_same, keeps, never}
 use Rattle.paged_heap.proofs.ResizeCosts.{left_alone}
 use Rattle.paged_heap.proofs.ResizeEnter.{kept_few, refused, unchanged}
 use Rattle.paged_heap.proofs.FreedObject.{it_inside}
@@ -89,6 +89,26 @@ returns-clause-kept g c =
     let be = changed_alone k is en c.requires.stays e m c.wipe.ensures.rest gone long framed c.release_slot.ensures.freed c.release_slot.ensures.tables
     dropped in
     record { laid = laid; kept = change_kept k is en None no m ke be }
+
+pub returns-clause-choice : goal.returns-clause-choice
+returns-clause-choice g c =
+    let kind = g.A.Mapping.kind in let h = seen kind c.args.self.now in let k = c.requires.kept.kept in let x = c.args.x in let is = c.requires.change in
+    let n = seen kind c.enter_class.new.self in let en = c.in-Some.ensures.entered in
+    let laid = laid_same kind c.wipe.new.self c.release_slot.new.self (ap (λ (o : OpenHeap). o.blocks) c.release_slot.ensures.rest)
+    (ap (λ (o : OpenHeap). o.region) c.release_slot.ensures.rest) c.wipe.ensures.laid in
+    let e = seen kind c.wipe.new.self in let m = seen kind c.release_slot.new.self in
+    let w = c.slot_words-old_slot_words.ensures.value in
+    let gone = subst (λ s. Clears n.words e.words (record { from = x.place; count = s })) w c.wipe.ensures.words in
+    let long = in_region kind c.wipe.new.self c.wipe.ensures.laid ∙ c.wipe.ensures.len ∙ sym (in_region kind c.enter_class.new.self c.in-Some.ensures.laid) in
+    let framed = framed_of kind c.release_slot.new.self laid in
+    let dropped = ap (seen kind) c.release_slot.ensures.rest in
+    let no = never k is en c.requires.stays e m c.wipe.ensures.rest gone long framed c.release_slot.ensures.freed c.release_slot.ensures.tables dropped in
+    let ke = keeps k is en c.requires.stays e m c.wipe.ensures.rest gone long framed c.release_slot.ensures.freed c.release_slot.ensures.tables dropped in
+    let be = changed_alone k is en c.requires.stays e m c.wipe.ensures.rest gone long framed c.release_slot.ensures.freed c.release_slot.ensures.tables
+    dropped in
+    change_chosen k is en None no m ke be
+    (alone_follows k is en c.requires.stays e m c.wipe.ensures.rest gone long framed c.release_slot.ensures.freed c.release_slot.ensures.tables dropped)
+    (free_same k is en c.requires.stays e m c.wipe.ensures.rest gone long framed c.release_slot.ensures.freed c.release_slot.ensures.tables dropped) _ refl
 
 pub returns-clause-bound : goal.returns-clause-bound
 returns-clause-bound g c =

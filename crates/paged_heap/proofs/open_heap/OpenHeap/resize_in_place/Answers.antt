@@ -7,7 +7,7 @@ use Rattle.paged_heap.specs.Heap.{Heap, seen}
 use Rattle.paged_heap.proofs.ByKind.{in_region}
 use Rattle.paged_heap.proofs.FreedObject.{asked_some}
 use Rattle.paged_heap.proofs.CountLimits.{asked_room}
-use Rattle.paged_heap.proofs.ResizeInPlace.{bytes_in, bytes_low, fits_kept, fits_resized, holds_bytes}
+use Rattle.paged_heap.proofs.ResizeInPlace.{bytes_in, bytes_low, fits_chosen, fits_kept, fits_resized, holds_bytes}
 use Rattle.paged_heap.proofs.open_heap.OpenHeap.resize_in_place.Goals as goal
 
 pub zero_tail-requires-clause-within : goal.zero_tail-requires-clause-within
@@ -83,6 +83,23 @@ returns-clause-kept g c =
       kept = fits_kept h t n k c.args.h.0 c.args.place c.args.length c.args.c c.requires.object c.args.bytes c.requires.same c.zero_tail.ensures.rest
           c.zero_tail.ensures.cut still en;
     }
+
+pub returns-clause-choice : goal.returns-clause-choice
+returns-clause-choice g c =
+    let kind = g.A.Mapping.kind in let h = seen kind c.args.self.now in let k = c.requires.kept.kept in
+    let t = seen kind c.zero_tail.new.self in
+    let n : Heap = record t {
+      words = words_of kind c.zero_tail.new.self.blocks c.write.new.region;
+      asked = c.zero_tail.new.self.asked - c.from.result + c.from-2.result;
+    } in
+    let en : n ≡ record t { words = set t.words c.args.place (header_word c.args.h.0 c.args.bytes); asked = t.asked - c.args.length + c.args.bytes } =
+    (ap (λ ws. record t { words = ws; asked = t.asked - c.from.result + c.from-2.result })
+    (c.write.ensures.words ∙ ap (set t.words c.args.place) c.pack.ensures)
+    ∙ ap (λ x. record t { words = set t.words c.args.place (header_word c.args.h.0 c.args.bytes); asked = t.asked - x + c.from-2.result }) c.from.ensures
+    ∙ ap (λ x. record t { words = set t.words c.args.place (header_word c.args.h.0 c.args.bytes); asked = t.asked - c.args.length + x }) c.from-2.ensures) in
+    let still : c.args.length ≤ c.args.bytes → t ≡ h = λ le. ap (seen kind) (c.zero_tail.ensures.kept le) in
+    fits_chosen h t n k c.args.h.0 c.args.place c.args.length c.args.c c.requires.object c.args.bytes c.requires.same c.zero_tail.ensures.rest
+    c.zero_tail.ensures.cut still en _
 
 pub returns-clause-bound : goal.returns-clause-bound
 returns-clause-bound g c =

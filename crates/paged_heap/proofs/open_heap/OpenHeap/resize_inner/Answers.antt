@@ -2,7 +2,7 @@
 use Rattle.std.proofs.Common.{arith, refl, sym, ◌∙◌}
 use Rattle.paged_heap.specs.Heap.{seen}
 use Rattle.paged_heap.specs.Layout.{state_of}
-use Rattle.paged_heap.proofs.Preserved.{no_place}
+use Rattle.paged_heap.proofs.LayoutFacts.{no_place}
 use Rattle.paged_heap.proofs.ByKind.{in_region, unmoved}
 use Rattle.paged_heap.proofs.LayoutFacts.{paged_kind}
 use Rattle.paged_heap.proofs.HeaderLemmas.{has_class, object_at}

@@ -16,7 +16,7 @@ use Rattle.page_model.specs.Image.{slot_for}
 use Rattle.page_model.specs.Order.{Order, steps_to_drop, steps_to_fill, steps_to_take, word_steps}
 use Rattle.page_model.specs.Paging.{class_for, page_of}
 use Rattle.page_model.specs.Steps.{Request}
-use Rattle.virtual_words.specs.Words.{copy_steps, run_steps, slot_steps, wipe_steps}
+use Rattle.page_model.specs.WordSteps.{copy_steps, run_steps, slot_steps, wipe_steps}
 
 -- a malloc: the class, the slot that is next, the proxy and the header; refused, the class
 abbrev pub malloc_cost : HeapState → Order → ℕ → Result Handle Refusal → ℕ
