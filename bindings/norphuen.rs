@@ -1,7 +1,7 @@
 //! Norphuen for Rust: a safe wrapper over the C library. Include it as a module; it needs `core` alone. Link one of the
 //! libraries, and define the three allocator functions that `include/norphuen.h` describes.
 //!
-//! A `Heap` closes itself when it is dropped. It is neither `Send` nor `Sync`: a heap stays in the thread that opened it.
+//! A `Heap` closes itself when it is dropped. It is `Send` and not `Sync`: one caller at a time, in any thread.
 
 /// The number of an object. It stays the same wherever the object moves.
 #[derive(Clone, Copy, Debug, PartialEq, Eq)]
@@ -158,6 +158,9 @@ impl Heap {
         steps
     }
 }
+
+// The library's own type is proved `Send`.
+unsafe impl Send for Heap {}
 
 impl Drop for Heap {
     fn drop(&mut self) {

@@ -15,7 +15,7 @@
  *   - A heap begins as NPH_HEAP. Only these calls change it, and only one copy of it is used.
  *   - Other pointers are not null and point to what their types say. No two pointers of a call overlap.
  *   - A buffer has `count` bytes. With a count of 0 its pointer is not null either.
- *   - One call at a time runs on a heap, in the thread that opened it.
+ *   - One call at a time runs on a heap, in any thread. A lock, a join or a start of a thread orders the calls.
  *
  * The library tests all else: every number may be passed as a setting, handle, length, offset or class, and every call
  * may be made on a heap that is not open. docs/C.md says what is proved.

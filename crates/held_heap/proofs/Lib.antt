@@ -3,3 +3,5 @@ pub mod MovingPlaces
 pub mod NonMovingPlaces
 pub mod TlsfPlaces
 pub mod Rooms
+pub mod Crosses
+pub mod Sent

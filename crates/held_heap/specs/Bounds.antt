@@ -10,6 +10,7 @@ use Rattle.cf_base.specs.declared.answers.Resized.{Resized}
 use Rattle.cf_base.specs.declared.answers.ResizeFault.{ResizeFault}
 use Rattle.cf_base.specs.declared.answers.Totals.{Totals}
 use Rattle.cf_base.specs.declared.kind.Kind.{Kind}
+use Rattle.cf_model.specs.Ordered.{IsOrderedFree, IsOrderedMalloc, IsOrderedResize}
 use Rattle.cf_model.specs.Rules.{KeepsRules}
 use Rattle.cf_model.specs.State.{HeapState}
 use Rattle.cf_model.specs.Steps.{IsFreeStep, IsMallocStep, IsReadAnswer, IsResizeStep, IsWriteStep, Part, StaysOpen}
@@ -33,6 +34,7 @@ pub record IsOpenOf (of_kind : Kind) (s : HeapState) : Type 0 where
 -- a malloc of these bytes, with the count of steps before and after
 pub record IsMalloc (most : Bounds) (old : HeapState) (bytes : ℕ) (answer : Result Handle Refusal) (new : HeapState) (from to : ℕ) : Type 0 where
   pub step : IsMallocStep old bytes answer new
+  pub ordered : IsOrderedMalloc old bytes answer new
   pub rules : KeepsRules new
   pub same : StaysOpen old new
   pub bound : RoseAtMost from to (most.malloc answer)
@@ -41,6 +43,7 @@ pub record IsMalloc (most : Bounds) (old : HeapState) (bytes : ℕ) (answer : Re
 -- a free of this number
 pub record IsFree (most : Bounds) (old : HeapState) (number : ℕ) (answer : Result Freed NotLive) (new : HeapState) (from to : ℕ) : Type 0 where
   pub step : IsFreeStep old number answer new
+  pub ordered : IsOrderedFree old number answer new
   pub rules : KeepsRules new
   pub same : StaysOpen old new
   pub bound : RoseAtMost from to (most.free answer)
@@ -49,6 +52,7 @@ pub record IsFree (most : Bounds) (old : HeapState) (number : ℕ) (answer : Res
 -- a resize of a number to a length
 pub record IsResize (most : Bounds) (old : HeapState) (asked : Request) (answer : Result Resized ResizeFault) (new : HeapState) (from to : ℕ) : Type 0 where
   pub step : IsResizeStep old asked answer new
+  pub ordered : IsOrderedResize old asked answer new
   pub rules : KeepsRules new
   pub same : StaysOpen old new
   pub bound : RoseAtMost from to (most.resize asked.length answer)

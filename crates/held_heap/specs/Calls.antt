@@ -14,7 +14,7 @@ use Rattle.cf_base.specs.declared.kind.Kind.{Kind}
 use Rattle.cf_model.specs.Answers.{figures_in, totals_in}
 use Rattle.cf_model.specs.Rules.{KeepsRules}
 use Rattle.cf_model.specs.State.{HeapState}
-use Rattle.cf_model.specs.Steps.{IsOpeningWords, empty_heap}
+use Rattle.cf_model.specs.Steps.{IsOpeningOrder, IsOpeningWords, ordered_heap}
 use Rattle.step_ledger.specs.Counting.{RoseAtMost, RoseBy}
 use Rattle.tag_heap.specs.Room.{IsRoomAnswer, length_of}
 use Rattle.held_heap.specs.Bounds.{Bounds, IsFree, IsMalloc, IsRead, IsResize, IsWrite}
@@ -28,7 +28,8 @@ use Rattle.held_heap.specs.declared.answers.NphHeapTotals.{NphHeapTotals}
 -- an open heap without objects, under these settings, and a ledger at 0
 pub record IsFreshHeap (kind : Kind) (p : Profile) (new : HeldState) : Type 0 where
   pub words : IsOpeningWords kind p new.heap.words
-  pub whole : new.heap ≡ empty_heap kind p new.heap.words
+  pub order : IsOpeningOrder kind p new.heap.order
+  pub whole : new.heap ≡ ordered_heap kind p new.heap.words new.heap.order
   pub rules : KeepsRules new.heap
   pub steps : new.steps ≡ 0
 

@@ -11,11 +11,13 @@ use std::marker::Model;
 use std::rt::Memory;
 use step_ledger::Meter;
 
-/// An open heap, and the ledger of its last call.
+/// An open heap, and the steps of its last call. Each call has a ledger of its own, so that the
+/// compiler keeps the count in a register.
 #[derive(Drop)]
 pub struct Held<H: Offered> {
     heap: H,
-    meter: Meter,
+    steps: u64,
+    memory: Memory,
 }
 
 impl<H: Offered> Model for Held<H> {
@@ -26,7 +28,7 @@ impl<H: Offered> Model for Held<H> {
 
     ghost coded = { held_code };
 
-    ghost view = { λ h. record { heap = H.state h.heap; steps = h.meter } };
+    ghost view = { λ h. record { heap = H.state h.heap; steps = h.steps } };
 
     ghost invariant = { λ h. IsOpenOf H.of_kind (H.state h.heap) };
 }
@@ -43,7 +45,8 @@ impl<H: Offered> Held<H> {
         heap.open_heap(s).ok()?;
         let held = Held {
             heap,
-            meter: Meter::for_library(memory),
+            steps: 0,
+            memory,
         };
         Box::new(alloc, held).ok()
     }
@@ -51,8 +54,10 @@ impl<H: Offered> Held<H> {
     pub fn malloc(&mut self, bytes: u32, handle: &mut u32) -> i32
         ensures { IsMallocCall H.most self.old bytes handle.old result handle.new self.new }
     {
-        self.meter.lap();
-        match self.heap.malloc_within(bytes, self.meter.steps()) {
+        let mut meter = Meter::for_library(self.memory);
+        let answer = self.heap.malloc_within(bytes, meter.steps());
+        self.steps = meter.lap();
+        match answer {
             Ok(h) => {
                 *handle = h.0;
                 DONE
@@ -64,8 +69,10 @@ impl<H: Offered> Held<H> {
     pub fn free(&mut self, handle: u32, freed: &mut NphFreed) -> i32
         ensures { IsFreeCall H.most self.old handle freed.old result freed.new self.new }
     {
-        self.meter.lap();
-        match self.heap.free_within(Handle(handle), self.meter.steps()) {
+        let mut meter = Meter::for_library(self.memory);
+        let answer = self.heap.free_within(Handle(handle), meter.steps());
+        self.steps = meter.lap();
+        match answer {
             Ok(done) => {
                 *freed = NphFreed {
                     slot_words: done.slot_words,
@@ -80,11 +87,12 @@ impl<H: Offered> Held<H> {
     pub fn resize(&mut self, handle: u32, bytes: u32, resized: &mut NphResized) -> i32
         ensures { IsResizeCall H.most self.old handle bytes resized.old result resized.new self.new }
     {
-        self.meter.lap();
-        match self
+        let mut meter = Meter::for_library(self.memory);
+        let answer = self
             .heap
-            .resize_within(Handle(handle), bytes, self.meter.steps())
-        {
+            .resize_within(Handle(handle), bytes, meter.steps());
+        self.steps = meter.lap();
+        match answer {
             Ok(done) => {
                 *resized = NphResized {
                     old_slot_words: done.old_slot_words,
@@ -100,11 +108,12 @@ impl<H: Offered> Held<H> {
     pub fn write(&mut self, handle: u32, at: u32, bytes: &[u8]) -> i32
         ensures { IsWriteCall H.most self.old handle at bytes.now result self.new }
     {
-        self.meter.lap();
-        match self
+        let mut meter = Meter::for_library(self.memory);
+        let answer = self
             .heap
-            .write_within(Handle(handle), at, bytes, self.meter.steps())
-        {
+            .write_within(Handle(handle), at, bytes, meter.steps());
+        self.steps = meter.lap();
+        match answer {
             Ok(()) => DONE,
             Err(cause) => of_access(cause),
         }
@@ -113,11 +122,12 @@ impl<H: Offered> Held<H> {
     pub fn read(&mut self, handle: u32, at: u32, out: &mut [u8]) -> i32
         ensures { IsReadCall H.most self.old handle at out.old result out.new self.new }
     {
-        self.meter.lap();
-        match self
+        let mut meter = Meter::for_library(self.memory);
+        let answer = self
             .heap
-            .read_within(Handle(handle), at, out, self.meter.steps())
-        {
+            .read_within(Handle(handle), at, out, meter.steps());
+        self.steps = meter.lap();
+        match answer {
             Ok(()) => DONE,
             Err(cause) => of_access(cause),
         }
@@ -127,8 +137,10 @@ impl<H: Offered> Held<H> {
     pub fn length(&mut self, handle: u32, bytes: &mut u32) -> i32
         ensures { IsLengthCall H.most self.old handle bytes.old result bytes.new self.new }
     {
-        self.meter.lap();
-        match self.heap.length_within(Handle(handle), self.meter.steps()) {
+        let mut meter = Meter::for_library(self.memory);
+        let answer = self.heap.length_within(Handle(handle), meter.steps());
+        self.steps = meter.lap();
+        match answer {
             Some(n) => {
                 *bytes = n;
                 DONE
@@ -141,8 +153,10 @@ impl<H: Offered> Held<H> {
     pub fn has_room(&mut self, bytes: u32) -> i32
         ensures { IsRoomCall H.most self.old bytes result self.new }
     {
-        self.meter.lap();
-        match self.heap.room_within(bytes, self.meter.steps()) {
+        let mut meter = Meter::for_library(self.memory);
+        let answer = self.heap.room_within(bytes, meter.steps());
+        self.steps = meter.lap();
+        match answer {
             Ok(()) => DONE,
             Err(cause) => of_refusal(cause),
         }
@@ -169,8 +183,9 @@ impl<H: Offered> Held<H> {
     pub fn totals(&mut self, totals: &mut NphHeapTotals) -> i32
         ensures { IsTotalsCall H.most self.old result totals.new self.new }
     {
-        self.meter.lap();
-        let all = self.heap.totals_within(self.meter.steps());
+        let mut meter = Meter::for_library(self.memory);
+        let all = self.heap.totals_within(meter.steps());
+        self.steps = meter.lap();
         *totals = NphHeapTotals {
             asked: all.asked,
             taken: all.taken,
@@ -187,7 +202,7 @@ impl<H: Offered> Held<H> {
     pub fn last_steps(&mut self, steps: &mut u64) -> i32
         ensures { IsStepsCall self.old result steps.new self.new }
     {
-        *steps = self.meter.steps().count();
+        *steps = self.steps;
         DONE
     }
 }

@@ -30,6 +30,8 @@ impl Model for Place {
     ghost also_owns = { λ p. place_owns open_heap p.at p.held };
 }
 
+unsafe impl Send for Place {}
+
 impl Place {
     ghost use Rattle.held_heap.specs.TlsfLoan.{LendsPlace};
 

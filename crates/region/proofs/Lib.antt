@@ -3,3 +3,4 @@ pub mod Lists
 pub mod LayoutFacts
 pub mod AllocateResult
 pub mod Blocks
+pub mod Crosses

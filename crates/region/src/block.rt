@@ -22,6 +22,8 @@ impl Model for Block {
     ghost also_shares = { λ b _ κ. lent_at (Array u64 b.len) b.at b.items κ };
 }
 
+unsafe impl Send for Block {}
+
 impl Block {
     ghost use Rattle.region.specs.BlockLoan.{LendsAll, LendsPartOf};
 

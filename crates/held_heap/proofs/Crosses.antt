@@ -1,0 +1,13 @@
+-- What a place owns names no thread.
+use base.Shift.{Keyless}
+use denote.Param.Send.{IsSend}
+use denote.RattleType.{RattleType}
+use denote.RawPtr.{Ptr}
+use Rattle.std.proofs.Crossing.{frees}
+use Rattle.std.specs.Prelude.{Option, Some, None}
+use Rattle.std_alloc.proofs.SendSync.{lies}
+use Rattle.held_heap.specs.Place.{place_owns}
+
+pub place-Keyless : (R : RattleType) → IsSend R → (p : Ptr) (h : Option R.Denot) → Keyless (place_owns R p h)
+place-Keyless R s p (Some x) = (lies R s p x, frees.frees _ _ p)
+place-Keyless R s p None = tt
