@@ -31,7 +31,7 @@ six l m n o p q r a b c d e f h1 h2 h3 h4 h5 h6 h7 = rw (h7, h6, h5, h4, h3, h2,
 pub opened : (kind : Kind) (session : SessionState) (heap : HeapState) (settings : Settings) → session ≡ fresh_session → IsEmptyHeap kind settings heap
     → KeepsRules heap → profile_of settings ≡ bench_settings → Begins kind bench_settings (run_at session heap)
 opened kind session heap settings fresh empty rules is = subst (λ (p : Profile). Begins kind p (run_at session heap)) is
-    (record { session = fresh; words = empty.words; heap = empty.whole; rules = rules })
+    (record { session = fresh; words = empty.words; order = empty.order; heap = empty.whole; rules = rules })
 
 -- the opening, and then the commands
 pub run_of_bench : (kind : Kind) (seed count ok refused : ℕ) (mid to : RunState) → Begins kind bench_settings mid → mid.heap.kind ≡ kind

@@ -1,7 +1,7 @@
 //! The run of a bench.
 ghost use Rattle.std.specs.Prelude.{◌≡◌, ◌≤◌, ◌≢◌};
 ghost use Rattle.bench_run.specs.Bench.{EndsBench, IsAppliedTo};
-ghost use Rattle.cf_io.specs.Feeds.{Rose};
+ghost use Rattle.cf_io.specs.Feeds.{FailsLast};
 ghost use Rattle.cf_session.specs.Apply.{run_at};
 ghost use Rattle.generator.specs.Generated.{generated};
 ghost use Rattle.run_model.specs.Sessions.{IsGoing, fresh_session};
@@ -32,7 +32,7 @@ pub fn run_bench<H: Manager, K: Sink>(
     ensures kind { (H.state heap.new).kind ≡ (H.state heap.old).kind }
     ensures grows { K.faults sink.old ≤ K.faults sink.new }
     ensures sink_same { result ≢ Status.WriteFault → K.faults sink.new ≡ K.faults sink.old }
-    ensures write_fault { result ≡ Status.WriteFault → Rose (K.faults sink.old) (K.faults sink.new) }
+    ensures write_fault { result ≡ Status.WriteFault → FailsLast (K.faults sink.old) (K.faults sink.new) (K.last_failed sink.new) }
 {
     let settings = Settings {
         pages: 64,

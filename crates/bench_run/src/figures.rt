@@ -1,7 +1,7 @@
 //! The numbers of a bench.
 ghost use Rattle.std.specs.Prelude.{◌≡◌, ◌≤◌, [], ◌≢◌};
 ghost use Rattle.bench_run.specs.Bench.{IsWritten, bench_line};
-ghost use Rattle.cf_io.specs.Feeds.{Rose};
+ghost use Rattle.cf_io.specs.Feeds.{FailsLast};
 ghost use Rattle.cf_io.specs.Texts.{led, said};
 
 use cf_base::Status;
@@ -25,7 +25,7 @@ impl BenchFigures {
         ensures written { IsWritten result (K.written sink.old) (led [] (said (bench_line self.now))) (K.written sink.new) }
         ensures grows { K.faults sink.old ≤ K.faults sink.new }
         ensures sink_same { result ≢ Status.WriteFault → K.faults sink.new ≡ K.faults sink.old }
-        ensures write_fault { result ≡ Status.WriteFault → Rose (K.faults sink.old) (K.faults sink.new) }
+        ensures write_fault { result ≡ Status.WriteFault → FailsLast (K.faults sink.old) (K.faults sink.new) (K.last_failed sink.new) }
     {
         let mut line = Line::new();
         push_field(&mut line, b"bench commands ", self.commands);

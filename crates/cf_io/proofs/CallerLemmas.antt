@@ -12,7 +12,7 @@ use Rattle.cf_io.specs.Lines.{word_text}
 use Rattle.cf_io.specs.Numbers.{is_digit, number_in}
 pub use Rattle.cf_io.proofs.Digits.{Spells, digits_end, digits_more, digits_stop, digits_within, first_told, number_spelled, other_byte, spells}
 pub use Rattle.cf_io.proofs.Feeding.{appended_then}
-pub use Rattle.cf_io.proofs.LineLemmas.{five, led-append, pushed, puts_cut, puts_line, puts_then, three}
+pub use Rattle.cf_io.proofs.LineLemmas.{decimal_short, five, led-append, pushed, puts_cut, puts_line, puts_then, three}
 
 pub length_in_hex : (bytes : List ℕ) → length (encode_lower bytes) ≡ 2 * length bytes
 length_in_hex bytes = length-encode_with lower_digits bytes

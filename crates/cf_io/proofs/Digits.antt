@@ -12,7 +12,7 @@ use Rattle.std.proofs.lemmas.List.Sums.{passes_at_first, position_or_len_is, pre
 use Rattle.std.proofs.lemmas.Int.Digits.{digits_value_more}
 use Rattle.std.proofs.lemmas.Str.{digit_value_digit}
 use Rattle.std.proofs.lemmas.Str.Parse.{digits_value-take-le}
-use Rattle.std.proofs.lemmas.Bool.{cases_lt, false≢true, lt-leb}
+use Rattle.std.proofs.lemmas.Bool.{cases_lt, false≢true, lt-leb, not-true}
 use Rattle.cf_io.specs.Numbers.{digits_first, is_digit, leading_number, number_in}
 
 -- what follows from a text that spells a number
@@ -64,11 +64,7 @@ digits_within text = prefix_len-le-length (λ b. not (not (is_digit b))) text
 
 -- the byte after the first digits is none
 pub digits_stop : (text : List ℕ) → digits_first text < length text → is_digit (get_or text (digits_first text) 0) ≡ false
-digits_stop text inside = go (is_digit (get_or text (digits_first text) 0)) (passes_at_first (λ b. not (is_digit b)) text 0 inside)
-  where
-    go : (b : Bool) → not b ≡ true → b ≡ false
-    go true is = absurd (false≢true is)
-    go false is = refl
+digits_stop text inside = not-true _ (passes_at_first (λ b. not (is_digit b)) text 0 inside)
 
 -- the first digits end where digits do
 pub digits_end : (text : List ℕ) (i : ℕ) → i ≤ length text → list_all is_digit (take i text) ≡ true

@@ -11,8 +11,8 @@ use Rattle.cf_io.proofs.Feeding.{appended_then}
 use Rattle.cf_io.specs.Texts.{Reply, led, said}
 
 -- a number of 64 bits has at most 20 digits
-pub digits : (n : ℕ) → n < 2 ^ 64 → length (decimal n) ≤ 20
-digits n fits = length-decimal-le 20 n (lit< tt) (omega (arith, fits)) fits
+pub decimal_short : (n : ℕ) → n < 2 ^ 64 → length (decimal n) ≤ 20
+decimal_short n fits = length-decimal-le 20 n (lit< tt) (omega (arith, fits)) fits
 
 -- a reply of one line
 pub led_said : (lead text : List ℕ) → led lead (said text) ≡ (lead ++ text) ++ 10 ∷ []

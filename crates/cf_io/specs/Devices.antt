@@ -1,5 +1,5 @@
 -- What a source over a reader, or a sink over a writer, shows.
-use Rattle.std.specs.Prelude.{ℕ, List, Option, Result}
+use Rattle.std.specs.Prelude.{ℕ, Bool, List, Option, Result}
 use Rattle.std.specs.Io.KnownBytes.{Appends, ReadConsumes}
 use Rattle.cf_base.specs.declared.answers.Failed.{Failed}
 use Rattle.cf_io.specs.declared.devices.StdSource.{StdSource}
@@ -21,6 +21,10 @@ source_calls s = s.calls
 abbrev pub source_faults : {T : Type 0} → StdSource T → ℕ
 source_faults s = s.faults
 
+-- whether its last call failed
+abbrev pub source_failed : {T : Type 0} → StdSource T → Bool
+source_failed s = s.failed
+
 -- the writer that it puts to
 abbrev pub writer_of : {T : Type 0} → StdSink T → T
 writer_of s = s.writer
@@ -28,6 +32,10 @@ writer_of s = s.writer
 -- how many of its calls failed
 abbrev pub sink_faults : {T : Type 0} → StdSink T → ℕ
 sink_faults s = s.faults
+
+-- whether its last call failed
+abbrev pub sink_failed : {T : Type 0} → StdSink T → Bool
+sink_failed s = s.failed
 
 -- what the reader has left, if it is known, lost just what was returned
 abbrev pub ReadsFrom : {T : Type 0} → (T → Option (List ℕ)) → StdSource T → Result ℕ Failed → StdSource T → List ℕ → Type 0

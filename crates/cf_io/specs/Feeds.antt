@@ -1,14 +1,18 @@
 -- What sources and sinks show.
-use Rattle.std.specs.Prelude.{◌≡◌, ◌<◌, ◌≤◌, ◌+◌, ◌⊎◌, ◌++◌, ℕ, List, [], Option, option_map, IfSome, Result, Ok, Err}
+use Rattle.std.specs.Prelude.{◌≡◌, ◌≤◌, ◌+◌, ◌⊎◌, ◌++◌, ℕ, Bool, true, List, [], min, Option, option_map, IfSome, Result, Ok, Err}
 use Rattle.cf_base.specs.declared.answers.Failed.{Failed}
 
 -- the last value of a counter of 64 bits
 abbrev pub last_count : ℕ
 last_count = 18446744073709551615
 
--- the count is greater, or saturated
-abbrev pub Rose : ℕ → ℕ → Type 0
-Rose old new = (old < new) ⊎ (new ≡ last_count)
+-- one more, until the last value of a u64
+abbrev pub one_more : ℕ → ℕ
+one_more n = min (n + 1) last_count
+
+-- one more call failed, and it was the last call
+abbrev pub FailsLast : ℕ → ℕ → Bool → Type 0
+FailsLast old new last = (new ≡ one_more old) × (last ≡ true)
 
 -- these bytes are put before, if the bytes are observable
 abbrev pub preceded : List ℕ → Option (List ℕ) → Option (List ℕ)

@@ -1,7 +1,7 @@
 -- What the sources in memory are, and what a call does to them.
 use Rattle.std.specs.Prelude.{ℕ, ◌≡◌, ◌%◌, EachIndex, slice_index, ◌+◌, ◌++◌, List, length, take, drop, min, if◌then◌else◌, Option, Some, None}
-use Rattle.cf_io.specs.Feeds.{last_count}
-use Rattle.cf_io.specs.Schedules.{Schedule, is_due, count_moved, gone_well, gone_wrong, one_more, planned}
+use Rattle.cf_io.specs.Feeds.{last_count, one_more}
+use Rattle.cf_io.specs.Schedules.{Schedule, is_due, count_moved, gone_well, gone_wrong, planned}
 
 -- a source that never fails: the bytes left, how many were given, and how often it was asked
 pub record SureSource : Type 0 where

@@ -1,9 +1,10 @@
 //! Sources and sinks over std's readers and writers.
-ghost use Rattle.std.specs.Prelude.{◌≡◌, ◌<◌, ◌≤◌, None, length, take, IfOk, IfSome, OnOk, OnErr};
+ghost use Rattle.std.specs.Prelude.{◌≡◌, ◌<◌, ◌≤◌, false, None, length, take, IfOk, IfSome, OnOk, OnErr};
+ghost use Rattle.std.specs.Result.{is_err};
 ghost use Rattle.std.specs.Io.KnownBytes.{Appends};
-ghost use Rattle.cf_io.specs.Devices.{ReadsFrom, given_by, reader_of, source_calls, source_faults};
-ghost use Rattle.cf_io.specs.Devices.{WritesTo, sink_faults, writer_of};
-ghost use Rattle.cf_io.specs.Schedules.{one_more};
+ghost use Rattle.cf_io.specs.Devices.{ReadsFrom, given_by, reader_of, source_calls, source_failed, source_faults};
+ghost use Rattle.cf_io.specs.Devices.{WritesTo, sink_failed, sink_faults, writer_of};
+ghost use Rattle.cf_io.specs.Feeds.{one_more};
 ghost use Rattle.cf_io.specs.Sources.{more_given};
 
 use crate::sink::Sink;
@@ -19,6 +20,7 @@ pub struct StdSource<T> {
     given: u64,
     calls: u64,
     faults: u64,
+    failed: bool,
 }
 
 impl<T> StdSource<T> {
@@ -28,12 +30,14 @@ impl<T> StdSource<T> {
         ensures given { given_by result ≡ 0 }
         ensures calls { source_calls result ≡ 0 }
         ensures faults { source_faults result ≡ 0 }
+        ensures failed { source_failed result ≡ false }
     {
         StdSource {
             reader,
             given: 0,
             calls: 0,
             faults: 0,
+            failed: false,
         }
     }
 }
@@ -47,6 +51,8 @@ impl<T: Read> Source for StdSource<T> {
 
     ghost faults = { source_faults };
 
+    ghost last_failed = { source_failed };
+
     fn take(&mut self, buf: &mut [u8]) -> Result<usize, Failed>
         ensures bytes { ReadsFrom T.remaining self.old result self.new buf.new }
         ensures within { IfOk result (λ n. n ≤ length buf.new) }
@@ -55,16 +61,19 @@ impl<T: Read> Source for StdSource<T> {
         ensures grows { source_faults self.old ≤ source_faults self.new }
         ensures ok { OnOk result (source_faults self.new ≡ source_faults self.old) }
         ensures err { OnErr result (source_faults self.new ≡ one_more (source_faults self.old)) }
+        ensures last { source_failed self.new ≡ is_err result }
         ensures kept { OnErr result (given_by self.new ≡ given_by self.old) }
     {
         self.calls = self.calls.saturating_add(1);
         match self.reader.read(buf) {
             Ok(n) => {
                 self.given = self.given.saturating_add(n as u64);
+                self.failed = false;
                 Ok(n)
             }
             Err(_) => {
                 self.faults = self.faults.saturating_add(1);
+                self.failed = true;
                 Err(Failed)
             }
         }
@@ -77,6 +86,7 @@ impl<T: Read> Source for StdSource<T> {
 pub struct StdSink<T> {
     writer: T,
     faults: u64,
+    failed: bool,
 }
 
 impl<T> StdSink<T> {
@@ -84,8 +94,13 @@ impl<T> StdSink<T> {
     pub fn new(writer: T) -> StdSink<T>
         ensures writer { writer_of result ≡ writer }
         ensures faults { sink_faults result ≡ 0 }
+        ensures failed { sink_failed result ≡ false }
     {
-        StdSink { writer, faults: 0 }
+        StdSink {
+            writer,
+            faults: 0,
+            failed: false,
+        }
     }
 }
 
@@ -109,6 +124,8 @@ impl<T: Write> Sink for StdSink<T> {
 
     ghost faults = { sink_faults };
 
+    ghost last_failed = { sink_failed };
+
     fn put(&mut self, bytes: &[u8]) -> Result<usize, Failed>
         ensures bytes { IfOk result (λ n. WritesTo T.contents self.old (take n bytes.now) self.new) }
         ensures within { IfOk result (λ n. n ≤ length bytes.now) }
@@ -116,11 +133,16 @@ impl<T: Write> Sink for StdSink<T> {
         ensures grows { sink_faults self.old ≤ sink_faults self.new }
         ensures ok { OnOk result (sink_faults self.new ≡ sink_faults self.old) }
         ensures err { OnErr result (sink_faults self.new ≡ one_more (sink_faults self.old)) }
+        ensures last { sink_failed self.new ≡ is_err result }
     {
         match write_and_flush(&mut self.writer, bytes) {
-            Some(n) => Ok(n),
+            Some(n) => {
+                self.failed = false;
+                Ok(n)
+            }
             None => {
                 self.faults = self.faults.saturating_add(1);
+                self.failed = true;
                 Err(Failed)
             }
         }

@@ -1,6 +1,6 @@
 //! One line of a reply: it is built whole, and then put in one piece.
 ghost use Rattle.std.specs.Prelude.{◌≡◌, ◌+◌, ◌<◌, ◌≤◌, ◌++◌, ◌∷◌, [], OnErr, length, OnOk};
-ghost use Rattle.cf_io.specs.Feeds.{Rose, Puts};
+ghost use Rattle.cf_io.specs.Feeds.{FailsLast, Puts};
 ghost use Rattle.cf_io.specs.Lines.{line_room};
 ghost use Rattle.cf_io.specs.Texts.{with_number};
 
@@ -45,7 +45,7 @@ pub fn put_line<K: Sink>(line: &mut Line, out: &mut K) -> Result<(), Failed>
     ensures puts { Puts (K.written out.old) (line.old ++ 10 ∷ []) result (K.written out.new) }
     ensures grows { K.faults out.old ≤ K.faults out.new }
     ensures same { OnOk result (K.faults out.new ≡ K.faults out.old) }
-    ensures failed { OnErr result (Rose (K.faults out.old) (K.faults out.new)) }
+    ensures failed { OnErr result (FailsLast (K.faults out.old) (K.faults out.new) (K.last_failed out.new)) }
 {
     line.push(b"\n").unwrap();
     put_all(out, line.bytes())

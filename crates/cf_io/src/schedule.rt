@@ -11,6 +11,7 @@ pub struct Schedule {
     fails: Vec<u64>,
     call: u64,
     faults: u64,
+    failed: bool,
 }
 
 impl Model for Schedule {
@@ -18,7 +19,7 @@ impl Model for Schedule {
 
     ghost Value = { View };
 
-    ghost view = { λ s. record { cuts = s.cuts.items; fails = s.fails.items; call = s.call; faults = s.faults } };
+    ghost view = { λ s. record { cuts = s.cuts.items; fails = s.fails.items; call = s.call; faults = s.faults; failed = s.failed } };
 }
 
 impl Schedule {
@@ -31,6 +32,7 @@ impl Schedule {
             fails,
             call: 0,
             faults: 0,
+            failed: false,
         }
     }
 
@@ -58,6 +60,7 @@ impl Schedule {
     {
         self.call = self.call.saturating_add(1);
         self.faults = self.faults.saturating_add(1);
+        self.failed = true;
     }
 
     /// Counts a call that did not fail.
@@ -65,5 +68,6 @@ impl Schedule {
         ensures { self.new ≡ gone_well self.old }
     {
         self.call = self.call.saturating_add(1);
+        self.failed = false;
     }
 }

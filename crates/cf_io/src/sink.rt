@@ -1,6 +1,7 @@
 //! Sinks of bytes.
-ghost use Rattle.std.specs.Prelude.{◌≡◌, ◌<◌, ◌≤◌, ◌+◌, ℕ, List, Option, length, take, IfOk, OnErr, OnOk};
-ghost use Rattle.cf_io.specs.Feeds.{Rose, appended};
+ghost use Rattle.std.specs.Prelude.{◌≡◌, ◌<◌, ◌≤◌, ◌+◌, ℕ, Bool, List, Option, length, take, IfOk, OnErr, OnOk};
+ghost use Rattle.std.specs.Result.{is_err};
+ghost use Rattle.cf_io.specs.Feeds.{appended, one_more};
 
 use cf_base::Failed;
 
@@ -12,6 +13,9 @@ pub trait Sink {
     /// How often it has failed; this never falls.
     ghost faults: { Self → ℕ };
 
+    /// Whether its last call failed.
+    ghost last_failed: { Self → Bool };
+
     /// Appends a prefix of the bytes and returns how many: at least one, if there are any. A call that does
     /// not fail leaves the count of failures as it was.
     fn put(&mut self, bytes: &[u8]) -> Result<usize, Failed>
@@ -20,6 +24,7 @@ pub trait Sink {
         ensures some { 0 < length bytes.now → IfOk result (λ n. 0 < n) }
         ensures piece { IfOk result (λ n. written self.new ≡ appended (written self.old) (take n bytes.now)) }
         ensures same { OnOk result (faults self.new ≡ faults self.old) }
-        ensures failed { OnErr result (Rose (faults self.old) (faults self.new)
+        ensures last { last_failed self.new ≡ is_err result }
+        ensures failed { OnErr result ((faults self.new ≡ one_more (faults self.old))
             × (written self.new ≡ written self.old)) };
 }

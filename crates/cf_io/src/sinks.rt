@@ -1,5 +1,5 @@
 //! Sinks in memory.
-ghost use Rattle.std.specs.Prelude.{◌≡◌, ◌≤◌, None, Ok, Some, length, IfOk};
+ghost use Rattle.std.specs.Prelude.{◌≡◌, ◌≤◌, false, None, Ok, Some, length, IfOk};
 ghost use Rattle.std.specs.Result.{result_ok};
 ghost use Rattle.cf_io.specs.Sinks.{mem_sink, put_after, put_answer};
 
@@ -17,6 +17,8 @@ impl Sink for NullSink {
     ghost written = { λ _. None };
 
     ghost faults = { λ _. 0 };
+
+    ghost last_failed = { λ _. false };
 
     fn put(&mut self, bytes: &[u8]) -> Result<usize, Failed>
         ensures { result ≡ Ok (length bytes.now) }
@@ -81,6 +83,8 @@ impl Sink for MemSink {
     ghost written = { λ s. Some s.written };
 
     ghost faults = { λ s. s.schedule.faults };
+
+    ghost last_failed = { λ s. s.schedule.failed };
 
     fn put(&mut self, bytes: &[u8]) -> Result<usize, Failed>
         ensures grows { self.old.schedule.faults ≤ self.new.schedule.faults }

@@ -1,7 +1,7 @@
 //! Sources of bytes.
-ghost use Rattle.std.specs.Prelude.{◌≡◌, ◌<◌, ◌≤◌, ◌+◌, ℕ, List, Option, length, take, min, IfOk, OnErr, OnOk};
-ghost use Rattle.cf_io.specs.Feeds.{Rose, preceded, IsSpent, last_count};
-ghost use Rattle.cf_io.specs.Schedules.{one_more};
+ghost use Rattle.std.specs.Prelude.{◌≡◌, ◌<◌, ◌≤◌, ◌+◌, ℕ, Bool, List, Option, length, take, min, IfOk, OnErr, OnOk};
+ghost use Rattle.std.specs.Result.{is_err};
+ghost use Rattle.cf_io.specs.Feeds.{preceded, IsSpent, last_count, one_more};
 
 use cf_base::Failed;
 
@@ -19,6 +19,9 @@ pub trait Source {
     /// How often it has failed; this never falls.
     ghost faults: { Self → ℕ };
 
+    /// Whether its last call failed.
+    ghost last_failed: { Self → Bool };
+
     /// Fills the start of the buffer and returns how many bytes. For a buffer that isn't empty, 0
     /// means the end of the input. A call that does not fail leaves the count of failures as it was.
     fn take(&mut self, buf: &mut [u8]) -> Result<usize, Failed>
@@ -29,6 +32,7 @@ pub trait Source {
         ensures counted { IfOk result (λ n. given self.new ≡ min (given self.old + n) last_count) }
         ensures end { 0 < length buf.old → IfOk result (λ n. n ≡ 0 → IsSpent (rest self.old)) }
         ensures same { OnOk result (faults self.new ≡ faults self.old) }
-        ensures failed { OnErr result (Rose (faults self.old) (faults self.new)
+        ensures last { last_failed self.new ≡ is_err result }
+        ensures failed { OnErr result ((faults self.new ≡ one_more (faults self.old))
             × (rest self.new ≡ rest self.old) × (given self.new ≡ given self.old)) };
 }

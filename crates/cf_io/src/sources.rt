@@ -1,5 +1,5 @@
 //! Sources in memory.
-ghost use Rattle.std.specs.Prelude.{◌≡◌, ◌<◌, ◌≤◌, ◌+◌, ◌%◌, ◌++◌, Some, None, length, take, drop, IfOk};
+ghost use Rattle.std.specs.Prelude.{◌≡◌, ◌<◌, ◌≤◌, ◌+◌, ◌%◌, ◌++◌, false, Some, None, length, take, drop, IfOk};
 ghost use Rattle.std.specs.Result.{result_ok};
 ghost use Rattle.cf_io.specs.Sources.{Loops, filled, loop_after, loop_source};
 ghost use Rattle.cf_io.specs.Sources.{mem_after, mem_answer, mem_buffer, mem_source};
@@ -52,6 +52,8 @@ impl Source for SureSource {
     ghost calls = { λ s. s.calls };
 
     ghost faults = { λ _. 0 };
+
+    ghost last_failed = { λ _. false };
 
     fn take(&mut self, buf: &mut [u8]) -> Result<usize, Failed>
         // It returns the bytes that fit and are left, and nothing else changes.
@@ -114,6 +116,8 @@ impl Source for MemSource {
     ghost calls = { λ s. s.schedule.call };
 
     ghost faults = { λ s. s.schedule.faults };
+
+    ghost last_failed = { λ s. s.schedule.failed };
 
     fn take(&mut self, buf: &mut [u8]) -> Result<usize, Failed>
         ensures grows { self.old.schedule.faults ≤ self.new.schedule.faults }
@@ -180,6 +184,8 @@ impl Source for LoopSource {
     ghost calls = { λ s. s.calls };
 
     ghost faults = { λ _. 0 };
+
+    ghost last_failed = { λ _. false };
 
     fn take(&mut self, buf: &mut [u8]) -> Result<usize, Failed>
         ensures full { result ≡ Ok (length buf.old) }

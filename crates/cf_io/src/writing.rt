@@ -1,6 +1,6 @@
 //! Writing whole pieces.
 ghost use Rattle.std.specs.Prelude.{◌≡◌, ◌≤◌, OnErr, OnOk};
-ghost use Rattle.cf_io.specs.Feeds.{Rose, Puts};
+ghost use Rattle.cf_io.specs.Feeds.{FailsLast, Puts};
 
 use crate::sink::Sink;
 use cf_base::Failed;
@@ -11,7 +11,7 @@ pub fn put_all<K: Sink>(sink: &mut K, bytes: &[u8]) -> Result<(), Failed>
     ensures grows { K.faults sink.old ≤ K.faults sink.new }
     ensures puts { Puts (K.written sink.old) bytes.now result (K.written sink.new) }
     ensures same { OnOk result (K.faults sink.new ≡ K.faults sink.old) }
-    ensures failed { OnErr result (Rose (K.faults sink.old) (K.faults sink.new)) }
+    ensures failed { OnErr result (FailsLast (K.faults sink.old) (K.faults sink.new) (K.last_failed sink.new)) }
 {
     let mut at = 0;
     'rest: while at < bytes.len() {

@@ -1,6 +1,6 @@
 //! One command, and its reply.
 ghost use Rattle.std.specs.Prelude.{◌≡◌, ◌^◌, ◌≤◌, OnErr, length, OnOk};
-ghost use Rattle.cf_io.specs.Feeds.{Rose};
+ghost use Rattle.cf_io.specs.Feeds.{FailsLast};
 ghost use Rattle.cf_session.specs.Apply.{Applies, moment_at};
 ghost use Rattle.cf_session.specs.Records.{run_with, session_of};
 ghost use Rattle.script_reader.specs.Commands.{IsWellFormed};
@@ -45,7 +45,7 @@ pub(crate) fn answer<H: Manager, K: Sink>(
         result (moment_at (session_of records.new) (H.state heap.new) (K.written out.new)) }
     ensures grows { K.faults out.old ≤ K.faults out.new }
     ensures same { OnOk result (K.faults out.new ≡ K.faults out.old) }
-    ensures failed { OnErr result (Rose (K.faults out.old) (K.faults out.new)) }
+    ensures failed { OnErr result (FailsLast (K.faults out.old) (K.faults out.new) (K.last_failed out.new)) }
 {
     match c {
         CommandRef::Malloc { id, bytes } => {

@@ -2,7 +2,7 @@
 //! reply. `r` puts its reply itself.
 ghost use Rattle.std.specs.Prelude.{◌≡◌, ◌^◌, ◌<◌, ◌≤◌, ◌++◌, IsTrue, OnErr, codes, length, slice_get, take, OnOk};
 ghost use Rattle.std.specs.FinMap as map;
-ghost use Rattle.cf_io.specs.Feeds.{Rose};
+ghost use Rattle.cf_io.specs.Feeds.{FailsLast};
 ghost use Rattle.cf_io.specs.Lines.{line_room};
 ghost use Rattle.hex.specs.Hex.{encode_lower};
 ghost use Rattle.cf_session.specs.OneLine.{IsTold, SaidOn, lines_at};
@@ -44,7 +44,7 @@ pub(crate) fn read<H: Manager, K: Sink>(
         (K.written out.old) result (K.written out.new) }
     ensures grows { K.faults out.old ≤ K.faults out.new }
     ensures same { OnOk result (K.faults out.new ≡ K.faults out.old) }
-    ensures failed { OnErr result (Rose (K.faults out.old) (K.faults out.new)) }
+    ensures failed { OnErr result (FailsLast (K.faults out.old) (K.faults out.new) (K.last_failed out.new)) }
 {
     let Some(h) = records.ids.handle(id) else {
         return tell_short(Short::Unknown, lead, line, out);
@@ -83,7 +83,7 @@ fn read_part<H: Manager, K: Sink>(
         (K.written out.old) result (K.written out.new) }
     ensures grows { K.faults out.old ≤ K.faults out.new }
     ensures same { OnOk result (K.faults out.new ≡ K.faults out.old) }
-    ensures failed { OnErr result (Rose (K.faults out.old) (K.faults out.new)) }
+    ensures failed { OnErr result (FailsLast (K.faults out.old) (K.faults out.new) (K.last_failed out.new)) }
 {
     match heap.read(h, at, room, steps) {
         Ok(()) => {

@@ -1,6 +1,6 @@
 //! Putting a reply of one line, and its outcome.
 ghost use Rattle.std.specs.Prelude.{◌≤◌, List, ℕ, OnErr, length, OnOk, ◌≡◌};
-ghost use Rattle.cf_io.specs.Feeds.{Puts, Rose};
+ghost use Rattle.cf_io.specs.Feeds.{Puts, FailsLast};
 ghost use Rattle.cf_session.specs.Apply.{IsEnded};
 ghost use Rattle.cf_session.specs.OneLine.{HasRoom, IsTold, SaidOn, lines_at};
 ghost use Rattle.cf_session.specs.Short.{short_text};
@@ -34,7 +34,7 @@ pub(crate) fn tell<K: Sink>(
         → IsTold text lead.now (K.written out.old) result (K.written out.new) }
     ensures grows { K.faults out.old ≤ K.faults out.new }
     ensures same { OnOk result (K.faults out.new ≡ K.faults out.old) }
-    ensures failed { OnErr result (Rose (K.faults out.old) (K.faults out.new)) }
+    ensures failed { OnErr result (FailsLast (K.faults out.old) (K.faults out.new) (K.last_failed out.new)) }
 {
     match reply {
         OneLine::Short(short) => tell_short(short, lead, line, out),
@@ -53,7 +53,7 @@ pub(crate) fn tell_short<K: Sink>(
     ensures told { IsTold (short_text short) lead.now (K.written out.old) result (K.written out.new) }
     ensures grows { K.faults out.old ≤ K.faults out.new }
     ensures same { OnOk result (K.faults out.new ≡ K.faults out.old) }
-    ensures failed { OnErr result (Rose (K.faults out.old) (K.faults out.new)) }
+    ensures failed { OnErr result (FailsLast (K.faults out.old) (K.faults out.new) (K.last_failed out.new)) }
 {
     ended(put_short(short, lead, line, out), short.outcome())
 }
@@ -64,7 +64,7 @@ fn put_short<K: Sink>(short: Short, lead: &[u8], line: &mut Line, out: &mut K) -
     ensures puts { Puts (K.written out.old) (led lead.now (said (short_text short))) result (K.written out.new) }
     ensures grows { K.faults out.old ≤ K.faults out.new }
     ensures same { OnOk result (K.faults out.new ≡ K.faults out.old) }
-    ensures failed { OnErr result (Rose (K.faults out.old) (K.faults out.new)) }
+    ensures failed { OnErr result (FailsLast (K.faults out.old) (K.faults out.new) (K.last_failed out.new)) }
 {
     if lead.len() > 0 {
         return put_led(short, lead, line, out);
@@ -78,7 +78,7 @@ fn put_led<K: Sink>(short: Short, lead: &[u8], line: &mut Line, out: &mut K) -> 
     ensures puts { Puts (K.written out.old) (led lead.now (said (short_text short))) result (K.written out.new) }
     ensures grows { K.faults out.old ≤ K.faults out.new }
     ensures same { OnOk result (K.faults out.new ≡ K.faults out.old) }
-    ensures failed { OnErr result (Rose (K.faults out.old) (K.faults out.new)) }
+    ensures failed { OnErr result (FailsLast (K.faults out.old) (K.faults out.new) (K.last_failed out.new)) }
 {
     begin_line(line, lead);
     push_text(line, short.text_line());

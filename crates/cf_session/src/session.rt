@@ -1,7 +1,7 @@
 //! A session over one manager.
 ghost use Rattle.std.specs.Prelude.{◌≡◌, ◌≤◌, IsTrue, OnErr, IfOk, length, OnOk};
 ghost use Rattle.std.specs.FinMap as map;
-ghost use Rattle.cf_io.specs.Feeds.{Rose};
+ghost use Rattle.cf_io.specs.Feeds.{FailsLast};
 ghost use Rattle.cf_model.specs.Rules.{KeepsRules};
 ghost use Rattle.cf_model.specs.Steps.{number_of};
 ghost use Rattle.cf_session.specs.Apply.{Applies, moment_at};
@@ -86,7 +86,7 @@ impl Session {
         ensures rules { KeepsRules (H.state heap.new) }
         ensures grows { K.faults out.old ≤ K.faults out.new }
         ensures same { OnOk result (K.faults out.new ≡ K.faults out.old) }
-        ensures failed { OnErr result (Rose (K.faults out.old) (K.faults out.new)) }
+        ensures failed { OnErr result (FailsLast (K.faults out.old) (K.faults out.new) (K.last_failed out.new)) }
     {
         self.apply_ref(heap, c.as_ref(), lead, out)
     }
@@ -111,7 +111,7 @@ impl Session {
         ensures rules { KeepsRules (H.state heap.new) }
         ensures grows { K.faults out.old ≤ K.faults out.new }
         ensures same { OnOk result (K.faults out.new ≡ K.faults out.old) }
-        ensures failed { OnErr result (Rose (K.faults out.old) (K.faults out.new)) }
+        ensures failed { OnErr result (FailsLast (K.faults out.old) (K.faults out.new) (K.last_failed out.new)) }
     {
         // For its contract: an open heap keeps its rules.
         let _open = heap.is_open();

@@ -1,6 +1,6 @@
 //! The reports on a heap.
 ghost use Rattle.std.specs.Prelude.{◌≡◌, ◌≤◌, IsTrue, OnErr, length, OnOk};
-ghost use Rattle.cf_io.specs.Feeds.{Rose, Puts};
+ghost use Rattle.cf_io.specs.Feeds.{FailsLast, Puts};
 ghost use Rattle.cf_base.specs.declared.answers.Totals.{Totals};
 ghost use Rattle.cf_model.specs.Answers.{classes_in, totals_in, usage_of};
 ghost use Rattle.cf_model.specs.State.{paging_in};
@@ -29,7 +29,7 @@ pub fn walk_lines<H: Manager, K: Sink>(
         result (K.written out.new) }
     ensures grows { K.faults out.old ≤ K.faults out.new }
     ensures same { OnOk result (K.faults out.new ≡ K.faults out.old) }
-    ensures failed { OnErr result (Rose (K.faults out.old) (K.faults out.new)) }
+    ensures failed { OnErr result (FailsLast (K.faults out.old) (K.faults out.new) (K.last_failed out.new)) }
     ensures rises { steps.old ≤ steps.new }
 {
     let totals = heap.totals(steps);
@@ -54,7 +54,7 @@ pub fn frag_line<H: Manager, K: Sink>(
         result (K.written out.new) }
     ensures grows { K.faults out.old ≤ K.faults out.new }
     ensures same { OnOk result (K.faults out.new ≡ K.faults out.old) }
-    ensures failed { OnErr result (Rose (K.faults out.old) (K.faults out.new)) }
+    ensures failed { OnErr result (FailsLast (K.faults out.old) (K.faults out.new) (K.last_failed out.new)) }
     ensures rises { steps.old ≤ steps.new }
 {
     let usage = heap.usage(steps);
@@ -76,7 +76,7 @@ fn put_pages<H: Manager, K: Sink>(
         result (K.written out.new) }
     ensures grows { K.faults out.old ≤ K.faults out.new }
     ensures same { OnOk result (K.faults out.new ≡ K.faults out.old) }
-    ensures failed { OnErr result (Rose (K.faults out.old) (K.faults out.new)) }
+    ensures failed { OnErr result (FailsLast (K.faults out.old) (K.faults out.new) (K.last_failed out.new)) }
 {
     match put_classes(heap, lead, line, out) {
         Ok(()) => put_total(
@@ -105,7 +105,7 @@ fn put_classes<H: Manager, K: Sink>(
         result (K.written out.new) }
     ensures grows { K.faults out.old ≤ K.faults out.new }
     ensures same { OnOk result (K.faults out.new ≡ K.faults out.old) }
-    ensures failed { OnErr result (Rose (K.faults out.old) (K.faults out.new)) }
+    ensures failed { OnErr result (FailsLast (K.faults out.old) (K.faults out.new) (K.last_failed out.new)) }
 {
     for c in 0..heap.classes() {
         let Some(figures) = heap.figures(c) else {
@@ -130,7 +130,7 @@ pub fn put_class<K: Sink>(
     ensures puts { Puts (K.written out.old) (led lead.now (class_if_live figures.now)) result (K.written out.new) }
     ensures grows { K.faults out.old ≤ K.faults out.new }
     ensures same { OnOk result (K.faults out.new ≡ K.faults out.old) }
-    ensures failed { OnErr result (Rose (K.faults out.old) (K.faults out.new)) }
+    ensures failed { OnErr result (FailsLast (K.faults out.old) (K.faults out.new) (K.last_failed out.new)) }
 {
     if figures.live == 0 {
         return Ok(());
@@ -159,7 +159,7 @@ pub fn put_total<K: Sink>(
         result (K.written out.new) }
     ensures grows { K.faults out.old ≤ K.faults out.new }
     ensures same { OnOk result (K.faults out.new ≡ K.faults out.old) }
-    ensures failed { OnErr result (Rose (K.faults out.old) (K.faults out.new)) }
+    ensures failed { OnErr result (FailsLast (K.faults out.old) (K.faults out.new) (K.last_failed out.new)) }
 {
     begin_line(line, lead);
     push_field(line, b"total live ", live as u64);
@@ -180,7 +180,7 @@ fn put_blocks<K: Sink>(
         result (K.written out.new) }
     ensures grows { K.faults out.old ≤ K.faults out.new }
     ensures same { OnOk result (K.faults out.new ≡ K.faults out.old) }
-    ensures failed { OnErr result (Rose (K.faults out.old) (K.faults out.new)) }
+    ensures failed { OnErr result (FailsLast (K.faults out.old) (K.faults out.new) (K.last_failed out.new)) }
 {
     begin_line(line, lead);
     push_field(line, b"blocks used ", totals.used as u64);
@@ -196,7 +196,7 @@ fn put_frag<K: Sink>(usage: &Usage, lead: &[u8], line: &mut Line, out: &mut K) -
         → Puts (K.written out.old) (led lead.now (said (frag_text totals))) result (K.written out.new) }
     ensures grows { K.faults out.old ≤ K.faults out.new }
     ensures same { OnOk result (K.faults out.new ≡ K.faults out.old) }
-    ensures failed { OnErr result (Rose (K.faults out.old) (K.faults out.new)) }
+    ensures failed { OnErr result (FailsLast (K.faults out.old) (K.faults out.new) (K.last_failed out.new)) }
 {
     begin_line(line, lead);
     push_field(line, b"frag asked ", usage.asked);

@@ -1,18 +1,19 @@
 -- The fields of an image, one after the other.
-use Rattle.std.proofs.Common.{◌≡◌, ◌∙◌, ◌++◌, ◌+◌, ◌*◌, ◌/◌, ◌%◌, ◌≤◌, ◌<◌, ◌^◌, ℕ, zero, suc, Bool, true, false, List, [], Option, Some, None}
+use Rattle.std.proofs.Common.{◌≡◌, ◌∙◌, ◌++◌, ◌+◌, ◌*◌, ◌/◌, ◌%◌, ◌≤◌, ◌<◌, ◌^◌, ℕ, zero, suc, true, List, [], Option, Some, None}
 use Rattle.std.proofs.Common.{length, refl, ap, sym, arith, append_assoc}
-use Rattle.std.proofs.Common.{inl, inr, length-append}
-use Rattle.std.specs.Prelude.{nat_le, nat_lt, if◌then◌else◌, ◌&&◌, ◌==◌}
+use Rattle.std.proofs.Common.{length-append}
+use Rattle.std.specs.Prelude.{nat_le, ◌==◌}
 use Rattle.std.specs.Int.{w16, w32}
 use Rattle.std.specs.FinMap.{empty, entries, get, get-empty, insert, len, len-entries}
 use Rattle.std.specs.Ordering.{nat_cmp}
 use Rattle.std.proofs.Math.Seq.{drop-append_seam, take-append_seam}
-use Rattle.std.proofs.lemmas.Bool.{cases_lt}
+use Rattle.std.proofs.lemmas.Bool.{and_from, cond-false}
 use Rattle.std.proofs.lemmas.Bool.Decides.{nat_tests}
 use Rattle.std.proofs.lemmas.Nat.{mul-le}
 use Rattle.cf_base.specs.Limits.{is_page_size, is_within}
 use Rattle.cf_base.specs.Settings.{Profile, profile_from}
-use Rattle.cf_lemmas.proofs.Maps.{equal_maps}
+use Rattle.cf_base.proofs.CallerLemmas.{within_limits}
+use Rattle.cf_lemmas.proofs.Tests.{le_yes, lt_no}
 use Rattle.cf_model.specs.Rules.{AreInRange}
 use Rattle.page_model.specs.Arrangement.{pages_needed}
 use Rattle.page_model.specs.Held.{Objects}
@@ -22,28 +23,9 @@ use Rattle.heap_image.specs.Decoded.{proxies_decoded, unopened, whole}
 use Rattle.heap_image.specs.Heaps.{HaveImage, image_under}
 use Rattle.heap_image.specs.Image.{entries_of, entry_of, mark, number_bytes}
 use Rattle.heap_image.specs.Listed.{listed}
-use Rattle.heap_image.proofs.Encoded.{AreBelow, below_none, below_some, needed_added, needed_more}
+use Rattle.heap_image.proofs.Encoded.{AreBelow, below_none, below_some, needed_added, needed_more, below_end}
 use Rattle.heap_image.proofs.Listing.{listed_all, listed_end, listed_none, listed_some}
 use Rattle.heap_image.proofs.Numbers.{field_read_2, field_read_4}
-
--- a test that holds, or that doesn't
-pub if_true : {X : Type 0} (b : Bool) (x y : X) → b ≡ true → (if b then x else y) ≡ x
-if_true b x y e = ap (λ b. if b then x else y) e
-
-pub if_false : {X : Type 0} (b : Bool) (x y : X) → b ≡ false → (if b then x else y) ≡ y
-if_false b x y e = ap (λ b. if b then x else y) e
-
-pub le_yes : (a b : ℕ) → a ≤ b → nat_le a b ≡ true
-le_yes a b le = grind (arith, nat_tests)
-
-pub lt_no : (a b : ℕ) → b ≤ a → nat_lt a b ≡ false
-lt_no a b le = grind (arith, nat_tests)
-
-pub lt_yes : (a b : ℕ) → a < b → nat_lt a b ≡ true
-lt_yes a b lt = grind (arith, nat_tests)
-
-both_true : (a b : Bool) → a ≡ true → b ≡ true → (a && b) ≡ true
-both_true a b p q = ap (λ a. a && b) p ∙ q
 
 -- one entry
 module _ (p : Profile) (r : Reached) (go : Reached → List ℕ → Decoded) where
@@ -51,7 +33,7 @@ module _ (p : Profile) (r : Reached) (go : Reached → List ℕ → Decoded) whe
   unfolding bytes_decoded
   bytes_read id v rest =
       let more = length-append v rest in
-      if_false _ _ _ (lt_no (length (v ++ rest)) (length v) (omega arith))
+      cond-false _ _ _ (lt_no (length (v ++ rest)) (length v) (omega arith))
       ∙ (λ i. go (passed r id (take-append_seam v rest i)) (drop-append_seam v rest i))
 
   length_read : (id : ℕ) (v rest : List ℕ) → length v < 2 ^ 32 → has_room p r.objects (length v) ≡ true
@@ -85,26 +67,13 @@ unfolding decoded
 mark_read rest = refl
 
 -- the settings are small
-page_small : (p : Profile) → AreInRange p → p.page_words ≤ 8388608
+pub page_small : (p : Profile) → AreInRange p → p.page_words ≤ 8388608
 page_small p h = (let least = h.some_pages in let most = h.small_region in let m = mul-le 1 p.page_words p.pages p.page_words least (omega arith) in omega
     arith)
 
 module _ (p : Profile) (o : Objects) (h : HaveImage p o) where
-  ends : (q : ℕ) → 65536 ≤ q → get o q ≡ None
-  ends q past = go (get o q) refl
-    where
-      go : (v : Option (List ℕ)) → get o q ≡ v → get o q ≡ None
-      go None e = e
-      go (Some v) e = absurd (let low = h.ids q v e in omega arith)
-
-  below_end : (k : ℕ) (m : Objects) → k ≡ 65536 → AreBelow o k m → m ≡ o
-  below_end k m end b = equal_maps m o (λ q. elim (cases_lt q k) [
-    | inl lt ↦ b.low q lt
-    | inr le ↦ b.high q le ∙ sym (ends q (omega arith))
-  ])
-
   needs_less : (n k : ℕ) (m : Objects) → k + n ≡ 65536 → AreBelow o k m → pages_needed (image_paging p) m ≤ pages_needed (image_paging p) o
-  needs_less zero k m end b = (let e = ap (pages_needed (image_paging p)) (below_end k m (omega arith) b) in omega arith)
+  needs_less zero k m end b = (let e = ap (pages_needed (image_paging p)) (below_end o h.ids k m (omega arith) b) in omega arith)
   needs_less (suc n) k m end b = go (get o k) refl (λ m b. needs_less n (k + 1) m (omega arith) b)
     where
       go : (v : Option (List ℕ)) → get o k ≡ v
@@ -124,7 +93,7 @@ module _ (p : Profile) (o : Objects) (h : HaveImage p o) where
         let added = needed_added (image_paging p) m k v (b.high k (omega arith)) in
         let less = needs_less n (k + 1) (insert m k v) (omega arith) (below_some o k m b v some) in
         let room = h.room in
-        both_true _ _ (le_yes _ _ (h.fit k v some)) (le_yes _ _ (omega arith))
+        and_from _ _ (le_yes _ _ (h.fit k v some)) (le_yes _ _ (omega arith))
 
     bytes_small : length v < 2 ^ 32
     bytes_small = (let fit = h.fit k v some in let small = page_small p h.settings in omega arith)
@@ -133,7 +102,7 @@ module _ (p : Profile) (o : Objects) (h : HaveImage p o) where
       → entries_decoded p (length (listed o k n)) (record { next = next; objects = m; at = at }) (entries_of (listed o k n)) ≡ whole p o
   entries_read zero k next at m end le b =
       ap (λ (es : List (ℕ × List ℕ)). entries_decoded p (length es) (record { next = next; objects = m; at = at }) (entries_of es)) (listed_end o k)
-      ∙ entries_end p (record { next = next; objects = m; at = at }) ∙ ap (whole p) (below_end k m (omega arith) b)
+      ∙ entries_end p (record { next = next; objects = m; at = at }) ∙ ap (whole p) (below_end o h.ids k m (omega arith) b)
   entries_read (suc n) k next at m end le b = go (get o k) refl (λ next at m le b. entries_read n (k + 1) next at m (omega arith) le b)
     where
       go : (v : Option (List ℕ)) → get o k ≡ v
@@ -168,12 +137,9 @@ module _ (p : Profile) (o : Objects) (h : HaveImage p o) where
       field_read_4 (len o) (entries_of (entries o)) (breaks_behind p empty 16) (λ n. nat_le n p.proxies) (λ n rest. entries_decoded p n at_first rest)
       (le_yes (len o) p.proxies few) (omega arith) ∙ all_read
 
-  profile_is : profile_from p.pages (8 * p.page_words) 1 p.proxies ≡ p
+  pub profile_is : profile_from p.pages (8 * p.page_words) 1 p.proxies ≡ p
   profile_is = (let back : 8 * p.page_words / 8 ≡ p.page_words = omega arith in
       λ i. record { pages = p.pages; page_words = back i; k = sym h.one i; proxies = p.proxies })
-
-  within : (low high n : ℕ) → low ≤ n → n ≤ high → is_within low high n ≡ true
-  within low high n a b = both_true _ _ (le_yes low n a) (le_yes n high b)
 
   page_is : is_page_of p.pages (8 * p.page_words) ≡ true
   page_is =
@@ -181,7 +147,7 @@ module _ (p : Profile) (o : Objects) (h : HaveImage p o) where
       let back : 8 * p.page_words / 8 ≡ p.page_words = omega arith in
       let size : is_page_size (8 * p.page_words / 8) ≡ true = ap is_page_size back ∙ h.settings.page_size in
       let region = h.settings.small_region in
-      both_true _ _ (both_true _ _ whole_words size) (le_yes (p.pages * (8 * p.page_words)) 67108864 (omega arith))
+      and_from _ _ (and_from _ _ whole_words size) (le_yes (p.pages * (8 * p.page_words)) 67108864 (omega arith))
 
   abbrev behind : List ℕ
   behind = entries_of (entries o)
@@ -191,7 +157,7 @@ module _ (p : Profile) (o : Objects) (h : HaveImage p o) where
   proxies_read =
       let least = h.settings.some_proxies in let most = h.settings.few_proxies in
       field_read_4 p.proxies (number_bytes w32 (len o) ++ behind) (unopened 12) (λ n. is_within 1 65536 n)
-      (λ n rest. count_decoded (profile_from p.pages (8 * p.page_words) 1 n) rest) (within 1 65536 p.proxies least most) (omega arith)
+      (λ n rest. count_decoded (profile_from p.pages (8 * p.page_words) 1 n) rest) (within_limits 1 65536 p.proxies least most) (omega arith)
       ∙ ap (λ (q : Profile). count_decoded q (number_bytes w32 (len o) ++ behind)) profile_is ∙ count_read
 
   page_bytes_read : page_bytes_decoded p.pages (number_bytes w32 (8 * p.page_words) ++
@@ -208,7 +174,7 @@ module _ (p : Profile) (o : Objects) (h : HaveImage p o) where
   pages_read =
       let least = h.settings.some_pages in let most = h.settings.few_pages in
       field_read_4 p.pages (number_bytes w32 (8 * p.page_words) ++ (number_bytes w32 p.proxies ++ (number_bytes w32 (len o) ++ behind))) (unopened 4)
-      (λ n. is_within 1 4096 n) (λ n rest. page_bytes_decoded n rest) (within 1 4096 p.pages least most) (omega arith) ∙ page_bytes_read
+      (λ n. is_within 1 4096 n) (λ n rest. page_bytes_decoded n rest) (within_limits 1 4096 p.pages least most) (omega arith) ∙ page_bytes_read
 
   -- the image is decoded to what it is the image of
   pub image_read : decoded (image_under p o) ≡ whole p o

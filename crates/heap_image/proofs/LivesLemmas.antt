@@ -43,7 +43,7 @@ pub needed_alike : (p : Paging) (m n : Objects) → CountAlike m n → pages_nee
 unfolding pages_needed live
 needed_alike p m n alike = sum_same _ _ (range_with_len 0 (classes p)) (λ c. ap (λ n. ceil_div n (slots_of p c)) (alike.sums _))
 
--- what an id tells is what its object by number is
+-- the bytes of an id are those of its object by number
 pub objects_of_is : (s : RunState) → AreTied s.session s.heap → (id : ℕ) → get (objects_of s) id ≡ bytes_of s id
 objects_of_is s tied id = go (get s.session.ids id) refl
   where

@@ -8,7 +8,6 @@ use Rattle.cf_base.specs.declared.kind.Kind.{Kind}
 use Rattle.cf_base.specs.declared.kind.Kind.TheVariants.{Moving}
 use Rattle.cf_base.specs.declared.kind.Layout.TheVariants.{Words}
 use Rattle.cf_base.specs.declared.settings.Settings.{Settings}
-use Rattle.cf_io.specs.Feeds.{IsSpent}
 use Rattle.cf_lemmas.proofs.Maps.{equal_maps}
 use Rattle.cf_model.specs.Rules.{KeepsRules}
 use Rattle.cf_model.specs.State.{HeapState, layout_of}
@@ -21,6 +20,7 @@ use Rattle.page_model.proofs.CallerLemmas.{first_ones}
 use Rattle.run_model.specs.Sessions.{RunState, SessionState}
 use Rattle.run_model.proofs.CallerLemmas.{costs_nothing}
 use Rattle.script_loop.specs.ScriptOutcome.{MayFollow}
+use Rattle.script_loop.proofs.CallerLemmas.{nothing_follows}
 use Rattle.heap_image.specs.Decoded.{BreaksNoRule, Decoded, breaks_behind, count_decoded, cut, decoded, whole}
 use Rattle.heap_image.specs.Ends.{EndsBy}
 use Rattle.heap_image.specs.Feed.{Feed}
@@ -34,11 +34,6 @@ use Rattle.heap_image.proofs.StageLemmas.{broken_then, tells_then}
 
 abbrev Reading : Type 0
 Reading = List ℕ → Decoded
-
--- what may follow where nothing is left
-nothing_follows : (rest : Option (List ℕ)) (more : List ℕ) → IsSpent rest → MayFollow rest true more → more ≡ []
-nothing_follows (Some left) more spent follows = follows ∙ spent
-nothing_follows None more spent follows = follows
 
 -- the bytes break a rule: how the load ends, whether the end cuts them or not
 broken_row : (from to : RunState) (had left : Feed) (at : ℕ) (t : Decoded) → t.broken ≡ Some at → HoldsTold from t.settings t.objects to
@@ -74,7 +69,7 @@ part_row from to had left t sound holds q = record {
   row = λ more follows. record { told = t; reads = q.reads; sound = sound; holds = holds };
 }
 
--- the settings were not told
+-- the load stopped before it had the settings
 pub settings_stop : (from : RunState) (had left : Feed) (f : LoadFault) → StopsBy None empty decoded had f left → LoadsBy from had (Err f) left from
 settings_stop from had left (fault.Bad at) s = broken_row from from had left at s.0 s.1
     (subst (λ (p : Option Profile). HoldsTold from p s.0.objects from) (sym s.2) refl) s.4
@@ -103,7 +98,7 @@ settings_lack from to had left s q closed session = record {
   };
 }
 
--- the objects were told after the settings
+-- the objects were read after the settings
 module _ (from to : RunState) (settings : Settings) (q : Profile) (had mid left : Feed) where
   pub loads_whole : q ≡ profile_of settings → Passes decoded had mid (count_decoded (profile_of settings)) → EndsBy (count_decoded q) q mid (Ok tt) left to
       → LoadsBy from had (Ok settings) left to

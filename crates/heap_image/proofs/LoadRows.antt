@@ -1,17 +1,14 @@
 -- What a load did, over the bytes that the source had, and over some that may follow.
-use Rattle.std.proofs.Common.{◌≡◌, ◌∙◌, ◌++◌, ℕ, Bool, true, false, List, [], Option, Some, None, refl, ap, sym, subst}
+use Rattle.std.proofs.Common.{◌≡◌, ◌∙◌, ◌++◌, ℕ, List, [], Option, Some, None, refl, ap, sym, subst}
 use Rattle.std.specs.Prelude.{Result}
 use Rattle.cf_base.specs.declared.settings.Settings.{Settings}
 use Rattle.cf_io.specs.Feeds.{preceded}
 use Rattle.run_model.specs.Sessions.{RunState}
 use Rattle.script_loop.specs.ScriptOutcome.{MayFollow}
+use Rattle.script_loop.proofs.CallerLemmas.{nothing_may_follow}
 use Rattle.heap_image.specs.Feed.{Feed}
 use Rattle.heap_image.specs.Load.{IsLoaded, LoadsBy}
 use Rattle.heap_image.specs.declared.fault.LoadFault.{LoadFault}
-
-end_may_follow : (ended : Bool) → MayFollow None ended []
-end_may_follow true = refl
-end_may_follow false = tt
 
 module _ (from to : RunState) (had left : Feed) (result : Result Settings LoadFault) (q : LoadsBy from had result left to) where
   pub observed_load : (all : List ℕ) → had.rest ≡ Some all → (more : List ℕ) × (all ≡ q.taken ++ more) × IsLoaded from q.taken more result to
@@ -30,5 +27,5 @@ module _ (from to : RunState) (had left : Feed) (result : Result Settings LoadFa
   some_load = go left.rest refl
     where
       go : (o : Option (List ℕ)) → o ≡ left.rest → (more : List ℕ) × IsLoaded from q.taken more result to
-      go None e = ([], q.row [] (subst (λ (o : Option (List ℕ)). MayFollow o q.ended []) e (end_may_follow q.ended)))
+      go None e = ([], q.row [] (subst (λ (o : Option (List ℕ)). MayFollow o q.ended []) e (nothing_may_follow q.ended)))
       go (Some more) e = (more, q.row more (subst (λ (o : Option (List ℕ)). MayFollow o q.ended more) e refl))

@@ -9,6 +9,7 @@ use Rattle.std.proofs.Math.Seq.{take-append_seam}
 use Rattle.std.proofs.lemmas.Bool.Decides.{nat_tests}
 use Rattle.std.proofs.lemmas.List.{take_all}
 use Rattle.std.proofs.lemmas.Slice.Eq.{bytes_eq-Decides}
+use Rattle.std.proofs.lemmas.Bool.{cond-false}
 use Rattle.cf_base.specs.Settings.{profile_of}
 use Rattle.cf_base.specs.declared.settings.Settings.{Settings}
 use Rattle.heap_image.specs.Decoded.{BreaksNoRule, Decoded, count_decoded, cut, decoded, number, pages_decoded, unopened}
@@ -17,10 +18,10 @@ use Rattle.heap_image.specs.Image.{mark}
 use Rattle.heap_image.specs.Stages.{Passes, ReadsNumber, ReadsSettings, SettingsBy, StopsShort, TellsBroken}
 use Rattle.heap_image.specs.declared.fault.LoadFault.{LoadFault}
 use Rattle.heap_image.specs.declared.fault.LoadFault.TheVariants as fault
-use Rattle.heap_image.proofs.ImageDecoded.{if_false, mark_read}
+use Rattle.heap_image.proofs.ImageDecoded.{mark_read}
 use Rattle.heap_image.proofs.StageLemmas.{falls_stops, field_breaks, field_tells, stops_then, takes_then}
 
--- the settings behind so many bytes
+-- the settings after k bytes
 pub settings_then : (T U : List ℕ → Decoded) (a : List ℕ) (k n : ℕ) (had mid left : Feed) (r : Result Settings LoadFault) → length a ≡ k → Takes a had mid
     → ((more : List ℕ) → T (a ++ more) ≡ U more) → SettingsBy n U mid r left → SettingsBy (k + n) T had r left
 settings_then T U a k n had mid left (Ok s) long took tells q = record {
@@ -56,7 +57,7 @@ unmarked bytes = record (unopened 0) { is_cut = nat_lt (length bytes) 4 }
 
 unmarked_are : (bytes : List ℕ) → bytes_eq (take 4 bytes) mark ≡ false → decoded bytes ≡ unmarked bytes
 unfolding decoded
-unmarked_are bytes other = if_false _ _ _ other
+unmarked_are bytes other = cond-false _ _ _ other
 
 unmarked_long : (bytes : List ℕ) → 4 ≤ length bytes → unmarked bytes ≡ unopened 0
 unmarked_long bytes long = (let no : nat_lt (length bytes) 4 ≡ false = grind (arith, nat_tests) in ap (λ b. record (unopened 0) { is_cut = b }) no)

@@ -4,11 +4,12 @@ use Rattle.std.proofs.Common.{arith, append_assoc, inl, inr, length-append}
 use Rattle.std.specs.Prelude.{replicate, Result, Ok, Err}
 use Rattle.std.specs.FinMap.{get, insert, remove}
 use Rattle.std.specs.Int.{w32}
-use Rattle.std.proofs.lemmas.Bool.{cases_eq}
+use Rattle.std.proofs.lemmas.Bool.{cases_eq, cond-true}
 use Rattle.std.proofs.lemmas.List.{drop-replicate, length-replicate}
 use Rattle.std.proofs.Math.Seq.{drop-append-add, take-append_seam}
 use Rattle.cf_base.specs.Settings.{Profile}
-use Rattle.cf_lemmas.proofs.Maps.{equal_maps, get_inserted, get_insert_other, get_remove_other, get_removed}
+use Rattle.cf_lemmas.proofs.Maps.{equal_maps, get_inserted, get_insert_other, insert_twice, remove_inserted, remove_missing}
+use Rattle.cf_lemmas.proofs.Tests.{lt_yes}
 use Rattle.page_model.specs.Bytes.{written}
 use Rattle.page_model.specs.Held.{Objects}
 use Rattle.run_model.specs.Sessions.{RunState}
@@ -20,32 +21,14 @@ use Rattle.heap_image.specs.Load.{IsLoading}
 use Rattle.heap_image.specs.Stages.{Falls, LeadsTo, Passes, ReadsNumber, StopsBy, StopsShort}
 use Rattle.heap_image.specs.declared.fault.LoadFault.{LoadFault}
 use Rattle.heap_image.specs.declared.objects_in.Entry.{Entry}
-use Rattle.heap_image.proofs.ImageDecoded.{bytes_read, if_true, lt_yes}
+use Rattle.heap_image.proofs.ImageDecoded.{bytes_read}
 use Rattle.heap_image.proofs.StageLemmas.{falls_stops, field_good, passes_then, stops_then, takes_then}
 
-module _ (m : Objects) (k : ℕ) (v w : List ℕ) where
+module _ (m : Objects) (k : ℕ) (v : List ℕ) where
   insert_same : get m k ≡ Some v → m ≡ insert m k v
   insert_same some = equal_maps _ _ (λ q. elim (cases_eq q k) [
     | inl e ↦ rw e (some ∙ sym (get_inserted m k v))
     | inr ne ↦ sym (get_insert_other m k v q ne)
-  ])
-
-  insert_twice : insert (insert m k v) k w ≡ insert m k w
-  insert_twice = equal_maps _ _ (λ q. elim (cases_eq q k) [
-    | inl e ↦ rw e (get_inserted (insert m k v) k w ∙ sym (get_inserted m k w))
-    | inr ne ↦ get_insert_other (insert m k v) k w q ne ∙ get_insert_other m k v q ne ∙ sym (get_insert_other m k w q ne)
-  ])
-
-  remove_inserted : remove (insert m k v) k ≡ remove m k
-  remove_inserted = equal_maps _ _ (λ q. elim (cases_eq q k) [
-    | inl e ↦ rw e (get_removed (insert m k v) k ∙ sym (get_removed m k))
-    | inr ne ↦ get_remove_other (insert m k v) k q ne ∙ get_insert_other m k v q ne ∙ sym (get_remove_other m k q ne)
-  ])
-
-  remove_fresh : get m k ≡ None → remove m k ≡ m
-  remove_fresh none = equal_maps _ _ (λ q. elim (cases_eq q k) [
-    | inl e ↦ rw e (get_removed m k ∙ sym none)
-    | inr ne ↦ get_remove_other m k q ne
   ])
 
 -- one step after another
@@ -64,13 +47,13 @@ module _ (old mid new : RunState) (id : ℕ) where
   leads_removed v first next = record {
     loading = next.loading;
     profile = next.profile ∙ first.profile;
-    objects = next.objects ∙ ap (λ (o : Objects). remove o id) first.objects ∙ remove_inserted (objects_of old) id v v;
+    objects = next.objects ∙ ap (λ (o : Objects). remove o id) first.objects ∙ remove_inserted (objects_of old) id v;
   }
 
   pub leads_back : (v : List ℕ) → get (objects_of old) id ≡ None → LeadsTo old mid (insert (objects_of old) id v) → LeadsTo mid new (remove (objects_of mid) id)
       → LeadsTo old new (objects_of old)
   leads_back v none first next = (let all = leads_removed v first next in
-      record { loading = all.loading; profile = all.profile; objects = all.objects ∙ remove_fresh (objects_of old) id v v none })
+      record { loading = all.loading; profile = all.profile; objects = all.objects ∙ remove_missing (objects_of old) id none })
 
 pub leads_still : (s : RunState) → IsLoading s → LeadsTo s s (objects_of s)
 leads_still s loading = record { loading = loading; profile = refl; objects = refl }
@@ -82,7 +65,7 @@ leads_first s id n loading some =
     record {
       loading = loading;
       profile = refl;
-      objects = insert_same (objects_of s) id (replicate n 0) [] some ∙ ap (λ k. insert (objects_of s) id (replicate k 0)) same;
+      objects = insert_same (objects_of s) id (replicate n 0) some ∙ ap (λ k. insert (objects_of s) id (replicate k 0)) same;
     }
 
 pub held_in : (old mid : RunState) (id : ℕ) (v : List ℕ) → LeadsTo old mid (insert (objects_of old) id v) → get (objects_of mid) id ≡ Some v
@@ -107,7 +90,7 @@ pub part_fits : (bytes : List ℕ) (n done count : ℕ) → length bytes ≡ don
 part_fits bytes n done count is fits =
     let a = length-append bytes (replicate {A = ℕ} (n - done) 0) in let b = length-replicate {A = ℕ} (n - done) 0 in omega arith
 
--- a part more was taken, and then fewer bytes than so many
+-- one more part was taken, and then fewer than n bytes in all
 pub falls_more : (a : List ℕ) (n done count : ℕ) (had mid left : Feed) → length a ≡ done → done + count ≤ n → Takes a had mid → Falls count mid left
     → Falls n had left
 falls_more a n done count had mid left is fits took f = record {
@@ -136,7 +119,7 @@ module _ (p : Profile) (r : Reached) (id n : ℕ) (go : Reached → List ℕ →
 
   bytes_short : (bytes : List ℕ) → length bytes < n → bytes_decoded p r id n bytes go ≡ cut (breaks_in p r 6)
   unfolding bytes_decoded
-  bytes_short bytes short = if_true _ _ _ (lt_yes (length bytes) n short)
+  bytes_short bytes short = cond-true _ _ _ (lt_yes (length bytes) n short)
 
   pub bytes_stop : (f : LoadFault) → StopsShort n (r.at + 6) had f left → StopsBy (Some p) r.objects bytes_reading had f left
   bytes_stop f q = falls_stops bytes_reading n (breaks_in p r 6) bytes_short had left (r.at + 6) f (Some p) r.objects refl refl refl q

@@ -46,7 +46,7 @@ module _ (s : RunState) (tied : AreTied s.session s.heap) where
   as_many = (by_id_counts s.session.ids (objects s.heap.held) (names_of_objects s.session.ids s.heap.held tied.ids)).count
       ∙ len-objects s.heap.held
 
-  -- the header tells the settings and how many objects there are
+  -- the header holds the settings and the number of objects
   header_is : (pages page_words proxies live : ℕ) → s.heap.profile.pages ≡ pages → s.heap.profile.page_words ≡ page_words → s.heap.profile.proxies ≡ proxies
       → live ≡ len s.heap.held
       → header_of pages (8 * page_words) proxies live
@@ -69,11 +69,11 @@ module _ (s : RunState) (tied : AreTied s.session s.heap) where
       puts_cut w x _ (entries_of (entries (objects_of s))) e
       (subst (λ (b : List ℕ). Puts {T = Unit {0}} w b (Err e) x) (header_is pages page_words proxies live p q r l) put)
 
--- how many objects the figures tell
+-- the totals contain the number of objects
 pub live_told : (s : HeapState) (t : Totals) → s.kind ≡ Moving → t ≡ totals_in s.kind s → t.live ≡ len s.held
 live_told s t moving is =
     ap (λ (f : Totals). f.live) (is ∙ ap (λ (k : Kind). totals_in k s) moving) ∙ len-objects s.held
 
--- the settings that a header tells
+-- equal settings are equal in each part that a header holds
 pub profile_parts : (p q : Profile) → p ≡ q → (p.pages ≡ q.pages) × (p.page_words ≡ q.page_words) × (p.proxies ≡ q.proxies)
 profile_parts p q e = (ap (λ (p : Profile). p.pages) e, ap (λ (p : Profile). p.page_words) e, ap (λ (p : Profile). p.proxies) e)

@@ -1,6 +1,7 @@
 -- Readings, one after the other.
 use Rattle.std.proofs.Common.{◌≡◌, ◌∙◌, ◌++◌, ◌+◌, ◌<◌, ℕ, Bool, true, false, List, [], ◌∷◌, Option, Some, length, refl, ap, sym, subst}
 use Rattle.std.proofs.Common.{append_assoc, append-nil, arith, inl, inr, length-append}
+use Rattle.std.proofs.lemmas.Bool.{cond-true, cond-false}
 use Rattle.std.specs.Prelude.{Ok, if◌then◌else◌}
 use Rattle.std.specs.Int.{Width, byte_len}
 use Rattle.cf_base.specs.Settings.{Profile}
@@ -13,7 +14,6 @@ use Rattle.heap_image.specs.Load.{LastBreaks}
 use Rattle.heap_image.specs.Stages.{Passes, ReadsNumber, StopsAt, StopsBy, StopsShort, Tells, TellsBroken}
 use Rattle.heap_image.specs.declared.fault.LoadFault.{LoadFault}
 use Rattle.heap_image.specs.declared.fault.LoadFault.TheVariants as fault
-use Rattle.heap_image.proofs.ImageDecoded.{if_false, if_true}
 use Rattle.heap_image.proofs.Numbers.{number_cut, number_whole}
 
 abbrev Reading : Type 0
@@ -94,7 +94,7 @@ field_breaks T field had left bad rule some took tells sound = record {
 pub passes_part : (T U : Reading) (had left : Feed) (t : Decoded) → Passes T had left U → U [] ≡ t → Tells T had left t
 passes_part T U had left t p e = record { taken = p.taken; took = p.took; reads = ap T (sym (append-nil p.taken)) ∙ p.tells [] ∙ e }
 
--- a reading of fewer than so many bytes tells that they are cut
+-- a reading of fewer than `room` bytes finds them cut
 module _ (T : Reading) (room : ℕ) (bad : Decoded) (short : (bytes : List ℕ) → length bytes < room → T bytes ≡ cut bad) (had left : Feed) where
   pub falls_stops : (at : ℕ) (f : LoadFault) (s : Option Profile) (o : Objects) → bad.broken ≡ Some at → bad.settings ≡ s → bad.objects ≡ o
       → StopsShort room at had f left → StopsBy s o T had f left
@@ -134,7 +134,7 @@ module _ (w : Width) (bad : Decoded) (test : ℕ → Bool) (yes : ℕ → List �
 
   -- it is accepted
   pub field_tells : (n : ℕ) (r : ReadsNumber w at had (Ok n) left) → test n ≡ true → (more : List ℕ) → field (r.0 ++ more) ≡ yes n more
-  field_tells n r e more = tested n r more ∙ if_true _ _ _ e
+  field_tells n r e more = tested n r more ∙ cond-true _ _ _ e
 
   pub field_good : (n : ℕ) → ReadsNumber w at had (Ok n) left → test n ≡ true → Passes field had left (yes n)
   field_good n r e = record { taken = r.0; took = r.3; tells = field_tells n r e }
@@ -143,7 +143,7 @@ module _ (w : Width) (bad : Decoded) (test : ℕ → Bool) (yes : ℕ → List �
   pub field_bad : (n : ℕ) → ReadsNumber w at had (Ok n) left → test n ≡ false → bad.is_cut ≡ false → 0 < byte_len w → TellsBroken field had left bad
   field_bad n r e rule wide =
       let long = r.1 in
-      field_breaks field r.0 had left bad rule (omega arith) r.3 (λ more. tested n r more ∙ if_false _ _ _ e)
+      field_breaks field r.0 had left bad rule (omega arith) r.3 (λ more. tested n r more ∙ cond-false _ _ _ e)
       (λ few short. inr (ap (λ (d : Decoded). d.is_cut) (field_cut few (omega arith))))
 
   -- it is cut, or can't be read

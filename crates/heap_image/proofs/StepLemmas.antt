@@ -1,4 +1,4 @@
--- What commands do to the objects by id, where every bound is 1.
+-- What commands do to the objects by id, if every bound is 1.
 use Rattle.std.proofs.Common.{◌≡◌, ◌≢◌, ◌∙◌, ◌+◌, ◌*◌, ◌≤◌, ◌<◌, ℕ, Bool, true, false, List, Option, Some, None, length, refl, ap, sym, subst, arith, inl, inr}
 use Rattle.std.specs.Prelude.{◌⊎◌, ◌&&◌, cond, nat_eq, Result, Ok, Err, nat_le, replicate, ◌↔◌}
 use Rattle.std.specs.Bool.{OnFalse, OnTrue}

@@ -1,4 +1,4 @@
--- Which bytes are a heap image: what bytes tell of one, field by field, up to the first field that breaks a rule or is cut by the end.
+-- Which bytes are a heap image: what bytes decode to, field by field, up to the first field that breaks a rule or is cut by the end.
 use Rattle.std.specs.Prelude.{◌≡◌, ℕ, zero, suc, Bool, true, false, ◌⊎◌, ◌&&◌, ◌+◌, ◌*◌, List, [], ◌∷◌, Option, Some, None, length, take, drop}
 use Rattle.std.specs.Prelude.{if◌then◌else◌, nat_le, nat_lt}
 use Rattle.std.specs.Int.{Width, w16, w32, byte_len}
@@ -13,13 +13,13 @@ use Rattle.page_model.specs.Held.{Objects}
 use Rattle.page_model.specs.Paging.{Paging, first_bounds, paging_of}
 use Rattle.heap_image.specs.Image.{mark, number_of_bytes}
 
--- What bytes tell.
+-- What bytes decode to.
 pub record Decoded : Type 0 where
-  -- the settings, with the bound 1, where the field of the proxies is accepted
+  -- the settings, with bound 1, if the fields up to the proxies are accepted
   pub settings : Option Profile
   -- the objects of the whole entries
   pub objects : Objects
-  -- the offset of the first field that breaks a rule or is cut by the end, or of the first byte past the image; none where the bytes are an image
+  -- the offset of the first field that breaks a rule or is cut by the end, or of the first byte past the image; `None` if the bytes are an image
   pub broken : Option ℕ
   -- whether the end cuts that field
   pub is_cut : Bool
@@ -36,7 +36,7 @@ breaks_behind p objects at = record { settings = Some p; objects = objects; brok
 abbrev pub whole : Profile → Objects → Decoded
 whole p objects = record { settings = Some p; objects = objects; broken = None; is_cut = false }
 
--- where a field would break a rule, the end cuts it
+-- the same, but the end cuts the field that would break a rule
 abbrev pub cut : Decoded → Decoded
 cut d = record d { is_cut = true }
 
@@ -44,7 +44,7 @@ cut d = record d { is_cut = true }
 abbrev pub BreaksNoRule : Decoded → Type 0
 BreaksNoRule d = (d.broken ≡ None) ⊎ (d.is_cut ≡ true)
 
--- a number, and what it and the bytes after it tell; what is told where it breaks a rule, and so where it is cut
+-- a number: `go` decodes it and the bytes after it; `bad` is the result, as cut, if the end cuts the number
 abbrev pub number : Width → List ℕ → Decoded → (ℕ → List ℕ → Decoded) → Decoded
 number w bytes bad go =
     if nat_lt (length bytes) (byte_len w) then cut bad else go (number_of_bytes w (take (byte_len w) bytes)) (drop (byte_len w) bytes)
@@ -67,7 +67,7 @@ pub record Reached : Type 0 where
 abbrev pub passed : Reached → ℕ → List ℕ → Reached
 passed r id v = record { next = id + 1; objects = insert r.objects id v; at = r.at + (6 + length v) }
 
--- they break so many bytes into an entry
+-- they break a rule n bytes into an entry
 abbrev pub breaks_in : Profile → Reached → ℕ → Decoded
 breaks_in p r n = breaks_behind p r.objects (r.at + n)
 
@@ -90,7 +90,7 @@ unfoldable pub end_decoded : Profile → Reached → List ℕ → Decoded
 end_decoded p r [] = whole p r.objects
 end_decoded p r (b ∷ rest) = breaks_in p r 0
 
--- so many entries, and the end
+-- the entries that are left, and the end
 unfoldable pub entries_decoded : Profile → ℕ → Reached → List ℕ → Decoded
 entries_decoded p zero r bytes = end_decoded p r bytes
 entries_decoded p (suc left) r bytes = entry_decoded p r bytes (λ r rest. entries_decoded p left r rest)
@@ -109,7 +109,7 @@ unfoldable pub proxies_decoded : ℕ → ℕ → List ℕ → Decoded
 proxies_decoded pages page_bytes bytes = number w32 bytes (unopened 12)
     (λ proxies rest. if is_within 1 65536 proxies then count_decoded (profile_from pages page_bytes 1 proxies) rest else unopened 12)
 
--- whether so many pages may have so many bytes: a size of pages, and at most 64 MiB together
+-- whether `pages` pages may have `page_bytes` bytes each: a page size, and at most 64 MiB together
 abbrev pub is_page_of : ℕ → ℕ → Bool
 is_page_of pages page_bytes = is_page_bytes page_bytes && nat_le (pages * page_bytes) 67108864
 
@@ -122,7 +122,7 @@ page_bytes_decoded pages bytes = number w32 bytes (unopened 8)
 unfoldable pub pages_decoded : List ℕ → Decoded
 pages_decoded bytes = number w32 bytes (unopened 4) (λ pages rest. if is_within 1 4096 pages then page_bytes_decoded pages rest else unopened 4)
 
--- what bytes tell: an image begins with its mark
+-- what bytes decode to: an image begins with its mark
 unfoldable pub decoded : List ℕ → Decoded
 decoded bytes =
     if bytes_eq (take 4 bytes) mark then pages_decoded (drop 4 bytes) else record (unopened 0) { is_cut = nat_lt (length bytes) 4 }

@@ -11,7 +11,7 @@ use Rattle.heap_image.specs.Stages.{Tells, TellsBroken}
 use Rattle.heap_image.specs.declared.fault.LoadFault.{LoadFault}
 use Rattle.heap_image.specs.declared.fault.LoadFault.TheVariants as fault
 
--- all is told, and held; or what was told before it broke or the source failed
+-- all objects were read and are held; or those before the field that breaks, or before the source failed, are held
 abbrev pub EndsBy : (List ℕ → Decoded) → Profile → Feed → Result Unit LoadFault → Feed → RunState → Type 0
 EndsBy reading p had (Ok u) left to = (o : Objects) × Tells reading had left (whole p o) × IsSpent left.rest × HoldsObjects p o to
 EndsBy reading p had (Err (fault.Bad at)) left to =

@@ -22,7 +22,7 @@ pub record LastBreaks (reading : List ℕ → Decoded) (taken : List ℕ) : Type
   pub are : taken ≡ before ++ (last ∷ [])
   pub sound : BreaksNoRule (reading before)
 
--- no byte was taken past a broken field: where the end cuts the field nothing may follow, else its last byte was the last one taken
+-- no byte was taken past a broken field: if the end cuts the field nothing may follow, else its last byte was the last one taken
 abbrev pub TakesNoMore : List ℕ → List ℕ → Bool → Type 0
 TakesNoMore taken more true = more ≡ []
 TakesNoMore taken more false = LastBreaks decoded taken
@@ -39,7 +39,7 @@ pub record HoldsObjects (p : Profile) (o : Objects) (s : RunState) : Type 0 wher
   pub profile : s.heap.profile ≡ p
   pub objects : objects_of s ≡ o
 
--- they are as they were where the settings weren't told; else they hold what was told
+-- without settings nothing changed; with settings they hold the objects that were read
 abbrev pub HoldsTold : RunState → Option Profile → Objects → RunState → Type 0
 HoldsTold from None o to = to ≡ from
 HoldsTold from (Some p) o to = HoldsObjects p o to
@@ -83,7 +83,7 @@ IsLoaded from taken more (Err (fault.Bad at)) to = LoadsBroken from taken more a
 IsLoaded from taken more (Err fault.Read) to = LoadsInPart from taken to
 IsLoaded from taken more (Err fault.OutOfMemory) to = LoadsNothing from taken to
 
--- Over every source: these bytes were taken, as many as the source gave, and whatever bytes may follow, the result is that of all of them.
+-- Over every source: the bytes that the load took, and the result, which is right for all bytes that may follow them.
 pub record LoadsBy (from : RunState) (had : Feed) (result : Result Settings LoadFault) (left : Feed) (to : RunState) : Type 0 where
   pub taken : List ℕ
   pub ended : Bool

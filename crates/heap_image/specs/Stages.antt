@@ -14,8 +14,8 @@ use Rattle.heap_image.specs.Image.{number_of_bytes}
 use Rattle.heap_image.specs.Load.{IsLoading, LastBreaks}
 use Rattle.heap_image.specs.declared.fault.LoadFault.{LoadFault}
 use Rattle.heap_image.specs.declared.fault.LoadFault.TheVariants as fault
-use Rattle.heap_image.specs.declared.filling.Filled.{Filled}
-use Rattle.heap_image.specs.declared.filling.Filled.TheVariants as filled
+use Rattle.heap_image.specs.declared.fields_in.Filled.{Filled}
+use Rattle.heap_image.specs.declared.fields_in.Filled.TheVariants as filled
 
 -- What was taken of a source, by a reading of it.
 pub record Tells (reading : List ℕ → Decoded) (had left : Feed) (t : Decoded) : Type 0 where
@@ -28,7 +28,7 @@ pub record BreaksAtLast (reading : List ℕ → Decoded) (taken : List ℕ) (t :
   pub last : LastBreaks reading taken
   pub reads_on : (more : List ℕ) → reading (taken ++ more) ≡ t
 
--- no byte was taken past a broken field: where the end cuts the field nothing is left, else its last byte was the last one taken
+-- no byte was taken past a broken field: if the end cuts the field nothing is left, else its last byte was the last one taken
 abbrev pub StopsAt : (List ℕ → Decoded) → List ℕ → Decoded → Feed → Bool → Type 0
 StopsAt reading taken t left true = IsSpent left.rest
 StopsAt reading taken t left false = BreaksAtLast reading taken t
@@ -38,13 +38,13 @@ pub record TellsBroken (reading : List ℕ → Decoded) (had left : Feed) (t : D
   pub tells : Tells reading had left t
   pub stops : StopsAt reading tells.taken t left t.is_cut
 
--- a part of a reading was taken, and the rest is told by another reading
+-- a part of a reading was taken, and another reading decodes the rest
 pub record Passes (reading : List ℕ → Decoded) (had left : Feed) (go : List ℕ → Decoded) : Type 0 where
   pub taken : List ℕ
   pub took : Takes taken had left
   pub tells : (more : List ℕ) → reading (taken ++ more) ≡ go more
 
--- fewer bytes than so many were taken
+-- fewer than `room` bytes were taken
 pub record Falls (room : ℕ) (had left : Feed) : Type 0 where
   pub taken : List ℕ
   pub short : length taken < room
@@ -68,7 +68,7 @@ ReadsNumber w at had (Ok n) left =
     (bytes : List ℕ) × (length bytes ≡ byte_len w) × (number_of_bytes w bytes ≡ n) × Takes bytes had left
 ReadsNumber w at had (Err e) left = StopsShort (byte_len w) at had e left
 
--- by a fault, a reading tells these settings and objects, and where it breaks
+-- a reading stopped by a fault, with these settings and objects before it, and broke at this offset
 abbrev pub StopsBy : Option Profile → Objects → (List ℕ → Decoded) → Feed → LoadFault → Feed → Type 0
 StopsBy settings o reading had (fault.Bad at) left =
     (t : Decoded) × (t.broken ≡ Some at) × (t.settings ≡ settings) × (t.objects ≡ o) × TellsBroken reading had left t
@@ -76,7 +76,7 @@ StopsBy settings o reading had fault.Read left =
     (t : Decoded) × (t.settings ≡ settings) × (t.objects ≡ o) × Tells reading had left t × BreaksNoRule t
 StopsBy settings o reading had fault.OutOfMemory left = ⊥
 
--- the settings were read, in so many bytes and with the bound 1, and what follows them is told by another reading
+-- the settings were read, in n bytes and with bound 1, and `count_decoded` decodes what follows them
 pub record ReadsSettings (n : ℕ) (reading : List ℕ → Decoded) (had left : Feed) (s : Settings) : Type 0 where
   pub taken : List ℕ
   pub few : length taken ≡ n
@@ -84,7 +84,7 @@ pub record ReadsSettings (n : ℕ) (reading : List ℕ → Decoded) (had left : 
   pub tells : (more : List ℕ) → reading (taken ++ more) ≡ count_decoded (profile_of s) more
   pub one : s.k ≡ 1
 
--- the settings were read in so many bytes, or they were not told
+-- the settings were read in n bytes, or the reading stopped before them
 abbrev pub SettingsBy : ℕ → (List ℕ → Decoded) → Feed → Result Settings LoadFault → Feed → Type 0
 SettingsBy n reading had (Ok s) left = ReadsSettings n reading had left s
 SettingsBy n reading had (Err e) left = StopsBy None empty reading had e left

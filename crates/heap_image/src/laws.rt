@@ -15,7 +15,7 @@ ghost use Rattle.heap_image.specs.Heaps.{HaveImage, heap_image, image_under, obj
 
 use page_model::{objects_need_no_more_pages, pages_and_objects_add_up};
 
-/// An image tells the settings and the objects that it is the image of, and so it is an image.
+/// An image decodes to the settings and the objects that it was made of, and so it is an image.
 pub fn an_image_is_read_back()
     ensures { (p : Profile) (o : Objects) → HaveImage p o → decoded (image_under p o) ≡ whole p o }
 {}

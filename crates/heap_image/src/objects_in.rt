@@ -2,7 +2,7 @@
 ghost use Rattle.std.specs.Prelude.{◌≡◌, ◌≢◌, ◌+◌, ◌<◌, ◌≤◌, ◌^◌, ℕ, List, Some, None, Err, OnErr, OnOk, true, false, length, replicate};
 ghost use Rattle.std.specs.Bool.{OnFalse, OnTrue};
 ghost use Rattle.std.specs.FinMap as map;
-ghost use Rattle.cf_io.specs.Feeds.{Rose};
+ghost use Rattle.cf_io.specs.Feeds.{FailsLast};
 ghost use Rattle.cf_session.specs.Apply.{run_at};
 ghost use Rattle.page_model.specs.Bytes.{written};
 ghost use Rattle.heap_image.specs.Decoded.{Decoded, Reached, entry_decoded, has_room, length_decoded};
@@ -14,7 +14,7 @@ ghost use Rattle.heap_image.specs.Entries.{EntryBy, FillsObject, reached_in};
 ghost use Rattle.heap_image.specs.Stages.{LeadsTo};
 
 use crate::fault::LoadFault;
-use crate::filling::{Filled, fill, read_u16, read_u32};
+use crate::fields_in::{Filled, fill, read_u16, read_u32};
 use cf_io::{NullSink, Source};
 use cf_model::Manager;
 use cf_session::{Outcome, Session};
@@ -52,7 +52,7 @@ pub(crate) fn read_entry<S: Source, H: Manager>(
     ensures stopped { OnErr result (CountsStop session.old session.new) }
     ensures grows { S.faults source.old ≤ S.faults source.new }
     ensures same { result ≢ Err LoadFault.Read → S.faults source.new ≡ S.faults source.old }
-    ensures failed { result ≡ Err LoadFault.Read → Rose (S.faults source.old) (S.faults source.new) }
+    ensures failed { result ≡ Err LoadFault.Read → FailsLast (S.faults source.old) (S.faults source.new) (S.last_failed source.new) }
 {
     let id = match read_u16(source, at) {
         Ok(id) => id,
@@ -88,7 +88,7 @@ fn read_object<S: Source, H: Manager>(
     ensures stopped { OnErr result (CountsStop session.old session.new) }
     ensures grows { S.faults source.old ≤ S.faults source.new }
     ensures same { result ≢ Err LoadFault.Read → S.faults source.new ≡ S.faults source.old }
-    ensures failed { result ≡ Err LoadFault.Read → Rose (S.faults source.old) (S.faults source.new) }
+    ensures failed { result ≡ Err LoadFault.Read → FailsLast (S.faults source.old) (S.faults source.new) (S.last_failed source.new) }
 {
     let n = match read_u32(source, at + 2) {
         Ok(n) => n,
@@ -137,7 +137,7 @@ fn is_good(outcome: Outcome) -> bool
     }
 }
 
-/// Fills an object of n zeros. It is freed again where its bytes are cut or can't be read.
+/// Fills an object of n zeros. Frees it again if its bytes are cut or can't be read.
 fn fill_object<S: Source, H: Manager>(
     source: &mut S,
     heap: &mut H,
@@ -156,7 +156,7 @@ fn fill_object<S: Source, H: Manager>(
     ensures freed { OnErr result (CountsFree session.old session.new) }
     ensures grows { S.faults source.old ≤ S.faults source.new }
     ensures same { result ≢ Err LoadFault.Read → S.faults source.new ≡ S.faults source.old }
-    ensures failed { result ≡ Err LoadFault.Read → Rose (S.faults source.old) (S.faults source.new) }
+    ensures failed { result ≡ Err LoadFault.Read → FailsLast (S.faults source.old) (S.faults source.new) (S.last_failed source.new) }
 {
     let mut done = 0;
     'chunks: while done < n {

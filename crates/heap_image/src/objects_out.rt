@@ -2,7 +2,7 @@
 ghost use Rattle.std.specs.Prelude.{◌≡◌, ◌≤◌, ℕ, List, IsTrue, OnErr, Some, length, OnOk};
 ghost use Rattle.std.specs.FinMap as map;
 ghost use Rattle.cf_base.specs.declared.kind.Kind.TheVariants.{Moving};
-ghost use Rattle.cf_io.specs.Feeds.{Puts, Rose};
+ghost use Rattle.cf_io.specs.Feeds.{Puts, FailsLast};
 ghost use Rattle.cf_session.specs.Apply.{run_at};
 ghost use Rattle.page_model.specs.Held.{Placed};
 ghost use Rattle.run_model.specs.Sessions.{AreTied};
@@ -26,8 +26,8 @@ pub trait ObjectWriter {
     /// What an object is written as, by its id and its bytes.
     ghost text: { ℕ → List ℕ → List ℕ };
 
-    /// Writes an object under its id. `room` takes up to 4,096 of its bytes at once. `Failed` only
-    /// where the sink failed; a prefix was written then.
+    /// Writes an object under its id. `room` is a buffer for up to 4,096 of its bytes. Returns `Failed`
+    /// only if the sink failed; then a prefix was written.
     fn put_object<H: Manager, K: Sink>(
         &self,
         heap: &H,
@@ -46,11 +46,11 @@ pub trait ObjectWriter {
             → Puts (K.written out.old) (text id x.bytes) result (K.written out.new) }
         ensures grows { K.faults out.old ≤ K.faults out.new }
         ensures same { OnOk result (K.faults out.new ≡ K.faults out.old) }
-        ensures failed { OnErr result (Rose (K.faults out.old) (K.faults out.new)) };
+        ensures failed { OnErr result (FailsLast (K.faults out.old) (K.faults out.new) (K.last_failed out.new)) };
 }
 
-/// Writes the objects that live in the heap one after another, by rising id. `Failed` only where the
-/// sink failed; a prefix was written then.
+/// Writes the live objects of the heap one after another, by rising id. Returns `Failed` only if the
+/// sink failed; then a prefix was written.
 pub fn put_objects<W: ObjectWriter, H: Manager, K: Sink>(
     writer: &W,
     heap: &H,
@@ -66,7 +66,7 @@ pub fn put_objects<W: ObjectWriter, H: Manager, K: Sink>(
         result (K.written out.new) }
     ensures grows { K.faults out.old ≤ K.faults out.new }
     ensures same { OnOk result (K.faults out.new ≡ K.faults out.old) }
-    ensures failed { OnErr result (Rose (K.faults out.old) (K.faults out.new)) }
+    ensures failed { OnErr result (FailsLast (K.faults out.old) (K.faults out.new) (K.last_failed out.new)) }
 {
     // Ids have 16 bits.
     let _first = session.handle(0);

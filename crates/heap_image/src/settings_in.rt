@@ -2,14 +2,14 @@
 ghost use Rattle.std.specs.Prelude.{◌≡◌, ◌≤◌, IsTrue, Err, ◌≢◌};
 ghost use Rattle.std.specs.Str.{bytes_eq};
 ghost use Rattle.cf_base.specs.Limits.{is_within};
-ghost use Rattle.cf_io.specs.Feeds.{Rose};
+ghost use Rattle.cf_io.specs.Feeds.{FailsLast};
 ghost use Rattle.heap_image.specs.Decoded.{decoded, is_page_of, page_bytes_decoded, pages_decoded, proxies_decoded};
 ghost use Rattle.heap_image.specs.Feed.{feed_at};
 ghost use Rattle.heap_image.specs.Image.{mark};
 ghost use Rattle.heap_image.specs.Stages.{SettingsBy};
 
 use crate::fault::LoadFault;
-use crate::filling::{Filled, fill, read_u32};
+use crate::fields_in::{Filled, fill, read_u32};
 use cf_base::Settings;
 use cf_io::Source;
 
@@ -18,7 +18,7 @@ pub(crate) fn read_settings<S: Source>(source: &mut S) -> Result<Settings, LoadF
     ensures settings { SettingsBy 16 decoded (feed_at (S.rest source.old) (S.given source.old)) result (feed_at (S.rest source.new) (S.given source.new)) }
     ensures grows { S.faults source.old ≤ S.faults source.new }
     ensures same { result ≢ Err LoadFault.Read → S.faults source.new ≡ S.faults source.old }
-    ensures failed { result ≡ Err LoadFault.Read → Rose (S.faults source.old) (S.faults source.new) }
+    ensures failed { result ≡ Err LoadFault.Read → FailsLast (S.faults source.old) (S.faults source.new) (S.last_failed source.new) }
 {
     let mut bytes = [0; 4];
     match fill(source, &mut bytes) {
@@ -39,7 +39,7 @@ fn is_mark(bytes: &[u8]) -> bool
     bytes == b"CFI1".as_slice()
 }
 
-/// Whether a heap may have so many pages.
+/// Whether a heap may have `pages` pages.
 fn are_pages(pages: u32) -> bool
     ensures { result ≡ is_within 1 4096 pages }
 {
@@ -51,7 +51,7 @@ fn read_pages<S: Source>(source: &mut S) -> Result<Settings, LoadFault>
     ensures settings { SettingsBy 12 pages_decoded (feed_at (S.rest source.old) (S.given source.old)) result (feed_at (S.rest source.new) (S.given source.new)) }
     ensures grows { S.faults source.old ≤ S.faults source.new }
     ensures same { result ≢ Err LoadFault.Read → S.faults source.new ≡ S.faults source.old }
-    ensures failed { result ≡ Err LoadFault.Read → Rose (S.faults source.old) (S.faults source.new) }
+    ensures failed { result ≡ Err LoadFault.Read → FailsLast (S.faults source.old) (S.faults source.new) (S.last_failed source.new) }
 {
     let pages = match read_u32(source, 4) {
         Ok(pages) => pages,
@@ -69,7 +69,7 @@ fn read_page_bytes<S: Source>(source: &mut S, pages: u32) -> Result<Settings, Lo
     ensures settings { SettingsBy 8 (page_bytes_decoded pages) (feed_at (S.rest source.old) (S.given source.old)) result (feed_at (S.rest source.new) (S.given source.new)) }
     ensures grows { S.faults source.old ≤ S.faults source.new }
     ensures same { result ≢ Err LoadFault.Read → S.faults source.new ≡ S.faults source.old }
-    ensures failed { result ≡ Err LoadFault.Read → Rose (S.faults source.old) (S.faults source.new) }
+    ensures failed { result ≡ Err LoadFault.Read → FailsLast (S.faults source.old) (S.faults source.new) (S.last_failed source.new) }
 {
     let page_bytes = match read_u32(source, 8) {
         Ok(page_bytes) => page_bytes,
@@ -92,7 +92,7 @@ fn read_proxies<S: Source>(
     ensures settings { SettingsBy 4 (proxies_decoded pages page_bytes) (feed_at (S.rest source.old) (S.given source.old)) result (feed_at (S.rest source.new) (S.given source.new)) }
     ensures grows { S.faults source.old ≤ S.faults source.new }
     ensures same { result ≢ Err LoadFault.Read → S.faults source.new ≡ S.faults source.old }
-    ensures failed { result ≡ Err LoadFault.Read → Rose (S.faults source.old) (S.faults source.new) }
+    ensures failed { result ≡ Err LoadFault.Read → FailsLast (S.faults source.old) (S.faults source.new) (S.last_failed source.new) }
 {
     let proxies = match read_u32(source, 12) {
         Ok(proxies) => proxies,

@@ -17,7 +17,8 @@ use Rattle.heap_image_tests.specs.Ready.{IsReady}
 pub opened_ready : (s : SessionState) (old new : HeapState) (settings : Settings) → old.kind ≡ Moving → s ≡ fresh_session
     → IsEmptyHeap old.kind settings new → KeepsRules new → IsReady (profile_of settings) (run_at s new)
 opened_ready s old new settings moving fresh empty rules = record {
-  going = begins_going old.kind (profile_of settings) (run_at s new) (record { session = fresh; words = empty.words; heap = empty.whole; rules = rules });
+  going = begins_going old.kind (profile_of settings) (run_at s new)
+      (record { session = fresh; words = empty.words; order = empty.order; heap = empty.whole; rules = rules });
   kind = ap (λ (h : HeapState). h.kind) empty.whole ∙ moving;
   profile = ap (λ (h : HeapState). h.profile) empty.whole;
 }

@@ -1,12 +1,12 @@
--- What the end of a script tells, where its settings are kept.
-use Rattle.std.proofs.Common.{◌≡◌, ◌≢◌, ◌∙◌, ◌++◌, ℕ, List, [], false, true, Option, Some, None, refl, ap, sym, subst, inl, inr, arith}
+-- The end of a script whose session keeps its settings, by status.
+use Rattle.std.proofs.Common.{◌≡◌, ◌≢◌, ◌∙◌, ◌++◌, ℕ, List, [], false, true, Option, Some, None, refl, ap, sym, subst}
 use Rattle.std.specs.Prelude.{Err, option_map, if◌then◌else◌}
 use Rattle.cf_base.specs.Settings.{profile_of}
 use Rattle.cf_base.specs.declared.answers.Failed.{Failed}
 use Rattle.cf_base.specs.declared.settings.Settings.{Settings}
 use Rattle.cf_base.specs.declared.status.Status.{Status}
 use Rattle.cf_base.specs.declared.status.Status.TheVariants.{Done, Words, BadScript, ReadFault, WriteFault, OutOfMemory, TooLong, BadImage}
-use Rattle.cf_io.specs.Feeds.{Puts, Rose, appended, last_count}
+use Rattle.cf_io.specs.Feeds.{FailsLast, Puts, appended}
 use Rattle.heap_image.specs.Heaps.{heap_image}
 use Rattle.image_run.specs.Saves.{CanBeSaved, EndsSave, saved}
 use Rattle.run_model.specs.Sessions.{IsGoing, RunState}
@@ -16,10 +16,10 @@ use Rattle.script_loop.specs.ScriptOutcome.{Effects, HasCauses, IsRow, MeetsOutc
 use Rattle.script_loop.specs.WithSettings.{GoesWith, Settled, with_settings}
 
 -- a sink that nobody sees never fails
-pub never_cut : (st : Status) → (st ≡ WriteFault → Rose 0 0) → st ≡ WriteFault → ⊥
-never_cut st cause is = elim (cause is) [ inl less ↦ absurd (omega (arith, less)) | inr last ↦ (let e : 0 ≡ last_count = last in absurd cc) ]
+pub never_cut : (st : Status) → (st ≡ WriteFault → FailsLast 0 0 false) → st ≡ WriteFault → ⊥
+never_cut st cause is = let e : false ≡ true = (cause is).1 in absurd cc
 
--- ---- the causes, where the script was answered to its end
+-- ---- the causes, if the script was run to its end
 
 pub done_same : (st : Status) → st ≡ Done → {a b : ℕ} → (st ≢ ReadFault → a ≡ b) → a ≡ b
 done_same st done same = same (λ is. (let e : Done ≡ ReadFault = sym done ∙ is in absurd cc))
@@ -35,7 +35,7 @@ whole_causes s k s' k' source sink = record {
   too_long = λ is. absurd (let e : Done ≡ TooLong = is in cc);
 }
 
-pub cut_causes : (s : SourceState) (k : SinkState) (s' : SourceState) (k' : SinkState) → s'.faults ≡ s.faults → Rose k.faults k'.faults
+pub cut_causes : (s : SourceState) (k : SinkState) (s' : SourceState) (k' : SinkState) → s'.faults ≡ s.faults → FailsLast k.faults k'.faults k'.failed
     → HasCauses s k WriteFault s' k'
 cut_causes s k s' k' source sink = record {
   silent = λ is. absurd (let e : WriteFault ≡ OutOfMemory = is in cc);
@@ -112,8 +112,8 @@ module _ (from to : Settled RunState) (had left : Option (List ℕ)) (gave given
   abbrev script_as : Status → Effects
   script_as st = record { had = had; left = left; given_before = gave; given_after = given; before = None; after = None; status = st }
 
-  -- the script wasn't answered to its end
-  pub ends_early : (st : Status) → st ≢ Done → (st ≡ WriteFault → Rose 0 0) → MeetsOutcome (with_settings one_manager) from (script_as st) to
+  -- the script was not run to its end
+  pub ends_early : (st : Status) → st ≢ Done → (st ≡ WriteFault → FailsLast 0 0 false) → MeetsOutcome (with_settings one_manager) from (script_as st) to
       → after ≡ before → EndsSave from.state (call_as st) to.state
   ends_early st unfinished cause met same = go st unfinished (outcome_settled from to (script_as st) (never_cut st cause) met) (never_cut st cause)
     where
@@ -139,7 +139,7 @@ module _ (from to : Settled RunState) (had left : Option (List ℕ)) (gave given
     script = outcome_settled from to (script_as Done) (λ is. (let e : Done ≡ WriteFault = is in absurd cc))
         (subst (λ (st : Status). MeetsOutcome (with_settings one_manager) from (script_as st) to) done met)
 
-    -- it was answered to its end, and nothing was opened
+    -- it was run to its end, and nothing was opened
     pub ends_unopened : to.state.heap.is_open ≡ false → after ≡ before → EndsSave from.state (call_as Done) to.state
     ends_unopened closed same = record {
       script = script;

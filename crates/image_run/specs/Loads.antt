@@ -14,18 +14,18 @@ use Rattle.image_run.specs.Script.{heap_script}
 use Rattle.run_model.specs.Sessions.{RunState}
 use Rattle.script_loop.specs.ScriptOutcome.{Effects}
 
--- the line that tells the offset at which the bytes are no image
+-- the line `bad image` with the offset of the first field that breaks a rule
 abbrev pub bad_image : ℕ → List ℕ
 bad_image at = led [] (said (with_number (codes "bad image ") at))
 
--- the sink failed: a prefix was written of the script, or of the line that tells of a broken image
+-- the sink failed: a prefix of the script was written, or of the line `bad image`
 abbrev pub IsCutOff : Result Settings LoadFault → Option (List ℕ) → RunState → Option (List ℕ) → Type 0
 IsCutOff (Ok settings) before to after = WritesPrefix before (heap_script to) after
 IsCutOff (Err (fault.Bad at)) before to after = WritesPrefix before (bad_image at) after
 IsCutOff (Err fault.Read) before to after = ⊥
 IsCutOff (Err fault.OutOfMemory) before to after = ⊥
 
--- a load of the bytes of a call by a result: these bytes were taken, as many as the source gave, and whatever bytes may follow, the result is that of all of them
+-- a load from the source of a call, with its result
 abbrev pub LoadsIn : RunState → Effects → Result Settings LoadFault → RunState → Type 0
 LoadsIn from call result to = LoadsBy from (feed_at call.had call.given_before) result (feed_at call.left call.given_after) to
 

@@ -1,4 +1,4 @@
--- A script is answered, and what lives at its end is written as an image.
+-- A script is run, and the objects that are live at its end are written as an image.
 use Rattle.std.specs.Prelude.{◌≡◌, ◌++◌, ℕ, List, [], Option, None, IsTrue, if◌then◌else◌}
 use Rattle.cf_base.specs.Settings.{at_bound_one}
 use Rattle.cf_base.specs.declared.kind.Kind.TheVariants.{Moving}
@@ -10,7 +10,7 @@ use Rattle.run_model.specs.Sessions.{IsGoing, RunState}
 use Rattle.script_loop.specs.OneManager.{one_manager}
 use Rattle.script_loop.specs.ScriptOutcome.{Effects, MeetsOutcome}
 
--- what the end of a run is saved as: nothing where no `heap` line opened the manager
+-- what the end of a run is saved as: nothing if no `heap` line opened the manager
 abbrev pub saved : RunState → List ℕ
 saved s = if s.heap.is_open then heap_image s else []
 

@@ -10,12 +10,12 @@ use Rattle.run_model.specs.Sessions.{RunState}
 use Rattle.script_reader.specs.declared.command.Command.{Command}
 use Rattle.script_reader.specs.declared.command.Command.TheVariants.{Malloc, Write}
 
--- so many writes of bytes from an offset on, 4,096 bytes each, the last one shorter
+-- n writes from an offset on: 4,096 bytes each, the last one shorter
 unfoldable pub writes_from : ℕ → ℕ → ℕ → List ℕ → List Command
 writes_from zero id at bytes = []
 writes_from (suc more) id at bytes = Write id at (take 4096 bytes) ∷ writes_from more id (at + 4096) (drop 4096 bytes)
 
--- as many as the bytes need: none where there are none
+-- the writes that the bytes need; no bytes need none
 abbrev pub writes_of : ℕ → List ℕ → List Command
 writes_of id bytes = writes_from (div_ceil (length bytes) 4096) id 0 bytes
 

@@ -1,10 +1,10 @@
 //! A script to an image of what it leaves, and an image to the script that makes what it holds.
 #![tactic(auto)]
 
-mod loading;
-mod saving;
-mod telling;
+mod load;
+mod print;
+mod save;
 
-pub use loading::load_script;
-pub use saving::save_script;
-pub use telling::tell_script;
+pub use load::load_script;
+pub use print::print_script;
+pub use save::save_script;

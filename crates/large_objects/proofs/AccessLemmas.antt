@@ -1,15 +1,14 @@
 -- A long object is read and written piece by piece.
 use Rattle.std.proofs.Common.{◌≡◌, ℕ, ◌+◌, ◌*◌, ◌/◌, ◌%◌, ◌^◌, ◌<◌, ◌≤◌, List, [], ◌∷◌, ◌++◌}
-use Rattle.std.proofs.Common.{Some, length, take, drop, arith, sym, ◌∙◌, ap, refl, subst, inl, inr, length-append, length-drop}
+use Rattle.std.proofs.Common.{Some, length, take, drop, arith, sym, ◌∙◌, ap, refl, subst, length-append, length-drop}
 use Rattle.std.proofs.Math.Nat.{div-add-mod, lt_of_mul-lt-mul_left, mod-lt}
-use Rattle.std.proofs.lemmas.Bool.{cases_eq}
 use borrow.Rule.Slice.PartMut.{put_mid}
 use Rattle.std.proofs.lemmas.List.{length-take, take-append-drop, take_all}
 use Rattle.std.proofs.lemmas.Nat.{mul-le}
 use Rattle.std.proofs.lemmas.Option.{same_Some}
 use Rattle.std.proofs.lemmas.Slice.{drop-put_mid, take-put_mid}
 use Rattle.std.specs.FinMap.{get, insert}
-use Rattle.cf_lemmas.proofs.Maps.{equal_maps, get_inserted, get_insert_other}
+use Rattle.cf_lemmas.proofs.Maps.{get_inserted, insert_twice}
 use Rattle.cf_base.specs.Settings.{Profile}
 use Rattle.page_model.specs.Bytes.{written}
 use Rattle.page_model.specs.Held.{Objects}
@@ -25,12 +24,6 @@ use Rattle.large_objects.proofs.InnerSteps.{part_small}
 take_none : (v : List ℕ) → take 0 v ≡ []
 take_none [] = refl
 take_none (x ∷ v) = refl
-
-insert_over : (m : Objects) (h : ℕ) (a b : List ℕ) → insert (insert m h a) h b ≡ insert m h b
-insert_over m h a b = equal_maps _ _ (λ q. elim (cases_eq q h) [
-  | inl is ↦ rw is (get_inserted (insert m h a) h b ∙ sym (get_inserted m h b))
-  | inr ne ↦ get_insert_other (insert m h a) h b q ne ∙ get_insert_other m h a q ne ∙ sym (get_insert_other m h b q ne)
-])
 
 -- the piece of a byte, and its place there
 module _ (u from : ℕ) (some : 0 < u) where
@@ -77,7 +70,7 @@ wrote_more old now new h at done count bytes v chunk from found within few so_fa
     let object = same_Some wrote.object (written v at (take done bytes)) (sym wrote.found ∙ there) in
     wrote.left
     ∙ ap (λ (o : Objects). insert o h (written wrote.object from chunk)) so_far
-    ∙ insert_over old.objects h _ _
+    ∙ insert_twice old.objects h _ _
     ∙ ap (λ (x : List ℕ). insert old.objects h (written x from chunk)) object
     ∙ ap (λ (k : ℕ). insert old.objects h (written (written v at (take done bytes)) k chunk)) from_is
     ∙ ap (λ (x : List ℕ). insert old.objects h (written (written v at (take done bytes)) (at + done) x)) chunk_is

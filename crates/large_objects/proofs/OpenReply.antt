@@ -6,7 +6,7 @@ use Rattle.std.specs.FinMap.{empty, get}
 use Rattle.cf_base.specs.Settings.{profile_of, Profile, at_bound_one}
 use Rattle.cf_base.specs.declared.settings.Settings.{Settings}
 use Rattle.cf_io.specs.Texts.{Reply}
-use Rattle.cf_model.specs.Steps.{IsOpeningWords, empty_heap}
+use Rattle.cf_model.specs.Steps.{IsOpeningOrder, IsOpeningWords, ordered_heap}
 use Rattle.id_table.specs.Ids.{Ids}
 use Rattle.script_reader.specs.declared.command.Command.{Command}
 use Rattle.script_reader.specs.declared.command.Command.TheVariants as command
@@ -28,7 +28,8 @@ module _ (ids : Ids) (old new : LargeState) (settings : Settings) (fresh : ids �
     open_now = opened.open_now;
     none = opened.none;
     words = subst (λ (p : Profile). IsOpeningWords old.inner.kind p new.inner.words) is opened.inner.words;
-    inner = subst (λ (p : Profile). new.inner ≡ empty_heap old.inner.kind p new.inner.words) is opened.inner.whole;
+    order = subst (λ (p : Profile). IsOpeningOrder old.inner.kind p new.inner.order) is opened.inner.order;
+    inner = subst (λ (p : Profile). new.inner ≡ ordered_heap old.inner.kind p new.inner.words new.inner.order) is opened.inner.whole;
     parts = parts;
   }
 

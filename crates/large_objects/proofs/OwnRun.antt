@@ -124,7 +124,7 @@ module _ (s : HeapState) (ready : IsReady s) where
       of_live reply new None live f = absurd (let z : ◌≡◌ {A = Option ℕ} None (Some q) = live in cc)
       of_live reply new (Some h) live f = (let e = same_Some h q live in subst (λ k. Frees run (record { id = q; number = k }) reply new) e f)
 
-  -- bytes are written into one, as many as a command may write
+  -- bytes are written into one: at most 4,096, as in a command
   pub writes_there : (q at : ℕ) (bytes : List ℕ) → HasPart s q at (length bytes) → AreBytes bytes → 1 ≤ length bytes → length bytes ≤ 4096
       → (new : HeapState) × WritesPart s q at bytes new
   writes_there q at bytes has are some few =

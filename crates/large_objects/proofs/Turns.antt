@@ -128,13 +128,14 @@ begins_large kind p paged can =
       few_proxies = can.few_proxies;
       small_region = can.small_region;
     }) in
-    let opened : IsEmptyHeap kind settings b.0.heap = record { words = b.1.words; whole = b.1.heap } in (
+    let opened : IsEmptyHeap kind settings b.0.heap = record { words = b.1.words; order = b.1.order; whole = b.1.heap } in (
       record { ids = empty; heap = record { is_open = true; objects = empty; inner = b.0.heap } },
       record {
         ids = refl;
         open_now = refl;
         none = refl;
         words = b.1.words;
+        order = b.1.order;
         inner = b.1.heap;
         parts = empty_parts settings kind b.0.heap (vacant p.proxies) paged refl opened b.1.rules refl;
       },

@@ -5,7 +5,7 @@ use Rattle.cf_base.specs.Settings.{Profile, at_bound_one}
 use Rattle.cf_base.specs.declared.kind.Kind.{Kind}
 use Rattle.cf_io.specs.Texts.{Reply, said}
 use Rattle.cf_model.specs.Families.{IsPaged}
-use Rattle.cf_model.specs.Steps.{IsOpeningWords, empty_heap}
+use Rattle.cf_model.specs.Steps.{IsOpeningOrder, IsOpeningWords, ordered_heap}
 use Rattle.run_model.specs.Plays.{PlayRun}
 use Rattle.script_loop.specs.Semantics.{Semantics}
 use Rattle.script_reader.specs.Items.{Item}
@@ -20,7 +20,8 @@ pub record BeginsLarge (kind : Kind) (p : Profile) (new : LargeRun) : Type 0 whe
   pub open_now : new.heap.is_open ≡ true
   pub none : new.heap.objects ≡ empty
   pub words : IsOpeningWords kind (at_bound_one p) new.heap.inner.words
-  pub inner : new.heap.inner ≡ empty_heap kind (at_bound_one p) new.heap.inner.words
+  pub order : IsOpeningOrder kind (at_bound_one p) new.heap.inner.order
+  pub inner : new.heap.inner ≡ ordered_heap kind (at_bound_one p) new.heap.inner.words new.heap.inner.order
   pub parts : KeepsParts new.heap
 
 -- the same, and the reply is `ok`

@@ -98,9 +98,11 @@ pub fn run_large<H: Manager, S: Source, K: Sink>(
     requires fresh { player.old.session ≡ map.empty }
     requires pages { IsPaged heap.old.inner.kind }
     ensures { Plays large_heap (large_run player.old.session heap.old)
-        (source_at (S.rest source.old) (S.given source.old) (S.faults source.old)) (sink_at (K.written sink.old) (K.faults sink.old))
+        (source_at (S.rest source.old) (S.given source.old) (S.faults source.old) (S.last_failed source.old))
+        (sink_at (K.written sink.old) (K.faults sink.old) (K.last_failed sink.old))
         result
-        (source_at (S.rest source.new) (S.given source.new) (S.faults source.new)) (sink_at (K.written sink.new) (K.faults sink.new))
+        (source_at (S.rest source.new) (S.given source.new) (S.faults source.new) (S.last_failed source.new))
+        (sink_at (K.written sink.new) (K.faults sink.new) (K.last_failed sink.new))
         (large_run player.new.session heap.new) }
 {
     play_script(player, heap, source, sink)

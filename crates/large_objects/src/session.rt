@@ -1,7 +1,7 @@
 //! A session over a heap of large objects.
 ghost use Rattle.std.specs.Prelude.{◌≡◌, ◌<◌, ◌≤◌, [], IsTrue, IfOk, OnErr, length, OnOk};
 ghost use Rattle.std.specs.FinMap as map;
-ghost use Rattle.cf_io.specs.Feeds.{Rose};
+ghost use Rattle.cf_io.specs.Feeds.{FailsLast};
 ghost use Rattle.cf_session.specs.Apply.{outcome_in};
 ghost use Rattle.script_reader.specs.Commands.{IsWellFormed};
 ghost use Rattle.script_reader.specs.Owned.{owned_command};
@@ -74,7 +74,7 @@ impl LargeSession {
         ensures going { IsGoingLarge (large_run self.new heap.new) }
         ensures grows { K.faults out.old ≤ K.faults out.new }
         ensures same { OnOk result (K.faults out.new ≡ K.faults out.old) }
-        ensures failed { OnErr result (Rose (K.faults out.old) (K.faults out.new)) }
+        ensures failed { OnErr result (FailsLast (K.faults out.old) (K.faults out.new) (K.last_failed out.new)) }
     {
         self.apply_ref(heap, c.as_ref(), line, out, meter)
     }
@@ -96,7 +96,7 @@ impl LargeSession {
         ensures going { IsGoingLarge (large_run self.new heap.new) }
         ensures grows { K.faults out.old ≤ K.faults out.new }
         ensures same { OnOk result (K.faults out.new ≡ K.faults out.old) }
-        ensures failed { OnErr result (Rose (K.faults out.old) (K.faults out.new)) }
+        ensures failed { OnErr result (FailsLast (K.faults out.old) (K.faults out.new) (K.last_failed out.new)) }
     {
         // For its contract: an open heap keeps its inner objects in order.
         let _open = heap.is_open();
@@ -121,7 +121,7 @@ fn answer<H: Manager, K: Sink>(
         (large_moment ids.new heap.new (K.written out.new)) }
     ensures grows { K.faults out.old ≤ K.faults out.new }
     ensures same { OnOk result (K.faults out.new ≡ K.faults out.old) }
-    ensures failed { OnErr result (Rose (K.faults out.old) (K.faults out.new)) }
+    ensures failed { OnErr result (FailsLast (K.faults out.old) (K.faults out.new) (K.last_failed out.new)) }
 {
     match c {
         CommandRef::Walk => {

@@ -1,13 +1,13 @@
 -- The figures of a class of a task.
 use Rattle.std.proofs.Common.{◌≡◌, ℕ, ◌+◌, ◌<◌, ◌≤◌, length, get_or, arith, refl, sym, ◌∙◌, ap}
 use Rattle.cf_base.specs.declared.answers.Figures.{Figures}
-use Rattle.cf_lemmas.proofs.Ranges.{count_at_most}
 use Rattle.class_lists.specs.PageLists.{pages_in}
 use Rattle.class_lists.specs.declared.Which.TheVariants.{Full, NotFull}
 use Rattle.page_model.specs.Arrangement.{home_pages, live, not_full_pages}
 use Rattle.page_model.specs.Figures.{figures_of}
 use Rattle.page_model.specs.Held.{Held, objects}
 use Rattle.page_model.specs.Paging.{Paging, classes, slot_words, slots_of}
+use Rattle.page_model.proofs.CallerLemmas.{home_at_most}
 use Rattle.page_slots.proofs.CallerLemmas.{home_pages_are, not_full_pages_are}
 use Rattle.quota_heap.specs.Layout.{ArePages, IsTask, IsTaskIn, IsValid, held_of, paging_at, state_of, tables_of}
 use Rattle.quota_heap.specs.State.{held_by}
@@ -18,10 +18,6 @@ use Rattle.quota_heap.proofs.Facts.{as_many, few_classes, paging_ok, size_is, ta
 use Rattle.quota_heap.proofs.Tasks.{part_is}
 use Rattle.size_classes.specs.Table.{ClassTable}
 use Rattle.cf_base.specs.Classes.{slots}
-
-home_at_most : (p : Paging) (m : Held) (c : ℕ) → home_pages p m c ≤ p.pages
-unfolding home_pages
-home_at_most p m c = count_at_most _ 0 p.pages
 
 figures_same : (p : Paging) (m : Held) (c w s l g n : ℕ) → w ≡ slot_words p c → s ≡ slots_of p c → l ≡ live p (objects m) c → g ≡ home_pages p m c
     → n ≡ not_full_pages p m c → ◌≡◌ {A = Figures} (record { slot_words = w; slots = s; live = l; pages = g; not_full = n }) (figures_of p m c)

@@ -1,21 +1,20 @@
 -- What is known of the shared pages and of one task on them.
 use Rattle.std.proofs.Common.{◌≡◌, ℕ, ◌+◌, ◌/◌, ◌<◌, ◌≤◌, length, get_or, Some, None, arith, sym, ◌∙◌, ap, subst, inl, inr}
-use Rattle.std.specs.Prelude.{nat_eq, option_map}
+use Rattle.std.specs.Prelude.{option_map}
 use Rattle.std.proofs.lemmas.Bool.{cases_lt}
 use Rattle.std.specs.FinMap.{get, len}
 use Rattle.cf_base.specs.Classes.{class_of, need, sizes}
 use Rattle.cf_base.specs.Settings.{profile_of}
 use Rattle.cf_base.specs.declared.kind.Layout.TheVariants.{Words}
 use Rattle.cf_lemmas.proofs.MapValues.{get-map_values}
-use Rattle.cf_lemmas.proofs.Ranges.{one}
-use Rattle.cf_lemmas.proofs.Values.{len-map_values, sum_at_most}
+use Rattle.cf_lemmas.proofs.Values.{len-map_values}
 use Rattle.page_model.specs.Arrangement.{live, used_pages}
 use Rattle.page_model.specs.Bytes.{bytes_at}
-use Rattle.page_model.specs.Held.{Held, Placed, objects}
+use Rattle.page_model.specs.Held.{Placed}
 use Rattle.page_model.specs.Image.{slot_for}
-use Rattle.page_model.specs.Paging.{AreOne, IsPaging, Paging, class_for, classes, slot_words}
-use Rattle.page_model.proofs.CallerLemmas.{class_fits, class_holds, class_known, class_none, held_at_is, len-objects, object_inside, one_le, slot_fits}
-use Rattle.page_model.proofs.CallerLemmas.{used_at_one}
+use Rattle.page_model.specs.Paging.{AreOne, IsPaging, class_for, classes, slot_words}
+use Rattle.page_model.proofs.CallerLemmas.{class_fits, class_holds, class_known, class_none, held_at_is, len-objects, object_inside, slot_fits}
+use Rattle.page_model.proofs.CallerLemmas.{used_at_one, live_few}
 use Rattle.page_slots.specs.Occupying.{class_table}
 use Rattle.page_slots.specs.Tables.{AreTables}
 use Rattle.quota_model.proofs.CallerLemmas.{tasks_at_one, tasks_paged}
@@ -60,13 +59,6 @@ module _ (g : SharedPages) where
               let is : class_for (paging_at g) bytes ≡ c = cc in
               (fits, is, subst (λ c. c < classes (paging_at g)) is lt))
         ]
-
-pub live_few : (p : Paging) (m : Held) (c : ℕ) → live p (objects m) c ≤ len m
-unfolding live
-live_few p m c =
-    let a = sum_at_most (λ v. one (nat_eq (class_for p (length v)) c)) 1 (objects m) (λ q v e. one_le (nat_eq (class_for p (length v)) c)) in
-    let l = len-objects m in
-    omega arith
 
 module _ (g : SharedPages) (k : ArePages g) (t : ℕ) (x : Task) (i : IsTask g t x) where
   pub tables_ok : AreTables g.classes (tables_of g x)

@@ -1,13 +1,12 @@
 -- A freed object of a task: what is known of it, and what is left.
-use Rattle.std.proofs.Common.{◌≡◌, ℕ, ◌+◌, ◌-◌, ◌<◌, ◌≤◌, List, length, get_or, set, Option, Some, arith, refl, sym, ◌∙◌, ap, subst, inl, inr}
+use Rattle.std.proofs.Common.{◌≡◌, ℕ, ◌+◌, ◌-◌, ◌<◌, ◌≤◌, length, get_or, set, Option, Some, arith, refl, sym, ◌∙◌, ap, subst}
 use Rattle.std.specs.Prelude.{nat_eq, option_map}
-use Rattle.std.proofs.lemmas.Bool.{cases_eq}
-use Rattle.std.proofs.lemmas.List.{get_or-set_other, get_or-set_same, length-set}
+use Rattle.std.proofs.lemmas.List.{length-set}
 use Rattle.std.specs.FinMap.{get, remove}
 use Rattle.cf_base.specs.Settings.{profile_of}
 use Rattle.cf_base.specs.declared.answers.Freed.{Freed}
 use Rattle.cf_lemmas.proofs.Ranges.{one}
-use Rattle.cf_lemmas.proofs.Tests.{eq_no, eq_yes}
+use Rattle.cf_lemmas.proofs.Tests.{eq_yes}
 use Rattle.cf_lemmas.proofs.Tallies.{counted_out}
 use Rattle.class_lists.specs.PageLists.{pages_in}
 use Rattle.class_lists.specs.declared.Which.TheVariants.{NotFull}

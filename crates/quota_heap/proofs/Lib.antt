@@ -8,11 +8,11 @@ pub mod Preserved
 pub mod Refusals
 pub mod MallocLemmas
 pub mod FreedObject
-pub mod FreeCalls
+pub mod FreeKinds
 pub mod Parts
 pub mod ObjectFacts
 pub mod Rules
-pub mod Opening
-pub mod Quotas
+pub mod OpenLemmas
+pub mod SetQuota
 pub mod ClassFigures
-pub mod Filling
+pub mod Filler

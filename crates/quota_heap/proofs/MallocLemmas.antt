@@ -1,8 +1,8 @@
 -- A malloc of a task.
-use Rattle.std.proofs.Common.{◌≡◌, ◌≢◌, ℕ, ◌+◌, ◌<◌, ◌≤◌, List, length, get_or, set, replicate, Some, None, arith, refl, sym, ◌∙◌, ap, subst, inl, inr}
+use Rattle.std.proofs.Common.{◌≡◌, ◌≢◌, ℕ, ◌+◌, ◌<◌, ◌≤◌, length, get_or, set, replicate, Some, None, arith, refl, sym, ◌∙◌, ap, subst, inl, inr}
 use Rattle.std.specs.Prelude.{nat_eq}
 use Rattle.std.proofs.lemmas.Bool.{cases_eq}
-use Rattle.std.proofs.lemmas.List.{length-replicate, length-set}
+use Rattle.std.proofs.lemmas.List.{length-set}
 use Rattle.std.specs.FinMap.{get, insert}
 use Rattle.cf_base.specs.Settings.{profile_of}
 use Rattle.cf_lemmas.proofs.Ranges.{one}
@@ -15,7 +15,7 @@ use Rattle.page_model.specs.Held.{Held, Placed, objects}
 use Rattle.page_model.specs.Image.{IsSlotImage, header_word}
 use Rattle.page_model.specs.Paging.{class_for, classes, page_of}
 use Rattle.page_model.specs.Steps.{IsFreePlace, Request, zeros_at}
-use Rattle.page_model.proofs.CallerLemmas.{bytes_missing, live_added, malloc_objects, malloc_places, storable_added, zeros_are_bytes}
+use Rattle.page_model.proofs.CallerLemmas.{bytes_missing, live_added, malloc_objects, malloc_places, storable_added, zeros_are_bytes, class_of_zeros}
 use Rattle.page_slots.specs.Occupying.{Occupies, TellPart, class_table}
 use Rattle.page_slots.specs.Tables.{AreTables, IsElsewhere, IsOf, Tables}
 use Rattle.page_slots.specs.Take.{TakesAt}
@@ -40,8 +40,6 @@ use Rattle.quota_heap.proofs.Refusals.{reason}
 use Rattle.quota_heap.proofs.Tasks.{length_map, map_set, numbers, part_is, places_here, task_below}
 use Rattle.std.proofs.lemmas.Option.{slice_get_within}
 use Rattle.cf_lemmas.proofs.Tallies.{counted_in}
-use Rattle.cf_lemmas.proofs.Tests.{eq_no, eq_yes}
-use Rattle.std.proofs.lemmas.List.{get_or-set_other, get_or-set_same}
 use Rattle.page_model.proofs.CallerLemmas.{slot_inside}
 use Rattle.quota_heap.proofs.Facts.{tables_ok}
 use Rattle.cf_lemmas.proofs.Maps.{get_inserted}
@@ -70,9 +68,6 @@ module _ (g : SharedPages) (k : ArePages g) (t : ℕ) (x : Task) (i : IsTask g t
       → Occupies (paging_at g) (insert (held_of g x) q y) new
   taken_occupies q y none at class = taken_occupied (paging_ok g) i.tell i.occupied of_table lt at_table q y none at class
 
-  class_of_zeros : (n : ℕ) → class_for (paging_at g) n ≡ c → class_at (paging_at g) (zeros_at a n) ≡ c
-  class_of_zeros n class = ap (class_for (paging_at g)) (length-replicate {A = ℕ} n 0) ∙ class
-
   -- the address is in the region
   pub taken_inside : (n : ℕ) → class_for (paging_at g) n ≡ c → a < length g.region
   taken_inside n class =
@@ -86,7 +81,7 @@ module _ (g : SharedPages) (k : ArePages g) (t : ℕ) (x : Task) (i : IsTask g t
   pub taken_account : (q n : ℕ) → get x.proxies.places q ≡ None → class_for (paging_at g) n ≡ c → length new.pool.free ≤ x.pages + length g.pool.free
   taken_account q n unused class =
       let e = used_after g k t x i c lt (insert (held_of g x) q (zeros_at a n)) new taken_tells
-      (taken_occupies q (zeros_at a n) (no_place g k t x i q unused) refl (class_of_zeros n class))
+      (taken_occupies q (zeros_at a n) (no_place g k t x i q unused) refl (class_of_zeros (paging_at g) a n c class))
       (take_accounts g.classes (tables_of g x) (tables_ok g k t x i) c new a taken) in
       omega arith
 
@@ -118,19 +113,13 @@ module _ (h n : OpenTasks) (k : IsValid h) (t : ℕ) (x x' : Task) (at : IsTaskI
   unused : get (held_of h.shared_pages x) q ≡ None
   unused = no_place h.shared_pages k.shared_pages t x i q co.unused
 
-  size : length (replicate {A = ℕ} bytes 0) ≡ bytes
-  size = length-replicate {A = ℕ} bytes 0
-
-  class_zeros : class_at (paging_at h.shared_pages) (zeros_at co.place bytes) ≡ c
-  class_zeros = ap (class_for (paging_at h.shared_pages)) size ∙ class
-
   occupied_own : Occupies (paging_at h.shared_pages) (insert (held_of h.shared_pages x) q (zeros_at co.place bytes)) (tables_of n.shared_pages x')
   occupied_own = taken_occupies h.shared_pages k.shared_pages t x i c lt co.place (tables_of n.shared_pages x') co.taken co.rest.tables q (zeros_at co.place bytes) unused refl
-      class_zeros
+      (class_of_zeros (paging_at h.shared_pages) co.place bytes c class)
 
   -- the new object's page is listed by the task
   listed : IsOf (tables_of n.shared_pages x') c (page_of (paging_at h.shared_pages) co.place)
-  listed = subst (λ d. IsOf (tables_of n.shared_pages x') d (page_of (paging_at h.shared_pages) co.place)) class_zeros
+  listed = subst (λ d. IsOf (tables_of n.shared_pages x') d (page_of (paging_at h.shared_pages) co.place)) (class_of_zeros (paging_at h.shared_pages) co.place bytes c class)
       (occupied_own.stands q (zeros_at co.place bytes) (get_inserted (held_of h.shared_pages x) q (zeros_at co.place bytes))).of
 
   not_elsewhere : IsElsewhere (tables_of h.shared_pages x) (page_of (paging_at h.shared_pages) co.place) → ⊥
@@ -196,7 +185,7 @@ module _ (h n : OpenTasks) (k : IsValid h) (t : ℕ) (x x' : Task) (at : IsTaskI
       let inside : c < length x.live = (let f = few_classes h.shared_pages k.shared_pages t x i in let long = i.live_long in omega arith) in
       let more = counted_in x.live c d inside in
       let same : one (nat_eq (class_for (paging_at h.shared_pages) (length (replicate {A = ℕ} bytes 0))) d) ≡ one (nat_eq c d) =
-      ap (λ e. one (nat_eq e d)) class_zeros in
+      ap (λ e. one (nat_eq e d)) (class_of_zeros (paging_at h.shared_pages) co.place bytes c class) in
       omega arith
 
   shared_after : IsShared (profile_of h.shared_pages.settings) after

@@ -3,12 +3,12 @@ use Rattle.std.proofs.Common.{◌≡◌, ℕ, zero, suc, ◌+◌, ◌-◌, ◌*�
 use Rattle.std.specs.Prelude.{nat_eq}
 use Rattle.std.proofs.lemmas.Bool.{cases_eq, cases_lt}
 use Rattle.cf_lemmas.proofs.Tests.{eq_no, eq_yes}
+use Rattle.cf_lemmas.proofs.Ranges.{sum_changed}
 use Rattle.page_model.specs.Arrangement.{IsSound, home_pages, live, not_full_pages, pages_needed, pages_needed_with}
 use Rattle.page_model.specs.Counts.{CanHold, Stand, ceil_div}
 use Rattle.page_model.specs.Held.{Held, objects}
 use Rattle.page_model.specs.Paging.{AreOne, IsPaging, Paging, class_for, classes, slots_of}
-use Rattle.page_model.proofs.CallerLemmas.{can_hold_one, slots_some, sound_stand}
-use Rattle.quota_heap.proofs.Sums.{sum_changed}
+use Rattle.page_model.proofs.CallerLemmas.{can_hold_one, slots_some, sound_stand, home_at_one}
 
 -- n and one more on pages that may have one partly full
 one_more : (h n m q : ℕ) → 0 < m → Stand h n m 1 q → CanHold (h + (1 - q)) (n + 1) m 1
@@ -47,9 +47,6 @@ module _ (p : Paging) (ok : IsPaging p) (ones : AreOne p) (m : Held) (s : IsSoun
   stand : (c : ℕ) → c < classes p → Stand (home_pages p m c) (live p (objects m) c) (slots_of p c) 1 (not_full_pages p m c)
   stand c lt = subst (λ k. Stand (home_pages p m c) (live p (objects m) c) (slots_of p c) k (not_full_pages p m c)) (ones c lt) (sound_stand p ok c lt m s)
 
-  home_is : (c : ℕ) → c < classes p → home_pages p m c ≡ ceil_div (live p (objects m) c) (slots_of p c)
-  home_is c lt = can_hold_one (home_pages p m c) (live p (objects m) c) (slots_of p c) (slots_some p ok c lt) (not_full_pages p m c, stand c lt)
-
   pub not_full_few : (c : ℕ) → c < classes p → not_full_pages p m c ≤ 1
   not_full_few c lt = (stand c lt).few
 
@@ -63,10 +60,10 @@ module _ (p : Paging) (ok : IsPaging p) (ones : AreOne p) (m : Held) (s : IsSoun
       (one_more _ _ _ _ (slots_some p ok (class_for p n) fits) (stand (class_for p n) fits)) in
       let at : ceil_div (live p (objects m) (class_for p n) + cond (nat_eq (class_for p n) (class_for p n)) 1 0) (slots_of p (class_for p n))
       ≡ home_pages p m (class_for p n) + (1 - not_full_pages p m (class_for p n)) = rw yes (sym next) in
-      let was = home_is (class_for p n) fits in
+      let was = home_at_one p ok ones m s (class_for p n) fits in
       let sum = sum_changed (λ d. ceil_div (live p (objects m) d + cond (nat_eq (class_for p n) d) 1 0) (slots_of p d))
       (λ d. ceil_div (live p (objects m) d) (slots_of p d)) 0 (classes p) (class_for p n) (omega arith) (omega arith)
-      (λ d _ ne. (
+      (λ d _ _ ne. (
       let no = eq_no (class_for p n) d (λ e. ne (sym e)) in
       let z : live p (objects m) d + 0 ≡ live p (objects m) d = omega arith in
       rw (no, z) refl)) in

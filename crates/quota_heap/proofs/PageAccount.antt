@@ -1,15 +1,13 @@
 -- The pages that a task uses, and those of the pool, before and after a slot is taken or freed.
-use Rattle.std.proofs.Common.{◌≡◌, ◌≢◌, ℕ, false, ◌+◌, ◌<◌, List, [], ◌∷◌, length, cond, eqb, Some, arith, refl, sym, ◌∙◌, ap}
+use Rattle.std.proofs.Common.{◌≡◌, ◌≢◌, ℕ, ◌+◌, ◌<◌, length, arith, refl, sym, ◌∙◌, ap}
 use Rattle.std.proofs.Common.{inl, inr, subst}
-use Rattle.std.specs.Prelude.{not, nat_eq, slice_get}
-use Rattle.std.specs.List.{Contains, IsDistinct}
-use Rattle.std.proofs.lemmas.Bool.{cases_eq, eq-eqb}
-use Rattle.std.proofs.lemmas.Bool.Decides.{nat_tests}
+use Rattle.std.specs.List.{Contains}
+use Rattle.std.proofs.lemmas.Bool.{cases_eq}
 use Rattle.size_classes.specs.Table.{ClassTable}
 use Rattle.class_lists.specs.declared.Which.{Which}
 use Rattle.class_lists.specs.declared.Which.TheVariants.{Full, NotFull}
-use Rattle.class_lists.specs.PageLists.{AreApart, PageLists, pages_in, without_page}
-use Rattle.class_lists.proofs.CallerLemmas.{contains_cases, contains_head, contains_nil, contains_tail, distinct_head, distinct_tail}
+use Rattle.class_lists.specs.PageLists.{AreApart, PageLists, pages_in}
+use Rattle.class_lists.proofs.CallerLemmas.{length-without}
 use Rattle.page_model.specs.Arrangement.{home_pages, used_pages}
 use Rattle.page_model.specs.Held.{Held}
 use Rattle.page_model.specs.Paging.{IsPaging, Paging, classes}
@@ -18,36 +16,8 @@ use Rattle.page_slots.specs.Release.{FillsFrom, Vacates}
 use Rattle.page_slots.specs.Occupying.{Occupies, TellPart}
 use Rattle.page_slots.specs.Tables.{AreTables, JoinsList, LeavesList, Tables, slots_in, slots_on, used_in}
 use Rattle.page_slots.specs.Take.{TakesAt, TakesOnFreePage, TakesOnOpenPage}
-use Rattle.page_slots.proofs.CallerLemmas.{home_pages_are}
-use Rattle.quota_heap.proofs.Sums.{sum_changed}
-
-differs : (p q : ℕ) → p ≢ q → eqb p q ≡ false
-differs p q ne = grind (arith, nat_tests)
-
-without_same : (p : ℕ) (xs : List ℕ) → without_page p (p ∷ xs) ≡ without_page p xs
-without_same p xs = ap (λ b. cond (not b) (p ∷ without_page p xs) (without_page p xs)) (eq-eqb p p refl)
-
-without_other : (p x : ℕ) (xs : List ℕ) → x ≢ p → without_page p (x ∷ xs) ≡ x ∷ without_page p xs
-without_other p x xs ne = ap (λ b. cond (not b) (x ∷ without_page p xs) (without_page p xs)) (differs x p ne)
-
-without_absent : (p : ℕ) (xs : List ℕ) → ¬ Contains xs p → without_page p xs ≡ xs
-without_absent p [] out = refl
-without_absent p (x ∷ xs) out =
-    without_other p x xs (λ e. out (rw e (contains_head p xs)))
-    ∙ ap (λ ys. x ∷ ys) (without_absent p xs (λ h. out (contains_tail p x xs h)))
-
-length_without : (p : ℕ) (xs : List ℕ) → IsDistinct nat_eq xs → Contains xs p → length (without_page p xs) + 1 ≡ length xs
-length_without p [] d h = absurd (contains_nil p h)
-length_without p (x ∷ xs) d h = elim (cases_eq x p) [
-  | inl is ↦ (
-      let out : ¬ Contains xs p = rw is at (distinct_head x xs d) in
-      let e : without_page p (x ∷ xs) ≡ xs = rw is (without_same p xs ∙ without_absent p xs out) in
-      rw e (omega arith))
-  | inr ne ↦ elim (contains_cases p x xs h) [
-    | inl at ↦ absurd (ne (sym at))
-    | inr in' ↦ rw (without_other p x xs ne) (let rest = length_without p xs (distinct_tail x xs d) in' in omega arith)
-  ]
-]
+use Rattle.page_slots.proofs.CallerLemmas.{home_pages_are, front_listed}
+use Rattle.cf_lemmas.proofs.Ranges.{sum_changed}
 
 -- the pages of a class, partly full or full
 abbrev paged : PageLists → ℕ → ℕ
@@ -82,14 +52,14 @@ leaves_paged : (old : PageLists) (c : ℕ) (w : Which) (page : ℕ) (new : PageL
     → LeavesList old c w page new → (paged new c + 1 ≡ paged old c) × KeepsClasses old new c
 leaves_paged old c Full page new apart there l =
     let a = ap length l.list in
-    let n = length_without page (pages_in old c Full) (apart.distinct c Full) there in
+    let n = length-without page (pages_in old c Full) (apart.distinct c Full) there in
     let b = ap length (l.others c NotFull (inr part_not_full)) in (
       omega arith,
       λ d ne. (let x = ap length (l.others d Full (inl ne)) in let y = ap length (l.others d NotFull (inl ne)) in omega arith),
     )
 leaves_paged old c NotFull page new apart there l =
     let a = ap length l.list in
-    let n = length_without page (pages_in old c NotFull) (apart.distinct c NotFull) there in
+    let n = length-without page (pages_in old c NotFull) (apart.distinct c NotFull) there in
     let b = ap length (l.others c Full (inr full_not_part)) in (
       omega arith,
       λ d ne. (let x = ap length (l.others d Full (inl ne)) in let y = ap length (l.others d NotFull (inl ne)) in omega arith),
@@ -99,10 +69,6 @@ leaves_paged old c NotFull page new apart there l =
 pub record Accounts (old new : Tables) (c : ℕ) : Type 0 where
   pub here : paged new.lists c + length new.pool.free ≡ paged old.lists c + length old.pool.free
   pub others : (d : ℕ) → d ≢ c → paged new.lists d ≡ paged old.lists d
-
-front_in : (xs : List ℕ) (page : ℕ) → slice_get xs 0 ≡ Some page → Contains xs page
-front_in [] page e = absurd (let z : Some page ≡ slice_get [] 0 = sym e in cc)
-front_in (x ∷ xs) page e = (let z : Some x ≡ Some page = e in let is : x ≡ page = cc in subst (λ y. Contains (y ∷ xs) page) (sym is) (contains_head page xs))
 
 module _ (k : ClassTable) (old : Tables) (a : AreTables k old) (c : ℕ) (new : Tables) where
   -- a page moves from one list of the class to the other
@@ -123,7 +89,7 @@ module _ (k : ClassTable) (old : Tables) (a : AreTables k old) (c : ℕ) (new : 
       elim (cases_eq (used_in (slots_on new page)) (length (slots_on new page))) [
         | inl is ↦ (
             let f = t.filled is in
-            let m = moves NotFull Full page f.between (front_in (pages_in old.lists c NotFull) page t.front) f.leaves f.joins in
+            let m = moves NotFull Full page f.between (front_listed (pages_in old.lists c NotFull) page t.front) f.leaves f.joins in
             let e = m.0 in record { here = omega arith; others = m.1 })
         | inr ne ↦ (
             let e = ap (λ l. paged l c) (t.not_filled ne) in
@@ -178,6 +144,6 @@ used_accounts p ok m m' old new tell o tell' o' c lt a =
     let was = home_pages_are p ok m old tell o c in
     let now = home_pages_are p ok m' new tell' o' c in
     let sum = sum_changed (home_pages p m') (home_pages p m) 0 (classes p) c (omega arith) (omega arith)
-    (λ d _ ne. home_pages_are p ok m' new tell' o' d ∙ a.others d ne ∙ sym (home_pages_are p ok m old tell o d)) in
+    (λ d _ _ ne. home_pages_are p ok m' new tell' o' d ∙ a.others d ne ∙ sym (home_pages_are p ok m old tell o d)) in
     let here = a.here in
     omega arith

@@ -1,39 +1,9 @@
--- Sums in which one number changes.
-use Rattle.std.proofs.Common.{◌≡◌, ◌≢◌, ℕ, zero, suc, ◌+◌, ◌<◌, ◌≤◌, List, [], ◌∷◌, set, Some, arith, ap, refl, sym, inl, inr}
+-- Sums over a list: with one element changed, and compared element by element.
+use Rattle.std.proofs.Common.{◌≡◌, ℕ, zero, suc, ◌+◌, ◌<◌, ◌≤◌, List, [], ◌∷◌, set, Some, arith, ap, refl, sym}
 use Rattle.std.specs.Prelude.{slice_get, sum_by}
-use Rattle.std.specs.List.{range_with_len}
-use Rattle.std.proofs.lemmas.Bool.{cases_eq}
 use Rattle.std.proofs.lemmas.List.Sums.{sum_by-cons}
 
-sum_range_same : (f g : ℕ → ℕ) (a n : ℕ) → ((d : ℕ) → a ≤ d → d < a + n → f d ≡ g d) → sum_by f (range_with_len a n) ≡ sum_by g (range_with_len a n)
-sum_range_same f g a zero same = refl
-sum_range_same f g a (suc n) same =
-    let x = sum_by-cons f a (range_with_len (a + 1) n) in
-    let y = sum_by-cons g a (range_with_len (a + 1) n) in
-    let here = same a (omega arith) (omega arith) in
-    let rest = sum_range_same f g (a + 1) n (λ d low high. same d (omega arith) (omega arith)) in
-    omega arith
-
--- over a range, at one place
-pub sum_changed : (f g : ℕ → ℕ) (a n c : ℕ) → a ≤ c → c < a + n → ((d : ℕ) → d < a + n → d ≢ c → f d ≡ g d)
-    → sum_by f (range_with_len a n) + g c ≡ sum_by g (range_with_len a n) + f c
-sum_changed f g a zero c low high same = absurd (omega arith)
-sum_changed f g a (suc n) c low high same =
-    let x = sum_by-cons f a (range_with_len (a + 1) n) in
-    let y = sum_by-cons g a (range_with_len (a + 1) n) in
-    elim (cases_eq a c) [
-      | inl is ↦ (
-          let u : f a ≡ f c = ap f is in
-          let v : g a ≡ g c = ap g is in
-          let rest = sum_range_same f g (a + 1) n (λ d l h. same d (omega arith) (λ e. omega arith)) in
-          omega arith)
-      | inr ne ↦ (
-          let here = same a (omega arith) ne in
-          let rest = sum_changed f g (a + 1) n c (omega arith) (omega arith) (λ d h. same d (omega arith)) in
-          omega arith)
-    ]
-
--- over a list, of one element
+-- one element changes
 pub sum_set : {X : Type 0} (f : X → ℕ) (xs : List X) (i : ℕ) (x y : X) → slice_get xs i ≡ Some x → sum_by f (set xs i y) + f x ≡ sum_by f xs + f y
 sum_set f [] i x y e = absurd (let z : Some x ≡ slice_get [] i = sym e in cc)
 sum_set f (w ∷ xs) zero x y e =

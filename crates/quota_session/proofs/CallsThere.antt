@@ -111,7 +111,7 @@ module _ (p : Paging) (ok : IsPaging p) (m : Held) (s : IsSound p m) (ones : (c 
       let yes : one (nat_eq c c) ≡ 1 = ap one (eq_yes c c refl) in
       omega arith
 
--- a call of a task that is there: its answer, and the heap after it
+-- a call of a task has a result and a heap after it
 pub record IsThere (T : Type 0) (R : T → QuotaState → Type 0) : Type 0 where
   pub answer : T
   pub heap : QuotaState

@@ -1,6 +1,6 @@
 pub mod TaskKept
 pub mod RunInvariant
-pub mod Opened
+pub mod OpenLemmas
 pub mod ReplyLemmas
 pub mod ClassLines
 pub mod AtOne
@@ -8,5 +8,5 @@ pub mod OwnTask
 pub mod ScriptTold
 pub mod TaskReads
 pub mod CallsThere
-pub mod Turns
+pub mod CommandSteps
 pub mod CallerLemmas

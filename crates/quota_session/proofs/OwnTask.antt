@@ -1,4 +1,4 @@
--- A call of the present task is answered from its own objects by id, and changes no others.
+-- The reply to a call of the present task depends on its own objects by id, and the call changes no others.
 use Rattle.std.proofs.Common.{◌≡◌, ℕ, ◌+◌, ◌<◌, ◌≤◌, List, Some, None, length, replicate, sym, ◌∙◌, ap, refl, subst}
 use Rattle.std.specs.Prelude.{Option, option_map, Result, Ok, Err, codes}
 use Rattle.std.specs.Option.{MatchOption}
@@ -10,6 +10,7 @@ use Rattle.cf_base.specs.declared.answers.Refusal.{Refusal}
 use Rattle.cf_io.specs.Texts.{Reply, said}
 use Rattle.cf_lemmas.proofs.Renaming.{CountAlike}
 use Rattle.cf_lemmas.proofs.Tests.{le_no, le_yes}
+use Rattle.cf_lemmas.proofs.Maps.{remove_missing}
 use Rattle.page_model.specs.Bytes.{written}
 use Rattle.page_model.specs.Held.{Objects, Placed}
 use Rattle.quota_heap.specs.State.{KeepsTasks, held_by, objects_by, quota_of}
@@ -27,7 +28,7 @@ use Rattle.transcript_laws.specs.ById.{ById}
 use Rattle.transcript_laws.specs.Histories.{objects_by_id}
 use Rattle.transcript_laws.specs.Replies.{free_said, malloc_fault, malloc_leaves, malloc_said, ok_or, put_unless, read_said, write_fault}
 use Rattle.transcript_laws.specs.Replies.{write_leaves, write_said}
-use Rattle.transcript_laws.proofs.CallerLemmas.{by_id_changed, by_id_counts, by_id_given, by_id_gone, gone_by_id, live_by_id, remove_none}
+use Rattle.transcript_laws.proofs.CallerLemmas.{by_id_changed, by_id_counts, by_id_given, by_id_gone, gone_by_id, live_by_id}
 use Rattle.quota_session.specs.TaskRun.{FreesIdOfTask, MallocsForTask, StaysTask, TaskRun, TaskStep, WritesIdOfTask, task_object}
 use Rattle.quota_session.proofs.AtOne.{refusal_alike, walk_is}
 use Rattle.quota_session.proofs.TaskKept.{bytes_by, freed_objects, given_objects, given_unused, written_found, written_objects}
@@ -172,7 +173,7 @@ module _ (old new : TaskRun) (rules : KeepsTasks old.heap) (tied : AreTiedTo old
       go : (o : Option ℕ) → get old.ids id ≡ o → MatchOption o (StaysTask old (codes "unknown") reply new) (λ k. FreesIdOfTask old id k reply new)
           → IsTold (command.Free id)
       go None free s = stays (command.Free id) s.1 (s.0 ∙ ap (λ o. said (free_said o)) (sym (gone id free)))
-          (sym (remove_none (all old.task) id (gone id free)))
+          (sym (remove_missing (all old.task) id (gone id free)))
       go (Some k) named f = frees id k named f
   told (command.Write id at bytes) step = go (get old.ids id) refl step
     where

@@ -84,7 +84,7 @@ module _ (s : TaskRun) (id at count : ℕ) where
   read_fault h access.Range is past =
       ap (λ (o : Option Placed). read_text o at count) (object_is (Some h) is ∙ past.found) ∙ read_past past.object at count past.past
 
--- the ids of a task are as many as its objects
+-- a task has one id for each object
 pub as_many : (ids : Ids) (m : Objects) → AreTiedTo ids m → len ids ≡ len m
 as_many ids m tied =
     let names : AreTiedTo ids m = tied in

@@ -1,18 +1,15 @@
--- The replies to a script are those of its transcript: by the told state, with no word of numbers and addresses.
+-- The replies to a script are those of its transcript, which depends on the lines alone and has no numbers or addresses of objects.
 use Rattle.std.proofs.Common.{◌≡◌, ℕ, ◌<◌, ◌≤◌, List, [], ◌∷◌, Some, None, true, false, cond, get_or, length, take, arith, sym, ◌∙◌, ap, refl}
 use Rattle.std.proofs.Common.{subst, inl, inr}
 use Rattle.std.specs.Prelude.{⊤, Option, nat_eq, nat_le, nat_lt, option_map, slice_set, sum}
 use Rattle.std.proofs.lemmas.Bool.{cases_eq}
 use Rattle.std.proofs.lemmas.List.{get_or-set_same, get_or-set_other}
-use Rattle.std.specs.Ordering.{nat_cmp}
-use Rattle.std.specs.FinMap.{empty, get-empty}
+use Rattle.std.specs.FinMap.{empty}
 use Rattle.cf_base.specs.Settings.{Profile, at_bound_one}
 use Rattle.cf_io.specs.Texts.{Reply, said}
-use Rattle.cf_lemmas.proofs.Maps.{equal_maps}
 use Rattle.cf_lemmas.proofs.Renaming.{CountAlike}
 use Rattle.cf_lemmas.proofs.Tests.{eq_no, eq_yes}
 use Rattle.id_table.specs.Ids.{Ids}
-use Rattle.page_model.specs.Held.{Objects}
 use Rattle.quota_heap.specs.State.{empty_state, objects_by}
 use Rattle.quota_laws.proofs.CallerLemmas.{admission_is}
 use Rattle.quota_laws.specs.Tasks.{Tasks, after_item, calls, is_for_task, no_tasks, quota_text, quotas_after, set_refusal, sets, task_leaves, task_reply}
@@ -32,14 +29,14 @@ use Rattle.script_reader.specs.Items.{Item, asks, bad, starts}
 use Rattle.script_reader.specs.declared.command.Command.{Command}
 use Rattle.script_reader.specs.declared.command.Command.TheVariants as command
 use Rattle.transcript_laws.specs.Histories.{objects_by_id}
-use Rattle.transcript_laws.proofs.CallerLemmas.{by_id_counts, gone_by_id, needed_alike}
+use Rattle.transcript_laws.proofs.CallerLemmas.{by_id_counts, needed_alike, none_by_id}
 use Rattle.quota_session.specs.Alone.{AreAlikeFor, after_if, item_of, present_after, tasks_of}
 use Rattle.quota_session.specs.Playing.{BeginsAtOne, BeginsQuotas, RunsQuotas, quota_tasks}
 use Rattle.quota_session.specs.QuotaRun.{IsGoingQuotas, QuotaRun, QuotaStep, SetsQuota, StepsPresent, TaskSession, ids_of, needs_of, present_run}
 use Rattle.quota_session.specs.QuotaRun.{quota_fault, with_ids}
 use Rattle.quota_session.specs.TaskRun.{TaskRun, task_run}
 use Rattle.quota_session.proofs.RunInvariant.{ids_here, ids_there, present_kept, still_going}
-use Rattle.quota_session.proofs.Opened.{all_same, begins_going}
+use Rattle.quota_session.proofs.OpenLemmas.{all_same, begins_going}
 use Rattle.quota_session.proofs.OwnTask.{IsTold, told}
 
 -- what the lines of a script leave, of a run
@@ -133,7 +130,7 @@ abbrev pub ReplyLaw : Type 0
 ReplyLaw = (one other : Tasks) (task : ℕ) (command : Command) → other.profile ≡ one.profile → get_or other.quotas task 0 ≡ get_or one.quotas task 0
     → other.objects task ≡ one.objects task → task_reply other task command ≡ task_reply one task command
 
--- two runs that are alike for a task answer it alike
+-- two runs that are alike for a task give it the same replies
 pub alike_replies : ReplyLaw → (task : ℕ) (one other after later : QuotaRun) (c : Command) (reply told_ : Reply) → IsGoingQuotas one → IsGoingQuotas other
     → AreAlikeFor task one other → is_for_task c ≡ true → QuotaStep one c reply after → QuotaStep other c told_ later → told_ ≡ reply
 alike_replies law task one other after later c reply told_ goes going a own step more =
@@ -142,16 +139,12 @@ alike_replies law task one other after later c reply told_ goes going a own step
     ∙ law (tasks_of one) (tasks_of other) task c a.profile a.quota a.objects
     ∙ sym (reply_told one goes c reply after own step ∙ ap (λ v. task_reply (tasks_of one) v c) a.here)
 
--- a run that began has no objects by id
-nothing_by_id : (m : Objects) → objects_by_id empty m ≡ empty
-nothing_by_id m = equal_maps _ _ (λ q. gone_by_id empty m q (get-empty nat_cmp q) ∙ sym (get-empty nat_cmp q))
-
 pub begun_is : (p : Profile) (s : QuotaRun) → BeginsQuotas p s → tasks_of s ≡ no_tasks (at_bound_one p)
 begun_is p s b =
     (λ i. tasks_of (record s { session = b.session i; heap = b.heap i }))
     ∙ (λ i. record (no_tasks (at_bound_one p)) {
       objects = λ u. (ap (λ ids. objects_by_id ids (objects_by (empty_state (at_bound_one p)) u)) (all_same {X = Ids} 16 u empty)
-          ∙ nothing_by_id (objects_by (empty_state (at_bound_one p)) u)) i;
+          ∙ none_by_id (objects_by (empty_state (at_bound_one p)) u)) i;
     })
 
 begun_told : (p : Profile) (s : QuotaRun) → BeginsQuotas p s → state_of s ≡ first_state p
@@ -199,12 +192,12 @@ module _ (old : QuotaRun) (going : IsGoingQuotas old) where
       ∙ ap (λ a. said (admission_text a)) (admission_is _ (needs_of old.session task) (step.0).answer (step.0).meets)
   command_told c reply new can step = call_reply old going c reply new step
 
--- a run that hasn't begun, or goes on
+-- a run that hasn't begun, or is in progress
 abbrev GoesOn : Option QuotaRun → Type 0
 GoesOn None = ⊤
 GoesOn (Some s) = IsGoingQuotas s
 
--- what an item is answered, and what it leaves
+-- the reply to an item, and the run after it
 record IsToldItem (old : Option QuotaRun) (item : Item) (reply : Reply) (new : Option QuotaRun) : Type 0 where
   reply_is : reply ≡ reply_in (option_map state_of old) item
   state : option_map state_of new ≡ state_in (option_map state_of old) item

@@ -9,6 +9,7 @@ use Rattle.cf_base.specs.declared.answers.Refusal.{Refusal}
 use Rattle.cf_base.specs.declared.answers.Refusal.TheVariants as refusal
 use Rattle.cf_io.specs.Texts.{Reply, said}
 use Rattle.cf_lemmas.proofs.Tests.{eq_no, eq_yes}
+use Rattle.cf_lemmas.proofs.Maps.{remove_missing}
 use Rattle.page_model.specs.Bytes.{written}
 use Rattle.page_model.specs.Held.{Objects}
 use Rattle.quota_laws.specs.Tasks.{Tasks, own_heap, task_leaves, task_reply}
@@ -25,10 +26,9 @@ use Rattle.transcript_laws.specs.Replies.{write_leaves, write_said}
 use Rattle.quota_session.specs.Alone.{after_if, item_of, tasks_of}
 use Rattle.quota_session.specs.Playing.{BeginsAtOne, RunsQuotas}
 use Rattle.quota_session.specs.QuotaRun.{IsGoingQuotas, QuotaRun, QuotaStep, TaskSession}
-use Rattle.quota_session.specs.Told.{AreReadsOfTasks, IsReadOfTasks, ToldTasks, tasks_told_after, told_with}
+use Rattle.quota_session.specs.TaskBytes.{AreReadsOfTasks, IsReadOfTasks, TaskBytes, task_bytes_after, bytes_with}
 use Rattle.quota_session.proofs.RunInvariant.{still_going}
-use Rattle.quota_session.proofs.Opened.{begins_going}
-use Rattle.transcript_laws.proofs.CallerLemmas.{remove_none}
+use Rattle.quota_session.proofs.OpenLemmas.{begins_going}
 use Rattle.quota_session.proofs.ScriptTold.{begun_is, call_reply, present_then, reply_told, tasks_after}
 
 either : {X : Type 0} (b : Bool) (x : X) → x ≡ cond b x x
@@ -57,7 +57,7 @@ module _ (t : Tasks) (now : ℕ) where
   leaves_told (command.Free id) = by_object (get all id) refl
     where
       by_object : (o : Option (List ℕ)) → get all id ≡ o → remove all id ≡ cond (is_ok (said (free_said o))) (remove all id) all
-      by_object None none = remove_none all id none
+      by_object None none = remove_missing all id none
       by_object (Some v) live = refl
   leaves_told (command.Write id at bytes) = by_object (get all id) refl
     where
@@ -80,21 +80,21 @@ read_is : (o : Option (List ℕ)) (at count : ℕ) → read_said o at count ≡ 
 read_is None at count = refl
 read_is (Some v) at count = refl
 
--- a run, and what is told of it
-pub record AgreesWith (s : QuotaRun) (m : ToldTasks) : Type 0 where
+-- a run agrees with the bytes of ids that its lines and replies show
+pub record AgreesWith (s : QuotaRun) (m : TaskBytes) : Type 0 where
   pub going : IsGoingQuotas s
   pub present : s.session.present ≡ m.present
   pub bytes : (task : ℕ) → (tasks_of s).objects task ≡ m.bytes task
 
-module _ (old new : QuotaRun) (m : ToldTasks) (with_it : AgreesWith old m) (reply : Reply) where
+module _ (old new : QuotaRun) (m : TaskBytes) (with_it : AgreesWith old m) (reply : Reply) where
   abbrev t : Tasks
   t = tasks_of old
 
   abbrev now : ℕ
   now = old.session.present
 
-  -- what is told, by the run before
-  told_is : (c : Command) (u : ℕ) → cond (nat_eq u now && is_ok reply) (done_by c (t.objects u)) (t.objects u) ≡ (told_with m c reply).bytes u
+  -- the bytes of an id, by the run before
+  told_is : (c : Command) (u : ℕ) → cond (nat_eq u now && is_ok reply) (done_by c (t.objects u)) (t.objects u) ≡ (bytes_with m c reply).bytes u
   told_is c u = λ i. cond (nat_eq u (with_it.present i) && is_ok reply) (done_by c (with_it.bytes u i)) (with_it.bytes u i)
 
   -- a call of the present task
@@ -116,10 +116,10 @@ module _ (old new : QuotaRun) (m : ToldTasks) (with_it : AgreesWith old m) (repl
   after_told (command.Admit task) step u = either (nat_eq u now && is_ok reply) (t.objects u)
   after_told c step u = call_told c (call_reply old with_it.going c reply new step) u
 
-  turn_told : (c : Command) → IsSayable c → QuotaStep old c reply new → AgreesWith new (told_with m c reply)
+  turn_told : (c : Command) → IsSayable c → QuotaStep old c reply new → AgreesWith new (bytes_with m c reply)
   turn_told c can step = record {
     going = still_going old with_it.going c reply new can.formed step;
-    present = present_then old with_it.going c reply new step ∙ (λ i. (told_with (record m { present = with_it.present i }) c reply).present);
+    present = present_then old with_it.going c reply new step ∙ (λ i. (bytes_with (record m { present = with_it.present i }) c reply).present);
     bytes = λ u. ap (λ (s : Tasks). s.objects u) (tasks_after old with_it.going c reply new can step) ∙ after_told c step u ∙ told_is c u;
   }
 
@@ -130,21 +130,21 @@ module _ (old new : QuotaRun) (m : ToldTasks) (with_it : AgreesWith old m) (repl
       ∙ (λ i. said (read_told (get (with_it.bytes (with_it.present i) i) id) at count))
   turn_reads c step = tt
 
-abbrev AreTogether : Option QuotaRun → Option ToldTasks → Type 0
+abbrev AreTogether : Option QuotaRun → Option TaskBytes → Type 0
 AreTogether None None = Unit {0}
 AreTogether None (Some m) = ⊥
 AreTogether (Some s) None = ⊥
 AreTogether (Some s) (Some m) = AgreesWith s m
 
-no_read : (told : Option ToldTasks) (item : Item) (reply : Reply) → ((m : ToldTasks) → IsReadOfTasks (Some m) item reply) → IsReadOfTasks told item reply
+no_read : (told : Option TaskBytes) (item : Item) (reply : Reply) → ((m : TaskBytes) → IsReadOfTasks (Some m) item reply) → IsReadOfTasks told item reply
 no_read None item reply is = tt
 no_read (Some m) item reply is = is m
 
-item_told : (old : Option QuotaRun) (told : Option ToldTasks) (item : Item) (reply : Reply) (new : Option QuotaRun) → AreTogether old told → IsSayableItem item
-    → PlayStep BeginsAtOne QuotaStep old item reply new → AreTogether new (tasks_told_after told item reply) × IsReadOfTasks told item reply
+item_told : (old : Option QuotaRun) (told : Option TaskBytes) (item : Item) (reply : Reply) (new : Option QuotaRun) → AreTogether old told → IsSayableItem item
+    → PlayStep BeginsAtOne QuotaStep old item reply new → AreTogether new (task_bytes_after told item reply) × IsReadOfTasks told item reply
 item_told old told (starts p) reply new with_it can step =
     let b = step.1.0 in (
-      subst (λ s. AreTogether s (tasks_told_after told (starts p) reply)) (sym step.2) (record {
+      subst (λ s. AreTogether s (task_bytes_after told (starts p) reply)) (sym step.2) (record {
         going = begins_going p step.0 b;
         present = ap (λ (s : TaskSession). s.present) b.session;
         bytes = λ u. ap (λ (s : Tasks). s.objects u) (begun_is p step.0 b);
@@ -155,7 +155,7 @@ item_told None None (asks c) reply new with_it can step = (subst (λ s. AreToget
 item_told None (Some m) (asks c) reply new with_it can step = absurd with_it
 item_told (Some old) None (asks c) reply new with_it can step = absurd with_it
 item_told (Some old) (Some m) (asks c) reply new with_it can step = (
-  subst (λ s. AreTogether s (Some (told_with m c reply))) (sym step.2) (turn_told old step.0 m with_it reply c can step.1),
+  subst (λ s. AreTogether s (Some (bytes_with m c reply))) (sym step.2) (turn_told old step.0 m with_it reply c can step.1),
   turn_reads old step.0 m with_it reply c step.1,
 )
 item_told old told (bad n) reply new with_it can step = (
@@ -163,13 +163,13 @@ item_told old told (bad n) reply new with_it can step = (
   no_read told (bad n) reply (λ m. tt),
 )
 
-run_reads : (old : Option QuotaRun) (told : Option ToldTasks) (items : List Item) (replies : List Reply) (new : Option QuotaRun) → AreTogether old told
+run_reads : (old : Option QuotaRun) (told : Option TaskBytes) (items : List Item) (replies : List Reply) (new : Option QuotaRun) → AreTogether old told
     → AreSayable items → RunsQuotas old items replies new → AreReadsOfTasks told items replies
 run_reads old told [] replies new with_it can run = tt
 run_reads old told (item ∷ rest) replies new with_it can run =
     let one = item_told old told item run.1 run.0 with_it can.0 run.3 in
     let e = run.4 in
-    rw e (one.1, run_reads run.0 (tasks_told_after told item run.1) rest run.2 new one.0 can.1 run.5)
+    rw e (one.1, run_reads run.0 (task_bytes_after told item run.1) rest run.2 new one.0 can.1 run.5)
 
 pub reads_are_told : (items : List Item) (replies : List Reply) (new : Option QuotaRun) → AreSayable items → RunsQuotas None items replies new
     → AreReadsOfTasks None items replies

@@ -2,6 +2,6 @@ pub mod TaskRun
 pub mod QuotaRun
 pub mod Playing
 pub mod Alone
-pub mod Told
+pub mod TaskBytes
 pub mod Costs
 pub mod Layout

@@ -53,7 +53,7 @@ session_code = code_by (List Ids × (List (List Need) × ℕ)) (coded× (coded_l
 abbrev pub AreTasksTied : TaskSession → QuotaState → Type 0
 AreTasksTied session heap = (task : ℕ) → task < 16 → AreTiedTo (ids_of session task) (objects_by heap task)
 
--- the settings of the `heap` line, where there was one; the session; and its heap
+-- the settings of the `heap` line, if there was one; the session; and its heap
 pub record QuotaRun : Type 0 where
   pub settings : Option Profile
   pub session : TaskSession
@@ -102,7 +102,7 @@ pub record SetsQuota (old : QuotaRun) (task pages : ℕ) (reply : Reply) (new : 
 abbrev pub with_need : TaskSession → ℕ → Need → TaskSession
 with_need s task entry = record s { needs = slice_set s.needs task (one_more (needs_of s task) entry) }
 
--- admit: the answer to what a task declared, at its quota
+-- admit: whether the quota of a task is enough for the needs that it declared
 pub record Admits (s : QuotaRun) (task : ℕ) (reply : Reply) : Type 0 where
   pub answer : Admission
   pub meets : IsAdmission (record { profile = s.heap.profile; quota = quota_of s.heap task }) (needs_of s.session task) answer

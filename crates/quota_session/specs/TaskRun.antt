@@ -87,10 +87,10 @@ pub record WritesIdOfTask (old : TaskRun) (part : Part) (bytes : List ℕ) (repl
   pub reply_is : reply ≡ said (write_text answer)
 
 -- the reply to a command that changes nothing; `none` to a command of another mode
-abbrev pub task_told : TaskRun → Command → Reply
-task_told s (Read id at count) = said (read_text (task_object s id) at count)
-task_told s Walk = task_report s.heap s.task
-task_told s command = said (codes "none")
+abbrev pub task_look : TaskRun → Command → Reply
+task_look s (Read id at count) = said (read_text (task_object s id) at count)
+task_look s Walk = task_report s.heap s.task
+task_look s command = said (codes "none")
 
 -- One command of a task: its reply, and the state after it.
 abbrev pub TaskStep : TaskRun → Command → Reply → TaskRun → Type 0
@@ -98,4 +98,4 @@ TaskStep old (Malloc id bytes) reply new = MatchOption (get old.ids id) (Mallocs
 TaskStep old (Free id) reply new = MatchOption (get old.ids id) (StaysTask old (codes "unknown") reply new) (λ h. FreesIdOfTask old id h reply new)
 TaskStep old (Write id at bytes) reply new =
     MatchOption (get old.ids id) (StaysTask old (codes "unknown") reply new) (λ h. WritesIdOfTask old (record { number = h; from = at }) bytes reply new)
-TaskStep old command reply new = (reply ≡ task_told old command) × (new ≡ old)
+TaskStep old command reply new = (reply ≡ task_look old command) × (new ≡ old)

@@ -14,7 +14,7 @@ ghost use Rattle.script_reader.specs.declared.command.Command.{Command};
 ghost use Rattle.quota_session.specs.Alone.{AreAlikeFor, after_if, item_of, tasks_of};
 ghost use Rattle.quota_session.specs.Playing.{BeginsQuotas, RunsQuotas, quota_tasks};
 ghost use Rattle.quota_session.specs.QuotaRun.{IsGoingQuotas, QuotaRun, QuotaStep};
-ghost use Rattle.quota_session.specs.Told.{AreReadsOfTasks};
+ghost use Rattle.quota_session.specs.TaskBytes.{AreReadsOfTasks};
 
 use quota_laws::a_reply_follows_from_the_task_alone;
 use quota_model::a_page_is_there_for_each_quota;

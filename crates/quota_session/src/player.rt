@@ -100,9 +100,11 @@ pub fn run_quotas<S: Source, K: Sink>(
 ) -> Status
     requires { player.old.session ≡ first_session }
     ensures { Plays quota_tasks (quota_run (option_map profile_of player.old.settings) player.old.session heap.old)
-        (source_at (S.rest source.old) (S.given source.old) (S.faults source.old)) (sink_at (K.written sink.old) (K.faults sink.old))
+        (source_at (S.rest source.old) (S.given source.old) (S.faults source.old) (S.last_failed source.old))
+        (sink_at (K.written sink.old) (K.faults sink.old) (K.last_failed sink.old))
         result
-        (source_at (S.rest source.new) (S.given source.new) (S.faults source.new)) (sink_at (K.written sink.new) (K.faults sink.new))
+        (source_at (S.rest source.new) (S.given source.new) (S.faults source.new) (S.last_failed source.new))
+        (sink_at (K.written sink.new) (K.faults sink.new) (K.last_failed sink.new))
         (quota_run (option_map profile_of player.new.settings) player.new.session heap.new) }
 {
     play_script(player, heap, source, sink)

@@ -1,6 +1,6 @@
 //! The report on the classes of a task.
 ghost use Rattle.std.specs.Prelude.{◌≡◌, ◌<◌, ◌≤◌, [], IfOk, IsTrue, OnErr, OnOk};
-ghost use Rattle.cf_io.specs.Feeds.{Puts, Rose};
+ghost use Rattle.cf_io.specs.Feeds.{Puts, FailsLast};
 ghost use Rattle.cf_io.specs.Texts.{led};
 ghost use Rattle.page_model.specs.Arrangement.{used_pages};
 ghost use Rattle.quota_heap.specs.State.{held_by, objects_by};
@@ -32,7 +32,7 @@ pub(crate) fn walk<K: Sink>(
     ensures puts { Puts (K.written out.old) (led [] (task_report heap.now task)) result (K.written out.new) }
     ensures grows { K.faults out.old ≤ K.faults out.new }
     ensures same { OnOk result (K.faults out.new ≡ K.faults out.old) }
-    ensures failed { OnErr result (Rose (K.faults out.old) (K.faults out.new)) }
+    ensures failed { OnErr result (FailsLast (K.faults out.old) (K.faults out.new) (K.last_failed out.new)) }
 {
     let quota = heap.quota(task) as u64;
     match put_classes(heap, task, line, out) {
@@ -56,7 +56,7 @@ fn put_classes<K: Sink>(
     ensures used { IfOk result (λ used. used ≡ used_pages (task_paging heap.now.profile) (held_by heap.now task)) }
     ensures grows { K.faults out.old ≤ K.faults out.new }
     ensures same { OnOk result (K.faults out.new ≡ K.faults out.old) }
-    ensures failed { OnErr result (Rose (K.faults out.old) (K.faults out.new)) }
+    ensures failed { OnErr result (FailsLast (K.faults out.old) (K.faults out.new) (K.last_failed out.new)) }
 {
     // For its contract: an open heap has at most 67 classes.
     let _open = heap.is_open();

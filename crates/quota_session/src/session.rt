@@ -2,7 +2,7 @@
 ghost use Rattle.std.specs.Prelude.{◌≡◌, ◌<◌, ◌^◌, ◌≤◌, [], IfOk, IsTrue, OnErr, Option, Some, length, OnOk};
 ghost use Rattle.step_ledger.specs.Counting.{RoseAtMost};
 ghost use Rattle.cf_base.specs.Settings.{Profile, profile_of};
-ghost use Rattle.cf_io.specs.Feeds.{Rose};
+ghost use Rattle.cf_io.specs.Feeds.{FailsLast};
 ghost use Rattle.cf_io.specs.Lines.{line_room};
 ghost use Rattle.cf_io.specs.Texts.{said};
 ghost use Rattle.cf_session.specs.Apply.{outcome_in};
@@ -92,7 +92,7 @@ impl QuotaSession {
         ensures steps { meter.new ≤ most_steps (quota_run (Some (profile_of s.now)) self.old heap.old) c.now }
         ensures grows { K.faults out.old ≤ K.faults out.new }
         ensures same { OnOk result (K.faults out.new ≡ K.faults out.old) }
-        ensures failed { OnErr result (Rose (K.faults out.old) (K.faults out.new)) }
+        ensures failed { OnErr result (FailsLast (K.faults out.old) (K.faults out.new) (K.last_failed out.new)) }
     {
         self.apply_ref(heap, s, c.as_ref(), out, meter)
     }
@@ -116,7 +116,7 @@ impl QuotaSession {
         ensures steps { meter.new ≤ most_steps (quota_run (Some (profile_of s.now)) self.old heap.old) (owned_command c.entry) }
         ensures grows { K.faults out.old ≤ K.faults out.new }
         ensures same { OnOk result (K.faults out.new ≡ K.faults out.old) }
-        ensures failed { OnErr result (Rose (K.faults out.old) (K.faults out.new)) }
+        ensures failed { OnErr result (FailsLast (K.faults out.old) (K.faults out.new) (K.last_failed out.new)) }
     {
         meter.lap();
         self.answer_ref(heap, s, c, out, meter.steps())
@@ -143,7 +143,7 @@ impl QuotaSession {
             (most_steps (quota_run (Some (profile_of s.now)) self.old heap.old) (owned_command c.entry)) }
         ensures grows { K.faults out.old ≤ K.faults out.new }
         ensures same { OnOk result (K.faults out.new ≡ K.faults out.old) }
-        ensures failed { OnErr result (Rose (K.faults out.old) (K.faults out.new)) }
+        ensures failed { OnErr result (FailsLast (K.faults out.old) (K.faults out.new) (K.last_failed out.new)) }
     {
         // For its contract: an open heap keeps its tasks apart.
         let _open = heap.is_open();
@@ -181,7 +181,7 @@ fn answer<K: Sink>(
         (most_steps (quota_run (Some (profile_of s.now)) (session_of records.old) heap.old) (owned_command c.entry)) }
     ensures grows { K.faults out.old ≤ K.faults out.new }
     ensures same { OnOk result (K.faults out.new ≡ K.faults out.old) }
-    ensures failed { OnErr result (Rose (K.faults out.old) (K.faults out.new)) }
+    ensures failed { OnErr result (FailsLast (K.faults out.old) (K.faults out.new) (K.last_failed out.new)) }
 {
     match c {
         CommandRef::Walk => {

@@ -44,7 +44,7 @@ pub(crate) fn declare(records: &mut Records, task: u32, entry: Need) -> Short
     }
 }
 
-/// `admit`: writes the answer on the line.
+/// `admit`: writes the reply on the line.
 pub(crate) fn push_admission(line: &mut Line, answer: Admission) -> Outcome
     requires { line.old ≡ [] }
     ensures text { line.new ≡ admission_text answer }

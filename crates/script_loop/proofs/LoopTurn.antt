@@ -4,7 +4,7 @@ use Rattle.std.proofs.Common.{take, drop, append_assoc, append-nil, length-appen
 use Rattle.std.proofs.lemmas.List.{length-take-le, take-take}
 use Rattle.cf_base.specs.declared.status.Status.{Status}
 use Rattle.cf_base.specs.declared.status.Status.TheVariants.{Done, Words, BadScript, ReadFault, WriteFault, OutOfMemory, TooLong, BadImage}
-use Rattle.cf_io.specs.Feeds.{HasGiven, IsSpent, Rose, appended, last_count, preceded}
+use Rattle.cf_io.specs.Feeds.{FailsLast, HasGiven, IsSpent, appended, last_count, preceded}
 use Rattle.script_reader.specs.Items.{items}
 use Rattle.script_reader.specs.Reading.{Reading, fresh}
 use Rattle.script_loop.specs.AnswersSoFar.{Answered, HasStopped, WasCut, WasWanting, WentOn}
@@ -65,7 +65,7 @@ pub record HasEnded {S P : Type 0} (m : Semantics S P) (from : S) (call : Effect
 -- with the causes of faults
 pub plays_of : {S P : Type 0} (m : Semantics S P) (from : S) (s : SourceState) (k : SinkState) (st : Status) (s' : SourceState) (k' : SinkState) (to : S)
     → HasEnded m from (effects s k st s' k') to → (st ≢ ReadFault → s'.faults ≡ s.faults)
-    → (st ≡ ReadFault → Rose s.faults s'.faults) → (st ≢ WriteFault → k'.faults ≡ k.faults) → (st ≡ WriteFault → Rose k.faults k'.faults)
+    → (st ≡ ReadFault → FailsLast s.faults s'.faults s'.failed) → (st ≢ WriteFault → k'.faults ≡ k.faults) → (st ≡ WriteFault → FailsLast k.faults k'.faults k'.failed)
     → Plays m from s k st s' k' to
 plays_of m from s k st s' k' to ended source_same read_fault sink_same write_fault = record {
   outcome = ended.outcome;

@@ -12,4 +12,5 @@ use Rattle.run_model.specs.Sessions.{IsGoing, SessionState, fresh_session}
 pub opens_going : (settings : Settings) (session : SessionState) (old new : HeapState) → session ≡ fresh_session → IsEmptyHeap old.kind settings new
     → KeepsRules new → IsGoing (run_at session new)
 opens_going settings session old new fresh empty rules =
-    begins_going old.kind (profile_of settings) (run_at session new) (record { session = fresh; words = empty.words; heap = empty.whole; rules = rules })
+    begins_going old.kind (profile_of settings) (run_at session new)
+    (record { session = fresh; words = empty.words; order = empty.order; heap = empty.whole; rules = rules })

@@ -1,15 +1,23 @@
 -- The row of an outcome, over the bytes of an observable source, and over any source.
-use Rattle.std.proofs.Common.{◌≡◌, ◌++◌, ◌∙◌, Bool, true, false, ℕ, List, [], Option, Some, None, refl, ap, sym, subst}
+use Rattle.std.proofs.Common.{◌≡◌, ◌++◌, ◌∙◌, ◌≤◌, Bool, true, false, ℕ, List, [], Option, Some, None, length, refl, ap, sym, subst}
+use Rattle.std.proofs.lemmas.Bool.{le-leb}
+use Rattle.std.proofs.lemmas.List.{take_all}
+use Rattle.std.specs.Prelude.{nat_le}
 use Rattle.cf_base.specs.declared.status.Status.{Status}
 use Rattle.cf_base.specs.declared.status.Status.TheVariants.{Done}
 use Rattle.cf_io.specs.Feeds.{preceded}
-use Rattle.script_reader.specs.Items.{Item}
-use Rattle.script_loop.specs.ScriptOutcome.{Effects, IsRow, MayFollow, MeetsOutcome, Wrote, items_within}
+use Rattle.script_reader.specs.Items.{Item, items}
+use Rattle.script_loop.specs.ScriptOutcome.{Effects, IsRow, MOST_BYTES, MayFollow, MeetsOutcome, Wrote, items_within}
 use Rattle.script_loop.specs.Semantics.{Semantics}
 
-nothing_may_follow : (ended : Bool) → MayFollow None ended []
+pub nothing_may_follow : (ended : Bool) → MayFollow None ended []
 nothing_may_follow true = refl
 nothing_may_follow false = tt
+
+-- a script within the limit is read whole
+pub within_all : (all : List ℕ) → length all ≤ MOST_BYTES → items_within all ≡ items all true
+within_all all fits = ap (λ (l : List ℕ). items l (nat_le (length all) MOST_BYTES)) (take_all MOST_BYTES all fits)
+    ∙ ap (items all) (le-leb (length all) MOST_BYTES fits)
 
 module _ {S P : Type 0} (m : Semantics S P) (from to : S) (call : Effects) where
   -- over the bytes that the source had

@@ -3,7 +3,7 @@ use Rattle.std.specs.Prelude.{◌≡◌, ◌≢◌, ◌<◌, ◌≤◌, ◌+◌,
 use Rattle.std.specs.List.{list_any}
 use Rattle.cf_base.specs.declared.status.Status.{Status}
 use Rattle.cf_base.specs.declared.status.Status.TheVariants.{Done, Words, BadScript, ReadFault, WriteFault, OutOfMemory, TooLong, BadImage}
-use Rattle.cf_io.specs.Feeds.{HasGiven, Rose, appended, last_count, preceded}
+use Rattle.cf_io.specs.Feeds.{FailsLast, HasGiven, appended, last_count, preceded}
 use Rattle.script_reader.specs.Items.{Item, asks, bad, items, starts}
 use Rattle.run_model.specs.Texts.{Reply, text_of}
 use Rattle.script_loop.specs.Semantics.{PartBy, RunBy, Semantics}
@@ -25,22 +25,24 @@ has_bad = list_any is_bad
 abbrev pub items_within : List ℕ → List Item
 items_within all = items (take MOST_BYTES all) (nat_le (length all) MOST_BYTES)
 
--- a source: the bytes left, if it is observable, how many it gave, and how often it failed
+-- a source: the bytes left, if it is observable, how many it gave, how often it failed, and whether its last call did
 pub record SourceState : Type 0 where
   pub rest : Option (List ℕ)
   pub given : ℕ
   pub faults : ℕ
+  pub failed : Bool
 
-abbrev pub source_at : Option (List ℕ) → ℕ → ℕ → SourceState
-source_at rest given faults = record { rest = rest; given = given; faults = faults }
+abbrev pub source_at : Option (List ℕ) → ℕ → ℕ → Bool → SourceState
+source_at rest given faults failed = record { rest = rest; given = given; faults = faults; failed = failed }
 
--- a sink: the bytes written, if it is observable, and how often it failed
+-- a sink: the bytes written, if it is observable, how often it failed, and whether its last call did
 pub record SinkState : Type 0 where
   pub written : Option (List ℕ)
   pub faults : ℕ
+  pub failed : Bool
 
-abbrev pub sink_at : Option (List ℕ) → ℕ → SinkState
-sink_at written faults = record { written = written; faults = faults }
+abbrev pub sink_at : Option (List ℕ) → ℕ → Bool → SinkState
+sink_at written faults failed = record { written = written; faults = faults; failed = failed }
 
 -- A call: the bytes left in its source and the bytes in its sink before and after, if they are observable; how many bytes the source gave before and after;
 -- and the status.
@@ -98,7 +100,7 @@ pub record Lacks {S P : Type 0} (m : Semantics S P) (from : S) (call : Effects) 
   pub lacks : m.lacks from to
   pub unwritten : call.after ≡ call.before
 
--- a source with the bytes `all`, of which `left` are left, by the status
+-- by the status: a source had the bytes `all`, and has the bytes `left` now
 abbrev pub IsRow : {S P : Type 0} → Semantics S P → Status → S → List ℕ → List ℕ → Effects → S → Type 0
 IsRow m Done from all left call to = (length all ≤ MOST_BYTES) × (left ≡ []) × (has_bad (items_within all) ≡ false) × Wrote m from (items_within all) call to
 IsRow m BadScript from all left call to = (has_bad (items_within all) ≡ true) × Wrote m from (items_within all) call to
@@ -116,7 +118,7 @@ MayFollow (Some left) ended more = more ≡ left
 MayFollow None true more = more ≡ []
 MayFollow None false more = ⊤
 
--- Over every source: these bytes were taken, as many as the source gave, and for all bytes that may be read next the row of the status holds over all of them.
+-- Over every source: the bytes that the call took, and the row of its status, which holds for all bytes that may follow them.
 pub record MeetsOutcome {S P : Type 0} (m : Semantics S P) (from : S) (call : Effects) (to : S) : Type 0 where
   pub taken : List ℕ
   pub ended : Bool
@@ -128,9 +130,9 @@ pub record MeetsOutcome {S P : Type 0} (m : Semantics S P) (from : S) (call : Ef
 pub record HasCauses (source : SourceState) (sink : SinkState) (status : Status) (source' : SourceState) (sink' : SinkState) : Type 0 where
   pub silent : status ≡ OutOfMemory → sink'.written ≡ sink.written
   pub source_same : status ≢ ReadFault → source'.faults ≡ source.faults
-  pub read_fault : status ≡ ReadFault → Rose source.faults source'.faults
+  pub read_fault : status ≡ ReadFault → FailsLast source.faults source'.faults source'.failed
   pub sink_same : status ≢ WriteFault → sink'.faults ≡ sink.faults
-  pub write_fault : status ≡ WriteFault → Rose sink.faults sink'.faults
+  pub write_fault : status ≡ WriteFault → FailsLast sink.faults sink'.faults sink'.failed
   pub too_long : status ≡ TooLong → (source.given + MOST_BYTES < source'.given) ⊎ (source'.given ≡ last_count)
 
 -- A script led from one state to another: the row of its status, its cause, and what no item changes.

@@ -1,6 +1,6 @@
 //! Answering the items that a reader has.
 ghost use Rattle.std.specs.Prelude.{◌≡◌, ◌≤◌, ◌+◌, [], length, false, None, ◌≢◌};
-ghost use Rattle.cf_io.specs.Feeds.{Rose};
+ghost use Rattle.cf_io.specs.Feeds.{FailsLast};
 ghost use Rattle.script_reader.specs.Reading.{MOST_FED};
 ghost use Rattle.script_loop.specs.AnswersSoFar.{Goes, IsWaiting, NamesBad};
 ghost use Rattle.script_loop.specs.Progress.{IsReady, playing, progress};
@@ -27,7 +27,7 @@ fn name_bad<K: Sink>(number: u32, sink: &mut K) -> Ready
     ensures names { NamesBad (K.written sink.old) number result (K.written sink.new) }
     ensures grows { K.faults sink.old ≤ K.faults sink.new }
     ensures same { result ≢ Ready.Cut → K.faults sink.new ≡ K.faults sink.old }
-    ensures failed { result ≡ Ready.Cut → Rose (K.faults sink.old) (K.faults sink.new) }
+    ensures failed { result ≡ Ready.Cut → FailsLast (K.faults sink.old) (K.faults sink.new) (K.last_failed sink.new) }
 {
     let mut line = Line::new();
     push_field(&mut line, b"bad line ", number as u64);
@@ -52,7 +52,7 @@ pub fn answer_kept<H, A: Player<H>, K: Sink>(
         (progress (playing reader.new (A.state player.new heap.new)) (K.written sink.new)) }
     ensures grows { K.faults sink.old ≤ K.faults sink.new }
     ensures same { result ≢ Ready.Cut → K.faults sink.new ≡ K.faults sink.old }
-    ensures failed { result ≡ Ready.Cut → Rose (K.faults sink.old) (K.faults sink.new) }
+    ensures failed { result ≡ Ready.Cut → FailsLast (K.faults sink.old) (K.faults sink.new) (K.last_failed sink.new) }
 {
     'replies: loop {
         let mut next = NextRef::NeedMore;
@@ -90,7 +90,7 @@ pub fn answer_piece<H, A: Player<H>, K: Sink>(
         (progress (playing reader.new (A.state player.new heap.new)) (K.written sink.new)) }
     ensures grows { K.faults sink.old ≤ K.faults sink.new }
     ensures same { result ≢ Ready.Cut → K.faults sink.new ≡ K.faults sink.old }
-    ensures failed { result ≡ Ready.Cut → Rose (K.faults sink.old) (K.faults sink.new) }
+    ensures failed { result ≡ Ready.Cut → FailsLast (K.faults sink.old) (K.faults sink.new) (K.last_failed sink.new) }
 {
     let mut at = 0;
     'feeds: while at < piece.len() {

@@ -64,9 +64,11 @@ pub fn run_script<H: Manager, S: Source, K: Sink>(
 ) -> Status
     requires { session.old ≡ fresh_session }
     ensures { Plays one_manager (run_at session.old (H.state heap.old))
-        (source_at (S.rest source.old) (S.given source.old) (S.faults source.old)) (sink_at (K.written sink.old) (K.faults sink.old))
+        (source_at (S.rest source.old) (S.given source.old) (S.faults source.old) (S.last_failed source.old))
+        (sink_at (K.written sink.old) (K.faults sink.old) (K.last_failed sink.old))
         result
-        (source_at (S.rest source.new) (S.given source.new) (S.faults source.new)) (sink_at (K.written sink.new) (K.faults sink.new))
+        (source_at (S.rest source.new) (S.given source.new) (S.faults source.new) (S.last_failed source.new))
+        (sink_at (K.written sink.new) (K.faults sink.new) (K.last_failed sink.new))
         (run_at session.new (H.state heap.new)) }
 {
     play_script(session, heap, source, sink)

@@ -1,6 +1,6 @@
 //! Mode handlers: who answers the items of a script.
 ghost use Rattle.std.specs.Prelude.{◌≡◌, ◌≤◌, Err, OnErr, OnOk, ◌≢◌};
-ghost use Rattle.cf_io.specs.Feeds.{Rose};
+ghost use Rattle.cf_io.specs.Feeds.{FailsLast};
 ghost use Rattle.script_reader.specs.Commands.{IsWellFormed};
 ghost use Rattle.script_reader.specs.Owned.{owned_command};
 ghost use Rattle.script_loop.specs.Semantics.{AnswersBy, OpensBy, Semantics, snapshot};
@@ -45,7 +45,7 @@ pub trait Player<H> {
         ensures plan { semantics.plan (state self.new heap.new) ≡ semantics.plan (state self.old heap.old) }
         ensures grows { K.faults sink.old ≤ K.faults sink.new }
         ensures same { result ≢ Err OpenFault.Failed → K.faults sink.new ≡ K.faults sink.old }
-        ensures failed { result ≡ Err OpenFault.Failed → Rose (K.faults sink.old) (K.faults sink.new) };
+        ensures failed { result ≡ Err OpenFault.Failed → FailsLast (K.faults sink.old) (K.faults sink.new) (K.last_failed sink.new) };
 
     /// Answers a command. If the sink fails, the command has taken effect, and a prefix of its reply was
     /// written.
@@ -63,5 +63,5 @@ pub trait Player<H> {
         ensures plan { semantics.plan (state self.new heap.new) ≡ semantics.plan (state self.old heap.old) }
         ensures grows { K.faults sink.old ≤ K.faults sink.new }
         ensures same { OnOk result (K.faults sink.new ≡ K.faults sink.old) }
-        ensures failed { OnErr result (Rose (K.faults sink.old) (K.faults sink.new)) };
+        ensures failed { OnErr result (FailsLast (K.faults sink.old) (K.faults sink.new) (K.last_failed sink.new)) };
 }

@@ -1,7 +1,6 @@
 //! The loop over the chunks of a script.
 ghost use Rattle.std.specs.Prelude.{◌≡◌, ◌≤◌, ◌+◌, ◌≢◌};
-ghost use Rattle.cf_io.specs.Feeds.{Rose};
-ghost use Rattle.cf_io.specs.Schedules.{one_more};
+ghost use Rattle.cf_io.specs.Feeds.{FailsLast, one_more};
 ghost use Rattle.script_reader.specs.Reading.{fresh};
 ghost use Rattle.script_loop.specs.ScriptOutcome.{MOST_BYTES, Plays, sink_at, source_at};
 ghost use Rattle.script_loop.specs.LoopTurn.{AwaitsChunk, TakesTurn, between, left_in, reading_in};
@@ -67,9 +66,9 @@ impl Script {
             (between self.old (A.state player.old heap.old) (K.written sink.old) (S.rest source.old) (S.given source.old)) result
             (between self.new (A.state player.new heap.new) (K.written sink.new) (S.rest source.new) (S.given source.new)) }
         ensures source_same { result ≢ TurnEnd.Stopped Status.ReadFault → S.faults source.new ≡ S.faults source.old }
-        ensures read_fault { result ≡ TurnEnd.Stopped Status.ReadFault → Rose (S.faults source.old) (S.faults source.new) }
+        ensures read_fault { result ≡ TurnEnd.Stopped Status.ReadFault → FailsLast (S.faults source.old) (S.faults source.new) (S.last_failed source.new) }
         ensures sink_same { result ≢ TurnEnd.Stopped Status.WriteFault → K.faults sink.new ≡ K.faults sink.old }
-        ensures write_fault { result ≡ TurnEnd.Stopped Status.WriteFault → Rose (K.faults sink.old) (K.faults sink.new) }
+        ensures write_fault { result ≡ TurnEnd.Stopped Status.WriteFault → FailsLast (K.faults sink.old) (K.faults sink.new) (K.last_failed sink.new) }
     {
         let mut buffer = [0; CHUNK];
         let n = match source.take(&mut buffer) {
@@ -112,9 +111,11 @@ pub fn play_script<H, A: Player<H>, S: Source, K: Sink>(
 ) -> Status
     requires { A.semantics.is_fresh (A.state player.old heap.old) }
     ensures { Plays A.semantics (A.state player.old heap.old)
-        (source_at (S.rest source.old) (S.given source.old) (S.faults source.old)) (sink_at (K.written sink.old) (K.faults sink.old))
+        (source_at (S.rest source.old) (S.given source.old) (S.faults source.old) (S.last_failed source.old))
+        (sink_at (K.written sink.old) (K.faults sink.old) (K.last_failed sink.old))
         result
-        (source_at (S.rest source.new) (S.given source.new) (S.faults source.new)) (sink_at (K.written sink.new) (K.faults sink.new))
+        (source_at (S.rest source.new) (S.given source.new) (S.faults source.new) (S.last_failed source.new))
+        (sink_at (K.written sink.new) (K.faults sink.new) (K.last_failed sink.new))
         (A.state player.new heap.new) }
 {
     let mut script = Script::new();

@@ -39,6 +39,7 @@ each_begun f p (s ∷ ss) (x ∷ xs) (y ∷ ys) count fresh pairs = (
     record {
       session = All-head (λ s. s ≡ fresh_session) s ss fresh;
       words = (pairs.each 0 x y (omega arith)).empty.words;
+      order = (pairs.each 0 x y (omega arith)).empty.order;
       heap =
           (pairs.each 0 x y (omega arith)).empty.whole;
       rules = (pairs.each 0 x y (omega arith)).rules;

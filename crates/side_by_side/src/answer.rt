@@ -1,7 +1,7 @@
 //! One command on each manager.
 ghost use Rattle.std.specs.Prelude.{◌≡◌, ◌≤◌, OnErr, length, map, OnOk};
 ghost use Rattle.std.specs.List.{All};
-ghost use Rattle.cf_io.specs.Feeds.{Rose};
+ghost use Rattle.cf_io.specs.Feeds.{FailsLast};
 ghost use Rattle.cf_session.specs.Apply.{run_at};
 ghost use Rattle.script_reader.specs.Commands.{IsWellFormed};
 ghost use Rattle.script_reader.specs.Owned.{owned_command};
@@ -33,7 +33,7 @@ pub fn answer_each<H: Manager, K: Sink>(
     ensures kinds { map (λ m. (H.state m).kind) managers.new.items ≡ map (λ m. (H.state m).kind) managers.old.items }
     ensures grows { K.faults sink.old ≤ K.faults sink.new }
     ensures same { OnOk result (K.faults sink.new ≡ K.faults sink.old) }
-    ensures failed { OnErr result (Rose (K.faults sink.old) (K.faults sink.new)) }
+    ensures failed { OnErr result (FailsLast (K.faults sink.old) (K.faults sink.new) (K.last_failed sink.new)) }
 {
     for i in 0..managers.len() {
         match answer_one(&mut sessions[i], &mut managers[i], command, sink) {
@@ -59,7 +59,7 @@ fn answer_one<H: Manager, K: Sink>(
     ensures kind { (H.state manager.new).kind ≡ (H.state manager.old).kind }
     ensures grows { K.faults sink.old ≤ K.faults sink.new }
     ensures same { OnOk result (K.faults sink.new ≡ K.faults sink.old) }
-    ensures failed { OnErr result (Rose (K.faults sink.old) (K.faults sink.new)) }
+    ensures failed { OnErr result (FailsLast (K.faults sink.old) (K.faults sink.new) (K.last_failed sink.new)) }
 {
     match session.apply_ref(manager, command, lead_bytes(manager.kind()), sink) {
         Ok(_) => Ok(()),

@@ -1,6 +1,6 @@
 //! The reply to the `heap` line.
 ghost use Rattle.std.specs.Prelude.{◌≤◌, ◌++◌, [], OnErr, codes, map, OnOk, ◌≡◌};
-ghost use Rattle.cf_io.specs.Feeds.{Puts, Rose};
+ghost use Rattle.cf_io.specs.Feeds.{Puts, FailsLast};
 ghost use Rattle.run_model.specs.Texts.{led};
 ghost use Rattle.side_by_side.specs.Many.{lead_of, oks};
 
@@ -14,7 +14,7 @@ pub fn tell_open<H: Manager, K: Sink>(managers: &Vec<H>, sink: &mut K) -> Result
     ensures puts { Puts (K.written sink.old) (led [] (oks (map (λ m. (H.state m).kind) managers.now.items))) result (K.written sink.new) }
     ensures grows { K.faults sink.old ≤ K.faults sink.new }
     ensures same { OnOk result (K.faults sink.new ≡ K.faults sink.old) }
-    ensures failed { OnErr result (Rose (K.faults sink.old) (K.faults sink.new)) }
+    ensures failed { OnErr result (FailsLast (K.faults sink.old) (K.faults sink.new) (K.last_failed sink.new)) }
 {
     for i in 0..managers.len() {
         match tell_one(managers[i].kind(), sink) {
@@ -30,7 +30,7 @@ fn tell_one<K: Sink>(kind: Kind, sink: &mut K) -> Result<(), Failed>
     ensures puts { Puts (K.written sink.old) (lead_of kind ++ codes "ok\n") result (K.written sink.new) }
     ensures grows { K.faults sink.old ≤ K.faults sink.new }
     ensures same { OnOk result (K.faults sink.new ≡ K.faults sink.old) }
-    ensures failed { OnErr result (Rose (K.faults sink.old) (K.faults sink.new)) }
+    ensures failed { OnErr result (FailsLast (K.faults sink.old) (K.faults sink.new) (K.last_failed sink.new)) }
 {
     let mut line = Line::new();
     line.push(lead_bytes(kind)).unwrap();

@@ -1,9 +1,9 @@
-pub mod Going
-pub mod Telling
-pub mod Opened
+pub mod RunInvariant
+pub mod ReplyLemmas
+pub mod OpenLemmas
 pub mod WordsThere
 pub mod CallsThere
-pub mod Turns
+pub mod CommandSteps
 pub mod ReadBack
 pub mod Causes
 pub mod Plays

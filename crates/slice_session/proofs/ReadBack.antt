@@ -6,8 +6,8 @@ use Rattle.run_laws.proofs.CallerLemmas.{NamesObjects, any_reads_are_told}
 use Rattle.script_reader.specs.Items.{Item}
 use Rattle.slice_session.specs.Playing.{BeginsSlices, RunsSliced}
 use Rattle.slice_session.specs.SliceRun.{IsGoingSliced, SliceRun, SliceStep}
-use Rattle.slice_session.proofs.Going.{named, still_going, turn_named}
-use Rattle.slice_session.proofs.Opened.{begins_going}
+use Rattle.slice_session.proofs.RunInvariant.{named, still_going, turn_named}
+use Rattle.slice_session.proofs.OpenLemmas.{begins_going}
 
 -- a sliced run names objects
 slices_name : (quantum : ℕ) → NamesObjects (BeginsSlices quantum) SliceStep

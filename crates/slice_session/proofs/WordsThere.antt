@@ -7,13 +7,13 @@ use Rattle.std.proofs.lemmas.List.{get_or-set_same, get_or-set_other, length-set
 use Rattle.std.specs.FinMap.{get}
 use Rattle.page_model.specs.Arrangement.{class_at}
 use Rattle.page_model.specs.Held.{Held, Placed}
-use Rattle.page_model.specs.Image.{IsDisjoint, IsOutside, MovesWords, Rewrites, WordRange, object_word, slot_for}
+use Rattle.page_model.specs.Image.{IsDisjoint, MovesWords, Rewrites, WordRange, object_word, slot_for}
 use Rattle.page_model.specs.Paging.{slot_words}
 use Rattle.page_model.proofs.CallerLemmas.{class_holds}
 use Rattle.slice_model.specs.Runs.{words_of_slice}
 use Rattle.slice_model.specs.State.{IsKept, IsPlan, Job, Plan, Sliced, job_slot, Clear, Idle, Move}
 use Rattle.slice_model.specs.Words.{DoesWords, RewritesObject, word_at}
-use Rattle.slice_model.proofs.CallerLemmas.{job_within, kept_apart, mover_class, object_slot, object_within, own_words_at, where_word}
+use Rattle.slice_model.proofs.CallerLemmas.{job_within, kept_apart, mover_class, object_slot, object_within, own_words_at, where_word, outside_not}
 
 -- the words with f i at the place a i, for each i below n
 abbrev put_all : (ℕ → ℕ) → (ℕ → ℕ) → ℕ → List ℕ → List ℕ
@@ -44,10 +44,6 @@ module _ (a f : ℕ → ℕ) (words : List ℕ) where
 in_range : (a i k : ℕ) → a + i ≡ a + k → i ≡ k
 in_range a i k e = omega arith
 
-beyond : (a n w i : ℕ) → IsOutside a n w → i < n → a + i ≢ w
-beyond a n w i (inl l) lt e = omega arith
-beyond a n w i (inr r) lt e = omega arith
-
 elsewhere : (a b n i k : ℕ) → IsDisjoint a n b n → i < n → k < n → a + i ≢ b + k
 elsewhere a b n i k (inl l) low high e = omega arith
 elsewhere a b n i k (inr r) low high e = omega arith
@@ -59,7 +55,7 @@ rewrites_there words run f fits = (
   put_all (λ i. run.from + i) f run.count words,
   record {
     within = put_inside (λ i. run.from + i) f words run.count (λ i lt. omega arith) (λ i k low high e. in_range run.from i k e);
-    others = λ w out. put_outside (λ i. run.from + i) f words run.count w (λ i lt. beyond run.from run.count w i out lt);
+    others = λ w out. put_outside (λ i. run.from + i) f words run.count w (λ i lt. outside_not run.from run.count w i out lt);
   },
   put_long (λ i. run.from + i) f words run.count,
 )
@@ -85,8 +81,8 @@ module _ (words : List ℕ) (run : WordRange) (b : ℕ) (apart : IsDisjoint run.
           ∙ put_inside (λ i. b + i) carried words run.count (λ k low. omega arith) (λ i k low high e. in_range b i k e) i lt;
       left_zeros = put_inside (λ i. run.from + i) (λ _. 0) copied run.count (λ i lt. (let l = copied_long in omega arith))
           (λ i k low high e. in_range run.from i k e);
-      others = λ w out other. put_outside (λ i. run.from + i) (λ _. 0) copied run.count w (λ i lt. beyond run.from run.count w i out lt)
-          ∙ put_outside (λ i. b + i) carried words run.count w (λ i lt. beyond b run.count w i other lt);
+      others = λ w out other. put_outside (λ i. run.from + i) (λ _. 0) copied run.count w (λ i lt. outside_not run.from run.count w i out lt)
+          ∙ put_outside (λ i. b + i) carried words run.count w (λ i lt. outside_not b run.count w i other lt);
     },
     put_long (λ i. run.from + i) (λ _. 0) copied run.count ∙ copied_long,
   )

@@ -108,10 +108,10 @@ pub record WritesSliced (old : SliceRun) (h from : ℕ) (bytes : List ℕ) (repl
   pub reply_is : reply ≡ said (slice_write_text answer)
 
 -- the reply to a command that changes nothing: the bytes of the object for a read, in motion or not, and `none` for a command of another mode
-abbrev pub slice_told : SliceRun → Command → Reply
-slice_told s (command.Read id from count) = said (read_text (sliced_object_of s id) from count)
-slice_told s (command.Peek word) = said (peek_text (slice_get s.heap.words word))
-slice_told s other = said (codes "none")
+abbrev pub slice_look : SliceRun → Command → Reply
+slice_look s (command.Read id from count) = said (read_text (sliced_object_of s id) from count)
+slice_look s (command.Peek word) = said (peek_text (slice_get s.heap.words word))
+slice_look s other = said (codes "none")
 
 -- One command: its reply, and the state after it.
 abbrev pub SliceStep : SliceRun → Command → Reply → SliceRun → Type 0
@@ -121,7 +121,7 @@ SliceStep old (command.Free id) reply new = MatchOption (get old.ids id) (StaysS
 SliceStep old command.Slice reply new = StepsSliced old reply new
 SliceStep old (command.Write id from bytes) reply new =
     MatchOption (get old.ids id) (StaysSliced old (codes "unknown") reply new) (λ h. WritesSliced old h from bytes reply new)
-SliceStep old other reply new = (reply ≡ slice_told old other) × (new ≡ old)
+SliceStep old other reply new = (reply ≡ slice_look old other) × (new ≡ old)
 
 -- The most steps of a command, with slices of `quantum` words: those of the heap's call.
 abbrev pub most_steps : ℕ → Command → ℕ

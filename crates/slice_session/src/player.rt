@@ -88,9 +88,11 @@ pub fn run_slices<S: Source, K: Sink>(
     requires fresh { player.old.session ≡ map.empty }
     requires quantum { IsQuantum player.old.quantum }
     ensures { Plays slices (slice_play player.old.session player.old.quantum heap.old)
-        (source_at (S.rest source.old) (S.given source.old) (S.faults source.old)) (sink_at (K.written sink.old) (K.faults sink.old))
+        (source_at (S.rest source.old) (S.given source.old) (S.faults source.old) (S.last_failed source.old))
+        (sink_at (K.written sink.old) (K.faults sink.old) (K.last_failed sink.old))
         result
-        (source_at (S.rest source.new) (S.given source.new) (S.faults source.new)) (sink_at (K.written sink.new) (K.faults sink.new))
+        (source_at (S.rest source.new) (S.given source.new) (S.faults source.new) (S.last_failed source.new))
+        (sink_at (K.written sink.new) (K.faults sink.new) (K.last_failed sink.new))
         (slice_play player.new.session player.new.quantum heap.new) }
 {
     play_script(player, heap, source, sink)

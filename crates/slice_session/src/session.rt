@@ -1,7 +1,7 @@
 //! A session over a sliced heap.
 ghost use Rattle.std.specs.Prelude.{◌≡◌, ◌<◌, ◌≤◌, [], IsTrue, IfOk, OnErr, length, OnOk};
 ghost use Rattle.std.specs.FinMap as map;
-ghost use Rattle.cf_io.specs.Feeds.{Rose};
+ghost use Rattle.cf_io.specs.Feeds.{FailsLast};
 ghost use Rattle.cf_io.specs.Lines.{line_room};
 ghost use Rattle.cf_session.specs.Apply.{outcome_in};
 ghost use Rattle.page_model.specs.Held.{objects};
@@ -79,7 +79,7 @@ impl SliceSession {
         ensures steps { meter.new ≤ most_steps heap.old.quantum c.now }
         ensures grows { K.faults out.old ≤ K.faults out.new }
         ensures same { OnOk result (K.faults out.new ≡ K.faults out.old) }
-        ensures failed { OnErr result (Rose (K.faults out.old) (K.faults out.new)) }
+        ensures failed { OnErr result (FailsLast (K.faults out.old) (K.faults out.new) (K.last_failed out.new)) }
     {
         self.apply_ref(heap, c.as_ref(), out, meter)
     }
@@ -101,7 +101,7 @@ impl SliceSession {
         ensures steps { meter.new ≤ most_steps heap.old.quantum (owned_command c.entry) }
         ensures grows { K.faults out.old ≤ K.faults out.new }
         ensures same { OnOk result (K.faults out.new ≡ K.faults out.old) }
-        ensures failed { OnErr result (Rose (K.faults out.old) (K.faults out.new)) }
+        ensures failed { OnErr result (FailsLast (K.faults out.old) (K.faults out.new) (K.last_failed out.new)) }
     {
         meter.lap();
         self.answer_ref(heap, c, out, meter.steps())
@@ -124,7 +124,7 @@ impl SliceSession {
         ensures steps { RoseAtMost steps.old steps.new (most_steps heap.old.quantum (owned_command c.entry)) }
         ensures grows { K.faults out.old ≤ K.faults out.new }
         ensures same { OnOk result (K.faults out.new ≡ K.faults out.old) }
-        ensures failed { OnErr result (Rose (K.faults out.old) (K.faults out.new)) }
+        ensures failed { OnErr result (FailsLast (K.faults out.old) (K.faults out.new) (K.last_failed out.new)) }
     {
         // For its contract: an open heap keeps its rules.
         let _open = heap.is_open();
@@ -158,7 +158,7 @@ fn answer<K: Sink>(
     ensures steps { RoseAtMost steps.old steps.new (most_steps heap.old.quantum (owned_command c.entry)) }
     ensures grows { K.faults out.old ≤ K.faults out.new }
     ensures same { OnOk result (K.faults out.new ≡ K.faults out.old) }
-    ensures failed { OnErr result (Rose (K.faults out.old) (K.faults out.new)) }
+    ensures failed { OnErr result (FailsLast (K.faults out.old) (K.faults out.new) (K.last_failed out.new)) }
 {
     let outcome = speak(ids, heap, c, room, line, steps);
     ended(put_line(line, out), outcome)

@@ -12,7 +12,7 @@ use Rattle.page_model.specs.Bytes.{AreBytes, written}
 use Rattle.page_model.specs.Held.{Held, Placed, objects, places}
 use Rattle.page_model.specs.Image.{slot_for}
 use Rattle.page_model.specs.Paging.{Paging, class_for, slot_words}
-use Rattle.page_model.proofs.CallerLemmas.{bytes_held, inserted_there, length-written, written_are_bytes}
+use Rattle.page_model.proofs.CallerLemmas.{bytes_held, inserted_there, length-written, written_are_bytes, live_rewritten}
 use Rattle.page_slots.specs.Occupying.{Occupies, Tell}
 use Rattle.page_slots.proofs.CallerLemmas.{rewritten_occupied}
 use Rattle.proxy_table.specs.Proxies.{AreBelowLimit}
@@ -30,11 +30,11 @@ use Rattle.sliced_heap.specs.Layout.{IsValid, paging_at, plan_of, state_of, tabl
 use Rattle.sliced_heap.specs.Access.{Lies}
 use Rattle.sliced_heap.proofs.Facts.{has_place, held_bytes, no_place, plan_ok, places_are}
 use Rattle.sliced_heap.proofs.Headers.{bytes_few, head_length, holds, inside, number_low}
-use Rattle.sliced_heap.proofs.Counts.{live_rewritten, needed_same}
+use Rattle.sliced_heap.proofs.Counts.{needed_same}
 use Rattle.sliced_heap.proofs.HeldFromWords.{place_there}
 use Rattle.sliced_heap.proofs.Preserved.{Becomes, becomes_plan, becomes_state, becomes_valid}
 
--- the halves of an object, one of which may be in the job's slot
+-- the halves of an object; one may be in the job's slot
 halves_within : (p : Paging) (count : ℕ) (j : Job) (q : ℕ) (x : Placed) → x.place + slot_for p (length x.bytes) ≤ count
     → ((k : JobSlot) → j ≡ Move q k → k.address + slot_for p (length x.bytes) ≤ count)
     → ((halves_of j q x.place).to + slot_for p (length x.bytes) ≤ count) × ((halves_of j q x.place).from + slot_for p (length x.bytes) ≤ count)
@@ -108,11 +108,8 @@ module _ (h : Heap) (k : IsValid h) (q : ℕ) (x : Placed) (there : get (state_o
     rewrites = object_rewritten h.job q x h.words n.words at bytes (number_low h k q x there) (let few = bytes_few h k q x there in omega arith)
         (held_bytes h k q x there) are fits (λ i lt. k.words.held q x there i (let o = holds h k q x there in omega arith)) w
 
-    size : length (written x.bytes at bytes) ≡ length x.bytes
-    size = length-written x.bytes at bytes fits
-
     same_class : class_for (paging_at h) (length (written x.bytes at bytes)) ≡ class_for (paging_at h) (length x.bytes)
-    same_class = ap (class_for (paging_at h)) size
+    same_class = ap (class_for (paging_at h)) (length-written x.bytes at bytes fits)
 
     some : get (objects m) q ≡ Some x.bytes
     some = bytes_held m q x there
@@ -139,7 +136,7 @@ module _ (h : Heap) (k : IsValid h) (q : ℕ) (x : Placed) (there : get (state_o
       table = ap (λ (y : Heap). y.classes) rest;
       job = ap (λ (y : Heap). y.job) rest;
       long = long;
-      kept = kept_write (plan_of h) (plan_ok h k) (state_of h) k.kept q x there (written x.bytes at bytes) size;
+      kept = kept_write (plan_of h) (plan_ok h k) (state_of h) k.kept q x there (written x.bytes at bytes) (length-written x.bytes at bytes fits);
       words = words_written (plan_of h) (plan_ok h k) (state_of h) k.kept h.words n.words k.words q x there at bytes fits rewrites;
       bytes = λ r y there'. elim (some_inserted m q z r y there') [
         | inl (_, same) ↦ subst (λ (y : Placed). AreBytes y.bytes) same (written_are_bytes x.bytes at bytes fits (held_bytes h k q x there) are)

@@ -13,7 +13,7 @@ use Rattle.page_slots.proofs.CallerLemmas.{vacated_occupied, vacated_tell}
 use Rattle.proxy_table.specs.Proxies.{AreBelowLimit}
 use Rattle.size_classes.specs.Table.{ClassTable}
 use Rattle.slice_model.specs.declared.job_slot.JobSlot.{JobSlot}
-use Rattle.slice_model.specs.State.{Sliced, IsKept, occupied, stand_in, Idle, Clear}
+use Rattle.slice_model.specs.State.{Sliced, IsKept, occupied, placeholder, Idle, Clear}
 use Rattle.slice_model.specs.Steps.{Ends}
 use Rattle.slice_model.specs.Words.{HasWords}
 use Rattle.slice_model.proofs.CallerLemmas.{kept_slice, two_is_must}
@@ -23,14 +23,14 @@ use Rattle.sliced_heap.specs.Steps.{IsFilled}
 use Rattle.sliced_heap.proofs.Facts.{held_bytes, paging_ok, places_are, plan_ok, table_is}
 use Rattle.sliced_heap.proofs.FillLemmas.{all_are, at_last, class_in, kept_clear, last_done, none_there, occupied_clear, sound_clear}
 use Rattle.sliced_heap.proofs.FillLemmas.{stand_class, stand_there, two, words_clear}
-use Rattle.sliced_heap.proofs.Places.{taken_again}
 use Rattle.sliced_heap.proofs.Preserved.{Becomes, becomes_plan, becomes_state, becomes_valid}
+use Rattle.cf_lemmas.proofs.Maps.{remove_fresh}
 
 -- if an object is to be carried to the slot, the next job follows
 pub filled_ends : (h : Heap) (k : IsValid h) (g : JobSlot) → h.job ≡ Clear g → (n : Heap) → IsFilled h g n → Ends (paging_at h) (state_of h).held g (state_of n)
 filled_ends h k g at n f =
-    let must : MustMove (paging_at h) (insert (state_of h).held h.settings.proxies (stand_in (paging_at h) g)) (stand_in (paging_at h) g) =
-    subst (λ o. MustMove (paging_at h) o (stand_in (paging_at h) g)) (all_are h k g at) f.must in
+    let must : MustMove (paging_at h) (insert (state_of h).held h.settings.proxies (placeholder (paging_at h) g)) (placeholder (paging_at h) g) =
+    subst (λ o. MustMove (paging_at h) o (placeholder (paging_at h) g)) (all_are h k g at) f.must in
     inr (record { two = two h k g at must; object = f.object; beside = f.beside; carries = f.carries })
 
 module _ (h : Heap) (k : IsValid h) (g : JobSlot) (at : h.job ≡ Clear g) where
@@ -40,12 +40,12 @@ module _ (h : Heap) (k : IsValid h) (g : JobSlot) (at : h.job ≡ Clear g) where
   -- the slot is used in the tables
   pub slot_used : IsUsed (tables_in h) g.class (page_at h.classes g.address) (slot_at h.classes g.class g.address)
   slot_used =
-      let u = (occupied_clear h k g at).stands h.settings.proxies (stand_in (paging_at h) g) (stand_there h k g at) in
+      let u = (occupied_clear h k g at).stands h.settings.proxies (placeholder (paging_at h) g) (stand_there h k g at) in
       subst (λ (t : ClassTable). IsUsed (tables_in h) g.class (page_at t g.address) (slot_at t g.class g.address)) (table_is h k)
       (subst (λ c. IsUsed (tables_in h) c (page_of (paging_at h) g.address) (slot_at (class_table (paging_at h)) c g.address)) (stand_class h k g at) u)
 
   -- it becomes free
-  module _ (stays : ¬ MustMove (paging_at h) (occupied (plan_of h) (state_of h)) (stand_in (paging_at h) g))
+  module _ (stays : ¬ MustMove (paging_at h) (occupied (plan_of h) (state_of h)) (placeholder (paging_at h) g))
       (zeros : (i : ℕ) → i < slot_words (paging_at h) g.class → get_or h.words (g.address + i) 0 ≡ 0) (n : Heap)
       (rest : n ≡ record h { maps = n.maps; lists = n.lists; pool = n.pool; job = Idle })
       (v : Vacates (tables_in h) g.class (page_at h.classes g.address) (slot_at h.classes g.class g.address) (tables_in n))
@@ -54,7 +54,7 @@ module _ (h : Heap) (k : IsValid h) (g : JobSlot) (at : h.job ≡ Clear g) where
     s = record { held = m; job = Idle }
 
     not_two : not_full_pages (paging_at h) m g.class ≢ 2
-    not_two e = stays (subst (λ o. MustMove (paging_at h) o (stand_in (paging_at h) g)) (sym (all_are h k g at))
+    not_two e = stays (subst (λ o. MustMove (paging_at h) o (placeholder (paging_at h) g)) (sym (all_are h k g at))
         (two_is_must (plan_of h) (plan_ok h k) m g (none_there h k g at) (class_in h k g at) (sound_clear h k g at) e))
 
     pub ends_idle : Ends (paging_at h) (state_of h).held g (record { held = (state_of h).held; job = Idle })
@@ -100,7 +100,7 @@ module _ (h : Heap) (k : IsValid h) (g : JobSlot) (at : h.job ≡ Clear g) where
       tell = vacated_tell (paging_ok h k) k.tell.part (occupied_clear h k g at) of_table (sound_clear h k g at) h.settings.proxies
           (stand_there h k g at) at_table
           (stand_class h k g at) refl refl k.tell.whole;
-      occupied = subst (λ o. Occupies (paging_at h) o (tables_in n)) (taken_again m h.settings.proxies (stand_in (paging_at h) g) (none_there h k g at))
+      occupied = subst (λ o. Occupies (paging_at h) o (tables_in n)) (remove_fresh m h.settings.proxies (placeholder (paging_at h) g) (none_there h k g at))
           (vacated_occupied (paging_ok h k) k.tell.part (occupied_clear h k g at) of_table (sound_clear h k g at) h.settings.proxies
           (stand_there h k g at) at_table
           (stand_class h k g at) refl refl);
@@ -121,7 +121,7 @@ module _ (h : Heap) (k : IsValid h) (g : JobSlot) (at : h.job ≡ Clear g) where
 
 -- the same for a heap that equals h
 pub idle_at : (h : Heap) (k : IsValid h) (g : JobSlot) → h.job ≡ Clear g → ¬ MustMove (paging_at h) (occupied (plan_of h) (state_of h))
-    (stand_in (paging_at h) g)
+    (placeholder (paging_at h) g)
     → ((i : ℕ) → i < slot_words (paging_at h) g.class → get_or h.words (g.address + i) 0 ≡ 0) → (t n : Heap) → t ≡ h
     → n ≡ record t { maps = n.maps; lists = n.lists; pool = n.pool; job = Idle }
     → Vacates (tables_in t) g.class (page_at t.classes g.address) (slot_at t.classes g.class g.address) (tables_in n) → AreTables t.classes (tables_in n)

@@ -19,11 +19,11 @@ use Rattle.page_slots.proofs.CallerLemmas.{drop_same, filler, filler_is, filler_
 use Rattle.proxy_table.specs.Proxies.{AreBelowLimit, with_place}
 use Rattle.size_classes.specs.Table.{ClassTable}
 use Rattle.slice_model.specs.declared.job_slot.JobSlot.{JobSlot}
-use Rattle.slice_model.specs.State.{Plan, IsPlan, Sliced, IsKept, job_slot, occupied, stand_in, Clear, Move}
+use Rattle.slice_model.specs.State.{Plan, IsPlan, Sliced, IsKept, job_slot, occupied, placeholder, Clear, Move}
 use Rattle.slice_model.specs.Steps.{IsBeside, IsSlice, done_after, fresh_slot}
 use Rattle.slice_model.specs.Words.{HasWords, word_at}
-use Rattle.slice_model.proofs.CallerLemmas.{changed_places, kept_slice, must_is_two, no_stand_in, objects_sliced, on_more}
-use Rattle.slice_model.proofs.CallerLemmas.{other_than, some_beside, stand_in_class, words_to_carry}
+use Rattle.slice_model.proofs.CallerLemmas.{changed_places, kept_slice, must_is_two, no_placeholder, objects_sliced, on_more}
+use Rattle.slice_model.proofs.CallerLemmas.{other_than, some_beside, placeholder_class, words_to_carry}
 use Rattle.sliced_heap.specs.Heap.{Heap}
 use Rattle.sliced_heap.specs.Layout.{IsValid, paging_at, plan_of, state_of, tables_in}
 use Rattle.sliced_heap.specs.Steps.{IsFilled, IsPartlyFull}
@@ -33,7 +33,7 @@ use Rattle.sliced_heap.proofs.Places.{changed_occupied}
 use Rattle.sliced_heap.proofs.Preserved.{Becomes, becomes_plan, becomes_state, becomes_valid}
 use Rattle.sliced_heap.proofs.StepCounts.{drop_partly}
 
--- A job of which all words but one are done: what every state keeps if its slot gets an object.
+-- A job with one word left: what every state keeps if its slot gets an object.
 module _ (plan : Plan) (ok : IsPlan plan) (m : Held) (k : JobSlot) (kept : IsKept plan (record { held = m; job = Clear k })) where
   abbrev last : JobSlot
   last = record k { done = slot_words plan.paging k.class - 1 }
@@ -70,7 +70,7 @@ module _ (h : Heap) (k : IsValid h) (g : JobSlot) (at : h.job ≡ Clear g) where
   m = (state_of h).held
 
   abbrev stand : Placed
-  stand = stand_in (paging_at h) g
+  stand = placeholder (paging_at h) g
 
   abbrev all : Held
   all = insert m h.settings.proxies stand
@@ -81,26 +81,26 @@ module _ (h : Heap) (k : IsValid h) (g : JobSlot) (at : h.job ≡ Clear g) where
   pub words_clear : HasWords (paging_at h) (record { held = (state_of h).held; job = Clear g }) h.words
   words_clear = subst (λ j. HasWords (paging_at h) (record { held = m; job = j }) h.words) at k.words
 
-  pub occupied_clear : Occupies (paging_at h) (insert (state_of h).held h.settings.proxies (stand_in (paging_at h) g)) (tables_in h)
+  pub occupied_clear : Occupies (paging_at h) (insert (state_of h).held h.settings.proxies (placeholder (paging_at h) g)) (tables_in h)
   occupied_clear = subst (λ j. Occupies (paging_at h) (occupied (plan_of h) (record { held = m; job = j })) (tables_in h)) at k.occupied
 
-  pub all_are : occupied (plan_of h) (state_of h) ≡ insert (state_of h).held h.settings.proxies (stand_in (paging_at h) g)
+  pub all_are : occupied (plan_of h) (state_of h) ≡ insert (state_of h).held h.settings.proxies (placeholder (paging_at h) g)
   all_are = ap (λ j. occupied (plan_of h) (record { held = m; job = j })) at
 
-  pub sound_clear : IsSound (paging_at h) (insert (state_of h).held h.settings.proxies (stand_in (paging_at h) g))
+  pub sound_clear : IsSound (paging_at h) (insert (state_of h).held h.settings.proxies (placeholder (paging_at h) g))
   sound_clear = kept_clear.sound
 
   pub none_there : get (state_of h).held h.settings.proxies ≡ None
-  none_there = no_stand_in (plan_of h) m k.kept.numbers
+  none_there = no_placeholder (plan_of h) m k.kept.numbers
 
-  pub stand_there : get (insert (state_of h).held h.settings.proxies (stand_in (paging_at h) g)) h.settings.proxies ≡ Some (stand_in (paging_at h) g)
+  pub stand_there : get (insert (state_of h).held h.settings.proxies (placeholder (paging_at h) g)) h.settings.proxies ≡ Some (placeholder (paging_at h) g)
   stand_there = get_inserted m h.settings.proxies stand
 
   pub class_in : g.class < classes (paging_at h)
   class_in = kept_clear.job.class
 
-  pub stand_class : class_at (paging_at h) (stand_in (paging_at h) g) ≡ g.class
-  stand_class = stand_in_class (paging_at h) (paging_ok h k) g class_in
+  pub stand_class : class_at (paging_at h) (placeholder (paging_at h) g) ≡ g.class
+  stand_class = placeholder_class (paging_at h) (paging_ok h k) g class_in
 
   page_is : page_at h.classes g.address ≡ page_of (paging_at h) g.address
   page_is = ap (λ (t : ClassTable). g.address / t.page_words) k.table
@@ -114,7 +114,7 @@ module _ (h : Heap) (k : IsValid h) (g : JobSlot) (at : h.job ≡ Clear g) where
 
   -- and what follows from it
   pub must_is : MovesObject (slice_index_or h.maps (page_at h.classes g.address) []) (length (pages_in h.lists g.class NotFull)) 1
-      ↔ MustMove (paging_at h) (insert (state_of h).held h.settings.proxies (stand_in (paging_at h) g)) (stand_in (paging_at h) g)
+      ↔ MustMove (paging_at h) (insert (state_of h).held h.settings.proxies (placeholder (paging_at h) g)) (placeholder (paging_at h) g)
   must_is =
       let is = moves_is (paging_ok h k) k.tell.part occupied_clear h.settings.proxies stand_there in
       let bound : bound_of (paging_at h) g.class ≡ 1 = ones h k g.class class_in in
@@ -129,7 +129,7 @@ module _ (h : Heap) (k : IsValid h) (g : JobSlot) (at : h.job ≡ Clear g) where
       subst (λ A. A ↔ MustMove (paging_at h) all stand) (sym same) is
 
   -- if an object has to move
-  module _ (must : MustMove (paging_at h) (insert (state_of h).held h.settings.proxies (stand_in (paging_at h) g)) (stand_in (paging_at h) g)) where
+  module _ (must : MustMove (paging_at h) (insert (state_of h).held h.settings.proxies (placeholder (paging_at h) g)) (placeholder (paging_at h) g)) where
     pub two : not_full_pages (paging_at h) (state_of h).held g.class ≡ 2
     two = must_is_two (plan_of h) (plan_ok h k) m g none_there class_in sound_clear must
 

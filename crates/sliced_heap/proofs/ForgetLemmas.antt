@@ -19,7 +19,7 @@ use Rattle.size_classes.specs.Table.{ClassTable}
 use Rattle.slice_model.specs.State.{Plan, IsPlan, Sliced, IsKept, occupied, Idle, Clear}
 use Rattle.slice_model.specs.Steps.{fresh_slot}
 use Rattle.slice_model.specs.Words.{HasWords}
-use Rattle.slice_model.proofs.CallerLemmas.{no_stand_in, other_than, stand_in_class, words_to_clear}
+use Rattle.slice_model.proofs.CallerLemmas.{no_placeholder, other_than, placeholder_class, words_to_clear}
 use Rattle.sliced_heap.specs.Heap.{Heap}
 use Rattle.sliced_heap.specs.Layout.{IsValid, opens, paging_at, plan_of, state_of, tables_in}
 use Rattle.sliced_heap.specs.Steps.{Forgets}
@@ -33,9 +33,9 @@ use Rattle.sliced_heap.proofs.Preserved.{Becomes, becomes_plan, becomes_state, b
 pub kept_vacant : (plan : Plan) → IsPlan plan → (m : Held) → IsKept plan (record { held = m; job = Idle }) → (q : ℕ) (x : Placed) → get m q ≡ Some x
     → IsKept plan (record { held = remove m q; job = Clear (fresh_slot x.place (class_at plan.paging x)) })
 kept_vacant plan ok m kept q x there =
-    let none = no_stand_in plan m kept.numbers in
+    let none = no_placeholder plan m kept.numbers in
     let lt = (kept.sound.slots q x there).class in
-    let class = stand_in_class plan.paging ok.paging (fresh_slot x.place (class_at plan.paging x)) lt in
+    let class = placeholder_class plan.paging ok.paging (fresh_slot x.place (class_at plan.paging x)) lt in
     let size = ok.paging.sized.least (class_at plan.paging x) lt in
     let ne = other_than m plan.proxies q x none there in
     record {
@@ -129,9 +129,9 @@ module _ (h : Heap) (k : IsValid h) (idle : h.job ≡ Idle) (q : ℕ) (x : Place
       handles = g.handles;
       tell = subst (Tell (paging_at h)) (sym (ap tables_in g.rest)) k.tell;
       occupied = subst (Occupies (paging_at h) (occupied (plan_of h) s)) (sym (ap tables_in g.rest))
-          (stood_in (paging_at h) m (tables_in h) stands_idle q x there h.settings.proxies (no_stand_in (plan_of h) m k.kept.numbers)
+          (stood_in (paging_at h) m (tables_in h) stands_idle q x there h.settings.proxies (no_placeholder (plan_of h) m k.kept.numbers)
           (replicate (8 * (slot_words (paging_at h) c - 1)) 0)
-          (stand_in_class (paging_at h) (paging_ok h k) (fresh_slot x.place c) (in_class h k q x there)));
+          (placeholder_class (paging_at h) (paging_ok h k) (fresh_slot x.place c) (in_class h k q x there)));
       live_long = ap (λ (z : Heap). length z.live) g.rest ∙ length-set h.live c (get_or h.live c 0 - 1) ∙ k.live_long;
       counted = λ d lt. (
           let l = live_less d in

@@ -7,10 +7,10 @@ use Rattle.page_model.specs.Held.{Held, Placed}
 use Rattle.page_model.specs.Paging.{page_of, slot_words, slots_of}
 use Rattle.page_model.specs.Steps.{Moves, MustMove}
 use Rattle.page_model.proofs.CallerLemmas.{not_full-same, objects_on-exchanged}
-use Rattle.slice_model.specs.State.{Sliced, IsKept, occupied, stand_in, Clear, Idle}
+use Rattle.slice_model.specs.State.{Sliced, IsKept, occupied, placeholder, Clear, Idle}
 use Rattle.slice_model.specs.Steps.{Carries, fresh_slot}
 use Rattle.slice_model.specs.Runs.{Frees, Slices}
-use Rattle.slice_model.proofs.CallerLemmas.{no_stand_in, other_than, same_elsewhere, stand_in_class}
+use Rattle.slice_model.proofs.CallerLemmas.{no_placeholder, other_than, same_elsewhere, placeholder_class}
 use Rattle.slice_model.specs.declared.job_slot.JobSlot.{JobSlot}
 use Rattle.sliced_heap.specs.Heap.{Heap}
 use Rattle.sliced_heap.specs.Layout.{IsValid, paging_at, plan_of, state_of, working_of}
@@ -29,17 +29,17 @@ module _ (h : Heap) (k : IsValid h) (idle : h.job ≡ Idle) (q : ℕ) (x : Place
   g = fresh_slot x.place c
 
   abbrev all : Held
-  all = insert (remove m q) h.settings.proxies (stand_in (paging_at h) g)
+  all = insert (remove m q) h.settings.proxies (placeholder (paging_at h) g)
 
   at_idle : IsKept (plan_of h) (record { held = m; job = Idle })
   at_idle = subst (λ j. IsKept (plan_of h) (record { held = m; job = j })) idle k.kept
 
-  stand_class : class_at (paging_at h) (stand_in (paging_at h) g) ≡ c
-  stand_class = stand_in_class (paging_at h) (paging_ok h k) g (in_class h k q x there)
+  stand_class : class_at (paging_at h) (placeholder (paging_at h) g) ≡ c
+  stand_class = placeholder_class (paging_at h) (paging_ok h k) g (in_class h k q x there)
 
   none_left : get (remove m q) h.settings.proxies ≡ None
   none_left =
-      let none = no_stand_in (plan_of h) m k.kept.numbers in
+      let none = no_placeholder (plan_of h) m k.kept.numbers in
       get_remove_other m q h.settings.proxies (λ e. other_than m h.settings.proxies q x none there (sym e)) ∙ none
 
   -- each page holds the same number of objects of each class, with the slot's placeholder in place of the object
@@ -52,8 +52,8 @@ module _ (h : Heap) (k : IsValid h) (idle : h.job ≡ Idle) (q : ℕ) (x : Place
 
   -- so a free of the one has to move an object if and only if a free of the other has
   pub must_of_stand : MustMove (paging_at h) (insert (remove (state_of h).held q) h.settings.proxies
-      (stand_in (paging_at h) (fresh_slot x.place (class_at (paging_at h) x))))
-      (stand_in (paging_at h) (fresh_slot x.place (class_at (paging_at h) x))) → MustMove (paging_at h) (state_of h).held x
+      (placeholder (paging_at h) (fresh_slot x.place (class_at (paging_at h) x))))
+      (placeholder (paging_at h) (fresh_slot x.place (class_at (paging_at h) x))) → MustMove (paging_at h) (state_of h).held x
   must_of_stand must = record {
     full = sym (same_counts c (page_of (paging_at h) x.place)) ∙ rw stand_class at must.full;
     several = rw stand_class at must.several;
@@ -61,8 +61,8 @@ module _ (h : Heap) (k : IsValid h) (idle : h.job ≡ Idle) (q : ℕ) (x : Place
   }
 
   pub stand_of_must : MustMove (paging_at h) (state_of h).held x → MustMove (paging_at h)
-      (insert (remove (state_of h).held q) h.settings.proxies (stand_in (paging_at h) (fresh_slot x.place (class_at (paging_at h) x))))
-      (stand_in (paging_at h) (fresh_slot x.place (class_at (paging_at h) x)))
+      (insert (remove (state_of h).held q) h.settings.proxies (placeholder (paging_at h) (fresh_slot x.place (class_at (paging_at h) x))))
+      (placeholder (paging_at h) (fresh_slot x.place (class_at (paging_at h) x)))
   stand_of_must must = record {
     full = rw stand_class (same_counts c (page_of (paging_at h) x.place) ∙ must.full);
     several = rw stand_class must.several;
@@ -81,12 +81,12 @@ module _ (h : Heap) (k : IsValid h) (idle : h.job ≡ Idle) (q : ℕ) (x : Place
     pages_are = ap (λ p. p.paging) f.plan
 
     vacant_moves : (b : Heap) → StaysVacant a g b → Moves (paging_at h) m x None
-    vacant_moves b v must = v.stays (subst (λ p. MustMove p (occupied (plan_of a) (state_of a)) (stand_in p g)) (sym pages_are)
-        (subst (λ o. MustMove (paging_at h) o (stand_in (paging_at h) g)) (sym occupied_is) (stand_of_must must)))
+    vacant_moves b v must = v.stays (subst (λ p. MustMove p (occupied (plan_of a) (state_of a)) (placeholder p g)) (sym pages_are)
+        (subst (λ o. MustMove (paging_at h) o (placeholder (paging_at h) g)) (sym occupied_is) (stand_of_must must)))
 
     filled_must : (b : Heap) → IsFilled a g b → MustMove (paging_at h) m x
-    filled_must b v = must_of_stand (subst (λ o. MustMove (paging_at h) o (stand_in (paging_at h) g)) occupied_is
-        (subst (λ p. MustMove p (occupied (plan_of a) (state_of a)) (stand_in p g)) pages_are v.must))
+    filled_must b v = must_of_stand (subst (λ o. MustMove (paging_at h) o (placeholder (paging_at h) g)) occupied_is
+        (subst (λ p. MustMove p (occupied (plan_of a) (state_of a)) (placeholder p g)) pages_are v.must))
 
     -- the object that moves is of the same class, on a page that isn't full with the freed object there
     filled_moves : (b : Heap) → (v : IsFilled a g b) → Moves (paging_at h) m x (Some v.object)

@@ -15,4 +15,5 @@ pub mod FreeLemmas
 pub mod MallocLemmas
 pub mod AccessLemmas
 pub mod OpenLemmas
-pub mod Keeps
+pub mod Rules
+pub mod CallerLemmas

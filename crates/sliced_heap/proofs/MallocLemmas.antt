@@ -8,15 +8,15 @@ use Rattle.cf_base.specs.Classes.{class_of, need, slots}
 use Rattle.cf_lemmas.proofs.Maps.{some_inserted}
 use Rattle.cf_lemmas.proofs.MapValues.{get-map_values}
 use Rattle.cf_lemmas.proofs.Ranges.{one}
-use Rattle.cf_lemmas.proofs.Values.{sum_at_most}
 use Rattle.cf_lemmas.proofs.Tallies.{counted_in}
-use Rattle.page_model.specs.Arrangement.{LacksRoom, class_at, live, pages_needed, pages_needed_with}
+use Rattle.page_model.specs.Arrangement.{LacksRoom, live, pages_needed, pages_needed_with}
 use Rattle.page_model.specs.Bytes.{AreBytes}
 use Rattle.page_model.specs.Held.{Held, Placed, objects}
 use Rattle.page_model.specs.Image.{IsOutside, Rewrites, header_word}
-use Rattle.page_model.specs.Paging.{Paging, class_for, classes, slots_of}
+use Rattle.page_model.specs.Paging.{class_for, classes, slots_of}
 use Rattle.page_model.specs.Steps.{IsFreePlace, zeros_at}
-use Rattle.page_model.proofs.CallerLemmas.{len-objects, live_added, malloc_objects, malloc_places, one_le, slot_inside, zeros_are_bytes}
+use Rattle.page_model.proofs.CallerLemmas.{live_added, malloc_objects, malloc_places, slot_inside, zeros_are_bytes, live_few}
+use Rattle.page_model.proofs.CallerLemmas.{class_of_zeros}
 use Rattle.page_slots.specs.Tables.{AreTables, Tables}
 use Rattle.page_slots.specs.Take.{TakesAt, TakesSlot}
 use Rattle.page_slots.specs.Occupying.{Occupies, Tell, class_table}
@@ -33,14 +33,6 @@ use Rattle.sliced_heap.proofs.Counts.{needed_added, needed_more}
 use Rattle.sliced_heap.proofs.Facts.{few_classes, held_bytes, held_len, no_place, paging_ok, places_are, plan_ok, table_is}
 use Rattle.sliced_heap.proofs.Headers.{class_is}
 use Rattle.sliced_heap.proofs.Preserved.{Becomes, becomes_plan, becomes_state, becomes_valid}
-
--- no more objects of a class than there are
-live_few : (p : Paging) (m : Held) (c : ℕ) → live p (objects m) c ≤ len m
-unfolding live
-live_few p m c =
-    let a = sum_at_most (λ v. one (nat_eq (class_for p (length v)) c)) 1 (objects m) (λ q v e. one_le (nat_eq (class_for p (length v)) c)) in
-    let l = len-objects m in
-    omega arith
 
 -- one word becomes another
 pub one_word : (words : List ℕ) (a v : ℕ) → a < length words → Rewrites words (set words a v) (record { from = a; count = 1 }) (λ _. v)
@@ -166,12 +158,6 @@ module _ (h : Heap) (k : IsValid h) (bytes c : ℕ) (found : Some c ≡ class_of
             placed = refl;
           }
 
-          size : length (replicate {A = ℕ} bytes 0) ≡ bytes
-          size = length-replicate {A = ℕ} bytes 0
-
-          class_of_zeros : class_at (paging_at h) (zeros_at a bytes) ≡ c
-          class_of_zeros = ap (class_for (paging_at h)) size ∙ is.1
-
           objects_are : objects (insert m q (zeros_at a bytes)) ≡ insert (objects m) q (replicate bytes 0)
           objects_are = malloc_objects m q a bytes
 
@@ -185,7 +171,7 @@ module _ (h : Heap) (k : IsValid h) (bytes c : ℕ) (found : Some c ≡ class_of
           stands : Occupies (paging_at h) (occupied (plan_of h) s) new
           stands = subst (λ o. Occupies (paging_at h) o new) (inserted_beside (plan_of h) m (job_slot h.job) q (zeros_at a bytes) in_range)
               (taken_occupied (paging_ok h k) k.tell.part k.occupied of_table is.2 at_table q (zeros_at a bytes)
-              (get_beside (plan_of h) m (job_slot h.job) q in_range ∙ none) refl class_of_zeros)
+              (get_beside (plan_of h) m (job_slot h.job) q in_range ∙ none) refl (class_of_zeros (paging_at h) a bytes c is.1))
 
           becomes : Becomes h n s
           unfolding gives
@@ -215,10 +201,10 @@ module _ (h : Heap) (k : IsValid h) (bytes c : ℕ) (found : Some c ≡ class_of
                 let now = ap (λ (z : Heap). get_or z.live d 0) rest in
                 let more = counted_in h.live c d class_counted in
                 let same : one (nat_eq (class_for (paging_at h) (length (replicate {A = ℕ} bytes 0))) d) ≡ one (nat_eq c d) =
-                ap (λ e. one (nat_eq e d)) class_of_zeros in
+                ap (λ e. one (nat_eq e d)) (class_of_zeros (paging_at h) a bytes c is.1) in
                 omega arith);
             needed = ap (λ (z : Heap). z.needed) rest ∙ sym (ap (pages_needed (paging_at h)) objects_are
-                ∙ needed_added (paging_at h) (objects m) q (replicate bytes 0) no_bytes ∙ ap (pages_needed_with (paging_at h) (objects m)) size ∙ needed_is);
+                ∙ needed_added (paging_at h) (objects m) q (replicate bytes 0) no_bytes ∙ ap (pages_needed_with (paging_at h) (objects m)) (length-replicate {A = ℕ} bytes 0) ∙ needed_is);
             within = (let now = ap (λ (z : Heap). z.needed) rest in omega arith);
           }
 

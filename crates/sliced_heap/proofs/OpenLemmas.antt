@@ -1,60 +1,31 @@
 -- An open heap without objects.
-use Rattle.std.proofs.Common.{◌≡◌, ℕ, zero, suc, Bool, false, ◌+◌, ◌-◌, ◌*◌, ◌/◌, ◌<◌, ◌≤◌, List, [], length, replicate, get_or, Some, None, arith, refl, sym}
+use Rattle.std.proofs.Common.{◌≡◌, ℕ, false, ◌-◌, ◌*◌, ◌<◌, ◌≤◌, length, replicate, get_or, Some, None, arith, sym}
 use Rattle.std.proofs.Common.{◌∙◌, ap, subst, inl, inr}
-use Rattle.std.specs.Prelude.{sum_by}
 use Rattle.std.specs.List.{range_with_len}
 use Rattle.std.proofs.lemmas.Bool.{cases_lt}
 use Rattle.std.proofs.lemmas.List.{get_or-replicate, get_or_past, length-replicate}
-use Rattle.std.proofs.lemmas.List.Sums.{sum_by-cons}
-use Rattle.std.proofs.lemmas.Nat.{div-mul-add}
 use Rattle.std.specs.Ordering.{nat_cmp}
 use Rattle.std.specs.FinMap.{empty, get, get-empty}
 use Rattle.cf_base.specs.Classes.{sizes}
 use Rattle.cf_base.specs.declared.settings.Settings.{Settings}
 use Rattle.cf_base.specs.declared.kind.Layout.TheVariants.{Words}
 use Rattle.cf_base.proofs.CallerLemmas.{are_sizes, page_size}
-use Rattle.cf_lemmas.proofs.Values.{no_values, map_values-empty}
+use Rattle.cf_lemmas.proofs.Values.{map_values-empty}
 use Rattle.page_model.specs.Arrangement.{live, pages_needed}
 use Rattle.page_model.specs.Bytes.{bytes_at, held_at}
-use Rattle.page_model.specs.Counts.{ceil_div}
 use Rattle.page_model.specs.Held.{Placed, objects}
-use Rattle.page_model.specs.Paging.{Paging, IsPaging, classes, slots_of}
-use Rattle.page_model.proofs.CallerLemmas.{first_paged, slots_some, sound_empty}
-use Rattle.size_classes.specs.Table.{ClassTable, IsClassTable, table_of}
+use Rattle.page_model.specs.Paging.{IsPaging, classes}
+use Rattle.page_model.proofs.CallerLemmas.{first_paged, sound_empty, no_objects, none_needed, none_live}
+use Rattle.size_classes.specs.Table.{ClassTable, table_of}
 use Rattle.class_lists.specs.PageLists.{empty_lists}
-use Rattle.page_pool.specs.Pool.{Pool}
 use Rattle.proxy_table.specs.Proxies.{Proxies, AreBelowLimit, no_proxies}
-use Rattle.page_slots.specs.Tables.{AreTables, NoneElsewhere, tables, used_in}
-use Rattle.page_slots.specs.Occupying.{Occupies, Tell, class_table}
-use Rattle.page_slots.proofs.CallerLemmas.{first_occupied, first_tables, first_whole}
+use Rattle.page_slots.specs.Tables.{tables}
+use Rattle.page_slots.specs.Occupying.{Occupies, Tell}
+use Rattle.page_slots.proofs.CallerLemmas.{first_occupied, first_table, new_tell}
 use Rattle.slice_model.specs.State.{Sliced, IsKept, Idle, occupied}
 use Rattle.slice_model.specs.Words.{HasWords}
 use Rattle.sliced_heap.specs.Heap.{Heap}
 use Rattle.sliced_heap.specs.Layout.{IsNew, IsValid, completed, paging_at, plan_of, profile_at, state_of, tables_in}
-
-no_objects : objects empty ≡ empty
-no_objects = map_values-empty (λ (x : Placed). x.bytes)
-
-none_live : (p : Paging) (c : ℕ) → live p empty c ≡ 0
-unfolding live
-none_live p c = ap (sum_by _) no_values
-
--- no objects need no pages
-none_needed : (p : Paging) → IsPaging p → pages_needed p empty ≡ 0
-unfolding pages_needed
-none_needed p ok = sum_range (classes p) 0 (omega arith)
-  where
-    nothing : (m : ℕ) → 0 < m → ceil_div 0 m ≡ 0
-    nothing m pos = ap (λ z. z / m) (let e : 0 + (m - 1) ≡ 0 * m + (m - 1) = omega arith in e) ∙ div-mul-add 0 m (m - 1) (omega arith)
-
-    sum_range : (n a : ℕ) → a + n ≤ classes p → sum_by (λ c. ceil_div (live p empty c) (slots_of p c)) (range_with_len a n) ≡ 0
-    sum_range zero a le = refl
-    sum_range (suc n) a le =
-        let x = sum_by-cons (λ c. ceil_div (live p empty c) (slots_of p c)) a (range_with_len (a + 1) n) in
-        let e : ceil_div (live p empty a) (slots_of p a) ≡ 0 = ap (λ l. ceil_div l (slots_of p a)) (none_live p a)
-        ∙ nothing (slots_of p a) (slots_some p ok a (omega arith)) in
-        let rest = sum_range n (a + 1) (omega arith) in
-        omega arith
 
 -- what an opened heap is made of
 pub record IsFirst (s : Settings) (n : ℕ) (h : Heap) : Type 0 where
@@ -96,35 +67,10 @@ module _ (s : Settings) (n : ℕ) (h : Heap) (f : IsFirst s n h) where
   few = (are_sizes h.settings.page_words Words h.settings.page_size).few
 
   tell : Tell (paging_at h) (tables_in h)
-  tell = record {
-    part = record { tables = told; pages = ap (λ (q : Pool). q.pages) f.pool };
-    whole = subst NoneElsewhere (sym tables_are) (first_whole (length h.classes.sizes) h.settings.pages h.maps);
-  }
-    where
-      unused : (page : ℕ) → used_in (get_or h.maps page []) ≡ 0
-      unused page = ap (λ (maps : List (List Bool)). used_in (get_or maps page [])) f.maps ∙ elim (cases_lt page h.settings.pages) [
-        | inl lt ↦ ap used_in (get_or-replicate h.settings.pages page (replicate 1 false) [] lt)
-        | inr past ↦ ap used_in (get_or_past (replicate h.settings.pages (replicate 1 false)) page []
-            (let e = length-replicate h.settings.pages (replicate 1 false) in omega arith))
-      ]
-
-      told : AreTables (class_table (paging_at h)) (tables_in h)
-      told =
-          let small = h.settings.small_region in
-          let t : IsClassTable h.settings.page_words (sizes h.settings.page_words Words) =
-          record {
-            are_sizes = are_sizes h.settings.page_words Words h.settings.page_size;
-            small = (page_size h.settings.page_words h.settings.page_size).small;
-          } in
-          let long : length h.maps ≡ h.settings.pages = ap length f.maps ∙ length-replicate h.settings.pages (replicate 1 false) in
-          let all = first_tables (length h.classes.sizes) h.settings.pages (class_table (paging_at h)) h.maps t (omega arith) long unused many in
-          let l = subst (λ l. AreTables (class_table (paging_at h))
-          (tables h.maps l (record { pages = h.settings.pages; free = range_with_len 0 h.settings.pages }))) (sym f.lists) all in
-          subst (λ q. AreTables (class_table (paging_at h)) (tables h.maps h.lists q)) (sym f.pool) l
-
-      tables_are : tables_in h ≡ tables h.maps (empty_lists (length h.classes.sizes) h.settings.pages)
-          (record { pages = h.settings.pages; free = range_with_len 0 h.settings.pages })
-      tables_are = ap (λ l. tables h.maps l h.pool) f.lists ∙ ap (tables h.maps (empty_lists (length h.classes.sizes) h.settings.pages)) f.pool
+  tell =
+      let small = h.settings.small_region in
+      new_tell (paging_at h) (length h.classes.sizes) h.maps h.lists h.pool (first_table h.settings.page_words Words h.settings.page_size) (omega arith) many
+      f.maps f.lists f.pool
 
   kept_first : IsKept (plan_of h) first
   kept_first = record {
@@ -166,7 +112,7 @@ module _ (s : Settings) (n : ℕ) (h : Heap) (f : IsFirst s n h) where
         let here : c < 128 = omega arith in
         ap (λ b. get_or b c 0) f.live ∙ get_or-replicate {A = ℕ} 128 c 0 0 here
         ∙ sym (ap (λ o. live (paging_at h) o c) objects_are ∙ none_live (paging_at h) c));
-    needed = f.needed ∙ sym (ap (pages_needed (paging_at h)) objects_are ∙ none_needed (paging_at h) paging_ok);
+    needed = f.needed ∙ sym (ap (pages_needed (paging_at h)) objects_are ∙ none_needed (paging_at h));
     within = (let e = f.needed in omega arith);
   }
 

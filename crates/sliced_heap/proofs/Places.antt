@@ -3,27 +3,13 @@ use Rattle.std.proofs.Common.{◌≡◌, ◌≢◌, ℕ, List, Some, None, sym, 
 use Rattle.std.specs.Prelude.{◌⊎◌}
 use Rattle.std.proofs.lemmas.Bool.{cases_eq}
 use Rattle.std.specs.FinMap.{get, insert, remove}
-use Rattle.cf_lemmas.proofs.Maps.{equal_maps, get_inserted, get_insert_other, get_removed, get_remove_other, some_inserted}
+use Rattle.cf_lemmas.proofs.Maps.{get_inserted, get_insert_other, get_removed, get_remove_other, some_inserted, remove_inserted}
 use Rattle.page_model.specs.Arrangement.{class_at, objects_on}
 use Rattle.page_model.specs.Held.{Held, Placed}
 use Rattle.page_model.specs.Paging.{Paging, page_of}
 use Rattle.page_slots.specs.Tables.{Tables, IsUsed, slot_at}
 use Rattle.page_slots.specs.Occupying.{Occupies, class_table}
 use Rattle.page_slots.proofs.CallerLemmas.{renumbered_occupied, rewritten_occupied}
-
--- what was put under a number is removed with it
-pub removed_again : (m : Held) (q : ℕ) (x : Placed) → remove (insert m q x) q ≡ remove m q
-removed_again m q x = equal_maps _ _ (λ r. elim (cases_eq r q) [
-  | inl is ↦ rw is (get_removed (insert m q x) q ∙ sym (get_removed m q))
-  | inr ne ↦ get_remove_other (insert m q x) q r ne ∙ get_insert_other m q x r ne ∙ sym (get_remove_other m q r ne)
-])
-
--- and an object that was added is removed again
-pub taken_again : (m : Held) (q : ℕ) (x : Placed) → get m q ≡ None → remove (insert m q x) q ≡ m
-taken_again m q x none = equal_maps _ _ (λ r. elim (cases_eq r q) [
-  | inl is ↦ rw is (get_removed (insert m q x) q ∙ sym none)
-  | inr ne ↦ get_remove_other (insert m q x) q r ne ∙ get_insert_other m q x r ne
-])
 
 -- a placeholder of the same class takes the place of an object
 pub stood_in : (p : Paging) (m : Held) (t : Tables) → Occupies p m t → (q : ℕ) (x : Placed) → get m q ≡ Some x → (P : ℕ) → get m P ≡ None
@@ -32,7 +18,7 @@ pub stood_in : (p : Paging) (m : Held) (t : Tables) → Occupies p m t → (q : 
 stood_in p m t o q x there P none bytes class =
     let once = rewritten_occupied o q there bytes class in
     let here = get_inserted m q (record { place = x.place; bytes = bytes }) in
-    let gone : remove (insert m q (record { place = x.place; bytes = bytes })) q ≡ remove m q = removed_again m q (record { place = x.place; bytes = bytes }) in
+    let gone : remove (insert m q (record { place = x.place; bytes = bytes })) q ≡ remove m q = remove_inserted m q (record { place = x.place; bytes = bytes }) in
     let free : get (remove (insert m q (record { place = x.place; bytes = bytes })) q) P ≡ None = ap (λ n. get n P) gone ∙ without (cases_eq P q) in
     subst (λ n. Occupies p (insert n P (record { place = x.place; bytes = bytes })) t) gone (renumbered_occupied once q here P free)
   where

@@ -9,7 +9,7 @@ use Rattle.page_slots.specs.Release.{IsFiller, steps_to_drop}
 use Rattle.page_slots.specs.Tables.{page_at}
 use Rattle.proxy_table.specs.Proxies.{AreBelowLimit, with_place}
 use Rattle.slice_model.specs.declared.job_slot.JobSlot.{JobSlot}
-use Rattle.slice_model.specs.State.{Job, occupied, stand_in, Idle, Clear, Move}
+use Rattle.slice_model.specs.State.{Job, occupied, placeholder, Idle, Clear, Move}
 use Rattle.slice_model.specs.Steps.{Carries, IsBeside, fresh_slot}
 use Rattle.slice_model.specs.declared.answers.SliceFault.{SliceFault}
 use Rattle.sliced_heap.specs.Heap.{Heap}
@@ -34,7 +34,7 @@ pub record Forgets (old : Heap) (q : ℕ) (k : JobSlot) (new : Heap) : Type 0 wh
 
 -- an object of another partly full page gets the slot's address, and is to be carried there
 pub record IsFilled (old : Heap) (k : JobSlot) (new : Heap) : Type 0 where
-  pub must : MustMove (paging_at old) (occupied (plan_of old) (state_of old)) (stand_in (paging_at old) k)
+  pub must : MustMove (paging_at old) (occupied (plan_of old) (state_of old)) (placeholder (paging_at old) k)
   pub object : ℕ
   pub beside : IsBeside (paging_at old) (state_of old).held k.address k.class object
   pub carries : Carries (state_of old).held object k.address k.class (state_of new)
@@ -44,7 +44,7 @@ pub record IsFilled (old : Heap) (k : JobSlot) (new : Heap) : Type 0 where
 
 -- the slot needs no object
 pub record StaysVacant (old : Heap) (k : JobSlot) (new : Heap) : Type 0 where
-  pub stays : ¬ MustMove (paging_at old) (occupied (plan_of old) (state_of old)) (stand_in (paging_at old) k)
+  pub stays : ¬ MustMove (paging_at old) (occupied (plan_of old) (state_of old)) (placeholder (paging_at old) k)
   pub same : new ≡ old
 
 abbrev pub Fills : Heap → JobSlot → Bool → Heap → Type 0

@@ -1,6 +1,6 @@
-//! A moving heap for several tasks. A free leaves its long work as a job, of which each call does a
-//! slice of at most a quantum of words. The rules are those of Compact-fit (2008) with one partly full
-//! page to a class. An object in motion can be read and written.
+//! A moving heap for several tasks. A free leaves its long work as a job. Each slice does at most a
+//! quantum of words of it. The rules are those of Compact-fit (2008) with one partly full page a class.
+//! An object can be read and written while it moves.
 #![tactic(auto)]
 
 mod access;

@@ -1,5 +1,5 @@
 //! The largest region, full, from a stream and to a stream: neither keeps what passes.
-ghost use Rattle.std.specs.Prelude.{◌≡◌, None, Ok, length};
+ghost use Rattle.std.specs.Prelude.{◌≡◌, false, None, Ok, length};
 
 use cf_base::Failed;
 use cf_io::{Sink, Source};
@@ -50,6 +50,8 @@ impl Source for Stream {
 
     ghost faults = { λ _. 0 };
 
+    ghost last_failed = { λ _. false };
+
     fn take(&mut self, buf: &mut [u8]) -> Result<usize, Failed> {
         let n = buf.len().min(TOTAL.saturating_sub(self.at) as usize);
         put_image(&mut buf[..n], self.at);
@@ -79,6 +81,8 @@ impl Sink for Comparison {
     ghost written = { λ _. None };
 
     ghost faults = { λ _. 0 };
+
+    ghost last_failed = { λ _. false };
 
     fn put(&mut self, bytes: &[u8]) -> Result<usize, Failed>
         ensures { result ≡ Ok (length bytes.now) }

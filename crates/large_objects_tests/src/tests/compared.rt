@@ -1,4 +1,4 @@
-//! A heap of large objects, each call of which is compared with a plain map of byte lists.
+//! A heap of large objects. Each call is compared with a map of byte lists.
 ghost use Rattle.std.specs.Prelude.{◌<◌};
 ghost use Rattle.cf_model.specs.Families.{IsPaged};
 

@@ -28,7 +28,7 @@ static PAGES: [([u32; 3], u32); 2] = [
     ([512, 131_072, 512], 131_064),
 ];
 
-/// The bytes from byte `at` on, as many as a chunk has or as the object has left.
+/// The bytes from byte `at` on: a chunk, or what the object has left.
 fn bytes_at(table: &[u8], at: u32) -> Result<&[u8], Wrong> {
     let from = (at % PERIOD) as usize;
     let left = BYTES.saturating_sub(at) as usize;

@@ -5,8 +5,8 @@ use page_reference::Plain;
 use std::alloc::Global;
 use wrong_answers::Wrong;
 
-/// The lengths of the parts of an object, where a page has so many bytes for one: the object alone, or
-/// four bytes for each piece, and the pieces, each cut off in turn.
+/// The lengths of the parts of an object if a page holds `piece` bytes of it: the object alone; or the
+/// spine, four bytes for each piece, and then the pieces.
 pub fn parts_of(alloc: Global, piece: u32, bytes: u32) -> Result<Vec<u32>, Wrong>
     requires { 0 < piece }
 {

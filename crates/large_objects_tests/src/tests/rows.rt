@@ -33,8 +33,8 @@ enum Call {
     Read(usize, u32),
     /// A read of five bytes from this byte on is refused.
     Fault(usize, u32, AccessFault),
-    /// The figures of the class whose slots have so many words: its slots, how many of them are used, its
-    /// pages, and how many of these are partly full.
+    /// The figures of the class with slots of this many words: slots a page, used slots, pages, and partly
+    /// full pages.
     Class(u32, [u32; 4]),
     /// How many inner objects there are, the pages in use, and the free ones.
     Totals([u32; 3]),

@@ -4,8 +4,8 @@ use quota_heap::{QuotaHeap, Settings};
 use std::test::Fail;
 use step_ledger::Meter;
 
-/// Pages of 64 words, of which task 0 has two; two objects of 176 bytes, in slots of 23 words, fill a
-/// page.
+/// Pages of 64 words. Task 0 has a quota of two pages. Two objects of 176 bytes, in slots of 23 words,
+/// fill a page.
 ///
 /// A malloc reads the entry of its class (1), takes a slot (13 if it fills the page, 11 on a free
 /// page), takes a proxy (2) and writes the header (1).

@@ -16,8 +16,8 @@ const PAGE: u32 = 64;
 /// The lengths of the live objects of one task, by number.
 type Lengths = [Option<u32>; PROXIES];
 
-/// The words of the least slot that holds an object of so many bytes, with its header: after a size
-/// comes nine eighths of it, rounded up, and at last the page.
+/// The words of the least slot that holds an object of `bytes` bytes and its header. Each size is nine
+/// eighths of the one before it, rounded up; the last one is the page.
 fn slot_of(bytes: u32) -> u32
     requires { bytes ≤ 504 }
 {
@@ -48,7 +48,7 @@ fn pages_of(lengths: &Lengths) -> u32 {
     pages
 }
 
-/// What a malloc of a task with these objects and this quota has to answer.
+/// The refusal that a malloc of a task with these objects and this quota must return.
 fn refusal_of(lengths: &Lengths, quota: u32, bytes: u32) -> Option<Refusal>
     requires { bytes ≤ 504 }
 {

@@ -9,7 +9,7 @@ use step_ledger::Meter;
 /// The calls of a task.
 const COUNT: usize = 8;
 
-/// Each task's calls and what they are answered, worked out by hand. Two objects of 176 bytes fill a
+/// Each task's calls and their results, worked out by hand. Two objects of 176 bytes fill a
 /// page. Task 0 has two pages; a free moves the third object, and the last malloc finds no space. Task
 /// 1 begins with one page, asks for a second, asks for more than there are, and gives the second back.
 static CALLS: [[(Call, &str); COUNT]; 2] = [

@@ -15,9 +15,10 @@ use step_ledger::Meter;
 /// How many tasks call.
 const TASKS: u32 = 4;
 
-/// The calls of a run; all words are compared after each so many.
+/// The calls of a run.
 const CALLS: u32 = 20_000;
 
+/// All words are compared after every 100 calls.
 const BETWEEN: u32 = 100;
 
 /// How often a malloc had to wait for a job, or was refused for space; how often a job followed another

@@ -6,8 +6,8 @@ use sliced_heap::SlicedHeap;
 use std::test::Fail;
 use step_ledger::Meter;
 
-/// A call: a malloc of so many bytes, a free, a slice, a read and a write of so many bytes from one on,
-/// and a word.
+/// A call: a malloc with its bytes, a free, a slice, a read and a write with their offset and bytes, and
+/// a word.
 #[derive(Clone, Copy, Debug)]
 enum Call {
     Malloc(u32),

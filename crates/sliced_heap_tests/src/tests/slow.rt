@@ -1,5 +1,5 @@
-//! A slow program for a heap whose frees leave their work in slices: it computes each answer, and each
-//! word, from the objects and the job alone, by their definitions.
+//! A slow reference implementation of a heap whose frees leave their work in slices. It computes each
+//! result and each word from the objects and the job alone, by their definitions.
 ghost use Rattle.std.specs.Prelude.{◌≤◌};
 
 use slice_model::{SliceFault, SliceRefusal};

@@ -1,7 +1,7 @@
 use Rattle.run_laws.proofs.CallerLemmas.{runs_on, runs_there}
 use Rattle.quota_session.specs.Playing.{BeginsAtOne}
 use Rattle.quota_session.specs.QuotaRun.{QuotaStep}
-use Rattle.quota_session.proofs.Turns.{tasks_go_on}
+use Rattle.quota_session.proofs.CommandSteps.{tasks_go_on}
 use Rattle.quota_session.proofs.laws.a_run_of_tasks_can_always_go_on.Goals as goal
 
 pub returns-clause-there : goal.returns-clause-there

@@ -1,6 +1,6 @@
 use Rattle.quota_session.proofs.RunInvariant.{still_going}
-use Rattle.quota_session.proofs.Opened.{begins_going}
-use Rattle.quota_session.proofs.Turns.{begins_there, turn_there}
+use Rattle.quota_session.proofs.OpenLemmas.{begins_going}
+use Rattle.quota_session.proofs.CommandSteps.{begins_there, turn_there}
 use Rattle.quota_session.proofs.laws.each_command_has_its_turn.Goals as goal
 
 pub returns-clause-begins : goal.returns-clause-begins

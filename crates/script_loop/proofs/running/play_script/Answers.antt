@@ -1,6 +1,6 @@
 use Rattle.std.proofs.Common.{◌∙◌, ◌≡◌, ap, subst, refl}
 use Rattle.cf_base.specs.declared.status.Status.TheVariants.{Done, BadScript, WriteFault, OutOfMemory, ReadFault}
-use Rattle.cf_io.specs.Feeds.{Rose}
+use Rattle.cf_io.specs.Feeds.{FailsLast}
 use Rattle.script_loop.proofs.LoopTurn.{at_end, has_stopped, next_so_far, none_so_far, plays_of}
 use Rattle.script_loop.specs.declared.running.TurnEnd.TheVariants.{Stopped}
 use Rattle.script_loop.proofs.running.play_script.Goals as goal
@@ -27,9 +27,9 @@ returns-in-Stopped g c =
     let at = c.turns.invariant in
     plays_of g.A.Player.semantics _ _ _ c.in-Stopped.status _ _ _ (has_stopped g.A.Player.semantics at.so_far _ c.in-Stopped.status turn.turn)
     (λ other. turn.source_same (λ e. other cc) ∙ at.source_same)
-    (λ is. subst (λ n. Rose n (g.S.Source.faults c.turn.new.source)) at.source_same (turn.read_fault (ap Stopped is)))
+    (λ is. subst (λ n. FailsLast n (g.S.Source.faults c.turn.new.source) (g.S.Source.last_failed c.turn.new.source)) at.source_same (turn.read_fault (ap Stopped is)))
     (λ other. turn.sink_same (λ e. other cc) ∙ at.sink_same)
-    (λ is. subst (λ n. Rose n (g.K.Sink.faults c.turn.new.sink)) at.sink_same (turn.write_fault (ap Stopped is)))
+    (λ is. subst (λ n. FailsLast n (g.K.Sink.faults c.turn.new.sink) (g.K.Sink.last_failed c.turn.new.sink)) at.sink_same (turn.write_fault (ap Stopped is)))
 
 pub returns-in-GoesOn : goal.returns-in-GoesOn
 returns-in-GoesOn g c =
@@ -59,7 +59,7 @@ returns-in-Cut g c =
     let went = rw c.finish.ensures at c.in-Cut.ensures.goes in
     plays_of m _ _ _ WriteFault _ _ _ (at_end m at.so_far _ turn.turn _ WriteFault went)
     (λ other. turn.source_same (λ e. cc) ∙ at.source_same) (λ is. absurd (let e : WriteFault ≡ ReadFault = is in cc))
-    (λ other. absurd (other refl)) (λ is. subst (λ n. Rose n (g.K.Sink.faults c.answer_kept.new.sink)) (turn.sink_same (λ e. cc) ∙ at.sink_same) (c.in-Cut.ensures.failed refl))
+    (λ other. absurd (other refl)) (λ is. subst (λ n. FailsLast n (g.K.Sink.faults c.answer_kept.new.sink) (g.K.Sink.last_failed c.answer_kept.new.sink)) (turn.sink_same (λ e. cc) ∙ at.sink_same) (c.in-Cut.ensures.failed refl))
 
 pub returns-in-Wanting : goal.returns-in-Wanting
 returns-in-Wanting g c =

@@ -1,6 +1,6 @@
 use Rattle.std.proofs.Common.{◌∙◌, length, sym}
 use Rattle.slice_session.specs.SliceRun.{slice_run}
-use Rattle.slice_session.proofs.Telling.{read_fault, read_said, read_unknown}
+use Rattle.slice_session.proofs.ReplyLemmas.{read_fault, read_said, read_unknown}
 use Rattle.slice_session.proofs.commands.read.Goals as goal
 
 pub returns-in_default-clause-text : goal.returns-in_default-clause-text

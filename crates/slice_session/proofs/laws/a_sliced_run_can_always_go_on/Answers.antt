@@ -1,7 +1,7 @@
 use Rattle.run_laws.proofs.CallerLemmas.{runs_on, runs_there}
 use Rattle.slice_session.specs.Playing.{BeginsSlices}
 use Rattle.slice_session.specs.SliceRun.{SliceStep}
-use Rattle.slice_session.proofs.Turns.{slices_go_on}
+use Rattle.slice_session.proofs.CommandSteps.{slices_go_on}
 use Rattle.slice_session.proofs.laws.a_sliced_run_can_always_go_on.Goals as goal
 
 pub returns-clause-there : goal.returns-clause-there

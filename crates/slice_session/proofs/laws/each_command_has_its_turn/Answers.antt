@@ -1,6 +1,6 @@
-use Rattle.slice_session.proofs.Going.{still_going}
-use Rattle.slice_session.proofs.Opened.{begins_going}
-use Rattle.slice_session.proofs.Turns.{begins_sliced, turn_there}
+use Rattle.slice_session.proofs.RunInvariant.{still_going}
+use Rattle.slice_session.proofs.OpenLemmas.{begins_going}
+use Rattle.slice_session.proofs.CommandSteps.{begins_sliced, turn_there}
 use Rattle.slice_session.proofs.laws.each_command_has_its_turn.Goals as goal
 
 pub returns-clause-begins : goal.returns-clause-begins

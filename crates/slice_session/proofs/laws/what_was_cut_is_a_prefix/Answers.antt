@@ -1,6 +1,6 @@
 use Rattle.script_loop.proofs.Prefix.{cut_is_prefix_by}
 use Rattle.slice_session.specs.Playing.{slices}
-use Rattle.slice_session.proofs.Turns.{slices_go_on}
+use Rattle.slice_session.proofs.CommandSteps.{slices_go_on}
 use Rattle.slice_session.proofs.laws.what_was_cut_is_a_prefix.Goals as goal
 
 pub returns : goal.returns

@@ -2,7 +2,7 @@ use Rattle.std.proofs.Common.{refl}
 use Rattle.std.specs.Vec.{with_item}
 use Rattle.cf_model.specs.Steps.{number_of}
 use Rattle.quota_heap.specs.declared.open_tasks.OpenTasks.{OpenTasks}
-use Rattle.quota_heap.proofs.FreeCalls.{removed_freed, removed_kept}
+use Rattle.quota_heap.proofs.FreeKinds.{removed_freed, removed_kept}
 use Rattle.quota_heap.proofs.Tasks.{pages_few, task_there}
 use Rattle.quota_heap.proofs.open_tasks.OpenTasks.free.Goals as goal
 

@@ -1,7 +1,7 @@
 use Rattle.std.proofs.Common.{refl}
 use Rattle.std.specs.Vec.{with_item}
 use Rattle.quota_heap.specs.declared.open_tasks.OpenTasks.{OpenTasks}
-use Rattle.quota_heap.proofs.Quotas.{quota_kept, quota_state}
+use Rattle.quota_heap.proofs.SetQuota.{quota_kept, quota_state}
 use Rattle.quota_heap.proofs.Tasks.{task_there}
 use Rattle.quota_heap.proofs.open_tasks.OpenTasks.grant.Goals as goal
 

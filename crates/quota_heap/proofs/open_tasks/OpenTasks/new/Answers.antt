@@ -1,6 +1,6 @@
 use Rattle.std.proofs.Common.{refl}
 use Rattle.quota_heap.specs.declared.open_tasks.OpenTasks.{OpenTasks}
-use Rattle.quota_heap.proofs.Opening.{opened_empty, opened_kept}
+use Rattle.quota_heap.proofs.OpenLemmas.{opened_empty, opened_kept}
 use Rattle.quota_heap.proofs.open_tasks.OpenTasks.new.Goals as goal
 
 pub returns-clause-kept : goal.returns-clause-kept

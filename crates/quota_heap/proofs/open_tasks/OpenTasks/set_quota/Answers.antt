@@ -1,5 +1,5 @@
 use Rattle.std.proofs.Common.{arith, refl}
-use Rattle.quota_heap.proofs.Quotas.{quota_granted, quota_within, used_refused}
+use Rattle.quota_heap.proofs.SetQuota.{quota_granted, quota_within, used_refused}
 use Rattle.quota_heap.proofs.open_tasks.OpenTasks.set_quota.Goals as goal
 
 pub returns-then-pages-clause-step : goal.returns-then-pages-clause-step

@@ -5,7 +5,7 @@ use Rattle.quota_heap.specs.Layout.{tables_of}
 use Rattle.quota_heap.specs.declared.shared_pages.SharedPages.{SharedPages}
 use Rattle.quota_heap.specs.declared.task.Task.{Task}
 use Rattle.quota_heap.proofs.Facts.{tables_ok}
-use Rattle.quota_heap.proofs.FreeCalls.{vacated_account}
+use Rattle.quota_heap.proofs.FreeKinds.{vacated_account}
 use Rattle.quota_heap.proofs.FreedObject.{it_inside, it_used, live_some}
 use Rattle.quota_heap.proofs.ObjectFacts.{pool_few}
 use Rattle.quota_heap.proofs.shared_pages.SharedPages.free_alone.Goals as goal

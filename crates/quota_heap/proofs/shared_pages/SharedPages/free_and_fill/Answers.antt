@@ -7,7 +7,7 @@ use Rattle.quota_heap.specs.Layout.{tables_of}
 use Rattle.quota_heap.specs.declared.shared_pages.SharedPages.{SharedPages}
 use Rattle.quota_heap.specs.declared.task.Task.{Task}
 use Rattle.quota_heap.proofs.Facts.{tables_ok}
-use Rattle.quota_heap.proofs.Filling.{filler_account, filler_apart, filler_source, filler_told}
+use Rattle.quota_heap.proofs.Filler.{filler_account, filler_apart, filler_source, filler_told}
 use Rattle.quota_heap.proofs.FreedObject.{class_listed, it_inside, live_some, some_not_full}
 use Rattle.quota_heap.proofs.ObjectFacts.{pool_few}
 use Rattle.quota_heap.proofs.shared_pages.SharedPages.free_and_fill.Goals as goal

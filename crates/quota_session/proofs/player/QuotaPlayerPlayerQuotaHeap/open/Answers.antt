@@ -1,6 +1,6 @@
 use Rattle.std.proofs.Common.{refl}
 use Rattle.cf_base.specs.Settings.{profile_of}
-use Rattle.quota_session.proofs.Opened.{opened_begins, opened_going}
+use Rattle.quota_session.proofs.OpenLemmas.{opened_begins, opened_going}
 use Rattle.quota_session.proofs.player.QuotaPlayerPlayerQuotaHeap.open.Goals as goal
 
 pub returns-in-Ok-put_all-clause-going : goal.returns-in-Ok-put_all-clause-going

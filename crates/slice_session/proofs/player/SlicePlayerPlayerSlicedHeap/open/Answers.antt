@@ -1,6 +1,6 @@
 use Rattle.std.proofs.Common.{refl}
 use Rattle.cf_base.specs.Settings.{profile_of}
-use Rattle.slice_session.proofs.Opened.{begins_going, opened_begins}
+use Rattle.slice_session.proofs.OpenLemmas.{begins_going, opened_begins}
 use Rattle.slice_session.proofs.player.SlicePlayerPlayerSlicedHeap.open.Goals as goal
 
 pub returns-in-Ok-put_all-clause-going : goal.returns-in-Ok-put_all-clause-going

@@ -1,8 +1,8 @@
 use Rattle.std.proofs.Common.{◌∙◌, sym}
 use Rattle.script_reader.specs.Owned.{owned_command}
 use Rattle.slice_session.specs.SliceRun.{slice_run}
-use Rattle.slice_session.proofs.Going.{going_before}
-use Rattle.slice_session.proofs.Telling.{applied_going}
+use Rattle.slice_session.proofs.RunInvariant.{going_before}
+use Rattle.slice_session.proofs.ReplyLemmas.{applied_going}
 use Rattle.slice_session.proofs.session.SliceSession.answer_ref.Goals as goal
 
 pub answer-requires-clause-going : goal.answer-requires-clause-going

@@ -1,4 +1,4 @@
-use Rattle.sliced_heap.proofs.Keeps.{keeps}
+use Rattle.sliced_heap.proofs.Rules.{keeps}
 use Rattle.sliced_heap.proofs.heap.SlicedHeap.free.Goals as goal
 
 pub returns-clause-rules : goal.returns-clause-rules

@@ -1,6 +1,6 @@
 use Rattle.std.proofs.Common.{subst, sym, ◌∙◌}
 use Rattle.sliced_heap.specs.Shown.{KeepsRules}
-use Rattle.sliced_heap.proofs.Keeps.{keeps_open}
+use Rattle.sliced_heap.proofs.Rules.{keeps_open}
 use Rattle.sliced_heap.proofs.heap.SlicedHeap.is_open.Goals as goal
 
 pub returns-clause-rules : goal.returns-clause-rules

@@ -6,7 +6,7 @@ use Rattle.class_lists.specs.declared.Which.TheVariants.{NotFull}
 use Rattle.page_model.specs.Steps.{MustMove}
 use Rattle.page_slots.specs.Release.{MovesObject}
 use Rattle.page_slots.specs.Tables.{page_at}
-use Rattle.slice_model.specs.State.{stand_in}
+use Rattle.slice_model.specs.State.{placeholder}
 use Rattle.sliced_heap.specs.Heap.{seen}
 use Rattle.sliced_heap.specs.Layout.{paging_at}
 use Rattle.sliced_heap.proofs.FillLemmas.{all_are, carried_partly, carried_valid, from_within, is_filled, must_is, number_live, page_within}
@@ -57,8 +57,8 @@ returns-clause-filled c =
     let p = must_is h c.requires.kept c.args.k c.requires.job in
     record {
       stays = λ must.
-          let must' : MustMove (paging_at h) _ (stand_in (paging_at h) c.args.k) =
-          subst (λ o. MustMove (paging_at h) o (stand_in (paging_at h) c.args.k)) (all_are h c.requires.kept c.args.k c.requires.job) must in
+          let must' : MustMove (paging_at h) _ (placeholder (paging_at h) c.args.k) =
+          subst (λ o. MustMove (paging_at h) o (placeholder (paging_at h) c.args.k)) (all_are h c.requires.kept c.args.k c.requires.job) must in
           let t : IsTrue c.must_move.result = c.must_move.ensures.value.1 (rw c.deref.ensures.value (p.1 must')) in
           false≢true (sym c.if-must_move.false ∙ t);
       same = refl;

@@ -1,0 +1,72 @@
+//! Fields of an image from a source.
+ghost use Rattle.std.specs.Prelude.{◌≡◌, ◌≤◌, Err, ◌≢◌};
+ghost use Rattle.std.specs.Int.{w16, w32};
+ghost use Rattle.cf_io.specs.Feeds.{FailsLast};
+ghost use Rattle.heap_image.specs.Feed.{feed_at};
+ghost use Rattle.heap_image.specs.Stages.{Fills, ReadsNumber};
+
+use crate::fault::LoadFault;
+use cf_io::Source;
+
+/// How a buffer was filled.
+#[derive(Clone, Copy, Debug, PartialEq, Eq)]
+pub(crate) enum Filled {
+    /// To its end.
+    Whole,
+    /// Up to the end of the input.
+    Cut,
+    /// Up to the point at which the source failed.
+    Failed,
+}
+
+/// Fills the buffer, however the source cuts its bytes.
+pub(crate) fn fill<S: Source>(source: &mut S, buffer: &mut [u8]) -> Filled
+    ensures fills { Fills (feed_at (S.rest source.old) (S.given source.old)) buffer.new result (feed_at (S.rest source.new) (S.given source.new)) }
+    ensures grows { S.faults source.old ≤ S.faults source.new }
+    ensures same { result ≢ Filled.Failed → S.faults source.new ≡ S.faults source.old }
+    ensures failed { result ≡ Filled.Failed → FailsLast (S.faults source.old) (S.faults source.new) (S.last_failed source.new) }
+{
+    let mut at = 0;
+    'fills: while at < buffer.len() {
+        match source.take(&mut buffer[at..]) {
+            Ok(n) => {
+                if n == 0 {
+                    return Filled::Cut;
+                }
+                at += n;
+            }
+            Err(_) => return Filled::Failed,
+        }
+    }
+    Filled::Whole
+}
+
+/// Reads a number of 16 bits at this offset.
+pub(crate) fn read_u16<S: Source>(source: &mut S, at: u64) -> Result<u16, LoadFault>
+    ensures reads { ReadsNumber w16 at (feed_at (S.rest source.old) (S.given source.old)) result (feed_at (S.rest source.new) (S.given source.new)) }
+    ensures grows { S.faults source.old ≤ S.faults source.new }
+    ensures same { result ≢ Err LoadFault.Read → S.faults source.new ≡ S.faults source.old }
+    ensures failed { result ≡ Err LoadFault.Read → FailsLast (S.faults source.old) (S.faults source.new) (S.last_failed source.new) }
+{
+    let mut bytes = [0; 2];
+    match fill(source, &mut bytes) {
+        Filled::Whole => Ok(u16::from_le_bytes(bytes)),
+        Filled::Cut => Err(LoadFault::Bad { at }),
+        Filled::Failed => Err(LoadFault::Read),
+    }
+}
+
+/// Reads a number of 32 bits at this offset.
+pub(crate) fn read_u32<S: Source>(source: &mut S, at: u64) -> Result<u32, LoadFault>
+    ensures reads { ReadsNumber w32 at (feed_at (S.rest source.old) (S.given source.old)) result (feed_at (S.rest source.new) (S.given source.new)) }
+    ensures grows { S.faults source.old ≤ S.faults source.new }
+    ensures same { result ≢ Err LoadFault.Read → S.faults source.new ≡ S.faults source.old }
+    ensures failed { result ≡ Err LoadFault.Read → FailsLast (S.faults source.old) (S.faults source.new) (S.last_failed source.new) }
+{
+    let mut bytes = [0; 4];
+    match fill(source, &mut bytes) {
+        Filled::Whole => Ok(u32::from_le_bytes(bytes)),
+        Filled::Cut => Err(LoadFault::Bad { at }),
+        Filled::Failed => Err(LoadFault::Read),
+    }
+}

@@ -1,0 +1,133 @@
+//! Loading an image into a heap.
+ghost use Rattle.std.specs.Prelude.{◌≡◌, ◌+◌, ◌<◌, ◌≤◌, ◌^◌, ℕ, List, Err, ◌≢◌};
+ghost use Rattle.std.specs.FinMap as map;
+ghost use Rattle.cf_base.specs.declared.kind.Kind.TheVariants.{Moving};
+ghost use Rattle.cf_io.specs.Feeds.{FailsLast};
+ghost use Rattle.cf_session.specs.Apply.{run_at};
+ghost use Rattle.heap_image.specs.Decoded.{at_first, count_decoded, end_decoded, entries_decoded};
+ghost use Rattle.heap_image.specs.Ends.{EndsBy, EndTold};
+ghost use Rattle.heap_image.specs.Counts.{CountsLoad};
+ghost use Rattle.heap_image.specs.Feed.{feed_at};
+ghost use Rattle.heap_image.specs.Heaps.{objects_of};
+ghost use Rattle.heap_image.specs.Load.{IsLoading, LoadsBy};
+
+use crate::fault::LoadFault;
+use crate::fields_in::{Filled, fill, read_u32};
+use crate::objects_in::{CHUNK, read_entry};
+use crate::settings_in::read_settings;
+use cf_base::Settings;
+use cf_io::Source;
+use cf_model::Manager;
+use cf_session::Session;
+
+/// Loads an image into a heap of kind Moving at bound 1, under any chunking of its bytes. After `Ok` the
+/// heap is open with the settings of the image and holds its objects by id, and the source is at its
+/// end. Fails with `Read` only if the source failed; the bytes before that break no rule. Fails with
+/// `Bad` if the bytes are not an image; it reads no byte past the field that breaks. After either the
+/// heap is unchanged if the settings were not read, and else holds the objects of the whole entries that
+/// were read. Fails with `OutOfMemory` only at the opening, after the 16 bytes of the mark and the
+/// settings; then the heap is closed.
+pub fn load<S: Source, H: Manager>(
+    source: &mut S,
+    heap: &mut H,
+    session: &mut Session,
+) -> Result<Settings, LoadFault>
+    requires moving { (H.state heap.old).kind ≡ Moving }
+    requires idle { session.old.ids ≡ map.empty }
+    ensures loads { LoadsBy (run_at session.old (H.state heap.old)) (feed_at (S.rest source.old) (S.given source.old)) result (feed_at (S.rest source.new) (S.given source.new))
+        (run_at session.new (H.state heap.new)) }
+    ensures kind { (H.state heap.new).kind ≡ Moving }
+    ensures counts { CountsLoad session.old result (run_at session.new (H.state heap.new)) }
+    ensures grows { S.faults source.old ≤ S.faults source.new }
+    ensures same { result ≢ Err LoadFault.Read → S.faults source.new ≡ S.faults source.old }
+    ensures read { result ≡ Err LoadFault.Read → FailsLast (S.faults source.old) (S.faults source.new) (S.last_failed source.new) }
+{
+    let settings = match read_settings(source) {
+        Ok(settings) => settings,
+        Err(fault) => return Err(fault),
+    };
+    match heap.open_heap(&settings) {
+        Ok(()) => {}
+        Err(_) => return Err(LoadFault::OutOfMemory),
+    }
+    match load_objects(source, heap, session, settings.proxies) {
+        Ok(()) => Ok(settings),
+        Err(fault) => Err(fault),
+    }
+}
+
+/// Loads the objects, from their number on, into a heap that holds none.
+fn load_objects<S: Source, H: Manager>(
+    source: &mut S,
+    heap: &mut H,
+    session: &mut Session,
+    proxies: u32,
+) -> Result<(), LoadFault>
+    requires loading { IsLoading (run_at session.old (H.state heap.old)) }
+    requires none { objects_of (run_at session.old (H.state heap.old)) ≡ map.empty }
+    requires proxies { (H.state heap.old).profile.proxies ≡ proxies }
+    requires few { proxies ≤ 65536 }
+    ensures ends { EndsBy (count_decoded (H.state heap.old).profile) (H.state heap.old).profile
+        (feed_at (S.rest source.old) (S.given source.old)) result (feed_at (S.rest source.new) (S.given source.new)) (run_at session.new (H.state heap.new)) }
+    ensures counts { CountsLoad session.old result (run_at session.new (H.state heap.new)) }
+    ensures grows { S.faults source.old ≤ S.faults source.new }
+    ensures same { result ≢ Err LoadFault.Read → S.faults source.new ≡ S.faults source.old }
+    ensures failed { result ≡ Err LoadFault.Read → FailsLast (S.faults source.old) (S.faults source.new) (S.last_failed source.new) }
+{
+    let count = match read_u32(source, 16) {
+        Ok(count) => count,
+        Err(fault) => return Err(fault),
+    };
+    if count > proxies {
+        return Err(LoadFault::Bad { at: 16 });
+    }
+    load_entries(source, heap, session, count)
+}
+
+/// Loads `count` entries, and checks that nothing follows.
+fn load_entries<S: Source, H: Manager>(
+    source: &mut S,
+    heap: &mut H,
+    session: &mut Session,
+    count: u32,
+) -> Result<(), LoadFault>
+    requires loading { IsLoading (run_at session.old (H.state heap.old)) }
+    requires none { objects_of (run_at session.old (H.state heap.old)) ≡ map.empty }
+    requires few { count ≤ (H.state heap.old).profile.proxies }
+    requires proxies { (H.state heap.old).profile.proxies ≤ 65536 }
+    ensures ends { EndsBy (entries_decoded (H.state heap.old).profile count at_first) (H.state heap.old).profile
+        (feed_at (S.rest source.old) (S.given source.old)) result (feed_at (S.rest source.new) (S.given source.new)) (run_at session.new (H.state heap.new)) }
+    ensures counts { CountsLoad session.old result (run_at session.new (H.state heap.new)) }
+    ensures grows { S.faults source.old ≤ S.faults source.new }
+    ensures same { result ≢ Err LoadFault.Read → S.faults source.new ≡ S.faults source.old }
+    ensures failed { result ≡ Err LoadFault.Read → FailsLast (S.faults source.old) (S.faults source.new) (S.last_failed source.new) }
+{
+    let mut room = [0; CHUNK];
+    let mut next = 0;
+    let mut at = 20;
+    'entries: for i in 0..count {
+        match read_entry(source, heap, session, next, at, &mut room) {
+            Ok(entry) => {
+                next = entry.id as u32 + 1;
+                at += 6 + entry.length as u64;
+            }
+            Err(fault) => return Err(fault),
+        }
+    }
+    read_end(source, at)
+}
+
+/// Sees that the source ended at this offset.
+fn read_end<S: Source>(source: &mut S, at: u64) -> Result<(), LoadFault>
+    ensures end { EndTold at (feed_at (S.rest source.old) (S.given source.old)) result (feed_at (S.rest source.new) (S.given source.new)) }
+    ensures grows { S.faults source.old ≤ S.faults source.new }
+    ensures same { result ≢ Err LoadFault.Read → S.faults source.new ≡ S.faults source.old }
+    ensures failed { result ≡ Err LoadFault.Read → FailsLast (S.faults source.old) (S.faults source.new) (S.last_failed source.new) }
+{
+    let mut bytes = [0; 1];
+    match fill(source, &mut bytes) {
+        Filled::Whole => Err(LoadFault::Bad { at }),
+        Filled::Cut => Ok(()),
+        Filled::Failed => Err(LoadFault::Read),
+    }
+}

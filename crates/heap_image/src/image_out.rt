@@ -1,0 +1,148 @@
+//! Writing what lives in a heap as an image.
+ghost use Rattle.std.specs.Prelude.{◌≡◌, ◌^◌, ◌<◌, ◌≤◌, ◌*◌, IsTrue, OnErr, Some, length, OnOk};
+ghost use Rattle.std.specs.FinMap as map;
+ghost use Rattle.cf_base.specs.declared.kind.Kind.TheVariants.{Moving};
+ghost use Rattle.cf_base.specs.Settings.{profile_of};
+ghost use Rattle.cf_io.specs.Feeds.{Puts, FailsLast};
+ghost use Rattle.cf_session.specs.Apply.{run_at};
+ghost use Rattle.page_model.specs.Held.{Placed};
+ghost use Rattle.run_model.specs.Sessions.{AreTied};
+ghost use Rattle.heap_image.specs.Heaps.{heap_image};
+ghost use Rattle.heap_image.specs.Image.{entry_of, header_of};
+
+use crate::objects_out::{CHUNK, ObjectWriter, put_objects};
+use cf_base::{Failed, Handle, Settings};
+use cf_io::{Line, Sink, push_text, put_all};
+use cf_model::Manager;
+use cf_session::Session;
+use step_ledger::Meter;
+
+/// Writes an object as an entry of an image.
+struct Entries;
+
+impl ObjectWriter for Entries {
+    ghost text = { entry_of };
+
+    fn put_object<H: Manager, K: Sink>(
+        &self,
+        heap: &H,
+        id: u16,
+        h: Handle,
+        room: &mut [u8],
+        line: &mut Line,
+        out: &mut K,
+        meter: &mut Meter,
+    ) -> Result<(), Failed> {
+        let n = length_of(heap, h, meter);
+        line.clear();
+        push_text(line, &id.to_le_bytes());
+        push_text(line, &n.to_le_bytes());
+        match put_all(out, line.bytes()) {
+            Ok(()) => {}
+            Err(failed) => return Err(failed),
+        }
+        put_bytes(heap, h, n, room, out, meter)
+    }
+}
+
+/// Writes the image of the live objects of the heap: the settings, then the objects by rising id, each
+/// with its length and its bytes, in chunks of at most 4,096 bytes. Returns `Failed` only if the sink
+/// failed; then a prefix of the image was written.
+pub fn save<H: Manager, K: Sink>(
+    s: &Settings,
+    heap: &H,
+    session: &Session,
+    out: &mut K,
+    meter: &mut Meter,
+) -> Result<(), Failed>
+    requires moving { (H.state heap.now).kind ≡ Moving }
+    requires open { IsTrue (H.state heap.now).is_open }
+    requires settings { (H.state heap.now).profile ≡ profile_of s.now }
+    requires tied { AreTied session.now (H.state heap.now) }
+    ensures puts { Puts (K.written out.old) (heap_image (run_at session.now (H.state heap.now))) result (K.written out.new) }
+    ensures grows { K.faults out.old ≤ K.faults out.new }
+    ensures same { OnOk result (K.faults out.new ≡ K.faults out.old) }
+    ensures failed { OnErr result (FailsLast (K.faults out.old) (K.faults out.new) (K.last_failed out.new)) }
+{
+    // An open heap keeps its rules.
+    let _open = heap.is_open();
+    let mut line = Line::new();
+    meter.lap();
+    let totals = heap.totals(meter.steps());
+    match put_header(s, totals.live, &mut line, out) {
+        Ok(()) => {}
+        Err(failed) => return Err(failed),
+    }
+    put_objects(&Entries, heap, session, &mut line, out, meter)
+}
+
+/// Writes the mark, the settings, and the number of objects.
+fn put_header<K: Sink>(s: &Settings, live: u32, line: &mut Line, out: &mut K) -> Result<(), Failed>
+    ensures puts { Puts (K.written out.old) (header_of s.now.pages (8 * s.now.page_words) s.now.proxies live)
+        result (K.written out.new) }
+    ensures grows { K.faults out.old ≤ K.faults out.new }
+    ensures same { OnOk result (K.faults out.new ≡ K.faults out.old) }
+    ensures failed { OnErr result (FailsLast (K.faults out.old) (K.faults out.new) (K.last_failed out.new)) }
+{
+    line.clear();
+    push_text(line, b"CFI1");
+    push_text(line, &s.pages.to_le_bytes());
+    push_text(line, &(8 * s.page_words).to_le_bytes());
+    push_text(line, &s.proxies.to_le_bytes());
+    push_text(line, &live.to_le_bytes());
+    put_all(out, line.bytes())
+}
+
+/// The length of an object in bytes, as its header says.
+pub fn length_of<H: Manager>(heap: &H, h: Handle, meter: &mut Meter) -> u32
+    requires moving { (H.state heap.now).kind ≡ Moving }
+    requires open { IsTrue (H.state heap.now).is_open }
+    requires live { (x : Placed) × (map.get (H.state heap.now).held h.0 ≡ Some x) }
+    ensures { (x : Placed) → map.get (H.state heap.now).held h.0 ≡ Some x → result ≡ length x.bytes }
+{
+    let _open = heap.is_open();
+    meter.lap();
+    let Some(place) = heap.place(h, meter.steps()) else {
+        unreachable!();
+    };
+    let Some(header) = heap.peek(place, meter.steps()) else {
+        unreachable!();
+    };
+    (header >> 32) as u32
+}
+
+/// Writes the `n` bytes of an object, chunk by chunk.
+fn put_bytes<H: Manager, K: Sink>(
+    heap: &H,
+    h: Handle,
+    n: u32,
+    room: &mut [u8],
+    out: &mut K,
+    meter: &mut Meter,
+) -> Result<(), Failed>
+    requires open { IsTrue (H.state heap.now).is_open }
+    requires live { (x : Placed) × (map.get (H.state heap.now).held h.0 ≡ Some x) × (n ≡ length x.bytes) }
+    requires place { length room.old ≡ 4096 }
+    ensures puts { (x : Placed) → map.get (H.state heap.now).held h.0 ≡ Some x
+        → Puts (K.written out.old) x.bytes result (K.written out.new) }
+    ensures grows { K.faults out.old ≤ K.faults out.new }
+    ensures same { OnOk result (K.faults out.new ≡ K.faults out.old) }
+    ensures failed { OnErr result (FailsLast (K.faults out.old) (K.faults out.new) (K.last_failed out.new)) }
+{
+    let mut at = 0;
+    'chunks: while at < n {
+        let count = (n - at).min(CHUNK as u32);
+        let chunk = &mut room[..count as usize];
+        meter.lap();
+        match heap.read(h, at, chunk, meter.steps()) {
+            Ok(()) => {}
+            Err(_) => unreachable!(),
+        }
+        match put_all(out, chunk) {
+            Ok(()) => {}
+            Err(failed) => return Err(failed),
+        }
+        at += count;
+    }
+    Ok(())
+}

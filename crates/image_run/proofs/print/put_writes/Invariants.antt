@@ -1,0 +1,15 @@
+use Rattle.std.proofs.Common.{◌-◌, ◌≡◌, ◌≤◌, Some}
+use Rattle.std.specs.FinMap as map
+use Rattle.image_run.proofs.WriteLemmas.{WroteTo}
+use Rattle.page_model.specs.Held.{Placed}
+use Rattle.image_run.proofs.print.put_writes.Given as goal
+
+abbrev pub invariant-chunks : goal.invariant-chunks
+invariant-chunks g l = record {
+  came : (x : Placed) → map.get (g.H.Manager.state l.heap).held l.h.0 ≡ Some x
+      → WroteTo l.id x.bytes (g.K.Sink.written l.initial.out) (g.K.Sink.written l.out) l.at;
+  same : g.K.Sink.faults l.out ≡ g.K.Sink.faults l.initial.out;
+}
+
+abbrev pub decreases-chunks : goal.decreases-chunks
+decreases-chunks g l = l.n - l.at

@@ -1,0 +1,84 @@
+use Rattle.std.proofs.Common.{◌≡◌, ◌∙◌, refl}
+use Rattle.cf_base.specs.declared.kind.Kind.TheVariants.{Moving}
+use Rattle.cf_session.specs.Apply.{run_at}
+use Rattle.script_loop.specs.WithSettings.{settled}
+use Rattle.image_run.proofs.SaveLemmas.{cut_causes, done_same, ends_cut, ends_early, ends_saved, ends_unopened, never_cut, opened, saved_going, unopened, whole_causes}
+use Rattle.image_run.proofs.save.save_script.Goals as goal
+
+pub returns-in_default : goal.returns-in_default
+returns-in_default g c =
+    let by = c.play_script.ensures in
+    record {
+      ends = ends_early (settled (run_at c.args.player.now.player (g.H.Manager.state c.args.heap.now)) c.args.player.now.settings)
+          (settled (run_at c.play_script.new.player.player (g.H.Manager.state c.play_script.new.heap)) c.play_script.new.player.settings) _ _ _ _ _ _
+          c.play_script.result c.in_default.not-Done by.causes.write_fault by.outcome refl;
+      causes = record {
+        silent = λ is. refl;
+        source_same = by.causes.source_same;
+        read_fault = by.causes.read_fault;
+        sink_same = λ other. refl;
+        write_fault = λ is. absurd (never_cut c.play_script.result by.causes.write_fault is);
+        too_long = by.causes.too_long;
+      };
+    }
+
+-- no `heap` line came
+pub returns-in_default-settings-clause-ends : goal.returns-in_default-settings-clause-ends
+returns-in_default-settings-clause-ends g c =
+    let by = c.play_script.ensures in
+    let from = settled (run_at c.args.player.now.player (g.H.Manager.state c.args.heap.now)) c.args.player.now.settings in
+    let to = settled (run_at c.play_script.new.player.player (g.H.Manager.state c.play_script.new.heap)) c.play_script.new.player.settings in
+    ends_unopened from to _ _ _ _ _ _ c.play_script.result c.in-Done.is by.outcome
+    (unopened from to _ by.outcome c.in-Done.is c.in_default-settings.is c.requires.closed) refl
+
+-- a `heap` line came
+pub save-requires-clause-open : goal.save-requires-clause-open
+save-requires-clause-open g c =
+    let from = settled (run_at c.args.player.now.player (g.H.Manager.state c.args.heap.now)) c.args.player.now.settings in
+    let to = settled (run_at c.play_script.new.player.player (g.H.Manager.state c.play_script.new.heap)) c.play_script.new.player.settings in
+    (opened from to _ c.in-Some.settings c.play_script.ensures.outcome c.in-Done.is c.in-Some.is c.requires.unset).0.opened
+
+pub save-requires-clause-settings : goal.save-requires-clause-settings
+save-requires-clause-settings g c =
+    let from = settled (run_at c.args.player.now.player (g.H.Manager.state c.args.heap.now)) c.args.player.now.settings in
+    let to = settled (run_at c.play_script.new.player.player (g.H.Manager.state c.play_script.new.heap)) c.play_script.new.player.settings in
+    (opened from to _ c.in-Some.settings c.play_script.ensures.outcome c.in-Done.is c.in-Some.is c.requires.unset).1
+
+pub save-requires-clause-tied : goal.save-requires-clause-tied
+save-requires-clause-tied g c =
+    let from = settled (run_at c.args.player.now.player (g.H.Manager.state c.args.heap.now)) c.args.player.now.settings in
+    let to = settled (run_at c.play_script.new.player.player (g.H.Manager.state c.play_script.new.heap)) c.play_script.new.player.settings in
+    (opened from to _ c.in-Some.settings c.play_script.ensures.outcome c.in-Done.is c.in-Some.is c.requires.unset).0.tied
+
+pub returns-in-Ok-clause-ends : goal.returns-in-Ok-clause-ends
+returns-in-Ok-clause-ends g c =
+    let by = c.play_script.ensures in
+    let from = settled (run_at c.args.player.now.player (g.H.Manager.state c.args.heap.now)) c.args.player.now.settings in
+    let to = settled (run_at c.play_script.new.player.player (g.H.Manager.state c.play_script.new.heap)) c.play_script.new.player.settings in
+    let going = (opened from to _ c.in-Some.settings by.outcome c.in-Done.is c.in-Some.is c.requires.unset).0 in
+    let moving : (g.H.Manager.state c.play_script.new.heap).kind ≡ Moving = by.plan ∙ c.requires.moving in
+    ends_saved from to _ _ _ _ _ _ c.play_script.result c.in-Done.is by.outcome (saved_going to.state going) c.in-Ok.ensures.puts
+    (record {
+      going = going;
+      kind = moving;
+      have = (c.what_lives_has_an_image.ensures.lives to.state going c.handle-handle.ensures.within moving).0;
+    })
+
+pub returns-in-Err-clause-ends : goal.returns-in-Err-clause-ends
+returns-in-Err-clause-ends g c =
+    let by = c.play_script.ensures in
+    let from = settled (run_at c.args.player.now.player (g.H.Manager.state c.args.heap.now)) c.args.player.now.settings in
+    let to = settled (run_at c.play_script.new.player.player (g.H.Manager.state c.play_script.new.heap)) c.play_script.new.player.settings in
+    let going = (opened from to _ c.in-Some.settings by.outcome c.in-Done.is c.in-Some.is c.requires.unset).0 in
+    ends_cut from to _ _ _ _ _ _ c.play_script.result c.in-Done.is by.outcome (saved_going to.state going) c.in-Err.field-0 c.in-Err.ensures.puts
+
+pub returns-in_default-settings-clause-causes : goal.returns-in_default-settings-clause-causes
+returns-in_default-settings-clause-causes g c = whole_causes _ _ _ _ (done_same c.play_script.result c.in-Done.is c.play_script.ensures.causes.source_same) refl
+
+pub returns-in-Ok-clause-causes : goal.returns-in-Ok-clause-causes
+returns-in-Ok-clause-causes g c =
+    whole_causes _ _ _ _ (done_same c.play_script.result c.in-Done.is c.play_script.ensures.causes.source_same) c.in-Ok.ensures.same
+
+pub returns-in-Err-clause-causes : goal.returns-in-Err-clause-causes
+returns-in-Err-clause-causes g c =
+    cut_causes _ _ _ _ (done_same c.play_script.result c.in-Done.is c.play_script.ensures.causes.source_same) c.in-Err.ensures.failed

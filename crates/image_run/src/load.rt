@@ -1,0 +1,68 @@
+//! An image to a script.
+ghost use Rattle.std.specs.Prelude.{◌≡◌, ◌≤◌, OnErr, OnOk, ◌≢◌};
+ghost use Rattle.std.specs.FinMap as map;
+ghost use Rattle.cf_base.specs.declared.kind.Kind.TheVariants.{Moving};
+ghost use Rattle.cf_io.specs.Feeds.{Puts, FailsLast};
+ghost use Rattle.cf_session.specs.Apply.{run_at};
+ghost use Rattle.image_run.specs.Loads.{EndsLoad, bad_image};
+ghost use Rattle.script_loop.specs.ScriptOutcome.{effects, sink_at, source_at};
+
+use crate::print::print_script;
+use cf_base::{Failed, Status};
+use cf_io::{Line, Sink, Source, push_field, put_line};
+use cf_model::Manager;
+use cf_session::Session;
+use heap_image::{LoadFault, load};
+use step_ledger::Meter;
+
+/// Loads an image into a manager of kind Moving, and writes the script that makes its objects. If the
+/// bytes are no image, writes the offset of the first field that breaks a rule, and returns `BadImage`.
+pub fn load_script<H: Manager, S: Source, K: Sink>(
+    rt: &HostRuntime,
+    session: &mut Session,
+    heap: &mut H,
+    source: &mut S,
+    sink: &mut K,
+) -> Status
+    requires moving { (H.state heap.old).kind ≡ Moving }
+    requires idle { session.old.ids ≡ map.empty }
+    ensures ends { EndsLoad (run_at session.old (H.state heap.old)) (effects
+        (source_at (S.rest source.old) (S.given source.old) (S.faults source.old) (S.last_failed source.old))
+        (sink_at (K.written sink.old) (K.faults sink.old) (K.last_failed sink.old))
+        result
+        (source_at (S.rest source.new) (S.given source.new) (S.faults source.new) (S.last_failed source.new))
+        (sink_at (K.written sink.new) (K.faults sink.new) (K.last_failed sink.new))) (run_at session.new (H.state heap.new)) }
+    // The causes, also if the source isn't observable.
+    ensures source_same { result ≢ Status.ReadFault → S.faults source.new ≡ S.faults source.old }
+    ensures read_fault { result ≡ Status.ReadFault → FailsLast (S.faults source.old) (S.faults source.new) (S.last_failed source.new) }
+    ensures sink_same { result ≢ Status.WriteFault → K.faults sink.new ≡ K.faults sink.old }
+    ensures write_fault { result ≡ Status.WriteFault → FailsLast (K.faults sink.old) (K.faults sink.new) (K.last_failed sink.new) }
+{
+    match load(source, heap, session) {
+        Ok(settings) => {
+            let mut meter = Meter::new(rt);
+            match print_script(&settings, heap, session, sink, &mut meter) {
+                Ok(()) => Status::Done,
+                Err(_) => Status::WriteFault,
+            }
+        }
+        Err(LoadFault::Read) => Status::ReadFault,
+        Err(LoadFault::OutOfMemory) => Status::OutOfMemory,
+        Err(LoadFault::Bad { at }) => match put_bad_image(at, sink) {
+            Ok(()) => Status::BadImage,
+            Err(_) => Status::WriteFault,
+        },
+    }
+}
+
+/// Tells the offset at which the bytes are no image.
+fn put_bad_image<K: Sink>(at: u64, sink: &mut K) -> Result<(), Failed>
+    ensures puts { Puts (K.written sink.old) (bad_image at) result (K.written sink.new) }
+    ensures grows { K.faults sink.old ≤ K.faults sink.new }
+    ensures same { OnOk result (K.faults sink.new ≡ K.faults sink.old) }
+    ensures failed { OnErr result (FailsLast (K.faults sink.old) (K.faults sink.new) (K.last_failed sink.new)) }
+{
+    let mut line = Line::new();
+    push_field(&mut line, b"bad image ", at);
+    put_line(&mut line, sink)
+}

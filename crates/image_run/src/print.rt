@@ -1,0 +1,163 @@
+//! Writing the script that makes what lives in a heap.
+ghost use Rattle.std.specs.Prelude.{◌≡◌, ◌≤◌, IsTrue, OnErr, Some, length, OnOk};
+ghost use Rattle.std.specs.FinMap as map;
+ghost use Rattle.cf_base.specs.declared.kind.Kind.TheVariants.{Moving};
+ghost use Rattle.cf_base.specs.Settings.{profile_of};
+ghost use Rattle.cf_io.specs.Feeds.{Puts, FailsLast};
+ghost use Rattle.cf_session.specs.Apply.{run_at};
+ghost use Rattle.generator.specs.CommandText.{line_of};
+ghost use Rattle.generator.specs.ReadBack.{lines_of};
+ghost use Rattle.image_run.specs.Script.{heap_script, object_lines, opening_line, writes_of};
+ghost use Rattle.page_model.specs.Held.{Placed};
+ghost use Rattle.run_model.specs.Sessions.{AreTied};
+ghost use Rattle.script_reader.specs.declared.command.Command.TheVariants.{Malloc, Write};
+
+use cf_base::{Failed, Handle, Settings};
+use cf_io::{Line, Sink, push_field, push_text, put_line};
+use cf_model::Manager;
+use cf_session::Session;
+use heap_image::{ObjectWriter, length_of, put_objects};
+use step_ledger::Meter;
+
+/// The most bytes of one write.
+const CHUNK: u64 = 4_096;
+
+/// Writes an object as the lines of the script that make it.
+struct Lines;
+
+impl ObjectWriter for Lines {
+    ghost text = { object_lines };
+
+    fn put_object<H: Manager, K: Sink>(
+        &self,
+        heap: &H,
+        id: u16,
+        h: Handle,
+        room: &mut [u8],
+        line: &mut Line,
+        out: &mut K,
+        meter: &mut Meter,
+    ) -> Result<(), Failed> {
+        let n = length_of(heap, h, meter);
+        match put_malloc(id, n, line, out) {
+            Ok(()) => {}
+            Err(failed) => return Err(failed),
+        }
+        put_writes(heap, id, h, n, room, line, out, meter)
+    }
+}
+
+/// Writes the script that makes the live objects of the heap: its `heap` line, with bound 1, and for each
+/// id in rising order an `m` line and `w` lines of 4,096 bytes, the last one shorter. Returns `Failed`
+/// only if the sink failed; then a prefix of the script was written.
+pub fn print_script<H: Manager, K: Sink>(
+    s: &Settings,
+    heap: &H,
+    session: &Session,
+    out: &mut K,
+    meter: &mut Meter,
+) -> Result<(), Failed>
+    requires moving { (H.state heap.now).kind ≡ Moving }
+    requires open { IsTrue (H.state heap.now).is_open }
+    requires settings { (H.state heap.now).profile ≡ profile_of s.now }
+    requires tied { AreTied session.now (H.state heap.now) }
+    ensures puts { Puts (K.written out.old) (heap_script (run_at session.now (H.state heap.now))) result (K.written out.new) }
+    ensures grows { K.faults out.old ≤ K.faults out.new }
+    ensures same { OnOk result (K.faults out.new ≡ K.faults out.old) }
+    ensures failed { OnErr result (FailsLast (K.faults out.old) (K.faults out.new) (K.last_failed out.new)) }
+{
+    let mut line = Line::new();
+    match put_heap(s, &mut line, out) {
+        Ok(()) => {}
+        Err(failed) => return Err(failed),
+    }
+    put_objects(&Lines, heap, session, &mut line, out, meter)
+}
+
+/// Writes the `heap` line of the settings, with the bound 1.
+fn put_heap<K: Sink>(s: &Settings, line: &mut Line, out: &mut K) -> Result<(), Failed>
+    ensures puts { Puts (K.written out.old) (opening_line (profile_of s.now)) result (K.written out.new) }
+    ensures grows { K.faults out.old ≤ K.faults out.new }
+    ensures same { OnOk result (K.faults out.new ≡ K.faults out.old) }
+    ensures failed { OnErr result (FailsLast (K.faults out.old) (K.faults out.new) (K.last_failed out.new)) }
+{
+    line.clear();
+    push_field(line, b"heap ", s.pages as u64);
+    push_field(line, b" ", 8 * s.page_words as u64);
+    push_field(line, b" ", 1);
+    push_field(line, b" ", s.proxies as u64);
+    put_line(line, out)
+}
+
+/// Writes the line that makes an object of `n` bytes.
+fn put_malloc<K: Sink>(id: u16, n: u32, line: &mut Line, out: &mut K) -> Result<(), Failed>
+    ensures puts { Puts (K.written out.old) (line_of (Malloc id n)) result (K.written out.new) }
+    ensures grows { K.faults out.old ≤ K.faults out.new }
+    ensures same { OnOk result (K.faults out.new ≡ K.faults out.old) }
+    ensures failed { OnErr result (FailsLast (K.faults out.old) (K.faults out.new) (K.last_failed out.new)) }
+{
+    line.clear();
+    push_field(line, b"m ", id as u64);
+    push_field(line, b" ", n as u64);
+    put_line(line, out)
+}
+
+/// Writes the lines that write the `n` bytes of an object, chunk by chunk.
+fn put_writes<H: Manager, K: Sink>(
+    heap: &H,
+    id: u16,
+    h: Handle,
+    n: u32,
+    room: &mut [u8],
+    line: &mut Line,
+    out: &mut K,
+    meter: &mut Meter,
+) -> Result<(), Failed>
+    requires open { IsTrue (H.state heap.now).is_open }
+    requires live { (x : Placed) × (map.get (H.state heap.now).held h.0 ≡ Some x) × (n ≡ length x.bytes) }
+    requires place { length room.old ≡ 4096 }
+    ensures puts { (x : Placed) → map.get (H.state heap.now).held h.0 ≡ Some x
+        → Puts (K.written out.old) (lines_of (writes_of id x.bytes)) result (K.written out.new) }
+    ensures grows { K.faults out.old ≤ K.faults out.new }
+    ensures same { OnOk result (K.faults out.new ≡ K.faults out.old) }
+    ensures failed { OnErr result (FailsLast (K.faults out.old) (K.faults out.new) (K.last_failed out.new)) }
+{
+    let mut at = 0;
+    'chunks: while at < n as u64 {
+        let count = (n as u64 - at).min(CHUNK);
+        let chunk = &mut room[..count as usize];
+        meter.lap();
+        match heap.read(h, at as u32, chunk, meter.steps()) {
+            Ok(()) => {}
+            Err(_) => unreachable!(),
+        }
+        match put_write(id, at as u32, chunk, line, out) {
+            Ok(()) => {}
+            Err(failed) => return Err(failed),
+        }
+        at += CHUNK;
+    }
+    Ok(())
+}
+
+/// Writes the line that writes bytes at an offset.
+fn put_write<K: Sink>(
+    id: u16,
+    at: u32,
+    bytes: &[u8],
+    line: &mut Line,
+    out: &mut K,
+) -> Result<(), Failed>
+    requires few { length bytes.now ≤ 4096 }
+    ensures puts { Puts (K.written out.old) (line_of (Write id at bytes.now)) result (K.written out.new) }
+    ensures grows { K.faults out.old ≤ K.faults out.new }
+    ensures same { OnOk result (K.faults out.new ≡ K.faults out.old) }
+    ensures failed { OnErr result (FailsLast (K.faults out.old) (K.faults out.new) (K.last_failed out.new)) }
+{
+    line.clear();
+    push_field(line, b"w ", id as u64);
+    push_field(line, b" ", at as u64);
+    push_text(line, b" ");
+    line.push_hex(bytes).unwrap();
+    put_line(line, out)
+}

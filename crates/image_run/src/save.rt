@@ -1,0 +1,60 @@
+//! A script to an image.
+ghost use Rattle.std.specs.Prelude.{◌≡◌, None, false};
+ghost use Rattle.cf_base.specs.declared.kind.Kind.TheVariants.{Moving};
+ghost use Rattle.cf_session.specs.Apply.{run_at};
+ghost use Rattle.image_run.specs.Saves.{EndsSave};
+ghost use Rattle.run_model.specs.Sessions.{fresh_session};
+ghost use Rattle.script_loop.specs.ScriptOutcome.{HasCauses, effects, sink_at, source_at};
+
+use cf_base::Status;
+use cf_io::{NullSink, Sink, Source};
+use cf_model::Manager;
+use cf_session::Session;
+use heap_image::{save, what_lives_has_an_image};
+use script_loop::{WithSettings, play_script};
+use step_ledger::Meter;
+
+/// Runs a script on a closed manager of kind Moving, drops its replies, and writes the image of the live
+/// objects at its end; nothing if the script has no `heap` line. Returns the status of the script. Writes
+/// only before `Done`, or a prefix of the image before `WriteFault`.
+pub fn save_script<H: Manager, S: Source, K: Sink>(
+    rt: &HostRuntime,
+    player: &mut WithSettings<Session>,
+    heap: &mut H,
+    source: &mut S,
+    sink: &mut K,
+) -> Status
+    requires fresh { player.old.player ≡ fresh_session }
+    requires unset { player.old.settings ≡ None }
+    requires moving { (H.state heap.old).kind ≡ Moving }
+    requires closed { (H.state heap.old).is_open ≡ false }
+    ensures ends { EndsSave (run_at player.old.player (H.state heap.old)) (effects
+        (source_at (S.rest source.old) (S.given source.old) (S.faults source.old) (S.last_failed source.old))
+        (sink_at (K.written sink.old) (K.faults sink.old) (K.last_failed sink.old))
+        result
+        (source_at (S.rest source.new) (S.given source.new) (S.faults source.new) (S.last_failed source.new))
+        (sink_at (K.written sink.new) (K.faults sink.new) (K.last_failed sink.new))) (run_at player.new.player (H.state heap.new)) }
+    // The causes, also if the source isn't observable.
+    ensures causes { HasCauses
+        (source_at (S.rest source.old) (S.given source.old) (S.faults source.old) (S.last_failed source.old))
+        (sink_at (K.written sink.old) (K.faults sink.old) (K.last_failed sink.old))
+        result
+        (source_at (S.rest source.new) (S.given source.new) (S.faults source.new) (S.last_failed source.new))
+        (sink_at (K.written sink.new) (K.faults sink.new) (K.last_failed sink.new)) }
+{
+    match play_script(player, heap, source, &mut NullSink) {
+        Status::Done => {}
+        status => return status,
+    }
+    let Some(settings) = player.settings else {
+        return Status::Done;
+    };
+    // For its contract: each live id has 16 bits. So the objects have an image.
+    let _handle = player.player.handle(0);
+    what_lives_has_an_image();
+    let mut meter = Meter::new(rt);
+    match save(&settings, heap, &player.player, sink, &mut meter) {
+        Ok(()) => Status::Done,
+        Err(_) => Status::WriteFault,
+    }
+}

@@ -1,0 +1,191 @@
+-- An open heap without objects.
+use Rattle.std.proofs.Common.{◌≡◌, ℕ, zero, suc, Bool, false, ◌+◌, ◌*◌, ◌^◌, ◌<◌, List, [], ◌∷◌, length, get_or, map, replicate, Some, None, arith, refl}
+use Rattle.std.proofs.Common.{sym, ◌∙◌, ap, subst, inl, inr}
+use Rattle.std.specs.Prelude.{slice_get, sum, sum_by}
+use Rattle.std.specs.List.{Contains, range_with_len}
+use Rattle.std.proofs.lemmas.Bool.{cases_lt}
+use Rattle.std.proofs.lemmas.List.{get_or-replicate, get_or_past, length-replicate}
+use Rattle.std.proofs.lemmas.List.Sums.{sum_by-cons}
+use Rattle.std.specs.Ordering.{nat_cmp}
+use Rattle.std.specs.FinMap.{empty, get, get-empty}
+use Rattle.cf_base.specs.Classes.{sizes}
+use Rattle.cf_base.specs.Settings.{profile_of}
+use Rattle.cf_base.specs.declared.kind.Layout.TheVariants.{Words}
+use Rattle.cf_base.specs.declared.settings.Settings.{Settings}
+use Rattle.cf_base.proofs.CallerLemmas.{are_sizes}
+use Rattle.cf_lemmas.proofs.Maps.{equal_maps}
+use Rattle.class_lists.specs.PageLists.{empty_lists, pages_in}
+use Rattle.class_lists.proofs.CallerLemmas.{contains_nil}
+use Rattle.page_model.specs.Arrangement.{IsSound, live, pages_needed}
+use Rattle.page_model.specs.Bytes.{held_at}
+use Rattle.page_model.specs.Held.{objects}
+use Rattle.page_model.specs.Image.{IsSlotImage, slot_for}
+use Rattle.page_model.proofs.CallerLemmas.{image_empty, sound_empty, nothing_held, no_objects, none_live}
+use Rattle.page_pool.specs.Pool.{Pool}
+use Rattle.page_slots.specs.Occupying.{Occupies, class_table}
+use Rattle.page_slots.specs.Tables.{AreTables, tables, used_in}
+use Rattle.page_slots.proofs.CallerLemmas.{first_occupied, first_table, first_tables, no_pages}
+use Rattle.proxy_table.specs.Proxies.{AreBelowLimit, no_proxies}
+use Rattle.quota_model.specs.Joined.{AreNumbers, joined, places_at}
+use Rattle.quota_model.proofs.CallerLemmas.{get_by_key}
+use Rattle.quota_model.specs.Parts.{number_of, part_of, task_of}
+use Rattle.quota_model.specs.Shared.{AreQuotas, IsShared}
+use Rattle.quota_model.proofs.CallerLemmas.{first_quotas, first_shared, no_part, sum_zeros_list}
+use Rattle.size_classes.specs.Table.{ClassTable, table_of}
+use Rattle.quota_heap.specs.Layout.{AreFirstPages, ArePages, IsTask, IsTaskIn, IsValid, first_task, held_in, held_of, pages_of, paging_at, places_of}
+use Rattle.quota_heap.specs.Layout.{quotas_of, state_of}
+use Rattle.quota_heap.specs.State.{empty_state}
+use Rattle.quota_heap.specs.declared.open_tasks.OpenTasks.{OpenTasks}
+use Rattle.quota_heap.specs.declared.task.Task.{Task}
+
+replicated : {X : Type 0} (n : ℕ) (y : X) (i : ℕ) (x : X) → slice_get (replicate n y) i ≡ Some x → y ≡ x
+replicated zero y i x e = absurd (let z : Some x ≡ None = sym e in cc)
+replicated (suc n) y zero x e = (let z : Some y ≡ Some x = e in cc)
+replicated (suc n) y (suc i) x e = replicated n y i x e
+
+sum_of_zeros : {X : Type 0} (f : X → ℕ) (n : ℕ) (y : X) → f y ≡ 0 → sum_by f (replicate n y) ≡ 0
+sum_of_zeros f zero y e = refl
+sum_of_zeros f (suc n) y e = (let a = sum_by-cons f y (replicate n y) in let rest = sum_of_zeros f n y e in omega arith)
+
+map_replicate : {X Y : Type 0} (f : X → Y) (n : ℕ) (y : X) → map f (replicate n y) ≡ replicate n (f y)
+map_replicate f zero y = refl
+map_replicate f (suc n) y = ap (λ ys. f y ∷ ys) (map_replicate f n y)
+
+range_long : (a n : ℕ) → length (range_with_len a n) ≡ n
+range_long a zero = refl
+range_long a (suc n) = ap suc (range_long (a + 1) n)
+
+-- no task has an address
+none_numbered : (n : ℕ) → AreNumbers (replicate n (empty {X = ℕ} {R = nat_cmp}))
+none_numbered n t h a f = absurd (
+    let e : places_at (replicate n (empty {X = ℕ} {R = nat_cmp})) t ≡ empty = none_at n t in
+    let z : Some a ≡ None = sym f ∙ ap (λ m. get m h) e ∙ get-empty nat_cmp h in cc)
+  where
+    none_at : (n t : ℕ) → places_at (replicate n (empty {X = ℕ} {R = nat_cmp})) t ≡ empty
+    none_at zero t = refl
+    none_at (suc n) zero = refl
+    none_at (suc n) (suc t) = none_at n t
+
+none_joined : (n : ℕ) → joined (replicate n empty) ≡ empty
+none_joined n = equal_maps _ _ (λ key. get_by_key (replicate n empty) (none_numbered n) key ∙ ap (λ m. get m (number_of key)) (none_at n (task_of key))
+    ∙ get-empty nat_cmp (number_of key) ∙ sym (get-empty nat_cmp key))
+  where
+    none_at : (n t : ℕ) → places_at (replicate n (empty {X = ℕ} {R = nat_cmp})) t ≡ empty
+    none_at zero t = refl
+    none_at (suc n) zero = refl
+    none_at (suc n) (suc t) = none_at n t
+
+module _ (s : Settings) (h : OpenTasks) (f : AreFirstPages s h.shared_pages) (n : ℕ) (many : n ≡ length h.shared_pages.classes.sizes)
+    (tasks : h.tasks.items ≡ replicate 16 (first_task n s.pages s.proxies)) (none : h.granted ≡ 0)
+    (handles : AreBelowLimit (no_proxies s.proxies)) where
+  first : Task
+  first = first_task n s.pages s.proxies
+
+  page_is : h.shared_pages.settings.page_words ≡ s.page_words
+  page_is = ap (λ (t : Settings). t.page_words) f.settings
+
+  pages_is : h.shared_pages.settings.pages ≡ s.pages
+  pages_is = ap (λ (t : Settings). t.pages) f.settings
+
+  shared_pages : ArePages h.shared_pages
+  shared_pages = record {
+    table = f.classes ∙ ap (λ (t : Settings). table_of t.page_words Words) (sym f.settings);
+    words_long = ap length f.region ∙ length-replicate {A = ℕ} (s.pages * s.page_words) 0 ∙ ap (λ (t : Settings). t.pages * t.page_words) (sym f.settings);
+  }
+
+  many_classes : n ≡ length (sizes h.shared_pages.settings.page_words Words)
+  many_classes = many ∙ ap (λ (t : ClassTable). length t.sizes) shared_pages.table
+
+  first_is : (t : ℕ) (x : Task) → IsTaskIn h t x → first_task n s.pages s.proxies ≡ x
+  first_is t x e = replicated 16 (first_task n s.pages s.proxies) t x (sym (ap (λ ts. slice_get ts t) tasks) ∙ e)
+
+  unused : (page : ℕ) → used_in (get_or h.shared_pages.maps.items page []) ≡ 0
+  unused page = ap (λ (maps : List (List Bool)). used_in (get_or maps page [])) f.maps ∙ elim (cases_lt page s.pages) [
+    | inl lt ↦ ap used_in (get_or-replicate s.pages page (replicate 1 false) [] lt)
+    | inr past ↦ ap used_in (get_or_past (replicate s.pages (replicate 1 false)) page []
+        (let e = length-replicate s.pages (replicate 1 false) in omega arith))
+  ]
+
+  told : AreTables (class_table (paging_at h.shared_pages)) (tables h.shared_pages.maps.items (empty_lists n s.pages) h.shared_pages.pool)
+  told =
+      let small = s.small_region in
+      let t = first_table h.shared_pages.settings.page_words Words h.shared_pages.settings.page_size in
+      let long : length h.shared_pages.maps.items ≡ s.pages = ap length f.maps ∙ length-replicate s.pages (replicate 1 false) in
+      let p = page_is in
+      let sm : s.pages * h.shared_pages.settings.page_words < 2 ^ 32 = subst (λ w. s.pages * w < 2 ^ 32) (sym p) (omega arith) in
+      let all = first_tables n s.pages (class_table (paging_at h.shared_pages)) h.shared_pages.maps.items t sm long unused many_classes in
+      subst (λ q. AreTables (class_table (paging_at h.shared_pages)) (tables h.shared_pages.maps.items (empty_lists n s.pages) q)) (sym f.pool) all
+
+  held_none : held_of h.shared_pages (first_task n s.pages s.proxies) ≡ empty
+  held_none = nothing_held h.shared_pages.region
+
+  first_kept : (t : ℕ) → IsTask h.shared_pages t (first_task n s.pages s.proxies)
+  first_kept t = record {
+    sound = subst (IsSound (paging_at h.shared_pages)) (sym held_none) (sound_empty (paging_at h.shared_pages));
+    tell = record { tables = told; pages = ap (λ (q : Pool). q.pages) f.pool ∙ sym pages_is };
+    occupied = subst (λ m. Occupies (paging_at h.shared_pages) m (tables h.shared_pages.maps.items (empty_lists n s.pages) h.shared_pages.pool)) (sym held_none)
+        (first_occupied n s.pages (paging_at h.shared_pages) h.shared_pages.maps.items h.shared_pages.pool);
+    headed = λ q y e. absurd (
+        let z : Some y ≡ None = sym e ∙ ap (λ m. get m q) held_none ∙ get-empty nat_cmp q in cc);
+    numbers = sym (ap (λ (t : Settings). t.proxies) f.settings);
+    handles = handles;
+    live_long = length-replicate {A = ℕ} 128 0;
+    counted = λ c lt. (
+        let few = (are_sizes h.shared_pages.settings.page_words Words h.shared_pages.settings.page_size).few in
+        let here : c < 128 = omega arith in
+        get_or-replicate {A = ℕ} 128 c 0 0 here ∙ sym (ap (λ m. live (paging_at h.shared_pages) (objects m) c) held_none
+        ∙ ap (λ o. live (paging_at h.shared_pages) o c) no_objects ∙ none_live (paging_at h.shared_pages) c));
+    pages = sym (ap (λ m. pages_needed (paging_at h.shared_pages) (objects m)) held_none
+        ∙ ap (λ m. pages_needed (paging_at h.shared_pages) (objects m)) (sym (no_part 0)) ∙ none_needed);
+  }
+    where
+      none_needed : pages_needed (paging_at h.shared_pages) (objects (part_of empty 0)) ≡ 0
+      none_needed = (
+          let le = (first_quotas (profile_of h.shared_pages.settings)).enough 0 in
+          let z : get_or (replicate {A = ℕ} 16 0) 0 0 ≡ 0 = refl in
+          omega arith)
+
+  places_none : places_of h.tasks.items ≡ replicate 16 empty
+  places_none = ap places_of tasks ∙ map_replicate (λ (x : Task). x.proxies.places) 16 (first_task n s.pages s.proxies)
+
+  quotas_none : quotas_of h.tasks.items ≡ replicate 16 0
+  quotas_none = ap quotas_of tasks ∙ map_replicate (λ (x : Task). x.quota) 16 (first_task n s.pages s.proxies)
+
+  all_none : held_in h ≡ empty
+  all_none = ap (λ ps. held_at h.shared_pages.region (joined ps)) places_none ∙ ap (held_at h.shared_pages.region) (none_joined 16) ∙ nothing_held h.shared_pages.region
+
+  pub opened_kept : IsValid h
+  opened_kept = record {
+    shared_pages = shared_pages;
+    many = ap length tasks ∙ length-replicate 16 (first_task n s.pages s.proxies);
+    task = λ t x e. subst (IsTask h.shared_pages t) (first_is t x e) (first_kept t);
+    others = λ t u x y e g ne c page w there. absurd (
+        let l : empty_lists n s.pages ≡ y.lists = ap (λ (z : Task). z.lists) (first_is u y g) in
+        let at : Contains (pages_in (empty_lists n s.pages) c w) page = subst (λ ls. Contains (pages_in ls c w) page) (sym l) there in
+        contains_nil page (subst (λ xs. Contains xs page) (no_pages n s.pages c w) at));
+    shared = subst (IsShared (profile_of h.shared_pages.settings)) (sym all_none) (first_shared (profile_of h.shared_pages.settings));
+    image =
+        let at : IsSlotImage (paging_at h.shared_pages) empty (replicate (s.pages * s.page_words) 0) =
+        image_empty (slot_for (paging_at h.shared_pages)) (s.pages * s.page_words) in
+        subst (λ m. IsSlotImage (paging_at h.shared_pages) m h.shared_pages.region) (sym all_none)
+        (subst (λ w. IsSlotImage (paging_at h.shared_pages) empty w) (sym f.region) at);
+    quotas = subst (λ m. AreQuotas (profile_of h.shared_pages.settings) (quotas_of h.tasks.items) m) (sym all_none)
+        (subst (λ qs. AreQuotas (profile_of h.shared_pages.settings) qs empty) (sym quotas_none) (first_quotas (profile_of h.shared_pages.settings)));
+    granted = none ∙ sym (ap sum quotas_none ∙ sum_zeros_list 16);
+    accounted = (
+        let a = ap pages_of tasks in
+        let b = sum_of_zeros (λ (x : Task). x.pages) 16 (first_task n s.pages s.proxies) refl in
+        let c = ap (λ (q : Pool). length q.free) f.pool in
+        let d = range_long 0 s.pages in
+        let e = pages_is in
+        omega arith);
+  }
+
+  pub opened_empty : state_of h ≡ empty_state (profile_of s)
+  opened_empty =
+      ap (λ qs. record (state_of h) { quotas = qs }) quotas_none
+      ∙ ap (λ m. record (state_of h) { quotas = replicate 16 0; held = m }) all_none
+      ∙ ap (λ ws. record (state_of h) { quotas = replicate 16 0; held = empty; words = ws }) f.region
+      ∙ ap (λ (t : Settings). record (state_of h)
+      { profile = profile_of t; quotas = replicate 16 0; held = empty; words = replicate (s.pages * s.page_words) 0 })
+      f.settings

@@ -1,0 +1,199 @@
+-- Each command of a run over tasks has a step, and the run can be continued to the end of its items.
+use Rattle.std.proofs.Common.{◌≡◌, ℕ, ◌<◌, ◌≤◌, List, Some, None, arith, refl, inl, inr}
+use Rattle.std.specs.Prelude.{Option, codes}
+use Rattle.std.specs.Option.{MatchOption}
+use Rattle.std.specs.FinMap.{empty, get, remove}
+use Rattle.std.proofs.lemmas.List.{length-replicate}
+use Rattle.std.proofs.lemmas.Bool.{cases_lt}
+use Rattle.cf_base.specs.Classes.{need}
+use Rattle.cf_base.specs.Settings.{Profile, at_bound_one}
+use Rattle.cf_io.specs.Texts.{Reply, said}
+use Rattle.cf_model.specs.Rules.{AreInRange}
+use Rattle.cf_model.specs.State.{region_words}
+use Rattle.id_table.specs.Ids.{Ids}
+use Rattle.page_model.specs.Held.{Placed}
+use Rattle.page_model.specs.Image.{slot_for}
+use Rattle.page_model.proofs.CallerLemmas.{image_empty}
+use Rattle.quota_heap.specs.State.{KeepsTasks, QuotaState, empty_state, held_by, objects_by, quota_of}
+use Rattle.quota_laws.specs.Tasks.{quota_text, quotas_after}
+use Rattle.quota_model.specs.Admission.{CanBeAsked, IsAdmission, Share, declared_in_all, first_large, first_short, in_order}
+use Rattle.quota_model.specs.Refusals.{task_paging}
+use Rattle.quota_model.specs.declared.answers.Admission.{Admission}
+use Rattle.quota_model.specs.declared.answers.Admission.TheVariants.{Yes, No, Size, Proxies}
+use Rattle.quota_model.specs.declared.answers.Need.{Need}
+use Rattle.quota_model.specs.declared.answers.QuotaFault.{QuotaFault}
+use Rattle.quota_model.proofs.CallerLemmas.{enough_iff, first_quotas, first_shared, granted_quotas, none_iff}
+use Rattle.run_laws.specs.Sayable.{IsSayable}
+use Rattle.run_laws.proofs.CallerLemmas.{CanGoOn}
+use Rattle.run_model.specs.Replies.{malloc_text, write_text}
+use Rattle.run_model.specs.Steps.{ids_given}
+use Rattle.script_reader.specs.declared.command.Command.{Command}
+use Rattle.script_reader.specs.declared.command.Command.TheVariants as command
+use Rattle.id_table.proofs.CallerLemmas.{clash}
+use Rattle.quota_session.specs.Playing.{BeginsAtOne, BeginsQuotas}
+use Rattle.quota_session.specs.QuotaRun.{IsGoingQuotas, QuotaRun, QuotaStep, StepsPresent, admission_text, first_session, need_text, needs_of}
+use Rattle.quota_session.specs.QuotaRun.{present_run, quota_fault}
+use Rattle.quota_session.specs.QuotaRun.{with_ids, with_need, with_present}
+use Rattle.quota_session.specs.TaskRun.{FreesIdOfTask, MallocsForTask, StaysTask, TaskRun, TaskStep, WritesIdOfTask, task_run, task_look}
+use Rattle.quota_session.proofs.CallsThere.{PageLaw, free_there, malloc_there, write_there}
+use Rattle.quota_session.proofs.RunInvariant.{still_going}
+use Rattle.quota_session.proofs.OpenLemmas.{begins_going}
+use Rattle.quota_session.proofs.TaskKept.{bytes_by}
+
+-- a reply to a task, and its ids and the heap after it
+record HasAnswer (old : TaskRun) (R : Reply → TaskRun → Type 0) : Type 0 where
+  reply : Reply
+  ids : Ids
+  heap : QuotaState
+  done : R reply (task_run old.task ids heap)
+
+-- a command of a task
+module _ (law : PageLaw) (old : TaskRun) (rules : KeepsTasks old.heap) (lt : old.task < 16) (named : (id h : ℕ) → get old.ids id ≡ Some h
+    → (x : Placed) × (get (held_by old.heap old.task) h ≡ Some x)) where
+  malloc_at : (o : Option ℕ) (id n : ℕ) → HasAnswer old (λ reply new. MatchOption o (MallocsForTask old id n reply new)
+      (λ h. StaysTask old (codes "live") reply new))
+  malloc_at (Some h) id n = record { reply = said (codes "live"); ids = old.ids; heap = old.heap; done = (refl, refl) }
+  malloc_at None id n =
+      let m = malloc_there law old.heap rules old.task lt n in
+      record {
+        reply = said (malloc_text m.answer);
+        ids = (ids_given old.ids id m.answer);
+        heap = m.heap;
+        done = record { answer = m.answer; step = m.step; rules = m.rules; ids = refl; task = refl; reply_is = refl };
+      }
+
+  free_at : (o : Option ℕ) (id : ℕ) → get old.ids id ≡ o
+      → HasAnswer old (λ reply new. MatchOption o (StaysTask old (codes "unknown") reply new) (λ h. FreesIdOfTask old id h reply new))
+  free_at None id is = record { reply = said (codes "unknown"); ids = old.ids; heap = old.heap; done = (refl, refl) }
+  free_at (Some h) id is =
+      let x = named id h is in
+      let f = free_there law old.heap rules old.task lt h x.0 x.1 in
+      record {
+        reply = said (codes "ok");
+        ids = (remove old.ids id);
+        heap = f.heap;
+        done = record { freed = f.answer; step = f.step; rules = f.rules; ids = refl; task = refl; reply_is = refl };
+      }
+
+  write_at : (o : Option ℕ) (id at : ℕ) (bytes : List ℕ) → get old.ids id ≡ o
+      → HasAnswer old (λ reply new. MatchOption o (StaysTask old (codes "unknown") reply new)
+      (λ h. WritesIdOfTask old (record { number = h; from = at }) bytes reply new))
+  write_at None id at bytes is = record { reply = said (codes "unknown"); ids = old.ids; heap = old.heap; done = (refl, refl) }
+  write_at (Some h) id at bytes is =
+      let x = named id h is in
+      let w = write_there law old.heap rules old.task lt h at bytes x.0 x.1 in
+      record {
+        reply = said (write_text w.answer);
+        ids = old.ids;
+        heap = w.heap;
+        done = record { answer = w.answer; step = w.step; rules = w.rules; ids = refl; task = refl; reply_is = refl };
+      }
+
+  task_there : (c : Command) → HasAnswer old (TaskStep old c)
+  task_there (command.Malloc id n) = malloc_at (get old.ids id) id n
+  task_there (command.Free id) = free_at (get old.ids id) id refl
+  task_there (command.Write id at bytes) = write_at (get old.ids id) id at bytes refl
+  task_there c = record { reply = task_look old c; ids = old.ids; heap = old.heap; done = (refl, refl) }
+
+-- the needs that a task declared have an admission
+admission_there : (t : Share) (needs : List Need) → (a : Admission) × IsAdmission t needs a
+admission_there t needs = by_large (first_large t.profile needs) refl
+  where
+    by_short : CanBeAsked t.profile needs → (o : Option ℕ) → first_short t empty 0 (in_order needs) ≡ o → (a : Admission) × IsAdmission t needs a
+    by_short asked None is = (Yes, (asked, (enough_iff t needs asked).1 ((none_iff t needs asked).0 is)))
+    by_short asked (Some nth) is = (No nth, (asked, is))
+
+    by_large : (o : Option ℕ) → first_large t.profile needs ≡ o → (a : Admission) × IsAdmission t needs a
+    by_large (Some entry) is = (Size entry, is)
+    by_large None is = elim (cases_lt t.profile.proxies (declared_in_all needs)) [
+      | inl many ↦ (Proxies, (is, many))
+      | inr few ↦ by_short (record { none_large = is; few = few }) (first_short t empty 0 (in_order needs)) refl
+    ]
+
+module _ (law : PageLaw) (old : QuotaRun) (going : IsGoingQuotas old) where
+  abbrev before : TaskRun
+  before = present_run old.session old.heap
+
+  object : (id h : ℕ) → get before.ids id ≡ Some h → (x : Placed) × (get (held_by old.heap before.task) h ≡ Some x)
+  object id h is =
+      let v = (going.tied old.session.present (going.sixteen).present).named id h is in
+      go (get (held_by old.heap before.task) h) refl v.0 v.1
+    where
+      go : (o : Option Placed) → get (held_by old.heap before.task) h ≡ o → (v : List ℕ) → get (objects_by old.heap before.task) h ≡ Some v
+          → (x : Placed) × (get (held_by old.heap before.task) h ≡ Some x)
+      go (Some x) e v some = (x, e)
+      go None e v some = clash (get (objects_by old.heap before.task) h) v some (bytes_by old.heap before.task h None e)
+
+  -- a quota line that is granted leaves the tasks within their quotas
+  quota_rules : (task pages : ℕ) → task < 16 → (o : Option QuotaFault) → quota_fault old.heap task pages ≡ o
+      → KeepsTasks (record old.heap { quotas = quotas_after o old.heap.quotas task pages })
+  quota_rules task pages lt (Some e) is = going.rules
+  quota_rules task pages lt None is = record {
+    opened = (going.rules).opened;
+    page_size = (going.rules).page_size;
+    few_proxies = (going.rules).few_proxies;
+    shared = (going.rules).shared;
+    quotas = granted_quotas old.heap.profile old.heap.quotas old.heap.held task pages lt (going.rules).quotas is;
+    region = (going.rules).region;
+    image = (going.rules).image;
+    slots = (going.rules).slots;
+  }
+
+  below : (task : ℕ) → task ≤ 15 → task < 16
+  below task le = omega arith
+
+  present_there : (c : Command) → (reply : Reply) × (new : QuotaRun) × StepsPresent old c reply new
+  present_there c =
+      let a = task_there law before going.rules (going.sixteen).present object c in
+      (a.reply, record old { session = with_ids old.session a.ids; heap = a.heap }, record { ids = a.ids; step = a.done; whole = refl })
+
+  -- every command of the grammar has a reply
+  pub turn_there : (c : Command) → IsSayable c → (reply : Reply) × (new : QuotaRun) × QuotaStep old c reply new
+  turn_there (command.Task task) can = (said (codes "ok"), with_present old task, (refl, refl))
+  turn_there (command.Quota task pages) can = (
+    said (quota_text (quota_fault old.heap task pages)),
+    record old { heap = record old.heap { quotas = quotas_after (quota_fault old.heap task pages) old.heap.quotas task pages } },
+    record { whole = refl; rules = quota_rules task pages (below task can.formed) (quota_fault old.heap task pages) refl; reply_is = refl },
+  )
+  turn_there (command.Need task bytes count) can = (
+    said (need_text (needs_of old.session task)),
+    record old { session = with_need old.session task (record { bytes = bytes; count = count }) },
+    (refl, refl),
+  )
+  turn_there (command.Admit task) can =
+      let a = admission_there (record { profile = old.heap.profile; quota = quota_of old.heap task }) (needs_of old.session task) in
+      (said (admission_text a.0), old, (record { answer = a.0; meets = a.1; reply_is = refl }, refl))
+  turn_there c can = present_there c
+
+-- a run begins under any settings in their ranges
+pub begins_there : (p : Profile) → AreInRange p → (new : QuotaRun) × BeginsQuotas p new
+begins_there p can =
+    let q = at_bound_one p in
+    let slots = image_empty (slot_for (task_paging q)) (region_words q) in (
+      record { settings = Some q; session = first_session; heap = empty_state q },
+      record {
+        settings = refl;
+        session = refl;
+        heap = refl;
+        rules = record {
+          opened = refl;
+          page_size = can.page_size;
+          few_proxies = can.few_proxies;
+          shared = first_shared q;
+          quotas = first_quotas q;
+          region = length-replicate {A = ℕ} (region_words q) 0;
+          image = image_empty need (region_words q);
+          slots = slots;
+        };
+      },
+    )
+
+-- a run over tasks goes on
+pub tasks_go_on : PageLaw → CanGoOn BeginsAtOne QuotaStep
+tasks_go_on law = record {
+  is_going = IsGoingQuotas;
+  begins_going = λ p reply s b. begins_going p s b.0;
+  still_going = λ old c reply new going can step. still_going old going c reply new can.formed step;
+  begins_there = λ p can. (let b = begins_there p can in (said (codes "ok"), b.0, (b.1, refl)));
+  turn_there = λ old c going can. turn_there law old going c can;
+}

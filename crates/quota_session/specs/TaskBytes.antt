@@ -1,0 +1,38 @@
+-- The bytes of each task's ids, computed from the lines of a script and their replies alone.
+use Rattle.std.specs.Prelude.{⊤, ℕ, ◌&&◌, List, [], ◌∷◌, Option, Some, None, if◌then◌else◌, nat_eq}
+use Rattle.std.specs.FinMap.{empty}
+use Rattle.cf_io.specs.Texts.{Reply}
+use Rattle.run_laws.specs.Told.{IsReadOf, Told, done_by, is_ok}
+use Rattle.script_reader.specs.Items.{Item, asks, bad, starts}
+use Rattle.script_reader.specs.declared.command.Command.{Command}
+use Rattle.quota_session.specs.Alone.{present_after}
+
+-- the present task, and by task the bytes of each id
+pub record TaskBytes : Type 0 where
+  pub present : ℕ
+  pub bytes : ℕ → Told
+
+-- after a command and its reply: `t` makes another task present; a command with the reply `ok` changes the bytes of the present task alone
+abbrev pub bytes_with : TaskBytes → Command → Reply → TaskBytes
+bytes_with m command reply = record {
+  present = present_after m.present command;
+  bytes = λ task. if nat_eq task m.present && is_ok reply then done_by command (m.bytes task) else m.bytes task;
+}
+
+-- after an item and its reply; nothing before the `heap` line
+abbrev pub task_bytes_after : Option TaskBytes → Item → Reply → Option TaskBytes
+task_bytes_after told (starts p) reply = Some (record { present = 0; bytes = λ task. empty })
+task_bytes_after None (asks command) reply = None
+task_bytes_after (Some m) (asks command) reply = Some (bytes_with m command reply)
+task_bytes_after told (bad n) reply = told
+
+-- the item is a read, and its reply gives the bytes of the present task's id; or it is no read
+abbrev pub IsReadOfTasks : Option TaskBytes → Item → Reply → Type 0
+IsReadOfTasks None item reply = ⊤
+IsReadOfTasks (Some m) item reply = IsReadOf (Some (m.bytes m.present)) item reply
+
+-- every read prints the bytes of the present task that follow from the lines before it and their replies
+abbrev pub AreReadsOfTasks : Option TaskBytes → List Item → List Reply → Type 0
+AreReadsOfTasks told [] replies = ⊤
+AreReadsOfTasks told (item ∷ rest) [] = ⊥
+AreReadsOfTasks told (item ∷ rest) (reply ∷ more) = IsReadOfTasks told item reply × AreReadsOfTasks (task_bytes_after told item reply) rest more

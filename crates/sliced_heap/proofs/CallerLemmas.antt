@@ -1,0 +1,14 @@
+-- What other crates' proofs may cite: an open heap keeps its plan.
+use Rattle.std.proofs.Common.{◌≡◌, ℕ, ap₂}
+use Rattle.cf_base.specs.Settings.{Profile}
+use Rattle.cf_base.specs.declared.kind.Layout.TheVariants.{Words}
+use Rattle.page_model.specs.Paging.{first_bounds, paging_of}
+use Rattle.slice_model.specs.State.{Plan}
+use Rattle.sliced_heap.specs.Shown.{SlicedState, StaysOpen, plan_in}
+
+-- the plan by the settings and the quantum
+abbrev plan_by : Profile → ℕ → Plan
+plan_by p n = record { paging = paging_of p Words (first_bounds p Words); proxies = p.proxies; quantum = n }
+
+pub plan_stays : (old new : SlicedState) → StaysOpen old new → plan_in new ≡ plan_in old
+plan_stays old new stays = ap₂ plan_by stays.profile stays.quantum
