@@ -10,7 +10,7 @@ use step_ledger::Meter;
 /// The handle of no object.
 const NONE: u32 = 4_294_967_295;
 
-/// One command, and whether it was served.
+/// Runs one command, and returns whether it succeeded.
 fn call<H: Manager>(heap: &mut H, c: CommandRef, table: &mut Table, meter: &mut Meter) -> bool
     requires { IsTrue (H.state heap.old).is_open }
     ensures { IsTrue (H.state heap.new).is_open }
@@ -49,7 +49,7 @@ fn call<H: Manager>(heap: &mut H, c: CommandRef, table: &mut Table, meter: &mut 
     }
 }
 
-/// The first `count` commands of seed 1, and whether one was served.
+/// Runs the first `count` commands of seed 1, and returns whether one succeeded.
 #[inline(never)]
 pub(crate) fn calls<H: Manager>(
     heap: &mut H,

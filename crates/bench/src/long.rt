@@ -37,7 +37,7 @@ fn long_read<H: Manager>(
     heap.read(h, at, out, meter).is_ok()
 }
 
-/// The call of a line, and whether it was served.
+/// Makes the call of a line, and returns whether it succeeded.
 fn apply<H: Manager>(
     heap: &mut LargeHeap<H>,
     line: Line,
@@ -62,7 +62,8 @@ fn apply<H: Manager>(
     }
 }
 
-/// Opens the heap, and makes the calls; how many were served. None for a bad script, or out of memory.
+/// Opens the heap and makes the calls. Returns how many succeeded, or `None` for a bad script or out of
+/// memory.
 pub(crate) fn run(
     alloc: Global,
     settings: &Settings,

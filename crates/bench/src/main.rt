@@ -34,7 +34,7 @@ use std::process::ExitCode;
 use step_ledger::Meter;
 use tlsf_heap::TlsfHeap;
 
-/// All bytes of standard input; none if it fails, or out of memory.
+/// All bytes of standard input; `None` if reading fails or memory runs out.
 fn all_input(rt: &HostRuntime) -> Option<Vec<u8>> {
     let mut source = StdSource::new(rt.stdin());
     let mut text = Vec::new(rt.alloc());
@@ -49,7 +49,7 @@ fn all_input(rt: &HostRuntime) -> Option<Vec<u8>> {
     None
 }
 
-/// Opens a manager, and makes the calls; how many were served.
+/// Opens a manager and makes the calls. Returns how many succeeded.
 fn on_manager<H: Manager>(
     mut heap: H,
     settings: &Settings,
@@ -68,7 +68,7 @@ fn on_manager<H: Manager>(
     Some(served)
 }
 
-/// The calls of a script; how many were served. None for a bad script, or out of memory.
+/// Makes the calls of a script. Returns how many succeeded, or `None` for a bad script or out of memory.
 fn on_heap(rt: &HostRuntime, text: &[u8]) -> Option<u64> {
     let first = Line::read(text.get(..script::LINE)?)?;
     let calls = text.get(script::LINE..)?;

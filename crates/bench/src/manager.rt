@@ -52,7 +52,7 @@ fn read_call<H: Manager>(heap: &H, h: Handle, at: u32, out: &mut [u8], meter: &m
     heap.read(h, at, out, meter.steps()).is_ok()
 }
 
-/// The call of a line, and whether it was served.
+/// Makes the call of a line, and returns whether it succeeded.
 pub(crate) fn apply<H: Manager>(
     heap: &mut H,
     line: Line,

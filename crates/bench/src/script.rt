@@ -24,7 +24,7 @@ pub(crate) struct Line {
 }
 
 impl Line {
-    /// Reads a line; none if the text is not one.
+    /// Reads a line; `None` if the text is not one.
     pub(crate) fn read(text: &[u8]) -> Option<Line> {
         Some(Line {
             op: *text.first()?,
@@ -43,7 +43,7 @@ pub(crate) struct Table {
 }
 
 impl Table {
-    /// No id has an object; none if out of memory.
+    /// Ids without objects; `None` if memory runs out.
     pub(crate) fn new(alloc: Global) -> Option<Table> {
         let handles = Vec::from_elem(alloc, NONE, IDS).ok()?;
         let bytes = Vec::from_elem(alloc, 7, MOST).ok()?;

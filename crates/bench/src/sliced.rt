@@ -70,7 +70,7 @@ fn drawn(heap: &mut SlicedHeap, word: u64, table: &mut Table, meter: &mut Meter)
     }
 }
 
-/// The call of a line, and whether it was served.
+/// Makes the call of a line, and returns whether it succeeded.
 fn apply(heap: &mut SlicedHeap, line: Line, table: &mut Table, meter: &mut Meter) -> bool {
     if !heap.is_open() {
         return false;
@@ -99,7 +99,8 @@ fn apply(heap: &mut SlicedHeap, line: Line, table: &mut Table, meter: &mut Meter
     }
 }
 
-/// Opens the heap, and makes the calls; how many were served. None for a bad script, or out of memory.
+/// Opens the heap and makes the calls. Returns how many succeeded, or `None` for a bad script or out of
+/// memory.
 pub(crate) fn run(
     alloc: Global,
     first: Line,

@@ -3,7 +3,7 @@ use Rattle.std.specs.Prelude.{ℕ, List, Option, Some, None, codes}
 use Rattle.cf_base.specs.declared.status.Status.{Status}
 use Rattle.cf_base.specs.declared.status.Status.TheVariants.{Done, Words, BadScript, ReadFault, WriteFault, OutOfMemory, TooLong, BadImage}
 
--- the line that goes with a status; none where all went well
+-- the line on standard error for a status; `None` for success
 abbrev pub complaint_at : Status → Option (List ℕ)
 complaint_at Done = None
 complaint_at Words = Some (codes "cf_tool: bad words")

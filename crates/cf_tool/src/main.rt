@@ -1,9 +1,10 @@
-//! The tool: reads a script from standard input and answers each command.
+//! The program: passes standard input and output and one closed manager of each kind to `cf_main`.
 #![tactic(auto)]
 
 ghost use Rattle.std.specs.Prelude.{◌≡◌, option_map};
 ghost use Rattle.cf_tool.specs.Complaints.{complaint_at};
 
+use boxed_managers::Boxed;
 use cf_base::Status;
 use cf_io::{StdSink, StdSource};
 use half_fit_heap::HalfFitHeap;
@@ -14,7 +15,7 @@ use std::env;
 use std::io::ErrorKind;
 use std::process::ExitCode;
 use tlsf_heap::TlsfHeap;
-use top_call::{Boxed, cf_main};
+use top_call::cf_main;
 
 /// The line on standard error that goes with a status; none at 0.
 fn complaint(status: Status) -> Option<&'static str>

@@ -10,6 +10,7 @@ mod rows;
 mod watched;
 
 use crate::complaint;
+use boxed_managers::Boxed;
 use cf_base::{Kind, Status};
 use cf_io::{Line, LoopSource, MemSink, MemSource, Source, SureSource, number_of};
 use cf_model::Manager;
@@ -21,7 +22,7 @@ use std::alloc::AllocError;
 use std::test::Fail;
 use step_ledger::Meter;
 use tlsf_heap::TlsfHeap;
-use top_call::{Boxed, cf_main};
+use top_call::cf_main;
 
 /// The room of a sink in these tests, in bytes.
 const ROOM: usize = 65_536;
@@ -52,7 +53,7 @@ fn failing_sink(rt: &HostRuntime, call: u64) -> Result<MemSink, Fail> {
     Ok(sink)
 }
 
-/// What a call leaves: its status, and the live objects of each manager handed in, none where it is
+/// What a call leaves: its status, and the number of live objects of each given manager, `None` if it is
 /// closed.
 #[derive(Drop)]
 struct Left {
@@ -152,7 +153,7 @@ fn answer_by<S: Source>(
     Ok(left.status)
 }
 
-/// How a script was answered: the status, and what was written.
+/// The outcome of a script: the status, and what was written.
 #[derive(Drop)]
 struct Output {
     status: Status,
@@ -184,7 +185,7 @@ fn answered_from<S: Source + Drop>(
     Ok(Output { status, sink })
 }
 
-/// Whether a script is answered so.
+/// Whether a script ends with this status and output.
 fn is_answered_so(
     rt: &HostRuntime,
     words: &[&str],
@@ -196,7 +197,7 @@ fn is_answered_so(
     Ok(got.is(status, text))
 }
 
-/// What the first of these rows shows that is not answered so; nothing where each is.
+/// The name of the first row whose script has another outcome; empty if there is none.
 fn first_other(rt: &HostRuntime, rows: &[Row]) -> Result<&'static str, Fail> {
     for row in rows {
         let (shows, script, status, text) = *row;
@@ -218,7 +219,7 @@ fn number_between(text: &[u8], before: &[u8], after: &[u8]) -> Option<u32> {
     number_of(text.strip_prefix(before)?.strip_suffix(after)?)
 }
 
-/// The number that a script prints between these two texts; none where it is not answered so.
+/// The number that a script prints between these two texts; `None` if it prints something else.
 fn number_told(
     rt: &HostRuntime,
     words: &[&str],
@@ -242,7 +243,7 @@ fn the_steps_of_a_call_are_within_its_bound(rt: HostRuntime) -> Result<(), Fail>
     Ok(())
 }
 
-/// Whether a source that gives one byte a call is answered as one that gives the script whole.
+/// Whether a script has the same outcome from a source that returns one byte a call.
 fn moves_byte_by_byte(rt: &HostRuntime) -> Result<bool, Fail> {
     let alloc = rt.alloc();
     let cuts = vec![in alloc; 1; MOVE.len()]?;
@@ -257,7 +258,7 @@ fn the_same_bytes_are_answered_alike_however_they_are_cut(rt: HostRuntime) -> Re
     Ok(())
 }
 
-/// A comment of so many bytes, its line feed not counted.
+/// A comment line of `length` bytes, without its line feed.
 fn comment(rt: &HostRuntime, length: usize) -> Result<Vec<u8>, AllocError> {
     let mut line = vec![in rt.alloc(); b'#'; length]?;
     line.push(b'\n')?;

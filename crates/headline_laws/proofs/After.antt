@@ -1,4 +1,4 @@
--- What the replies alone tell of the heap that is shown: its settings, its bounds and the bytes of each id.
+-- What the replies alone show of the heap: its settings, its bounds and the bytes of each id.
 use Rattle.std.proofs.Common.{◌≡◌, ℕ, Bool, true, false, cond, ◌+◌, List, Option, Some, None, Err, length, sym, ◌∙◌, ap, refl, inl, inr}
 use Rattle.std.specs.Prelude.{◌⊎◌, codes, nat_eq, nat_le, position}
 use Rattle.std.specs.FinMap.{get, insert, len, remove}
@@ -36,7 +36,7 @@ use Rattle.headline_laws.specs.ShownHeap.{IsArranged, ShownHeap, with_move}
 abbrev pub view : ShownHeap → ById
 view t = record { kind = t.heap.kind; profile = t.heap.profile; bounds = t.heap.bounds; objects = objects t.heap.held }
 
--- the class whose bound a `k` line sets: none where an object is live, none where no class has such slots, and none with blocks
+-- the class whose bound a `k` line sets; `None` if an object is live, if no class has such slots, and with blocks
 abbrev pub class_told : ById → ℕ → Option ℕ
 class_told v slot_words = elim (family_of v.kind) [ paged ↦ class_bounded v slot_words | tiled ↦ None ]
 

@@ -95,7 +95,7 @@ module _ (p : Paging) (m n : Held) (a : CountAlike m n) where
     not_full = subst (λ k. k < slots_of p (class_at p x)) (sym (on_alike (class_at p x) (page_of p y.place))) may.not_full;
   }
 
-  -- where each object of the second has a number in the first
+  -- if each object of the second has a number in the first
   module _ (number : (id : ℕ) (x : Placed) → get n id ≡ Some x → (h : ℕ) × (get m h ≡ Some x)) where
     pub place_same : (bytes place : ℕ) → IsFreePlace p m bytes place → IsFreePlace p n bytes place
     place_same bytes place free = record {

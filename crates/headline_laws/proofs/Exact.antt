@@ -15,6 +15,7 @@ use Rattle.cf_base.specs.declared.kind.Kind.{Kind}
 use Rattle.cf_lemmas.proofs.Searches.{fresh_key}
 use Rattle.cf_lemmas.proofs.Values.{map_values-empty}
 use Rattle.cf_lemmas.proofs.Tests.{eq_no, eq_yes, lt_no, lt_yes}
+use Rattle.cf_lemmas.proofs.Maps.{remove_missing}
 use Rattle.page_model.specs.Arrangement.{IsSound, LacksRoom, class_at, live, pages_needed_with}
 use Rattle.page_model.specs.Figures.{figures_of, totals_of}
 use Rattle.page_model.specs.Bytes.{written}
@@ -44,13 +45,13 @@ use Rattle.transcript_laws.specs.Replies.{after_by_id, bounds_with, class_bounde
 use Rattle.transcript_laws.specs.Replies.{put_unless, read_said, reply_by_id, resize_fault, resize_leaves, resize_said, write_leaves, write_said}
 use Rattle.transcript_laws.specs.Transcripts.{ArePlaceless, IsAtOne, IsPlaceless, StaysAtOne, TellsNoPlace, IsItemAtOne, after_at, replies_from, reply_at, transcript}
 use Rattle.transcript_laws.proofs.CallerLemmas.{figures_are, totals_are}
-use Rattle.transcript_laws.proofs.CallerLemmas.{remove_none, said_alike}
+use Rattle.transcript_laws.proofs.CallerLemmas.{said_alike}
 use Rattle.headline_laws.specs.Headline.{Answers, Frees, IsAnswer, Mallocs, MeetsHeadline, Opens, RefitsElsewhere, RefitsInPlace, Resizes, Writes}
 use Rattle.headline_laws.specs.ShownHeap.{IsArranged, ShownHeap, heap_opened}
 use Rattle.headline_laws.proofs.After.{changed_there, class_is, class_told, either, view, view_after, view_is}
 
 freed_told : (o : Option (List ℕ)) (m : Objects) (id : ℕ) → get m id ≡ o → remove m id ≡ cond (is_ok (said (free_said o))) (remove m id) m
-freed_told None m id is = remove_none m id is
+freed_told None m id is = remove_missing m id is
 freed_told (Some v) m id is = refl
 
 written_told : (o : Option (List ℕ)) (m : Objects) (id at : ℕ) (bytes : List ℕ) → get m id ≡ o

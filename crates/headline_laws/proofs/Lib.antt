@@ -8,4 +8,5 @@ pub mod Parting
 pub mod Exact
 pub mod OneTranscript
 pub mod Worked
+pub mod OneOutput
 pub mod CallerLemmas

@@ -108,7 +108,7 @@ module _ {S V : Type 0} (begins : Profile → Reply → S → Type 0) (turns : S
       → PlayRun begins turns None items b other → text_of [] b ≡ text_of [] a → b ≡ a
   parted_from_none items a b end other one two same = parted items None None a b end other tt tt refl one two same
 
--- the replies are told by their text
+-- replies with the same text are the same
 pub told_by_text : (kind : Kind) (items : List Item) (replies others : List Reply) → MeetsHeadline kind items replies → MeetsHeadline kind items others
     → text_of [] others ≡ text_of [] replies → others ≡ replies
 told_by_text kind items replies others first second same = parted_from_none (Opens kind) Answers view (λ t. IsArranged t.heap)

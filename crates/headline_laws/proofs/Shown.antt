@@ -32,7 +32,7 @@ abbrev pub held_by_id : Ids → Held → Held
 held_by_id ids m = renamed nothing ids m
 
 abbrev pub heap_of : RunState → HeapState
-heap_of s = record s.heap { held = held_by_id s.session.ids s.heap.held; words = [] }
+heap_of s = record s.heap { held = held_by_id s.session.ids s.heap.held; words = []; order = None }
 
 abbrev pub shown : RunState → ShownHeap
 shown s = record { heap = heap_of s; step_bound = s.session.bound; moves = s.session.moves; moved_words = s.session.words }

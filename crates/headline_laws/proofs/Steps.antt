@@ -1,9 +1,9 @@
 -- What each step of a run shows.
-use Rattle.std.proofs.Common.{◌≡◌, ℕ, ◌+◌, ◌*◌, ◌<◌, ◌≤◌, ◌++◌, Bool, zero, suc, List, [], ◌∷◌, Option, Some, None, Result, Ok, Err, max, map, cond, length, arith, sym, ◌∙◌, ap, refl, subst, inl, inr}
+use Rattle.std.proofs.Common.{◌≡◌, ℕ, ◌+◌, ◌*◌, ◌<◌, ◌++◌, Bool, List, [], Option, Some, None, Result, Ok, Err, max, map, cond, length, arith, sym, ◌∙◌, ap, refl, subst, inl, inr}
 use Rattle.std.specs.Prelude.{◌⊎◌, codes, filter, nat_eq, nat_le, not, slice_get, slice_index}
 use Rattle.std.specs.List.{range_with_len}
 use Rattle.std.proofs.lemmas.Bool.{cases_lt}
-use Rattle.std.proofs.lemmas.Option.{slice_get-get_or}
+use Rattle.std.proofs.lemmas.Option.{slice_get-get_or, slice_get_past}
 use Rattle.std.specs.FinMap.{get, insert, remove}
 use Rattle.cf_base.specs.declared.answers.AccessFault.{AccessFault}
 use Rattle.cf_base.specs.declared.answers.AccessFault.TheVariants as access
@@ -131,11 +131,6 @@ module _ (s : RunState) (going : IsGoing s) where
   block_here None i = refl
   block_here (Some x) i = block_in s.heap.kind x i
 
-  past : (xs : List ℕ) (i : ℕ) → length xs ≤ i → slice_get xs i ≡ None
-  past [] i le = refl
-  past (x ∷ xs) zero le = absurd (omega arith)
-  past (x ∷ xs) (suc i) le = past xs i (omega arith)
-
   pub peek_here : (word : ℕ) (reply : Reply) → reply ≡ said (peek_text (slice_get s.heap.words word)) → (new : ShownHeap) → new ≡ t → Peeks t word reply new
   peek_here word reply r new same = (let region = going.rules.region in elim (cases_lt word (region_words s.heap.profile)) [
     | inl lt ↦ (
@@ -149,7 +144,7 @@ module _ (s : RunState) (going : IsGoing s) where
     | inr ge ↦ (
       0,
       (
-        r ∙ ap (λ o. said (peek_text o)) (past s.heap.words word (omega arith)
+        r ∙ ap (λ o. said (peek_text o)) (slice_get_past s.heap.words word (omega arith)
             ∙ sym (ap (λ b. cond b (Some 0) None) (lt_no word (region_words s.heap.profile) ge))),
         same,
       ),
@@ -213,7 +208,7 @@ module _ (s : RunState) (going : IsGoing s) where
           steps = cost_is 64 cost;
           reply_is = r;
           heap_is = λ i. record {
-            heap = record (step.whole i) { held = held i; words = [] };
+            heap = record (step.whole i) { held = held i; words = []; order = None };
             step_bound = (e i).bound;
             moves = (e i).moves;
             moved_words = (e i).words;
@@ -225,7 +220,7 @@ module _ (s : RunState) (going : IsGoing s) where
       steps = cost_is 64 cost;
       reply_is = r;
       heap_is = λ i. record {
-        heap = record (step.1 i) { held = held_by_id (e i).ids (step.1 i).held; words = [] };
+        heap = record (step.1 i) { held = held_by_id (e i).ids (step.1 i).held; words = []; order = None };
         step_bound = (e i).bound;
         moves = (e i).moves;
         moved_words = (e i).words;
@@ -303,6 +298,7 @@ module _ (s : RunState) (going : IsGoing s) where
                 bounds = rest.bounds i;
                 held = held i;
                 words = [];
+                order = None;
                 frames = frames i;
                 tiling = step.step.tiling i;
                 cost = new.heap.cost;
@@ -335,7 +331,7 @@ module _ (s : RunState) (going : IsGoing s) where
         let held : held_by_id new.session.ids new.heap.held ≡ insert by_ids id (record x { bytes = written x.bytes at bytes }) =
         (λ i. held_by_id (e i).ids (step.whole i).held) ∙ changed_renamed nothing ids m going.tied.ids id h named (record x { bytes = written x.bytes at bytes }) in
         let left : shown new ≡ written_at id x at bytes = λ i. record {
-          heap = record (step.whole i) { held = held i; words = [] };
+          heap = record (step.whole i) { held = held i; words = []; order = None };
           step_bound = (e i).bound;
           moves = (e i).moves;
           moved_words = (e i).words;
@@ -362,10 +358,10 @@ module _ (s : RunState) (going : IsGoing s) where
     still_in : (k : Kind) (f : Family) → family_of k ≡ f → new.session.ids ≡ ids → IsUnmoved k s.heap new.heap → IsUnmoved k (heap_of s) (heap_of new)
     still_in k paged is e unmoved = rw (is, IsUnmoved) (
         let u : new.heap ≡ record s.heap { cost = new.heap.cost } = rw (is, IsUnmoved) at unmoved in
-        λ i. record (u i) { held = held_by_id (e i) (u i).held; words = [] })
+        λ i. record (u i) { held = held_by_id (e i) (u i).held; words = []; order = None })
     still_in k tiled is e unmoved = rw (is, IsUnmoved) (
         let u : new.heap ≡ s.heap = rw (is, IsUnmoved) at unmoved in
-        λ i. record (u i) { held = held_by_id (e i) (u i).held; words = [] })
+        λ i. record (u i) { held = held_by_id (e i) (u i).held; words = []; order = None })
 
     -- the object stays or moves, and another one moves or not
     abbrev Refitted : Placed → ℕ → ℕ → Option Handle → Type 0
@@ -438,7 +434,7 @@ module _ (s : RunState) (going : IsGoing s) where
           steps = subst (λ k. CostsAtMost s.heap.kind new.heap.cost k) bound (cost_is _ cost);
           reply_is = r;
           heap_is = counted_is base (shown new) f.0 (slot_for p (length x.bytes))
-              (λ i. record (step.whole i) { held = (heap_of new).held; words = []; frames = frames i })
+              (λ i. record (step.whole i) { held = (heap_of new).held; words = []; frames = frames i; order = None })
               (ap (λ (z : SessionState). z.bound) e ∙ counted_bound before done.moved done.old_slot_words ∙ bound)
               (ap (λ (z : SessionState). z.moves) e ∙ moves_named ids before base done.moved f.0 done.old_slot_words f.1 refl
               ∙ ap (λ k. (with_move base f.0 k).moves) slot)
@@ -464,8 +460,8 @@ module _ (s : RunState) (going : IsGoing s) where
 
     -- k
     put_shown : (c : Option ℕ) (k : ℕ) → new.session.ids ≡ ids → new.heap ≡ bound_put s.heap c k → heap_of new ≡ bound_put (heap_of s) c k
-    put_shown None k e is = λ i. record (is i) { held = held_by_id (e i) (is i).held; words = [] }
-    put_shown (Some c) k e is = λ i. record (is i) { held = held_by_id (e i) (is i).held; words = [] }
+    put_shown None k e is = λ i. record (is i) { held = held_by_id (e i) (is i).held; words = []; order = None }
+    put_shown (Some c) k e is = λ i. record (is i) { held = held_by_id (e i) (is i).held; words = []; order = None }
 
     class_here : (words : ℕ) → class_to_bound s.heap words ≡ class_to_bound (heap_of s) words
     class_here words = ap (λ n. cond (nat_eq n 0) (class_with s.heap.kind s.heap words) None) (sym (counts s going).count)

@@ -1,2 +1,3 @@
 pub mod ShownHeap
 pub mod Headline
+pub mod OneOutput

@@ -12,7 +12,8 @@ use Rattle.run_model.specs.Sessions.{more_by}
 
 -- The state of a manager whose objects are numbered by the ids of the script: the settings, the bound of each class, and by id the address and the bytes of each
 -- object; with blocks the blocks of the region, with a block table that table, and the steps of the last malloc, free or resize. The words of the region stay
--- the empty list: nothing is claimed of them. Beside it: the bound on those steps, 0 before the first call; how many objects moved; the words of their slots.
+-- the empty list, and the order stays none: the headline claims nothing of either. Beside it: the bound on those steps, 0 before the first call; how many
+-- objects moved; the words of their slots.
 pub record ShownHeap : Type 0 where
   pub heap : HeapState
   pub step_bound : ℕ

@@ -2,7 +2,7 @@
 //! nothing: each one's contract is a law of runs.
 #![tactic(auto)]
 
-ghost use Rattle.std.specs.Prelude.{◌≡◌, codes, List, [], ◌∷◌, None, Option, Some, true};
+ghost use Rattle.std.specs.Prelude.{◌≡◌, Bool, codes, IsSome, ℕ, List, [], ◌∷◌, None, Option, Some, true};
 ghost use Rattle.cf_base.specs.declared.kind.Kind.{Kind};
 ghost use Rattle.cf_base.specs.declared.kind.Kind.TheVariants.{Moving};
 ghost use Rattle.cf_model.specs.Rules.{IsPaged};
@@ -15,6 +15,7 @@ ghost use Rattle.run_model.specs.Texts.{Reply, said, text_of};
 ghost use Rattle.transcript_laws.specs.Histories.{AreAlike, AreFurther};
 ghost use Rattle.transcript_laws.specs.Transcripts.{ArePlaceless, StaysAtOne, transcript};
 ghost use Rattle.headline_laws.specs.Headline.{MeetsHeadline};
+ghost use Rattle.headline_laws.specs.OneOutput.{BeginNone, BeginOnce, IsOrdered};
 
 /// The replies of every run over a script meet the headline: one for each item, none over, each as
 /// the heap before it and the item say. It is a heap of objects numbered by the ids of the script.
@@ -23,8 +24,8 @@ pub fn the_headline()
         → Run kind None items replies end → MeetsHeadline kind items replies }
 {}
 
-/// Replies that meet the headline are fixed by their text: no other replies have it and meet the
-/// headline too. So whoever sees the output sees which lines answer which command.
+/// The text of the output determines the replies that meet the headline: no other replies with the same
+/// text meet it. So the output shows which lines are the reply to which command.
 pub fn the_output_tells_the_replies()
     ensures { (kind : Kind) (items : List Item) (replies others : List Reply)
         → MeetsHeadline kind items replies → MeetsHeadline kind items others
@@ -92,4 +93,23 @@ pub fn equal_objects_get_equal_replies()
         → Run one.heap.kind (Some one) items replies last
         → Run one.heap.kind (Some other) items told end
         → told ≡ replies }
+{}
+
+/// One script has one output of a manager with pages that has an order: two runs over the same items
+/// have the same replies, with each address, block, word and cost, and lead to the same state. It is
+/// enough that both managers have an order at the end. The same holds of two runs that go on from one
+/// state.
+pub fn one_output()
+    ensures script { (kind : Kind) (bytes : List ℕ) (ended : Bool) (replies others : List Reply) (last end : Option RunState)
+        → IsPaged kind
+        → Run kind None (items bytes ended) replies last → Run kind None (items bytes ended) others end
+        → IsOrdered last → IsOrdered end → (others ≡ replies) × (end ≡ last) }
+    ensures items { (kind : Kind) (items : List Item) (replies others : List Reply) (last end : Option RunState)
+        → IsPaged kind → BeginOnce items
+        → Run kind None items replies last → Run kind None items others end
+        → IsOrdered last → IsOrdered end → (others ≡ replies) × (end ≡ last) }
+    ensures further { (kind : Kind) (one : RunState) (items : List Item) (replies others : List Reply) (last end : Option RunState)
+        → IsGoing one → IsPaged one.heap.kind → IsSome one.heap.order → BeginNone items
+        → Run kind (Some one) items replies last → Run kind (Some one) items others end
+        → (others ≡ replies) × (end ≡ last) }
 {}

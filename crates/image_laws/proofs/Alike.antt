@@ -1,28 +1,25 @@
--- What was loaded and told as a script is saved as the same image, and is held alike.
-use Rattle.std.proofs.Common.{◌≡◌, ◌∙◌, ◌++◌, ◌≤◌, ℕ, List, [], Option, Some, None, length, refl, ap, sym, subst}
-use Rattle.std.specs.Prelude.{option_map, ◌↔◌}
+-- Mode `save` on the script that mode `load` printed writes the same image, and its manager holds the same objects.
+use Rattle.std.proofs.Common.{◌≡◌, ◌∙◌, ℕ, List, [], Some, ap, sym}
+use Rattle.std.specs.Prelude.{◌↔◌}
 use Rattle.std.specs.FinMap.{get}
 use Rattle.cf_base.specs.Settings.{Profile}
 use Rattle.cf_base.specs.declared.kind.Kind.TheVariants.{Moving}
 use Rattle.cf_base.specs.declared.status.Status.TheVariants.{Done}
 use Rattle.cf_io.specs.Feeds.{appended}
 use Rattle.page_model.specs.Bytes.{AreBytes}
-use Rattle.page_model.specs.Held.{Objects, Placed, objects}
+use Rattle.page_model.specs.Held.{Objects, objects}
 use Rattle.heap_image.specs.Decoded.{decoded, whole}
 use Rattle.heap_image.specs.Heaps.{objects_of}
+use Rattle.heap_image.proofs.CallerLemmas.{objects_of_is}
 use Rattle.image_laws.specs.Images.{IsImageOf}
 use Rattle.image_run.specs.Loads.{EndsLoad}
 use Rattle.image_run.specs.Saves.{EndsSave}
 use Rattle.image_run.specs.Script.{script_under}
-use Rattle.run_model.specs.Sessions.{AreTied, IsGoing, RunState}
-use Rattle.run_model.proofs.CallerLemmas.{bytes_held}
-use Rattle.script_loop.specs.ScriptOutcome.{Effects, MOST_BYTES}
-use Rattle.transcript_laws.specs.ById.{ById}
-use Rattle.transcript_laws.specs.Histories.{AreAlike, bytes_of}
-use Rattle.transcript_laws.proofs.CallerLemmas.{gone_by_id, live_by_id}
+use Rattle.run_model.specs.Sessions.{IsGoing, RunState}
+use Rattle.script_loop.specs.ScriptOutcome.{Effects}
+use Rattle.transcript_laws.specs.Histories.{AreAlike}
 use Rattle.image_laws.proofs.Short.{script_short}
 use Rattle.image_laws.proofs.Loaded.{going, image_back, kind, load_done, same_objects}
-use Rattle.image_laws.proofs.ObjectsShown.{objects_of_is}
 
 -- equal objects by id
 pub alike : (one other : RunState) → IsGoing one → IsGoing other → other.heap.kind ≡ one.heap.kind → other.heap.profile ≡ one.heap.profile

@@ -13,7 +13,7 @@ use Rattle.cf_base.specs.Limits.{is_within}
 use Rattle.cf_base.specs.Settings.{Profile, profile_from}
 use Rattle.heap_image.specs.Decoded.{Decoded, Reached, at_first, breaks_behind, breaks_in, bytes_decoded, count_decoded, cut, decoded, end_decoded}
 use Rattle.heap_image.specs.Decoded.{entries_decoded, entry_decoded, has_room, is_page_of, length_decoded, number, page_bytes_decoded, pages_decoded, passed}
-use Rattle.heap_image.specs.Decoded.{proxies_decoded, unopened, whole}
+use Rattle.heap_image.specs.Decoded.{proxies_decoded, unopened}
 use Rattle.heap_image.specs.Image.{mark, number_of_bytes}
 
 abbrev Reading : Type 0
@@ -30,7 +30,7 @@ if_stays : (b : Bool) (T U : Reading) → Stays T → Stays U → Stays (λ byte
 if_stays true T U t u = t
 if_stays false T U t u = u
 
--- of a field of so many bytes: it is cut, or the rest is read by what its bytes tell
+-- a field of k bytes: it is cut, or `go` decodes its bytes and those after it
 abbrev by_field : ℕ → Decoded → (List ℕ → Reading) → Reading
 by_field k bad go bytes = if nat_lt (length bytes) k then cut bad else go (take k bytes) (drop k bytes)
 

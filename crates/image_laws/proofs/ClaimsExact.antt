@@ -13,7 +13,7 @@ use Rattle.image_run.specs.Script.{script_under}
 use Rattle.page_model.specs.Figures.{asked_bytes}
 use Rattle.page_model.specs.Held.{Objects}
 use Rattle.page_model.proofs.CallerLemmas.{asked_added}
-use Rattle.script_reader.specs.Items.{Item, items}
+use Rattle.script_reader.specs.Items.{items}
 use Rattle.transcript_laws.specs.ById.{ById}
 use Rattle.image_laws.specs.Claims.{MeetsLoad, MeetsSave, image_shown}
 use Rattle.image_laws.specs.Scripts.{after_items, holding, script_items}

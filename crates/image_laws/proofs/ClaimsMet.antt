@@ -1,12 +1,11 @@
 -- Modes `save` and `load` print what is claimed.
-use Rattle.std.proofs.Common.{◌≡◌, ◌≢◌, ◌∙◌, ◌++◌, ℕ, Bool, false, List, [], Option, Some, None, append-nil, refl, ap, sym, subst}
+use Rattle.std.proofs.Common.{◌≡◌, ◌≢◌, ◌∙◌, ◌++◌, ℕ, false, List, [], Option, Some, None, append-nil, refl, ap, sym, subst}
 use Rattle.std.specs.Prelude.{Err, Ok, if◌then◌else◌}
 use Rattle.cf_base.specs.Settings.{profile_of}
 use Rattle.cf_base.specs.declared.kind.Kind.{Kind}
 use Rattle.cf_base.specs.declared.kind.Kind.TheVariants.{Moving}
 use Rattle.cf_base.specs.declared.status.Status.{Status}
 use Rattle.cf_base.specs.declared.status.Status.TheVariants.{Done, Words, BadScript, ReadFault, WriteFault, OutOfMemory, TooLong, BadImage}
-use Rattle.cf_io.specs.Feeds.{appended}
 use Rattle.headline_laws.proofs.CallerLemmas.{run_met, shown_at}
 use Rattle.heap_image.proofs.CallerLemmas.{observed_load}
 use Rattle.heap_image.specs.Decoded.{Decoded, decoded}
@@ -71,7 +70,7 @@ module _ (from to : RunState) (call : Effects) (read : List ℕ) (moving : from.
       go TooLong is same = none TooLong is same refl
       go BadImage is same = none BadImage is same refl
 
--- Mode `load`: it prints the script of the objects, or where the bytes break, or nothing.
+-- Mode `load` prints the script of the objects, or the offset at which the bytes break a rule, or nothing.
 pub load_met : (from to : RunState) (call : Effects) (read : List ℕ) → call.had ≡ Some read → call.status ≢ WriteFault → EndsLoad from call to
     → Prints LoadsAs read call
 load_met from to call read had firm ends = go call.status refl ends

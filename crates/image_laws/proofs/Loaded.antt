@@ -1,13 +1,10 @@
 -- A run over the script of objects holds them.
-use Rattle.std.proofs.Common.{◌≡◌, ◌≢◌, ◌∙◌, append-nil, ◌++◌, ◌≤◌, ℕ, zero, suc, Bool, true, false, List, [], ◌∷◌, Option, Some, None, length, take, map, refl, ap, sym, subst, arith}
-use Rattle.std.specs.Prelude.{⊤, Err, Ok, codes, nat_le, option_map, if◌then◌else◌}
-use Rattle.std.proofs.lemmas.Bool.Decides.{nat_tests}
-use Rattle.std.proofs.lemmas.List.{take_all}
+use Rattle.std.proofs.Common.{◌≡◌, ◌≢◌, ◌∙◌, append-nil, ◌++◌, ◌≤◌, ℕ, zero, suc, true, List, [], ◌∷◌, Option, Some, None, length, map, refl, ap, sym, subst}
+use Rattle.std.specs.Prelude.{⊤, Err, Ok, codes, option_map, if◌then◌else◌}
 use Rattle.std.specs.FinMap.{entries}
 use Rattle.cf_base.specs.Settings.{Profile, profile_of}
 use Rattle.cf_base.specs.declared.kind.Kind.{Kind}
 use Rattle.cf_base.specs.declared.kind.Kind.TheVariants.{Moving}
-use Rattle.cf_base.specs.declared.status.Status.{Status}
 use Rattle.cf_base.specs.declared.status.Status.TheVariants.{BadImage, Done}
 use Rattle.cf_io.specs.Feeds.{appended}
 use Rattle.page_model.specs.Held.{Objects}
@@ -18,7 +15,7 @@ use Rattle.heap_image.specs.Load.{IsLoading}
 use Rattle.heap_image.specs.declared.fault.LoadFault.TheVariants as fault
 use Rattle.image_run.specs.Loads.{EndsLoad, EndsLoadBy}
 use Rattle.image_run.specs.Saves.{EndsSave, WritesAtEnd, saved, unseen}
-use Rattle.image_run.specs.Script.{commands_of, heap_script, object_commands, script_under, writes_from, writes_of}
+use Rattle.image_run.specs.Script.{commands_of, object_commands, script_under, writes_from}
 use Rattle.headline_laws.proofs.CallerLemmas.{one_told, run_met, shown, shown_at, view}
 use Rattle.run_laws.proofs.CallerLemmas.{run_keeps}
 use Rattle.run_laws.specs.Sayable.{IsUnderWay}
@@ -26,16 +23,16 @@ use Rattle.run_model.specs.Runs.{Run}
 use Rattle.run_model.specs.Sessions.{IsGoing, RunState}
 use Rattle.run_model.specs.Texts.{Reply, said}
 use Rattle.transcript_laws.proofs.CallerLemmas.{stays_at_one}
-use Rattle.script_loop.proofs.CallerLemmas.{wrote_all}
+use Rattle.script_loop.proofs.CallerLemmas.{wrote_all, within_all}
 use Rattle.script_loop.specs.Consequences.{AnswersAll}
 use Rattle.script_loop.specs.OneManager.{one_manager}
 use Rattle.script_loop.specs.ScriptOutcome.{Effects, MOST_BYTES, StandsAfter, Wrote, items_within}
-use Rattle.script_reader.specs.Items.{Item, asks, items, starts}
+use Rattle.script_reader.specs.Items.{Item, asks, items}
 use Rattle.script_reader.specs.declared.command.Command.{Command}
 use Rattle.script_reader.specs.declared.command.Command.TheVariants.{Malloc, Write}
 use Rattle.transcript_laws.specs.ById.{ById}
 use Rattle.transcript_laws.specs.Transcripts.{ArePlaceless, AskForOne, StaysAtOne}
-use Rattle.image_laws.specs.Scripts.{after_items, holding, script_items}
+use Rattle.image_laws.specs.Scripts.{holding, script_items}
 use Rattle.image_laws.proofs.Made.{all_ok, makes}
 use Rattle.image_laws.proofs.ObjectsShown.{objects_shown, run_leaves}
 use Rattle.image_laws.proofs.Plain.{read_back}
@@ -119,11 +116,6 @@ module _ (p : Profile) (o : Objects) (h : HaveImage p o) where
 pub held_objects : (p : Profile) (o : Objects) (s : RunState) → IsGoing s → view (shown s) ≡ holding p o → (s.heap.profile ≡ p) × (objects_of s ≡ o)
 held_objects p o s going is = (ap (λ (t : ById). t.profile) is, objects_shown s going ∙ ap (λ (t : ById). t.objects) is)
 
-within : (script : List ℕ) → length script ≤ MOST_BYTES → items_within script ≡ items script true
-within script few =
-    let e : nat_le (length script) MOST_BYTES ≡ true = grind (arith, nat_tests, few) in
-    λ i. items (take_all MOST_BYTES script few i) (e i)
-
 -- mode `save` over the script of objects
 module _ (p : Profile) (o : Objects) (h : HaveImage p o) (from to : RunState) (call : Effects) (moving : from.heap.kind ≡ Moving)
     (had : call.had ≡ Some (script_under p o)) (few : length (script_under p o) ≤ MOST_BYTES) (done : call.status ≡ Done) (ends : EndsSave from call to) where
@@ -135,7 +127,7 @@ module _ (p : Profile) (o : Objects) (h : HaveImage p o) (from to : RunState) (c
   holds : Holds p o whole_run.end
   holds = run_holds p o h whole_run.replies whole_run.end
       (subst (λ (k : Kind). Run k None (items (script_under p o) true) whole_run.replies whole_run.end) moving
-      (subst (λ (is : List Item). Run from.heap.kind None is whole_run.replies whole_run.end) (within (script_under p o) few) whole_run.run))
+      (subst (λ (is : List Item). Run from.heap.kind None is whole_run.replies whole_run.end) (within_all (script_under p o) few) whole_run.run))
 
   stands : to ≡ holds.state
   stands = subst (λ (e : Option RunState). StandsAfter from e to) holds.is whole_run.stands
@@ -155,7 +147,7 @@ module _ (p : Profile) (o : Objects) (h : HaveImage p o) (from to : RunState) (c
   pub image_back : call.after ≡ appended call.before (image_under p o)
   image_back = subst (λ st. WritesAtEnd st call.before (saved to) call.after) done ends.written ∙ ap (appended call.before) saved_is
 
--- mode `load`, where it is done
+-- mode `load` with status `Done`
 pub record Loaded (all : List ℕ) (to : RunState) (call : Effects) : Type 0 where
   pub profile : Profile
   pub objects : Objects

@@ -1,22 +1,20 @@
 -- The commands of the script of objects leave these objects.
-use Rattle.std.proofs.Common.{◌≡◌, ◌∙◌, ◌++◌, ◌+◌, ◌-◌, ◌*◌, ◌≤◌, ◌<◌, ◌^◌, ℕ, zero, suc, Bool, true, false, List, [], ◌∷◌, Option, Some, None}
+use Rattle.std.proofs.Common.{◌≡◌, ◌∙◌, ◌++◌, ◌+◌, ◌-◌, ◌*◌, ◌≤◌, ◌<◌, ℕ, zero, suc, true, false, List, [], ◌∷◌, Option, Some, None}
 use Rattle.std.proofs.Common.{length, take, drop, map, refl, ap, sym, subst, arith, append_assoc, append-nil, inl, inr}
 use Rattle.std.proofs.Common.{length-append, length-drop}
 use Rattle.std.proofs.lemmas.List.{length-take-le}
-use Rattle.std.specs.Prelude.{⊤, Err, codes, nat_eq, nat_le, nat_lt, replicate, if◌then◌else◌}
+use Rattle.std.specs.Prelude.{⊤, Err, codes, nat_eq, nat_le, nat_lt, replicate}
 use Rattle.std.specs.Int.{div_ceil}
 use Rattle.std.specs.Ordering.{nat_cmp}
 use Rattle.std.specs.FinMap.{empty, entries, get, get-empty, insert, len}
-use Rattle.std.proofs.lemmas.Bool.{cases_eq, cases_lt}
+use Rattle.std.proofs.lemmas.Bool.{cases_lt, cond-true, cond-false}
 use Rattle.std.proofs.lemmas.Bool.Decides.{nat_tests}
 use Rattle.std.proofs.lemmas.List.{drop-replicate, length-replicate, nil_from_length, take-append-drop, take_all}
 use Rattle.std.proofs.Math.Seq.{drop-append-add, take-append_seam}
 use Rattle.cf_base.specs.Classes.{need}
 use Rattle.cf_base.specs.Settings.{Profile}
-use Rattle.cf_base.specs.declared.answers.AccessFault.{AccessFault}
-use Rattle.cf_base.specs.declared.answers.Refusal.{Refusal}
 use Rattle.cf_base.specs.declared.kind.Kind.TheVariants.{Moving}
-use Rattle.cf_lemmas.proofs.Maps.{equal_maps, get_inserted, get_insert_other, len_fresh}
+use Rattle.cf_lemmas.proofs.Maps.{get_inserted, len_fresh, insert_twice}
 use Rattle.page_model.specs.Arrangement.{pages_needed, pages_needed_with}
 use Rattle.page_model.specs.Bytes.{written}
 use Rattle.page_model.specs.Held.{Objects}
@@ -33,7 +31,7 @@ use Rattle.run_model.specs.Texts.{Reply, said}
 use Rattle.transcript_laws.specs.Replies.{after_by_id, malloc_fault, malloc_leaves, malloc_said, ok_or, put_unless, reply_by_id, write_fault, write_leaves, write_said}
 use Rattle.transcript_laws.specs.Transcripts.{replies_from, transcript}
 use Rattle.image_laws.specs.Scripts.{after_items, holding, script_items}
-use Rattle.heap_image.proofs.CallerLemmas.{AreBelow, below_none, below_some, needed_added, needed_more}
+use Rattle.heap_image.proofs.CallerLemmas.{AreBelow, below_none, below_some, needed_added, needed_more, below_end}
 use Rattle.heap_image.proofs.CallerLemmas.{listed_all, listed_end, listed_none, listed_some}
 
 -- the state after all commands
@@ -41,12 +39,12 @@ abbrev pub after_all : ById → List Command → ById
 after_all t [] = t
 after_all t (c ∷ cs) = after_all (after_by_id t c) cs
 
--- each command is answered `ok`
+-- the reply to each command is `ok`
 abbrev pub AllOk : ById → List Command → Type 0
 AllOk t [] = ⊤
 AllOk t (c ∷ cs) = (reply_by_id t c ≡ said (codes "ok")) × AllOk (after_by_id t c) cs
 
--- commands that are all answered `ok` lead from a state to another
+-- commands with the reply `ok` lead from one state to another
 record Leads (t : ById) (cs : List Command) (u : ById) : Type 0 where
   state : after_all t cs ≡ u
   ok : AllOk t cs
@@ -74,18 +72,6 @@ ok_is : (t : ById) (cs : List Command) → AllOk t cs → replies_from Moving (S
 ok_is t [] are = refl
 ok_is t (c ∷ cs) are = λ i. are.0 i ∷ ok_is (after_by_id t c) cs are.1 i
 
-if_false : {X : Type 0} (b : Bool) (x y : X) → b ≡ false → (if b then x else y) ≡ y
-if_false b x y e = ap (λ b. if b then x else y) e
-
-if_true : {X : Type 0} (b : Bool) (x y : X) → b ≡ true → (if b then x else y) ≡ x
-if_true b x y e = ap (λ b. if b then x else y) e
-
-insert_twice : (m : Objects) (k : ℕ) (v w : List ℕ) → insert (insert m k v) k w ≡ insert m k w
-insert_twice m k v w = equal_maps _ _ (λ q. elim (cases_eq q k) [
-  | inl e ↦ rw e (get_inserted (insert m k v) k w ∙ sym (get_inserted m k w))
-  | inr ne ↦ get_insert_other (insert m k v) k w q ne ∙ get_insert_other m k v q ne ∙ sym (get_insert_other m k w q ne)
-])
-
 -- bytes written over the first of the zeros
 written_zeros : (front chunk : List ℕ) (k at : ℕ) → at ≡ length front
     → written (front ++ replicate k 0) at chunk ≡ (front ++ chunk) ++ replicate (k - length chunk) 0
@@ -100,7 +86,7 @@ module _ (p : Profile) (id : ℕ) (m : Objects) where
   write_leaves_is : (at : ℕ) (v chunk : List ℕ) → at + length chunk ≤ length v
       → write_leaves (get (insert m id v) id) (insert m id v) (record { id = id; at = at; bytes = chunk }) ≡ insert m id (written v at chunk)
   write_leaves_is at v chunk fits =
-      let none : write_fault v at (length chunk) ≡ None = if_true _ _ _ (let e : nat_le (at + length chunk) (length v) ≡ true = grind (arith, nat_tests) in e) in
+      let none : write_fault v at (length chunk) ≡ None = cond-true _ _ _ (let e : nat_le (at + length chunk) (length v) ≡ true = grind (arith, nat_tests) in e) in
       ap (λ f. write_leaves f (insert m id v) (record { id = id; at = at; bytes = chunk })) (get_inserted m id v)
       ∙ ap (λ f. put_unless f (insert m id v) id (written v at chunk)) none
       ∙ insert_twice m id v (written v at chunk)
@@ -112,7 +98,7 @@ module _ (p : Profile) (id : ℕ) (m : Objects) where
   write_ok : (at : ℕ) (v chunk : List ℕ) → at + length chunk ≤ length v
       → reply_by_id (holding p (insert m id v)) (Write id at chunk) ≡ said (codes "ok")
   write_ok at v chunk fits =
-      let none : write_fault v at (length chunk) ≡ None = if_true _ _ _ (let e : nat_le (at + length chunk) (length v) ≡ true = grind (arith, nat_tests) in e) in
+      let none : write_fault v at (length chunk) ≡ None = cond-true _ _ _ (let e : nat_le (at + length chunk) (length v) ≡ true = grind (arith, nat_tests) in e) in
       ap (λ f. said (write_said f at (length chunk))) (get_inserted m id v)
       ∙ ap (λ f. said (ok_or (λ e. write_text (Err e)) f)) none
 
@@ -181,26 +167,13 @@ module _ (p : Profile) (id : ℕ) (m : Objects) where
       (all_writes (div_ceil (length v) 4096) 0 [] v refl (omega arith) (omega arith))
 
 module _ (p : Profile) (o : Objects) (h : HaveImage p o) where
-  ends : (q : ℕ) → 65536 ≤ q → get o q ≡ None
-  ends q past = go (get o q) refl
-    where
-      go : (v : Option (List ℕ)) → get o q ≡ v → get o q ≡ None
-      go None e = e
-      go (Some v) e = absurd (let low = h.ids q v e in omega (arith, low, past))
-
-  below_end : (k : ℕ) (m : Objects) → k ≡ 65536 → AreBelow o k m → m ≡ o
-  below_end k m end b = equal_maps m o (λ q. elim (cases_lt q k) [
-    | inl lt ↦ b.low q lt
-    | inr le ↦ b.high q le ∙ sym (ends q (omega arith))
-  ])
-
   -- some of the objects need no more pages, and are no more
   record IsLess (m : Objects) : Type 0 where
     pages : pages_needed (image_paging p) m ≤ pages_needed (image_paging p) o
     few : len m ≤ len o
 
   less : (n k : ℕ) (m : Objects) → k + n ≡ 65536 → AreBelow o k m → IsLess m
-  less zero k m end b = (let same = below_end k m (omega arith) b in
+  less zero k m end b = (let same = below_end o h.ids k m (omega arith) b in
       record { pages = (let e = ap (pages_needed (image_paging p)) same in omega arith); few = (let e = ap (λ (m : Objects). len m) same in omega arith) })
   less (suc n) k m end b = go (get o k) refl (λ m b. less n (k + 1) m (omega arith) b)
     where
@@ -233,11 +206,11 @@ module _ (p : Profile) (o : Objects) (h : HaveImage p o) where
         let le : pages_needed_with (image_paging p) m (length v) ≤ p.pages = omega (arith, added, f, g) in grind (arith, nat_tests, le))
 
     good : malloc_fault (holding p m) (length v) ≡ None
-    good = if_false _ _ _ size_good ∙ if_false _ _ _ proxies_good ∙ if_false _ _ _ pages_good
+    good = cond-false _ _ _ size_good ∙ cond-false _ _ _ proxies_good ∙ cond-false _ _ _ pages_good
 
   all_made : (n k : ℕ) (m : Objects) → k + n ≡ 65536 → AreBelow o k m → Leads (holding p m) (commands_of (listed o k n)) (holding p o)
   all_made zero k m end b = subst (λ (es : List (ℕ × List ℕ)). Leads (holding p m) (commands_of es) (holding p o)) (sym (listed_end o k))
-      (record { state = ap (holding p) (below_end k m (omega arith) b); ok = tt })
+      (record { state = ap (holding p) (below_end o h.ids k m (omega arith) b); ok = tt })
   all_made (suc n) k m end b = go (get o k) refl (λ m b. all_made n (k + 1) m (omega arith) b)
     where
       go : (v : Option (List ℕ)) → get o k ≡ v

@@ -1,7 +1,6 @@
--- The objects by id of a run, and of the heap that it shows; what a run leaves where every bound is 1.
-use Rattle.std.proofs.Common.{◌≡◌, ◌∙◌, ℕ, List, [], ◌∷◌, Option, Some, None, refl, sym, ap, subst}
+-- The objects by id of a run are those of the heap that it shows; what a run leaves if every bound is 1.
+use Rattle.std.proofs.Common.{◌≡◌, ◌∙◌, List, [], ◌∷◌, Option, Some, sym, ap, subst}
 use Rattle.std.specs.Prelude.{option_map}
-use Rattle.std.specs.FinMap.{get}
 use Rattle.cf_base.specs.declared.kind.Kind.{Kind}
 use Rattle.cf_lemmas.proofs.Maps.{equal_maps}
 use Rattle.cf_model.specs.Families.{IsPaged}
@@ -9,30 +8,16 @@ use Rattle.headline_laws.proofs.CallerLemmas.{IsInOrder, bytes_are, item_is, sho
 use Rattle.headline_laws.specs.Headline.{Answers, Opens}
 use Rattle.headline_laws.specs.ShownHeap.{ShownHeap}
 use Rattle.heap_image.specs.Heaps.{heap_image, image_under, objects_of}
+use Rattle.heap_image.proofs.CallerLemmas.{objects_of_is}
 use Rattle.image_laws.specs.Claims.{image_shown}
 use Rattle.image_laws.specs.Scripts.{after_items}
-use Rattle.page_model.specs.Held.{Objects, Placed, objects}
+use Rattle.page_model.specs.Held.{Objects, objects}
 use Rattle.run_model.specs.Plays.{PlayRun}
-use Rattle.run_model.specs.Sessions.{AreTied, IsGoing, RunState}
+use Rattle.run_model.specs.Sessions.{IsGoing, RunState}
 use Rattle.run_model.specs.Texts.{Reply}
-use Rattle.run_model.proofs.CallerLemmas.{bytes_held}
 use Rattle.script_reader.specs.Items.{Item}
 use Rattle.transcript_laws.specs.ById.{ById}
-use Rattle.transcript_laws.specs.Histories.{bytes_of}
 use Rattle.transcript_laws.specs.Transcripts.{ArePlaceless, StaysAtOne}
-use Rattle.transcript_laws.proofs.CallerLemmas.{gone_by_id, live_by_id}
-
-pub objects_of_is : (s : RunState) → AreTied s.session s.heap → (id : ℕ) → get (objects_of s) id ≡ bytes_of s id
-objects_of_is s tied id = go (get s.session.ids id) refl
-  where
-    go : (o : Option ℕ) → get s.session.ids id ≡ o → get (objects_of s) id ≡ bytes_of s id
-    go None e = gone_by_id s.session.ids (objects s.heap.held) id e
-        ∙ sym (ap (λ (o : Option ℕ). option_map (λ (x : Placed). x.bytes) (elim o as (λ _. Option Placed) [ None ↦ None | Some h ↦ get s.heap.held h ])) e)
-    go (Some h) e =
-        let x = tied.ids.named id h e in
-        live_by_id s.session.ids (objects s.heap.held) id h x.0.bytes e (bytes_held s.heap.held h x.0 x.1)
-        ∙ sym (ap (λ (o : Option ℕ). option_map (λ (x : Placed). x.bytes) (elim o as (λ _. Option Placed) [ None ↦ None | Some h ↦ get s.heap.held h ])) e
-        ∙ ap (option_map (λ (x : Placed). x.bytes)) x.1)
 
 -- they are the same
 pub objects_shown : (s : RunState) → IsGoing s → objects_of s ≡ (view (shown s)).objects
@@ -42,7 +27,7 @@ objects_shown s going = equal_maps _ _ (λ id. objects_of_is s going.tied id ∙
 pub same_image : (s : RunState) → IsGoing s → heap_image s ≡ image_shown (Some (shown s))
 same_image s going = ap (λ (o : Objects). image_under s.heap.profile o) (objects_shown s going)
 
--- where every bound is 1, a run leaves what its items leave
+-- if every bound is 1, a run leaves what its items leave
 module _ (kind : Kind) (paged : IsPaged kind) where
   pub run_leaves : (items : List Item) (t end : Option ShownHeap) (replies : List Reply) → IsInOrder kind paged t → StaysAtOne kind (option_map view t) items
       → ArePlaceless items → PlayRun (Opens kind) Answers t items replies end → option_map view end ≡ after_items kind (option_map view t) items

@@ -1,28 +1,20 @@
--- Entries that the definition accepts are those of the objects that they tell.
-use Rattle.std.proofs.Common.{◌≡◌, ◌≢◌, ◌∙◌, ◌++◌, ◌+◌, ◌-◌, ◌*◌, ◌/◌, ◌%◌, ◌≤◌, ◌<◌, ◌^◌, ℕ, zero, suc, Bool, true, false, List, [], ◌∷◌, Option}
+-- Entries that the definition accepts are the entries of the objects that they decode to.
+use Rattle.std.proofs.Common.{◌≡◌, ◌∙◌, ◌++◌, ◌+◌, ◌-◌, ◌≤◌, ◌<◌, ◌^◌, ℕ, zero, suc, Bool, true, false, List, [], ◌∷◌}
 use Rattle.std.proofs.Common.{Some, None, length, get_or, take, drop, refl, ap, sym, subst, arith}
-use Rattle.std.proofs.Common.{append-nil, append_assoc, inl, inr, lit<, length-append}
-use Rattle.std.specs.Prelude.{nat_le, nat_lt, if◌then◌else◌, ◌&&◌, count_by, nat_eq}
+use Rattle.std.proofs.Common.{append-nil, append_assoc, inl, inr, lit<}
+use Rattle.std.specs.Prelude.{nat_le, nat_lt, if◌then◌else◌}
 use Rattle.std.specs.Int.{Width, w16, w32, byte_len}
-use Rattle.std.specs.Str.{bytes_eq}
 use Rattle.std.specs.Ordering.{nat_cmp}
-use Rattle.std.specs.List.{range_with_len}
-use Rattle.std.specs.FinMap.{empty, entries, get, get-empty, insert, len, len-entries, len-empty}
-use Rattle.std.proofs.Math.Nat.{div-eq_of_lt, div-zero}
-use Rattle.std.proofs.lemmas.Bool.{cases_lt}
-use Rattle.std.proofs.lemmas.Bool.Decides.{nat_tests}
-use Rattle.std.proofs.lemmas.List.{get_or-drop, get_or-take, get_or_past, length-take, length-take-le, nil_from_length, take-append-drop}
-use Rattle.std.proofs.lemmas.Slice.Eq.{bytes_eq-Decides}
+use Rattle.std.specs.FinMap.{empty, entries, get, get-empty, insert}
+use Rattle.std.proofs.lemmas.Bool.{cases_lt, and_parts, leb-true, ltb-false}
+use Rattle.std.proofs.lemmas.List.{get_or-drop, get_or-take, get_or_past, length-take, length-take-le, take-append-drop}
 use Rattle.cf_base.specs.Classes.{need}
 use Rattle.cf_base.specs.Settings.{Profile}
 use Rattle.cf_lemmas.proofs.Maps.{some_inserted}
-use Rattle.cf_lemmas.proofs.Values.{no_values}
-use Rattle.page_model.specs.Arrangement.{live, pages_needed, pages_needed_with}
+use Rattle.page_model.specs.Arrangement.{pages_needed, pages_needed_with}
 use Rattle.page_model.specs.Bytes.{AreBytes}
-use Rattle.page_model.specs.Counts.{ceil_div}
 use Rattle.page_model.specs.Held.{Objects}
-use Rattle.page_model.specs.Paging.{Paging, class_for, classes, slots_of}
-use Rattle.page_model.proofs.CallerLemmas.{sum_zeros}
+use Rattle.page_model.proofs.CallerLemmas.{none_needed}
 use Rattle.heap_image.specs.Decoded.{Decoded, Reached, breaks_in, bytes_decoded, cut, end_decoded, entries_decoded}
 use Rattle.heap_image.specs.Decoded.{entry_decoded, has_room, image_paging, length_decoded, number, passed}
 use Rattle.heap_image.specs.Image.{entries_of, entry_of, number_bytes, number_of_bytes}
@@ -38,21 +30,6 @@ bytes_taken n l b i = elim (cases_lt i n) [
 
 pub bytes_left : (n : ℕ) (l : List ℕ) → AreBytes l → AreBytes (drop n l)
 bytes_left n l b i = rw (get_or-drop n l i 0) (b (n + i))
-
--- tests that hold
-pub first_true : (a b : Bool) → (a && b) ≡ true → a ≡ true
-first_true true b e = refl
-first_true false b e = e
-
-pub second_true : (a b : Bool) → (a && b) ≡ true → b ≡ true
-second_true true b e = e
-second_true false b e = absurd (let z : false ≡ true = e in cc)
-
-pub le_told : (a b : ℕ) → nat_le a b ≡ true → a ≤ b
-le_told a b e = grind (arith, nat_tests)
-
-not_less : (a b : ℕ) → nat_lt a b ≡ false → b ≤ a
-not_less a b e = grind (arith, nat_tests)
 
 -- what is broken isn't whole
 pub breaks_not : (d : Decoded) (at : ℕ) → d.broken ≡ Some at → d.broken ≡ None → ⊥
@@ -99,7 +76,7 @@ module _ (w : Width) (bytes : List ℕ) (b : AreBytes bytes) (bad : Decoded) (at
         n = number_of_bytes w front;
         rest = behind;
         field = front;
-        long = length-take-le (byte_len w) bytes (not_less (length bytes) (byte_len w) whole.0);
+        long = length-take-le (byte_len w) bytes (ltb-false (length bytes) (byte_len w) whole.0);
         small = bytes_taken (byte_len w) bytes b;
         is = refl;
         are = sym (take-append-drop (byte_len w) bytes);
@@ -125,19 +102,6 @@ pub record MayBeHeld (p : Profile) (o : Objects) : Type 0 where
   pub bytes : (id : ℕ) (v : List ℕ) → get o id ≡ Some v → AreBytes v
   pub fit : (id : ℕ) (v : List ℕ) → get o id ≡ Some v → need (length v) ≤ p.page_words
   pub room : pages_needed (image_paging p) o ≤ p.pages
-
--- no object needs no page
-none_over : (m : ℕ) → ceil_div 0 m ≡ 0
-none_over zero = div-zero 0
-none_over (suc k) = div-eq_of_lt {n = 0 + (suc k - 1)} {m = suc k} (omega arith)
-
-none_live : (p : Paging) (c : ℕ) → live p empty c ≡ 0
-unfolding live
-none_live p c = ap (count_by (λ v. nat_eq (class_for p (length v)) c)) no_values
-
-none_needed : (p : Paging) → pages_needed p empty ≡ 0
-unfolding pages_needed
-none_needed p = sum_zeros _ (range_with_len 0 (classes p)) (λ c. ap (λ n. ceil_div n (slots_of p c)) (none_live p c) ∙ none_over (slots_of p c))
 
 pub none_held : (p : Profile) → MayBeHeld p empty
 none_held p = record {
@@ -181,7 +145,7 @@ module _ (p : Profile) (r : Reached) (go : Reached → List ℕ → Decoded) whe
       record {
         v = take n bytes;
         rest = drop n bytes;
-        long = length-take-le n bytes (not_less (length bytes) n whole.0);
+        long = length-take-le n bytes (ltb-false (length bytes) n whole.0);
         small = bytes_taken n bytes b;
         are = sym (take-append-drop n bytes);
         left = bytes_left n bytes b;
@@ -211,7 +175,7 @@ module _ (p : Profile) (r : Reached) (go : Reached → List ℕ → Decoded) whe
         v = h.v;
         rest = h.rest;
         low = subst (λ n. n < 2 ^ 16) (sym a.is) (small_2 a.field a.small);
-        rises = le_told r.next a.n a.good;
+        rises = leb-true r.next a.n a.good;
         room = ap (has_room p r.objects) h.long ∙ l.good;
         small = h.small;
         are = a.are ∙ (λ i. id_is i ++ (l.are ∙ (λ j. length_is j ++ h.are j)) i)
@@ -226,13 +190,13 @@ module _ (p : Profile) (o : Objects) (h : MayBeHeld p o) (id : ℕ) (v : List �
     (room : has_room p o (length v) ≡ true) where
   fits : need (length v) ≤ p.page_words
   unfolding has_room
-  fits = le_told (need (length v)) p.page_words
-      (first_true (nat_le (need (length v)) p.page_words) (nat_le (pages_needed_with (image_paging p) o (length v)) p.pages) room)
+  fits = leb-true (need (length v)) p.page_words
+      (and_parts (nat_le (need (length v)) p.page_words) (nat_le (pages_needed_with (image_paging p) o (length v)) p.pages) room).0
 
   needs : pages_needed_with (image_paging p) o (length v) ≤ p.pages
   unfolding has_room
-  needs = le_told (pages_needed_with (image_paging p) o (length v)) p.pages
-      (second_true (nat_le (need (length v)) p.page_words) (nat_le (pages_needed_with (image_paging p) o (length v)) p.pages) room)
+  needs = leb-true (pages_needed_with (image_paging p) o (length v)) p.pages
+      (and_parts (nat_le (need (length v)) p.page_words) (nat_le (pages_needed_with (image_paging p) o (length v)) p.pages) room).1
 
   held_more : MayBeHeld p (insert o id v)
   held_more = record {

@@ -1,13 +1,13 @@
--- Bytes that the definition accepts are the image of what they tell.
-use Rattle.std.proofs.Common.{◌≡◌, ◌∙◌, ◌++◌, ◌*◌, ◌/◌, ◌%◌, ◌≤◌, ◌^◌, ℕ, Bool, true, false, List, [], Some, None, length, take, drop, refl, ap, sym}
+-- Bytes that the definition accepts are the image of what they decode to.
+use Rattle.std.proofs.Common.{◌≡◌, ◌∙◌, ◌++◌, ◌*◌, ◌/◌, ◌%◌, ◌≤◌, ◌^◌, ℕ, true, List, Some, None, length, take, drop, refl, ap, sym}
 use Rattle.std.proofs.Common.{subst, arith, append_assoc}
-use Rattle.std.specs.Prelude.{◌==◌, ◌&&◌, ◌↔◌, nat_le, nat_lt}
+use Rattle.std.specs.Prelude.{◌==◌, ◌↔◌, nat_le, nat_lt}
 use Rattle.std.specs.Int.{w32}
 use Rattle.std.specs.Str.{bytes_eq}
-use Rattle.std.specs.Ordering.{nat_cmp}
-use Rattle.std.specs.FinMap.{empty, entries, len, len-empty, len-entries}
+use Rattle.std.specs.FinMap.{empty, entries, len, len-entries}
+use Rattle.std.proofs.lemmas.Bool.{and_parts, leb-true}
 use Rattle.std.proofs.lemmas.Bool.Decides.{nat_tests}
-use Rattle.std.proofs.lemmas.List.{nil_from_length, take-append-drop}
+use Rattle.std.proofs.lemmas.List.{take-append-drop}
 use Rattle.std.proofs.lemmas.Slice.Eq.{bytes_eq-Decides}
 use Rattle.cf_base.specs.Limits.{is_page_bytes, is_page_size, is_within}
 use Rattle.cf_base.specs.Settings.{Profile, profile_from}
@@ -21,8 +21,7 @@ use Rattle.heap_image.specs.Decoded.{pages_decoded, proxies_decoded, unopened, w
 use Rattle.heap_image.specs.Heaps.{HaveImage, image_under}
 use Rattle.heap_image.specs.Image.{entries_of, mark, number_bytes}
 use Rattle.image_laws.specs.Images.{IsImageOf}
-use Rattle.image_laws.proofs.OnlyEntries.{Accepts, MayBeHeld, accepts, bytes_left, enters_all, field_4, first_true, first_whole, le_told, none_held}
-use Rattle.image_laws.proofs.OnlyEntries.{second_true}
+use Rattle.image_laws.proofs.OnlyEntries.{Accepts, MayBeHeld, accepts, bytes_left, enters_all, field_4, first_whole, none_held}
 use Rattle.image_laws.proofs.Rising.{AreUnder}
 
 -- the objects, from their number on
@@ -43,7 +42,7 @@ has_objects p bytes b is =
     let all = enters_all a.n p at_first a.rest a.left (none_held p) (subst (AreUnder 0) (sym listed_none) tt) a.on in
     let listed : entries all.objects ≡ all.more = all.all ∙ ap (λ (l : List (ℕ × List ℕ)). l ++ all.more) listed_none in
     let many : len all.objects ≡ a.n = len-entries all.objects ∙ ap (length {A = ℕ × List ℕ}) listed ∙ all.many in
-    let few = le_told a.n p.proxies a.good in
+    let few = leb-true a.n p.proxies a.good in
     record {
       objects = all.objects;
       held = all.held;
@@ -79,13 +78,13 @@ mark_accepted bytes is =
 -- tests of the settings that hold
 page_of : (pages n : ℕ) → is_page_of pages n ≡ true → (8 * (n / 8) ≡ n) × (is_page_size (n / 8) ≡ true) × (pages * n ≤ 67108864)
 page_of pages n e =
-    let size = first_true (is_page_bytes n) (nat_le (pages * n) 67108864) e in
-    let whole_words : (n % 8 == 0) ≡ true = first_true (n % 8 == 0) (is_page_size (n / 8)) size in
+    let size = and_parts (is_page_bytes n) (nat_le (pages * n) 67108864) e in
+    let page = and_parts (n % 8 == 0) (is_page_size (n / 8)) size.0 in
+    let whole_words : (n % 8 == 0) ≡ true = page.0 in
     let no_rest : n % 8 ≡ 0 = grind (arith, nat_tests) in (
       omega arith,
-      second_true (n % 8 == 0) (is_page_size (n / 8)) size,
-      le_told (pages * n) 67108864
-          (second_true (is_page_bytes n) (nat_le (pages * n) 67108864) e),
+      page.1,
+      leb-true (pages * n) 67108864 size.1,
     )
 
 in_range : (pages n proxies : ℕ) → is_within 1 4096 pages ≡ true → is_page_of pages n ≡ true → is_within 1 65536 proxies ≡ true

@@ -1,44 +1,31 @@
 -- The script of objects is one that is read back.
-use Rattle.std.proofs.Common.{◌≡◌, ◌∙◌, ◌++◌, ◌+◌, ◌*◌, ◌/◌, ◌%◌, ◌≤◌, ◌<◌, ◌^◌, ℕ, zero, suc, Bool, true, false, List, [], ◌∷◌, Option, Some, None}
+use Rattle.std.proofs.Common.{◌≡◌, ◌∙◌, ◌++◌, ◌+◌, ◌*◌, ◌/◌, ◌%◌, ◌≤◌, ◌<◌, ℕ, zero, suc, true, List, [], ◌∷◌, Option, Some, None}
 use Rattle.std.proofs.Common.{length, take, drop, map, refl, ap, sym, subst, arith}
 use Rattle.std.proofs.Common.{length-drop}
 use Rattle.std.proofs.lemmas.List.{length-take-le}
-use Rattle.std.specs.Prelude.{◌==◌, ◌&&◌, nat_le, min, ⊤, if◌then◌else◌}
+use Rattle.std.specs.Prelude.{◌==◌, nat_le}
 use Rattle.std.specs.Int.{div_ceil}
 use Rattle.std.specs.FinMap.{entries, get}
-use Rattle.std.proofs.lemmas.Bool.{cases_lt}
+use Rattle.std.proofs.lemmas.Bool.{cases_lt, and_from, cond-true}
 use Rattle.std.proofs.Common.{inl, inr}
 use Rattle.std.proofs.lemmas.Bool.Decides.{nat_tests}
-use Rattle.std.proofs.lemmas.Nat.{mul-le}
 use Rattle.std.proofs.lemmas.List.{take_all}
-use Rattle.cf_base.specs.Limits.{is_page_bytes, is_page_size, is_within}
-use Rattle.cf_base.specs.Settings.{Profile, profile_from, setting_fault}
-use Rattle.cf_model.specs.Rules.{AreInRange}
+use Rattle.cf_base.specs.Limits.{is_page_bytes, is_page_size}
+use Rattle.cf_base.specs.Settings.{Profile, setting_fault}
+use Rattle.cf_base.proofs.CallerLemmas.{within_limits}
 use Rattle.page_model.specs.Bytes.{AreBytes}
 use Rattle.page_model.specs.Held.{Objects}
 use Rattle.heap_image.specs.Heaps.{HaveImage}
 use Rattle.heap_image.specs.Listed.{listed}
 use Rattle.image_laws.proofs.OnlyEntries.{bytes_left, bytes_taken}
-use Rattle.image_run.specs.Script.{commands_of, object_commands, opening_line, script_under, writes_from, writes_of}
-use Rattle.generator.specs.ReadBack.{ArePlain, CanOpen, IsCommand, IsWord}
+use Rattle.image_run.specs.Script.{commands_of, object_commands, script_under, writes_from}
+use Rattle.generator.specs.ReadBack.{ArePlain, CanOpen}
 use Rattle.script_reader.specs.Items.{asks, items, starts}
 use Rattle.script_reader.specs.declared.command.Command.{Command}
-use Rattle.script_reader.specs.declared.command.Command.TheVariants.{Malloc, Write}
 use Rattle.image_laws.specs.Scripts.{script_items}
-use Rattle.heap_image.proofs.CallerLemmas.{listed_all, listed_end, listed_none, listed_some}
+use Rattle.heap_image.proofs.CallerLemmas.{listed_all, listed_end, listed_none, listed_some, page_small, profile_is}
 use Rattle.generator.proofs.CallerLemmas.{script_back}
-
-le_yes : (a b : ℕ) → a ≤ b → nat_le a b ≡ true
-le_yes a b le = grind (arith, nat_tests)
-
-both_true : (a b : Bool) → a ≡ true → b ≡ true → (a && b) ≡ true
-both_true a b p q = ap (λ a. a && b) p ∙ q
-
-within : (low high n : ℕ) → low ≤ n → n ≤ high → is_within low high n ≡ true
-within low high n a b = both_true _ _ (le_yes low n a) (le_yes n high b)
-
-if_true : {X : Type 0} (b : Bool) (x y : X) → b ≡ true → (if b then x else y) ≡ x
-if_true b x y e = ap (λ b. if b then x else y) e
+use Rattle.cf_lemmas.proofs.Tests.{le_yes}
 
 plain_joined : (cs ds : List Command) → ArePlain cs → ArePlain ds → ArePlain (cs ++ ds)
 plain_joined [] ds are more = more
@@ -77,11 +64,6 @@ plain_object id v low are small = (
   plain_writes (div_ceil (length v) 4096) id 0 v low are (omega arith) (omega (arith, small)),
 )
 
--- the settings are small
-pub page_small : (p : Profile) → AreInRange p → p.page_words ≤ 8388608
-page_small p h = (let least = h.some_pages in let most = h.small_region in let m = mul-le 1 p.page_words p.pages p.page_words least (omega arith) in omega
-    arith)
-
 module _ (p : Profile) (o : Objects) (h : HaveImage p o) where
   pub bytes_small : (k : ℕ) (v : List ℕ) → get o k ≡ Some v → length v ≤ 4294967295
   bytes_small k v some = (let fit = h.fit k v some in let small = page_small p h.settings in omega arith)
@@ -99,24 +81,20 @@ module _ (p : Profile) (o : Objects) (h : HaveImage p o) where
   pub plain_all : ArePlain (commands_of (entries o))
   plain_all = subst (λ (es : List (ℕ × List ℕ)). ArePlain (commands_of es)) (sym (listed_all o 65536 (λ q v e. h.ids q v e))) (plain_listed 65536 0)
 
-  profile_is : profile_from p.pages (8 * p.page_words) 1 p.proxies ≡ p
-  profile_is = (let back : 8 * p.page_words / 8 ≡ p.page_words = omega arith in
-      λ i. record { pages = p.pages; page_words = back i; k = sym h.one i; proxies = p.proxies })
-
   page_is : is_page_bytes (8 * p.page_words) ≡ true
   page_is =
       let whole_words : (8 * p.page_words % 8 == 0) ≡ true = grind (arith, nat_tests) in
       let back : 8 * p.page_words / 8 ≡ p.page_words = omega arith in
       let size : is_page_size (8 * p.page_words / 8) ≡ true = ap is_page_size back ∙ h.settings.page_size in
-      both_true _ _ whole_words size
+      and_from _ _ whole_words size
 
   region_is : nat_le (p.pages * (8 * p.page_words)) 67108864 ≡ true
   region_is = (let region = h.settings.small_region in le_yes (p.pages * (8 * p.page_words)) 67108864 (omega arith))
 
   no_fault : setting_fault p.pages (8 * p.page_words) 1 p.proxies ≡ None
   no_fault =
-      if_true _ _ _ (within 1 4096 p.pages h.settings.some_pages h.settings.few_pages) ∙ if_true _ _ _ page_is
-      ∙ if_true _ _ _ (within 1 65536 p.proxies h.settings.some_proxies h.settings.few_proxies) ∙ if_true _ _ _ region_is
+      cond-true _ _ _ (within_limits 1 4096 p.pages h.settings.some_pages h.settings.few_pages) ∙ cond-true _ _ _ page_is
+      ∙ cond-true _ _ _ (within_limits 1 65536 p.proxies h.settings.some_proxies h.settings.few_proxies) ∙ cond-true _ _ _ region_is
 
   can_open : CanOpen p.pages (8 * p.page_words) 1 p.proxies
   can_open = record {
@@ -132,4 +110,4 @@ module _ (p : Profile) (o : Objects) (h : HaveImage p o) where
   -- the script is read back as the commands that make the objects
   pub read_back : items (script_under p o) true ≡ script_items p o
   read_back = script_back p.pages (8 * p.page_words) 1 p.proxies (commands_of (entries o)) can_open plain_all
-      ∙ ap (λ (q : Profile). starts q ∷ map (λ c. asks c) (commands_of (entries o))) profile_is
+      ∙ ap (λ (q : Profile). starts q ∷ map (λ c. asks c) (commands_of (entries o))) (profile_is p o h)

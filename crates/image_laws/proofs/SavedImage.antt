@@ -1,5 +1,5 @@
 -- What mode `save` prints is an image, and mode `load` takes it.
-use Rattle.std.proofs.Common.{◌≡◌, ◌≢◌, ◌∙◌, ℕ, List, [], Option, Some, None, refl, ap, sym, subst}
+use Rattle.std.proofs.Common.{◌≡◌, ◌≢◌, ◌∙◌, ℕ, List, [], Option, Some, refl, ap, sym, subst}
 use Rattle.std.specs.Prelude.{IsTrue, if◌then◌else◌}
 use Rattle.cf_base.specs.Settings.{Profile, at_bound_one}
 use Rattle.cf_base.specs.declared.kind.Kind.{Kind}

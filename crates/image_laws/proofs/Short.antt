@@ -1,18 +1,17 @@
 -- The script of objects is within the limit of a script.
-use Rattle.std.proofs.Common.{◌≡◌, ◌∙◌, ◌++◌, ◌+◌, ◌*◌, ◌≤◌, ◌<◌, ◌^◌, ℕ, zero, suc, List, [], ◌∷◌, Option, Some, None, length, take, drop, refl, ap, sym, arith}
-use Rattle.std.proofs.Common.{length-append, take-append-drop, inl, inr}
+use Rattle.std.proofs.Common.{◌≡◌, ◌++◌, ◌+◌, ◌*◌, ◌≤◌, ℕ, zero, suc, List, [], ◌∷◌, Option, Some, None, length, take, drop, refl, ap, arith}
+use Rattle.std.proofs.Common.{length-append, take-append-drop}
 use Rattle.std.specs.Prelude.{codes}
 use Rattle.std.specs.Fmt.{decimal}
 use Rattle.std.specs.Int.{div_ceil}
 use Rattle.std.specs.Ordering.{nat_cmp}
 use Rattle.std.specs.FinMap.{empty, entries, get, get-empty, insert, len}
-use Rattle.std.proofs.lemmas.Bool.{cases_lt}
-use Rattle.std.proofs.Common.{mul_assoc, mul-le-mul_left}
+use Rattle.std.proofs.Common.{mul-le-mul_left}
 use Rattle.hex.specs.Hex.{encode_lower}
 use Rattle.cf_io.proofs.CallerLemmas.{length_in_hex}
 use Rattle.cf_base.specs.Settings.{Profile}
 use Rattle.cf_base.specs.declared.kind.Layout.TheVariants.{Words}
-use Rattle.cf_lemmas.proofs.Maps.{equal_maps, len_fresh}
+use Rattle.cf_lemmas.proofs.Maps.{len_fresh}
 use Rattle.page_model.specs.Figures.{asked_bytes}
 use Rattle.page_model.specs.Held.{Objects}
 use Rattle.page_model.specs.Arrangement.{pages_needed}
@@ -27,9 +26,9 @@ use Rattle.script_loop.specs.ScriptOutcome.{MOST_BYTES}
 use Rattle.script_reader.specs.declared.command.Command.{Command}
 use Rattle.script_reader.specs.declared.command.Command.TheVariants.{Malloc, Write}
 use Rattle.image_laws.proofs.Bounded.{asked_fits}
-use Rattle.heap_image.proofs.CallerLemmas.{AreBelow, below_none, below_some}
+use Rattle.heap_image.proofs.CallerLemmas.{AreBelow, below_none, below_some, below_end, page_small}
 use Rattle.heap_image.proofs.CallerLemmas.{listed_all, listed_end, listed_none, listed_some}
-use Rattle.image_laws.proofs.Plain.{bytes_small, page_small}
+use Rattle.image_laws.proofs.Plain.{bytes_small}
 use Rattle.generator.proofs.CallerLemmas.{numbers_short}
 
 lines_joined : (cs ds : List Command) → length (lines_of (cs ++ ds)) ≡ length (lines_of cs) + length (lines_of ds)
@@ -85,23 +84,10 @@ heap_short a b c d wa wb wc wd =
     omega (arith, numbers, e, f)
 
 module _ (p : Profile) (o : Objects) (h : HaveImage p o) where
-  ends : (q : ℕ) → 65536 ≤ q → get o q ≡ None
-  ends q past = go (get o q) refl
-    where
-      go : (v : Option (List ℕ)) → get o q ≡ v → get o q ≡ None
-      go None e = e
-      go (Some v) e = absurd (let low = h.ids q v e in omega (arith, low, past))
-
-  below_end : (k : ℕ) (m : Objects) → k ≡ 65536 → AreBelow o k m → m ≡ o
-  below_end k m end b = equal_maps m o (λ q. elim (cases_lt q k) [
-    | inl lt ↦ b.low q lt
-    | inr le ↦ b.high q le ∙ sym (ends q (omega arith))
-  ])
-
   all_short : (n k : ℕ) (m : Objects) → k + n ≡ 65536 → AreBelow o k m
       → length (lines_of (commands_of (listed o k n))) + (89 * len m + 3 * asked_bytes m) ≤ 89 * len o + 3 * asked_bytes o
   all_short zero k m end b =
-      let same = below_end k m (omega arith) b in
+      let same = below_end o h.ids k m (omega arith) b in
       let a = ap (λ (m : Objects). len m) same in
       let c = ap asked_bytes same in
       let d = ap (λ (es : List (ℕ × List ℕ)). length (lines_of (commands_of es))) (listed_end o k) in

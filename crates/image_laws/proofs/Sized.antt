@@ -1,45 +1,33 @@
 -- How long an image is; and that the script of objects has no bad line.
-use Rattle.std.proofs.Common.{◌≡◌, ◌∙◌, ◌++◌, ◌+◌, ◌*◌, ◌≤◌, ◌<◌, ◌^◌, ℕ, zero, suc, Bool, false, List, [], ◌∷◌, Option, Some, None, length, map, refl, ap, sym, arith}
-use Rattle.std.proofs.Common.{length-append, inl, inr}
+use Rattle.std.proofs.Common.{◌≡◌, ◌∙◌, ◌++◌, ◌+◌, ◌*◌, ◌<◌, ◌^◌, ℕ, zero, suc, false, List, [], ◌∷◌, Option, Some, None, length, map, refl, ap, arith}
+use Rattle.std.proofs.Common.{length-append}
 use Rattle.std.specs.Int.{w16, w32}
 use Rattle.std.specs.Ordering.{nat_cmp}
 use Rattle.std.specs.FinMap.{empty, entries, get, get-empty, insert, len, len-empty}
-use Rattle.std.proofs.lemmas.Bool.{cases_lt}
 use Rattle.cf_base.specs.Settings.{Profile}
-use Rattle.std.specs.Prelude.{sum_by}
-use Rattle.cf_lemmas.proofs.Values.{no_values}
-use Rattle.cf_lemmas.proofs.Maps.{equal_maps, len_fresh}
+use Rattle.cf_lemmas.proofs.Maps.{len_fresh}
 use Rattle.page_model.specs.Figures.{asked_bytes}
 use Rattle.page_model.specs.Held.{Objects}
-use Rattle.page_model.proofs.CallerLemmas.{asked_added}
+use Rattle.page_model.proofs.CallerLemmas.{asked_added, none_asked}
 use Rattle.heap_image.specs.Heaps.{HaveImage, image_under}
 use Rattle.heap_image.specs.Image.{entries_of, entry_of, header_of, mark, number_bytes}
 use Rattle.heap_image.specs.Listed.{listed}
 use Rattle.image_run.specs.Script.{commands_of, script_under}
 use Rattle.script_loop.specs.ScriptOutcome.{IsClean, has_bad}
-use Rattle.script_reader.specs.Items.{asks, items}
+use Rattle.script_reader.specs.Items.{asks}
 use Rattle.script_reader.specs.declared.command.Command.{Command}
-use Rattle.image_laws.specs.Scripts.{script_items}
-use Rattle.heap_image.proofs.CallerLemmas.{AreBelow, below_none, below_some}
+use Rattle.heap_image.proofs.CallerLemmas.{AreBelow, below_none, below_some, below_end, length-number_2, length-number_4}
 use Rattle.heap_image.proofs.CallerLemmas.{listed_all, listed_end, listed_none, listed_some}
 use Rattle.image_laws.proofs.Plain.{read_back}
 use Rattle.image_laws.proofs.Short.{script_short}
-
-two_long : (n : ℕ) → length (number_bytes w16 n) ≡ 2
-unfolding number_bytes
-two_long n = refl
-
-four_long : (n : ℕ) → length (number_bytes w32 n) ≡ 4
-unfolding number_bytes
-four_long n = refl
 
 entry_long : (id : ℕ) (v rest : List ℕ) → length (entry_of id v ++ rest) ≡ 6 + length v + length rest
 entry_long id v rest =
     let a = length-append (entry_of id v) rest in
     let b = length-append (number_bytes w16 id) (number_bytes w32 (length v) ++ v) in
     let c = length-append (number_bytes w32 (length v)) v in
-    let d = two_long id in
-    let e = four_long (length v) in
+    let d = length-number_2 id in
+    let e = length-number_4 (length v) in
     omega (arith, a, b, c, d, e)
 
 header_long : (a b c d : ℕ) → length (header_of a b c d) ≡ 20
@@ -48,27 +36,14 @@ header_long a b c d =
     let f = length-append (number_bytes w32 a) (number_bytes w32 b ++ (number_bytes w32 c ++ number_bytes w32 d)) in
     let g = length-append (number_bytes w32 b) (number_bytes w32 c ++ number_bytes w32 d) in
     let h = length-append (number_bytes w32 c) (number_bytes w32 d) in
-    let i = four_long a in let j = four_long b in let k = four_long c in let l = four_long d in
+    let i = length-number_4 a in let j = length-number_4 b in let k = length-number_4 c in let l = length-number_4 d in
     omega (arith, e, f, g, h, i, j, k, l)
 
 module _ (o : Objects) (ids : (id : ℕ) (v : List ℕ) → get o id ≡ Some v → id < 2 ^ 16) where
-  ends : (q : ℕ) → 65536 ≤ q → get o q ≡ None
-  ends q past = go (get o q) refl
-    where
-      go : (v : Option (List ℕ)) → get o q ≡ v → get o q ≡ None
-      go None e = e
-      go (Some v) e = absurd (let low = ids q v e in omega (arith, low, past))
-
-  below_end : (k : ℕ) (m : Objects) → k ≡ 65536 → AreBelow o k m → m ≡ o
-  below_end k m end b = equal_maps m o (λ q. elim (cases_lt q k) [
-    | inl lt ↦ b.low q lt
-    | inr le ↦ b.high q le ∙ sym (ends q (omega arith))
-  ])
-
   all_long : (n k : ℕ) (m : Objects) → k + n ≡ 65536 → AreBelow o k m
       → length (entries_of (listed o k n)) + (6 * len m + asked_bytes m) ≡ 6 * len o + asked_bytes o
   all_long zero k m end b =
-      let same = below_end k m (omega arith) b in
+      let same = below_end o ids k m (omega arith) b in
       let a = ap (λ (m : Objects). len m) same in
       let c = ap asked_bytes same in
       let d = ap (λ (es : List (ℕ × List ℕ)). length (entries_of es)) (listed_end o k) in
@@ -92,17 +67,13 @@ module _ (o : Objects) (ids : (id : ℕ) (v : List ℕ) → get o id ≡ Some v 
           let j = entry_long k v (entries_of (listed o (k + 1) n)) in
           omega (arith, a, c, d, f, j)
 
-  nothing_asked : asked_bytes (empty {X = List ℕ} {R = nat_cmp}) ≡ 0
-  unfolding asked_bytes
-  nothing_asked = ap (sum_by (length {A = ℕ})) no_values
-
   pub image_long : (p : Profile) → length (image_under p o) ≡ 20 + 6 * len o + asked_bytes o
   image_long p =
       let a = length-append (header_of p.pages (8 * p.page_words) p.proxies (len o)) (entries_of (entries o)) in
       let h = header_long p.pages (8 * p.page_words) p.proxies (len o) in
       let all = all_long 65536 0 empty (omega arith) (record { low = λ q lt. absurd (omega (arith, lt)); high = λ q le. get-empty nat_cmp q }) in
       let is = ap (λ (es : List (ℕ × List ℕ)). length (entries_of es)) (listed_all o 65536 ids) in
-      let none = nothing_asked in
+      let none = none_asked in
       let no = len-empty nat_cmp (List ℕ) in
       omega (arith, a, h, all, is, none, no)
 

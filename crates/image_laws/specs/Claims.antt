@@ -22,7 +22,7 @@ abbrev pub image_shown : Option ShownHeap → List ℕ
 image_shown None = []
 image_shown (Some t) = image_under t.heap.profile (objects t.heap.held)
 
--- Mode `save`: what is printed is the image of the heap that is left, where some replies to the script and the heaps between them meet the headline.
+-- Mode `save` prints the image of the last heap, for some replies to the script and some heaps between them that meet the headline.
 pub record MeetsSave (script : List Item) (printed : List ℕ) : Type 0 where
   pub replies : List Reply
   pub left : Option ShownHeap
@@ -42,7 +42,7 @@ pub record IsRefusedLoad (read printed : List ℕ) : Type 0 where
   pub broken : (decoded read).broken ≡ Some at
   pub text : printed ≡ bad_image at
 
--- what mode `save` prints, by the status: nothing unless the script was answered to its end
+-- what mode `save` prints, by the status: nothing unless the script was run to its end
 abbrev pub SavesAs : Status → List ℕ → List ℕ → Type 0
 SavesAs Done read printed = MeetsSave (items_within read) printed
 SavesAs status read printed = printed ≡ []

@@ -33,8 +33,8 @@ use headline_laws::equal_objects_get_equal_replies;
 use heap_image::{an_image_determines_its_objects, an_image_is_read_back};
 
 /// Only images are read: bytes that are accepted are the image of some objects under some settings,
-/// byte for byte. And bytes tell just those settings and objects that they are the image of, so that
-/// what is read and written again is the same bytes.
+/// byte for byte. Bytes decode to settings and objects if and only if they are their image, so an image
+/// that is read and written again has the same bytes.
 pub fn only_images_are_read()
     ensures images { (bytes : List ℕ) → AreBytes bytes → IsImage bytes
         → (p : Profile) × (o : Objects) × IsImageOf bytes p o }
@@ -44,8 +44,8 @@ pub fn only_images_are_read()
     an_image_is_read_back();
 }
 
-/// Bytes that break a rule break it whatever follows: so where no rule is broken without the last
-/// byte of some bytes, none is by any fewer of them.
+/// Bytes that break a rule break it whatever follows. So if bytes without their last byte break no rule,
+/// no prefix of them does.
 pub fn a_broken_rule_stays_broken()
     ensures { (bytes more : List ℕ) (at : ℕ) → (decoded bytes).broken ≡ Some at → (decoded bytes).is_cut ≡ false
         → decoded (bytes ++ more) ≡ decoded bytes }

@@ -1,28 +1,21 @@
 -- The replies of a run are as claimed.
 use Rattle.std.proofs.Common.{◌≡◌, List, [], ◌∷◌, Option, Some, None, sym, ◌∙◌, ap, subst}
 use Rattle.std.specs.Prelude.{⊤, option_map}
-use Rattle.std.specs.FinMap.{empty, get-empty}
-use Rattle.std.specs.Ordering.{nat_cmp}
 use Rattle.cf_base.specs.Settings.{Profile, at_bound_one}
 use Rattle.cf_base.specs.declared.kind.Kind.{Kind}
 use Rattle.cf_io.specs.Texts.{Reply}
-use Rattle.cf_lemmas.proofs.Maps.{equal_maps}
-use Rattle.page_model.specs.Held.{Objects}
 use Rattle.run_model.specs.Plays.{PlayRun, PlayStep}
 use Rattle.script_loop.specs.Semantics.{RunBy}
 use Rattle.script_reader.specs.Items.{Item, asks, bad, starts}
 use Rattle.transcript_laws.specs.ById.{ById, begun}
 use Rattle.transcript_laws.specs.Histories.{objects_by_id}
-use Rattle.transcript_laws.proofs.CallerLemmas.{gone_by_id}
+use Rattle.transcript_laws.proofs.CallerLemmas.{none_by_id}
 use Rattle.large_objects.specs.LargeRun.{IsGoingLarge, LargeRun, LargeStep}
 use Rattle.large_objects.specs.Playing.{BeginsAtOne, BeginsLarge, RunsLarge, large_heap}
 use Rattle.large_objects.proofs.CallerLemmas.{begins_going, still_going}
 use Rattle.large_laws.specs.LargeHeadline.{MeetsLarge, after_in, large_replies, reply_in}
 use Rattle.large_laws.proofs.Reports.{shown}
 use Rattle.large_laws.proofs.Steps.{answered}
-
-none_by_id : (m : Objects) → objects_by_id empty m ≡ empty
-none_by_id m = equal_maps _ _ (λ q. gone_by_id empty m q (get-empty nat_cmp q) ∙ sym (get-empty nat_cmp q))
 
 opened : (kind : Kind) (p : Profile) (s : LargeRun) → BeginsLarge kind p s → shown s ≡ begun kind (at_bound_one p)
 opened kind p s b =

@@ -1,9 +1,8 @@
 -- What each command of a session prints and leaves, by the heap that is shown.
-use Rattle.std.proofs.Common.{◌≡◌, ℕ, cond, ◌+◌, ◌<◌, ◌≤◌, List, Option, Some, None, length, replicate, arith, sym, ◌∙◌, ap, refl, inl, inr}
+use Rattle.std.proofs.Common.{◌≡◌, ℕ, cond, ◌+◌, ◌<◌, ◌≤◌, List, Option, Some, None, length, replicate, arith, sym, ◌∙◌, ap, refl}
 use Rattle.std.specs.Prelude.{Result, Ok, Err, codes}
 use Rattle.std.specs.Option.{MatchOption}
-use Rattle.std.specs.FinMap.{get, insert, remove}
-use Rattle.std.proofs.lemmas.Bool.{cases_eq}
+use Rattle.std.specs.FinMap.{get, insert}
 use Rattle.std.proofs.lemmas.Option.{same_Some}
 use Rattle.cf_base.specs.Classes.{sizes}
 use Rattle.cf_base.specs.declared.answers.AccessFault.{AccessFault}
@@ -11,7 +10,7 @@ use Rattle.cf_base.specs.declared.answers.AccessFault.TheVariants as access
 use Rattle.cf_base.specs.declared.answers.Handle.{Handle}
 use Rattle.cf_base.specs.declared.answers.Refusal.{Refusal}
 use Rattle.cf_io.specs.Texts.{Reply, said}
-use Rattle.cf_lemmas.proofs.Maps.{equal_maps, get_removed, get_remove_other}
+use Rattle.cf_lemmas.proofs.Maps.{remove_missing}
 use Rattle.cf_lemmas.proofs.Tests.{le_no, le_yes}
 use Rattle.cf_model.specs.State.{layout_of}
 use Rattle.page_model.specs.Bytes.{written}
@@ -32,12 +31,6 @@ use Rattle.large_laws.proofs.Reports.{bounds_are, by_id, frag_is, kept, not_refu
 abbrev refused : Result Handle Refusal → Option Refusal
 refused (Ok h) = None
 refused (Err e) = Some e
-
-gone_stays : (o : Objects) (id : ℕ) → get o id ≡ None → remove o id ≡ o
-gone_stays o id none = equal_maps _ _ (λ q. elim (cases_eq q id) [
-  | inl is ↦ rw is (get_removed o id ∙ sym none)
-  | inr ne ↦ get_remove_other o id q ne
-])
 
 module _ (old new : LargeRun) (going : IsGoingLarge old) (later : IsGoingLarge new) (reply : Reply) where
   abbrev t : ById
@@ -99,7 +92,7 @@ module _ (old new : LargeRun) (going : IsGoingLarge old) (later : IsGoingLarge n
   free_answered id None none st =
       let no' = gone_by_id old.ids old.heap.objects id none in (
         st.0 ∙ sym (ap (λ o. said (free_said o)) no'),
-        same_shown st.1 ∙ ap with (sym (gone_stays (by_id old) id no')),
+        same_shown st.1 ∙ ap with (sym (remove_missing (by_id old) id no')),
       )
   free_answered id (Some h) named st =
       let v = found id h named in (

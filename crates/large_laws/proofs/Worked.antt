@@ -1,11 +1,8 @@
 -- A small script: its replies, and that others fall short.
-use Rattle.std.proofs.Common.{◌≡◌, ℕ, true, cond, List, [], ◌∷◌, Some, None, length, replicate, get_or, sym, ◌∙◌, ap, refl}
+use Rattle.std.proofs.Common.{◌≡◌, ℕ, true, List, [], ◌∷◌, Some, None, length, replicate, get_or, sym, ◌∙◌, ap, refl}
 use Rattle.std.specs.Prelude.{codes}
 use Rattle.std.specs.Fmt.{digits}
-use Rattle.std.specs.Ordering.{nat_cmp, eq_by_cmp}
-use Rattle.std.specs.Cmp.{nat_cmp_total}
-use Rattle.std.specs.FinMap.{empty, entries, entries-insert, get, get-empty, get-insert, insert, len-empty, len-entries, put}
-use Rattle.std.proofs.lemmas.List.{nil_from_length}
+use Rattle.std.specs.FinMap.{empty, insert}
 use Rattle.cf_base.specs.Classes.{sizes_from}
 use Rattle.cf_base.specs.Settings.{Profile}
 use Rattle.cf_base.specs.declared.kind.Kind.TheVariants.{Moving}
@@ -18,23 +15,10 @@ use Rattle.script_reader.specs.Items.{Item, asks, items, starts}
 use Rattle.script_reader.specs.declared.command.Command.{Command}
 use Rattle.script_reader.specs.declared.command.Command.TheVariants.{Frag, Malloc, Read, Walk, Write}
 use Rattle.transcript_laws.specs.ById.{ById, begun}
+use Rattle.transcript_laws.proofs.CallerLemmas.{got, got_none, listed, listed_none}
 use Rattle.large_objects.specs.Parts.{in_class, inner_count, inner_live, inner_pages_with, inner_sum, parts, pieces}
 use Rattle.large_laws.specs.LargeHeadline.{large_after, large_replies, large_reply}
 use Rattle.large_laws.specs.Small.{MeetsSmall, small_replies, small_walk}
-
--- what finite maps answer, step by step
-module _ (m : Objects) where
-  got : (k : ℕ) (v : List ℕ) (q : ℕ) → get (insert m k v) q ≡ cond (eq_by_cmp nat_cmp q k) (Some v) (get m q)
-  got k v q = get-insert nat_cmp_total m k v q
-
-  listed : (k : ℕ) (v : List ℕ) → entries (insert m k v) ≡ put nat_cmp k v (entries m)
-  listed k v = entries-insert nat_cmp_total m k v
-
-got_none : (q : ℕ) → get (empty {X = List ℕ} {R = nat_cmp}) q ≡ None
-got_none q = get-empty nat_cmp q
-
-listed_none : entries (empty {X = List ℕ} {R = nat_cmp}) ≡ []
-listed_none = nil_from_length _ (sym (len-entries (empty {X = List ℕ} {R = nat_cmp})) ∙ len-empty nat_cmp (List ℕ))
 
 ruleset maps = (got, got_none, listed, listed_none)
 
@@ -126,20 +110,20 @@ replies_are = ap (λ l. said (codes "ok") ∷ l)
     (before o3 Frag _ o3 rest7 _ step6
     (before o3 (Malloc 3 4000) _ o3 [] _ step7 refl)))))))
 
-all_told : large_replies Moving None (items (codes "heap 8 512 1 16\nm 1 600\nw 1 503 aabb\nm 2 90\nr 1 503 2\nwalk\nfrag\nm 3 4000\n") true)
+all_right : large_replies Moving None (items (codes "heap 8 512 1 16\nm 1 600\nw 1 503 aabb\nm 2 90\nr 1 503 2\nwalk\nfrag\nm 3 4000\n") true)
     ≡ small_replies (codes "ok") (codes "=aabb") small_walk (codes "frag asked 698 taken 752 held 1536") (codes "refused space")
-all_told = ap (large_replies Moving None) asked ∙ replies_are
+all_right = ap (large_replies Moving None) asked ∙ replies_are
 
 pub right_meets : MeetsSmall (small_replies (codes "ok") (codes "=aabb") small_walk (codes "frag asked 698 taken 752 held 1536") (codes "refused space"))
-right_meets = sym all_told
+right_meets = sym all_right
 
--- the replies that meet the claim are these: as many, with these letters
-pub as_many : (replies : List Reply) → MeetsSmall replies → length replies ≡ 8
-as_many replies meets = ap (λ l. length l) (meets ∙ all_told)
+-- replies that meet the claim are eight, with these letters
+pub eight_replies : (replies : List Reply) → MeetsSmall replies → length replies ≡ 8
+eight_replies replies meets = ap (λ l. length l) (meets ∙ all_right)
 
 abbrev pub letter : ℕ → ℕ → List Reply → ℕ
 letter n k l = get_or (get_or (get_or l n []) 0 []) k 0
 
-pub letter_told : (n k : ℕ) (replies : List Reply) → MeetsSmall replies → letter n k replies
+pub letter_is : (n k : ℕ) (replies : List Reply) → MeetsSmall replies → letter n k replies
     ≡ letter n k (small_replies (codes "ok") (codes "=aabb") small_walk (codes "frag asked 698 taken 752 held 1536") (codes "refused space"))
-letter_told n k replies meets = ap (letter n k) (meets ∙ all_told)
+letter_is n k replies meets = ap (letter n k) (meets ∙ all_right)

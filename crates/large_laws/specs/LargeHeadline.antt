@@ -49,7 +49,7 @@ live_parts t c = inner_live (paging_by_id t) (most t) t.objects c
 abbrev pub pages_of_parts : ById → ℕ
 pages_of_parts t = pages_for (paging_by_id t) (live_parts t)
 
--- the figures of class c: its parts stand on as few pages as they can
+-- the figures of class c, whose parts use the fewest pages possible
 abbrev pub large_figures : ById → ℕ → Figures
 large_figures t c = record {
   slot_words = slot_words (paging_by_id t) c;

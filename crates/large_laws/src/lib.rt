@@ -23,11 +23,11 @@ pub fn the_large_headline()
         → MeetsLarge kind items replies → MeetsLarge kind items others → others ≡ replies }
 {}
 
-/// On eight pages of 512 bytes: an object of 600 bytes, of which two bytes on both sides of a piece's
-/// end are written; one of 90 bytes; a read of the two bytes; `walk`; `frag`; and an object for which
-/// there are no pages. The claim takes these replies and no others: not `refused size` to a malloc
-/// that fits, not silence, no reply fewer or more; not the bytes of the other object; not a report
-/// that counts a long object as one, nor bytes asked or taken without its spine; not `ok`
+/// Wrong replies violate the claim. The script, on eight pages of 512 bytes: an object of 600 bytes; a
+/// write of two bytes across the end of a piece; an object of 90 bytes; a read of the two bytes; `walk`;
+/// `frag`; and an object that finds no pages. The claim holds for the right replies alone. It fails for
+/// `refused size` to a malloc that fits, for no line, for a reply too few or too many, for the bytes of
+/// the other object, for a report that counts a long object once or leaves out its spine, and for `ok`
 /// without pages.
 pub fn wrong_large_replies_fall_short()
     ensures right { MeetsSmall (small_replies (codes "ok") (codes "=aabb") small_walk

@@ -5,7 +5,7 @@ use Rattle.cf_base.specs.declared.kind.Kind.{Kind}
 use Rattle.cf_base.specs.declared.kind.Kind.TheVariants.{Moving}
 use Rattle.cf_base.specs.declared.status.Status.{Status}
 use Rattle.cf_base.specs.declared.status.Status.TheVariants.{Done, Words, BadScript, ReadFault, WriteFault, OutOfMemory, TooLong, BadImage}
-use Rattle.cf_io.specs.Feeds.{Rose}
+use Rattle.cf_io.specs.Feeds.{FailsLast}
 use Rattle.cf_model.specs.State.{HeapState, closed_state}
 use Rattle.cf_session.specs.Apply.{run_at}
 use Rattle.run_model.specs.Sessions.{RunState, SessionState, fresh_session}
@@ -117,7 +117,7 @@ bench_status BadImage seed count from to before after done = absurd done.written
 -- a manager that was made for them ran the commands of a seed
 module _ (choice : Choice) (k k' : SinkState) (st : Status) (session : SessionState) (old : HeapState) (end : RunState) (fresh : session ≡ fresh_session)
     (closed : old ≡ closed_state choice.kind) (outcome : EndsBench st choice.seed choice.count (run_at session old) end k.written k'.written)
-    (firm : st ≢ WriteFault → k'.faults ≡ k.faults) (fault : st ≡ WriteFault → Rose k.faults k'.faults) where
+    (firm : st ≢ WriteFault → k'.faults ≡ k.faults) (fault : st ≡ WriteFault → FailsLast k.faults k'.faults k'.failed) where
   ended : (st ≡ Done) ⊎ ((st ≡ WriteFault) ⊎ ((st ≡ OutOfMemory) × (k'.written ≡ k.written)))
   ended = bench_status st choice.seed choice.count (run_at session old) end k.written k'.written outcome
 
@@ -173,8 +173,8 @@ module _ (s s' : SourceState) (k k' : SinkState) (hs : List HeapState) (st : Sta
   call_as st = effects_of (handed s k hs) st (handed s' k' hs)
 
   -- an image was loaded
-  pub loaded_ends : (st ≢ ReadFault → s'.faults ≡ s.faults) → (st ≡ ReadFault → Rose s.faults s'.faults)
-      → (st ≢ WriteFault → k'.faults ≡ k.faults) → (st ≡ WriteFault → Rose k.faults k'.faults) → EndsLoad (run_at session old) call end
+  pub loaded_ends : (st ≢ ReadFault → s'.faults ≡ s.faults) → (st ≡ ReadFault → FailsLast s.faults s'.faults s'.failed)
+      → (st ≢ WriteFault → k'.faults ≡ k.faults) → (st ≡ WriteFault → FailsLast k.faults k'.faults k'.failed) → EndsLoad (run_at session old) call end
       → Ends Loads (handed s k hs) st (handed s' k' hs)
   loaded_ends source_same read_fault sink_same write_fault ends = ends_of Loads s k hs st s' k' hs
       (record {

@@ -1,25 +1,23 @@
 -- What follows from the outcome of a mode, over every source and sink.
-use Rattle.std.proofs.Common.{◌≡◌, ◌≤◌, ◌∙◌, ℕ, List, Option, Some, None, true, false, refl, ap, sym, subst, length, arith, inl, inr}
-use Rattle.std.proofs.lemmas.Bool.{le-leb}
-use Rattle.std.proofs.lemmas.List.{take_all}
-use Rattle.std.specs.Prelude.{Err, nat_le, ⊤}
+use Rattle.std.proofs.Common.{◌≡◌, ◌∙◌, ℕ, List, Option, Some, None, true, false, refl, ap, sym, subst, arith, inl, inr}
+use Rattle.std.specs.Prelude.{Err, ⊤}
 use Rattle.cf_base.specs.declared.kind.Kind.{Kind}
 use Rattle.cf_base.specs.declared.kind.Kind.TheVariants.{Moving}
 use Rattle.cf_base.specs.declared.status.Status.{Status}
 use Rattle.cf_base.specs.declared.status.Status.TheVariants.{Done, Words, BadScript, ReadFault, WriteFault, OutOfMemory, TooLong, BadImage}
-use Rattle.cf_io.specs.Feeds.{Rose}
+use Rattle.cf_io.specs.Feeds.{FailsLast}
 use Rattle.cf_model.specs.State.{closed_state}
 use Rattle.cf_session.specs.Apply.{run_at}
 use Rattle.command_line.specs.declared.choice.Choice.{Choice}
-use Rattle.script_reader.specs.Items.{Item, items}
+use Rattle.script_reader.specs.Items.{Item}
 use Rattle.run_model.specs.Sessions.{RunState, fresh_session}
 use Rattle.run_model.specs.Texts.{Reply}
 use Rattle.headline_laws.proofs.CallerLemmas.{headline_met}
 use Rattle.headline_laws.specs.Headline.{MeetsHeadline}
-use Rattle.script_loop.proofs.CallerLemmas.{observed_row, some_row, wrote_by}
+use Rattle.script_loop.proofs.CallerLemmas.{observed_row, some_row, wrote_by, within_all}
 use Rattle.script_loop.specs.Consequences.{AnswersAll}
 use Rattle.script_loop.specs.OneManager.{one_manager}
-use Rattle.script_loop.specs.ScriptOutcome.{Effects, IsClean, IsRow, MOST_BYTES, MeetsOutcome, Wrote, has_bad, items_within}
+use Rattle.script_loop.specs.ScriptOutcome.{Effects, IsClean, IsRow, MeetsOutcome, Wrote, has_bad, items_within}
 use Rattle.script_loop.specs.Semantics.{RunBy, Semantics}
 use Rattle.heap_image.proofs.CallerLemmas.{observed_load}
 use Rattle.heap_image.specs.Decoded.{Decoded, decoded}
@@ -38,7 +36,7 @@ use Rattle.manager_modes.specs.Outcomes.{Benches, Compares, Ends, EndsWhole, Han
 pub record IsSound (Does : Handed → Status → Handed → Type 0) (IsRight : Option (List ℕ) → Type 0) : Type 0 where
   pub never_words : (old new : Handed) → Does old Words new → ⊥
   pub whole : (old : Handed) (st : Status) (new : Handed) → Ends Does old st new → IsRight old.source.rest
-      → ¬ Rose old.source.faults new.source.faults → ¬ Rose old.sink.faults new.sink.faults → EndsWhole st
+      → ¬ FailsLast old.source.faults new.source.faults new.source.failed → ¬ FailsLast old.sink.faults new.sink.faults new.sink.failed → EndsWhole st
 
 -- the mode's outcome, if it is not that memory ran out
 outcome_at : (Does : Handed → Status → Handed → Type 0) (old new : Handed) (P : Status → Type 0) → P OutOfMemory
@@ -54,12 +52,12 @@ outcome_at Does old new P lacks does BadImage done = does BadImage done
 
 -- with no fault, a call is whole if it is for each outcome of its mode
 whole_of : (Does : Handed → Status → Handed → Type 0) (old new : Handed)
-    → ((st : Status) → Does old st new → (st ≡ ReadFault → Rose old.source.faults new.source.faults)
-    → (st ≡ WriteFault → Rose old.sink.faults new.sink.faults) → EndsWhole st)
+    → ((st : Status) → Does old st new → (st ≡ ReadFault → FailsLast old.source.faults new.source.faults new.source.failed)
+    → (st ≡ WriteFault → FailsLast old.sink.faults new.sink.faults new.sink.failed) → EndsWhole st)
     → (st : Status) → Ends Does old st new → EndsWhole st
 whole_of Does old new does st ends =
-    outcome_at Does old new (λ st. (st ≡ ReadFault → Rose old.source.faults new.source.faults)
-    → (st ≡ WriteFault → Rose old.sink.faults new.sink.faults) → EndsWhole st) (λ read wrote. inr refl) does st ends.outcome ends.read_fault ends.write_fault
+    outcome_at Does old new (λ st. (st ≡ ReadFault → FailsLast old.source.faults new.source.faults new.source.failed)
+    → (st ≡ WriteFault → FailsLast old.sink.faults new.sink.faults new.sink.failed) → EndsWhole st) (λ read wrote. inr refl) does st ends.outcome ends.read_fault ends.write_fault
 
 -- no script ends by `Words`
 never_words : {S P : Type 0} (m : Semantics S P) (from to : S) (call : Effects) → call.status ≡ Words → MeetsOutcome m from call to → ⊥
@@ -67,34 +65,36 @@ never_words m from to call is met =
     let row = some_row m from to call met in
     subst (λ (st : Status). IsRow m st from row.0 row.1 call to) is row.2
 
-within_all : (all : List ℕ) → length all ≤ MOST_BYTES → items_within all ≡ items all true
-within_all all fits = ap (λ (l : List ℕ). items l (nat_le (length all) MOST_BYTES)) (take_all MOST_BYTES all fits)
-    ∙ ap (items all) (le-leb (length all) MOST_BYTES fits)
+-- no script ends by `BadImage`
+pub never_bad_image : {S P : Type 0} (m : Semantics S P) (from to : S) (call : Effects) → call.status ≡ BadImage → MeetsOutcome m from call to → ⊥
+never_bad_image m from to call is met =
+    let row = some_row m from to call met in
+    subst (λ (st : Status). IsRow m st from row.0 row.1 call to) is row.2
 
 -- with no fault, a script with no bad line ends whole
-row_whole : {S P : Type 0} (m : Semantics S P) (from to : S) (all left : List ℕ) (call : Effects) (st : Status) (a b d e : ℕ)
-    → IsRow m st from all left call to → (st ≡ ReadFault → Rose a b) → (st ≡ WriteFault → Rose d e)
-    → IsClean (Some all) → ¬ Rose a b → ¬ Rose d e → EndsWhole st
-row_whole m from to all left call Words a b d e row read wrote clean sure firm = absurd row
-row_whole m from to all left call BadImage a b d e row read wrote clean sure firm = absurd row
-row_whole m from to all left call Done a b d e row read wrote clean sure firm = inl refl
-row_whole m from to all left call OutOfMemory a b d e row read wrote clean sure firm = inr refl
-row_whole m from to all left call BadScript a b d e row read wrote clean sure firm =
+row_whole : {S P : Type 0} (m : Semantics S P) (from to : S) (all left : List ℕ) (call : Effects) (st : Status) {Read Wrote : Type 0}
+    → IsRow m st from all left call to → (st ≡ ReadFault → Read) → (st ≡ WriteFault → Wrote)
+    → IsClean (Some all) → ¬ Read → ¬ Wrote → EndsWhole st
+row_whole m from to all left call Words row read wrote clean sure firm = absurd row
+row_whole m from to all left call BadImage row read wrote clean sure firm = absurd row
+row_whole m from to all left call Done row read wrote clean sure firm = inl refl
+row_whole m from to all left call OutOfMemory row read wrote clean sure firm = inr refl
+row_whole m from to all left call BadScript row read wrote clean sure firm =
     let both : true ≡ false = sym row.0 ∙ ap has_bad (within_all all clean.0) ∙ clean.1 in absurd cc
-row_whole m from to all left call TooLong a b d e row read wrote clean sure firm = absurd (let past = row.0 in let few = clean.0 in omega arith)
-row_whole m from to all left call ReadFault a b d e row read wrote clean sure firm = absurd (sure (read refl))
-row_whole m from to all left call WriteFault a b d e row read wrote clean sure firm = absurd (firm (wrote refl))
+row_whole m from to all left call TooLong row read wrote clean sure firm = absurd (let past = row.0 in let few = clean.0 in omega arith)
+row_whole m from to all left call ReadFault row read wrote clean sure firm = absurd (sure (read refl))
+row_whole m from to all left call WriteFault row read wrote clean sure firm = absurd (firm (wrote refl))
 
-met_whole : {S P : Type 0} (m : Semantics S P) (from to : S) (call : Effects) (a b d e : ℕ)
-    → MeetsOutcome m from call to → (call.status ≡ ReadFault → Rose a b) → (call.status ≡ WriteFault → Rose d e)
-    → IsClean call.had → ¬ Rose a b → ¬ Rose d e → EndsWhole call.status
-met_whole m from to call a b d e met read wrote clean sure firm = go call.had refl clean
+met_whole : {S P : Type 0} (m : Semantics S P) (from to : S) (call : Effects) {Read Wrote : Type 0}
+    → MeetsOutcome m from call to → (call.status ≡ ReadFault → Read) → (call.status ≡ WriteFault → Wrote)
+    → IsClean call.had → ¬ Read → ¬ Wrote → EndsWhole call.status
+met_whole m from to call met read wrote clean sure firm = go call.had refl clean
   where
     go : (had : Option (List ℕ)) → had ≡ call.had → IsClean had → EndsWhole call.status
     go None is clean = absurd clean
     go (Some all) is clean =
         let row = observed_row m from to call all (sym is) met in
-        row_whole m from to all row.0 call call.status a b d e row.1 read wrote clean sure firm
+        row_whole m from to all row.0 call call.status row.1 read wrote clean sure firm
 
 -- A mode that runs a script.
 script_sound : {S P : Type 0} (m : Semantics S P) (Does : Handed → Status → Handed → Type 0)
@@ -107,7 +107,7 @@ script_sound m Does met = record {
   whole = λ old st new ends clean sure firm.
       whole_of Does old new (λ st done read wrote.
       let outcome = met old st new done in
-      met_whole m outcome.0.0 outcome.0.1 (effects_of old st new) _ _ _ _ outcome.1 read wrote clean sure firm) st ends;
+      met_whole m outcome.0.0 outcome.0.1 (effects_of old st new) outcome.1 read wrote clean sure firm) st ends;
 }
 
 -- What was written of all the items is as claimed.
@@ -150,7 +150,7 @@ compare_told old st new done is =
 
 -- Mode `bench`.
 module _ (choice : Choice) where
-  bench_whole : (old : Handed) (st : Status) (new : Handed) → Ends (Benches choice) old st new → ¬ Rose old.sink.faults new.sink.faults → EndsWhole st
+  bench_whole : (old : Handed) (st : Status) (new : Handed) → Ends (Benches choice) old st new → ¬ FailsLast old.sink.faults new.sink.faults new.sink.failed → EndsWhole st
   bench_whole old Done new ends firm = inl refl
   bench_whole old OutOfMemory new ends firm = inr refl
   bench_whole old WriteFault new ends firm = absurd (firm (ends.write_fault refl))
@@ -183,12 +183,12 @@ module _ {S P : Type 0} (m : Semantics S P) (IsMade : S → Type 0) where
       did.outcome is
 
 -- Mode `save`.
-save_whole : (old new : Handed) → IsClean old.source.rest → ¬ Rose old.source.faults new.source.faults → ¬ Rose old.sink.faults new.sink.faults
-    → (st : Status) → Saves old st new → (st ≡ ReadFault → Rose old.source.faults new.source.faults)
-    → (st ≡ WriteFault → Rose old.sink.faults new.sink.faults) → EndsWhole st
+save_whole : (old new : Handed) → IsClean old.source.rest → ¬ FailsLast old.source.faults new.source.faults new.source.failed → ¬ FailsLast old.sink.faults new.sink.faults new.sink.failed
+    → (st : Status) → Saves old st new → (st ≡ ReadFault → FailsLast old.source.faults new.source.faults new.source.failed)
+    → (st ≡ WriteFault → FailsLast old.sink.faults new.sink.faults new.sink.failed) → EndsWhole st
 save_whole old new clean sure firm WriteFault done read wrote = absurd (firm (wrote refl))
 save_whole old new clean sure firm st done read wrote = met_whole one_manager (run_at fresh_session (closed_state Moving)) done.end
-    (unseen (effects_of old st new)) _ _ _ _ done.outcome.script read wrote clean sure firm
+    (unseen (effects_of old st new)) done.outcome.script read wrote clean sure firm
 
 pub save_sound : IsSound Saves IsClean
 save_sound = record {
@@ -209,9 +209,9 @@ not_broken from to at had left image q = go had.rest refl image
         let e : None ≡ Some at = sym image ∙ ap (λ (b : List ℕ). (decoded b).broken) row.1 ∙ ap (λ (t : Decoded). t.broken) row.2.reads_all ∙ row.2.broken in
         absurd cc
 
-load_whole : (old new : Handed) → HoldsImage old.source.rest → ¬ Rose old.source.faults new.source.faults → ¬ Rose old.sink.faults new.sink.faults
-    → (st : Status) → Loads old st new → (st ≡ ReadFault → Rose old.source.faults new.source.faults)
-    → (st ≡ WriteFault → Rose old.sink.faults new.sink.faults) → EndsWhole st
+load_whole : (old new : Handed) → HoldsImage old.source.rest → ¬ FailsLast old.source.faults new.source.faults new.source.failed → ¬ FailsLast old.sink.faults new.sink.faults new.sink.failed
+    → (st : Status) → Loads old st new → (st ≡ ReadFault → FailsLast old.source.faults new.source.faults new.source.failed)
+    → (st ≡ WriteFault → FailsLast old.sink.faults new.sink.faults new.sink.failed) → EndsWhole st
 load_whole old new image sure firm Done done read wrote = inl refl
 load_whole old new image sure firm OutOfMemory done read wrote = inr refl
 load_whole old new image sure firm WriteFault done read wrote = absurd (firm (wrote refl))

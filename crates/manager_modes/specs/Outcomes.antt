@@ -4,7 +4,7 @@ use Rattle.cf_base.specs.declared.kind.Kind.{Kind}
 use Rattle.cf_base.specs.declared.kind.Kind.TheVariants.{Moving}
 use Rattle.cf_base.specs.declared.status.Status.{Status}
 use Rattle.cf_base.specs.declared.status.Status.TheVariants.{Done, ReadFault, WriteFault, OutOfMemory, TooLong}
-use Rattle.cf_io.specs.Feeds.{Rose, last_count}
+use Rattle.cf_io.specs.Feeds.{FailsLast, last_count}
 use Rattle.cf_io.specs.declared.sink.Sink as sink
 use Rattle.cf_io.specs.declared.source.Source as source
 use Rattle.cf_model.specs.State.{HeapState, closed_state}
@@ -34,11 +34,11 @@ handed source sink managers = record { source = source; sink = sink; managers = 
 
 -- what contracts see of a source
 abbrev pub source_seen : {S : Type 0} → source.Ghosts S → S → SourceState
-source_seen S s = source_at (S.rest s) (S.given s) (S.faults s)
+source_seen S s = source_at (S.rest s) (S.given s) (S.faults s) (S.last_failed s)
 
 -- what contracts see of a sink
 abbrev pub sink_seen : {K : Type 0} → sink.Ghosts K → K → SinkState
-sink_seen K k = sink_at (K.written k) (K.faults k)
+sink_seen K k = sink_at (K.written k) (K.faults k) (K.last_failed k)
 
 -- what contracts see of a source, a sink and managers
 abbrev pub seen : {S K H : Type 0} → source.Ghosts S → sink.Ghosts K → manager.Ghosts H → S → K → List H → Handed
@@ -112,9 +112,9 @@ pub record Ends (Does : Handed → Status → Handed → Type 0) (old : Handed) 
   pub outcome : OrLacks Does old status new
   pub kinds : kinds_in new ≡ kinds_in old
   pub source_same : status ≢ ReadFault → new.source.faults ≡ old.source.faults
-  pub read_fault : status ≡ ReadFault → Rose old.source.faults new.source.faults
+  pub read_fault : status ≡ ReadFault → FailsLast old.source.faults new.source.faults new.source.failed
   pub sink_same : status ≢ WriteFault → new.sink.faults ≡ old.sink.faults
-  pub write_fault : status ≡ WriteFault → Rose old.sink.faults new.sink.faults
+  pub write_fault : status ≡ WriteFault → FailsLast old.sink.faults new.sink.faults new.sink.failed
   pub too_long : status ≡ TooLong → (old.source.given + MOST_BYTES < new.source.given) ⊎ (new.source.given ≡ last_count)
 
 -- the same, whatever the given managers are: none of them changes

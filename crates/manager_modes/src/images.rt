@@ -5,7 +5,7 @@ ghost use Rattle.cf_base.specs.declared.kind.Kind.TheVariants.{Moving};
 ghost use Rattle.cf_model.specs.State.{closed_state};
 ghost use Rattle.manager_modes.specs.Outcomes.{EndsBeside, Loads, Saves, sink_seen, source_seen};
 
-use crate::boxed::Boxed;
+use boxed_managers::Boxed;
 use cf_base::Status;
 use cf_io::{Sink, Source};
 use cf_model::Manager;

@@ -2,14 +2,12 @@
 #![tactic(auto)]
 
 mod bench;
-mod boxed;
 mod compare;
 mod images;
 mod large;
 mod run;
 
 pub use bench::bench_seed;
-pub use boxed::Boxed;
 pub use compare::compare_all;
 pub use images::{load_image, save_image};
 pub use large::play_large;

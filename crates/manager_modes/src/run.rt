@@ -4,7 +4,7 @@ ghost use Rattle.cf_model.specs.State.{closed_state};
 ghost use Rattle.run_model.specs.Sessions.{fresh_session};
 ghost use Rattle.manager_modes.specs.Outcomes.{Ends, Runs, RunsOwn, seen, sink_seen, source_seen};
 
-use crate::boxed::Boxed;
+use boxed_managers::Boxed;
 use cf_base::{Kind, Status};
 use cf_io::{Sink, Source};
 use cf_model::Manager;

@@ -4,13 +4,12 @@ use Rattle.std.proofs.Common.{arith, ap, sym, ◌∙◌, refl, inl, inr, subst}
 use Rattle.std.specs.Prelude.{◌⊎◌, codes, nat_eq, nat_lt}
 use Rattle.std.specs.FinMap.{empty, get}
 use Rattle.std.proofs.lemmas.Bool.{cases_lt}
-use Rattle.cf_base.specs.declared.answers.Refusal.{Refusal}
 use Rattle.cf_base.specs.declared.answers.Refusal.TheVariants as refusal
 use Rattle.cf_lemmas.proofs.Ranges.{one}
 use Rattle.cf_lemmas.proofs.Tests.{eq_yes, lt_no, lt_yes}
 use Rattle.quota_model.proofs.CallerLemmas.{enough_iff, granted_within, live_of-inserted, none_iff, one_answer}
 use Rattle.quota_model.specs.Admission.{CanBeAsked, IsAdmission, Share, declared, declared_in_all, first_large, first_short, in_order, live_of, pages_of}
-use Rattle.quota_model.specs.Refusals.{malloc_refusal, task_paging}
+use Rattle.quota_model.specs.Refusals.{task_paging}
 use Rattle.quota_model.specs.declared.answers.Admission.{Admission}
 use Rattle.quota_model.specs.declared.answers.Admission.TheVariants.{Yes, No, Size, Proxies}
 use Rattle.quota_model.specs.declared.answers.Need.{Need}
@@ -29,7 +28,7 @@ use Rattle.quota_laws.proofs.Alone.{same_refusal}
 abbrev pub byte_at : ℕ → Reply → ℕ
 byte_at k reply = get_or (get_or reply 0 []) k 0
 
--- `admission` is the one answer
+-- `admission` is the only answer that `IsAdmission` allows
 module _ (t : Share) (needs : List Need) where
   by_parts : (x : Option ℕ) (b : Bool) (y : Option ℕ) → first_large t.profile needs ≡ x → nat_lt t.profile.proxies (declared_in_all needs) ≡ b
       → first_short t empty 0 (in_order needs) ≡ y → IsAdmission t needs (admission_by x b y)

@@ -2,7 +2,7 @@
 use Rattle.std.proofs.Common.{◌≡◌, ◌≢◌, ℕ, suc, Bool, true, false, cond, ◌<◌, ◌≤◌, List, [], ◌∷◌, Option, Some, None, length, get_or, set}
 use Rattle.std.proofs.Common.{arith, ap, sym, ◌∙◌, refl, inl, inr, subst}
 use Rattle.std.specs.Prelude.{◌&&◌, nat_eq, nat_lt, not, sum}
-use Rattle.std.proofs.lemmas.Bool.{and_parts, cases_eq, cases_lt}
+use Rattle.std.proofs.lemmas.Bool.{and_parts, cases_eq, cases_lt, not-true, not-false}
 use Rattle.std.proofs.lemmas.List.{get_or-set_same, get_or-set_other, length-set, length-replicate}
 use Rattle.std.proofs.lemmas.List.Sums.{sum_by-cons}
 use Rattle.cf_base.specs.Settings.{Profile}
@@ -33,7 +33,7 @@ sum_below (x ∷ xs) (y ∷ ys) len le =
     let rest = sum_below xs ys (omega arith) (λ i. le (suc i)) in
     omega arith
 
--- `own` is what `all` is for the task, where the others have no quota
+-- `own` and `all` are the same for the task, and in `own` the other tasks have no quota
 pub record IsOwn (task : ℕ) (all own : Tasks) : Type 0 where
   pub profile : own.profile ≡ all.profile
   pub objects : own.objects task ≡ all.objects task
@@ -124,7 +124,7 @@ module _ (task : ℕ) (lt : task < 16) where
             omega arith)
       ])
 
-  -- the two tests of a quota line, where it was accepted
+  -- an accepted quota line passes two tests
   both_pass : (a b : Bool) → is_accepted (cond a (Some Sum) (cond b (Some Used) None)) ≡ true → (a ≡ false) × (b ≡ false)
   both_pass true b e = absurd (let e' : false ≡ true = e in cc)
   both_pass false true e = absurd (let e' : false ≡ true = e in cc)
@@ -199,14 +199,6 @@ module _ (task : ℕ) (lt : task < 16) where
   unequal : (a b : ℕ) → not (nat_eq a b) ≡ true → a ≢ b
   unequal a b e is = (let e' : false ≡ true = sym (ap not (eq_yes a b is)) ∙ e in absurd cc)
 
-  not_true : (b : Bool) → not b ≡ true → b ≡ false
-  not_true true e = sym e
-  not_true false e = refl
-
-  not_false : (b : Bool) → not b ≡ false → b ≡ true
-  not_false true e = refl
-  not_false false e = sym e
-
   -- a command that is left out
   record Skips (all own : TaskState) (c : Command) : Type 0 where
     state : AreOwn (state_after all c) own
@@ -220,7 +212,7 @@ module _ (task : ℕ) (lt : task < 16) where
   skips all own o (command.Quota u pages) out = record {
     state = record {
       tasks = left_set all.tasks own.tasks u pages (set_refusal all.tasks u pages)
-          (not_true (nat_eq u task && is_accepted (set_refusal all.tasks u pages)) out) o.tasks;
+          (not-true (nat_eq u task && is_accepted (set_refusal all.tasks u pages)) out) o.tasks;
       present = o.present;
       needs = o.needs;
     };
@@ -234,11 +226,11 @@ module _ (task : ℕ) (lt : task < 16) where
           present = o.present;
           needs = o.needs ∙ sym (ap (λ b. cond b (one_more (all.needs task) (record { bytes = bytes; count = count })) (all.needs task)) no);
         };
-        foreign = not_true (nat_eq u task) out;
+        foreign = not-true (nat_eq u task) out;
       }
   skips all own o (command.Admit u) out = record {
     state = record { tasks = o.tasks; present = o.present; needs = o.needs };
-    foreign = not_true (nat_eq u task) out;
+    foreign = not-true (nat_eq u task) out;
   }
   skips all own o c out = record {
     state = record {
@@ -246,7 +238,7 @@ module _ (task : ℕ) (lt : task < 16) where
       present = o.present;
       needs = o.needs;
     };
-    foreign = not_true (nat_eq all.present task) out;
+    foreign = not-true (nat_eq all.present task) out;
   }
 
   -- a command that stays
@@ -263,7 +255,7 @@ module _ (task : ℕ) (lt : task < 16) where
   }
   keeps all own o (command.Quota u pages) stays = record {
     state = record {
-      tasks = kept_set all.tasks own.tasks u pages (not_false (nat_eq u task && is_accepted (set_refusal all.tasks u pages)) stays) o.tasks;
+      tasks = kept_set all.tasks own.tasks u pages (not-false (nat_eq u task && is_accepted (set_refusal all.tasks u pages)) stays) o.tasks;
       present = o.present;
       needs = o.needs;
     };
@@ -301,7 +293,7 @@ module _ (task : ℕ) (lt : task < 16) where
             ∙ sym (ap (λ v. task_reply all.tasks v c) is);
       }
 
-  -- what the task is answered in the items that are left, and in all of them
+  -- the replies to the task in its own items are those in all items
   abbrev IsSame : ℕ → ℕ → Option TaskState → Option TaskState → List Item → Type 0
   IsSame present here all own items =
       replies_of task here (own_items task all items) (task_replies own (own_items task all items)) ≡ replies_of task present items (task_replies all items)
@@ -353,7 +345,7 @@ module _ (task : ℕ) (lt : task < 16) where
   isolated_in items replies told meets met =
       ap (replies_of task 0 (own_items task None items)) met ∙ isolated_first items 0 ∙ sym (ap (replies_of task 0 items) meets)
 
-  -- two scripts of which the same is left
+  -- two scripts with the same lines of the task
   pub isolated_alike : (items others : List Item) (replies told : List Reply) → own_items task None others ≡ own_items task None items
       → MeetsTasks items replies → MeetsTasks others told → replies_of task 0 others told ≡ replies_of task 0 items replies
   isolated_alike items others replies told same meets met =

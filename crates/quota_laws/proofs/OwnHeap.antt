@@ -1,4 +1,4 @@
--- While its quota stays, a task is answered as on a heap of its own.
+-- While its quota stays, a task gets the replies of a heap of its own.
 use Rattle.std.proofs.Common.{◌≡◌, ◌≢◌, ℕ, true, false, cond, List, [], ◌∷◌, Option, Some, None, ap, sym, ◌∙◌, refl, inl, inr}
 use Rattle.std.specs.Prelude.{nat_eq, codes}
 use Rattle.std.proofs.lemmas.Bool.{cases_eq}
@@ -15,7 +15,7 @@ use Rattle.transcript_laws.specs.ById.{ById}
 use Rattle.transcript_laws.specs.Replies.{after_by_id, bounds_after, objects_after, reply_by_id}
 use Rattle.transcript_laws.specs.Transcripts.{replies_from}
 use Rattle.quota_laws.specs.Tasks.{TaskItem, Tasks, after_item, calls, is_for_task, own_heap, quotas_after, set_refusal, sets, task_leaves, task_reply}
-use Rattle.quota_laws.specs.Runs.{AreAnswered, LeaveQuota, commands_of, replies_to}
+use Rattle.quota_laws.specs.Runs.{AreTaskCommands, LeaveQuota, commands_of, replies_to}
 
 -- no command of a task changes a bound
 bounds_stay : (h : ById) (command : Command) → is_for_task command ≡ true → bounds_after h command ≡ h.bounds
@@ -67,7 +67,7 @@ module _ (task : ℕ) where
       go None = ap (λ n. record (own_heap s task) { profile = record s.profile { pages = n; k = 1 } })
           (get_or-set_other s.quotas u task pages 0 (λ e. ne (sym e)))
 
-  pub as_alone : (items : List TaskItem) (s : Tasks) → LeaveQuota task items → AreAnswered task items
+  pub as_alone : (items : List TaskItem) (s : Tasks) → LeaveQuota task items → AreTaskCommands task items
       → replies_to task s items ≡ replies_from Moving (Some (own_heap s task)) (commands_of task items)
   as_alone [] s left served = refl
   as_alone (sets u pages ∷ rest) s left served =

@@ -18,7 +18,7 @@ use Rattle.quota_laws.proofs.Admitted.{byte_at}
 
 ruleset maps = (got, got_none, counted, listed, listed_none)
 
--- two pages of 64 words, of which task 0 has one
+-- two pages of 64 words; task 0 has a quota of one
 abbrev settings : Profile
 settings = record { pages = 2; page_words = 64; k = 1; proxies = 8 }
 

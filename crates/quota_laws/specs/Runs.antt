@@ -35,10 +35,10 @@ LeaveQuota task (calls u command ∷ rest) = LeaveQuota task rest
 LeaveQuota task (sets u pages ∷ rest) = (u ≢ task) × LeaveQuota task rest
 
 -- the calls of the task are commands on its objects
-abbrev pub AreAnswered : ℕ → List TaskItem → Type 0
-AreAnswered task [] = ⊤
-AreAnswered task (calls u command ∷ rest) = (u ≡ task → is_for_task command ≡ true) × AreAnswered task rest
-AreAnswered task (sets u pages ∷ rest) = AreAnswered task rest
+abbrev pub AreTaskCommands : ℕ → List TaskItem → Type 0
+AreTaskCommands task [] = ⊤
+AreTaskCommands task (calls u command ∷ rest) = (u ≡ task → is_for_task command ≡ true) × AreTaskCommands task rest
+AreTaskCommands task (sets u pages ∷ rest) = AreTaskCommands task rest
 
 -- the commands of the task, as a script of its own
 abbrev pub commands_of : ℕ → List TaskItem → List Item

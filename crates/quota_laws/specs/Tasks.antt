@@ -53,7 +53,7 @@ pub data TaskItem : Type 0 where
 abbrev pub set_refusal : Tasks → ℕ → ℕ → Option QuotaFault
 set_refusal s task pages = quota_refusal s.profile s.quotas task pages (s.objects task)
 
--- a quota line is answered `refused sum`, `refused used` or `ok`
+-- the reply to a quota line: `refused sum`, `refused used` or `ok`
 abbrev pub quota_text : Option QuotaFault → List ℕ
 quota_text (Some Sum) = codes "refused sum"
 quota_text (Some Used) = codes "refused used"

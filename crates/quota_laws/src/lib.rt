@@ -1,6 +1,6 @@
-//! Tasks that share the pages of a region don't see one another: what a task is answered follows
-//! from the settings, its quota and its own objects alone. The public functions do nothing: each
-//! one's contract is a law of the definitions of tasks.
+//! Tasks that share the pages of a region don't see one another: the replies to a task depend on the
+//! settings, its quota and its own objects alone. The public functions do nothing: each one's contract
+//! is a law of the definitions of tasks.
 #![tactic(auto)]
 
 ghost use Rattle.std.specs.Prelude.{◌≡◌, ℕ, ◌+◌, ◌<◌, ◌++◌, true, codes, drop, length, List, [], ◌∷◌, None, Some, slice_index, slice_index_or};
@@ -16,7 +16,7 @@ ghost use Rattle.transcript_laws.specs.Replies.{malloc_fault};
 ghost use Rattle.transcript_laws.specs.Transcripts.{replies_from};
 ghost use Rattle.quota_laws.specs.Admitted.{AreServed, StayWithin, states_in};
 ghost use Rattle.quota_laws.specs.Own.{own_items, replies_of};
-ghost use Rattle.quota_laws.specs.Runs.{AreAnswered, LeaveQuota, commands_of, own_calls, replies_to};
+ghost use Rattle.quota_laws.specs.Runs.{AreTaskCommands, LeaveQuota, commands_of, own_calls, replies_to};
 ghost use Rattle.quota_laws.specs.Tasks.{TaskItem, Tasks, no_tasks, own_heap, task_leaves, task_reply};
 ghost use Rattle.quota_laws.specs.Transcript.{MeetsTasks, TaskState};
 
@@ -46,10 +46,10 @@ pub fn tasks_are_isolated()
         ≡ replies_to task (no_tasks s) items }
 {}
 
-/// Isolation: leave out of a script all lines of tasks other than one, and every quota line that is
-/// refused; the replies to the commands of that task are the same, in the same order. So are those in
-/// any two scripts of which the same is left, whatever the other tasks do in either. Each script may
-/// be that of a call of its own: the replies alone are compared.
+/// Isolation: remove from a script every line of the other tasks, and every refused quota line. The
+/// replies to the commands of the task are the same, in the same order. If two scripts have the same
+/// lines after this, the replies to the task are the same in both, whatever the other tasks do. The
+/// scripts may belong to different calls: only replies are compared.
 pub fn tasks_are_isolated_in_a_script()
     ensures own { (items : List Item) (task : ℕ) (replies told : List Reply) → task < 16
         → MeetsTasks items replies → MeetsTasks (own_items task None items) told
@@ -60,9 +60,9 @@ pub fn tasks_are_isolated_in_a_script()
         → replies_of task 0 others told ≡ replies_of task 0 items replies }
 {}
 
-/// Admission: let `admit` of a task be answered `yes`, and let each later malloc of the task ask for
-/// an object that it had declared, while its quota is no less. Then each of them is answered `ok`, or
-/// `live` if its id is, whatever the other tasks do.
+/// Admission: suppose `admit` of a task prints `yes`, each later malloc of the task asks for an object
+/// that it had declared, and its quota does not fall. Then each of these mallocs prints `ok`, or `live`
+/// if its id is live, whatever the other tasks do.
 pub fn an_admitted_task_is_served()
     ensures { (before later : List Item) (task : ℕ) (admitted : TaskState) (replies : List Reply)
         → states_in None before ≡ Some admitted
@@ -72,10 +72,10 @@ pub fn an_admitted_task_is_served()
         → AreServed task admitted.present later (drop (length before + 1) replies) }
 {}
 
-/// Wrong replies do not meet the claim. On two pages of 64 words, of which task 0 has one: refusals of
-/// everything; of a malloc that fits `refused space`, no line, no reply, or a reply more than there are
-/// items; `ok` for a malloc beyond the quota; another task's bytes; `yes` for two objects that need a
-/// page each; and `ok` for quotas of three pages.
+/// Wrong replies violate the claim. On two pages of 64 words, with a quota of one for task 0, it fails
+/// for: a refusal of every command; `refused space`, no line, no reply, or one reply too many after a
+/// malloc that fits; `ok` for a malloc beyond the quota; the bytes of another task; `yes` for two objects
+/// that need a page each; and `ok` for quotas of three pages.
 pub fn wrong_task_replies_fall_short()
     ensures refused { ¬ MeetsTasks (items (codes "heap 2 512 1 8\nquota 0 1\nm 1 176\n") true)
         (said (codes "ok") ∷ said (codes "refused sum") ∷ said (codes "refused space") ∷ []) }
@@ -98,11 +98,11 @@ pub fn wrong_task_replies_fall_short()
         (said (codes "ok") ∷ said (codes "ok") ∷ said (codes "ok") ∷ []) }
 {}
 
-/// While its quota stays, a task is answered as on a heap of its own with as many pages as its
-/// quota, where at most one page of each class is partly full.
+/// While its quota stays, a task gets the replies of a heap of its own that has the pages of its quota
+/// and at most one partly full page a class.
 pub fn a_task_has_a_heap_of_its_own()
     ensures { (one : Tasks) (task : ℕ) (items : List TaskItem) → LeaveQuota task items
-        → AreAnswered task items
+        → AreTaskCommands task items
         → replies_to task one items
         ≡ replies_from Moving (Some (own_heap one task)) (commands_of task items) }
 {}

@@ -1,5 +1,5 @@
 -- For every call of a heap there are a result and a state after it that keeps the rules: what that means.
-use Rattle.std.proofs.Common.{◌≡◌, ℕ, ◌<◌, ◌≤◌, List, Option, Some, None, Result, arith, sym, ◌∙◌, refl}
+use Rattle.std.proofs.Common.{◌≡◌, ℕ, ◌+◌, ◌*◌, ◌<◌, ◌≤◌, List, Option, Some, None, Result, Ok, arith, sym, ◌∙◌, refl}
 use Rattle.std.proofs.Common.{subst, inl, inr}
 use Rattle.std.specs.Prelude.{option_map}
 use Rattle.std.specs.FinMap.{get, insert, len, remove}
@@ -13,8 +13,11 @@ use Rattle.cf_lemmas.proofs.Maps.{len_fresh, len_rebound, some_inserted, some_re
 use Rattle.cf_lemmas.proofs.MapValues.{get-map_values}
 use Rattle.page_model.specs.Bytes.{AreBytes}
 use Rattle.page_model.specs.Held.{Objects, Placed, objects}
+use Rattle.page_model.specs.Order.{Order}
 use Rattle.page_model.specs.Steps.{Request}
 use Rattle.page_model.proofs.CallerLemmas.{len-objects}
+use Rattle.cf_model.specs.Costs.{resize_bound}
+use Rattle.cf_model.specs.Ordered.{Follows, IsOrderedFree, IsOrderedMalloc, IsOrderedResize}
 use Rattle.cf_model.specs.Rules.{AreObjects, KeepsRules}
 use Rattle.cf_model.specs.State.{HeapState}
 use Rattle.cf_model.specs.Steps.{FreesObject, IsMallocStep, IsResizeStep, IsWriteStep, Part}
@@ -71,21 +74,36 @@ module _ (n : ℕ) (o : Objects) (few : AreFew n o) (h : ℕ) where
     few = (let less = len_without o h u some in let l = few.few in omega arith);
   }
 
+-- without an order there is nothing to follow
+pub follows_none : (step : Order → Order → Type 0) (old new : Option Order) → old ≡ None → new ≡ None → Follows step old new
+follows_none step old new a b = subst (λ o. Follows step o new) (sym a) (subst (λ o. Follows step None o) (sym b) tt)
+
+pub follows_some : (step : Order → Order → Type 0) (old new : Option Order) (was now : Order) → old ≡ Some was → new ≡ Some now → step was now
+    → Follows step old new
+follows_some step old new was now a b done = subst (λ o. Follows step o new) (sym a) (subst (λ o. Follows step (Some was) o) (sym b) done)
+
+-- the same order is followed
+pub follows_same : (step : Order → Order → Type 0) (o : Option Order) → ((was : Order) → step was was) → Follows step o o
+follows_same step None all = tt
+follows_same step (Some was) all = all was
+
 -- each call has a result, and a state after it that keeps the rules
 module _ (old : HeapState) where
   pub record HasMalloc (n : ℕ) : Type 0 where
     pub answer : Result Handle Refusal
     pub heap : HeapState
     pub step : IsMallocStep old n answer heap
+    pub ordered : IsOrderedMalloc old n answer heap
     pub kept : KeepsRules heap
-    pub cost : (bound : ℕ) → CostsAtMost heap.kind heap.cost bound
+    pub cost : CostsAtMost heap.kind heap.cost 64
 
   pub record HasFree (h : ℕ) : Type 0 where
     pub freed : Freed
     pub heap : HeapState
     pub step : FreesObject old h freed heap
+    pub ordered : IsOrderedFree old h (Ok freed) heap
     pub kept : KeepsRules heap
-    pub cost : (bound : ℕ) → CostsAtMost heap.kind heap.cost bound
+    pub cost : CostsAtMost heap.kind heap.cost (96 + 2 * freed.slot_words)
 
   pub record HasWrite (part : Part) (bytes : List ℕ) : Type 0 where
     pub answer : Result Unit AccessFault
@@ -97,5 +115,6 @@ module _ (old : HeapState) where
     pub answer : Result Resized ResizeFault
     pub heap : HeapState
     pub step : IsResizeStep old asked answer heap
+    pub ordered : IsOrderedResize old asked answer heap
     pub kept : KeepsRules heap
-    pub cost : (bound : ℕ) → CostsAtMost heap.kind heap.cost bound
+    pub cost : CostsAtMost heap.kind heap.cost (resize_bound answer)

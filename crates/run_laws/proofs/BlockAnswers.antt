@@ -1,5 +1,5 @@
 -- Every call of a heap with blocks has a result, and a state after it that keeps the rules.
-use Rattle.std.proofs.Common.{◌≡◌, ◌≢◌, ℕ, ◌+◌, ◌<◌, ◌≤◌, List, Some, None, Ok, Err, length, replicate, arith, sym, ◌∙◌, ap}
+use Rattle.std.proofs.Common.{◌≡◌, ◌≢◌, ℕ, ◌+◌, ◌*◌, ◌<◌, ◌≤◌, List, Some, None, Ok, Err, length, replicate, arith, sym, ◌∙◌, ap}
 use Rattle.std.proofs.Common.{refl, subst, inl, inr}
 use Rattle.std.proofs.lemmas.Bool.{cases_eq, cases_lt}
 use Rattle.std.specs.FinMap.{get, insert, len, remove}
@@ -7,12 +7,14 @@ use Rattle.cf_base.specs.Classes.{need}
 use Rattle.cf_base.specs.declared.kind.Kind.{Kind}
 use Rattle.cf_base.specs.declared.kind.Kind.TheVariants.{Moving, NonMoving, Tlsf, HalfFit}
 use Rattle.cf_base.specs.declared.answers.AccessFault.TheVariants as access
+use Rattle.cf_base.specs.declared.answers.Refusal.{Refusal}
 use Rattle.cf_base.specs.declared.answers.Refusal.TheVariants as refusal
 use Rattle.cf_base.specs.declared.answers.ResizeFault.TheVariants as resize
 use Rattle.cf_lemmas.proofs.Maps.{get_insert_other}
 use Rattle.cf_lemmas.proofs.MapValues.{map_values-insert, map_values-remove}
 use Rattle.page_model.specs.Bytes.{AreBytes, written}
 use Rattle.page_model.specs.Held.{Held, Placed, objects}
+use Rattle.page_model.specs.Order.{Order}
 use Rattle.page_model.specs.Steps.{Leaves, Request, zeros_at}
 use Rattle.page_model.proofs.CallerLemmas.{len-objects, malloc_objects, length-written, written_are_bytes, zeros_are_bytes}
 use Rattle.cf_lemmas.proofs.Tests.{eq_no}
@@ -24,6 +26,7 @@ use Rattle.block_model.proofs.CallerLemmas.{malloc_keeps_tiling, made}
 use Rattle.cf_model.specs.Answers.{bound_put, class_with}
 use Rattle.cf_model.specs.Families as family
 use Rattle.cf_model.specs.Families.{IsTiled, free_lists_of}
+use Rattle.cf_model.specs.Ordered.{Follows, FreeInOrder, IsOrderedMalloc, MallocInOrder, ResizeInOrder}
 use Rattle.cf_model.specs.Rules.{AreOwned, KeepsRules, KeepsRulesOf, KeepsTiling, content_word}
 use Rattle.cf_model.specs.State.{HeapState, region_words}
 use Rattle.cf_model.specs.Steps.{IsPlacedBy, IsUnmoved, LacksRoomIn, MovesIn, Part, StaysOutside, frames_left, leaves_of, slot_in, tiling_left}
@@ -31,12 +34,16 @@ use Rattle.cf_model.proofs.CallerLemmas.{lawful, need_is_small, owned_free, owne
 use Rattle.run_model.specs.Sessions.{CostsAtMost}
 use Rattle.run_model.specs.Steps.{class_to_bound}
 use Rattle.run_model.proofs.CallerLemmas.{bytes_held, bytes_missing}
-use Rattle.run_laws.proofs.Answered.{AreFew, HasFree, HasMalloc, HasResize, HasWrite, few_added, few_changed, few_in, few_left, objects_in}
+use Rattle.run_laws.proofs.Answered.{AreFew, HasFree, HasMalloc, HasResize, HasWrite, few_added, few_changed, few_in, few_left, follows_none, objects_in}
 use Rattle.cf_lemmas.proofs.Searches.{fresh_key}
 
 module _ (old : HeapState) (rules : KeepsRules old) (with_blocks : IsTiled old.kind) where
   tiling : KeepsTiling old
   tiling = rw (with_blocks, KeepsRulesOf) at rules.of_kind
+
+  -- with blocks there is no order to follow
+  no_choice : (step : Order → Order → Type 0) → Follows step old.order old.order
+  no_choice step = follows_none step old.order old.order tiling.no_order tiling.no_order
 
   few_old : AreFew old.profile.proxies (objects old.held)
   few_old = few_in old rules.numbers
@@ -55,7 +62,7 @@ module _ (old : HeapState) (rules : KeepsRules old) (with_blocks : IsTiled old.k
     region = count;
     numbers = objects_in (record old { held = m; words = words; tiling = blocks; cost = cost }) few;
     of_kind = rw (with_blocks, KeepsRulesOf)
-        (record { tiling = tiles; owned = owned; words = are; no_frames = tiling.no_frames; no_bounds = tiling.no_bounds });
+        (record { tiling = tiles; owned = owned; words = are; no_frames = tiling.no_frames; no_bounds = tiling.no_bounds; no_order = tiling.no_order });
   }
 
   -- words for other objects in other blocks
@@ -99,21 +106,26 @@ module _ (old : HeapState) (rules : KeepsRules old) (with_blocks : IsTiled old.k
         answer = Ok (record { 0 = h });
         heap = record old { held = m; words = after.words; tiling = new; cost = 0 };
         step = record { fits = fits; few = few; in_range = low; unused = unused; place = place; placed = rw (with_blocks, IsPlacedBy) carves; whole = refl };
+        ordered = no_choice (MallocInOrder old n (Ok (record { 0 = h })) (record old { held = m; words = after.words; tiling = new; cost = 0 }));
         kept = after.kept;
-        cost = cost_any 0;
+        cost = cost_any 0 64;
       }
+
+  refused : (n : ℕ) (e : Refusal) → IsOrderedMalloc old n (Err e) (record old { cost = 0 })
+  refused n e = no_choice (MallocInOrder old n (Err e) (record old { cost = 0 }))
 
   -- every malloc has a result
   pub malloc_done : (n : ℕ) → HasMalloc old n
   malloc_done n = elim (cases_lt old.profile.page_words (need n)) [
-    | inl large ↦ record { answer = Err refusal.Size; heap = record old { cost = 0 }; step = (large, refl); kept = rules_still; cost = cost_any 0 }
+    | inl large ↦ record { answer = Err refusal.Size; heap = record old { cost = 0 }; step = (large, refl); ordered = refused n refusal.Size; kept = rules_still; cost = cost_any 0 64 }
     | inr fits ↦ elim (cases_lt (len old.held) old.profile.proxies) [
       | inr all ↦ record {
         answer = Err refusal.Proxy;
         heap = record old { cost = 0 };
         step = (record { fits = fits; all = (let few = rules.numbers.few in omega arith) }, refl);
+        ordered = refused n refusal.Proxy;
         kept = rules_still;
-        cost = cost_any 0;
+        cost = cost_any 0 64;
       }
       | inl few ↦ (
           let key = fresh_key old.profile.proxies old.held few in
@@ -124,8 +136,9 @@ module _ (old : HeapState) (rules : KeepsRules old) (with_blocks : IsTiled old.k
               answer = Err refusal.Space;
               heap = record old { cost = 0 };
               step = (record { fits = fits; few = few; lacking = rw (with_blocks, LacksRoomIn) lacks }, refl);
+              ordered = refused n refusal.Space;
               kept = rules_still;
-              cost = cost_any 0;
+              cost = cost_any 0 64;
             }
           ])
     ]
@@ -164,8 +177,10 @@ module _ (old : HeapState) (rules : KeepsRules old) (with_blocks : IsTiled old.k
           tiling = rw (with_blocks, tiling_left) refl;
           rest = record { kind = refl; opened = refl; profile = refl; bounds = refl };
         };
+        ordered = no_choice (FreeInOrder old h (Ok (record { slot_words = slot_in old.kind old x; moved = None }))
+            (record old { held = left; words = next.words; tiling = released old.tiling x.place; cost = 0 }));
         kept = next.kept;
-        cost = cost_any 0;
+        cost = cost_any 0 (96 + 2 * slot_in old.kind old x);
       }
 
   -- every write into a live object has a result
@@ -222,8 +237,9 @@ module _ (old : HeapState) (rules : KeepsRules old) (with_blocks : IsTiled old.k
     answer = Err resize.Kind;
     heap = old;
     step = (record { object = x; found = there; blocks = with_blocks }, rw (with_blocks, IsUnmoved) refl);
+    ordered = no_choice (ResizeInOrder old asked (Err resize.Kind) old);
     kept = rules;
-    cost = cost_any old.cost;
+    cost = cost_any old.cost 160;
   }
 
   -- no class gets a bound

@@ -40,7 +40,7 @@ module _ (old : RunState) (going : IsGoing old) where
       record {
         reply = said (malloc_text m.answer);
         new = record { session = record old.session { ids = ids_given old.session.ids asked.number m.answer; bound = 64 }; heap = m.heap };
-        done = record { answer = m.answer; step = m.step; rules = m.kept; cost = m.cost 64; session = refl; reply_is = refl };
+        done = record { answer = m.answer; step = m.step; ordered = m.ordered; rules = m.kept; cost = m.cost; session = refl; reply_is = refl };
       }
 
   free_at : (o : Option ℕ) (id : ℕ) → get old.session.ids id ≡ o → HasAnswer (FreesAt o old id)
@@ -55,7 +55,7 @@ module _ (old : RunState) (going : IsGoing old) where
               f.freed.slot_words;
           heap = f.heap;
         };
-        done = record { freed = f.freed; step = f.step; rules = f.kept; cost = f.cost (96 + 2 * f.freed.slot_words); session = refl; reply_is = refl };
+        done = record { freed = f.freed; step = f.step; ordered = f.ordered; rules = f.kept; cost = f.cost; session = refl; reply_is = refl };
       }
 
   write_at : (o : Option ℕ) (id at : ℕ) (bytes : List ℕ) → AreBytes bytes → get old.session.ids id ≡ o → HasAnswer (WritesAt o old at bytes)
@@ -77,7 +77,7 @@ module _ (old : RunState) (going : IsGoing old) where
       record {
         reply = said (resize_text r.answer);
         new = record { session = session_resized (record old.session { bound = resize_bound r.answer }) r.answer; heap = r.heap };
-        done = record { answer = r.answer; step = r.step; rules = r.kept; cost = r.cost (resize_bound r.answer); session = refl; reply_is = refl };
+        done = record { answer = r.answer; step = r.step; ordered = r.ordered; rules = r.kept; cost = r.cost; session = refl; reply_is = refl };
       }
 
   step_there : (c : Command) → IsSayable c → HasAnswer (Step old c)
@@ -102,4 +102,4 @@ turn_there old c going can =
 pub begins_there : (kind : Kind) (p : Profile) → AreInRange p → (s : RunState) × Begins kind p s
 begins_there kind p ok =
     let first = empty_there p ok kind in
-    (record { session = fresh_session; heap = empty_heap kind p first.0 }, record { session = refl; words = first.1; heap = refl; rules = first.2 })
+    (record { session = fresh_session; heap = empty_heap kind p first.0 }, record { session = refl; words = first.1; order = tt; heap = refl; rules = first.2 })

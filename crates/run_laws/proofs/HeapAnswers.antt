@@ -14,6 +14,9 @@ use Rattle.run_model.specs.Steps.{class_to_bound}
 use Rattle.run_laws.proofs.Answered.{HasFree, HasMalloc, HasResize, HasWrite}
 use Rattle.run_laws.proofs.BlockAnswers as blocks
 use Rattle.run_laws.proofs.PageAnswers as pages
+use Rattle.run_laws.proofs.PageFree as page_free
+use Rattle.run_laws.proofs.PageMalloc as page_malloc
+use Rattle.run_laws.proofs.PageResize as page_resize
 
 -- a heap for which each call has a result
 pub record HasAnswers (s : HeapState) : Type 0 where
@@ -28,10 +31,10 @@ answers s rules = by_family (family_of s.kind) refl
   where
     by_family : (f : Family) → family_of s.kind ≡ f → HasAnswers s
     by_family family.paged is = record {
-      malloc = pages.malloc_done s rules is;
-      free = pages.free_done s rules is;
+      malloc = page_malloc.malloc_done s rules is;
+      free = page_free.free_done s rules is;
       write = pages.write_done s rules is;
-      resize = pages.resize_done s rules is;
+      resize = page_resize.resize_done s rules is;
       bound = pages.bound_done s rules is;
     }
     by_family family.tiled is = record {

@@ -2,6 +2,11 @@ pub mod Images
 pub mod Room
 pub mod ByKind
 pub mod Answered
+pub mod OrderCosts
+pub mod PageRules
+pub mod PageMalloc
+pub mod PageFree
+pub mod PageResize
 pub mod PageAnswers
 pub mod BlockAnswers
 pub mod HeapAnswers

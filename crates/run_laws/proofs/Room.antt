@@ -6,7 +6,7 @@ use Rattle.page_model.specs.Arrangement.{IsSound, LacksRoom, not_full_pages, sta
 use Rattle.page_model.specs.Held.{Held}
 use Rattle.page_model.specs.Paging.{IsPaging, Paging, address_of, class_for, classes, page_of}
 use Rattle.page_model.specs.Steps.{IsFreePlace}
-use Rattle.page_model.proofs.CallerLemmas.{IsOpen, address_is_slot, nothing_on, open_page, slots_some, vacant_where_less}
+use Rattle.page_model.proofs.CallerLemmas.{IsOpen, address_is_slot, nothing_on, open_counts, open_page, slots_some, vacant_where_less}
 use Rattle.cf_lemmas.proofs.Searches.{search_below}
 
 -- a page has objects or none
@@ -50,3 +50,13 @@ module _ (p : Paging) (ok : IsPaging p) (m : Held) (s : IsSound p m) where
       | inr bare ↦ inr (place_alone n lt none bare.0 bare.1 bare.2)
     ]
   ]
+
+-- a class with a free place has a slot left
+pub has_room : (p : Paging) (m : Held) (n a : ℕ) → IsFreePlace p m n a → ¬ LacksRoom p m (class_for p n)
+has_room p m n a free lacks = elim free.choice [
+  | inl (some, less) ↦ (
+      let l = open_counts p m (class_for p n) (page_of p a) (record { within = free.slot.page; some = some; less = less }) in
+      let full = lacks.full in
+      omega arith)
+  | inr (none, bare) ↦ (let l = lacks.taken (page_of p a) free.slot.page in omega arith)
+]

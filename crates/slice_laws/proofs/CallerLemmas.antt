@@ -1,2 +1,3 @@
 -- What upper crates may cite, passed on from one place. Declares nothing.
 pub use Rattle.slice_laws.proofs.Claims.{sliced_headline_met}
+pub use Rattle.slice_laws.proofs.OneTranscript.{is_transcript}

@@ -1,12 +1,10 @@
 -- The replies of a run are as claimed.
 use Rattle.std.proofs.Common.{◌≡◌, ℕ, List, [], ◌∷◌, Option, Some, None, sym, ◌∙◌, ap, subst}
 use Rattle.std.specs.Prelude.{⊤, option_map}
-use Rattle.std.specs.FinMap.{empty, get-empty}
-use Rattle.std.specs.Ordering.{nat_cmp}
+use Rattle.std.specs.FinMap.{empty}
 use Rattle.cf_base.specs.Settings.{Profile, at_bound_one}
 use Rattle.cf_io.specs.Texts.{Reply}
-use Rattle.cf_lemmas.proofs.Maps.{equal_maps}
-use Rattle.page_model.specs.Held.{Objects, objects}
+use Rattle.page_model.specs.Held.{objects}
 use Rattle.run_model.specs.Plays.{PlayRun, PlayStep}
 use Rattle.script_loop.specs.Semantics.{RunBy}
 use Rattle.script_reader.specs.Items.{Item, asks, bad, starts}
@@ -15,14 +13,11 @@ use Rattle.slice_session.specs.Playing.{BeginsSliced, BeginsSlices, RunsSliced, 
 use Rattle.slice_session.specs.SliceRun.{IsGoingSliced, SliceRun, SliceStep}
 use Rattle.slice_session.proofs.CallerLemmas.{begins_going, play_seen, still_going}
 use Rattle.transcript_laws.specs.Histories.{objects_by_id}
-use Rattle.transcript_laws.proofs.CallerLemmas.{gone_by_id}
+use Rattle.transcript_laws.proofs.CallerLemmas.{none_by_id}
 use Rattle.slice_laws.specs.ShownSlices.{ShownSlices, slices_opened}
 use Rattle.slice_laws.specs.SliceHeadline.{Answers, MeetsSliced, Opens}
 use Rattle.slice_laws.proofs.Slicing.{state_shown}
 use Rattle.slice_laws.proofs.Steps.{answered, shown}
-
-none_by_id : (m : Objects) → objects_by_id empty m ≡ empty
-none_by_id m = equal_maps _ _ (λ q. gone_by_id empty m q (get-empty nat_cmp q) ∙ sym (get-empty nat_cmp q))
 
 opened : (quantum : ℕ) (p : Profile) (s : SliceRun) → BeginsSliced quantum p s → shown s ≡ slices_opened quantum p
 opened quantum p s b =

@@ -1,8 +1,7 @@
 -- When the page of a job's slot is filled, by the slots that are taken in its class.
 use Rattle.std.proofs.Common.{◌≡◌, ◌≢◌, ℕ, true, false, cond, ◌+◌, ◌%◌, ◌<◌, ◌≤◌, Bool, Some, None, arith, sym, ◌∙◌, ap, refl, subst, inl, inr}
 use Rattle.std.specs.Prelude.{◌||◌, nat_eq, nat_le}
-use Rattle.std.proofs.lemmas.Bool.{cases_eq, cases_lt}
-use Rattle.std.proofs.lemmas.Bool.Decides.{nat_tests}
+use Rattle.std.proofs.lemmas.Bool.{cases_eq, cases_lt, leb-true, leb-false, eqb-false}
 use Rattle.std.specs.FinMap.{get, insert}
 use Rattle.cf_base.specs.declared.answers.Figures.{Figures}
 use Rattle.cf_lemmas.proofs.MapValues.{map_values-insert}
@@ -13,32 +12,21 @@ use Rattle.page_model.specs.Arrangement.{IsSlotAt, IsSound, class_at, is_on, liv
 use Rattle.page_model.specs.Held.{Held, Placed, objects}
 use Rattle.page_model.specs.Paging.{Paging, classes, page_of, slots_of}
 use Rattle.page_model.proofs.CallerLemmas.{bytes_missing, live_added, objects_on-elsewhere, objects_on-inserted, open_counts, part_full, part_yes, slots_some}
+use Rattle.page_model.proofs.CallerLemmas.{part_over}
 use Rattle.slice_model.specs.declared.job_slot.JobSlot.{JobSlot}
-use Rattle.slice_model.specs.State.{IsKept, IsPlan, Plan, Sliced, job_slot, stand_in, with_slot}
-use Rattle.slice_model.proofs.CallerLemmas.{job_class, less_where_vacant, must_is_two, no_stand_in, one_more, other_than}
-use Rattle.slice_model.proofs.CallerLemmas.{part_over, same_elsewhere, sound_without_slot, stand_in_class, two_is_last}
+use Rattle.slice_model.specs.State.{IsKept, IsPlan, Plan, Sliced, job_slot, placeholder, with_slot}
+use Rattle.slice_model.proofs.CallerLemmas.{job_class, less_where_vacant, must_is_two, no_placeholder, one_more, other_than}
+use Rattle.slice_model.proofs.CallerLemmas.{same_elsewhere, sound_without_slot, placeholder_class, two_is_last}
 use Rattle.transcript_laws.specs.AtOne.{part_pages}
 use Rattle.transcript_laws.proofs.CallerLemmas.{figures_are}
 
--- whether the page of a job's slot is full, where the slot counts
+-- whether the page of a job's slot is full, with the slot counted
 abbrev pub is_filled : Paging → Held → JobSlot → Bool
 is_filled p m k = nat_le (slots_of p k.class) (objects_on p m k.class (page_of p k.address) + 1)
 
 -- whether the slots that are taken in its class fill their pages
 abbrev pub are_filled : Paging → ℕ → JobSlot → Bool
 are_filled p n k = nat_eq ((n + 1) % slots_of p k.class) 0
-
-le_told : (a b : ℕ) → nat_le a b ≡ true → a ≤ b
-le_told a b e = grind (arith, nat_tests)
-
-le_untold : (a b : ℕ) → nat_le a b ≡ false → b < a
-le_untold a b e = grind (arith, nat_tests)
-
-eq_told : (a b : ℕ) → nat_eq a b ≡ true → a ≡ b
-eq_told a b e = grind (arith, nat_tests)
-
-eq_untold : (a b : ℕ) → nat_eq a b ≡ false → a ≢ b
-eq_untold a b e is = (let yes = eq_yes a b is in let z : true ≡ false = sym yes ∙ e in absurd cc)
 
 -- an object that comes counts in its class
 pub live_with : (p : Paging) (m : Held) (h : ℕ) (x : Placed) → get m h ≡ None → (c : ℕ)
@@ -52,13 +40,13 @@ module _ (plan : Plan) (ok : IsPlan plan) (s : Sliced) (kept : IsKept plan s) (k
   p = plan.paging
 
   abbrev all : Held
-  all = insert s.held plan.proxies (stand_in p k)
+  all = insert s.held plan.proxies (placeholder p k)
 
   abbrev here : ℕ
   here = page_of p k.address
 
   none : get s.held plan.proxies ≡ None
-  none = no_stand_in plan s.held kept.numbers
+  none = no_placeholder plan s.held kept.numbers
 
   class : k.class < classes p
   class = (job_class p s.held s.job kept.job k is).class
@@ -66,13 +54,13 @@ module _ (plan : Plan) (ok : IsPlan plan) (s : Sliced) (kept : IsKept plan s) (k
   sound : IsSound p all
   sound = subst (λ o. IsSound p (with_slot plan s.held o)) is kept.sound
 
-  pub few : not_full_pages plan.paging (insert s.held plan.proxies (stand_in plan.paging k)) k.class ≤ 1
+  pub few : not_full_pages plan.paging (insert s.held plan.proxies (placeholder plan.paging k)) k.class ≤ 1
   few = (let f = sound.few_not_full k.class class in let o = ok.ones k.class class in omega arith)
 
-  pub live_all : (c : ℕ) → live plan.paging (objects (insert s.held plan.proxies (stand_in plan.paging k))) c
+  pub live_all : (c : ℕ) → live plan.paging (objects (insert s.held plan.proxies (placeholder plan.paging k))) c
       ≡ live plan.paging (objects s.held) c + one (nat_eq k.class c)
-  live_all c = live_with p s.held plan.proxies (stand_in p k) none c
-      ∙ ap (λ d. live p (objects s.held) c + one (nat_eq d c)) (stand_in_class p ok.paging k class)
+  live_all c = live_with p s.held plan.proxies (placeholder p k) none c
+      ∙ ap (λ d. live p (objects s.held) c + one (nat_eq d c)) (placeholder_class p ok.paging k class)
 
   own_live : live p (objects all) k.class ≡ live p (objects s.held) k.class + 1
   own_live = live_all k.class ∙ ap (λ b. live p (objects s.held) k.class + one b) (eq_yes k.class k.class refl)
@@ -88,9 +76,9 @@ module _ (plan : Plan) (ok : IsPlan plan) (s : Sliced) (kept : IsKept plan s) (k
   one_part full = parts ∙ ap (λ b. cond b 0 1) full
 
   within : here < p.pages
-  within = (sound.slots plan.proxies (stand_in p k) (get_inserted s.held plan.proxies (stand_in p k))).page
+  within = (sound.slots plan.proxies (placeholder p k) (get_inserted s.held plan.proxies (placeholder p k))).page
 
-  -- where no page is partly full, the slot's page is full
+  -- if no page is partly full, the slot's page is full
   pub full_is_filled : are_filled plan.paging (live plan.paging (objects s.held) k.class) k ≡ true → is_filled plan.paging s.held k ≡ true
   full_is_filled full = elim (cases_lt (objects_on p s.held k.class here + 1) (slots_of p k.class)) [
     | inr filled ↦ le_yes (slots_of p k.class) (objects_on p s.held k.class here + 1) filled
@@ -101,7 +89,7 @@ module _ (plan : Plan) (ok : IsPlan plan) (s : Sliced) (kept : IsKept plan s) (k
         omega arith)
   ]
 
-  -- a second page is partly full exactly where the slot's page is filled and one page is partly full with the slot
+  -- if a second page is partly full, the slot's page is filled, and with the slot one page is partly full
   pub two_is_filled : not_full_pages plan.paging s.held k.class ≡ 2 → (is_filled plan.paging s.held k ≡ true)
       × (are_filled plan.paging (live plan.paging (objects s.held) k.class) k ≡ false)
   two_is_filled two =
@@ -119,12 +107,12 @@ module _ (plan : Plan) (ok : IsPlan plan) (s : Sliced) (kept : IsKept plan s) (k
   filled_is_two filled full = elim (cases_eq (not_full_pages p s.held k.class) 2) [
     | inl two ↦ two
     | inr ne ↦ (
-        let le = le_told (slots_of p k.class) (objects_on p s.held k.class here + 1) filled in
+        let le = leb-true (slots_of p k.class) (objects_on p s.held k.class here + 1) filled in
         let less = below ne in
         let more = one_more plan ok s.held k none class sound in
-        let of_class = stand_in_class p ok.paging k class in
+        let of_class = placeholder_class p ok.paging k class in
         let several : 1 < slots_of p k.class = elim (cases_eq (slots_of p k.class) 1) [
-          | inl single ↦ absurd (eq_untold ((live p (objects s.held) k.class + 1) % slots_of p k.class) 0 full (rw single (omega arith)))
+          | inl single ↦ absurd (eqb-false ((live p (objects s.held) k.class + 1) % slots_of p k.class) 0 full (rw single (omega arith)))
           | inr other ↦ (let some = slots_some p ok.paging k.class class in omega arith)
         ] in
         must_is_two plan ok s.held k none class sound (record {
@@ -135,20 +123,20 @@ module _ (plan : Plan) (ok : IsPlan plan) (s : Sliced) (kept : IsKept plan s) (k
   ]
     where
       vacant : (q : ℕ) (y : Placed) → get s.held q ≡ Some y → y.place ≢ k.address
-      vacant q y there = sound.own_place q y plan.proxies (stand_in p k)
-          (get_insert_other s.held plan.proxies (stand_in p k) q (other_than s.held plan.proxies q y none there) ∙ there)
-          (get_inserted s.held plan.proxies (stand_in p k)) (λ e. other_than s.held plan.proxies q y none there (sym e))
+      vacant q y there = sound.own_place q y plan.proxies (placeholder p k)
+          (get_insert_other s.held plan.proxies (placeholder p k) q (other_than s.held plan.proxies q y none there) ∙ there)
+          (get_inserted s.held plan.proxies (placeholder p k)) (λ e. other_than s.held plan.proxies q y none there (sym e))
 
       below : not_full_pages p s.held k.class ≢ 2 → objects_on p s.held k.class here < slots_of p k.class
       below ne = elim (cases_lt 0 (objects_on p s.held k.class here)) [
         | inr nothing ↦ (let some = slots_some p ok.paging k.class class in omega arith)
         | inl some ↦ (
-            let slot = sound.slots plan.proxies (stand_in p k) (get_inserted s.held plan.proxies (stand_in p k)) in
-            let at = subst (λ c. IsSlotAt p c k.address) (stand_in_class p ok.paging k class) slot in
+            let slot = sound.slots plan.proxies (placeholder p k) (get_inserted s.held plan.proxies (placeholder p k)) in
+            let at = subst (λ c. IsSlotAt p c k.address) (placeholder_class p ok.paging k class) slot in
             less_where_vacant p ok.paging k.class class here within s.held (sound_without_slot plan ok s.held k none class sound ne) some k.address at refl vacant)
       ]
 
-  -- so where there isn't one, the slots tell
+  -- so unless the class has two partly full pages, the number of used slots shows whether the page is filled
   pub once_filled : not_full_pages plan.paging s.held k.class ≢ 2
       → is_filled plan.paging s.held k ≡ are_filled plan.paging (live plan.paging (objects s.held) k.class) k
   once_filled ne = go (is_filled p s.held k) (are_filled p (live p (objects s.held) k.class) k) refl refl
@@ -159,7 +147,7 @@ module _ (plan : Plan) (ok : IsPlan plan) (s : Sliced) (kept : IsKept plan s) (k
       go true false e f = absurd (ne (filled_is_two e f))
       go false true e f = absurd (let z : true ≡ false = sym (full_is_filled f) ∙ e in cc)
 
--- an object that comes beside the job
+-- an object is added beside the job
 module _ (plan : Plan) (ok : IsPlan plan) (old new : Sliced) (kept : IsKept plan old) (after : IsKept plan new) (k : JobSlot)
     (is : job_slot old.job ≡ Some k) (still : job_slot new.job ≡ Some k) (h : ℕ) (x : Placed) (unused : get old.held h ≡ None)
     (came : new.held ≡ insert old.held h x) where
@@ -170,21 +158,21 @@ module _ (plan : Plan) (ok : IsPlan plan) (old new : Sliced) (kept : IsKept plan
   page = page_of plan.paging k.address
 
   abbrev before : Held
-  before = insert old.held plan.proxies (stand_in plan.paging k)
+  before = insert old.held plan.proxies (placeholder plan.paging k)
 
   abbrev then_ : Held
-  then_ = insert new.held plan.proxies (stand_in plan.paging k)
+  then_ = insert new.held plan.proxies (placeholder plan.paging k)
 
   more : (g : ℕ) → objects_on plan.paging new.held k.class g ≡ objects_on plan.paging old.held k.class g + one (is_on plan.paging k.class g x)
   more g = ap (λ m. objects_on plan.paging m k.class g) came ∙ objects_on-inserted plan.paging old.held h x unused k.class g
 
   still_filled : is_filled plan.paging old.held k ≡ true → is_filled plan.paging new.held k ≡ true
   still_filled filled =
-      let le = le_told size (objects_on plan.paging old.held k.class page + 1) filled in
+      let le = leb-true size (objects_on plan.paging old.held k.class page + 1) filled in
       let m = more page in
       le_yes size (objects_on plan.paging new.held k.class page + 1) (omega arith)
 
-  -- where it comes onto the slot's page, the other pages are as they were
+  -- if it is on the slot's page, the other pages are as they were
   away : page_of plan.paging x.place ≡ page → (g : ℕ) → g ≢ page
       → objects_on plan.paging then_ k.class g ≡ objects_on plan.paging before k.class g
   away on g ne =
@@ -205,8 +193,8 @@ module _ (plan : Plan) (ok : IsPlan plan) (old new : Sliced) (kept : IsKept plan
   filled_now : is_filled plan.paging old.held k ≡ false → is_filled plan.paging new.held k ≡ true
       → are_filled plan.paging (live plan.paging (objects new.held) k.class) k ≡ false → ⊥
   filled_now less filled part =
-      let lt = le_untold size (objects_on plan.paging old.held k.class page + 1) less in
-      let le = le_told size (objects_on plan.paging new.held k.class page + 1) filled in
+      let lt = leb-false size (objects_on plan.paging old.held k.class page + 1) less in
+      let le = leb-true size (objects_on plan.paging new.held k.class page + 1) filled in
       elim (cases_eq (page_of plan.paging x.place) page) [
         | inr ne ↦ (
             let same = ap (λ m. objects_on plan.paging m k.class page) came

@@ -1,10 +1,10 @@
 -- What each command of a session prints and leaves, by the heap that is shown.
-use Rattle.std.proofs.Common.{◌≡◌, ◌≢◌, ℕ, zero, suc, false, cond, ◌+◌, ◌*◌, ◌<◌, ◌≤◌, Bool, List, [], ◌∷◌, Option, Some, None, length, replicate, arith, sym, ◌∙◌, ap}
+use Rattle.std.proofs.Common.{◌≡◌, ◌≢◌, ℕ, false, cond, ◌+◌, ◌*◌, ◌<◌, ◌≤◌, Bool, List, Option, Some, None, length, replicate, arith, sym, ◌∙◌, ap}
 use Rattle.std.proofs.Common.{refl, subst, inl, inr}
 use Rattle.std.specs.Prelude.{Result, Ok, Err, codes, nat_eq, nat_le, nat_lt, option_map, slice_get, slice_index}
 use Rattle.std.specs.Option.{MatchOption}
 use Rattle.std.proofs.lemmas.Bool.{cases_lt}
-use Rattle.std.proofs.lemmas.Option.{slice_get-get_or}
+use Rattle.std.proofs.lemmas.Option.{slice_get-get_or, slice_get_past}
 use Rattle.std.specs.FinMap.{get, insert, len, remove}
 use Rattle.cf_base.specs.Classes.{need}
 use Rattle.cf_base.specs.Settings.{Profile}
@@ -30,14 +30,14 @@ use Rattle.slice_model.specs.declared.answers.SliceFault.TheVariants as fault
 use Rattle.slice_model.specs.declared.answers.SliceRefusal.{SliceRefusal}
 use Rattle.slice_model.specs.declared.answers.SliceRefusal.TheVariants as refusal
 use Rattle.slice_model.specs.declared.job_slot.JobSlot.{JobSlot}
-use Rattle.slice_model.specs.Runs.{Event, Free, HappensOnMap, Malloc, Step, Write}
+use Rattle.slice_model.specs.Runs.{Event, Free, Malloc, Step, Write}
 use Rattle.slice_model.specs.State.{Clear, Idle, IsKept, Job, Move, Sliced, job_slot, left_of, with_slot}
 use Rattle.slice_model.specs.Steps.{GivesObject, IsRefusedBy}
 use Rattle.slice_model.proofs.CallerLemmas.{given_or_refused, kept_begun, lacking_is_no_place, no_place_is_lacking, objects_sliced}
 use Rattle.sliced_heap.specs.Shown.{SlicedState, plan_in, working_in}
 use Rattle.slice_session.specs.SliceRun.{Does, FreesSliced, IsGoingSliced, MallocsSliced, SliceRun, SliceStep, StaysSliced, StepsSliced, WritesSliced}
-use Rattle.slice_session.specs.SliceRun.{ids_with, ids_without, live_in, slice_free_text, slice_malloc_text, slice_write_text, sliced_object_of}
-use Rattle.slice_session.proofs.CallerLemmas.{done_on_map}
+use Rattle.slice_session.specs.SliceRun.{ids_with, ids_without, slice_free_text, slice_malloc_text, slice_write_text, sliced_object_of}
+use Rattle.slice_session.proofs.CallerLemmas.{on_map}
 use Rattle.transcript_laws.specs.Histories.{objects_by_id}
 use Rattle.transcript_laws.specs.Replies.{ok_or, put_unless, read_said, write_fault, write_leaves, write_said}
 use Rattle.transcript_laws.proofs.CallerLemmas.{by_id_changed, by_id_counts, by_id_given, by_id_gone, gone_by_id, live_alike, live_by_id, needed_with_alike}
@@ -190,13 +190,10 @@ module _ (old new : SliceRun) (going : IsGoingSliced old) (later : IsGoingSliced
   counted_new same quantum c = subst (λ (f : Profile). live (plan_by f q).paging (by_id new) c ≡ live (plan_by f q).paging (objects new.heap.held) c) same
       (counted new later c)
 
-  on_map : (event : Event) → Does old.heap event new.heap → HappensOnMap (live_in old) event (live_in new)
-  on_map event d = (done_on_map old.heap new.heap going.rules event d).0
-
   malloc_is : (id n : ℕ) → get old.ids id ≡ None → (answer : Result Handle SliceRefusal) → Does old.heap (Malloc n answer) new.heap
       → new.ids ≡ ids_with old.ids id answer → shown new ≡ after_malloc None (refused answer) t id n
   malloc_is id n none (Ok h) d ids =
-      let o = on_map (Malloc n (Ok h)) d in
+      let o = on_map old new going (Malloc n (Ok h)) d in
       let objects_are : by_id new ≡ insert (by_id old) id (replicate n 0) =
       (λ i. objects_by_id (ids i) (o.1 i)) ∙ by_id_given old.ids (objects old.heap.held) going.tied id h.0 (replicate n 0) o.0 in
       stays_shown old new (Malloc n (Ok h)) d
@@ -244,7 +241,7 @@ module _ (old new : SliceRun) (going : IsGoingSliced old) (later : IsGoingSliced
       let plan = going.rules.plan in
       let kept : IsKept (plan_in old.heap) (record { held = old.heap.held; job = Idle }) =
       subst (λ j. IsKept (plan_in old.heap) (record { held = old.heap.held; job = j })) r.idle going.rules.consistent.kept in
-      let o = on_map (Free h None) d in
+      let o = on_map old new going (Free h None) d in
       let objects_are : by_id new ≡ remove (by_id old) id =
       (λ i. objects_by_id (ids i) (o.1 i)) ∙ by_id_gone old.ids (objects old.heap.held) going.tied id h named in
       let kept' = kept_begun (plan_in old.heap) going.rules.plan old.heap.held kept h r.freed r.found r.moved r.moves r.begun r.begins in
@@ -322,7 +319,7 @@ module _ (old new : SliceRun) (going : IsGoingSliced old) (later : IsGoingSliced
       → (slice_write_text answer ≡ write_said (Some v) from (length bytes))
       × (shown new ≡ with_objects t (put_unless (write_fault v from (length bytes)) (by_id old) id (written v from bytes)))
   write_told id h from bytes v named there None d ids =
-      let o = on_map (Write (record { number = h; from = from }) bytes None) d in
+      let o = on_map old new going (Write (record { number = h; from = from }) bytes None) d in
       let is : Some o.0 ≡ Some v = sym o.1 ∙ there in
       let same : o.0 ≡ v = cc in
       let w = d.happens in
@@ -406,11 +403,6 @@ module _ (old new : SliceRun) (going : IsGoingSliced old) (later : IsGoingSliced
           sym (get-map_values (λ (x : Placed). x.bytes) old.heap.held h) ∙ v.1 ∙ sym v.2
 
   -- p
-  past : (xs : List ℕ) (i : ℕ) → length xs ≤ i → slice_get xs i ≡ None
-  past [] i le = refl
-  past (x ∷ xs) zero le = absurd (omega arith)
-  past (x ∷ xs) (suc i) le = past xs i (omega arith)
-
   peek_answered : (word : ℕ) → reply ≡ said (peek_text (slice_get old.heap.words word)) → new ≡ old → Answers t (command.Peek word) reply (shown new)
   peek_answered word r same = (let region = going.rules.region in elim (cases_lt word (s.pages * s.page_words)) [
     | inl lt ↦ (
@@ -421,7 +413,7 @@ module _ (old new : SliceRun) (going : IsGoingSliced old) (later : IsGoingSliced
     )
     | inr ge ↦ (
       0,
-      r ∙ ap (λ o. said (peek_text o)) (past old.heap.words word (omega arith)
+      r ∙ ap (λ o. said (peek_text o)) (slice_get_past old.heap.words word (omega arith)
           ∙ sym (ap (λ b. cond b (Some 0) None) (lt_no word (s.pages * s.page_words) ge))),
       ap shown same,
     )

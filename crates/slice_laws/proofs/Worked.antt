@@ -1,12 +1,9 @@
 -- A small script: its replies, and that others fall short.
-use Rattle.std.proofs.Common.{◌≡◌, ℕ, true, cond, List, [], ◌∷◌, Option, Some, None, length, replicate, get_or, sym, ◌∙◌, ap, refl, subst, inl, inr}
+use Rattle.std.proofs.Common.{◌≡◌, ℕ, true, List, [], ◌∷◌, Option, Some, None, length, replicate, get_or, sym, ◌∙◌, ap, refl, subst, inl, inr}
 use Rattle.std.specs.Prelude.{codes}
 use Rattle.std.proofs.lemmas.Bool.{cases_eq}
 use Rattle.std.specs.Fmt.{digits}
-use Rattle.std.specs.Ordering.{nat_cmp, eq_by_cmp}
-use Rattle.std.specs.Cmp.{nat_cmp_total}
-use Rattle.std.specs.FinMap.{empty, entries, entries-insert, get, get-empty, get-insert, insert, len, len-empty, len-entries, put, remove}
-use Rattle.std.proofs.lemmas.List.{nil_from_length}
+use Rattle.std.specs.FinMap.{empty, get, insert, remove}
 use Rattle.cf_base.specs.Classes.{sizes_from}
 use Rattle.cf_base.specs.Settings.{Profile}
 use Rattle.cf_lemmas.proofs.Maps.{equal_maps, get_insert_other, get_remove_other, get_removed}
@@ -22,23 +19,7 @@ use Rattle.slice_laws.specs.ShownSlices.{ShownJob, ShownSlices, slices_opened}
 use Rattle.slice_laws.specs.SliceHeadline.{MeetsSliced, after, line_of}
 use Rattle.slice_laws.specs.Small.{MeetsSmall, small_replies}
 use Rattle.slice_laws.proofs.OneTranscript.{is_transcript, replies_from, transcript_meets}
-
--- what finite maps answer, step by step
-module _ (m : Objects) where
-  got : (k : ℕ) (v : List ℕ) (q : ℕ) → get (insert m k v) q ≡ cond (eq_by_cmp nat_cmp q k) (Some v) (get m q)
-  got k v q = get-insert nat_cmp_total m k v q
-
-  listed : (k : ℕ) (v : List ℕ) → entries (insert m k v) ≡ put nat_cmp k v (entries m)
-  listed k v = entries-insert nat_cmp_total m k v
-
-  counted : len m ≡ length (entries m)
-  counted = len-entries m
-
-got_none : (q : ℕ) → get (empty {X = List ℕ} {R = nat_cmp}) q ≡ None
-got_none q = get-empty nat_cmp q
-
-listed_none : entries (empty {X = List ℕ} {R = nat_cmp}) ≡ []
-listed_none = nil_from_length _ (sym (len-entries (empty {X = List ℕ} {R = nat_cmp})) ∙ len-empty nat_cmp (List ℕ))
+use Rattle.transcript_laws.proofs.CallerLemmas.{counted, got, got_none, listed, listed_none}
 
 abbrev o1 : Objects
 o1 = insert empty 1 (replicate 176 0)
@@ -146,16 +127,16 @@ pub right_meets : MeetsSmall (small_replies (codes "ok") (codes "left 7") (codes
 right_meets = subst (λ l. MeetsSliced 8 l right) (sym asked)
     (subst (MeetsSliced 8 script) replies_are (transcript_meets 8 script (tt, (tt, (tt, (tt, (tt, (tt, (tt, (tt, tt))))))))))
 
--- the replies that meet the claim are these: as many, with these letters
-told : (replies : List Reply) → MeetsSmall replies → replies ≡ right
-told replies meets = is_transcript 8 script replies (tt, (tt, (tt, (tt, (tt, (tt, (tt, (tt, tt)))))))) (subst (λ l. MeetsSliced 8 l replies) asked meets)
+-- replies that meet the claim are eight, with these letters
+only_right : (replies : List Reply) → MeetsSmall replies → replies ≡ right
+only_right replies meets = is_transcript 8 script replies (tt, (tt, (tt, (tt, (tt, (tt, (tt, (tt, tt)))))))) (subst (λ l. MeetsSliced 8 l replies) asked meets)
     ∙ replies_are
 
-pub as_many : (replies : List Reply) → MeetsSmall replies → length replies ≡ 8
-as_many replies meets = ap (λ l. length l) (told replies meets)
+pub eight_replies : (replies : List Reply) → MeetsSmall replies → length replies ≡ 8
+eight_replies replies meets = ap (λ l. length l) (only_right replies meets)
 
 abbrev pub letter : ℕ → ℕ → List Reply → ℕ
 letter n k l = get_or (get_or (get_or l n []) 0 []) k 0
 
-pub letter_told : (n k : ℕ) (replies : List Reply) → MeetsSmall replies → letter n k replies ≡ letter n k (small_replies (codes "ok") (codes "left 7") (codes "busy") (codes "ok") (codes "busy"))
-letter_told n k replies meets = ap (letter n k) (told replies meets)
+pub letter_is : (n k : ℕ) (replies : List Reply) → MeetsSmall replies → letter n k replies ≡ letter n k (small_replies (codes "ok") (codes "left 7") (codes "busy") (codes "ok") (codes "busy"))
+letter_is n k replies meets = ap (letter n k) (only_right replies meets)

@@ -13,7 +13,7 @@ pub record ShownJob : Type 0 where
   pub done : ℕ
   pub filled : Bool
 
--- The settings and the objects by id, where every class has the bound 1; the most words of a slice; and the job, if one is pending.
+-- The settings and the objects by id, with bound 1 for every class; the most words of a slice; and the job, if one is pending.
 pub record ShownSlices : Type 0 where
   pub heap : ById
   pub quantum : ℕ

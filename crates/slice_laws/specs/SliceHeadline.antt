@@ -91,7 +91,7 @@ Answers old command reply new = (reply ≡ said (line_of old command)) × (new �
 abbrev pub Opens : ℕ → Profile → Reply → ShownSlices → Type 0
 Opens quantum p reply new = (reply ≡ said (codes "ok")) × (new ≡ slices_opened quantum p)
 
--- The replies to a script are as claimed, one for each item, where a slice does at most so many words.
+-- The replies to a script are as claimed, one for each item, if a slice does at most `quantum` words.
 abbrev pub MeetsSliced : ℕ → List Item → List Reply → Type 0
 MeetsSliced quantum items replies = (end : Option ShownSlices) × PlayRun (Opens quantum) Answers None items replies end
 

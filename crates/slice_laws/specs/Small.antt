@@ -4,7 +4,7 @@ use Rattle.run_model.specs.Texts.{Reply, said}
 use Rattle.script_reader.specs.Items.{items}
 use Rattle.slice_laws.specs.SliceHeadline.{MeetsSliced}
 
--- two pages of 64 words, and slices of 8 words: an object of 176 bytes has 23 words, and two stand on a page; one of 504 bytes has a page
+-- two pages of 64 words, and slices of 8 words: an object of 176 bytes has 23 words, so a page holds two; one of 504 bytes fills a page
 abbrev pub MeetsSmall : List Reply → Type 0
 MeetsSmall replies = MeetsSliced 8 (items (codes "heap 2 512 1 8\nm 1 176\nm 2 176\nf 2\ns\nf 1\nm 3 504\nm 4 176\n") true) replies
 

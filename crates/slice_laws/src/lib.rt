@@ -33,12 +33,12 @@ pub fn one_sliced_transcript()
         → (replies : List Reply) × MeetsSliced quantum items replies }
 {}
 
-/// What the heap that is shown says of waiting. A free of a live id is answered `busy` exactly if a
-/// job is pending. A malloc is not if there is a page more than the objects need with the new one.
-/// `s` prints `left 0` exactly if no job is pending after it. After a free each `s` lowers the words
-/// that are left by those of a slice, if no malloc comes between. A malloc that is answered `busy` is
-/// done after a slices that do what is left of the job, and b that do its whole slot, if nothing else
-/// is asked: one more job follows at most.
+/// Which calls wait for a job, and how long. A free of a live id prints `busy` if and only if a job is
+/// pending. A malloc does not print `busy` if the objects with the new one need fewer pages than there
+/// are. `s` prints `left 0` if and only if no job is pending after it. After a free each `s` lowers the
+/// words that are left by those of a slice, if no malloc comes between. A malloc that prints `busy` is
+/// not refused after a slices that finish the job and b slices that do a whole slot, if no other command
+/// comes between: at most one more job follows.
 pub fn who_waits_and_how_long()
     ensures free { (t : ShownSlices) (id : ℕ) (v : List ℕ) → get t.heap.objects id ≡ Some v
         → (line_of t (Free id) ≡ codes "busy") ↔ (t.job ≢ None) }
@@ -57,12 +57,12 @@ pub fn who_waits_and_how_long()
         → slice_refusal t n ≡ Some Busy → slice_refusal (after_slices (a + b) t) n ≡ None }
 {}
 
-/// On two pages of 64 words, with slices of 8 words: two objects of 23 words, one is freed, a slice,
-/// a free of the other, an object of a page, and a third one of 23 words. The replies are `ok` to the
-/// first malloc, `left 7`, `busy`, `ok` and `busy`, and no others: not `refused size` to a malloc that
-/// fits, not silence, no reply fewer or more; not `left 0` at once, nor the words that are done; not
-/// `ok` to a free beside the job; not `busy` while there is a page, nor `ok` while the job has the
-/// only slot.
+/// Wrong replies violate the claim. The script, on two pages of 64 words with slices of 8 words: mallocs
+/// of two objects of 23 words, a free of one, a slice, a free of the other, a malloc of a whole page, and
+/// a malloc of a third object of 23 words. The claim holds for `ok` to the first malloc, `left 7`, `busy`,
+/// `ok` and `busy`. It fails for `refused size` to a malloc that fits, for no reply, for a reply too few
+/// or too many, for `left 0` at once or the words that are done, for `ok` to a free beside the job, for
+/// `busy` while a page is free, and for `ok` while the job has the only slot.
 pub fn wrong_sliced_replies_fall_short()
     ensures right { MeetsSmall (small_replies (codes "ok") (codes "left 7") (codes "busy") (codes "ok") (codes "busy")) }
     ensures size { ¬ MeetsSmall (small_replies (codes "refused size") (codes "left 7") (codes "busy") (codes "ok") (codes "busy")) }

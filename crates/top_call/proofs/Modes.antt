@@ -4,7 +4,7 @@ use Rattle.clap.specs.Words.{Text}
 use Rattle.cf_base.specs.declared.kind.Kind.TheVariants.{Moving}
 use Rattle.cf_base.specs.declared.status.Status.{Status}
 use Rattle.cf_base.specs.declared.status.Status.TheVariants.{Done, Words, BadScript, ReadFault, WriteFault, OutOfMemory, TooLong, BadImage}
-use Rattle.cf_io.specs.Feeds.{Rose}
+use Rattle.cf_io.specs.Feeds.{FailsLast}
 use Rattle.cf_model.specs.State.{HeapState, closed_state}
 use Rattle.cf_session.specs.Apply.{run_at}
 use Rattle.run_model.specs.Sessions.{fresh_session}
@@ -16,6 +16,10 @@ use Rattle.command_line.specs.declared.choice.Choice.{Choice}
 use Rattle.command_line.specs.declared.choice.Mode.{Mode}
 use Rattle.command_line.specs.declared.choice.Mode.TheVariants.{Run, Compare, Bench, Large, Save, Load, Slice, Quota}
 use Rattle.large_objects.specs.Playing.{large_heap}
+use Rattle.image_run.specs.Saves.{unseen}
+use Rattle.script_loop.specs.OneManager.{one_manager}
+use Rattle.side_by_side.specs.First.{chosen_of}
+use Rattle.side_by_side.specs.Many.{fresh_many, many_managers}
 use Rattle.large_laws.proofs.CallerLemmas.{large_met}
 use Rattle.large_laws.specs.LargeHeadline.{MeetsLarge}
 use Rattle.script_loop.specs.Consequences.{AnswersAll}
@@ -26,9 +30,9 @@ use Rattle.slice_laws.specs.SliceHeadline.{MeetsSliced}
 use Rattle.quota_laws.specs.Transcript.{MeetsTasks}
 use Rattle.quota_session.proofs.CallerLemmas.{tasks_met}
 use Rattle.quota_session.specs.Playing.{quota_tasks}
-use Rattle.manager_modes.proofs.CallerLemmas.{IsSound, bench_sound, compare_sound, compare_told, did_all, load_sound, own_sound, own_told, run_sound, run_told, save_sound}
+use Rattle.manager_modes.proofs.CallerLemmas.{IsSound, bench_sound, compare_sound, compare_told, did_all, load_sound, never_bad_image, own_sound, own_told, run_sound, run_told, save_sound}
 use Rattle.manager_modes.specs.Outcomes.{Ends, EndsWhole, Handed, IsMadeLarge, Loads, OrLacks, Saves, effects_of, kinds_in}
-use Rattle.top_call.specs.TopOutcome.{DoesChosen, EndsWell, HasRightInput, InMode, IsMadeForTasks, IsMadeSliced, IsRightInput, PrintsBytes, TellsAsClaimed, TellsInMode}
+use Rattle.top_call.specs.TopOutcome.{AnswersInput, DoesChosen, EndsWell, HasRightInput, InMode, IsMadeForTasks, IsMadeSliced, IsRightInput, PrintsBytes, TellsAsClaimed, TellsInMode}
 
 sound : (mode : Mode) (choice : Choice) → IsSound (InMode mode choice) (IsRightInput mode)
 sound Run choice = run_sound choice.kind
@@ -78,6 +82,35 @@ told Slice choice = own_told slices (IsMadeSliced choice.quantum) (MeetsSliced c
 told Quota choice = own_told quota_tasks IsMadeForTasks MeetsTasks λ begin made. tasks_met begin
 told mode choice = λ old st new done is. tt
 
+-- only mode `load` ends by `BadImage`, and then the text is that of the refused image
+bad_image_told : (mode : Mode) (choice : Choice) (old new : Handed) → InMode mode choice old BadImage new
+    → TellsInMode mode choice (kinds_in old) (effects_of old BadImage new)
+bad_image_told Run choice old new done =
+    absurd (never_bad_image one_manager (run_at fresh_session (chosen_of choice.kind old.managers)) done.end (effects_of old BadImage new) refl done.outcome)
+bad_image_told Compare choice old new done =
+    absurd (never_bad_image many_managers (fresh_many old.managers) done.end (effects_of old BadImage new) refl done.outcome)
+bad_image_told Large choice old new done = absurd (never_bad_image large_heap done.begin done.end (effects_of old BadImage new) refl done.outcome)
+bad_image_told Save choice old new done =
+    absurd (never_bad_image one_manager (run_at fresh_session (closed_state Moving)) done.end (unseen (effects_of old BadImage new)) refl done.outcome.script)
+bad_image_told Load choice old new done = printed_of LoadsAs (effects_of old BadImage new)
+    (λ read had. load_met (run_at fresh_session (closed_state Moving)) done.end (effects_of old BadImage new) read had
+    (λ cut. subst (λ (s : Status). AnswersInput s) cut tt) done.outcome) old.source.rest refl
+bad_image_told Slice choice old new done = absurd (never_bad_image slices done.begin done.end (effects_of old BadImage new) refl done.outcome)
+bad_image_told Quota choice old new done = absurd (never_bad_image quota_tasks done.begin done.end (effects_of old BadImage new) refl done.outcome)
+bad_image_told Bench choice old new done = tt
+
+-- the same at each status at which all that was read has its answer
+told_at : (mode : Mode) (choice : Choice) (old : Handed) (st : Status) (new : Handed) → OrLacks (InMode mode choice) old st new → AnswersInput st
+    → TellsInMode mode choice (kinds_in old) (effects_of old st new)
+told_at mode choice old BadImage new done is = bad_image_told mode choice old new done
+told_at mode choice old Done new done is = told mode choice old Done new done is
+told_at mode choice old BadScript new done is = told mode choice old BadScript new done is
+told_at mode choice old TooLong new done is = told mode choice old TooLong new done is
+told_at mode choice old ReadFault new done is = absurd is
+told_at mode choice old WriteFault new done is = absurd is
+told_at mode choice old OutOfMemory new done is = absurd is
+told_at mode choice old Words new done is = absurd is
+
 -- The arguments make a choice, and its mode ends so.
 module _ (words : List Text) (choice : Choice) (chosen : Chooses words choice) (old : Handed) (st : Status) (new : Handed)
     (ends : Ends (InMode choice.mode choice) old st new) where
@@ -99,8 +132,8 @@ module _ (words : List Text) (choice : Choice) (chosen : Chooses words choice) (
       go BadImage done = does BadImage done
 
   pub chosen_tells : TellsAsClaimed words old st new
-  chosen_tells is = record { choice = choice; chosen = chosen; tells = told choice.mode choice old st new ends.outcome is }
+  chosen_tells is = record { choice = choice; chosen = chosen; tells = told_at choice.mode choice old st new ends.outcome is }
 
-  pub chosen_whole : HasRightInput words old.source.rest → ¬ Rose old.source.faults new.source.faults → ¬ Rose old.sink.faults new.sink.faults → EndsWhole st
+  pub chosen_whole : HasRightInput words old.source.rest → ¬ FailsLast old.source.faults new.source.faults new.source.failed → ¬ FailsLast old.sink.faults new.sink.faults new.sink.failed → EndsWhole st
   chosen_whole have = (sound choice.mode choice).whole old st new ends
       (subst (λ (c : Choice). IsRightInput c.mode old.source.rest) (one_choice words choice have.choice chosen have.chosen) have.right)

@@ -5,7 +5,7 @@ use Rattle.clap.specs.Words.{Text}
 use Rattle.cf_base.specs.declared.kind.Kind.{Kind}
 use Rattle.cf_base.specs.declared.kind.Kind.TheVariants.{Moving}
 use Rattle.cf_base.specs.declared.status.Status.{Status}
-use Rattle.cf_base.specs.declared.status.Status.TheVariants.{Words}
+use Rattle.cf_base.specs.declared.status.Status.TheVariants.{Words, BadImage}
 use Rattle.command_line.specs.Choices.{AreRefused, Chooses}
 use Rattle.command_line.specs.declared.choice.Choice.{Choice}
 use Rattle.command_line.specs.declared.choice.Mode.{Mode}
@@ -87,9 +87,14 @@ pub record TellsChosen (words : List Text) (kinds : List Kind) (call : Effects) 
   pub chosen : Chooses words choice
   pub tells : TellsInMode choice.mode choice kinds call
 
--- if every item within the limit has its reply, the output is as claimed, however the source was cut
+-- the statuses at which all that was read has its answer: every item within the limit, or an image, be it refused
+abbrev pub AnswersInput : Status → Type 0
+AnswersInput BadImage = ⊤
+AnswersInput status = AnswersAll status
+
+-- if all that was read has its answer, the output is as claimed, whatever the chunks of the source
 abbrev pub TellsAsClaimed : List Text → Handed → Status → Handed → Type 0
-TellsAsClaimed words old status new = AnswersAll status → TellsChosen words (kinds_in old) (effects_of old status new)
+TellsAsClaimed words old status new = AnswersInput status → TellsChosen words (kinds_in old) (effects_of old status new)
 
 -- what a mode reads is right: an image, or a script within the limit with no bad line; mode `bench` reads nothing
 abbrev pub IsRightInput : Mode → Option (List ℕ) → Type 0

@@ -1,9 +1,9 @@
 //! The top call: does what the arguments choose, over any source, any sink and any managers.
 #![tactic(auto)]
 
+pub mod laws;
 mod quota;
 mod slice;
 mod top;
 
-pub use manager_modes::Boxed;
 pub use top::cf_main;

@@ -1,6 +1,6 @@
 //! The top call.
 ghost use Rattle.std.specs.Prelude.{◌≡◌, ◌<◌, ◌≤◌, ◌+◌, ◌⊎◌, map, string_bytes, ◌≢◌};
-ghost use Rattle.cf_io.specs.Feeds.{Rose, last_count};
+ghost use Rattle.cf_io.specs.Feeds.{FailsLast, last_count};
 ghost use Rattle.script_loop.specs.ScriptOutcome.{MOST_BYTES};
 ghost use Rattle.manager_modes.specs.Outcomes.{Ends, EndsWhole, seen};
 ghost use Rattle.top_call.specs.TopOutcome.{EndsWell, HasRightInput, InMode, TellsAsClaimed};
@@ -14,7 +14,7 @@ use command_line::{Choice, Mode, WordsFault, read_words};
 use manager_modes::{bench_seed, compare_all, load_image, play_large, run_chosen, save_image};
 use std::alloc::Global;
 
-/// Reads the arguments, of which the first is the program's name, and does what they choose.
+/// Parses the arguments, the first of them the program's name, and runs the mode that they choose.
 ///
 /// In mode `run` the first manager of the chosen kind runs a script of at most 268,435,455 bytes; if
 /// there is none of the kind, a closed one that is made for it. The `heap` line opens the manager, and
@@ -46,12 +46,13 @@ pub fn cf_main<H: Manager, S: Source, K: Sink>(
     ensures kinds { map (λ h. h.kind) (map (λ m. H.state m) managers.new.items)
         ≡ map (λ h. h.kind) (map (λ m. H.state m) managers.old.items) }
     ensures complete { HasRightInput (map (λ word. string_bytes word) words.now) (S.rest source.old)
-        → ¬ Rose (S.faults source.old) (S.faults source.new) → ¬ Rose (K.faults sink.old) (K.faults sink.new) → EndsWhole result }
+        → ¬ FailsLast (S.faults source.old) (S.faults source.new) (S.last_failed source.new)
+        → ¬ FailsLast (K.faults sink.old) (K.faults sink.new) (K.last_failed sink.new) → EndsWhole result }
     // The causes, over every source and sink.
     ensures source_same { result ≢ Status.ReadFault → S.faults source.new ≡ S.faults source.old }
-    ensures read_fault { result ≡ Status.ReadFault → Rose (S.faults source.old) (S.faults source.new) }
+    ensures read_fault { result ≡ Status.ReadFault → FailsLast (S.faults source.old) (S.faults source.new) (S.last_failed source.new) }
     ensures sink_same { result ≢ Status.WriteFault → K.faults sink.new ≡ K.faults sink.old }
-    ensures write_fault { result ≡ Status.WriteFault → Rose (K.faults sink.old) (K.faults sink.new) }
+    ensures write_fault { result ≡ Status.WriteFault → FailsLast (K.faults sink.old) (K.faults sink.new) (K.last_failed sink.new) }
     ensures too_long { result ≡ Status.TooLong
         → (S.given source.old + MOST_BYTES < S.given source.new) ⊎ (S.given source.new ≡ last_count) }
 {

@@ -8,7 +8,7 @@ use cf_io::{MemSink, MemSource, number_of};
 use cf_model::Manager;
 use std::test::Fail;
 
-/// The words of each way to answer, and the kinds of the managers.
+/// The arguments of each mode that is tried, and the kinds of the managers.
 const WAYS: [(&[&str], &[Kind]); 5] = [
     (&["run"], &[Kind::Moving]),
     (&["--manager", "nm"], &[Kind::NonMoving]),
@@ -107,8 +107,7 @@ fn random_bytes(rt: &HostRuntime, draws: &mut Draws) -> Result<Vec<u8>, Fail> {
     Ok(bytes)
 }
 
-/// A `heap` line and lines of commands, of which one is cut out, doubled or changes places with
-/// another one.
+/// A `heap` line and command lines. One of the lines is removed, doubled or swapped with another one.
 fn damaged_lines(rt: &HostRuntime, draws: &mut Draws) -> Result<Vec<u8>, Fail> {
     let mut lines: Vec<&'static [u8]> = Vec::new(rt.alloc());
     lines.push(HEADS[draws.below(4)])?;
@@ -148,7 +147,7 @@ fn flip_bits(bytes: &mut Vec<u8>, draws: &mut Draws) {
     }
 }
 
-/// The length of the first lines of a script, so many of them, with their line feeds.
+/// The length of the first `count` lines of a script, with their line feeds.
 fn first_lines(script: &[u8], count: usize) -> usize {
     let mut seen: usize = 0;
     for (i, byte) in script.iter().enumerate() {
@@ -189,7 +188,7 @@ fn play(rt: &HostRuntime, way: usize, script: &[u8], cuts: Vec<usize>) -> Result
     })
 }
 
-/// What stands before a last line `bad line N`, and N.
+/// The text before a last line `bad line N`, and N.
 fn bad_line_of(text: &[u8]) -> Option<(&[u8], usize)> {
     let mut begin: usize = 0;
     for (i, byte) in text.iter().enumerate() {
@@ -221,8 +220,8 @@ fn names_first_bad(
     Ok(good.keeps && good.status == Status::Done && good.sink.written() == before)
 }
 
-/// Whether a script without a bad line prints the same where a bad line follows, from a source that
-/// cuts it, and that line is then named.
+/// Whether a script without a bad line prints the same replies if a bad line follows it, under another
+/// chunking too, and then the number of that line.
 fn names_one_more(
     rt: &HostRuntime,
     way: usize,
@@ -246,8 +245,8 @@ fn names_one_more(
     Ok(named && bad.keeps && bad.status == Status::BadScript)
 }
 
-/// Whether a script is answered as it should be, in one of the ways: its lines up to the first bad one,
-/// the same however it is cut.
+/// Whether a script has the right outcome in one of the modes: replies to the lines before the first
+/// bad one, and the same output under every chunking.
 fn is_answered(rt: &HostRuntime, way: usize, script: &[u8], chunk: usize) -> Result<bool, Fail> {
     let alloc = rt.alloc();
     let whole = play(rt, way, script, Vec::new(alloc))?;
@@ -276,7 +275,7 @@ fn damaged_script(rt: &HostRuntime, draws: &mut Draws) -> Result<Vec<u8>, Fail> 
     Ok(script)
 }
 
-/// Whether the script of a seed is answered as it should be.
+/// Whether the script of a seed has the right outcome.
 fn is_seed_answered(rt: &HostRuntime, seed: u64) -> Result<bool, Fail> {
     let mut draws = Draws { state: seed };
     let script = damaged_script(rt, &mut draws)?;

@@ -2,18 +2,18 @@
 
 use super::rows::{MOVE, MOVED};
 use super::{ROOM, answer_by, answer_on, answered_from, closed_managers, failing_sink};
+use boxed_managers::Boxed;
 use cf_base::{Handle, Kind, Status};
 use cf_io::{MemSink, MemSource, SureSource};
 use cf_model::Manager;
 use std::alloc::{AllocError, Global};
 use std::test::Fail;
 use step_ledger::Meter;
-use top_call::Boxed;
 
-/// The live objects of an open manager, and the address of object number 1, where it is live.
+/// The number of live objects of an open manager, and the address of object number 1, if it is live.
 type Stand = (u32, Option<u32>);
 
-/// Where a manager stands after each number of lines; none where it is closed.
+/// The state of a manager after each number of lines; `None` while it is closed.
 type Stands = [Option<Stand>; 15];
 
 /// The moving manager: the last free of four objects moves object number 1.
@@ -73,9 +73,9 @@ const BLOCKS: Stands = [
     Some((3, Some(24))),
 ];
 
-/// A way to answer the script in which an object moves: the words, the kinds of the managers, the
-/// whole output, where each manager stands after each number of lines, and how often a sink is
-/// called that takes 5 bytes a call.
+/// One mode on the script that moves an object: the arguments, the kinds of the managers, the whole
+/// output, the state of each manager after each number of lines, and how often a sink that takes
+/// 5 bytes a call is called.
 #[derive(Clone, Copy)]
 struct Answers {
     words: &'static [&'static str],
@@ -126,7 +126,7 @@ const ANSWERS: [Answers; 5] = [
 /// Of a source that gives 7 bytes a call, the whole lines that were taken before each call.
 const LINES: [usize; 16] = [0, 0, 0, 1, 2, 3, 4, 5, 6, 6, 8, 9, 11, 12, 13, 14];
 
-/// Where an open manager stands; none where it is closed.
+/// The state of an open manager; `None` if it is closed.
 fn stand_of(rt: &HostRuntime, manager: &Boxed) -> Option<Stand> {
     let mut meter = Meter::new(rt);
     if manager.is_open() {
@@ -159,8 +159,8 @@ fn failing(alloc: Global, call: Option<u64>) -> Result<Vec<u64>, AllocError> {
     Ok(fails)
 }
 
-/// Whether the managers stand as they should. The line that opens them opens all of them before the
-/// first reply.
+/// Whether each manager has the state that the lines before the fault leave. The `heap` line opens all
+/// managers before the first reply.
 fn stand_so(rt: &HostRuntime, answers: &Answers, managers: &Vec<Boxed>, fault: &Fault) -> bool {
     for (i, manager) in managers.iter().enumerate() {
         let late = i > fault.cut && fault.lines > 1;
@@ -188,7 +188,7 @@ fn leaves_so(rt: &HostRuntime, answers: &Answers, fault: &Fault) -> Result<bool,
     Ok(status == fault.status && sink.written() == text && stand_so(rt, answers, &managers, fault))
 }
 
-/// The length of so many lines of a text.
+/// The length of the first `count` lines of a text.
 fn length_of_lines(text: &[u8], count: usize) -> usize {
     let mut left = count;
     for (i, byte) in text.iter().enumerate() {
@@ -202,7 +202,7 @@ fn length_of_lines(text: &[u8], count: usize) -> usize {
     text.len()
 }
 
-/// The script is answered whole.
+/// The outcome if nothing fails.
 fn whole(answers: &Answers, take: Option<u64>, put: Option<u64>) -> Fault {
     Fault {
         take,
@@ -214,7 +214,7 @@ fn whole(answers: &Answers, take: Option<u64>, put: Option<u64>) -> Fault {
     }
 }
 
-/// Where a call of the source fails, the whole lines taken by then are answered, and no more.
+/// If a call of the source fails, the output is the replies to the whole lines read before it.
 #[test]
 fn a_read_fault_leaves_the_replies_of_the_whole_lines(rt: HostRuntime) -> Result<(), Fail> {
     for answers in ANSWERS {
@@ -270,10 +270,10 @@ fn a_write_fault_leaves_a_prefix_of_the_text(rt: HostRuntime) -> Result<(), Fail
     Ok(())
 }
 
-/// Two lines, of which the first is answered before the fault.
+/// Two lines. The reply to the first one is written before the fault.
 const TWO_LINES: &[u8] = b"heap 1 512 1 4\nm 1 8\n";
 
-/// Whether a source that fails within the second line ends the run, with the first one answered.
+/// Whether a source that fails within the second line ends the run after the reply to the first one.
 fn ends_at_the_second_line(rt: &HostRuntime) -> Result<bool, Fail> {
     let alloc = rt.alloc();
     let (cuts, fails) = (vec![in alloc; 18; 1]?, vec![in alloc; 1; 1]?);

@@ -1,4 +1,4 @@
-//! Whether a manager keeps its rules, as its calls tell.
+//! Whether a manager keeps its rules, as its calls show.
 ghost use Rattle.std.specs.Prelude.{IsTrue};
 
 use cf_base::Handle;
@@ -8,8 +8,8 @@ use step_ledger::{Meter, Steps};
 /// More handles than the managers of these tests have proxies.
 const HANDLES: u32 = 16;
 
-/// Whether each live handle has a header in which its number stands, and the objects are as many and
-/// as long as the totals say. The header is word `header` of the slot or block.
+/// Whether the header of each live object holds its handle, and the totals match the number and the
+/// bytes of the objects. The header is word `header` of the slot or block.
 fn objects_agree<H: Manager>(heap: &H, header: u32, steps: &mut Steps) -> bool
     requires { IsTrue (H.state heap.now).is_open }
 {
@@ -96,7 +96,7 @@ fn blocks_agree<H: Manager>(heap: &H, steps: &mut Steps) -> bool
     used == totals.used && free == totals.free && largest == totals.largest && used == totals.live
 }
 
-/// Whether an open manager keeps its rules, as its words and figures tell.
+/// Whether an open manager keeps its rules, as its words and figures show.
 pub fn keeps_rules<H: Manager>(rt: &HostRuntime, heap: &H) -> bool
     requires { IsTrue (H.state heap.now).is_open }
 {

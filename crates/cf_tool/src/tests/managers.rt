@@ -1,4 +1,4 @@
-//! Scripts on the managers that are handed in, and where these stand afterwards.
+//! Scripts on managers that the caller passes in, and the state of these managers afterwards.
 
 use super::rows::{MOVE, MOVED};
 use super::{OutputOn, answer_with, answered, answered_on, failing_sink};
@@ -16,7 +16,7 @@ struct Case {
     script: &'static [u8],
     status: Status,
     text: &'static [u8],
-    /// The live objects of each manager afterwards; none where it is still closed.
+    /// The number of live objects of each manager afterwards; `None` if it is still closed.
     live: &'static [Option<u32>],
 }
 
@@ -176,7 +176,7 @@ fn is_answered_so(rt: &HostRuntime, case: &Case) -> Result<bool, Fail> {
     Ok(got.is(case.status, case.text, case.live))
 }
 
-/// What the first of these cases shows that is not answered so; nothing where each is.
+/// The name of the first case with another outcome; empty if there is none.
 fn first_other(rt: &HostRuntime, cases: &[Case]) -> Result<&'static str, Fail> {
     for case in cases {
         if !is_answered_so(rt, case)? {
@@ -192,8 +192,8 @@ fn a_mode_answers_on_the_managers_that_it_names(rt: HostRuntime) -> Result<(), F
     Ok(())
 }
 
-/// A script that makes an object of more bytes than one `w` line has, and an empty one, as mode `load`
-/// tells them.
+/// A script as mode `load` prints it. It makes an object of more bytes than one `w` line can hold, and
+/// an empty one.
 fn long_script(rt: &HostRuntime) -> Result<Vec<u8>, Fail> {
     let alloc = rt.alloc();
     let mut script = b"heap 2 32768 1 2\nm 3 4098\nw 3 0 ".to_vec(alloc)?;
@@ -269,7 +269,7 @@ fn generated_script(rt: &HostRuntime, seed: u64, count: u32) -> Result<Vec<u8>, 
 /// What leads the lines of each of the four.
 const NAMES: [&[u8]; 4] = [b"cf ", b"nm ", b"tlsf ", b"half "];
 
-/// How many lines four managers printed, where all of them print the same and none is refused space.
+/// How many lines four managers printed, if all of them printed the same and none is `refused space`.
 fn lines_alike(text: &[u8]) -> Option<u32> {
     let mut count = 0u32;
     let mut reply: &[u8] = b"";
@@ -301,14 +301,15 @@ fn compared(rt: &HostRuntime, script: Vec<u8>) -> Result<OutputOn, Fail> {
     Ok(OutputOn { left, sink })
 }
 
-/// Whether four managers end well, and print so many lines, all alike.
+/// Whether four managers run a script to its end, and each prints the same `lines` lines.
 fn prints_alike(rt: &HostRuntime, lines: u32) -> Result<bool, Fail> {
     let script = generated_script(rt, 1, 3_000)?;
     let got = compared(rt, script)?;
     Ok(got.left.status == Status::Done && lines_alike(got.sink.written()) == Some(lines))
 }
 
-// 3,000 commands and the `heap` line, which four managers answer alike: there is room for all of it.
+// 3,000 commands and the `heap` line: the four managers print the same replies, since no malloc is
+// refused space.
 #[test]
 fn four_managers_answer_a_long_script_alike(rt: HostRuntime) -> Result<(), Fail> {
     assert!(rt; prints_alike(&rt, 12_004)?);

@@ -1,4 +1,4 @@
-//! A heap opens again where an allocation failed.
+//! A heap can be opened after an allocation failed.
 ghost use Rattle.std.specs.Prelude.{IsTrue};
 
 use cf_base::{Handle, Settings};
@@ -12,9 +12,9 @@ use std::test::Fail;
 use step_ledger::Meter;
 use tlsf_heap::TlsfHeap;
 
-/// Whether a closed manager opens, at once or, where an allocation fails and leaves it closed, at the
-/// second try, and is then open and empty: its one page takes an object of that page's bytes, and no
-/// second one.
+/// Whether a closed manager opens: at the first try, or at the second one if an allocation failed and
+/// left it closed. The open heap is empty: its one page has space for an object of that page's bytes,
+/// and not for a second one.
 fn opens_in_two<H: Manager>(
     rt: &HostRuntime,
     heap: &mut H,
@@ -35,7 +35,7 @@ fn opens_in_two<H: Manager>(
     heap.cost() == 0 && fills_once(rt, heap, page)
 }
 
-/// Whether an open manager takes an object of so many bytes, and no second one.
+/// Whether an open manager has space for one object of `page` bytes, and not for a second one.
 fn fills_once<H: Manager>(rt: &HostRuntime, heap: &mut H, page: u32) -> bool
     requires { IsTrue (H.state heap.old).is_open }
 {

@@ -1,5 +1,5 @@
 //! A read or a write that fails, at each call, in the modes with a heap of their own and in those of
-//! images; and each command is answered before the next chunk is taken.
+//! images. The reply to each command is written before the next chunk is read.
 
 use super::own_heaps::{IMAGES, LARGES, QUOTAS, SLICES};
 use super::rows::{MOVE, MOVED};
@@ -10,8 +10,8 @@ use cf_io::{MemSink, MemSource};
 use std::test::Fail;
 use top_call::cf_main;
 
-/// How a mode is tried: the words, what is read, what is written when nothing fails, and whether each
-/// line of what is read is answered by one line, at once.
+/// How a mode is tried: the arguments, the input, the output if nothing fails, and whether each line of
+/// the input gets one line of output at once.
 type Case = (&'static [&'static str], &'static [u8], &'static [u8], bool);
 
 /// The lines of `large` but the last, whose reply has three lines.
@@ -45,7 +45,8 @@ struct Ended {
     stopped: bool,
 }
 
-/// Plays a case on a source that gives 7 bytes a call and a sink that takes 5, of which one call fails.
+/// Runs a case on a source that returns 7 bytes a call and a sink that takes 5. Call `take` of the
+/// source and call `put` of the sink fail.
 fn played(rt: &HostRuntime, case: &Case, take: u64, put: u64) -> Result<Ended, Fail> {
     let alloc = rt.alloc();
     let (words, read, _, _) = *case;
@@ -83,7 +84,7 @@ fn played(rt: &HostRuntime, case: &Case, take: u64, put: u64) -> Result<Ended, F
 /// No call of a device has this number.
 const NEVER: u64 = u64::MAX;
 
-/// The first so many lines of a text.
+/// The first `count` lines of a text.
 fn first_lines(text: &[u8], count: usize) -> &[u8] {
     let mut left = count;
     for (i, byte) in text.iter().enumerate() {
@@ -117,8 +118,8 @@ fn written_at(case: &Case, call: u64) -> &'static [u8] {
     }
 }
 
-/// How many calls of the source fail, in turn, until the run no longer makes that call. None where one
-/// of them leaves something else than it should.
+/// The number of calls of the source that were made to fail, one run for each. `None` if one of these
+/// runs has a wrong outcome.
 fn read_faults(rt: &HostRuntime, case: &Case) -> Result<Option<u64>, Fail> {
     for call in 0..64u64 {
         let ended = played(rt, case, call, NEVER)?;
@@ -194,7 +195,8 @@ fn line_lengths(rt: &HostRuntime, script: &[u8]) -> Result<Vec<usize>, Fail> {
     Ok(lengths)
 }
 
-/// Whether a script that comes line by line is answered line by line, by so many lines each, and whole.
+/// Whether each line of a script that arrives line by line gets its `replies` lines of output before the
+/// next line is read, and the script is run to its end.
 fn is_in_turn(
     rt: &HostRuntime,
     words: &[&str],

@@ -22,14 +22,14 @@ pub const SLICES: [Row; 4] = [
         Status::Done,
         b"ok\nok\nok\nok\nok\nok\nok\nok\nbusy\nleft 7\nleft 0\nok\n=a1\n=b2\nbusy\nleft 7\nleft 0\nok\n=b2\n",
     ),
-    // A job that ends where a second page is partly full is followed by one that empties it.
+    // A job ends while a second page is partly full, so another job follows, which empties that page.
     (
         &["slice", "--quantum", "16"],
         b"heap 3 512 1 8\nm 1 176\nm 2 176\nf 1\nm 3 176\ns\ns\ns\np 0\np 64\n",
         Status::Done,
         b"ok\nok\nok\nok\nok\nleft 23\nleft 7\nleft 0\n000000b000000000\n0000000000000000\n",
     ),
-    // Slices of 16 words where nothing is said, a bound that does nothing, and words of other modes.
+    // The default quantum of 16 words, a bound that does nothing, and commands of other modes.
     (
         &["slice", "--manager=nm"],
         b"heap 1 512 5 4\nm 1 504\nm 1 8\nf 1\ns\ns\ns\nf 1\nq 1\nt 3\nwalk\nm 1 505\np 64\nx\n",
@@ -124,7 +124,7 @@ pub const IMAGES: [Row; 7] = [
         Status::BadImage,
         b"bad image 26\n",
     ),
-    // A byte stands past the image.
+    // A byte follows the image.
     (
         &["load"],
         b"CFI1\x01\0\0\0\0\x02\0\0\x04\0\0\0\x01\0\0\0\x07\0\x03\0\0\0abc\0",

@@ -1,11 +1,12 @@
-//! A manager that takes just so many steps, and what a script tells of them.
-ghost use Rattle.std.specs.Prelude.{◌≡◌, ◌≤◌, ◌+◌, ◌^◌};
+//! A manager whose calls take their step bound less a slack, and the replies to `steps` that show it.
+ghost use Rattle.std.specs.Prelude.{◌≡◌, ◌≤◌, ◌+◌, ◌^◌, None};
 ghost use Rattle.step_ledger.specs.Counting.{RoseAtMost};
 ghost use Rattle.cf_base.specs.declared.kind.Kind.TheVariants.{Moving};
 ghost use Rattle.cf_model.specs.Costs.{free_bound, resize_bound};
 
 use super::rows::{PADDED, PADDED_CALLS, PADDED_RESIZES};
 use super::{answer_on, plain_sink};
+use boxed_managers::Boxed;
 use cf_base::{
     AccessFault, Figures, Freed, Handle, Kind, NotLive, OutOfMemory, Refusal, ResizeFault, Resized,
     Settings, Status, Totals,
@@ -16,10 +17,9 @@ use moving_heap::MovingHeap;
 use std::alloc::{AllocError, Global};
 use std::test::Fail;
 use step_ledger::Steps;
-use top_call::Boxed;
 
 /// A moving manager whose mallocs, frees and resizes each tick until they have added their bound less
-/// the slack, refused or not.
+/// the slack, refused or not. It promises no order, because an order fixes the cost of each call.
 #[derive(Drop)]
 struct PaddedHeap {
     heap: MovingHeap,
@@ -66,7 +66,7 @@ fn pad(bound: u64, slack: u64, began: u64, steps: &mut Steps) -> u64
 }
 
 impl Manager for PaddedHeap {
-    ghost state = { λ p. record p.heap { cost = p.cost } };
+    ghost state = { λ p. record p.heap { order = None; cost = p.cost } };
 
     fn kind(&self) -> Kind {
         self.heap.kind()
@@ -191,7 +191,7 @@ fn answer_padded(
     answer_on(rt, &[mode], &mut managers, source, sink)
 }
 
-/// Whether a script is answered whole on a padded manager, in this mode, and prints this text.
+/// Whether a script on a padded manager, in this mode, is run to its end and prints this text.
 fn prints_in(
     rt: &HostRuntime,
     mode: &str,

@@ -191,9 +191,9 @@ pub static ROWS: [Row; 30] = [
     ),
 ];
 
-/// Scripts, what stands before a count of steps, its least and its greatest value, and what stands
-/// after it. A slot of 23 words is cleared in the first and the third, one of 24 words in the last; so many
-/// steps they take.
+/// Scripts whose output contains a count of steps: the text before the count, its least and its
+/// greatest value, and the text after it. The first and the third script clear a slot of 23 words, and
+/// the last one a slot of 24 words, at a step a word.
 pub const STEPS: [(&[&str], &[u8], &[u8], u32, u32, &[u8]); 4] = [
     (
         &[],

@@ -33,7 +33,7 @@ impl Log {
         self.after.get() == 0
     }
 
-    /// Whether each chunk was answered before the next was taken.
+    /// Whether the replies to each chunk were written before the next chunk was read.
     pub fn is_in_turn(&self) -> bool {
         !self.early.get()
     }
@@ -63,6 +63,8 @@ impl<'a, S: Source> Source for WatchedSource<'a, S> {
 
     ghost faults = { λ w. S.faults w.source };
 
+    ghost last_failed = { λ w. S.last_failed w.source };
+
     fn take(&mut self, buf: &mut [u8]) -> Result<usize, Failed> {
         self.log.note_call();
         if self.log.lines.get() != self.taken.saturating_mul(self.replies) {
@@ -88,6 +90,8 @@ impl<'a, K: Sink> Sink for WatchedSink<'a, K> {
     ghost written = { λ w. K.written w.sink };
 
     ghost faults = { λ w. K.faults w.sink };
+
+    ghost last_failed = { λ w. K.last_failed w.sink };
 
     fn put(&mut self, bytes: &[u8]) -> Result<usize, Failed> {
         self.log.note_call();
