@@ -6,7 +6,7 @@ program=$top/crates/cf_tool/out/cf_tool
 proof=$top/crates/cf_tool/out/proof
 # What ./prove takes from scratch on four processors.
 # shellcheck disable=SC2034
-minutes=26
+minutes=30
 
 # The lines of crates.txt for the crates that the tool uses, its own last. crates.txt lists a crate above those that use it.
 tool_crates() {
