@@ -4,7 +4,7 @@ top=${top:?}
 program=$top/crates/cf_tool/out/cf_tool
 # Three lines, written once the program is proved and built: the sums of its sources and of itself, and the kit.
 proof=$top/crates/cf_tool/out/proof
-# What ./prove takes from scratch on four processors.
+# What ./prove takes from scratch on four processors, by estimate (docs/PROGRESS.md).
 # shellcheck disable=SC2034
 minutes=30
 
