@@ -14,3 +14,4 @@ pub mod Permutations
 pub mod Renaming
 pub mod Searches
 pub mod Tallies
+pub mod Members

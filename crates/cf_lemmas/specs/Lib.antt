@@ -1,3 +1,4 @@
 pub mod Maps
 pub mod Exchanges
 pub mod Bits
+pub mod Lists

@@ -4,9 +4,9 @@ use Rattle.std.specs.Prelude.{nat_eq}
 use Rattle.std.specs.List.{Contains, IsDistinct}
 use Rattle.std.proofs.lemmas.Bool.{cases_eq}
 use Rattle.std.proofs.lemmas.List.{get_or-set_same, get_or-set_other, length-set}
-use Rattle.class_lists.specs.PageLists.{without_page}
+use Rattle.cf_lemmas.specs.Lists.{without_number}
+use Rattle.cf_lemmas.proofs.Members.{contains_cases, contains_head, contains_nil, contains_tail, distinct_head, distinct_tail, without_first, without_other}
 use Rattle.class_lists.specs.Layout.{chain, IsLinked}
-use Rattle.class_lists.proofs.Members.{contains_nil, contains_head, contains_tail, contains_cases, distinct_head, distinct_tail, without_first, without_other}
 
 module _ (next previous : List ℕ) where
   -- the list is found by following `next`
@@ -77,12 +77,12 @@ module _ (next previous : List ℕ) where
   pub linked_after_unlink : (start p : ℕ) (xs : List ℕ) (end before after : ℕ) → get_or previous p 0 ≡ before → get_or next p 0 ≡ after → before < length next
       → after < length previous
       → ¬ Contains xs start → ¬ Contains xs end → IsDistinct nat_eq xs → Contains xs p
-      → IsLinked next previous start xs end → IsLinked (set next before after) (set previous after before) start (without_page p xs) end
+      → IsLinked next previous start xs end → IsLinked (set next before after) (set previous after before) start (without_number p xs) end
   linked_after_unlink start p [] end before after b a lt lt' out out' d h l = absurd (contains_nil p h)
   linked_after_unlink start p (x ∷ xs) end before after b a lt lt' out out' d h l = elim (cases_eq x p) [
     | inl is ↦ (
         let off : ¬ Contains xs p = rw is at (distinct_head x xs d) in
-        let e : without_page p (x ∷ xs) ≡ xs = rw is (without_first p xs off) in
+        let e : without_number p (x ∷ xs) ≡ xs = rw is (without_first p xs off) in
         let s : before ≡ start = sym b ∙ ap (λ q. get_or previous q 0) (sym is) ∙ l.1 in
         rw (e, s) (passed start x xs end after (ap (λ q. get_or next q 0) is ∙ a) (rw s at lt) lt'
         (λ g. out (contains_tail start x xs g)) (λ g. out' (contains_tail end x xs g)) (distinct_tail x xs d) l))

@@ -4,9 +4,9 @@ use Rattle.std.specs.Prelude.{nat_eq}
 use Rattle.std.specs.List.{Contains, IsDistinct}
 use Rattle.std.proofs.lemmas.Bool.{cases_eq}
 use Rattle.std.proofs.lemmas.List.{get_or-set_same, get_or-set_other, length-set, same_lists, get_or_default}
-use Rattle.class_lists.specs.PageLists.{without_page}
+use Rattle.cf_lemmas.specs.Lists.{without_number}
+use Rattle.cf_lemmas.proofs.Members.{contains_cases, contains_head, contains_without, distinct_cons, distinct_without, length-without}
 use Rattle.class_lists.specs.Layout.{chain, chains, list_at, IsLinked, AreRings, HoldPagesOnce}
-use Rattle.class_lists.proofs.Members.{contains_head, contains_cases, distinct_cons, contains_without, distinct_without, length-without}
 use Rattle.class_lists.proofs.Chains.{linked_chain, linked_kept, first_in, next_in, previous_in, linked_after_push, linked_after_unlink}
 
 -- one of the lists is replaced
@@ -131,18 +131,18 @@ module _ (next previous lens : List ℕ) (pages : ℕ) (lists : List (List ℕ))
       after_within = ring_within after nodes on_after
 
       pub unlink_linked : (len : ℕ) → len ≡ get_or lens k 0 - 1
-          → AreRings (set next before after) (set previous after before) (set lens k len) pages (set lists k (without_page p (list_at lists k)))
+          → AreRings (set next before after) (set previous after before) (set lens k len) pages (set lists k (without_number p (list_at lists k)))
       unlink_linked len counts =
           let counted : get_or lens k 0 ≡ length (list_at lists k) = l.counted k lt in
-          let shorter : length (without_page p (list_at lists k)) + 1 ≡ length (list_at lists k) = length-without p (list_at lists k) (d.distinct k) h in
-          linked_after _ _ (without_page p (list_at lists k)) len (omega arith)
+          let shorter : length (without_number p (list_at lists k)) + 1 ≡ length (list_at lists k) = length-without p (list_at lists k) (d.distinct k) h in
+          linked_after _ _ (without_number p (list_at lists k)) len (omega arith)
           (linked_after_unlink next previous (pages + k) p (list_at lists k) (pages + k) before after b a before_within (let w = after_within in omega arith)
           (own_node k) (own_node k) (d.distinct k) h (l.linked k lt))
           (λ j lj ne. linked_kept next previous _ _ _ before after after before (off_ring j before ne on_before) (off_ring j after ne on_after) (l.linked j lj))
 
-      pub unlink_disjoint : HoldPagesOnce pages (set lists k (without_page p (list_at lists k)))
+      pub unlink_disjoint : HoldPagesOnce pages (set lists k (without_number p (list_at lists k)))
       unlink_disjoint =
-          disjoint_after lists k (without_page p (list_at lists k)) pages (let e = l.as_many in omega arith) d
+          disjoint_after lists k (without_number p (list_at lists k)) pages (let e = l.as_many in omega arith) d
           (λ q g. d.within k q (contains_without p q (list_at lists k) g).1)
           (distinct_without p (list_at lists k) (d.distinct k))
           (λ j q ne g in'. ne (d.once j k q g (contains_without p q (list_at lists k) in').1))

@@ -6,12 +6,12 @@ use Rattle.std.specs.List.{Contains, range_with_len}
 use Rattle.std.proofs.lemmas.Bool.{cases_eq, cases_lt}
 use Rattle.std.proofs.lemmas.List.{get_or_read, get_or-set_same, get_or-set_other, length-set, get_or_past, length-replicate, get_or-replicate}
 use Rattle.std.proofs.lemmas.List.FromFn.{length-range_with_len, get_or-range_with_len}
+use Rattle.cf_lemmas.specs.Lists.{without_number}
+use Rattle.cf_lemmas.proofs.Members.{contains_cases, contains_head, contains_nil, contains_without, distinct_cons, distinct_nil, length-without, length_within}
 use Rattle.class_lists.specs.declared.Which.{Which}
 use Rattle.class_lists.specs.declared.Which.TheVariants.{Full, NotFull}
-use Rattle.class_lists.specs.PageLists.{PageLists, AreApart, AreEmpty, IsUnlisted, KeepsOthers, empty_lists, list_number, pages_in, with_list, without_page}
+use Rattle.class_lists.specs.PageLists.{PageLists, AreApart, AreEmpty, IsUnlisted, KeepsOthers, empty_lists, list_number, pages_in, with_list}
 use Rattle.class_lists.specs.Layout.{chains, lists_of, list_at, IsLinked, AreRings, HoldPagesOnce, IsValid}
-use Rattle.class_lists.proofs.Members.{contains_nil, contains_head, contains_without, contains_cases, distinct_nil, distinct_cons, length-without}
-use Rattle.class_lists.proofs.Members.{length_within}
 use Rattle.class_lists.proofs.Rings.{length-chains, chains_are, first_within, push_linked, push_disjoint, before_within, after_within, unlink_linked}
 use Rattle.class_lists.proofs.Rings.{unlink_disjoint}
 
@@ -43,14 +43,14 @@ module _ (v : PageLists) (c : ℕ) (w : Which) (list : List ℕ) where
 
 -- a page that leaves its list is in no list
 pub unlisted_then : (v : PageLists) (c : ℕ) (w : Which) (p : ℕ) → list_number c w < length v.lists → AreApart v → Contains (pages_in v c w) p
-    → IsUnlisted (with_list v c w (without_page p (pages_in v c w))) p
+    → IsUnlisted (with_list v c w (without_number p (pages_in v c w))) p
 unlisted_then v c w p lt a h d u g = elim (cases_eq (list_number d u) (list_number c w)) [
   | inl is ↦ (
-      let there : Contains (without_page p (pages_in v c w)) p =
-      rw (is, get_or-set_same v.lists (list_number c w) (without_page p (pages_in v c w)) [] lt) at g in
+      let there : Contains (without_number p (pages_in v c w)) p =
+      rw (is, get_or-set_same v.lists (list_number c w) (without_number p (pages_in v c w)) [] lt) at g in
       (contains_without p p (pages_in v c w) there).0 refl)
   | inr ne ↦ (
-      let there : Contains (pages_in v d u) p = rw (get_or-set_other v.lists (list_number c w) (list_number d u) (without_page p (pages_in v c w)) [] ne) at g
+      let there : Contains (pages_in v d u) p = rw (get_or-set_other v.lists (list_number c w) (list_number d u) (without_number p (pages_in v c w)) [] ne) at g
       in
       let is = a.once d c u w p there h in
       ne (ap (λ e. list_number e u) is.0 ∙ ap (list_number c) is.1))
@@ -213,10 +213,10 @@ module _ (next previous lens : List ℕ) (pages : ℕ) (s : IsValid next previou
       pub some_page : 1 ≤ length (pages_in v c w)
       some_page = (let lt' : h.0 < length (pages_in v c w) = h.1 in omega arith)
 
-      pub unlisted_now : IsUnlisted (with_list v c w (without_page p (pages_in v c w))) p
+      pub unlisted_now : IsUnlisted (with_list v c w (without_number p (pages_in v c w))) p
       unlisted_now = unlisted_then v c w p inside apart h
 
-      pub shorter : length (without_page p (pages_in v c w)) + 1 ≡ length (pages_in v c w)
+      pub shorter : length (without_number p (pages_in v c w)) + 1 ≡ length (pages_in v c w)
       shorter = length-without p (pages_in v c w) (apart.distinct c w) h
 
       module _ (before after : ℕ) (b : before ≡ get_or previous p before) (a : after ≡ get_or next p after) where
@@ -234,14 +234,14 @@ module _ (next previous lens : List ℕ) (pages : ℕ) (s : IsValid next previou
 
         pub unlinked : (len : ℕ) (next' previous' lens' : List ℕ) → len ≡ get_or lens k 0
             → next' ≡ set next before after → previous' ≡ set previous after before → lens' ≡ set lens k (len - 1)
-            → Changes next' previous' lens' pages v c w (without_page p (pages_in v c w))
+            → Changes next' previous' lens' pages v c w (without_number p (pages_in v c w))
         unlinked len next' previous' lens' counts n r m =
             let fewer : len - 1 ≡ get_or lens k 0 - 1 = ap (λ q. q - 1) counts in
-            let linked : AreRings next' previous' lens' pages (set (chains next pages lens) k (without_page p (list_at (chains next pages lens) k))) =
+            let linked : AreRings next' previous' lens' pages (set (chains next pages lens) k (without_number p (list_at (chains next pages lens) k))) =
             rw (n, r, m) (unlink_linked next previous lens pages _ k within s.linked s.disjoint s.nodes s.backed p before after at_list at_before at_after
             (len - 1) fewer) in
-            changed next' previous' lens' (without_page p (list_at (chains next pages lens) k)) (without_page p (pages_in v c w))
-            (ap (without_page p) (sym list_k))
+            changed next' previous' lens' (without_number p (list_at (chains next pages lens) k)) (without_number p (pages_in v c w))
+            (ap (without_number p) (sym list_k))
             (ap length n ∙ length-set next before after) (ap length r ∙ length-set previous after before)
             (ap length m ∙ length-set lens k (len - 1)) linked
             (unlink_disjoint next previous lens pages _ k within s.linked s.disjoint s.nodes s.backed p before after at_list at_before at_after)

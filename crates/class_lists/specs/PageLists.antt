@@ -36,10 +36,6 @@ with_list v c which list = record v { lists = slice_set v.lists (list_number c w
 abbrev pub IsUnlisted : PageLists → ℕ → Type 0
 IsUnlisted v page = (c : ℕ) (which : Which) → ¬ Contains (pages_in v c which) page
 
--- a list without one page, in order
-abbrev pub without_page : ℕ → List ℕ → List ℕ
-without_page page list = filter (λ other. not (other == page)) list
-
 -- every other list stays
 abbrev pub KeepsOthers : PageLists → PageLists → ℕ → Which → Type 0
 KeepsOthers old new c which =

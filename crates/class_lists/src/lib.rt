@@ -4,8 +4,9 @@
 
 ghost use Rattle.std.specs.Prelude.{◌≡◌, ◌+◌, ◌*◌, ◌<◌, ◌^◌, ◌↔◌, [], ◌∷◌, IfOk, IfSome, IsNone, length, slice_get, slice_set};
 ghost use Rattle.std.specs.List.{Contains, range_with_len};
+ghost use Rattle.cf_lemmas.specs.Lists.{without_number};
 ghost use Rattle.step_ledger.specs.Counting.{RoseBy};
-ghost use Rattle.class_lists.specs.PageLists.{AreApart, AreEmpty, IsUnlisted, KeepsOthers, empty_lists, list_number, pages_in, with_list, without_page};
+ghost use Rattle.class_lists.specs.PageLists.{AreApart, AreEmpty, IsUnlisted, KeepsOthers, empty_lists, list_number, pages_in, with_list};
 
 mod counts;
 
@@ -131,8 +132,8 @@ impl ClassLists {
     pub fn unlink(&mut self, c: u32, which: Which, page: u32, steps: &mut Steps)
         requires class { c < self.old.classes }
         requires listed { Contains (pages_in self.old c which) page }
-        ensures lists { self.new ≡ with_list self.old c which (without_page page (pages_in self.old c which)) }
-        ensures list { pages_in self.new c which ≡ without_page page (pages_in self.old c which) }
+        ensures lists { self.new ≡ with_list self.old c which (without_number page (pages_in self.old c which)) }
+        ensures list { pages_in self.new c which ≡ without_number page (pages_in self.old c which) }
         ensures len { length (pages_in self.new c which) + 1 ≡ length (pages_in self.old c which) }
         ensures within { page < self.new.pages }
         ensures unlisted { IsUnlisted self.new page }

@@ -2,10 +2,11 @@
 use Rattle.std.proofs.Common.{◌≡◌, ◌≢◌, ℕ, zero, suc, ◌+◌, ◌-◌, ◌<◌, ◌≤◌, List, ◌∷◌, Option, None, length, get_or, set, arith, refl, sym, ◌∙◌, ap, eqb, cond}
 use Rattle.std.specs.Prelude.{not}
 use Rattle.std.specs.List.{Contains, IsDistinct, range_with_len}
-use Rattle.std.proofs.lemmas.Bool.{eq-eqb, ne_eqb}
+use Rattle.std.proofs.lemmas.Bool.{ne_eqb}
 use Rattle.std.proofs.lemmas.List.{get_or-set_same, get_or-set_other}
 use Rattle.std.proofs.lemmas.Map.Keys.{IsDistinct-from_apart}
-use Rattle.proxy_table.specs.Proxies.{without_number}
+use Rattle.cf_lemmas.specs.Lists.{without_number}
+use Rattle.cf_lemmas.proofs.Members.{without_same}
 use Rattle.proxy_table.specs.Layout.{IsFalling, IsValid, top_down}
 
 length_top : (stack : List ℕ) (left : ℕ) → length (top_down stack left) ≡ left
@@ -65,9 +66,6 @@ free_taken stack left h room =
     ∙ ap (λ xs. h ∷ xs) (below_stay stack left left h (omega arith)))
 
 -- a list of numbers that holds a number once, without it
-without_same : (h : ℕ) (xs : List ℕ) → without_number h (h ∷ xs) ≡ without_number h xs
-without_same h xs = ap (λ b. cond (not b) (h ∷ without_number h xs) (without_number h xs)) (eq-eqb h h refl)
-
 pub without_stack : (stack : List ℕ) (h n : ℕ) → ((i : ℕ) → i < n → get_or stack i 0 ≢ h) → without_number h (top_down stack n) ≡ top_down stack n
 without_stack stack h zero off = refl
 without_stack stack h (suc n) off =

@@ -1,9 +1,10 @@
 -- What contracts see of a proxy table: a finite map from the live numbers, all below a limit, to addresses, and the free numbers in the order of their use.
-use Rattle.std.specs.Prelude.{◌≡◌, ℕ, ◌+◌, ◌<◌, ◌≤◌, List, ◌∷◌, ◌==◌, None, Some, length, not, nat_eq, refl}
-use Rattle.std.specs.List.{Contains, IsDistinct, filter, range_with_len}
+use Rattle.std.specs.Prelude.{◌≡◌, ℕ, ◌+◌, ◌<◌, ◌≤◌, List, ◌∷◌, None, Some, length, nat_eq, refl}
+use Rattle.std.specs.List.{Contains, IsDistinct, range_with_len}
 use Rattle.std.specs.Ordering.{nat_cmp}
 use Rattle.std.specs.FinMap as map
 use Rattle.std.specs.Coded.{Coded, code_by, coded×, coded_list, coded_ℕ}
+use Rattle.cf_lemmas.specs.Lists.{without_number}
 
 -- how many numbers there are, the address of each live one, and the free ones, the next first
 pub record Proxies : Type 0 where
@@ -14,10 +15,6 @@ pub record Proxies : Type 0 where
 -- no number is live; number 0 is the next
 abbrev pub no_proxies : ℕ → Proxies
 no_proxies limit = record { limit = limit; places = map.empty; free = range_with_len 0 limit }
-
--- a list of numbers without one number, in order
-abbrev pub without_number : ℕ → List ℕ → List ℕ
-without_number number numbers = filter (λ other. not (other == number)) numbers
 
 -- the number becomes live with this address, and isn't free
 abbrev pub with_place : Proxies → ℕ → ℕ → Proxies

@@ -7,7 +7,7 @@ use Rattle.std.proofs.lemmas.Bool.Decides.{nat_tests}
 use Rattle.std.proofs.lemmas.List.Elements.{All-from_recursion, All-contains}
 use Rattle.std.proofs.lemmas.Map.Keys.{IsDistinct-head, IsDistinct-tail, IsDistinct-cons}
 use Rattle.std.proofs.lemmas.Map.Steps.{length-le_from_distinct_below}
-use Rattle.class_lists.specs.PageLists.{without_page}
+use Rattle.cf_lemmas.specs.Lists.{without_number}
 
 pub distinct_nil : IsDistinct nat_eq []
 unfolding IsDistinct
@@ -50,60 +50,60 @@ module _ (p : ℕ) where
   distinct_cons xs out d = IsDistinct-cons eqb p xs (apart_from_all xs out) d
 
   -- filtering out p keeps the other numbers
-  pub without_same : (xs : List ℕ) → without_page p (p ∷ xs) ≡ without_page p xs
-  without_same xs = ap (λ b. cond (not b) (p ∷ without_page p xs) (without_page p xs)) (eq-eqb p p refl)
+  pub without_same : (xs : List ℕ) → without_number p (p ∷ xs) ≡ without_number p xs
+  without_same xs = ap (λ b. cond (not b) (p ∷ without_number p xs) (without_number p xs)) (eq-eqb p p refl)
 
-pub without_other : (p x : ℕ) (xs : List ℕ) → x ≢ p → without_page p (x ∷ xs) ≡ x ∷ without_page p xs
-without_other p x xs ne = ap (λ b. cond (not b) (x ∷ without_page p xs) (without_page p xs)) (differs x p ne)
+pub without_other : (p x : ℕ) (xs : List ℕ) → x ≢ p → without_number p (x ∷ xs) ≡ x ∷ without_number p xs
+without_other p x xs ne = ap (λ b. cond (not b) (x ∷ without_number p xs) (without_number p xs)) (differs x p ne)
 
-pub without_absent : (p : ℕ) (xs : List ℕ) → ¬ Contains xs p → without_page p xs ≡ xs
+pub without_absent : (p : ℕ) (xs : List ℕ) → ¬ Contains xs p → without_number p xs ≡ xs
 without_absent p [] out = refl
 without_absent p (x ∷ xs) out =
     without_other p x xs (λ e. out (rw e (contains_head p xs)))
     ∙ ap (λ ys. x ∷ ys) (without_absent p xs (λ h. out (contains_tail p x xs h)))
 
-pub without_first : (p : ℕ) (xs : List ℕ) → ¬ Contains xs p → without_page p (p ∷ xs) ≡ xs
+pub without_first : (p : ℕ) (xs : List ℕ) → ¬ Contains xs p → without_number p (p ∷ xs) ≡ xs
 without_first p xs out = without_same p xs ∙ without_absent p xs out
 
 -- a number in the list without p is in the list and isn't p
-pub contains_without : (p q : ℕ) (xs : List ℕ) → Contains (without_page p xs) q → (q ≢ p) × Contains xs q
+pub contains_without : (p q : ℕ) (xs : List ℕ) → Contains (without_number p xs) q → (q ≢ p) × Contains xs q
 contains_without p q [] h = absurd (contains_nil q h)
 contains_without p q (x ∷ xs) h = elim (cases_eq x p) [
   | inl is ↦ (
-      let e : without_page p (x ∷ xs) ≡ without_page p xs = rw is (without_same p xs) in
+      let e : without_number p (x ∷ xs) ≡ without_number p xs = rw is (without_same p xs) in
       let rest = contains_without p q xs (rw e at h) in
       (rest.0, contains_tail q x xs rest.1))
-  | inr ne ↦ elim (contains_cases q x (without_page p xs) (rw (without_other p x xs ne) at h)) [
+  | inr ne ↦ elim (contains_cases q x (without_number p xs) (rw (without_other p x xs ne) at h)) [
     | inl at ↦ ((λ e. ne (sym at ∙ e)), rw at (contains_head x xs))
     | inr in' ↦ (let rest = contains_without p q xs in' in (rest.0, contains_tail q x xs rest.1))
   ]
 ]
 
 -- the other numbers are still in the list
-pub without_contains : (p q : ℕ) (xs : List ℕ) → q ≢ p → Contains xs q → Contains (without_page p xs) q
+pub without_contains : (p q : ℕ) (xs : List ℕ) → q ≢ p → Contains xs q → Contains (without_number p xs) q
 without_contains p q [] ne h = absurd (contains_nil q h)
 without_contains p q (x ∷ xs) ne h = elim (contains_cases q x xs h) [
-  | inl at ↦ rw (without_other p x xs (λ e. ne (at ∙ e)), at) (contains_head x (without_page p xs))
+  | inl at ↦ rw (without_other p x xs (λ e. ne (at ∙ e)), at) (contains_head x (without_number p xs))
   | inr in' ↦ elim (cases_eq x p) [
-    | inl is ↦ (let e : without_page p (x ∷ xs) ≡ without_page p xs = rw is (without_same p xs) in rw e (without_contains p q xs ne in'))
-    | inr other ↦ rw (without_other p x xs other) (contains_tail q x (without_page p xs) (without_contains p q xs ne in'))
+    | inl is ↦ (let e : without_number p (x ∷ xs) ≡ without_number p xs = rw is (without_same p xs) in rw e (without_contains p q xs ne in'))
+    | inr other ↦ rw (without_other p x xs other) (contains_tail q x (without_number p xs) (without_contains p q xs ne in'))
   ]
 ]
 
-pub distinct_without : (p : ℕ) (xs : List ℕ) → IsDistinct nat_eq xs → IsDistinct nat_eq (without_page p xs)
+pub distinct_without : (p : ℕ) (xs : List ℕ) → IsDistinct nat_eq xs → IsDistinct nat_eq (without_number p xs)
 distinct_without p [] d = d
 distinct_without p (x ∷ xs) d = elim (cases_eq x p) [
-  | inl is ↦ (let e : without_page p (x ∷ xs) ≡ without_page p xs = rw is (without_same p xs) in rw e (distinct_without p xs (distinct_tail x xs d)))
+  | inl is ↦ (let e : without_number p (x ∷ xs) ≡ without_number p xs = rw is (without_same p xs) in rw e (distinct_without p xs (distinct_tail x xs d)))
   | inr ne ↦ rw (without_other p x xs ne) (
-      distinct_cons x (without_page p xs) (λ h. distinct_head x xs d (contains_without p x xs h).1) (distinct_without p xs (distinct_tail x xs d)))
+      distinct_cons x (without_number p xs) (λ h. distinct_head x xs d (contains_without p x xs h).1) (distinct_without p xs (distinct_tail x xs d)))
 ]
 
-pub length-without : (p : ℕ) (xs : List ℕ) → IsDistinct nat_eq xs → Contains xs p → length (without_page p xs) + 1 ≡ length xs
+pub length-without : (p : ℕ) (xs : List ℕ) → IsDistinct nat_eq xs → Contains xs p → length (without_number p xs) + 1 ≡ length xs
 length-without p [] d h = absurd (contains_nil p h)
 length-without p (x ∷ xs) d h = elim (cases_eq x p) [
   | inl is ↦ (
       let out : ¬ Contains xs p = rw is at (distinct_head x xs d) in
-      let e : without_page p (x ∷ xs) ≡ xs = rw is (without_first p xs out) in
+      let e : without_number p (x ∷ xs) ≡ xs = rw is (without_first p xs out) in
       rw e (omega arith))
   | inr ne ↦ elim (contains_cases p x xs h) [
     | inl at ↦ absurd (ne (sym at))

@@ -1,0 +1,7 @@
+-- Lists of numbers.
+use Rattle.std.specs.Prelude.{ℕ, List, not, nat_eq}
+use Rattle.std.specs.List.{filter}
+
+-- the other numbers of a list, in order
+abbrev pub without_number : ℕ → List ℕ → List ℕ
+without_number n xs = filter (λ other. not (nat_eq other n)) xs
