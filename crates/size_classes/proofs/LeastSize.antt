@@ -40,10 +40,10 @@ next_size page_words sizes n c are within inside below near small =
     }
 
 -- one more need gets its class
-pub told_more : (sizes by_need : List ℕ) (n c : ℕ) → length by_need ≡ n → ((k : ℕ) → k < n → Some (get_or by_need k 0) ≡ position (λ s. nat_le k s) sizes)
+pub shown_more : (sizes by_need : List ℕ) (n c : ℕ) → length by_need ≡ n → ((k : ℕ) → k < n → Some (get_or by_need k 0) ≡ position (λ s. nat_le k s) sizes)
     → IsLeast sizes n c → (k : ℕ) → k < n + 1 → Some (get_or (by_need ++ c ∷ []) k 0) ≡ position (λ s. nat_le k s) sizes
-told_more sizes by_need n c long told least k lt = elim (cases_lt k n) [
-  | inl before ↦ ap Some (get_or_append_left by_need (c ∷ []) 0 k (omega arith)) ∙ told k before
+shown_more sizes by_need n c long shown least k lt = elim (cases_lt k n) [
+  | inl before ↦ ap Some (get_or_append_left by_need (c ∷ []) 0 k (omega arith)) ∙ shown k before
   | inr from ↦ (
       let is : k ≡ n = omega arith in
       let here : get_or (by_need ++ c ∷ []) n 0 ≡ c =

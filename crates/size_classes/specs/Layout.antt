@@ -4,13 +4,13 @@ use Rattle.std.specs.List.{position}
 use Rattle.size_classes.specs.Table.{IsClassTable}
 
 -- for each need of at most a page, the position of the least size that holds it
-pub record TellsClasses (page_words : ℕ) (sizes by_need : List ℕ) : Type 0 where
+pub record ShowsClasses (page_words : ℕ) (sizes by_need : List ℕ) : Type 0 where
   pub long : length by_need ≡ page_words + 1
   pub class : (n : ℕ) → n ≤ page_words → Some (slice_index by_need n) ≡ position (λ s. nat_le n s) sizes
 
 -- the sizes are those of a class table, each need has its class, and a page has a power of two of words
 pub record IsValid (page_words : ℕ) (sizes by_need : List ℕ) (shift : ℕ) : Type 0 where
   pub table : IsClassTable page_words sizes
-  pub needs : TellsClasses page_words sizes by_need
+  pub needs : ShowsClasses page_words sizes by_need
   pub power : page_words ≡ 2 ^ shift
   pub short : shift < 32

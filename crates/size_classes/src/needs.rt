@@ -1,7 +1,7 @@
 //! The class of each need, computed once.
 ghost use Rattle.std.specs.Prelude.{IfOk};
 ghost use Rattle.size_classes.specs.Table.{IsClassTable};
-ghost use Rattle.size_classes.specs.Layout.{TellsClasses};
+ghost use Rattle.size_classes.specs.Layout.{ShowsClasses};
 
 use std::alloc::{AllocError, Global};
 
@@ -12,7 +12,7 @@ pub(crate) fn classes_by_need(
     page_words: u32,
 ) -> Result<Vec<u8>, AllocError>
     requires { IsClassTable page_words sizes.now }
-    ensures { IfOk result (λ v. TellsClasses page_words sizes.now v.items) }
+    ensures { IfOk result (λ v. ShowsClasses page_words sizes.now v.items) }
 {
     let mut by_need = Vec::with_capacity(alloc, page_words as usize + 1)?;
     let mut class = 0u8;

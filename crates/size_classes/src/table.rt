@@ -112,12 +112,12 @@ impl Classes {
         ensures steps { RoseBy steps.old steps.new 1 }
     {
         let words = need_of(bytes);
-        // A need of more than a page reads the entry of the page, so that it costs the same step.
-        let class = self.by_need.get(words.min(self.page_words) as usize, steps);
         if words > self.page_words {
+            // It reads an entry too, so that it costs the same step.
+            let _class = self.by_need.get(0, steps);
             return None;
         }
-        Some(u32::from(class))
+        Some(u32::from(self.by_need.get(words as usize, steps)))
     }
 }
 

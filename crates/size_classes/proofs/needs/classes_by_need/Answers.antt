@@ -1,5 +1,5 @@
 use Rattle.std.proofs.Common.{arith}
-use Rattle.size_classes.proofs.LeastSize.{IsLeast, next_size, told_more}
+use Rattle.size_classes.proofs.LeastSize.{IsLeast, next_size, shown_more}
 use Rattle.size_classes.proofs.needs.classes_by_need.Goals as goal
 use Rattle.size_classes.proofs.needs.classes_by_need.Goals.{then-sizes-class, else-sizes-class}
 
@@ -18,7 +18,7 @@ needs-preserved c =
     record {
       within = omega arith;
       long = search arith;
-      told = rw c.in_ok-push.ensures.items (told_more sizes c.needs.by_need.items c.needs.need c.if-sizes-class.class was.long was.told least);
+      shown = rw c.in_ok-push.ensures.items (shown_more sizes c.needs.by_need.items c.needs.need c.if-sizes-class.class was.long was.shown least);
       inside = least.inside;
       below = λ k lt. (let b = least.below k lt in omega arith);
       large = (let l = least.large in omega arith);

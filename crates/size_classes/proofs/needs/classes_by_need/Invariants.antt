@@ -8,7 +8,7 @@ abbrev pub invariant-needs : goal.invariant-needs
 invariant-needs l = record {
   within : l.need ≤ l.page_words + 1;
   long : length l.by_need.items ≡ l.need;
-  told : (n : ℕ) → n < l.need → Some (slice_index l.by_need.items n) ≡ position (λ s. nat_le n s) l.sizes;
+  shown : (n : ℕ) → n < l.need → Some (slice_index l.by_need.items n) ≡ position (λ s. nat_le n s) l.sizes;
   inside : l.class < length l.sizes;
   below : (c : ℕ) → c < l.class → slice_index l.sizes c < l.need;
   large : l.need ≤ slice_index l.sizes l.class + 1;
