@@ -5,11 +5,12 @@ use Rattle.std.specs.List.{Contains, IsDistinct}
 use Rattle.std.proofs.lemmas.Bool.{cases_eq, cases_lt}
 use Rattle.std.proofs.lemmas.List.{get_or-set_same, get_or-set_other, length-map, length-replicate, length-set}
 use Rattle.std.proofs.lemmas.Option.{same_Some as same_place, same_Some as same_block}
+use Rattle.cf_lemmas.specs.Lists.{without_number}
+use Rattle.cf_lemmas.proofs.Members.{contains_cases, contains_head, contains_nil, contains_tail, contains_without, distinct_cons, distinct_nil, distinct_without, without_absent, without_contains}
 use Rattle.cf_lemmas.proofs.Tests.{eq_yes, eq_no, le_yes, le_no}
 use Rattle.block_model.specs.Buckets.{FreeLists, AreLawful}
 use Rattle.block_model.specs.Tiling.{Block, Demand, Fill, IsTiling, Carves, Serves, block_at, one_free_block, size_at, size_of, carved, carved_at}
-use Rattle.block_model.specs.FreeOrder.{AreListsOf, CarvesNext, IsFreeOf, Listed, first_listed, first_lists, list_in, lists_carved, lists_led_by, lists_without, next_block, others_than}
-use Rattle.block_model.proofs.Members.{at_head, head_or_tail, in_nothing, in_tail, none_twice, once_more, other_is, other_was, others_all, others_once}
+use Rattle.block_model.specs.FreeOrder.{AreListsOf, CarvesNext, IsFreeOf, Listed, first_listed, first_lists, list_in, lists_carved, lists_led_by, lists_without, next_block}
 use Rattle.block_model.proofs.Others.{lies, skip, take_first}
 use Rattle.block_model.proofs.Rewriting.{apart}
 
@@ -85,13 +86,13 @@ none_is (ys ∷ lists) (suc start) all = none_is lists start (λ j low. all (suc
 
 -- ---- one list after a change
 
-pub list_without : (lists : List (List ℕ)) (a k : ℕ) → list_in (lists_without lists a) k ≡ others_than a (list_in lists k)
+pub list_without : (lists : List (List ℕ)) (a k : ℕ) → list_in (lists_without lists a) k ≡ without_number a (list_in lists k)
 list_without [] a k = refl
 list_without (ys ∷ lists) a zero = refl
 list_without (ys ∷ lists) a (suc k) = list_without lists a k
 
 pub length-without : (lists : List (List ℕ)) (a : ℕ) → length (lists_without lists a) ≡ length lists
-length-without lists a = length-map lists (others_than a)
+length-without lists a = length-map lists (without_number a)
 
 module _ (rule : FreeLists) (lists : List (List ℕ)) (a size : ℕ) where
   pub length-led : length (lists_led_by rule lists a size) ≡ length lists
@@ -127,22 +128,22 @@ module _ (rule : FreeLists) (count : ℕ) where
     as_many = length-without lists a ∙ of.as_many;
     members = λ k x. (
       (λ i.
-          let w = other_was a x (list_in lists k) (subst (λ xs. Contains xs x) (list_without lists a k) i) in
+          let w = contains_without a x (list_in lists k) (subst (λ xs. Contains xs x) (list_without lists a k) i) in
           let f = (of.members k x).0 w.1 in
           record { block = f.block; there = loses.is x f.block w.0 f.there f.free; free = f.free; bucket = f.bucket }),
       (λ f.
           let o = loses.was x f.block f.there f.free in
           subst (λ xs. Contains xs x) (sym (list_without lists a k))
-          (other_is a x (list_in lists k) o.0 ((of.members k x).1 (record { block = f.block; there = o.1; free = f.free; bucket = f.bucket })))),
+          (without_contains a x (list_in lists k) o.0 ((of.members k x).1 (record { block = f.block; there = o.1; free = f.free; bucket = f.bucket })))),
     );
-    once = λ k. subst (IsDistinct nat_eq) (sym (list_without lists a k)) (others_once a (list_in lists k) (of.once k));
+    once = λ k. subst (IsDistinct nat_eq) (sym (list_without lists a k)) (distinct_without a (list_in lists k) (of.once k));
   }
 
   -- a block that is not free is in no list
   pub without_used : (blocks : List Block) (lists : List (List ℕ)) (a : ℕ) → AreListsOf rule count (record { blocks = blocks; lists = lists })
       → ((b : Block) → block_at blocks a ≡ Some b → b.owner ≡ None → ⊥) → lists_without lists a ≡ lists
   without_used blocks lists a of used = same_listed (lists_without lists a) lists (length-without lists a) (λ k. list_without lists a k
-      ∙ others_all a (list_in lists k) (λ i. let f = (of.members k a).0 i in used f.block f.there f.free))
+      ∙ without_absent a (list_in lists k) (λ i. let f = (of.members k a).0 i in used f.block f.there f.free))
 
 -- one more block is free
 pub record GainsFree (old : List Block) (a size : ℕ) (new : List Block) : Type 0 where
@@ -173,7 +174,7 @@ module _ (rule : FreeLists) (count : ℕ) (old new : List Block) (lists : List (
 
   new_member : (k x : ℕ) → Contains (list_in (lists_led_by rule lists a size) k) x → IsFreeOf rule new k x
   new_member k x i = elim (cases_eq k (rule.bucket size)) [
-    | inl is ↦ elim (head_or_tail x a (list_in lists k) (subst (λ xs. Contains xs x) (led_same rule lists a size within k (sym is)) i)) [
+    | inl is ↦ elim (contains_cases x a (list_in lists k) (subst (λ xs. Contains xs x) (led_same rule lists a size within k (sym is)) i)) [
       | inl here ↦ subst (IsFreeOf rule new k) (sym here) (the_new k (sym is))
       | inr later ↦ kept_free k x ((of.members k x).0 later)
     ]
@@ -188,11 +189,11 @@ module _ (rule : FreeLists) (count : ℕ) (old new : List Block) (lists : List (
   member_new k x f = elim (cases_eq x a) [
     | inl here ↦ (
         let is = bucket_of_new k (subst (IsFreeOf rule new k) here f) in
-        subst (λ xs. Contains xs x) (sym (led_same rule lists a size within k is)) (rw here (at_head a (list_in lists k))))
+        subst (λ xs. Contains xs x) (sym (led_same rule lists a size within k is)) (rw here (contains_head a (list_in lists k))))
     | inr off ↦ (
         let i = (of.members k x).1 (record { block = f.block; there = gains.was x f.block off f.there f.free; free = f.free; bucket = f.bucket }) in
         elim (cases_eq k (rule.bucket size)) [
-          | inl is ↦ subst (λ xs. Contains xs x) (sym (led_same rule lists a size within k (sym is))) (in_tail x a (list_in lists k) i)
+          | inl is ↦ subst (λ xs. Contains xs x) (sym (led_same rule lists a size within k (sym is))) (contains_tail x a (list_in lists k) i)
           | inr ne ↦ subst (λ xs. Contains xs x) (sym (led_other rule lists a size k ne)) i
         ])
   ]
@@ -202,7 +203,7 @@ module _ (rule : FreeLists) (count : ℕ) (old new : List Block) (lists : List (
     as_many = length-led rule lists a size ∙ of.as_many;
     members = λ k x. (new_member k x, member_new k x);
     once = λ k. elim (cases_eq k (rule.bucket size)) [
-      | inl is ↦ subst (IsDistinct nat_eq) (sym (led_same rule lists a size within k (sym is))) (once_more a (list_in lists k) (not_yet k) (of.once k))
+      | inl is ↦ subst (IsDistinct nat_eq) (sym (led_same rule lists a size within k (sym is))) (distinct_cons a (list_in lists k) (not_yet k) (of.once k))
       | inr ne ↦ subst (IsDistinct nat_eq) (sym (led_other rule lists a size k ne)) (of.once k)
     ];
   }
@@ -302,12 +303,12 @@ module _ (rule : FreeLists) (count : ℕ) (s : Listed) (of : AreListsOf rule cou
 
   among : (x : ℕ) (b : Block) → block_at s.blocks x ≡ Some b → b.owner ≡ None → ¬ (list_in s.lists (rule.bucket b.size) ≡ [])
   among x b there free none =
-      in_nothing x (subst (λ xs. Contains xs x) none ((of.members (rule.bucket b.size) x).1 (record { block = b; there = there; free = free; bucket = refl })))
+      contains_nil x (subst (λ xs. Contains xs x) none ((of.members (rule.bucket b.size) x).1 (record { block = b; there = there; free = free; bucket = refl })))
 
   pub next_is : (need a : ℕ) → next_block rule s.lists need ≡ Some a → IsNext need a
   next_is need a is =
       let f = first_of s.lists (rule.search need) a is in
-      let m = (of.members f.list a).0 (subst (λ xs. Contains xs a) (sym f.front) (at_head a f.rest)) in
+      let m = (of.members f.list a).0 (subst (λ xs. Contains xs a) (sym f.front) (contains_head a f.rest)) in
       let e = m.bucket in
       record {
         block = m.block;
@@ -443,10 +444,10 @@ opening_lists rule count words lawful some few = gained rule count [] (one_free_
     empty = record {
       as_many = length-replicate {A = List ℕ} count [];
       members = λ k x. (
-        (λ i. absurd (in_nothing x (subst (λ xs. Contains xs x) (no_list count k) i))),
+        (λ i. absurd (contains_nil x (subst (λ xs. Contains xs x) (no_list count k) i))),
         (λ f. absurd (let there : None ≡ Some f.block = f.there in cc)),
       );
-      once = λ k. subst (IsDistinct nat_eq) (sym (no_list count k)) none_twice;
+      once = λ k. subst (IsDistinct nat_eq) (sym (no_list count k)) distinct_nil;
     }
 
     gains : GainsFree [] 0 words (one_free_block words)

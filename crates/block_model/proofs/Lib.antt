@@ -9,7 +9,7 @@ pub mod ReadBlocks
 pub mod Rewriting
 pub mod Serving
 pub mod UsedWords
-pub mod Members
 pub mod FreeOrderLemmas
 pub mod FreeOrderRelease
+pub mod StepBounds
 pub mod CallerLemmas

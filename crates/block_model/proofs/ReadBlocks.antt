@@ -12,16 +12,16 @@ use Rattle.cf_lemmas.proofs.Tests.{eq_yes, eq_no}
 header_parts : (w s before u : ℕ) → u < 2 → s < 2 ^ 31 → w ≡ s + 2 ^ 31 * u + 2 ^ 32 * before → (w % 2 ^ 31 ≡ s) × (w / 2 ^ 31 % 2 ≡ u)
 header_parts w s before u few small e = (omega arith, omega arith)
 
-owner_told : (words : List ℕ) (b : Block) (before : ℕ) (o : Option ℕ) → b.owner ≡ o → b.size < 2 ^ 31 → get_or words b.address 0 ≡ block_header before b
+owner_described : (words : List ℕ) (b : Block) (before : ℕ) (o : Option ℕ) → b.owner ≡ o → b.size < 2 ^ 31 → get_or words b.address 0 ≡ block_header before b
     → ((h : ℕ) → b.owner ≡ Some h → get_or words (b.address + 1) 0 % 2 ^ 32 ≡ h)
     → (read_owner (get_or words b.address 0) (get_or words (b.address + 1) 0) ≡ o) × (get_or words b.address 0 % 2 ^ 31 ≡ b.size)
-owner_told words b before None is small head tag =
+owner_described words b before None is small head tag =
     let e : get_or words b.address 0 ≡ b.size + 2 ^ 31 * 0 + 2 ^ 32 * before = rw is at head in
     let p = header_parts (get_or words b.address 0) b.size before 0 (omega arith) small e in
     let bit = p.1 in
     let no : nat_eq (get_or words b.address 0 / 2 ^ 31 % 2) 1 ≡ false = rw bit refl in
     (rw no refl, p.0)
-owner_told words b before (Some h) is small head tag =
+owner_described words b before (Some h) is small head tag =
     let e : get_or words b.address 0 ≡ b.size + 2 ^ 31 * 1 + 2 ^ 32 * before = rw is at head in
     let p = header_parts (get_or words b.address 0) b.size before 1 (omega arith) small e in
     let bit = p.1 in
@@ -36,7 +36,7 @@ one_block : (words : List ℕ) (b : Block) (before : ℕ) → b.size < 2 ^ 31 �
     → ((h : ℕ) → b.owner ≡ Some h → get_or words (b.address + 1) 0 % 2 ^ 32 ≡ h)
     → (read_block words b.address ≡ b) × (get_or words b.address 0 % 2 ^ 31 ≡ b.size)
 one_block words b before small head tag =
-    let o = owner_told words b before b.owner refl small head tag in
+    let o = owner_described words b before b.owner refl small head tag in
     (block_of_parts b (get_or words b.address 0 % 2 ^ 31) (read_owner (get_or words b.address 0) (get_or words (b.address + 1) 0)) o.1 o.0, o.1)
 
 blocks_from : (fuel : ℕ) (words : List ℕ) (bs : List Block) (from to before : ℕ) → to < 2 ^ 31 → before < 2 ^ 31 → to - from ≤ fuel → Fill bs from to

@@ -50,7 +50,7 @@ apart (z ∷ zs) from to a c b d f x y ne = elim (cases_eq z.address a) [
 ]
 
 -- if the headers of all blocks stay, so do the headers of the list
-headers_stay : (old new : List ℕ) (bs : List Block) (from to before : ℕ) → Fill bs from to
+pub headers_stay : (old new : List ℕ) (bs : List Block) (from to before : ℕ) → Fill bs from to
     → ((a : ℕ) (b : Block) → block_at bs a ≡ Some b → get_or new a 0 ≡ get_or old a 0) → HaveHeaders old bs before → HaveHeaders new bs before
 headers_stay old new [] from to before f same heads = tt
 headers_stay old new (b ∷ bs) from to before f same heads = (

@@ -2,6 +2,7 @@
 use Rattle.std.specs.Prelude.{◌≡◌, ℕ, ◌+◌, ◌-◌, ◌*◌, ◌^◌, ◌↔◌, List, [], ◌∷◌, Option, Some, None, length, slice_index, slice_index_or, slice_set, map, drop, nat_eq, nat_le}
 use Rattle.std.specs.Prelude.{not, replicate, cond, if◌then◌else◌}
 use Rattle.std.specs.List.{Contains, IsDistinct, filter}
+use Rattle.cf_lemmas.specs.Lists.{without_number}
 use Rattle.block_model.specs.Buckets.{FreeLists}
 use Rattle.block_model.specs.Tiling.{Block, Demand, is_free, block_at, size_at, carved_at}
 
@@ -37,13 +38,9 @@ first_listed ((a ∷ xs) ∷ lists) = Some a
 abbrev pub next_block : FreeLists → List (List ℕ) → ℕ → Option ℕ
 next_block rule lists need = first_listed (drop (rule.search need) lists)
 
--- the other numbers of a list, in order
-abbrev pub others_than : ℕ → List ℕ → List ℕ
-others_than a xs = filter (λ other. not (nat_eq other a)) xs
-
 -- the lists without the block at the address
 abbrev pub lists_without : List (List ℕ) → ℕ → List (List ℕ)
-lists_without lists a = map (others_than a) lists
+lists_without lists a = map (without_number a) lists
 
 -- the lists, where a free block of `size` words is the first of its list now
 abbrev pub lists_led_by : FreeLists → List (List ℕ) → ℕ → ℕ → List (List ℕ)

@@ -3,4 +3,5 @@ pub mod Words
 pub mod ReadWords
 pub mod Buckets
 pub mod FreeOrder
+pub mod Costs
 pub mod Worked

@@ -55,7 +55,7 @@ pub fn a_tiling_has_words()
 {}
 
 /// The words determine the blocks, without word 1 of the free ones.
-pub fn blocks_are_told()
+pub fn the_words_show_the_blocks()
     ensures { (count : ℕ) (blocks : List Block) (words : List ℕ) → count < 2 ^ 31 → IsTiling count blocks
         → HaveHeaders words blocks 0 → HaveTags words blocks → read_blocks count words 0 count ≡ blocks }
 {}

@@ -1,7 +1,8 @@
 //! A region divided into blocks without a gap, as in TLSF (2004) and Half-Fit (1995): what it is,
-//! what a malloc and a free do to it, and the free lists of both.
+//! what a malloc and a free do to it and cost, and the free lists of both.
 #![tactic(auto)]
 
+pub mod costs;
 pub mod free_order;
 pub mod half_fit;
 pub mod laws;

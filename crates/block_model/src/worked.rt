@@ -5,10 +5,10 @@ ghost use Rattle.block_model.specs.Buckets.{half_fit, tlsf};
 ghost use Rattle.block_model.specs.Tiling.{Carves, LacksBlock, block_need, free_blocks, largest_free, one_free_block, released, used_blocks, used_words};
 ghost use Rattle.block_model.specs.Worked.{free, used};
 
-/// 232 bytes need 31 words, and 33 remain. 248 bytes need 33, but the list of a block of 33 words
-/// isn't searched for them. 240 bytes need 32; they are served, and the word that remains stays
-/// with the block.
-pub fn a_need_is_rounded_up()
+/// 232 bytes need 31 words, and 33 remain. 248 bytes need 33, but TLSF searches only lists in which
+/// every block is large enough, and the list of the block of 33 words is also that of 32. 240 bytes
+/// need 32; they are served, and the word that remains stays with the block.
+pub fn a_search_is_rounded_up()
     ensures needs { (block_need 232 ≡ 31) × (block_need 248 ≡ 33) × (block_need 240 ≡ 32) }
     ensures first { Carves tlsf (one_free_block 64) (record { need = 31; owner = 1 }) 0 (used 0 31 1 ∷ free 31 33 ∷ []) }
     ensures refused { LacksBlock tlsf (used 0 31 1 ∷ free 31 33 ∷ []) 33 }

@@ -1,5 +1,5 @@
 -- The needs and the free lists of the kinds with blocks.
-use Rattle.std.proofs.Common.{ℕ, ◌^◌, ◌≤◌, arith}
+use Rattle.std.proofs.Common.{◌≡◌, ℕ, ◌^◌, ◌≤◌, arith}
 use Rattle.cf_base.specs.Classes.{need}
 use Rattle.cf_base.specs.Settings.{Profile}
 use Rattle.cf_base.specs.declared.kind.Kind.{Kind}
@@ -8,15 +8,15 @@ use Rattle.cf_base.proofs.CallerLemmas.{page_size}
 use Rattle.block_model.specs.Buckets.{AreLawful}
 use Rattle.block_model.specs.Tiling.{block_need}
 use Rattle.block_model.proofs.CallerLemmas.{half_fit_lawful, tlsf_lawful}
-use Rattle.cf_model.specs.Families.{free_lists_of}
+use Rattle.cf_model.specs.Families.{IsTiled, free_lists_of, list_count_of, paged, tiled}
 use Rattle.cf_model.specs.Rules.{AreInRange}
 
--- the free lists of each kind are lawful
-pub lawful : (k : Kind) → (count : ℕ) × AreLawful (free_lists_of k) count
-lawful Moving = (336, tlsf_lawful)
-lawful NonMoving = (336, tlsf_lawful)
-lawful Tlsf = (336, tlsf_lawful)
-lawful HalfFit = (24, half_fit_lawful)
+-- the free lists of each kind with blocks are lawful
+pub lawful : (k : Kind) → IsTiled k → AreLawful (free_lists_of k) (list_count_of k)
+lawful Moving is = (let e : paged ≡ tiled = is in cc)
+lawful NonMoving is = (let e : paged ≡ tiled = is in cc)
+lawful Tlsf is = tlsf_lawful
+lawful HalfFit is = half_fit_lawful
 
 -- a request that fits a page needs at most `2^23` words of a block
 pub need_is_small : (p : Profile) (ok : AreInRange p) (n : ℕ) → need n ≤ p.page_words → block_need n ≤ 2 ^ 23

@@ -1,8 +1,10 @@
 -- What other crates' proofs may cite, re-exported. Declares nothing.
 pub use Rattle.cf_model.proofs.BlockNeeds.{lawful, need_is_small}
 pub use Rattle.cf_model.proofs.Blocks.{blocks_after_free, blocks_after_refusal, blocks_after_resize}
-pub use Rattle.cf_model.proofs.EmptyHeaps.{empty_there, no_object, tiled_empty}
+pub use Rattle.cf_model.proofs.EmptyHeaps.{empty_there, no_object, ordered_there, tiled_empty}
 pub use Rattle.cf_model.proofs.Exactly.{both_kinds, given_is_not_refused, not_none_found, resized_is_not_refused}
+pub use Rattle.cf_model.proofs.OpeningOrders.{opened_in_order}
 pub use Rattle.cf_model.proofs.Owning.{no_one, owned_free, owned_malloc, owned_replaced}
-pub use Rattle.cf_model.proofs.ReadObjects.{fresh_word, objects_told}
-pub use Rattle.cf_model.proofs.OneOutcome.{free_same, one_malloc, one_resize, one_write, order_stays}
+pub use Rattle.cf_model.proofs.ReadObjects.{fresh_word, objects_shown}
+pub use Rattle.cf_model.proofs.BlockWords.{link_outside, links_stay}
+pub use Rattle.cf_model.proofs.OneOutcome.{free_same, one_malloc, one_resize, one_write, order_stays, same_words}

@@ -39,13 +39,13 @@ tags_of s range objects k a b h there used =
     let most = range.few_proxies in
     omega arith
 
-pub blocks_told : (s : HeapState) → AreInRange s.profile → AreObjects s → KeepsTiling s
+pub blocks_shown : (s : HeapState) → AreInRange s.profile → AreObjects s → KeepsTiling s
     → read_blocks (region_words s.profile) s.words 0 (region_words s.profile) ≡ s.tiling
-blocks_told s range objects k = (let few = range.small_region in
+blocks_shown s range objects k = (let few = range.small_region in
     blocks_read (region_words s.profile) s.tiling s.words (omega arith) k.tiling k.words.headers (tags_of s range objects k))
 
-pub objects_told : (s : HeapState) → AreInRange s.profile → AreObjects s → KeepsTiling s → read_objects s.words (places s.held) ≡ s.held
-objects_told s range objects k = equal_maps _ _
+pub objects_shown : (s : HeapState) → AreInRange s.profile → AreObjects s → KeepsTiling s → read_objects s.words (places s.held) ≡ s.held
+objects_shown s range objects k = equal_maps _ _
     (λ q. get-map_values (λ a. record { place = a; bytes = bytes_at s.words (a + 1) }) (places s.held) q
     ∙ ap (option_map (λ a. record { place = a; bytes = bytes_at s.words (a + 1) })) (get-map_values (λ (x : Placed). x.place) s.held q)
     ∙ go q (get s.held q) refl)

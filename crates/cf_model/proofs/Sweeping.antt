@@ -1,9 +1,9 @@
 -- The steps of a loop over a list.
-use Rattle.std.proofs.Common.{◌≡◌, ◌≢◌, ℕ, ◌+◌, ◌<◌, List, length, get_or, set, arith, sym, ◌∙◌, inl, inr}
+use Rattle.std.proofs.Common.{◌≡◌, ◌≢◌, ℕ, ◌+◌, ◌<◌, ◌≤◌, List, length, get_or, set, arith, sym, ◌∙◌, subst, inl, inr}
 use Rattle.std.proofs.lemmas.List.{get_or-set_same, get_or-set_other, length-set, get_or_default}
 use Rattle.std.proofs.lemmas.Bool.{cases_lt}
 use Rattle.std.specs.Prelude.{Result, Ok, Err, OnErr}
-use Rattle.cf_model.specs.Loops.{Sweep, Stops}
+use Rattle.cf_model.specs.Loops.{Pairwise, Sweep, Stops}
 
 module _ {X : Type 0} (R : X → X → Type 0) (xs ys : List X) (i : ℕ) (x y : X) (s : Sweep R xs ys i) (lt : i < length xs) (read : x ≡ get_or ys i x) where
   was : (d : X) → get_or xs i d ≡ x
@@ -39,6 +39,22 @@ module _ {X : Type 0} (R : X → X → Type 0) (xs ys : List X) (i : ℕ) (x y :
         rw (get_or-set_same ys i y e inside, w) here);
     behind = λ k d h. get_or-set_other ys i k y d (omega arith) ∙ s.rest k d (omega arith);
   }
+
+  -- the loop ends at item i, and each later item is related to itself
+  pub sweep_ends : ((z : X) → R z z) → R x y → Pairwise R xs (set ys i y)
+  sweep_ends same here =
+      let more = sweep_more here in
+      record {
+        count = more.count;
+        each = λ k d e h. elim (cases_lt k (i + 1)) [
+          | inl l ↦ more.done k d e l
+          | inr g ↦ subst (R (get_or xs k d)) (get_or_default xs k d e h ∙ sym (more.rest k e g)) (same (get_or xs k d))
+        ];
+      }
+
+-- the loop went over all items
+pub sweep_all : {X : Type 0} (R : X → X → Type 0) (xs ys : List X) (i : ℕ) → Sweep R xs ys i → length xs ≤ i → Pairwise R xs ys
+sweep_all R xs ys i s all = record { count = s.count; each = λ k d e h. s.done k d e (omega arith) }
 
 -- a fact that always holds, holds at an error
 pub on_err : {T E : Type 0} (r : Result T E) (P : Type 0) → P → OnErr r P

@@ -1,5 +1,5 @@
--- How many steps the calls may take. With blocks no bound is claimed.
-use Rattle.std.specs.Prelude.{◌≡◌, ℕ, ◌+◌, ◌*◌, ◌/◌, ◌%◌, ◌≤◌, ⊤, Result, Ok, Err, if◌then◌else◌, nat_eq, max}
+-- How many steps the calls may take.
+use Rattle.std.specs.Prelude.{◌≡◌, ℕ, ◌+◌, ◌*◌, ◌/◌, ◌%◌, ⊤, Result, Ok, Err, if◌then◌else◌, nat_eq, max}
 use Rattle.step_ledger.specs.Counting.{RoseAtMost}
 use Rattle.cf_base.specs.declared.answers.Freed.{Freed}
 use Rattle.cf_base.specs.declared.answers.NotLive.{NotLive}
@@ -8,14 +8,19 @@ use Rattle.cf_base.specs.declared.answers.ResizeFault.{ResizeFault}
 use Rattle.cf_base.specs.declared.kind.Kind.{Kind}
 use Rattle.cf_model.specs.Families.{paged, tiled, family_of}
 
--- with pages the count of steps rose by at most n; with blocks it didn't fall
-abbrev pub TakesAtMost : Kind → ℕ → ℕ → ℕ → Type 0
-TakesAtMost kind old new n = elim (family_of kind) [ paged ↦ RoseAtMost old new n | tiled ↦ old ≤ new ]
+-- with pages the count of steps rose by at most n, with blocks by at most m
+abbrev pub TakesAtMost : Kind → ℕ → ℕ → ℕ → ℕ → Type 0
+TakesAtMost kind old new n m = elim (family_of kind) [ paged ↦ RoseAtMost old new n | tiled ↦ RoseAtMost old new m ]
 
 -- a free: 96 steps, plus twice the words of the slot
 abbrev pub free_bound : Result Freed NotLive → ℕ
 free_bound (Ok freed) = 96 + 2 * freed.slot_words
 free_bound (Err e) = 96
+
+-- a free with blocks: 41 steps, plus the words of the block
+abbrev pub block_free_bound : Result Freed NotLive → ℕ
+block_free_bound (Ok freed) = 41 + freed.slot_words
+block_free_bound (Err e) = 1
 
 -- a resize: 160 steps, plus three times the words of the larger slot
 abbrev pub resize_bound : Result Resized ResizeFault → ℕ
@@ -31,5 +36,5 @@ abbrev pub access_bound : ℕ → ℕ → ℕ
 access_bound from count = 16 + 3 * words_touched from count
 
 -- of a resize: with pages its steps are its cost; with blocks nothing is claimed
-abbrev pub TellsCost : Kind → ℕ → ℕ → ℕ → Type 0
-TellsCost kind old new cost = elim (family_of kind) [ paged ↦ new ≡ old + cost | tiled ↦ ⊤ ]
+abbrev pub RoseByCost : Kind → ℕ → ℕ → ℕ → Type 0
+RoseByCost kind old new cost = elim (family_of kind) [ paged ↦ new ≡ old + cost | tiled ↦ ⊤ ]

@@ -5,10 +5,15 @@ use Rattle.cf_base.specs.declared.answers.Freed.{Freed}
 use Rattle.cf_base.specs.declared.answers.Handle.{Handle}
 use Rattle.cf_base.specs.declared.answers.NotLive.{NotLive}
 use Rattle.cf_base.specs.declared.answers.Refusal.{Refusal}
+use Rattle.cf_base.specs.declared.answers.Refusal.TheVariants as refusal
 use Rattle.cf_base.specs.declared.answers.Resized.{Resized}
 use Rattle.cf_base.specs.declared.answers.ResizeFault.{ResizeFault}
 use Rattle.cf_base.specs.declared.answers.ResizeFault.TheVariants as resize
 use Rattle.cf_base.specs.declared.kind.Kind.{Kind}
+use Rattle.block_model.specs.Costs.{carve_steps, find_steps, release_steps}
+use Rattle.block_model.specs.Tiling.{block_need}
+use Rattle.cf_model.specs.Answers.{place_of}
+use Rattle.cf_model.specs.Families.{free_lists_of, list_count_of}
 use Rattle.cf_model.specs.State.{HeapState, paging_in}
 use Rattle.page_model.specs.Arrangement.{class_at}
 use Rattle.page_model.specs.Held.{Placed}
@@ -58,3 +63,19 @@ resize_cost s o asked (Err resize.Unknown) = 1
 resize_cost s o asked (Err resize.Kind) = 0
 resize_cost s o asked (Err resize.Size) = 2
 resize_cost s o asked (Err resize.Space) = 4 + word_steps s.kind
+
+-- With blocks, a malloc: a block is found and carved, and a proxy is bound; refused for space, a block is searched for.
+abbrev pub block_malloc_cost : HeapState → ℕ → Result Handle Refusal → HeapState → ℕ
+block_malloc_cost old bytes (Ok h) new =
+    carve_steps (free_lists_of old.kind) (list_count_of old.kind) old.words old.tiling (block_need bytes) (place_of new h.0) new.tiling + 2
+block_malloc_cost old bytes (Err refusal.Size) new = 0
+block_malloc_cost old bytes (Err refusal.Proxy) new = 0
+block_malloc_cost old bytes (Err refusal.Space) new = find_steps (free_lists_of old.kind) (list_count_of old.kind) old.tiling (block_need bytes) None
+
+-- With blocks, a free: the proxy and the tag are read, the proxy is released, and so is the block; refused, the proxy is read.
+abbrev pub block_free_cost : HeapState → ℕ → Result Freed NotLive → HeapState → ℕ
+block_free_cost old h (Ok freed) new = elim (place_of old h) [
+  | None ↦ 0
+  | Some a ↦ release_steps (free_lists_of old.kind) old.words old.tiling a new.tiling + 4
+]
+block_free_cost old h (Err e) new = 1

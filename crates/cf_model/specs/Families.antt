@@ -1,5 +1,5 @@
 -- The two families of kinds: managers that divide their memory into pages, and those that divide it into blocks.
-use Rattle.std.specs.Prelude.{◌≡◌}
+use Rattle.std.specs.Prelude.{◌≡◌, ℕ}
 use Rattle.cf_base.specs.declared.kind.Kind.{Kind}
 use Rattle.cf_base.specs.declared.kind.Kind.TheVariants.{Moving, NonMoving, Tlsf, HalfFit}
 use Rattle.block_model.specs.Buckets.{FreeLists, half_fit, tlsf}
@@ -23,6 +23,13 @@ IsPaged kind = family_of kind ≡ paged
 -- the kind divides its memory into blocks
 abbrev pub IsTiled : Kind → Type 0
 IsTiled kind = family_of kind ≡ tiled
+
+-- how many free lists a kind with blocks has
+abbrev pub list_count_of : Kind → ℕ
+list_count_of Moving = 0
+list_count_of NonMoving = 0
+list_count_of Tlsf = 336
+list_count_of HalfFit = 24
 
 -- the free lists of a kind with blocks; those of a kind with pages are never used
 abbrev pub free_lists_of : Kind → FreeLists

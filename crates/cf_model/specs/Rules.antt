@@ -1,20 +1,22 @@
 -- The rules that every open manager keeps.
-use Rattle.std.specs.Prelude.{◌≡◌, ℕ, IfSome, IsTrue, ◌+◌, ◌*◌, ◌^◌, ◌≤◌, ◌<◌, List, [], Option, Some, None, length, slice_index}
+use Rattle.std.specs.Prelude.{◌≡◌, ℕ, IfSome, IsTrue, ◌+◌, ◌*◌, ◌^◌, ◌≤◌, ◌<◌, List, [], Option, Some, None, length, nat_eq, slice_index}
+use Rattle.std.specs.List.{Contains, IsDistinct}
 use Rattle.std.specs.FinMap.{get, len}
 use Rattle.cf_base.specs.Settings.{Profile}
 use Rattle.cf_base.specs.Limits.{is_page_size}
 use Rattle.cf_base.specs.declared.kind.Kind.{Kind}
 use Rattle.cf_base.specs.declared.kind.Kind.TheVariants.{Moving, NonMoving, Tlsf, HalfFit}
 use Rattle.page_model.specs.Held.{Held, Placed}
-use Rattle.page_model.specs.Order.{IsOrderOf}
+use Rattle.page_model.specs.Order.{IsOrderOf, Order}
 use Rattle.page_model.specs.Paging.{IsPaging}
 use Rattle.page_model.specs.Arrangement.{IsSound}
 use Rattle.page_model.specs.Bytes.{AreBytes}
 use Rattle.page_model.specs.Image.{IsImage, IsSlotImage, object_word}
 use Rattle.page_model.specs.Frames.{IsPermuted}
+use Rattle.block_model.specs.FreeOrder.{AreListsOf, HaveLinks, Listed}
 use Rattle.block_model.specs.Tiling.{Block, IsTiling, block_at, block_need}
 use Rattle.block_model.specs.Words.{AreTilingWords}
-use Rattle.cf_model.specs.Families.{paged, tiled, family_of}
+use Rattle.cf_model.specs.Families.{paged, tiled, family_of, free_lists_of, list_count_of}
 pub use Rattle.cf_model.specs.Families.{IsPaged, IsTiled}
 use Rattle.cf_model.specs.State.{HeapState, paging_in, region_words}
 
@@ -79,6 +81,19 @@ content_word m h i = content (get m h) h i
     content None h i = 0
     content (Some x) h i = object_word h x.bytes i
 
+-- the blocks, and their free lists by an order
+abbrev pub listed_by : HeapState → Order → Listed
+listed_by s o = record { blocks = s.tiling; lists = o.not_full }
+
+-- with blocks, an order: the free lists of the kind, which word 1 of each free block links, and the numbers without an object, each once
+pub record IsBlockOrder (s : HeapState) (o : Order) : Type 0 where
+  pub no_pool : o.pool ≡ []
+  pub lists : AreListsOf (free_lists_of s.kind) (list_count_of s.kind) (listed_by s o)
+  pub links : HaveLinks s.words o.not_full
+  pub spare : (h : ℕ) → Contains o.spare h → (h < s.profile.proxies) × (get s.held h ≡ None)
+  pub spare_once : IsDistinct nat_eq o.spare
+  pub spare_all : length o.spare + len s.held ≡ s.profile.proxies
+
 -- what a manager with blocks keeps
 pub record KeepsTiling (s : HeapState) : Type 0 where
   -- the blocks fill the region, and no two neighbours are both free
@@ -89,7 +104,8 @@ pub record KeepsTiling (s : HeapState) : Type 0 where
   pub words : AreTilingWords (content_word s.held) s.tiling s.words
   pub no_frames : s.frames ≡ []
   pub no_bounds : s.bounds ≡ []
-  pub no_order : s.order ≡ None
+  -- the order, if it has one, is one of its blocks and numbers
+  pub order : IfSome s.order (IsBlockOrder s)
 
 -- what each kind keeps of a block table; only the non-moving kind has one
 abbrev pub KeepsTable : Kind → HeapState → Type 0

@@ -1,5 +1,5 @@
 -- What contracts see of a manager, as one record.
-use Rattle.std.specs.Prelude.{ℕ, Bool, false, List, [], Option, None, ◌*◌, refl}
+use Rattle.std.specs.Prelude.{ℕ, Bool, false, List, [], Option, Some, ◌*◌, refl}
 use Rattle.std.specs.FinMap as map
 use Rattle.std.specs.Coded.{Coded, code_by, coded×, coded_ℕ, coded_list, coded_bool, coded_option}
 use Rattle.cf_base.specs.Settings.{Profile}
@@ -29,7 +29,7 @@ pub record HeapState : Type 0 where
   pub frames : List ℕ
   -- the blocks that tile the region
   pub tiling : List Block
-  -- with pages, the pages and numbers that are used next; none if the manager promises no order
+  -- what is used next; none if the manager promises no order, which no call changes
   pub order : Option Order
   -- the steps of the last malloc or free, with pages also of the last resize
   pub cost : ℕ
@@ -38,9 +38,24 @@ pub record HeapState : Type 0 where
 abbrev pub no_profile : Profile
 no_profile = record { pages = 0; page_words = 0; k = 0; proxies = 0 }
 
--- a manager that was never open
+-- the order of a closed manager that promises one when it is open
+abbrev pub closed_order : Order
+closed_order = record { pool = []; not_full = []; spare = [] }
+
+-- a manager that was never open, and promises an order
 abbrev pub closed_state : Kind → HeapState
-closed_state kind = record { kind = kind; is_open = false; profile = no_profile; bounds = []; held = map.empty; words = []; frames = []; tiling = []; order = None; cost = 0 }
+closed_state kind = record {
+  kind = kind;
+  is_open = false;
+  profile = no_profile;
+  bounds = [];
+  held = map.empty;
+  words = [];
+  frames = [];
+  tiling = [];
+  order = Some closed_order;
+  cost = 0;
+}
 
 -- the sequence of slot sizes of each kind
 abbrev pub layout_of : Kind → Layout

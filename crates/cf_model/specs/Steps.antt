@@ -2,6 +2,7 @@
 use Rattle.std.specs.Prelude.{◌≡◌, ◌≢◌, ℕ, ◌+◌, ◌*◌, ◌/◌, ◌≤◌, ◌<◌, List, [], Option, Some, None, Result, Ok, Err, ⊤, true, false, length, take, drop}
 use Rattle.std.specs.Prelude.{replicate, slice_index, option_map}
 use Rattle.std.specs.FinMap.{get, insert, remove, len, empty}
+use Rattle.std.specs.List.{range_with_len}
 use Rattle.cf_base.specs.Classes.{need}
 use Rattle.cf_base.specs.Settings.{Profile, profile_of}
 use Rattle.cf_base.specs.declared.answers.AccessFault.{AccessFault}
@@ -25,8 +26,9 @@ use Rattle.page_model.specs.Frames.{first_frames, frames_after, block_of, IsPhys
 use Rattle.page_model.specs.Image.{IsOutside, slot_for}
 use Rattle.page_model.specs.Order.{Order, first_order}
 use Rattle.page_model.specs.Steps.{Request, Leaves, IsFreePlace, zeros_at, Moves, without, resized, RefitsObject as IsResizedBy}
+use Rattle.block_model.specs.FreeOrder.{first_lists}
 use Rattle.block_model.specs.Tiling.{Block, LacksBlock, Carves, released, one_free_block, block_need, size_at}
-use Rattle.cf_model.specs.Families.{paged, tiled, family_of, free_lists_of}
+use Rattle.cf_model.specs.Families.{paged, tiled, family_of, free_lists_of, list_count_of}
 use Rattle.cf_model.specs.State.{HeapState, paging_in, layout_of, region_words}
 use Rattle.cf_model.specs.Rules.{IsPaged, IsTiled}
 
@@ -91,10 +93,21 @@ empty_heap kind p words = record {
 abbrev pub ordered_heap : Kind → Profile → List ℕ → Option Order → HeapState
 ordered_heap kind p words order = record (empty_heap kind p words) { order = order }
 
--- the order at the start, if there is one: pages and numbers in rising order
+-- the order at the start: pages and numbers in rising order; with blocks, the free block in its list, and the numbers in rising order
+abbrev pub opening_order : Kind → Profile → Order
+opening_order kind p = elim (family_of kind) [
+  | paged ↦ first_order (paging_in (empty_heap kind p [])) p.proxies
+  | tiled ↦ record {
+    pool = [];
+    not_full = first_lists (free_lists_of kind) (list_count_of kind) (region_words p);
+    spare = range_with_len 0 p.proxies;
+  }
+]
+
+-- the same, if there is one
 abbrev pub IsOpeningOrder : Kind → Profile → Option Order → Type 0
 IsOpeningOrder kind p None = ⊤
-IsOpeningOrder kind p (Some order) = IsPaged kind × (order ≡ first_order (paging_in (empty_heap kind p [])) p.proxies)
+IsOpeningOrder kind p (Some order) = order ≡ opening_order kind p
 
 -- an open heap without objects; each class has the bound of the settings
 pub record IsEmptyHeap (kind : Kind) (s : Settings) (new : HeapState) : Type 0 where

@@ -1,5 +1,5 @@
 //! What the clauses of `Manager` imply together. The functions do nothing; each contract is a law.
-ghost use Rattle.std.specs.Prelude.{◌≡◌, ◌≢◌, ℕ, ◌+◌, ◌<◌, ◌≤◌, IsSome, List, None, Result, Some, length, replicate, slice_index};
+ghost use Rattle.std.specs.Prelude.{◌≡◌, ◌≢◌, ℕ, ◌+◌, ◌<◌, ◌≤◌, IsSome, List, None, Option, Result, Some, length, replicate, slice_index};
 ghost use Rattle.std.specs.FinMap.{get, insert, remove};
 ghost use Rattle.cf_base.specs.declared.answers.AccessFault.{AccessFault};
 ghost use Rattle.cf_base.specs.declared.answers.Freed.{Freed};
@@ -10,33 +10,55 @@ ghost use Rattle.cf_base.specs.declared.answers.ResizeFault.{ResizeFault};
 ghost use Rattle.cf_base.specs.declared.answers.Resized.{Resized};
 ghost use Rattle.cf_base.specs.declared.kind.Kind.{Kind};
 ghost use Rattle.cf_base.specs.declared.kind.Kind.TheVariants.{NonMoving};
-ghost use Rattle.cf_base.specs.Settings.{Profile};
+ghost use Rattle.cf_base.specs.Settings.{Profile, profile_of};
+ghost use Rattle.cf_base.specs.declared.settings.Settings.{Settings};
 ghost use Rattle.page_model.specs.Held.{Held, Placed, places};
 ghost use Rattle.page_model.specs.Image.{header_word};
+ghost use Rattle.page_model.specs.Order.{Order};
 ghost use Rattle.block_model.specs.Buckets.{FreeLists};
+ghost use Rattle.block_model.specs.FreeOrder.{link_word, no_block};
 ghost use Rattle.block_model.specs.Tiling.{Block, Carves, IsCarvedTo, IsTiling, block_at, block_need, released};
 ghost use Rattle.block_model.specs.ReadWords.{read_blocks};
 ghost use Rattle.block_model.specs.Words.{AreCleared, AreTilingWords, HaveHeaders};
 ghost use Rattle.page_model.specs.Steps.{PlacesObject, RefitsObject, RemovesObject, Request, zeros_at};
-ghost use Rattle.cf_model.specs.Ordered.{IsOrderedFree, IsOrderedMalloc, IsOrderedResize};
+ghost use Rattle.cf_model.specs.Ordered.{IsOrderedFree, IsOrderedMalloc, IsOrderedResize, KeepsPromise};
 ghost use Rattle.cf_model.specs.ReadObjects.{read_objects};
 ghost use Rattle.cf_model.specs.Rules.{AreInRange, AreObjects, AreOwned, IsPaged, IsTiled, KeepsRules, KeepsTiling, content_word};
-ghost use Rattle.cf_model.specs.State.{HeapState, paging_in, region_words};
-ghost use Rattle.cf_model.specs.Steps.{BlocksStay, ChangesCost, FreesObject, GivesObject, IsFault, IsOpeningWords, IsRefusedBy, IsResizeFault, Part};
+ghost use Rattle.cf_model.specs.State.{HeapState, closed_state, paging_in, region_words};
+ghost use Rattle.cf_model.specs.Steps.{BlocksStay, ChangesCost, FreesObject, GivesObject, IsEmptyHeap, IsFault, IsOpeningOrder, IsOpeningWords, IsRefusedBy, IsResizeFault, Part};
 ghost use Rattle.cf_model.specs.Steps.{IsFreeStep, IsMallocStep, IsResizeStep, IsWriteStep};
-ghost use Rattle.cf_model.specs.Steps.{ReadsBytes, ResizesObject, WritesBytes, empty_heap, number_of};
+ghost use Rattle.cf_model.specs.Steps.{ReadsBytes, ResizesObject, WritesBytes, empty_heap, number_of, opening_order, ordered_heap};
 
-/// An empty heap of each kind keeps the rules. With blocks, its words are the header of the one
-/// free block, any word, and zeros. So each kind has words with which its empty heap keeps the
-/// rules.
+use block_model::free_order::lists_stay_lists_of_the_blocks;
+
+/// An empty heap of each kind keeps the rules, without an order and with the opening order. With
+/// blocks, its words are the header of the one free block, word 1, and zeros. Without an order,
+/// word 1 is any word; with one it links the block with no other. So each kind has words with which
+/// its empty heap keeps the rules, without an order and with it.
 pub fn an_empty_heap_keeps_the_rules()
-    ensures pages { (kind : Kind) (p : Profile) → IsPaged kind → AreInRange p
-        → KeepsRules (empty_heap kind p (replicate (region_words p) 0)) }
+    ensures pages { (kind : Kind) (p : Profile) (order : Option Order) → IsPaged kind → AreInRange p → IsOpeningOrder kind p order
+        → KeepsRules (ordered_heap kind p (replicate (region_words p) 0) order) }
     ensures blocks { (kind : Kind) (p : Profile) (words : List ℕ) → IsTiled kind → AreInRange p → length words ≡ region_words p
         → slice_index words 0 ≡ region_words p → ((w : ℕ) → 2 ≤ w → slice_index words w ≡ 0)
         → KeepsRules (empty_heap kind p words) }
+    ensures linked { (kind : Kind) (p : Profile) (words : List ℕ) → IsTiled kind → AreInRange p → length words ≡ region_words p
+        → slice_index words 0 ≡ region_words p → slice_index words 1 ≡ link_word no_block no_block
+        → ((w : ℕ) → 2 ≤ w → slice_index words w ≡ 0)
+        → KeepsRules (ordered_heap kind p words (Some (opening_order kind p))) }
     ensures there { (kind : Kind) (p : Profile) → AreInRange p
         → (words : List ℕ) × IsOpeningWords kind p words × KeepsRules (empty_heap kind p words) }
+    ensures ordered { (kind : Kind) (p : Profile) → AreInRange p
+        → (words : List ℕ) × IsOpeningWords kind p words × KeepsRules (ordered_heap kind p words (Some (opening_order kind p))) }
+{
+    // For its contract: the lists of one free block are lists of its region.
+    lists_stay_lists_of_the_blocks();
+}
+
+/// A manager that promises an order, as every closed one does, has the opening order when it opens.
+pub fn a_promise_is_an_opening_order()
+    ensures closed { (kind : Kind) → IsSome (closed_state kind).order }
+    ensures opens { (s : Settings) (old new : HeapState) → IsSome old.order → IsEmptyHeap old.kind s new → KeepsPromise old new
+        → new ≡ ordered_heap old.kind (profile_of s) new.words (Some (opening_order old.kind (profile_of s))) }
 {}
 
 /// A read after a write returns the written bytes, and a write changes no other object.
@@ -97,7 +119,7 @@ pub fn blocks_stay_owned()
 
 /// With blocks, the words determine the blocks, without word 1 of the free ones. The words and the
 /// objects' addresses determine the objects.
-pub fn the_words_tell_blocks_and_objects()
+pub fn the_words_show_blocks_and_objects()
     ensures blocks { (s : HeapState) → AreInRange s.profile → AreObjects s → KeepsTiling s
         → read_blocks (region_words s.profile) s.words 0 (region_words s.profile) ≡ s.tiling }
     ensures objects { (s : HeapState) → AreInRange s.profile → AreObjects s → KeepsTiling s
@@ -132,25 +154,25 @@ pub fn calls_are_the_steps_of_pages()
         → RefitsObject (paging_in old) old.held asked (record { held = new.held; moved = number_of done.moved }) }
 {}
 
-/// If a manager with pages has an order, each malloc, free and resize has one answer and leaves one
-/// state, with its addresses, words, order and cost. A write does so without an order too.
+/// If a manager has an order, each malloc, free and resize has one answer and leaves one state, with
+/// its addresses, blocks, words, order and cost. A write does so without an order too.
 pub fn an_order_leaves_one_outcome()
-    ensures malloc { (old new next : HeapState) (bytes : ℕ) (r s : Result Handle Refusal) → IsPaged old.kind → IsSome old.order
+    ensures malloc { (old new next : HeapState) (bytes : ℕ) (r s : Result Handle Refusal) → IsSome old.order
         → KeepsRules old → KeepsRules new → KeepsRules next
         → IsMallocStep old bytes r new → IsOrderedMalloc old bytes r new
         → IsMallocStep old bytes s next → IsOrderedMalloc old bytes s next
         → (r ≡ s) × (next ≡ new) }
-    ensures free { (old new next : HeapState) (h : ℕ) (r s : Result Freed NotLive) → IsPaged old.kind → IsSome old.order
+    ensures free { (old new next : HeapState) (h : ℕ) (r s : Result Freed NotLive) → IsSome old.order
         → KeepsRules old → KeepsRules new → KeepsRules next
         → IsFreeStep old h r new → IsOrderedFree old h r new
         → IsFreeStep old h s next → IsOrderedFree old h s next
         → (r ≡ s) × (next ≡ new) }
-    ensures resize { (old new next : HeapState) (asked : Request) (r s : Result Resized ResizeFault) → IsPaged old.kind → IsSome old.order
+    ensures resize { (old new next : HeapState) (asked : Request) (r s : Result Resized ResizeFault) → IsSome old.order
         → KeepsRules old → KeepsRules new → KeepsRules next
         → IsResizeStep old asked r new → IsOrderedResize old asked r new
         → IsResizeStep old asked s next → IsOrderedResize old asked s next
         → (r ≡ s) × (next ≡ new) }
-    ensures write { (old new next : HeapState) (part : Part) (bytes : List ℕ) (r s : Result Unit AccessFault) → IsPaged old.kind
+    ensures write { (old new next : HeapState) (part : Part) (bytes : List ℕ) (r s : Result Unit AccessFault)
         → KeepsRules new → KeepsRules next
         → IsWriteStep old part bytes r new → IsWriteStep old part bytes s next
         → (r ≡ s) × (next ≡ new) }

@@ -1,9 +1,10 @@
 //! The interface of the managers.
 ghost use Rattle.std.specs.Prelude.{◌≡◌, ◌+◌, ◌^◌, ◌≤◌, IsTrue, OnOk, OnErr, is_some, length, slice_get};
 ghost use Rattle.std.specs.FinMap as map;
+ghost use Rattle.step_ledger.specs.Counting.{RoseAtMost};
 ghost use Rattle.cf_model.specs.Answers.{place_of, block_in, classes_in, figures_in, totals_in, usage_in, class_with, bound_put};
-ghost use Rattle.cf_model.specs.Costs.{TakesAtMost, free_bound, resize_bound, access_bound, TellsCost};
-ghost use Rattle.cf_model.specs.Ordered.{IsOrderedFree, IsOrderedMalloc, IsOrderedResize};
+ghost use Rattle.cf_model.specs.Costs.{TakesAtMost, access_bound, block_free_bound, free_bound, resize_bound, RoseByCost};
+ghost use Rattle.cf_model.specs.Ordered.{IsOrderedFree, IsOrderedMalloc, IsOrderedResize, KeepsPromise};
 ghost use Rattle.cf_model.specs.Rules.{KeepsRules};
 ghost use Rattle.cf_model.specs.State.{HeapState};
 ghost use Rattle.cf_model.specs.Steps.{
@@ -31,9 +32,10 @@ use step_ledger::Steps;
 /// size classes, by Compact-fit (2008). One of kind `Tlsf` or `HalfFit` divides it into blocks, by
 /// TLSF (2004) or Half-Fit (1995).
 ///
-/// A manager with pages may promise an order (`HeapState`, field `order`): then each malloc, free and
-/// resize uses the page, slot, number and object that come next, and takes exactly the steps that the
-/// state before and the answer give (clause `ordered`).
+/// A manager may promise an order (`HeapState`, field `order`), closed or open: then each malloc, free
+/// and resize uses the page, slot or block, number and object that come next, and takes exactly the
+/// steps that the state before and the answer give (clause `ordered`; with blocks a resize is refused,
+/// and the clause leaves its steps open). No call changes whether a manager promises one.
 pub trait Manager: Drop {
     /// What contracts see of it.
     ghost state: { Self → HeapState };
@@ -48,16 +50,18 @@ pub trait Manager: Drop {
         ensures rules { IsTrue result → KeepsRules (state self.now) };
 
     /// Opens an empty heap with these settings, whatever was there before. Only this call takes
-    /// memory. At `OutOfMemory` the manager is closed, and may be opened again.
+    /// memory. At `OutOfMemory` the manager is closed, and may be opened again. A manager that
+    /// promised an order promises one afterwards, open or closed.
     fn open_heap(&mut self, s: &Settings) -> Result<(), OutOfMemory>
         ensures ok { OnOk result (IsEmptyHeap (state self.old).kind s.now (state self.new)) }
         ensures rules { OnOk result (KeepsRules (state self.new)) }
-        ensures err { OnErr result (IsClosed (state self.old) (state self.new)) };
+        ensures err { OnErr result (IsClosed (state self.old) (state self.new)) }
+        ensures promise { KeepsPromise (state self.old) (state self.new) };
 
     /// Adds an object of `bytes` bytes, all zero, under a handle that wasn't live. Refused, in this
     /// order: `Size` if it needs more than a page; `Proxy` if every proxy is in use; `Space` if its
-    /// class has no slot left, or no free block serves. A refusal changes only the cost. With pages
-    /// at most 64 steps.
+    /// class has no slot left, or no free block serves. A refusal changes only the cost. At most 64
+    /// steps with pages, 25 with blocks.
     fn malloc(&mut self, bytes: u32, steps: &mut Steps) -> Result<Handle, Refusal>
         requires open { IsTrue (state self.old).is_open }
         requires room { steps.old ≤ 2 ^ 63 }
@@ -65,13 +69,13 @@ pub trait Manager: Drop {
         ensures step { IsMallocStep (state self.old) bytes result (state self.new) }
         ensures rules { KeepsRules (state self.new) }
         ensures ordered { IsOrderedMalloc (state self.old) bytes result (state self.new) }
-        ensures bound { TakesAtMost (state self.old).kind steps.old steps.new 64 }
-        ensures told { steps.new ≡ steps.old + (state self.new).cost };
+        ensures bound { TakesAtMost (state self.old).kind steps.old steps.new 64 25 }
+        ensures cost { steps.new ≡ steps.old + (state self.new).cost };
 
     /// Removes an object, and returns the words of its slot or block. With pages, if the free must
     /// move an object (`MustMove`), another object of the class moves to the freed address; `moved`
     /// is that object. A refusal changes only the cost. With pages at most 96 steps plus twice the
-    /// words of the slot.
+    /// words of the slot; with blocks at most 41 plus the words of the block, 1 if refused.
     fn free(&mut self, h: Handle, steps: &mut Steps) -> Result<Freed, NotLive>
         requires open { IsTrue (state self.old).is_open }
         requires room { steps.old ≤ 2 ^ 63 }
@@ -79,12 +83,12 @@ pub trait Manager: Drop {
         ensures step { IsFreeStep (state self.old) h.0 result (state self.new) }
         ensures rules { KeepsRules (state self.new) }
         ensures ordered { IsOrderedFree (state self.old) h.0 result (state self.new) }
-        ensures bound { TakesAtMost (state self.old).kind steps.old steps.new (free_bound result) }
-        ensures told { steps.new ≡ steps.old + (state self.new).cost }
+        ensures bound { TakesAtMost (state self.old).kind steps.old steps.new (free_bound result) (block_free_bound result) }
+        ensures cost { steps.new ≡ steps.old + (state self.new).cost }
         ensures blocks { BlocksStayIn (state self.old).kind (state self.old) h.0 (state self.new) };
 
     /// Writes bytes into an object from byte `at` on, and changes nothing else. A refusal changes
-    /// nothing. With pages at most 16 steps plus three times the words that hold one of the bytes.
+    /// nothing. At most 16 steps plus three times the words that hold one of the bytes.
     fn write(
         &mut self,
         h: Handle,
@@ -97,23 +101,23 @@ pub trait Manager: Drop {
         ensures same { StaysOpen (state self.old) (state self.new) }
         ensures step { IsWriteStep (state self.old) (record { number = h.0; from = at }) bytes.now result (state self.new) }
         ensures rules { KeepsRules (state self.new) }
-        ensures bound { TakesAtMost (state self.old).kind steps.old steps.new (access_bound at (length bytes.now)) };
+        ensures bound { RoseAtMost steps.old steps.new (access_bound at (length bytes.now)) };
 
     /// Fills `out` with the bytes of an object from byte `at` on. A refusal leaves `out` unchanged.
-    /// With pages at most 16 steps plus three times the words that hold one of the bytes.
+    /// At most 16 steps plus three times the words that hold one of the bytes.
     fn read(&self, h: Handle, at: u32, out: &mut [u8], steps: &mut Steps) -> Result<(), AccessFault>
         requires open { IsTrue (state self.now).is_open }
         requires room { steps.old ≤ 2 ^ 63 }
         ensures answer { IsReadAnswer (state self.now) (record { number = h.0; from = at }) out.old result out.new }
         ensures rules { KeepsRules (state self.now) }
-        ensures bound { TakesAtMost (state self.now).kind steps.old steps.new (access_bound at (length out.old)) };
+        ensures bound { RoseAtMost steps.old steps.new (access_bound at (length out.old)) };
 
     /// Changes an object's length: its first bytes stay, and added bytes are zeros. With pages it
     /// stays in its slot if its class stays. Otherwise it takes a slot of the new class, and its
     /// old slot is freed, into which another object may move; `moved` is that object. Refused, in
     /// this order: `Unknown`; `Kind` with blocks; `Size`; `Space` if the class changes and the new
     /// one has no slot left. A refusal changes only the cost, with blocks nothing. With pages at
-    /// most 160 steps plus three times the words of the larger slot; 160 if refused.
+    /// most 160 steps plus three times the words of the larger slot, 160 if refused; with blocks 1.
     fn resize(&mut self, h: Handle, bytes: u32, steps: &mut Steps) -> Result<Resized, ResizeFault>
         requires open { IsTrue (state self.old).is_open }
         requires room { steps.old ≤ 2 ^ 63 }
@@ -121,8 +125,8 @@ pub trait Manager: Drop {
         ensures step { IsResizeStep (state self.old) (record { number = h.0; length = bytes }) result (state self.new) }
         ensures rules { KeepsRules (state self.new) }
         ensures ordered { IsOrderedResize (state self.old) (record { number = h.0; length = bytes }) result (state self.new) }
-        ensures bound { TakesAtMost (state self.old).kind steps.old steps.new (resize_bound result) }
-        ensures told { TellsCost (state self.old).kind steps.old steps.new (state self.new).cost }
+        ensures bound { TakesAtMost (state self.old).kind steps.old steps.new (resize_bound result) 1 }
+        ensures cost { RoseByCost (state self.old).kind steps.old steps.new (state self.new).cost }
         ensures blocks { BlocksStayIn (state self.old).kind (state self.old) h.0 (state self.new) };
 
     /// Sets the bound of the class whose slots have `slot_words` words: how many of its pages may

@@ -14,7 +14,7 @@ use Rattle.cf_base.specs.declared.kind.Kind.{Kind}
 use Rattle.cf_model.specs.Answers.{figures_in, totals_in}
 use Rattle.cf_model.specs.Rules.{KeepsRules}
 use Rattle.cf_model.specs.State.{HeapState}
-use Rattle.cf_model.specs.Steps.{IsOpeningOrder, IsOpeningWords, ordered_heap}
+use Rattle.cf_model.specs.Steps.{IsOpeningWords, opening_order, ordered_heap}
 use Rattle.step_ledger.specs.Counting.{RoseAtMost, RoseBy}
 use Rattle.tag_heap.specs.Room.{IsRoomAnswer, length_of}
 use Rattle.held_heap.specs.Bounds.{Bounds, IsFree, IsMalloc, IsRead, IsResize, IsWrite}
@@ -25,11 +25,10 @@ use Rattle.held_heap.specs.declared.answers.NphFreed.{NphFreed}
 use Rattle.held_heap.specs.declared.answers.NphResized.{NphResized}
 use Rattle.held_heap.specs.declared.answers.NphHeapTotals.{NphHeapTotals}
 
--- an open heap without objects, under these settings, and a ledger at 0
+-- an open heap without objects, under these settings, in its opening order, and a ledger at 0
 pub record IsFreshHeap (kind : Kind) (p : Profile) (new : HeldState) : Type 0 where
   pub words : IsOpeningWords kind p new.heap.words
-  pub order : IsOpeningOrder kind p new.heap.order
-  pub whole : new.heap ≡ ordered_heap kind p new.heap.words new.heap.order
+  pub whole : new.heap ≡ ordered_heap kind p new.heap.words (Some (opening_order kind p))
   pub rules : KeepsRules new.heap
   pub steps : new.steps ≡ 0
 

@@ -13,4 +13,4 @@ held_in n = n.place.held
 
 -- at its end the borrow r leaves its heap at the address
 abbrev pub LendsHeap : MutBor NphHeap → MutBor HeldState → Fml
-LendsHeap s r = Lends the_row open_heap s r (λ h. record { place = with_heap s.now.place h; is_open = true; told = refl })
+LendsHeap s r = Lends the_row open_heap s r (λ h. record { place = with_heap s.now.place h; is_open = true; shown = refl })

@@ -51,6 +51,8 @@ impl<H: Offered> Held<H> {
         Box::new(alloc, held).ok()
     }
 
+    /// Makes an object of `bytes` zeros and writes its handle into `handle`. Returns a code of
+    /// `codes.rt`; after a refusal `handle` is unchanged.
     pub fn malloc(&mut self, bytes: u32, handle: &mut u32) -> i32
         ensures { IsMallocCall H.most self.old bytes handle.old result handle.new self.new }
     {
@@ -66,6 +68,8 @@ impl<H: Offered> Held<H> {
         }
     }
 
+    /// Frees an object. Writes into `freed` the words of its slot or block, and the handle of the object
+    /// that moved, or `NONE`. Returns `UNKNOWN` if the handle isn't live; `freed` is unchanged then.
     pub fn free(&mut self, handle: u32, freed: &mut NphFreed) -> i32
         ensures { IsFreeCall H.most self.old handle freed.old result freed.new self.new }
     {
@@ -84,6 +88,9 @@ impl<H: Offered> Held<H> {
         }
     }
 
+    /// Gives an object a length of `bytes` bytes. Writes into `resized` the words of its slot before and
+    /// after, and the handle of the other object that moved, or `NONE`. Returns a code of `codes.rt`;
+    /// after a refusal `resized` is unchanged.
     pub fn resize(&mut self, handle: u32, bytes: u32, resized: &mut NphResized) -> i32
         ensures { IsResizeCall H.most self.old handle bytes resized.old result resized.new self.new }
     {
@@ -105,6 +112,7 @@ impl<H: Offered> Held<H> {
         }
     }
 
+    /// Writes the bytes into an object, from its byte `at` on. Returns `UNKNOWN` or `RANGE` if refused.
     pub fn write(&mut self, handle: u32, at: u32, bytes: &[u8]) -> i32
         ensures { IsWriteCall H.most self.old handle at bytes.now result self.new }
     {
@@ -119,6 +127,8 @@ impl<H: Offered> Held<H> {
         }
     }
 
+    /// Fills `out` with the bytes of an object from its byte `at` on. Returns `UNKNOWN` or `RANGE` if
+    /// refused; `out` is unchanged then.
     pub fn read(&mut self, handle: u32, at: u32, out: &mut [u8]) -> i32
         ensures { IsReadCall H.most self.old handle at out.old result out.new self.new }
     {
@@ -133,7 +143,8 @@ impl<H: Offered> Held<H> {
         }
     }
 
-    /// How many bytes the object has.
+    /// Writes the object's length in bytes into `bytes`. Returns `UNKNOWN` if the handle isn't live;
+    /// `bytes` is unchanged then.
     pub fn length(&mut self, handle: u32, bytes: &mut u32) -> i32
         ensures { IsLengthCall H.most self.old handle bytes.old result bytes.new self.new }
     {

@@ -92,7 +92,7 @@ fn unboxed_of(p: Place, alloc: Global) -> Unboxed<Open, Global>
 pub struct NphHeap {
     place: Place,
     is_open: bool,
-    ghost told: { is_open ≡ is_some place.held },
+    ghost shown: { is_open ≡ is_some place.held },
 }
 
 impl NphHeap {

@@ -7,8 +7,8 @@ ghost use Rattle.cf_base.specs.declared.answers.Handle.{Handle};
 ghost use Rattle.cf_base.specs.declared.answers.Refusal.{Refusal};
 ghost use Rattle.cf_base.specs.declared.kind.Kind.TheVariants.{Moving};
 ghost use Rattle.cf_model.specs.Answers.{block_in, classes_in, place_of, totals_in, usage_in};
-ghost use Rattle.cf_model.specs.Costs.{TakesAtMost, TellsCost, access_bound, free_bound, resize_bound};
-ghost use Rattle.cf_model.specs.Ordered.{IsOrderedFree, IsOrderedMalloc, IsOrderedResize};
+ghost use Rattle.cf_model.specs.Costs.{TakesAtMost, RoseByCost, access_bound, block_free_bound, free_bound, resize_bound};
+ghost use Rattle.cf_model.specs.Ordered.{IsOrderedFree, IsOrderedMalloc, IsOrderedResize, KeepsPromise};
 ghost use Rattle.cf_model.specs.Rules.{KeepsRules};
 ghost use Rattle.cf_model.specs.Steps.{BlocksStayIn, IsClosed, IsEmptyHeap, IsFreeStep, IsMallocStep, IsReadAnswer, IsRefusedBy, IsResizeStep, IsWriteStep, StaysOpen};
 ghost use Rattle.cf_model.specs.State.{HeapState, closed_state, paging_in};
@@ -74,7 +74,7 @@ impl Manager for MovingHeap {
     fn is_open(&self) -> bool
         ensures value { result ≡ self.now.is_open }
         ensures rules { IsTrue result → KeepsRules self.now }
-        ensures order { IsTrue result → IsSome self.now.order }
+        ensures order { IsSome self.now.order }
     {
         self.inner.is_some()
     }
@@ -83,7 +83,8 @@ impl Manager for MovingHeap {
         ensures ok { OnOk result (IsEmptyHeap self.old.kind s.now self.new) }
         ensures rules { OnOk result (KeepsRules self.new) }
         ensures err { OnErr result (IsClosed self.old self.new) }
-        ensures order { OnOk result (IsSome self.new.order) }
+        ensures promise { KeepsPromise self.old self.new }
+        ensures order { IsSome self.new.order }
     {
         self.inner = None;
         self.inner = Some(OpenHeap::new::<Direct>(self.alloc, s, Layout::Words, None)?);
@@ -97,8 +98,8 @@ impl Manager for MovingHeap {
         ensures step { IsMallocStep self.old bytes result self.new }
         ensures rules { KeepsRules self.new }
         ensures ordered { IsOrderedMalloc self.old bytes result self.new }
-        ensures bound { TakesAtMost self.old.kind steps.old steps.new 64 }
-        ensures told { steps.new ≡ steps.old + self.new.cost }
+        ensures bound { TakesAtMost self.old.kind steps.old steps.new 64 25 }
+        ensures cost { steps.new ≡ steps.old + self.new.cost }
         ensures steps { RoseAtMost steps.old steps.new (malloc_steps Moving) }
     {
         match &mut self.inner {
@@ -114,8 +115,8 @@ impl Manager for MovingHeap {
         ensures step { IsFreeStep self.old h.0 result self.new }
         ensures rules { KeepsRules self.new }
         ensures ordered { IsOrderedFree self.old h.0 result self.new }
-        ensures bound { TakesAtMost self.old.kind steps.old steps.new (free_bound result) }
-        ensures told { steps.new ≡ steps.old + self.new.cost }
+        ensures bound { TakesAtMost self.old.kind steps.old steps.new (free_bound result) (block_free_bound result) }
+        ensures cost { steps.new ≡ steps.old + self.new.cost }
         ensures blocks { BlocksStayIn self.old.kind self.old h.0 self.new }
         ensures steps { RoseAtMost steps.old steps.new (free_steps Moving result) }
     {
@@ -137,7 +138,7 @@ impl Manager for MovingHeap {
         ensures same { StaysOpen self.old self.new }
         ensures step { IsWriteStep self.old (record { number = h.0; from = at }) bytes.now result self.new }
         ensures rules { KeepsRules self.new }
-        ensures bound { TakesAtMost self.old.kind steps.old steps.new (access_bound at (length bytes.now)) }
+        ensures bound { RoseAtMost steps.old steps.new (access_bound at (length bytes.now)) }
         ensures steps { RoseBy steps.old steps.new (access_steps Moving at (length bytes.now) result) }
     {
         match &mut self.inner {
@@ -151,7 +152,7 @@ impl Manager for MovingHeap {
         requires room { steps.old ≤ 2 ^ 63 }
         ensures answer { IsReadAnswer self.now (record { number = h.0; from = at }) out.old result out.new }
         ensures rules { KeepsRules self.now }
-        ensures bound { TakesAtMost self.now.kind steps.old steps.new (access_bound at (length out.old)) }
+        ensures bound { RoseAtMost steps.old steps.new (access_bound at (length out.old)) }
         ensures steps { RoseBy steps.old steps.new (access_steps Moving at (length out.old) result) }
     {
         match &self.inner {
@@ -167,8 +168,8 @@ impl Manager for MovingHeap {
         ensures step { IsResizeStep self.old (record { number = h.0; length = bytes }) result self.new }
         ensures rules { KeepsRules self.new }
         ensures ordered { IsOrderedResize self.old (record { number = h.0; length = bytes }) result self.new }
-        ensures bound { TakesAtMost self.old.kind steps.old steps.new (resize_bound result) }
-        ensures told { TellsCost self.old.kind steps.old steps.new self.new.cost }
+        ensures bound { TakesAtMost self.old.kind steps.old steps.new (resize_bound result) 1 }
+        ensures cost { RoseByCost self.old.kind steps.old steps.new self.new.cost }
         ensures blocks { BlocksStayIn self.old.kind self.old h.0 self.new }
         ensures steps { RoseAtMost steps.old steps.new (resize_steps Moving bytes result) }
     {

@@ -31,8 +31,8 @@ abbrev pub mapped_in : Option OpenHeap → MappedState
 mapped_in o = record { state = state_in NonMoving o; physical = region_in o }
 
 -- word `4 * F(v) + j` of the region is the virtual word `4 * v + j`, where F is the block table
-abbrev pub StandsByItsTable : MappedState → Type 0
-StandsByItsTable s = IsPhysical s.state.frames s.state.words s.physical
+abbrev pub IsMappedByItsTable : MappedState → Type 0
+IsMappedByItsTable s = IsPhysical s.state.frames s.state.words s.physical
 
 -- No physical word changes in a block of an object but h that is live before and after.
 abbrev pub OthersStayInPlace : MappedState → ℕ → MappedState → Type 0

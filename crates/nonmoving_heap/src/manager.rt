@@ -7,8 +7,8 @@ ghost use Rattle.cf_base.specs.declared.answers.Handle.{Handle};
 ghost use Rattle.cf_base.specs.declared.answers.Refusal.{Refusal};
 ghost use Rattle.cf_base.specs.declared.kind.Kind.TheVariants.{NonMoving};
 ghost use Rattle.cf_model.specs.Answers.{block_in, classes_in, place_of, totals_in, usage_in};
-ghost use Rattle.cf_model.specs.Costs.{TakesAtMost, TellsCost, access_bound, free_bound, resize_bound};
-ghost use Rattle.cf_model.specs.Ordered.{IsOrderedFree, IsOrderedMalloc, IsOrderedResize};
+ghost use Rattle.cf_model.specs.Costs.{TakesAtMost, RoseByCost, access_bound, block_free_bound, free_bound, resize_bound};
+ghost use Rattle.cf_model.specs.Ordered.{IsOrderedFree, IsOrderedMalloc, IsOrderedResize, KeepsPromise};
 ghost use Rattle.cf_model.specs.Rules.{KeepsRules};
 ghost use Rattle.paged_heap.specs.Costs.{access_steps, free_steps, malloc_steps, resize_steps};
 ghost use Rattle.step_ledger.specs.Counting.{RoseAtMost, RoseBy};
@@ -17,7 +17,7 @@ ghost use Rattle.cf_model.specs.State.{HeapState, closed_state, paging_in};
 ghost use Rattle.page_model.specs.Frames.{block_of};
 ghost use Rattle.paged_heap.specs.Layout.{Holds, state_at};
 ghost use Rattle.paged_heap.specs.Room.{without_handle};
-ghost use Rattle.nonmoving_heap.specs.MappedState.{OthersStayInPlace, StandsByItsTable, block_steps};
+ghost use Rattle.nonmoving_heap.specs.MappedState.{OthersStayInPlace, IsMappedByItsTable, block_steps};
 
 use block_table::BlockTable;
 use cf_base::{
@@ -75,7 +75,7 @@ impl Manager for NonMovingHeap {
     fn is_open(&self) -> bool
         ensures value { result ≡ self.now.state.is_open }
         ensures rules { IsTrue result → KeepsRules self.now.state }
-        ensures order { IsTrue result → IsSome self.now.state.order }
+        ensures order { IsSome self.now.state.order }
     {
         self.inner.is_some()
     }
@@ -84,7 +84,8 @@ impl Manager for NonMovingHeap {
         ensures ok { OnOk result (IsEmptyHeap self.old.state.kind s.now self.new.state) }
         ensures rules { OnOk result (KeepsRules self.new.state) }
         ensures err { OnErr result (IsClosed self.old.state self.new.state) }
-        ensures order { OnOk result (IsSome self.new.state.order) }
+        ensures promise { KeepsPromise self.old.state self.new.state }
+        ensures order { IsSome self.new.state.order }
     {
         self.inner = None;
         self.inner = Some(empty_heap(self.alloc, s)?);
@@ -98,8 +99,8 @@ impl Manager for NonMovingHeap {
         ensures step { IsMallocStep self.old.state bytes result self.new.state }
         ensures rules { KeepsRules self.new.state }
         ensures ordered { IsOrderedMalloc self.old.state bytes result self.new.state }
-        ensures bound { TakesAtMost self.old.state.kind steps.old steps.new 64 }
-        ensures told { steps.new ≡ steps.old + self.new.state.cost }
+        ensures bound { TakesAtMost self.old.state.kind steps.old steps.new 64 25 }
+        ensures cost { steps.new ≡ steps.old + self.new.state.cost }
         ensures steps { RoseAtMost steps.old steps.new (malloc_steps NonMoving) }
     {
         match &mut self.inner {
@@ -115,8 +116,8 @@ impl Manager for NonMovingHeap {
         ensures step { IsFreeStep self.old.state h.0 result self.new.state }
         ensures rules { KeepsRules self.new.state }
         ensures ordered { IsOrderedFree self.old.state h.0 result self.new.state }
-        ensures bound { TakesAtMost self.old.state.kind steps.old steps.new (free_bound result) }
-        ensures told { steps.new ≡ steps.old + self.new.state.cost }
+        ensures bound { TakesAtMost self.old.state.kind steps.old steps.new (free_bound result) (block_free_bound result) }
+        ensures cost { steps.new ≡ steps.old + self.new.state.cost }
         ensures blocks { BlocksStayIn self.old.state.kind self.old.state h.0 self.new.state }
         ensures others { OthersStayInPlace self.old h.0 self.new }
         ensures steps { RoseAtMost steps.old steps.new (free_steps NonMoving result) }
@@ -139,7 +140,7 @@ impl Manager for NonMovingHeap {
         ensures same { StaysOpen self.old.state self.new.state }
         ensures step { IsWriteStep self.old.state (record { number = h.0; from = at }) bytes.now result self.new.state }
         ensures rules { KeepsRules self.new.state }
-        ensures bound { TakesAtMost self.old.state.kind steps.old steps.new (access_bound at (length bytes.now)) }
+        ensures bound { RoseAtMost steps.old steps.new (access_bound at (length bytes.now)) }
         ensures steps { RoseBy steps.old steps.new (access_steps NonMoving at (length bytes.now) result) }
     {
         match &mut self.inner {
@@ -153,7 +154,7 @@ impl Manager for NonMovingHeap {
         requires room { steps.old ≤ 2 ^ 63 }
         ensures answer { IsReadAnswer self.now.state (record { number = h.0; from = at }) out.old result out.new }
         ensures rules { KeepsRules self.now.state }
-        ensures bound { TakesAtMost self.now.state.kind steps.old steps.new (access_bound at (length out.old)) }
+        ensures bound { RoseAtMost steps.old steps.new (access_bound at (length out.old)) }
         ensures steps { RoseBy steps.old steps.new (access_steps NonMoving at (length out.old) result) }
     {
         match &self.inner {
@@ -169,8 +170,8 @@ impl Manager for NonMovingHeap {
         ensures step { IsResizeStep self.old.state (record { number = h.0; length = bytes }) result self.new.state }
         ensures rules { KeepsRules self.new.state }
         ensures ordered { IsOrderedResize self.old.state (record { number = h.0; length = bytes }) result self.new.state }
-        ensures bound { TakesAtMost self.old.state.kind steps.old steps.new (resize_bound result) }
-        ensures told { TellsCost self.old.state.kind steps.old steps.new self.new.state.cost }
+        ensures bound { TakesAtMost self.old.state.kind steps.old steps.new (resize_bound result) 1 }
+        ensures cost { RoseByCost self.old.state.kind steps.old steps.new self.new.state.cost }
         ensures blocks { BlocksStayIn self.old.state.kind self.old.state h.0 self.new.state }
         ensures others { OthersStayInPlace self.old h.0 self.new }
         ensures steps { RoseAtMost steps.old steps.new (resize_steps NonMoving bytes result) }
@@ -309,7 +310,7 @@ impl NonMovingHeap {
     pub fn physical_words_are_mapped(&self)
         requires { IsTrue self.now.state.is_open }
         ensures kind { self.now.state.kind ≡ NonMoving }
-        ensures words { StandsByItsTable self.now }
+        ensures words { IsMappedByItsTable self.now }
     {
         let _open = self.open();
     }

@@ -3,10 +3,11 @@ use Rattle.std.proofs.Common.{◌≡◌, ◌≢◌, ℕ, List, ◌∷◌, refl, 
 use Rattle.std.specs.Prelude.{◌⊎◌}
 use Rattle.std.specs.List.{Contains}
 use Rattle.std.proofs.lemmas.Bool.{cases_eq}
+use Rattle.cf_lemmas.specs.Lists.{without_number}
+use Rattle.cf_lemmas.proofs.Members.{contains_cases, contains_head, contains_tail, contains_without, without_contains}
 use Rattle.class_lists.specs.declared.Which.{Which}
 use Rattle.class_lists.specs.declared.Which.TheVariants.{Full, NotFull}
-use Rattle.class_lists.specs.PageLists.{PageLists, AreApart, IsUnlisted, pages_in, without_page}
-use Rattle.class_lists.proofs.CallerLemmas.{contains_head, contains_tail, contains_cases, contains_without, without_contains}
+use Rattle.class_lists.specs.PageLists.{PageLists, AreApart, IsUnlisted, pages_in}
 use Rattle.page_slots.specs.Tables.{JoinsList, LeavesList}
 
 pub along : (q : ℕ) (xs ys : List ℕ) → xs ≡ ys → Contains xs q → Contains ys q
@@ -61,8 +62,8 @@ module _ (old : PageLists) (c : ℕ) (w : Which) (page : ℕ) (new : PageLists) 
     joined_classes = ap (λ (t : PageLists). t.classes) j.value
 
   module _ (l : LeavesList old c w page new) where
-    left : (d : ℕ) (v : Which) → d ≡ c → v ≡ w → pages_in new d v ≡ without_page page (pages_in old d v)
-    left d v a b = same_list new c d w v a b ∙ l.list ∙ ap (without_page page) (sym (same_list old c d w v a b))
+    left : (d : ℕ) (v : Which) → d ≡ c → v ≡ w → pages_in new d v ≡ without_number page (pages_in old d v)
+    left d v a b = same_list new c d w v a b ∙ l.list ∙ ap (without_number page) (sym (same_list old c d w v a b))
 
     -- a page that left its list is in no list
     pub left_unlisted : AreApart old → Contains (pages_in old c w) page → IsUnlisted new page

@@ -8,23 +8,24 @@ use Rattle.std.proofs.lemmas.List.{same_lists, length-replicate, length-set, get
 use Rattle.std.proofs.lemmas.List.FromFn.{length-map-range_with_len, get_or-map-range_with_len}
 use Rattle.std.proofs.lemmas.List.Quantifiers.{position-Some}
 use Rattle.std.proofs.lemmas.Option.{slice_get-get_or}
+use Rattle.cf_lemmas.specs.Lists.{without_number}
+use Rattle.cf_lemmas.proofs.Members.{distinct_cons, distinct_head, distinct_nil, without_absent, without_first}
 use Rattle.cf_lemmas.proofs.Tests.{eq_no, eq_yes}
 use Rattle.class_lists.specs.declared.Which.{Which}
 use Rattle.class_lists.specs.declared.Which.TheVariants.{Full, NotFull}
-use Rattle.class_lists.specs.PageLists.{PageLists, empty_lists, pages_in, without_page}
-use Rattle.class_lists.proofs.CallerLemmas.{distinct_cons, distinct_head, distinct_nil, without_absent, without_first}
+use Rattle.class_lists.specs.PageLists.{PageLists, empty_lists, pages_in}
 use Rattle.page_pool.specs.Pool.{HasNoRepeats, Pool, is_in_pool}
 use Rattle.size_classes.specs.Table.{ClassTable}
 use Rattle.page_model.specs.Held.{Held, Placed}
 use Rattle.page_model.specs.Paging.{Paging, IsPaging, classes, address_of, page_of, slots_of}
-use Rattle.page_model.specs.Arrangement.{class_at, objects_on, standing_on}
+use Rattle.page_model.specs.Arrangement.{class_at, objects_on, count_on}
 use Rattle.page_model.proofs.CallerLemmas.{address_is_slot}
 use Rattle.page_model.specs.Order.{Order, IsLeastFree, IsNextToMove, IsOrderOf, IsPartlyFull, IsTaken, TakesNext, not_full_in, slot_freed, steps_to_take as order_steps, with_not_full}
 use Rattle.page_model.specs.Order.{drop_steps, fill_steps, steps_to_drop as order_drop, steps_to_fill as order_fill}
 use Rattle.page_slots.specs.Tables.{Tables, AreTables, IsOf, IsPageOf, IsUsed, LeavesList, slot_at, slots_on, used_in}
 use Rattle.page_slots.specs.Release.{IsFiller, Vacates, steps_to_drop as table_drop, steps_to_fill as table_fill}
 use Rattle.page_slots.specs.Take.{TakesAt, TakesOnFreePage, TakesOnOpenPage, steps_to_take as table_steps}
-use Rattle.page_slots.specs.Occupying.{Occupies, Tell, TellPart, class_table}
+use Rattle.page_slots.specs.Occupying.{Occupies, Serve, ServePart, class_table}
 use Rattle.page_slots.specs.Orders.{open_lists, order_of}
 use Rattle.page_slots.proofs.Pages.{free_page, list_of, listed_page, of_list, one_class, placed_in}
 use Rattle.page_slots.proofs.Bits.{not_both}
@@ -64,7 +65,7 @@ module _ (n : ℕ) where
             ∙ get_or-map-range_with_len (λ c. pages_in old c NotFull) 0 n k k d (omega arith) (omega arith))
       ]))
 
-module _ {p : Paging} (ok : IsPaging p) {m : Held} {old new : Tables} (tell : TellPart p old) (o : Occupies p m old)
+module _ {p : Paging} (ok : IsPaging p) {m : Held} {old new : Tables} (serve : ServePart p old) (o : Occupies p m old)
     (kept : AreTables (class_table p) new) {c : ℕ} (class : c < classes p) (spare : List ℕ) where
   abbrev before : Order
   before = order_of (classes p) old spare
@@ -84,13 +85,13 @@ module _ {p : Paging} (ok : IsPaging p) {m : Held} {old new : Tables} (tell : Te
       first : pages_in old.lists c NotFull ≡ page ∷ rest
       first = front_is (pages_in old.lists c NotFull) page on.front
 
-      not_twice : without_page page (pages_in old.lists c NotFull) ≡ rest
-      not_twice = ap (without_page page) first
-          ∙ without_first page rest (distinct_head page rest (rw first at (tell.tables.lists.distinct c NotFull)))
+      not_twice : without_number page (pages_in old.lists c NotFull) ≡ rest
+      not_twice = ap (without_number page) first
+          ∙ without_first page rest (distinct_head page rest (rw first at (serve.tables.lists.distinct c NotFull)))
 
       least : IsLeastFree p m c page slot
       least = record {
-        free = λ (q, y, there, is). gained_unused p ok m old new tell o c page slot g q y there is;
+        free = λ (q, y, there, is). gained_unused p ok m old new serve o c page slot g q y there is;
         least = λ s lt.
             let at = position-Some (λ used. not used) (slots_on old page) slot false on.least in
             let is : not (get_or (slots_on old page) s false) ≡ false = at.2 s lt in
@@ -103,8 +104,8 @@ module _ {p : Paging} (ok : IsPaging p) {m : Held} {old new : Tables} (tell : Te
       left : after ≡ (if nat_eq (objects_on p m c page + 1) (slots_of p c) then with_not_full before c rest else before)
       left =
           let counts : objects_on p m c page ≡ used_in (slots_on old page) = o.counted c page (inr listed) in
-          let more = used_after (class_table p) old tell.tables c page new kept.lists slot on in
-          let many : length (slots_on new page) ≡ slots_of p c = long_after (class_table p) old tell.tables c page new kept.lists slot on in
+          let more = used_after (class_table p) old serve.tables c page new kept.lists slot on in
+          let many : length (slots_on new page) ≡ slots_of p c = long_after (class_table p) old serve.tables c page new kept.lists slot on in
           let pool = ap (λ (q : Pool). q.free) on.pool in
           elim (cases_eq (used_in (slots_on new page)) (length (slots_on new page))) [
             | inl is ↦ (
@@ -158,7 +159,7 @@ module _ {p : Paging} (ok : IsPaging p) {m : Held} {old new : Tables} (tell : Te
   -- in both cases
   pub taken_next : {a : ℕ} → TakesAt (class_table p) old c a new → TakesNext p m before c a after
   taken_next t = elim t.taken [
-    | inl on ↦ next_open t.address on (taken_gains (class_table p) old tell.tables c class _ new t kept.lists kept.pool)
+    | inl on ↦ next_open t.address on (taken_gains (class_table p) old serve.tables c class _ new t kept.lists kept.pool)
     | inr (first, on) ↦ next_free (t.address ∙ ap (address_of p c t.page) first) on
   ]
 
@@ -166,36 +167,36 @@ distinct_free : (free : List ℕ) → HasNoRepeats free → IsDistinct nat_eq fr
 distinct_free [] once = distinct_nil
 distinct_free (page ∷ free) once = distinct_cons page free (contains_no page free once.0) (distinct_free free once.1)
 
-module _ {p : Paging} (ok : IsPaging p) {m : Held} {t : Tables} (tell : Tell p t) (o : Occupies p m t) where
+module _ {p : Paging} (ok : IsPaging p) {m : Held} {t : Tables} (serve : Serve p t) (o : Occupies p m t) where
   abbrev k : ClassTable
   k = class_table p
 
-  free_is : (page : ℕ) → Contains t.pool.free page ↔ ((page < p.pages) × (standing_on p m page ≡ 0))
+  free_is : (page : ℕ) → Contains t.pool.free page ↔ ((page < p.pages) × (count_on p m page ≡ 0))
   free_is page = (
     λ there. (
         let e = contains_any page t.pool.free there in
-        let lt = tell.part.tables.pool.below page e in
-        let many = tell.part.pages in
-        (omega arith, free_bare p ok t tell.part m o page (free_page k t tell.part.tables page lt e))),
+        let lt = serve.part.tables.pool.below page e in
+        let many = serve.part.pages in
+        (omega arith, free_bare p ok t serve.part m o page (free_page k t serve.part.tables page lt e))),
     λ (lt, bare). by_test (is_in_pool t.pool.free page) refl lt bare,
   )
     where
-      by_test : (b : Bool) → is_in_pool t.pool.free page ≡ b → page < p.pages → standing_on p m page ≡ 0 → Contains t.pool.free page
+      by_test : (b : Bool) → is_in_pool t.pool.free page ≡ b → page < p.pages → count_on p m page ≡ 0 → Contains t.pool.free page
       by_test true e lt bare = any_contains page t.pool.free e
-      by_test false e lt bare = absurd (let some = taken_stands p ok m t tell.part o tell.whole page lt e in omega arith)
+      by_test false e lt bare = absurd (let some = taken_stands p ok m t serve.part o serve.whole page lt e in omega arith)
 
   listed_is : (c page : ℕ) → Contains (pages_in t.lists c NotFull) page ↔ ((page < p.pages) × IsPartlyFull p m c page)
   listed_is c page = (
     λ there. (
-        let q = placed_in k t tell.part.tables c page NotFull there in
+        let q = placed_in k t serve.part.tables c page NotFull there in
         let e = o.counted c page (inr there) in
         let f = q.fills in let some = f.0 in let few = f.1 in
-        let lt = listed_page k t tell.part.tables c page NotFull there in
-        let many = tell.part.pages in
+        let lt = listed_page k t serve.part.tables c page NotFull there in
+        let many = serve.part.pages in
         (omega arith, (omega arith, omega arith))),
-    λ (lt, (some, few)). elim (counts_of p ok t tell.part m o c page some) [
+    λ (lt, (some, few)). elim (counts_of p ok t serve.part m o c page some) [
       | inl full ↦ absurd (
-          let q = placed_in k t tell.part.tables c page Full full in
+          let q = placed_in k t serve.part.tables c page Full full in
           let e = o.counted c page (inl full) in
           let f = q.fills in
           omega arith)
@@ -208,17 +209,17 @@ module _ {p : Paging} (ok : IsPaging p) {m : Held} {t : Tables} (tell : Tell p t
       → length spare + len m ≡ limit → IsOrderOf p m limit (order_of (classes p) t spare)
   order_is limit spare free once all = record {
     pool = free_is;
-    pool_once = distinct_free t.pool.free tell.part.tables.pool.distinct;
+    pool_once = distinct_free t.pool.free serve.part.tables.pool.distinct;
     as_many = long (classes p) t.lists;
     not_full = λ c page lt. subst (λ pages. Contains pages page ↔ ((page < p.pages) × IsPartlyFull p m c page)) (sym (open_at (classes p) t spare c lt)) (listed_is c page);
-    not_full_once = λ c lt. subst (IsDistinct nat_eq) (sym (open_at (classes p) t spare c lt)) (tell.part.tables.lists.distinct c NotFull);
+    not_full_once = λ c lt. subst (IsDistinct nat_eq) (sym (open_at (classes p) t spare c lt)) (serve.part.tables.lists.distinct c NotFull);
     spare = free;
     spare_once = once;
     spare_all = all;
   }
 
 -- A slot of a page became free.
-module _ {p : Paging} (ok : IsPaging p) {m : Held} {old new : Tables} (tell : TellPart p old) (o : Occupies p m old)
+module _ {p : Paging} (ok : IsPaging p) {m : Held} {old new : Tables} (serve : ServePart p old) (o : Occupies p m old)
     (kept : AreTables (class_table p) new) {c : ℕ} (class : c < classes p) (spare : List ℕ) {page slot : ℕ} (v : Vacates old c page slot new) where
   abbrev was : Order
   was = order_of (classes p) old spare
@@ -230,31 +231,31 @@ module _ {p : Paging} (ok : IsPaging p) {m : Held} {old new : Tables} (tell : Te
   was_at = open_at (classes p) old spare c class
 
   here : IsPageOf (class_table p) old page c v.which
-  here = placed_in (class_table p) old tell.tables c page v.which v.listed
+  here = placed_in (class_table p) old serve.tables c page v.which v.listed
 
   counts : objects_on p m c page ≡ used_in (slots_on old page)
-  counts = o.counted c page (list_of (class_table p) old tell.tables c page v.which v.listed)
+  counts = o.counted c page (list_of (class_table p) old serve.tables c page v.which v.listed)
 
   less : used_in (slots_on new page) + 1 ≡ used_in (slots_on old page)
-  less = used_less (class_table p) old tell.tables c page slot new v kept.lists kept.pool
+  less = used_less (class_table p) old serve.tables c page slot new v kept.lists kept.pool
 
   emptied : used_in (slots_on new page) ≡ 0
       → now ≡ record (with_not_full was c (filter (λ other. not (nat_eq other page)) (not_full_in was c))) { pool = page ∷ was.pool }
   emptied none =
       let leaves = v.emptied none in
-      let by_list : (w : Which) → v.which ≡ w → pages_in new.lists c NotFull ≡ without_page page (pages_in old.lists c NotFull) = λ w is. by w is leaves in
-      let lists = open_set (classes p) old.lists new.lists c (without_page page (not_full_in was c)) class
-      (by_list v.which refl ∙ ap (without_page page) (sym was_at)) (λ d ne. leaves.others d NotFull (inl ne)) in
+      let by_list : (w : Which) → v.which ≡ w → pages_in new.lists c NotFull ≡ without_number page (pages_in old.lists c NotFull) = λ w is. by w is leaves in
+      let lists = open_set (classes p) old.lists new.lists c (without_number page (not_full_in was c)) class
+      (by_list v.which refl ∙ ap (without_number page) (sym was_at)) (λ d ne. leaves.others d NotFull (inl ne)) in
       let pool = ap (λ (q : Pool). q.free) (v.returned none) in
       (λ i. record { pool = pool i; not_full = lists i; spare = spare })
     where
       by : (w : Which) → v.which ≡ w → LeavesList old.lists c v.which page new.lists
-          → pages_in new.lists c NotFull ≡ without_page page (pages_in old.lists c NotFull)
+          → pages_in new.lists c NotFull ≡ without_number page (pages_in old.lists c NotFull)
       by NotFull is leaves = (subst (λ w. LeavesList old.lists c w page new.lists) is leaves).list
       by Full is leaves =
           let full : Contains (pages_in old.lists c Full) page = subst (λ w. Contains (pages_in old.lists c w) page) is v.listed in
           (subst (λ w. LeavesList old.lists c w page new.lists) is leaves).others c NotFull (inr (λ w. cc))
-          ∙ sym (without_absent page (pages_in old.lists c NotFull) (λ there. (let e : Full ≡ NotFull = (tell.tables.lists.once c c Full NotFull page full there).1 in cc)))
+          ∙ sym (without_absent page (pages_in old.lists c NotFull) (λ there. (let e : Full ≡ NotFull = (serve.tables.lists.once c c Full NotFull page full there).1 in cc)))
 
   opened : used_in (slots_on new page) ≢ 0 → objects_on p m c page ≡ slots_of p c → now ≡ with_not_full was c (page ∷ not_full_in was c)
   opened some full = by v.which refl
@@ -299,7 +300,7 @@ module _ {p : Paging} (ok : IsPaging p) {m : Held} {old new : Tables} (tell : Te
   ]
 
 -- The object that moves into a freed slot is the next one to move.
-module _ {p : Paging} (ok : IsPaging p) {m : Held} {t : Tables} (tell : TellPart p t) (o : Occupies p m t) {c : ℕ} (class : c < classes p) (spare : List ℕ)
+module _ {p : Paging} (ok : IsPaging p) {m : Held} {t : Tables} (serve : ServePart p t) (o : Occupies p m t) {c : ℕ} (class : c < classes p) (spare : List ℕ)
     {a : ℕ} (f : IsFiller (class_table p) t.maps t.lists c a) where
   filler_listed : Contains (pages_in t.lists c NotFull) f.page
   filler_listed = front_listed (pages_in t.lists c NotFull) f.page f.front
@@ -311,13 +312,13 @@ module _ {p : Paging} (ok : IsPaging p) {m : Held} {t : Tables} (tell : TellPart
   none_below s lt (q, y, there, is) =
       let first = position-Some (λ used. used) (slots_on t f.page) f.slot false f.least in
       let inside : s < length (slots_on t f.page) = (let l = first.0 in omega arith) in
-      let page_in = listed_page (class_table p) t tell.tables c f.page NotFull filler_listed in
-      let long = (placed_in (class_table p) t tell.tables c f.page NotFull filler_listed).slots in
-      let at = address_is_slot p ok c class f.page s (let e = tell.pages in omega arith) (omega arith) in
+      let page_in = listed_page (class_table p) t serve.tables c f.page NotFull filler_listed in
+      let long = (placed_in (class_table p) t serve.tables c f.page NotFull filler_listed).slots in
+      let at = address_is_slot p ok c class f.page s (let e = serve.pages in omega arith) (omega arith) in
       let on : page_of p y.place ≡ f.page = ap (page_of p) is ∙ at.1 in
       let u = o.stands q y there in
       let of : IsOf t (class_at p y) f.page = (used_along t (class_at p y) (class_at p y) (page_of p y.place) f.page _ _ refl on refl u).of in
-      let is_c = one_class (class_table p) t tell.tables (class_at p y) c f.page of (inr filler_listed) in
+      let is_c = one_class (class_table p) t serve.tables (class_at p y) c f.page of (inr filler_listed) in
       let slot : slot_at (class_table p) (class_at p y) y.place ≡ s = ap (λ d. slot_at (class_table p) d y.place) is_c
       ∙ ap (slot_at (class_table p) c) is ∙ at.2 in
       let w = used_along t (class_at p y) c (page_of p y.place) f.page _ s is_c on slot u in
@@ -330,14 +331,14 @@ module _ {p : Paging} (ok : IsPaging p) {m : Held} {t : Tables} (tell : TellPart
     rest = drop 1 (pages_in t.lists c NotFull);
     front = open_at (classes p) t spare c class ∙ front_is (pages_in t.lists c NotFull) f.page f.front;
     least = record {
-      taken = (let w = stands_at p ok t tell m o c f.page f.slot filler_bit in (w.0, w.1, w.2, w.4));
+      taken = (let w = stands_at p ok t serve m o c f.page f.slot filler_bit in (w.0, w.1, w.2, w.4));
       least = none_below;
     };
     address = at ∙ f.address;
   }
 
 -- The steps of taking a slot, by the tables and by the order.
-module _ {p : Paging} {m : Held} {t : Tables} (tell : TellPart p t) (o : Occupies p m t) {c : ℕ} (class : c < classes p) (spare : List ℕ) where
+module _ {p : Paging} {m : Held} {t : Tables} (serve : ServePart p t) (o : Occupies p m t) {c : ℕ} (class : c < classes p) (spare : List ℕ) where
   pub steps_same : (a : ℕ) (new : Tables) → TakesAt (class_table p) t c a new
       → table_steps (class_table p) t c ≡ order_steps p m (order_of (classes p) t spare) c
   steps_same a new taken = elim taken.taken [
@@ -360,7 +361,7 @@ module _ {p : Paging} {m : Held} {t : Tables} (tell : TellPart p t) (o : Occupie
   pub drop_same : (page : ℕ) → IsOf t c page → table_drop t page ≡ order_drop p m c page
   drop_same page of =
       let counts : objects_on p m c page ≡ used_in (slots_on t page) = o.counted c page of in
-      let long : length (slots_on t page) ≡ slots_of p c = (of_list (class_table p) t tell.tables c page of).1.slots in
+      let long : length (slots_on t page) ≡ slots_of p c = (of_list (class_table p) t serve.tables c page of).1.slots in
       ap (λ n. drop_steps n (length (slots_on t page))) (sym counts) ∙ ap (drop_steps (objects_on p m c page)) long
 
   -- the same for freeing the slot of the object that moves

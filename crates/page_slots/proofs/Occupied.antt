@@ -7,11 +7,11 @@ use Rattle.cf_lemmas.proofs.Maps.{get_inserted, some_inserted, get_remove_other,
 use Rattle.class_lists.specs.declared.Which.TheVariants.{Full, NotFull}
 use Rattle.page_model.specs.Held.{Held, Placed}
 use Rattle.page_model.specs.Paging.{Paging, IsPaging, classes, page_of, address_of}
-use Rattle.page_model.specs.Arrangement.{class_at, objects_on, standing_on, IsSlotAt, IsSound}
+use Rattle.page_model.specs.Arrangement.{class_at, objects_on, count_on, IsSlotAt, IsSound}
 use Rattle.page_model.proofs.CallerLemmas.{address_is_slot, slot_is_address, on_page, standing, objects_on-exchanged}
 use Rattle.cf_lemmas.proofs.Values.{still}
 use Rattle.page_slots.specs.Tables.{Tables, IsOf, IsUsed, IsFreePage, slot_at, slots_on}
-use Rattle.page_slots.specs.Occupying.{Occupies, TellPart, class_table}
+use Rattle.page_slots.specs.Occupying.{Occupies, ServePart, class_table}
 use Rattle.page_slots.proofs.Pages.{listed_page, listed_class, of_list}
 
 pub used_along : (t : Tables) (c d g page s slot : ℕ) → c ≡ d → g ≡ page → s ≡ slot → IsUsed t c g s → IsUsed t d page slot
@@ -23,21 +23,21 @@ pub free_of_none : (t : Tables) (c page : ℕ) → IsFreePage t page → IsOf t 
 free_of_none t c page f (inl h) = f.unlisted c Full h
 free_of_none t c page f (inr h) = f.unlisted c NotFull h
 
-module _ (p : Paging) (ok : IsPaging p) (t : Tables) (tell : TellPart p t) where
+module _ (p : Paging) (ok : IsPaging p) (t : Tables) (serve : ServePart p t) where
   -- a page of a class is one of the pages
   pub of_below : (c page : ℕ) → IsOf t c page → (c < classes p) × (page < p.pages)
   of_below c page of =
-      let w = of_list (class_table p) t tell.tables c page of in
-      let lt = listed_page (class_table p) t tell.tables c page w.0 w.1.listed in
-      let e = tell.pages in
-      (listed_class (class_table p) t tell.tables c page w.0 w.1.listed, omega arith)
+      let w = of_list (class_table p) t serve.tables c page of in
+      let lt = listed_page (class_table p) t serve.tables c page w.0 w.1.listed in
+      let e = serve.pages in
+      (listed_class (class_table p) t serve.tables c page w.0 w.1.listed, omega arith)
 
   -- a used slot has an address
   pub used_address : (c page slot : ℕ) → IsUsed t c page slot
       → IsSlotAt p c (address_of p c page slot) × (page_of p (address_of p c page slot) ≡ page) × (slot_at (class_table p) c (address_of p c page slot) ≡ slot)
   used_address c page slot u =
       let b = of_below c page u.of in
-      let w = of_list (class_table p) t tell.tables c page u.of in
+      let w = of_list (class_table p) t serve.tables c page u.of in
       let lt = slice_get_within (slots_on t page) slot true u.used in
       let e = w.1.slots in
       address_is_slot p ok c b.0 page slot b.1 (omega arith)
@@ -57,8 +57,8 @@ module _ (p : Paging) (ok : IsPaging p) (t : Tables) (tell : TellPart p t) where
     ]
 
     -- no object is on a free page
-    pub free_bare : (page : ℕ) → IsFreePage t page → standing_on p m page ≡ 0
-    free_bare page f = elim (cases_lt 0 (standing_on p m page)) [
+    pub free_bare : (page : ℕ) → IsFreePage t page → count_on p m page ≡ 0
+    free_bare page f = elim (cases_lt 0 (count_on p m page)) [
       | inl some ↦ absurd (
           let q = standing p m page some in
           let u = o.stands q.0 q.1 q.2 in

@@ -11,13 +11,13 @@ use Rattle.page_model.specs.Paging.{Paging, IsPaging, page_of}
 use Rattle.page_model.specs.Arrangement.{class_at, objects_on, IsSound}
 use Rattle.page_model.proofs.CallerLemmas.{objects_on-away, objects_on-left}
 use Rattle.page_slots.specs.Tables.{Tables, IsOf, IsUsed, slot_at, slots_on, used_in}
-use Rattle.page_slots.specs.Occupying.{Occupies, TellPart, class_table}
+use Rattle.page_slots.specs.Occupying.{Occupies, ServePart, class_table}
 use Rattle.page_slots.proofs.Bits.{set_here, set_there, used_some, not_both}
 use Rattle.page_slots.proofs.Pages.{same_of, was_of, one_class}
 use Rattle.page_slots.proofs.TablesAfterFree.{Loses}
 use Rattle.page_slots.proofs.Occupied.{used_along, free_of_none, stands_at, place_is}
 
-module _ (p : Paging) (ok : IsPaging p) (m : Held) (s : IsSound p m) (old new : Tables) (tell : TellPart p old) (o : Occupies p m old) (c page slot : ℕ)
+module _ (p : Paging) (ok : IsPaging p) (m : Held) (s : IsSound p m) (old new : Tables) (serve : ServePart p old) (o : Occupies p m old) (c page slot : ℕ)
     (l : Loses (class_table p) old new c page slot)
     (h : ℕ) (x : Placed) (some : get m h ≡ Some x) (is_c : class_at p x ≡ c) (on : page_of p x.place ≡ page)
     (at : slot_at (class_table p) c x.place ≡ slot) where
@@ -56,7 +56,7 @@ module _ (p : Paging) (ok : IsPaging p) (m : Held) (s : IsSound p m) (old new : 
   stays_used d k i u other = elim (cases_eq k page) [
     | inl is ↦ (
         let v : IsUsed old d page i = used_along old d d k page i i refl is refl u in
-        let is_d : d ≡ c = one_class (class_table p) old tell.tables d c page v.of l.of in
+        let is_d : d ≡ c = one_class (class_table p) old serve.tables d c page v.of l.of in
         let used : slice_get (slots_on new page) i ≡ Some true = others i (other is) ∙ v.used in
         let of : IsOf new c page = elim l.now [
           | inl there ↦ there
@@ -71,10 +71,10 @@ module _ (p : Paging) (ok : IsPaging p) (m : Held) (s : IsSound p m) (old new : 
   apart q y f ne on_y at_y =
       let u = o.stands q y f in
       let of : IsOf old (class_at p y) page = (used_along old (class_at p y) (class_at p y) (page_of p y.place) page _ _ refl on_y refl u).of in
-      let is_y : class_at p y ≡ c = one_class (class_table p) old tell.tables (class_at p y) c page of l.of in
+      let is_y : class_at p y ≡ c = one_class (class_table p) old serve.tables (class_at p y) c page of l.of in
       let at_c : slot_at (class_table p) c y.place ≡ slot = sym (ap (λ d. slot_at (class_table p) d y.place) is_y) ∙ at_y in
-      let a = place_is p ok old tell m o s q y f c page slot is_y on_y at_c in
-      let b = place_is p ok old tell m o s h x some c page slot is_c on at in
+      let a = place_is p ok old serve m o s q y f c page slot is_y on_y at_c in
+      let b = place_is p ok old serve m o s h x some c page slot is_c on at in
       s.own_place h x q y some f ne (b ∙ sym a)
 
   pub occupied_lost : Occupies p (remove m h) new
@@ -83,7 +83,7 @@ module _ (p : Paging) (ok : IsPaging p) (m : Held) (s : IsSound p m) (old new : 
         let w = some_removed m h q y e in
         stays_used _ _ _ (o.stands q y w.1) (λ on_y. apart q y w.1 w.0 on_y);
     filled = λ d k i u.
-        let f = stands_at p ok old tell m o d k i (was_used d k i u) in
+        let f = stands_at p ok old serve m o d k i (was_used d k i u) in
         let ne : f.0 ≢ h = (λ e. (
         let same : Some f.1 ≡ Some x = sym f.2 ∙ ap (get m) e ∙ some in
         let y_is : f.1 ≡ x = cc in

@@ -13,13 +13,13 @@ use Rattle.page_model.specs.Arrangement.{class_at, is_on, objects_on, IsSlotAt}
 use Rattle.page_model.proofs.CallerLemmas.{address_is_slot, on_yes, objects_on-inserted, objects_on-elsewhere}
 use Rattle.cf_lemmas.proofs.Values.{still}
 use Rattle.page_slots.specs.Tables.{Tables, IsOf, IsUsed, slot_at, slots_in, slots_on, used_in}
-use Rattle.page_slots.specs.Occupying.{Occupies, TellPart, class_table}
+use Rattle.page_slots.specs.Occupying.{Occupies, ServePart, class_table}
 use Rattle.page_slots.proofs.Bits.{set_here, set_there, none_used, not_both}
 use Rattle.page_slots.proofs.Pages.{same_of, was_of, one_class}
 use Rattle.page_slots.proofs.TablesAfterTake.{Gains}
 use Rattle.page_slots.proofs.Occupied.{used_along, free_of_none, none_counts}
 
-module _ (p : Paging) (ok : IsPaging p) (m : Held) (old new : Tables) (tell : TellPart p old) (o : Occupies p m old) (c page slot : ℕ)
+module _ (p : Paging) (ok : IsPaging p) (m : Held) (old new : Tables) (serve : ServePart p old) (o : Occupies p m old) (c page slot : ℕ)
     (g : Gains (class_table p) old new c page slot) where
   place : ℕ
   place = address_of p c page slot
@@ -27,7 +27,7 @@ module _ (p : Paging) (ok : IsPaging p) (m : Held) (old new : Tables) (tell : Te
   -- the slot's address
   pub gained_address : IsSlotAt p c (address_of p c page slot) × (page_of p (address_of p c page slot) ≡ page)
       × (slot_at (class_table p) c (address_of p c page slot) ≡ slot)
-  gained_address = address_is_slot p ok c g.class page slot (let l = g.within in let e = tell.pages in omega arith) g.few
+  gained_address = address_is_slot p ok c g.class page slot (let l = g.within in let e = serve.pages in omega arith) g.few
 
   inside : slot < length g.before
   inside = slice_get_within g.before slot false g.free
@@ -35,7 +35,7 @@ module _ (p : Paging) (ok : IsPaging p) (m : Held) (old new : Tables) (tell : Te
   -- the page's class before, if it had one, is c
   was_class : (d : ℕ) → IsOf old d page → d ≡ c
   was_class d of = elim g.was [
-    | inl (there, _) ↦ one_class (class_table p) old tell.tables d c page of (inr there)
+    | inl (there, _) ↦ one_class (class_table p) old serve.tables d c page of (inr there)
     | inr (f, _, _) ↦ absurd (free_of_none old d page f of)
   ]
 
@@ -96,7 +96,7 @@ module _ (p : Paging) (ok : IsPaging p) (m : Held) (old new : Tables) (tell : Te
   counted_before : objects_on p m c page ≡ used_in g.before
   counted_before = elim g.was [
     | inl (there, e) ↦ o.counted c page (inr there) ∙ sym (ap used_in e)
-    | inr (f, _, e) ↦ none_counts p ok old tell m o c page (free_of_none old c page f) ∙ sym (ap used_in e ∙ count-replicate (slots_in (class_table p) c))
+    | inr (f, _, e) ↦ none_counts p ok old serve m o c page (free_of_none old c page f) ∙ sym (ap used_in e ∙ count-replicate (slots_in (class_table p) c))
   ]
 
   module _ (h : ℕ) (x : Placed) (none : get m h ≡ None) (at : x.place ≡ address_of p c page slot) (is_c : class_at p x ≡ c) where

@@ -11,10 +11,10 @@ use Rattle.class_lists.specs.PageLists.{pages_in}
 use Rattle.page_pool.specs.Pool.{is_in_pool}
 use Rattle.page_model.specs.Held.{Held}
 use Rattle.page_model.specs.Paging.{Paging, IsPaging, slots_of}
-use Rattle.page_model.specs.Arrangement.{objects_on, standing_on, home_pages, not_full_pages, used_pages, free_pages, IsSound, LacksRoom}
+use Rattle.page_model.specs.Arrangement.{objects_on, count_on, home_pages, not_full_pages, used_pages, free_pages, IsSound, LacksRoom}
 use Rattle.page_model.proofs.CallerLemmas.{part_full, less_counts as lt_yes, not_less_counts_none as lt_no, on_page, stands_here, sum_same, sum_plus, used_is}
-use Rattle.page_slots.specs.Tables.{Tables, HasUsed, IsOf, IsPageOf, NoneElsewhere, slots_on, used_in}
-use Rattle.page_slots.specs.Occupying.{Occupies, TellPart, class_table}
+use Rattle.page_slots.specs.Tables.{Tables, HasUsed, IsOf, IsPageOf, NoneForeign, slots_on, used_in}
+use Rattle.page_slots.specs.Occupying.{Occupies, ServePart, class_table}
 use Rattle.page_slots.proofs.Pages.{placed_in, listed_page, list_of, free_page, taken_page}
 use Rattle.page_slots.proofs.Counted.{any_contains, contains_no, count_both, count_members, no_repeats}
 use Rattle.page_slots.proofs.Occupied.{free_bare, none_counts}
@@ -28,12 +28,12 @@ part_not n s all = (let b : nat_lt n s ≡ false = grind (arith, nat_tests) in r
 part_none : (n s : ℕ) → n ≡ 0 → part_full n s ≡ false
 part_none n s e = rw e refl
 
-module _ (p : Paging) (ok : IsPaging p) (m : Held) (t : Tables) (tell : TellPart p t) (o : Occupies p m t) where
+module _ (p : Paging) (ok : IsPaging p) (m : Held) (t : Tables) (serve : ServePart p t) (o : Occupies p m t) where
   listed : (c page : ℕ) (w : Which) → Contains (pages_in t.lists c w) page → IsPageOf (class_table p) t page c w
-  listed c page w h = placed_in (class_table p) t tell.tables c page w h
+  listed c page w h = placed_in (class_table p) t serve.tables c page w h
 
   counts : (c page : ℕ) (w : Which) → Contains (pages_in t.lists c w) page → objects_on p m c page ≡ used_in (slots_on t page)
-  counts c page w h = o.counted c page (list_of (class_table p) t tell.tables c page w h)
+  counts c page w h = o.counted c page (list_of (class_table p) t serve.tables c page w h)
 
   unlisted : (c page : ℕ) → is_in_pool (pages_in t.lists c Full) page ≡ false → is_in_pool (pages_in t.lists c NotFull) page ≡ false → ¬ IsOf t c page
   unlisted c page a b (inl h) = contains_no page (pages_in t.lists c Full) a h
@@ -56,7 +56,7 @@ module _ (p : Paging) (ok : IsPaging p) (m : Held) (t : Tables) (tell : TellPart
     some_slots e = (listed c page Full (any_contains page (pages_in t.lists c Full) e)).some
 
     is_none : is_in_pool (pages_in t.lists c Full) page ≡ false → is_in_pool (pages_in t.lists c NotFull) page ≡ false → objects_on p m c page ≡ 0
-    is_none a b = none_counts p ok t tell m o c page (unlisted c page a b)
+    is_none a b = none_counts p ok t serve m o c page (unlisted c page a b)
 
     same_part : part_full (objects_on p m c page) (slots_of p c) ≡ is_in_pool (pages_in t.lists c NotFull) page
     same_part = by_tests (is_in_pool (pages_in t.lists c NotFull) page) (is_in_pool (pages_in t.lists c Full) page) refl refl
@@ -94,11 +94,11 @@ module _ (p : Paging) (ok : IsPaging p) (m : Held) (t : Tables) (tell : TellPart
 
   below : (c : ℕ) (w : Which) (page : ℕ) → is_in_pool (pages_in t.lists c w) page ≡ true → page < p.pages
   below c w page is =
-      let lt = listed_page (class_table p) t tell.tables c page w (any_contains page (pages_in t.lists c w) is) in
-      let e = tell.pages in omega arith
+      let lt = listed_page (class_table p) t serve.tables c page w (any_contains page (pages_in t.lists c w) is) in
+      let e = serve.pages in omega arith
 
   members : (c : ℕ) (w : Which) → count_by (is_in_pool (pages_in t.lists c w)) (range_with_len 0 p.pages) ≡ length (pages_in t.lists c w)
-  members c w = count_members p.pages (pages_in t.lists c w) (no_repeats (pages_in t.lists c w) (tell.tables.lists.distinct c w)) (below c w)
+  members c w = count_members p.pages (pages_in t.lists c w) (no_repeats (pages_in t.lists c w) (serve.tables.lists.distinct c w)) (below c w)
 
   -- the partly full pages of a class are those of its list
   pub not_full_pages_are : (c : ℕ) → not_full_pages p m c ≡ length (pages_in t.lists c NotFull)
@@ -120,37 +120,37 @@ module _ (p : Paging) (ok : IsPaging p) (m : Held) (t : Tables) (tell : TellPart
       omega arith
 
   -- If no page is foreign:
-  module _ (whole : NoneElsewhere t) where
+  module _ (whole : NoneForeign t) where
     -- every page that isn't free has an object
-    pub taken_stands : (page : ℕ) → page < p.pages → is_in_pool t.pool.free page ≡ false → 0 < standing_on p m page
+    pub taken_stands : (page : ℕ) → page < p.pages → is_in_pool t.pool.free page ≡ false → 0 < count_on p m page
     taken_stands page lt not_free =
-        let (c, w, q) = taken_page (class_table p) t tell.tables whole page (let e = tell.pages in omega arith) not_free in
+        let (c, w, q) = taken_page (class_table p) t serve.tables whole page (let e = serve.pages in omega arith) not_free in
         let n = counts c page w q.listed in
         let some = used_there w _ _ q.fills q.some in
         let f = on_page p m c page (omega arith) in
-        subst (λ g. 0 < standing_on p m g) f.3 (stands_here p m f.0 f.1 f.2)
+        subst (λ g. 0 < count_on p m g) f.3 (stands_here p m f.0 f.1 f.2)
       where
         used_there : (w : Which) (n s : ℕ) → HasUsed w n s → 0 < s → 0 < n
         used_there Full n s e some = omega arith
         used_there NotFull n s f some = f.0
 
     -- every page is either free or has an object
-    free_or_taken : (page : ℕ) → page < p.pages → one (nat_lt 0 (standing_on p m page)) + one (is_in_pool t.pool.free page) ≡ 1
+    free_or_taken : (page : ℕ) → page < p.pages → one (nat_lt 0 (count_on p m page)) + one (is_in_pool t.pool.free page) ≡ 1
     free_or_taken page lt = by_test (is_in_pool t.pool.free page) refl
       where
-        by_test : (b : Bool) → is_in_pool t.pool.free page ≡ b → one (nat_lt 0 (standing_on p m page)) + one (is_in_pool t.pool.free page) ≡ 1
+        by_test : (b : Bool) → is_in_pool t.pool.free page ≡ b → one (nat_lt 0 (count_on p m page)) + one (is_in_pool t.pool.free page) ≡ 1
         by_test true e =
-            let z = free_bare p ok t tell m o page (free_page (class_table p) t tell.tables page (let f = tell.pages in omega arith) e) in
-            let y = lt_no 0 (standing_on p m page) (omega arith) in let u = ap one e in omega arith
-        by_test false e = (let y = lt_yes 0 (standing_on p m page) (taken_stands page lt e) in let u = ap one e in omega arith)
+            let z = free_bare p ok t serve m o page (free_page (class_table p) t serve.tables page (let f = serve.pages in omega arith) e) in
+            let y = lt_no 0 (count_on p m page) (omega arith) in let u = ap one e in omega arith
+        by_test false e = (let y = lt_yes 0 (count_on p m page) (taken_stands page lt e) in let u = ap one e in omega arith)
 
     -- the pages that are not in use are those of the pool
     pub pages_are : IsSound p m → used_pages p m + length t.pool.free ≡ p.pages
     pages_are s =
         let used = used_is p m s in
-        let free = count_members p.pages t.pool.free tell.tables.pool.distinct
-        (λ page is. (let lt = tell.tables.pool.below page is in let e = tell.pages in omega arith)) in
-        let all = count_both (λ page. nat_lt 0 (standing_on p m page)) (is_in_pool t.pool.free) 0 p.pages (λ page _ lt. free_or_taken page (omega arith)) in
+        let free = count_members p.pages t.pool.free serve.tables.pool.distinct
+        (λ page is. (let lt = serve.tables.pool.below page is in let e = serve.pages in omega arith)) in
+        let all = count_both (λ page. nat_lt 0 (count_on p m page)) (is_in_pool t.pool.free) 0 p.pages (λ page _ lt. free_or_taken page (omega arith)) in
         omega arith
 
     pub free_pages_are : IsSound p m → free_pages p m ≡ length t.pool.free

@@ -9,8 +9,8 @@ use Rattle.class_lists.specs.declared.Which.{Which}
 use Rattle.class_lists.specs.declared.Which.TheVariants.{Full, NotFull}
 use Rattle.class_lists.specs.PageLists.{AreApart, pages_in}
 use Rattle.page_pool.specs.Pool.{IsPool, is_in_pool}
-use Rattle.page_slots.specs.Tables.{Tables, AreTables, IsOf, IsPlaced, IsPageOf, IsFreePage, IsElsewhere, NoneElsewhere}
-use Rattle.page_slots.specs.Tables.{KeepsElsewhere, slots_in, slots_on, used_in}
+use Rattle.page_slots.specs.Tables.{Tables, AreTables, IsOf, IsPlaced, IsPageOf, IsFreePage, IsForeign, NoneForeign}
+use Rattle.page_slots.specs.Tables.{KeepsForeign, slots_in, slots_on, used_in}
 
 -- the page, its lists and its slots stay
 pub record IsSame (old new : Tables) (g : ℕ) : Type 0 where
@@ -27,38 +27,38 @@ pub was_of : (old new : Tables) (g d : ℕ) → IsSame old new g → IsOf new d 
 was_of old new g d s (inl h) = inl (s.stays d Full h)
 was_of old new g d s (inr h) = inr (s.stays d NotFull h)
 
-pub same_elsewhere : (old new : Tables) (g : ℕ) → IsSame old new g → IsElsewhere old g → IsElsewhere new g
+pub same_elsewhere : (old new : Tables) (g : ℕ) → IsSame old new g → IsForeign old g → IsForeign new g
 same_elsewhere old new g s e = record { taken = s.free ∙ e.taken; unlisted = λ d v h. e.unlisted d v (s.stays d v h) }
 
-pub was_elsewhere : (old new : Tables) (g : ℕ) → IsSame old new g → IsElsewhere new g → IsElsewhere old g
+pub was_elsewhere : (old new : Tables) (g : ℕ) → IsSame old new g → IsForeign new g → IsForeign old g
 was_elsewhere old new g s e = record { taken = sym s.free ∙ e.taken; unlisted = λ d v h. e.unlisted d v (s.comes d v h) }
 
-pub keeps_all : (t : Tables) → KeepsElsewhere t t
+pub keeps_all : (t : Tables) → KeepsForeign t t
 keeps_all t = record { still = λ _ e. e; slots = λ _ _. refl }
 
 -- if one page changes that isn't foreign, the foreign pages stay as they are
-pub keeps_elsewhere : (old new : Tables) (page : ℕ) → ¬ IsElsewhere old page → ((g : ℕ) → g ≢ page → IsSame old new g) → KeepsElsewhere old new
+pub keeps_elsewhere : (old new : Tables) (page : ℕ) → ¬ IsForeign old page → ((g : ℕ) → g ≢ page → IsSame old new g) → KeepsForeign old new
 keeps_elsewhere old new page there others = record {
   still = λ g e. same_elsewhere old new g (others g (other g e)) e;
   slots = λ g e. (others g (other g e)).slots;
 }
   where
-    other : (g : ℕ) → IsElsewhere old g → g ≢ page
-    other g e is = there (subst (IsElsewhere old) is e)
+    other : (g : ℕ) → IsForeign old g → g ≢ page
+    other g e is = there (subst (IsForeign old) is e)
 
 -- if no page is foreign and the changed page isn't afterwards, none is afterwards
-pub still_whole : (old new : Tables) (page : ℕ) → new.pool.pages ≡ old.pool.pages → ¬ IsElsewhere new page → ((g : ℕ) → g ≢ page → IsSame old new g)
-    → NoneElsewhere old → NoneElsewhere new
+pub still_whole : (old new : Tables) (page : ℕ) → new.pool.pages ≡ old.pool.pages → ¬ IsForeign new page → ((g : ℕ) → g ≢ page → IsSame old new g)
+    → NoneForeign old → NoneForeign new
 still_whole old new page pages there others whole g lt e = elim (cases_eq g page) [
-  | inl is ↦ there (subst (IsElsewhere new) is e)
+  | inl is ↦ there (subst (IsForeign new) is e)
   | inr ne ↦ whole g (omega arith) (was_elsewhere old new g (others g ne) e)
 ]
 
 -- a page that is free or of a class isn't foreign
-pub free_not_elsewhere : (t : Tables) (page : ℕ) → IsFreePage t page → ¬ IsElsewhere t page
+pub free_not_elsewhere : (t : Tables) (page : ℕ) → IsFreePage t page → ¬ IsForeign t page
 free_not_elsewhere t page f e = true≢false (sym f.free ∙ e.taken)
 
-pub of_not_elsewhere : (t : Tables) (c page : ℕ) → IsOf t c page → ¬ IsElsewhere t page
+pub of_not_elsewhere : (t : Tables) (c page : ℕ) → IsOf t c page → ¬ IsForeign t page
 of_not_elsewhere t c page (inl h) e = e.unlisted c Full h
 of_not_elsewhere t c page (inr h) e = e.unlisted c NotFull h
 
@@ -136,7 +136,7 @@ module _ (k : ClassTable) (t : Tables) (a : AreTables k t) where
     | inr (inr (c, w, p)) ↦ absurd (true≢false (sym is ∙ p.taken))
   ]
 
-  pub taken_page : NoneElsewhere t → (page : ℕ) → page < t.pool.pages → is_in_pool t.pool.free page ≡ false → (c : ℕ) × (w : Which) × IsPageOf k t page c w
+  pub taken_page : NoneForeign t → (page : ℕ) → page < t.pool.pages → is_in_pool t.pool.free page ≡ false → (c : ℕ) × (w : Which) × IsPageOf k t page c w
   taken_page whole page lt is = elim (a.placed page lt) [
     | inl f ↦ absurd (true≢false (sym f.free ∙ is))
     | inr (inl e) ↦ absurd (whole page lt e)

@@ -8,6 +8,7 @@ use Rattle.std.proofs.lemmas.Bool.{cases_eq, cases_lt, true≢false}
 use Rattle.std.proofs.lemmas.List.{get_or-replicate, get_or_past, length-replicate}
 use Rattle.std.specs.Ordering.{nat_cmp}
 use Rattle.std.specs.FinMap.{get, empty, get-empty}
+use Rattle.cf_lemmas.proofs.Members.{contains_nil, distinct_nil}
 use Rattle.cf_base.specs.Classes.{sizes}
 use Rattle.cf_base.specs.Limits.{is_page_size}
 use Rattle.cf_base.specs.declared.kind.Layout.{Layout}
@@ -16,13 +17,12 @@ use Rattle.size_classes.specs.Table.{ClassTable, IsClassTable}
 use Rattle.class_lists.specs.declared.Which.{Which}
 use Rattle.class_lists.specs.declared.Which.TheVariants.{Full, NotFull}
 use Rattle.class_lists.specs.PageLists.{AreApart, PageLists, empty_lists, list_number, pages_in}
-use Rattle.class_lists.proofs.CallerLemmas.{contains_nil, distinct_nil}
 use Rattle.page_pool.specs.Pool.{Pool, is_in_pool}
 use Rattle.page_pool.proofs.CallerLemmas.{pooled_range}
 use Rattle.page_model.specs.Held.{Placed}
 use Rattle.page_model.specs.Paging.{Paging}
-use Rattle.page_slots.specs.Tables.{AreTables, IsOf, NoneElsewhere, tables, used_in}
-use Rattle.page_slots.specs.Occupying.{Occupies, Tell, class_table}
+use Rattle.page_slots.specs.Tables.{AreTables, IsOf, NoneForeign, tables, used_in}
+use Rattle.page_slots.specs.Occupying.{Occupies, Serve, class_table}
 use Rattle.page_slots.proofs.Listing.{along}
 use Rattle.page_slots.proofs.Pages.{other_free}
 use Rattle.page_slots.proofs.TablesAfterTake.{free_head}
@@ -82,7 +82,7 @@ module _ (classes pages : ℕ) where
     });
   }
 
-  pub first_whole : (maps : List (List Bool)) → NoneElsewhere (tables maps (empty_lists classes pages)
+  pub first_whole : (maps : List (List Bool)) → NoneForeign (tables maps (empty_lists classes pages)
       (record { pages = pages; free = range_with_len 0 pages }))
   first_whole maps page lt e = true≢false (sym (range_has 0 pages page (omega arith) (omega arith)) ∙ e.taken)
 
@@ -115,8 +115,8 @@ module _ (p : Paging) (n : ℕ) (maps : List (List Bool)) (lists : PageLists) (p
   tables_are : tables maps lists pool ≡ tables maps (empty_lists n p.pages) (record { pages = p.pages; free = range_with_len 0 p.pages })
   tables_are = ap (λ l. tables maps l pool) lists_are ∙ ap (tables maps (empty_lists n p.pages)) pool_is
 
-  pub new_tell : Tell p (tables maps lists pool)
-  new_tell = record {
+  pub new_serve : Serve p (tables maps lists pool)
+  new_serve = record {
     part = record { tables = new_tables; pages = ap (λ (q : Pool). q.pages) pool_is };
-    whole = subst NoneElsewhere (sym tables_are) (first_whole n p.pages maps);
+    whole = subst NoneForeign (sym tables_are) (first_whole n p.pages maps);
   }

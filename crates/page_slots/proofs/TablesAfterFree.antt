@@ -10,8 +10,8 @@ use Rattle.class_lists.specs.declared.Which.{Which}
 use Rattle.class_lists.specs.declared.Which.TheVariants.{Full, NotFull}
 use Rattle.class_lists.specs.PageLists.{PageLists, AreApart, pages_in}
 use Rattle.page_pool.specs.Pool.{Pool, IsPool, is_in_pool}
-use Rattle.page_slots.specs.Tables.{Tables, AreTables, IsOf, IsPlaced, IsPageOf, IsFreePage, IsElsewhere, NoneElsewhere}
-use Rattle.page_slots.specs.Tables.{KeepsElsewhere, slots_in, slots_on, used_in}
+use Rattle.page_slots.specs.Tables.{Tables, AreTables, IsOf, IsPlaced, IsPageOf, IsFreePage, IsForeign, NoneForeign}
+use Rattle.page_slots.specs.Tables.{KeepsForeign, slots_in, slots_on, used_in}
 use Rattle.page_slots.specs.Release.{Vacates}
 use Rattle.page_slots.proofs.Listing.{along, joined_here, joined_comes, joined_stays, joined_pages, joined_classes, left_comes, left_stays, left_pages}
 use Rattle.page_slots.proofs.Listing.{left_classes, left_unlisted}
@@ -31,13 +31,13 @@ pub record Loses (k : ClassTable) (old new : Tables) (c page slot : ℕ) : Type 
 
 -- the page isn't foreign, before or after
 module _ (k : ClassTable) (old new : Tables) (c page slot : ℕ) (l : Loses k old new c page slot) where
-  pub loses_others : KeepsElsewhere old new
+  pub loses_others : KeepsForeign old new
   loses_others = keeps_elsewhere old new page (of_not_elsewhere old c page l.of) l.others
 
-  pub loses_whole : NoneElsewhere old → NoneElsewhere new
+  pub loses_whole : NoneForeign old → NoneForeign new
   loses_whole = still_whole old new page l.pages there l.others
     where
-      there : ¬ IsElsewhere new page
+      there : ¬ IsForeign new page
       there = elim l.now [
         | inl of ↦ of_not_elsewhere new c page of
         | inr (f, _) ↦ free_not_elsewhere new page f

@@ -6,16 +6,16 @@ use Rattle.std.specs.List.{Contains}
 use Rattle.std.proofs.lemmas.Bool.{cases_eq, eq-eqb}
 use Rattle.std.proofs.lemmas.List.{length-set, length-replicate}
 use Rattle.std.proofs.lemmas.Option.{slice_get_within}
+use Rattle.cf_lemmas.proofs.Members.{contains_head}
 use Rattle.slot_bitmap.proofs.CallerLemmas.{count-set, count-replicate}
 use Rattle.size_classes.specs.Table.{ClassTable}
 use Rattle.class_lists.specs.declared.Which.{Which}
 use Rattle.class_lists.specs.declared.Which.TheVariants.{Full, NotFull}
 use Rattle.class_lists.specs.PageLists.{PageLists, AreApart, pages_in}
-use Rattle.class_lists.proofs.CallerLemmas.{contains_head}
 use Rattle.page_pool.specs.Pool.{Pool, IsPool, TakesFront, is_in_pool}
 use Rattle.page_pool.proofs.CallerLemmas.{front_gone, front_below}
-use Rattle.page_slots.specs.Tables.{Tables, AreTables, IsOf, IsPageOf, IsFreePage, IsElsewhere, JoinsList, NoneElsewhere}
-use Rattle.page_slots.specs.Tables.{KeepsElsewhere, slots_in, slots_on, used_in}
+use Rattle.page_slots.specs.Tables.{Tables, AreTables, IsOf, IsPageOf, IsFreePage, IsForeign, JoinsList, NoneForeign}
+use Rattle.page_slots.specs.Tables.{KeepsForeign, slots_in, slots_on, used_in}
 use Rattle.page_slots.specs.Take.{FillsPage, TakesAt, TakesOnOpenPage, TakesOnFreePage}
 use Rattle.page_slots.proofs.Listing.{along, joined_here, joined_comes, joined_stays, joined_pages, joined_classes, left_comes, left_stays, left_pages}
 use Rattle.page_slots.proofs.Listing.{left_classes}
@@ -61,16 +61,16 @@ pub record Gains (k : ClassTable) (old new : Tables) (c page slot : ℕ) : Type 
 
 -- the page isn't foreign, before or after
 module _ (k : ClassTable) (old new : Tables) (c page slot : ℕ) (g : Gains k old new c page slot) where
-  pub gains_others : KeepsElsewhere old new
+  pub gains_others : KeepsForeign old new
   gains_others = keeps_elsewhere old new page was g.others
     where
-      was : ¬ IsElsewhere old page
+      was : ¬ IsForeign old page
       was = elim g.was [
         | inl (there, _) ↦ of_not_elsewhere old c page (inr there)
         | inr (f, _, _) ↦ free_not_elsewhere old page f
       ]
 
-  pub gains_whole : NoneElsewhere old → NoneElsewhere new
+  pub gains_whole : NoneForeign old → NoneForeign new
   gains_whole = still_whole old new page g.pages (of_not_elsewhere new c page g.of) g.others
 
 module _ (k : ClassTable) (old : Tables) (a : AreTables k old) (c page : ℕ) (new : Tables) (apart : AreApart new.lists) where
@@ -267,5 +267,5 @@ module _ (k : ClassTable) (old : Tables) (a : AreTables k old) (c : ℕ) (class 
     | inr (first, on) ↦ subst (λ s. Gains k old new c t.page s) (sym first) (gains_free k old a c t.page new apart class on pool)
   ]
 
-  pub taken_others : KeepsElsewhere old new
+  pub taken_others : KeepsForeign old new
   taken_others = gains_others k old new c t.page t.slot taken_gains

@@ -5,21 +5,21 @@ use Rattle.size_classes.specs.Table.{ClassTable}
 use Rattle.page_model.specs.Held.{Held, Placed}
 use Rattle.page_model.specs.Paging.{Paging, page_of, address_of}
 use Rattle.page_model.specs.Arrangement.{class_at, objects_on}
-use Rattle.page_slots.specs.Tables.{Tables, AreTables, IsOf, IsUsed, NoneElsewhere, slot_at, slots_on, used_in}
+use Rattle.page_slots.specs.Tables.{Tables, AreTables, IsOf, IsUsed, NoneForeign, slot_at, slots_on, used_in}
 
 -- the class table of a paging
 abbrev pub class_table : Paging → ClassTable
 class_table p = record { page_words = p.page_words; sizes = p.sizes }
 
 -- the tables are for this paging; other owners may share its pages
-pub record TellPart (p : Paging) (t : Tables) : Type 0 where
+pub record ServePart (p : Paging) (t : Tables) : Type 0 where
   pub tables : AreTables (class_table p) t
   pub pages : t.pool.pages ≡ p.pages
 
 -- the tables are for this paging, and no page is foreign
-pub record Tell (p : Paging) (t : Tables) : Type 0 where
-  pub part : TellPart p t
-  pub whole : NoneElsewhere t
+pub record Serve (p : Paging) (t : Tables) : Type 0 where
+  pub part : ServePart p t
+  pub whole : NoneForeign t
 
 -- each object is at a used slot of its class, and each used slot has an object; so a page of a class has one object of it for each used slot
 pub record Occupies (p : Paging) (m : Held) (t : Tables) : Type 0 where

@@ -2,11 +2,12 @@
 use Rattle.std.specs.Prelude.{◌≡◌, ℕ, Bool, true, false, ◌+◌, ◌*◌, ◌/◌, ◌%◌, ◌^◌, ◌<◌, ◌⊎◌, List, [], ◌∷◌, length, Some, count_by, slice_get, slice_index}
 use Rattle.std.specs.Prelude.{slice_index_or}
 use Rattle.std.specs.List.{Contains}
+use Rattle.cf_lemmas.specs.Lists.{without_number}
 use Rattle.cf_base.specs.Classes.{slots}
 use Rattle.size_classes.specs.Table.{ClassTable, IsClassTable}
 use Rattle.class_lists.specs.declared.Which.{Which}
 use Rattle.class_lists.specs.declared.Which.TheVariants.{Full, NotFull}
-use Rattle.class_lists.specs.PageLists.{PageLists, AreApart, IsUnlisted, KeepsOthers, pages_in, with_list, without_page}
+use Rattle.class_lists.specs.PageLists.{PageLists, AreApart, IsUnlisted, KeepsOthers, pages_in, with_list}
 use Rattle.page_pool.specs.Pool.{Pool, IsPool, is_in_pool}
 
 -- the slots of each page, true for used; the pages of each class; and the free pages
@@ -72,13 +73,13 @@ pub record IsPageOf (k : ClassTable) (t : Tables) (page c : ℕ) (which : Which)
   pub fills : HasUsed which (used_in (slots_on t page)) (slots_in k c)
 
 -- the page is foreign: neither free nor in a list, because another owner has it
-pub record IsElsewhere (t : Tables) (page : ℕ) : Type 0 where
+pub record IsForeign (t : Tables) (page : ℕ) : Type 0 where
   pub taken : is_in_pool t.pool.free page ≡ false
   pub unlisted : IsUnlisted t.lists page
 
 -- the page is free, foreign, or of one class
 abbrev pub IsPlaced : ClassTable → Tables → ℕ → Type 0
-IsPlaced k t page = IsFreePage t page ⊎ (IsElsewhere t page ⊎ ((c : ℕ) × (which : Which) × IsPageOf k t page c which))
+IsPlaced k t page = IsFreePage t page ⊎ (IsForeign t page ⊎ ((c : ℕ) × (which : Which) × IsPageOf k t page c which))
 
 -- each page is free, foreign, or in one list of one class; in a list it has the slots of the class, all of them used or some but not all
 pub record AreTables (k : ClassTable) (t : Tables) : Type 0 where
@@ -92,17 +93,17 @@ pub record AreTables (k : ClassTable) (t : Tables) : Type 0 where
   pub placed : (page : ℕ) → page < t.pool.pages → IsPlaced k t page
 
 -- no page is foreign
-abbrev pub NoneElsewhere : Tables → Type 0
-NoneElsewhere t = (page : ℕ) → page < t.pool.pages → ¬ IsElsewhere t page
+abbrev pub NoneForeign : Tables → Type 0
+NoneForeign t = (page : ℕ) → page < t.pool.pages → ¬ IsForeign t page
 
 -- foreign pages stay foreign, and their slots stay
-pub record KeepsElsewhere (old new : Tables) : Type 0 where
-  pub still : (page : ℕ) → IsElsewhere old page → IsElsewhere new page
-  pub slots : (page : ℕ) → IsElsewhere old page → slots_on new page ≡ slots_on old page
+pub record KeepsForeign (old new : Tables) : Type 0 where
+  pub still : (page : ℕ) → IsForeign old page → IsForeign new page
+  pub slots : (page : ℕ) → IsForeign old page → slots_on new page ≡ slots_on old page
 
 -- lists of another owner, who shares the maps and the pool: each of its pages is foreign for these tables
 abbrev pub AreOthers : Tables → PageLists → Type 0
-AreOthers t others = (c page : ℕ) (which : Which) → Contains (pages_in others c which) page → IsElsewhere t page
+AreOthers t others = (c page : ℕ) (which : Which) → Contains (pages_in others c which) page → IsForeign t page
 
 -- the page becomes the head of the list
 pub record JoinsList (old : PageLists) (c : ℕ) (which : Which) (page : ℕ) (new : PageLists) : Type 0 where
@@ -112,6 +113,6 @@ pub record JoinsList (old : PageLists) (c : ℕ) (which : Which) (page : ℕ) (n
 
 -- the page leaves the list
 pub record LeavesList (old : PageLists) (c : ℕ) (which : Which) (page : ℕ) (new : PageLists) : Type 0 where
-  pub value : new ≡ with_list old c which (without_page page (pages_in old c which))
-  pub list : pages_in new c which ≡ without_page page (pages_in old c which)
+  pub value : new ≡ with_list old c which (without_number page (pages_in old c which))
+  pub list : pages_in new c which ≡ without_number page (pages_in old c which)
   pub others : KeepsOthers old new c which

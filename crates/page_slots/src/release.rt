@@ -6,7 +6,7 @@ ghost use Rattle.class_lists.specs.PageLists.{AreApart, pages_in};
 ghost use Rattle.class_lists.specs.declared.Which.TheVariants.{Full, NotFull};
 ghost use Rattle.page_pool.specs.Pool.{IsPool, Pool, is_in_pool};
 ghost use Rattle.size_classes.specs.Table.{IsClassTable};
-ghost use Rattle.page_slots.specs.Tables.{AreTables, IsUsed, KeepsElsewhere, page_at, slot_at, tables, used_in};
+ghost use Rattle.page_slots.specs.Tables.{AreTables, IsUsed, KeepsForeign, page_at, slot_at, tables, used_in};
 ghost use Rattle.page_slots.specs.Release.{FillsFrom, HasUsedSlot, IsFiller, MovesObject, OpensPage, Vacates, steps_to_drop, steps_to_fill, steps_to_vacate};
 
 use crate::place::{address_of, slot_of};
@@ -55,7 +55,7 @@ pub fn drop_slot(
         (slot_at classes.now c at) }
     ensures freed { Vacates (tables maps.old lists.old pool.old) c (page_at classes.now at)
         (slot_at classes.now c at) (tables maps.new lists.new pool.new) }
-    ensures others { KeepsElsewhere (tables maps.old lists.old pool.old) (tables maps.new lists.new pool.new) }
+    ensures others { KeepsForeign (tables maps.old lists.old pool.old) (tables maps.new lists.new pool.new) }
     ensures kept { AreTables classes.now (tables maps.new lists.new pool.new) }
     ensures steps { RoseBy steps.old steps.new (steps_to_drop (tables maps.old lists.old pool.old) (page_at classes.now at)) }
     ensures bound { RoseAtMost steps.old steps.new 13 }
@@ -100,7 +100,7 @@ pub fn fill_slot(
     requires some { 1 ≤ length (pages_in lists.old c Which.NotFull) }
     ensures filled { FillsFrom classes.now (tables maps.old lists.old pool.old) c result
         (tables maps.new lists.new pool.new) }
-    ensures others { KeepsElsewhere (tables maps.old lists.old pool.old) (tables maps.new lists.new pool.new) }
+    ensures others { KeepsForeign (tables maps.old lists.old pool.old) (tables maps.new lists.new pool.new) }
     ensures kept { AreTables classes.now (tables maps.new lists.new pool.new) }
     ensures steps { RoseBy steps.old steps.new (steps_to_fill (tables maps.old lists.old pool.old) c) }
     ensures bound { RoseAtMost steps.old steps.new 12 }
@@ -143,6 +143,7 @@ fn list_of(map: &SlotMap, steps: &mut Steps) -> Which
 }
 
 /// Frees a used slot of a page that is in this list of class c.
+#[inline(always)]
 fn vacate(
     maps: &mut [SlotMap],
     lists: &mut ClassLists,

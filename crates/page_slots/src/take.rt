@@ -3,7 +3,7 @@ ghost use Rattle.std.specs.Prelude.{◌≡◌, ◌≢◌, ◌<◌, [], if◌then
 ghost use Rattle.std.specs.List.{Contains, position};
 ghost use Rattle.step_ledger.specs.Counting.{RoseAtMost, RoseBy};
 ghost use Rattle.class_lists.specs.PageLists.{AreApart, IsUnlisted, pages_in};
-ghost use Rattle.page_slots.specs.Tables.{AreTables, JoinsList, KeepsElsewhere, tables, used_in};
+ghost use Rattle.page_slots.specs.Tables.{AreTables, JoinsList, KeepsForeign, tables, used_in};
 ghost use Rattle.page_slots.specs.Take.{FillsPage, TakesSlot, steps_to_take};
 
 use crate::place::address_of;
@@ -29,7 +29,7 @@ pub fn take_slot(
     requires class { c < length classes.now.sizes }
     ensures taken { TakesSlot classes.now (tables maps.old lists.old pool.old) c result
         (tables maps.new lists.new pool.new) }
-    ensures others { KeepsElsewhere (tables maps.old lists.old pool.old) (tables maps.new lists.new pool.new) }
+    ensures others { KeepsForeign (tables maps.old lists.old pool.old) (tables maps.new lists.new pool.new) }
     ensures kept { AreTables classes.now (tables maps.new lists.new pool.new) }
     ensures steps { RoseBy steps.old steps.new (steps_to_take classes.now (tables maps.old lists.old pool.old) c) }
     ensures bound { RoseAtMost steps.old steps.new 13 }
@@ -92,7 +92,7 @@ fn take_on_free_page(
     requires none { pages_in lists.old c Which.NotFull ≡ [] }
     ensures taken { TakesSlot classes.now (tables maps.old lists.old pool.old) c result
         (tables maps.new lists.new pool.new) }
-    ensures others { KeepsElsewhere (tables maps.old lists.old pool.old) (tables maps.new lists.new pool.new) }
+    ensures others { KeepsForeign (tables maps.old lists.old pool.old) (tables maps.new lists.new pool.new) }
     ensures kept { AreTables classes.now (tables maps.new lists.new pool.new) }
     ensures steps { RoseBy steps.old steps.new (if is_some result then 10 else 1) }
 {

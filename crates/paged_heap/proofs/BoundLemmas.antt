@@ -46,7 +46,7 @@ module _ (h : Heap) (k : IsValid h) (none : held_in h ≡ empty) (c b : ℕ) (lt
       zeros = λ w _. k.image.zeros w (λ q x e. absurd (no_object q x e));
     };
     sound = subst (IsSound (paging_at (rebound h c b))) (sym none) (sound_empty (paging_at (rebound h c b)));
-    tell = record { part = record { tables = k.tell.part.tables; pages = k.tell.part.pages }; whole = k.tell.whole };
+    serve = record { part = record { tables = k.serve.part.tables; pages = k.serve.part.pages }; whole = k.serve.whole };
     occupied = record {
       stands = λ q x e. absurd (no_object q x e);
       filled = λ d page slot u. absurd (let w = k.occupied.filled d page slot u in no_object w.0 w.1 w.2);

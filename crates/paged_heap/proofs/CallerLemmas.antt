@@ -1,8 +1,8 @@
 -- What a manager may cite: what follows from an open heap's invariant. Declares nothing.
-pub use Rattle.paged_heap.proofs.LayoutFacts.{no_place, order_in_open, rules, rules_in, rules_of}
+pub use Rattle.paged_heap.proofs.LayoutFacts.{no_place, order_of_value, order_promised, rules, rules_in, rules_of}
 pub use Rattle.paged_heap.proofs.ByKind.{in_region}
 pub use Rattle.paged_heap.proofs.Preserved.{has_place}
-pub use Rattle.paged_heap.proofs.ReadLemmas.{holds, lies, place_in, place_told, slot_there}
+pub use Rattle.paged_heap.proofs.ReadLemmas.{holds, lies, place_in, place_shown, slot_there}
 pub use Rattle.paged_heap.proofs.WriteLemmas.{wrote, wrote_kept}
 pub use Rattle.paged_heap.proofs.FreedObject.{it, it_found, it_inside, it_slot}
 pub use Rattle.paged_heap.proofs.HeaderLemmas.{has_class, object_at}

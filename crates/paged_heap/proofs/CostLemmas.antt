@@ -36,7 +36,7 @@ module _ (h : Heap) (k : IsValid h) where
       → steps_to_take h.classes (tables_in h) c ≡ Order.steps_to_take (paging_at h) (held_in h) (order_in h) c
   takes_by c a new class t =
       ap (λ t. steps_to_take t (tables_in h) c) (sym (table_is h k))
-      ∙ steps_same k.tell.part k.occupied class h.proxies.free a new (subst (λ t. TakesAt t (tables_in h) c a new) (sym (table_is h k)) t)
+      ∙ steps_same k.serve.part k.occupied class h.proxies.free a new (subst (λ t. TakesAt t (tables_in h) c a new) (sym (table_is h k)) t)
       ∙ ap (λ s. Order.steps_to_take (paging_at h) (held_in h) (order_of s (tables_in h) h.proxies.free) c) (sym (as_many h k))
 
   -- a malloc
@@ -52,14 +52,14 @@ module _ (h : Heap) (k : IsValid h) where
 module _ {h : Heap} (k : IsValid h) {q a size c : ℕ} (o : IsObjectAt h q a size c) where
   -- the slot that becomes free
   pub drops_by : steps_to_drop (tables_in h) (page_at h.classes a) ≡ Order.steps_to_drop (paging_at h) (held_in h) (class_at (paging_at h) (it k o)) (page_of (paging_at h) a)
-  drops_by = drop_same k.tell.part k.occupied o.in_range h.proxies.free (page_at h.classes a) (it_used k o).of
+  drops_by = drop_same k.serve.part k.occupied o.in_range h.proxies.free (page_at h.classes a) (it_used k o).of
       ∙ ap (λ d. Order.steps_to_drop (paging_at h) (held_in h) d (page_at h.classes a)) (sym (it_class k o))
       ∙ ap (Order.steps_to_drop (paging_at h) (held_in h) (class_at (paging_at h) (it k o))) (sym (page_same k o))
 
   -- and that of the object that moves
   pub fills_by : (page : ℕ) → slice_get (pages_in h.lists c NotFull) 0 ≡ Some page
       → steps_to_fill (tables_in h) c ≡ Order.steps_to_fill (paging_at h) (held_in h) (order_in h) (class_at (paging_at h) (it k o))
-  fills_by page front = fill_same k.tell.part k.occupied o.in_range h.proxies.free page front
+  fills_by page front = fill_same k.serve.part k.occupied o.in_range h.proxies.free page front
       ∙ ap (λ s. Order.steps_to_fill (paging_at h) (held_in h) (order_of s (tables_in h) h.proxies.free) c) (sym (as_many h k))
       ∙ ap (Order.steps_to_fill (paging_at h) (held_in h) (order_in h)) (sym (it_class k o))
 

@@ -16,8 +16,8 @@ use Rattle.size_classes.specs.Table.{ClassTable, IsClassTable, table_of}
 use Rattle.class_lists.specs.PageLists.{empty_lists}
 use Rattle.page_pool.specs.Pool.{Pool}
 use Rattle.proxy_table.specs.Proxies.{Proxies, AreBelowLimit, no_proxies}
-use Rattle.page_slots.specs.Tables.{AreTables, NoneElsewhere, tables, used_in}
-use Rattle.page_slots.specs.Occupying.{Occupies, Tell, class_table}
+use Rattle.page_slots.specs.Tables.{AreTables, NoneForeign, tables, used_in}
+use Rattle.page_slots.specs.Occupying.{Occupies, Serve, class_table}
 use Rattle.page_slots.specs.Orders.{open_lists}
 use Rattle.page_slots.proofs.CallerLemmas.{first_occupied, first_tables, first_whole, open_empty}
 use Rattle.cf_base.specs.Settings.{profile_of}
@@ -26,7 +26,7 @@ use Rattle.cf_model.specs.State.{layout_of, paging_in}
 use Rattle.cf_model.specs.Steps.{IsEmptyHeap, empty_heap, opening_bounds, opening_frames, opening_tiling}
 use Rattle.cf_model.specs.Rules.{IsPaged}
 use Rattle.paged_heap.specs.Heap.{Heap}
-use Rattle.paged_heap.proofs.ByKind.{opening_bounds_are, opening_tiling_is, opening_words, paged_of}
+use Rattle.paged_heap.proofs.ByKind.{opening_bounds_are, opening_order_is, opening_tiling_is, opening_words, paged_of}
 use Rattle.paged_heap.specs.Layout.{IsFramed, IsValid, held_in, order_in, paging_at, state_of, tables_in}
 
 -- what an opened heap is made of
@@ -63,10 +63,10 @@ module _ (h : Heap) (f : IsFirst h) where
   few : length (sizes h.settings.page_words (layout_of h.kind)) ≤ 67
   few = (are_sizes h.settings.page_words (layout_of h.kind) h.settings.page_size).few
 
-  tell : Tell (paging_at h) (tables_in h)
-  tell = record {
-    part = record { tables = told; pages = ap (λ (q : Pool). q.pages) f.pool };
-    whole = subst NoneElsewhere (sym tables_are) (first_whole (length h.classes.sizes) h.settings.pages h.maps);
+  serve : Serve (paging_at h) (tables_in h)
+  serve = record {
+    part = record { tables = shown; pages = ap (λ (q : Pool). q.pages) f.pool };
+    whole = subst NoneForeign (sym tables_are) (first_whole (length h.classes.sizes) h.settings.pages h.maps);
   }
     where
       unused : (page : ℕ) → used_in (get_or h.maps page []) ≡ 0
@@ -76,8 +76,8 @@ module _ (h : Heap) (f : IsFirst h) where
             (let e = length-replicate h.settings.pages (replicate 1 false) in omega arith))
       ]
 
-      told : AreTables (class_table (paging_at h)) (tables_in h)
-      told =
+      shown : AreTables (class_table (paging_at h)) (tables_in h)
+      shown =
           let small = h.settings.small_region in
           let t : IsClassTable h.settings.page_words (sizes h.settings.page_words (layout_of h.kind)) =
           record {
@@ -109,7 +109,7 @@ module _ (h : Heap) (f : IsFirst h) where
         subst (λ m. IsSlotImage (paging_at h) m (replicate (h.settings.pages * h.settings.page_words) 0)) (sym none) at in
         subst (λ w. IsSlotImage (paging_at h) (held_in h) w) (sym f.words) held;
     sound = subst (IsSound (paging_at h)) (sym none) (sound_empty (paging_at h));
-    tell = tell;
+    serve = serve;
     occupied =
         let o = first_occupied (length h.classes.sizes) h.settings.pages (paging_at h) h.maps h.pool in
         let l : Occupies (paging_at h) empty (tables_in h) = subst (λ l. Occupies (paging_at h) empty (tables h.maps l h.pool)) (sym f.lists) o in
@@ -141,7 +141,7 @@ module _ (h : Heap) (f : IsFirst h) where
   pub first_empty : IsEmptyHeap h.kind h.settings (state_of h)
   first_empty = record {
     words = opening_words h.kind paged (profile_of h.settings) h.words f.words;
-    order = (paged, order_first);
+    order = order_first ∙ sym (opening_order_is h.kind paged (profile_of h.settings));
     whole =
         let p = profile_of h.settings in
         let bounds : take (length h.classes.sizes) h.bounds ≡ opening_bounds h.kind p = (

@@ -24,19 +24,19 @@ totals_same p m l a t h u f g el ea et eh eu ef eg = rw (el, ea, et, eh, eu, ef,
 
 module _ (h : Heap) (k : IsValid h) where
   pub home_is : (c : ℕ) → home_pages (paging_at h) (held_in h) c ≡ length (pages_in h.lists c Full) + length (pages_in h.lists c NotFull)
-  home_is c = home_pages_are (paging_at h) (paging_ok h k) (held_in h) (tables_in h) k.tell.part k.occupied c
+  home_is c = home_pages_are (paging_at h) (paging_ok h k) (held_in h) (tables_in h) k.serve.part k.occupied c
 
   pub home_few : (c : ℕ) → length (pages_in h.lists c Full) + length (pages_in h.lists c NotFull) ≤ 4096
   home_few c = (let e = home_is c in let l = home_at_most (paging_at h) (held_in h) c in let few = h.settings.few_pages in omega arith)
 
   pub not_full_is : (c : ℕ) → not_full_pages (paging_at h) (held_in h) c ≡ length (pages_in h.lists c NotFull)
-  not_full_is c = not_full_pages_are (paging_at h) (paging_ok h k) (held_in h) (tables_in h) k.tell.part k.occupied c
+  not_full_is c = not_full_pages_are (paging_at h) (paging_ok h k) (held_in h) (tables_in h) k.serve.part k.occupied c
 
   pub free_is : free_pages (paging_at h) (held_in h) ≡ length h.pool.free
-  free_is = free_pages_are (paging_at h) (paging_ok h k) (held_in h) (tables_in h) k.tell.part k.occupied k.tell.whole k.sound
+  free_is = free_pages_are (paging_at h) (paging_ok h k) (held_in h) (tables_in h) k.serve.part k.occupied k.serve.whole k.sound
 
   pub used_is : used_pages (paging_at h) (held_in h) + length h.pool.free ≡ h.settings.pages
-  used_is = pages_are (paging_at h) (paging_ok h k) (held_in h) (tables_in h) k.tell.part k.occupied k.tell.whole k.sound
+  used_is = pages_are (paging_at h) (paging_ok h k) (held_in h) (tables_in h) k.serve.part k.occupied k.serve.whole k.sound
 
   pub live_is : len h.proxies.places ≡ len (objects (held_in h))
   live_is = sym (held_len h k) ∙ sym (len-objects (held_in h))

@@ -12,7 +12,7 @@ use Rattle.proxy_table.specs.Proxies.{Proxies, AreBelowLimit, without_place}
 use Rattle.page_slots.specs.Release.{Vacates}
 use Rattle.page_slots.specs.Tables.{AreTables, page_at, slot_at}
 use Rattle.page_slots.specs.Occupying.{class_table}
-use Rattle.page_slots.proofs.CallerLemmas.{vacated_occupied, vacated_order, vacated_tell}
+use Rattle.page_slots.proofs.CallerLemmas.{vacated_occupied, vacated_order, vacated_serve}
 use Rattle.page_slots.specs.Orders.{order_of}
 use Rattle.paged_heap.specs.Heap.{Heap}
 use Rattle.paged_heap.specs.Layout.{IsFramed, IsValid, held_in, order_in, paging_at, tables_in}
@@ -75,7 +75,7 @@ module _ {h : Heap} (k : IsValid h) {q a size c : ℕ} (o : IsObjectAt h q a siz
       let p = paging_at h in let m = held_in h in
       let before = order_of (classes p) (tables_in h) h.proxies.free in
       let freed_order : order_of (classes p) (tables_in n) h.proxies.free ≡ slot_freed p m before (class_at p (it k o)) (page_of p a) =
-      vacated_order (paging_ok h k) k.tell.part k.occupied kept_tables o.in_range h.proxies.free vacates
+      vacated_order (paging_ok h k) k.serve.part k.occupied kept_tables o.in_range h.proxies.free vacates
       ∙ ap (λ d. slot_freed p m before d (page_at h.classes a)) (sym (it_class k o)) ∙ ap (slot_freed p m before (class_at p (it k o))) (sym (page_same k o)) in
       follows_from k o n None (ap (λ (x : Heap). x.classes) dropped ∙ ap (λ (x : Heap). x.classes) from_erased)
       (ap (λ (x : Proxies). x.free) proxies_are)
@@ -98,9 +98,9 @@ module _ {h : Heap} (k : IsValid h) {q a size c : ℕ} (o : IsObjectAt h q a siz
       (ap length region_is ∙ long)
       (image_after_free (paging_at h) (paging_ok h k) (held_in h) k.sound h.words k.image q (it k o) (it_found k o) n.words clears)
       framed
-      (vacated_tell (paging_ok h k) k.tell.part k.occupied kept_tables k.sound q (it_found k o) vacates
-      (it_class k o) (page_same k o) (slot_same k o) k.tell.whole)
-      (vacated_occupied (paging_ok h k) k.tell.part k.occupied kept_tables k.sound q (it_found k o) vacates
+      (vacated_serve (paging_ok h k) k.serve.part k.occupied kept_tables k.sound q (it_found k o) vacates
+      (it_class k o) (page_same k o) (slot_same k o) k.serve.whole)
+      (vacated_occupied (paging_ok h k) k.serve.part k.occupied kept_tables k.sound q (it_found k o) vacates
       (it_class k o) (page_same k o) (slot_same k o))
       (ap (λ (x : Proxies). x.limit) proxies_are)
       (subst AreBelowLimit (ap (λ (x : Heap). x.proxies) (sym counted) ∙ ap (λ (x : Heap). x.proxies) (sym dropped)) handles)

@@ -10,13 +10,13 @@ use Rattle.page_model.specs.Paging.{classes, page_of, slot_words}
 use Rattle.page_model.specs.Arrangement.{class_at}
 use Rattle.page_model.specs.Order.{FreeFollows, IsNextToMove, SlotFollows, slot_freed}
 use Rattle.page_model.specs.Steps.{MayFill, MustMove, Moves, moved_to}
-use Rattle.page_model.proofs.CallerLemmas.{mover_is_other, moved_places, image_after_move, object_inside, own_words, sound_apart_from, header_told}
+use Rattle.page_model.proofs.CallerLemmas.{mover_is_other, moved_places, image_after_move, object_inside, own_words, sound_apart_from, header_shown}
 use Rattle.proxy_table.specs.Proxies.{AreBelowLimit, Proxies, with_place, without_place}
 use Rattle.cf_model.specs.Steps.{frames_left}
 use Rattle.page_slots.specs.Release.{FillsFrom}
 use Rattle.page_slots.specs.Tables.{AreTables, Tables}
-use Rattle.page_slots.specs.Occupying.{Occupies, Tell, class_table}
-use Rattle.page_slots.proofs.CallerLemmas.{filled_occupied, filled_tell, filler, filler_in, filler_is, filler_may, filler_next, vacated_order}
+use Rattle.page_slots.specs.Occupying.{Occupies, Serve, class_table}
+use Rattle.page_slots.proofs.CallerLemmas.{filled_occupied, filled_serve, filler, filler_in, filler_is, filler_may, filler_next, vacated_order}
 use Rattle.page_slots.specs.Orders.{order_of}
 use Rattle.virtual_words.specs.Words.{IsWhole}
 use Rattle.paged_heap.specs.Heap.{Heap}
@@ -61,7 +61,7 @@ module _ {h : Heap} {q a size c b : ℕ} {new : Tables} (f : Fills h q a size c 
   kept_tables = subst (λ t. AreTables t new) (sym (table_is h k)) f.tables
 
   other : (r : ℕ) × (y : Placed) × (get (held_in h) r ≡ Some y) × (y.place ≡ b)
-  other = filler (paging_ok h k) k.tell.part k.occupied (filler_in fills)
+  other = filler (paging_ok h k) k.serve.part k.occupied (filler_in fills)
 
   pub r : ℕ
   r = other.0
@@ -78,7 +78,7 @@ module _ {h : Heap} {q a size c b : ℕ} {new : Tables} (f : Fills h q a size c 
   at = other.3
 
   may : MayFill (paging_at h) (held_in h) (it k o) y
-  may = filler_may (paging_ok h k) k.tell.part k.occupied (it k o) (filler_in fills) k.sound r there at
+  may = filler_may (paging_ok h k) k.serve.part k.occupied (it k o) (filler_in fills) k.sound r there at
 
   is_other : r ≢ q
   is_other = mover_is_other (paging_at h) (paging_ok h k) (held_in h) k.sound q (it k o) (it_found k o) r y there due may
@@ -110,11 +110,11 @@ module _ {h : Heap} {q a size c b : ℕ} {new : Tables} (f : Fills h q a size c 
       elim d [ inl l ↦ inl (omega arith) | inr l ↦ inr (omega arith) ]
 
   -- its header holds its number
-  pub number_told : get_or h.words b 0 % 2 ^ 32 ≡ r
-  number_told =
+  pub number_shown : get_or h.words b 0 % 2 ^ 32 ≡ r
+  number_shown =
       let small = number_small h k r y there in
       let few = h.settings.few_proxies in
-      let t = header_told (held_in h) h.words r y (own_words (paging_at h) (paging_ok h k) (held_in h) k.sound h.words k.image) there (omega arith) in
+      let t = header_shown (held_in h) h.words r y (own_words (paging_at h) (paging_ok h k) (held_in h) k.sound h.words k.image) there (omega arith) in
       ap (λ i. get_or h.words i 0 % 2 ^ 32) (sym at) ∙ t.0
 
   -- it is still live after the free
@@ -171,9 +171,9 @@ module _ {h : Heap} {q a size c b : ℕ} {new : Tables} (f : Fills h q a size c 
         moved.long
         (image n.words moved.words)
         framed
-        (subst (Tell (paging_at h)) (sym on) (filled_tell (paging_ok h k) k.tell.part k.occupied kept_tables q (it_found k o) fills k.tell.whole))
+        (subst (Serve (paging_at h)) (sym on) (filled_serve (paging_ok h k) k.serve.part k.occupied kept_tables q (it_found k o) fills k.serve.whole))
         (subst (Occupies (paging_at h) (moved_to (remove (held_in h) q) r (get (held_in h) r) a)) (sym on)
-        (filled_occupied (paging_ok h k) k.tell.part k.occupied kept_tables q (it_found k o) fills k.sound r there at due))
+        (filled_occupied (paging_ok h k) k.serve.part k.occupied kept_tables q (it_found k o) fills k.sound r there at due))
         (ap (λ (x : Heap). x.proxies.limit) whole)
         handles
 
@@ -183,11 +183,11 @@ module _ {h : Heap} {q a size c b : ℕ} {new : Tables} (f : Fills h q a size c 
         let p = paging_at h in let m = held_in h in let d = class_at p (it k o) in
         let lt : d < classes p = (k.sound.slots q (it k o) (it_found k o)).class in
         let before = order_of (classes p) (tables_in h) h.proxies.free in
-        let first : IsNextToMove p m before d y = filler_next (paging_ok h k) k.tell.part k.occupied lt h.proxies.free (filler_in fills) y at in
-        let page : page_of p y.place ≡ fills.page = (filler_is (paging_ok h k) k.tell.part k.occupied (filler_in fills) k.sound r there at).1 in
+        let first : IsNextToMove p m before d y = filler_next (paging_ok h k) k.serve.part k.occupied lt h.proxies.free (filler_in fills) y at in
+        let page : page_of p y.place ≡ fills.page = (filler_is (paging_ok h k) k.serve.part k.occupied (filler_in fills) k.sound r there at).1 in
         let freed_order : order_of (classes p) (tables_in n) h.proxies.free ≡ slot_freed p m before d (page_of p y.place) =
         ap (λ s. order_of (classes p) s h.proxies.free) on
-        ∙ vacated_order (paging_ok h k) k.tell.part k.occupied kept_tables lt h.proxies.free fills.vacates
+        ∙ vacated_order (paging_ok h k) k.serve.part k.occupied kept_tables lt h.proxies.free fills.vacates
         ∙ ap (slot_freed p m before d) (sym page) in
         let slot : SlotFollows p m (it k o) (Some r) before (order_of (classes p) (tables_in n) h.proxies.free) = (y, there, first, freed_order) in
         follows_from k o n (Some r) (ap (λ (x : Heap). x.classes) whole) free
@@ -229,7 +229,7 @@ module _ {h : Heap} {q a size c b : ℕ} {new : Tables} (f : Fills h q a size c 
       → Leaves t g w i
   leaves_of {t} {g} {w} {i} {word} {proxies} found read number size_w released counted = record {
     size_w = size_w;
-    is = number ∙ ap (λ v. v % 2 ^ 32) read ∙ ap (λ (x : Heap). get_or x.words b 0 % 2 ^ 32) found ∙ number_told;
+    is = number ∙ ap (λ v. v % 2 ^ 32) read ∙ ap (λ (x : Heap). get_or x.words b 0 % 2 ^ 32) found ∙ number_shown;
     found = found;
     released = record t { proxies = proxies };
     released_is = ap (λ p. record t { proxies = p }) released;

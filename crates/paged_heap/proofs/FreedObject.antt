@@ -21,7 +21,7 @@ use Rattle.class_lists.specs.declared.Which.TheVariants.{NotFull}
 use Rattle.proxy_table.specs.Proxies.{AreBelowLimit}
 use Rattle.page_slots.specs.Release.{MovesObject}
 use Rattle.page_slots.specs.Tables.{IsUsed, page_at, slot_at, slots_on}
-use Rattle.page_slots.specs.Occupying.{Occupies, Tell, class_table}
+use Rattle.page_slots.specs.Occupying.{Occupies, Serve, class_table}
 use Rattle.page_slots.specs.Orders.{order_of}
 use Rattle.page_slots.proofs.CallerLemmas.{moves_is, moves_some}
 use Rattle.cf_model.specs.State.{HeapState}
@@ -103,14 +103,14 @@ module _ {h : Heap} (k : IsValid h) {q a size c : ℕ} (o : IsObjectAt h q a siz
 
   -- the test of a move is the model's
   pub must : IsMoving h a c → MustMove (paging_at h) (held_in h) it
-  must v = (moves_is (paging_ok h k) k.tell.part k.occupied q it_found).0 (along _ _ _ _ _ _ (sym page_same) (sym it_class) bound_same v)
+  must v = (moves_is (paging_ok h k) k.serve.part k.occupied q it_found).0 (along _ _ _ _ _ _ (sym page_same) (sym it_class) bound_same v)
 
   pub moving : MustMove (paging_at h) (held_in h) it → IsMoving h a c
-  moving v = along _ _ _ _ _ _ page_same it_class (sym bound_same) ((moves_is (paging_ok h k) k.tell.part k.occupied q it_found).1 v)
+  moving v = along _ _ _ _ _ _ page_same it_class (sym bound_same) ((moves_is (paging_ok h k) k.serve.part k.occupied q it_found).1 v)
 
   pub some_not_full : IsMoving h a c → 1 ≤ length (pages_in h.lists c NotFull)
   some_not_full v =
-      let l = moves_some (paging_ok h k) k.tell.part k.occupied q it_found (must v) (let e = it_class in let lt = o.in_range in omega arith) in
+      let l = moves_some (paging_ok h k) k.serve.part k.occupied q it_found (must v) (let e = it_class in let lt = o.in_range in omega arith) in
       subst (λ d. 1 ≤ length (pages_in h.lists d NotFull)) it_class l
 
   -- a free that leaves these tables follows the order
@@ -153,9 +153,9 @@ module _ {h : Heap} (k : IsValid h) {q a size c : ℕ} (o : IsObjectAt h q a siz
           omega arith
 
       pub goes : n ≡ with_parts h n → n.proxies.places ≡ places rest_held → length n.words ≡ length h.words → IsSlotImage (paging_at h) rest_held n.words
-          → IsFramed h.kind n → Tell (paging_at h) (tables_in n) → Occupies (paging_at h) rest_held (tables_in n) → n.proxies.limit ≡ h.proxies.limit
+          → IsFramed h.kind n → Serve (paging_at h) (tables_in n) → Occupies (paging_at h) rest_held (tables_in n) → n.proxies.limit ≡ h.proxies.limit
           → AreBelowLimit n.proxies → Becomes h n rest_held
-      goes rest at long image framed tell occupied limit handles = record {
+      goes rest at long image framed serve occupied limit handles = record {
         rest = rest;
         framed = framed;
         places = at;
@@ -163,7 +163,7 @@ module _ {h : Heap} (k : IsValid h) {q a size c : ℕ} (o : IsObjectAt h q a siz
         long = long;
         image = image;
         sound = sound_without (paging_at h) (paging_ok h k) (held_in h) k.sound q it it_found moved mv;
-        tell = tell;
+        serve = serve;
         occupied = occupied;
         limit = limit;
         handles = handles;

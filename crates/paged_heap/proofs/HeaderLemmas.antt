@@ -23,9 +23,9 @@ use Rattle.paged_heap.proofs.ReadLemmas.{held}
 use Rattle.page_model.proofs.CallerLemmas.{bytes_long}
 use Rattle.paged_heap.proofs.FreedObject.{it_found, page_same}
 
-module _ (h : Heap) (k : IsValid h) (q a : ℕ) (some : get h.proxies.places q ≡ Some a) (size : ℕ) (told : size ≡ get_or h.words a 0 / 2 ^ 32) where
+module _ (h : Heap) (k : IsValid h) (q a : ℕ) (some : get h.proxies.places q ≡ Some a) (size : ℕ) (shown : size ≡ get_or h.words a 0 / 2 ^ 32) where
   long : length (bytes_at h.words a) ≡ size
-  long = bytes_long h.words a ∙ sym told
+  long = bytes_long h.words a ∙ sym shown
 
   -- it has a class
   pub has_class : None ≡ class_of h.classes.sizes size → ⊥
@@ -42,7 +42,7 @@ module _ (h : Heap) (k : IsValid h) (q a : ℕ) (some : get h.proxies.places q �
 -- its page is one of the tables'
 pub page_there : {h : Heap} (k : IsValid h) {q a size c : ℕ} (o : IsObjectAt h q a size c) → page_at h.classes a < length h.maps
 page_there {h} k {q} o =
-    let lt = found_page (paging_ok h k) k.tell.part k.occupied q (it_found k o) in
+    let lt = found_page (paging_ok h k) k.serve.part k.occupied q (it_found k o) in
     subst (λ g. g < length h.maps) (page_same k o) lt
 
 -- the cost of a free

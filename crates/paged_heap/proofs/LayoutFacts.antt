@@ -41,7 +41,7 @@ module _ (h : Heap) (k : IsValid h) where
   as_many = ap (λ (t : ClassTable). length t.sizes) k.table
 
   pub few_classes : classes (paging_at h) ≤ 67
-  few_classes = k.tell.part.tables.table.are_sizes.few
+  few_classes = k.serve.part.tables.table.are_sizes.few
 
   pub bounds_many : length (take (length h.classes.sizes) h.bounds) ≡ length h.classes.sizes
   bounds_many = length-take-le (length h.classes.sizes) h.bounds (let few = few_classes in let e = as_many in let long = k.bounds_long in omega arith)
@@ -58,10 +58,10 @@ module _ (h : Heap) (k : IsValid h) where
       omega arith))
 
   pub tables_ok : AreTables h.classes (tables_in h)
-  tables_ok = subst (λ t. AreTables t (tables_in h)) table_is k.tell.part.tables
+  tables_ok = subst (λ t. AreTables t (tables_in h)) table_is k.serve.part.tables
 
   pub table_ok : IsClassTable h.classes.page_words h.classes.sizes
-  table_ok = subst (λ (t : ClassTable). IsClassTable t.page_words t.sizes) table_is k.tell.part.tables.table
+  table_ok = subst (λ (t : ClassTable). IsClassTable t.page_words t.sizes) table_is k.serve.part.tables.table
 
   pub bounds_low : (c : ℕ) → get_or (take (length h.classes.sizes) h.bounds) c 0 ≤ 64
   bounds_low c = elim (cases_lt c (length h.classes.sizes)) [
@@ -97,7 +97,7 @@ module _ (h : Heap) (k : IsValid h) where
   order_ok =
       let many = k.numbers in
       subst (λ n. IsOrderOf (paging_at h) (held_in h) h.settings.proxies (order_of n (tables_in h) h.proxies.free)) (sym as_many)
-      (order_is paging_ok k.tell k.occupied h.settings.proxies h.proxies.free
+      (order_is paging_ok k.serve k.occupied h.settings.proxies h.proxies.free
       (λ q among. (let lt = k.handles.free_below q among in omega arith, no_place q (k.handles.not_live q among)))
       k.handles.once (let all = k.handles.counted in let l = held_len in omega arith))
 
@@ -140,7 +140,11 @@ pub rules_of : (kind : Kind) (o : Option OpenHeap) → IsValidIn kind o → (s :
 rules_of kind None k s is open_now = absurd (false≢true (ap (λ (t : HeapState). t.is_open) is ∙ open_now))
 rules_of kind (Some h) k s is open_now = subst KeepsRules is (rules (seen kind h) k.kept)
 
--- an open heap has an order
-pub order_in_open : (kind : Kind) (o : Option OpenHeap) → IsTrue (is_some o) → IsSome (state_in kind o).order
-order_in_open kind None open_now = absurd (false≢true open_now)
-order_in_open kind (Some h) open_now = refl
+-- a heap promises an order, open or closed
+pub order_promised : (kind : Kind) (o : Option OpenHeap) → IsSome (state_in kind o).order
+order_promised kind None = refl
+order_promised kind (Some h) = refl
+
+-- the same in the terms of the value
+pub order_of_value : (kind : Kind) (o : Option OpenHeap) (s : HeapState) → state_in kind o ≡ s → IsSome s.order
+order_of_value kind o s is = subst (λ (t : HeapState). IsSome t.order) is (order_promised kind o)

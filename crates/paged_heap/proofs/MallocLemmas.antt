@@ -33,7 +33,7 @@ use Rattle.paged_heap.proofs.ByKind.{lacks_in, lacks_of, placed_same}
 use Rattle.paged_heap.proofs.LayoutFacts.{held_len, paged_kind, paging_ok, sizes_are, table_is}
 use Rattle.paged_heap.proofs.CountLimits.{class_is}
 use Rattle.paged_heap.proofs.Preserved.{rest_from}
-use Rattle.paged_heap.proofs.MallocPreserves.{Comes}
+use Rattle.paged_heap.proofs.MallocPreserves.{IsAdded}
 
 empty_of : (xs : List ℕ) → length xs ≡ 0 → xs ≡ []
 empty_of [] e = refl
@@ -47,7 +47,7 @@ module _ (h : Heap) (k : IsValid h) (c : ℕ) where
   -- without a partly full page of the class and a free page there is no room
   pub lacks_slots : length (pages_in h.lists c NotFull) + length h.pool.free ≡ 0 → LacksRoom (paging_at h) (held_in h) c
   lacks_slots none =
-      refused_lacks_room (paging_ok h k) k.tell.part k.occupied k.tell.whole c (tables_in h)
+      refused_lacks_room (paging_ok h k) k.serve.part k.occupied k.serve.whole c (tables_in h)
       (empty_of (pages_in h.lists c NotFull) (omega arith), empty_of h.pool.free (omega arith), refl)
 
   -- and with one of them there is
@@ -57,10 +57,10 @@ module _ (h : Heap) (k : IsValid h) (c : ℕ) where
     | inr none ↦ (
         let p = paging_at h in
         let first = first_in h.pool.free (omega arith) in
-        let below = k.tell.part.tables.pool.below first.0 first.1 in
-        let free = free_page (class_table p) (tables_in h) k.tell.part.tables first.0 below first.1 in
-        let bare = free_bare p (paging_ok h k) (tables_in h) k.tell.part (held_in h) k.occupied first.0 free in
-        let stands = l.taken first.0 (let e = k.tell.part.pages in omega arith) in
+        let below = k.serve.part.tables.pool.below first.0 first.1 in
+        let free = free_page (class_table p) (tables_in h) k.serve.part.tables first.0 below first.1 in
+        let bare = free_bare p (paging_ok h k) (tables_in h) k.serve.part (held_in h) k.occupied first.0 free in
+        let stands = l.taken first.0 (let e = k.serve.part.pages in omega arith) in
         absurd (omega arith))
   ]
 
@@ -101,7 +101,7 @@ module _ (h : Heap) (k : IsValid h) (bytes c : ℕ) (found : Some c ≡ class_of
     place_inside =
         let is = class_is h k bytes c found in
         let lt = is.2 in
-        let free = taken_is_free (paging_ok h k) k.tell.part k.occupied of_table lt at_table bytes is.1 in
+        let free = taken_is_free (paging_ok h k) k.serve.part k.occupied of_table lt at_table bytes is.1 in
         let inside = slot_inside (paging_at h) (class_for (paging_at h) bytes) a free.slot in
         let least = (paging_ok h k).sized.least (class_for (paging_at h) bytes) free.slot.class in
         let long = k.words_long in
@@ -114,7 +114,7 @@ module _ (h : Heap) (k : IsValid h) (bytes c : ℕ) (found : Some c ≡ class_of
       → get t.proxies.places q ≡ None → q < t.proxies.limit → t.proxies.free ≡ q ∷ b.proxies.free
       → b ≡ record t { proxies = with_place t.proxies q a; words = set t.words a (header_word q bytes) } → AreBelowLimit b.proxies
       → n ≡ record b { live = set b.live c (get_or b.live c 0 + 1); asked = b.asked + bytes; taken = b.taken + 8 * get_or b.classes.sizes c 0 }
-      → Comes h n c a bytes q
+      → IsAdded h n c a bytes q
   comes t b n a q ne taken tables et unused below first eb handles en =
       let is = class_is h k bytes c found in
       let pt : t.proxies ≡ h.proxies = ap (λ (x : Heap). x.proxies) et in

@@ -21,7 +21,7 @@ use Rattle.page_slots.specs.Tables.{AreTables}
 use Rattle.page_slots.specs.Take.{TakesAt}
 use Rattle.page_slots.specs.Occupying.{class_table}
 use Rattle.page_slots.specs.Orders.{order_of}
-use Rattle.page_slots.proofs.CallerLemmas.{taken_is_free, taken_next, taken_occupied, taken_tell}
+use Rattle.page_slots.proofs.CallerLemmas.{taken_is_free, taken_next, taken_occupied, taken_serve}
 use Rattle.cf_model.specs.Answers.{place_of}
 use Rattle.cf_model.specs.Steps.{GivesObject}
 use Rattle.paged_heap.specs.Heap.{Heap}
@@ -32,7 +32,7 @@ use Rattle.paged_heap.proofs.LayoutFacts.{as_many, few_classes, held_len, no_pla
 use Rattle.paged_heap.proofs.Preserved.{Becomes, becomes_kept, becomes_state, held_is, places_are, stored, with_parts}
 
 -- n has a new object of this many bytes in the free slot of class c at the address a, under number q
-pub record Comes (h n : Heap) (c a bytes q : ℕ) : Type 0 where
+pub record IsAdded (h n : Heap) (c a bytes q : ℕ) : Type 0 where
   pub rest : n ≡ with_parts h n
   pub fits : need bytes ≤ h.settings.page_words
   pub class : class_for (paging_at h) bytes ≡ c
@@ -51,7 +51,7 @@ pub record Comes (h n : Heap) (c a bytes q : ℕ) : Type 0 where
   pub asked : n.asked ≡ h.asked + bytes
   pub all_taken : n.taken ≡ h.taken + 8 * slot_words (paging_at h) c
 
-module _ (h n : Heap) (k : IsValid h) (c a bytes q : ℕ) (co : Comes h n c a bytes q) where
+module _ (h n : Heap) (k : IsValid h) (c a bytes q : ℕ) (co : IsAdded h n c a bytes q) where
   abbrev after : Held
   after = insert (held_in h) q (zeros_at a bytes)
 
@@ -62,7 +62,7 @@ module _ (h n : Heap) (k : IsValid h) (c a bytes q : ℕ) (co : Comes h n c a by
   size = length-replicate {A = ℕ} bytes 0
 
   free : IsFreePlace (paging_at h) (held_in h) bytes a
-  free = taken_is_free (paging_ok h k) k.tell.part k.occupied co.tables co.in_range co.taken bytes co.class
+  free = taken_is_free (paging_ok h k) k.serve.part k.occupied co.tables co.in_range co.taken bytes co.class
 
   small : q < 2 ^ 32
   small = (let lt = co.below in let e = k.numbers in let few = h.settings.few_proxies in omega arith)
@@ -99,8 +99,8 @@ module _ (h n : Heap) (k : IsValid h) (c a bytes q : ℕ) (co : Comes h n c a by
         (image_after_malloc (paging_at h) (paging_ok h k) (held_in h) k.sound h.words k.image q bytes a none k.words_long free);
     sound = sound_malloc (paging_at h) (held_in h) (record { number = q; length = bytes }) after (paging_ok h k) k.sound
         (record { place = a; unused = none; free = free; placed = refl });
-    tell = taken_tell (paging_ok h k) k.tell.part k.occupied co.tables co.in_range co.taken k.tell.whole;
-    occupied = taken_occupied (paging_ok h k) k.tell.part k.occupied co.tables co.in_range co.taken q (zeros_at a bytes) none refl class_of_zeros;
+    serve = taken_serve (paging_ok h k) k.serve.part k.occupied co.tables co.in_range co.taken k.serve.whole;
+    occupied = taken_occupied (paging_ok h k) k.serve.part k.occupied co.tables co.in_range co.taken q (zeros_at a bytes) none refl class_of_zeros;
     limit = ap (λ (x : Proxies). x.limit) co.proxies;
     handles = co.handles;
     live_long = ap length co.live ∙ length-set h.live c (get_or h.live c 0 + 1) ∙ k.live_long;
@@ -126,7 +126,7 @@ module _ (h n : Heap) (k : IsValid h) (c a bytes q : ℕ) (co : Comes h n c a by
     rest = n.proxies.free;
     number = co.first;
     taken =
-        let next = taken_next (paging_ok h k) k.tell.part k.occupied co.tables co.in_range n.proxies.free co.taken in
+        let next = taken_next (paging_ok h k) k.serve.part k.occupied co.tables co.in_range n.proxies.free co.taken in
         let of_class = subst (λ d. TakesNext (paging_at h) (held_in h) (order_of (classes (paging_at h)) (tables_in h) n.proxies.free) d a
         (order_of (classes (paging_at h)) (tables_in n) n.proxies.free)) (sym co.class) next in
         let old = subst (λ s. TakesNext (paging_at h) (held_in h) (order_of s (tables_in h) n.proxies.free) (class_for (paging_at h) bytes) a

@@ -21,8 +21,8 @@ use Rattle.paged_heap.proofs.Preserved.{has_place}
 use Rattle.paged_heap.proofs.CountLimits.{page_small}
 
 -- the address of a handle is that of its proxy
-pub place_told : (h : Heap) (q : ℕ) → get h.proxies.places q ≡ place_of (state_of h) q
-place_told h q = ap (λ m. get m q) (sym (places-held_at h.words h.proxies.places)) ∙ get-map_values (λ (x : Placed). x.place) (held_in h) q
+pub place_shown : (h : Heap) (q : ℕ) → get h.proxies.places q ≡ place_of (state_of h) q
+place_shown h q = ap (λ m. get m q) (sym (places-held_at h.words h.proxies.places)) ∙ get-map_values (λ (x : Placed). x.place) (held_in h) q
 
 module _ (h : Heap) (k : IsValid h) (q a : ℕ) (some : get h.proxies.places q ≡ Some a) where
   abbrev bytes : List ℕ
@@ -64,7 +64,7 @@ module _ (h : Heap) (k : IsValid h) (q at count a : ℕ) (l : Lies h (record { n
   object = record { place = a; bytes = bytes_at h.words a }
 
   pub lies_place : get h.proxies.places q ≡ Some a
-  lies_place = place_told h q ∙ ap (option_map (λ (x : Placed). x.place)) l.found
+  lies_place = place_shown h q ∙ ap (option_map (λ (x : Placed). x.place)) l.found
 
   pub count_few : count ≤ 131072
   count_few = (let f = bytes_few h k q a lies_place in let w = l.within in omega arith)

@@ -23,9 +23,9 @@ use Rattle.page_model.proofs.CallerLemmas.{change_is, class-resized, length-resi
 use Rattle.size_classes.specs.Table.{ClassTable}
 use Rattle.proxy_table.specs.Proxies.{AreBelowLimit}
 use Rattle.page_slots.specs.Tables.{IsUsed, page_at, slot_at}
-use Rattle.page_slots.specs.Occupying.{Occupies, Tell, class_table}
+use Rattle.page_slots.specs.Occupying.{Occupies, Serve, class_table}
 use Rattle.page_slots.specs.Orders.{order_of}
-use Rattle.page_slots.proofs.CallerLemmas.{taken_next, taken_occupied, taken_tell}
+use Rattle.page_slots.proofs.CallerLemmas.{taken_next, taken_occupied, taken_serve}
 use Rattle.cf_model.specs.Steps.{ResizesObject, frames_left, number_of}
 use Rattle.paged_heap.specs.Heap.{Heap}
 use Rattle.paged_heap.specs.declared.resize_class.Change.{Change}
@@ -83,12 +83,12 @@ module _ {h : Heap} (k : IsValid h) {x : Change} (is : IsChange h x) {b : ℕ} {
   pub both_sound : IsSound (paging_at h) both
   both_sound = sound_placed (paging_at h) (held_in h) spare new unused (paging_ok h k) k.sound new_free
 
-  pub both_tell : Tell (paging_at h) (tables_in n)
-  both_tell = taken_tell (paging_ok h k) k.tell.part k.occupied (of_table k is en.taken en.tables) is.in_range (at_table k is en.taken en.tables) k.tell.whole
+  pub both_serve : Serve (paging_at h) (tables_in n)
+  both_serve = taken_serve (paging_ok h k) k.serve.part k.occupied (of_table k is en.taken en.tables) is.in_range (at_table k is en.taken en.tables) k.serve.whole
 
   pub both_occupied : Occupies (paging_at h) both (tables_in n)
   both_occupied =
-      taken_occupied (paging_ok h k) k.tell.part k.occupied (of_table k is en.taken en.tables) is.in_range (at_table k is en.taken en.tables)
+      taken_occupied (paging_ok h k) k.serve.part k.occupied (of_table k is en.taken en.tables) is.in_range (at_table k is en.taken en.tables)
       spare new unused refl new_class
 
   -- the class of the old one has its objects as before
@@ -133,7 +133,7 @@ module _ {h : Heap} (k : IsValid h) {x : Change} (is : IsChange h x) {b : ℕ} {
 
   takes_next : TakesNext (paging_at h) (held_in h) (order_in h) (class_for (paging_at h) x.bytes) b order_between
   takes_next =
-      let next = taken_next (paging_ok h k) k.tell.part k.occupied (of_table k is en.taken en.tables) is.in_range h.proxies.free (at_table k is en.taken en.tables) in
+      let next = taken_next (paging_ok h k) k.serve.part k.occupied (of_table k is en.taken en.tables) is.in_range h.proxies.free (at_table k is en.taken en.tables) in
       let of_class = subst (λ d. TakesNext (paging_at h) (held_in h) (order_of (classes (paging_at h)) (tables_in h) h.proxies.free) d b
       (order_of (classes (paging_at h)) (tables_in n) h.proxies.free)) (sym is.class) next in
       subst (λ s. TakesNext (paging_at h) (held_in h) (order_of s (tables_in h) h.proxies.free) (class_for (paging_at h) x.bytes) b
@@ -261,8 +261,8 @@ module _ {h : Heap} (k : IsValid h) {x : Change} (is : IsChange h x) {b : ℕ} {
 
     module _ (m : Heap) (same : Keeps m) where
       pub changes : IsFramed h.kind m → m.proxies.places ≡ places after → length m.words ≡ length h.words → IsSlotImage (paging_at h) after m.words
-          → Tell (paging_at h) (tables_in m) → Occupies (paging_at h) after (tables_in m) → AreBelowLimit m.proxies → Becomes h m after
-      changes framed at long image tell occupied handles = record {
+          → Serve (paging_at h) (tables_in m) → Occupies (paging_at h) after (tables_in m) → AreBelowLimit m.proxies → Becomes h m after
+      changes framed at long image serve occupied handles = record {
         framed = framed;
         rest = rest_from h m (same.kind ∙ en.kind) (same.settings ∙ en.settings) (same.classes ∙ en.classes) (same.bounds ∙ en.bounds);
         places = at;
@@ -270,7 +270,7 @@ module _ {h : Heap} (k : IsValid h) {x : Change} (is : IsChange h x) {b : ℕ} {
         long = long;
         image = image;
         sound = after_sound;
-        tell = tell;
+        serve = serve;
         occupied = occupied;
         limit = same.limit ∙ ap (λ p. p.limit) en.proxies;
         handles = handles;
@@ -326,9 +326,9 @@ module _ {h : Heap} (k : IsValid h) {x : Change} (is : IsChange h x) {b : ℕ} {
 
         -- the new slot is the next one, and the old one is left in the order
         pub change_chosen : SlotFollows (paging_at h) (held_in h) object moved order_between (order_of (length h.classes.sizes) (tables_in m) h.proxies.free)
-            → m.proxies.free ≡ h.proxies.free → (told : Option ℕ) → told ≡ moved
-            → ResizeFollows (paging_at h) (held_in h) asked (record { held = held_in m; moved = told }) (order_in h) (order_in m)
-        change_chosen follows free told none = record {
+            → m.proxies.free ≡ h.proxies.free → (shown : Option ℕ) → shown ≡ moved
+            → ResizeFollows (paging_at h) (held_in h) asked (record { held = held_in m; moved = shown }) (order_in h) (order_in m)
+        change_chosen follows free shown none = record {
           object = object;
           found = found;
           stays = λ e. absurd (is.other (sym is.class ∙ e ∙ object_class));

@@ -17,7 +17,7 @@ use Rattle.page_slots.specs.Release.{Vacates}
 use Rattle.page_slots.specs.Tables.{AreTables, page_at, slot_at}
 use Rattle.page_slots.specs.Occupying.{Occupies, class_table}
 use Rattle.page_slots.specs.Orders.{order_of}
-use Rattle.page_slots.proofs.CallerLemmas.{renumbered_occupied, vacated_occupied, vacated_order, vacated_tell}
+use Rattle.page_slots.proofs.CallerLemmas.{renumbered_occupied, vacated_occupied, vacated_order, vacated_serve}
 use Rattle.paged_heap.specs.Heap.{Heap}
 use Rattle.paged_heap.specs.declared.resize_class.Change.{Change}
 use Rattle.paged_heap.specs.ResizeClass.{EntersAt, IsChange, old_words}
@@ -28,7 +28,7 @@ use Rattle.paged_heap.proofs.ByKind.{frames_stay}
 use Rattle.paged_heap.proofs.LayoutFacts.{as_many, paged_kind, paging_ok, table_is}
 use Rattle.paged_heap.proofs.Preserved.{Becomes, places_are}
 use Rattle.paged_heap.proofs.FreedObject.{it_class, moving, page_same, slot_same}
-use Rattle.paged_heap.proofs.ResizeClass.{Keeps, after, after_is, both, both_occupied, both_sound, both_tell, changes, entered_long, found, found_still, middle}
+use Rattle.paged_heap.proofs.ResizeClass.{Keeps, after, after_is, both, both_occupied, both_sound, both_serve, changes, entered_long, found, found_still, middle}
 use Rattle.paged_heap.proofs.ResizeClass.{freed_same, must_before, new, new_free, object, order_between, rewritten, spare, spare_is_other, then_cleared, unused}
 
 module _ {h : Heap} (k : IsValid h) {x : Change} (is : IsChange h x) {b : ℕ} {n : Heap} (en : EntersAt h x b n) (stays : IsMoving h x.place x.class → ⊥)
@@ -69,7 +69,7 @@ module _ {h : Heap} (k : IsValid h) {x : Change} (is : IsChange h x) {b : ℕ} {
   vacates = subst (λ (t : ClassTable). Vacates (tables_in n) x.class (page_at t x.place) (slot_at t x.class x.place) (tables_in m)) en.classes freed
 
   less : Occupies (paging_at h) (remove (both k is en) x.handle.0) (tables_in m)
-  less = vacated_occupied (paging_ok h k) (both_tell k is en).part (both_occupied k is en) kept_tables (both_sound k is en) x.handle.0
+  less = vacated_occupied (paging_ok h k) (both_serve k is en).part (both_occupied k is en) kept_tables (both_sound k is en) x.handle.0
       (found_still k is en) vacates
       (it_class k is.object) (page_same k is.object) (slot_same k is.object)
 
@@ -101,7 +101,7 @@ module _ {h : Heap} (k : IsValid h) {x : Change} (is : IsChange h x) {b : ℕ} {
       let p = paging_at h in let c = class_at p (object k is en) in
       let before = order_of (classes p) (tables_in n) h.proxies.free in
       let freed_order : order_of (classes p) (tables_in m) h.proxies.free ≡ slot_freed p (held_in h) before c (page_of p x.place) =
-      vacated_order (paging_ok h k) (both_tell k is en).part (both_occupied k is en) kept_tables is.object.in_range h.proxies.free vacates
+      vacated_order (paging_ok h k) (both_serve k is en).part (both_occupied k is en) kept_tables is.object.in_range h.proxies.free vacates
       ∙ ap (λ d. slot_freed p (both k is en) before d (page_at h.classes x.place)) (sym (it_class k is.object))
       ∙ ap (slot_freed p (both k is en) before c) (sym (page_same k is.object))
       ∙ freed_same k is en before (page_of p x.place) in
@@ -120,7 +120,7 @@ module _ {h : Heap} (k : IsValid h) {x : Change} (is : IsChange h x) {b : ℕ} {
       (ap (λ (o : Heap). o.proxies.places) dropped ∙ ap (λ (o : Proxies). o.places) en.proxies ∙ sym after_places)
       (ap (λ (o : Heap). length o.words) dropped ∙ long ∙ entered_long k is en)
       (subst (λ ws. IsSlotImage (paging_at h) (after k is en None never) ws) (sym (ap (λ (o : Heap). o.words) dropped)) image)
-      (vacated_tell (paging_ok h k) (both_tell k is en).part (both_occupied k is en) kept_tables (both_sound k is en) x.handle.0 (found_still k is en) vacates
-      (it_class k is.object) (page_same k is.object) (slot_same k is.object) (both_tell k is en).whole)
+      (vacated_serve (paging_ok h k) (both_serve k is en).part (both_occupied k is en) kept_tables (both_sound k is en) x.handle.0 (found_still k is en) vacates
+      (it_class k is.object) (page_same k is.object) (slot_same k is.object) (both_serve k is en).whole)
       occupied
       (subst AreBelowLimit (sym (ap (λ (o : Heap). o.proxies) dropped)) en.handles)

@@ -14,16 +14,16 @@ use Rattle.page_model.specs.Arrangement.{class_at}
 use Rattle.page_model.specs.Steps.{MayFill, Moves, MustMove, without}
 use Rattle.cf_lemmas.proofs.Values.{still}
 use Rattle.page_model.proofs.CallerLemmas.{mover_is_other, moved_places, image_after_change_and_move, object_inside, own_words, place_apart, sound_apart_from}
-use Rattle.page_model.proofs.CallerLemmas.{header_told}
+use Rattle.page_model.proofs.CallerLemmas.{header_shown}
 use Rattle.cf_lemmas.specs.Exchanges.{exchanged}
 use Rattle.cf_model.specs.Steps.{frames_left}
 use Rattle.virtual_words.specs.Words.{IsWhole}
 use Rattle.proxy_table.specs.Proxies.{AreBelowLimit, Proxies, with_place}
 use Rattle.page_slots.specs.Release.{FillsFrom}
 use Rattle.page_slots.specs.Tables.{AreTables, Tables}
-use Rattle.page_slots.specs.Occupying.{Occupies, Tell, class_table}
+use Rattle.page_slots.specs.Occupying.{Occupies, Serve, class_table}
 use Rattle.page_slots.specs.Orders.{order_of}
-use Rattle.page_slots.proofs.CallerLemmas.{filled_occupied, filled_tell, filler, filler_in, filler_is, filler_may, filler_next, moves_some}
+use Rattle.page_slots.proofs.CallerLemmas.{filled_occupied, filled_serve, filler, filler_in, filler_is, filler_may, filler_next, moves_some}
 use Rattle.page_slots.proofs.CallerLemmas.{renumbered_occupied, vacated_order}
 use Rattle.class_lists.specs.PageLists.{pages_in}
 use Rattle.class_lists.specs.declared.Which.TheVariants.{NotFull}
@@ -38,7 +38,7 @@ use Rattle.paged_heap.proofs.LayoutFacts.{as_many, number_small, paging_ok, plac
 use Rattle.paged_heap.proofs.Preserved.{Becomes, places_are}
 use Rattle.paged_heap.proofs.ResizeCopy.{untouched}
 use Rattle.paged_heap.proofs.FreedObject.{it_class, it_inside, it_slot, must}
-use Rattle.paged_heap.proofs.ResizeClass.{Keeps, after, after_is, both, both_occupied, both_sound, both_tell, changes, entered_long, found, found_still, left}
+use Rattle.paged_heap.proofs.ResizeClass.{Keeps, after, after_is, both, both_occupied, both_sound, both_serve, changes, entered_long, found, found_still, left}
 use Rattle.paged_heap.proofs.ResizeClass.{middle, moves_before, must_still, new, new_free, object, place_free, rewritten, spare, spare_is_other, then_moved}
 use Rattle.paged_heap.proofs.ResizeClass.{freed_same, next_same, order_between, unused}
 
@@ -61,7 +61,7 @@ module _ {h : Heap} (k : IsValid h) {x : Change} (is : IsChange h x) {b : ℕ} {
   pub some_fills : 1 ≤ length (pages_in n.lists x.class NotFull)
   some_fills =
       let e = it_class k is.object in
-      let l = moves_some (paging_ok h k) (both_tell k is en).part (both_occupied k is en) x.handle.0 (found_still k is en) still_due
+      let l = moves_some (paging_ok h k) (both_serve k is en).part (both_occupied k is en) x.handle.0 (found_still k is en) still_due
       (let lt = is.object.in_range in omega arith) in
       subst (λ d. 1 ≤ length (pages_in n.lists d NotFull)) e l
 
@@ -102,7 +102,7 @@ module _ {h : Heap} {x : Change} {b : ℕ} {n : Heap} {f : ℕ} {t : Tables} (fs
   kept_tables = subst (λ u. AreTables u t) (en.classes ∙ sym (table_is h k)) fs.tables
 
   other : (r : ℕ) × (y : Placed) × (get (both k is en) r ≡ Some y) × (y.place ≡ f)
-  other = filler (paging_ok h k) (both_tell k is en).part (both_occupied k is en) (filler_in fills)
+  other = filler (paging_ok h k) (both_serve k is en).part (both_occupied k is en) (filler_in fills)
 
   pub r : ℕ
   r = other.0
@@ -119,7 +119,7 @@ module _ {h : Heap} {x : Change} {b : ℕ} {n : Heap} {f : ℕ} {t : Tables} (fs
   at = other.3
 
   may : MayFill (paging_at h) (both k is en) (object k is en) y
-  may = filler_may (paging_ok h k) (both_tell k is en).part (both_occupied k is en) (object k is en) (filler_in fills) (both_sound k is en) r there at
+  may = filler_may (paging_ok h k) (both_serve k is en).part (both_occupied k is en) (object k is en) (filler_in fills) (both_sound k is en) r there at
 
   pub mover : Moves (paging_at h) (both k is en) (object k is en) (Some r)
   mover = (due, (y, there, may))
@@ -196,15 +196,15 @@ module _ {h : Heap} {x : Change} {b : ℕ} {n : Heap} {f : ℕ} {t : Tables} (fs
       omega arith)
 
   -- its header holds its number
-  pub number_told : get_or n.words f 0 % 2 ^ 32 ≡ r
-  number_told =
+  pub number_shown : get_or n.words f 0 % 2 ^ 32 ≡ r
+  number_shown =
       let small = number_small h k r stood stood_there in
       let few = h.settings.few_proxies in
       let some = words_some in
       let far : IsOutside x.place words f = elim slots_apart [ inl l ↦ inl (omega arith) | inr l ↦ inr l ] in
       let out : IsOutside b (slot_for (paging_at h) x.bytes) f = elim new_apart [ inl l ↦ inr l | inr l ↦ inl (omega arith) ] in
       let u = untouched k is (place_free k is en) en.words f far out in
-      let t = header_told (held_in h) h.words r stood (own_words (paging_at h) (paging_ok h k) (held_in h) k.sound h.words k.image) stood_there (omega arith) in
+      let t = header_shown (held_in h) h.words r stood (own_words (paging_at h) (paging_ok h k) (held_in h) k.sound h.words k.image) stood_there (omega arith) in
       ap (λ w. w % 2 ^ 32) u ∙ ap (λ i. get_or h.words i 0 % 2 ^ 32) (sym stood_at) ∙ t.0
 
   -- it is live
@@ -253,7 +253,7 @@ module _ {h : Heap} {x : Change} {b : ℕ} {n : Heap} {f : ℕ} {t : Tables} (fs
       ∙ ap (λ g. insert (insert g x.handle.0 b) r x.place) (sym (places_are h k))
 
   refilled : Occupies (paging_at h) (left k is en (Some r) mover) t
-  refilled = filled_occupied (paging_ok h k) (both_tell k is en).part (both_occupied k is en) kept_tables x.handle.0 (found_still k is en) fills
+  refilled = filled_occupied (paging_ok h k) (both_serve k is en).part (both_occupied k is en) kept_tables x.handle.0 (found_still k is en) fills
       (both_sound k is en) r there at due
 
   new_stays : get (left k is en (Some r) mover) (spare k is en) ≡ Some (new k is en)
@@ -274,7 +274,7 @@ module _ {h : Heap} {x : Change} {b : ℕ} {n : Heap} {f : ℕ} {t : Tables} (fs
   -- the filler has moved: w are the slot's words, and i is the other's number
   pub record Lands (u m : Heap) (w i : ℕ) : Type 0 where
     pub size_w : w ≡ words
-    pub told : i ≡ r
+    pub shown : i ≡ r
     pub same : tables_in u ≡ t
     pub found : u ≡ record n { maps = u.maps; lists = u.lists; pool = u.pool }
     pub moved : m ≡ record u { proxies = with_place u.proxies i x.place; words = m.words; frames = m.frames }
@@ -284,19 +284,19 @@ module _ {h : Heap} {x : Change} {b : ℕ} {n : Heap} {f : ℕ} {t : Tables} (fs
     pub handles : AreBelowLimit m.proxies
 
   -- the number that is read from its header is its own
-  pub told_by : {u : Heap} {i word : ℕ} → u ≡ record n { maps = u.maps; lists = u.lists; pool = u.pool } → word ≡ get_or u.words f 0 → i ≡ word % 2 ^ 32 → i ≡ r
-  told_by found read number = number ∙ ap (λ w. w % 2 ^ 32) read ∙ ap (λ (o : Heap). get_or o.words f 0 % 2 ^ 32) found ∙ number_told
+  pub shown_by : {u : Heap} {i word : ℕ} → u ≡ record n { maps = u.maps; lists = u.lists; pool = u.pool } → word ≡ get_or u.words f 0 → i ≡ word % 2 ^ 32 → i ≡ r
+  shown_by found read number = number ∙ ap (λ w. w % 2 ^ 32) read ∙ ap (λ (o : Heap). get_or o.words f 0 % 2 ^ 32) found ∙ number_shown
 
   pub live_there : {u : Heap} {i : ℕ} → u ≡ record n { maps = u.maps; lists = u.lists; pool = u.pool } → i ≡ r → IsSome (get u.proxies.places i)
-  live_there {u} {i} found told =
-      subst (λ i. IsSome (get u.proxies.places i)) (sym told) (subst (λ (o : Heap). IsSome (get o.proxies.places r)) (sym found) live_still)
+  live_there {u} {i} found shown =
+      subst (λ i. IsSome (get u.proxies.places i)) (sym shown) (subst (λ (o : Heap). IsSome (get o.proxies.places r)) (sym found) live_still)
 
   pub lands_of : {u m : Heap} {w i : ℕ} → w ≡ words → i ≡ r → tables_in u ≡ t → u ≡ record n { maps = u.maps; lists = u.lists; pool = u.pool }
       → m ≡ record u { proxies = with_place u.proxies i x.place; words = m.words; frames = m.frames } → m.proxies.free ≡ u.proxies.free
       → MovesSlot u m f x.place w
       → IsFramed h.kind m → AreBelowLimit m.proxies → Lands u m w i
-  lands_of size_w told same found moved free shift framed handles =
-      record { size_w = size_w; told = told; same = same; found = found; moved = moved; free = free; shift = shift; framed = framed; handles = handles }
+  lands_of size_w shown same found moved free shift framed handles =
+      record { size_w = size_w; shown = shown; same = same; found = found; moved = moved; free = free; shift = shift; framed = framed; handles = handles }
 
   module _ {u m : Heap} {w i : ℕ} (l : Lands u m w i) where
     whole : m ≡ record n { maps = u.maps; lists = u.lists; pool = u.pool; proxies = with_place n.proxies r x.place; words = m.words; frames = m.frames }
@@ -309,7 +309,7 @@ module _ {h : Heap} {x : Change} {b : ℕ} {n : Heap} {f : ℕ} {t : Tables} (fs
           proxies = with_place n.proxies j x.place;
           words = m.words;
           frames = m.frames;
-        }) l.told
+        }) l.shown
 
     shift : MovesSlot n m f x.place words
     shift = subst (MovesSlot n m f x.place) l.size_w (record {
@@ -340,14 +340,14 @@ module _ {h : Heap} {x : Change} {b : ℕ} {n : Heap} {f : ℕ} {t : Tables} (fs
         let p = paging_at h in let d = class_at p (object k is en) in
         let lt : d < classes p = (k.sound.slots x.handle.0 (object k is en) (found k is en)).class in
         let before = order_of (classes p) (tables_in n) h.proxies.free in
-        let first = filler_next (paging_ok h k) (both_tell k is en).part (both_occupied k is en) lt h.proxies.free (filler_in fills) stood stood_at in
+        let first = filler_next (paging_ok h k) (both_serve k is en).part (both_occupied k is en) lt h.proxies.free (filler_in fills) stood stood_at in
         let once = next_same k is en before d r stood stood_there first in
         let both_there = (still (held_in h) (spare k is en) (new k is en) (unused k is en) r stood stood_there).1 in
         let page : page_of p stood.place ≡ fills.page =
-        (filler_is (paging_ok h k) (both_tell k is en).part (both_occupied k is en) (filler_in fills) (both_sound k is en) r both_there stood_at).1 in
+        (filler_is (paging_ok h k) (both_serve k is en).part (both_occupied k is en) (filler_in fills) (both_sound k is en) r both_there stood_at).1 in
         let freed_order : order_of (classes p) (tables_in m) h.proxies.free ≡ slot_freed p (held_in h) before d (page_of p stood.place) =
         ap (λ s. order_of (classes p) s h.proxies.free) on
-        ∙ vacated_order (paging_ok h k) (both_tell k is en).part (both_occupied k is en) kept_tables lt h.proxies.free fills.vacates
+        ∙ vacated_order (paging_ok h k) (both_serve k is en).part (both_occupied k is en) kept_tables lt h.proxies.free fills.vacates
         ∙ ap (slot_freed p (both k is en) before d) (sym page)
         ∙ freed_same k is en before (page_of p stood.place) in
         let slot : SlotFollows p (held_in h) (object k is en) (Some r) before (order_of (classes p) (tables_in m) h.proxies.free) =
@@ -378,8 +378,8 @@ module _ {h : Heap} {x : Change} {b : ℕ} {n : Heap} {f : ℕ} {t : Tables} (fs
         (ap (λ (o : Heap). o.proxies.places) whole ∙ ap (λ (p : Proxies). insert p.places r x.place) en.proxies ∙ sym after_places)
         (shift.long ∙ entered_long k is en)
         (image m.words shift.long shift.words)
-        (subst (Tell (paging_at h)) (sym on)
-        (filled_tell (paging_ok h k) (both_tell k is en).part (both_occupied k is en) kept_tables x.handle.0 (found_still k is en) fills
-        (both_tell k is en).whole))
+        (subst (Serve (paging_at h)) (sym on)
+        (filled_serve (paging_ok h k) (both_serve k is en).part (both_occupied k is en) kept_tables x.handle.0 (found_still k is en) fills
+        (both_serve k is en).whole))
         (subst (Occupies (paging_at h) (after k is en (Some r) mover)) (sym on) occupied)
         l.handles

@@ -48,7 +48,7 @@ module _ {h : Heap} (k : IsValid h) {x : Change} (is : IsChange h x) where
     of_table = subst (λ t. AreTables t new) (sym (table_is h k)) tables
 
     pub is_free : IsFreePlace (paging_at h) (held_in h) x.bytes b
-    is_free = taken_is_free (paging_ok h k) k.tell.part k.occupied of_table is.in_range at_table x.bytes is.class
+    is_free = taken_is_free (paging_ok h k) k.serve.part k.occupied of_table is.in_range at_table x.bytes is.class
 
   module _ {b : ℕ} (free : IsFreePlace (paging_at h) (held_in h) x.bytes b) where
     pub new_inside : b + slot_for (paging_at h) x.bytes ≤ length h.words

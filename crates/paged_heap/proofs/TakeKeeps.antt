@@ -2,10 +2,10 @@
 use Rattle.std.proofs.Common.{◌≡◌, ◌≢◌, ℕ, ◌<◌, List, [], ◌∷◌, length, refl, sym, ◌∙◌, ap, subst, inl, inr}
 use Rattle.std.specs.List.{Contains}
 use Rattle.std.proofs.lemmas.Bool.{cases_eq}
+use Rattle.cf_lemmas.proofs.Members.{contains_head}
 use Rattle.class_lists.specs.PageLists.{PageLists, pages_in}
 use Rattle.class_lists.specs.declared.Which.{Which}
 use Rattle.class_lists.specs.declared.Which.TheVariants.{NotFull}
-use Rattle.class_lists.proofs.CallerLemmas.{contains_head}
 use Rattle.page_model.specs.Order.{drop_steps, fill_steps}
 use Rattle.size_classes.specs.Table.{ClassTable}
 use Rattle.page_slots.specs.Release.{steps_to_drop, steps_to_fill}

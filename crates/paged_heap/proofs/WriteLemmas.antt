@@ -20,7 +20,7 @@ use Rattle.page_model.proofs.CallerLemmas.{written_are_bytes}
 use Rattle.page_model.proofs.CallerLemmas.{written_before, written_behind, written_inside, written_nothing}
 use Rattle.word_bytes.specs.Cells.{overwritten}
 use Rattle.word_bytes.proofs.CallerLemmas.{overwritten_before, overwritten_behind, overwritten_inside}
-use Rattle.page_slots.specs.Occupying.{Occupies, Tell}
+use Rattle.page_slots.specs.Occupying.{Occupies, Serve}
 use Rattle.page_slots.proofs.CallerLemmas.{rewritten_occupied}
 use Rattle.proxy_table.specs.Proxies.{AreBelowLimit}
 use Rattle.cf_model.specs.Steps.{WritesBytes}
@@ -90,7 +90,7 @@ module _ (h n : Heap) (k : IsValid h) (q a : ℕ) (some : get (held_in h) q ≡ 
     long = long;
     image = image;
     sound = still_sound;
-    tell = subst (Tell (paging_at h)) (sym (ap tables_in rest)) k.tell;
+    serve = subst (Serve (paging_at h)) (sym (ap tables_in rest)) k.serve;
     occupied = subst (Occupies (paging_at h) changed) (sym (ap tables_in rest)) (rewritten_occupied k.occupied q some u class);
     limit = ap (λ (x : Heap). x.proxies.limit) rest;
     handles = subst AreBelowLimit (sym (ap (λ (x : Heap). x.proxies) rest)) k.handles;

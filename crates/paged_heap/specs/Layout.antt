@@ -14,7 +14,7 @@ use Rattle.page_model.specs.Order.{Order}
 use Rattle.size_classes.specs.Table.{table_of}
 use Rattle.proxy_table.specs.Proxies.{AreBelowLimit}
 use Rattle.page_slots.specs.Tables.{Tables, tables}
-use Rattle.page_slots.specs.Occupying.{Occupies, Tell}
+use Rattle.page_slots.specs.Occupying.{Occupies, Serve}
 use Rattle.page_slots.specs.Orders.{order_of}
 use Rattle.cf_model.specs.State.{HeapState, closed_state, layout_of, paging_in}
 use Rattle.virtual_words.specs.Words.{AreLaid}
@@ -72,7 +72,7 @@ pub record IsValid (h : Heap) : Type 0 where
   pub words_long : length h.words ≡ h.settings.pages * h.settings.page_words
   pub image : IsSlotImage (paging_at h) (held_in h) h.words
   pub sound : IsSound (paging_at h) (held_in h)
-  pub tell : Tell (paging_at h) (tables_in h)
+  pub serve : Serve (paging_at h) (tables_in h)
   pub occupied : Occupies (paging_at h) (held_in h) (tables_in h)
   pub numbers : h.proxies.limit ≡ h.settings.proxies
   pub handles : AreBelowLimit h.proxies

@@ -38,7 +38,7 @@ impl OpenHeap {
         ensures bound { RoseAtMost steps.old steps.new (free_bound result) }
         ensures steps { RoseAtMost steps.old steps.new (free_steps A.kind result) }
         ensures ordered { IsOrderedFree (state_at A.kind self.old) h.0 result (state_at A.kind self.new) }
-        ensures told { steps.new ≡ steps.old + self.new.cost }
+        ensures cost { steps.new ≡ steps.old + self.new.cost }
     {
         let before = steps.count();
         let result = self.free_inner::<A>(h, steps);

@@ -41,7 +41,7 @@ impl OpenHeap {
         ensures bound { RoseAtMost steps.old steps.new 18 }
         ensures steps { RoseAtMost steps.old steps.new (malloc_steps A.kind) }
         ensures ordered { IsOrderedMalloc (state_at A.kind self.old) bytes result (state_at A.kind self.new) }
-        ensures told { steps.new ≡ steps.old + self.new.cost }
+        ensures cost { steps.new ≡ steps.old + self.new.cost }
     {
         let before = steps.count();
         let result = self.malloc_inner::<A>(bytes, steps);

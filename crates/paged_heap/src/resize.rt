@@ -39,7 +39,7 @@ impl OpenHeap {
         ensures bound { RoseAtMost steps.old steps.new (resize_bound result) }
         ensures steps { RoseAtMost steps.old steps.new (resize_steps A.kind bytes result) }
         ensures ordered { IsOrderedResize (state_at A.kind self.old) (record { number = h.0; length = bytes }) result (state_at A.kind self.new) }
-        ensures told { steps.new ≡ steps.old + self.new.cost }
+        ensures cost { steps.new ≡ steps.old + self.new.cost }
     {
         let before = steps.count();
         let result = self.resize_inner::<A>(h, bytes, steps);

@@ -1,9 +1,9 @@
--- Steps one after the other, and what the calls on lists and blocks take.
-use Rattle.std.proofs.Common.{◌≡◌, ℕ, Bool, true, false, ◌+◌, ◌*◌, ◌/◌, ◌^◌, ◌<◌, ◌≤◌, ◌==◌, List, Option, Some, None, cond, arith, sym, ap, ◌∙◌, subst, inl, inr}
+-- Steps one after the other, and what the searches of lists take.
+use Rattle.std.proofs.Common.{◌≡◌, ℕ, ◌+◌, ◌*◌, ◌/◌, ◌^◌, ◌<◌, ◌≤◌, List, Option, Some, None, arith, sym, ap, ◌∙◌, subst, inl, inr}
 use Rattle.std.proofs.lemmas.Bool.{cases_eq, cases_lt}
 use Rattle.step_ledger.specs.Counting.{RoseBy, RoseAtMost}
-use Rattle.tag_blocks.specs.Costs.{group_steps, list_steps, next_steps, previous_steps}
-use Rattle.tag_blocks.specs.ListHeads.{no_block, IsFirstFrom}
+use Rattle.block_model.specs.Costs.{group_steps, list_steps}
+use Rattle.tag_blocks.specs.ListHeads.{IsFirstFrom}
 use Rattle.tag_blocks.proofs.ThreadLemmas.{chosen, other}
 
 -- the count rose twice
@@ -30,11 +30,6 @@ by_same old new m n r e = subst (λ k. RoseBy old new k) e r
 pub at_most_by : (old new n m : ℕ) → RoseBy old new n → n ≤ m → RoseAtMost old new m
 at_most_by old new n m a le = record { kept = a.kept; bound = (let x = a.bound in omega arith) }
 
--- a choice is at most what both are
-either : (t : Bool) (x y n : ℕ) → x ≤ n → y ≤ n → cond t x y ≤ n
-either true x y n p q = p
-either false x y n p q = q
-
 -- ---- lists
 
 pub here_steps : (start bit : ℕ) → bit < 16 → list_steps start (Some (16 * (start / 16) + bit)) ≡ 1
@@ -47,11 +42,3 @@ rest_steps heads start None all = elim (cases_eq (start / 16) 31) [
   | inr not ↦ ap (λ n. 1 + n) (other (start / 16 + 1) 32 0 1 (omega arith)) ∙ sym (other (start / 16) 31 1 2 not)
 ]
 rest_steps heads start (Some list) is = sym (other (list / 16) (start / 16) 1 3 (let f = is.from in omega arith))
-
--- ---- links
-
-pub next_at_most : (previous : ℕ) → next_steps previous ≤ 3
-next_at_most previous = either (previous == no_block) 3 2 3 (omega arith) (omega arith)
-
-pub previous_at_most : (next : ℕ) → previous_steps next ≤ 2
-previous_at_most next = either (next == no_block) 0 2 2 (omega arith) (omega arith)

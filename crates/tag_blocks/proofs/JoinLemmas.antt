@@ -15,16 +15,16 @@ use Rattle.tag_blocks.specs.declared.header.Header.{Header}
 use Rattle.tag_blocks.specs.Links.{AreFreeLists, IsIn, without_block, lists_with, UnlinksBlock}
 use Rattle.tag_blocks.specs.Blocks.{Tagged, owner_of}
 use Rattle.tag_blocks.specs.Tags.{before_in, block_header_word, with_before}
-use Rattle.tag_blocks.specs.Layout.{Fields, IsBlock, free_block, used_block, IsTold, AreTold, IsValidWith, IsValid}
+use Rattle.tag_blocks.specs.Layout.{Fields, IsBlock, free_block, used_block, IsDescribed, AreDescribed, IsValidWith, IsValid}
 use Rattle.tag_blocks.specs.Stages.{Detached, IsDetached, ArePair, HoldsBeforeFree, HoldsBehindFree, Turns, KeepsOwned, ends_free}
 use Rattle.tag_blocks.specs.Stages.{pair_first, pair_second, pair_detached}
 use Rattle.tag_blocks.specs.Stages.{with_next, with_previous, past_free, free_first, up_to_free, free_last}
 use Rattle.tag_blocks.proofs.FillLemmas.{lies_in, in_first, in_second, in_either, merged_split, merged_join}
-use Rattle.tag_blocks.proofs.ToldBlocks.{told_parts, last_size}
-use Rattle.tag_blocks.proofs.ReplaceLemmas.{IsNextTold, next_told, next_kept, not_link}
+use Rattle.tag_blocks.proofs.DescribedBlocks.{described_parts, last_size}
+use Rattle.tag_blocks.proofs.ReplaceLemmas.{IsNextDescribed, next_described, next_kept, not_link}
 use Rattle.tag_blocks.proofs.ListedAfter.{used-append, free-append, used-used, used-free, free-used, free-free}
 use Rattle.tag_blocks.proofs.ListsAfterChange.{FillsAt, left_same, removed, removed_owned}
-use Rattle.tag_blocks.proofs.HeaderAfter.{one_fills, one_told, one_before, before_length, before_other, before_next}
+use Rattle.tag_blocks.proofs.HeaderAfter.{one_fills, one_described, one_before, before_length, before_other, before_next}
 use Rattle.tag_blocks.proofs.ListsSeen.{lists_left}
 use Rattle.tag_blocks.proofs.ViewLemmas.{seen, kept_as, blocks_now, kept_now, tags_kept}
 use Rattle.tag_blocks.proofs.WipeLemmas.{cleared_at}
@@ -63,15 +63,15 @@ free_pair false start first second bs = free-free start first 0 (used_block (sta
 abbrev pub IsBlank : List ℕ → Bool → ℕ → ℕ → ℕ → Type 0
 IsBlank words s start first second = (i : ℕ) → 2 ≤ i → i < cond s first second → get_or words (cond s start (start + first) + i) 0 ≡ 0
 
-first_blank : (s : Bool) (words : List ℕ) (before start first second : ℕ) → IsTold words before (pair_first start first s) → IsBlank words s start first second
+first_blank : (s : Bool) (words : List ℕ) (before start first second : ℕ) → IsDescribed words before (pair_first start first s) → IsBlank words s start first second
     → (i : ℕ) → 2 ≤ i → i < first → get_or words (start + i) 0 ≡ 0
-first_blank true words before start first second told blank = blank
-first_blank false words before start first second told blank = told.cleared refl
+first_blank true words before start first second described blank = blank
+first_blank false words before start first second described blank = described.cleared refl
 
-second_blank : (s : Bool) (words : List ℕ) (start first second : ℕ) → IsTold words first (pair_second (start + first) second s)
+second_blank : (s : Bool) (words : List ℕ) (start first second : ℕ) → IsDescribed words first (pair_second (start + first) second s)
     → IsBlank words s start first second → (i : ℕ) → 2 ≤ i → i < second → get_or words (start + first + i) 0 ≡ 0
-second_blank true words start first second told blank = told.cleared refl
-second_blank false words start first second told blank = blank
+second_blank true words start first second described blank = described.cleared refl
+second_blank false words start first second described blank = blank
 
 pub either : (s : Bool) (P : ℕ → Type 0) (a b : ℕ) → P a → P b → P (cond s a b)
 either true P a b x y = x
@@ -119,8 +119,8 @@ module _ (rule : FreeLists) (p : Fields) (lists : ℕ → List ℕ) (pre rest : 
   rest_fills : Fill rest hi (length p.words)
   rest_fills = subst (λ q. Fill rest q (length p.words)) (let e : start + first + second ≡ hi = omega arith in e) fills.behind.2
 
-  rest_tells : IsTold p.words first c × AreTold p.words second rest
-  rest_tells = (told_parts p.words 0 pre (b ∷ c ∷ rest) k.told).1.1
+  rest_describes : IsDescribed p.words first c × AreDescribed p.words second rest
+  rest_describes = (described_parts p.words 0 pre (b ∷ c ∷ rest) k.described).1.1
 
   fill_two : Fill (b ∷ c ∷ []) start hi
   fill_two = (let s = pair_sizes in (refl, s.0, (refl, s.1, (let e : start + first + second ≡ hi = omega arith in e))))
@@ -177,7 +177,7 @@ module _ (rule : FreeLists) (p : Fields) (lists : ℕ → List ℕ) (pre rest : 
     fill_grown : Fill (grown ∷ []) start hi
     fill_grown = (let s = pair_sizes in let l = s.0 in (refl, omega arith, refl))
 
-    -- a word of the old blocks that is no link stays where the free block leaves its list
+    -- a word of the old blocks that is no link stays when the free block leaves its list
     left_word : (y : Block) (w : ℕ) → IsBlock y (pre ++ (b ∷ c ∷ rest)) → y.address ≤ w → w < y.address + y.size → w ≢ y.address + 1
         → get_or left w 0 ≡ get_or p.words w 0
     left_word y w i low high off = left_same rule p lists pre (b ∷ c ∷ []) (grown ∷ []) rest start hi taken many k fills.before fill_two fill_grown rest_fills
@@ -194,14 +194,14 @@ module _ (rule : FreeLists) (p : Fields) (lists : ℕ → List ℕ) (pre rest : 
     joined_blank i low high = (let z = pair_sizes in let l = z.0 in let m = z.1 in elim (cases_lt i first) [
       | inl early ↦ same (start + i) (λ e. absurd (omega arith)) (λ e. absurd (omega arith)) (λ e. absurd (omega arith)) (inl (omega arith))
           ∙ left_word b (start + i) b_in (omega arith) (omega arith) (λ e. absurd (omega arith))
-          ∙ first_blank s p.words (last_size 0 pre) start first second (one_told rule p lists pre (c ∷ rest) b k) blank i low early
+          ∙ first_blank s p.words (last_size 0 pre) start first second (one_described rule p lists pre (c ∷ rest) b k) blank i low early
       | inr late ↦ elim (cases_lt i (first + 2)) [
         | inl mid ↦ not_set (start + i) (λ e. absurd (omega arith)) (λ e. absurd (omega arith)) (λ e. absurd (omega arith))
             ∙ cleared_at left (start + first) 2 (start + i) room (omega arith) (omega arith)
         | inr far ↦ same (start + i) (λ e. absurd (omega arith)) (λ e. absurd (omega arith)) (λ e. absurd (omega arith)) (inr (omega arith))
             ∙ left_word c (start + i) c_in (omega arith) (omega arith) (λ e. absurd (omega arith))
             ∙ ap (λ q. get_or p.words q 0) (let e : start + i ≡ start + first + (i - first) = omega arith in e)
-            ∙ second_blank s p.words start first second rest_tells.0 blank (i - first) (omega arith) (omega arith)
+            ∙ second_blank s p.words start first second rest_describes.0 blank (i - first) (omega arith) (omega arith)
       ]
     ])
 
@@ -210,8 +210,8 @@ module _ (rule : FreeLists) (p : Fields) (lists : ℕ → List ℕ) (pre rest : 
         ∙ ap (λ q. first + second + 2 ^ 31 * cond q 1 0 + 2 ^ 32 * header.before) is_used
         ∙ ap (λ q. first + second + 2 ^ 31 * 1 + 2 ^ 32 * q) is_before
 
-    told : AreTold words (last_size 0 pre) (grown ∷ [])
-    told = (
+    described : AreDescribed words (last_size 0 pre) (grown ∷ [])
+    described = (
       record {
         header = (let s = pair_sizes in let l = s.0 in let h = s.2 in
             before_other three hi (first + second) start (λ e. absurd (omega arith))
@@ -222,7 +222,7 @@ module _ (rule : FreeLists) (p : Fields) (lists : ℕ → List ℕ) (pre rest : 
       tt,
     )
 
-    next_now : IsNextTold words (first + second) rest
+    next_now : IsNextDescribed words (first + second) rest
     next_now = (let s = pair_sizes in let l = s.0 in let m = s.1 in let h = s.3 in
         before_next three hi (first + second) second (length p.words) rest rest_fills (omega (arith, length-three)) h
         (next_kept p.words three second hi (length p.words) rest rest_fills (λ y i e.
@@ -231,7 +231,7 @@ module _ (rule : FreeLists) (p : Fields) (lists : ℕ → List ℕ) (pre rest : 
         ∙ get_or-set_other one (start + 1) hi 0 0 (λ f. absurd (omega arith))
         ∙ cleared_others left (start + first) 2 room hi (inr (omega arith))
         ∙ left_word y hi (in_second y pre (b ∷ c ∷ rest) (inr (inr i))) (omega arith) (omega arith) (λ f. absurd (omega arith)))
-        (next_told p.words second rest rest_tells.1)))
+        (next_described p.words second rest rest_describes.1)))
 
     merged : AreMerged (pre ++ (grown ∷ rest))
     merged =
@@ -266,7 +266,7 @@ module _ (rule : FreeLists) (p : Fields) (lists : ℕ → List ℕ) (pre rest : 
 
     pub joined_kept : IsValidWith rule parts (pre ++ (grown ∷ rest)) (lists_with lists (rule.bucket many) (without_block taken (lists (rule.bucket many))))
     joined_kept = removed rule p lists pre (b ∷ c ∷ []) (grown ∷ []) rest start hi taken many k fills.before fill_two fill_grown rest_fills
-        there alone none left heads u long words long' same_out p.used (p.free - 1) merged told next_now counted (let e = counted_free in omega arith)
+        there alone none left heads u long words long' same_out p.used (p.free - 1) merged described next_now counted (let e = counted_free in omega arith)
 
     pub joined_owned : KeepsOwned p.words (pre ++ rest) words
     joined_owned = removed_owned rule p lists pre (b ∷ c ∷ []) (grown ∷ []) rest start hi taken many k fills.before fill_two fill_grown rest_fills

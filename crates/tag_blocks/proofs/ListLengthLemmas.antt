@@ -7,7 +7,7 @@ use Rattle.std.proofs.lemmas.List.Sums.{sum_by-append}
 use Rattle.cf_lemmas.proofs.Tests.{eq_yes, eq_no}
 use Rattle.block_model.specs.Buckets.{FreeLists}
 use Rattle.block_model.specs.Tiling.{Block, is_free}
-use Rattle.tag_blocks.specs.Costs.{list_length, push_steps, pushed_steps}
+use Rattle.block_model.specs.Costs.{list_length, push_steps, pushed_steps}
 use Rattle.tag_blocks.specs.ListHeads.{no_block, head_of}
 use Rattle.tag_blocks.specs.Layout.{Fields, IsBlock, free_block, used_block, IsValidWith}
 use Rattle.tag_blocks.proofs.FillLemmas.{block_found}

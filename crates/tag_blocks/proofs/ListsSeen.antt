@@ -4,10 +4,12 @@ use Rattle.std.specs.Prelude.{nat_eq}
 use Rattle.std.specs.List.{Contains, IsDistinct}
 use Rattle.std.proofs.lemmas.Bool.{cases_eq, cases_lt}
 use Rattle.std.proofs.lemmas.List.{get_or-map, get_or_past, length-map}
+use Rattle.cf_lemmas.specs.Lists.{without_number}
+use Rattle.cf_lemmas.proofs.Members.{contains_cases, contains_head, contains_nil, contains_tail, distinct_cons, distinct_nil, without_absent, without_other, without_same}
 use Rattle.block_model.specs.Buckets.{FreeLists}
-use Rattle.block_model.specs.FreeOrder.{list_in, lists_led_by, lists_without, others_than}
-use Rattle.block_model.proofs.CallerLemmas.{at_head, head_or_tail, in_nothing, in_tail, led_other, led_same, length-led, length-without, list_without}
-use Rattle.block_model.proofs.CallerLemmas.{none_twice, once_more, others_all, others_next, others_same, same_listed}
+use Rattle.block_model.specs.FreeOrder.{list_in, lists_led_by, lists_without}
+use Rattle.block_model.proofs.CallerLemmas.{led_other, led_same, length-led, length-without, list_without}
+use Rattle.block_model.proofs.CallerLemmas.{same_listed}
 use Rattle.tag_blocks.specs.ListHeads.{no_block}
 use Rattle.tag_blocks.specs.Links.{AreFreeLists, AreOnce, AreThreaded, IsIn, first, lists_with, without_block}
 use Rattle.tag_blocks.specs.Tags.{list_from, lists_of}
@@ -17,24 +19,24 @@ use Rattle.tag_blocks.proofs.ThreadLemmas.{at_most, chosen, first_small, low_hal
 
 pub in_contains : (a : ℕ) (xs : List ℕ) → IsIn a xs → Contains xs a
 in_contains a [] i = absurd i
-in_contains a (x ∷ xs) i = elim i [ inl is ↦ rw is (at_head x xs) | inr later ↦ in_tail a x xs (in_contains a xs later) ]
+in_contains a (x ∷ xs) i = elim i [ inl is ↦ rw is (contains_head x xs) | inr later ↦ contains_tail a x xs (in_contains a xs later) ]
 
 pub contains_in : (a : ℕ) (xs : List ℕ) → Contains xs a → IsIn a xs
-contains_in a [] h = in_nothing a h
-contains_in a (x ∷ xs) h = elim (head_or_tail a x xs h) [ inl is ↦ inl is | inr later ↦ inr (contains_in a xs later) ]
+contains_in a [] h = contains_nil a h
+contains_in a (x ∷ xs) h = elim (contains_cases a x xs h) [ inl is ↦ inl is | inr later ↦ inr (contains_in a xs later) ]
 
 pub once_distinct : (xs : List ℕ) → AreOnce xs → IsDistinct nat_eq xs
-once_distinct [] once = none_twice
-once_distinct (x ∷ xs) once = once_more x xs (λ h. once.0 (contains_in x xs h)) (once_distinct xs once.1)
+once_distinct [] once = distinct_nil
+once_distinct (x ∷ xs) once = distinct_cons x xs (λ h. once.0 (contains_in x xs h)) (once_distinct xs once.1)
 
-without_others : (a : ℕ) (xs : List ℕ) → AreOnce xs → without_block a xs ≡ others_than a xs
+without_others : (a : ℕ) (xs : List ℕ) → AreOnce xs → without_block a xs ≡ without_number a xs
 without_others a [] once = refl
 without_others a (x ∷ xs) once = elim (cases_eq x a) [
   | inl is ↦ (
       let out : ¬ Contains xs a = λ h. once.0 (rw is (contains_in a xs h)) in
-      let e : others_than a (x ∷ xs) ≡ others_than a xs = rw is (others_same a xs) in
-      chosen x a xs (x ∷ without_block a xs) is ∙ sym (e ∙ others_all a xs out))
-  | inr ne ↦ other x a xs (x ∷ without_block a xs) ne ∙ ap (λ ys. x ∷ ys) (without_others a xs once.1) ∙ sym (others_next a x xs ne)
+      let e : without_number a (x ∷ xs) ≡ without_number a xs = rw is (without_same a xs) in
+      chosen x a xs (x ∷ without_block a xs) is ∙ sym (e ∙ without_absent a xs out))
+  | inr ne ↦ other x a xs (x ∷ without_block a xs) ne ∙ ap (λ ys. x ∷ ys) (without_others a xs once.1) ∙ sym (without_other a x xs ne)
 ]
 
 -- ---- one list
@@ -97,10 +99,10 @@ module _ (words heads : List ℕ) (lists : ℕ → List ℕ) (l : AreFreeLists w
               ∙ sym (led_other rule (lists_of words heads) a size k ne ∙ list_seen words heads lists l k)
         ])
 
-    left_at : (a k : ℕ) → IsIn a (lists k) → (j : ℕ) → lists_with lists k (without_block a (lists k)) j ≡ others_than a (lists j)
+    left_at : (a k : ℕ) → IsIn a (lists k) → (j : ℕ) → lists_with lists k (without_block a (lists k)) j ≡ without_number a (lists j)
     left_at a k there j = elim (cases_eq j k) [
       | inl is ↦ chosen j k (without_block a (lists k)) (lists j) is ∙ ap (λ i. without_block a (lists i)) (sym is) ∙ without_others a (lists j) (l.distinct j)
-      | inr ne ↦ other j k (without_block a (lists k)) (lists j) ne ∙ sym (others_all a (lists j) (λ h. ne (l.once j k a (contains_in a (lists j) h) there)))
+      | inr ne ↦ other j k (without_block a (lists k)) (lists j) ne ∙ sym (without_absent a (lists j) (λ h. ne (l.once j k a (contains_in a (lists j) h) there)))
     ]
 
     pub lists_left : (a k : ℕ) → IsIn a (lists k) → AreFreeLists words' heads' (lists_with lists k (without_block a (lists k)))
@@ -110,4 +112,4 @@ module _ (words heads : List ℕ) (lists : ℕ → List ℕ) (l : AreFreeLists w
         same_listed (lists_of words' heads') (lists_without (lists_of words heads) a)
         (as_long ∙ sym (length-without (lists_of words heads) a))
         (λ j. list_seen words' heads' new l' j ∙ left_at a k there j
-        ∙ sym (list_without (lists_of words heads) a j ∙ ap (others_than a) (list_seen words heads lists l j)))
+        ∙ sym (list_without (lists_of words heads) a j ∙ ap (without_number a) (list_seen words heads lists l j)))

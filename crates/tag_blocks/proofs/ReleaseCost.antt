@@ -9,8 +9,8 @@ use Rattle.block_model.specs.Tiling.{Block, is_free, Fill, block_at, size_at, si
 use Rattle.block_model.proofs.CallerLemmas.{fill_le, none_ends, without_used}
 use Rattle.cf_lemmas.proofs.Tests.{eq_yes, eq_no}
 use Rattle.tag_blocks.specs.Blocks.{Tagged, AreTags, IsUsedAt, listed, owner_of}
-use Rattle.tag_blocks.specs.Costs.{join_steps, link_then, list_length, next_merge_steps, previous_merge_steps, pushed_steps, release_sized}
-use Rattle.tag_blocks.specs.Costs.{release_steps}
+use Rattle.block_model.specs.Costs.{join_steps, link_then, list_length, next_merge_steps, previous_merge_steps, pushed_steps, release_sized}
+use Rattle.block_model.specs.Costs.{release_steps}
 use Rattle.tag_blocks.specs.Stages.{Detached, IsDetached, free_first, free_last}
 use Rattle.tag_blocks.specs.Layout.{IsBlock, used_block}
 use Rattle.tag_blocks.proofs.FillLemmas.{lies_in, in_second, block_is, block_found}
@@ -20,7 +20,7 @@ use Rattle.tag_blocks.proofs.ThreadLemmas.{chosen}
 
 -- ---- the free neighbours, by the blocks
 
--- no block begins where the region ends
+-- no block begins at the end of the region
 none_at_end : (bs : List Block) (n : ℕ) (o : Option Block) → Fill bs 0 n → block_at bs n ≡ o → free_size o ≡ 0
 none_at_end bs n None f is = refl
 none_at_end bs n (Some b) f is = absurd (

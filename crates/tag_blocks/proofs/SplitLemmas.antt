@@ -4,7 +4,7 @@ use Rattle.std.proofs.lemmas.List.{set-set, set_comm}
 use Rattle.block_model.specs.Buckets.{FreeLists}
 use Rattle.block_model.specs.Tiling.{size_at}
 use Rattle.block_model.specs.FreeOrder.{lists_led_by, lists_without}
-use Rattle.tag_blocks.specs.Costs.{list_length, push_steps, pushed_steps}
+use Rattle.block_model.specs.Costs.{list_length, push_steps, pushed_steps}
 use Rattle.tag_blocks.specs.Links.{AreFreeLists, IsIn, PushesBlock, UnlinksBlock}
 use Rattle.tag_blocks.specs.Blocks.{Tagged, owner_of}
 use Rattle.tag_blocks.specs.Tags.{size_in, before_in, block_header_word, with_before}

@@ -1,13 +1,19 @@
--- What is said by kind, where the kind has blocks.
-use Rattle.std.proofs.Common.{◌≡◌, ℕ, [], None, refl}
+-- The definitions by kind, for the kinds with blocks.
+use Rattle.std.proofs.Common.{◌≡◌, ℕ, [], None, Result, refl, subst}
 use Rattle.cf_base.specs.Settings.{Profile}
+use Rattle.cf_base.specs.declared.answers.Handle.{Handle}
+use Rattle.cf_base.specs.declared.answers.Refusal.{Refusal}
 use Rattle.cf_base.specs.declared.kind.Kind.{Kind}
 use Rattle.cf_base.specs.declared.kind.Kind.TheVariants.{Moving, NonMoving, Tlsf, HalfFit}
 use Rattle.page_model.specs.Steps.{Leaves}
+use Rattle.block_model.specs.Buckets.{FreeLists}
+use Rattle.block_model.specs.FreeOrder.{AreListsOf, Listed}
 use Rattle.cf_model.specs.Answers.{block_in}
-use Rattle.cf_model.specs.Families.{IsTiled, paged, tiled}
+use Rattle.cf_model.specs.Families.{IsTiled, free_lists_of, list_count_of, paged, tiled}
+use Rattle.cf_model.specs.Ordered.{BlockMallocInOrder, IsOrderedMalloc}
 use Rattle.cf_model.specs.State.{HeapState}
 use Rattle.cf_model.specs.Steps.{BlocksStayIn, frames_left, opening_frames}
+use Rattle.tag_heap.specs.Heap.{Heap, order_of, state_of}
 
 not_paged : paged ≡ tiled → ⊥
 not_paged e = cc
@@ -31,3 +37,16 @@ module _ (k : Kind) (is : IsTiled k) where
 
   pub blocks_stay : (old : HeapState) (h : ℕ) (new : HeapState) → BlocksStayIn k old h new
   blocks_stay old h new = of_tiled (λ k. BlocksStayIn k old h new) tt tt k is
+
+  -- a malloc in the order of blocks is one in the order of the kind
+  pub malloc_by : (old new : Heap) (bytes : ℕ) (answer : Result Handle Refusal)
+      → BlockMallocInOrder (state_of k old) bytes answer (state_of k new) (order_of old) (order_of new)
+      → IsOrderedMalloc (state_of k old) bytes answer (state_of k new)
+  malloc_by old new bytes answer = of_tiled (λ j. BlockMallocInOrder (state_of j old) bytes answer (state_of j new) (order_of old) (order_of new)
+      → IsOrderedMalloc (state_of j old) bytes answer (state_of j new)) (λ r. r) (λ r. r) k is
+
+-- lists by a rule are those of the kind that has the rule
+pub lists_of_kind : (k : Kind) (rule : FreeLists) (count : ℕ) (s : Listed) → rule ≡ free_lists_of k → count ≡ list_count_of k → AreListsOf rule count s
+    → AreListsOf (free_lists_of k) (list_count_of k) s
+lists_of_kind k rule count s rule_is count_is of =
+    subst (λ n. AreListsOf (free_lists_of k) n s) count_is (subst (λ r. AreListsOf r count s) rule_is of)

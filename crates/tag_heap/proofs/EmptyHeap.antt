@@ -1,8 +1,9 @@
 -- The heap that has no objects yet.
-use Rattle.std.proofs.Common.{◌≡◌, ℕ, ◌+◌, ◌*◌, ◌≤◌, List, None, length, get_or, arith, refl, sym, ◌∙◌, ap, subst, inl, inr}
+use Rattle.std.proofs.Common.{◌≡◌, ℕ, ◌+◌, ◌*◌, ◌≤◌, List, [], Some, None, length, get_or, arith, refl, sym, ◌∙◌, ap, subst, inl, inr}
 use Rattle.std.proofs.lemmas.Bool.{cases_lt}
 use Rattle.std.proofs.lemmas.List.{get_or_past}
 use Rattle.std.specs.FinMap.{empty}
+use Rattle.std.specs.List.{range_with_len}
 use Rattle.cf_lemmas.proofs.Values.{map_values-empty, no_values}
 use Rattle.cf_base.specs.Settings.{profile_of}
 use Rattle.cf_base.specs.declared.kind.Kind.{Kind}
@@ -10,15 +11,17 @@ use Rattle.cf_base.specs.declared.kind.Kind.TheVariants.{Tlsf}
 use Rattle.cf_base.specs.declared.settings.Settings.{Settings}
 use Rattle.page_model.specs.Held.{Placed, objects}
 use Rattle.page_model.specs.Figures.{asked_bytes}
+use Rattle.block_model.specs.Buckets.{FreeLists, half_fit, tlsf}
+use Rattle.block_model.specs.FreeOrder.{AreListsOf, first_lists}
 use Rattle.block_model.specs.Tiling.{one_free_block}
 use Rattle.block_model.proofs.CallerLemmas.{used_in_one_free}
 use Rattle.proxy_table.specs.Proxies.{Proxies, AreBelowLimit, no_proxies}
-use Rattle.tag_blocks.specs.Blocks.{Tagged, AreTags}
-use Rattle.cf_model.specs.Families.{IsTiled}
+use Rattle.tag_blocks.specs.Blocks.{Tagged, AreTags, listed}
+use Rattle.cf_model.specs.Families.{IsTiled, free_lists_of, list_count_of}
 use Rattle.cf_model.specs.Rules.{KeepsRules, KeepsTiling}
-use Rattle.cf_model.specs.Steps.{IsEmptyHeap, IsOpeningWords, empty_heap}
+use Rattle.cf_model.specs.Steps.{IsEmptyHeap, IsOpeningWords, empty_heap, opening_order, ordered_heap}
 use Rattle.cf_model.proofs.CallerLemmas.{no_object, tiled_empty}
-use Rattle.tag_heap.specs.Heap.{Heap, IsValid, state_of}
+use Rattle.tag_heap.specs.Heap.{Heap, IsValid, order_of, state_of}
 use Rattle.tag_heap.proofs.ByKind.{of_tiled}
 use Rattle.tag_heap.proofs.Preserved.{Becomes, becomes_rules, becomes_valid, held_is, in_range}
 
@@ -26,10 +29,17 @@ nothing_asked : asked_bytes (objects empty) ≡ 0
 unfolding asked_bytes
 nothing_asked = rw (map_values-empty {Y = List ℕ} (λ (x : Placed). x.bytes), no_values {V = List ℕ}) refl
 
+-- the first lists by a rule are those of the kind that has the rule
+pub first_of_kind : (k : Kind) (rule : FreeLists) (count words : ℕ) (lists : List (List ℕ)) → rule ≡ free_lists_of k → count ≡ list_count_of k
+    → lists ≡ first_lists rule count words → lists ≡ first_lists (free_lists_of k) (list_count_of k) words
+first_of_kind k rule count words lists rule_is count_is is =
+    is ∙ ap (λ r. first_lists r count words) rule_is ∙ ap (λ n. first_lists (free_lists_of k) n words) count_is
+
 -- one free block, and no proxy in use
 module _ (s : Settings) (t : Tagged) (p : Proxies) (blocks : t.blocks ≡ one_free_block (s.pages * s.page_words))
     (long : length t.words ≡ s.pages * s.page_words)
-    (tags : AreTags t) (none : p ≡ no_proxies s.proxies) (below : AreBelowLimit p) where
+    (tags : AreTags t) (k : Kind) (is : IsTiled k) (first : t.lists ≡ first_lists (free_lists_of k) (list_count_of k) (s.pages * s.page_words))
+    (lists : AreListsOf (free_lists_of k) (list_count_of k) (listed t)) (none : p ≡ no_proxies s.proxies) (below : AreBelowLimit p) where
   abbrev fresh : Heap
   fresh = record { settings = s; tagged = t; proxies = p; asked = 0; used_words = 0; cost = 0 }
 
@@ -49,9 +59,10 @@ module _ (s : Settings) (t : Tagged) (p : Proxies) (blocks : t.blocks ≡ one_fr
   tiling : KeepsTiling (empty_heap Tlsf (profile_of s) t.words)
   tiling = (tiled_empty (profile_of s) (in_range s) t.words long header zeros Tlsf refl).of_kind
 
-  becomes : Becomes fresh empty
+  becomes : Becomes k fresh empty
   becomes = record {
     tags = tags;
+    lists = lists;
     words_long = long;
     places = ap (λ (x : Proxies). x.places) none ∙ sym (map_values-empty {Y = ℕ} (λ (x : Placed). x.place));
     bytes = λ q x e. absurd (no_object q x e);
@@ -63,16 +74,24 @@ module _ (s : Settings) (t : Tagged) (p : Proxies) (blocks : t.blocks ≡ one_fr
     used_all = rw blocks (sym (used_in_one_free (s.pages * s.page_words)));
   }
 
-  pub fresh_valid : IsValid fresh
+  pub fresh_valid : IsValid k fresh
   fresh_valid = becomes_valid fresh empty becomes
 
-  pub fresh_rules : (k : Kind) → IsTiled k → KeepsRules (state_of k fresh)
-  fresh_rules = becomes_rules fresh empty becomes
+  pub fresh_rules : KeepsRules (state_of k fresh)
+  fresh_rules = becomes_rules fresh empty becomes is
 
-  pub fresh_empty : (k : Kind) → IsTiled k → IsEmptyHeap k s (state_of k fresh)
-  fresh_empty k is = record {
+  fresh_order : order_of fresh ≡ opening_order k (profile_of s)
+  fresh_order = of_tiled (λ j. t.lists ≡ first_lists (free_lists_of j) (list_count_of j) (s.pages * s.page_words)
+      → order_of fresh ≡ opening_order j (profile_of s)) (begins tlsf 336) (begins half_fit 24) k is first
+    where
+      begins : (rule : FreeLists) (count : ℕ) → t.lists ≡ first_lists rule count (s.pages * s.page_words)
+          → order_of fresh ≡ record { pool = []; not_full = first_lists rule count (s.pages * s.page_words); spare = range_with_len 0 s.proxies }
+      begins rule count at_first = λ i. record { pool = []; not_full = at_first i; spare = (none i).free }
+
+  pub fresh_empty : IsEmptyHeap k s (state_of k fresh)
+  fresh_empty = record {
     words = of_tiled (λ k. IsOpeningWords k (profile_of s) t.words) tt tt k is;
-    order = tt;
-    whole = of_tiled (λ k. state_of k fresh ≡ empty_heap k (profile_of s) t.words)
+    order = fresh_order;
+    whole = of_tiled (λ k. state_of k fresh ≡ ordered_heap k (profile_of s) t.words (Some (order_of fresh)))
         (rw (held_is fresh empty becomes, blocks) refl) (rw (held_is fresh empty becomes, blocks) refl) k is;
   }

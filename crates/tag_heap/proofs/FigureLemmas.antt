@@ -17,7 +17,7 @@ use Rattle.tag_heap.proofs.Preserved.{held_many, read_is}
 use Rattle.tag_heap.proofs.ReadLemmas.{bytes_few}
 
 -- the counts that a heap keeps give its figures
-pub totals_told : (k : Kind) (h : Heap) → IsValid h → ◌≡◌ {A = Totals} (record {
+pub totals_described : (k : Kind) (h : Heap) → IsValid k h → ◌≡◌ {A = Totals} (record {
   live = len h.proxies.places;
   asked = h.asked;
   taken = 8 * h.used_words;
@@ -26,7 +26,7 @@ pub totals_told : (k : Kind) (h : Heap) → IsValid h → ◌≡◌ {A = Totals}
   free = free_blocks h.tagged.blocks;
   largest = largest_free h.tagged.blocks;
 }) (block_totals (state_of k h))
-totals_told k h v = λ i. record {
+totals_described k h v = λ i. record {
   live = sym (held_many h v) i;
   asked = v.asked_all i;
   taken = 8 * v.used_all i;
@@ -36,7 +36,7 @@ totals_told k h v = λ i. record {
   largest = largest_free h.tagged.blocks;
 }
 
-module _ (h : Heap) (v : IsValid h) where
+module _ {k : Kind} (h : Heap) (v : IsValid k h) where
   object_few : (q : ℕ) (bytes : List ℕ) → get (objects (held_in h)) q ≡ Some bytes → length bytes ≤ 2 ^ 26
   object_few q bytes e = go (get (held_in h) q) refl
     where

@@ -1,5 +1,5 @@
--- An object goes, and its block is given back.
-use Rattle.std.proofs.Common.{◌≡◌, ◌≢◌, ℕ, ◌+◌, ◌-◌, ◌/◌, ◌^◌, ◌≤◌, Some, None, length, get_or, arith, refl, sym, ◌∙◌, ap, subst}
+-- An object is freed: its block becomes free.
+use Rattle.std.proofs.Common.{◌≡◌, ◌≢◌, ℕ, ◌+◌, ◌-◌, ◌/◌, ◌^◌, ◌≤◌, [], ◌∷◌, Some, None, length, get_or, arith, refl, sym, ◌∙◌, ap, subst}
 use Rattle.std.proofs.lemmas.Option.{same_Some as some_placed}
 use Rattle.std.specs.FinMap.{get, remove}
 use Rattle.std.specs.Prelude.{option_map}
@@ -9,24 +9,26 @@ use Rattle.cf_base.specs.declared.kind.Kind.{Kind}
 use Rattle.page_model.specs.Held.{Held, Placed, objects}
 use Rattle.page_model.specs.Figures.{asked_bytes}
 use Rattle.page_model.proofs.CallerLemmas.{asked_taken}
+use Rattle.block_model.specs.FreeOrder.{AreListsOf, lists_released}
 use Rattle.block_model.specs.Tiling.{released, size_at, used_words}
 use Rattle.block_model.specs.Words.{AreTilingWords}
 use Rattle.block_model.proofs.CallerLemmas.{used_after_free}
 use Rattle.proxy_table.specs.Proxies.{AreBelowLimit, without_place}
-use Rattle.tag_blocks.specs.Blocks.{Tagged, AreTags, Releases}
+use Rattle.tag_blocks.specs.Blocks.{Tagged, AreTags, Releases, listed}
 use Rattle.tag_blocks.proofs.CallerLemmas.{release_words}
-use Rattle.cf_model.specs.Families.{IsTiled}
+use Rattle.cf_model.specs.Families.{IsTiled, free_lists_of, list_count_of}
 use Rattle.cf_model.specs.Rules.{AreOwned, KeepsRules, content_word}
 use Rattle.cf_model.specs.Steps.{FreesObject, MovesIn, slot_in, tiling_left, leaves_of}
 use Rattle.cf_model.proofs.CallerLemmas.{owned_free}
-use Rattle.tag_heap.specs.Heap.{Heap, IsValid, held_in, state_of}
+use Rattle.tag_heap.specs.Heap.{Heap, IsValid, held_in, order_of, state_of}
 use Rattle.tag_heap.proofs.ByKind.{frames_stay, of_tiled}
 use Rattle.tag_heap.proofs.Preserved.{Becomes, are_bytes, becomes_rules, becomes_valid, held_is, places_are}
 use Rattle.tag_heap.proofs.ReadLemmas.{held, object}
 use Rattle.page_model.proofs.CallerLemmas.{bytes_long}
 
-module _ (h : Heap) (v : IsValid h) (q a : ℕ) (some : get h.proxies.places q ≡ Some a) (t : Tagged) (r : Releases h.tagged a t)
-    (long : length t.words ≡ length h.tagged.words) (tags : AreTags t) (below : AreBelowLimit (without_place h.proxies q))
+module _ {k : Kind} (h : Heap) (v : IsValid k h) (q a : ℕ) (some : get h.proxies.places q ≡ Some a) (t : Tagged) (r : Releases h.tagged a t)
+    (long : length t.words ≡ length h.tagged.words) (tags : AreTags t) (lists : AreListsOf (free_lists_of k) (list_count_of k) (listed t))
+    (below : AreBelowLimit (without_place h.proxies q))
     (size len : ℕ) (size_is : size ≡ size_at h.tagged.blocks a) (len_is : len ≡ get_or h.tagged.words (a + 1) 0 / 2 ^ 32) where
   abbrev old : Placed
   old = object h v q a some
@@ -44,7 +46,7 @@ module _ (h : Heap) (v : IsValid h) (q a : ℕ) (some : get h.proxies.places q �
         h.used_words - size;
   }
 
-  -- the length that its header tells
+  -- the length in its header
   length_is : len ≡ length old.bytes
   length_is = len_is ∙ sym (bytes_long h.tagged.words (a + 1))
 
@@ -63,7 +65,7 @@ module _ (h : Heap) (v : IsValid h) (q a : ℕ) (some : get h.proxies.places q �
       let own = v.owned.placed q old found in
       ap (λ bs. used_words bs + size_at h.tagged.blocks a) r.blocks ∙ used_after_free h.tagged.blocks a own.0 q own.1 own.2.owner
 
-  -- the counts were as large
+  -- the counts contain the object, so they can be lowered by it
   pub asked_enough : len ≤ h.asked
   asked_enough = (let e = asked_left in let l = length_is in let f = v.asked_all in omega arith)
 
@@ -76,9 +78,10 @@ module _ (h : Heap) (v : IsValid h) (q a : ℕ) (some : get h.proxies.places q �
       let other : p ≢ q = λ is. away (sym own.2 ∙ ap (λ (x : Placed). x.place) (some_placed own.0 old (sym own.1 ∙ ap (get (held_in h)) is ∙ found))) in
       rw (get_remove_other (held_in h) q p other) refl)
 
-  becomes : Becomes freed left
+  becomes : Becomes k freed left
   becomes = record {
     tags = tags;
+    lists = lists;
     words_long = long ∙ v.words_long;
     places = ap (λ m. remove m q) (places_are h v) ∙ sym (map_values-remove (λ (x : Placed). x.place) (held_in h) q);
     bytes = λ p x e. are_bytes h v p x (some_removed (held_in h) q p x e).1;
@@ -90,14 +93,14 @@ module _ (h : Heap) (v : IsValid h) (q a : ℕ) (some : get h.proxies.places q �
     used_all = (let e = used_left in let s = size_is in let f = v.used_all in omega arith);
   }
 
-  pub freed_valid : IsValid freed
+  pub freed_valid : IsValid k freed
   freed_valid = becomes_valid freed left becomes
 
-  pub freed_rules : (k : Kind) → IsTiled k → KeepsRules (state_of k freed)
+  pub freed_rules : IsTiled k → KeepsRules (state_of k freed)
   freed_rules = becomes_rules freed left becomes
 
-  pub frees : (k : Kind) → IsTiled k → FreesObject (state_of k h) q (record { slot_words = size; moved = None }) (state_of k freed)
-  frees k is = record {
+  pub frees : IsTiled k → FreesObject (state_of k h) q (record { slot_words = size; moved = None }) (state_of k freed)
+  frees is = record {
     object = old;
     found = found;
     slot = size_is ∙ of_tiled (λ j. size_at h.tagged.blocks a ≡ slot_in j (state_of k h) old) refl refl k is;
@@ -108,3 +111,10 @@ module _ (h : Heap) (v : IsValid h) (q a : ℕ) (some : get h.proxies.places q �
     tiling = r.blocks ∙ of_tiled (λ j. released h.tagged.blocks a ≡ tiling_left j (state_of k h) a) refl refl k is;
     rest = record { kind = refl; opened = refl; profile = refl; bounds = refl };
   }
+
+  -- the block that is left is the first of its list, and the number is the next
+  pub leaves_order : t.lists ≡ lists_released (free_lists_of k) (listed h.tagged) a → order_of freed ≡ record (order_of h) {
+    not_full = lists_released (free_lists_of k) (listed h.tagged) a;
+    spare = q ∷ h.proxies.free;
+  }
+  leaves_order left = ap (λ ls. record { pool = []; not_full = ls; spare = q ∷ h.proxies.free }) left

@@ -1,4 +1,5 @@
 pub mod ByKind
+pub mod CostLemmas
 pub mod Preserved
 pub mod EmptyHeap
 pub mod ReadLemmas

@@ -1,5 +1,5 @@
--- An object comes, in a block that was carved for it.
-use Rattle.std.proofs.Common.{◌≡◌, ◌≢◌, ℕ, zero, suc, ◌+◌, ◌^◌, ◌<◌, ◌≤◌, Some, None, length, replicate, arith, refl, sym, ◌∙◌, ap, subst, inl, inr}
+-- An object is added, in a block that was carved for it.
+use Rattle.std.proofs.Common.{◌≡◌, ◌≢◌, ℕ, zero, suc, ◌+◌, ◌^◌, ◌<◌, ◌≤◌, ◌∷◌, Some, None, length, replicate, arith, refl, sym, ◌∙◌, ap, subst, inl, inr}
 use Rattle.std.proofs.lemmas.List.{length-replicate}
 use Rattle.std.specs.FinMap.{get, insert, len}
 use Rattle.std.specs.Prelude.{option_map}
@@ -16,17 +16,19 @@ use Rattle.page_model.specs.Image.{header_word}
 use Rattle.page_model.specs.Steps.{zeros_at}
 use Rattle.page_model.proofs.CallerLemmas.{asked_added, malloc_objects, malloc_places, zeros_are_bytes}
 use Rattle.block_model.specs.Buckets.{FreeLists}
+use Rattle.block_model.specs.FreeOrder.{AreListsOf, CarvesNext, lists_carved, next_block}
 use Rattle.block_model.specs.Tiling.{Carves, IsCarvedTo, LacksBlock, block_need, size_at, used_words}
 use Rattle.block_model.specs.Words.{AreTilingWords}
 use Rattle.block_model.proofs.CallerLemmas.{used_after_malloc, used_within}
 use Rattle.proxy_table.specs.Proxies.{AreBelowLimit, with_place}
-use Rattle.tag_blocks.specs.Blocks.{Tagged, AreTags, CarvesAt, demand, owner_of}
+use Rattle.tag_blocks.specs.Blocks.{Tagged, AreTags, CarvesAt, demand, listed, owner_of}
 use Rattle.tag_blocks.proofs.CallerLemmas.{carve_words}
-use Rattle.cf_model.specs.Families.{IsTiled, free_lists_of}
+use Rattle.cf_model.specs.Families.{IsTiled, free_lists_of, list_count_of}
+use Rattle.cf_model.specs.Ordered.{CarvesInOrder}
 use Rattle.cf_model.specs.Rules.{KeepsRules, content_word}
 use Rattle.cf_model.specs.Steps.{GivesObject, IsPlacedBy, IsRefusedBy, LacksRoomIn, WantsProxy, WantsSpace}
 use Rattle.cf_model.proofs.CallerLemmas.{fresh_word, no_one, owned_malloc}
-use Rattle.tag_heap.specs.Heap.{Heap, IsValid, held_in, state_of}
+use Rattle.tag_heap.specs.Heap.{Heap, IsValid, held_in, order_of, state_of}
 use Rattle.tag_heap.specs.Room.{HasRoom}
 use Rattle.tag_heap.proofs.ByKind.{of_tiled}
 use Rattle.tag_heap.proofs.Preserved.{Becomes, are_bytes, becomes_rules, becomes_state, becomes_valid, held_many, no_place, places_are}
@@ -38,11 +40,12 @@ asked_for q n few =
     let owner : owner_of (header_word q n) ≡ q = omega arith in
     ap (λ x. record { need = x; owner = owner_of (header_word q n) }) size ∙ ap (λ x. record { need = block_need n; owner = x }) owner
 
-module _ (rule : FreeLists) (h : Heap) (v : IsValid h) (q n a : ℕ) (fits : need n ≤ h.settings.page_words)
+module _ {k : Kind} (rule : FreeLists) (h : Heap) (v : IsValid k h) (q n a : ℕ) (fits : need n ≤ h.settings.page_words)
     (unused : get h.proxies.places q ≡ None)
     (few : q < h.proxies.limit) (some : len h.proxies.places ≢ h.proxies.limit) (t : Tagged)
     (needed tag : ℕ) (needed_is : needed ≡ need n) (tag_is : tag ≡ header_word q n) (carve : CarvesAt rule h.tagged (needed + 1) tag a t)
-    (long : length t.words ≡ length h.tagged.words) (tags : AreTags t) (below : AreBelowLimit (with_place h.proxies q a))
+    (long : length t.words ≡ length h.tagged.words) (tags : AreTags t) (lists : AreListsOf (free_lists_of k) (list_count_of k) (listed t))
+    (below : AreBelowLimit (with_place h.proxies q a))
     (size : ℕ) (size_is : size ≡ size_at t.blocks a) where
   abbrev grown : Held
   grown = insert (held_in h) q (zeros_at a n)
@@ -119,9 +122,10 @@ module _ (rule : FreeLists) (h : Heap) (v : IsValid h) (q n a : ℕ) (fits : nee
     | inr (other, was) ↦ are_bytes h v p x was
   ]
 
-  becomes : Becomes given grown
+  becomes : Becomes k given grown
   becomes = record {
     tags = tags;
+    lists = lists;
     words_long = long ∙ v.words_long;
     places = ap (λ m. insert m q a) (places_are h v) ∙ sym (malloc_places (held_in h) q a n);
     bytes = are_bytes_now;
@@ -133,14 +137,14 @@ module _ (rule : FreeLists) (h : Heap) (v : IsValid h) (q n a : ℕ) (fits : nee
     used_all = (let e = used_now in let s = size_is in let f = v.used_all in omega arith);
   }
 
-  pub given_valid : IsValid given
+  pub given_valid : IsValid k given
   given_valid = becomes_valid given grown becomes
 
-  pub given_rules : (k : Kind) → IsTiled k → KeepsRules (state_of k given)
+  pub given_rules : IsTiled k → KeepsRules (state_of k given)
   given_rules = becomes_rules given grown becomes
 
-  pub gives : (k : Kind) → IsTiled k → rule ≡ free_lists_of k → GivesObject (state_of k h) (record { number = q; length = n }) (state_of k given)
-  gives k is lists = record {
+  pub gives : IsTiled k → rule ≡ free_lists_of k → GivesObject (state_of k h) (record { number = q; length = n }) (state_of k given)
+  gives is rule_is = record {
     fits = fits;
     few = (let m = held_many h v in let b = v.handles.few in let e = v.numbers in omega arith);
     in_range = (let e = v.numbers in omega arith);
@@ -148,11 +152,29 @@ module _ (rule : FreeLists) (h : Heap) (v : IsValid h) (q n a : ℕ) (fits : nee
     place = a;
     placed = of_tiled (λ j. Carves (free_lists_of j) h.tagged.blocks (record { need = block_need n; owner = q }) a t.blocks
         → IsPlacedBy j (state_of k h) (record { number = q; length = n }) a (state_of k given))
-        (λ x. x) (λ x. x) k is (subst (λ r. Carves r h.tagged.blocks (record { need = block_need n; owner = q }) a t.blocks) lists carves);
+        (λ x. x) (λ x. x) k is (subst (λ r. Carves r h.tagged.blocks (record { need = block_need n; owner = q }) a t.blocks) rule_is carves);
     whole = becomes_state given grown becomes k;
   }
 
-module _ (k : Kind) (is : IsTiled k) (h : Heap) (v : IsValid h) (n : ℕ) (fits : need n ≤ h.settings.page_words) where
+  -- the number and the block are those that were to be used next
+  pub chooses : rule ≡ free_lists_of k → h.proxies.free ≡ q ∷ (with_place h.proxies q a).free → next_block rule h.tagged.lists (need n + 1) ≡ Some a
+      → t.lists ≡ lists_carved rule (listed h.tagged) (needed + 1) a
+      → CarvesInOrder (state_of k h) (record { number = q; length = n }) a (state_of k given) (order_of h) (order_of given)
+  chooses rule_is first next left =
+      let size : need n + 1 ≡ block_need n = omega arith in
+      let same : needed + 1 ≡ block_need n = (let e = needed_is in omega arith) in
+      record {
+        rest = (with_place h.proxies q a).free;
+        number = first;
+        carves = subst (λ r. CarvesNext r (listed h.tagged) (record { need = block_need n; owner = q }) a (listed t)) rule_is (record {
+          next = subst (λ m. next_block rule h.tagged.lists m ≡ Some a) size next;
+          blocks = carves.carved;
+          lists = left ∙ ap (λ m. lists_carved rule (listed h.tagged) m a) same;
+        });
+        left = refl;
+      }
+
+module _ (k : Kind) (is : IsTiled k) (h : Heap) (v : IsValid k h) (n : ℕ) (fits : need n ≤ h.settings.page_words) where
   -- no proxy is left
   pub wants_proxy : len h.proxies.places ≡ h.proxies.limit → WantsProxy (state_of k h) n
   wants_proxy all = record { fits = fits; all = held_many h v ∙ all ∙ v.numbers }
@@ -168,8 +190,8 @@ module _ (k : Kind) (is : IsTiled k) (h : Heap) (v : IsValid h) (n : ℕ) (fits 
         (subst (LacksBlock rule h.tagged.blocks) (let e : needed + 1 ≡ block_need n = omega arith in e) lacking));
   }
 
--- where there is room, no cause of a refusal is met
-pub has_no_cause : (k : Kind) → IsTiled k → (h : Heap) (rule : FreeLists) → rule ≡ free_lists_of k → (n a : ℕ) → HasRoom rule h n a → IsValid h
+-- if there is room, there is no cause of a refusal
+pub has_no_cause : (k : Kind) → IsTiled k → (h : Heap) (rule : FreeLists) → rule ≡ free_lists_of k → (n a : ℕ) → HasRoom rule h n a → IsValid k h
     → (e : Refusal) → ¬ IsRefusedBy (state_of k h) n e
 has_no_cause k is h rule lists n a r v refusal.Size cause = (let f = r.fits in absurd (omega arith))
 has_no_cause k is h rule lists n a r v refusal.Proxy cause = r.few (sym (held_many h v) ∙ cause.all ∙ sym v.numbers)

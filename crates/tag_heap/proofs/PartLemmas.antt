@@ -17,8 +17,8 @@ use Rattle.tag_heap.proofs.Preserved.{places-read}
 use Rattle.tag_heap.proofs.ReadLemmas.{room}
 use Rattle.page_model.proofs.CallerLemmas.{byte_is}
 
--- where a part lies, its words are in its block
-module _ (h : Heap) (v : IsValid h) (q at count a : ℕ) (l : Lies h (record { number = q; from = at }) count a) where
+-- the words of a part are in the object's block
+module _ {k : Kind} (h : Heap) (v : IsValid k h) (q at count a : ℕ) (l : Lies h (record { number = q; from = at }) count a) where
   pub lies_place : get h.proxies.places q ≡ Some a
   lies_place = ap (λ m. get m q) (sym (places-read h.tagged.words h.proxies.places)) ∙ get-map_values (λ (x : Placed). x.place) (held_in h) q
       ∙ ap (option_map (λ (x : Placed). x.place)) l.found

@@ -1,6 +1,7 @@
--- An open heap whose objects, words, blocks, proxies and counts changed together keeps what it keeps.
+-- An open heap whose objects, words, blocks, proxies and counts changed together keeps its invariant.
 use Rattle.std.proofs.Common.{◌≡◌, ℕ, ◌+◌, ◌*◌, ◌<◌, List, Option, Some, None, length, arith, refl, sym, ◌∙◌, ap, subst}
 use Rattle.std.specs.Prelude.{option_map}
+use Rattle.std.specs.List.{Contains}
 use Rattle.std.specs.Ordering.{nat_cmp}
 use Rattle.std.specs.FinMap.{FinMap, get, len}
 use Rattle.cf_lemmas.proofs.Maps.{equal_maps}
@@ -8,27 +9,28 @@ use Rattle.cf_lemmas.proofs.MapValues.{get-map_values}
 use Rattle.cf_lemmas.proofs.Values.{len-map_values}
 use Rattle.cf_base.specs.Settings.{profile_of}
 use Rattle.cf_base.specs.declared.kind.Kind.{Kind}
-use Rattle.cf_base.specs.declared.kind.Kind.TheVariants.{Tlsf}
 use Rattle.cf_base.specs.declared.settings.Settings.{Settings}
 use Rattle.page_model.specs.Held.{Held, Placed, objects, places}
 use Rattle.page_model.specs.Bytes.{AreBytes, bytes_at}
 use Rattle.page_model.specs.Figures.{asked_bytes}
 use Rattle.page_model.proofs.CallerLemmas.{bytes_at-AreBytes}
+use Rattle.block_model.specs.FreeOrder.{AreListsOf}
 use Rattle.block_model.specs.Tiling.{IsTiling, used_words}
 use Rattle.block_model.specs.Words.{AreTilingWords}
 use Rattle.proxy_table.specs.Proxies.{AreBelowLimit}
-use Rattle.tag_blocks.specs.Blocks.{AreTags, IsUsedAt}
-use Rattle.cf_model.specs.Families.{IsTiled}
+use Rattle.tag_blocks.specs.Blocks.{AreTags, IsUsedAt, listed}
+use Rattle.cf_model.specs.Families.{IsTiled, free_lists_of, list_count_of}
 use Rattle.cf_model.specs.ReadObjects.{read_objects}
-use Rattle.cf_model.specs.Rules.{AreInRange, AreObjects, AreOwned, KeepsRules, KeepsRulesOf, KeepsTiling, content_word}
+use Rattle.cf_model.specs.Rules.{AreInRange, AreObjects, AreOwned, IsBlockOrder, KeepsRules, KeepsRulesOf, KeepsTiling, content_word}
 use Rattle.cf_model.specs.State.{HeapState}
-use Rattle.cf_model.proofs.CallerLemmas.{objects_told}
-use Rattle.tag_heap.specs.Heap.{Heap, IsValid, held_in, state_of}
+use Rattle.cf_model.proofs.CallerLemmas.{objects_shown}
+use Rattle.tag_heap.specs.Heap.{Heap, IsValid, held_in, order_of, state_of}
 use Rattle.tag_heap.proofs.ByKind.{of_tiled}
 
 -- the heap has the objects m
-pub record Becomes (h : Heap) (m : Held) : Type 0 where
+pub record Becomes (k : Kind) (h : Heap) (m : Held) : Type 0 where
   pub tags : AreTags h.tagged
+  pub lists : AreListsOf (free_lists_of k) (list_count_of k) (listed h.tagged)
   pub words_long : length h.tagged.words ≡ h.settings.pages * h.settings.page_words
   pub places : h.proxies.places ≡ places m
   pub bytes : (q : ℕ) (x : Placed) → get m q ≡ Some x → AreBytes x.bytes
@@ -55,36 +57,58 @@ in_range s = record {
 abbrev seen_with : Kind → Heap → Held → HeapState
 seen_with k h m = record (state_of k h) { held = m }
 
-module _ (h : Heap) (m : Held) (b : Becomes h m) where
+-- a number without an address has no object
+unplaced : (m : Held) (q : ℕ) (o : Option Placed) → get m q ≡ o → option_map (λ (x : Placed). x.place) o ≡ None → get m q ≡ None
+unplaced m q None is e = is
+unplaced m q (Some x) is e = absurd (let e' : ◌≡◌ {A = Option ℕ} (Some x.place) None = e in cc)
+
+module _ {k : Kind} (h : Heap) (m : Held) (b : Becomes k h m) where
   proxy_of : (q : ℕ) (x : Placed) → get m q ≡ Some x → get h.proxies.places q ≡ Some x.place
   proxy_of q x e = ap (λ p. get p q) b.places ∙ get-map_values (λ (x : Placed). x.place) m q ∙ ap (option_map (λ (x : Placed). x.place)) e
 
   as_many : len h.proxies.places ≡ len m
   as_many = ap (λ p. len p) b.places ∙ len-map_values (λ (x : Placed). x.place) m
 
-  are_objects : (k : Kind) → AreObjects (seen_with k h m)
-  are_objects k = record {
+  are_objects : AreObjects (seen_with k h m)
+  are_objects = record {
     handles = λ q x e. subst (λ n. q < n) b.numbers (b.handles.below q x.place (proxy_of q x e));
     bytes = b.bytes;
     few = (let n = b.numbers in let l = b.handles.few in let e = as_many in omega arith);
   }
 
-  keeps : (k : Kind) → KeepsTiling (seen_with k h m)
-  keeps k = record {
+  spare_is : (q : ℕ) → Contains h.proxies.free q → (q < h.settings.proxies) × (get m q ≡ None)
+  spare_is q has = (
+    subst (λ n. q < n) b.numbers (b.handles.free_below q has),
+    unplaced m q (get m q) refl (sym (get-map_values (λ (x : Placed). x.place) m q) ∙ sym (ap (λ p. get p q) b.places) ∙ b.handles.not_live q has),
+  )
+
+  keeps_order : IsBlockOrder (seen_with k h m) (order_of h)
+  keeps_order = record {
+    no_pool = refl;
+    lists = b.lists;
+    links = b.tags.links;
+    spare = spare_is;
+    spare_once = b.handles.once;
+    spare_all = (let c = b.handles.counted in let n = b.numbers in let e = as_many in omega arith);
+  }
+
+  keeps : KeepsTiling (seen_with k h m)
+  keeps = record {
     tiling = subst (λ n. IsTiling n h.tagged.blocks) b.words_long b.tags.tiling;
     owned = b.owned;
     words = b.contents;
     no_frames = refl;
     no_bounds = refl;
-    no_order = refl;
+    order = keeps_order;
   }
 
   pub held_is : held_in h ≡ m
-  held_is = ap (read_objects h.tagged.words) b.places ∙ objects_told (seen_with Tlsf h m) (in_range h.settings) (are_objects Tlsf) (keeps Tlsf)
+  held_is = ap (read_objects h.tagged.words) b.places ∙ objects_shown (seen_with k h m) (in_range h.settings) are_objects keeps
 
-  pub becomes_valid : IsValid h
+  pub becomes_valid : IsValid k h
   becomes_valid = record {
     tags = b.tags;
+    lists = b.lists;
     words_long = b.words_long;
     owned = subst (λ m. AreOwned m h.tagged.blocks) (sym held_is) b.owned;
     contents = subst (λ m. AreTilingWords (content_word m) h.tagged.blocks h.tagged.words) (sym held_is) b.contents;
@@ -94,18 +118,18 @@ module _ (h : Heap) (m : Held) (b : Becomes h m) where
     used_all = b.used_all;
   }
 
-  pub becomes_state : (k : Kind) → state_of k h ≡ seen_with k h m
-  becomes_state k = ap (λ m. seen_with k h m) held_is
+  pub becomes_state : (j : Kind) → state_of j h ≡ seen_with j h m
+  becomes_state j = ap (λ m. seen_with j h m) held_is
 
-  pub becomes_rules : (k : Kind) → IsTiled k → KeepsRules (state_of k h)
-  becomes_rules k is = subst KeepsRules (sym (becomes_state k)) (record {
+  pub becomes_rules : IsTiled k → KeepsRules (state_of k h)
+  becomes_rules is = subst KeepsRules (sym (becomes_state k)) (record {
     settings = in_range h.settings;
     region = b.words_long;
-    numbers = are_objects k;
-    of_kind = of_tiled (λ j. KeepsRulesOf j (seen_with k h m)) (keeps k) (keeps k) k is;
+    numbers = are_objects;
+    of_kind = of_tiled (λ j. KeepsRulesOf j (seen_with k h m)) keeps keeps k is;
   })
 
--- the objects that words tell have the addresses that were given
+-- the objects that are read from words have the addresses that were given
 pub places-read : (words : List ℕ) (at : FinMap nat_cmp ℕ) → places (read_objects words at) ≡ at
 places-read words at = equal_maps _ _ (λ q. get-map_values (λ (x : Placed). x.place) (read_objects words at) q
     ∙ ap (option_map (λ (x : Placed). x.place)) (get-map_values (λ a. record { place = a; bytes = bytes_at words (a + 1) }) at q) ∙ go (get at q))
@@ -114,7 +138,7 @@ places-read words at = equal_maps _ _ (λ q. get-map_values (λ (x : Placed). x.
     go None = refl
     go (Some a) = refl
 
--- an object that words tell
+-- an object that is read from words
 pub record ReadsAs (words : List ℕ) (at : FinMap nat_cmp ℕ) (q : ℕ) (x : Placed) : Type 0 where
   pub place : get at q ≡ Some x.place
   pub bytes : x.bytes ≡ bytes_at words (x.place + 1)
@@ -127,17 +151,18 @@ read_is words at q x e = go (get at q) refl (sym (get-map_values (λ a. record {
     go (Some a) e f = (let same : ◌≡◌ {A = Placed} (record { place = a; bytes = bytes_at words (a + 1) }) x = cc in
         subst (ReadsAs words at q) same (record { place = e; bytes = refl }))
 
--- what a valid heap tells
-module _ (h : Heap) (v : IsValid h) where
+-- what holds of a valid heap
+module _ {k : Kind} (h : Heap) (v : IsValid k h) where
   pub places_are : h.proxies.places ≡ places (held_in h)
   places_are = sym (places-read h.tagged.words h.proxies.places)
 
   pub are_bytes : (q : ℕ) (x : Placed) → get (held_in h) q ≡ Some x → AreBytes x.bytes
   are_bytes q x e = subst AreBytes (sym (read_is h.tagged.words h.proxies.places q x e).bytes) (bytes_at-AreBytes h.tagged.words (x.place + 1))
 
-  pub stays : Becomes h (held_in h)
+  pub stays : Becomes k h (held_in h)
   stays = record {
     tags = v.tags;
+    lists = v.lists;
     words_long = v.words_long;
     places = places_are;
     bytes = are_bytes;
@@ -149,15 +174,15 @@ module _ (h : Heap) (v : IsValid h) where
     used_all = v.used_all;
   }
 
-  pub rules : (k : Kind) → IsTiled k → KeepsRules (state_of k h)
+  pub rules : IsTiled k → KeepsRules (state_of k h)
   rules = becomes_rules h (held_in h) stays
 
-  -- what has no address isn't held
+  -- a number without an address has no object in the heap
   pub no_place : (q : ℕ) → get h.proxies.places q ≡ None → get (held_in h) q ≡ None
   no_place q e = get-map_values (λ a. record { place = a; bytes = bytes_at h.tagged.words (a + 1) }) h.proxies.places q
       ∙ ap (option_map (λ a. record { place = a; bytes = bytes_at h.tagged.words (a + 1) })) e
 
-  -- what has an address is held there
+  -- a number with an address has its object there
   pub has_place : (q a : ℕ) → get h.proxies.places q ≡ Some a
       → get (held_in h) q ≡ Some (record { place = a; bytes = bytes_at h.tagged.words (a + 1) })
   has_place q a e = get-map_values (λ a. record { place = a; bytes = bytes_at h.tagged.words (a + 1) }) h.proxies.places q
@@ -169,3 +194,30 @@ module _ (h : Heap) (v : IsValid h) where
   -- and has a used block there
   pub used_at : (q a : ℕ) → get h.proxies.places q ≡ Some a → IsUsedAt h.tagged.blocks a
   used_at q a e = (let own = v.owned.placed q _ (has_place q a e) in record { block = own.0; owner = q; there = own.1; used = own.2.owner })
+
+-- the rules don't depend on the cost
+pub cost_rules : (k : Kind) → IsTiled k → (h : Heap) (cost : ℕ) → KeepsRules (state_of k h) → KeepsRules (state_of k (record h { cost = cost }))
+cost_rules k is h cost r = record {
+  settings = r.settings;
+  region = r.region;
+  numbers = record { handles = r.numbers.handles; bytes = r.numbers.bytes; few = r.numbers.few };
+  of_kind = of_tiled (λ j. KeepsTiling (state_of k (record h { cost = cost })) → KeepsRulesOf j (state_of k (record h { cost = cost }))) (λ t. t) (λ t. t) k is
+      (again (of_tiled (λ j. KeepsRulesOf j (state_of k h) → KeepsTiling (state_of k h)) (λ t. t) (λ t. t) k is r.of_kind));
+}
+  where
+    again : KeepsTiling (state_of k h) → KeepsTiling (state_of k (record h { cost = cost }))
+    again t = record {
+      tiling = t.tiling;
+      owned = t.owned;
+      words = t.words;
+      no_frames = t.no_frames;
+      no_bounds = t.no_bounds;
+      order = record {
+        no_pool = t.order.no_pool;
+        lists = t.order.lists;
+        links = t.order.links;
+        spare = t.order.spare;
+        spare_once = t.order.spare_once;
+        spare_all = t.order.spare_all;
+      };
+    }

@@ -1,4 +1,4 @@
--- What stands at an address, and the parts of objects that are read.
+-- What is at an address, and the parts of objects that are read.
 use Rattle.std.proofs.Common.{◌≡◌, ℕ, ◌+◌, ◌/◌, ◌^◌, ◌<◌, ◌≤◌, List, length, Some, arith, sym, ◌∙◌, ap}
 use Rattle.std.specs.Prelude.{option_map}
 use Rattle.std.specs.Ordering.{nat_cmp}
@@ -16,10 +16,10 @@ use Rattle.tag_heap.specs.Heap.{Heap, IsValid, held_in, state_of}
 use Rattle.tag_heap.proofs.Preserved.{has_place, places-read}
 
 -- the address of a handle is that of its proxy
-pub place_told : (words : List ℕ) (at : FinMap nat_cmp ℕ) (q : ℕ) → get at q ≡ option_map (λ (x : Placed). x.place) (get (read_objects words at) q)
-place_told words at q = ap (λ m. get m q) (sym (places-read words at)) ∙ get-map_values (λ (x : Placed). x.place) (read_objects words at) q
+pub place_described : (words : List ℕ) (at : FinMap nat_cmp ℕ) (q : ℕ) → get at q ≡ option_map (λ (x : Placed). x.place) (get (read_objects words at) q)
+place_described words at q = ap (λ m. get m q) (sym (places-read words at)) ∙ get-map_values (λ (x : Placed). x.place) (read_objects words at) q
 
-module _ (h : Heap) (v : IsValid h) (q a : ℕ) (some : get h.proxies.places q ≡ Some a) where
+module _ {k : Kind} (h : Heap) (v : IsValid k h) (q a : ℕ) (some : get h.proxies.places q ≡ Some a) where
   abbrev pub bytes : List ℕ
   bytes = bytes_at h.tagged.words (a + 1)
 

@@ -1,5 +1,5 @@
 -- Bytes that are written into an object.
-use Rattle.std.proofs.Common.{◌≡◌, ◌≢◌, ℕ, suc, ◌+◌, ◌-◌, ◌/◌, ◌%◌, ◌^◌, ◌<◌, ◌≤◌, List, length, get_or, Some, arith, refl, sym, ◌∙◌, ap, subst, inl, inr}
+use Rattle.std.proofs.Common.{◌≡◌, ◌≢◌, ℕ, suc, ◌+◌, ◌-◌, ◌/◌, ◌%◌, ◌^◌, ◌<◌, ◌≤◌, List, [], length, get_or, Some, arith, refl, sym, ◌∙◌, ap, subst, inl, inr}
 use Rattle.std.specs.Prelude.{option_map}
 use Rattle.std.proofs.lemmas.Bool.{cases_lt}
 use Rattle.std.proofs.lemmas.Option.{same_Some as some_placed}
@@ -14,26 +14,27 @@ use Rattle.page_model.specs.Figures.{asked_bytes}
 use Rattle.page_model.specs.Image.{IsOutside, header_word, object_word}
 use Rattle.page_model.proofs.CallerLemmas.{asked_added, asked_taken, byte_of_object, inserted_there, length-written, object_word_small}
 use Rattle.page_model.proofs.CallerLemmas.{written_are_bytes, written_before, written_behind, written_inside}
+use Rattle.block_model.specs.FreeOrder.{AreListsOf}
 use Rattle.block_model.specs.Tiling.{size_at, size_of, used_words}
 use Rattle.block_model.specs.Words.{AreTilingWords}
 use Rattle.word_bytes.specs.Cells.{overwritten}
 use Rattle.word_bytes.specs.Overwriting.{Overwrites, words_with}
 use Rattle.word_bytes.proofs.CallerLemmas.{overwritten_before, overwritten_behind, overwritten_inside}
-use Rattle.tag_blocks.specs.Blocks.{Tagged, AreTags, IsUsedAt}
+use Rattle.tag_blocks.specs.Blocks.{Tagged, AreTags, IsUsedAt, listed}
 use Rattle.tag_blocks.proofs.CallerLemmas.{bytes_words, content_byte}
-use Rattle.cf_model.specs.Families.{IsTiled}
+use Rattle.cf_model.specs.Families.{IsTiled, free_lists_of, list_count_of}
 use Rattle.cf_model.specs.Rules.{AreOwned, KeepsRules, content_word}
 use Rattle.cf_model.specs.Steps.{StaysOutside, WritesBytes}
 use Rattle.cf_model.proofs.CallerLemmas.{owned_replaced}
 use Rattle.tag_heap.specs.Access.{Lies}
-use Rattle.tag_heap.specs.Heap.{Heap, IsValid, held_in, state_of}
+use Rattle.tag_heap.specs.Heap.{Heap, IsValid, held_in, order_of, state_of}
 use Rattle.tag_heap.proofs.ByKind.{of_tiled}
 use Rattle.tag_heap.proofs.Preserved.{Becomes, are_bytes, becomes_rules, becomes_state, becomes_valid, places_are}
 use Rattle.tag_heap.proofs.ReadLemmas.{bytes_few, room}
 use Rattle.tag_heap.proofs.PartLemmas.{lies_place}
 
-module _ (h : Heap) (v : IsValid h) (q at a : ℕ) (part : List ℕ) (l : Lies h (record { number = q; from = at }) (length part) a) (each : AreBytes part)
-    (t : Tagged) (blocks : t.blocks ≡ h.tagged.blocks) (tags : AreTags t)
+module _ {k : Kind} (h : Heap) (v : IsValid k h) (q at a : ℕ) (part : List ℕ) (l : Lies h (record { number = q; from = at }) (length part) a) (each : AreBytes part)
+    (t : Tagged) (blocks : t.blocks ≡ h.tagged.blocks) (same_lists : t.lists ≡ h.tagged.lists) (tags : AreTags t)
     (o : Overwrites h.tagged.words t.words (record { from = a + 2 + at / 8; count = words_with (at % 8) (length part) }) (at % 8) part) where
   abbrev old : List ℕ
   old = bytes_at h.tagged.words (a + 1)
@@ -153,9 +154,14 @@ module _ (h : Heap) (v : IsValid h) (q at a : ℕ) (part : List ℕ) (l : Lies h
     | inr (other, still) ↦ are_bytes h v p x still
   ]
 
-  becomes : Becomes wrote changed
+  lists_now : AreListsOf (free_lists_of k) (list_count_of k) (listed t)
+  lists_now = subst (λ bs. AreListsOf (free_lists_of k) (list_count_of k) (record { blocks = bs; lists = t.lists })) (sym blocks)
+      (subst (λ ls. AreListsOf (free_lists_of k) (list_count_of k) (record { blocks = h.tagged.blocks; lists = ls })) (sym same_lists) v.lists)
+
+  becomes : Becomes k wrote changed
   becomes = record {
     tags = tags;
+    lists = lists_now;
     words_long = o.long ∙ v.words_long;
     places = places_are h v ∙ sym same_places;
     bytes = bytes_now;
@@ -167,10 +173,10 @@ module _ (h : Heap) (v : IsValid h) (q at a : ℕ) (part : List ℕ) (l : Lies h
     used_all = v.used_all ∙ ap used_words (sym blocks);
   }
 
-  pub wrote_valid : IsValid wrote
+  pub wrote_valid : IsValid k wrote
   wrote_valid = becomes_valid wrote changed becomes
 
-  pub wrote_rules : (k : Kind) → IsTiled k → KeepsRules (state_of k wrote)
+  pub wrote_rules : IsTiled k → KeepsRules (state_of k wrote)
   wrote_rules = becomes_rules wrote changed becomes
 
   stays_outside : (w : ℕ) → IsOutside a (size_at h.tagged.blocks a) w → get_or t.words w 0 ≡ get_or h.tagged.words w 0
@@ -179,11 +185,17 @@ module _ (h : Heap) (v : IsValid h) (q at a : ℕ) (part : List ℕ) (l : Lies h
       let b = within_block in
       o.others w (elim out [ inl before ↦ inl (omega arith) | inr behind ↦ inr (omega arith) ])
 
-  pub writes : (k : Kind) → IsTiled k → WritesBytes (state_of k h) (record { number = q; from = at }) part (state_of k wrote)
-  writes k is = record {
+  pub writes : IsTiled k → WritesBytes (state_of k h) (record { number = q; from = at }) part (state_of k wrote)
+  writes is = record {
     object = was;
     found = l.found;
     within = l.within;
     outside = of_tiled (λ j. StaysOutside j (state_of k h) was (state_of k wrote)) stays_outside stays_outside k is;
-    whole = becomes_state wrote changed becomes k ∙ ap (λ bs. record (state_of k h) { held = changed; words = t.words; tiling = bs }) blocks;
+    whole = becomes_state wrote changed becomes k
+        ∙ ap (λ bs. record (state_of k h) { held = changed; words = t.words; tiling = bs; order = Some (order_of wrote) }) blocks
+        ∙ ap (λ ls. record (state_of k h) {
+          held = changed;
+          words = t.words;
+          order = Some (record { pool = []; not_full = ls; spare = h.proxies.free });
+        }) same_lists;
   }

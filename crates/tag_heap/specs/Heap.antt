@@ -7,10 +7,13 @@ use Rattle.cf_base.specs.declared.kind.Kind.{Kind}
 use Rattle.cf_base.specs.declared.settings.Settings.{Settings}
 use Rattle.page_model.specs.Held.{Held, objects}
 use Rattle.page_model.specs.Figures.{asked_bytes}
+use Rattle.page_model.specs.Order.{Order}
+use Rattle.block_model.specs.FreeOrder.{AreListsOf}
 use Rattle.block_model.specs.Tiling.{Block, used_words}
 use Rattle.block_model.specs.Words.{AreTilingWords}
 use Rattle.proxy_table.specs.Proxies.{Proxies, AreBelowLimit, proxies_code}
-use Rattle.tag_blocks.specs.Blocks.{Tagged, AreTags}
+use Rattle.tag_blocks.specs.Blocks.{Tagged, AreTags, listed}
+use Rattle.cf_model.specs.Families.{free_lists_of, list_count_of}
 use Rattle.cf_model.specs.ReadObjects.{read_objects}
 use Rattle.cf_model.specs.Rules.{AreOwned, KeepsRules, content_word}
 use Rattle.cf_model.specs.State.{HeapState, block_code, closed_state}
@@ -29,6 +32,10 @@ pub record Heap : Type 0 where
 abbrev pub held_in : Heap → Held
 held_in h = read_objects h.tagged.words h.proxies.places
 
+-- what is used next: the first block of a free list, and the first free number
+abbrev pub order_of : Heap → Order
+order_of h = record { pool = []; not_full = h.tagged.lists; spare = h.proxies.free }
+
 -- the heap, as callers of a manager see it
 abbrev pub state_of : Kind → Heap → HeapState
 state_of kind h = record {
@@ -40,14 +47,15 @@ state_of kind h = record {
   words = h.tagged.words;
   frames = [];
   tiling = h.tagged.blocks;
-  order = None;
+  order = Some (order_of h);
   cost = h.cost;
 }
 
--- The invariant: the blocks tile the words, and the used ones are the objects'; each holds what its object has; each number is one of the proxies'; and the
--- counts are those of the objects and of the blocks.
-pub record IsValid (h : Heap) : Type 0 where
+-- The invariant: the blocks tile the words, and the used ones are the objects'; the free lists are those of the kind; each block holds what its object has; each
+-- number is one of the proxies'; and the counts are those of the objects and of the blocks.
+pub record IsValid (kind : Kind) (h : Heap) : Type 0 where
   pub tags : AreTags h.tagged
+  pub lists : AreListsOf (free_lists_of kind) (list_count_of kind) (listed h.tagged)
   pub words_long : length h.tagged.words ≡ h.settings.pages * h.settings.page_words
   pub owned : AreOwned (held_in h) h.tagged.blocks
   pub contents : AreTilingWords (content_word (held_in h)) h.tagged.blocks h.tagged.words

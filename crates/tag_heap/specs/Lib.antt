@@ -2,3 +2,4 @@ pub mod Heap
 pub mod Room
 pub mod Access
 pub mod Costs
+pub mod Choices

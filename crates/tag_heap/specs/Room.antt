@@ -1,11 +1,12 @@
 -- What a malloc would return now, and how long an object is.
-use Rattle.std.specs.Prelude.{◌≢◌, ℕ, ◌+◌, ◌≤◌, length, Option, Result, Ok, Err, option_map}
+use Rattle.std.specs.Prelude.{◌≡◌, ◌≢◌, ℕ, ◌+◌, ◌≤◌, length, Option, Some, Result, Ok, Err, option_map}
 use Rattle.std.specs.FinMap.{get, len}
 use Rattle.cf_base.specs.Classes.{need}
 use Rattle.cf_base.specs.declared.answers.Refusal.{Refusal}
 use Rattle.cf_base.specs.declared.kind.Kind.{Kind}
 use Rattle.page_model.specs.Held.{Placed}
 use Rattle.block_model.specs.Buckets.{FreeLists}
+use Rattle.block_model.specs.FreeOrder.{next_block}
 use Rattle.tag_blocks.specs.Blocks.{Finds}
 use Rattle.cf_model.specs.State.{HeapState}
 use Rattle.cf_model.specs.Steps.{IsRefusedBy}
@@ -25,11 +26,12 @@ done_by (Err e) = Err e
 abbrev pub length_of : HeapState → ℕ → Option ℕ
 length_of s h = option_map (λ (x : Placed). length x.bytes) (get s.held h)
 
--- the object fits a page, a proxy is free, and this is the block that a malloc takes
+-- the object fits a page, a proxy is free, and this is the block that a malloc takes, the next one
 pub record HasRoom (rule : FreeLists) (h : Heap) (bytes place : ℕ) : Type 0 where
   pub fits : need bytes ≤ h.settings.page_words
   pub few : len h.proxies.places ≢ h.proxies.limit
   pub found : Finds rule h.tagged.blocks (need bytes + 1) place
+  pub next : next_block rule h.tagged.lists (need bytes + 1) ≡ Some place
 
 -- such a block, or the cause of a refusal
 abbrev pub IsRoom : FreeLists → Kind → Heap → ℕ → Result ℕ Refusal → Type 0

@@ -1,9 +1,12 @@
 //! Frees.
 ghost use Rattle.std.specs.Prelude.{◌≡◌, ◌+◌, ◌^◌, ◌≤◌};
 ghost use Rattle.step_ledger.specs.Counting.{RoseAtMost, RoseBy};
+ghost use Rattle.cf_model.specs.Costs.{block_free_bound};
+ghost use Rattle.cf_model.specs.ExactCosts.{block_free_cost};
+ghost use Rattle.cf_model.specs.Ordered.{IsOrderedFree};
 ghost use Rattle.cf_model.specs.Rules.{KeepsRules};
 ghost use Rattle.cf_model.specs.Steps.{IsFreeStep, StaysOpen};
-ghost use Rattle.tag_heap.specs.Costs.{free_cost, free_steps};
+ghost use Rattle.tag_heap.specs.Choices.{FreeChooses};
 ghost use Rattle.tag_heap.specs.Heap.{state_of};
 
 use crate::open_heap::OpenHeap;
@@ -13,16 +16,18 @@ use step_ledger::Steps;
 use word_bytes::Header;
 
 impl<B: Yardstick> OpenHeap<B> {
-    /// Removes an object, and keeps the cost.
+    /// Removes an object. The block that it leaves is the first of its list, and its number is the next
+    /// to be used. Keeps the cost.
     pub(crate) fn free(&mut self, h: Handle, steps: &mut Steps) -> Result<Freed, NotLive>
         requires { steps.old ≤ 2 ^ 63 }
         ensures same { StaysOpen (state_of B.kind self.old) (state_of B.kind self.new) }
         ensures step { IsFreeStep (state_of B.kind self.old) h.0 result (state_of B.kind self.new) }
         ensures rules { KeepsRules (state_of B.kind self.new) }
+        ensures ordered { IsOrderedFree (state_of B.kind self.old) h.0 result (state_of B.kind self.new) }
         ensures rises { steps.old ≤ steps.new }
-        ensures exact { RoseBy steps.old steps.new (free_cost B.rule (state_of B.kind self.old) h.0 result (state_of B.kind self.new)) }
-        ensures bound { RoseAtMost steps.old steps.new (free_steps result) }
-        ensures told { steps.new ≡ steps.old + self.new.cost }
+        ensures exact { RoseBy steps.old steps.new (block_free_cost (state_of B.kind self.old) h.0 result (state_of B.kind self.new)) }
+        ensures bound { RoseAtMost steps.old steps.new (block_free_bound result) }
+        ensures cost { steps.new ≡ steps.old + self.new.cost }
     {
         let before = steps.count();
         let result = self.free_inner(h, steps);
@@ -35,9 +40,10 @@ impl<B: Yardstick> OpenHeap<B> {
         ensures same { StaysOpen (state_of B.kind self.old) (state_of B.kind self.new) }
         ensures step { IsFreeStep (state_of B.kind self.old) h.0 result (state_of B.kind self.new) }
         ensures rules { KeepsRules (state_of B.kind self.new) }
+        ensures choice { FreeChooses B.kind self.old h.0 result self.new }
         ensures rises { steps.old ≤ steps.new }
-        ensures exact { RoseBy steps.old steps.new (free_cost B.rule (state_of B.kind self.old) h.0 result (state_of B.kind self.new)) }
-        ensures bound { RoseAtMost steps.old steps.new (free_steps result) }
+        ensures exact { RoseBy steps.old steps.new (block_free_cost (state_of B.kind self.old) h.0 result (state_of B.kind self.new)) }
+        ensures bound { RoseAtMost steps.old steps.new (block_free_bound result) }
     {
         let Some(place) = self.proxies.lookup(h, steps) else {
             return Err(NotLive);

@@ -1,9 +1,12 @@
 //! Mallocs.
 ghost use Rattle.std.specs.Prelude.{◌≡◌, ◌+◌, ◌^◌, ◌≤◌};
 ghost use Rattle.step_ledger.specs.Counting.{RoseAtMost, RoseBy};
+ghost use Rattle.cf_model.specs.ExactCosts.{block_malloc_cost};
+ghost use Rattle.cf_model.specs.Ordered.{IsOrderedMalloc};
 ghost use Rattle.cf_model.specs.Rules.{KeepsRules};
 ghost use Rattle.cf_model.specs.Steps.{IsMallocStep, StaysOpen};
-ghost use Rattle.tag_heap.specs.Costs.{malloc_cost, malloc_steps, room_steps, search_steps};
+ghost use Rattle.tag_heap.specs.Choices.{MallocChooses};
+ghost use Rattle.tag_heap.specs.Costs.{malloc_steps, room_steps, search_steps};
 ghost use Rattle.tag_heap.specs.Heap.{state_of};
 ghost use Rattle.tag_heap.specs.Room.{IsRoom, IsRoomAnswer, done_by};
 
@@ -14,16 +17,18 @@ use step_ledger::Steps;
 use word_bytes::Header;
 
 impl<B: Yardstick> OpenHeap<B> {
-    /// Adds an object of `bytes` bytes, all zero, and keeps the cost.
+    /// Adds an object of `bytes` bytes, all zero, under the next number and in the next block. Keeps the
+    /// cost.
     pub(crate) fn malloc(&mut self, bytes: u32, steps: &mut Steps) -> Result<Handle, Refusal>
         requires { steps.old ≤ 2 ^ 63 }
         ensures same { StaysOpen (state_of B.kind self.old) (state_of B.kind self.new) }
         ensures step { IsMallocStep (state_of B.kind self.old) bytes result (state_of B.kind self.new) }
         ensures rules { KeepsRules (state_of B.kind self.new) }
+        ensures ordered { IsOrderedMalloc (state_of B.kind self.old) bytes result (state_of B.kind self.new) }
         ensures rises { steps.old ≤ steps.new }
-        ensures exact { RoseBy steps.old steps.new (malloc_cost B.rule B.COUNT (state_of B.kind self.old) bytes result (state_of B.kind self.new)) }
+        ensures exact { RoseBy steps.old steps.new (block_malloc_cost (state_of B.kind self.old) bytes result (state_of B.kind self.new)) }
         ensures bound { RoseAtMost steps.old steps.new (malloc_steps result) }
-        ensures told { steps.new ≡ steps.old + self.new.cost }
+        ensures cost { steps.new ≡ steps.old + self.new.cost }
     {
         let before = steps.count();
         let result = self.malloc_inner(bytes, steps);
@@ -37,8 +42,9 @@ impl<B: Yardstick> OpenHeap<B> {
         ensures same { StaysOpen (state_of B.kind self.old) (state_of B.kind self.new) }
         ensures step { IsMallocStep (state_of B.kind self.old) bytes result (state_of B.kind self.new) }
         ensures rules { KeepsRules (state_of B.kind self.new) }
+        ensures choice { MallocChooses B.kind self.old bytes result self.new }
         ensures rises { steps.old ≤ steps.new }
-        ensures exact { RoseBy steps.old steps.new (malloc_cost B.rule B.COUNT (state_of B.kind self.old) bytes result (state_of B.kind self.new)) }
+        ensures exact { RoseBy steps.old steps.new (block_malloc_cost (state_of B.kind self.old) bytes result (state_of B.kind self.new)) }
         ensures bound { RoseAtMost steps.old steps.new (malloc_steps result) }
     {
         let place = self.room(bytes, steps)?;
@@ -60,7 +66,7 @@ impl<B: Yardstick> OpenHeap<B> {
         ensures room { IsRoom B.rule B.kind self.now bytes result }
         ensures answer { IsRoomAnswer (state_of B.kind self.now) bytes (done_by result) }
         ensures rules { KeepsRules (state_of B.kind self.now) }
-        ensures steps { RoseBy steps.old steps.new (search_steps B.rule B.COUNT self.now.tagged.blocks bytes result) }
+        ensures steps { RoseBy steps.old steps.new (search_steps (state_of B.kind self.now) bytes result) }
         ensures bound { RoseAtMost steps.old steps.new (room_steps (done_by result)) }
     {
         let need = need_of(bytes);

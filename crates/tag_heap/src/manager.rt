@@ -2,12 +2,13 @@
 ghost use Rattle.std.specs.Prelude.{◌≡◌, ◌+◌, ◌*◌, ◌^◌, ◌≤◌, IsTrue, if◌then◌else◌, is_some, length, slice_get};
 ghost use Rattle.step_ledger.specs.Counting.{RoseAtMost, RoseBy};
 ghost use Rattle.cf_model.specs.Answers.{block_in, place_of, totals_in, usage_in};
-ghost use Rattle.cf_model.specs.Costs.{TakesAtMost, TellsCost, access_bound, free_bound, resize_bound};
+ghost use Rattle.cf_model.specs.Costs.{TakesAtMost, RoseByCost, access_bound, block_free_bound, free_bound, resize_bound};
+ghost use Rattle.cf_model.specs.ExactCosts.{block_free_cost, block_malloc_cost};
 ghost use Rattle.cf_model.specs.Ordered.{IsOrderedFree, IsOrderedMalloc, IsOrderedResize};
 ghost use Rattle.cf_model.specs.Rules.{KeepsRules};
 ghost use Rattle.cf_model.specs.State.{closed_state};
 ghost use Rattle.cf_model.specs.Steps.{BlocksStayIn, IsFreeStep, IsMallocStep, IsReadAnswer, IsResizeStep, IsWriteStep, StaysOpen};
-ghost use Rattle.tag_heap.specs.Costs.{access_steps, free_cost, free_steps, length_steps, malloc_cost, malloc_steps, room_steps};
+ghost use Rattle.tag_heap.specs.Costs.{access_steps, length_steps, malloc_steps, room_steps};
 ghost use Rattle.tag_heap.specs.Heap.{state_of};
 ghost use Rattle.tag_heap.specs.Room.{IsRoomAnswer, length_of};
 
@@ -22,7 +23,7 @@ use std::alloc::Global;
 use std::marker::Model;
 use step_ledger::Steps;
 
-/// The manager with the blocks of a yardstick.
+/// The manager with the blocks of a yardstick. It promises an order, open or closed.
 #[derive(Drop)]
 pub struct TagHeap<B: Yardstick> {
     alloc: Global,
@@ -107,10 +108,10 @@ impl<B: Yardstick> Manager for TagHeap<B> {
         ensures step { IsMallocStep self.old bytes result self.new }
         ensures rules { KeepsRules self.new }
         ensures ordered { IsOrderedMalloc self.old bytes result self.new }
-        ensures bound { TakesAtMost self.old.kind steps.old steps.new 64 }
-        ensures told { steps.new ≡ steps.old + self.new.cost }
+        ensures bound { TakesAtMost self.old.kind steps.old steps.new 64 25 }
+        ensures cost { steps.new ≡ steps.old + self.new.cost }
         ensures steps { RoseAtMost steps.old steps.new (malloc_steps result) }
-        ensures exact { RoseBy steps.old steps.new (malloc_cost B.rule B.COUNT self.old bytes result self.new) }
+        ensures exact { RoseBy steps.old steps.new (block_malloc_cost self.old bytes result self.new) }
     {
         match &mut self.inner {
             Some(open) => open.malloc(bytes, steps),
@@ -125,11 +126,11 @@ impl<B: Yardstick> Manager for TagHeap<B> {
         ensures step { IsFreeStep self.old h.0 result self.new }
         ensures rules { KeepsRules self.new }
         ensures ordered { IsOrderedFree self.old h.0 result self.new }
-        ensures bound { TakesAtMost self.old.kind steps.old steps.new (free_bound result) }
-        ensures told { steps.new ≡ steps.old + self.new.cost }
+        ensures bound { TakesAtMost self.old.kind steps.old steps.new (free_bound result) (block_free_bound result) }
+        ensures cost { steps.new ≡ steps.old + self.new.cost }
         ensures blocks { BlocksStayIn self.old.kind self.old h.0 self.new }
-        ensures steps { RoseAtMost steps.old steps.new (free_steps result) }
-        ensures exact { RoseBy steps.old steps.new (free_cost B.rule self.old h.0 result self.new) }
+        ensures steps { RoseAtMost steps.old steps.new (block_free_bound result) }
+        ensures exact { RoseBy steps.old steps.new (block_free_cost self.old h.0 result self.new) }
     {
         match &mut self.inner {
             Some(open) => open.free(h, steps),
@@ -149,7 +150,7 @@ impl<B: Yardstick> Manager for TagHeap<B> {
         ensures same { StaysOpen self.old self.new }
         ensures step { IsWriteStep self.old (record { number = h.0; from = at }) bytes.now result self.new }
         ensures rules { KeepsRules self.new }
-        ensures bound { TakesAtMost self.old.kind steps.old steps.new (access_bound at (length bytes.now)) }
+        ensures bound { RoseAtMost steps.old steps.new (access_bound at (length bytes.now)) }
         ensures steps { RoseBy steps.old steps.new (access_steps at (length bytes.now) result) }
     {
         match &mut self.inner {
@@ -163,7 +164,7 @@ impl<B: Yardstick> Manager for TagHeap<B> {
         requires room { steps.old ≤ 2 ^ 63 }
         ensures answer { IsReadAnswer self.now (record { number = h.0; from = at }) out.old result out.new }
         ensures rules { KeepsRules self.now }
-        ensures bound { TakesAtMost self.now.kind steps.old steps.new (access_bound at (length out.old)) }
+        ensures bound { RoseAtMost steps.old steps.new (access_bound at (length out.old)) }
         ensures steps { RoseBy steps.old steps.new (access_steps at (length out.old) result) }
     {
         match &self.inner {
@@ -179,8 +180,8 @@ impl<B: Yardstick> Manager for TagHeap<B> {
         ensures step { IsResizeStep self.old (record { number = h.0; length = _bytes }) result self.new }
         ensures rules { KeepsRules self.new }
         ensures ordered { IsOrderedResize self.old (record { number = h.0; length = _bytes }) result self.new }
-        ensures bound { TakesAtMost self.old.kind steps.old steps.new (resize_bound result) }
-        ensures told { TellsCost self.old.kind steps.old steps.new self.new.cost }
+        ensures bound { TakesAtMost self.old.kind steps.old steps.new (resize_bound result) 1 }
+        ensures cost { RoseByCost self.old.kind steps.old steps.new self.new.cost }
         ensures blocks { BlocksStayIn self.old.kind self.old h.0 self.new }
         ensures steps { RoseBy steps.old steps.new 1 }
     {

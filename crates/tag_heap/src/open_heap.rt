@@ -1,7 +1,8 @@
 //! An open heap: its blocks, and the addresses of its objects.
 ghost use Rattle.std.specs.Prelude.{◌≡◌, ◌*◌, length, IfOk};
+ghost use Rattle.block_model.specs.FreeOrder.{AreListsOf, first_lists};
 ghost use Rattle.block_model.specs.Tiling.{one_free_block};
-ghost use Rattle.tag_blocks.specs.Blocks.{AreTags};
+ghost use Rattle.tag_blocks.specs.Blocks.{AreTags, listed};
 ghost use Rattle.proxy_table.specs.Proxies.{AreBelowLimit, no_proxies};
 ghost use Rattle.cf_model.specs.Rules.{KeepsRules};
 ghost use Rattle.cf_model.specs.Steps.{IsEmptyHeap};
@@ -34,7 +35,7 @@ impl<B: Yardstick> Model for OpenHeap<B> {
 
     ghost view = { λ h. record { settings = h.settings; tagged = h.blocks; proxies = h.proxies; asked = h.asked; used_words = h.used_words; cost = h.cost } };
 
-    ghost invariant = { λ h. IsValid (record {
+    ghost invariant = { λ h. IsValid B.kind (record {
       settings = h.settings;
       tagged = h.blocks;
       proxies = h.proxies;
@@ -60,6 +61,8 @@ impl<B: Yardstick> OpenHeap<B> {
         requires blocks { blocks.blocks ≡ one_free_block (s.now.pages * s.now.page_words) }
         requires words { length blocks.words ≡ s.now.pages * s.now.page_words }
         requires tags { AreTags blocks }
+        requires lists { blocks.lists ≡ first_lists B.rule B.COUNT (s.now.pages * s.now.page_words) }
+        requires listed { AreListsOf B.rule B.COUNT (listed blocks) }
         requires proxies { proxies ≡ no_proxies s.now.proxies }
         requires handles { AreBelowLimit proxies }
         ensures empty { IsEmptyHeap B.kind s.now (state_of B.kind result) }

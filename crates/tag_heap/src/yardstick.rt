@@ -1,7 +1,7 @@
 //! A kind of manager with blocks.
 ghost use Rattle.std.specs.Prelude.{◌≡◌};
 ghost use Rattle.cf_base.specs.declared.kind.Kind.{Kind};
-ghost use Rattle.cf_model.specs.Families.{IsTiled, free_lists_of};
+ghost use Rattle.cf_model.specs.Families.{IsTiled, free_lists_of, list_count_of};
 
 use cf_base::Kind;
 use tag_blocks::Buckets;
@@ -20,4 +20,7 @@ pub trait Yardstick: Buckets + Drop {
 
     // Its free lists are those of the rule.
     ghost lists: { Self.rule ≡ free_lists_of kind };
+
+    // It has as many free lists as the kind.
+    ghost count: { Self.COUNT ≡ list_count_of kind };
 }

@@ -19,4 +19,6 @@ impl Yardstick for TlsfBuckets {
     ghost tiled = { refl };
 
     ghost lists = { refl };
+
+    ghost count = { refl };
 }

@@ -6,7 +6,7 @@ use Rattle.block_table.specs.Table.{Table, IsBlockTable}
 use Rattle.block_table.proofs.CallerLemmas.{frame_below, frames_differ}
 use Rattle.page_model.specs.Image.{Clears, IsDisjoint, IsOutside, MovesWords}
 use Rattle.region.specs.Words.{AreDistinct, AreOther, AreWithin, ClearsBlocks, MovesBlocks}
-use Rattle.virtual_words.specs.Words.{stand, virtual_words}
+use Rattle.virtual_words.specs.Words.{table_word, virtual_words}
 use Rattle.virtual_words.proofs.Standing.{virtual_at, virtual_past}
 
 -- the n entries from v on
@@ -27,7 +27,7 @@ module _ (t : Table) (h : IsBlockTable t) (v n : ℕ) (fits : v + n ≤ length t
       frames_differ t h (v + k) (v + l) (omega arith) (omega arith) (λ f. ne (omega arith)) (omega arith)
 
   -- the place of a word of these blocks
-  pub word_place : (i : ℕ) → i < 4 * n → stand t.frames (4 * v + i) ≡ 4 * get_or part (i / 4) 0 + i % 4
+  pub word_place : (i : ℕ) → i < 4 * n → table_word t.frames (4 * v + i) ≡ 4 * get_or part (i / 4) 0 + i % 4
   word_place i lt =
       let e = entry_at (i / 4) (omega arith) in
       let block : get_or t.frames ((4 * v + i) / 4) 0 ≡ get_or t.frames (v + i / 4) 0 =
@@ -35,7 +35,7 @@ module _ (t : Table) (h : IsBlockTable t) (v n : ℕ) (fits : v + n ≤ length t
       omega arith
 
   -- a word of another block
-  pub word_outside : (w : ℕ) → w < 4 * length t.frames → IsOutside (4 * v) (4 * n) w → (k : ℕ) → k < n → stand t.frames w / 4 ≢ get_or part k 0
+  pub word_outside : (w : ℕ) → w < 4 * length t.frames → IsOutside (4 * v) (4 * n) w → (k : ℕ) → k < n → table_word t.frames w / 4 ≢ get_or part k 0
   word_outside w lt out k less e =
       let a = entry_at k less in
       frames_differ t h (w / 4) (v + k) (omega arith) (omega arith)
@@ -47,7 +47,7 @@ module _ (t : Table) (h : IsBlockTable t) (v n : ℕ) (fits : v + n ≤ length t
     within = λ i lt. virtual_at t.frames new (4 * v + i) (omega arith) ∙ ap (λ (p : ℕ). get_or new p 0) (word_place i lt)
         ∙ c.zeros (i / 4) (i % 4) (omega arith) (omega arith);
     others = λ w out. elim (cases_lt w (4 * length t.frames)) [
-      | inl lt ↦ virtual_at t.frames new w lt ∙ c.others (stand t.frames w) (word_outside w lt out) ∙ sym (virtual_at t.frames old w lt)
+      | inl lt ↦ virtual_at t.frames new w lt ∙ c.others (table_word t.frames w) (word_outside w lt out) ∙ sym (virtual_at t.frames old w lt)
       | inr past ↦ virtual_past t.frames new w past ∙ sym (virtual_past t.frames old w past)
     ];
   }
@@ -75,7 +75,7 @@ module _ (t : Table) (h : IsBlockTable t) (v w n : ℕ) (fits_v : v + n ≤ leng
             ∙ m.left_zeros (i / 4) (i % 4) (omega arith) (omega arith);
         others = λ x far out. elim (cases_lt x (4 * length t.frames)) [
           | inl lt ↦ virtual_at t.frames new x lt
-              ∙ m.others (stand t.frames x) (word_outside t h v n fits_v sources are as_long x lt far)
+              ∙ m.others (table_word t.frames x) (word_outside t h v n fits_v sources are as_long x lt far)
               (word_outside t h w n fits_w targets go go_long x lt out) ∙ sym (virtual_at t.frames old x lt)
           | inr past ↦ virtual_past t.frames new x past ∙ sym (virtual_past t.frames old x past)
         ];

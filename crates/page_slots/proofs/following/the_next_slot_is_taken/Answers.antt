@@ -2,4 +2,4 @@ use Rattle.page_slots.proofs.NextSlots.{taken_next}
 use Rattle.page_slots.proofs.following.the_next_slot_is_taken.Goals as goal
 
 pub returns : goal.returns
-returns c = λ p m old new c a spare ok tell o kept class t. taken_next ok tell o kept class spare t
+returns c = λ p m old new c a spare ok serve o kept class t. taken_next ok serve o kept class spare t

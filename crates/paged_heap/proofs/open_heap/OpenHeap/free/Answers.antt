@@ -1,7 +1,10 @@
 use Rattle.std.proofs.Common.{arith}
 use Rattle.paged_heap.specs.Heap.{seen}
+use Rattle.paged_heap.specs.Layout.{state_of}
+use Rattle.paged_heap.proofs.ByKind.{free_by_order}
 use Rattle.paged_heap.proofs.Preserved.{cost_kept}
 use Rattle.paged_heap.proofs.HeaderLemmas.{few_free, free_with_cost}
+use Rattle.paged_heap.proofs.LayoutFacts.{paged_kind}
 use Rattle.paged_heap.proofs.StepLemmas.{rose_is}
 use Rattle.paged_heap.proofs.open_heap.OpenHeap.free.Goals as goal
 
@@ -17,12 +20,14 @@ returns-clause-kept g c =
     }
 
 pub returns-clause-ordered : goal.returns-clause-ordered
-returns-clause-ordered g c = record {
-  choice = c.free_inner-result.ensures.choice;
-  cost = (
-      let is = rose_is _ _ _ _ c.requires.room
-      (few_free (seen g.A.Mapping.kind c.args.self.now) c.requires.kept.kept c.args.h.0 _ _ c.free_inner-result.ensures.step)
-      c.free_inner-result.ensures.cost c.free_inner-result.ensures.bound in
-      let a = c.count-before.ensures in let b = c.count.ensures in
-      omega arith);
-}
+returns-clause-ordered g c =
+    let old = seen g.A.Mapping.kind c.args.self.now in
+    free_by_order (state_of old) (paged_kind old c.requires.kept.kept) c.args.h.0 _ _ _ _ (record {
+      choice = c.free_inner-result.ensures.choice;
+      cost = (
+          let is = rose_is _ _ _ _ c.requires.room
+          (few_free (seen g.A.Mapping.kind c.args.self.now) c.requires.kept.kept c.args.h.0 _ _ c.free_inner-result.ensures.step)
+          c.free_inner-result.ensures.cost c.free_inner-result.ensures.bound in
+          let a = c.count-before.ensures in let b = c.count.ensures in
+          omega arith);
+    })

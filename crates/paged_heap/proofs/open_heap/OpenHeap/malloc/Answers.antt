@@ -1,5 +1,7 @@
 use Rattle.std.proofs.Common.{arith}
 use Rattle.paged_heap.specs.Heap.{seen}
+use Rattle.paged_heap.specs.Layout.{state_of}
+use Rattle.paged_heap.proofs.ByKind.{malloc_by_order}
 use Rattle.paged_heap.proofs.Preserved.{cost_kept}
 use Rattle.paged_heap.proofs.LayoutFacts.{paged_kind}
 use Rattle.paged_heap.proofs.MallocLemmas.{malloc_with_cost}
@@ -19,10 +21,12 @@ returns-clause-kept g c =
     }
 
 pub returns-clause-ordered : goal.returns-clause-ordered
-returns-clause-ordered g c = record {
-  choice = c.malloc_inner-result.ensures.choice;
-  cost = (
-      let is = rose_is _ _ _ 18 c.requires.room (omega arith) c.malloc_inner-result.ensures.cost c.malloc_inner-result.ensures.bound in
-      let a = c.count-before.ensures in let b = c.count.ensures in
-      omega arith);
-}
+returns-clause-ordered g c =
+    let old = seen g.A.Mapping.kind c.args.self.now in
+    malloc_by_order (state_of old) (paged_kind old c.requires.kept.kept) c.args.bytes _ _ _ _ (record {
+      choice = c.malloc_inner-result.ensures.choice;
+      cost = (
+          let is = rose_is _ _ _ 18 c.requires.room (omega arith) c.malloc_inner-result.ensures.cost c.malloc_inner-result.ensures.bound in
+          let a = c.count-before.ensures in let b = c.count.ensures in
+          omega arith);
+    })

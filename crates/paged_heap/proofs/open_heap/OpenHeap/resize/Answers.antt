@@ -1,5 +1,7 @@
 use Rattle.std.proofs.Common.{arith}
 use Rattle.paged_heap.specs.Heap.{seen}
+use Rattle.paged_heap.specs.Layout.{state_of}
+use Rattle.paged_heap.proofs.ByKind.{resize_by_order}
 use Rattle.paged_heap.proofs.Preserved.{cost_kept}
 use Rattle.paged_heap.proofs.LayoutFacts.{paged_kind}
 use Rattle.paged_heap.proofs.ResizeCosts.{few_resize}
@@ -20,12 +22,14 @@ returns-clause-kept g c =
     }
 
 pub returns-clause-ordered : goal.returns-clause-ordered
-returns-clause-ordered g c = record {
-  choice = c.resize_inner-result.ensures.choice;
-  cost = (
-      let is = rose_is _ _ _ _ c.requires.room
-      (few_resize (seen g.A.Mapping.kind c.args.self.now) c.requires.kept.kept c.args.h.0 c.args.bytes _ _ c.resize_inner-result.ensures.step)
-      c.resize_inner-result.ensures.cost c.resize_inner-result.ensures.bound in
-      let a = c.count-before.ensures in let b = c.count.ensures in
-      omega arith);
-}
+returns-clause-ordered g c =
+    let old = seen g.A.Mapping.kind c.args.self.now in
+    resize_by_order (state_of old) (paged_kind old c.requires.kept.kept) (record { number = c.args.h.0; length = c.args.bytes }) _ _ _ _ (record {
+      choice = c.resize_inner-result.ensures.choice;
+      cost = (
+          let is = rose_is _ _ _ _ c.requires.room
+          (few_resize (seen g.A.Mapping.kind c.args.self.now) c.requires.kept.kept c.args.h.0 c.args.bytes _ _ c.resize_inner-result.ensures.step)
+          c.resize_inner-result.ensures.cost c.resize_inner-result.ensures.bound in
+          let a = c.count-before.ensures in let b = c.count.ensures in
+          omega arith);
+    })

@@ -10,7 +10,7 @@ use Rattle.paged_heap.specs.Layout.{IsValid, tables_in}
 use Rattle.paged_heap.proofs.ByKind.{framed_of, in_region, laid_same}
 use Rattle.paged_heap.proofs.ResizeClass.{change_chosen, change_kept, change_resized}
 use Rattle.paged_heap.proofs.ResizeClassFilled.{changed_filled, fill_follows, frames_are, free_same, keeps, lands_of, live_there, mover, place_in, r, refills_of, slots_apart}
-use Rattle.paged_heap.proofs.ResizeClassFilled.{some_fills, source_in, target_in, told_by, whole_source, whole_target, whole_words}
+use Rattle.paged_heap.proofs.ResizeClassFilled.{some_fills, source_in, target_in, shown_by, whole_source, whole_target, whole_words}
 use Rattle.paged_heap.proofs.ResizeCosts.{left_filled}
 use Rattle.paged_heap.proofs.ResizeEnter.{kept_few, refused, unchanged}
 use Rattle.paged_heap.proofs.open_heap.OpenHeap.resize_class_and_fill.Goals as goal
@@ -72,8 +72,8 @@ move_to-requires-clause-live g c =
     refills_of c.requires.kept.kept c.requires.change c.in-Some.ensures.entered c.requires.moves c.take_filler-from.ensures.filled
     c.take_filler-from.ensures.tables in
     let found = ap (seen kind) c.take_filler-from.ensures.rest in
-    let told = told_by fills found c.read.ensures.value c.unpack.ensures.number in
-    live_there fills found told
+    let shown = shown_by fills found c.read.ensures.value c.unpack.ensures.number in
+    live_there fills found shown
 
 pub move_to-requires-clause-source : goal.move_to-requires-clause-source
 move_to-requires-clause-source g c =
@@ -136,13 +136,13 @@ returns-clause-step g c =
     refills_of c.requires.kept.kept c.requires.change c.in-Some.ensures.entered c.requires.moves c.take_filler-from.ensures.filled
     c.take_filler-from.ensures.tables in
     let found = ap (seen kind) c.take_filler-from.ensures.rest in
-    let told = told_by fills found c.read.ensures.value c.unpack.ensures.number in
+    let shown = shown_by fills found c.read.ensures.value c.unpack.ensures.number in
     let framed = framed_of kind c.move_to.new.self c.move_to.ensures.laid in
     let moved = ap (seen kind) c.move_to.ensures.rest in
     let words = c.slot_words-old_slot_words.ensures.value in
-    let lands = lands_of fills words told refl found moved c.move_to.ensures.free c.move_to.ensures.moves framed c.move_to.ensures.handles in
+    let lands = lands_of fills words shown refl found moved c.move_to.ensures.free c.move_to.ensures.moves framed c.move_to.ensures.handles in
     change_resized fills.valid fills.change fills.enters (Some (r fills)) (mover fills) (seen kind c.move_to.new.self)
-    (keeps fills lands) (changed_filled fills lands) (frames_are fills lands) _ words c.slot_words-slot_words.ensures.value (ap Some told)
+    (keeps fills lands) (changed_filled fills lands) (frames_are fills lands) _ words c.slot_words-slot_words.ensures.value (ap Some shown)
 
 pub returns-clause-kept : goal.returns-clause-kept
 returns-clause-kept g c =
@@ -151,11 +151,11 @@ returns-clause-kept g c =
     refills_of c.requires.kept.kept c.requires.change c.in-Some.ensures.entered c.requires.moves c.take_filler-from.ensures.filled
     c.take_filler-from.ensures.tables in
     let found = ap (seen kind) c.take_filler-from.ensures.rest in
-    let told = told_by fills found c.read.ensures.value c.unpack.ensures.number in
+    let shown = shown_by fills found c.read.ensures.value c.unpack.ensures.number in
     let framed = framed_of kind c.move_to.new.self c.move_to.ensures.laid in
     let moved = ap (seen kind) c.move_to.ensures.rest in
     let words = c.slot_words-old_slot_words.ensures.value in
-    let lands = lands_of fills words told refl found moved c.move_to.ensures.free c.move_to.ensures.moves framed c.move_to.ensures.handles in
+    let lands = lands_of fills words shown refl found moved c.move_to.ensures.free c.move_to.ensures.moves framed c.move_to.ensures.handles in
     record {
       laid = c.move_to.ensures.laid;
       kept = change_kept fills.valid fills.change fills.enters (Some (r fills)) (mover fills) (seen kind c.move_to.new.self)
@@ -169,13 +169,13 @@ returns-clause-choice g c =
     refills_of c.requires.kept.kept c.requires.change c.in-Some.ensures.entered c.requires.moves c.take_filler-from.ensures.filled
     c.take_filler-from.ensures.tables in
     let found = ap (seen kind) c.take_filler-from.ensures.rest in
-    let told = told_by fills found c.read.ensures.value c.unpack.ensures.number in
+    let shown = shown_by fills found c.read.ensures.value c.unpack.ensures.number in
     let framed = framed_of kind c.move_to.new.self c.move_to.ensures.laid in
     let moved = ap (seen kind) c.move_to.ensures.rest in
     let words = c.slot_words-old_slot_words.ensures.value in
-    let lands = lands_of fills words told refl found moved c.move_to.ensures.free c.move_to.ensures.moves framed c.move_to.ensures.handles in
+    let lands = lands_of fills words shown refl found moved c.move_to.ensures.free c.move_to.ensures.moves framed c.move_to.ensures.handles in
     change_chosen fills.valid fills.change fills.enters (Some (r fills)) (mover fills) (seen kind c.move_to.new.self)
-    (keeps fills lands) (changed_filled fills lands) (fill_follows fills lands) (free_same fills lands) _ (ap Some told)
+    (keeps fills lands) (changed_filled fills lands) (fill_follows fills lands) (free_same fills lands) _ (ap Some shown)
 
 pub returns-clause-bound : goal.returns-clause-bound
 returns-clause-bound g c =

@@ -10,8 +10,8 @@ read-requires g c =
 pub returns-clause-size : goal.returns-clause-size
 returns-clause-size g c x is = claim_size _ _ _ _ c.self.invariant c.self.view_is c.args.at x is _ c.read.ensures.size
 
-pub returns-clause-told : goal.returns-clause-told
-returns-clause-told g c = rw (← c.self.view_is) c.read.ensures.size
+pub returns-clause-described : goal.returns-clause-described
+returns-clause-described g c = rw (← c.self.view_is) c.read.ensures.size
 
 pub returns-clause-before : goal.returns-clause-before
 returns-clause-before g c = rw (← c.self.view_is) c.read.ensures.before

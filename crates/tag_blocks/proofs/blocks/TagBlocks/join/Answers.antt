@@ -1,5 +1,5 @@
 use Rattle.std.proofs.Common.{◌≡◌, ◌+◌, length, arith, ap, ◌∙◌}
-use Rattle.tag_blocks.specs.Costs.{before_steps}
+use Rattle.block_model.specs.Costs.{before_steps}
 use Rattle.tag_blocks.proofs.CostLemmas.{by_same, then_by}
 use Rattle.tag_blocks.proofs.JoinLemmas.{join_sizes, join_many, join_listed, join_some, join_kept, join_others, join_turns}
 use Rattle.tag_blocks.proofs.JoinLemmas.{join_lists}

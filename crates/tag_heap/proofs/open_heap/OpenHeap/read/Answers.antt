@@ -4,7 +4,7 @@ use Rattle.tag_heap.proofs.PartLemmas.{read_part}
 use Rattle.tag_heap.proofs.open_heap.OpenHeap.read.Goals as goal
 
 pub returns-in_err-place-clause-rules : goal.returns-in_err-place-clause-rules
-returns-in_err-place-clause-rules g c = rw (← c.self.view_is) (rules _ c.self.invariant g.B.Yardstick.kind g.met.B.Yardstick.tiled)
+returns-in_err-place-clause-rules g c = rw (← c.self.view_is) (rules _ c.self.invariant g.met.B.Yardstick.tiled)
 
 pub returns-clause-answer : goal.returns-clause-answer
 returns-clause-answer g c =
@@ -13,4 +13,4 @@ returns-clause-answer g c =
     c.read_bytes.new.out c.read_bytes.auto.out c.read_bytes.ensures.value)
 
 pub returns-clause-rules : goal.returns-clause-rules
-returns-clause-rules g c = rw (← c.self.view_is) (rules _ c.self.invariant g.B.Yardstick.kind g.met.B.Yardstick.tiled)
+returns-clause-rules g c = rw (← c.self.view_is) (rules _ c.self.invariant g.met.B.Yardstick.tiled)

@@ -1,4 +1,4 @@
-use Rattle.tag_heap.proofs.FigureLemmas.{totals_told}
+use Rattle.tag_heap.proofs.FigureLemmas.{totals_described}
 use Rattle.tag_heap.proofs.open_heap.OpenHeap.totals.Goals as goal
 
 pub returns-clause-value : goal.returns-clause-value
@@ -11,4 +11,4 @@ returns-clause-value g c = rw (
   c.from.ensures,
   c.from-2.ensures,
 ) (
-    totals_told g.B.Yardstick.kind _ c.self.invariant)
+    totals_described g.B.Yardstick.kind _ c.self.invariant)

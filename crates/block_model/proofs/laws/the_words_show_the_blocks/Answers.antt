@@ -1,5 +1,5 @@
 use Rattle.block_model.proofs.ReadBlocks.{blocks_read}
-use Rattle.block_model.proofs.laws.blocks_are_told.Goals as goal
+use Rattle.block_model.proofs.laws.the_words_show_the_blocks.Goals as goal
 
 pub returns : goal.returns
 returns c = blocks_read

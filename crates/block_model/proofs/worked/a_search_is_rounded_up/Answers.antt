@@ -3,7 +3,7 @@ use Rattle.block_model.specs.Buckets.{tlsf, tlsf_bucket, tlsf_rounded, log_up_to
 use Rattle.block_model.specs.Tiling.{one_free_block}
 use Rattle.block_model.specs.Worked.{used, free}
 use Rattle.block_model.proofs.BlockTests.{lacks, no_earlier}
-use Rattle.block_model.proofs.worked.a_need_is_rounded_up.Goals as goal
+use Rattle.block_model.proofs.worked.a_search_is_rounded_up.Goals as goal
 
 pub returns-clause-first : goal.returns-clause-first
 unfolding tlsf_bucket tlsf_rounded log_up_to

@@ -1,0 +1,36 @@
+-- A closed manager that opens is a fresh heap, in its opening order.
+use Rattle.std.proofs.Common.{◌≡◌, Some, None, refl, sym, ◌∙◌, ap, subst}
+use Rattle.std.specs.Prelude.{IfOk, IfSome, IsSome, OnOk, Option, Result, Ok, Err}
+use Rattle.core.specs.Result.{result_ok}
+use Rattle.cf_base.specs.Settings.{profile_of}
+use Rattle.cf_base.specs.declared.kind.Kind.{Kind}
+use Rattle.cf_base.specs.declared.settings.Settings.{Settings}
+use Rattle.cf_model.specs.Ordered.{KeepsPromise}
+use Rattle.cf_model.specs.Rules.{KeepsRules}
+use Rattle.cf_model.specs.State.{HeapState, closed_state}
+use Rattle.cf_model.specs.Steps.{IsEmptyHeap, IsOpeningWords, opening_order, ordered_heap}
+use Rattle.cf_model.proofs.CallerLemmas.{opened_in_order}
+use Rattle.held_heap.specs.Calls.{IsFreshHeap}
+
+pub fresh_from_closed : (kind : Kind) (s : Settings) (old new : HeapState) → old ≡ closed_state kind → IsEmptyHeap old.kind s new → KeepsPromise old new
+    → KeepsRules new → IsFreshHeap kind (profile_of s) (record { heap = new; steps = 0 })
+fresh_from_closed kind s old new is opened promise rules =
+    let kinds : old.kind ≡ kind = ap (λ (t : HeapState). t.kind) is in
+    let some : IsSome old.order = subst (λ (t : HeapState). IsSome t.order) (sym is) refl in
+    record {
+      words = subst (λ k. IsOpeningWords k (profile_of s) new.words) kinds opened.words;
+      whole = subst (λ k. new ≡ ordered_heap k (profile_of s) new.words (Some (opening_order k (profile_of s)))) kinds (opened_in_order s old new some opened promise);
+      rules = rules;
+      steps = refl;
+    }
+
+-- what holds at `Ok` holds where a value was taken out
+pub at_ok : {T E : Type 0} (r : Result T E) (P : Type 0) → OnOk r P → (o : Option T) → o ≡ result_ok r → (t : T) → o ≡ Some t → P
+at_ok (Ok u) P p o e t f = p
+at_ok (Err x) P p o e t f = absurd (let z : None ≡ Some t = sym e ∙ f in cc)
+
+-- a box with a value, if there is one, has what the value has
+pub in_box : {B V E : Type 0} (r : Result B E) (value : B → V) (v : V) (P : V → Type 0) → P v → IfOk r (λ b. value b ≡ v) → (o : Option B) → o ≡ result_ok r
+    → IfSome o (λ b. P (value b))
+in_box (Ok b) value v P p is o e = subst (λ q. IfSome q (λ b. P (value b))) (sym e) (subst P (sym is) p)
+in_box (Err x) value v P p is o e = subst (λ q. IfSome q (λ b. P (value b))) (sym e) tt

@@ -1,0 +1,99 @@
+-- What the calls cost, by the rule of the free lists and by the kind.
+use Rattle.std.proofs.Common.{◌≡◌, ℕ, ◌+◌, ◌-◌, ◌^◌, ◌<◌, ◌≤◌, List, Option, Some, None, Result, Ok, Err, arith, refl, ◌∙◌, ap, inl, inr}
+use Rattle.std.specs.Prelude.{IfSome}
+use Rattle.std.proofs.lemmas.Bool.{cases_lt}
+use Rattle.step_ledger.specs.Counting.{RoseAtMost, RoseBy}
+use Rattle.cf_base.specs.Classes.{need}
+use Rattle.cf_base.specs.declared.answers.Handle.{Handle}
+use Rattle.cf_base.specs.declared.answers.Refusal.{Refusal}
+use Rattle.cf_base.specs.declared.answers.Refusal.TheVariants as refusal
+use Rattle.cf_base.specs.declared.kind.Kind.{Kind}
+use Rattle.block_model.specs.Buckets.{FreeLists}
+use Rattle.block_model.specs.Costs.{carve_at_steps, carve_steps, find_steps, release_steps}
+use Rattle.block_model.specs.Tiling.{Block, block_need}
+use Rattle.cf_model.specs.Answers.{place_of}
+use Rattle.cf_model.specs.ExactCosts.{block_malloc_cost}
+use Rattle.cf_model.specs.Families.{free_lists_of, list_count_of}
+use Rattle.cf_model.specs.Ordered.{CarvesInOrder}
+use Rattle.cf_model.specs.State.{HeapState}
+use Rattle.tag_heap.specs.Costs.{malloc_steps}
+use Rattle.tag_heap.specs.Choices.{MallocChooses}
+use Rattle.tag_heap.specs.Heap.{Heap, order_of, state_of}
+
+-- a count that is too low to saturate rose by exactly n
+pub rose_is : (old new n most : ℕ) → old ≤ 2 ^ 63 → most < 2 ^ 62 → RoseBy old new n → RoseAtMost old new most → new ≡ old + n
+rose_is old new n most small few by at = elim (cases_lt (old + n) (2 ^ 64)) [
+  | inl fits ↦ by.exact fits
+  | inr past ↦ absurd (let e = by.capped (omega arith) past in let l = at.bound in omega arith)
+]
+
+-- the cost of a call is the difference of the counts after and before it
+pub cost_is : (old mid count before n : ℕ) → mid ≡ old + n → before ≡ old → count ≡ mid → count - before ≡ n
+cost_is old mid count before n rose a b = omega arith
+
+-- ---- mallocs
+
+pub malloc_few : (answer : Result Handle Refusal) → malloc_steps answer ≤ 25
+malloc_few (Ok q) = omega arith
+malloc_few (Err refusal.Size) = omega arith
+malloc_few (Err refusal.Proxy) = omega arith
+malloc_few (Err refusal.Space) = omega arith
+
+-- the cost of a malloc doesn't depend on the cost that the state holds
+pub malloc_cost_kept : (old new : HeapState) (cost bytes : ℕ) (answer : Result Handle Refusal)
+    → block_malloc_cost old bytes answer new ≡ block_malloc_cost old bytes answer (record new { cost = cost })
+malloc_cost_kept old new cost bytes (Ok q) = refl
+malloc_cost_kept old new cost bytes (Err refusal.Size) = refl
+malloc_cost_kept old new cost bytes (Err refusal.Proxy) = refl
+malloc_cost_kept old new cost bytes (Err refusal.Space) = refl
+
+-- nor does its choice
+pub malloc_choice_kept : (k : Kind) (old new : Heap) (cost bytes : ℕ) (answer : Result Handle Refusal) → MallocChooses k old bytes answer new
+    → MallocChooses k old bytes answer (record new { cost = cost })
+malloc_choice_kept k old new cost bytes (Ok q) made = by_place (place_of (state_of k new) q.0) made
+  where
+    by_place : (o : Option ℕ)
+        → IfSome o (λ a. CarvesInOrder (state_of k old) (record { number = q.0; length = bytes }) a (state_of k new) (order_of old) (order_of new))
+        → IfSome o (λ a. CarvesInOrder (state_of k old) (record { number = q.0; length = bytes }) a (state_of k (record new { cost = cost })) (order_of old)
+        (order_of new))
+    by_place None made = made
+    by_place (Some a) made = record { rest = made.rest; number = made.number; carves = made.carves; left = made.left }
+malloc_choice_kept k old new cost bytes (Err e) made = made
+
+two_last : (x y : ℕ) → x + (2 + y) ≡ x + y + 2
+two_last x y = omega arith
+
+module _ (k : Kind) (rule : FreeLists) (count : ℕ) (rule_is : rule ≡ free_lists_of k) (count_is : count ≡ list_count_of k) (n needed : ℕ)
+    (needed_is : needed ≡ need n) where
+  words_needed : needed + 1 ≡ block_need n
+  words_needed = (let e = needed_is in omega arith)
+
+  -- a search for a block
+  pub find_cost : (blocks : List Block) (found : Option ℕ)
+      → find_steps rule count blocks (needed + 1) found ≡ find_steps (free_lists_of k) (list_count_of k) blocks (block_need n) found
+  find_cost blocks found =
+      ap (λ r. find_steps r count blocks (needed + 1) found) rule_is
+      ∙ ap (λ c. find_steps (free_lists_of k) c blocks (needed + 1) found) count_is
+      ∙ ap (λ m. find_steps (free_lists_of k) (list_count_of k) blocks m found) words_needed
+
+  -- a search that finds a block, a proxy that is bound, and a carve
+  pub malloc_cost_is : (words : List ℕ) (blocks left : List Block) (a : ℕ)
+      → find_steps (free_lists_of k) (list_count_of k) blocks (block_need n) (Some a) + (2 + carve_at_steps rule words blocks (needed + 1) a left)
+      ≡ carve_steps (free_lists_of k) (list_count_of k) words blocks (block_need n) (Some a) left + 2
+  malloc_cost_is words blocks left a =
+      ap (λ r. find_steps (free_lists_of k) (list_count_of k) blocks (block_need n) (Some a) + (2 + carve_at_steps r words blocks (needed + 1) a left)) rule_is
+      ∙ ap (λ m. find_steps (free_lists_of k) (list_count_of k) blocks (block_need n) (Some a) + (2 + carve_at_steps (free_lists_of k) words blocks m a left))
+      words_needed
+      ∙ two_last (find_steps (free_lists_of k) (list_count_of k) blocks (block_need n) (Some a))
+      (carve_at_steps (free_lists_of k) words blocks (block_need n) a left)
+
+-- ---- frees
+
+four_last : (x : ℕ) → 1 + (1 + (2 + x)) ≡ x + 4
+four_last x = omega arith
+
+-- the proxy and the tag are read, the proxy is released, and so is the block
+pub free_cost_is : (k : Kind) (rule : FreeLists) → rule ≡ free_lists_of k → (words : List ℕ) (blocks left : List Block) (a : ℕ)
+    → 1 + (1 + (2 + release_steps rule words blocks a left)) ≡ release_steps (free_lists_of k) words blocks a left + 4
+free_cost_is k rule rule_is words blocks left a =
+    ap (λ r. 1 + (1 + (2 + release_steps r words blocks a left))) rule_is ∙ four_last (release_steps (free_lists_of k) words blocks a left)
